@@ -1,0 +1,36 @@
+-- What stands inside a table or an array is less deep than it.
+use Rattle.std.specs.Prelude.{ℕ, ◌≤◌, max, List, [], ◌∷◌, map}
+use Rattle.std.proofs.Common.{arith}
+use denote.Param.Weighed.{most}
+use Rattle.lapin_values.specs.Data.{data_depth, items_depth, pairs_depth, items_of, pairs_of}
+use Rattle.lapin_values.specs.DataOf.{data_of, to_pair}
+use Rattle.lapin_values.specs.declared.value.AMQPValue.{AMQPValue}
+use Rattle.lapin_values.specs.declared.value.AMQPValue.TheVariants as V
+use Rattle.lapin_values.specs.declared.value.FieldArray.TheDeep.{deep-AMQPValue}
+
+pub deep_le : (v : AMQPValue) → deep-AMQPValue v ≤ data_depth (data_of v)
+deep_le (V.Boolean b) = omega arith
+deep_le (V.ShortShortInt z) = omega arith
+deep_le (V.ShortShortUInt n) = omega arith
+deep_le (V.ShortInt z) = omega arith
+deep_le (V.ShortUInt n) = omega arith
+deep_le (V.LongInt z) = omega arith
+deep_le (V.LongUInt n) = omega arith
+deep_le (V.LongLongInt z) = omega arith
+deep_le (V.Timestamp n) = omega arith
+deep_le (V.LongString bytes) = omega arith
+deep_le (V.ByteArray bytes) = omega arith
+deep_le (V.FieldArray ds) = omega arith
+deep_le (V.FieldTable ps) = omega arith
+deep_le V.Void = omega arith
+
+pub array_falls : (vs : List AMQPValue) → max (most deep-AMQPValue vs) 0 ≤ items_depth (items_of (map data_of vs))
+array_falls [] = omega arith
+array_falls (v ∷ vs) = omega (arith, deep_le v, array_falls vs)
+
+pub table_falls : (μ : (List ℕ × AMQPValue) → ℕ) → ((e : List ℕ × AMQPValue) → μ e ≤ deep-AMQPValue e.1) → (es : List (List ℕ × AMQPValue)) → max (most μ es) 0 ≤ pairs_depth (pairs_of (map to_pair es))
+table_falls μ h [] = omega arith
+table_falls μ h (e ∷ es) = omega (arith, h e, deep_le e.1, table_falls μ h es)
+
+pub pair_weight : (d : ℕ) → max 0 (max d 0) ≤ d
+pair_weight d = omega arith

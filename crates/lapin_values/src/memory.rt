@@ -1,0 +1,19 @@
+//! The one error of want of memory.
+
+use std::alloc::{AllocError, AllocFailed};
+
+/// The allocator had no memory.
+#[derive(Clone, Copy, Debug, PartialEq, Eq)]
+pub struct NoMemory;
+
+impl From<AllocError> for NoMemory {
+    fn from(_error: AllocError) -> NoMemory {
+        NoMemory
+    }
+}
+
+impl<T: Drop> From<AllocFailed<T>> for NoMemory {
+    fn from(_failed: AllocFailed<T>) -> NoMemory {
+        NoMemory
+    }
+}
