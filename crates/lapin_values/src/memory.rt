@@ -1,9 +1,12 @@
-//! The one error of want of memory.
+//! Want of memory: the one error that any call which allocates may answer, and nothing else.
+//! The crates above convert it into errors of their own.
 
 use std::alloc::{AllocError, AllocFailed};
+use thiserror::Error;
 
-/// The allocator had no memory.
-#[derive(Clone, Copy, Debug, PartialEq, Eq)]
+/// The allocator had no memory left.
+#[derive(Clone, Copy, Debug, PartialEq, Eq, Error)]
+#[error("out of memory")]
 pub struct NoMemory;
 
 impl From<AllocError> for NoMemory {

@@ -1,4 +1,5 @@
-//! The bytes of a message.
+//! The bytes of a message's body, whole or in the pieces that body frames carry (AMQP 0-9-1, section 4.2.6.2).
+//! Nothing here knows of frames.
 
 ghost use Rattle.std.specs.Prelude.{◌≡◌, IfOk, nat_eq};
 ghost use Rattle.std.specs.Cmp.Lexicographic.{pointwise, nat_list_eq_equiv};
@@ -8,7 +9,8 @@ use crate::memory::NoMemory;
 use std::alloc::Global;
 use std::marker::Model;
 
-/// The bytes of a message body. A contract sees them as a list.
+/// The bytes of a message's body, a piece of one, or a field value that is a byte array. A contract sees
+/// them as a list.
 #[derive(Debug, Drop)]
 pub struct Payload {
     bytes: Vec<u8>,
@@ -23,20 +25,38 @@ impl Model for Payload {
 }
 
 impl Payload {
+    /// A copy of the bytes.
+    ///
+    /// # Errors
+    ///
+    /// `NoMemory`.
     pub fn new(alloc: Global, bytes: &[u8]) -> Result<Payload, NoMemory>
-        ensures { IfOk result (λ s. s ≡ bytes.now) }
+        ensures { IfOk result (λ payload. payload ≡ bytes.now) }
     {
         Ok(Payload {
             bytes: Vec::from_slice(alloc, bytes)?,
         })
     }
 
+    /// These very bytes. It takes no memory.
+    pub fn from_bytes(bytes: Vec<u8>) -> Payload
+        ensures { result ≡ bytes.items }
+    {
+        Payload { bytes }
+    }
+
+    /// The bytes.
     pub fn as_bytes(&self) -> &[u8]
         ensures { result.now ≡ self.now }
     {
         self.bytes.as_slice()
     }
 
+    /// A payload equal to this one.
+    ///
+    /// # Errors
+    ///
+    /// `NoMemory`.
     pub fn try_clone(&self, alloc: Global) -> Result<Payload, NoMemory>
         ensures { IfOk result (λ copy. copy ≡ self.now) }
     {

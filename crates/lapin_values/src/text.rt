@@ -1,21 +1,40 @@
-//! Short and long strings.
+//! Short texts and long strings, the two kinds of string of the protocol (AMQP 0-9-1, section 4.2.5.3).
+//! Their limits are kept here, so that no crate above has to test a length again.
 
-ghost use Rattle.std.specs.Prelude.{◌≡◌, ◌<◌, ◌≤◌, ◌↔◌, length, IfOk, IsErrOf, nat_eq, string_bytes};
+ghost use Rattle.std.specs.Prelude.{◌≡◌, ◌<◌, ◌≤◌, ◌↔◌, length, IfOk, IsErrOf, nat_eq};
 ghost use Rattle.std.specs.Cmp.Lexicographic.{pointwise, nat_list_eq_equiv};
 ghost use Rattle.std.specs.Cmp.{partial_equiv_from_equiv};
+ghost use Rattle.std.specs.Str.{IsUtf8};
 
 use crate::memory::NoMemory;
-use std::alloc::Global;
+use std::alloc::{AllocError, Global};
 use std::marker::Model;
+use thiserror::Error;
 
-/// Why a text could not be made a `ShortString`.
-#[derive(Clone, Copy, Debug, PartialEq, Eq)]
+/// Why a text could not be made a [`ShortString`].
+#[derive(Clone, Copy, Debug, PartialEq, Eq, Error)]
 pub enum ShortStringError {
+    /// The text has `length` bytes, which are more than 255.
+    #[error("a short string has at most 255 bytes, and this text has {length}")]
     TooLong { length: usize },
+    /// The allocator had no memory left for the copy.
+    #[error("out of memory")]
     NoMemory,
 }
 
-/// A text of at most 255 bytes. A contract sees it as its bytes.
+impl From<AllocError> for ShortStringError {
+    ghost use Rattle.std.specs.Prelude.{◌≡◌};
+    ghost use Rattle.lapin_values.specs.declared.text.ShortStringError.TheVariants.{NoMemory};
+
+    ghost from_gives = { λ _ error. error ≡ NoMemory };
+
+    fn from(_error: AllocError) -> ShortStringError {
+        ShortStringError::NoMemory
+    }
+}
+
+/// A text of at most 255 bytes in UTF-8 (AMQP 0-9-1, section 4.2.5.3, "short strings"): a name, a key or
+/// a tag. A contract sees it as the list of its bytes.
 #[derive(Debug, Drop)]
 pub struct ShortString {
     text: String,
@@ -32,26 +51,39 @@ impl Model for ShortString {
 }
 
 impl ShortString {
+    /// A copy of the text.
+    ///
+    /// # Errors
+    ///
+    /// `TooLong`, with the number of bytes, exactly where the text has more than 255; `NoMemory`.
     pub fn new(alloc: Global, text: &str) -> Result<ShortString, ShortStringError>
-        ensures ok { IfOk result (λ s. s ≡ text.now) }
+        ensures ok { IfOk result (λ short. short ≡ text.now) }
         ensures too_long { (n : _) → IsErrOf result (ShortStringError.TooLong n) ↔ ((255 < length text.now) × (n ≡ length text.now)) }
     {
         if text.len() > 255 {
             return Err(ShortStringError::TooLong { length: text.len() });
         }
-        match String::from_str(alloc, text) {
-            Ok(text) => Ok(ShortString { text }),
-            Err(_) => Err(ShortStringError::NoMemory),
-        }
+        Ok(ShortString {
+            text: String::from_str(alloc, text)?,
+        })
     }
 
+    /// The text. It has at most 255 bytes, and they are UTF-8.
     pub fn as_str(&self) -> &str
         ensures value { result.now ≡ self.now }
         ensures short { length self.now ≤ 255 }
+        ensures utf8 { IsUtf8 self.now }
     {
-        self.text.as_str()
+        let text = self.text.as_str();
+        let _bytes = text.as_bytes();
+        text
     }
 
+    /// A text equal to this one.
+    ///
+    /// # Errors
+    ///
+    /// `NoMemory`.
     pub fn try_clone(&self, alloc: Global) -> Result<ShortString, NoMemory>
         ensures { IfOk result (λ copy. copy ≡ self.now) }
     {
@@ -75,7 +107,8 @@ impl Eq for ShortString {
     ghost laws = { nat_list_eq_equiv };
 }
 
-/// Bytes of a field value. A contract sees them as a list.
+/// The bytes of a string value (AMQP 0-9-1, section 4.2.5.3, "long strings"), which need not be text.
+/// A contract sees it as the list of its bytes.
 #[derive(Debug, Drop)]
 pub struct LongString {
     bytes: Vec<u8>,
@@ -90,20 +123,38 @@ impl Model for LongString {
 }
 
 impl LongString {
+    /// A copy of the bytes.
+    ///
+    /// # Errors
+    ///
+    /// `NoMemory`.
     pub fn new(alloc: Global, bytes: &[u8]) -> Result<LongString, NoMemory>
-        ensures { IfOk result (λ s. s ≡ bytes.now) }
+        ensures { IfOk result (λ long. long ≡ bytes.now) }
     {
         Ok(LongString {
             bytes: Vec::from_slice(alloc, bytes)?,
         })
     }
 
+    /// These very bytes. It takes no memory.
+    pub fn from_bytes(bytes: Vec<u8>) -> LongString
+        ensures { result ≡ bytes.items }
+    {
+        LongString { bytes }
+    }
+
+    /// The bytes.
     pub fn as_bytes(&self) -> &[u8]
         ensures { result.now ≡ self.now }
     {
         self.bytes.as_slice()
     }
 
+    /// A string equal to this one.
+    ///
+    /// # Errors
+    ///
+    /// `NoMemory`.
     pub fn try_clone(&self, alloc: Global) -> Result<LongString, NoMemory>
         ensures { IfOk result (λ copy. copy ≡ self.now) }
     {

@@ -1,5 +1,5 @@
 use Rattle.lapin_values.specs.Same.{same_by-is}
-use Rattle.lapin_values.proofs.value.FieldTablePartialEq.eq.Goals as goal
+use Rattle.lapin_values.proofs.value.equality.FieldTablePartialEq.eq.Goals as goal
 
 pub returns : goal.returns
 returns c = same_by-is _ _ _ _ c.same_table.ensures

@@ -1,5 +1,5 @@
 use Rattle.std.proofs.Common.{◌≡◌, take, length}
-use Rattle.lapin_values.proofs.value.+equal.Given as goal
+use Rattle.lapin_values.proofs.value.equality.+equal.Given as goal
 
 abbrev pub invariant-same_items-loop-i : goal.invariant-same_items-loop-i
 invariant-same_items-loop-i l = (length l.a ≡ length l.b) × (take l.i l.a ≡ take l.i l.b)

@@ -1,6 +1,6 @@
 use Rattle.std.proofs.Common.{◌∙◌}
 use Rattle.lapin_values.proofs.TableLemmas.{put_over, put_beside}
-use Rattle.lapin_values.proofs.value.put_entry.Goals as goal
+use Rattle.lapin_values.proofs.value.table.put_entry.Goals as goal
 
 pub returns-then-is_at : goal.returns-then-is_at
 returns-then-is_at c =

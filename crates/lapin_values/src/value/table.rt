@@ -1,0 +1,128 @@
+//! What a field table does. Its entries stand in rising order of the names' bytes, so that a name is found
+//! by halving and a table that is built in that order grows at its back.
+
+ghost use Rattle.std.specs.Cmp.Lexicographic.{pointwise};
+ghost use Rattle.std.specs.Prelude.{IsTrue, IfSome, ◌<◌, ◌≤◌, ◌≡◌, [], nat_eq, slice_index_or, length, option_map, slice_get, is_ok, if◌then◌else◌};
+ghost use Rattle.lapin_values.specs.DataOf.{data_of};
+ghost use Rattle.lapin_values.specs.Data.{data_depth, table_depth};
+ghost use Rattle.lapin_values.specs.Table.{IsRising, put, lookup, keys_below};
+
+use crate::memory::NoMemory;
+use crate::text::ShortString;
+use crate::value::{AMQPValue, FieldTable};
+use std::alloc::Global;
+
+impl FieldTable {
+    /// A table of no entries. It takes no memory yet.
+    pub fn new(alloc: Global) -> FieldTable
+        ensures { result ≡ [] }
+    {
+        FieldTable {
+            entries: Vec::new(alloc),
+        }
+    }
+
+    /// The number of entries. Their names rise strictly by bytes.
+    pub fn len(&self) -> usize
+        ensures count { result ≡ length self.now }
+        ensures rising { IsRising self.now }
+    {
+        self.entries.len()
+    }
+
+    /// The name and the value at a place, counted from 0 in rising order of the names' bytes; `None` from the
+    /// length on. The value nests no deeper than the table.
+    pub fn at(&self, place: usize) -> Option<(&ShortString, &AMQPValue)>
+        ensures value { option_map (λ entry. (entry.0.now, data_of entry.1.now)) result ≡ slice_get self.now place }
+        ensures inside { IfSome result (λ entry. data_depth (data_of entry.1.now) ≤ table_depth self.now) }
+    {
+        self.entry_at(place)
+    }
+
+    fn entry_at(&self, place: usize) -> Option<(&ShortString, &AMQPValue)>
+        ensures { option_map (λ entry. (entry.0.now, data_of entry.1.now)) result ≡ slice_get self.now place }
+    {
+        match self.entries.get(place) {
+            Some(entry) => Some((&entry.0, &entry.1)),
+            None => None,
+        }
+    }
+
+    /// The value of a name; `None` exactly where the table has no such name.
+    pub fn get(&self, key: &str) -> Option<&AMQPValue>
+        ensures { option_map (λ value. data_of value.now) result ≡ lookup key.now self.now }
+    {
+        find(&self.entries, key)
+    }
+
+    /// Gives a name its value, in place of the one that it had.
+    ///
+    /// # Errors
+    ///
+    /// `NoMemory`; the table is then unchanged.
+    pub fn insert(
+        &mut self,
+        _alloc: Global,
+        key: ShortString,
+        value: AMQPValue,
+    ) -> Result<(), NoMemory>
+        ensures { self.new ≡ (if is_ok result then put key (data_of value) self.old else self.old) }
+    {
+        put_entry(&mut self.entries, key, value)
+    }
+}
+
+fn put_entry(
+    entries: &mut Vec<(ShortString, AMQPValue)>,
+    key: ShortString,
+    value: AMQPValue,
+) -> Result<(), NoMemory>
+    requires { IsRising entries.old.items }
+    ensures { entries.new.items ≡ (if is_ok result then put key value entries.old.items else entries.old.items) }
+{
+    let place = place_of(entries, key.as_str());
+    if is_at(entries, place, key.as_str()) {
+        let entry = &mut entries[place];
+        entry.1 = value;
+        return Ok(());
+    }
+    entries.insert(place, (key, value))?;
+    Ok(())
+}
+
+fn find<'a>(entries: &'a [(ShortString, AMQPValue)], key: &str) -> Option<&'a AMQPValue>
+    requires { IsRising entries.now }
+    ensures { option_map (λ value. value.now) result ≡ lookup key.now entries.now }
+{
+    let place = place_of(entries, key);
+    if is_at(entries, place, key) {
+        Some(&entries[place].1)
+    } else {
+        None
+    }
+}
+
+fn is_at(entries: &[(ShortString, AMQPValue)], place: usize, key: &str) -> bool
+    ensures found { IsTrue result → place < length entries.now }
+    ensures same { (d : _) → place < length entries.now → result ≡ pointwise nat_eq (slice_index_or entries.now place d).0 key.now }
+{
+    place < entries.len() && entries[place].0.as_str() == key
+}
+
+fn place_of(entries: &[(ShortString, AMQPValue)], key: &str) -> usize
+    requires { IsRising entries.now }
+    ensures below { result ≡ keys_below key.now entries.now }
+    ensures within { result ≤ length entries.now }
+{
+    let mut low = 0;
+    let mut high = entries.len();
+    while low < high {
+        let middle = low + (high - low) / 2;
+        if entries[middle].0.as_str() < key {
+            low = middle + 1;
+        } else {
+            high = middle;
+        }
+    }
+    low
+}
