@@ -1,0 +1,13 @@
+pub use Rattle.lapin_values.specs.Same
+pub use Rattle.lapin_values.specs.Data
+pub use Rattle.lapin_values.specs.DataOf
+pub use Rattle.lapin_values.specs.Table
+pub use Rattle.lapin_values.specs.Properties
+pub use Rattle.lapin_methods.specs.Numbers
+pub mod Ackers
+pub mod Confirmations
+pub mod ExchangeKinds
+pub mod Messages
+pub mod ReplyCodes
+pub mod Requests
+pub mod Types

@@ -1,0 +1,43 @@
+//! What a ticket is resolved with.
+
+ghost use Rattle.std.specs.Prelude.{◌≡◌, IfOk};
+ghost use Rattle.std.specs.Bool.{Decides};
+
+use lapin_values::NoMemory;
+use std::alloc::Global;
+
+/// The answer of a call, as its ticket gives it.
+#[derive(Debug, Drop)]
+pub enum Answer {
+    /// The call is done and has nothing to tell.
+    Done,
+    /// The channel of this number is open.
+    Channel(u16),
+    /// The last frame of the publish with this confirm number has left.
+    Confirm(u64),
+}
+
+impl Answer {
+    /// An equal answer, in memory of its own.
+    pub fn try_clone(&self, _alloc: Global) -> Result<Answer, NoMemory>
+        ensures { IfOk result (λ copy. copy ≡ self.now) }
+    {
+        match self {
+            Answer::Done => Ok(Answer::Done),
+            Answer::Channel(channel) => Ok(Answer::Channel(*channel)),
+            Answer::Confirm(number) => Ok(Answer::Confirm(*number)),
+        }
+    }
+
+    /// Whether two answers are equal in every field.
+    pub fn same(&self, other: &Answer) -> bool
+        ensures { Decides result (self.now ≡ other.now) }
+    {
+        match (self, other) {
+            (Answer::Done, Answer::Done) => true,
+            (Answer::Channel(left), Answer::Channel(right)) => left == right,
+            (Answer::Confirm(left), Answer::Confirm(right)) => left == right,
+            _ => false,
+        }
+    }
+}

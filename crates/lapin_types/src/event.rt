@@ -1,0 +1,53 @@
+//! The events of a session: each is one step.
+
+ghost use Rattle.std.specs.Prelude.{◌≡◌, IfOk};
+ghost use Rattle.std.specs.Bool.{Decides};
+
+use crate::call::Call;
+use lapin_methods::Frame;
+use lapin_values::NoMemory;
+use std::alloc::Global;
+
+/// What happens to a session.
+#[derive(Debug, Drop)]
+pub enum Event {
+    /// A call on a channel.
+    Call(u16, Call),
+    /// The next frame is asked for; whether a publish may begin.
+    Next(bool),
+    /// A frame came from the broker.
+    Receive(Frame),
+    /// The result of a ticket is asked for.
+    PollTicket(u64),
+    /// The outcome of a publish is asked for, by its confirm number.
+    PollConfirm(u64),
+}
+
+impl Event {
+    /// An equal event, in memory of its own.
+    pub fn try_clone(&self, alloc: Global) -> Result<Event, NoMemory>
+        ensures { IfOk result (λ copy. copy ≡ self.now) }
+    {
+        match self {
+            Event::Call(channel, call) => Ok(Event::Call(*channel, call.try_clone(alloc)?)),
+            Event::Next(flow) => Ok(Event::Next(*flow)),
+            Event::Receive(frame) => Ok(Event::Receive(frame.try_clone(alloc)?)),
+            Event::PollTicket(number) => Ok(Event::PollTicket(*number)),
+            Event::PollConfirm(number) => Ok(Event::PollConfirm(*number)),
+        }
+    }
+
+    /// Whether two events are equal in every field.
+    pub fn same(&self, other: &Event) -> bool
+        ensures { Decides result (self.now ≡ other.now) }
+    {
+        match (self, other) {
+            (Event::Call(a, left), Event::Call(b, right)) => a == b && left.same_as(right),
+            (Event::Next(left), Event::Next(right)) => left == right,
+            (Event::Receive(left), Event::Receive(right)) => left.same_as(right),
+            (Event::PollTicket(left), Event::PollTicket(right)) => left == right,
+            (Event::PollConfirm(left), Event::PollConfirm(right)) => left == right,
+            _ => false,
+        }
+    }
+}

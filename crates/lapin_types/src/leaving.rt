@@ -1,0 +1,101 @@
+//! A publish that waits to leave, and a frame as it leaves.
+
+ghost use Rattle.std.specs.Prelude.{◌≡◌};
+ghost use Rattle.std.specs.Bool.{Decides};
+
+use lapin_methods::{BasicPublishOptions, Frame};
+use lapin_values::{BasicProperties, Payload, ShortString};
+
+/// An accepted publish, before its frames leave.
+#[derive(Debug, Drop)]
+pub struct Publish {
+    /// Its confirm number.
+    pub confirm: u64,
+    /// Its ticket.
+    pub ticket: u64,
+    /// Its channel.
+    pub channel: u16,
+    /// The exchange to publish to.
+    pub exchange: ShortString,
+    /// The routing key.
+    pub routing_key: ShortString,
+    /// The marks of `basic.publish`.
+    pub options: BasicPublishOptions,
+    /// The bytes of the message.
+    pub payload: Payload,
+    /// The properties of the message.
+    pub properties: BasicProperties,
+}
+
+impl Publish {
+    /// Whether two publishes are equal in every field.
+    pub fn same(&self, other: &Publish) -> bool
+        ensures { Decides result (self.now ≡ other.now) }
+    {
+        self.confirm == other.confirm
+            && self.ticket == other.ticket
+            && self.channel == other.channel
+            && self.exchange == other.exchange
+            && self.routing_key == other.routing_key
+            && self.options == other.options
+            && self.payload == other.payload
+            && self.properties.same_as(&other.properties)
+    }
+}
+
+impl PartialEq for Publish {
+    ghost use Rattle.lapin_values.specs.Same.{same_by, same_by_per};
+    ghost use Rattle.lapin_types.specs.contracts.leaving.Publish as it;
+
+    ghost eq = { same_by it.the_row.coded };
+
+    ghost laws = { same_by_per it.the_row.coded };
+
+    fn eq(&self, other: &Publish) -> bool {
+        self.same(other)
+    }
+}
+
+/// A frame as it leaves, with whose it is.
+#[derive(Debug, Drop)]
+pub struct Left {
+    /// The frame.
+    pub frame: Frame,
+    /// The ticket with which the method or the publish was pushed.
+    pub ticket: Option<u64>,
+    /// The confirm number of the publish, on each of its frames.
+    pub publish: Option<u64>,
+    /// Whether it is the method frame of a publish.
+    pub first: bool,
+    /// Whether it is the last frame of a publish.
+    pub last: bool,
+    /// Whether it was handed out before and given back.
+    pub again: bool,
+}
+
+impl Left {
+    /// Whether two frames leave alike, equal in every field.
+    pub fn same(&self, other: &Left) -> bool
+        ensures { Decides result (self.now ≡ other.now) }
+    {
+        self.frame.same_as(&other.frame)
+            && self.ticket == other.ticket
+            && self.publish == other.publish
+            && self.first == other.first
+            && self.last == other.last
+            && self.again == other.again
+    }
+}
+
+impl PartialEq for Left {
+    ghost use Rattle.lapin_values.specs.Same.{same_by, same_by_per};
+    ghost use Rattle.lapin_types.specs.contracts.leaving.Left as it;
+
+    ghost eq = { same_by it.the_row.coded };
+
+    ghost laws = { same_by_per it.the_row.coded };
+
+    fn eq(&self, other: &Left) -> bool {
+        self.same(other)
+    }
+}

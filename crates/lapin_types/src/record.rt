@@ -1,0 +1,132 @@
+//! The records of a session: what each step answered.
+
+ghost use Rattle.std.specs.Prelude.{◌≡◌, IfOk};
+ghost use Rattle.std.specs.Bool.{Decides};
+
+use crate::answer::Answer;
+use crate::confirmation::Confirmation;
+use lapin_methods::{Error, Frame};
+use lapin_values::NoMemory;
+use std::alloc::Global;
+
+/// What a step answered.
+#[derive(Debug, Drop)]
+pub enum Record {
+    /// A call was accepted: its ticket.
+    Ticket(u64),
+    /// A publish was accepted.
+    Publish {
+        /// Its ticket.
+        ticket: u64,
+        /// Its confirm number.
+        confirm: u64,
+    },
+    /// The step was refused.
+    Refused(Error),
+    /// The frame that leaves.
+    Frame(Frame),
+    /// No frame leaves.
+    NoFrame,
+    /// The frame was received.
+    Received,
+    /// The frame was passed over.
+    Passed,
+    /// The result isn't here yet.
+    Pending,
+    /// The result of a ticket.
+    Answer(Result<Answer, Error>),
+    /// The outcome of a publish.
+    Confirmed(Result<Confirmation, Error>),
+}
+
+impl Record {
+    /// An equal record, in memory of its own.
+    pub fn try_clone(&self, alloc: Global) -> Result<Record, NoMemory>
+        ensures { IfOk result (λ copy. copy ≡ self.now) }
+    {
+        match self {
+            Record::Ticket(number) => Ok(Record::Ticket(*number)),
+            Record::Publish { ticket, confirm } => Ok(Record::Publish {
+                ticket: *ticket,
+                confirm: *confirm,
+            }),
+            Record::Refused(error) => Ok(Record::Refused(*error)),
+            Record::Frame(frame) => Ok(Record::Frame(frame.try_clone(alloc)?)),
+            Record::NoFrame => Ok(Record::NoFrame),
+            Record::Received => Ok(Record::Received),
+            Record::Passed => Ok(Record::Passed),
+            Record::Pending => Ok(Record::Pending),
+            Record::Answer(answer) => Ok(Record::Answer(copied_answer(answer, alloc)?)),
+            Record::Confirmed(outcome) => Ok(Record::Confirmed(copied_outcome(outcome, alloc)?)),
+        }
+    }
+
+    /// Whether two records are equal in every field, number and use of ackers too.
+    pub fn same(&self, other: &Record) -> bool
+        ensures { Decides result (self.now ≡ other.now) }
+    {
+        match (self, other) {
+            (Record::Ticket(left), Record::Ticket(right)) => left == right,
+            (
+                Record::Publish {
+                    ticket: a,
+                    confirm: b,
+                },
+                Record::Publish { ticket, confirm },
+            ) => a == ticket && b == confirm,
+            (Record::Refused(left), Record::Refused(right)) => left == right,
+            (Record::Frame(left), Record::Frame(right)) => left.same_as(right),
+            (Record::NoFrame, Record::NoFrame) => true,
+            (Record::Received, Record::Received) => true,
+            (Record::Passed, Record::Passed) => true,
+            (Record::Pending, Record::Pending) => true,
+            (Record::Answer(left), Record::Answer(right)) => same_answer(left, right),
+            (Record::Confirmed(left), Record::Confirmed(right)) => same_outcome(left, right),
+            _ => false,
+        }
+    }
+}
+
+fn copied_answer(
+    answer: &Result<Answer, Error>,
+    alloc: Global,
+) -> Result<Result<Answer, Error>, NoMemory>
+    ensures { IfOk result (λ copy. copy ≡ answer.now) }
+{
+    match answer {
+        Ok(answer) => Ok(Ok(answer.try_clone(alloc)?)),
+        Err(error) => Ok(Err(*error)),
+    }
+}
+
+fn same_answer(left: &Result<Answer, Error>, right: &Result<Answer, Error>) -> bool
+    ensures { Decides result (left.now ≡ right.now) }
+{
+    match (left, right) {
+        (Ok(left), Ok(right)) => left.same(right),
+        (Err(left), Err(right)) => left == right,
+        _ => false,
+    }
+}
+
+fn copied_outcome(
+    outcome: &Result<Confirmation, Error>,
+    alloc: Global,
+) -> Result<Result<Confirmation, Error>, NoMemory>
+    ensures { IfOk result (λ copy. copy ≡ outcome.now) }
+{
+    match outcome {
+        Ok(outcome) => Ok(Ok(outcome.try_clone(alloc)?)),
+        Err(error) => Ok(Err(*error)),
+    }
+}
+
+fn same_outcome(left: &Result<Confirmation, Error>, right: &Result<Confirmation, Error>) -> bool
+    ensures { Decides result (left.now ≡ right.now) }
+{
+    match (left, right) {
+        (Ok(left), Ok(right)) => left.same(right),
+        (Err(left), Err(right)) => left == right,
+        _ => false,
+    }
+}
