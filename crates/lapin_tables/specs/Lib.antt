@@ -1,0 +1,4 @@
+pub mod ByChannel
+pub mod Index
+pub mod Lends
+pub mod Numbered

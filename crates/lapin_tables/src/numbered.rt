@@ -1,0 +1,140 @@
+//! Values that are numbered from 1 in order of adding, each until it is taken.
+//!
+//! What was taken at the front is let go, so that memory is held by what is outstanding. No other file knows what was
+//! let go: contracts see every number that was given.
+
+ghost use Rattle.std.specs.Prelude.{◌≡◌, ℕ, ◌+◌, ◌^◌, ◌≤◌, ◌<◌, ◌∷◌, ◌++◌, [], length, OnOk, IsSome, MatchOption, None, Some};
+ghost use Rattle.std.specs.Option.{option_copied};
+ghost use Rattle.lapin_tables.specs.Numbered.{Slots, under, with_under};
+
+use std::alloc::{AllocError, Global};
+use std::collections::VecDeque;
+use std::marker::Model;
+
+/// Values that are numbered from 1. Contracts see one slot per number that was given, `None` where its value was taken.
+#[derive(Drop)]
+pub struct Numbered<T> {
+    // How many numbers at the front were let go: all of them were taken.
+    let_go: u64,
+    slots: VecDeque<Option<T>>,
+}
+
+impl<T> Model for Numbered<T> {
+    ghost use Rattle.std.specs.Prelude.{◌-◌, ◌+◌, ◌<◌, ◌^◌, ◌++◌, None, replicate};
+    ghost use Rattle.std.specs.VecDeque.{deque_len, deque_capacity};
+    ghost use Rattle.lapin_tables.specs.Numbered.{Slots, slots_code};
+
+    ghost Value = { Slots T };
+
+    ghost coded = { slots_code T.code };
+
+    ghost view = { λ a. record {
+      slots = replicate a.let_go None ++ a.slots.items;
+      spare = deque_capacity a.slots - deque_len a.slots;
+    } };
+
+    ghost invariant = { λ a. a.let_go + deque_len a.slots < 2 ^ 64 };
+}
+
+impl<T> Numbered<T> {
+    /// No number is given yet. It takes no memory.
+    pub fn new(alloc: Global) -> Self
+        ensures { result.slots ≡ [] }
+    {
+        Numbered {
+            let_go: 0,
+            slots: VecDeque::new(alloc),
+        }
+    }
+
+    /// How many numbers were given, which is also the last one.
+    pub fn count(&self) -> u64
+        ensures { result ≡ length self.now.slots }
+    {
+        self.let_go + self.slots.len() as u64
+    }
+
+    /// The number that the next value gets, or `None` where it would pass the greatest `u64`.
+    pub fn next_number(&self) -> Option<u64>
+        ensures { MatchOption result (length self.now.slots + 1 ≡ 2 ^ 64) (λ n. n ≡ length self.now.slots + 1) }
+    {
+        self.count().checked_add(1)
+    }
+
+    /// The value under a number: `None` where the number was never given or its value was taken.
+    pub fn get(&self, number: u64) -> Option<&T>
+        ensures { option_copied result ≡ under number self.now.slots }
+    {
+        let place = place_of(self.let_go, number)?;
+        match self.slots.get(place) {
+            Some(Some(value)) => Some(value),
+            _ => None,
+        }
+    }
+
+    /// Makes room for one `push_reserved`. The values stay, also where there is no memory.
+    pub fn reserve(&mut self) -> Result<(), AllocError>
+        ensures room { OnOk result (0 < self.new.spare) }
+        ensures same { self.new.slots ≡ self.old.slots }
+        ensures kept { self.old.spare ≤ self.new.spare }
+    {
+        self.slots.reserve(1)
+    }
+
+    /// Gives a value the next number, in the room that `reserve` made.
+    pub fn push_reserved(&mut self, value: T) -> u64
+        requires room { 0 < self.old.spare }
+        requires numbers { length self.old.slots + 1 < 2 ^ 64 }
+        ensures number { result ≡ length self.old.slots + 1 }
+        ensures slots { self.new.slots ≡ self.old.slots ++ Some value ∷ [] }
+        ensures spare { self.old.spare ≡ self.new.spare + 1 }
+    {
+        self.slots.push_back_reserved(Some(value));
+        self.count()
+    }
+}
+
+impl<T: Drop> Numbered<T> {
+    /// Puts another value in the place of the one under a number.
+    pub fn set(&mut self, number: u64, value: T)
+        requires { IsSome (under number self.old.slots) }
+        ensures slots { self.new.slots ≡ with_under number (Some value) self.old.slots }
+        ensures spare { self.new.spare ≡ self.old.spare }
+    {
+        let Some(place) = place_of(self.let_go, number) else {
+            return;
+        };
+        self.slots[place] = Some(value);
+    }
+
+    /// Takes the value under a number out: `None` where the number was never given or its value was taken.
+    pub fn take(&mut self, number: u64) -> Option<T>
+        ensures value { result ≡ under number self.old.slots }
+        ensures slots { self.new.slots ≡ with_under number None self.old.slots }
+        ensures kept { self.old.spare ≤ self.new.spare }
+    {
+        let place = place_of(self.let_go, number)?;
+        let value = self.slots.get_mut(place)?.take();
+        self.let_go();
+        value
+    }
+
+    // Lets go what was taken at the front.
+    fn let_go(&mut self)
+        ensures slots { self.new.slots ≡ self.old.slots }
+        ensures kept { self.old.spare ≤ self.new.spare }
+    {
+        while let Some(None) = self.slots.front() {
+            let _ = self.slots.pop_front();
+            self.let_go += 1;
+        }
+    }
+}
+
+// The place of a number behind those that were let go.
+fn place_of(let_go: u64, number: u64) -> Option<usize>
+    ensures { MatchOption result (number ≤ let_go) (λ place. number ≡ let_go + place + 1) }
+{
+    let place = number.checked_sub(let_go)?.checked_sub(1)?;
+    Some(place as usize)
+}
