@@ -1,16 +1,20 @@
--- How the logic stores a tree of data.
+-- How the logic stores a tree of data: as nested pairs of numbers, from which the tree can be read back.
+-- No rule of the protocol stands here.
 use Rattle.std.specs.Prelude.{ℕ, ℤ, Bool, List, ◌⊎◌, ◌≡◌, ◌≢◌, refl}
 use Rattle.std.proofs.Common.{inl, inr, ap, sym, arith}
 use Rattle.std.specs.Coded.{Coded, code_by, coded×, coded⊎, coded_ℕ, coded_ℤ, coded_bool, coded_list}
 use base.Stored.{Gv, gnil, gnum, gcons, coded_unit}
 use Rattle.lapin_values.specs.Data.{Leaf, boolean, short_short_int, short_short_uint, short_int, short_uint, long_int, long_uint, long_long_int, timestamp, long_string, byte_array, void, Data, leaf, array, table, Items, no_items, item, Pairs, no_pairs, pair}
 
+-- how a list of bytes is stored
 abbrev pub bytes_code : Coded (List ℕ)
 bytes_code = coded_list coded_ℕ
 
+-- one summand a kind of leaf, in the order of the kinds
 abbrev pub Sum : Type 0
 Sum = Bool ⊎ (ℤ ⊎ (ℕ ⊎ (ℤ ⊎ (ℕ ⊎ (ℤ ⊎ (ℕ ⊎ (ℤ ⊎ (ℕ ⊎ (List ℕ ⊎ (List ℕ ⊎ (Unit {0})))))))))))
 
+-- a leaf as its summand
 abbrev pub to_sum : Leaf → Sum
 to_sum (boolean x) = inl x
 to_sum (short_short_int x) = inr (inl x)
@@ -25,6 +29,7 @@ to_sum (long_string x) = inr (inr (inr (inr (inr (inr (inr (inr (inr (inl x)))))
 to_sum (byte_array x) = inr (inr (inr (inr (inr (inr (inr (inr (inr (inr (inl x))))))))))
 to_sum void = inr (inr (inr (inr (inr (inr (inr (inr (inr (inr (inr tt))))))))))
 
+-- the leaf of a summand
 abbrev pub from_sum : Sum → Leaf
 from_sum (inl x) = boolean x
 from_sum (inr (inl x)) = short_short_int x
@@ -53,6 +58,7 @@ from_sum-to_sum (long_string x) = refl
 from_sum-to_sum (byte_array x) = refl
 from_sum-to_sum void = refl
 
+-- how a leaf is stored
 abbrev pub leaf_code : Coded Leaf
 leaf_code = code_by Sum (coded⊎ coded_bool (coded⊎ coded_ℤ (coded⊎ coded_ℕ (coded⊎ coded_ℤ (coded⊎ coded_ℕ (coded⊎ coded_ℤ (coded⊎ coded_ℕ (coded⊎ coded_ℤ (coded⊎ coded_ℕ (coded⊎ bytes_code (coded⊎ bytes_code (coded_unit)))))))))))) to_sum from_sum from_sum-to_sum
 
@@ -72,6 +78,7 @@ apart m n p other = other (cc)
 pub nil_cons : {a b : Gv} → gnil ≡ gcons a b → ⊥
 nil_cons p = cc
 
+-- a tree as pairs: its kind, then what it holds
 abbrev mutual
   pub data_to_gv : Data → Gv
   data_to_gv (leaf l) = gcons (gnum 0) (leaf_code.code l)
@@ -86,6 +93,7 @@ abbrev mutual
   pairs_to_gv no_pairs = gnil
   pairs_to_gv (pair k d ps) = gcons (bytes_code.code k) (gcons (data_to_gv d) (pairs_to_gv ps))
 
+-- trees that are stored alike are the same
 mutual
   pub data_inj : (x y : Data) → data_to_gv x ≡ data_to_gv y → x ≡ y
   data_inj (leaf a) (leaf b) p = ap leaf (leaf_code.inj a b (ap tail p))
@@ -110,6 +118,7 @@ mutual
   pairs_inj (pair k d ds) no_pairs p = absurd (nil_cons (sym p))
   pairs_inj (pair k d ds) (pair l e es) p = λ i. pair (bytes_code.inj k l (ap head p) i) (data_inj d e (ap (λ g. head (tail g)) p) i) (pairs_inj ds es (ap (λ g. tail (tail g)) p) i)
 
+-- how a value, an array and a table are stored
 abbrev pub data_code : Coded Data
 data_code = record { code = data_to_gv; inj = data_inj }
 

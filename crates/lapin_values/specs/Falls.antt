@@ -1,4 +1,4 @@
--- What stands inside a table or an array is less deep than it.
+-- What stands inside a table or an array is less deep than it, so that a value is finite.
 use Rattle.std.specs.Prelude.{ℕ, ◌≤◌, max, List, [], ◌∷◌, map}
 use Rattle.std.proofs.Common.{arith}
 use denote.Param.Weighed.{most}

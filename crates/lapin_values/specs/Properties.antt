@@ -1,25 +1,46 @@
--- The properties of a content, as plain data.
-use Rattle.std.specs.Prelude.{ℕ, List, Option, refl}
+-- The properties of a message, as plain data.
+use Rattle.std.specs.Prelude.{ℕ, List, Option, None, refl}
 use Rattle.std.specs.Coded.{Coded, code_by, coded×, coded_ℕ, coded_option}
 use Rattle.lapin_values.specs.Data.{Data}
 use Rattle.lapin_values.specs.DataCode.{bytes_code, table_code}
 
+-- each property, where it is set (AMQP 0-9-1, class basic, "properties"). `kind` is the standard's `type`
 pub record Properties : Type 0 where
   pub content_type : Option (List ℕ)
   pub content_encoding : Option (List ℕ)
   pub headers : Option (List (List ℕ × Data))
-  pub delivery_mode : Option (ℕ)
-  pub priority : Option (ℕ)
+  pub delivery_mode : Option ℕ
+  pub priority : Option ℕ
   pub correlation_id : Option (List ℕ)
   pub reply_to : Option (List ℕ)
   pub expiration : Option (List ℕ)
   pub message_id : Option (List ℕ)
-  pub timestamp : Option (ℕ)
+  pub timestamp : Option ℕ
   pub kind : Option (List ℕ)
   pub user_id : Option (List ℕ)
   pub app_id : Option (List ℕ)
   pub cluster_id : Option (List ℕ)
 
+-- no property is set
+abbrev pub no_properties : Properties
+no_properties = record {
+  content_type = None;
+  content_encoding = None;
+  headers = None;
+  delivery_mode = None;
+  priority = None;
+  correlation_id = None;
+  reply_to = None;
+  expiration = None;
+  message_id = None;
+  timestamp = None;
+  kind = None;
+  user_id = None;
+  app_id = None;
+  cluster_id = None;
+}
+
+-- how the logic stores them: as a tuple
 abbrev pub properties_code : Coded Properties
 properties_code =
     code_by (Option (List ℕ) × (Option (List ℕ) × (Option (List (List ℕ × Data)) × (Option (ℕ) × (Option (ℕ) × (Option (List ℕ) × (Option (List ℕ) × (Option (List ℕ) × (Option (List ℕ) × (Option (ℕ) × (Option (List ℕ) × (Option (List ℕ) × (Option (List ℕ) × (Option (List ℕ)))))))))))))))

@@ -5,6 +5,7 @@ use Rattle.std.specs.Cmp.{IsEquivalence, IsPartialEquivalence, partial_equiv_fro
 use Rattle.std.proofs.Common.{sym, ap, ◌∙◌}
 use base.Stored.{Coded, Gv, gnil, gnum, gcons}
 
+-- whether two stored values are the same
 abbrev pub gv_eq : Gv → Gv → Bool
 gv_eq gnil gnil = true
 gv_eq gnil (gnum n) = false
@@ -44,7 +45,7 @@ gv_eq-same (gcons a b) (gcons c d) e =
     let t = both_true (gv_eq a c) (gv_eq b d) e in
     λ i. gcons (gv_eq-same a c t.0 i) (gv_eq-same b d t.1 i)
 
--- x and y are the same
+-- whether x and y are the same, by how the logic stores them
 unfoldable pub same_by : {A : Type 0} → Coded A → A → A → Bool
 same_by c x y = gv_eq (c.code x) (c.code y)
 
@@ -53,6 +54,7 @@ unfolding same_by
 same_by-Decides c x y =
     (λ e. c.inj x y (gv_eq-same (c.code x) (c.code y) e), λ e. ap (λ z. gv_eq (c.code x) (c.code z)) (sym e) ∙ gv_eq-refl (c.code x))
 
+-- a test of sameness is an equivalence
 module _ {A : Type 0} (E : A → A → Bool) (d : (x y : A) → Decides (E x y) (x ≡ y)) where
   pub equiv_from_Decides : IsEquivalence E
   equiv_from_Decides = record {

@@ -7,10 +7,12 @@ use Rattle.lapin_values.specs.DataOf.{data_of, to_pair}
 use Rattle.lapin_values.specs.declared.value.AMQPValue.{AMQPValue}
 use Rattle.lapin_values.specs.declared.value.AMQPValue.TheVariants as V
 
+-- the list of an array's elements, back
 abbrev pub items_list : Items → List Data
 items_list no_items = []
 items_list (item d ds) = d ∷ items_list ds
 
+-- the list of a table's pairs, back
 abbrev pub pairs_list : Pairs → List (List ℕ × Data)
 pairs_list no_pairs = []
 pairs_list (pair k d ps) = (k, d) ∷ pairs_list ps
@@ -23,6 +25,7 @@ pub pairs_list-pairs_of : (ps : List (List ℕ × Data)) → pairs_list (pairs_o
 pairs_list-pairs_of [] = refl
 pairs_list-pairs_of (p ∷ ps) = ap (λ qs. p ∷ qs) (pairs_list-pairs_of ps)
 
+-- the value that a tree stands for
 abbrev pub value_of : Data → AMQPValue
 value_of (leaf (boolean b)) = V.Boolean b
 value_of (leaf (short_short_int z)) = V.ShortShortInt z
@@ -62,6 +65,7 @@ values_back (v ∷ vs) = λ i. value_of-data_of v i ∷ values_back vs i
 pub values_same : (vs ws : List AMQPValue) → map data_of vs ≡ map data_of ws → vs ≡ ws
 values_same vs ws e = sym (values_back vs) ∙ ap (map value_of) e ∙ values_back ws
 
+-- an entry back from its pair
 abbrev pub from_pair : List ℕ × Data → List ℕ × AMQPValue
 from_pair p = (p.0, value_of p.1)
 

@@ -1,6 +1,7 @@
-//! The properties of a content.
+//! The properties of a message, as its content header carries them (AMQP 0-9-1, class basic, "properties").
+//! Which of them a header names on the wire is the matter of those who write frames.
 
-ghost use Rattle.std.specs.Prelude.{◌≡◌, Some, None, option_map, IfOk};
+ghost use Rattle.std.specs.Prelude.{◌≡◌, IfOk};
 ghost use Rattle.std.specs.Bool.{Decides};
 
 use crate::memory::NoMemory;
@@ -9,6 +10,10 @@ use crate::value::FieldTable;
 use std::alloc::Global;
 use std::marker::Model;
 
+mod fields;
+
+/// The fourteen properties of a message, each set or not. They are opaque to the protocol: a broker hands
+/// them on as they were published. A contract sees them as the record `Properties`.
 #[derive(Debug, Drop)]
 pub struct BasicProperties {
     content_type: Option<ShortString>,
@@ -38,8 +43,12 @@ impl Model for BasicProperties {
 }
 
 impl Default for BasicProperties {
-    ghost is_default = { λ p. p ≡ record { content_type = None; content_encoding = None; headers = None; delivery_mode = None; priority = None; correlation_id = None; reply_to = None; expiration = None; message_id = None; timestamp = None; kind = None; user_id = None; app_id = None; cluster_id = None } };
+    ghost use Rattle.std.specs.Prelude.{◌≡◌};
+    ghost use Rattle.lapin_values.specs.Properties.{no_properties};
 
+    ghost is_default = { λ properties. properties ≡ no_properties };
+
+    /// No property is set.
     fn default() -> BasicProperties {
         BasicProperties {
             content_type: None,
@@ -99,6 +108,11 @@ fn same_table(a: &Option<FieldTable>, b: &Option<FieldTable>) -> bool
 }
 
 impl BasicProperties {
+    /// Properties equal to these.
+    ///
+    /// # Errors
+    ///
+    /// `NoMemory`.
     pub fn try_clone(&self, alloc: Global) -> Result<BasicProperties, NoMemory>
         ensures { IfOk result (λ copy. copy ≡ self.now) }
     {
@@ -120,6 +134,7 @@ impl BasicProperties {
         })
     }
 
+    /// Whether the same properties are set, to equal values.
     pub fn same_as(&self, other: &BasicProperties) -> bool
         ensures { Decides result (self.now ≡ other.now) }
     {
@@ -137,188 +152,6 @@ impl BasicProperties {
             && same_text(&self.user_id, &other.user_id)
             && same_text(&self.app_id, &other.app_id)
             && same_text(&self.cluster_id, &other.cluster_id)
-    }
-
-    pub fn content_type(&self) -> Option<&ShortString>
-        ensures { option_map (λ x. x.now) result ≡ self.now.content_type }
-    {
-        self.content_type.as_ref()
-    }
-
-    pub fn with_content_type(mut self, value: ShortString) -> BasicProperties
-        ensures { result ≡ record self { content_type = Some value } }
-    {
-        self.content_type = Some(value);
-        self
-    }
-
-    pub fn content_encoding(&self) -> Option<&ShortString>
-        ensures { option_map (λ x. x.now) result ≡ self.now.content_encoding }
-    {
-        self.content_encoding.as_ref()
-    }
-
-    pub fn with_content_encoding(mut self, value: ShortString) -> BasicProperties
-        ensures { result ≡ record self { content_encoding = Some value } }
-    {
-        self.content_encoding = Some(value);
-        self
-    }
-
-    pub fn headers(&self) -> Option<&FieldTable>
-        ensures { option_map (λ x. x.now) result ≡ self.now.headers }
-    {
-        self.headers.as_ref()
-    }
-
-    pub fn with_headers(mut self, value: FieldTable) -> BasicProperties
-        ensures { result ≡ record self { headers = Some value } }
-    {
-        self.headers = Some(value);
-        self
-    }
-
-    pub fn delivery_mode(&self) -> Option<u8>
-        ensures { result ≡ self.now.delivery_mode }
-    {
-        self.delivery_mode
-    }
-
-    pub fn with_delivery_mode(mut self, value: u8) -> BasicProperties
-        ensures { result ≡ record self { delivery_mode = Some value } }
-    {
-        self.delivery_mode = Some(value);
-        self
-    }
-
-    pub fn priority(&self) -> Option<u8>
-        ensures { result ≡ self.now.priority }
-    {
-        self.priority
-    }
-
-    pub fn with_priority(mut self, value: u8) -> BasicProperties
-        ensures { result ≡ record self { priority = Some value } }
-    {
-        self.priority = Some(value);
-        self
-    }
-
-    pub fn correlation_id(&self) -> Option<&ShortString>
-        ensures { option_map (λ x. x.now) result ≡ self.now.correlation_id }
-    {
-        self.correlation_id.as_ref()
-    }
-
-    pub fn with_correlation_id(mut self, value: ShortString) -> BasicProperties
-        ensures { result ≡ record self { correlation_id = Some value } }
-    {
-        self.correlation_id = Some(value);
-        self
-    }
-
-    pub fn reply_to(&self) -> Option<&ShortString>
-        ensures { option_map (λ x. x.now) result ≡ self.now.reply_to }
-    {
-        self.reply_to.as_ref()
-    }
-
-    pub fn with_reply_to(mut self, value: ShortString) -> BasicProperties
-        ensures { result ≡ record self { reply_to = Some value } }
-    {
-        self.reply_to = Some(value);
-        self
-    }
-
-    pub fn expiration(&self) -> Option<&ShortString>
-        ensures { option_map (λ x. x.now) result ≡ self.now.expiration }
-    {
-        self.expiration.as_ref()
-    }
-
-    pub fn with_expiration(mut self, value: ShortString) -> BasicProperties
-        ensures { result ≡ record self { expiration = Some value } }
-    {
-        self.expiration = Some(value);
-        self
-    }
-
-    pub fn message_id(&self) -> Option<&ShortString>
-        ensures { option_map (λ x. x.now) result ≡ self.now.message_id }
-    {
-        self.message_id.as_ref()
-    }
-
-    pub fn with_message_id(mut self, value: ShortString) -> BasicProperties
-        ensures { result ≡ record self { message_id = Some value } }
-    {
-        self.message_id = Some(value);
-        self
-    }
-
-    pub fn timestamp(&self) -> Option<u64>
-        ensures { result ≡ self.now.timestamp }
-    {
-        self.timestamp
-    }
-
-    pub fn with_timestamp(mut self, value: u64) -> BasicProperties
-        ensures { result ≡ record self { timestamp = Some value } }
-    {
-        self.timestamp = Some(value);
-        self
-    }
-
-    pub fn kind(&self) -> Option<&ShortString>
-        ensures { option_map (λ x. x.now) result ≡ self.now.kind }
-    {
-        self.kind.as_ref()
-    }
-
-    pub fn with_kind(mut self, value: ShortString) -> BasicProperties
-        ensures { result ≡ record self { kind = Some value } }
-    {
-        self.kind = Some(value);
-        self
-    }
-
-    pub fn user_id(&self) -> Option<&ShortString>
-        ensures { option_map (λ x. x.now) result ≡ self.now.user_id }
-    {
-        self.user_id.as_ref()
-    }
-
-    pub fn with_user_id(mut self, value: ShortString) -> BasicProperties
-        ensures { result ≡ record self { user_id = Some value } }
-    {
-        self.user_id = Some(value);
-        self
-    }
-
-    pub fn app_id(&self) -> Option<&ShortString>
-        ensures { option_map (λ x. x.now) result ≡ self.now.app_id }
-    {
-        self.app_id.as_ref()
-    }
-
-    pub fn with_app_id(mut self, value: ShortString) -> BasicProperties
-        ensures { result ≡ record self { app_id = Some value } }
-    {
-        self.app_id = Some(value);
-        self
-    }
-
-    pub fn cluster_id(&self) -> Option<&ShortString>
-        ensures { option_map (λ x. x.now) result ≡ self.now.cluster_id }
-    {
-        self.cluster_id.as_ref()
-    }
-
-    pub fn with_cluster_id(mut self, value: ShortString) -> BasicProperties
-        ensures { result ≡ record self { cluster_id = Some value } }
-    {
-        self.cluster_id = Some(value);
-        self
     }
 }
 

@@ -74,9 +74,7 @@ impl ShortString {
         ensures short { length self.now ≤ 255 }
         ensures utf8 { IsUtf8 self.now }
     {
-        let text = self.text.as_str();
-        let _bytes = text.as_bytes();
-        text
+        self.text.as_str()
     }
 
     /// A text equal to this one.
