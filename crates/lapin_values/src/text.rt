@@ -105,6 +105,19 @@ impl Eq for ShortString {
     ghost laws = { nat_list_eq_equiv };
 }
 
+/// A clone takes its memory from where the text has its own.
+impl Clone for ShortString {
+    ghost use Rattle.std.specs.Prelude.{◌≡◌};
+
+    ghost is_clone = { λ text copy. copy ≡ text };
+
+    fn clone(&self) -> Result<ShortString, AllocError> {
+        Ok(ShortString {
+            text: self.text.clone()?,
+        })
+    }
+}
+
 /// The bytes of a string value (AMQP 0-9-1, section 4.2.5.3, "long strings"), which need not be text.
 /// A contract sees it as the list of its bytes.
 #[derive(Debug, Drop)]

@@ -4,7 +4,7 @@ ghost use Rattle.std.specs.Prelude.{◌≡◌, IfOk};
 
 use crate::memory::NoMemory;
 use crate::value::{AMQPValue, FieldArray, FieldTable};
-use std::alloc::Global;
+use std::alloc::{AllocError, Global};
 
 impl AMQPValue {
     /// A value equal to this one.
@@ -70,5 +70,17 @@ impl FieldTable {
             entries.push((key, value))?;
         }
         Ok(FieldTable { entries })
+    }
+}
+
+/// A clone takes its memory from where the table has its own.
+impl Clone for FieldTable {
+    ghost is_clone = { λ table copy. copy ≡ table };
+
+    fn clone(&self) -> Result<FieldTable, AllocError> {
+        match self.try_clone(*self.entries.allocator()) {
+            Ok(copy) => Ok(copy),
+            Err(NoMemory) => Err(AllocError),
+        }
     }
 }
