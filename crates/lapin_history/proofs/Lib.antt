@@ -1,0 +1,4 @@
+pub mod ListLaws
+pub mod ConfirmLaws
+pub mod TicketLaws
+pub mod Runs

@@ -1,0 +1,78 @@
+-- The record of an event, from the states and lists before it and from what is seen of confirms and tickets.
+use Rattle.std.specs.Prelude.{ℕ, zero, suc, ◌+◌, Bool, true, false, ◌||◌, if◌then◌else◌, List, [], ◌∷◌, Option, Some, None, Result, Ok, Err}
+use Rattle.lapin_types.specs.declared.event.Event.{Event}
+use Rattle.lapin_types.specs.declared.call.Call.{Call}
+use Rattle.lapin_types.specs.declared.record.Record.{Record}
+use Rattle.lapin_types.specs.declared.leaving.Left.{Left}
+use Rattle.lapin_types.specs.Types.{Frame}
+use Rattle.lapin_types.specs.declared.event.Event.TheVariants as event
+use Rattle.lapin_types.specs.declared.call.Call.TheVariants as call
+use Rattle.lapin_types.specs.declared.record.Record.TheVariants as record_
+use Rattle.lapin_types.specs.Types.error
+use Rattle.lapin_types.specs.declared.confirmation.Confirmation.TheVariants as confirmation
+use Rattle.lapin_history.specs.declared.marks.Settlement.{Settlement}
+use Rattle.lapin_history.specs.declared.marks.Outcome.{Outcome}
+use Rattle.lapin_history.specs.declared.marks.Outcome.TheVariants as outcome
+use Rattle.lapin_history.specs.declared.broker_frames.Incoming.{Incoming}
+use Rattle.lapin_history.specs.declared.broker_frames.Incoming.TheVariants as incoming
+use Rattle.lapin_history.specs.Base.{Base, state_of, is_allowed, is_open, hears_reply, handed}
+use Rattle.lapin_history.specs.Heard.{heard, frame_class, frame_method}
+
+-- What an answer needs to know of confirms and tickets.
+pub record Sight : Type 0 where
+  -- whether the channel's opening is selected, and its last tag taken
+  pub selected : ℕ → Bool
+  pub last : ℕ → ℕ
+  -- whether a tag is pending on a channel
+  pub pending : ℕ → ℕ → Bool
+  -- what a poll of a confirm's or a ticket's number gives
+  pub confirm : ℕ → Record
+  pub ticket : ℕ → Record
+
+-- the result of a confirm
+abbrev pub confirmed : Outcome → Record
+confirmed outcome.NotRequested = record_.Confirmed (Ok confirmation.NotRequested)
+confirmed outcome.Ack = record_.Confirmed (Ok (confirmation.Ack None))
+confirmed outcome.Nack = record_.Confirmed (Ok (confirmation.Nack None))
+confirmed (outcome.Failed e) = record_.Confirmed (Err e)
+
+-- an accepted call is answered by the next ticket number, a publish also by the next confirm number
+abbrev pub accepted_record : Call → Base → Record
+accepted_record (call.BasicPublish exchange key o payload properties) b = record_.Publish (b.tickets + 1) (b.published + 1)
+accepted_record _ b = record_.Ticket (b.tickets + 1)
+
+abbrev pub call_record : ℕ → Call → Base → Record
+call_record c k b =
+    if is_allowed k (state_of c b)
+    then accepted_record k b
+    else record_.Refused (error.InvalidChannelState (state_of c b))
+
+abbrev pub frame_record : Option Left → Record
+frame_record None = record_.NoFrame
+frame_record (Some l) = record_.Frame l.frame
+
+-- A settlement on an opening that is not selected is passed over. A single one of a tag that is not pending is refused with
+-- the tag and the last tag taken.
+abbrev pub settlement_record : Sight → ℕ → Settlement → Record
+settlement_record see c s =
+    if see.selected c
+    then (if s.multiple || see.pending c s.tag
+    then record_.Received
+    else record_.Refused (error.PreconditionFailed s.tag (see.last c)))
+    else record_.Passed
+
+-- a frame that is not heard is refused with its class and method
+abbrev pub refused : Frame → Record
+refused f = record_.Refused (error.UnexpectedFrame (frame_class f) (frame_method f))
+
+abbrev pub heard_record : Base → Sight → Frame → Incoming → Record
+heard_record b see f (incoming.Reply c k) = if hears_reply c k b then record_.Received else refused f
+heard_record b see f (incoming.Settlement c s) = if is_open (state_of c b) then settlement_record see c s else refused f
+heard_record b see f incoming.Other = refused f
+
+abbrev pub record_of : Base → Sight → Event → Record
+record_of b see (event.Call c k) = call_record c k b
+record_of b see (event.Next flow) = frame_record (handed flow b)
+record_of b see (event.Receive f) = heard_record b see f (heard f)
+record_of b see (event.PollTicket n) = see.ticket n
+record_of b see (event.PollConfirm n) = see.confirm n

@@ -1,0 +1,177 @@
+-- Tags and outcomes, read off the marks of a whole history (RabbitMQ publisher confirms).
+use Rattle.std.specs.Prelude.{◌≡◌, ℕ, zero, suc, ◌+◌, ◌==◌, nat_le, Bool, true, false, ◌&&◌, ◌||◌, if◌then◌else◌, List, [], ◌∷◌, Option, Some, None, count_by}
+use Rattle.std.specs.List.{list_any, range_with_len}
+use Rattle.std.specs.Option.{option_or}
+use Rattle.lapin_history.specs.declared.marks.SettleKind.{SettleKind}
+use Rattle.lapin_history.specs.declared.marks.SettleKind.TheVariants as kind
+use Rattle.lapin_history.specs.declared.marks.Settlement.{Settlement}
+use Rattle.lapin_history.specs.declared.marks.Outcome.{Outcome}
+use Rattle.lapin_history.specs.declared.marks.Outcome.TheVariants as outcome
+use Rattle.lapin_history.specs.declared.marks.ConfirmMark.{ConfirmMark}
+use Rattle.lapin_history.specs.declared.marks.ConfirmMark.TheVariants as mark
+use Rattle.lapin_history.specs.Words.{after, through, since}
+
+-- ---- which mark is it
+
+-- an opening of channel c begins
+abbrev pub begins : ℕ → ConfirmMark → Bool
+begins c (mark.Begun d) = d == c
+begins c _ = false
+
+-- a publish is accepted
+abbrev pub adds : ConfirmMark → Bool
+adds (mark.Added d) = true
+adds _ = false
+
+-- a `confirm.select` frame of channel c leaves
+abbrev pub selects : ℕ → ConfirmMark → Bool
+selects c (mark.SelectLeft d) = d == c
+selects c _ = false
+
+-- the method frame of a publish of channel c leaves
+abbrev pub leaves_on : ℕ → ConfirmMark → Bool
+leaves_on c (mark.Left d k) = d == c
+leaves_on c _ = false
+
+-- the method frame of publish k leaves
+abbrev pub leaves : ℕ → ConfirmMark → Bool
+leaves k (mark.Left d j) = j == k
+leaves k _ = false
+
+-- the result of publish k is given
+abbrev pub takes : ℕ → ConfirmMark → Bool
+takes k (mark.Taken j) = j == k
+takes k _ = false
+
+-- ---- settlements
+
+-- Which tags a settlement covers: a single one its own tag, a multiple one every tag up to its own, and with tag 0 every
+-- tag (AMQP 0-9-1, basic.ack; RabbitMQ, basic.nack).
+abbrev pub covers : Settlement → ℕ → Bool
+covers s t = if s.multiple then s.tag == 0 || nat_le t s.tag else s.tag == t
+
+abbrev pub kind_outcome : SettleKind → Outcome
+kind_outcome kind.Ack = outcome.Ack
+kind_outcome kind.Nack = outcome.Nack
+
+-- what a settlement makes of what it covers
+abbrev pub outcome_of : Settlement → Outcome
+outcome_of s = kind_outcome s.kind
+
+-- ---- openings and tags
+
+-- the marks since the channel's present opening began
+abbrev pub opening : ℕ → List ConfirmMark → List ConfirmMark
+opening c ms = since (begins c) ms
+
+abbrev pub is_begun : ℕ → List ConfirmMark → Bool
+is_begun c ms = list_any (begins c) ms
+
+-- an opening is selected from the moment its first `confirm.select` frame leaves
+abbrev pub is_selected : ℕ → List ConfirmMark → Bool
+is_selected c ms = list_any (selects c) (opening c ms)
+
+-- how many publishes of the opening left after its first `confirm.select`: the last tag taken
+abbrev pub place : ℕ → List ConfirmMark → ℕ
+place c ms = count_by (leaves_on c) (after (selects c) (opening c ms))
+
+abbrev pub has_left : ℕ → List ConfirmMark → Bool
+has_left k ms = list_any (leaves k) ms
+
+abbrev pub channel_in : Option ConfirmMark → ℕ
+channel_in (Some (mark.Added d)) = d
+channel_in _ = 0
+
+-- how many publishes were accepted
+abbrev pub added : List ConfirmMark → ℕ
+added [] = 0
+added (m ∷ ms) = if adds m then added ms + 1 else added ms
+
+-- the mark by which publish k was accepted
+abbrev pub accepted : ℕ → List ConfirmMark → Option ConfirmMark
+accepted k [] = None
+accepted zero (m ∷ ms) = if adds m then Some m else accepted zero ms
+accepted (suc k) (m ∷ ms) = if adds m then accepted k ms else accepted (suc k) ms
+
+-- the marks after it
+abbrev pub life : ℕ → List ConfirmMark → List ConfirmMark
+life k [] = []
+life zero (m ∷ ms) = if adds m then ms else life zero ms
+life (suc k) (m ∷ ms) = if adds m then life k ms else life (suc k) ms
+
+-- the channel of publish k
+abbrev pub channel_of : ℕ → List ConfirmMark → ℕ
+channel_of k ms = channel_in (accepted k ms)
+
+-- A publish takes its place, as its method frame leaves, among those of its opening that left after the first
+-- `confirm.select`, counted from 1. It has no tag if none had left.
+abbrev pub tag_on : ℕ → List ConfirmMark → Option ℕ
+tag_on c ms = if is_selected c ms then Some (place c ms) else None
+
+abbrev pub tag_of : ℕ → List ConfirmMark → Option ℕ
+tag_of k ms = tag_on (channel_of k ms) (through (leaves k) ms)
+
+-- ---- outcomes
+
+-- what a mark does to publish k of channel c while its method frame has not left: a close of this side, or the end
+abbrev pub rejection_of : ℕ → ℕ → ConfirmMark → Option Outcome
+rejection_of c k (mark.Rejected j e) = if k == j then Some (outcome.Failed e) else None
+rejection_of c k (mark.Ended d e) = if c == d then Some (outcome.Failed e) else None
+rejection_of c k _ = None
+
+-- the first of these
+abbrev pub first_rejected : ℕ → ℕ → List ConfirmMark → Option Outcome
+first_rejected c k [] = None
+first_rejected c k (m ∷ ms) = option_or (rejection_of c k m) (first_rejected c k ms)
+
+-- what a mark does to a publish of channel c that is pending with tag t: a settlement that covers it, or the end
+abbrev pub settlement_on : ℕ → ℕ → ConfirmMark → Option Outcome
+settlement_on c t (mark.Settled d s) = if c == d && covers s t then Some (outcome_of s) else None
+settlement_on c t (mark.Ended d e) = if c == d then Some (outcome.Failed e) else None
+settlement_on c t _ = None
+
+-- the first of these
+abbrev pub first_settled : ℕ → ℕ → List ConfirmMark → Option Outcome
+first_settled c t [] = None
+first_settled c t (m ∷ ms) = option_or (settlement_on c t m) (first_settled c t ms)
+
+-- what becomes of a publish that left, with its tag and what came later
+abbrev pub outcome_after : ℕ → Option ℕ → List ConfirmMark → Option Outcome
+outcome_after c None later = Some outcome.NotRequested
+outcome_after c (Some t) later = first_settled c t later
+
+-- The outcome of publish k, none while it is pending. Before its method frame left: the first close of this side or end.
+-- After it: not requested where it took no tag, else the first settlement that covers its tag, or the end.
+abbrev pub outcome_at : ℕ → List ConfirmMark → Option Outcome
+outcome_at k ms =
+    if has_left k ms
+    then outcome_after (channel_of k ms) (tag_of k ms) (after (leaves k) ms)
+    else first_rejected (channel_of k ms) k (life k ms)
+
+abbrev pub is_taken : ℕ → List ConfirmMark → Bool
+is_taken k ms = list_any (takes k) ms
+
+-- ---- pending tags
+
+abbrev pub is_tag : ℕ → Option ℕ → Bool
+is_tag t None = false
+is_tag t (Some u) = u == t
+
+abbrev pub is_open_outcome : Option Outcome → Bool
+is_open_outcome None = true
+is_open_outcome (Some o) = false
+
+-- publish k is of channel c, has tag t and no outcome yet
+abbrev pub is_pending_as : ℕ → ℕ → List ConfirmMark → ℕ → Bool
+is_pending_as c t ms k = has_left k ms && (channel_of k ms == c && (is_tag t (tag_of k ms) && is_open_outcome (outcome_at k ms)))
+
+-- the tag is pending on channel c: one of its publishes is pending with it
+abbrev pub is_pending : ℕ → ℕ → List ConfirmMark → Bool
+is_pending c t ms = list_any (is_pending_as c t ms) (range_with_len 0 (added ms))
+
+-- how many tags are pending on channel c
+abbrev pub is_pending_on : ℕ → List ConfirmMark → ℕ → Bool
+is_pending_on c ms k = has_left k ms && (channel_of k ms == c && is_open_outcome (outcome_at k ms))
+
+abbrev pub pending_count : ℕ → List ConfirmMark → ℕ
+pending_count c ms = count_by (is_pending_on c ms) (range_with_len 0 (added ms))

@@ -1,0 +1,49 @@
+-- What a frame of the broker is to a channel.
+use Rattle.std.specs.Prelude.{ℕ, Bool}
+use Rattle.lapin_methods.specs.Numbers.{class_number, method_number}
+use Rattle.lapin_types.specs.declared.request.ReplyKind.{ReplyKind}
+use Rattle.lapin_types.specs.declared.answer.Answer.{Answer}
+use Rattle.lapin_types.specs.Types.{Frame, Method}
+use Rattle.lapin_types.specs.Types.frame
+use Rattle.lapin_types.specs.Types.method
+use Rattle.lapin_types.specs.Types.channel
+use Rattle.lapin_types.specs.Types.basic
+use Rattle.lapin_types.specs.Types.confirm
+use Rattle.lapin_types.specs.declared.answer.Answer.TheVariants as answer
+use Rattle.lapin_types.specs.declared.request.ReplyKind.TheVariants as reply_kind
+use Rattle.lapin_history.specs.declared.marks.SettleKind.{SettleKind}
+use Rattle.lapin_history.specs.declared.marks.SettleKind.TheVariants as settle
+use Rattle.lapin_history.specs.declared.marks.Settlement.{Settlement}
+use Rattle.lapin_history.specs.declared.broker_frames.Incoming.{Incoming}
+use Rattle.lapin_history.specs.declared.broker_frames.Incoming.TheVariants as incoming
+
+-- the class and method of a frame: a header has its class and method 0, a body has 0 and 0
+abbrev pub frame_class : Frame → ℕ
+frame_class (frame.Method c m) = class_number m
+frame_class (frame.Header c h) = h.class_id
+frame_class (frame.Body c bytes) = 0
+
+abbrev pub frame_method : Frame → ℕ
+frame_method (frame.Method c m) = method_number m
+frame_method (frame.Header c h) = 0
+frame_method (frame.Body c bytes) = 0
+
+abbrev pub settlement : SettleKind → ℕ → Bool → Settlement
+settlement kind tag multiple = record { kind = kind; tag = tag; multiple = multiple }
+
+-- replies and settlements; every other method is none of these
+abbrev pub heard_method : ℕ → Method → Incoming
+heard_method c (method.Channel channel.OpenOk) = incoming.Reply c reply_kind.ChannelOpenOk
+heard_method c (method.Confirm confirm.SelectOk) = incoming.Reply c reply_kind.ConfirmSelectOk
+heard_method c (method.Basic (basic.Ack tag multiple)) = incoming.Settlement c (settlement settle.Ack tag multiple)
+heard_method c (method.Basic (basic.Nack tag multiple requeue)) = incoming.Settlement c (settlement settle.Nack tag multiple)
+heard_method c _ = incoming.Other
+
+abbrev pub heard : Frame → Incoming
+heard (frame.Method c m) = heard_method c m
+heard _ = incoming.Other
+
+-- the answer that a reply makes of its request's ticket
+abbrev pub reply_answer : ℕ → ReplyKind → Answer
+reply_answer c reply_kind.ChannelOpenOk = answer.Channel c
+reply_answer c reply_kind.ConfirmSelectOk = answer.Done

@@ -1,0 +1,93 @@
+-- The records that a history determines.
+use Rattle.std.specs.Prelude.{ℕ, zero, suc, nat_lt, nat_le, Bool, ◌&&◌, true, false, if◌then◌else◌, List, [], ◌∷◌, ◌++◌, Option, Some, None, Result, Ok, Err}
+use Rattle.lapin_types.specs.declared.event.Event.{Event}
+use Rattle.lapin_types.specs.declared.record.Record.{Record}
+use Rattle.lapin_types.specs.declared.answer.Answer.{Answer}
+use Rattle.lapin_types.specs.Types.{Error}
+use Rattle.lapin_types.specs.declared.record.Record.TheVariants as record_
+use Rattle.lapin_types.specs.Types.error
+use Rattle.lapin_history.specs.declared.marks.ConfirmMark.{ConfirmMark}
+use Rattle.lapin_history.specs.declared.marks.Outcome.{Outcome}
+use Rattle.lapin_history.specs.ConfirmReadings.{is_selected, place, is_pending, added, is_taken, outcome_at}
+use Rattle.lapin_history.specs.TicketReadings.{TicketMark, given, is_collected, answer_of}
+use Rattle.lapin_history.specs.Base.{Base, start, after_event}
+use Rattle.lapin_history.specs.Marked.{confirm_marks, ticket_marks}
+use Rattle.lapin_history.specs.Answers.{Sight, confirmed, record_of}
+
+-- events with their records, oldest first; the empty one is that of a new session
+abbrev pub History : Type 0
+History = List (Event × Record)
+
+-- what a history comes to: states and lists, and all that happened to confirms and to tickets
+pub record Past : Type 0 where
+  pub base : Base
+  pub confirms : List ConfirmMark
+  pub tickets : List TicketMark
+
+abbrev pub longer : Past → Event → Record → Past
+longer p e r = record {
+  base = after_event p.base e;
+  confirms = p.confirms ++ confirm_marks p.base e r;
+  tickets = p.tickets ++ ticket_marks p.base e r;
+}
+
+abbrev pub past_on : Past → History → Past
+past_on p [] = p
+past_on p (x ∷ h) = past_on (longer p x.0 x.1) h
+
+abbrev pub past : ℕ → History → Past
+past frame_max h = past_on (record { base = start frame_max; confirms = []; tickets = [] }) h
+
+-- what a poll of a confirm's number gives: the outcome once
+abbrev pub polled_outcome : Option Outcome → Record
+polled_outcome None = record_.Pending
+polled_outcome (Some o) = confirmed o
+
+abbrev pub poll_at : ℕ → List ConfirmMark → Record
+poll_at k ms =
+    if nat_lt k (added ms)
+    then (if is_taken k ms then record_.Refused error.AlreadyTaken else polled_outcome (outcome_at k ms))
+    else record_.Refused error.UnknownTicket
+
+abbrev pub confirm_poll : List ConfirmMark → ℕ → Record
+confirm_poll ms zero = record_.Refused error.UnknownTicket
+confirm_poll ms (suc k) = poll_at k ms
+
+-- what a poll of a ticket's number gives: the answer once
+abbrev pub polled_answer : Option (Result Answer Error) → Record
+polled_answer None = record_.Pending
+polled_answer (Some a) = record_.Answer a
+
+abbrev pub was_given : ℕ → List TicketMark → Bool
+was_given n ms = nat_lt 0 n && nat_le n (given ms)
+
+abbrev pub ticket_poll : List TicketMark → ℕ → Record
+ticket_poll ms n =
+    if was_given n ms
+    then (if is_collected n ms then record_.Refused error.AlreadyTaken else polled_answer (answer_of n ms))
+    else record_.Refused error.UnknownTicket
+
+-- what the marks show
+abbrev pub sight_of : List ConfirmMark → List TicketMark → Sight
+sight_of confirms tickets = record {
+  selected = λ c. is_selected c confirms;
+  last = λ c. place c confirms;
+  pending = λ c t. is_pending c t confirms;
+  confirm = confirm_poll confirms;
+  ticket = ticket_poll tickets;
+}
+
+abbrev pub record_after : Past → Event → Record
+record_after p e = record_of p.base (sight_of p.confirms p.tickets) e
+
+-- the record that a history determines for the next event
+abbrev pub rec : ℕ → History → Event → Record
+rec frame_max h e = record_after (past frame_max h) e
+
+abbrev pub run_from : ℕ → History → List Event → List Record
+run_from frame_max h [] = []
+run_from frame_max h (e ∷ es) = rec frame_max h e ∷ run_from frame_max (h ++ (e, rec frame_max h e) ∷ []) es
+
+-- the records of a whole list of events
+abbrev pub run : ℕ → List Event → List Record
+run frame_max es = run_from frame_max [] es

@@ -1,0 +1,11 @@
+pub mod Words
+pub mod ConfirmReadings
+pub mod TicketReadings
+pub mod Frames
+pub mod Heard
+pub mod Leaving
+pub mod Requests
+pub mod Base
+pub mod Marked
+pub mod Answers
+pub mod History

@@ -1,0 +1,31 @@
+-- The open requests of each channel, and which one a reply takes (AMQP 0-9-1: replies come in the order of the requests of
+-- their channel).
+use Rattle.std.specs.Prelude.{ℕ, Bool, true, false, List, [], ◌∷◌, ◌++◌, Option, Some, None, find}
+use Rattle.lapin_tables.specs.ByChannel.{at_channel}
+use Rattle.lapin_types.specs.declared.request.Request.{Request}
+use Rattle.lapin_types.specs.declared.request.ReplyKind.{ReplyKind}
+use Rattle.lapin_types.specs.Requests.{kind_of}
+use Rattle.lapin_types.specs.declared.request.ReplyKind.TheVariants as reply_kind
+use Rattle.lapin_history.specs.Words.{without_first, with_channel}
+
+abbrev pub requests_in : Option (List Request) → List Request
+requests_in None = []
+requests_in (Some rs) = rs
+
+abbrev pub same_kind : ReplyKind → ReplyKind → Bool
+same_kind reply_kind.ChannelOpenOk reply_kind.ChannelOpenOk = true
+same_kind reply_kind.ConfirmSelectOk reply_kind.ConfirmSelectOk = true
+same_kind _ _ = false
+
+abbrev pub is_kind : ReplyKind → Request → Bool
+is_kind k r = same_kind (kind_of r.reply) k
+
+-- the oldest open request of its kind, and what stays
+abbrev pub first_request : ReplyKind → List Request → Option Request
+first_request k rs = find (is_kind k) rs
+
+abbrev pub with_request : ℕ → Request → List (ℕ × List Request) → List (ℕ × List Request)
+with_request c r all = with_channel c (requests_in (at_channel c all) ++ r ∷ []) all
+
+abbrev pub without_request : ℕ → ReplyKind → List (ℕ × List Request) → List (ℕ × List Request)
+without_request c k all = with_channel c (without_first (is_kind k) (requests_in (at_channel c all))) all

@@ -1,0 +1,17 @@
+//! What a history says: the definitions that every contract above cites.
+//!
+//! Here live the words for what happened (marks), the readings of tags, outcomes and answers, the states and lists that a
+//! history comes to, and the records that it determines. No state lives here and no fast code: the few plain functions read
+//! a list of marks from its start each time, and serve tests.
+#![tactic(auto)]
+
+pub mod broker_frames;
+pub mod calls;
+pub mod laws;
+pub mod leaving;
+pub mod marks;
+
+pub use broker_frames::{Incoming, class_of, is_kind, method_of, reply_answer, sort_frame};
+pub use calls::{awaited, called, is_allowed, made_answer};
+pub use leaving::resolved;
+pub use marks::{ConfirmMark, Outcome, SettleKind, Settlement};
