@@ -1,10 +1,10 @@
 -- Slots whose front was let go.
-use Rattle.std.proofs.Common.{◌≡◌, ℕ, zero, suc, ◌+◌, ◌<◌, ◌≤◌, List, ◌∷◌, ◌++◌, length, replicate, Option, None, refl, ◌∙◌, ap, arith, slice_set, get_or, inl, inr, true}
-use Rattle.std.specs.Option.{IsSome}
-use Rattle.std.specs.Prelude.{is_some}
+use Rattle.std.proofs.Common.{◌≡◌, ℕ, zero, suc, ◌+◌, ◌<◌, ◌≤◌, List, [], ◌∷◌, ◌++◌, length, replicate, Option, Some, None, refl, ◌∙◌, ap, arith, slice_set, get_or, inl, inr, true, false}
+use Rattle.std.specs.Option.{IsSome, option_map}
+use Rattle.std.specs.Prelude.{is_some, is_none}
 use Rattle.std.proofs.lemmas.Bool.{cases_lt}
 use Rattle.std.proofs.lemmas.List.{get_or_past, set_past}
-use Rattle.lapin_tables.specs.Numbered.{under, with_under}
+use Rattle.lapin_tables.specs.Numbered.{under, with_under, first_kept, starts_taken}
 
 module _ {T : Type 0} where
   pub under-kept : (g p n : ℕ) (xs : List (Option T)) → n ≡ g + p + 1 → under n (replicate g None ++ xs) ≡ get_or xs p None
@@ -49,3 +49,36 @@ module _ {T : Type 0} where
 
   pub with-past : (g p n : ℕ) (o : Option T) (xs : List (Option T)) → n ≡ g + p + 1 → length xs ≤ p → with_under n o (replicate g None ++ xs) ≡ replicate g None ++ xs
   with-past g p n o xs h past = with-kept g p n o xs h ∙ ap (λ ys. replicate g None ++ ys) (set_past xs p o past)
+
+  -- the first number that is there, behind those that were let go
+  pub first-none : (g : ℕ) (xs : List (Option T)) → length xs ≡ 0 → first_kept (replicate g None ++ xs) ≡ None
+  first-none zero [] none = refl
+  first-none zero (x ∷ xs) none = absurd (omega arith)
+  first-none (suc g) xs none = ap (option_map suc) (first-none g xs none)
+
+  pub first-some : (g : ℕ) (xs : List (Option T)) → starts_taken xs ≡ false → 0 < length xs → first_kept (replicate g None ++ xs) ≡ Some (g + 1)
+  first-some g [] kept more = absurd (omega arith)
+  first-some g (None ∷ xs) kept more = cc
+  first-some zero (Some x ∷ xs) kept more = refl
+  first-some (suc g) (Some x ∷ xs) kept more = let next : suc (g + 1) ≡ suc g + 1 = omega arith in ap (option_map suc) (first-some g (Some x ∷ xs) kept more) ∙ ap Some next
+
+  pub kept-push : (xs : List (Option T)) (x : T) → starts_taken xs ≡ false → starts_taken (xs ++ Some x ∷ []) ≡ false
+  kept-push [] x kept = refl
+  kept-push (None ∷ xs) x kept = cc
+  kept-push (Some y ∷ xs) x kept = refl
+
+  pub kept-set : (xs : List (Option T)) (i : ℕ) (x : T) → starts_taken xs ≡ false → starts_taken (slice_set xs i (Some x)) ≡ false
+  kept-set [] i x kept = refl
+  kept-set (None ∷ xs) i x kept = cc
+  kept-set (Some y ∷ xs) zero x kept = refl
+  kept-set (Some y ∷ xs) (suc i) x kept = refl
+
+  -- what the first slot holds
+  pub starts-read : (xs : List (Option T)) (x : Option T) → 0 < length xs → x ≡ get_or xs 0 x → is_none x ≡ starts_taken xs
+  starts-read [] x more read = absurd (omega arith)
+  starts-read (None ∷ xs) x more read = ap is_none read
+  starts-read (Some y ∷ xs) x more read = ap is_none read
+
+  pub starts-empty : (xs : List (Option T)) → length xs ≡ 0 → starts_taken xs ≡ false
+  starts-empty [] none = refl
+  starts-empty (x ∷ xs) none = absurd (omega arith)

@@ -3,9 +3,10 @@
 //! What was taken at the front is let go, so that memory is held by what is outstanding. No other file knows what was
 //! let go: contracts see every number that was given.
 
-ghost use Rattle.std.specs.Prelude.{◌≡◌, ℕ, ◌+◌, ◌^◌, ◌≤◌, ◌<◌, ◌∷◌, ◌++◌, [], length, OnOk, IsSome, MatchOption, None, Some};
+ghost use Rattle.std.specs.Prelude.{◌≡◌, ℕ, ◌+◌, ◌^◌, ◌≤◌, ◌<◌, ◌∷◌, ◌++◌, [], length, OnOk, IsSome, MatchOption, None, Some, replicate, false, ◌-◌};
+ghost use Rattle.std.specs.VecDeque.{deque_len, deque_capacity};
 ghost use Rattle.std.specs.Option.{option_copied};
-ghost use Rattle.lapin_tables.specs.Numbered.{Slots, under, with_under};
+ghost use Rattle.lapin_tables.specs.Numbered.{Slots, under, with_under, first_kept, starts_taken};
 
 use std::alloc::{AllocError, Global};
 use std::collections::VecDeque;
@@ -20,7 +21,7 @@ pub struct Numbered<T> {
 }
 
 impl<T> Model for Numbered<T> {
-    ghost use Rattle.std.specs.Prelude.{◌-◌, ◌+◌, ◌<◌, ◌^◌, ◌++◌, None, replicate};
+    ghost use Rattle.std.specs.Prelude.{◌≡◌, ◌-◌, ◌+◌, ◌<◌, ◌^◌, ◌++◌, None, replicate, false};
     ghost use Rattle.std.specs.VecDeque.{deque_len, deque_capacity};
     ghost use Rattle.lapin_tables.specs.Numbered.{Slots, slots_code};
 
@@ -33,7 +34,9 @@ impl<T> Model for Numbered<T> {
       spare = deque_capacity a.slots - deque_len a.slots;
     } };
 
-    ghost invariant = { λ a. a.let_go + deque_len a.slots < 2 ^ 64 };
+    ghost use Rattle.lapin_tables.specs.Numbered.{starts_taken};
+
+    ghost invariant = { λ a. (a.let_go + deque_len a.slots < 2 ^ 64) × (starts_taken a.slots.items ≡ false) };
 }
 
 impl<T> Numbered<T> {
@@ -63,7 +66,8 @@ impl<T> Numbered<T> {
 
     /// The value under a number: `None` where the number was never given or its value was taken.
     pub fn get(&self, number: u64) -> Option<&T>
-        ensures { option_copied result ≡ under number self.now.slots }
+        ensures value { option_copied result ≡ under number self.now.slots }
+        ensures fits { length self.now.slots < 2 ^ 64 }
     {
         let place = place_of(self.let_go, number)?;
         match self.slots.get(place) {
@@ -72,13 +76,24 @@ impl<T> Numbered<T> {
         }
     }
 
-    /// Makes room for one `push_reserved`. The values stay, also where there is no memory.
-    pub fn reserve(&mut self) -> Result<(), AllocError>
-        ensures room { OnOk result (0 < self.new.spare) }
+    /// The least number whose value is there.
+    pub fn first_number(&self) -> Option<u64>
+        ensures { result ≡ first_kept self.now.slots }
+    {
+        if self.slots.is_empty() {
+            None
+        } else {
+            Some(self.let_go + 1)
+        }
+    }
+
+    /// Makes room for so many further `push_reserved`. The values stay, also where there is no memory.
+    pub fn reserve(&mut self, additional: usize) -> Result<(), AllocError>
+        ensures room { OnOk result (additional ≤ self.new.spare) }
         ensures same { self.new.slots ≡ self.old.slots }
         ensures kept { self.old.spare ≤ self.new.spare }
     {
-        self.slots.reserve(1)
+        self.slots.reserve(additional)
     }
 
     /// Gives a value the next number, in the room that `reserve` made.
@@ -115,19 +130,31 @@ impl<T: Drop> Numbered<T> {
     {
         let place = place_of(self.let_go, number)?;
         let value = self.slots.get_mut(place)?.take();
-        self.let_go();
+        let_go(&mut self.let_go, &mut self.slots);
         value
     }
+}
 
-    // Lets go what was taken at the front.
-    fn let_go(&mut self)
-        ensures slots { self.new.slots ≡ self.old.slots }
-        ensures kept { self.old.spare ≤ self.new.spare }
-    {
-        while let Some(None) = self.slots.front() {
-            let _ = self.slots.pop_front();
-            self.let_go += 1;
-        }
+// Lets go what was taken at the front.
+fn let_go<T: Drop>(gone: &mut u64, slots: &mut VecDeque<Option<T>>)
+    requires { gone.old + deque_len slots.old < 2 ^ 64 }
+    ensures slots { replicate gone.new None ++ slots.new.items ≡ replicate gone.old None ++ slots.old.items }
+    ensures count { gone.new + deque_len slots.new ≡ gone.old + deque_len slots.old }
+    ensures start { starts_taken slots.new.items ≡ false }
+    ensures room { deque_capacity slots.old - deque_len slots.old ≤ deque_capacity slots.new - deque_len slots.new }
+{
+    while is_first_taken(slots) {
+        let _ = slots.pop_front();
+        *gone += 1;
+    }
+}
+
+fn is_first_taken<T>(slots: &VecDeque<Option<T>>) -> bool
+    ensures { result ≡ starts_taken slots.now.items }
+{
+    match slots.front() {
+        Some(slot) => slot.is_none(),
+        None => false,
     }
 }
 

@@ -36,7 +36,7 @@ fn channels_are_changed(rt: HostRuntime) -> Result<(), Fail> {
 }
 
 fn add(values: &mut Numbered<u8>, value: u8) -> Result<(), Fail> {
-    values.reserve()?;
+    values.reserve(1)?;
     let next = values.next_number().ok_or("the numbers are used up")?;
     let given = values.push_reserved(value);
     if given != next {
@@ -53,9 +53,11 @@ fn numbers_are_taken_once(rt: HostRuntime) -> Result<(), Fail> {
     add(&mut values, 20)?;
     add(&mut values, 30)?;
     assert_eq!(rt; values.count(), 3);
+    assert_eq!(rt; values.first_number(), Some(1));
     assert_eq!(rt; values.take(2), Some(20));
     assert_eq!(rt; values.take(2), None);
     assert_eq!(rt; values.take(1), Some(10));
+    assert_eq!(rt; values.first_number(), Some(3));
     assert_eq!(rt; values.get(1), None);
     assert_eq!(rt; values.get(2), None);
     assert_eq!(rt; values.get(3).copied(), Some(30));
