@@ -3,7 +3,7 @@
 //! What was taken at the front is let go, so that memory is held by what is outstanding. No other file knows what was
 //! let go: contracts see every number that was given.
 
-ghost use Rattle.std.specs.Prelude.{◌≡◌, ℕ, ◌+◌, ◌^◌, ◌≤◌, ◌<◌, ◌∷◌, ◌++◌, [], length, OnOk, IsSome, MatchOption, None, Some, replicate, false, ◌-◌};
+ghost use Rattle.std.specs.Prelude.{◌≡◌, ℕ, ◌+◌, ◌^◌, ◌≤◌, ◌<◌, ◌∷◌, ◌++◌, [], length, OnOk, IsOk, IsSome, MatchOption, None, Some, replicate, false, ◌-◌};
 ghost use Rattle.std.specs.VecDeque.{deque_len, deque_capacity};
 ghost use Rattle.std.specs.Option.{option_copied};
 ghost use Rattle.lapin_tables.specs.Numbered.{Slots, under, with_under, first_kept, starts_taken};
@@ -92,8 +92,20 @@ impl<T> Numbered<T> {
         ensures room { OnOk result (additional ≤ self.new.spare) }
         ensures same { self.new.slots ≡ self.old.slots }
         ensures kept { self.old.spare ≤ self.new.spare }
+        ensures succeeds { additional ≤ self.old.spare → IsOk result }
     {
         self.slots.reserve(additional)
+    }
+
+    /// Makes room for one more value beside so many that are promised theirs. The values stay, also where there is no memory.
+    pub fn reserve_beside(&mut self, promised: usize) -> Result<(), AllocError>
+        requires { promised ≤ self.old.spare }
+        ensures room { OnOk result (promised < self.new.spare) }
+        ensures same { self.new.slots ≡ self.old.slots }
+        ensures kept { self.old.spare ≤ self.new.spare }
+        ensures succeeds { promised < self.old.spare → IsOk result }
+    {
+        self.slots.reserve(promised + 1)
     }
 
     /// Gives a value the next number, in the room that `reserve` made.

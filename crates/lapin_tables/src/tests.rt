@@ -36,7 +36,8 @@ fn channels_are_changed(rt: HostRuntime) -> Result<(), Fail> {
 }
 
 fn add(values: &mut Numbered<u8>, value: u8) -> Result<(), Fail> {
-    values.reserve(1)?;
+    values.reserve(2)?;
+    values.reserve_beside(1)?;
     let next = values.next_number().ok_or("the numbers are used up")?;
     let given = values.push_reserved(value);
     if given != next {
