@@ -1,0 +1,5 @@
+pub mod ScalarLaws
+pub mod NumberLaws
+pub mod SignedLaws
+pub mod HexLaws
+pub mod PlainLaws

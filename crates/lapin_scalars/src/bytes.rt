@@ -1,0 +1,90 @@
+//! Bytes as pairs of hexadecimal digits in lower case, and short texts, whose bytes are written so.
+
+ghost use Rattle.std.specs.Prelude.{◌≡◌, ◌∷◌, ℕ, List, true, IfSome, IfNone, IfOk};
+ghost use Rattle.lapin_scalars.specs.Scalars.{scalar_text, scalar_fits};
+ghost use Rattle.lapin_scalars.specs.Scalars.Scalar.{text as a_text, bytes as some_bytes, pairs as some_pairs};
+ghost use Rattle.lapin_scalars.specs.Reading.{GivesValue, hex_fault, scalar_of};
+
+use crate::fault::ReadError;
+use crate::marks::behind;
+use hex::FromHexError;
+use lapin_values::{NoMemory, Payload, ShortString, ShortStringError};
+use std::alloc::Global;
+
+fn fault_of(error: FromHexError) -> ReadError
+    ensures { result ≡ hex_fault error }
+{
+    match error {
+        FromHexError::OutOfMemory => ReadError::Memory,
+        _ => ReadError::Bad,
+    }
+}
+
+/// The bytes that pairs of digits say.
+pub fn pairs_of(alloc: Global, digits: &[u8]) -> Result<Vec<u8>, ReadError>
+    ensures { GivesValue (λ v. v.items) result (scalar_of some_pairs digits.now) }
+{
+    match hex::decode(alloc, digits) {
+        Ok(bytes) => {
+            // `decode` reads upper case too.
+            let lower = hex::encode(alloc, &bytes)?;
+            if lower.as_bytes() == digits {
+                Ok(bytes)
+            } else {
+                Err(ReadError::Bad)
+            }
+        }
+        Err(error) => Err(fault_of(error)),
+    }
+}
+
+/// The bytes that an x and pairs of digits say.
+pub fn bytes_of(alloc: Global, piece: &[u8]) -> Result<Vec<u8>, ReadError>
+    ensures { GivesValue (λ v. v.items) result (scalar_of some_bytes piece.now) }
+{
+    match behind(b'x', piece) {
+        Some(digits) => pairs_of(alloc, digits),
+        None => Err(ReadError::Bad),
+    }
+}
+
+/// The short text that an x and pairs of digits say.
+pub fn short_of(alloc: Global, piece: &[u8]) -> Result<ShortString, ReadError>
+    ensures { GivesValue (λ s. s) result (scalar_of a_text piece.now) }
+{
+    match bytes_of(alloc, piece) {
+        Ok(bytes) => match str::from_utf8(&bytes) {
+            Ok(text) => match ShortString::new(alloc, text) {
+                Ok(short) => Ok(short),
+                Err(ShortStringError::TooLong { .. }) => Err(ReadError::Bad),
+                Err(ShortStringError::NoMemory) => Err(ReadError::Memory),
+            },
+            Err(_) => Err(ReadError::Bad),
+        },
+        Err(error) => Err(error),
+    }
+}
+
+/// The short text that a piece says, or `None` where it says none.
+pub fn read_short(alloc: Global, piece: &[u8]) -> Result<Option<ShortString>, NoMemory>
+    ensures found { IfOk result (λ o. IfSome o (λ s. (piece.now ≡ scalar_text a_text s) × (scalar_fits a_text s ≡ true))) }
+    ensures none { IfOk result (λ o. IfNone o ((s : List ℕ) → scalar_fits a_text s ≡ true → piece.now ≡ scalar_text a_text s → ⊥)) }
+{
+    match short_of(alloc, piece) {
+        Ok(short) => Ok(Some(short)),
+        Err(ReadError::Bad) => Ok(None),
+        Err(ReadError::Memory) => Err(NoMemory),
+    }
+}
+
+/// The bytes that a piece says, or `None` where it says none.
+pub fn read_bytes(alloc: Global, piece: &[u8]) -> Result<Option<Payload>, NoMemory>
+    ensures found { IfOk result (λ o. IfSome o (λ b. (piece.now ≡ scalar_text some_bytes b) × (scalar_fits some_bytes b ≡ true))) }
+    ensures none { IfOk result (λ o. IfNone o ((b : List ℕ) → scalar_fits some_bytes b ≡ true → piece.now ≡ scalar_text some_bytes b → ⊥)) }
+{
+    match bytes_of(alloc, piece) {
+        Ok(bytes) => Ok(Some(Payload::new(alloc, &bytes)?)),
+        Err(ReadError::Bad) => Ok(None),
+        Err(ReadError::Memory) => Err(NoMemory),
+    }
+}

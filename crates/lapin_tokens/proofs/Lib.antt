@@ -1,0 +1,12 @@
+pub mod Words
+pub mod Turns
+pub mod Rising
+pub mod ByLetter
+pub mod Splits
+pub mod MemberLaws
+pub mod ValueLaws
+pub mod NestedLaws
+pub mod Prefixes
+pub mod PropertyLaws
+pub mod FieldLaws
+pub mod PartTurns
