@@ -2,3 +2,4 @@ pub mod ListLaws
 pub mod ConfirmLaws
 pub mod TicketLaws
 pub mod Runs
+pub mod ChannelLaws

@@ -5,10 +5,12 @@
 ghost use Rattle.std.specs.Prelude.{◌≡◌};
 ghost use Rattle.lapin_history.specs.Heard.{heard, heard_method, frame_class, frame_method, reply_answer as reply_answer_lem};
 ghost use Rattle.lapin_history.specs.Requests.{is_kind as is_kind_lem};
+ghost use Rattle.lapin_history.specs.Base.{hears as hears_lem};
 
 use crate::marks::{SettleKind, Settlement};
 use lapin_types::{
-    Answer, BasicMethod, ChannelMethod, ConfirmMethod, Frame, Method, ReplyKind, Request,
+    Answer, BasicMethod, ChannelMethod, ChannelState, ConfirmMethod, Frame, Method, ReplyKind,
+    Request,
 };
 
 /// A broker's frame, as the rules see it.
@@ -111,4 +113,14 @@ pub fn is_kind(kind: ReplyKind, request: &Request) -> bool
     ensures { result ≡ is_kind_lem kind request.now }
 {
     request.reply.kind() == kind
+}
+
+/// Whether a reply of this kind is heard in a state: `channel.open-ok` on an opening channel, the others on an open one.
+pub fn hears(kind: ReplyKind, state: ChannelState) -> bool
+    ensures { result ≡ hears_lem kind state }
+{
+    match kind {
+        ReplyKind::ChannelOpenOk => matches!(state, ChannelState::Opening),
+        ReplyKind::ConfirmSelectOk => matches!(state, ChannelState::Open),
+    }
 }
