@@ -1,6 +1,7 @@
 //! The methods of the class channel (AMQP 0-9-1, class 20): opening, flow and closing.
 //!
-//! Here stand the methods as data, with their numbers, equality and copies. What they do stands in the crates above.
+//! Here stand the methods as data, with their numbers, equality and copies. What they do stands in the
+//! crates above.
 
 ghost use Rattle.std.specs.Prelude.{◌≡◌, IfOk};
 ghost use Rattle.std.specs.Bool.{Decides};
@@ -10,7 +11,7 @@ use lapin_values::{NoMemory, ShortString};
 use std::alloc::Global;
 
 /// A method of the class channel.
-#[derive(Debug, Drop)]
+#[derive(Clone, Debug, PartialEq, Drop)]
 pub enum ChannelMethod {
     /// Opens a channel.
     Open,
@@ -24,7 +25,8 @@ pub enum ChannelMethod {
     FlowOk {
         active: bool,
     },
-    /// Asks the peer to close the channel. Either side sends it. The class and method are those of the frame that failed, or 0.
+    /// Asks the peer to close the channel. Either side sends it. The class and method are those of the
+    /// frame that failed, or 0.
     Close {
         reply_code: u16,
         reply_text: ShortString,
@@ -51,68 +53,16 @@ impl ChannelMethod {
     }
 
     /// An equal method, in memory of its own.
-    pub fn try_clone(&self, alloc: Global) -> Result<ChannelMethod, NoMemory>
+    pub fn try_clone(&self, _alloc: Global) -> Result<ChannelMethod, NoMemory>
         ensures { IfOk result (λ copy. copy ≡ self.now) }
     {
-        match self {
-            ChannelMethod::Open => Ok(ChannelMethod::Open),
-            ChannelMethod::OpenOk => Ok(ChannelMethod::OpenOk),
-            ChannelMethod::Flow { active } => Ok(ChannelMethod::Flow { active: *active }),
-            ChannelMethod::FlowOk { active } => Ok(ChannelMethod::FlowOk { active: *active }),
-            ChannelMethod::Close {
-                reply_code,
-                reply_text,
-                class_id,
-                method_id,
-            } => Ok(ChannelMethod::Close {
-                reply_code: *reply_code,
-                reply_text: reply_text.try_clone(alloc)?,
-                class_id: *class_id,
-                method_id: *method_id,
-            }),
-            ChannelMethod::CloseOk => Ok(ChannelMethod::CloseOk),
-        }
+        Ok(self.clone()?)
     }
 
     /// Whether two methods are equal in every field.
     pub fn same_as(&self, other: &ChannelMethod) -> bool
         ensures { Decides result (self.now ≡ other.now) }
     {
-        match (self, other) {
-            (ChannelMethod::Open, ChannelMethod::Open) => true,
-            (ChannelMethod::OpenOk, ChannelMethod::OpenOk) => true,
-            (ChannelMethod::Flow { active: a0 }, ChannelMethod::Flow { active: b0 }) => a0 == b0,
-            (ChannelMethod::FlowOk { active: a0 }, ChannelMethod::FlowOk { active: b0 }) => a0
-                == b0,
-            (
-                ChannelMethod::Close {
-                    reply_code: a0,
-                    reply_text: a1,
-                    class_id: a2,
-                    method_id: a3,
-                },
-                ChannelMethod::Close {
-                    reply_code: b0,
-                    reply_text: b1,
-                    class_id: b2,
-                    method_id: b3,
-                },
-            ) => a0 == b0 && a1 == b1 && a2 == b2 && a3 == b3,
-            (ChannelMethod::CloseOk, ChannelMethod::CloseOk) => true,
-            _ => false,
-        }
-    }
-}
-
-impl PartialEq for ChannelMethod {
-    ghost use Rattle.lapin_values.specs.Same.{same_by, same_by_per};
-    ghost use Rattle.lapin_methods.specs.contracts.channel.ChannelMethod as it;
-
-    ghost eq = { same_by it.the_row.coded };
-
-    ghost laws = { same_by_per it.the_row.coded };
-
-    fn eq(&self, other: &ChannelMethod) -> bool {
-        self.same_as(other)
+        self == other
     }
 }

@@ -1,6 +1,7 @@
 //! The errors of a session.
 //!
-//! Here stands what a call may be refused for and what a promise may end with. When each comes is said by the call that answers it.
+//! Here stands what a call may be refused for and what a promise may end with. When each comes is said by
+//! the call that answers it.
 
 use crate::states::ChannelState;
 use lapin_values::NoMemory;
@@ -50,18 +51,33 @@ pub enum Error {
 }
 
 impl From<NoMemory> for Error {
+    ghost use Rattle.std.specs.Prelude.{◌≡◌};
+    ghost use Rattle.lapin_methods.specs.declared.error.Error.TheVariants.{NoMemory};
+
+    ghost from_gives = { λ _ error. error ≡ NoMemory };
+
     fn from(_error: NoMemory) -> Error {
         Error::NoMemory
     }
 }
 
 impl From<AllocError> for Error {
+    ghost use Rattle.std.specs.Prelude.{◌≡◌};
+    ghost use Rattle.lapin_methods.specs.declared.error.Error.TheVariants.{NoMemory};
+
+    ghost from_gives = { λ _ error. error ≡ NoMemory };
+
     fn from(_error: AllocError) -> Error {
         Error::NoMemory
     }
 }
 
 impl<T: Drop> From<AllocFailed<T>> for Error {
+    ghost use Rattle.std.specs.Prelude.{◌≡◌};
+    ghost use Rattle.lapin_methods.specs.declared.error.Error.TheVariants.{NoMemory};
+
+    ghost from_gives = { λ _ error. error ≡ NoMemory };
+
     fn from(_failed: AllocFailed<T>) -> Error {
         Error::NoMemory
     }

@@ -1,4 +1,5 @@
-//! Methods, content headers and frames of AMQP 0-9-1 as plain data, with their options, the states of a session and its errors.
+//! Methods, content headers and frames of AMQP 0-9-1 as plain data, with their options, the states of a
+//! session and its errors.
 //!
 //! Here stand data and their numbers alone; calls, events and rules stand in the crates above.
 #![tactic(auto)]

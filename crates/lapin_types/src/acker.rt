@@ -1,11 +1,9 @@
-//! The acker of a delivery: what names it at the broker and in the session.
+//! The acker of a delivery: what names it at the broker and in the session. Which ackers are usable stands
+//! in the crates above.
 
-ghost use Rattle.std.specs.Prelude.{◌≡◌, IfOk};
+ghost use Rattle.std.specs.Prelude.{◌≡◌};
 ghost use Rattle.std.specs.Bool.{Decides};
 ghost use Rattle.lapin_types.specs.Ackers.{same_delivery};
-
-use lapin_values::NoMemory;
-use std::alloc::Global;
 
 /// Names a delivery that can be acknowledged. Two ackers are `==` where channel and delivery tag are.
 #[derive(Clone, Debug, Drop)]
@@ -35,13 +33,6 @@ impl PartialEq for Acker {
 }
 
 impl Acker {
-    /// An equal acker. It takes no memory.
-    pub fn try_clone(&self, _alloc: Global) -> Result<Acker, NoMemory>
-        ensures { result ≡ Ok self.now }
-    {
-        Ok(Acker { ..*self })
-    }
-
     /// Whether two ackers are equal in every field, number and use too.
     pub fn same(&self, other: &Acker) -> bool
         ensures { Decides result (self.now ≡ other.now) }

@@ -1,4 +1,4 @@
-//! What a ticket is resolved with.
+//! What a ticket is resolved with. Which call has which answer stands in the crates above.
 
 ghost use Rattle.std.specs.Prelude.{◌≡◌, IfOk};
 ghost use Rattle.std.specs.Bool.{Decides};

@@ -1,4 +1,4 @@
-//! The calls of a channel and of the connection, as data.
+//! The calls of a channel and of the connection, as data. What they do stands in the crates above.
 
 ghost use Rattle.std.specs.Prelude.{◌≡◌, IfOk};
 ghost use Rattle.std.specs.Bool.{Decides};

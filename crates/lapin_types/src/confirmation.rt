@@ -1,4 +1,4 @@
-//! The outcome of a publish (RabbitMQ publisher confirms).
+//! The outcome of a publish (RabbitMQ publisher confirms). When it is known stands in the crates above.
 
 ghost use Rattle.std.specs.Prelude.{◌≡◌, IfOk};
 ghost use Rattle.std.specs.Bool.{Decides};

@@ -1,4 +1,4 @@
-//! The events of a session: each is one step.
+//! The events of a session: each is one step. What a step does stands in the crates above.
 
 ghost use Rattle.std.specs.Prelude.{◌≡◌, IfOk};
 ghost use Rattle.std.specs.Bool.{Decides};

@@ -1,4 +1,4 @@
-//! The kinds of exchanges.
+//! The kinds of exchanges and their names. How an exchange routes is the broker's.
 
 ghost use Rattle.std.specs.Prelude.{◌≡◌, IfOk};
 ghost use Rattle.std.specs.Bool.{Decides};

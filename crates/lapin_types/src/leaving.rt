@@ -1,10 +1,11 @@
-//! A publish that waits to leave, and a frame as it leaves.
+//! A publish that waits to leave, and a frame as it leaves. Their order stands in the crates above.
 
-ghost use Rattle.std.specs.Prelude.{◌≡◌};
+ghost use Rattle.std.specs.Prelude.{◌≡◌, IfOk};
 ghost use Rattle.std.specs.Bool.{Decides};
 
 use lapin_methods::{BasicPublishOptions, Frame};
-use lapin_values::{BasicProperties, Payload, ShortString};
+use lapin_values::{BasicProperties, NoMemory, Payload, ShortString};
+use std::alloc::Global;
 
 /// An accepted publish, before its frames leave.
 #[derive(Debug, Drop)]
@@ -28,6 +29,22 @@ pub struct Publish {
 }
 
 impl Publish {
+    /// An equal publish, in memory of its own.
+    pub fn try_clone(&self, alloc: Global) -> Result<Publish, NoMemory>
+        ensures { IfOk result (λ copy. copy ≡ self.now) }
+    {
+        Ok(Publish {
+            confirm: self.confirm,
+            ticket: self.ticket,
+            channel: self.channel,
+            exchange: self.exchange.try_clone(alloc)?,
+            routing_key: self.routing_key.try_clone(alloc)?,
+            options: self.options,
+            payload: self.payload.try_clone(alloc)?,
+            properties: self.properties.try_clone(alloc)?,
+        })
+    }
+
     /// Whether two publishes are equal in every field.
     pub fn same(&self, other: &Publish) -> bool
         ensures { Decides result (self.now ≡ other.now) }
@@ -74,6 +91,20 @@ pub struct Left {
 }
 
 impl Left {
+    /// An equal value, in memory of its own.
+    pub fn try_clone(&self, alloc: Global) -> Result<Left, NoMemory>
+        ensures { IfOk result (λ copy. copy ≡ self.now) }
+    {
+        Ok(Left {
+            frame: self.frame.try_clone(alloc)?,
+            ticket: self.ticket,
+            publish: self.publish,
+            first: self.first,
+            last: self.last,
+            again: self.again,
+        })
+    }
+
     /// Whether two frames leave alike, equal in every field.
     pub fn same(&self, other: &Left) -> bool
         ensures { Decides result (self.now ≡ other.now) }

@@ -1,6 +1,7 @@
 //! The types of lapin channels: calls, events, answers, records and messages, and all types of the two crates below.
 //!
-//! This is the one name under which crates above list types. Here stand data, equality and copies; rules stand in the crates above.
+//! This is the one name under which crates above list types. Here stand data, equality and copies; rules
+//! stand in the crates above.
 #![tactic(auto)]
 
 pub mod acker;

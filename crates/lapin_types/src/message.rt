@@ -1,4 +1,5 @@
-//! Messages: a delivery, what a get gave, and what the broker returned.
+//! Messages: a delivery, what a get gave, and what the broker returned. How they come from frames stands in
+//! the crates above.
 
 ghost use Rattle.std.specs.Prelude.{◌≡◌, IfOk, option_map, false};
 ghost use Rattle.std.specs.Bool.{Decides};
@@ -70,7 +71,7 @@ impl Delivery {
             redelivered: self.redelivered,
             properties: self.properties.try_clone(alloc)?,
             payload: self.payload.try_clone(alloc)?,
-            acker: self.acker.try_clone(alloc)?,
+            acker: Acker { ..self.acker },
         })
     }
 

@@ -1,7 +1,7 @@
-//! The answer of a poll.
+//! The answer of a poll. Here stands its form alone; who is polled and when stands in the crates above.
 
 /// What a poll found.
-#[derive(Clone, Copy, Debug, PartialEq, Eq)]
+#[derive(Debug, PartialEq, Eq, Drop)]
 pub enum Poll<T> {
     /// The result is here.
     Ready(T),

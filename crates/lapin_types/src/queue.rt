@@ -1,4 +1,4 @@
-//! A declared queue, as the broker names it.
+//! A declared queue, as the broker names it. What a declare records stands in the crates above.
 
 ghost use Rattle.std.specs.Prelude.{◌≡◌, IfOk};
 ghost use Rattle.std.specs.Bool.{Decides};

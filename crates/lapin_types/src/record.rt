@@ -1,4 +1,4 @@
-//! The records of a session: what each step answered.
+//! The records of a session: what each step answered. Which record an event has stands in the crates above.
 
 ghost use Rattle.std.specs.Prelude.{◌≡◌, IfOk};
 ghost use Rattle.std.specs.Bool.{Decides};

@@ -1,4 +1,4 @@
-//! The reply codes of AMQP 0-9-1 and their kinds.
+//! The reply codes of AMQP 0-9-1 and their kinds. Which code ends what stands in the crates above.
 
 ghost use Rattle.std.specs.Prelude.{◌≡◌, IfOk};
 ghost use Rattle.std.specs.Bool.{Decides};

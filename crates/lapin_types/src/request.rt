@@ -1,4 +1,5 @@
-//! Open requests: what a call awaits from the broker.
+//! Open requests: what a call awaits from the broker. Which reply resolves which request stands in the crates
+//! above.
 
 ghost use Rattle.std.specs.Prelude.{◌≡◌};
 ghost use Rattle.lapin_types.specs.Requests.{kind_of};

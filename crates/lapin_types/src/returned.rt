@@ -1,4 +1,4 @@
-//! A list of returned messages.
+//! A list of returned messages, in order. Which messages it holds is said by the call that gives it.
 
 ghost use Rattle.std.specs.Prelude.{◌≡◌, IfOk, length, option_map, slice_get};
 ghost use Rattle.std.specs.Bool.{Decides};

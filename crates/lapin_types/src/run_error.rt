@@ -1,4 +1,4 @@
-//! Why a run of events ended early.
+//! Why a run of events ended early. Here stand the names alone; the run stands in the crates above.
 
 use lapin_values::NoMemory;
 use thiserror::Error;

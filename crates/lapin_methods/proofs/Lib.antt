@@ -1,0 +1,5 @@
+mod Fields
+mod AccessAlike
+mod BasicAlike
+mod ExchangeAlike
+mod QueueAlike
