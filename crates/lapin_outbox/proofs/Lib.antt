@@ -1,0 +1,4 @@
+pub mod Pieces
+pub mod Cuts
+pub mod Waiting
+pub mod Firsts

@@ -1,0 +1,31 @@
+use Rattle.std.proofs.Common.{List, drop, slice_get, sym, ◌∙◌, ap}
+use Rattle.std.specs.Option.{option_copied_mut}
+use Rattle.lapin_types.specs.declared.request.Request.{Request}
+use Rattle.lapin_outbox.proofs.Waiting.{waiting-is, requests-found, requests-absent, written, kept, still-ready, on-some, if-none}
+use Rattle.lapin_outbox.proofs.replies.Replies.drain.Goals as goal
+
+pub returns-in_err-get_mut-clause-taken : goal.returns-in_err-get_mut-clause-taken
+returns-in_err-get_mut-clause-taken c =
+    let at = sym c.get_mut.ensures.value ∙ ap option_copied_mut c.in_err-get_mut.was in
+    c.from_residual.ensures ∙ sym (ap (λ (rs : List Request). slice_get rs 0) (requests-absent _ _ _ (waiting-is _ _ _ c.self.view_is) at))
+
+pub invariant_of-self-2 : goal.invariant_of-self-2
+invariant_of-self-2 c =
+    let at = sym c.get_mut.ensures.value ∙ ap option_copied_mut c.in_ok-get_mut.was in
+    (c.self.invariant.0, still-ready _ _ _ _ c.self.inside.channels _ at c.take_oldest.ensures.kept c.self.invariant.1)
+
+pub returns-clause-taken : goal.returns-clause-taken
+returns-clause-taken c =
+    let at = sym c.get_mut.ensures.value ∙ ap option_copied_mut c.in_ok-get_mut.was in
+    c.take_oldest.ensures.taken ∙ sym (ap (λ (rs : List Request). slice_get rs 0) (requests-found _ _ _ _ (waiting-is _ _ _ c.self.view_is) at))
+
+pub returns-clause-ok : goal.returns-clause-ok
+returns-clause-ok c =
+    let at = sym c.get_mut.ensures.value ∙ ap option_copied_mut c.in_ok-get_mut.was in
+    let view = waiting-is _ _ _ c.self.view_is in
+    on-some _ (written _ _ _ _ _ _ view at (c.take_oldest.ensures.others ∙ sym (ap (drop 1) (requests-found _ _ _ _ view at))))
+
+pub returns-clause-none : goal.returns-clause-none
+returns-clause-none c =
+    let at = sym c.get_mut.ensures.value ∙ ap option_copied_mut c.in_ok-get_mut.was in
+    if-none _ (kept _ _ _ _ _ (waiting-is _ _ _ c.self.view_is) at) c.take_oldest.ensures.none

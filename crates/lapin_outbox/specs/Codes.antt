@@ -1,0 +1,47 @@
+-- How the values that contracts see are stored, by which a proof tells them apart.
+use Rattle.std.specs.Prelude.{ℕ, Bool, List, Option, refl}
+use Rattle.std.specs.Coded.{Coded, code_by, coded×, coded_ℕ, coded_bool, coded_list, coded_option}
+use Rattle.lapin_types.specs.Types.{Frame, Method}
+use Rattle.lapin_types.specs.declared.leaving.Publish.{Publish}
+use Rattle.lapin_methods.specs.contracts.frame.Frame as frame_row
+use Rattle.lapin_methods.specs.contracts.method.Method as method_row
+use Rattle.lapin_types.specs.contracts.leaving.Publish as publish_row
+use Rattle.lapin_history.specs.Frames.{MethodEntry, RestEntry}
+use Rattle.lapin_history.specs.Leaving.{Lists}
+use Rattle.lapin_outbox.specs.Outgoing.{Outgoing}
+
+abbrev pub rest_entry_code : Coded RestEntry
+rest_entry_code =
+    code_by
+    (Frame × (ℕ × (ℕ × Bool)))
+    (coded× frame_row.the_row.coded (coded× coded_ℕ (coded× coded_ℕ coded_bool)))
+    (λ e. (e.frame, (e.ticket, (e.publish, e.last))))
+    (λ p. record { frame = p.0; ticket = p.1.0; publish = p.1.1.0; last = p.1.1.1 })
+    (λ _. refl)
+
+abbrev pub method_entry_code : Coded MethodEntry
+method_entry_code =
+    code_by
+    (ℕ × (Method × Option ℕ))
+    (coded× coded_ℕ (coded× method_row.the_row.coded (coded_option coded_ℕ)))
+    (λ e. (e.channel, (e.method, e.ticket)))
+    (λ p. record { channel = p.0; method = p.1.0; ticket = p.1.1 })
+    (λ _. refl)
+
+abbrev pub lists_code : Coded Lists
+lists_code =
+    code_by
+    (List RestEntry × (List MethodEntry × List Publish))
+    (coded× (coded_list rest_entry_code) (coded× (coded_list method_entry_code) (coded_list publish_row.the_row.coded)))
+    (λ l. (l.rest, (l.methods, l.publishes)))
+    (λ p. record { rest = p.0; methods = p.1.0; publishes = p.1.1 })
+    (λ _. refl)
+
+abbrev pub outgoing_code : Coded Outgoing
+outgoing_code =
+    code_by
+    (ℕ × (Lists × ℕ))
+    (coded× coded_ℕ (coded× lists_code coded_ℕ))
+    (λ o. (o.frame_max, (o.lists, o.spare)))
+    (λ p. record { frame_max = p.0; lists = p.1.0; spare = p.1.1 })
+    (λ _. refl)

@@ -1,0 +1,121 @@
+//! A publish that has begun: its method has left, and its header and bodies follow one by one.
+//!
+//! The order of these frames and their marks live here, the cut of the payload in `bodies`. The outbox calls this file.
+
+ghost use Rattle.std.specs.Prelude.{◌≡◌, ◌<◌, IfOk, OnOk, OnErr, drop};
+ghost use Rattle.lapin_history.specs.Frames.{is_empty, left_publish, rest_of};
+ghost use Rattle.lapin_outbox.specs.Begun.{first_left};
+
+use crate::bodies::Bodies;
+use lapin_types::{BasicMethod, ContentHeader, Frame, Left, Method, NoMemory, Publish};
+use std::alloc::Global;
+use std::marker::Model;
+
+// How many bytes a frame has beside its payload (AMQP 0-9-1, section 4.2.3).
+const FRAME_OVERHEAD: u32 = 8;
+
+// The class basic, to which each content belongs.
+const BASIC_CLASS: u16 = 60;
+
+/// What of a begun publish has not left. A contract sees the list of its entries.
+#[derive(Drop)]
+pub(crate) struct Begun {
+    ticket: u64,
+    confirm: u64,
+    channel: u16,
+    // Until it leaves.
+    header: Option<ContentHeader>,
+    bodies: Bodies,
+}
+
+impl Model for Begun {
+    ghost use Rattle.std.specs.Prelude.{List};
+    ghost use Rattle.lapin_history.specs.Frames.{RestEntry};
+    ghost use Rattle.std.specs.Coded.{coded_list};
+    ghost use Rattle.lapin_outbox.specs.Begun.{following, frames_left};
+    ghost use Rattle.lapin_outbox.specs.Codes.{rest_entry_code};
+
+    ghost Value = { List RestEntry };
+
+    ghost coded = { coded_list rest_entry_code };
+
+    ghost view = { λ b. following b.ticket b.confirm (frames_left b.channel b.header b.bodies) };
+}
+
+impl Begun {
+    /// Begins a publish: its method frame leaves, and the other frames follow.
+    pub(crate) fn new(publish: Publish, frame_max: u32) -> (Left, Begun)
+        requires { 8 < frame_max }
+        ensures left { result.0 ≡ left_publish publish }
+        ensures rest { result.1 ≡ rest_of frame_max publish }
+    {
+        let Publish {
+            confirm,
+            ticket,
+            channel,
+            exchange,
+            routing_key,
+            options,
+            payload,
+            properties,
+        } = publish;
+        let method = Method::Basic(BasicMethod::Publish {
+            exchange,
+            routing_key,
+            mandatory: options.mandatory,
+            immediate: options.immediate,
+        });
+        let left = Left {
+            frame: Frame::Method(channel, method),
+            ticket: Some(ticket),
+            publish: Some(confirm),
+            first: true,
+            last: false,
+            again: false,
+        };
+        let header = ContentHeader {
+            class_id: BASIC_CLASS,
+            body_size: payload.as_bytes().len() as u64,
+            properties,
+        };
+        let room = (frame_max - FRAME_OVERHEAD) as usize;
+        let begun = Begun {
+            ticket,
+            confirm,
+            channel,
+            header: Some(header),
+            bodies: Bodies::new(payload, room),
+        };
+        (left, begun)
+    }
+
+    /// Whether all frames have left.
+    pub(crate) fn is_empty(&self) -> bool
+        ensures { result ≡ is_empty self.now }
+    {
+        self.header.is_none() && self.bodies.is_empty()
+    }
+
+    /// Takes out the next frame; None where all have left. Where there is no memory nothing is taken.
+    pub(crate) fn next(&mut self, alloc: Global) -> Result<Option<Left>, NoMemory>
+        ensures told { IfOk result (λ left. left ≡ first_left self.old) }
+        ensures ok { OnOk result (self.new ≡ drop 1 self.old) }
+        ensures err { OnErr result (self.new ≡ self.old) }
+    {
+        let frame = match self.header.take() {
+            Some(header) => Frame::Header(self.channel, header),
+            None => match self.bodies.next(alloc)? {
+                Some(body) => Frame::Body(self.channel, body),
+                None => return Ok(None),
+            },
+        };
+        Ok(Some(Left {
+            frame,
+            ticket: Some(self.ticket),
+            publish: Some(self.confirm),
+            first: false,
+            last: self.bodies.is_empty(),
+            again: false,
+        }))
+    }
+}
