@@ -1,4 +1,5 @@
--- How the values that contracts see are stored, by which a proof tells them apart.
+-- How the values that contracts see are stored as tuples of their fields, by which a proof tells two of them apart. No clause
+-- cites this.
 use Rattle.std.specs.Prelude.{ℕ, Bool, List, Option, refl}
 use Rattle.std.specs.Coded.{Coded, code_by, coded×, coded_ℕ, coded_bool, coded_list, coded_option}
 use Rattle.lapin_types.specs.Types.{Frame, Method}
@@ -10,6 +11,7 @@ use Rattle.lapin_history.specs.Frames.{MethodEntry, RestEntry}
 use Rattle.lapin_history.specs.Leaving.{Lists}
 use Rattle.lapin_outbox.specs.Outgoing.{Outgoing}
 
+-- a frame of the begun publish
 abbrev pub rest_entry_code : Coded RestEntry
 rest_entry_code =
     code_by
@@ -19,6 +21,7 @@ rest_entry_code =
     (λ p. record { frame = p.0; ticket = p.1.0; publish = p.1.1.0; last = p.1.1.1 })
     (λ _. refl)
 
+-- a method that waits
 abbrev pub method_entry_code : Coded MethodEntry
 method_entry_code =
     code_by
@@ -28,6 +31,7 @@ method_entry_code =
     (λ p. record { channel = p.0; method = p.1.0; ticket = p.1.1 })
     (λ _. refl)
 
+-- the three lists
 abbrev pub lists_code : Coded Lists
 lists_code =
     code_by
@@ -37,6 +41,7 @@ lists_code =
     (λ p. record { rest = p.0; methods = p.1.0; publishes = p.1.1 })
     (λ _. refl)
 
+-- the outbox
 abbrev pub outgoing_code : Coded Outgoing
 outgoing_code =
     code_by

@@ -3,6 +3,7 @@ use Rattle.std.specs.Prelude.{List, [], Option, Some, None}
 use Rattle.lapin_history.specs.Frames.{MethodEntry, RestEntry}
 use Rattle.lapin_outbox.specs.declared.outbox.Waiting.{Waiting}
 
+-- a method that waits, with its ticket, if it has one
 abbrev pub entry_of : Waiting → MethodEntry
 entry_of w = record { channel = w.channel; method = w.method; ticket = w.ticket }
 

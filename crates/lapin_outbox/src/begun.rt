@@ -2,12 +2,17 @@
 //!
 //! The order of these frames and their marks live here, the cut of the payload in `bodies`. The outbox calls this file.
 
-ghost use Rattle.std.specs.Prelude.{◌≡◌, ◌<◌, IfOk, OnOk, OnErr, drop};
+ghost use Rattle.std.specs.Prelude.{◌≡◌, ◌<◌, IfOk, OnOk, OnErr, drop, length};
+ghost use Rattle.lapin_types.specs.Types.method;
+ghost use Rattle.lapin_types.specs.Types.basic;
 ghost use Rattle.lapin_history.specs.Frames.{is_empty, left_publish, rest_of};
 ghost use Rattle.lapin_outbox.specs.Begun.{first_left};
 
 use crate::bodies::Bodies;
-use lapin_types::{BasicMethod, ContentHeader, Frame, Left, Method, NoMemory, Publish};
+use lapin_types::{
+    BasicMethod, BasicProperties, BasicPublishOptions, ContentHeader, Frame, Left, Method,
+    NoMemory, Payload, Publish, ShortString,
+};
 use std::alloc::Global;
 use std::marker::Model;
 
@@ -59,31 +64,20 @@ impl Begun {
             payload,
             properties,
         } = publish;
-        let method = Method::Basic(BasicMethod::Publish {
-            exchange,
-            routing_key,
-            mandatory: options.mandatory,
-            immediate: options.immediate,
-        });
         let left = Left {
-            frame: Frame::Method(channel, method),
+            frame: Frame::Method(channel, publish_method(exchange, routing_key, options)),
             ticket: Some(ticket),
             publish: Some(confirm),
             first: true,
             last: false,
             again: false,
         };
-        let header = ContentHeader {
-            class_id: BASIC_CLASS,
-            body_size: payload.as_bytes().len() as u64,
-            properties,
-        };
         let room = (frame_max - FRAME_OVERHEAD) as usize;
         let begun = Begun {
             ticket,
             confirm,
             channel,
-            header: Some(header),
+            header: Some(header_of(&payload, properties)),
             bodies: Bodies::new(payload, room),
         };
         (left, begun)
@@ -117,5 +111,31 @@ impl Begun {
             last: self.bodies.is_empty(),
             again: false,
         }))
+    }
+}
+
+fn publish_method(
+    exchange: ShortString,
+    routing_key: ShortString,
+    options: BasicPublishOptions,
+) -> Method
+    ensures { result ≡ method.Basic (basic.Publish exchange routing_key options.mandatory options.immediate) }
+{
+    Method::Basic(BasicMethod::Publish {
+        exchange,
+        routing_key,
+        mandatory: options.mandatory,
+        immediate: options.immediate,
+    })
+}
+
+// The header of a content: how many bytes it has, and its properties.
+fn header_of(payload: &Payload, properties: BasicProperties) -> ContentHeader
+    ensures { result ≡ record { class_id = 60; body_size = length payload.now; properties = properties } }
+{
+    ContentHeader {
+        class_id: BASIC_CLASS,
+        body_size: payload.as_bytes().len() as u64,
+        properties,
     }
 }
