@@ -68,7 +68,7 @@ impl Tickets {
         ensures room { OnOk result (0 < self.new.spare) }
         ensures same { self.new.slots ≡ self.old.slots }
     {
-        self.slots.reserve()?;
+        self.slots.reserve(1)?;
         Ok(())
     }
 
