@@ -114,9 +114,23 @@ fn nested_values_are_copied(rt: HostRuntime) -> Result<(), Fail> {
 }
 
 #[test]
-fn want_of_memory_is_named(rt: HostRuntime) {
-    assert_eq!(rt; NoMemory, NoMemory);
-    assert_eq!(rt; ShortStringError::NoMemory, ShortStringError::NoMemory);
+fn errors_say_what_they_are(rt: HostRuntime) -> Result<(), Fail> {
+    let longer = ShortStringError::TooLong { length: 256 };
+    let rows = [
+        (format!(in rt.alloc(); "{}", NoMemory)?, "out of memory"),
+        (
+            format!(in rt.alloc(); "{}", ShortStringError::NoMemory)?,
+            "out of memory",
+        ),
+        (
+            format!(in rt.alloc(); "{longer}")?,
+            "a short string has at most 255 bytes, and this text has 256",
+        ),
+    ];
+    for (text, expected) in rows {
+        assert_eq!(rt; text.as_str(), expected);
+    }
+    Ok(())
 }
 
 fn none() -> BasicProperties {
