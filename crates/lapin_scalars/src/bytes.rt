@@ -83,7 +83,7 @@ pub fn read_bytes(alloc: Global, piece: &[u8]) -> Result<Option<Payload>, NoMemo
     ensures none { IfOk result (λ o. IfNone o ((b : List ℕ) → scalar_fits some_bytes b ≡ true → piece.now ≡ scalar_text some_bytes b → ⊥)) }
 {
     match bytes_of(alloc, piece) {
-        Ok(bytes) => Ok(Some(Payload::new(alloc, &bytes)?)),
+        Ok(bytes) => Ok(Some(Payload::from_bytes(bytes))),
         Err(ReadError::Bad) => Ok(None),
         Err(ReadError::Memory) => Err(NoMemory),
     }

@@ -10,3 +10,6 @@ pub mod Prefixes
 pub mod PropertyLaws
 pub mod FieldLaws
 pub mod PartTurns
+pub mod Plain
+pub mod PlainFields
+pub mod WritingLaws

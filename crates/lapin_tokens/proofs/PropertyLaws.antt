@@ -159,7 +159,7 @@ abbrev last_first : (ps : List Property) → PartValues ps → Bool → Bool
 last_first [] xs first = first
 last_first (p ∷ ps) xs first = last_first ps xs.1 (stays xs.0 first)
 
-abbrev commas : List (List ℕ) → List ℕ → List ℕ
+abbrev pub commas : List (List ℕ) → List ℕ → List ℕ
 commas [] rest = 93 ∷ rest
 commas (t ∷ ts) rest = 44 ∷ (t ++ commas ts rest)
 
@@ -167,11 +167,11 @@ joined : (t : List ℕ) (ts : List (List ℕ)) (rest : List ℕ) → join_with_b
 joined t [] rest = refl
 joined t (u ∷ us) rest = append_assoc t (44 ∷ join_with_byte 44 (u ∷ us)) (93 ∷ rest) ∙ ap (λ (r : List ℕ). t ++ 44 ∷ r) (joined u us rest)
 
-abbrev opened : List (List ℕ) → List ℕ → List ℕ
+abbrev pub opened : List (List ℕ) → List ℕ → List ℕ
 opened [] rest = 91 ∷ 93 ∷ rest
 opened (t ∷ ts) rest = 91 ∷ (t ++ commas ts rest)
 
-bracketed_is : (ts : List (List ℕ)) (rest : List ℕ) → bracketed 91 93 ts ++ rest ≡ opened ts rest
+pub bracketed_is : (ts : List (List ℕ)) (rest : List ℕ) → bracketed 91 93 ts ++ rest ≡ opened ts rest
 bracketed_is [] rest = refl
 bracketed_is (t ∷ ts) rest = ap (λ (r : List ℕ). 91 ∷ r) (append_assoc (join_with_byte 44 (t ∷ ts)) (93 ∷ []) rest ∙ joined t ts rest)
 

@@ -53,7 +53,7 @@ pub word_rest : (xs : List ℕ) → word_of xs ++ after_word xs ≡ xs
 word_rest [] = refl
 word_rest (b ∷ bs) = elim (is_separator b) as (λ t. cond t [] (b ∷ word_of bs) ++ cond t (b ∷ bs) (after_word bs) ≡ b ∷ bs) [ true ↦ refl | false ↦ ap (λ (t : List ℕ). b ∷ t) (word_rest bs) ]
 
-or_cases : (p q : Bool) → (p || q) ≡ true → (p ≡ true) ⊎ (q ≡ true)
+pub or_cases : (p q : Bool) → (p || q) ≡ true → (p ≡ true) ⊎ (q ≡ true)
 or_cases true q e = inl refl
 or_cases false q e = inr e
 

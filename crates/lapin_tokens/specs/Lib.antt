@@ -6,3 +6,5 @@ pub mod Properties
 pub mod PropertyReading
 pub mod Fields
 pub mod Reading
+pub mod Writing
+pub mod TokenText

@@ -2,7 +2,7 @@
 use Rattle.std.specs.Prelude.{◌≡◌, ℕ, zero, suc, ◌^◌, Bool, true, false, ◌&&◌, List, [], ◌∷◌, ◌++◌}
 use Rattle.std.specs.List.{join_with_byte}
 use Rattle.std.specs.FinMap.Entries as entries
-use Rattle.lapin_values.specs.Data.{Leaf, boolean, short_short_int, short_short_uint, short_int, short_uint, long_int, long_uint, long_long_int, timestamp, long_string, byte_array, void, Data, leaf, array, table, Items, no_items, item, Pairs, no_pairs, pair, pairs_of}
+use Rattle.lapin_values.specs.Data.{Leaf, boolean, short_short_int, short_short_uint, short_int, short_uint, long_int, long_uint, long_long_int, timestamp, long_string, byte_array, void, Data, leaf, array, table, Items, no_items, item, Pairs, no_pairs, pair, items_of, pairs_of}
 use Rattle.lapin_values.specs.Table.{key_cmp}
 use Rattle.lapin_values.specs.ValueOf.{pairs_list}
 use Rattle.lapin_scalars.specs.Scalars.{scalar_text, scalar_fits}
@@ -43,6 +43,10 @@ unfoldable mutual
   pub pair_texts : Pairs → List (List ℕ)
   pair_texts no_pairs = []
   pair_texts (pair k d ps) = (scalar_text a_text k ++ 61 ∷ value_text d) ∷ pair_texts ps
+
+-- the text of an array without its letter
+abbrev pub array_text : List Data → List ℕ
+array_text ds = bracketed 91 93 (item_texts (items_of ds))
 
 -- the text of a table that stands by itself: no letter
 abbrev pub table_text : List (List ℕ × Data) → List ℕ

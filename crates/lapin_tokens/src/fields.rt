@@ -52,7 +52,7 @@ pub fn payload(alloc: Global, tokens: &mut Tokens) -> Result<Payload, ReadError>
     ensures { Gives result tokens.new (field_at bytes_field tokens.old) }
 {
     match tokens.next() {
-        Some(piece) => Ok(Payload::new(alloc, &bytes_of(alloc, piece)?)?),
+        Some(piece) => Ok(Payload::from_bytes(bytes_of(alloc, piece)?)),
         None => Err(ReadError::Bad),
     }
 }

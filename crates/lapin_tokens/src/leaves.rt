@@ -25,15 +25,13 @@ fn void_of(piece: &[u8]) -> Result<AMQPValue, ReadError>
 fn long_string_of(alloc: Global, piece: &[u8]) -> Result<LongString, ReadError>
     ensures { GivesValue (λ s. s) result (scalar_of some_pairs piece.now) }
 {
-    let bytes = pairs_of(alloc, piece)?;
-    Ok(LongString::new(alloc, &bytes)?)
+    Ok(LongString::from_bytes(pairs_of(alloc, piece)?))
 }
 
 fn byte_array_of(alloc: Global, piece: &[u8]) -> Result<Payload, ReadError>
     ensures { GivesValue (λ s. s) result (scalar_of some_pairs piece.now) }
 {
-    let bytes = pairs_of(alloc, piece)?;
-    Ok(Payload::new(alloc, &bytes)?)
+    Ok(Payload::from_bytes(pairs_of(alloc, piece)?))
 }
 
 /// The value of the letter's kind whose text the bytes are; none for the letters of an array and of a table.

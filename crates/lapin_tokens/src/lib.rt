@@ -9,12 +9,18 @@ pub mod fields;
 pub mod leaves;
 pub mod letters;
 pub mod names;
+pub mod pieces;
 pub mod property_reading;
+pub mod property_writing;
+pub mod token;
 pub mod tokens;
+pub mod value_writing;
 pub mod values;
 
 pub use fields::{
     flag, payload, properties, properties_of, table, table_of, text, u16_at, u32_at, u64_at,
 };
 pub use lapin_scalars::{ReadError, read_bytes, read_num, read_short};
+pub use pieces::put_tokens;
+pub use token::Token;
 pub use tokens::Tokens;
