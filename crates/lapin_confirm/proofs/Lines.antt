@@ -1,0 +1,87 @@
+-- What callers see of the ledgers.
+use Rattle.std.proofs.Common.{◌≡◌, ℕ, ◌-◌, ◌<◌, List, [], ◌∷◌, ◌++◌, Option, Some, None, refl, sym, ◌∙◌, ap, arith}
+use Rattle.std.specs.Option.{option_map}
+use Rattle.std.proofs.lemmas.List.{map_push}
+use Rattle.lapin_history.specs.Words.{with_channel}
+use Rattle.lapin_tables.specs.ByChannel.{at_channel, on_channel}
+use Rattle.lapin_tables.proofs.Channels.{at-on_same, at-values, on-values, on-absent, on-known, on-same}
+use Rattle.lapin_confirm.specs.declared.ledger.Ledger.{Ledger}
+use Rattle.lapin_confirm.specs.Book.{Line, Book, fresh_line, next_line, tag_for, cell_with, lines_with, left}
+use Rattle.lapin_confirm.specs.Ties.{IsFresh, line_of, line_after, lines_of, room_of, rooms_of}
+use Rattle.lapin_tables.specs.Numbered.{with_under}
+use Rattle.lapin_confirm.specs.Kept.{HasSome}
+use Rattle.lapin_confirm.specs.declared.cell.Cell.{Cell}
+
+pub line-at : (c : ℕ) (es : List (ℕ × Ledger)) (o : Option Ledger) → at_channel c es ≡ o → at_channel c (lines_of es) ≡ option_map line_of o
+line-at c es o is = at-values line_of c es ∙ ap (option_map line_of) is
+
+pub room-at : (c : ℕ) (es : List (ℕ × Ledger)) (o : Option Ledger) → at_channel c es ≡ o → at_channel c (rooms_of es) ≡ option_map room_of o
+room-at c es o is = at-values room_of c es ∙ ap (option_map room_of) is
+
+-- a channel without a ledger has no line to change
+pub lines-absent : (c : ℕ) (f : Line → Line) (es : List (ℕ × Ledger)) → at_channel c es ≡ None → on_channel c f (lines_of es) ≡ lines_of es
+lines-absent c f es none = on-absent c f (lines_of es) (line-at c es None none)
+
+-- a channel's line changes with its ledger
+pub lines-on : (c : ℕ) (f : Line → Line) (l k : Ledger) (es : List (ℕ × Ledger)) → at_channel c es ≡ Some l → line_of k ≡ f (line_of l) → lines_of (on_channel c (λ _. k) es) ≡ on_channel c f (lines_of es)
+lines-on c f l k es is line =
+    on-values line_of c k es
+    ∙ ap (λ (n : Line). on_channel c (λ _. n) (lines_of es)) line
+    ∙ sym (on-known c f (line_of l) (lines_of es) (line-at c es (Some l) is))
+
+-- a ledger with the same line
+pub lines-same : (c : ℕ) (l k : Ledger) (es : List (ℕ × Ledger)) → at_channel c es ≡ Some l → line_of k ≡ line_of l → lines_of (on_channel c (λ _. k) es) ≡ lines_of es
+lines-same c l k es is line =
+    on-values line_of c k es
+    ∙ ap (λ (n : Line). on_channel c (λ _. n) (lines_of es)) line
+    ∙ on-same c (line_of l) (lines_of es) (line-at c es (Some l) is)
+
+-- a new opening, where the channel had one
+pub lines-again : (c : ℕ) (l k : Ledger) (es : List (ℕ × Ledger)) → at_channel c es ≡ Some l → line_of k ≡ fresh_line → lines_of (on_channel c (λ _. k) es) ≡ with_channel c fresh_line (lines_of es)
+lines-again c l k es is line = rw (line-at c es (Some l) is) (on-values line_of c k es ∙ ap (λ (n : Line). on_channel c (λ _. n) (lines_of es)) line)
+
+-- and where it had none
+pub lines-new : (c : ℕ) (k : Ledger) (es : List (ℕ × Ledger)) → at_channel c es ≡ None → line_of k ≡ fresh_line → lines_of (es ++ (c, k) ∷ []) ≡ with_channel c fresh_line (lines_of es)
+lines-new c k es none line = rw (line-at c es None none) (map_push (λ (e : ℕ × Ledger). (e.0, line_of e.1)) es (c, k) ∙ ap (λ (n : Line). lines_of es ++ (c, n) ∷ []) line)
+
+-- ---- books and rooms
+
+abbrev pub book : List (ℕ × Line) → List (Option Cell) → Book
+book ls cells = record { lines = ls; cells = cells }
+
+pub same-book : (ls ks : List (ℕ × Line)) (cells after : List (Option Cell)) → ls ≡ ks → cells ≡ after → book ls cells ≡ book ks after
+same-book ls ks cells after lines same = rw (lines, same) refl
+
+pub fresh-line : (l : Ledger) → IsFresh l → line_of l ≡ fresh_line
+fresh-line l fresh = rw (fresh.selected, fresh.tags) refl
+
+-- a ledger with other room alone
+pub same-line : (l k : Ledger) → k ≡ record l { tags = k.tags } → k.tags.slots ≡ l.tags.slots → line_of k ≡ line_of l
+same-line l k rest tags = let selected : k.selected ≡ l.selected = ap (λ (x : Ledger). x.selected) rest in rw (selected, tags) refl
+
+pub room-on : (c : ℕ) (l k : Ledger) (es : List (ℕ × Ledger)) → at_channel c es ≡ Some l → k.queued < k.tags.spare → HasSome (at_channel c (rooms_of (on_channel c (λ _. k) es)))
+room-on c l k es is room =
+    let there : at_channel c (on_channel c (λ _. k) es) ≡ Some k = at-on_same c (λ _. k) es ∙ ap (option_map (λ _. k)) is in
+    rw (room-at c (on_channel c (λ _. k) es) (Some k) there) (omega arith)
+
+pub room-none : (c : ℕ) (es : List (ℕ × Ledger)) → at_channel c es ≡ None → HasSome (at_channel c (rooms_of es))
+room-none c es none = rw (room-at c es None none) tt
+
+pub room-some : (c : ℕ) (l : Ledger) (es : List (ℕ × Ledger)) → at_channel c es ≡ Some l → HasSome (at_channel c (rooms_of es)) → l.queued < l.tags.spare
+room-some c l es is has = let more : 0 < l.tags.spare - l.queued = rw (room-at c es (Some l) is) at has in omega arith
+
+-- ---- a publish leaves
+
+lines-left : (c : ℕ) (t : Option ℕ) (l k : Ledger) (es : List (ℕ × Ledger)) → at_channel c es ≡ Some l → line_of k ≡ line_after t (line_of l) → lines_of (on_channel c (λ _. k) es) ≡ lines_with c t (lines_of es)
+lines-left c None l k es is line = lines-same c l k es is line
+lines-left c (Some t) l k es is line = lines-on c next_line l k es is line
+
+pub tag-there : (c : ℕ) (t : Option ℕ) (l : Ledger) (es : List (ℕ × Ledger)) → at_channel c es ≡ Some l → t ≡ tag_for (Some (line_of l)) → t ≡ tag_for (at_channel c (lines_of es))
+tag-there c t l es is tag = tag ∙ ap tag_for (sym (line-at c es (Some l) is))
+
+pub left-book : (c n : ℕ) (t : Option ℕ) (l k : Ledger) (es : List (ℕ × Ledger)) (cells after : List (Option Cell)) → at_channel c es ≡ Some l → t ≡ tag_for (Some (line_of l)) → line_of k ≡ line_after t (line_of l) → after ≡ with_under n (Some (cell_with c t)) cells → book (lines_of (on_channel c (λ _. k) es)) after ≡ left c n (book (lines_of es) cells)
+left-book c n t l k es cells after is tag line same =
+    let there : t ≡ tag_for (at_channel c (lines_of es)) = tag-there c t l es is tag in
+    same-book _ _ _ _
+    (lines-left c t l k es is line ∙ ap (λ u. lines_with c u (lines_of es)) there)
+    (same ∙ ap (λ u. with_under n (Some (cell_with c u)) cells) there)

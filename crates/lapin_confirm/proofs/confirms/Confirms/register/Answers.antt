@@ -1,0 +1,34 @@
+use Rattle.std.proofs.Common.{◌≡◌, ◌∙◌, ℕ, sym, subst, Some, Option, ne_eqb}
+use Rattle.lapin_confirm.specs.declared.cell.Cell.TheVariants as cell
+use Rattle.lapin_confirm.specs.declared.cell.Cell.{Cell}
+use Rattle.lapin_tables.specs.ByChannel.{at_channel, on_channel}
+use Rattle.lapin_confirm.specs.Book.{tag_for, cell_with, left}
+use Rattle.lapin_confirm.specs.Ties.{lines_of}
+use Rattle.lapin_confirm.proofs.Lines.{book, tag-there, left-book}
+use Rattle.lapin_confirm.proofs.Tying.{tied_at-other, left-closed}
+use Rattle.lapin_confirm.proofs.Whole.{all-on}
+use Rattle.lapin_confirm.proofs.confirms.Confirms.register.Goals as goal
+
+same_channel : (c d : ℕ) (o : Option Cell) → o ≡ Some (cell.Queued c) → o ≡ Some (cell.Queued d) → c ≡ d
+same_channel c d o this that = let both : Some (cell.Queued c) ≡ Some (cell.Queued d) = sym this ∙ that in cc
+
+pub invariant_of-self : goal.invariant_of-self
+invariant_of-self c =
+    all-on c.queued_channel-channel.result c.in-Some.ledger.now c.leave.new.ledger c.self.inside.ledgers.entries c.self.inside.cells.slots c.leave.new.cells.slots (sym c.in-Some.ensures.value) c.self.invariant
+    c.leave.ensures.tied
+    (λ d o other tied. rw c.leave.ensures.cells
+    (tied_at-other d c.args.number (cell.Queued c.queued_channel-channel.result) (Some (cell_with c.queued_channel-channel.result c.leave.result)) o c.self.inside.cells.slots
+    c.queued_channel-channel.ensures.queued (ne_eqb c.queued_channel-channel.result d other) (left-closed c.queued_channel-channel.result d c.leave.result other) tied))
+
+pub returns-clause-tag : goal.returns-clause-tag
+returns-clause-tag c = λ d there.
+    let was : _ ≡ Some (cell.Queued d) = rw (← c.self.view_is) at there in
+    let P : ℕ → Type 0 = λ e. c.leave.result ≡ tag_for (at_channel e (lines_of c.self.inside.ledgers.entries)) in
+    rw (← c.self.view_is) (subst P (same_channel c.queued_channel-channel.result d _ c.queued_channel-channel.ensures.queued was) (tag-there c.queued_channel-channel.result c.leave.result c.in-Some.ledger.now c.self.inside.ledgers.entries (sym c.in-Some.ensures.value) c.leave.ensures.tag))
+
+pub returns-clause-left : goal.returns-clause-left
+returns-clause-left c = λ d there.
+    let was : _ ≡ Some (cell.Queued d) = rw (← c.self.view_is) at there in
+    let P : ℕ → Type 0 = λ e. book (lines_of (on_channel c.queued_channel-channel.result (λ _. c.leave.new.ledger) c.self.inside.ledgers.entries)) c.leave.new.cells.slots ≡ left e c.args.number (book (lines_of c.self.inside.ledgers.entries) c.self.inside.cells.slots) in
+    rw (← c.self.view_is) (subst P (same_channel c.queued_channel-channel.result d _ c.queued_channel-channel.ensures.queued was)
+    (left-book c.queued_channel-channel.result c.args.number c.leave.result c.in-Some.ledger.now c.leave.new.ledger c.self.inside.ledgers.entries c.self.inside.cells.slots c.leave.new.cells.slots (sym c.in-Some.ensures.value) c.leave.ensures.tag c.leave.ensures.line c.leave.ensures.cells))

@@ -1,0 +1,176 @@
+-- The confirms as a machine: what each mark of a history does to them.
+use Rattle.std.specs.Prelude.{ℕ, suc, ◌+◌, ◌==◌, Bool, true, false, ◌&&◌, if◌then◌else◌, List, [], ◌∷◌, ◌++◌, Option, Some, None, map}
+use Rattle.std.specs.List.{list_any, count_by}
+use Rattle.std.specs.Option.{option_map}
+use Rattle.lapin_types.specs.declared.Error.{Error}
+use Rattle.lapin_history.specs.declared.marks.Settlement.{Settlement}
+use Rattle.lapin_history.specs.declared.marks.Outcome.{Outcome}
+use Rattle.lapin_history.specs.declared.marks.Outcome.TheVariants as outcome
+use Rattle.lapin_history.specs.declared.marks.ConfirmMark.{ConfirmMark}
+use Rattle.lapin_history.specs.declared.marks.ConfirmMark.TheVariants as mark
+use Rattle.lapin_history.specs.ConfirmReadings.{covers, outcome_of}
+use Rattle.lapin_history.specs.Words.{with_channel}
+use Rattle.lapin_tables.specs.ByChannel.{at_channel, on_channel}
+use Rattle.lapin_tables.specs.Numbered.{with_under}
+use Rattle.lapin_confirm.specs.declared.cell.Cell.{Cell}
+use Rattle.lapin_confirm.specs.declared.cell.Cell.TheVariants as cell
+
+-- what a caller sees of a channel's opening: whether a `confirm.select` frame has left, and the last tag that was taken,
+-- 0 if none
+pub record Line : Type 0 where
+  pub selected : Bool
+  pub last : ℕ
+
+-- the line of each channel that had an opening, and a cell per confirm number, none where its result was given
+pub record Book : Type 0 where
+  pub lines : List (ℕ × Line)
+  pub cells : List (Option Cell)
+
+abbrev pub empty_book : Book
+empty_book = record { lines = []; cells = [] }
+
+-- ---- openings and tags
+
+-- a new opening is not selected and has taken no tag
+abbrev pub fresh_line : Line
+fresh_line = record { selected = false; last = 0 }
+
+abbrev pub selected_line : Line → Line
+selected_line l = record { selected = true; last = l.last }
+
+abbrev pub next_line : Line → Line
+next_line l = record { selected = l.selected; last = l.last + 1 }
+
+-- the tag that the next publish of the channel takes as its method frame leaves: none before the selection, then counted
+-- from 1 (RabbitMQ publisher confirms)
+abbrev pub tag_for : Option Line → Option ℕ
+tag_for None = None
+tag_for (Some l) = if l.selected then Some (l.last + 1) else None
+
+-- a publish that left is pending with its tag, or was not asked to be confirmed
+abbrev pub cell_with : ℕ → Option ℕ → Cell
+cell_with c None = cell.Resolved outcome.NotRequested
+cell_with c (Some t) = cell.Pending c t
+
+abbrev pub lines_with : ℕ → Option ℕ → List (ℕ × Line) → List (ℕ × Line)
+lines_with c None ls = ls
+lines_with c (Some t) ls = on_channel c next_line ls
+
+-- ---- what becomes of a cell
+
+-- a settlement of channel c with this outcome resolves what is pending there with a tag that it covers
+abbrev pub settled_cell : ℕ → (ℕ → Bool) → Outcome → Cell → Cell
+settled_cell c covered o (cell.Queued d) = cell.Queued d
+settled_cell c covered o (cell.Pending d t) = if d == c && covered t then cell.Resolved o else cell.Pending d t
+settled_cell c covered o (cell.Resolved x) = cell.Resolved x
+
+-- the end of the channel's opening fails all of it that is unresolved
+abbrev pub ended_cell : ℕ → Error → Cell → Cell
+ended_cell c e (cell.Queued d) = if d == c then cell.Resolved (outcome.Failed e) else cell.Queued d
+ended_cell c e (cell.Pending d t) = if d == c then cell.Resolved (outcome.Failed e) else cell.Pending d t
+ended_cell c e (cell.Resolved x) = cell.Resolved x
+
+-- ---- what is asked of cells
+
+-- the publish was accepted on channel c and has not left
+abbrev pub is_queued_on : ℕ → Option Cell → Bool
+is_queued_on c (Some (cell.Queued d)) = d == c
+is_queued_on c _ = false
+
+-- the publish is pending on channel c
+abbrev pub is_pending_on : ℕ → Option Cell → Bool
+is_pending_on c (Some (cell.Pending d t)) = d == c
+is_pending_on c _ = false
+
+-- the publish is pending on channel c with tag t
+abbrev pub is_pending_as : ℕ → ℕ → Option Cell → Bool
+is_pending_as c t (Some (cell.Pending d u)) = d == c && u == t
+is_pending_as c t _ = false
+
+-- the publish is unresolved on channel c
+abbrev pub is_open_on : ℕ → Option Cell → Bool
+is_open_on c (Some (cell.Queued d)) = d == c
+is_open_on c (Some (cell.Pending d t)) = d == c
+is_open_on c _ = false
+
+-- the publish was accepted and has not left
+abbrev pub is_queued : Option Cell → Bool
+is_queued (Some (cell.Queued d)) = true
+is_queued _ = false
+
+-- the outcome is there
+abbrev pub is_resolved : Option Cell → Bool
+is_resolved (Some (cell.Resolved o)) = true
+is_resolved _ = false
+
+-- the publish was accepted and is unresolved
+abbrev pub is_unresolved : Option Cell → Bool
+is_unresolved (Some (cell.Queued d)) = true
+is_unresolved (Some (cell.Pending d t)) = true
+is_unresolved _ = false
+
+-- ---- what is asked of a book
+
+-- tag t is pending on channel c
+abbrev pub is_pending : ℕ → ℕ → Book → Bool
+is_pending c t b = list_any (is_pending_as c t) b.cells
+
+-- how many tags are pending on channel c
+abbrev pub pending_count : ℕ → Book → ℕ
+pending_count c b = count_by (is_pending_on c) b.cells
+
+abbrev pub last_in : Option Line → ℕ
+last_in None = 0
+last_in (Some l) = l.last
+
+-- the last tag that was taken on channel c, 0 if none
+abbrev pub last_on : ℕ → Book → ℕ
+last_on c b = last_in (at_channel c b.lines)
+
+abbrev pub selected_in : Option Line → Bool
+selected_in None = false
+selected_in (Some l) = l.selected
+
+-- the channel's opening is selected
+abbrev pub selected_on : ℕ → Book → Bool
+selected_on c b = selected_in (at_channel c b.lines)
+
+-- ---- what happens to a book. A publish is named by its confirm number, from 1.
+
+abbrev pub begun : ℕ → Book → Book
+begun c b = record { lines = with_channel c fresh_line b.lines; cells = b.cells }
+
+abbrev pub with_publish : ℕ → Book → Book
+with_publish c b = record { lines = b.lines; cells = b.cells ++ Some (cell.Queued c) ∷ [] }
+
+abbrev pub select_left : ℕ → Book → Book
+select_left c b = record { lines = on_channel c selected_line b.lines; cells = b.cells }
+
+abbrev pub left : ℕ → ℕ → Book → Book
+left c n b = record {
+  lines = lines_with c (tag_for (at_channel c b.lines)) b.lines;
+  cells = with_under n (Some (cell_with c (tag_for (at_channel c b.lines)))) b.cells;
+}
+
+abbrev pub settled : ℕ → Settlement → Book → Book
+settled c s b = record { lines = b.lines; cells = map (option_map (settled_cell c (covers s) (outcome_of s))) b.cells }
+
+abbrev pub rejected : ℕ → Error → Book → Book
+rejected n e b = record { lines = b.lines; cells = with_under n (Some (cell.Resolved (outcome.Failed e))) b.cells }
+
+abbrev pub ended : ℕ → Error → Book → Book
+ended c e b = record { lines = b.lines; cells = map (option_map (ended_cell c e)) b.cells }
+
+abbrev pub taken : ℕ → Book → Book
+taken n b = record { lines = b.lines; cells = with_under n None b.cells }
+
+-- The book after a mark. A mark names a publish by its place from 0, which is one below its confirm number.
+abbrev pub after_mark : Book → ConfirmMark → Book
+after_mark b (mark.Begun c) = begun c b
+after_mark b (mark.Added c) = with_publish c b
+after_mark b (mark.SelectLeft c) = select_left c b
+after_mark b (mark.Left c k) = left c (suc k) b
+after_mark b (mark.Settled c s) = settled c s b
+after_mark b (mark.Rejected k e) = rejected (suc k) e b
+after_mark b (mark.Ended c e) = ended c e b
+after_mark b (mark.Taken k) = taken (suc k) b

@@ -1,0 +1,5 @@
+pub mod Book
+pub mod Answers
+pub mod Ties
+pub mod Kept
+pub mod Follows

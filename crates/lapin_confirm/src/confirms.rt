@@ -1,0 +1,267 @@
+//! The confirms of all channels: the public calls.
+//!
+//! Each call does one thing that may happen to a publish, and says what the book is then. What runs over the tags of a
+//! channel stands in `settling`.
+
+ghost use Rattle.std.specs.Prelude.{◌≡◌, ℕ, ◌+◌, ◌<◌, ◌^◌, ◌↔◌, ◌⊎◌, true, false, not, Ok, Err, Some, None, OnOk, OnErr, IsOk, IfOk, IfErr, IsSome, length, if◌then◌else◌};
+ghost use Rattle.std.specs.List.{list_any};
+ghost use Rattle.lapin_tables.specs.ByChannel.{at_channel};
+ghost use Rattle.lapin_tables.specs.Numbered.{under};
+ghost use Rattle.lapin_history.specs.ConfirmReadings.{kind_outcome};
+ghost use Rattle.lapin_confirm.specs.Book.{empty_book, begun, with_publish, select_left, left, settled, taken, tag_for, is_open_on, is_queued, is_resolved, is_unresolved, is_pending, pending_count, last_on, selected_on};
+ghost use Rattle.lapin_confirm.specs.Answers.{answer_at, result_of as result_of_lem};
+ghost use Rattle.lapin_confirm.specs.Kept.{HasRoom};
+
+use crate::cell::Cell;
+use crate::ledger::Ledger;
+use crate::settling::{enqueue, leave, make_room, settle_tag, settle_through};
+use lapin_history::{Outcome, SettleKind};
+use lapin_tables::{ByChannel, Numbered};
+use lapin_types::{Confirmation, Error, NoMemory};
+use std::alloc::Global;
+use std::marker::Model;
+
+/// The outcome of every confirm number, and the ledger of every channel. Contracts see a `Book`, and the room beside it.
+#[derive(Drop)]
+pub struct Confirms {
+    ledgers: ByChannel<Ledger>,
+    cells: Numbered<Cell>,
+}
+
+impl Model for Confirms {
+    ghost use Rattle.lapin_confirm.specs.Kept.{Kept};
+
+    ghost Value = { Kept };
+
+    ghost use Rattle.lapin_confirm.specs.Ties.{lines_of, rooms_of, AllTied};
+
+    ghost view = { λ a. record {
+      book = record { lines = lines_of a.ledgers.entries; cells = a.cells.slots };
+      spare = a.cells.spare;
+      rooms = rooms_of a.ledgers.entries;
+    } };
+
+    ghost invariant = { λ a. AllTied a.ledgers.entries a.cells.slots };
+}
+
+impl Confirms {
+    /// No opening and no publish. It takes no memory yet, so it does not fail.
+    pub fn new(alloc: Global) -> Result<Confirms, NoMemory>
+        ensures made { IfOk result (λ made. made.book ≡ empty_book) }
+        ensures succeeds { IsOk result }
+    {
+        Ok(Confirms {
+            ledgers: ByChannel::new(alloc),
+            cells: Numbered::new(alloc),
+        })
+    }
+
+    /// Makes room for the next `add` on a channel, which then does not answer `NoMemory`.
+    pub fn reserve(&mut self, _alloc: Global, channel: u16) -> Result<(), NoMemory>
+        ensures room { OnOk result (HasRoom channel self.new) }
+        ensures same { self.new.book ≡ self.old.book }
+        ensures succeeds { HasRoom channel self.old → IsOk result }
+    {
+        let Some(ledger) = self.ledgers.get_mut(channel) else {
+            self.cells.reserve(1)?;
+            return Ok(());
+        };
+        make_room(ledger, &mut self.cells)?;
+        Ok(())
+    }
+
+    /// A new opening of a channel begins: it is not selected, and no tag is taken. Nothing of an earlier one may be open.
+    pub fn begin(&mut self, alloc: Global, channel: u16) -> Result<(), NoMemory>
+        requires { list_any (is_open_on channel) self.old.book.cells ≡ false }
+        ensures ok { OnOk result (self.new.book ≡ begun channel self.old.book) }
+        ensures err { OnErr result (self.new.book ≡ self.old.book) }
+    {
+        let Some(ledger) = self.ledgers.get_mut(channel) else {
+            self.ledgers.insert(channel, Ledger::new(alloc))?;
+            return Ok(());
+        };
+        *ledger = Ledger::new(alloc);
+        Ok(())
+    }
+
+    /// Adds a publish of a channel that has an opening, and answers its confirm number. Room for its tag is made too.
+    ///
+    /// `NumbersUsedUp` comes exactly where the number would pass the greatest `u64`.
+    pub fn add(&mut self, _alloc: Global, channel: u16) -> Result<u64, Error>
+        requires { IsSome (at_channel channel self.old.book.lines) }
+        ensures number { IfOk result (λ n. n ≡ length self.old.book.cells + 1) }
+        ensures ok { OnOk result (self.new.book ≡ with_publish channel self.old.book) }
+        ensures err { OnErr result (self.new.book ≡ self.old.book) }
+        ensures cause { IfErr result (λ e. (e ≡ Error.NumbersUsedUp) ⊎ (e ≡ Error.NoMemory)) }
+        ensures used_up { (result ≡ Err Error.NumbersUsedUp) ↔ (length self.old.book.cells + 1 ≡ 2 ^ 64) }
+        ensures succeeds { HasRoom channel self.old → length self.old.book.cells + 1 < 2 ^ 64 → IsOk result }
+    {
+        if self.cells.next_number().is_none() {
+            return Err(Error::NumbersUsedUp);
+        }
+        let Some(ledger) = self.ledgers.get_mut(channel) else {
+            unreachable!()
+        };
+        if make_room(ledger, &mut self.cells).is_err() {
+            return Err(Error::NoMemory);
+        }
+        Ok(enqueue(channel, ledger, &mut self.cells))
+    }
+
+    /// A `confirm.select` frame of a channel leaves: the opening is selected from now on.
+    pub fn select_left(&mut self, channel: u16)
+        ensures { self.new.book ≡ select_left channel self.old.book }
+    {
+        let Some(ledger) = self.ledgers.get_mut(channel) else {
+            return;
+        };
+        ledger.selected = true;
+    }
+
+    /// The method frame of a publish leaves. Answers the tag that it takes: none where the opening isn't selected, and it is
+    /// then resolved as not requested.
+    pub fn register(&mut self, number: u64) -> Option<u64>
+        requires { is_queued (under number self.old.book.cells) ≡ true }
+        ensures tag { (c : ℕ) → under number self.old.book.cells ≡ Some (Cell.Queued c) → result ≡ tag_for (at_channel c self.old.book.lines) }
+        ensures left { (c : ℕ) → under number self.old.book.cells ≡ Some (Cell.Queued c) → self.new.book ≡ left c number self.old.book }
+    {
+        let channel = queued_channel(&self.cells, number);
+        let Some(ledger) = self.ledgers.get_mut(channel) else {
+            unreachable!()
+        };
+        leave(channel, ledger, &mut self.cells, number)
+    }
+
+    /// The broker settles one tag of a channel (AMQP 0-9-1, basic.ack; RabbitMQ, basic.nack).
+    ///
+    /// `PreconditionFailed` with the tag and the last one taken comes exactly where the tag isn't pending, and nothing changes.
+    pub fn settle_one(&mut self, channel: u16, kind: SettleKind, tag: u64) -> Result<(), Error>
+        ensures answer { result ≡ (if is_pending channel tag self.old.book then Ok tt else Err (Error.PreconditionFailed tag (last_on channel self.old.book))) }
+        ensures settled { self.new.book ≡ settled channel (record { kind = kind; tag = tag; multiple = false }) self.old.book }
+        ensures same { OnErr result (self.new.book ≡ self.old.book) }
+    {
+        let Some(ledger) = self.ledgers.get_mut(channel) else {
+            return Err(Error::PreconditionFailed { tag, current: 0 });
+        };
+        let current = ledger.tags.count();
+        if !settle_tag(channel, ledger, &mut self.cells, tag, outcome_of(kind)) {
+            return Err(Error::PreconditionFailed { tag, current });
+        }
+        Ok(())
+    }
+
+    /// The broker settles every pending tag of a channel up to one, in rising order.
+    pub fn settle_up_to(&mut self, channel: u16, kind: SettleKind, tag: u64)
+        requires { 0 < tag }
+        ensures { self.new.book ≡ settled channel (record { kind = kind; tag = tag; multiple = true }) self.old.book }
+    {
+        let Some(ledger) = self.ledgers.get_mut(channel) else {
+            return;
+        };
+        settle_through(channel, ledger, &mut self.cells, tag, outcome_of(kind));
+    }
+
+    /// The broker settles every pending tag of a channel, in rising order: a multiple settlement with tag 0.
+    pub fn settle_all(&mut self, channel: u16, kind: SettleKind)
+        ensures { self.new.book ≡ settled channel (record { kind = kind; tag = 0; multiple = true }) self.old.book }
+    {
+        let Some(ledger) = self.ledgers.get_mut(channel) else {
+            return;
+        };
+        let last = ledger.tags.count();
+        settle_through(channel, ledger, &mut self.cells, last, outcome_of(kind));
+    }
+
+    /// Whether `take` has an answer other than none: false exactly while the confirm is unresolved.
+    pub fn ready(&self, number: u64) -> bool
+        ensures { result ≡ not (is_unresolved (under number self.now.book.cells)) }
+    {
+        !matches!(
+            self.cells.get(number),
+            Some(Cell::Queued(_) | Cell::Pending(_, _))
+        )
+    }
+
+    /// The last tag that was taken on a channel, 0 where none was.
+    pub fn current(&self, channel: u16) -> u64
+        ensures { result ≡ last_on channel self.now.book }
+    {
+        match self.ledgers.get(channel) {
+            Some(ledger) => ledger.tags.count(),
+            None => 0,
+        }
+    }
+
+    /// How many tags are pending on a channel.
+    pub fn pending(&self, channel: u16) -> usize
+        ensures { result ≡ pending_count channel self.now.book }
+    {
+        match self.ledgers.get(channel) {
+            Some(ledger) => ledger.pending,
+            None => 0,
+        }
+    }
+
+    /// Whether the opening of a channel is selected.
+    pub fn selected(&self, channel: u16) -> bool
+        ensures { result ≡ selected_on channel self.now.book }
+    {
+        match self.ledgers.get(channel) {
+            Some(ledger) => ledger.selected,
+            None => false,
+        }
+    }
+
+    /// Gives the result of a publish, once: none exactly while it is unresolved.
+    ///
+    /// `UnknownTicket` comes exactly where the number was never given, `AlreadyTaken` exactly where the result was.
+    pub fn take(&mut self, number: u64) -> Result<Option<Result<Confirmation, Error>>, Error>
+        ensures answer { result ≡ answer_at number self.old.book }
+        ensures taken { self.new.book ≡ (if is_resolved (under number self.old.book.cells) then taken number self.old.book else self.old.book) }
+    {
+        if number == 0 || number > self.cells.count() {
+            return Err(Error::UnknownTicket);
+        }
+        match self.cells.get(number) {
+            None => Err(Error::AlreadyTaken),
+            Some(Cell::Resolved(outcome)) => {
+                let outcome = *outcome;
+                let _ = self.cells.take(number);
+                Ok(Some(result_of(outcome)))
+            }
+            Some(_) => Ok(None),
+        }
+    }
+}
+
+// The channel of a publish that was accepted and has not left.
+fn queued_channel(cells: &Numbered<Cell>, number: u64) -> u16
+    requires { is_queued (under number cells.now.slots) ≡ true }
+    ensures queued { under number cells.now.slots ≡ Some (Cell.Queued result) }
+    ensures fits { length cells.now.slots < 2 ^ 64 }
+{
+    match cells.get(number) {
+        Some(Cell::Queued(channel)) => *channel,
+        _ => unreachable!(),
+    }
+}
+
+fn outcome_of(kind: SettleKind) -> Outcome
+    ensures { result ≡ kind_outcome kind }
+{
+    match kind {
+        SettleKind::Ack => Outcome::Ack,
+        SettleKind::Nack => Outcome::Nack,
+    }
+}
+
+fn result_of(outcome: Outcome) -> Result<Confirmation, Error>
+    ensures { result ≡ result_of_lem outcome }
+{
+    match outcome {
+        Outcome::NotRequested => Ok(Confirmation::NotRequested),
+        Outcome::Ack => Ok(Confirmation::Ack(None)),
+        Outcome::Nack => Ok(Confirmation::Nack(None)),
+        Outcome::Failed(error) => Err(error),
+    }
+}

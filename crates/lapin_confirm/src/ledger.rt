@@ -1,0 +1,37 @@
+//! The ledger of a channel: its tags, and which publishes wait for a settlement.
+//!
+//! The tags stand in a window from the least pending one to the last taken. Room for the tag of every publish that is
+//! queued is made as the publish is added, so that a tag is taken without memory.
+
+ghost use Rattle.std.specs.Prelude.{◌≡◌, [], false};
+ghost use Rattle.lapin_confirm.specs.Ties.{IsFresh};
+
+use lapin_tables::Numbered;
+use std::alloc::Global;
+
+/// What is kept of a channel's opening.
+#[derive(Drop)]
+pub struct Ledger {
+    /// Whether a `confirm.select` frame of the opening has left.
+    pub selected: bool,
+    /// By tag: the confirm number of the publish that took it, until it is settled.
+    pub tags: Numbered<u64>,
+    /// How many publishes of the channel were accepted and have not left.
+    pub queued: usize,
+    /// How many tags wait for a settlement.
+    pub pending: usize,
+}
+
+impl Ledger {
+    /// The ledger of a new opening: not selected, no tag taken.
+    pub fn new(alloc: Global) -> Self
+        ensures { IsFresh result }
+    {
+        Ledger {
+            selected: false,
+            tags: Numbered::new(alloc),
+            queued: 0,
+            pending: 0,
+        }
+    }
+}

@@ -1,0 +1,17 @@
+//! Publisher confirms: the outcome of every confirm number, and the ledger of every channel.
+//!
+//! Here live delivery tags, settlements and what they make of the publishes that wait. Which frames leave, which states a
+//! channel is in and when a settlement is heard are the session's, which calls this crate. Contracts see a `Book`, and
+//! `machine_follows` says that a book that is changed by these calls is always what the history of its marks says.
+#![tactic(auto)]
+
+mod cell;
+mod confirms;
+mod laws;
+mod ledger;
+mod settling;
+
+pub use cell::Cell;
+pub use confirms::Confirms;
+pub use lapin_history::SettleKind;
+pub use laws::machine_follows;

@@ -1,0 +1,139 @@
+//! What runs over one channel's ledger and the cells: a publish joins, its tag is taken, tags are settled.
+//!
+//! Each function keeps the ledger and the cells tied. A settlement looks up one place, or walks from the least pending tag:
+//! what is settled already costs nothing.
+
+ghost use Rattle.std.specs.Prelude.{◌≡◌, ℕ, ◌+◌, ◌-◌, ◌<◌, ◌≤◌, ◌^◌, ◌==◌, nat_le, true, false, List, ◌∷◌, ◌++◌, [], Some, None, OnOk, OnErr, IsOk, length, map, is_some, if◌then◌else◌};
+ghost use Rattle.std.specs.Option.{option_map};
+ghost use Rattle.lapin_tables.specs.Numbered.{under, with_under};
+ghost use Rattle.lapin_confirm.specs.Book.{Line, tag_for, cell_with, settled_cell, next_line};
+ghost use Rattle.lapin_confirm.specs.Ties.{Tied, line_of, room_of, line_after};
+
+use crate::cell::Cell;
+use crate::ledger::Ledger;
+use lapin_history::Outcome;
+use lapin_tables::Numbered;
+use std::alloc::AllocError;
+
+/// Makes room for one more publish of the channel and for its tag.
+pub fn make_room(ledger: &mut Ledger, cells: &mut Numbered<Cell>) -> Result<(), AllocError>
+    requires { ledger.old.queued ≤ ledger.old.tags.spare }
+    ensures cells { cells.new.slots ≡ cells.old.slots }
+    ensures tags { ledger.new.tags.slots ≡ ledger.old.tags.slots }
+    ensures rest { ledger.new ≡ record ledger.old { tags = ledger.new.tags } }
+    ensures spare { OnOk result (0 < cells.new.spare) }
+    ensures room { OnOk result (ledger.new.queued < ledger.new.tags.spare) }
+    ensures kept { ledger.new.queued ≤ ledger.new.tags.spare }
+    ensures succeeds { 0 < cells.old.spare → ledger.old.queued < ledger.old.tags.spare → IsOk result }
+{
+    cells.reserve(1)?;
+    ledger.tags.reserve_beside(ledger.queued)
+}
+
+/// Adds a publish of the channel, in the room that was made.
+pub fn enqueue(channel: u16, ledger: &mut Ledger, cells: &mut Numbered<Cell>) -> u64
+    requires tied { Tied channel ledger.old cells.old.slots }
+    requires spare { 0 < cells.old.spare }
+    requires room { ledger.old.queued < ledger.old.tags.spare }
+    requires numbers { length cells.old.slots + 1 < 2 ^ 64 }
+    ensures number { result ≡ length cells.old.slots + 1 }
+    ensures cells { cells.new.slots ≡ cells.old.slots ++ Some (Cell.Queued channel) ∷ [] }
+    ensures tied { Tied channel ledger.new cells.new.slots }
+    ensures line { line_of ledger.new ≡ line_of ledger.old }
+{
+    ledger.queued += 1;
+    cells.push_reserved(Cell::Queued(channel))
+}
+
+/// The method frame of a publish of the channel leaves: it takes its tag, if the opening is selected.
+pub fn leave(
+    channel: u16,
+    ledger: &mut Ledger,
+    cells: &mut Numbered<Cell>,
+    number: u64,
+) -> Option<u64>
+    requires tied { Tied channel ledger.old cells.old.slots }
+    requires queued { under number cells.old.slots ≡ Some (Cell.Queued channel) }
+    requires fits { length cells.old.slots < 2 ^ 64 }
+    ensures tag { result ≡ tag_for (Some (line_of ledger.old)) }
+    ensures cells { cells.new.slots ≡ with_under number (Some (cell_with channel result)) cells.old.slots }
+    ensures tied { Tied channel ledger.new cells.new.slots }
+    ensures line { line_of ledger.new ≡ line_after result (line_of ledger.old) }
+{
+    let tag = take_tag(ledger, number);
+    cells.set(number, cell_for(channel, tag));
+    tag
+}
+
+fn take_tag(ledger: &mut Ledger, number: u64) -> Option<u64>
+    requires queued { 0 < ledger.old.queued }
+    requires room { ledger.old.queued ≤ ledger.old.tags.spare }
+    requires numbers { length ledger.old.tags.slots + 1 < 2 ^ 64 }
+    requires pending { ledger.old.pending + 1 < 2 ^ 64 }
+    ensures tag { result ≡ tag_for (Some (line_of ledger.old)) }
+    ensures queued { ledger.new.queued + 1 ≡ ledger.old.queued }
+    ensures room { ledger.new.queued ≤ ledger.new.tags.spare }
+    ensures line { line_of ledger.new ≡ line_after result (line_of ledger.old) }
+    ensures tags { ledger.new.tags.slots ≡ (if is_some result then ledger.old.tags.slots ++ Some number ∷ [] else ledger.old.tags.slots) }
+    ensures pending { ledger.new.pending ≡ (if is_some result then ledger.old.pending + 1 else ledger.old.pending) }
+{
+    ledger.queued -= 1;
+    if !ledger.selected {
+        return None;
+    }
+    ledger.pending += 1;
+    Some(ledger.tags.push_reserved(number))
+}
+
+fn cell_for(channel: u16, tag: Option<u64>) -> Cell
+    ensures { result ≡ cell_with channel tag }
+{
+    match tag {
+        Some(tag) => Cell::Pending(channel, tag),
+        None => Cell::Resolved(Outcome::NotRequested),
+    }
+}
+
+/// Settles one tag of the channel, and says whether it was pending.
+pub fn settle_tag(
+    channel: u16,
+    ledger: &mut Ledger,
+    cells: &mut Numbered<Cell>,
+    tag: u64,
+    outcome: Outcome,
+) -> bool
+    requires { Tied channel ledger.old cells.old.slots }
+    ensures found { result ≡ is_some (under tag ledger.old.tags.slots) }
+    ensures cells { cells.new.slots ≡ map (option_map (settled_cell channel (λ t. tag == t) outcome)) cells.old.slots }
+    ensures tied { Tied channel ledger.new cells.new.slots }
+    ensures line { line_of ledger.new ≡ line_of ledger.old }
+    ensures pending { result ≡ true → ledger.new.pending + 1 ≡ ledger.old.pending }
+{
+    let Some(number) = ledger.tags.take(tag) else {
+        return false;
+    };
+    cells.set(number, Cell::Resolved(outcome));
+    ledger.pending -= 1;
+    true
+}
+
+/// Settles the pending tags of the channel up to one, in rising order.
+pub fn settle_through(
+    channel: u16,
+    ledger: &mut Ledger,
+    cells: &mut Numbered<Cell>,
+    limit: u64,
+    outcome: Outcome,
+)
+    requires { Tied channel ledger.old cells.old.slots }
+    ensures cells { cells.new.slots ≡ map (option_map (settled_cell channel (λ t. nat_le t limit) outcome)) cells.old.slots }
+    ensures tied { Tied channel ledger.new cells.new.slots }
+    ensures line { line_of ledger.new ≡ line_of ledger.old }
+{
+    while let Some(tag) = ledger.tags.first_number() {
+        if tag > limit {
+            break;
+        }
+        let _ = settle_tag(channel, ledger, cells, tag, outcome);
+    }
+}
