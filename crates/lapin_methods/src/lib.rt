@@ -16,6 +16,8 @@ pub mod method;
 pub mod options;
 pub mod queue;
 pub mod states;
+#[cfg(test)]
+mod tests;
 pub mod tx;
 
 pub use access::AccessMethod;
