@@ -5,3 +5,4 @@ pub mod Settled
 pub mod LineFollowing
 pub mod CellFollowing
 pub mod Following
+pub mod Books

@@ -3,6 +3,7 @@ use Rattle.std.specs.Prelude.{ℕ, suc, ◌+◌, ◌==◌, Bool, true, false, �
 use Rattle.std.specs.List.{list_any, count_by}
 use Rattle.std.specs.Option.{option_map}
 use Rattle.lapin_types.specs.declared.Error.{Error}
+use Rattle.lapin_history.specs.declared.marks.SettleKind.{SettleKind}
 use Rattle.lapin_history.specs.declared.marks.Settlement.{Settlement}
 use Rattle.lapin_history.specs.declared.marks.Outcome.{Outcome}
 use Rattle.lapin_history.specs.declared.marks.Outcome.TheVariants as outcome
@@ -55,6 +56,15 @@ cell_with c (Some t) = cell.Pending c t
 abbrev pub lines_with : ℕ → Option ℕ → List (ℕ × Line) → List (ℕ × Line)
 lines_with c None ls = ls
 lines_with c (Some t) ls = on_channel c next_line ls
+
+-- ---- settlements
+
+-- the settlement of one tag, and of every tag up to one, of 0 of every tag
+abbrev pub single_of : SettleKind → ℕ → Settlement
+single_of kind tag = record { kind = kind; tag = tag; multiple = false }
+
+abbrev pub multiple_of : SettleKind → ℕ → Settlement
+multiple_of kind tag = record { kind = kind; tag = tag; multiple = true }
 
 -- ---- what becomes of a cell
 

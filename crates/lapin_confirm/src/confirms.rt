@@ -8,7 +8,7 @@ ghost use Rattle.std.specs.List.{list_any};
 ghost use Rattle.lapin_tables.specs.ByChannel.{at_channel};
 ghost use Rattle.lapin_tables.specs.Numbered.{under};
 ghost use Rattle.lapin_history.specs.ConfirmReadings.{kind_outcome};
-ghost use Rattle.lapin_confirm.specs.Book.{empty_book, begun, with_publish, select_left, left, settled, taken, tag_for, is_open_on, is_queued, is_resolved, is_unresolved, is_pending, pending_count, last_on, selected_on};
+ghost use Rattle.lapin_confirm.specs.Book.{empty_book, begun, with_publish, select_left, left, settled, single_of, multiple_of, taken, tag_for, is_open_on, is_queued, is_resolved, is_unresolved, is_pending, pending_count, last_on, selected_on};
 ghost use Rattle.lapin_confirm.specs.Answers.{answer_at, result_of as result_of_lem};
 ghost use Rattle.lapin_confirm.specs.Kept.{HasRoom};
 
@@ -137,7 +137,7 @@ impl Confirms {
     /// `PreconditionFailed` with the tag and the last one taken comes exactly where the tag isn't pending, and nothing changes.
     pub fn settle_one(&mut self, channel: u16, kind: SettleKind, tag: u64) -> Result<(), Error>
         ensures answer { result ≡ (if is_pending channel tag self.old.book then Ok tt else Err (Error.PreconditionFailed tag (last_on channel self.old.book))) }
-        ensures settled { self.new.book ≡ settled channel (record { kind = kind; tag = tag; multiple = false }) self.old.book }
+        ensures settled { self.new.book ≡ settled channel (single_of kind tag) self.old.book }
         ensures same { OnErr result (self.new.book ≡ self.old.book) }
     {
         let Some(ledger) = self.ledgers.get_mut(channel) else {
@@ -153,7 +153,7 @@ impl Confirms {
     /// The broker settles every pending tag of a channel up to one, in rising order.
     pub fn settle_up_to(&mut self, channel: u16, kind: SettleKind, tag: u64)
         requires { 0 < tag }
-        ensures { self.new.book ≡ settled channel (record { kind = kind; tag = tag; multiple = true }) self.old.book }
+        ensures { self.new.book ≡ settled channel (multiple_of kind tag) self.old.book }
     {
         let Some(ledger) = self.ledgers.get_mut(channel) else {
             return;
@@ -163,7 +163,7 @@ impl Confirms {
 
     /// The broker settles every pending tag of a channel, in rising order: a multiple settlement with tag 0.
     pub fn settle_all(&mut self, channel: u16, kind: SettleKind)
-        ensures { self.new.book ≡ settled channel (record { kind = kind; tag = 0; multiple = true }) self.old.book }
+        ensures { self.new.book ≡ settled channel (multiple_of kind 0) self.old.book }
     {
         let Some(ledger) = self.ledgers.get_mut(channel) else {
             return;

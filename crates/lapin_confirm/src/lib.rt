@@ -14,4 +14,6 @@ mod settling;
 pub use cell::Cell;
 pub use confirms::Confirms;
 pub use lapin_history::SettleKind;
-pub use laws::machine_follows;
+pub use laws::{
+    machine_follows, multiple_covers, nothing_follows, outcome_stays, settlement_leaves,
+};

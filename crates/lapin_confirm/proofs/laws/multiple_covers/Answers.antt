@@ -1,0 +1,5 @@
+use Rattle.lapin_confirm.proofs.Books.{up_to}
+use Rattle.lapin_confirm.proofs.laws.multiple_covers.Goals as goal
+
+pub returns-clause-up_to : goal.returns-clause-up_to
+returns-clause-up_to c = up_to
