@@ -1,0 +1,306 @@
+//! The kinds of methods and their names, as `basic.publish`.
+//!
+//! Here stands which name is which method's. The fields stand in a file a class; what methods do stands in the crates above.
+
+ghost use Rattle.std.specs.Prelude.{◌≡◌};
+ghost use Rattle.lapin_method_text.specs.MethodReading.{kind_at};
+ghost use Rattle.lapin_method_text.specs.Methods.{method_name, connection_name, channel_name, access_name, exchange_name, queue_name, basic_name, confirm_name, tx_name};
+
+/// The methods of the class connection (AMQP 0-9-1, class 10).
+#[derive(Clone, Copy, Debug, PartialEq, Eq)]
+pub enum ConnectionKind {
+    Close,
+    CloseOk,
+}
+
+/// The methods of the class channel (AMQP 0-9-1, class 20).
+#[derive(Clone, Copy, Debug, PartialEq, Eq)]
+pub enum ChannelKind {
+    Open,
+    OpenOk,
+    Flow,
+    FlowOk,
+    Close,
+    CloseOk,
+}
+
+/// The methods of the class access (class 30, which brokers keep from AMQP 0-8).
+#[derive(Clone, Copy, Debug, PartialEq, Eq)]
+pub enum AccessKind {
+    Request,
+    RequestOk,
+}
+
+/// The methods of the class exchange (AMQP 0-9-1, class 40, with RabbitMQ's bindings between exchanges).
+#[derive(Clone, Copy, Debug, PartialEq, Eq)]
+pub enum ExchangeKind {
+    Declare,
+    DeclareOk,
+    Delete,
+    DeleteOk,
+    Bind,
+    BindOk,
+    Unbind,
+    UnbindOk,
+}
+
+/// The methods of the class queue (AMQP 0-9-1, class 50).
+#[derive(Clone, Copy, Debug, PartialEq, Eq)]
+pub enum QueueKind {
+    Declare,
+    DeclareOk,
+    Bind,
+    BindOk,
+    Purge,
+    PurgeOk,
+    Delete,
+    DeleteOk,
+    Unbind,
+    UnbindOk,
+}
+
+/// The methods of the class basic (AMQP 0-9-1, class 60, with RabbitMQ's nack).
+#[derive(Clone, Copy, Debug, PartialEq, Eq)]
+pub enum BasicKind {
+    Qos,
+    QosOk,
+    Consume,
+    ConsumeOk,
+    Cancel,
+    CancelOk,
+    Publish,
+    Return,
+    Deliver,
+    Get,
+    GetOk,
+    GetEmpty,
+    Ack,
+    Reject,
+    RecoverAsync,
+    Recover,
+    RecoverOk,
+    Nack,
+}
+
+/// The methods of the class confirm (class 85, RabbitMQ's publisher confirms).
+#[derive(Clone, Copy, Debug, PartialEq, Eq)]
+pub enum ConfirmKind {
+    Select,
+    SelectOk,
+}
+
+/// The methods of the class tx (AMQP 0-9-1, class 90).
+#[derive(Clone, Copy, Debug, PartialEq, Eq)]
+pub enum TxKind {
+    Select,
+    SelectOk,
+    Commit,
+    CommitOk,
+    Rollback,
+    RollbackOk,
+}
+
+/// The methods of all classes.
+#[derive(Clone, Copy, Debug, PartialEq, Eq)]
+pub enum MethodKind {
+    Connection(ConnectionKind),
+    Channel(ChannelKind),
+    Access(AccessKind),
+    Exchange(ExchangeKind),
+    Queue(QueueKind),
+    Basic(BasicKind),
+    Confirm(ConfirmKind),
+    Tx(TxKind),
+}
+
+/// Each method once.
+pub const KINDS: [MethodKind; 54] = [
+    MethodKind::Connection(ConnectionKind::Close),
+    MethodKind::Connection(ConnectionKind::CloseOk),
+    MethodKind::Channel(ChannelKind::Open),
+    MethodKind::Channel(ChannelKind::OpenOk),
+    MethodKind::Channel(ChannelKind::Flow),
+    MethodKind::Channel(ChannelKind::FlowOk),
+    MethodKind::Channel(ChannelKind::Close),
+    MethodKind::Channel(ChannelKind::CloseOk),
+    MethodKind::Access(AccessKind::Request),
+    MethodKind::Access(AccessKind::RequestOk),
+    MethodKind::Exchange(ExchangeKind::Declare),
+    MethodKind::Exchange(ExchangeKind::DeclareOk),
+    MethodKind::Exchange(ExchangeKind::Delete),
+    MethodKind::Exchange(ExchangeKind::DeleteOk),
+    MethodKind::Exchange(ExchangeKind::Bind),
+    MethodKind::Exchange(ExchangeKind::BindOk),
+    MethodKind::Exchange(ExchangeKind::Unbind),
+    MethodKind::Exchange(ExchangeKind::UnbindOk),
+    MethodKind::Queue(QueueKind::Declare),
+    MethodKind::Queue(QueueKind::DeclareOk),
+    MethodKind::Queue(QueueKind::Bind),
+    MethodKind::Queue(QueueKind::BindOk),
+    MethodKind::Queue(QueueKind::Purge),
+    MethodKind::Queue(QueueKind::PurgeOk),
+    MethodKind::Queue(QueueKind::Delete),
+    MethodKind::Queue(QueueKind::DeleteOk),
+    MethodKind::Queue(QueueKind::Unbind),
+    MethodKind::Queue(QueueKind::UnbindOk),
+    MethodKind::Basic(BasicKind::Qos),
+    MethodKind::Basic(BasicKind::QosOk),
+    MethodKind::Basic(BasicKind::Consume),
+    MethodKind::Basic(BasicKind::ConsumeOk),
+    MethodKind::Basic(BasicKind::Cancel),
+    MethodKind::Basic(BasicKind::CancelOk),
+    MethodKind::Basic(BasicKind::Publish),
+    MethodKind::Basic(BasicKind::Return),
+    MethodKind::Basic(BasicKind::Deliver),
+    MethodKind::Basic(BasicKind::Get),
+    MethodKind::Basic(BasicKind::GetOk),
+    MethodKind::Basic(BasicKind::GetEmpty),
+    MethodKind::Basic(BasicKind::Ack),
+    MethodKind::Basic(BasicKind::Reject),
+    MethodKind::Basic(BasicKind::RecoverAsync),
+    MethodKind::Basic(BasicKind::Recover),
+    MethodKind::Basic(BasicKind::RecoverOk),
+    MethodKind::Basic(BasicKind::Nack),
+    MethodKind::Confirm(ConfirmKind::Select),
+    MethodKind::Confirm(ConfirmKind::SelectOk),
+    MethodKind::Tx(TxKind::Select),
+    MethodKind::Tx(TxKind::SelectOk),
+    MethodKind::Tx(TxKind::Commit),
+    MethodKind::Tx(TxKind::CommitOk),
+    MethodKind::Tx(TxKind::Rollback),
+    MethodKind::Tx(TxKind::RollbackOk),
+];
+
+fn name_of_connection(kind: ConnectionKind) -> &'static [u8]
+    ensures { result.now ≡ connection_name kind }
+{
+    match kind {
+        ConnectionKind::Close => b"connection.close",
+        ConnectionKind::CloseOk => b"connection.close-ok",
+    }
+}
+
+fn name_of_channel(kind: ChannelKind) -> &'static [u8]
+    ensures { result.now ≡ channel_name kind }
+{
+    match kind {
+        ChannelKind::Open => b"channel.open",
+        ChannelKind::OpenOk => b"channel.open-ok",
+        ChannelKind::Flow => b"channel.flow",
+        ChannelKind::FlowOk => b"channel.flow-ok",
+        ChannelKind::Close => b"channel.close",
+        ChannelKind::CloseOk => b"channel.close-ok",
+    }
+}
+
+fn name_of_access(kind: AccessKind) -> &'static [u8]
+    ensures { result.now ≡ access_name kind }
+{
+    match kind {
+        AccessKind::Request => b"access.request",
+        AccessKind::RequestOk => b"access.request-ok",
+    }
+}
+
+fn name_of_exchange(kind: ExchangeKind) -> &'static [u8]
+    ensures { result.now ≡ exchange_name kind }
+{
+    match kind {
+        ExchangeKind::Declare => b"exchange.declare",
+        ExchangeKind::DeclareOk => b"exchange.declare-ok",
+        ExchangeKind::Delete => b"exchange.delete",
+        ExchangeKind::DeleteOk => b"exchange.delete-ok",
+        ExchangeKind::Bind => b"exchange.bind",
+        ExchangeKind::BindOk => b"exchange.bind-ok",
+        ExchangeKind::Unbind => b"exchange.unbind",
+        ExchangeKind::UnbindOk => b"exchange.unbind-ok",
+    }
+}
+
+fn name_of_queue(kind: QueueKind) -> &'static [u8]
+    ensures { result.now ≡ queue_name kind }
+{
+    match kind {
+        QueueKind::Declare => b"queue.declare",
+        QueueKind::DeclareOk => b"queue.declare-ok",
+        QueueKind::Bind => b"queue.bind",
+        QueueKind::BindOk => b"queue.bind-ok",
+        QueueKind::Purge => b"queue.purge",
+        QueueKind::PurgeOk => b"queue.purge-ok",
+        QueueKind::Delete => b"queue.delete",
+        QueueKind::DeleteOk => b"queue.delete-ok",
+        QueueKind::Unbind => b"queue.unbind",
+        QueueKind::UnbindOk => b"queue.unbind-ok",
+    }
+}
+
+fn name_of_basic(kind: BasicKind) -> &'static [u8]
+    ensures { result.now ≡ basic_name kind }
+{
+    match kind {
+        BasicKind::Qos => b"basic.qos",
+        BasicKind::QosOk => b"basic.qos-ok",
+        BasicKind::Consume => b"basic.consume",
+        BasicKind::ConsumeOk => b"basic.consume-ok",
+        BasicKind::Cancel => b"basic.cancel",
+        BasicKind::CancelOk => b"basic.cancel-ok",
+        BasicKind::Publish => b"basic.publish",
+        BasicKind::Return => b"basic.return",
+        BasicKind::Deliver => b"basic.deliver",
+        BasicKind::Get => b"basic.get",
+        BasicKind::GetOk => b"basic.get-ok",
+        BasicKind::GetEmpty => b"basic.get-empty",
+        BasicKind::Ack => b"basic.ack",
+        BasicKind::Reject => b"basic.reject",
+        BasicKind::RecoverAsync => b"basic.recover-async",
+        BasicKind::Recover => b"basic.recover",
+        BasicKind::RecoverOk => b"basic.recover-ok",
+        BasicKind::Nack => b"basic.nack",
+    }
+}
+
+fn name_of_confirm(kind: ConfirmKind) -> &'static [u8]
+    ensures { result.now ≡ confirm_name kind }
+{
+    match kind {
+        ConfirmKind::Select => b"confirm.select",
+        ConfirmKind::SelectOk => b"confirm.select-ok",
+    }
+}
+
+fn name_of_tx(kind: TxKind) -> &'static [u8]
+    ensures { result.now ≡ tx_name kind }
+{
+    match kind {
+        TxKind::Select => b"tx.select",
+        TxKind::SelectOk => b"tx.select-ok",
+        TxKind::Commit => b"tx.commit",
+        TxKind::CommitOk => b"tx.commit-ok",
+        TxKind::Rollback => b"tx.rollback",
+        TxKind::RollbackOk => b"tx.rollback-ok",
+    }
+}
+
+/// The name of a method.
+pub fn name_of(kind: MethodKind) -> &'static [u8]
+    ensures { result.now ≡ method_name kind }
+{
+    match kind {
+        MethodKind::Connection(kind) => name_of_connection(kind),
+        MethodKind::Channel(kind) => name_of_channel(kind),
+        MethodKind::Access(kind) => name_of_access(kind),
+        MethodKind::Exchange(kind) => name_of_exchange(kind),
+        MethodKind::Queue(kind) => name_of_queue(kind),
+        MethodKind::Basic(kind) => name_of_basic(kind),
+        MethodKind::Confirm(kind) => name_of_confirm(kind),
+        MethodKind::Tx(kind) => name_of_tx(kind),
+    }
+}
+
+/// The method of which the bytes are the name.
+#[tactic(auto, unfolding(crate::specs::MethodReading::kind_at))]
+pub fn kind_named(name: &[u8]) -> Option<MethodKind>
+    ensures { result ≡ kind_at name.now }
+{
+    KINDS.iter().copied().find(|kind| name_of(*kind) == name)
+}
