@@ -1,0 +1,41 @@
+-- Tokens written one after the other make the text of a line, and lines the text of records.
+use Rattle.std.proofs.Common.{◌≡◌, ℕ, List, [], ◌∷◌, ◌++◌, refl, sym, ap, ◌∙◌, append_assoc}
+use Rattle.std.specs.Prelude.{codes}
+use Rattle.std.specs.List.{join_with_byte, flat_map}
+use Rattle.std.proofs.lemmas.List.{append-nil}
+use Rattle.std.proofs.lemmas.List.Concat.{flat_map-cons}
+use Rattle.lapin_types.specs.Types.{Frame}
+use Rattle.lapin_types.specs.Types.frame
+use Rattle.lapin_types.specs.declared.record.Record.{Record}
+use Rattle.lapin_tokens.specs.Fields.{token, tokens, short_number}
+use Rattle.lapin_tokens.specs.TokenText.{onto}
+use Rattle.lapin_method_text.specs.Methods.{method_tokens}
+use Rattle.lapin_text.specs.Frames.{header_fields, body_fields, frame_tokens, frame_text}
+use Rattle.lapin_text.specs.Records.{record_tokens, record_line, records_text, line_onto, records_onto}
+
+onto_is : (line : List ℕ) (t : List ℕ) (ts : List (List ℕ)) → onto line (t ∷ ts) ≡ line ++ 32 ∷ join_with_byte 32 (t ∷ ts)
+onto_is line t [] = refl
+onto_is line t (u ∷ ts) = onto_is (line ++ 32 ∷ t) u ts ∙ append_assoc line (32 ∷ t) (32 ∷ join_with_byte 32 (u ∷ ts))
+
+pub onto_frame : (f : Frame) → onto [] (frame_tokens f) ≡ 32 ∷ frame_text f
+onto_frame (frame.Method c m) = onto_is [] (codes "method") (token short_number c ∷ method_tokens m)
+onto_frame (frame.Header c header) = onto_is [] (codes "header") (tokens header_fields (c, (header.class_id, (header.body_size, (header.properties, tt)))))
+onto_frame (frame.Body c bytes) = onto_is [] (codes "body") (tokens body_fields (c, (bytes, tt)))
+
+line_onto_is : (out : List ℕ) (ts : List (List ℕ)) → line_onto out ts ≡ out ++ join_with_byte 32 ts
+line_onto_is out [] = sym (append-nil out)
+line_onto_is out (t ∷ []) = refl
+line_onto_is out (t ∷ u ∷ us) = onto_is (out ++ t) u us ∙ append_assoc out t (32 ∷ join_with_byte 32 (u ∷ us))
+
+pub line_from_onto : (r : Record) → line_onto [] (record_tokens r) ≡ record_line r
+line_from_onto r = line_onto_is [] (record_tokens r)
+
+records_onto_is : (out : List ℕ) (rs : List Record) → records_onto out rs ≡ out ++ records_text rs
+records_onto_is out [] = sym (append-nil out)
+records_onto_is out (r ∷ rs) =
+    let first : line_onto out (record_tokens r) ++ 10 ∷ [] ≡ out ++ (record_line r ++ 10 ∷ []) = ap (λ (l : List ℕ). l ++ 10 ∷ []) (line_onto_is out (record_tokens r)) ∙ append_assoc out (record_line r) (10 ∷ []) in
+    let whole : out ++ records_text (r ∷ rs) ≡ (out ++ (record_line r ++ 10 ∷ [])) ++ records_text rs = ap (λ (t : List ℕ). out ++ t) (flat_map-cons (λ s. record_line s ++ 10 ∷ []) r rs) ∙ sym (append_assoc out (record_line r ++ 10 ∷ []) (records_text rs)) in
+    records_onto_is (line_onto out (record_tokens r) ++ 10 ∷ []) rs ∙ ap (λ (t : List ℕ). t ++ records_text rs) first ∙ sym whole
+
+pub text_from_onto : (rs : List Record) → records_onto [] rs ≡ records_text rs
+text_from_onto rs = records_onto_is [] rs

@@ -1,0 +1,29 @@
+-- The lines of events.
+use Rattle.std.specs.Prelude.{◌≡◌, ℕ, true, List, [], ◌∷◌, codes}
+use Rattle.std.specs.List.{join_with_byte}
+use Rattle.lapin_types.specs.declared.event.Event.{Event}
+use Rattle.lapin_types.specs.declared.event.Event.TheVariants as event
+use Rattle.lapin_tokens.specs.Fields.{Field, token, fits, short_number, wide_number}
+use Rattle.lapin_tokens.specs.Fields.Field.{flag}
+use Rattle.lapin_text.specs.Frames.{frame_tokens, FrameFits}
+use Rattle.lapin_text.specs.Calls.{call_tokens, CallFits}
+
+-- `call C NAME ARGS`, `next BOOL`, `recv FRAME`, `ticket N` or `confirm N`
+abbrev pub event_tokens : Event → List (List ℕ)
+event_tokens (event.Call channel call) = codes "call" ∷ token short_number channel ∷ call_tokens call
+event_tokens (event.Next flow) = codes "next" ∷ token flag flow ∷ []
+event_tokens (event.Receive frame) = codes "recv" ∷ frame_tokens frame
+event_tokens (event.PollTicket number) = codes "ticket" ∷ token wide_number number ∷ []
+event_tokens (event.PollConfirm number) = codes "confirm" ∷ token wide_number number ∷ []
+
+-- the events that have a line: their numbers are in range, their texts are short, their tables nest at most 8 levels
+abbrev pub HasLine : Event → Type 0
+HasLine (event.Call channel call) = (fits short_number channel ≡ true) × CallFits call
+HasLine (event.Next flow) = fits flag flow ≡ true
+HasLine (event.Receive frame) = FrameFits frame
+HasLine (event.PollTicket number) = fits wide_number number ≡ true
+HasLine (event.PollConfirm number) = fits wide_number number ≡ true
+
+-- an event's line: its tokens with one space between them
+abbrev pub line_of : Event → List ℕ
+line_of event = join_with_byte 32 (event_tokens event)

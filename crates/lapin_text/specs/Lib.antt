@@ -1,0 +1,6 @@
+pub mod Frames
+pub mod Calls
+pub mod Events
+pub mod Records
+pub mod LineReading
+pub mod Input

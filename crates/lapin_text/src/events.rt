@@ -1,0 +1,36 @@
+//! Events as tokens: `call C NAME ARGS`, `next BOOL`, `recv FRAME`, `ticket N` and `confirm N`.
+//!
+//! An event is an arm here and a row in each table of the definitions. Whole lines are read in `reading`.
+
+ghost use Rattle.std.specs.Prelude.{◌≡◌};
+ghost use Rattle.lapin_tokens.specs.Reading.{Gives};
+ghost use Rattle.lapin_text.specs.LineReading.{event_at};
+
+use crate::calls::read_call;
+use crate::frames::read_frame_tokens;
+use crate::words::{Word, word_named};
+use lapin_tokens::{ReadError, Tokens, flag, u16_at, u64_at};
+use lapin_types::Event;
+use std::alloc::Global;
+
+/// The event whose tokens come next.
+#[tactic(auto, unfolding(crate::specs::LineReading::event_at))]
+pub fn read_event_tokens(alloc: Global, tokens: &mut Tokens) -> Result<Event, ReadError>
+    ensures { Gives result tokens.new (event_at tokens.old) }
+{
+    match tokens.next() {
+        None => Err(ReadError::Bad),
+        Some(piece) => match word_named(piece) {
+            Some(Word::Call) => {
+                let channel = u16_at(tokens)?;
+                let call = read_call(alloc, tokens)?;
+                Ok(Event::Call(channel, call))
+            }
+            Some(Word::Next) => Ok(Event::Next(flag(tokens)?)),
+            Some(Word::Recv) => Ok(Event::Receive(read_frame_tokens(alloc, tokens)?)),
+            Some(Word::Ticket) => Ok(Event::PollTicket(u64_at(tokens)?)),
+            Some(Word::Confirm) => Ok(Event::PollConfirm(u64_at(tokens)?)),
+            _ => Err(ReadError::Bad),
+        },
+    }
+}

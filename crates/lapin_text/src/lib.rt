@@ -1,0 +1,25 @@
+//! The text of a session: an input's events are read from their lines, and records are written as lines, both exactly.
+//!
+//! A line is tokens with one space between them. What the tokens of single values are stands in `lapin_tokens`, and the tables of
+//! methods in `lapin_method_text`. Here stand frames, calls, events, records, whole inputs and whole outputs; no rule of a session
+//! stands here. The program's commands call this crate.
+#![tactic(auto)]
+
+pub mod calls;
+pub mod events;
+pub mod frames;
+pub mod laws;
+pub mod lines;
+pub mod parsing;
+pub mod printing;
+pub mod reading;
+pub mod records;
+pub mod words;
+
+pub use lapin_tokens::{read_bytes, read_num, read_short};
+pub use parsing::{Parsed, parse_events};
+pub use printing::{print_records, write_frame, write_record};
+pub use reading::{read_event, read_frame};
+
+#[cfg(test)]
+mod tests;

@@ -1,0 +1,222 @@
+//! Records as tokens.
+//!
+//! A record is an arm here and a row in the definitions. Whole lines and texts of records are written in `printing`.
+//! Where memory runs out, the text may end within the record.
+
+ghost use Rattle.std.specs.Prelude.{◌≡◌, ◌++◌, ◌∷◌, [], OnOk, map};
+ghost use Rattle.lapin_tokens.specs.Fields.{token, wide_number};
+ghost use Rattle.lapin_tokens.specs.TokenText.{onto, text_of};
+ghost use Rattle.lapin_text.specs.Frames.{frame_tokens};
+ghost use Rattle.lapin_text.specs.Records.{state_name, error_tokens, message_tokens, held_tokens, answer_tokens, confirmation_tokens, record_tokens, line_onto};
+
+use crate::frames::put_frame;
+use lapin_tokens::{Token, put_tokens};
+use lapin_types::{Answer, BasicReturnMessage, ChannelState, Confirmation, Error, Record};
+use std::alloc::{AllocError, Global};
+
+fn name_of_state(state: ChannelState) -> &'static [u8]
+    ensures { result.now ≡ state_name state }
+{
+    match state {
+        ChannelState::Closed => b"closed",
+        ChannelState::Opening => b"opening",
+        ChannelState::Open => b"open",
+        ChannelState::Closing => b"closing",
+        ChannelState::Crossed => b"crossed",
+        ChannelState::Base => b"base",
+        ChannelState::Down => b"down",
+    }
+}
+
+fn put_pair(
+    alloc: Global,
+    out: &mut Vec<u8>,
+    name: &[u8],
+    first: u64,
+    second: u64,
+) -> Result<(), AllocError>
+    ensures { OnOk result (out.new.items ≡ onto out.old.items (name.now ∷ token wide_number first ∷ token wide_number second ∷ [])) }
+{
+    put_tokens(
+        alloc,
+        out,
+        &[
+            Token::Word(name),
+            Token::Number(first),
+            Token::Number(second),
+        ],
+    )
+}
+
+fn put_error(alloc: Global, out: &mut Vec<u8>, error: Error) -> Result<(), AllocError>
+    ensures { OnOk result (out.new.items ≡ onto out.old.items (error_tokens error)) }
+{
+    match error {
+        Error::NoMemory => put_tokens(alloc, out, &[Token::Word(b"NoMemory")]),
+        Error::NumbersUsedUp => put_tokens(alloc, out, &[Token::Word(b"NumbersUsedUp")]),
+        Error::InvalidChannelState(state) => put_tokens(
+            alloc,
+            out,
+            &[
+                Token::Word(b"InvalidChannelState"),
+                Token::Word(name_of_state(state)),
+            ],
+        ),
+        Error::ProtocolError(code) => put_tokens(
+            alloc,
+            out,
+            &[
+                Token::Word(b"ProtocolError"),
+                Token::Number(u64::from(code)),
+            ],
+        ),
+        Error::ConnectionLost => put_tokens(alloc, out, &[Token::Word(b"ConnectionLost")]),
+        Error::UnexpectedFrame { class, method } => put_pair(
+            alloc,
+            out,
+            b"UnexpectedFrame",
+            u64::from(class),
+            u64::from(method),
+        ),
+        Error::PreconditionFailed { tag, current } => {
+            put_pair(alloc, out, b"PreconditionFailed", tag, current)
+        }
+        Error::AlreadyTaken => put_tokens(alloc, out, &[Token::Word(b"AlreadyTaken")]),
+        Error::UnknownTicket => put_tokens(alloc, out, &[Token::Word(b"UnknownTicket")]),
+    }
+}
+
+fn put_message(
+    alloc: Global,
+    out: &mut Vec<u8>,
+    message: &BasicReturnMessage,
+) -> Result<(), AllocError>
+    ensures { OnOk result (out.new.items ≡ onto out.old.items (message_tokens message.now)) }
+{
+    let delivery = &message.delivery;
+    put_tokens(
+        alloc,
+        out,
+        &[
+            Token::Number(delivery.delivery_tag),
+            Token::Text(&delivery.exchange),
+            Token::Text(&delivery.routing_key),
+            Token::Flag(delivery.redelivered),
+            Token::Properties(&delivery.properties),
+            Token::Hex(delivery.payload.as_bytes()),
+            Token::Number(delivery.acker.number),
+            Token::Number(u64::from(message.reply_code)),
+            Token::Text(&message.reply_text),
+        ],
+    )
+}
+
+fn put_held(
+    alloc: Global,
+    out: &mut Vec<u8>,
+    message: &Option<BasicReturnMessage>,
+) -> Result<(), AllocError>
+    ensures { OnOk result (out.new.items ≡ onto out.old.items (held_tokens message.now)) }
+{
+    match message {
+        Some(message) => put_message(alloc, out, message),
+        None => put_tokens(alloc, out, &[Token::Word(b"-")]),
+    }
+}
+
+fn put_answer(alloc: Global, out: &mut Vec<u8>, answer: &Answer) -> Result<(), AllocError>
+    ensures { OnOk result (out.new.items ≡ onto out.old.items (answer_tokens answer.now)) }
+{
+    match answer {
+        Answer::Done => put_tokens(alloc, out, &[Token::Word(b"done")]),
+        Answer::Channel(channel) => put_tokens(
+            alloc,
+            out,
+            &[Token::Word(b"channel"), Token::Number(u64::from(*channel))],
+        ),
+        Answer::Confirm(number) => put_tokens(
+            alloc,
+            out,
+            &[Token::Word(b"confirm"), Token::Number(*number)],
+        ),
+    }
+}
+
+fn put_confirmation(
+    alloc: Global,
+    out: &mut Vec<u8>,
+    confirmation: &Confirmation,
+) -> Result<(), AllocError>
+    ensures { OnOk result (out.new.items ≡ onto out.old.items (confirmation_tokens confirmation.now)) }
+{
+    match confirmation {
+        Confirmation::Ack(message) => {
+            put_tokens(alloc, out, &[Token::Word(b"ack")])?;
+            put_held(alloc, out, message)
+        }
+        Confirmation::Nack(message) => {
+            put_tokens(alloc, out, &[Token::Word(b"nack")])?;
+            put_held(alloc, out, message)
+        }
+        Confirmation::NotRequested => put_tokens(alloc, out, &[Token::Word(b"notrequested")]),
+    }
+}
+
+// A line: a word, and tokens each behind a space.
+fn put_line(
+    alloc: Global,
+    out: &mut Vec<u8>,
+    word: &[u8],
+    tokens: &[Token],
+) -> Result<(), AllocError>
+    ensures { OnOk result (out.new.items ≡ onto (out.old.items ++ word.now) (map text_of tokens.now)) }
+{
+    out.extend_from_slice(word)?;
+    put_tokens(alloc, out, tokens)
+}
+
+fn put_error_line(
+    alloc: Global,
+    out: &mut Vec<u8>,
+    word: &[u8],
+    error: Error,
+) -> Result<(), AllocError>
+    ensures { OnOk result (out.new.items ≡ onto (out.old.items ++ word.now) (error_tokens error)) }
+{
+    out.extend_from_slice(word)?;
+    put_error(alloc, out, error)
+}
+
+/// Adds the record's line, without a line end.
+pub fn put_record(alloc: Global, out: &mut Vec<u8>, record: &Record) -> Result<(), AllocError>
+    ensures { OnOk result (out.new.items ≡ line_onto out.old.items (record_tokens «record».now)) }
+{
+    match record {
+        Record::Ticket(number) => put_line(alloc, out, b"ticket", &[Token::Number(*number)]),
+        Record::Publish { ticket, confirm } => put_line(
+            alloc,
+            out,
+            b"publish",
+            &[Token::Number(*ticket), Token::Number(*confirm)],
+        ),
+        Record::Refused(error) => put_error_line(alloc, out, b"refused", *error),
+        Record::Frame(frame) => {
+            out.extend_from_slice(b"frame")?;
+            put_frame(alloc, out, frame)
+        }
+        Record::NoFrame => out.extend_from_slice(b"noframe"),
+        Record::Received => out.extend_from_slice(b"received"),
+        Record::Passed => out.extend_from_slice(b"passed"),
+        Record::Pending => out.extend_from_slice(b"pending"),
+        Record::Answer(Ok(answer)) => {
+            out.extend_from_slice(b"answer")?;
+            put_answer(alloc, out, answer)
+        }
+        Record::Confirmed(Ok(confirmation)) => {
+            out.extend_from_slice(b"confirmed")?;
+            put_confirmation(alloc, out, confirmation)
+        }
+        Record::Answer(Err(error)) => put_error_line(alloc, out, b"error", *error),
+        Record::Confirmed(Err(error)) => put_error_line(alloc, out, b"error", *error),
+    }
+}
