@@ -3,6 +3,9 @@
 //! Here lives what is kept of tickets, and nothing of what resolves them: the session says which ticket gets which answer.
 #![tactic(auto)]
 
+#[cfg(test)]
+mod tests;
+
 ghost use Rattle.std.specs.Prelude.{◌≡◌, ◌+◌, ◌^◌, ◌<◌, ◌++◌, ◌∷◌, List, [], length, not, OnOk, MatchOption, Option, Some};
 ghost use Rattle.lapin_tables.specs.Numbered.{under};
 ghost use Rattle.lapin_history.specs.TicketReadings.{TicketMark, Given, Answered};
