@@ -9,3 +9,4 @@ pub mod Base
 pub mod Marked
 pub mod Answers
 pub mod History
+pub mod Wanted
