@@ -1,0 +1,6 @@
+pub mod Sights
+pub mod TicketStanding
+pub mod ConfirmStanding
+pub mod Standing
+pub mod Keeping
+pub mod Counting

@@ -1,0 +1,20 @@
+use Rattle.std.proofs.Common.{◌≡◌, ◌∙◌, sym, ap, refl, List, Option, Some}
+use Rattle.std.specs.List.{fold}
+use Rattle.lapin_types.specs.declared.leaving.Left.{Left}
+use Rattle.lapin_history.specs.Leaving.{Lists}
+use Rattle.lapin_history.specs.Marked.{left_marks}
+use Rattle.lapin_confirm.specs.Book.{after_mark}
+use Rattle.lapin_session.proofs.Keeping.{tied_next, tied_by, can_register}
+use Rattle.lapin_session.proofs.session.Session.next_frame.Goals as goal
+
+pub confirms_left-requires : goal.confirms_left-requires
+confirms_left-requires c =
+    can_register c.args.flow c.self.inside.desk.outbox.lists.rest c.self.inside.desk.outbox.lists.methods c.self.inside.desk.outbox.lists.publishes c.self.inside.confirms.book.cells c.in-Some.left
+    (sym c.in_ok-left.ensures.told ∙ c.in-Some.is) c.self.invariant.queued
+
+pub invariant_of-self-in-Some : goal.invariant_of-self-in-Some
+invariant_of-self-in-Some c =
+    tied_by _ _ _ _ _ _ refl
+    (ap (λ (l : Lists). l.publishes) c.in_ok-left.ensures.ok)
+    (c.confirms_left.ensures ∙ ap (λ (o : Option Left). fold after_mark c.self.inside.confirms.book (left_marks o)) (sym c.in-Some.is ∙ c.in_ok-left.ensures.told))
+    (tied_next c.self.inside.desk.outbox.frame_max c.args.flow c.self.inside.desk.outbox.lists.rest c.self.inside.desk.outbox.lists.methods c.self.inside.desk.outbox.lists.publishes _ _ c.self.invariant)

@@ -1,0 +1,99 @@
+-- A session as a machine: what it keeps, and what an event does to it.
+use Rattle.std.specs.Prelude.{◌≡◌, ℕ, List, [], ◌∷◌, ◌++◌, Option, Some, None, Result, Ok, Err}
+use Rattle.std.specs.List.{fold}
+use Rattle.lapin_types.specs.declared.event.Event.{Event}
+use Rattle.lapin_types.specs.declared.record.Record.{Record}
+use Rattle.lapin_types.specs.declared.record.Record.TheVariants as record_
+use Rattle.lapin_types.specs.declared.answer.Answer.{Answer}
+use Rattle.lapin_types.specs.Types.{Error}
+use Rattle.lapin_types.specs.declared.confirmation.Confirmation.{Confirmation}
+use Rattle.lapin_types.specs.declared.request.ReplyKind.{ReplyKind}
+use Rattle.lapin_history.specs.declared.marks.Settlement.{Settlement}
+use Rattle.lapin_history.specs.declared.broker_frames.Incoming.TheVariants as incoming
+use Rattle.lapin_history.specs.Base.{Base, start, after_event, after_heard}
+use Rattle.lapin_history.specs.Marked.{confirm_marks, ticket_marks, heard_marks, heard_tickets}
+use Rattle.lapin_history.specs.Answers.{Sight, record_of, settlement_record}
+use Rattle.lapin_confirm.specs.Answers.{answer_at}
+use Rattle.lapin_confirm.specs.Book.{Book, empty_book, selected_on, last_on, is_pending}
+use Rattle.lapin_confirm.specs.Book as book
+use Rattle.lapin_ticket.specs.declared.Slot.{Slot}
+use Rattle.lapin_ticket.specs.Desk as desk
+
+-- states, lists, requests and counters; the confirms; the tickets
+pub record World : Type 0 where
+  pub base : Base
+  pub book : Book
+  pub slots : List (Option Slot)
+
+abbrev pub new_world : ℕ → World
+new_world frame_max = record { base = start frame_max; book = empty_book; slots = [] }
+
+-- ---- what polls meet
+
+-- a poll of a confirm
+abbrev pub outcome_record : Result (Option (Result Confirmation Error)) Error → Record
+outcome_record (Ok None) = record_.Pending
+outcome_record (Ok (Some o)) = record_.Confirmed o
+outcome_record (Err e) = record_.Refused e
+
+-- a poll of a ticket
+abbrev pub poll_record : Result (Option (Result Answer Error)) Error → Record
+poll_record (Ok None) = record_.Pending
+poll_record (Ok (Some a)) = record_.Answer a
+poll_record (Err e) = record_.Refused e
+
+-- what is seen of confirms and tickets
+abbrev pub sight_of : Book → List (Option Slot) → Sight
+sight_of b slots = record {
+  selected = λ c. selected_on c b;
+  last = λ c. last_on c b;
+  pending = λ c t. is_pending c t b;
+  confirm = λ n. outcome_record (answer_at n b);
+  ticket = λ n. poll_record (desk.polled n slots);
+}
+
+-- the record of an event
+abbrev pub told_by : World → Event → Record
+told_by w e = record_of w.base (sight_of w.book w.slots) e
+
+-- what an event leaves
+abbrev pub next : World → Event → World
+next w e = record {
+  base = after_event w.base e;
+  book = fold book.after_mark w.book (confirm_marks w.base e (told_by w e));
+  slots = fold desk.after_mark w.slots (ticket_marks w.base e (told_by w e));
+}
+
+-- what a reply leaves, heard or not
+abbrev pub after_reply_world : ℕ → ReplyKind → World → World
+after_reply_world c k w = record {
+  base = after_heard (incoming.Reply c k) w.base;
+  book = w.book;
+  slots = fold desk.after_mark w.slots (heard_tickets w.base (incoming.Reply c k));
+}
+
+-- what a settlement on an open channel is answered by, and leaves
+abbrev pub settlement_told : ℕ → Settlement → World → Record
+settlement_told c s w = settlement_record (sight_of w.book w.slots) c s
+
+abbrev pub after_settlement : ℕ → Settlement → World → World
+after_settlement c s w = record {
+  base = w.base;
+  book = fold book.after_mark w.book (heard_marks (incoming.Settlement c s) (settlement_told c s w));
+  slots = w.slots;
+}
+
+-- the records of a list of events
+abbrev pub outputs : World → List Event → List Record
+outputs w [] = []
+outputs w (e ∷ es) = told_by w e ∷ outputs (next w e) es
+
+-- new is old with all of records but the rest at its end
+pub record IsLonger (old new records rest : List Record) : Type 0 where
+  pub done : List Record
+  pub all : done ++ rest ≡ records
+  pub new_is : new ≡ old ++ done
+
+-- a list that got the first of these records at its end
+abbrev pub IsStarted : List Record → List Record → List Record → Type 0
+IsStarted old new records = (rest : List Record) × IsLonger old new records rest

@@ -1,0 +1,126 @@
+//! What a caller holds: channels, tickets and confirms by their numbers, each with its calls on a session.
+//!
+//! Nothing is kept here: every call is the session's, on the number that stands here.
+
+ghost use Rattle.std.specs.Prelude.{◌≡◌, OnOk, OnErr, IfOk};
+ghost use Rattle.lapin_types.specs.declared.event.Event.TheVariants.{Call as CallEvent, PollTicket, PollConfirm};
+ghost use Rattle.lapin_types.specs.declared.call.Call.TheVariants.{ConfirmSelect, BasicPublish};
+ghost use Rattle.lapin_session.specs.World.{told_by, next};
+ghost use Rattle.lapin_session.specs.Told.{TicketTold, PublishTold, ticket_record, confirm_record};
+ghost use Rattle.lapin_session.specs.Numbers.{CallCause};
+
+use crate::session::Session;
+use lapin_types::{
+    Answer, BasicProperties, BasicPublishOptions, ConfirmSelectOptions, Confirmation, Error,
+    Payload, Poll, ShortString,
+};
+use std::alloc::Global;
+
+/// The promise of a call's answer. Tickets of a session are numbered from 1.
+#[derive(Clone, Copy, Debug, PartialEq, Eq)]
+pub struct Ticket {
+    pub number: u64,
+}
+
+/// The promise of a publish's outcome (RabbitMQ, publisher confirms). Confirms of a session are numbered from 1.
+#[derive(Clone, Copy, Debug, PartialEq, Eq)]
+pub struct PublisherConfirm {
+    pub number: u64,
+}
+
+/// What an accepted publish is known by: its ticket is answered as its last frame leaves, its confirm as the broker settles it.
+#[derive(Clone, Copy, Debug, PartialEq, Eq)]
+pub struct Published {
+    pub ticket: Ticket,
+    pub confirm: PublisherConfirm,
+}
+
+/// What became of a frame of the broker that was not refused.
+#[derive(Clone, Copy, Debug, PartialEq, Eq)]
+pub enum Heard {
+    /// It did what the protocol says.
+    Received,
+    /// It said nothing to this session: a settlement on a channel that asked for no confirms.
+    Passed,
+}
+
+/// A channel of a session, by its number (AMQP 0-9-1, section 2.2.5).
+#[derive(Clone, Copy, Debug, PartialEq, Eq)]
+pub struct Channel {
+    pub id: u16,
+}
+
+impl Channel {
+    /// Asks the broker to confirm the publishes of this channel (RabbitMQ, `confirm.select`). Publishes whose method frame
+    /// leaves after this one's frame are numbered from 1. With `nowait` the ticket is answered at once.
+    ///
+    /// # Errors
+    /// `InvalidChannelState` where the channel is not open, `NumbersUsedUp` where the next ticket would pass the greatest
+    /// `u64`, `NoMemory`. Nothing changes then.
+    pub fn confirm_select(
+        &self,
+        alloc: Global,
+        session: &mut Session,
+        options: ConfirmSelectOptions,
+    ) -> Result<Ticket, Error>
+        ensures told { TicketTold result (told_by session.old (CallEvent self.now.id (ConfirmSelect options))) }
+        ensures ok { OnOk result (session.new ≡ next session.old (CallEvent self.now.id (ConfirmSelect options))) }
+        ensures err { OnErr result (session.new ≡ session.old) }
+        ensures cause { CallCause result self.now.id (ConfirmSelect options) session.old.base }
+    {
+        session.confirm_select(alloc, self.id, options)
+    }
+
+    /// Publishes a message (AMQP 0-9-1, `basic.publish`). Its frames leave whole and in one piece, after all publishes that
+    /// were called before it. The payload may have any length.
+    ///
+    /// # Errors
+    /// `InvalidChannelState` where the channel is not open, `NumbersUsedUp` where the next ticket or confirm would pass the
+    /// greatest `u64`, `NoMemory`. Nothing changes then.
+    pub fn basic_publish(
+        &self,
+        alloc: Global,
+        session: &mut Session,
+        exchange: ShortString,
+        routing_key: ShortString,
+        options: BasicPublishOptions,
+        payload: &[u8],
+        properties: BasicProperties,
+    ) -> Result<Published, Error>
+        ensures told { PublishTold result (told_by session.old (CallEvent self.now.id (BasicPublish exchange routing_key options payload.now properties))) }
+        ensures ok { OnOk result (session.new ≡ next session.old (CallEvent self.now.id (BasicPublish exchange routing_key options payload.now properties))) }
+        ensures err { OnErr result (session.new ≡ session.old) }
+        ensures cause { CallCause result self.now.id (BasicPublish exchange routing_key options payload.now properties) session.old.base }
+    {
+        let payload = Payload::new(alloc, payload)?;
+        session.basic_publish(
+            alloc,
+            self.id,
+            exchange,
+            routing_key,
+            options,
+            payload,
+            properties,
+        )
+    }
+}
+
+impl Ticket {
+    /// The session's `poll_ticket` on this number.
+    pub fn poll(&self, session: &mut Session) -> Result<Poll<Result<Answer, Error>>, Error>
+        ensures told { ticket_record result ≡ told_by session.old (PollTicket self.now.number) }
+        ensures ok { session.new ≡ next session.old (PollTicket self.now.number) }
+    {
+        session.poll_ticket(self.number)
+    }
+}
+
+impl PublisherConfirm {
+    /// The session's `poll_confirm` on this number.
+    pub fn poll(&self, session: &mut Session) -> Result<Poll<Result<Confirmation, Error>>, Error>
+        ensures told { confirm_record result ≡ told_by session.old (PollConfirm self.now.number) }
+        ensures ok { session.new ≡ next session.old (PollConfirm self.now.number) }
+    {
+        session.poll_confirm(self.number)
+    }
+}

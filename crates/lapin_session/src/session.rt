@@ -1,0 +1,152 @@
+//! The session: its parts, its value, and the step over all events.
+//!
+//! What an event does stands in the files beside this one: calls, frames that leave, frames of the broker, polls.
+
+ghost use Rattle.std.specs.Prelude.{◌≡◌, ◌≤◌, ◌++◌, ◌∷◌, [], List, ℕ, None, IfOk, OnOk, OnErr};
+ghost use Rattle.lapin_types.specs.declared.event.Event.TheVariants as event;
+ghost use Rattle.lapin_history.specs.Base.{state_of, is_open as is_open_lem, is_closed as is_closed_lem};
+ghost use Rattle.lapin_history.specs.History.{History, rec};
+ghost use Rattle.lapin_tables.specs.ByChannel.{at_channel, HasRoom};
+ghost use Rattle.lapin_history.specs.Words.{with_channel};
+ghost use Rattle.lapin_session.specs.World.{told_by, next, new_world};
+ghost use Rattle.lapin_session.specs.Numbers.{HasCause};
+ghost use Rattle.lapin_session.specs.Stands.{Stands};
+
+use crate::desk::Desk;
+use lapin_confirm::Confirms;
+use lapin_outbox::{Outbox, Replies};
+use lapin_tables::ByChannel;
+use lapin_ticket::Tickets;
+use lapin_types::{Call, ChannelState, Error, Event, NoMemory, Record};
+use std::alloc::Global;
+use std::marker::Model;
+
+/// One connection's channels, calls and confirms, without a socket. Contracts see it as a `World`: states, lists, requests
+/// and counters, the confirms and the tickets.
+#[derive(Drop)]
+pub struct Session {
+    pub(crate) states: ByChannel<ChannelState>,
+    pub(crate) desk: Desk,
+    pub(crate) confirms: Confirms,
+}
+
+impl Model for Session {
+    ghost use Rattle.std.specs.Prelude.{length};
+    ghost use Rattle.lapin_session.specs.World.{World};
+    ghost use Rattle.lapin_session.specs.Codes.{world_code};
+
+    ghost Value = { World };
+
+    ghost coded = { world_code };
+
+    ghost use Rattle.lapin_session.specs.Tied.{IsTied};
+
+    ghost view = { λ a. record {
+      base = record {
+        frame_max = a.desk.outbox.frame_max;
+        states = a.states.entries;
+        rest = a.desk.outbox.lists.rest;
+        methods = a.desk.outbox.lists.methods;
+        publishes = a.desk.outbox.lists.publishes;
+        requests = a.desk.replies.waiting;
+        tickets = length a.desk.tickets.slots;
+        published = length a.confirms.book.cells;
+      };
+      book = a.confirms.book;
+      slots = a.desk.tickets.slots;
+    } };
+
+    ghost invariant = { λ a. IsTied a.states.entries a.desk.outbox.lists.publishes a.confirms.book };
+}
+
+impl Session {
+    /// A new session: the connection is open and every channel closed. `frame_max` is the greatest size of a frame in bytes
+    /// (AMQP 0-9-1, section 4.2.3).
+    ///
+    /// # Errors
+    /// `NoMemory` alone.
+    pub fn new(alloc: Global, frame_max: u32) -> Result<Session, NoMemory>
+        requires { 4096 ≤ frame_max }
+        ensures { IfOk result (λ session. session ≡ new_world frame_max) }
+    {
+        Ok(Session {
+            states: ByChannel::new(alloc),
+            desk: Desk {
+                outbox: Outbox::new(alloc, frame_max)?,
+                replies: Replies::new(alloc)?,
+                tickets: Tickets::new(alloc),
+            },
+            confirms: Confirms::new(alloc)?,
+        })
+    }
+
+    /// The state of a channel. Channel 0 is the connection's own.
+    pub fn channel_state(&self, channel: u16) -> ChannelState
+        ensures { result ≡ state_of channel self.now.base }
+    {
+        if channel == 0 {
+            return ChannelState::Base;
+        }
+        match self.states.get(channel) {
+            Some(state) => *state,
+            None => ChannelState::Closed,
+        }
+    }
+
+    /// The one door over all events: its record, which the history determines.
+    ///
+    /// # Errors
+    /// `NoMemory`, and `NumbersUsedUp` where a number that the event needs would pass the greatest `u64`. Nothing changes
+    /// then. Every other refusal is a record.
+    pub fn step(&mut self, alloc: Global, event: Event) -> Result<Record, Error>
+        ensures told { IfOk result (λ r. r ≡ told_by self.old event) }
+        ensures ok { OnOk result (self.new ≡ next self.old event) }
+        ensures err { OnErr result (self.new ≡ self.old) }
+        ensures cause { HasCause result event self.old.base }
+
+        // In the words of a history: its record, and the session then stands for the longer one.
+        ensures stands { IfOk result (λ r. (frame_max : ℕ) (h : History) → Stands frame_max h self.old →
+            (r ≡ rec frame_max h event) × Stands frame_max (h ++ (event, r) ∷ []) self.new) }
+    {
+        self.step_machine(alloc, event)
+    }
+
+    fn step_machine(&mut self, alloc: Global, event: Event) -> Result<Record, Error>
+        ensures told { IfOk result (λ r. r ≡ told_by self.old event) }
+        ensures ok { OnOk result (self.new ≡ next self.old event) }
+        ensures err { OnErr result (self.new ≡ self.old) }
+        ensures cause { HasCause result event self.old.base }
+    {
+        match event {
+            Event::Call(channel, call) => self.step_call(alloc, channel, call),
+            Event::Next(flow) => self.step_next(alloc, flow),
+            Event::Receive(frame) => self.step_receive(alloc, frame),
+            Event::PollTicket(number) => Ok(self.step_poll_ticket(number)),
+            Event::PollConfirm(number) => Ok(self.step_poll_confirm(number)),
+        }
+    }
+}
+
+// Puts a channel into a state.
+pub(crate) fn set_state(states: &mut ByChannel<ChannelState>, channel: u16, state: ChannelState)
+    requires { at_channel channel states.old.entries ≡ None → HasRoom channel states.old }
+    ensures { states.new.entries ≡ with_channel channel state states.old.entries }
+{
+    if let Some(held) = states.get_mut(channel) {
+        *held = state;
+        return;
+    }
+    states.insert_reserved(channel, state);
+}
+
+pub(crate) fn is_open(state: ChannelState) -> bool
+    ensures { result ≡ is_open_lem state }
+{
+    matches!(state, ChannelState::Open)
+}
+
+pub(crate) fn is_closed(state: ChannelState) -> bool
+    ensures { result ≡ is_closed_lem state }
+{
+    matches!(state, ChannelState::Closed)
+}
