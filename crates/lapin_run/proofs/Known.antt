@@ -1,0 +1,28 @@
+-- What one write after another, and one read after another, do to the bytes that a sink and a source tell.
+use Rattle.std.proofs.Common.{◌≡◌, ℕ, ◌+◌, List, ◌++◌, take, drop, Option, Some, None, length, slice_range, sym, ◌∙◌, ap, subst, append_assoc, arith, length-drop}
+use Rattle.std.proofs.lemmas.List.{take_all}
+use Rattle.std.proofs.Math.Seq.{take-add}
+use Rattle.std.specs.Io.KnownBytes.{Appends, Consumes}
+
+-- two writes are one of both pieces
+pub appends_both : (a b c : Option (List ℕ)) (xs ys : List ℕ) → Appends a b xs → Appends b c ys → Appends a c (xs ++ ys)
+appends_both None b c xs ys first second = tt
+appends_both (Some old) None c xs ys first second = absurd first
+appends_both (Some old) (Some mid) None xs ys first second = absurd second
+appends_both (Some old) (Some mid) (Some new) xs ys first second =
+    second ∙ ap (λ l. l ++ ys) first ∙ append_assoc old xs ys
+
+-- the next n bytes of a text, after the first d
+pub appends_more : (a b c : Option (List ℕ)) (text : List ℕ) (d n : ℕ) → Appends a b (take d text) → Appends b c (take n (slice_range text d (length text))) → Appends a c (take (d + n) text)
+appends_more a b c text d n first second =
+    let rest : slice_range text d (length text) ≡ drop d text = take_all _ _ (omega (arith, length-drop d text)) in
+    let next : Appends b c (take n (drop d text)) = subst (λ l. Appends b c (take n l)) rest second in
+    subst (Appends a c) (sym (take-add d n text)) (appends_both a b c (take d text) (take n (drop d text)) first next)
+
+-- two reads are one of all their bytes
+pub consumes_both : (a b c : Option (List ℕ)) (xs ys : List ℕ) → Consumes a b xs → Consumes b c ys → Consumes a c (xs ++ ys)
+consumes_both None b c xs ys first second = tt
+consumes_both (Some old) None c xs ys first second = absurd first
+consumes_both (Some old) (Some mid) None xs ys first second = absurd second
+consumes_both (Some old) (Some mid) (Some new) xs ys first second =
+    first ∙ ap (λ l. xs ++ l) second ∙ sym (append_assoc xs ys new)

@@ -1,0 +1,44 @@
+//! The program: it makes the real source and sink, hands them with its words to the top call, and ends with the
+//! status's code. What it does is stated by `program::run_program`; here stands only what touches the process.
+#![tactic(auto)]
+
+mod in_memory;
+mod input;
+mod output;
+mod program;
+mod session;
+mod status;
+#[cfg(test)]
+mod tests;
+mod words;
+
+use lapin_io::{StdSink, StdSource};
+use program::run_program;
+use status::Status;
+use std::env;
+use std::io::ErrorKind;
+use std::process::ExitCode;
+
+// The words behind the program's name. Where one is not UTF-8, they are no command.
+fn given_words(rt: &HostRuntime) -> Result<Vec<String>, Status> {
+    match env::args(rt) {
+        Ok(args) => match args.skip(1).collect(rt.alloc()) {
+            Ok(words) => Ok(words),
+            Err(_) => Err(Status::NoMemory),
+        },
+        Err(error) if error.kind() == ErrorKind::OutOfMemory => Err(Status::NoMemory),
+        Err(_) => Err(Status::BadWords),
+    }
+}
+
+fn main(rt: HostRuntime) -> ExitCode {
+    let status = match given_words(&rt) {
+        Ok(words) => {
+            let mut source = StdSource::new(rt.stdin());
+            let mut sink = StdSink::new(rt.stdout());
+            run_program(rt.alloc(), &words, &mut source, &mut sink)
+        }
+        Err(status) => status,
+    };
+    ExitCode::from(status.code())
+}
