@@ -69,6 +69,24 @@ def settled(channel, tag, confirm):
     yield f"confirm {confirm}"
 
 
+def written(path, channels, outstanding, payload_length, size):
+    """Writes an input in a process of its own and answers how many events it has. A child begins with the memory of the
+    process that started it, so this one has to stay small."""
+    ends, begins = os.pipe()
+    child = os.fork()
+    if child == 0:
+        lines = history(channels, outstanding, payload_length, size)
+        with open(path, "w") as file:
+            file.write(f"frame_max {FRAME_MAX}\n" + "\n".join(lines) + "\n")
+        os.write(begins, str(len(lines)).encode())
+        os._exit(0)
+    os.close(begins)
+    events = int(os.read(ends, 32))
+    os.close(ends)
+    os.waitpid(child, 0)
+    return events
+
+
 def measured(program, path, repeat):
     """The least user and system time of some runs, and the greatest memory, in seconds and bytes."""
     least, most = None, 0
@@ -102,21 +120,18 @@ def rows(program, repeat, largest):
                     for size in SIZES:
                         if size > largest or (channels > 1 and size < 10_000):
                             continue
-                        lines = [f"frame_max {FRAME_MAX}"] + history(channels, outstanding, payload, size)
-                        text = "\n".join(lines) + "\n"
-                        if len(text) > LONGEST_INPUT:
-                            continue
                         path = os.path.join(folder, "input")
-                        with open(path, "w") as file:
-                            file.write(text)
+                        events = written(path, channels, outstanding, payload, size)
+                        length = os.path.getsize(path)
+                        if length > LONGEST_INPUT:
+                            continue
                         spent, memory = measured(program, path, repeat)
-                        events = len(lines) - 1
                         yield (
                             channels,
                             outstanding,
                             payload,
                             events,
-                            len(text),
+                            length,
                             max(0.0, spent - start_time) / events * 1e9,
                             max(0, memory - start_memory) / events,
                         )
