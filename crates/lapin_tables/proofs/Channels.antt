@@ -152,10 +152,10 @@ module _ {T : Type 0} where
   pub on-same : (c : ℕ) (x : T) (es : List (ℕ × T)) → at_channel c es ≡ Some x → on_channel c (λ _. x) es ≡ es
   on-same c x [] known = refl
   on-same c x (e ∷ es) known =
-      elim (e.0 == c) as (λ b. cond b (Some e.1) (at_channel c es) ≡ Some x → cond b ((e.0, x) ∷ es) (e ∷ on_channel c (λ _. x) es) ≡ e ∷ es)
-        [ true ↦ λ known. let same : e.1 ≡ x = cc in ap (λ v. (e.0, v) ∷ es) (sym same)
+      elim (e.0 == c) as (λ b. cond b (Some e.1) (at_channel c es) ≡ Some x → cond b ((e.0, x) ∷ es) (e ∷ on_channel c (λ _. x) es) ≡ e ∷ es) [
+        | true ↦ λ known. let same : e.1 ≡ x = cc in ap (λ v. (e.0, v) ∷ es) (sym same)
         | false ↦ λ known. ap (λ ks. e ∷ ks) (on-same c x es known)
-        ] known
+      ] known
 
 -- a list of channels with their values, each value through f
 abbrev pub map_values : {T U : Type 0} → (T → U) → List (ℕ × T) → List (ℕ × U)
