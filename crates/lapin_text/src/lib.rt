@@ -20,6 +20,3 @@ pub use lapin_tokens::{read_bytes, read_num, read_short};
 pub use parsing::{Parsed, parse_events};
 pub use printing::{print_records, write_frame, write_record};
 pub use reading::{read_event, read_frame};
-
-#[cfg(test)]
-mod tests;
