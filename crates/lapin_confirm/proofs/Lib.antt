@@ -6,3 +6,5 @@ pub mod LineFollowing
 pub mod CellFollowing
 pub mod Following
 pub mod Books
+pub mod Ended
+pub mod Tags

@@ -116,7 +116,7 @@ any-under p (suc k) x [] h passes = cc
 any-under p (suc zero) x (o ∷ xs) h passes = rw (h, passes) refl
 any-under p (suc (suc k)) x (o ∷ xs) h passes = rw (any-under p (suc k) x xs h passes) (or-true (p o))
 
-none-under : {X : Type 0} (p : Option X → Bool) (xs : List (Option X)) → p None ≡ false → ((k : ℕ) (x : X) → under (suc k) xs ≡ Some x → p (Some x) ≡ false) → list_any p xs ≡ false
+pub none-under : {X : Type 0} (p : Option X → Bool) (xs : List (Option X)) → p None ≡ false → ((k : ℕ) (x : X) → under (suc k) xs ≡ Some x → p (Some x) ≡ false) → list_any p xs ≡ false
 none-under p [] taken h = refl
 none-under p (None ∷ xs) taken h = rw taken (none-under p xs taken (λ k. h (suc k)))
 none-under p (Some x ∷ xs) taken h = rw (h 0 x refl) (none-under p xs taken (λ k. h (suc k)))

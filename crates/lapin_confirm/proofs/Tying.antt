@@ -17,19 +17,19 @@ use Rattle.lapin_confirm.specs.Ties.{Tied, Untouched, TiedAt, line_of}
 
 -- ---- a cell that is not open on a channel
 
-closed-queued : (d : ℕ) (o : Option Cell) → is_open_on d o ≡ false → is_queued_on d o ≡ false
+pub closed-queued : (d : ℕ) (o : Option Cell) → is_open_on d o ≡ false → is_queued_on d o ≡ false
 closed-queued d None h = refl
 closed-queued d (Some (cell.Queued e)) h = h
 closed-queued d (Some (cell.Pending e t)) h = refl
 closed-queued d (Some (cell.Resolved x)) h = refl
 
-closed-pending : (d : ℕ) (o : Option Cell) → is_open_on d o ≡ false → is_pending_on d o ≡ false
+pub closed-pending : (d : ℕ) (o : Option Cell) → is_open_on d o ≡ false → is_pending_on d o ≡ false
 closed-pending d None h = refl
 closed-pending d (Some (cell.Queued e)) h = refl
 closed-pending d (Some (cell.Pending e t)) h = h
 closed-pending d (Some (cell.Resolved x)) h = refl
 
-closed-apart : (d t : ℕ) (o : Option Cell) → is_open_on d o ≡ false → o ≡ Some (cell.Pending d t) → ⊥
+pub closed-apart : (d t : ℕ) (o : Option Cell) → is_open_on d o ≡ false → o ≡ Some (cell.Pending d t) → ⊥
 closed-apart d t o h e =
     let P : Option Cell → Type 0 = λ p. is_open_on d p ≡ false in
     let no : true ≡ false = sym (eq-eqb d d refl) ∙ subst P e h in
@@ -222,3 +222,9 @@ waiting-counted c n u l cells tied named =
 pub left-closed : (c d : ℕ) (t : Option ℕ) → c ≢ d → is_open_on d (Some (cell_with c t)) ≡ false
 left-closed c d None other = refl
 left-closed c d (Some t) other = ne_eqb c d other
+
+-- a publish that has not left is counted
+pub queued-counted : (c n : ℕ) (l : Ledger) (cells : List (Option Cell)) → Tied c l cells → under n cells ≡ Some (cell.Queued c) → 1 ≤ l.queued
+queued-counted c n l cells tied was =
+    let one : 1 ≤ count_by (is_queued_on c) cells = counted (is_queued_on c) n (cell.Queued c) cells was (eq-eqb c c refl) in
+    omega (arith, tied.queued)

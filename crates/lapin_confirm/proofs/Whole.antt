@@ -1,9 +1,10 @@
 -- Every ledger stays tied as one channel's changes.
-use Rattle.std.proofs.Common.{◌≡◌, ◌≢◌, ℕ, zero, suc, ◌+◌, ◌≤◌, ◌==◌, Bool, true, false, cond, ◌&&◌, ◌||◌, List, [], ◌∷◌, ◌++◌, map, length, Option, Some, None, refl, sym, ◌∙◌, ap, subst, arith, inl, inr, eq-eqb, ne_eqb}
+use Rattle.std.proofs.Common.{◌≡◌, ◌≢◌, ℕ, zero, suc, ◌+◌, ◌≤◌, ◌==◌, Bool, true, false, cond, ◌||◌, List, [], ◌∷◌, ◌++◌, map, length, Option, Some, None, refl, sym, ◌∙◌, ap, subst, arith, ◌⊎◌, inl, inr, eq-eqb, ne_eqb}
 use Rattle.std.specs.List.{list_any, count_by}
 use Rattle.std.specs.Option.{option_map, option_or}
 use Rattle.std.proofs.lemmas.Bool.Decides.{eqb_tells}
 use Rattle.std.proofs.lemmas.List.{length_push, length-map}
+use Rattle.lapin_types.specs.declared.Error.{Error}
 use Rattle.lapin_history.specs.declared.marks.Outcome.{Outcome}
 use Rattle.lapin_tables.specs.ByChannel.{at_channel, on_channel}
 use Rattle.lapin_tables.specs.Numbered.{under}
@@ -13,8 +14,9 @@ use Rattle.lapin_tables.proofs.SlotLaws.{counted, under-push, under-pushed, unde
 use Rattle.lapin_confirm.specs.declared.cell.Cell.{Cell}
 use Rattle.lapin_confirm.specs.declared.cell.Cell.TheVariants as cell
 use Rattle.lapin_confirm.specs.declared.ledger.Ledger.{Ledger}
-use Rattle.lapin_confirm.specs.Book.{is_queued_on, is_pending_on, is_open_on, settled_cell}
+use Rattle.lapin_confirm.specs.Book.{is_queued_on, is_pending_on, is_open_on, settled_cell, ended_cell}
 use Rattle.lapin_confirm.specs.Ties.{IsFresh, Tied, Untouched, TiedAt, AllTied}
+use Rattle.lapin_confirm.proofs.Tying.{closed-queued, closed-pending, closed-apart}
 
 pub tied-of : (c : ℕ) (l : Ledger) (es : List (ℕ × Ledger)) (cells : List (Option Cell)) → at_channel c es ≡ Some l → AllTied es cells → Tied c l cells
 tied-of c l es cells is all = let P : Option Ledger → Type 0 = λ o. TiedAt c o cells in subst P is (all c)
@@ -153,45 +155,61 @@ tied_at-joined c d (Some l) cells other tied =
     let queued : l.queued ≡ l.queued + cond (c == d) 1 0 = rw apart (omega arith) in
     tied-joined c d l l cells tied refl queued refl tied.room
 
--- ---- a settlement of another channel
+-- ---- what becomes of another channel's cells
 
-mapped-queued : (c d : ℕ) (p : ℕ → Bool) (x : Outcome) (o : Option Cell) → is_queued_on d (option_map (settled_cell c p x) o) ≡ is_queued_on d o
-mapped-queued c d p x None = refl
-mapped-queued c d p x (Some (cell.Queued e)) = refl
-mapped-queued c d p x (Some (cell.Pending e t)) = elim (e == c && p t) as (λ b. is_queued_on d (Some (cond b (cell.Resolved x) (cell.Pending e t))) ≡ false) [ true ↦ refl | false ↦ refl ]
-mapped-queued c d p x (Some (cell.Resolved y)) = refl
+-- what becomes of cells is of no matter to channel d: each stays, or is not open there before and after
+abbrev Spares : ℕ → (Cell → Cell) → Type 0
+Spares d f = (x : Cell) → (f x ≡ x) ⊎ ((is_open_on d (Some x) ≡ false) × (is_open_on d (Some (f x)) ≡ false))
 
-mapped-pending : (c d : ℕ) (p : ℕ → Bool) (x : Outcome) (o : Option Cell) → c ≢ d → is_pending_on d (option_map (settled_cell c p x) o) ≡ is_pending_on d o
-mapped-pending c d p x None other = refl
-mapped-pending c d p x (Some (cell.Queued e)) other = refl
-mapped-pending c d p x (Some (cell.Pending e t)) other =
-    elim (eqb_tells e c) [
-      | inl same ↦
-          let apart : (e == d) ≡ false = ne_eqb e d (λ h. other (sym same.1 ∙ h)) in
-          rw (same.0, apart) (elim (p t) as (λ b. is_pending_on d (Some (cond b (cell.Resolved x) (cell.Pending e t))) ≡ false) [ true ↦ refl | false ↦ apart ])
-      | inr away ↦ rw away.0 refl
-    ]
-mapped-pending c d p x (Some (cell.Resolved y)) other = refl
+queued-kept : (d : ℕ) (f : Cell → Cell) → Spares d f → (o : Option Cell) → is_queued_on d (option_map f o) ≡ is_queued_on d o
+queued-kept d f spares None = refl
+queued-kept d f spares (Some x) = elim (spares x) [ inl same ↦ ap (λ y. is_queued_on d (Some y)) same | inr closed ↦ closed-queued d (Some (f x)) closed.1 ∙ sym (closed-queued d (Some x) closed.0) ]
 
--- a pending publish of another channel was pending before
-mapped-back : (c d t : ℕ) (p : ℕ → Bool) (x : Outcome) (o : Option Cell) → option_map (settled_cell c p x) o ≡ Some (cell.Pending d t) → o ≡ Some (cell.Pending d t)
-mapped-back c d t p x None h = cc
-mapped-back c d t p x (Some (cell.Queued e)) h = cc
-mapped-back c d t p x (Some (cell.Pending e u)) h = elim (e == c && p u) as (λ b. Some (cond b (cell.Resolved x) (cell.Pending e u)) ≡ Some (cell.Pending d t) → Some (cell.Pending e u) ≡ Some (cell.Pending d t)) [ true ↦ λ h. cc | false ↦ λ h. h ] h
-mapped-back c d t p x (Some (cell.Resolved y)) h = cc
+pending-kept : (d : ℕ) (f : Cell → Cell) → Spares d f → (o : Option Cell) → is_pending_on d (option_map f o) ≡ is_pending_on d o
+pending-kept d f spares None = refl
+pending-kept d f spares (Some x) = elim (spares x) [ inl same ↦ ap (λ y. is_pending_on d (Some y)) same | inr closed ↦ closed-pending d (Some (f x)) closed.1 ∙ sym (closed-pending d (Some x) closed.0) ]
 
-pub tied_at-mapped : (c d : ℕ) (p : ℕ → Bool) (x : Outcome) (o : Option Ledger) (cells : List (Option Cell)) → c ≢ d → TiedAt d o cells → TiedAt d o (map (option_map (settled_cell c p x)) cells)
-tied_at-mapped c d p x None cells other none = record {
-  queued = count-map (is_queued_on d) (option_map (settled_cell c p x)) cells (λ o. mapped-queued c d p x o) ∙ none.queued;
-  pending = count-map (is_pending_on d) (option_map (settled_cell c p x)) cells (λ o. mapped-pending c d p x o other) ∙ none.pending;
+was_pending : (d t : ℕ) (f : Cell → Cell) → Spares d f → (o : Option Cell) → option_map f o ≡ Some (cell.Pending d t) → o ≡ Some (cell.Pending d t)
+was_pending d t f spares None h = cc
+was_pending d t f spares (Some x) h = elim (spares x) [ inl same ↦ ap Some (sym same) ∙ h | inr closed ↦ absurd (closed-apart d t (Some (f x)) closed.1 h) ]
+
+stays_pending : (d t : ℕ) (f : Cell → Cell) → Spares d f → f (cell.Pending d t) ≡ cell.Pending d t
+stays_pending d t f spares = elim (spares (cell.Pending d t)) [ inl same ↦ same | inr closed ↦ absurd (closed-apart d t (Some (cell.Pending d t)) closed.0 refl) ]
+
+tied_at-mapped : (d : ℕ) (f : Cell → Cell) → Spares d f → (o : Option Ledger) (cells : List (Option Cell)) → TiedAt d o cells → TiedAt d o (map (option_map f) cells)
+tied_at-mapped d f spares None cells none = record {
+  queued = count-map (is_queued_on d) (option_map f) cells (queued-kept d f spares) ∙ none.queued;
+  pending = count-map (is_pending_on d) (option_map f) cells (pending-kept d f spares) ∙ none.pending;
 }
-tied_at-mapped c d p x (Some l) cells other tied = record {
-  named = λ n t there. tied.named n t (mapped-back c d t p x (under n cells) (sym (under-map (settled_cell c p x) n cells) ∙ there));
-  waits = λ n t there.
-      let apart : (d == c) ≡ false = ne_eqb d c (λ h. other (sym h)) in
-      under-map (settled_cell c p x) n cells ∙ ap (option_map (settled_cell c p x)) (tied.waits n t there) ∙ rw apart refl;
-  queued = count-map (is_queued_on d) (option_map (settled_cell c p x)) cells (λ o. mapped-queued c d p x o) ∙ tied.queued;
-  pending = count-map (is_pending_on d) (option_map (settled_cell c p x)) cells (λ o. mapped-pending c d p x o other) ∙ tied.pending;
+tied_at-mapped d f spares (Some l) cells tied = record {
+  named = λ n t there. tied.named n t (was_pending d t f spares (under n cells) (sym (under-map f n cells) ∙ there));
+  waits = λ n t there. under-map f n cells ∙ ap (option_map f) (tied.waits n t there) ∙ ap Some (stays_pending d t f spares);
+  queued = count-map (is_queued_on d) (option_map f) cells (queued-kept d f spares) ∙ tied.queued;
+  pending = count-map (is_pending_on d) (option_map f) cells (pending-kept d f spares) ∙ tied.pending;
   room = tied.room;
-  numbers = rw (length-map cells (option_map (settled_cell c p x))) tied.numbers;
+  numbers = rw (length-map cells (option_map f)) tied.numbers;
 }
+
+-- a settlement of another channel
+pub tied_at-settled : (c d : ℕ) (p : ℕ → Bool) (x : Outcome) (o : Option Ledger) (cells : List (Option Cell)) → c ≢ d → TiedAt d o cells → TiedAt d o (map (option_map (settled_cell c p x)) cells)
+tied_at-settled c d p x o cells other tied = tied_at-mapped d (settled_cell c p x) spares o cells tied
+  where
+    spares : Spares d (settled_cell c p x)
+    spares (cell.Queued e) = inl refl
+    spares (cell.Pending e t) =
+        elim (eqb_tells e c) [
+          | inl same ↦
+              let apart : (e == d) ≡ false = ne_eqb e d (λ h. other (sym same.1 ∙ h)) in
+              inr (apart, rw same.0 (elim (p t) as (λ b. is_open_on d (Some (cond b (cell.Resolved x) (cell.Pending e t))) ≡ false) [ true ↦ refl | false ↦ apart ]))
+          | inr away ↦ inl (rw away.0 refl)
+        ]
+    spares (cell.Resolved y) = inl refl
+
+-- the end of another channel
+pub tied_at-ended : (c d : ℕ) (e : Error) (o : Option Ledger) (cells : List (Option Cell)) → c ≢ d → TiedAt d o cells → TiedAt d o (map (option_map (ended_cell c e)) cells)
+tied_at-ended c d e o cells other tied = tied_at-mapped d (ended_cell c e) spares o cells tied
+  where
+    spares : Spares d (ended_cell c e)
+    spares (cell.Queued f) = elim (eqb_tells f c) [ inl same ↦ inr (ne_eqb f d (λ h. other (sym same.1 ∙ h)), rw same.0 refl) | inr away ↦ inl (rw away.0 refl) ]
+    spares (cell.Pending f t) = elim (eqb_tells f c) [ inl same ↦ inr (ne_eqb f d (λ h. other (sym same.1 ∙ h)), rw same.0 refl) | inr away ↦ inl (rw away.0 refl) ]
+    spares (cell.Resolved y) = inl refl

@@ -5,7 +5,7 @@ use Rattle.lapin_history.specs.declared.marks.Outcome.TheVariants as outcome
 use Rattle.lapin_history.specs.declared.marks.ConfirmMark.{ConfirmMark}
 use Rattle.lapin_history.specs.declared.marks.ConfirmMark.TheVariants as mark
 use Rattle.lapin_history.specs.Words.{after}
-use Rattle.lapin_history.specs.ConfirmReadings.{leaves, is_begun, is_selected, place, has_left, is_taken, channel_of, tag_of, first_settled, first_rejected, life, added, outcome_at, is_open_outcome}
+use Rattle.lapin_history.specs.ConfirmReadings.{leaves, is_begun, is_selected, place, has_left, is_taken, channel_of, tag_of, covers, outcome_of, first_settled, first_rejected, life, added, outcome_at, is_open_outcome}
 use Rattle.lapin_tables.specs.ByChannel.{at_channel}
 use Rattle.lapin_confirm.specs.declared.cell.Cell.{Cell}
 use Rattle.lapin_confirm.specs.declared.cell.Cell.TheVariants as cell
@@ -54,3 +54,10 @@ MayCome ms (mark.Left c k) = (k < added ms) × (cell_in k ms ≡ Some (cell.Queu
 MayCome ms (mark.Rejected k e) = (k < added ms) × ((c : ℕ) × (cell_in k ms ≡ Some (cell.Queued c)))
 MayCome ms (mark.Taken k) = (k < added ms) × (is_open_outcome (outcome_at k ms) ≡ false)
 MayCome ms _ = Unit {0}
+
+-- the mark resolves what is pending on channel c with tag t, as this: a settlement of the channel that covers the tag, or the
+-- end of the opening
+abbrev pub Resolves : ℕ → ℕ → Outcome → ConfirmMark → Type 0
+Resolves c t o (mark.Settled d s) = (c ≡ d) × (covers s t ≡ true) × (o ≡ outcome_of s)
+Resolves c t o (mark.Ended d e) = (c ≡ d) × (o ≡ outcome.Failed e)
+Resolves c t o _ = ⊥

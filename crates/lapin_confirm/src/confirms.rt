@@ -8,13 +8,13 @@ ghost use Rattle.std.specs.List.{list_any};
 ghost use Rattle.lapin_tables.specs.ByChannel.{at_channel};
 ghost use Rattle.lapin_tables.specs.Numbered.{under};
 ghost use Rattle.lapin_history.specs.ConfirmReadings.{kind_outcome};
-ghost use Rattle.lapin_confirm.specs.Book.{empty_book, begun, with_publish, select_left, left, settled, single_of, multiple_of, taken, tag_for, is_open_on, is_queued, is_resolved, is_unresolved, is_pending, pending_count, last_on, selected_on};
+ghost use Rattle.lapin_confirm.specs.Book.{empty_book, begun, with_publish, select_left, left, settled, single_of, multiple_of, rejected, ended, taken, tag_for, is_open_on, is_queued, is_resolved, is_unresolved, is_pending, pending_count, last_on, selected_on};
 ghost use Rattle.lapin_confirm.specs.Answers.{answer_at, result_of as result_of_lem};
 ghost use Rattle.lapin_confirm.specs.Kept.{HasRoom};
 
 use crate::cell::Cell;
 use crate::ledger::Ledger;
-use crate::settling::{enqueue, leave, make_room, settle_tag, settle_through};
+use crate::settling::{end_opening, enqueue, leave, make_room, reject, settle_tag, settle_through};
 use lapin_history::{Outcome, SettleKind};
 use lapin_tables::{ByChannel, Numbered};
 use lapin_types::{Confirmation, Error, NoMemory};
@@ -170,6 +170,31 @@ impl Confirms {
         };
         let last = ledger.tags.count();
         settle_through(channel, ledger, &mut self.cells, last, outcome_of(kind));
+    }
+
+    /// A publish whose method frame has not left is resolved with an error.
+    pub fn reject(&mut self, number: u64, error: Error)
+        requires { is_queued (under number self.old.book.cells) ≡ true }
+        ensures { self.new.book ≡ rejected number error self.old.book }
+    {
+        let channel = queued_channel(&self.cells, number);
+        let Some(ledger) = self.ledgers.get_mut(channel) else {
+            unreachable!()
+        };
+        reject(channel, ledger, &mut self.cells, number, error);
+    }
+
+    /// The opening of a channel ends: all of it that is unresolved is resolved with the error.
+    ///
+    /// It costs what it resolves where the publishes that have not left were rejected before, else a walk over the numbers
+    /// that are outstanding.
+    pub fn end(&mut self, channel: u16, error: Error)
+        ensures { self.new.book ≡ ended channel error self.old.book }
+    {
+        let Some(ledger) = self.ledgers.get_mut(channel) else {
+            return;
+        };
+        end_opening(channel, ledger, &mut self.cells, error);
     }
 
     /// Whether `take` has an answer other than none: false exactly while the confirm is unresolved.

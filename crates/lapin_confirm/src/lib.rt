@@ -15,5 +15,6 @@ pub use cell::Cell;
 pub use confirms::Confirms;
 pub use lapin_history::SettleKind;
 pub use laws::{
-    machine_follows, multiple_covers, nothing_follows, outcome_stays, settlement_leaves,
+    end_takes_rejected, machine_follows, multiple_covers, nothing_follows, outcome_stays,
+    resolved_by_its_settlement, settlement_leaves, tag_stays, tags_count_up,
 };

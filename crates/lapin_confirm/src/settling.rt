@@ -1,18 +1,20 @@
-//! What runs over one channel's ledger and the cells: a publish joins, its tag is taken, tags are settled.
+//! What runs over one channel's ledger and the cells: a publish joins, its tag is taken, tags are settled, the opening ends.
 //!
 //! Each function keeps the ledger and the cells tied. A settlement looks up one place, or walks from the least pending tag:
-//! what is settled already costs nothing.
+//! what is settled already costs nothing. An end walks the pending tags too, and the numbers only while a publish is queued.
 
-ghost use Rattle.std.specs.Prelude.{◌≡◌, ℕ, ◌+◌, ◌-◌, ◌<◌, ◌≤◌, ◌^◌, ◌==◌, nat_le, true, false, List, ◌∷◌, ◌++◌, [], Some, None, OnOk, OnErr, IsOk, length, map, is_some, if◌then◌else◌};
+ghost use Rattle.std.specs.Prelude.{◌≡◌, ◌≢◌, ℕ, ◌+◌, ◌-◌, ◌<◌, ◌≤◌, ◌^◌, ◌==◌, nat_le, true, false, List, ◌∷◌, ◌++◌, [], Some, None, OnOk, OnErr, IsOk, length, map, is_some, if◌then◌else◌};
 ghost use Rattle.std.specs.Option.{option_map};
+ghost use Rattle.std.specs.Bool.{Decides};
 ghost use Rattle.lapin_tables.specs.Numbered.{under, with_under};
-ghost use Rattle.lapin_confirm.specs.Book.{Line, tag_for, cell_with, settled_cell, next_line};
+ghost use Rattle.lapin_confirm.specs.Book.{Line, tag_for, cell_with, settled_cell, ended_cell, next_line};
 ghost use Rattle.lapin_confirm.specs.Ties.{Tied, line_of, room_of, line_after};
 
 use crate::cell::Cell;
 use crate::ledger::Ledger;
 use lapin_history::Outcome;
 use lapin_tables::Numbered;
+use lapin_types::Error;
 use std::alloc::AllocError;
 
 /// Makes room for one more publish of the channel and for its tag.
@@ -136,4 +138,78 @@ pub fn settle_through(
         }
         let _ = settle_tag(channel, ledger, cells, tag, outcome);
     }
+}
+
+/// Rejects a publish of the channel that has not left: it gives up the room of its tag.
+pub fn reject(
+    channel: u16,
+    ledger: &mut Ledger,
+    cells: &mut Numbered<Cell>,
+    number: u64,
+    error: Error,
+)
+    requires tied { Tied channel ledger.old cells.old.slots }
+    requires queued { under number cells.old.slots ≡ Some (Cell.Queued channel) }
+    ensures cells { cells.new.slots ≡ with_under number (Some (Cell.Resolved (Outcome.Failed error))) cells.old.slots }
+    ensures tied { Tied channel ledger.new cells.new.slots }
+    ensures line { line_of ledger.new ≡ line_of ledger.old }
+{
+    ledger.queued -= 1;
+    cells.set(number, Cell::Resolved(Outcome::Failed(error)));
+}
+
+fn is_queued_on(channel: u16, cells: &Numbered<Cell>, number: u64) -> bool
+    ensures { Decides result (under number cells.now.slots ≡ Some (Cell.Queued channel)) }
+{
+    match cells.get(number) {
+        Some(Cell::Queued(of)) => *of == channel,
+        _ => false,
+    }
+}
+
+// Rejects the publish under a number, if it is one of the channel that has not left.
+fn reject_if_queued(
+    channel: u16,
+    ledger: &mut Ledger,
+    cells: &mut Numbered<Cell>,
+    number: u64,
+    error: Error,
+)
+    requires { Tied channel ledger.old cells.old.slots }
+    ensures same { map (option_map (ended_cell channel error)) cells.new.slots ≡ map (option_map (ended_cell channel error)) cells.old.slots }
+    ensures queued { (n : ℕ) → under n cells.new.slots ≡ Some (Cell.Queued channel) → (n ≢ number) × (under n cells.old.slots ≡ Some (Cell.Queued channel)) }
+    ensures tied { Tied channel ledger.new cells.new.slots }
+    ensures line { line_of ledger.new ≡ line_of ledger.old }
+{
+    if !is_queued_on(channel, cells, number) {
+        return;
+    }
+    reject(channel, ledger, cells, number, error);
+}
+
+// Rejects every publish of the channel that has not left, from the last number down.
+fn reject_queued(channel: u16, ledger: &mut Ledger, cells: &mut Numbered<Cell>, error: Error)
+    requires { Tied channel ledger.old cells.old.slots }
+    ensures same { map (option_map (ended_cell channel error)) cells.new.slots ≡ map (option_map (ended_cell channel error)) cells.old.slots }
+    ensures none { ledger.new.queued ≡ 0 }
+    ensures tied { Tied channel ledger.new cells.new.slots }
+    ensures line { line_of ledger.new ≡ line_of ledger.old }
+{
+    let mut number = cells.count();
+    while ledger.queued > 0 {
+        reject_if_queued(channel, ledger, cells, number, error);
+        number -= 1;
+    }
+}
+
+/// Ends the opening of the channel: all of it that is unresolved is resolved with the error.
+pub fn end_opening(channel: u16, ledger: &mut Ledger, cells: &mut Numbered<Cell>, error: Error)
+    requires { Tied channel ledger.old cells.old.slots }
+    ensures cells { cells.new.slots ≡ map (option_map (ended_cell channel error)) cells.old.slots }
+    ensures tied { Tied channel ledger.new cells.new.slots }
+    ensures line { line_of ledger.new ≡ line_of ledger.old }
+{
+    reject_queued(channel, ledger, cells, error);
+    let last = ledger.tags.count();
+    settle_through(channel, ledger, cells, last, Outcome::Failed(error));
 }

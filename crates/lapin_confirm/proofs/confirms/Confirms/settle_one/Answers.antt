@@ -3,7 +3,7 @@ use Rattle.std.specs.List.{list_any}
 use Rattle.std.specs.Prelude.{is_some}
 use Rattle.lapin_confirm.specs.Book.{is_pending_as}
 use Rattle.lapin_confirm.proofs.Lines.{line-at, lines-same, same-book}
-use Rattle.lapin_confirm.proofs.Whole.{tied-of, untouched-of, all-on, tied_at-mapped}
+use Rattle.lapin_confirm.proofs.Whole.{tied-of, untouched-of, all-on, tied_at-settled}
 use Rattle.lapin_confirm.proofs.Settled.{settled-untouched, settled-none, pending-tells, pending-untouched}
 use Rattle.lapin_confirm.proofs.confirms.Confirms.settle_one.Goals as goal
 
@@ -24,7 +24,7 @@ pub invariant_of-self-then-not-settle_tag : goal.invariant_of-self-then-not-sett
 invariant_of-self-then-not-settle_tag c =
     all-on c.args.channel c.in-Some.ledger.now c.settle_tag.new.ledger c.self.inside.ledgers.entries c.self.inside.cells.slots c.settle_tag.new.cells.slots (sym c.in-Some.ensures.value) c.self.invariant
     c.settle_tag.ensures.tied
-    (λ d o other tied. rw c.settle_tag.ensures.cells (tied_at-mapped c.args.channel d _ _ o c.self.inside.cells.slots other tied))
+    (λ d o other tied. rw c.settle_tag.ensures.cells (tied_at-settled c.args.channel d _ _ o c.self.inside.cells.slots other tied))
 
 pub returns-then-not-settle_tag-clause-answer : goal.returns-then-not-settle_tag-clause-answer
 returns-then-not-settle_tag-clause-answer c =
@@ -53,7 +53,7 @@ pub invariant_of-self-2 : goal.invariant_of-self-2
 invariant_of-self-2 c =
     all-on c.args.channel c.in-Some.ledger.now c.settle_tag.new.ledger c.self.inside.ledgers.entries c.self.inside.cells.slots c.settle_tag.new.cells.slots (sym c.in-Some.ensures.value) c.self.invariant
     c.settle_tag.ensures.tied
-    (λ d o other tied. rw c.settle_tag.ensures.cells (tied_at-mapped c.args.channel d _ _ o c.self.inside.cells.slots other tied))
+    (λ d o other tied. rw c.settle_tag.ensures.cells (tied_at-settled c.args.channel d _ _ o c.self.inside.cells.slots other tied))
 
 pub returns-clause-answer : goal.returns-clause-answer
 returns-clause-answer c =

@@ -1,7 +1,7 @@
 use Rattle.std.proofs.Common.{◌≡◌, ◌∙◌, ◌==◌, nat_le, false, sym, refl, arith, ne_eqb}
 use Rattle.lapin_history.specs.ConfirmReadings.{kind_outcome}
 use Rattle.lapin_confirm.proofs.Lines.{lines-same, same-book}
-use Rattle.lapin_confirm.proofs.Whole.{untouched-of, all-on, tied_at-mapped}
+use Rattle.lapin_confirm.proofs.Whole.{untouched-of, all-on, tied_at-settled}
 use Rattle.lapin_confirm.proofs.Settled.{settled-same, settled-untouched}
 use Rattle.lapin_confirm.proofs.confirms.Confirms.settle_up_to.Goals as goal
 
@@ -12,7 +12,7 @@ pub invariant_of-self-2 : goal.invariant_of-self-2
 invariant_of-self-2 c =
     all-on c.args.channel c.in-Some.ledger.now c.settle_through.new.ledger c.self.inside.ledgers.entries c.self.inside.cells.slots c.settle_through.new.cells.slots (sym c.in-Some.ensures.value) c.self.invariant
     c.settle_through.ensures.tied
-    (λ d o other tied. rw c.settle_through.ensures.cells (tied_at-mapped c.args.channel d _ _ o c.self.inside.cells.slots other tied))
+    (λ d o other tied. rw c.settle_through.ensures.cells (tied_at-settled c.args.channel d _ _ o c.self.inside.cells.slots other tied))
 
 pub returns : goal.returns
 returns c =

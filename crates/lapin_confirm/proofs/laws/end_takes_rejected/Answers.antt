@@ -1,0 +1,7 @@
+use Rattle.lapin_confirm.proofs.Lines.{same-book}
+use Rattle.lapin_confirm.proofs.Ended.{ended-rejected}
+use Rattle.std.proofs.Common.{refl}
+use Rattle.lapin_confirm.proofs.laws.end_takes_rejected.Goals as goal
+
+pub returns : goal.returns
+returns a = λ c n e b was. same-book _ _ _ _ refl (ended-rejected c n e b.cells was)
