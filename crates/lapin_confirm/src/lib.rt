@@ -10,6 +10,8 @@ mod confirms;
 mod laws;
 mod ledger;
 mod settling;
+#[cfg(test)]
+mod tests;
 
 pub use cell::Cell;
 pub use confirms::Confirms;
