@@ -1,6 +1,6 @@
 -- What callers see of the ledgers.
-use Rattle.std.proofs.Common.{◌≡◌, ℕ, ◌-◌, ◌<◌, List, [], ◌∷◌, ◌++◌, Option, Some, None, refl, sym, ◌∙◌, ap, arith}
-use Rattle.std.specs.Option.{option_map}
+use Rattle.std.proofs.Common.{◌≡◌, ℕ, ◌-◌, ◌<◌, true, false, List, [], ◌∷◌, ◌++◌, Option, Some, None, refl, sym, ◌∙◌, ap, arith}
+use Rattle.std.specs.Option.{option_map, IsSome}
 use Rattle.std.proofs.lemmas.List.{map_push}
 use Rattle.lapin_history.specs.Words.{with_channel}
 use Rattle.lapin_tables.specs.ByChannel.{at_channel, on_channel}
@@ -18,7 +18,11 @@ line-at c es o is = at-values line_of c es ∙ ap (option_map line_of) is
 pub room-at : (c : ℕ) (es : List (ℕ × Ledger)) (o : Option Ledger) → at_channel c es ≡ o → at_channel c (rooms_of es) ≡ option_map room_of o
 room-at c es o is = at-values room_of c es ∙ ap (option_map room_of) is
 
--- a channel without a ledger has no line to change
+-- a channel without a ledger has no line
+pub no-line : (c : ℕ) (es : List (ℕ × Ledger)) → at_channel c es ≡ None → IsSome (at_channel c (lines_of es)) → ⊥
+no-line c es none has = let never : false ≡ true = rw (line-at c es None none) at has in cc
+
+-- and none to change
 pub lines-absent : (c : ℕ) (f : Line → Line) (es : List (ℕ × Ledger)) → at_channel c es ≡ None → on_channel c f (lines_of es) ≡ lines_of es
 lines-absent c f es none = on-absent c f (lines_of es) (line-at c es None none)
 

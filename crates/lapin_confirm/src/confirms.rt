@@ -71,10 +71,12 @@ impl Confirms {
     }
 
     /// A new opening of a channel begins: it is not selected, and no tag is taken. Nothing of an earlier one may be open.
+    /// Only the first one of a channel takes memory.
     pub fn begin(&mut self, alloc: Global, channel: u16) -> Result<(), NoMemory>
         requires { list_any (is_open_on channel) self.old.book.cells ≡ false }
         ensures ok { OnOk result (self.new.book ≡ begun channel self.old.book) }
         ensures err { OnErr result (self.new.book ≡ self.old.book) }
+        ensures succeeds { IsSome (at_channel channel self.old.book.lines) → IsOk result }
     {
         let Some(ledger) = self.ledgers.get_mut(channel) else {
             self.ledgers.insert(channel, Ledger::new(alloc))?;
@@ -186,8 +188,8 @@ impl Confirms {
 
     /// The opening of a channel ends: all of it that is unresolved is resolved with the error.
     ///
-    /// It costs what it resolves where the publishes that have not left were rejected before, else a walk over the numbers
-    /// that are outstanding.
+    /// It costs what it resolves where the publishes that have not left were rejected before. Else it also walks the numbers
+    /// from the last one down to the oldest of those publishes.
     pub fn end(&mut self, channel: u16, error: Error)
         ensures { self.new.book ≡ ended channel error self.old.book }
     {

@@ -187,7 +187,7 @@ fn reject_if_queued(
     reject(channel, ledger, cells, number, error);
 }
 
-// Rejects every publish of the channel that has not left, from the last number down.
+// Rejects every publish of the channel that has not left, from the last number down to the oldest of them.
 fn reject_queued(channel: u16, ledger: &mut Ledger, cells: &mut Numbered<Cell>, error: Error)
     requires { Tied channel ledger.old cells.old.slots }
     ensures same { map (option_map (ended_cell channel error)) cells.new.slots ≡ map (option_map (ended_cell channel error)) cells.old.slots }

@@ -1,18 +1,15 @@
-use Rattle.std.proofs.Common.{◌≡◌, ◌∙◌, List, ◌∷◌, [], ◌++◌, Option, Some, None, sym, ap, true, false}
+use Rattle.std.proofs.Common.{◌∙◌, List, ◌∷◌, [], ◌++◌, Option, Some, sym, ap}
 use Rattle.lapin_tables.specs.ByChannel.{at_channel}
 use Rattle.lapin_confirm.specs.declared.cell.Cell.{Cell}
 use Rattle.lapin_confirm.specs.declared.cell.Cell.TheVariants as cell
 use Rattle.lapin_confirm.specs.Kept.{HasSome}
 use Rattle.lapin_confirm.specs.Ties.{rooms_of}
-use Rattle.lapin_confirm.proofs.Lines.{line-at, lines-same, same-line, same-book, room-some}
+use Rattle.lapin_confirm.proofs.Lines.{no-line, lines-same, same-line, same-book, room-some}
 use Rattle.lapin_confirm.proofs.Whole.{tied-of, all-on, tied-roomier, tied_at-joined}
 use Rattle.lapin_confirm.proofs.confirms.Confirms.add.Goals as goal
 
 pub unreachable-requires : goal.unreachable-requires
-unreachable-requires c =
-    let has = rw (← c.self.view_is) at c.requires in
-    let no : false ≡ true = rw (line-at c.args.channel c.self.inside.ledgers.entries None (sym c.in_default.ensures.value)) at has in
-    cc
+unreachable-requires c = no-line c.args.channel c.self.inside.ledgers.entries (sym c.in_default.ensures.value) (rw (← c.self.view_is) at c.requires)
 
 pub invariant_of-self : goal.invariant_of-self
 invariant_of-self c =

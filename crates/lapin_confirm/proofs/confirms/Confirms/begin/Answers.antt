@@ -1,7 +1,7 @@
 use Rattle.std.proofs.Common.{◌≡◌, sym, refl, false}
 use Rattle.std.specs.List.{list_any}
 use Rattle.lapin_confirm.specs.Book.{is_open_on}
-use Rattle.lapin_confirm.proofs.Lines.{lines-again, lines-new, fresh-line, same-book}
+use Rattle.lapin_confirm.proofs.Lines.{no-line, lines-again, lines-new, fresh-line, same-book}
 use Rattle.lapin_confirm.proofs.Whole.{all-on, all-push, tied-fresh}
 use Rattle.lapin_confirm.proofs.confirms.Confirms.begin.Goals as goal
 
@@ -16,6 +16,9 @@ pub returns-in_default-clause-ok : goal.returns-in_default-clause-ok
 returns-in_default-clause-ok c =
     rw (← c.self.view_is, c.in_ok-insert.ensures.ok)
     (same-book _ _ _ _ (lines-new c.args.channel c.new.result c.self.inside.ledgers.entries (sym c.in_default.ensures.value) (fresh-line c.new.result c.new.ensures)) refl)
+
+pub returns-in_err-insert-clause-succeeds : goal.returns-in_err-insert-clause-succeeds
+returns-in_err-insert-clause-succeeds c = λ has. absurd (no-line c.args.channel c.self.inside.ledgers.entries (sym c.in_default.ensures.value) (rw (← c.self.view_is) at has))
 
 pub invariant_of-self-2 : goal.invariant_of-self-2
 invariant_of-self-2 c =
