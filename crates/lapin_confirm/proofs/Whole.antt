@@ -191,7 +191,7 @@ tied_at-mapped d f spares (Some l) cells tied = record {
 }
 
 -- a settlement of another channel
-pub tied_at-settled : (c d : ℕ) (p : ℕ → Bool) (x : Outcome) (o : Option Ledger) (cells : List (Option Cell)) → c ≢ d → TiedAt d o cells → TiedAt d o (map (option_map (settled_cell c p x)) cells)
+tied_at-settled : (c d : ℕ) (p : ℕ → Bool) (x : Outcome) (o : Option Ledger) (cells : List (Option Cell)) → c ≢ d → TiedAt d o cells → TiedAt d o (map (option_map (settled_cell c p x)) cells)
 tied_at-settled c d p x o cells other tied = tied_at-mapped d (settled_cell c p x) spares o cells tied
   where
     spares : Spares d (settled_cell c p x)
@@ -204,6 +204,10 @@ tied_at-settled c d p x o cells other tied = tied_at-mapped d (settled_cell c p 
           | inr away ↦ inl (rw away.0 refl)
         ]
     spares (cell.Resolved y) = inl refl
+
+-- a settlement
+pub all-settled : (c : ℕ) (p : ℕ → Bool) (x : Outcome) (l k : Ledger) (es : List (ℕ × Ledger)) (cells after : List (Option Cell)) → at_channel c es ≡ Some l → AllTied es cells → Tied c k after → after ≡ map (option_map (settled_cell c p x)) cells → AllTied (on_channel c (λ _. k) es) after
+all-settled c p x l k es cells after is all tied same = all-on c l k es cells after is all tied (λ d o other old. rw same (tied_at-settled c d p x o cells other old))
 
 -- the end of another channel
 pub tied_at-ended : (c d : ℕ) (e : Error) (o : Option Ledger) (cells : List (Option Cell)) → c ≢ d → TiedAt d o cells → TiedAt d o (map (option_map (ended_cell c e)) cells)

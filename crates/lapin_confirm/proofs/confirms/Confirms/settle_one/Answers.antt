@@ -3,7 +3,7 @@ use Rattle.std.specs.List.{list_any}
 use Rattle.std.specs.Prelude.{is_some}
 use Rattle.lapin_confirm.specs.Book.{is_pending_as}
 use Rattle.lapin_confirm.proofs.Lines.{line-at, lines-same, same-book}
-use Rattle.lapin_confirm.proofs.Whole.{tied-of, untouched-of, all-on, tied_at-settled}
+use Rattle.lapin_confirm.proofs.Whole.{tied-of, untouched-of, all-settled}
 use Rattle.lapin_confirm.proofs.Settled.{settled-untouched, settled-none, pending-tells, pending-untouched}
 use Rattle.lapin_confirm.proofs.confirms.Confirms.settle_one.Goals as goal
 
@@ -21,10 +21,7 @@ pub returns-in_default-clause-settled : goal.returns-in_default-clause-settled
 returns-in_default-clause-settled c = rw (← c.self.view_is) (same-book _ _ _ _ refl (sym (settled-untouched c.args.channel _ _ c.self.inside.cells.slots (untouched-of c.args.channel c.self.inside.ledgers.entries c.self.inside.cells.slots (sym c.in_default.ensures.value) c.self.invariant))))
 
 pub invariant_of-self-then-not-settle_tag : goal.invariant_of-self-then-not-settle_tag
-invariant_of-self-then-not-settle_tag c =
-    all-on c.args.channel c.in-Some.ledger.now c.settle_tag.new.ledger c.self.inside.ledgers.entries c.self.inside.cells.slots c.settle_tag.new.cells.slots (sym c.in-Some.ensures.value) c.self.invariant
-    c.settle_tag.ensures.tied
-    (λ d o other tied. rw c.settle_tag.ensures.cells (tied_at-settled c.args.channel d _ _ o c.self.inside.cells.slots other tied))
+invariant_of-self-then-not-settle_tag c = all-settled c.args.channel _ _ c.in-Some.ledger.now c.settle_tag.new.ledger c.self.inside.ledgers.entries c.self.inside.cells.slots c.settle_tag.new.cells.slots (sym c.in-Some.ensures.value) c.self.invariant c.settle_tag.ensures.tied c.settle_tag.ensures.cells
 
 pub returns-then-not-settle_tag-clause-answer : goal.returns-then-not-settle_tag-clause-answer
 returns-then-not-settle_tag-clause-answer c =
@@ -50,10 +47,7 @@ returns-then-not-settle_tag-clause-same c =
     (c.settle_tag.ensures.cells ∙ settled-none c.args.channel c.args.tag c.outcome_of.result c.in-Some.ledger.now c.self.inside.cells.slots tied (not_there _ c.if-not-settle_tag.ensures.found)))
 
 pub invariant_of-self-2 : goal.invariant_of-self-2
-invariant_of-self-2 c =
-    all-on c.args.channel c.in-Some.ledger.now c.settle_tag.new.ledger c.self.inside.ledgers.entries c.self.inside.cells.slots c.settle_tag.new.cells.slots (sym c.in-Some.ensures.value) c.self.invariant
-    c.settle_tag.ensures.tied
-    (λ d o other tied. rw c.settle_tag.ensures.cells (tied_at-settled c.args.channel d _ _ o c.self.inside.cells.slots other tied))
+invariant_of-self-2 c = all-settled c.args.channel _ _ c.in-Some.ledger.now c.settle_tag.new.ledger c.self.inside.ledgers.entries c.self.inside.cells.slots c.settle_tag.new.cells.slots (sym c.in-Some.ensures.value) c.self.invariant c.settle_tag.ensures.tied c.settle_tag.ensures.cells
 
 pub returns-clause-answer : goal.returns-clause-answer
 returns-clause-answer c =
