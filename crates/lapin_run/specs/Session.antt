@@ -3,8 +3,9 @@ use Rattle.std.specs.Prelude.{◌≡◌, ℕ, List, [], ◌∷◌, ◌++◌, cod
 use Rattle.lapin_types.specs.declared.event.Event.{Event}
 use Rattle.lapin_types.specs.declared.record.Record.{Record}
 use Rattle.lapin_history.specs.History.{run}
-use Rattle.lapin_text.specs.Input.{lines_of, AreParsed}
+use Rattle.lapin_text.specs.Input.{lines_of, AreEvents, AreParsed}
 use Rattle.lapin_text.specs.Records.{records_text}
+use Rattle.lapin_session.specs.World.{World, outputs}
 
 -- The records of a session that begins new and meets these events, where the first line of the input says how large a
 -- frame may be. Without it nothing is run.
@@ -24,3 +25,23 @@ pub record Prints (input : List ℕ) (bad : Option ℕ) (text : List ℕ) : Type
   pub events : List Event
   pub parsed : AreParsed (lines_of input) frame_max events bad
   pub printed : text ≡ records_text (records_of frame_max events) ++ bad_line_text bad
+
+-- the same without the line that names the bad one
+pub record PrintsRecords (input : List ℕ) (bad : Option ℕ) (text : List ℕ) : Type 0 where
+  pub frame_max : Option ℕ
+  pub events : List Event
+  pub parsed : AreParsed (lines_of input) frame_max events bad
+  pub printed : text ≡ records_text (records_of frame_max events)
+
+-- The text is the records of a new session that meets the events of these lines, which stand behind the first one of an
+-- input, up to the first bad line.
+pub record PrintsEvents (frame_max : ℕ) (lines : List (List ℕ)) (bad : Option ℕ) (text : List ℕ) : Type 0 where
+  pub events : List Event
+  pub are : AreEvents 2 lines events bad
+  pub printed : text ≡ records_text (run frame_max events)
+
+-- the same of a session that goes on from this value, and of lines the first of which has the number n
+pub record PrintsFrom (n : ℕ) (w : World) (lines : List (List ℕ)) (bad : Option ℕ) (text : List ℕ) : Type 0 where
+  pub events : List Event
+  pub are : AreEvents n lines events bad
+  pub printed : text ≡ records_text (outputs w events)

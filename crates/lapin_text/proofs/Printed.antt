@@ -22,7 +22,7 @@ onto_frame (frame.Method c m) = onto_is [] (codes "method") (token short_number 
 onto_frame (frame.Header c header) = onto_is [] (codes "header") (tokens header_fields (c, (header.class_id, (header.body_size, (header.properties, tt)))))
 onto_frame (frame.Body c bytes) = onto_is [] (codes "body") (tokens body_fields (c, (bytes, tt)))
 
-line_onto_is : (out : List ℕ) (ts : List (List ℕ)) → line_onto out ts ≡ out ++ join_with_byte 32 ts
+pub line_onto_is : (out : List ℕ) (ts : List (List ℕ)) → line_onto out ts ≡ out ++ join_with_byte 32 ts
 line_onto_is out [] = sym (append-nil out)
 line_onto_is out (t ∷ []) = refl
 line_onto_is out (t ∷ u ∷ us) = onto_is (out ++ t) u us ∙ append_assoc out t (32 ∷ join_with_byte 32 (u ∷ us))

@@ -17,6 +17,7 @@ pub mod records;
 pub mod words;
 
 pub use lapin_tokens::{read_bytes, read_num, read_short};
-pub use parsing::{Parsed, parse_events};
+pub use lines::Lines;
+pub use parsing::{Parsed, parse_events, read_max};
 pub use printing::{print_records, write_frame, write_record};
 pub use reading::{read_event, read_frame};

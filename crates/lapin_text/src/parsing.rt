@@ -23,7 +23,8 @@ pub struct Parsed {
 /// No event's line is shorter.
 const SHORTEST_LINE: usize = 3;
 
-fn read_max(line: &[u8]) -> Option<u32>
+/// The greatest frame size that a first line gives, or `None` where it is no such line.
+pub fn read_max(line: &[u8]) -> Option<u32>
     ensures { MatchOption result (NoMax line.now) (λ m. IsMax m × (line.now ≡ max_line m)) }
 {
     match line.strip_prefix(b"frame_max ") {

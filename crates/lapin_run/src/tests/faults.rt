@@ -77,6 +77,29 @@ fn a_sink_that_takes_nothing_is_a_write_fault(rt: HostRuntime) -> Result<(), Fai
     Ok(())
 }
 
+// 15 bytes of the first line, 31 before the digits, 4 behind them, and two digits for each of 8,388,583 bytes are 2^24.
+#[test]
+fn an_input_of_exactly_the_limit_is_run(rt: HostRuntime) -> Result<(), Fail> {
+    let alloc = rt.alloc();
+    let words = words_of(alloc, &["session"])?;
+    for (end, want, written) in [
+        (
+            b" []\n".as_slice(),
+            Status::Fine,
+            b"refused InvalidChannelState closed\n".as_slice(),
+        ),
+        (b" []\n\n".as_slice(), Status::InputTooLong, b"".as_slice()),
+    ] {
+        let mut input = b"frame_max 4096\ncall 10 basic.publish x x 0 0 x".to_vec(alloc)?;
+        input.extend_from_slice(&vec![in alloc; b'0'; 16_777_166]?)?;
+        input.extend_from_slice(end)?;
+        let (status, sink) = run_in_memory(alloc, &words, input);
+        assert_eq!(rt; status, want);
+        assert_eq!(rt; sink.bytes(), written);
+    }
+    Ok(())
+}
+
 #[test]
 fn an_input_past_the_limit_is_not_run(rt: HostRuntime) -> Result<(), Fail> {
     let alloc = rt.alloc();

@@ -157,6 +157,75 @@ fn a_bad_line_is_named_behind_the_records_before_it(rt: HostRuntime) -> Result<(
     Ok(())
 }
 
+// It says a number of 32 bits, at least 4096, and nothing else stands in it. Without it no event is run.
+#[test]
+fn the_first_line_is_a_frame_size(rt: HostRuntime) -> Result<(), Fail> {
+    let alloc = rt.alloc();
+    for first in [
+        "frame_max 4096\n",
+        "frame_max 4294967295\n",
+        "frame_max 4096",
+    ] {
+        let (status, sink) = session(alloc, first, "")?;
+        assert_eq!(rt; status, Status::Fine, "at {first:?}");
+        assert_eq!(rt; sink.bytes(), b"".as_slice(), "at {first:?}");
+    }
+    for first in [
+        "frame_max 4294967296\n",
+        "frame_max 04096\n",
+        "frame_max +4096\n",
+        "frame_max  4096\n",
+        "frame_max 4096 \n",
+        "frame_max 4096\r\n",
+        "frame_max \n",
+        "frame_max\n",
+        "Frame_max 4096\n",
+        "\nframe_max 4096\n",
+        "next 1\nframe_max 4096\n",
+    ] {
+        let (status, sink) = session(alloc, first, "next 1\n")?;
+        assert_eq!(rt; status, Status::BadLine, "at {first:?}");
+        assert_eq!(rt; sink.bytes(), b"badline 1\n".as_slice(), "at {first:?}");
+    }
+    Ok(())
+}
+
+#[test]
+fn the_last_line_needs_no_line_feed(rt: HostRuntime) -> Result<(), Fail> {
+    let alloc = rt.alloc();
+    let (status, sink) = session(alloc, "frame_max 4096\nticket 1\n", "next 1")?;
+    assert_eq!(rt; status, Status::Fine);
+    assert_eq!(rt;
+        sink.bytes(),
+        b"refused UnknownTicket\nnoframe\n".as_slice()
+    );
+    let (status, sink) = session(alloc, "frame_max 4096\nticket 1\n", "next")?;
+    assert_eq!(rt; status, Status::BadLine);
+    assert_eq!(rt;
+        sink.bytes(),
+        b"refused UnknownTicket\nbadline 3\n".as_slice()
+    );
+    Ok(())
+}
+
+// Behind the first line and a thousand others the next has the number 1002.
+#[test]
+fn lines_are_counted_from_one(rt: HostRuntime) -> Result<(), Fail> {
+    let alloc = rt.alloc();
+    let mut events = String::new(alloc);
+    let mut want = String::new(alloc);
+    for _ in 0..1_000 {
+        events.push_str("next 1\n")?;
+        want.push_str("noframe\n")?;
+    }
+    events.push_str("next 2\nnext 1\n")?;
+    want.push_str("badline 1002\n")?;
+    let (status, sink) = session(alloc, "frame_max 4096\n", events.as_str())?;
+    assert_eq!(rt; status, Status::BadLine);
+    assert_eq!(rt; sink.bytes(), want.as_bytes());
+    Ok(())
+}
+
 // A frame holds 4096 bytes, 8 of which are not of the body.
 #[test]
 fn bodies_are_cut_to_the_frame_size(rt: HostRuntime) -> Result<(), Fail> {
