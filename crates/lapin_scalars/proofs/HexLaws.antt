@@ -1,5 +1,5 @@
 -- Bytes as pairs of hexadecimal digits, and short texts.
-use Rattle.std.proofs.Common.{◌≡◌, ℕ, suc, ◌<◌, ◌≤◌, List, [], ◌∷◌, length, get_or, Option, Some, None, Result, Ok, Err, refl, sym, ap, subst, ◌∙◌, true, ltb, leb, ◌⊎◌, inl, inr}
+use Rattle.std.proofs.Common.{◌≡◌, ℕ, suc, ◌<◌, ◌≤◌, List, [], ◌∷◌, length, get_or, Option, Some, None, Ok, Err, refl, sym, ap, subst, ◌∙◌, true, ltb, leb, ◌⊎◌, inl, inr}
 use Rattle.std.specs.Prelude.{◌&&◌}
 use Rattle.std.specs.Str.{is_utf8, IsUtf8}
 use Rattle.std.proofs.lemmas.Str.{IsUtf8-from_is_utf8, is_utf8-from_IsUtf8}
@@ -10,7 +10,7 @@ use Rattle.hex.specs.declared.error.FromHexError.TheVariants.{InvalidHexCharacte
 use Rattle.hex.proofs.HexLemmas.{decode_of-encode_lower}
 use Rattle.lapin_scalars.specs.declared.fault.ReadError.{ReadError}
 use Rattle.lapin_scalars.specs.declared.fault.ReadError.TheVariants as errors
-use Rattle.lapin_scalars.specs.Scalars.{scalar_text, scalar_fits, are_bytes}
+use Rattle.lapin_scalars.specs.Scalars.{scalar_fits, are_bytes}
 use Rattle.lapin_scalars.specs.Scalars.Scalar.{text, bytes, pairs}
 use Rattle.lapin_scalars.specs.Reading.{hex_fault, Fails, scalar_of}
 use Rattle.lapin_scalars.proofs.ScalarLaws.{both_true, true_both, bytes_fit, scalar_again, scalar_found, is_scalar}

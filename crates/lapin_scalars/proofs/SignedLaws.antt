@@ -1,8 +1,8 @@
 -- Signed decimals.
-use Rattle.std.proofs.Common.{◌≡◌, ◌≢◌, ℕ, zero, suc, ◌<◌, ◌≤◌, ◌^◌, ◌-◌, List, [], ◌∷◌, get_or, Some, None, refl, sym, ap, subst, ◌∙◌, arith, true, ltb, ℤ, pos, negsuc}
-use Rattle.std.specs.Prelude.{decimal, ◌&&◌}
+use Rattle.std.proofs.Common.{◌≡◌, ℕ, suc, ◌<◌, ◌≤◌, ◌^◌, List, ◌∷◌, get_or, Some, None, refl, sym, ap, ◌∙◌, arith, true, ltb, ℤ, pos, negsuc}
+use Rattle.std.specs.Prelude.{decimal}
 use Rattle.std.specs.Fmt.{signed_decimal}
-use Rattle.std.proofs.lemmas.Bool.{ltb-true, lt-ltb}
+use Rattle.std.proofs.lemmas.Bool.{lt-ltb}
 use Rattle.std.proofs.lemmas.Fmt.{decimal_injective}
 use Rattle.std.proofs.lemmas.Int.{to_z-of_z}
 use mir.Syntax.{Width, w64}
@@ -10,7 +10,7 @@ use mir.Val.{SFits, to_z, of_z, hbits}
 use Rattle.lapin_scalars.specs.Scalars.{in_range}
 use Rattle.lapin_scalars.specs.Scalars.Scalar.{signed}
 use Rattle.lapin_scalars.specs.Reading.{scalar_of}
-use Rattle.lapin_scalars.proofs.ScalarLaws.{both_true, true_both, scalar_again, is_scalar, small, no_minus}
+use Rattle.lapin_scalars.proofs.ScalarLaws.{true_both, scalar_again, is_scalar, small, no_minus}
 
 pub within : (limit n : ℕ) → n < limit → limit ≤ 2 ^ 63 → in_range limit (pos n) ≡ true
 within limit n lt le = true_both (ltb n limit) (ltb n (2 ^ 63)) (lt-ltb _ _ lt) (lt-ltb _ _ (omega arith))

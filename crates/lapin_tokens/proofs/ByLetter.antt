@@ -1,5 +1,5 @@
 -- A value by its letter.
-use Rattle.std.proofs.Common.{◌≡◌, ℕ, zero, suc, ◌-◌, List, [], ◌∷◌, Option, Some, None, refl, sym, ap, ◌∙◌, arith, eqb}
+use Rattle.std.proofs.Common.{◌≡◌, ℕ, zero, suc, ◌-◌, List, [], Option, Some, None, refl, sym, ◌∙◌, arith}
 use Rattle.std.proofs.lemmas.Bool.{ne_eqb}
 use Rattle.lapin_values.specs.Data.{Data, array, table, items_of, pairs_of}
 use Rattle.lapin_scalars.specs.declared.fault.ReadError.{ReadError}

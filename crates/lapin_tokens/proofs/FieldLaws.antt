@@ -1,8 +1,6 @@
 -- A token gives back its value, and nothing else has that token.
-use Rattle.std.proofs.Common.{◌≡◌, ℕ, suc, ◌^◌, List, [], ◌∷◌, ◌++◌, Option, Some, None, refl, sym, ap, subst, ◌∙◌, Bool, true, false}
+use Rattle.std.proofs.Common.{◌≡◌, ℕ, List, [], ◌∷◌, ◌++◌, Option, Some, None, refl, sym, ap, subst, ◌∙◌, true}
 use Rattle.std.proofs.lemmas.List.{append-nil}
-use Rattle.lapin_values.specs.Properties.{Properties}
-use Rattle.lapin_values.specs.Data.{Data}
 use Rattle.lapin_scalars.specs.Scalars.Scalar.{text as a_text, bytes as some_bytes, flag as a_flag, number as a_number}
 use Rattle.lapin_tokens.specs.Values.{table_text}
 use Rattle.lapin_tokens.specs.Properties.{properties_text}
@@ -10,7 +8,7 @@ use Rattle.lapin_tokens.specs.Fields.{Field, Value, Values, token, tokens, fits,
 use Rattle.lapin_tokens.specs.Fields.Field.{text, bytes, table, props, flag, number}
 use Rattle.lapin_tokens.specs.ValueReading.{table_at, whole}
 use Rattle.lapin_tokens.specs.PropertyReading.{properties_at}
-use Rattle.lapin_tokens.specs.Reading.{◌>>=◌, value_of, field_at, fields_at}
+use Rattle.lapin_tokens.specs.Reading.{value_of, field_at, fields_at}
 use Rattle.lapin_scalars.proofs.ScalarLaws.{scalar_again, scalar_found}
 use Rattle.lapin_tokens.proofs.NestedLaws.{table_again, table_found}
 use Rattle.lapin_tokens.proofs.PropertyLaws.{properties_again, properties_found}

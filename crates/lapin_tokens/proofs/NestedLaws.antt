@@ -1,5 +1,5 @@
 -- Arrays and tables: what was written is read, and what was read is spelled so.
-use Rattle.std.proofs.Common.{◌≡◌, ◌≢◌, ℕ, zero, suc, ◌+◌, ◌-◌, ◌<◌, ◌≤◌, List, [], ◌∷◌, ◌++◌, length, Option, Some, None, refl, sym, ap, subst, ◌∙◌, arith, Bool, true, false, cond, eqb, append_assoc}
+use Rattle.std.proofs.Common.{◌≡◌, ℕ, zero, suc, List, [], ◌∷◌, ◌++◌, Some, None, refl, sym, ap, subst, ◌∙◌, arith, Bool, true, false, cond, append_assoc}
 use Rattle.std.specs.Prelude.{◌&&◌}
 use Rattle.std.specs.List.{join_with_byte}
 use Rattle.std.specs.FinMap.Entries.{is_sorted}
@@ -15,15 +15,15 @@ use Rattle.lapin_scalars.proofs.PlainLaws.{plain_scalar}
 use Rattle.lapin_tokens.specs.declared.letters.Letter.{Letter}
 use Rattle.lapin_tokens.specs.declared.letters.Letter.TheVariants as letter
 use Rattle.lapin_tokens.specs.Letters.{letter_byte}
-use Rattle.lapin_tokens.specs.Cursor.{◌>>=◌, after_mark, is_separator, word_of, after_word}
-use Rattle.lapin_tokens.specs.Values.{bracketed, leaf_text, leaf_fits, value_text, item_texts, pair_texts, table_text, value_fits, items_fit, pairs_fit, table_fits}
+use Rattle.lapin_tokens.specs.Cursor.{after_mark, is_separator, word_of, after_word}
+use Rattle.lapin_tokens.specs.Values.{bracketed, leaf_fits, value_text, item_texts, pair_texts, table_text, value_fits, items_fit, pairs_fit, table_fits}
 use Rattle.lapin_tokens.specs.ValueReading.{leaf_of, leaf_at, next_letter, item_at, key_at, added, pair_at, by_letter, value_at, array_at, table_at}
 use Rattle.lapin_tokens.proofs.Words.{word_plain, rest_plain, word_rest}
 use Rattle.lapin_tokens.proofs.Rising.{rising_front}
 use Rattle.lapin_tokens.proofs.Turns.{pair_read}
 use Rattle.lapin_tokens.proofs.ByLetter.{by_the_letter, value_letter, array_up, table_up, array_none, table_none}
-use Rattle.lapin_tokens.proofs.MemberLaws.{bind_some, some_is, mark_found, Leads, Runs, inside_at, inside_again, inside_found}
-use Rattle.lapin_tokens.proofs.ValueLaws.{items_back, pairs_back, next_again, next_found, letter_of, behind_letter, leaf_read, leaf_spelled, leaf_found, IsLeaf}
+use Rattle.lapin_tokens.proofs.MemberLaws.{bind_some, some_is, mark_found, Leads, Runs, inside_again, inside_found}
+use Rattle.lapin_tokens.proofs.ValueLaws.{items_back, pairs_back, next_again, next_found, letter_of, behind_letter, leaf_read, leaf_spelled, leaf_found}
 
 -- ---- texts
 

@@ -1,5 +1,5 @@
 -- What a reader of properties knows at each turn, and at the end.
-use Rattle.std.proofs.Common.{◌≡◌, ℕ, suc, ◌+◌, ◌<◌, List, [], ◌∷◌, length, drop, get_or, Option, Some, None, refl, sym, ap, ◌∙◌, arith, Bool, true, false, add-one, drop-cons}
+use Rattle.std.proofs.Common.{◌≡◌, ℕ, ◌+◌, ◌<◌, List, [], ◌∷◌, length, drop, get_or, Option, Some, refl, sym, ap, ◌∙◌, Bool, true, add-one, drop-cons}
 use Rattle.lapin_values.specs.Properties.{Properties, no_properties}
 use Rattle.lapin_scalars.specs.declared.fault.ReadError.{ReadError}
 use Rattle.lapin_scalars.specs.declared.fault.ReadError.TheVariants as errors

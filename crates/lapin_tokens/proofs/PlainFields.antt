@@ -1,5 +1,5 @@
 -- No token of a field has a space or a byte below it.
-use Rattle.std.proofs.Common.{◌≡◌, ℕ, zero, suc, ◌^◌, List, [], ◌∷◌, ◌++◌, Option, Some, None, refl, sym, ap, ◌∙◌, arith, Bool, true, false, ltb, inl, inr}
+use Rattle.std.proofs.Common.{◌≡◌, ℕ, zero, suc, ◌^◌, List, [], ◌∷◌, ◌++◌, Option, Some, None, refl, arith, true, ltb, inl, inr}
 use Rattle.std.specs.Prelude.{◌&&◌}
 use Rattle.std.specs.List.{join_with_byte}
 use Rattle.std.specs.FinMap.Entries.{is_sorted}
@@ -16,7 +16,7 @@ use Rattle.lapin_tokens.specs.declared.names.Property.{Property}
 use Rattle.lapin_tokens.specs.declared.names.Property.TheVariants as property
 use Rattle.lapin_tokens.specs.declared.names.TheConstants.{PROPERTIES}
 use Rattle.lapin_tokens.specs.Values.{bracketed, leaf_text, leaf_fits, value_text, item_texts, pair_texts, value_fits, items_fit, pairs_fit}
-use Rattle.lapin_tokens.specs.Properties.{Kind, KindValue, short, headers, octet, moment, kind_text, kind_fits, name, kind, given, part_text, with_part, part_texts, part_fits, parts_fit}
+use Rattle.lapin_tokens.specs.Properties.{Kind, KindValue, short, headers, octet, moment, kind_text, kind_fits, name, kind, given, with_part, part_texts, part_fits, parts_fit}
 use Rattle.lapin_tokens.specs.Fields.{Field, Value, Values, token, tokens, fits, AllFit}
 use Rattle.lapin_tokens.specs.Fields.Field.{text, bytes, table, props, flag, number}
 use Rattle.lapin_tokens.proofs.Words.{or_cases}

@@ -1,8 +1,8 @@
 -- What stands behind a text.
-use Rattle.std.proofs.Common.{◌≡◌, ◌≢◌, ℕ, List, [], ◌∷◌, ◌++◌, Option, Some, None, refl, sym, ap, subst, ◌∙◌, Bool, true, false, cond, eqb, append_assoc, Bor}
+use Rattle.std.proofs.Common.{◌≡◌, ◌≢◌, ℕ, List, [], ◌∷◌, ◌++◌, Option, Some, None, refl, sym, ap, ◌∙◌, append_assoc, Bor}
 use Rattle.std.specs.Prelude.{IfSome, IfNone}
 use Rattle.std.specs.Option.{MatchOption}
-use Rattle.lapin_tokens.specs.Cursor.{◌>>=◌, after_mark, after_text}
+use Rattle.lapin_tokens.specs.Cursor.{after_mark, after_text}
 use Rattle.lapin_tokens.proofs.MemberLaws.{bind_some, some_is, same_mark, mark_found}
 
 pub text_again : (p rest : List ℕ) → after_text p (p ++ rest) ≡ Some rest

@@ -1,5 +1,5 @@
 -- Properties: what was written is read, and what was read is spelled so.
-use Rattle.std.proofs.Common.{◌≡◌, ◌≢◌, ◌^◌, ℕ, zero, suc, List, [], ◌∷◌, ◌++◌, Option, Some, None, refl, sym, ap, subst, ◌∙◌, arith, Bool, true, false, cond, eqb, append_assoc}
+use Rattle.std.proofs.Common.{◌≡◌, ◌^◌, ℕ, List, [], ◌∷◌, ◌++◌, Option, Some, None, refl, sym, ap, subst, ◌∙◌, Bool, true, false, cond, eqb, append_assoc}
 use Rattle.std.specs.Prelude.{◌&&◌, ◌==◌, if◌then◌else◌}
 use Rattle.std.specs.List.{join_with_byte}
 use Rattle.lapin_values.specs.Properties.{Properties, no_properties}
@@ -12,7 +12,7 @@ use Rattle.lapin_tokens.specs.declared.names.TheConstants.{PROPERTIES}
 use Rattle.lapin_tokens.specs.Cursor.{◌>>=◌, after_mark, after_text, is_separator, word_of, after_word}
 use Rattle.lapin_tokens.specs.Values.{bracketed}
 use Rattle.lapin_tokens.specs.Properties.{Kind, KindValue, short, headers, octet, moment, kind_text, kind_fits, name, kind, given, part_text, with_part, part_texts, properties_text, part_fits, parts_fit, properties_fit}
-use Rattle.lapin_tokens.specs.PropertyReading.{kind_at, put_text, set_at, mark, value_behind, part_at, parts_at, closed, properties_at}
+use Rattle.lapin_tokens.specs.PropertyReading.{kind_at, set_at, mark, value_behind, part_at, parts_at, closed, properties_at}
 use Rattle.lapin_tokens.proofs.Words.{word_rest}
 use Rattle.lapin_tokens.proofs.MemberLaws.{bind_some, some_is, same_mark, mark_found}
 use Rattle.lapin_tokens.proofs.ValueLaws.{word_again, rest_again}

@@ -1,29 +1,23 @@
 -- Values: what was written is read, and what was read is spelled so.
-use Rattle.std.proofs.Common.{◌≡◌, ◌≢◌, ℕ, zero, suc, ◌+◌, ◌<◌, ◌≤◌, ◌^◌, List, [], ◌∷◌, ◌++◌, length, Option, Some, None, refl, sym, ap, subst, ◌∙◌, arith, Bool, true, false, cond, eqb, append_assoc}
-use Rattle.std.specs.Prelude.{◌&&◌}
-use Rattle.std.specs.List.{join_with_byte, find}
+use Rattle.std.proofs.Common.{◌≡◌, ℕ, ◌^◌, List, [], ◌∷◌, ◌++◌, Option, Some, refl, sym, ap, subst, ◌∙◌, Bool, true, false, cond, eqb}
+use Rattle.std.specs.List.{find}
 use Rattle.std.specs.Cmp.{unsigned_Decides}
-use Rattle.std.specs.FinMap.Entries.{is_sorted}
-use Rattle.std.proofs.lemmas.List.{append-nil}
-use Rattle.lapin_values.specs.Data.{Leaf, boolean, short_short_int, short_short_uint, short_int, short_uint, long_int, long_uint, long_long_int, timestamp, long_string, byte_array, void, Data, leaf, array, table, Items, no_items, item, Pairs, no_pairs, pair, items_of, pairs_of}
-use Rattle.lapin_values.specs.Table.{key_cmp}
-use Rattle.lapin_values.specs.ValueOf.{items_list, pairs_list, pairs_list-pairs_of}
+use Rattle.lapin_values.specs.Data.{Leaf, boolean, short_short_int, short_short_uint, short_int, short_uint, long_int, long_uint, long_long_int, timestamp, long_string, byte_array, void, Data, leaf, Items, no_items, item, Pairs, no_pairs, pair, items_of, pairs_of}
+use Rattle.lapin_values.specs.ValueOf.{items_list, pairs_list}
 use Rattle.lapin_scalars.specs.Scalars.{Scalar, ScalarValue, scalar_text, scalar_fits}
-use Rattle.lapin_scalars.specs.Scalars.Scalar.{text as a_text, pairs as some_pairs, flag as a_flag, number as a_number, signed as a_signed}
+use Rattle.lapin_scalars.specs.Scalars.Scalar.{pairs as some_pairs, flag as a_flag, number as a_number, signed as a_signed}
 use Rattle.lapin_scalars.specs.Reading.{scalar_of}
-use Rattle.lapin_scalars.proofs.ScalarLaws.{both_true, true_both, scalar_again, scalar_found}
+use Rattle.lapin_scalars.proofs.ScalarLaws.{scalar_again, scalar_found}
 use Rattle.lapin_scalars.proofs.PlainLaws.{plain_scalar}
 use Rattle.lapin_tokens.specs.declared.letters.TheConstants.{LETTERS}
 use Rattle.lapin_tokens.specs.declared.letters.Letter.{Letter}
 use Rattle.lapin_tokens.specs.declared.letters.Letter.TheVariants as letter
 use Rattle.lapin_tokens.specs.Letters.{letter_byte, letter_at}
-use Rattle.lapin_tokens.specs.Cursor.{◌>>=◌, after_mark, is_separator, word_of, after_word}
-use Rattle.lapin_tokens.specs.Values.{leaf_text, leaf_fits, value_text, item_texts, pair_texts, table_text, value_fits, items_fit, pairs_fit, table_fits}
-use Rattle.lapin_tokens.specs.ValueReading.{void_of, leaf_of, leaf_at, next_letter, item_at, key_at, pair_at, by_letter, value_at, array_at, table_at, whole}
-use Rattle.lapin_tokens.proofs.Words.{word_plain, rest_plain, word_rest}
-use Rattle.lapin_tokens.proofs.Rising.{rising_front}
-use Rattle.lapin_tokens.proofs.ByLetter.{by_the_letter, value_letter}
-use Rattle.lapin_tokens.proofs.MemberLaws.{bind_some, some_is, mark_found, Leads, Runs, inside_again, inside_found}
+use Rattle.lapin_tokens.specs.Cursor.{◌>>=◌, is_separator, word_of, after_word}
+use Rattle.lapin_tokens.specs.Values.{leaf_text, leaf_fits}
+use Rattle.lapin_tokens.specs.ValueReading.{leaf_of, next_letter, by_letter}
+use Rattle.lapin_tokens.proofs.Words.{word_plain, rest_plain}
+use Rattle.lapin_tokens.proofs.MemberLaws.{bind_some, some_is}
 
 -- ---- lists and trees
 

@@ -1,5 +1,5 @@
 -- What is written member by member is the text of the whole.
-use Rattle.std.proofs.Common.{◌≡◌, ℕ, zero, suc, ◌+◌, ◌≤◌, ◌<◌, List, [], ◌∷◌, ◌++◌, map, length, take, Option, Some, None, refl, sym, ap, subst, ◌∙◌, arith, Bool, true, false, append_assoc}
+use Rattle.std.proofs.Common.{◌≡◌, ℕ, zero, suc, ◌+◌, ◌≤◌, ◌<◌, List, [], ◌∷◌, ◌++◌, map, length, take, Option, Some, None, refl, sym, ap, ◌∙◌, arith, Bool, true, false, append_assoc}
 use Rattle.std.specs.Prelude.{slice_get}
 use Rattle.std.specs.List.{join_with_byte}
 use Rattle.std.proofs.Common.{drop, get_or, add-one, drop-cons}
@@ -12,10 +12,9 @@ use Rattle.lapin_values.specs.declared.value.AMQPValue.{AMQPValue}
 use Rattle.lapin_values.specs.declared.value.AMQPValue.TheVariants as V
 use Rattle.lapin_tokens.specs.declared.names.Property.{Property}
 use Rattle.lapin_tokens.specs.declared.names.TheConstants.{PROPERTIES}
-use Rattle.lapin_tokens.specs.Values.{bracketed, leaf_text, value_text, item_texts, pair_texts, array_text, table_text}
+use Rattle.lapin_tokens.specs.Values.{leaf_text, value_text, item_texts, pair_texts, array_text, table_text}
 use Rattle.lapin_tokens.specs.Properties.{KindValue, kind, given, part_text, with_part, part_texts, properties_text}
-use Rattle.lapin_tokens.specs.PropertyReading.{mark}
-use Rattle.lapin_tokens.specs.Writing.{leaf_part, comma, member_text, members_text, pair_text, marked, stays, ending_of, parts_text}
+use Rattle.lapin_tokens.specs.Writing.{leaf_part, comma, member_text, members_text, pair_text, marked, stays, parts_text}
 use Rattle.lapin_tokens.proofs.PropertyLaws.{commas, opened, bracketed_is}
 
 -- ---- members

@@ -1,5 +1,5 @@
 -- The kinds of fields that a line has, their values, and the token of each value.
-use Rattle.std.specs.Prelude.{◌≡◌, ℕ, ◌^◌, Bool, true, ◌&&◌, List, [], ◌∷◌}
+use Rattle.std.specs.Prelude.{◌≡◌, ℕ, ◌^◌, Bool, true, List, [], ◌∷◌}
 use Rattle.lapin_values.specs.Data.{Data}
 use Rattle.lapin_values.specs.Properties.{Properties}
 use Rattle.lapin_scalars.specs.Scalars.{scalar_text, scalar_fits}

@@ -1,5 +1,5 @@
 -- The text of a message's properties.
-use Rattle.std.specs.Prelude.{◌≡◌, ℕ, ◌^◌, Bool, true, ◌&&◌, List, [], ◌∷◌, ◌++◌, codes, Option, Some, None}
+use Rattle.std.specs.Prelude.{ℕ, ◌^◌, Bool, true, ◌&&◌, List, [], ◌∷◌, ◌++◌, codes, Option, Some, None}
 use Rattle.lapin_values.specs.Data.{Data}
 use Rattle.lapin_values.specs.Properties.{Properties}
 use Rattle.lapin_scalars.specs.Scalars.{scalar_text, scalar_fits}

@@ -9,7 +9,7 @@ use Rattle.lapin_tokens.specs.declared.names.Property.TheVariants as property
 use Rattle.lapin_tokens.specs.declared.names.TheConstants.{PROPERTIES}
 use Rattle.lapin_tokens.specs.Cursor.{◌>>=◌, after_mark, after_text, word_of, after_word}
 use Rattle.lapin_tokens.specs.ValueReading.{table_at}
-use Rattle.lapin_tokens.specs.Properties.{Kind, KindValue, short, headers, octet, moment, name, kind}
+use Rattle.lapin_tokens.specs.Properties.{Kind, KindValue, short, headers, octet, moment, name}
 
 -- a value of a kind
 unfoldable pub kind_at : (k : Kind) → List ℕ → Option (KindValue k × List ℕ)

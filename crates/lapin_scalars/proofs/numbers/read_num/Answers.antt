@@ -1,5 +1,4 @@
-use Rattle.std.proofs.Common.{◌≡◌, sym, ap, ◌∙◌, rules, subst, true}
-use Rattle.std.specs.Prelude.{IsTrue}
+use Rattle.std.proofs.Common.{sym, ◌∙◌, rules, subst}
 use Rattle.lapin_scalars.specs.Numerals.{StartsPlainly}
 use Rattle.lapin_scalars.proofs.NumberLaws.{starts_as_decimal, text_as_decimal, num_found, num_none}
 use Rattle.lapin_scalars.proofs.numbers.read_num.Goals as goal

@@ -1,4 +1,4 @@
-use Rattle.std.proofs.Common.{◌^◌, arith, sym}
+use Rattle.std.proofs.Common.{◌^◌, arith}
 use Rattle.lapin_scalars.proofs.NumberLaws.{wide_some, wide_none, wide_past}
 use Rattle.lapin_scalars.proofs.numbers.u32_of.Goals as goal
 

@@ -1,4 +1,4 @@
-use Rattle.std.proofs.Common.{◌^◌, arith, sym}
+use Rattle.std.proofs.Common.{◌^◌, arith}
 use Rattle.lapin_scalars.proofs.NumberLaws.{wide_some, wide_none}
 use Rattle.lapin_scalars.proofs.numbers.u64_of.Goals as goal
 

@@ -1,4 +1,4 @@
-use Rattle.std.proofs.Common.{◌^◌, ◌≤◌, arith}
+use Rattle.std.proofs.Common.{◌^◌, arith}
 use mir.Syntax.{w16}
 use Rattle.lapin_scalars.proofs.SignedLaws.{narrowed, signed_none}
 use Rattle.lapin_scalars.proofs.signed.i16_of.Goals as goal

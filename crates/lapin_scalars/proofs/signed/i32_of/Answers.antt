@@ -1,4 +1,4 @@
-use Rattle.std.proofs.Common.{◌^◌, ◌≤◌, arith}
+use Rattle.std.proofs.Common.{◌^◌, arith}
 use mir.Syntax.{w32}
 use Rattle.lapin_scalars.proofs.SignedLaws.{narrowed, signed_none}
 use Rattle.lapin_scalars.proofs.signed.i32_of.Goals as goal

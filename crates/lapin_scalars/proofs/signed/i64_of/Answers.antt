@@ -1,4 +1,4 @@
-use Rattle.std.proofs.Common.{◌≡◌, ◌^◌, ◌≤◌, ◌∙◌, arith, ap, sym, ℤ, Some}
+use Rattle.std.proofs.Common.{◌^◌, ◌∙◌, arith, ap, sym, ℤ, Some}
 use Rattle.std.proofs.lemmas.Int.{to_z-of_z}
 use mir.Syntax.{w64}
 use Rattle.lapin_scalars.proofs.SignedLaws.{within_width, signed_some, signed_none}

@@ -1,4 +1,4 @@
-use Rattle.std.proofs.Common.{arith, ◌^◌}
+use Rattle.std.proofs.Common.{arith}
 use Rattle.lapin_scalars.proofs.SignedLaws.{minus_other, minus_none}
 use Rattle.lapin_scalars.proofs.signed.negative.Goals as goal
 

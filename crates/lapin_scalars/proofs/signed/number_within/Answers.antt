@@ -1,4 +1,4 @@
-use Rattle.std.proofs.Common.{◌≡◌, Option, Some, None, ℤ, true}
+use Rattle.std.proofs.Common.{Option, Some, None, ℤ}
 use Rattle.std.specs.Prelude.{IfNone}
 use Rattle.lapin_scalars.proofs.SignedLaws.{none_within}
 use Rattle.lapin_scalars.proofs.signed.number_within.Goals as goal

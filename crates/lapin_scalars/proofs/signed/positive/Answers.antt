@@ -1,4 +1,4 @@
-use Rattle.std.proofs.Common.{arith, ◌^◌}
+use Rattle.std.proofs.Common.{arith}
 use Rattle.lapin_scalars.proofs.SignedLaws.{plain_past, plain_none}
 use Rattle.lapin_scalars.proofs.signed.positive.Goals as goal
 

@@ -1,4 +1,4 @@
-use Rattle.std.proofs.Common.{◌≡◌, sym, ◌∙◌}
+use Rattle.std.proofs.Common.{sym, ◌∙◌}
 use Rattle.std.proofs.lemmas.List.{take_rest}
 use Rattle.lapin_tokens.proofs.Words.{word_some, rest_some, word_none, rest_none}
 use Rattle.lapin_tokens.proofs.cursor.split_word.Goals as goal

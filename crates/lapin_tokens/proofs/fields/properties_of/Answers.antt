@@ -1,4 +1,3 @@
-use Rattle.std.proofs.Common.{ap}
 use Rattle.std.proofs.lemmas.Result.{err_from_is_err_and}
 use Rattle.lapin_tokens.specs.Reading.{value_of}
 use Rattle.lapin_tokens.specs.PropertyReading.{properties_at}

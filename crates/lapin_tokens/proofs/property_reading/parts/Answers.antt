@@ -1,4 +1,4 @@
-use Rattle.std.proofs.Common.{◌≡◌, ◌<◌, length, arith, true}
+use Rattle.std.proofs.Common.{arith}
 use Rattle.std.proofs.lemmas.Result.{err_from_is_err_and}
 use Rattle.lapin_tokens.specs.declared.names.TheConstants.{PROPERTIES}
 use Rattle.lapin_tokens.proofs.PartTurns.{part_fails, part_on}

@@ -1,4 +1,4 @@
-use Rattle.std.proofs.Common.{◌<◌, length, arith}
+use Rattle.std.proofs.Common.{arith}
 use Rattle.lapin_tokens.specs.declared.names.TheConstants.{PROPERTIES}
 use Rattle.lapin_tokens.proofs.WritingLaws.{part_written}
 use Rattle.lapin_tokens.proofs.property_writing.put_parts.Goals as goal

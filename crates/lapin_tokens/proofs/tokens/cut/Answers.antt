@@ -1,4 +1,4 @@
-use Rattle.std.proofs.Common.{◌≡◌, ap, ◌∷◌, ◌∙◌, sym}
+use Rattle.std.proofs.Common.{◌∙◌, sym}
 use Rattle.std.proofs.lemmas.List.{take_rest}
 use Rattle.lapin_tokens.proofs.Splits.{split_none, split_some}
 use Rattle.lapin_tokens.proofs.tokens.cut.Goals as goal

@@ -1,4 +1,4 @@
-use Rattle.std.proofs.Common.{◌≡◌, ◌<◌, ◌≤◌, ◌-◌, ◌+◌, ◌∷◌, ◌++◌, ℕ, suc, List, [], length, arith, rules, ap, sym, ◌∙◌, Some, None, refl}
+use Rattle.std.proofs.Common.{arith}
 use Rattle.std.proofs.lemmas.Result.{err_from_is_err_and}
 use Rattle.lapin_values.specs.DataOf.{data_of}
 use Rattle.lapin_tokens.specs.ValueReading.{item_at, pair_at, value_at}

@@ -1,4 +1,4 @@
-use Rattle.std.proofs.Common.{◌≡◌, ◌+◌, ◌*◌, ◌-◌, ◌≤◌, [], length}
+use Rattle.std.proofs.Common.{◌≡◌, ◌+◌, ◌*◌, ◌-◌, [], length}
 use Rattle.lapin_tokens.specs.ValueReading.{members_at, item_at, pair_at, value_at}
 use Rattle.lapin_tokens.proofs.values.+values.Given as goal
 

@@ -1,4 +1,4 @@
-use Rattle.std.proofs.Common.{◌≡◌, ◌-◌, suc, sym, arith, length}
+use Rattle.std.proofs.Common.{◌-◌, sym, arith}
 use Rattle.lapin_values.specs.DataOf.{data_of}
 use Rattle.lapin_tokens.proofs.Rising.{rises_as, some_last}
 use Rattle.lapin_tokens.proofs.values.follows.Goals as goal
