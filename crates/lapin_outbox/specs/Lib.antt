@@ -2,6 +2,10 @@ pub mod Begun
 pub mod Bodies
 pub mod Codes
 pub mod Cut
+pub mod Drops
 pub mod Entries
+pub mod Line
+pub mod Links
 pub mod Open
+pub mod Order
 pub mod Outgoing

@@ -2,13 +2,15 @@
 //!
 //! The order of these frames and their marks live here, the cut of the payload in `bodies`. The outbox calls this file.
 
-ghost use Rattle.std.specs.Prelude.{◌≡◌, ◌<◌, IfOk, OnOk, OnErr, drop, length};
+ghost use Rattle.std.specs.Prelude.{◌≡◌, ℕ, true, ◌<◌, IfOk, OnOk, OnErr, drop, length, slice_get};
 ghost use Rattle.lapin_types.specs.Types.method;
 ghost use Rattle.lapin_types.specs.Types.basic;
 ghost use Rattle.lapin_history.specs.Frames.{is_empty, left_publish, rest_of};
 ghost use Rattle.lapin_outbox.specs.Begun.{first_left};
+ghost use Rattle.lapin_outbox.specs.Drops.{AreOn, is_rest_of, told_rest};
 
 use crate::bodies::Bodies;
+use crate::dropped::Dropped;
 use lapin_types::{
     BasicMethod, BasicProperties, BasicPublishOptions, ContentHeader, Frame, Left, Method,
     NoMemory, Payload, Publish, ShortString,
@@ -88,6 +90,33 @@ impl Begun {
         ensures { result ≡ is_empty self.now }
     {
         self.header.is_none() && self.bodies.is_empty()
+    }
+
+    /// Whether some of its frames have not left and it is of this channel.
+    pub(crate) fn is_of(&self, channel: u16) -> bool
+        ensures { result ≡ is_rest_of channel self.now }
+    {
+        !self.is_empty() && self.channel == channel
+    }
+
+    /// A law, and nothing runs: all its frames are on one channel.
+    pub(crate) fn frames_are_on_one_channel(&self)
+        ensures { (c : ℕ) → is_rest_of c self.now ≡ true → AreOn c self.now }
+    {
+        let _channel = self.channel;
+    }
+
+    /// What a drop tells of it; None where all frames have left.
+    pub(crate) fn dropped(&self) -> Option<Dropped>
+        ensures { result ≡ slice_get (told_rest self.now) 0 }
+    {
+        if self.is_empty() {
+            return None;
+        }
+        Some(Dropped {
+            ticket: Some(self.ticket),
+            publish: Some(self.confirm),
+        })
     }
 
     /// Takes out the next frame; None where all have left. Where there is no memory nothing is taken.

@@ -1,12 +1,16 @@
-//! Laws of the frames of a publish, as public functions with an empty body.
+//! Laws of the frames of a publish and of drops, as public functions with an empty body.
 //!
 //! The contracts of the outbox speak of a publish's frames by a definition that cuts its payload step by step. Here it is
-//! proved that this definition says what the standard says. Nothing runs here.
+//! proved that this definition says what the standard says. The contracts speak of one drop; here it is proved what drops tell
+//! and leave that are repeated until there is nothing to drop. Nothing runs here.
 
-ghost use Rattle.std.specs.Prelude.{◌≡◌, ◌<◌, [], ◌∷◌, ℕ, List, map};
+ghost use Rattle.std.specs.Prelude.{◌≡◌, ◌<◌, [], ◌∷◌, ℕ, List, None, map, drop, slice_get};
 ghost use Rattle.lapin_types.specs.Types.frame;
 ghost use Rattle.lapin_history.specs.Frames.{contents, content_header, cut, room_for_body};
+ghost use Rattle.lapin_history.specs.Leaving.{Lists};
 ghost use Rattle.lapin_outbox.specs.Cut.{IsCut, body_payloads};
+ghost use Rattle.lapin_outbox.specs.Outgoing.{no_lists};
+ghost use Rattle.lapin_outbox.specs.Drops.{entries_of, without_entry_of, without_channel, unbegun_of, without_unbegun, without_publishes_of, all_entries, without_entry};
 
 use lapin_types::{Payload, Publish};
 
@@ -25,4 +29,25 @@ pub fn bodies_carry_the_payload(publish: &Publish, frame_max: u32)
 pub fn cut_is_the_only_one(payload: &Payload, most: u32)
     requires { 0 < most }
     ensures { (pieces : List (List ℕ)) → IsCut most payload.now pieces → pieces ≡ cut most payload.now }
+{}
+
+/// Drops of a channel tell of its entries one by one, and leave the entries of other channels. Where one finds nothing, none of
+/// the channel's entries is there.
+pub fn drops_empty_a_channel(channel: u16)
+    ensures told { (l : Lists) → entries_of channel (without_entry_of channel l) ≡ drop 1 (entries_of channel l) }
+    ensures others { (l : Lists) → without_channel channel (without_entry_of channel l) ≡ without_channel channel l }
+    ensures end { (l : Lists) → slice_get (entries_of channel l) 0 ≡ None → without_channel channel l ≡ l }
+{}
+
+/// Drops of a channel's unbegun publishes tell of them one by one, and leave all else. Where one finds nothing, none is there.
+pub fn drops_empty_the_unbegun(channel: u16)
+    ensures told { (l : Lists) → unbegun_of channel (without_unbegun channel l) ≡ drop 1 (unbegun_of channel l) }
+    ensures others { (l : Lists) → without_publishes_of channel (without_unbegun channel l) ≡ without_publishes_of channel l }
+    ensures end { (l : Lists) → slice_get (unbegun_of channel l) 0 ≡ None → without_publishes_of channel l ≡ l }
+{}
+
+/// Drops over all channels tell of all entries one by one. Where one finds nothing, nothing waits.
+pub fn drops_empty_the_outbox()
+    ensures told { (l : Lists) → all_entries (without_entry l) ≡ drop 1 (all_entries l) }
+    ensures end { (l : Lists) → slice_get (all_entries l) 0 ≡ None → l ≡ no_lists }
 {}

@@ -1,19 +1,23 @@
 //! The order in which frames leave, and the open requests of each channel.
 //!
-//! Here live the three lists of frames that wait (what follows a begun publish, methods, publishes) and the requests that
-//! wait for their replies. Neither knows of the state of a channel, of a tag or of a ticket's answer: the session decides
-//! what is queued and what is expected, and calls these two parts for their order alone.
+//! Here live the three lists of frames that wait (what follows a begun publish, methods, publishes), the drops that take out
+//! what will not leave, and the requests that wait for their replies. Neither knows of the state of a channel, of a tag or of a
+//! ticket's answer: the session decides what is queued, dropped and expected, and calls these two parts for their order alone.
 #![tactic(auto)]
 
 mod begun;
 mod bodies;
+mod dropped;
 pub mod laws;
+mod line;
+mod order;
 pub mod outbox;
 pub mod replies;
 mod requests;
 #[cfg(test)]
 mod tests;
 
+pub use dropped::Dropped;
 pub use lapin_types::{Left, Publish, Reply, ReplyKind, Request};
 pub use outbox::{Outbox, Pushed};
 pub use replies::Replies;

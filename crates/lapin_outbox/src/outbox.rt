@@ -2,16 +2,20 @@
 //!
 //! Three lists wait here: what follows the method of the begun publish, methods in order of queueing, and publishes that
 //! have not begun in order of call over all channels. A frame request takes from the first of them that has anything; a
-//! publish begins only where the flow of content is on. The session calls the outbox, and no other part does.
+//! publish begins only where the flow of content is on. A drop takes out what will not leave, an entry at a time. The session
+//! calls the outbox, and no other part does.
 
-ghost use Rattle.std.specs.Prelude.{◌≡◌, ◌+◌, ◌<◌, ◌≤◌, ◌++◌, ◌∷◌, [], IsOk, IfOk, OnOk, OnErr};
+ghost use Rattle.std.specs.Prelude.{◌≡◌, ℕ, true, ◌+◌, ◌<◌, ◌≤◌, ◌++◌, ◌∷◌, [], IsOk, IfOk, OnOk, OnErr, slice_get, is_some, if◌then◌else◌};
 ghost use Rattle.lapin_history.specs.Leaving.{handed_of, left_lists};
 ghost use Rattle.lapin_outbox.specs.Outgoing.{no_lists, with_method, with_publish, has_entries};
+ghost use Rattle.lapin_outbox.specs.Entries.{rest_in};
+ghost use Rattle.lapin_outbox.specs.Drops.{AreOn, told_rest, told_rest_of, told_publish, is_rest_of, unbegun_of, without_unbegun, entries_of, without_entry_of, all_entries, without_entry};
 
 use crate::begun::Begun;
+use crate::dropped::Dropped;
+use crate::line::{Line, OnChannel};
 use lapin_types::{Frame, Left, Method, NoMemory, Publish};
 use std::alloc::Global;
-use std::collections::VecDeque;
 use std::marker::Model;
 
 /// What became of a method or a publish that was pushed.
@@ -32,6 +36,7 @@ struct Waiting {
 impl Waiting {
     ghost use Rattle.lapin_history.specs.Frames.{left_method};
     ghost use Rattle.lapin_outbox.specs.Entries.{entry_of};
+    ghost use Rattle.lapin_outbox.specs.Drops.{told_method};
 
     // As it leaves: the first and the last frame of its entry.
     fn leave(self) -> Left
@@ -51,6 +56,32 @@ impl Waiting {
             again: false,
         }
     }
+
+    // What a drop tells of it.
+    fn dropped(self) -> Dropped
+        ensures { result ≡ told_method (entry_of self) }
+    {
+        Dropped {
+            ticket: self.ticket,
+            publish: None,
+        }
+    }
+}
+
+impl OnChannel for Waiting {
+    ghost channel_of = { λ w. w.channel };
+
+    fn channel(&self) -> u16 {
+        self.channel
+    }
+}
+
+impl OnChannel for Publish {
+    ghost channel_of = { λ p. p.channel };
+
+    fn channel(&self) -> u16 {
+        self.channel
+    }
 }
 
 /// The frames that wait to leave. A contract sees the three lists, the largest frame and the room for further entries.
@@ -58,13 +89,12 @@ impl Waiting {
 pub struct Outbox {
     frame_max: u32,
     begun: Option<Begun>,
-    methods: VecDeque<Waiting>,
-    publishes: VecDeque<Publish>,
+    methods: Line<Waiting>,
+    publishes: Line<Publish>,
 }
 
 impl Model for Outbox {
-    ghost use Rattle.std.specs.Prelude.{◌≤◌, map, min, ◌-◌};
-    ghost use Rattle.std.specs.VecDeque.{deque_len, deque_capacity};
+    ghost use Rattle.std.specs.Prelude.{◌≤◌, map, min};
     ghost use Rattle.lapin_outbox.specs.Outgoing.{Outgoing};
     ghost use Rattle.lapin_outbox.specs.Codes.{outgoing_code};
 
@@ -76,8 +106,8 @@ impl Model for Outbox {
 
     ghost view = { λ o. record {
       frame_max = o.frame_max;
-      lists = record { rest = rest_in o.begun; methods = map entry_of o.methods.items; publishes = o.publishes.items };
-      spare = min (deque_capacity o.methods - deque_len o.methods) (deque_capacity o.publishes - deque_len o.publishes);
+      lists = record { rest = rest_in o.begun; methods = map entry_of o.methods.entries; publishes = o.publishes.entries };
+      spare = min o.methods.spare o.publishes.spare;
     } };
 
     ghost invariant = { λ o. 4096 ≤ o.frame_max };
@@ -94,8 +124,8 @@ impl Outbox {
         Ok(Outbox {
             frame_max,
             begun: None,
-            methods: VecDeque::new(alloc),
-            publishes: VecDeque::new(alloc),
+            methods: Line::new(alloc),
+            publishes: Line::new(alloc),
         })
     }
 
@@ -117,7 +147,7 @@ impl Outbox {
         ensures room { 0 < self.old.spare → IsOk result }
         ensures used { 0 < self.old.spare → self.old.spare ≤ self.new.spare + 1 }
     {
-        self.methods.push_back(Waiting {
+        self.methods.push(Waiting {
             channel,
             method,
             ticket,
@@ -136,7 +166,7 @@ impl Outbox {
         ensures room { 0 < self.old.spare → IsOk result }
         ensures used { 0 < self.old.spare → self.old.spare ≤ self.new.spare + 1 }
     {
-        self.publishes.push_back(publish)?;
+        self.publishes.push(publish)?;
         Ok(Pushed::Queued)
     }
 
@@ -146,8 +176,8 @@ impl Outbox {
         ensures same { self.new.lists ≡ self.old.lists }
         ensures frame_max { self.new.frame_max ≡ self.old.frame_max }
     {
-        self.methods.reserve(1)?;
-        self.publishes.reserve(1)?;
+        self.methods.reserve()?;
+        self.publishes.reserve()?;
         Ok(())
     }
 
@@ -172,18 +202,76 @@ impl Outbox {
                 return Ok(Some(left));
             }
         }
-        if let Some(waiting) = self.methods.pop_front() {
+        if let Some(waiting) = self.methods.pop() {
             return Ok(Some(waiting.leave()));
         }
         if !flow {
             return Ok(None);
         }
-        let Some(publish) = self.publishes.pop_front() else {
+        let Some(publish) = self.publishes.pop() else {
             return Ok(None);
         };
         let (left, begun) = Begun::new(publish, self.frame_max);
         drop(self.begun.replace(begun));
         Ok(Some(left))
+    }
+
+    /// Takes out the first publish of a channel that has not begun; `None` exactly where there is none.
+    pub fn drop_unbegun(&mut self, channel: u16) -> Option<Dropped>
+        ensures told { result ≡ slice_get (unbegun_of channel self.old.lists) 0 }
+        ensures lists { self.new.lists ≡ without_unbegun channel self.old.lists }
+        ensures frame_max { self.new.frame_max ≡ self.old.frame_max }
+        ensures room { self.old.spare ≤ self.new.spare }
+    {
+        let unbegun = self.publishes.pop_of(channel)?;
+        Some(dropped_publish(unbegun))
+    }
+
+    /// Takes out the first entry of a channel: the begun publish whole, else a method, else a publish; `None` exactly where
+    /// there is none.
+    pub fn drop_channel(&mut self, channel: u16) -> Option<Dropped>
+        ensures told { result ≡ slice_get (entries_of channel self.old.lists) 0 }
+        ensures lists { self.new.lists ≡ without_entry_of channel self.old.lists }
+        ensures frame_max { self.new.frame_max ≡ self.old.frame_max }
+        ensures room { self.old.spare ≤ self.new.spare }
+    {
+        if let Some(dropped) = drop_begun_of(&mut self.begun, channel) {
+            return Some(dropped);
+        }
+        if let Some(waiting) = self.methods.pop_of(channel) {
+            return Some(waiting.dropped());
+        }
+        let publish = self.publishes.pop_of(channel)?;
+        Some(dropped_publish(publish))
+    }
+
+    /// Takes out the first entry over all channels: the begun publish whole, else a method, else a publish; `None` exactly
+    /// where nothing waits.
+    pub fn drop_all(&mut self) -> Option<Dropped>
+        ensures told { result ≡ slice_get (all_entries self.old.lists) 0 }
+        ensures pending { is_some result ≡ has_entries self.old.lists }
+        ensures lists { self.new.lists ≡ without_entry self.old.lists }
+        ensures frame_max { self.new.frame_max ≡ self.old.frame_max }
+        ensures room { self.old.spare ≤ self.new.spare }
+    {
+        if let Some(dropped) = drop_begun(&mut self.begun) {
+            return Some(dropped);
+        }
+        if let Some(method) = self.methods.pop() {
+            return Some(method.dropped());
+        }
+        let publish = self.publishes.pop()?;
+        Some(dropped_publish(publish))
+    }
+
+    /// A law, and nothing runs: all that waits of the begun publish is on one channel, so a drop of that channel leaves no
+    /// frame of it.
+    pub fn begun_publish_is_on_one_channel(&self)
+        ensures { (c : ℕ) → is_rest_of c self.now.lists.rest ≡ true → AreOn c self.now.lists.rest }
+    {
+        if let Some(begun) = &self.begun {
+            begun.frames_are_on_one_channel();
+        }
     }
 
     // Whether the begun publish has left whole, or there is none.
@@ -194,5 +282,33 @@ impl Outbox {
             Some(begun) => begun.is_empty(),
             None => true,
         }
+    }
+}
+
+// Takes out what follows the begun publish, whole.
+fn drop_begun(begun: &mut Option<Begun>) -> Option<Dropped>
+    ensures told { result ≡ slice_get (told_rest (rest_in begun.old)) 0 }
+    ensures left { rest_in begun.new ≡ [] }
+{
+    begun.take()?.dropped()
+}
+
+// Takes out what follows the begun publish, whole, where it is of this channel.
+fn drop_begun_of(begun: &mut Option<Begun>, channel: u16) -> Option<Dropped>
+    ensures told { result ≡ slice_get (told_rest_of channel (rest_in begun.old)) 0 }
+    ensures left { rest_in begun.new ≡ (if is_rest_of channel (rest_in begun.old) then [] else rest_in begun.old) }
+{
+    match begun {
+        Some(publish) if publish.is_of(channel) => drop_begun(begun),
+        _ => None,
+    }
+}
+
+fn dropped_publish(publish: Publish) -> Dropped
+    ensures { result ≡ told_publish publish }
+{
+    Dropped {
+        ticket: Some(publish.ticket),
+        publish: Some(publish.confirm),
     }
 }

@@ -1,0 +1,122 @@
+//! Numbers in order of joining, each of a channel, from which the first of a channel is found at once.
+//!
+//! Under each number stands how far behind it the next number of its channel is, and by channel stand its first number and its
+//! last, so that nothing is searched. What waits under a number is the line's, which alone calls this file.
+
+ghost use Rattle.std.specs.Prelude.{◌≡◌, ◌+◌, ◌^◌, ◌<◌, ◌≤◌, ◌++◌, ◌∷◌, [], Some, length, IsOk, OnOk};
+ghost use Rattle.lapin_outbox.specs.Order.{first_on, without_number};
+
+use lapin_tables::Numbered;
+use lapin_types::NoMemory;
+use std::alloc::Global;
+use std::collections::HashMap;
+use std::marker::Model;
+
+/// A number that waits: its channel, and how far behind it the next number of that channel stands, 0 where there is none.
+#[derive(Clone, Copy)]
+pub(crate) struct Link {
+    channel: u16,
+    next: u64,
+}
+
+/// The first number of a channel and its last.
+#[derive(Clone, Copy)]
+pub(crate) struct Ends {
+    first: u64,
+    last: u64,
+}
+
+/// Numbers from 1 in order of joining. A contract sees the channel under each number, `None` where it was taken.
+#[derive(Drop)]
+pub(crate) struct Order {
+    links: Numbered<Link>,
+    ends: HashMap<u16, Ends>,
+}
+
+impl Model for Order {
+    ghost use Rattle.std.specs.Prelude.{◌≡◌, ℕ, ◌-◌, ◌^◌, min, length, nat_eq};
+    ghost use Rattle.std.specs.HashMap.{get, spare};
+    ghost use Rattle.lapin_outbox.specs.Order.{InOrder};
+    ghost use Rattle.lapin_outbox.specs.Links.{ends_of, AreLinked, channels_of};
+
+    ghost Value = { InOrder };
+
+    ghost view = { λ o. record {
+      channels = channels_of o.links.slots;
+      spare = min (min o.links.spare (spare o.ends)) (2 ^ 64 - 1 - length o.links.slots);
+    } };
+
+    ghost invariant = { λ o. ((c : ℕ) → get nat_eq o.ends c ≡ ends_of c o.links.slots) × AreLinked o.links.slots };
+}
+
+impl Order {
+    /// No number is given yet. It takes no memory.
+    pub(crate) fn new(alloc: Global) -> Order
+        ensures { result.channels ≡ [] }
+    {
+        Order {
+            links: Numbered::new(alloc),
+            ends: HashMap::new(alloc),
+        }
+    }
+
+    /// Makes room for the next `push_reserved`, of whatever channel. The numbers stay.
+    pub(crate) fn reserve(&mut self) -> Result<(), NoMemory>
+        ensures room { OnOk result (0 < self.new.spare) }
+        ensures numbers { OnOk result (length self.new.channels + 1 < 2 ^ 64) }
+        ensures same { self.new.channels ≡ self.old.channels }
+        ensures kept { self.old.spare ≤ self.new.spare }
+        ensures succeeds { 0 < self.old.spare → IsOk result }
+    {
+        if self.links.next_number().is_none() {
+            return Err(NoMemory);
+        }
+        self.links.reserve(1)?;
+        self.ends.reserve(1)?;
+        Ok(())
+    }
+
+    /// Gives the next number to an entry of a channel, in the room that was made.
+    pub(crate) fn push_reserved(&mut self, channel: u16)
+        requires { 0 < self.old.spare }
+        ensures channels { self.new.channels ≡ self.old.channels ++ Some channel ∷ [] }
+        ensures used { self.old.spare ≤ self.new.spare + 1 }
+    {
+        let number = self.links.push_reserved(Link { channel, next: 0 });
+        let Some(ends) = self.ends.get_mut(&channel) else {
+            let only = Ends {
+                first: number,
+                last: number,
+            };
+            let _ = self.ends.insert(channel, only);
+            return;
+        };
+        let Ends { first, last } = *ends;
+        *ends = Ends {
+            first,
+            last: number,
+        };
+        let next = number - last;
+        self.links.set(last, Link { channel, next });
+    }
+
+    /// Takes the first number of a channel; `None` exactly where it has none.
+    pub(crate) fn take_first(&mut self, channel: u16) -> Option<u64>
+        ensures number { result ≡ first_on channel self.old.channels }
+        ensures channels { self.new.channels ≡ without_number (first_on channel self.old.channels) self.old.channels }
+        ensures kept { self.old.spare ≤ self.new.spare }
+    {
+        let Ends { first, last } = *self.ends.get(&channel)?;
+        let next = self.links.get(first)?.next;
+        let _ = self.links.take(first);
+        if next == 0 {
+            let _ = self.ends.remove(&channel);
+        } else if let Some(ends) = self.ends.get_mut(&channel) {
+            *ends = Ends {
+                first: first + next,
+                last,
+            };
+        }
+        Some(first)
+    }
+}
