@@ -1,6 +1,6 @@
 -- Tables: what was written is read, and what was read is spelled so.
-use Rattle.std.proofs.Common.{◌≡◌, ℕ, List, [], ◌∷◌, ◌++◌, Option, Some, refl, sym, ap, subst, ◌∙◌, true}
-use Rattle.lapin_tokens.specs.Fields.{Field, Values, tokens, AllFit}
+use Rattle.std.proofs.Common.{◌≡◌, ℕ, List, ◌∷◌, ◌++◌, Option, Some, sym, ap, subst, ◌∙◌, true}
+use Rattle.lapin_tokens.specs.Fields.{Field, Values, tokens}
 use Rattle.lapin_tokens.specs.Reading.{fields_at}
 use Rattle.lapin_tokens.proofs.FieldLaws.{fields_again, fields_found}
 use Rattle.lapin_tokens.proofs.Plain.{no_space, AllPlain}

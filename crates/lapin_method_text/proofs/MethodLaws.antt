@@ -1,7 +1,6 @@
 -- Methods: what was written is read, and what was read is spelled so.
-use Rattle.std.proofs.Common.{◌≡◌, ℕ, List, [], ◌∷◌, ◌++◌, Option, Some, refl, sym, ap, subst, ◌∙◌, true}
+use Rattle.std.proofs.Common.{◌≡◌, ℕ, List, [], ◌∷◌, ◌++◌, Some, refl, sym, ap, subst, ◌∙◌}
 use Rattle.std.specs.Str.{bytes_eq}
-use Rattle.std.specs.List.{find}
 use Rattle.std.proofs.lemmas.Slice.Eq.{bytes_eq-Decides}
 use Rattle.lapin_method_text.specs.declared.kinds.MethodKind.{MethodKind}
 use Rattle.lapin_method_text.specs.declared.kinds.MethodKind.TheVariants as kind
@@ -40,7 +39,6 @@ use Rattle.lapin_method_text.specs.declared.kinds.TxKind.TheVariants as tx_kind
 use Rattle.lapin_methods.specs.declared.tx.TxMethod.{TxMethod}
 use Rattle.lapin_methods.specs.declared.tx.TxMethod.TheVariants as tx_method
 use Rattle.lapin_method_text.specs.declared.kinds.TheConstants.{KINDS}
-use Rattle.lapin_tokens.specs.Reading.{◌>>=◌}
 use Rattle.lapin_tokens.proofs.FieldLaws.{bind_some, some_is, find_found}
 use Rattle.lapin_tokens.proofs.Plain.{AllPlain}
 use Rattle.lapin_method_text.specs.Methods.{method_name, method_tokens, MethodFits, connection_name, connection_fields, connection_made, connection_parts, connection_tokens, channel_name, channel_fields, channel_made, channel_parts, channel_tokens, access_name, access_fields, access_made, access_parts, access_tokens, exchange_name, exchange_fields, exchange_made, exchange_parts, exchange_tokens, queue_name, queue_fields, queue_made, queue_parts, queue_tokens, basic_name, basic_fields, basic_made, basic_parts, basic_tokens, confirm_name, confirm_fields, confirm_made, confirm_parts, confirm_tokens, tx_name, tx_fields, tx_made, tx_parts, tx_tokens}

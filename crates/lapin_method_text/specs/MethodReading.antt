@@ -9,35 +9,27 @@ use Rattle.lapin_methods.specs.declared.method.Method.TheVariants as method
 use Rattle.lapin_method_text.specs.declared.kinds.ConnectionKind.{ConnectionKind}
 use Rattle.lapin_method_text.specs.declared.kinds.ConnectionKind.TheVariants as connection_kind
 use Rattle.lapin_methods.specs.declared.connection.ConnectionMethod.{ConnectionMethod}
-use Rattle.lapin_methods.specs.declared.connection.ConnectionMethod.TheVariants as connection_method
 use Rattle.lapin_method_text.specs.declared.kinds.ChannelKind.{ChannelKind}
 use Rattle.lapin_method_text.specs.declared.kinds.ChannelKind.TheVariants as channel_kind
 use Rattle.lapin_methods.specs.declared.channel.ChannelMethod.{ChannelMethod}
-use Rattle.lapin_methods.specs.declared.channel.ChannelMethod.TheVariants as channel_method
 use Rattle.lapin_method_text.specs.declared.kinds.AccessKind.{AccessKind}
 use Rattle.lapin_method_text.specs.declared.kinds.AccessKind.TheVariants as access_kind
 use Rattle.lapin_methods.specs.declared.access.AccessMethod.{AccessMethod}
-use Rattle.lapin_methods.specs.declared.access.AccessMethod.TheVariants as access_method
 use Rattle.lapin_method_text.specs.declared.kinds.ExchangeKind.{ExchangeKind}
 use Rattle.lapin_method_text.specs.declared.kinds.ExchangeKind.TheVariants as exchange_kind
 use Rattle.lapin_methods.specs.declared.exchange.ExchangeMethod.{ExchangeMethod}
-use Rattle.lapin_methods.specs.declared.exchange.ExchangeMethod.TheVariants as exchange_method
 use Rattle.lapin_method_text.specs.declared.kinds.QueueKind.{QueueKind}
 use Rattle.lapin_method_text.specs.declared.kinds.QueueKind.TheVariants as queue_kind
 use Rattle.lapin_methods.specs.declared.queue.QueueMethod.{QueueMethod}
-use Rattle.lapin_methods.specs.declared.queue.QueueMethod.TheVariants as queue_method
 use Rattle.lapin_method_text.specs.declared.kinds.BasicKind.{BasicKind}
 use Rattle.lapin_method_text.specs.declared.kinds.BasicKind.TheVariants as basic_kind
 use Rattle.lapin_methods.specs.declared.basic.BasicMethod.{BasicMethod}
-use Rattle.lapin_methods.specs.declared.basic.BasicMethod.TheVariants as basic_method
 use Rattle.lapin_method_text.specs.declared.kinds.ConfirmKind.{ConfirmKind}
 use Rattle.lapin_method_text.specs.declared.kinds.ConfirmKind.TheVariants as confirm_kind
 use Rattle.lapin_methods.specs.declared.confirm.ConfirmMethod.{ConfirmMethod}
-use Rattle.lapin_methods.specs.declared.confirm.ConfirmMethod.TheVariants as confirm_method
 use Rattle.lapin_method_text.specs.declared.kinds.TxKind.{TxKind}
 use Rattle.lapin_method_text.specs.declared.kinds.TxKind.TheVariants as tx_kind
 use Rattle.lapin_methods.specs.declared.tx.TxMethod.{TxMethod}
-use Rattle.lapin_methods.specs.declared.tx.TxMethod.TheVariants as tx_method
 use Rattle.lapin_method_text.specs.declared.kinds.TheConstants.{KINDS}
 use Rattle.lapin_method_text.specs.Methods.{method_name, connection_fields, connection_made, channel_fields, channel_made, access_fields, access_made, exchange_fields, exchange_made, queue_fields, queue_made, basic_fields, basic_made, confirm_fields, confirm_made, tx_fields, tx_made}
 use Rattle.lapin_tokens.specs.Reading.{◌>>=◌, fields_at}
