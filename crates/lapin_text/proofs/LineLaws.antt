@@ -1,8 +1,7 @@
 -- Frames, calls, events and lines: what was written is read, and what was read is spelled so.
-use Rattle.std.proofs.Common.{◌≡◌, ℕ, ◌<◌, ◌^◌, List, [], ◌∷◌, ◌++◌, length, Option, Some, None, refl, sym, ap, subst, ◌∙◌, true, eqb, arith, append_assoc}
-use Rattle.std.specs.Prelude.{codes}
+use Rattle.std.proofs.Common.{◌≡◌, ℕ, ◌<◌, List, [], ◌∷◌, ◌++◌, length, Option, Some, None, refl, sym, ap, subst, ◌∙◌, eqb, arith}
 use Rattle.std.specs.Str.{bytes_eq}
-use Rattle.std.specs.List.{find, join_with_byte, slice_split}
+use Rattle.std.specs.List.{join_with_byte, slice_split}
 use Rattle.std.proofs.lemmas.List.{append-nil}
 use Rattle.std.proofs.lemmas.List.Splits.{join_with_byte-slice_split}
 use Rattle.std.proofs.lemmas.Slice.Eq.{bytes_eq-Decides}
@@ -18,13 +17,13 @@ use Rattle.lapin_text.specs.declared.words.Word.TheVariants as word
 use Rattle.lapin_text.specs.declared.calls.TheConstants.{CALLS}
 use Rattle.lapin_text.specs.declared.calls.CallKind.{CallKind}
 use Rattle.lapin_text.specs.declared.calls.CallKind.TheVariants as kind
-use Rattle.lapin_tokens.specs.Fields.{Field, Values, token, tokens, fits, AllFit, short_number, wide_number}
+use Rattle.lapin_tokens.specs.Fields.{Values, token, short_number, wide_number}
 use Rattle.lapin_tokens.specs.Fields.Field.{flag}
-use Rattle.lapin_tokens.specs.Reading.{◌>>=◌, field_at, fields_at}
-use Rattle.lapin_tokens.proofs.FieldLaws.{bind_some, some_is, field_again, field_found, fields_again, fields_found, AreRead, find_found}
+use Rattle.lapin_tokens.specs.Reading.{◌>>=◌, field_at}
+use Rattle.lapin_tokens.proofs.FieldLaws.{bind_some, some_is, field_again, field_found, fields_again, fields_found, find_found}
 use Rattle.lapin_tokens.proofs.Plain.{AllPlain, split_join}
 use Rattle.lapin_tokens.proofs.PlainFields.{plain_token, plain_tokens}
-use Rattle.lapin_method_text.specs.Methods.{method_tokens, MethodFits}
+use Rattle.lapin_method_text.specs.Methods.{method_tokens}
 use Rattle.lapin_method_text.specs.MethodReading.{method_at}
 use Rattle.lapin_method_text.proofs.Entries.{Table, RowLaws, EntryLaws, entry_found, entry_again, plain_entry}
 use Rattle.lapin_method_text.proofs.MethodLaws.{plain_method, method_again, method_found}

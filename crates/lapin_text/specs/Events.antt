@@ -3,7 +3,7 @@ use Rattle.std.specs.Prelude.{◌≡◌, ℕ, true, List, [], ◌∷◌, codes}
 use Rattle.std.specs.List.{join_with_byte}
 use Rattle.lapin_types.specs.declared.event.Event.{Event}
 use Rattle.lapin_types.specs.declared.event.Event.TheVariants as event
-use Rattle.lapin_tokens.specs.Fields.{Field, token, fits, short_number, wide_number}
+use Rattle.lapin_tokens.specs.Fields.{token, fits, short_number, wide_number}
 use Rattle.lapin_tokens.specs.Fields.Field.{flag}
 use Rattle.lapin_text.specs.Frames.{frame_tokens, FrameFits}
 use Rattle.lapin_text.specs.Calls.{call_tokens, CallFits}

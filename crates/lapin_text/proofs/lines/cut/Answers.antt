@@ -1,4 +1,4 @@
-use Rattle.std.proofs.Common.{◌≡◌, ap, ◌∷◌, ◌∙◌, sym}
+use Rattle.std.proofs.Common.{◌∙◌, sym}
 use Rattle.std.proofs.lemmas.List.{take_rest}
 use Rattle.lapin_text.proofs.InputLaws.{lines_none, lines_some}
 use Rattle.lapin_text.proofs.lines.cut.Goals as goal

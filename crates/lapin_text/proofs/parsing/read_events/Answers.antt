@@ -1,4 +1,4 @@
-use Rattle.std.proofs.Common.{◌≡◌, ◌+◌, ℕ, length, Some, sym, ap, subst, ◌∙◌, arith}
+use Rattle.std.proofs.Common.{◌≡◌, ◌+◌, ℕ, length, Some, subst, arith}
 use Rattle.lapin_text.specs.Input.{AreEvents}
 use Rattle.lapin_text.proofs.InputLaws.{at_bad, at_end}
 use Rattle.lapin_text.proofs.parsing.read_events.Goals as goal

@@ -1,4 +1,3 @@
-use Rattle.std.proofs.Common.{◌≡◌, Some, None, sym, ap, ◌∙◌}
 use Rattle.lapin_text.proofs.LineLaws.{line_found, refused}
 use Rattle.lapin_text.proofs.reading.read_event.Goals as goal
 

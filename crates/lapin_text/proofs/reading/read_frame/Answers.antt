@@ -1,4 +1,3 @@
-use Rattle.std.proofs.Common.{◌≡◌, Some, None, sym, ap, ◌∙◌}
 use Rattle.lapin_text.proofs.LineLaws.{text_found, text_refused}
 use Rattle.lapin_text.proofs.reading.read_frame.Goals as goal
 
