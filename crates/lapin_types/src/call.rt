@@ -12,6 +12,20 @@ use std::alloc::Global;
 pub enum Call {
     /// Opens the channel (`channel.open`).
     OpenChannel,
+    /// Closes the channel (`channel.close`).
+    ChannelClose {
+        /// Why, by the standard's reply codes.
+        reply_code: u16,
+        /// Why, in words.
+        reply_text: ShortString,
+    },
+    /// Closes the connection (`connection.close`), on channel 0.
+    ConnectionClose {
+        /// Why, by the standard's reply codes.
+        reply_code: u16,
+        /// Why, in words.
+        reply_text: ShortString,
+    },
     /// Asks for publisher confirms (`confirm.select`).
     ConfirmSelect {
         /// The marks of the method.
@@ -39,6 +53,20 @@ impl Call {
     {
         match self {
             Call::OpenChannel => Ok(Call::OpenChannel),
+            Call::ChannelClose {
+                reply_code,
+                reply_text,
+            } => Ok(Call::ChannelClose {
+                reply_code: *reply_code,
+                reply_text: reply_text.try_clone(alloc)?,
+            }),
+            Call::ConnectionClose {
+                reply_code,
+                reply_text,
+            } => Ok(Call::ConnectionClose {
+                reply_code: *reply_code,
+                reply_text: reply_text.try_clone(alloc)?,
+            }),
             Call::ConfirmSelect { options } => Ok(Call::ConfirmSelect { options: *options }),
             Call::BasicPublish {
                 exchange,
@@ -62,6 +90,26 @@ impl Call {
     {
         match (self, other) {
             (Call::OpenChannel, Call::OpenChannel) => true,
+            (
+                Call::ChannelClose {
+                    reply_code: a,
+                    reply_text: b,
+                },
+                Call::ChannelClose {
+                    reply_code,
+                    reply_text,
+                },
+            ) => a == reply_code && b == reply_text,
+            (
+                Call::ConnectionClose {
+                    reply_code: a,
+                    reply_text: b,
+                },
+                Call::ConnectionClose {
+                    reply_code,
+                    reply_text,
+                },
+            ) => a == reply_code && b == reply_text,
             (Call::ConfirmSelect { options: a }, Call::ConfirmSelect { options: b }) => a == b,
             (
                 Call::BasicPublish {

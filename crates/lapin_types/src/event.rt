@@ -21,6 +21,10 @@ pub enum Event {
     PollTicket(u64),
     /// The outcome of a publish is asked for, by its confirm number.
     PollConfirm(u64),
+    /// The states of the connection and of a channel are asked for.
+    State(u16),
+    /// The connection was lost.
+    Lost,
 }
 
 impl Event {
@@ -34,6 +38,8 @@ impl Event {
             Event::Receive(frame) => Ok(Event::Receive(frame.try_clone(alloc)?)),
             Event::PollTicket(number) => Ok(Event::PollTicket(*number)),
             Event::PollConfirm(number) => Ok(Event::PollConfirm(*number)),
+            Event::State(channel) => Ok(Event::State(*channel)),
+            Event::Lost => Ok(Event::Lost),
         }
     }
 
@@ -47,6 +53,8 @@ impl Event {
             (Event::Receive(left), Event::Receive(right)) => left.same_as(right),
             (Event::PollTicket(left), Event::PollTicket(right)) => left == right,
             (Event::PollConfirm(left), Event::PollConfirm(right)) => left == right,
+            (Event::State(left), Event::State(right)) => left == right,
+            (Event::Lost, Event::Lost) => true,
             _ => false,
         }
     }

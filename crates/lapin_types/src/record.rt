@@ -5,7 +5,7 @@ ghost use Rattle.std.specs.Bool.{Decides};
 
 use crate::answer::Answer;
 use crate::confirmation::Confirmation;
-use lapin_methods::{Error, Frame};
+use lapin_methods::{ChannelState, ConnectionState, Error, Frame};
 use lapin_values::NoMemory;
 use std::alloc::Global;
 
@@ -37,6 +37,10 @@ pub enum Record {
     Answer(Result<Answer, Error>),
     /// The outcome of a publish.
     Confirmed(Result<Confirmation, Error>),
+    /// The states of the connection and of a channel.
+    State(ConnectionState, ChannelState),
+    /// The connection is lost.
+    Lost,
 }
 
 impl Record {
@@ -58,6 +62,8 @@ impl Record {
             Record::Pending => Ok(Record::Pending),
             Record::Answer(answer) => Ok(Record::Answer(copied_answer(answer, alloc)?)),
             Record::Confirmed(outcome) => Ok(Record::Confirmed(copied_outcome(outcome, alloc)?)),
+            Record::State(connection, channel) => Ok(Record::State(*connection, *channel)),
+            Record::Lost => Ok(Record::Lost),
         }
     }
 
@@ -82,6 +88,10 @@ impl Record {
             (Record::Pending, Record::Pending) => true,
             (Record::Answer(left), Record::Answer(right)) => same_answer(left, right),
             (Record::Confirmed(left), Record::Confirmed(right)) => same_outcome(left, right),
+            (Record::State(a, b), Record::State(connection, channel)) => {
+                a == connection && b == channel
+            }
+            (Record::Lost, Record::Lost) => true,
             _ => false,
         }
     }

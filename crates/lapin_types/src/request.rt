@@ -7,8 +7,12 @@ ghost use Rattle.lapin_types.specs.Requests.{kind_of};
 /// The kind of a reply that is awaited.
 #[derive(Clone, Copy, Debug, PartialEq, Eq)]
 pub enum ReplyKind {
+    /// `connection.close-ok`.
+    ConnectionCloseOk,
     /// `channel.open-ok`.
     ChannelOpenOk,
+    /// `channel.close-ok`.
+    ChannelCloseOk,
     /// `confirm.select-ok`.
     ConfirmSelectOk,
 }
@@ -16,8 +20,12 @@ pub enum ReplyKind {
 /// A reply that is awaited, with what its answer needs.
 #[derive(Debug, PartialEq, Eq, Drop)]
 pub enum Reply {
+    /// `connection.close-ok`.
+    ConnectionCloseOk,
     /// `channel.open-ok`.
     ChannelOpenOk,
+    /// `channel.close-ok`.
+    ChannelCloseOk,
     /// `confirm.select-ok`.
     ConfirmSelectOk,
 }
@@ -28,7 +36,9 @@ impl Reply {
         ensures { result ≡ kind_of self.now }
     {
         match self {
+            Reply::ConnectionCloseOk => ReplyKind::ConnectionCloseOk,
             Reply::ChannelOpenOk => ReplyKind::ChannelOpenOk,
+            Reply::ChannelCloseOk => ReplyKind::ChannelCloseOk,
             Reply::ConfirmSelectOk => ReplyKind::ConfirmSelectOk,
         }
     }
