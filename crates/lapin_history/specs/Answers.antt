@@ -15,7 +15,8 @@ use Rattle.lapin_history.specs.declared.marks.Outcome.{Outcome}
 use Rattle.lapin_history.specs.declared.marks.Outcome.TheVariants as outcome
 use Rattle.lapin_history.specs.declared.broker_frames.Incoming.{Incoming}
 use Rattle.lapin_history.specs.declared.broker_frames.Incoming.TheVariants as incoming
-use Rattle.lapin_history.specs.Base.{Base, state_of, is_allowed, is_open, hears_reply, handed}
+use Rattle.lapin_history.specs.Phases.{is_up, connection_state}
+use Rattle.lapin_history.specs.Base.{Base, state_of, is_allowed, hears_on, hears_reply, hears_close, hears_close_ok, hears_down, handed}
 use Rattle.lapin_history.specs.Heard.{heard, frame_class, frame_method}
 
 -- What an answer needs to know of confirms and tickets.
@@ -51,8 +52,8 @@ abbrev pub frame_record : Option Left → Record
 frame_record None = record_.NoFrame
 frame_record (Some l) = record_.Frame l.frame
 
--- A settlement on an opening that is not selected is passed over. A single one of a tag that is not pending is refused with
--- the tag and the last tag taken.
+-- A settlement on a channel that hears it is passed over where the opening is not selected. A single one of a tag that is not
+-- pending is refused with the tag and the last tag taken.
 abbrev pub settlement_record : Sight → ℕ → Settlement → Record
 settlement_record see c s =
     if see.selected c
@@ -65,10 +66,22 @@ settlement_record see c s =
 abbrev pub refused : Frame → Record
 refused f = record_.Refused (error.UnexpectedFrame (frame_class f) (frame_method f))
 
+abbrev pub when : Bool → Frame → Record
+when b f = if b then record_.Received else refused f
+
+-- while the connection is open
+abbrev pub heard_up : Base → Sight → Frame → Incoming → Record
+heard_up b see f (incoming.Reply c k) = when (hears_reply c k b) f
+heard_up b see f (incoming.Settlement c s) = if hears_on (state_of c b) then settlement_record see c s else refused f
+heard_up b see f (incoming.ChannelClose c code) = when (hears_close (state_of c b)) f
+heard_up b see f (incoming.ChannelCloseOk c) = when (hears_close_ok (state_of c b)) f
+heard_up b see f (incoming.ConnectionClose code) = record_.Received
+heard_up b see f incoming.ConnectionCloseOk = refused f
+heard_up b see f incoming.Other = refused f
+
+-- once it is not, a frame is passed over, but for two while it is closing
 abbrev pub heard_record : Base → Sight → Frame → Incoming → Record
-heard_record b see f (incoming.Reply c k) = if hears_reply c k b then record_.Received else refused f
-heard_record b see f (incoming.Settlement c s) = if is_open (state_of c b) then settlement_record see c s else refused f
-heard_record b see f incoming.Other = refused f
+heard_record b see f i = if is_up b.link then heard_up b see f i else (if hears_down b.link i then record_.Received else record_.Passed)
 
 abbrev pub record_of : Base → Sight → Event → Record
 record_of b see (event.Call c k) = call_record c k b
@@ -76,3 +89,5 @@ record_of b see (event.Next flow) = frame_record (handed flow b)
 record_of b see (event.Receive f) = heard_record b see f (heard f)
 record_of b see (event.PollTicket n) = see.ticket n
 record_of b see (event.PollConfirm n) = see.confirm n
+record_of b see (event.State c) = record_.State (connection_state b.link) (state_of c b)
+record_of b see event.Lost = record_.Lost

@@ -1,37 +1,55 @@
--- What a history comes to beside confirms and answers: the states of channels, the frames that wait, the open requests and
--- the counters. Each event changes it as the rules say; nothing here looks at a tag, an outcome or an answer.
-use Rattle.std.specs.Prelude.{ℕ, ◌+◌, ◌==◌, Bool, true, false, ◌&&◌, if◌then◌else◌, List, [], ◌∷◌, ◌++◌, Option, Some, None, find}
-use Rattle.std.specs.List.{list_any}
-use Rattle.lapin_tables.specs.ByChannel.{at_channel}
+-- What a history comes to beside confirms and answers: where the connection and its channels stand, the frames that wait, the
+-- open requests and the counters. Each event changes it as the rules say, by its record; nothing here looks at a tag, an
+-- outcome or an answer.
+use Rattle.std.specs.Prelude.{ℕ, ◌+◌, ◌==◌, Bool, true, false, not, ◌&&◌, ◌||◌, if◌then◌else◌, List, [], ◌∷◌, ◌++◌, Option, Some, None, find}
+use Rattle.std.specs.List.{list_any, filter}
+use Rattle.lapin_tables.specs.ByChannel.{at_channel, on_channel}
 use Rattle.lapin_types.specs.declared.event.Event.{Event}
 use Rattle.lapin_types.specs.declared.call.Call.{Call}
+use Rattle.lapin_types.specs.declared.record.Record.{Record}
 use Rattle.lapin_types.specs.declared.leaving.Publish.{Publish}
 use Rattle.lapin_types.specs.declared.leaving.Left.{Left}
 use Rattle.lapin_types.specs.declared.request.Request.{Request}
 use Rattle.lapin_types.specs.declared.request.Reply.{Reply}
 use Rattle.lapin_types.specs.declared.request.ReplyKind.{ReplyKind}
-use Rattle.lapin_types.specs.Types.{Frame, Method, ChannelState}
+use Rattle.lapin_types.specs.Types.{Frame, Method, ChannelState, Error}
 use Rattle.lapin_types.specs.declared.event.Event.TheVariants as event
 use Rattle.lapin_types.specs.declared.call.Call.TheVariants as call
+use Rattle.lapin_types.specs.declared.record.Record.TheVariants as record_
+use Rattle.lapin_types.specs.Types.frame
 use Rattle.lapin_types.specs.Types.method
+use Rattle.lapin_types.specs.Types.connection
 use Rattle.lapin_types.specs.Types.channel
 use Rattle.lapin_types.specs.Types.basic
 use Rattle.lapin_types.specs.Types.confirm
+use Rattle.lapin_types.specs.Types.error
 use Rattle.lapin_types.specs.Types.channel_state as state
 use Rattle.lapin_types.specs.declared.request.Reply.TheVariants as reply
 use Rattle.lapin_types.specs.declared.request.ReplyKind.TheVariants as reply_kind
+use Rattle.lapin_history.specs.declared.marks.Settlement.{Settlement}
+use Rattle.lapin_history.specs.declared.phases.Closer.{Closer}
+use Rattle.lapin_history.specs.declared.phases.Closer.TheVariants as closer
+use Rattle.lapin_history.specs.declared.phases.Phase.{Phase}
+use Rattle.lapin_history.specs.declared.phases.Phase.TheVariants as phase
+use Rattle.lapin_history.specs.declared.phases.Link.{Link}
+use Rattle.lapin_history.specs.declared.phases.Link.TheVariants as link
 use Rattle.lapin_history.specs.declared.broker_frames.Incoming.{Incoming}
 use Rattle.lapin_history.specs.declared.broker_frames.Incoming.TheVariants as incoming
 use Rattle.lapin_history.specs.Words.{is_some, with_channel}
 use Rattle.lapin_history.specs.Frames.{MethodEntry, RestEntry}
 use Rattle.lapin_history.specs.Leaving.{Lists, handed_of, left_lists}
+use Rattle.lapin_history.specs.Drops.{no_lists, without_publishes_of, without_channel}
+use Rattle.lapin_history.specs.Phases.{channel_state, is_live, is_up, is_lost, phase_in, close_sent, link_close_sent, after_broker_close, has_sent_close}
+use Rattle.lapin_history.specs.Closes.{session_close, unexpected_close}
 use Rattle.lapin_history.specs.Heard.{heard}
-use Rattle.lapin_history.specs.Requests.{requests_in, first_request, with_request, without_request}
+use Rattle.lapin_history.specs.Requests.{requests_in, first_request, with_request, without_request, without_kind, close_alone, no_requests}
 
 pub record Base : Type 0 where
   pub frame_max : ℕ
-  -- the state of each channel that ever left Closed
-  pub states : List (ℕ × ChannelState)
+  -- where the connection stands
+  pub link : Link
+  -- where each channel stands that was ever opened
+  pub phases : List (ℕ × Phase)
   -- frames of the begun publish that have not left
   pub rest : List RestEntry
   -- method frames that have not left, in order of queueing
@@ -45,17 +63,18 @@ pub record Base : Type 0 where
   pub published : ℕ
 
 abbrev pub start : ℕ → Base
-start frame_max = record { frame_max = frame_max; states = []; rest = []; methods = []; publishes = []; requests = []; tickets = 0; published = 0 }
+start frame_max = record { frame_max = frame_max; link = link.Open; phases = []; rest = []; methods = []; publishes = []; requests = []; tickets = 0; published = 0 }
 
 -- ---- states
 
-abbrev pub state_in : Option ChannelState → ChannelState
-state_in None = state.Closed
-state_in (Some s) = s
+-- where a channel stands while the connection is open
+abbrev pub phase_of : ℕ → Base → Phase
+phase_of c b = phase_in (at_channel c b.phases)
 
--- channel 0 is the connection's; another channel is Closed until it is opened
+-- While the connection is open channel 0 is its own, and another channel stands by its openings and closes. Else every channel
+-- is down.
 abbrev pub state_of : ℕ → Base → ChannelState
-state_of c b = if c == 0 then state.Base else state_in (at_channel c b.states)
+state_of c b = if is_up b.link then (if c == 0 then state.Base else channel_state (phase_of c b)) else state.Down
 
 abbrev pub is_closed : ChannelState → Bool
 is_closed state.Closed = true
@@ -69,9 +88,23 @@ abbrev pub is_open : ChannelState → Bool
 is_open state.Open = true
 is_open _ = false
 
--- `channel.open` is allowed on a closed channel, every other call on an open one
+abbrev pub is_closing : ChannelState → Bool
+is_closing state.Closing = true
+is_closing _ = false
+
+abbrev pub is_crossed : ChannelState → Bool
+is_crossed state.Crossed = true
+is_crossed _ = false
+
+abbrev pub is_base : ChannelState → Bool
+is_base state.Base = true
+is_base _ = false
+
+-- `channel.open` is allowed on a closed channel, `connection.close` on channel 0 of an open connection, every other call on an
+-- open channel
 abbrev pub is_allowed : Call → ChannelState → Bool
 is_allowed call.OpenChannel s = is_closed s
+is_allowed (call.ConnectionClose code text) s = is_base s
 is_allowed _ s = is_open s
 
 -- ---- requests
@@ -79,17 +112,50 @@ is_allowed _ s = is_open s
 abbrev pub requests_of : ℕ → Base → List Request
 requests_of c b = requests_in (at_channel c b.requests)
 
+-- ---- frames that wait
+
+abbrev pub lists_of : Base → Lists
+lists_of b = record { rest = b.rest; methods = b.methods; publishes = b.publishes }
+
+abbrev pub with_lists : Lists → Base → Base
+with_lists l b = record b { rest = l.rest; methods = l.methods; publishes = l.publishes }
+
+-- a method that no call asked for joins the back of the methods
+abbrev pub noted : ℕ → Method → Base → Base
+noted c m b = record b { methods = b.methods ++ record { channel = c; method = m; ticket = None } ∷ [] }
+
+-- ---- closes and ends
+
+-- this side closes a channel: its publishes that have not begun will not leave
+abbrev pub closing : ℕ → Closer → Base → Base
+closing c who b = record (with_lists (without_publishes_of c (lists_of b)) b) { phases = with_channel c (phase.Closing who false) b.phases }
+
+-- an opening ends: nothing of its channel leaves any more, and none of its requests stays open but those that are kept
+abbrev pub ended : ℕ → Phase → (List Request → List Request) → Base → Base
+ended c p kept b = record (with_lists (without_channel c (lists_of b)) b) {
+  phases = with_channel c p b.phases;
+  requests = on_channel c kept b.requests;
+}
+
+-- the connection leaves the open state, or is lost: nothing waits any more, and no request is open
+abbrev pub down : Link → Base → Base
+down l b = record (with_lists no_lists b) { link = l; requests = [] }
+
 -- ---- calls
 
 -- the method that a call queues
 abbrev pub called : Call → Method
 called call.OpenChannel = method.Channel channel.Open
+called (call.ChannelClose code text) = method.Channel (channel.Close code text 0 0)
+called (call.ConnectionClose code text) = method.Connection (connection.Close code text 0 0)
 called (call.ConfirmSelect o) = method.Confirm (confirm.Select o.nowait)
 called (call.BasicPublish exchange key o payload properties) = method.Basic (basic.Publish exchange key o.mandatory o.immediate)
 
 -- the reply that a call awaits; a call without wait awaits none
 abbrev pub awaited : Call → Option Reply
 awaited call.OpenChannel = Some reply.ChannelOpenOk
+awaited (call.ChannelClose code text) = Some reply.ChannelCloseOk
+awaited (call.ConnectionClose code text) = Some reply.ConnectionCloseOk
 awaited (call.ConfirmSelect o) = if o.nowait then None else Some reply.ConfirmSelectOk
 awaited (call.BasicPublish exchange key o payload properties) = None
 
@@ -105,9 +171,11 @@ queued c m awaits b = record b {
   tickets = b.tickets + 1;
 }
 
--- an accepted call
+-- an accepted call: a close takes out what it drops before it is queued
 abbrev pub after_call : ℕ → Call → Base → Base
-after_call c call.OpenChannel b = record (queued c (called call.OpenChannel) (awaited call.OpenChannel) b) { states = with_channel c state.Opening b.states }
+after_call c call.OpenChannel b = record (queued c (called call.OpenChannel) (awaited call.OpenChannel) b) { phases = with_channel c phase.Opening b.phases }
+after_call c (call.ChannelClose code text) b = queued c (called (call.ChannelClose code text)) (awaited (call.ChannelClose code text)) (closing c closer.Application b)
+after_call c (call.ConnectionClose code text) b = queued c (called (call.ConnectionClose code text)) (awaited (call.ConnectionClose code text)) (down (link.Closing false false) b)
 after_call c (call.ConfirmSelect o) b = queued c (called (call.ConfirmSelect o)) (awaited (call.ConfirmSelect o)) b
 after_call c (call.BasicPublish exchange key o payload properties) b = record b {
   publishes = b.publishes ++ record {
@@ -129,44 +197,137 @@ after_call c (call.BasicPublish exchange key o payload properties) b = record b 
 abbrev pub handed : Bool → Base → Option Left
 handed flow b = handed_of flow b.rest b.methods b.publishes
 
-abbrev pub lists_of : Base → Lists
-lists_of b = record { rest = b.rest; methods = b.methods; publishes = b.publishes }
+-- a close of this side is known to have left
+abbrev pub sent_method : ℕ → Method → Base → Base
+sent_method c (method.Channel (channel.Close code text class number)) b = record b { phases = on_channel c close_sent b.phases }
+sent_method c (method.Connection (connection.Close code text class number)) b = record b { link = link_close_sent b.link }
+sent_method c _ b = b
 
-abbrev pub with_lists : Lists → Base → Base
-with_lists l b = record b { rest = l.rest; methods = l.methods; publishes = l.publishes }
+abbrev pub sent_frame : Frame → Base → Base
+sent_frame (frame.Method c m) b = sent_method c m b
+sent_frame _ b = b
+
+abbrev pub sent : Option Left → Base → Base
+sent None b = b
+sent (Some l) b = sent_frame l.frame b
 
 abbrev pub after_next : Bool → Base → Base
-after_next flow b = with_lists (left_lists b.frame_max flow (lists_of b)) b
+after_next flow b = sent (handed flow b) (with_lists (left_lists b.frame_max flow (lists_of b)) b)
 
 -- ---- frames of the broker
 
--- the state in which a reply is heard
+-- settlements and replies are heard on an open channel, and still on one that this side is closing
+abbrev pub hears_on : ChannelState → Bool
+hears_on s = is_open s || is_closing s
+
+-- the state in which a reply is heard; the replies to closes are heard by their state alone, below
 abbrev pub hears : ReplyKind → ChannelState → Bool
 hears reply_kind.ChannelOpenOk s = is_opening s
-hears reply_kind.ConfirmSelectOk s = is_open s
+hears reply_kind.ConfirmSelectOk s = hears_on s
+hears reply_kind.ChannelCloseOk s = false
+hears reply_kind.ConnectionCloseOk s = false
 
 -- a reply is heard in its state where a request of its kind is open
 abbrev pub hears_reply : ℕ → ReplyKind → Base → Bool
 hears_reply c k b = hears k (state_of c b) && is_some (first_request k (requests_of c b))
 
-abbrev pub states_with : ℕ → ReplyKind → List (ℕ × ChannelState) → List (ℕ × ChannelState)
-states_with c reply_kind.ChannelOpenOk all = with_channel c state.Open all
-states_with c reply_kind.ConfirmSelectOk all = all
+-- `channel.close` is heard on a channel with a live opening, `channel.close-ok` where this side's close is under way
+abbrev pub hears_close : ChannelState → Bool
+hears_close s = is_opening s || hears_on s
+
+abbrev pub hears_close_ok : ChannelState → Bool
+hears_close_ok s = is_closing s || is_crossed s
+
+-- What is heard once the connection is not open: while this side closes it, `connection.close-ok`, and the first
+-- `connection.close`.
+abbrev pub hears_down : Link → Incoming → Bool
+hears_down (link.Closing sent heard) incoming.ConnectionCloseOk = true
+hears_down (link.Closing sent heard) (incoming.ConnectionClose code) = not heard
+hears_down _ _ = false
+
+abbrev pub phases_with : ℕ → ReplyKind → List (ℕ × Phase) → List (ℕ × Phase)
+phases_with c reply_kind.ChannelOpenOk all = with_channel c phase.Open all
+phases_with c _ all = all
 
 -- a reply takes the oldest request of its kind; `channel.open-ok` opens the channel
 abbrev pub after_reply : ℕ → ReplyKind → Base → Base
-after_reply c k b = record b { states = states_with c k b.states; requests = without_request c k b.requests }
+after_reply c k b = record b { phases = phases_with c k b.phases; requests = without_request c k b.requests }
 
-abbrev pub after_heard : Incoming → Base → Base
-after_heard (incoming.Reply c k) b = if hears_reply c k b then after_reply c k b else b
-after_heard (incoming.Settlement c s) b = b
-after_heard incoming.Other b = b
+-- The broker closes a channel: its opening ends and close-ok is queued. Where this side's close has left the two crossed; the
+-- request of this side's close then stays open for the broker's close-ok.
+abbrev pub kept_at : Phase → List Request → List Request
+kept_at p rs = if has_sent_close p then close_alone rs else no_requests rs
+
+abbrev pub after_channel_close : ℕ → Phase → Base → Base
+after_channel_close c p b = noted c (method.Channel channel.CloseOk) (ended c (after_broker_close p) (kept_at p) b)
+
+-- The broker answers this side's close: the opening ends where a crossed close didn't end it before.
+abbrev pub after_close_ok : ℕ → Phase → Base → Base
+after_close_ok c (phase.Closing who sent) b = ended c phase.Closed no_requests b
+after_close_ok c p b = record b { phases = with_channel c phase.Closed b.phases; requests = on_channel c (without_kind reply_kind.ChannelCloseOk) b.requests }
+
+-- The broker closes the connection, and close-ok is queued. Where this side's close has left the connection is still closing.
+-- Else it is closed, and this side's close, if it was called, is dropped with all that waits.
+abbrev pub after_connection_close : Link → Base → Base
+after_connection_close (link.Closing true heard) b = noted 0 (method.Connection connection.CloseOk) (record b { link = link.Closing true true })
+after_connection_close l b = noted 0 (method.Connection connection.CloseOk) (down link.Closed b)
+
+-- The broker answers this side's close: the connection is closed. A close that has not left is dropped; it is then all that
+-- waits.
+abbrev pub unless_sent : Bool → Lists → Lists
+unless_sent sent l = if sent then l else no_lists
+
+abbrev pub has_sent : Link → Bool
+has_sent (link.Closing sent heard) = sent
+has_sent _ = true
+
+abbrev pub after_connection_close_ok : Base → Base
+after_connection_close_ok b = record (with_lists (unless_sent (has_sent b.link) (lists_of b)) b) { link = link.Closed; requests = on_channel 0 (without_kind reply_kind.ConnectionCloseOk) b.requests }
+
+-- a frame that is received
+abbrev pub after_received : Incoming → Base → Base
+after_received (incoming.Reply c k) b = after_reply c k b
+after_received (incoming.Settlement c s) b = b
+after_received (incoming.ChannelClose c code) b = after_channel_close c (phase_of c b) b
+after_received (incoming.ChannelCloseOk c) b = after_close_ok c (phase_of c b) b
+after_received (incoming.ConnectionClose code) b = after_connection_close b.link b
+after_received incoming.ConnectionCloseOk b = after_connection_close_ok b
+after_received incoming.Other b = b
+
+-- a frame that is not heard closes the connection with its class and method
+abbrev pub after_unexpected : ℕ → ℕ → Base → Base
+after_unexpected class number b = noted 0 (unexpected_close class number) (down (link.Closing false false) b)
+
+-- a single settlement of a tag that is not pending closes its channel, if that is open
+abbrev pub after_failed_on : ℕ → Settlement → Base → Base
+after_failed_on c s b = if is_open (state_of c b) then noted c (session_close s.kind) (closing c closer.Session b) else b
+
+abbrev pub after_failed : Incoming → Base → Base
+after_failed (incoming.Settlement c s) b = after_failed_on c s b
+after_failed _ b = b
+
+-- a frame of the broker, by its record; one that is passed over changes nothing
+abbrev pub after_refused : Incoming → Error → Base → Base
+after_refused i (error.UnexpectedFrame class number) b = after_unexpected class number b
+after_refused i (error.PreconditionFailed tag current) b = after_failed i b
+after_refused i _ b = b
+
+abbrev pub after_heard : Incoming → Record → Base → Base
+after_heard i (record_.Refused e) b = after_refused i e b
+after_heard i record_.Received b = after_received i b
+after_heard i _ b = b
 
 -- ---- all events
 
-abbrev pub after_event : Base → Event → Base
-after_event b (event.Call c k) = if is_allowed k (state_of c b) then after_call c k b else b
-after_event b (event.Next flow) = after_next flow b
-after_event b (event.Receive f) = after_heard (heard f) b
-after_event b (event.PollTicket n) = b
-after_event b (event.PollConfirm n) = b
+-- a loss ends everything, once
+abbrev pub after_lost : Base → Base
+after_lost b = if is_lost b.link then b else down link.Lost b
+
+abbrev pub after_event : Base → Event → Record → Base
+after_event b (event.Call c k) r = if is_allowed k (state_of c b) then after_call c k b else b
+after_event b (event.Next flow) r = after_next flow b
+after_event b (event.Receive f) r = after_heard (heard f) r b
+after_event b (event.PollTicket n) r = b
+after_event b (event.PollConfirm n) r = b
+after_event b (event.State c) r = b
+after_event b event.Lost r = after_lost b

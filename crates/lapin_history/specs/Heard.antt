@@ -1,11 +1,12 @@
 -- What a frame of the broker is to a channel.
-use Rattle.std.specs.Prelude.{ℕ, Bool}
+use Rattle.std.specs.Prelude.{ℕ, ◌==◌, Bool, if◌then◌else◌}
 use Rattle.lapin_methods.specs.Numbers.{class_number, method_number}
 use Rattle.lapin_types.specs.declared.request.ReplyKind.{ReplyKind}
 use Rattle.lapin_types.specs.declared.answer.Answer.{Answer}
 use Rattle.lapin_types.specs.Types.{Frame, Method}
 use Rattle.lapin_types.specs.Types.frame
 use Rattle.lapin_types.specs.Types.method
+use Rattle.lapin_types.specs.Types.connection
 use Rattle.lapin_types.specs.Types.channel
 use Rattle.lapin_types.specs.Types.basic
 use Rattle.lapin_types.specs.Types.confirm
@@ -31,12 +32,20 @@ frame_method (frame.Body c bytes) = 0
 abbrev pub settlement : SettleKind → ℕ → Bool → Settlement
 settlement kind tag multiple = record { kind = kind; tag = tag; multiple = multiple }
 
--- replies and settlements; every other method is none of these
+-- closes of the connection are heard on its own channel alone
+abbrev pub on_connection : ℕ → Incoming → Incoming
+on_connection c i = if c == 0 then i else incoming.Other
+
+-- replies, settlements and closes; every other method is none of these
 abbrev pub heard_method : ℕ → Method → Incoming
 heard_method c (method.Channel channel.OpenOk) = incoming.Reply c reply_kind.ChannelOpenOk
 heard_method c (method.Confirm confirm.SelectOk) = incoming.Reply c reply_kind.ConfirmSelectOk
 heard_method c (method.Basic (basic.Ack tag multiple)) = incoming.Settlement c (settlement settle.Ack tag multiple)
 heard_method c (method.Basic (basic.Nack tag multiple requeue)) = incoming.Settlement c (settlement settle.Nack tag multiple)
+heard_method c (method.Channel (channel.Close code text class number)) = incoming.ChannelClose c code
+heard_method c (method.Channel channel.CloseOk) = incoming.ChannelCloseOk c
+heard_method c (method.Connection (connection.Close code text class number)) = on_connection c (incoming.ConnectionClose code)
+heard_method c (method.Connection connection.CloseOk) = on_connection c incoming.ConnectionCloseOk
 heard_method c _ = incoming.Other
 
 abbrev pub heard : Frame → Incoming
@@ -46,4 +55,4 @@ heard _ = incoming.Other
 -- the answer that a reply makes of its request's ticket
 abbrev pub reply_answer : ℕ → ReplyKind → Answer
 reply_answer c reply_kind.ChannelOpenOk = answer.Channel c
-reply_answer c reply_kind.ConfirmSelectOk = answer.Done
+reply_answer c _ = answer.Done

@@ -26,7 +26,7 @@ pub record Past : Type 0 where
 
 abbrev pub longer : Past → Event → Record → Past
 longer p e r = record {
-  base = after_event p.base e;
+  base = after_event p.base e r;
   confirms = p.confirms ++ confirm_marks p.base e r;
   tickets = p.tickets ++ ticket_marks p.base e r;
 }

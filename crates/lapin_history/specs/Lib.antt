@@ -3,6 +3,9 @@ pub mod ConfirmReadings
 pub mod TicketReadings
 pub mod Frames
 pub mod Heard
+pub mod Phases
+pub mod Drops
+pub mod Closes
 pub mod Leaving
 pub mod Requests
 pub mod Base

@@ -13,7 +13,9 @@ requests_in None = []
 requests_in (Some rs) = rs
 
 abbrev pub same_kind : ReplyKind → ReplyKind → Bool
+same_kind reply_kind.ConnectionCloseOk reply_kind.ConnectionCloseOk = true
 same_kind reply_kind.ChannelOpenOk reply_kind.ChannelOpenOk = true
+same_kind reply_kind.ChannelCloseOk reply_kind.ChannelCloseOk = true
 same_kind reply_kind.ConfirmSelectOk reply_kind.ConfirmSelectOk = true
 same_kind _ _ = false
 
@@ -23,6 +25,26 @@ is_kind k r = same_kind (kind_of r.reply) k
 -- the oldest open request of its kind, and what stays
 abbrev pub first_request : ReplyKind → List Request → Option Request
 first_request k rs = find (is_kind k) rs
+
+-- without the oldest of a kind, if there is one
+abbrev pub without_kind : ReplyKind → List Request → List Request
+without_kind k rs = without_first (is_kind k) rs
+
+abbrev pub no_requests : List Request → List Request
+no_requests rs = []
+
+abbrev pub request_alone : Option Request → List Request
+request_alone None = []
+request_alone (Some r) = r ∷ []
+
+-- the request of a close of this side alone, if there is one
+abbrev pub close_alone : List Request → List Request
+close_alone rs = request_alone (first_request reply_kind.ChannelCloseOk rs)
+
+-- the ticket of a request, if there is a request and somebody holds its ticket
+abbrev pub ticket_of : Option Request → Option ℕ
+ticket_of None = None
+ticket_of (Some r) = r.ticket
 
 abbrev pub with_request : ℕ → Request → List (ℕ × List Request) → List (ℕ × List Request)
 with_request c r all = with_channel c (requests_in (at_channel c all) ++ r ∷ []) all

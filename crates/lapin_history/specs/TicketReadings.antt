@@ -1,5 +1,5 @@
 -- The answers of tickets, read off what happened to tickets. A ticket stands for a call whose answer comes later.
-use Rattle.std.specs.Prelude.{ℕ, zero, suc, ◌+◌, ◌==◌, Bool, true, false, if◌then◌else◌, List, [], ◌∷◌, Option, Some, None, Result}
+use Rattle.std.specs.Prelude.{ℕ, zero, suc, ◌+◌, ◌==◌, Bool, true, false, if◌then◌else◌, List, [], ◌∷◌, Option, Some, None, Result, Err}
 use Rattle.std.specs.List.{list_any}
 use Rattle.std.specs.Option.{option_or}
 use Rattle.lapin_types.specs.declared.answer.Answer.{Answer}
@@ -11,6 +11,8 @@ pub data TicketMark : Type 0 where
   Given : TicketMark
   -- a reply, the call itself or a leaving frame resolved the ticket
   Answered : (ticket : ℕ) (answer : Result Answer Error) → TicketMark
+  -- the connection's close or loss resolved every open ticket with this error
+  AllFailed : (error : Error) → TicketMark
   -- the answer of the ticket was given
   Collected : (ticket : ℕ) → TicketMark
 
@@ -37,6 +39,7 @@ life (suc k) ms = after_given k ms
 -- what a mark says to ticket n
 abbrev pub answer_by : ℕ → TicketMark → Option (Result Answer Error)
 answer_by n (Answered j a) = if j == n then Some a else None
+answer_by n (AllFailed e) = Some (Err e)
 answer_by n _ = None
 
 abbrev pub first_answer : ℕ → List TicketMark → Option (Result Answer Error)

@@ -3,14 +3,15 @@
 //! Here a frame is sorted, once for all methods; what a channel does with it is the session's.
 
 ghost use Rattle.std.specs.Prelude.{◌≡◌};
-ghost use Rattle.lapin_history.specs.Heard.{heard, heard_method, frame_class, frame_method, reply_answer as reply_answer_lem};
+ghost use Rattle.lapin_history.specs.Heard.{heard, heard_method, on_connection as on_connection_lem, frame_class, frame_method, reply_answer as reply_answer_lem};
 ghost use Rattle.lapin_history.specs.Requests.{is_kind as is_kind_lem};
-ghost use Rattle.lapin_history.specs.Base.{hears as hears_lem};
+ghost use Rattle.lapin_history.specs.Base.{hears as hears_lem, hears_on as hears_on_lem, hears_close as hears_close_lem, hears_close_ok as hears_close_ok_lem, hears_down as hears_down_lem};
 
 use crate::marks::{SettleKind, Settlement};
+use crate::phases::Link;
 use lapin_types::{
-    Answer, BasicMethod, ChannelMethod, ChannelState, ConfirmMethod, Frame, Method, ReplyKind,
-    Request,
+    Answer, BasicMethod, ChannelMethod, ChannelState, ConfirmMethod, ConnectionMethod, Frame,
+    Method, ReplyKind, Request,
 };
 
 /// A broker's frame, as the rules see it.
@@ -20,6 +21,14 @@ pub enum Incoming {
     Reply(u16, ReplyKind),
     /// A settlement of publishes of the channel.
     Settlement(u16, Settlement),
+    /// The broker closes the channel, with its reply code.
+    ChannelClose(u16, u16),
+    /// The broker answers a close of the channel.
+    ChannelCloseOk(u16),
+    /// The broker closes the connection, with its reply code.
+    ConnectionClose(u16),
+    /// The broker answers a close of the connection.
+    ConnectionCloseOk,
     /// A frame that is heard in no state.
     Other,
 }
@@ -38,10 +47,20 @@ fn sort_method(channel: u16, method: &Method) -> Incoming
     ensures { result ≡ heard_method channel method.now }
 {
     match method {
+        Method::Connection(ConnectionMethod::Close { reply_code, .. }) => {
+            on_connection(channel, Incoming::ConnectionClose(*reply_code))
+        }
+        Method::Connection(ConnectionMethod::CloseOk) => {
+            on_connection(channel, Incoming::ConnectionCloseOk)
+        }
         Method::Channel(ChannelMethod::OpenOk) => Incoming::Reply(
             channel,
             ReplyKind::ChannelOpenOk,
         ),
+        Method::Channel(ChannelMethod::Close { reply_code, .. }) => {
+            Incoming::ChannelClose(channel, *reply_code)
+        }
+        Method::Channel(ChannelMethod::CloseOk) => Incoming::ChannelCloseOk(channel),
         Method::Confirm(ConfirmMethod::SelectOk) => Incoming::Reply(
             channel,
             ReplyKind::ConfirmSelectOk,
@@ -77,6 +96,17 @@ fn sort_method(channel: u16, method: &Method) -> Incoming
     }
 }
 
+// Closes of the connection are heard on its own channel alone.
+fn on_connection(channel: u16, incoming: Incoming) -> Incoming
+    ensures { result ≡ on_connection_lem channel incoming }
+{
+    if channel == 0 {
+        incoming
+    } else {
+        Incoming::Other
+    }
+}
+
 /// The class of a frame: a method's or a header's own, 0 for a body.
 pub fn class_of(frame: &Frame) -> u16
     ensures { result ≡ frame_class frame.now }
@@ -104,7 +134,7 @@ pub fn reply_answer(channel: u16, kind: ReplyKind) -> Answer
 {
     match kind {
         ReplyKind::ChannelOpenOk => Answer::Channel(channel),
-        ReplyKind::ConfirmSelectOk => Answer::Done,
+        _ => Answer::Done,
     }
 }
 
@@ -115,12 +145,50 @@ pub fn is_kind(kind: ReplyKind, request: &Request) -> bool
     request.reply.kind() == kind
 }
 
-/// Whether a reply of this kind is heard in a state: `channel.open-ok` on an opening channel, the others on an open one.
+/// Whether settlements and replies are heard in a state: on an open channel, and still on one that this side is closing.
+pub fn hears_on(state: ChannelState) -> bool
+    ensures { result ≡ hears_on_lem state }
+{
+    matches!(state, ChannelState::Open | ChannelState::Closing)
+}
+
+/// Whether `channel.close` is heard in a state.
+pub fn hears_close(state: ChannelState) -> bool
+    ensures { result ≡ hears_close_lem state }
+{
+    matches!(
+        state,
+        ChannelState::Opening | ChannelState::Open | ChannelState::Closing
+    )
+}
+
+/// Whether `channel.close-ok` is heard in a state.
+pub fn hears_close_ok(state: ChannelState) -> bool
+    ensures { result ≡ hears_close_ok_lem state }
+{
+    matches!(state, ChannelState::Closing | ChannelState::Crossed)
+}
+
+/// Whether a frame is heard though the connection is not open: while this side closes it, `connection.close-ok` and the first
+/// `connection.close`.
+pub fn hears_down(link: Link, incoming: Incoming) -> bool
+    ensures { result ≡ hears_down_lem link incoming }
+{
+    match (link, incoming) {
+        (Link::Closing { .. }, Incoming::ConnectionCloseOk) => true,
+        (Link::Closing { heard, .. }, Incoming::ConnectionClose(_)) => !heard,
+        _ => false,
+    }
+}
+
+/// Whether a reply of this kind is heard in a state: `channel.open-ok` on an opening channel, `confirm.select-ok` where replies
+/// are heard. The replies to closes are heard by the channel's state alone.
 pub fn hears(kind: ReplyKind, state: ChannelState) -> bool
     ensures { result ≡ hears_lem kind state }
 {
     match kind {
         ReplyKind::ChannelOpenOk => matches!(state, ChannelState::Opening),
-        ReplyKind::ConfirmSelectOk => matches!(state, ChannelState::Open),
+        ReplyKind::ConfirmSelectOk => hears_on(state),
+        ReplyKind::ChannelCloseOk | ReplyKind::ConnectionCloseOk => false,
     }
 }

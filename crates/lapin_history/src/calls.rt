@@ -7,15 +7,18 @@ ghost use Rattle.lapin_history.specs.Base.{called as called_lem, awaited as awai
 ghost use Rattle.lapin_history.specs.Marked.{made_answer as made_answer_lem};
 
 use lapin_types::{
-    Answer, BasicMethod, Call, ChannelMethod, ChannelState, ConfirmMethod, Method, Reply,
+    Answer, BasicMethod, Call, ChannelMethod, ChannelState, ConfirmMethod, ConnectionMethod,
+    Method, Reply,
 };
 
-/// Whether a call may be made on a channel in this state: `channel.open` on a closed one, every other call on an open one.
+/// Whether a call may be made on a channel in this state: `channel.open` on a closed one, `connection.close` on channel 0 of an
+/// open connection, every other call on an open one.
 pub fn is_allowed(call: &Call, state: ChannelState) -> bool
     ensures { result ≡ is_allowed_lem call.now state }
 {
     match call {
         Call::OpenChannel => matches!(state, ChannelState::Closed),
+        Call::ConnectionClose { .. } => matches!(state, ChannelState::Base),
         _ => matches!(state, ChannelState::Open),
     }
 }
@@ -26,6 +29,24 @@ pub fn called(call: Call) -> Method
 {
     match call {
         Call::OpenChannel => Method::Channel(ChannelMethod::Open),
+        Call::ChannelClose {
+            reply_code,
+            reply_text,
+        } => Method::Channel(ChannelMethod::Close {
+            reply_code,
+            reply_text,
+            class_id: 0,
+            method_id: 0,
+        }),
+        Call::ConnectionClose {
+            reply_code,
+            reply_text,
+        } => Method::Connection(ConnectionMethod::Close {
+            reply_code,
+            reply_text,
+            class_id: 0,
+            method_id: 0,
+        }),
         Call::ConfirmSelect { options } => Method::Confirm(ConfirmMethod::Select {
             nowait: options.nowait,
         }),
@@ -50,6 +71,8 @@ pub fn awaited(call: &Call) -> Option<Reply>
 {
     match call {
         Call::OpenChannel => Some(Reply::ChannelOpenOk),
+        Call::ChannelClose { .. } => Some(Reply::ChannelCloseOk),
+        Call::ConnectionClose { .. } => Some(Reply::ConnectionCloseOk),
         Call::ConfirmSelect { options } if !options.nowait => Some(Reply::ConfirmSelectOk),
         _ => None,
     }

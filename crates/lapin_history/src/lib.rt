@@ -10,10 +10,15 @@ pub mod calls;
 pub mod laws;
 pub mod leaving;
 pub mod marks;
+pub mod phases;
 pub mod readings;
 
-pub use broker_frames::{Incoming, class_of, hears, is_kind, method_of, reply_answer, sort_frame};
+pub use broker_frames::{
+    Incoming, class_of, hears, hears_close, hears_close_ok, hears_down, hears_on, is_kind, method_of,
+    reply_answer, sort_frame,
+};
 pub use calls::{awaited, called, is_allowed, made_answer};
 pub use leaving::resolved;
 pub use marks::{ConfirmMark, Outcome, SettleKind, Settlement};
+pub use phases::{Closer, Link, Phase};
 pub use readings::{outcome_of, tag_of};

@@ -8,7 +8,7 @@ use Rattle.std.specs.List.{find}
 use Rattle.std.proofs.lemmas.Bool.Decides.{eqb_tells}
 use Rattle.lapin_tables.specs.Numbered.{under, with_under, first_kept}
 use Rattle.lapin_history.specs.Words.{without_first}
-use Rattle.lapin_outbox.specs.Drops.{is_on}
+use Rattle.lapin_history.specs.Drops.{is_on}
 use Rattle.lapin_outbox.specs.Order.{first_on, without_number}
 use Rattle.lapin_outbox.specs.Line.{kept, channels_by}
 use Rattle.lapin_outbox.proofs.Chains.{under-behind, with-behind, map-with}

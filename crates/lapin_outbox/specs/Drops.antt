@@ -1,31 +1,14 @@
 -- What a drop takes out of the three lists, and what it leaves. A close of a channel takes its unbegun publishes, an end of a
 -- channel all its entries, an end of the connection everything, one entry a drop, in the order in which they would leave. The
 -- begun publish is one entry, however many of its frames wait.
-use Rattle.std.specs.Prelude.{◌≡◌, ℕ, ◌==◌, Bool, false, not, if◌then◌else◌, List, [], ◌∷◌, ◌++◌, map, drop, Some, None}
+use Rattle.std.specs.Prelude.{◌≡◌, ℕ, if◌then◌else◌, List, [], ◌∷◌, ◌++◌, map, drop, Some, None}
 use Rattle.std.specs.List.{filter, list_any}
 use Rattle.lapin_types.specs.declared.leaving.Publish.{Publish}
 use Rattle.lapin_history.specs.Frames.{MethodEntry, RestEntry}
 use Rattle.lapin_history.specs.Leaving.{Lists}
-use Rattle.lapin_history.specs.Marked.{frame_channel}
+use Rattle.lapin_history.specs.Drops.{frame_channel, is_on, method_channel, publish_channel, is_rest_of, unbegun}
 use Rattle.lapin_history.specs.Words.{without_first}
 use Rattle.lapin_outbox.specs.declared.dropped.Dropped.{Dropped}
-
--- ---- whose an entry is
-
--- whether an entry is of this channel, where f tells its channel
-abbrev pub is_on : {X : Type 0} → (X → ℕ) → ℕ → X → Bool
-is_on f c x = f x == c
-
-abbrev pub method_channel : MethodEntry → ℕ
-method_channel m = m.channel
-
-abbrev pub publish_channel : Publish → ℕ
-publish_channel p = p.channel
-
--- whether the begun publish is of this channel: all its frames are on one channel, so the first tells; false where none waits
-abbrev pub is_rest_of : ℕ → List RestEntry → Bool
-is_rest_of c [] = false
-is_rest_of c (f ∷ fs) = frame_channel f.frame == c
 
 -- all frames are on this channel
 abbrev pub AreOn : ℕ → List RestEntry → Type 0
@@ -54,7 +37,7 @@ told_publish p = record { ticket = Some p.ticket; publish = Some p.confirm }
 
 -- a channel's publishes that have not begun
 abbrev pub unbegun_of : ℕ → Lists → List Dropped
-unbegun_of c l = map told_publish (filter (is_on publish_channel c) l.publishes)
+unbegun_of c l = map told_publish (unbegun c l.publishes)
 
 -- a channel's entries
 abbrev pub entries_of : ℕ → Lists → List Dropped
@@ -92,21 +75,3 @@ behind_first [] [] ps = record { rest = []; methods = []; publishes = drop 1 ps 
 
 abbrev pub without_entry : Lists → Lists
 without_entry l = behind_first l.rest l.methods l.publishes
-
--- ---- what stays once a channel has nothing left to drop
-
--- whether an entry is of another channel
-abbrev pub is_off : {X : Type 0} → (X → ℕ) → ℕ → X → Bool
-is_off f c x = not (is_on f c x)
-
--- without the channel's publishes that have not begun
-abbrev pub without_publishes_of : ℕ → Lists → Lists
-without_publishes_of c l = record { rest = l.rest; methods = l.methods; publishes = filter (is_off publish_channel c) l.publishes }
-
--- without the channel's entries
-abbrev pub without_channel : ℕ → Lists → Lists
-without_channel c l = record {
-  rest = if is_rest_of c l.rest then [] else l.rest;
-  methods = filter (is_off method_channel c) l.methods;
-  publishes = filter (is_off publish_channel c) l.publishes;
-}

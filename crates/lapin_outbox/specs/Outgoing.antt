@@ -10,10 +10,6 @@ pub record Outgoing : Type 0 where
   pub lists : Lists
   pub spare : ℕ
 
--- nothing waits
-abbrev pub no_lists : Lists
-no_lists = record { rest = []; methods = []; publishes = [] }
-
 -- a method joins the back of the methods
 abbrev pub with_method : MethodEntry → Lists → Lists
 with_method m l = record { rest = l.rest; methods = l.methods ++ m ∷ []; publishes = l.publishes }

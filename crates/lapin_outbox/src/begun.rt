@@ -7,7 +7,8 @@ ghost use Rattle.lapin_types.specs.Types.method;
 ghost use Rattle.lapin_types.specs.Types.basic;
 ghost use Rattle.lapin_history.specs.Frames.{is_empty, left_publish, rest_of};
 ghost use Rattle.lapin_outbox.specs.Begun.{first_left};
-ghost use Rattle.lapin_outbox.specs.Drops.{AreOn, is_rest_of, told_rest};
+ghost use Rattle.lapin_outbox.specs.Drops.{AreOn, told_rest};
+ghost use Rattle.lapin_history.specs.Drops.{is_rest_of};
 
 use crate::bodies::Bodies;
 use crate::dropped::Dropped;

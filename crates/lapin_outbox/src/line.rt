@@ -7,7 +7,7 @@ ghost use Rattle.std.specs.Prelude.{◌≡◌, ℕ, ◌+◌, ◌<◌, ◌≤◌,
 ghost use Rattle.std.specs.List.{find};
 ghost use Rattle.lapin_history.specs.Frames.{is_empty};
 ghost use Rattle.lapin_history.specs.Words.{without_first};
-ghost use Rattle.lapin_outbox.specs.Drops.{is_on};
+ghost use Rattle.lapin_history.specs.Drops.{is_on};
 
 use crate::order::Order;
 use lapin_tables::Numbered;

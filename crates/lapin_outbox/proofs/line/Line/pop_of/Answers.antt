@@ -2,7 +2,7 @@
 use Rattle.std.proofs.Common.{sym, ◌∙◌, ap}
 use Rattle.std.specs.List.{find}
 use Rattle.lapin_history.specs.Words.{without_first}
-use Rattle.lapin_outbox.specs.Drops.{is_on}
+use Rattle.lapin_history.specs.Drops.{is_on}
 use Rattle.lapin_outbox.specs.Order.{first_on}
 use Rattle.lapin_outbox.specs.Line.{InLine, kept}
 use Rattle.lapin_outbox.proofs.Lines.{found-of, left-of, none-of, channels-left}

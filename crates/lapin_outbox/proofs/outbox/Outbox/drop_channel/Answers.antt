@@ -4,7 +4,8 @@ use Rattle.std.specs.Option.{option_map}
 use Rattle.lapin_history.specs.Leaving.{Lists}
 use Rattle.lapin_outbox.specs.Entries.{entry_of, rest_in}
 use Rattle.lapin_outbox.specs.Outgoing.{Outgoing}
-use Rattle.lapin_outbox.specs.Drops.{is_on, method_channel, told_publish, entries_of, without_entry_of}
+use Rattle.lapin_outbox.specs.Drops.{told_publish, entries_of, without_entry_of}
+use Rattle.lapin_history.specs.Drops.{is_on, method_channel}
 use Rattle.lapin_outbox.proofs.Dropping.{waiting_channel, rest-stays, method-told, method-left, publish-told, publish-left, map-find, map-without, none-without, lists-are}
 use Rattle.lapin_outbox.proofs.outbox.Outbox.drop_channel.Goals as goal
 

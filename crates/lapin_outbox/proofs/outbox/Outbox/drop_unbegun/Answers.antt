@@ -2,7 +2,8 @@ use Rattle.std.proofs.Common.{Some, sym, ◌∙◌, ap, slice_get}
 use Rattle.std.specs.Option.{option_map}
 use Rattle.lapin_history.specs.Leaving.{Lists}
 use Rattle.lapin_outbox.specs.Outgoing.{Outgoing}
-use Rattle.lapin_outbox.specs.Drops.{is_on, publish_channel, told_publish, unbegun_of}
+use Rattle.lapin_outbox.specs.Drops.{told_publish, unbegun_of}
+use Rattle.lapin_history.specs.Drops.{is_on, publish_channel}
 use Rattle.lapin_outbox.proofs.Dropping.{first-told}
 use Rattle.lapin_outbox.proofs.outbox.Outbox.drop_unbegun.Goals as goal
 

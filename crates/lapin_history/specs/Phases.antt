@@ -1,0 +1,63 @@
+-- Where the connection and its channels stand (AMQP 0-9-1, classes connection and channel).
+use Rattle.std.specs.Prelude.{ℕ, Bool, true, false, Option, Some, None}
+use Rattle.lapin_types.specs.Types.{ChannelState, ConnectionState}
+use Rattle.lapin_types.specs.Types.channel_state as state
+use Rattle.lapin_types.specs.Types.connection_state as link_state
+use Rattle.lapin_history.specs.declared.phases.Phase.{Phase}
+use Rattle.lapin_history.specs.declared.phases.Phase.TheVariants as phase
+use Rattle.lapin_history.specs.declared.phases.Link.{Link}
+use Rattle.lapin_history.specs.declared.phases.Link.TheVariants as link
+
+-- a channel's state while the connection is open
+abbrev pub channel_state : Phase → ChannelState
+channel_state phase.Closed = state.Closed
+channel_state phase.Opening = state.Opening
+channel_state phase.Open = state.Open
+channel_state (phase.Closing closer sent) = state.Closing
+channel_state phase.Crossed = state.Crossed
+
+abbrev pub connection_state : Link → ConnectionState
+connection_state link.Open = link_state.Open
+connection_state (link.Closing sent heard) = link_state.Closing
+connection_state link.Closed = link_state.Closed
+connection_state link.Lost = link_state.Lost
+
+-- an opening is live from its call until it ends
+abbrev pub is_live : Phase → Bool
+is_live phase.Opening = true
+is_live phase.Open = true
+is_live (phase.Closing closer sent) = true
+is_live _ = false
+
+abbrev pub is_up : Link → Bool
+is_up link.Open = true
+is_up _ = false
+
+abbrev pub is_lost : Link → Bool
+is_lost link.Lost = true
+is_lost _ = false
+
+-- a channel is closed until it is opened
+abbrev pub phase_in : Option Phase → Phase
+phase_in None = phase.Closed
+phase_in (Some p) = p
+
+-- this side's `channel.close` leaves
+abbrev pub close_sent : Phase → Phase
+close_sent (phase.Closing closer sent) = phase.Closing closer true
+close_sent p = p
+
+-- this side's `connection.close` leaves
+abbrev pub link_close_sent : Link → Link
+link_close_sent (link.Closing sent heard) = link.Closing true heard
+link_close_sent l = l
+
+-- the broker's `channel.close` came: where this side's own has left, the two crossed, and the broker's close-ok is still to come
+abbrev pub after_broker_close : Phase → Phase
+after_broker_close (phase.Closing closer true) = phase.Crossed
+after_broker_close p = phase.Closed
+
+-- this side's close has left, and the broker answers its own later
+abbrev pub has_sent_close : Phase → Bool
+has_sent_close (phase.Closing closer sent) = sent
+has_sent_close _ = false
