@@ -1,6 +1,6 @@
 -- The room that a call on a channel uses.
 use Rattle.std.specs.Prelude.{◌≡◌, ℕ, ◌<◌, Option, Some}
-use Rattle.lapin_session.specs.declared.desk.Desk.{Desk}
+use Rattle.lapin_desk.specs.declared.desk.Desk.{Desk}
 
 -- room for one call on a channel
 pub record HasRoom (c : ℕ) (d : Desk) : Type 0 where

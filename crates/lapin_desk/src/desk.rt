@@ -10,7 +10,7 @@ ghost use Rattle.lapin_history.specs.Base.{requests_with};
 ghost use Rattle.lapin_history.specs.TicketReadings.{Given};
 ghost use Rattle.lapin_history.specs.Marked.{made_marks};
 ghost use Rattle.lapin_ticket.specs.Desk.{after_mark};
-ghost use Rattle.lapin_session.specs.Rooms.{HasRoom, SameDesk};
+ghost use Rattle.lapin_desk.specs.Rooms.{HasRoom, SameDesk};
 
 use lapin_outbox::{Outbox, Replies};
 use lapin_ticket::Tickets;

@@ -1,0 +1,61 @@
+//! Ends: what a close of this side rejects, what an end of an opening drops and resolves, and what the connection's end does.
+//!
+//! Each is done whole, in the room that was made before, and takes no memory. The session calls these once it knows that a
+//! close or an end has come.
+
+ghost use Rattle.std.specs.Prelude.{◌≡◌, ◌≤◌, ◌++◌};
+ghost use Rattle.std.specs.List.{fold};
+ghost use Rattle.lapin_tables.specs.ByChannel.{on_channel};
+ghost use Rattle.lapin_history.specs.Requests.{no_requests, requests_in};
+ghost use Rattle.lapin_history.specs.Drops.{no_lists, without_publishes_of, without_channel, unbegun, publish_tickets_of, rest_tickets_of, method_tickets_of};
+ghost use Rattle.lapin_history.specs.Marked.{failures, rejections, request_tickets, ends};
+ghost use Rattle.lapin_history.specs.TicketReadings.{AllFailed};
+ghost use Rattle.lapin_outbox.specs.Open.{requests_at};
+ghost use Rattle.lapin_ticket.specs.Desk as desk;
+ghost use Rattle.lapin_confirm.specs.Book as book;
+ghost use Rattle.lapin_desk.specs.Queued.{AreQueued};
+
+use crate::desk::Desk;
+use lapin_confirm::Confirms;
+use lapin_history::Phase;
+use lapin_outbox::Replies;
+use lapin_types::Error;
+
+impl Desk {
+    /// A close of this side: the publishes of a channel that have not begun are taken out, and their tickets and confirms are
+    /// resolved with the error.
+    pub fn reject_unbegun(&mut self, confirms: &mut Confirms, channel: u16, error: Error)
+        requires queued { AreQueued confirms.old.book.cells self.old.outbox.lists.publishes }
+        ensures lists { self.new.outbox.lists ≡ without_publishes_of channel self.old.outbox.lists }
+        ensures slots { self.new.tickets.slots ≡ fold desk.after_mark self.old.tickets.slots (failures error (publish_tickets_of channel self.old.outbox.lists.publishes)) }
+        ensures book { confirms.new.book ≡ fold book.after_mark confirms.old.book (rejections error (unbegun channel self.old.outbox.lists.publishes)) }
+        ensures queued { AreQueued confirms.new.book.cells self.new.outbox.lists.publishes }
+        ensures requests { self.new.replies ≡ self.old.replies }
+        ensures frame_max { self.new.outbox.frame_max ≡ self.old.outbox.frame_max }
+        ensures room { (self.old.outbox.spare ≤ self.new.outbox.spare) × (self.new.tickets.spare ≡ self.old.tickets.spare) }
+
+    /// An opening ends: nothing of its channel waits any more and none of its requests is open. Their tickets, and the confirms
+    /// that are unresolved, are resolved with the error.
+    pub fn end_opening(&mut self, confirms: &mut Confirms, channel: u16, error: Error)
+        requires queued { AreQueued confirms.old.book.cells self.old.outbox.lists.publishes }
+        ensures lists { self.new.outbox.lists ≡ without_channel channel self.old.outbox.lists }
+        ensures requests { self.new.replies.waiting ≡ on_channel channel no_requests self.old.replies.waiting }
+        ensures slots { self.new.tickets.slots ≡ fold desk.after_mark self.old.tickets.slots (failures error
+            (publish_tickets_of channel self.old.outbox.lists.publishes ++ (rest_tickets_of channel self.old.outbox.lists.rest ++
+            (method_tickets_of channel self.old.outbox.lists.methods ++ request_tickets (requests_at channel self.old.replies.waiting))))) }
+        ensures book { confirms.new.book ≡ book.ended channel error confirms.old.book }
+        ensures queued { AreQueued confirms.new.book.cells self.new.outbox.lists.publishes }
+        ensures frame_max { self.new.outbox.frame_max ≡ self.old.outbox.frame_max }
+        ensures room { (self.old.outbox.spare ≤ self.new.outbox.spare) × (self.new.replies.ready ≡ self.old.replies.ready) × (self.new.tickets.spare ≡ self.old.tickets.spare) }
+
+    /// The connection leaves the open state, or is lost: every live opening ends, nothing waits any more, and every open ticket
+    /// is resolved with the error. `replies` is what is open from now on.
+    pub fn end_all(&mut self, confirms: &mut Confirms, phases: &[(u16, Phase)], replies: Replies, error: Error)
+        requires queued { AreQueued confirms.old.book.cells self.old.outbox.lists.publishes }
+        ensures lists { self.new.outbox.lists ≡ no_lists }
+        ensures requests { self.new.replies ≡ replies }
+        ensures slots { self.new.tickets.slots ≡ desk.after_mark self.old.tickets.slots (AllFailed error) }
+        ensures book { confirms.new.book ≡ fold book.after_mark confirms.old.book (ends error phases.now) }
+        ensures frame_max { self.new.outbox.frame_max ≡ self.old.outbox.frame_max }
+        ensures room { (self.old.outbox.spare ≤ self.new.outbox.spare) × (self.new.tickets.spare ≡ self.old.tickets.spare) }
+}
