@@ -197,19 +197,18 @@ after_call c (call.BasicPublish exchange key o payload properties) b = record b 
 abbrev pub handed : Bool → Base → Option Left
 handed flow b = handed_of flow b.rest b.methods b.publishes
 
--- a close of this side is known to have left
-abbrev pub sent_method : ℕ → Method → Base → Base
-sent_method c (method.Channel (channel.Close code text class number)) b = record b { phases = on_channel c close_sent b.phases }
-sent_method c (method.Connection (connection.Close code text class number)) b = record b { link = link_close_sent b.link }
-sent_method c _ b = b
+-- where channels and the connection stand once a frame left: a close of this side has left
+abbrev pub phases_sent : Frame → List (ℕ × Phase) → List (ℕ × Phase)
+phases_sent (frame.Method c (method.Channel (channel.Close code text class number))) all = on_channel c close_sent all
+phases_sent _ all = all
 
-abbrev pub sent_frame : Frame → Base → Base
-sent_frame (frame.Method c m) b = sent_method c m b
-sent_frame _ b = b
+abbrev pub link_sent : Frame → Link → Link
+link_sent (frame.Method c (method.Connection (connection.Close code text class number))) l = link_close_sent l
+link_sent _ l = l
 
 abbrev pub sent : Option Left → Base → Base
 sent None b = b
-sent (Some l) b = sent_frame l.frame b
+sent (Some l) b = record b { link = link_sent l.frame b.link; phases = phases_sent l.frame b.phases }
 
 abbrev pub after_next : Bool → Base → Base
 after_next flow b = sent (handed flow b) (with_lists (left_lists b.frame_max flow (lists_of b)) b)

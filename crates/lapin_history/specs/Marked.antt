@@ -52,6 +52,10 @@ abbrev pub ends : Error → List (ℕ × Phase) → List ConfirmMark
 ends e [] = []
 ends e (x ∷ xs) = if is_live x.1 then mark.Ended x.0 e ∷ ends e xs else ends e xs
 
+-- each live opening ends; once the connection is not open none is live
+abbrev pub ends_all : Error → Base → List ConfirmMark
+ends_all e b = if is_up b.link then ends e b.phases else []
+
 -- the opening ends, if there is an error with which it does
 abbrev pub end_with : ℕ → Option Error → List ConfirmMark
 end_with c None = []
@@ -60,7 +64,7 @@ end_with c (Some e) = mark.Ended c e ∷ []
 abbrev pub call_marks : ℕ → Call → Base → List ConfirmMark
 call_marks c call.OpenChannel b = mark.Begun c ∷ []
 call_marks c (call.ChannelClose code text) b = rejections (failed_at_close closer.Application) (unbegun c b.publishes)
-call_marks c (call.ConnectionClose code text) b = ends failed_at_connection_close b.phases
+call_marks c (call.ConnectionClose code text) b = ends_all failed_at_connection_close b
 call_marks c (call.ConfirmSelect o) b = []
 call_marks c (call.BasicPublish exchange key o payload properties) b = mark.Added c ∷ []
 
@@ -89,7 +93,7 @@ abbrev pub received_marks : Incoming → Base → List ConfirmMark
 received_marks (incoming.Settlement c s) b = mark.Settled c s ∷ []
 received_marks (incoming.ChannelClose c code) b = mark.Ended c (error.ProtocolError code) ∷ []
 received_marks (incoming.ChannelCloseOk c) b = end_with c (close_ok_end (phase_of c b))
-received_marks (incoming.ConnectionClose code) b = if is_up b.link then ends (error.ProtocolError code) b.phases else []
+received_marks (incoming.ConnectionClose code) b = ends_all (error.ProtocolError code) b
 received_marks _ b = []
 
 -- a single settlement of a tag that is not pending closes its channel, if that is open
@@ -98,7 +102,7 @@ failed_marks (incoming.Settlement c s) b = if is_open (state_of c b) then reject
 failed_marks _ b = []
 
 abbrev pub refused_marks : Incoming → Error → Base → List ConfirmMark
-refused_marks i (error.UnexpectedFrame class number) b = ends failed_at_unexpected b.phases
+refused_marks i (error.UnexpectedFrame class number) b = ends_all failed_at_unexpected b
 refused_marks i (error.PreconditionFailed tag current) b = failed_marks i b
 refused_marks i _ b = []
 
@@ -107,10 +111,6 @@ abbrev pub heard_marks : Incoming → Record → Base → List ConfirmMark
 heard_marks i (record_.Refused e) b = refused_marks i e b
 heard_marks i record_.Received b = received_marks i b
 heard_marks i _ b = []
-
--- a loss ends every live opening
-abbrev pub lost_marks : Base → List ConfirmMark
-lost_marks b = if is_up b.link then ends error.ConnectionLost b.phases else []
 
 abbrev pub is_confirmed : Record → Bool
 is_confirmed (record_.Confirmed o) = true
@@ -123,7 +123,7 @@ confirm_marks b (event.Receive f) r = heard_marks (heard f) r b
 confirm_marks b (event.PollTicket n) r = []
 confirm_marks b (event.PollConfirm n) r = if is_confirmed r then mark.Taken (place_of n) ∷ [] else []
 confirm_marks b (event.State c) r = []
-confirm_marks b event.Lost r = lost_marks b
+confirm_marks b event.Lost r = ends_all error.ConnectionLost b
 
 -- ---- tickets
 

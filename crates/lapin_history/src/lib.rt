@@ -7,6 +7,7 @@
 
 pub mod broker_frames;
 pub mod calls;
+pub mod closes;
 pub mod laws;
 pub mod leaving;
 pub mod marks;
@@ -14,10 +15,14 @@ pub mod phases;
 pub mod readings;
 
 pub use broker_frames::{
-    Incoming, class_of, hears, hears_close, hears_close_ok, hears_down, hears_on, is_kind, method_of,
-    reply_answer, sort_frame,
+    Incoming, class_of, hears, hears_close, hears_close_ok, hears_down, hears_on, is_kind,
+    method_of, reply_answer, sort_frame,
 };
 pub use calls::{awaited, called, is_allowed, made_answer};
+pub use closes::{
+    after_broker_close, close_ok_end, close_sent, failed_at_close, has_sent_close, link_close_sent,
+    session_close, unexpected_close,
+};
 pub use leaving::resolved;
 pub use marks::{ConfirmMark, Outcome, SettleKind, Settlement};
 pub use phases::{Closer, Link, Phase};
