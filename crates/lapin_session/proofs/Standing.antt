@@ -5,15 +5,17 @@ use Rattle.std.specs.Result.{IfOk, OnOk}
 use Rattle.lapin_types.specs.declared.event.Event.{Event}
 use Rattle.lapin_types.specs.declared.event.Event.TheVariants as event
 use Rattle.lapin_types.specs.declared.record.Record.{Record}
+use Rattle.lapin_types.specs.declared.record.Record.TheVariants as record_
 use Rattle.lapin_types.specs.Types.{Frame}
 use Rattle.lapin_history.specs.declared.marks.ConfirmMark.{ConfirmMark}
 use Rattle.lapin_history.specs.declared.broker_frames.Incoming.{Incoming}
 use Rattle.lapin_history.specs.declared.broker_frames.Incoming.TheVariants as incoming
 use Rattle.lapin_history.specs.TicketReadings.{TicketMark}
 use Rattle.lapin_history.specs.Heard.{heard}
-use Rattle.lapin_history.specs.Base.{Base, start, after_event}
+use Rattle.lapin_history.specs.Phases.{is_up}
+use Rattle.lapin_history.specs.Base.{Base, start, after_event, hears_down}
 use Rattle.lapin_history.specs.Marked.{confirm_marks, ticket_marks}
-use Rattle.lapin_history.specs.Answers.{Sight, record_of, heard_record}
+use Rattle.lapin_history.specs.Answers.{Sight, record_of, heard_up, heard_record}
 use Rattle.lapin_history.specs.History.{History, Past, longer, past_on, past, record_after, rec, run_from, run}
 use Rattle.lapin_history.specs.History as history
 use Rattle.lapin_confirm.specs.Book.{Book, empty_book}
@@ -30,10 +32,17 @@ use Rattle.lapin_session.proofs.ConfirmStanding.{confirms-next}
 
 -- ---- what is seen of the parts is what the marks show
 
+up_same : (b : Base) (ms : List ConfirmMark) (tms : List TicketMark) (bk : Book) (slots : List (Option Slot)) (f : Frame) (i : Incoming) → confirms.Follows ms bk → heard_up b (sight_of bk slots) f i ≡ heard_up b (history.sight_of ms tms) f i
+up_same b ms tms bk slots f (incoming.Settlement c s) h = rw (selected_shown c ms bk h, last_shown c ms bk h, pending_shown c s.tag ms bk h) refl
+up_same b ms tms bk slots f (incoming.Reply c k) h = refl
+up_same b ms tms bk slots f (incoming.ChannelClose c code) h = refl
+up_same b ms tms bk slots f (incoming.ChannelCloseOk c) h = refl
+up_same b ms tms bk slots f (incoming.ConnectionClose code) h = refl
+up_same b ms tms bk slots f incoming.ConnectionCloseOk h = refl
+up_same b ms tms bk slots f incoming.Other h = refl
+
 heard_same : (b : Base) (ms : List ConfirmMark) (tms : List TicketMark) (bk : Book) (slots : List (Option Slot)) (f : Frame) (i : Incoming) → confirms.Follows ms bk → heard_record b (sight_of bk slots) f i ≡ heard_record b (history.sight_of ms tms) f i
-heard_same b ms tms bk slots f (incoming.Reply c k) h = refl
-heard_same b ms tms bk slots f (incoming.Settlement c s) h = rw (selected_shown c ms bk h, last_shown c ms bk h, pending_shown c s.tag ms bk h) refl
-heard_same b ms tms bk slots f incoming.Other h = refl
+heard_same b ms tms bk slots f i h = ap (λ r. cond (is_up b.link) r (cond (hears_down b.link i) record_.Received record_.Passed)) (up_same b ms tms bk slots f i h)
 
 record_same : (b : Base) (ms : List ConfirmMark) (tms : List TicketMark) (bk : Book) (slots : List (Option Slot)) (e : Event) → confirms.Follows ms bk → tickets.Follows tms slots → record_of b (sight_of bk slots) e ≡ record_of b (history.sight_of ms tms) e
 record_same b ms tms bk slots (event.Call c k) h t = refl
@@ -41,6 +50,8 @@ record_same b ms tms bk slots (event.Next flow) h t = refl
 record_same b ms tms bk slots (event.Receive f) h t = heard_same b ms tms bk slots f (heard f) h
 record_same b ms tms bk slots (event.PollTicket n) h t = ticket_shown n tms slots t
 record_same b ms tms bk slots (event.PollConfirm n) h t = confirm_shown n ms bk h
+record_same b ms tms bk slots (event.State c) h t = refl
+record_same b ms tms bk slots event.Lost h t = refl
 
 -- ---- one event
 
@@ -56,14 +67,14 @@ told_same p w e r =
 
 ready-next : (p : Past) (w : World) (e : Event) → Ready p w → Ready (longer p e (told_by w e)) (next w e)
 ready-next p w e r =
-    let same : told_by w e ≡ record_of w.base (history.sight_of p.confirms p.tickets) e = record_same w.base p.confirms p.tickets w.book w.slots e r.confirms.book r.tickets.kept in
-    let C : Record → Type 0 = λ x. ConfirmsStand (after_event w.base e) (p.confirms ++ confirm_marks w.base e x) (fold book.after_mark w.book (confirm_marks w.base e x)) in
-    let confirms_stand : C (told_by w e) = subst C (sym same) (confirms-next w.base p.confirms p.tickets w.book e r.confirms) in
-    let tickets_stand = tickets-next w.base p.tickets w.slots e (told_by w e) r.tickets in
-    let D : Base → Type 0 = λ b. ConfirmsStand (after_event w.base e) (p.confirms ++ confirm_marks b e (told_by w e)) (next w e).book in
-    let T : Base → Type 0 = λ b. TicketsStand (after_event w.base e) (p.tickets ++ ticket_marks b e (told_by w e)) (next w e).slots in
+    let told : Record = told_by w e in
+    let same : told ≡ record_of w.base (history.sight_of p.confirms p.tickets) e = record_same w.base p.confirms p.tickets w.book w.slots e r.confirms.book r.tickets.kept in
+    let confirms_stand = confirms-next w.base p.confirms p.tickets w.book e told same r.confirms in
+    let tickets_stand = tickets-next w.base p.tickets w.slots e told r.tickets in
+    let D : Base → Type 0 = λ b. ConfirmsStand (after_event w.base e told) (p.confirms ++ confirm_marks b e told) (next w e).book in
+    let T : Base → Type 0 = λ b. TicketsStand (after_event w.base e told) (p.tickets ++ ticket_marks b e told) (next w e).slots in
     record {
-      base = ap (λ b. after_event b e) r.base;
+      base = ap (λ b. after_event b e told) r.base;
       confirms = subst D r.base confirms_stand;
       tickets = subst T r.base tickets_stand;
     }

@@ -1,10 +1,12 @@
 -- How the value of a session is stored as tuples of its fields, by which a proof tells two of them apart. No clause cites this.
 use Rattle.std.specs.Prelude.{ℕ, Bool, List, Option, refl}
 use Rattle.std.specs.Coded.{Coded, code_by, coded×, coded_ℕ, coded_bool, coded_list, coded_option}
-use Rattle.lapin_types.specs.Types.{ChannelState}
 use Rattle.lapin_types.specs.declared.leaving.Publish.{Publish}
 use Rattle.lapin_types.specs.declared.request.Request.{Request}
-use Rattle.lapin_methods.specs.contracts.states.ChannelState as state_row
+use Rattle.lapin_history.specs.declared.phases.Phase.{Phase}
+use Rattle.lapin_history.specs.declared.phases.Link.{Link}
+use Rattle.lapin_history.specs.contracts.phases.Phase as phase_row
+use Rattle.lapin_history.specs.contracts.phases.Link as link_row
 use Rattle.lapin_types.specs.contracts.leaving.Publish as publish_row
 use Rattle.lapin_types.specs.contracts.request.Request as request_row
 use Rattle.lapin_confirm.specs.contracts.cell.Cell as cell_row
@@ -32,10 +34,10 @@ book_code =
 abbrev pub base_code : Coded Base
 base_code =
     code_by
-    (ℕ × (List (ℕ × ChannelState) × (List RestEntry × (List MethodEntry × (List Publish × (List (ℕ × List Request) × (ℕ × ℕ)))))))
-    (coded× coded_ℕ (coded× (coded_list (coded× coded_ℕ state_row.the_row.coded)) (coded× (coded_list rest_entry_code) (coded× (coded_list method_entry_code) (coded× (coded_list publish_row.the_row.coded) (coded× (coded_list (coded× coded_ℕ (coded_list request_row.the_row.coded))) (coded× coded_ℕ coded_ℕ)))))))
-    (λ b. (b.frame_max, (b.states, (b.rest, (b.methods, (b.publishes, (b.requests, (b.tickets, b.published))))))))
-    (λ p. record { frame_max = p.0; states = p.1.0; rest = p.1.1.0; methods = p.1.1.1.0; publishes = p.1.1.1.1.0; requests = p.1.1.1.1.1.0; tickets = p.1.1.1.1.1.1.0; published = p.1.1.1.1.1.1.1 })
+    (ℕ × (Link × (List (ℕ × Phase) × (List RestEntry × (List MethodEntry × (List Publish × (List (ℕ × List Request) × (ℕ × ℕ))))))))
+    (coded× coded_ℕ (coded× link_row.the_row.coded (coded× (coded_list (coded× coded_ℕ phase_row.the_row.coded)) (coded× (coded_list rest_entry_code) (coded× (coded_list method_entry_code) (coded× (coded_list publish_row.the_row.coded) (coded× (coded_list (coded× coded_ℕ (coded_list request_row.the_row.coded))) (coded× coded_ℕ coded_ℕ))))))))
+    (λ b. (b.frame_max, (b.link, (b.phases, (b.rest, (b.methods, (b.publishes, (b.requests, (b.tickets, b.published)))))))))
+    (λ p. record { frame_max = p.0; link = p.1.0; phases = p.1.1.0; rest = p.1.1.1.0; methods = p.1.1.1.1.0; publishes = p.1.1.1.1.1.0; requests = p.1.1.1.1.1.1.0; tickets = p.1.1.1.1.1.1.1.0; published = p.1.1.1.1.1.1.1.1 })
     (λ _. refl)
 
 abbrev pub world_code : Coded World

@@ -2,6 +2,6 @@ pub mod World
 pub mod Told
 pub mod Numbers
 pub mod Tied
-pub mod Rooms
 pub mod Stands
 pub mod Codes
+pub mod Kept

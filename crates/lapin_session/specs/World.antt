@@ -7,9 +7,8 @@ use Rattle.lapin_types.specs.declared.record.Record.TheVariants as record_
 use Rattle.lapin_types.specs.declared.answer.Answer.{Answer}
 use Rattle.lapin_types.specs.Types.{Error}
 use Rattle.lapin_types.specs.declared.confirmation.Confirmation.{Confirmation}
-use Rattle.lapin_types.specs.declared.request.ReplyKind.{ReplyKind}
 use Rattle.lapin_history.specs.declared.marks.Settlement.{Settlement}
-use Rattle.lapin_history.specs.declared.broker_frames.Incoming.TheVariants as incoming
+use Rattle.lapin_history.specs.declared.broker_frames.Incoming.{Incoming}
 use Rattle.lapin_history.specs.Base.{Base, start, after_event, after_heard}
 use Rattle.lapin_history.specs.Marked.{confirm_marks, ticket_marks, heard_marks, heard_tickets}
 use Rattle.lapin_history.specs.Answers.{Sight, record_of, settlement_record}
@@ -59,29 +58,22 @@ told_by w e = record_of w.base (sight_of w.book w.slots) e
 -- what an event leaves
 abbrev pub next : World → Event → World
 next w e = record {
-  base = after_event w.base e;
+  base = after_event w.base e (told_by w e);
   book = fold book.after_mark w.book (confirm_marks w.base e (told_by w e));
   slots = fold desk.after_mark w.slots (ticket_marks w.base e (told_by w e));
 }
 
--- what a reply leaves, heard or not
-abbrev pub after_reply_world : ℕ → ReplyKind → World → World
-after_reply_world c k w = record {
-  base = after_heard (incoming.Reply c k) w.base;
-  book = w.book;
-  slots = fold desk.after_mark w.slots (heard_tickets w.base (incoming.Reply c k));
+-- what a frame of the broker leaves that got this record
+abbrev pub hearing : Incoming → Record → World → World
+hearing i r w = record {
+  base = after_heard i r w.base;
+  book = fold book.after_mark w.book (heard_marks i r w.base);
+  slots = fold desk.after_mark w.slots (heard_tickets i r w.base);
 }
 
--- what a settlement on an open channel is answered by, and leaves
+-- what a settlement on a channel that hears it is answered by
 abbrev pub settlement_told : ℕ → Settlement → World → Record
 settlement_told c s w = settlement_record (sight_of w.book w.slots) c s
-
-abbrev pub after_settlement : ℕ → Settlement → World → World
-after_settlement c s w = record {
-  base = w.base;
-  book = fold book.after_mark w.book (heard_marks (incoming.Settlement c s) (settlement_told c s w));
-  slots = w.slots;
-}
 
 -- the records of a list of events
 abbrev pub outputs : World → List Event → List Record

@@ -10,9 +10,10 @@ ghost use Rattle.lapin_session.specs.Told.{TicketTold, PublishTold, ticket_told,
 ghost use Rattle.lapin_session.specs.Numbers.{HasCause, CallCause};
 
 use crate::channel::{Published, PublisherConfirm, Ticket};
-use crate::session::{Session, is_closed, is_open, set_state};
+use crate::session::{Session, is_closed, is_open, set_phase};
+use lapin_history::Phase;
 use lapin_types::{
-    Answer, BasicProperties, BasicPublishOptions, Call, ChannelMethod, ChannelState, ConfirmMethod,
+    Answer, BasicProperties, BasicPublishOptions, Call, ChannelMethod, ConfirmMethod,
     ConfirmSelectOptions, Error, Method, Payload, Publish, Record, Reply, ShortString,
 };
 use std::alloc::Global;
@@ -37,10 +38,10 @@ impl Session {
         if self.desk.tickets.next_number().is_none() {
             return Err(Error::NumbersUsedUp);
         }
-        self.states.reserve(channel)?;
+        self.phases.reserve(channel)?;
         self.desk.reserve(alloc, channel)?;
         self.confirms.begin(alloc, channel)?;
-        set_state(&mut self.states, channel, ChannelState::Opening);
+        set_phase(&mut self.phases, channel, Phase::Opening);
         let method = Method::Channel(ChannelMethod::Open);
         let number = self
             .desk
@@ -141,6 +142,14 @@ impl Session {
     {
         match call {
             Call::OpenChannel => ticket_record(self.open_channel(alloc, channel)),
+            Call::ChannelClose {
+                reply_code,
+                reply_text,
+            } => ticket_record(self.channel_close(alloc, channel, reply_code, reply_text)),
+            Call::ConnectionClose {
+                reply_code,
+                reply_text,
+            } => ticket_record(self.close_connection(alloc, channel, reply_code, reply_text)),
             Call::ConfirmSelect { options } => ticket_record(self.confirm_select(
                 alloc, channel, options,
             )),

@@ -4,7 +4,7 @@
 
 ghost use Rattle.std.specs.Prelude.{◌≡◌, OnOk, OnErr, IfOk};
 ghost use Rattle.lapin_types.specs.declared.event.Event.TheVariants.{Call as CallEvent, PollTicket, PollConfirm};
-ghost use Rattle.lapin_types.specs.declared.call.Call.TheVariants.{ConfirmSelect, BasicPublish};
+ghost use Rattle.lapin_types.specs.declared.call.Call.TheVariants.{ChannelClose, ConfirmSelect, BasicPublish};
 ghost use Rattle.lapin_session.specs.World.{told_by, next};
 ghost use Rattle.lapin_session.specs.Told.{TicketTold, PublishTold, ticket_record, confirm_record};
 ghost use Rattle.lapin_session.specs.Numbers.{CallCause};
@@ -40,7 +40,8 @@ pub struct Published {
 pub enum Heard {
     /// It did what the protocol says.
     Received,
-    /// It said nothing to this session: a settlement on a channel that asked for no confirms.
+    /// It said nothing to this session: a settlement on a channel that asked for no confirms, or a frame that came once the
+    /// connection was not open.
     Passed,
 }
 
@@ -51,6 +52,28 @@ pub struct Channel {
 }
 
 impl Channel {
+    /// Closes this channel (AMQP 0-9-1, `channel.close`), with a reply code and a reply text. Publishes that have not begun are
+    /// rejected at once; a begun one and methods that were called before leave first. The ticket is done at the broker's
+    /// `channel.close-ok`, and everything else of the opening that is unresolved then fails.
+    ///
+    /// # Errors
+    /// `InvalidChannelState` where the channel is not open, `NumbersUsedUp` where the next ticket would pass the greatest
+    /// `u64`, `NoMemory`. Nothing changes then.
+    pub fn channel_close(
+        &self,
+        alloc: Global,
+        session: &mut Session,
+        reply_code: u16,
+        reply_text: ShortString,
+    ) -> Result<Ticket, Error>
+        ensures told { TicketTold result (told_by session.old (CallEvent self.now.id (ChannelClose reply_code reply_text))) }
+        ensures ok { OnOk result (session.new ≡ next session.old (CallEvent self.now.id (ChannelClose reply_code reply_text))) }
+        ensures err { OnErr result (session.new ≡ session.old) }
+        ensures cause { CallCause result self.now.id (ChannelClose reply_code reply_text) session.old.base }
+    {
+        session.channel_close(alloc, self.id, reply_code, reply_text)
+    }
+
     /// Asks the broker to confirm the publishes of this channel (RabbitMQ, `confirm.select`). Publishes whose method frame
     /// leaves after this one's frame are numbered from 1. With `nowait` the ticket is answered at once.
     ///

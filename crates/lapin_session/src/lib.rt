@@ -6,9 +6,10 @@
 
 mod calling;
 mod channel;
-mod desk;
+mod closing;
 mod polling;
 mod receiving;
+mod receiving_closes;
 mod run;
 mod sending;
 mod session;

@@ -1,4 +1,4 @@
-//! Polls: the answer of a ticket and the outcome of a confirm, each given once.
+//! Polls: the answer of a ticket and the outcome of a confirm, each given once; and the states.
 
 ghost use Rattle.std.specs.Prelude.{◌≡◌, not};
 ghost use Rattle.lapin_types.specs.declared.event.Event.TheVariants as event;
@@ -51,6 +51,12 @@ impl Session {
         ensures { result ≡ not (is_pending_record (told_by self.now (event.PollConfirm number))) }
     {
         self.confirms.ready(number)
+    }
+
+    pub(crate) fn step_state(&self, channel: u16) -> Record
+        ensures { result ≡ told_by self.now (event.State channel) }
+    {
+        Record::State(self.connection_state(), self.channel_state(channel))
     }
 
     pub(crate) fn step_poll_ticket(&mut self, number: u64) -> Record

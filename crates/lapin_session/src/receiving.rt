@@ -1,63 +1,160 @@
-//! Frames of the broker: replies and settlements. Any other frame is refused with its class and method.
+//! Frames of the broker: replies and settlements. Closes stand in `receiving_closes`. A frame that is not heard closes the
+//! connection with its class and method.
 
-ghost use Rattle.std.specs.Prelude.{◌≡◌, true, IfOk, OnOk, OnErr};
+ghost use Rattle.std.specs.Prelude.{◌≡◌, ℕ, true, false, IfOk, OnOk, OnErr, if◌then◌else◌};
+ghost use Rattle.lapin_tables.specs.ByChannel.{at_channel};
 ghost use Rattle.lapin_types.specs.declared.event.Event.TheVariants as event;
 ghost use Rattle.lapin_types.specs.Types.error;
-ghost use Rattle.std.specs.List.{fold};
-ghost use Rattle.lapin_tables.specs.ByChannel.{at_channel};
-ghost use Rattle.lapin_ticket.specs.Desk as desk;
+ghost use Rattle.lapin_types.specs.declared.record.Record.TheVariants.{Received, Passed, Refused};
+ghost use Rattle.lapin_confirm.specs.Book.{single_of, multiple_of, selected_on};
+ghost use Rattle.lapin_history.specs.declared.broker_frames.Incoming.{Incoming as AnIncoming};
+ghost use Rattle.lapin_history.specs.declared.broker_frames.Incoming.TheVariants.{Reply as ReplyFrame, Settlement as SettlementFrame};
 ghost use Rattle.lapin_history.specs.Words.{is_some};
-ghost use Rattle.lapin_history.specs.Marked.{answered};
-ghost use Rattle.lapin_history.specs.Base.{hears_reply, states_with};
-ghost use Rattle.lapin_history.specs.Heard.{frame_class, frame_method};
-ghost use Rattle.lapin_session.specs.World.{told_by, next, after_reply_world, settlement_told, after_settlement};
+ghost use Rattle.lapin_history.specs.Phases.{is_up};
+ghost use Rattle.lapin_history.specs.Answers.{refused, heard_up};
+ghost use Rattle.lapin_history.specs.Base.{state_of, hears_on as hears_on_lem, hears_reply, hears_down as hears_down_lem, phases_with};
+ghost use Rattle.lapin_session.specs.World.{told_by, next, hearing, sight_of, settlement_told};
 ghost use Rattle.lapin_session.specs.Told.{HeardTold, WasHeard};
 ghost use Rattle.lapin_session.specs.Numbers.{HasCause, HasNumbers};
 
 use crate::channel::Heard;
-use crate::session::{Session, is_open, set_state};
-use lapin_history::{Incoming, Settlement, class_of, hears, method_of, reply_answer, sort_frame};
+use crate::closing::{begin_close, go_down};
+use crate::session::{Session, is_open, set_phase};
+use lapin_history::{
+    Closer, Incoming, Link, Phase, SettleKind, Settlement, class_of, hears, hears_close,
+    hears_close_ok, hears_down, hears_on, method_of, reply_answer, session_close, sort_frame,
+    unexpected_close,
+};
+use lapin_outbox::Replies;
 use lapin_tables::ByChannel;
-use lapin_ticket::Tickets;
-use lapin_types::{Answer, ChannelState, Error, Frame, Record, ReplyKind};
+use lapin_types::{Error, Frame, NoMemory, Record, ReplyKind};
 use std::alloc::Global;
 
 impl Session {
-    /// Takes a frame of the broker. A reply is heard in its state and takes the oldest request of its kind on its channel; a
-    /// settlement is heard on an open channel, and passed over where the channel asked for no confirms.
+    /// Takes a frame of the broker.
+    ///
+    /// While the connection is open: a reply is heard in its state and takes the oldest request of its kind on its channel; a
+    /// settlement is heard on an open or closing channel, and passed over where the channel asked for no confirms; a close is
+    /// heard on a channel with a live opening, its answer where this side's close is under way, and a close of the connection
+    /// always. Once the connection is not open every frame is passed over, but for two while this side closes it: the answer,
+    /// and the broker's first close.
     ///
     /// # Errors
     /// `UnexpectedFrame` with the class and method of a frame that is not heard (0 and 0 of a body, the class and 0 of a
-    /// header); `PreconditionFailed` where a single settlement names a tag that is not pending, with that tag and the last tag
-    /// taken. Nothing changes then.
-    pub fn receive(&mut self, _alloc: Global, frame: Frame) -> Result<Heard, Error>
+    /// header): the connection is then closed with the reply code 505, and every opening ends. `PreconditionFailed` where a
+    /// single settlement names a tag that is not pending, with that tag and the last tag taken: an open channel is then closed
+    /// with the reply code 406. `NoMemory`: nothing changes then.
+    pub fn receive(&mut self, alloc: Global, frame: Frame) -> Result<Heard, Error>
         ensures told { HeardTold result (told_by self.old (event.Receive frame)) }
         ensures ok { WasHeard result (self.new ≡ next self.old (event.Receive frame)) (self.new ≡ self.old) }
         ensures numbers { HasNumbers result }
     {
-        match sort_frame(&frame) {
+        let incoming = sort_frame(&frame);
+        if self.link.is_up() {
+            self.receive_up(alloc, &frame, incoming)
+        } else {
+            self.receive_down(alloc, incoming)
+        }
+    }
+
+    // A frame that comes while the connection is open.
+    fn receive_up(&mut self, alloc: Global, frame: &Frame, incoming: Incoming) -> Result<Heard, Error>
+        requires { is_up self.old.base.link ≡ true }
+        ensures told { HeardTold result (heard_up self.old.base (sight_of self.old.book self.old.slots) frame.now incoming) }
+        ensures ok { WasHeard result (self.new ≡ hearing incoming (heard_up self.old.base (sight_of self.old.book self.old.slots) frame.now incoming) self.old) (self.new ≡ self.old) }
+        ensures numbers { HasNumbers result }
+    {
+        match incoming {
             Incoming::Reply(channel, kind) => {
                 if self.hear_reply(channel, kind) {
                     Ok(Heard::Received)
                 } else {
-                    Err(unexpected(&frame))
+                    self.refuse(alloc, frame)
                 }
             }
             Incoming::Settlement(channel, settlement) => {
-                if is_open(self.channel_state(channel)) {
-                    self.hear_settlement(channel, settlement)
+                if hears_on(self.channel_state(channel)) {
+                    self.hear_settlement(alloc, channel, settlement)
                 } else {
-                    Err(unexpected(&frame))
+                    self.refuse(alloc, frame)
                 }
             }
-            Incoming::Other => Err(unexpected(&frame)),
+            Incoming::ChannelClose(channel, code) => {
+                if hears_close(self.channel_state(channel)) {
+                    self.hear_channel_close(alloc, channel, code)
+                } else {
+                    self.refuse(alloc, frame)
+                }
+            }
+            Incoming::ChannelCloseOk(channel) => {
+                if hears_close_ok(self.channel_state(channel)) {
+                    self.hear_channel_close_ok(channel);
+                    Ok(Heard::Received)
+                } else {
+                    self.refuse(alloc, frame)
+                }
+            }
+            Incoming::ConnectionClose(code) => self.hear_connection_close(alloc, code),
+            Incoming::ConnectionCloseOk | Incoming::Other => self.refuse(alloc, frame),
         }
+    }
+
+    // A frame that comes once the connection is not open.
+    fn receive_down(&mut self, alloc: Global, incoming: Incoming) -> Result<Heard, Error>
+        ensures told { HeardTold result (if hears_down_lem self.old.base.link incoming then Received else Passed) }
+        ensures ok { WasHeard result (self.new ≡ hearing incoming (if hears_down_lem self.old.base.link incoming then Received else Passed) self.old) (self.new ≡ self.old) }
+        ensures numbers { HasNumbers result }
+    {
+        if !hears_down(self.link, incoming) {
+            return Ok(Heard::Passed);
+        }
+        match incoming {
+            Incoming::ConnectionClose(code) => self.hear_connection_close(alloc, code),
+            _ => {
+                self.hear_connection_close_ok();
+                Ok(Heard::Received)
+            }
+        }
+    }
+
+    // A frame that is not heard: the connection is closed, and every opening ends.
+    fn refuse(&mut self, alloc: Global, frame: &Frame) -> Result<Heard, Error>
+        requires { is_up self.old.base.link ≡ true }
+        ensures told { HeardTold result (refused frame.now) }
+        ensures ok { WasHeard result ((i : AnIncoming) → self.new ≡ hearing i (refused frame.now) self.old) (self.new ≡ self.old) }
+        ensures numbers { HasNumbers result }
+    {
+        let class = class_of(frame);
+        let number = method_of(frame);
+        let method = unexpected_close(alloc, class, number)?;
+        let replies = Replies::new(alloc)?;
+        self.desk.outbox.reserve(alloc)?;
+        let to = Link::Closing {
+            sent: false,
+            heard: false,
+        };
+        let error = Error::ProtocolError(505);
+        go_down(
+            &mut self.link,
+            &self.phases,
+            &mut self.desk,
+            &mut self.confirms,
+            replies,
+            to,
+            error,
+        );
+        self.desk.note(alloc, 0, method);
+        Err(Error::UnexpectedFrame {
+            class,
+            method: number,
+        })
     }
 
     // A reply, if it is heard, opens its channel where it is `channel.open-ok` and resolves the ticket of its request.
     fn hear_reply(&mut self, channel: u16, kind: ReplyKind) -> bool
         ensures told { result ≡ hears_reply channel kind self.old.base }
-        ensures ok { self.new ≡ after_reply_world channel kind self.old }
+        ensures ok { result ≡ true → self.new ≡ hearing (ReplyFrame channel kind) Received self.old }
+        ensures same { result ≡ false → self.new ≡ self.old }
     {
         if !hears(kind, self.channel_state(channel)) {
             return false;
@@ -65,34 +162,91 @@ impl Session {
         let Some(request) = self.desk.replies.take_first(channel, kind) else {
             return false;
         };
-        state_replied(&mut self.states, channel, kind);
-        ticket_replied(
-            &mut self.desk.tickets,
-            request.ticket,
-            reply_answer(channel, kind),
-        );
+        phase_replied(&mut self.phases, channel, kind);
+        self.desk
+            .resolve(request.ticket, Ok(reply_answer(channel, kind)));
         true
     }
 
-    // A settlement on an open channel.
-    fn hear_settlement(&mut self, channel: u16, settlement: Settlement) -> Result<Heard, Error>
+    // A settlement on a channel that hears it.
+    fn hear_settlement(
+        &mut self,
+        alloc: Global,
+        channel: u16,
+        settlement: Settlement,
+    ) -> Result<Heard, Error>
+        requires { hears_on_lem (state_of channel self.old.base) ≡ true }
         ensures told { HeardTold result (settlement_told channel settlement self.old) }
-        ensures ok { WasHeard result (self.new ≡ after_settlement channel settlement self.old) (self.new ≡ self.old) }
+        ensures ok { WasHeard result (self.new ≡ hearing (SettlementFrame channel settlement) (settlement_told channel settlement self.old) self.old) (self.new ≡ self.old) }
         ensures numbers { HasNumbers result }
     {
         if !self.confirms.selected(channel) {
             return Ok(Heard::Passed);
         }
-        if !settlement.multiple {
-            self.confirms
-                .settle_one(channel, settlement.kind, settlement.tag)?;
-        } else if settlement.tag == 0 {
-            self.confirms.settle_all(channel, settlement.kind);
-        } else {
-            self.confirms
-                .settle_up_to(channel, settlement.kind, settlement.tag);
+        if settlement.multiple {
+            self.settle_many(channel, settlement.kind, settlement.tag);
+            return Ok(Heard::Received);
         }
-        Ok(Heard::Received)
+        self.settle_single(alloc, channel, settlement.kind, settlement.tag)
+    }
+
+    // A settlement of many tags: of every tag up to its own, or with tag 0 of every tag.
+    fn settle_many(&mut self, channel: u16, kind: SettleKind, tag: u64)
+        ensures { self.new ≡ hearing (SettlementFrame channel (multiple_of kind tag)) Received self.old }
+    {
+        if tag == 0 {
+            self.confirms.settle_all(channel, kind);
+        } else {
+            self.confirms.settle_up_to(channel, kind, tag);
+        }
+    }
+
+    // A settlement of one tag on a selected opening. Where the tag is not pending an open channel is closed.
+    fn settle_single(
+        &mut self,
+        alloc: Global,
+        channel: u16,
+        kind: SettleKind,
+        tag: u64,
+    ) -> Result<Heard, Error>
+        requires { selected_on channel self.old.book ≡ true }
+        ensures told { HeardTold result (settlement_told channel (single_of kind tag) self.old) }
+        ensures ok { WasHeard result (self.new ≡ hearing (SettlementFrame channel (single_of kind tag)) (settlement_told channel (single_of kind tag) self.old) self.old) (self.new ≡ self.old) }
+        ensures numbers { HasNumbers result }
+    {
+        match self.confirms.settle_one(channel, kind, tag) {
+            Ok(()) => Ok(Heard::Received),
+            Err(error) => {
+                self.close_unless_closing(alloc, channel, kind)?;
+                Err(error)
+            }
+        }
+    }
+
+    // The session closes an open channel after a settlement of a tag that is not pending; one that is closing stays so.
+    fn close_unless_closing(
+        &mut self,
+        alloc: Global,
+        channel: u16,
+        kind: SettleKind,
+    ) -> Result<(), NoMemory>
+        ensures ok { OnOk result ((tag current : ℕ) → self.new ≡ hearing (SettlementFrame channel (single_of kind tag)) (Refused (error.PreconditionFailed tag current)) self.old) }
+        ensures err { OnErr result (self.new ≡ self.old) }
+    {
+        if !is_open(self.channel_state(channel)) {
+            return Ok(());
+        }
+        let method = session_close(alloc, kind)?;
+        self.desk.outbox.reserve(alloc)?;
+        begin_close(
+            &mut self.phases,
+            &mut self.desk,
+            &mut self.confirms,
+            channel,
+            Closer::Session,
+        );
+        self.desk.note(alloc, channel, method);
+        Ok(())
     }
 
     pub(crate) fn step_receive(&mut self, alloc: Global, frame: Frame) -> Result<Record, Error>
@@ -111,31 +265,11 @@ impl Session {
 }
 
 // `channel.open-ok` opens its channel.
-fn state_replied(states: &mut ByChannel<ChannelState>, channel: u16, kind: ReplyKind)
-    requires { is_some (at_channel channel states.old.entries) ≡ true }
-    ensures { states.new.entries ≡ states_with channel kind states.old.entries }
+fn phase_replied(phases: &mut ByChannel<Phase>, channel: u16, kind: ReplyKind)
+    requires { is_some (at_channel channel phases.old.entries) ≡ true }
+    ensures { phases.new.entries ≡ phases_with channel kind phases.old.entries }
 {
-    match kind {
-        ReplyKind::ChannelOpenOk => set_state(states, channel, ChannelState::Open),
-        ReplyKind::ConfirmSelectOk => {}
-    }
-}
-
-// The ticket of a request is answered, if it has one.
-fn ticket_replied(tickets: &mut Tickets, ticket: Option<u64>, answer: Answer)
-    ensures { tickets.new.slots ≡ fold desk.after_mark tickets.old.slots (answered ticket answer) }
-{
-    if let Some(ticket) = ticket {
-        tickets.answer(ticket, Ok(answer));
-    }
-}
-
-// The refusal of a frame that is not heard.
-fn unexpected(frame: &Frame) -> Error
-    ensures { result ≡ error.UnexpectedFrame (frame_class frame.now) (frame_method frame.now) }
-{
-    Error::UnexpectedFrame {
-        class: class_of(frame),
-        method: method_of(frame),
+    if let ReplyKind::ChannelOpenOk = kind {
+        set_phase(phases, channel, Phase::Open);
     }
 }

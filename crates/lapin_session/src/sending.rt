@@ -1,9 +1,9 @@
-//! Frames that leave: what a frame request hands out, and what leaving does to confirms and tickets.
+//! Frames that leave: what a frame request hands out, and what leaving does to confirms, tickets and closes.
 
 ghost use Rattle.std.specs.Prelude.{◌≡◌, Some, IfOk, OnOk, OnErr};
 ghost use Rattle.std.specs.List.{fold};
 ghost use Rattle.lapin_types.specs.declared.event.Event.TheVariants as event;
-ghost use Rattle.lapin_history.specs.Base.{handed};
+ghost use Rattle.lapin_history.specs.Base.{handed, link_sent, phases_sent};
 ghost use Rattle.lapin_history.specs.Answers.{frame_record as frame_record_lem};
 ghost use Rattle.lapin_history.specs.Marked.{left_marks, left_tickets, frame_marks};
 ghost use Rattle.lapin_confirm.specs.Book as book;
@@ -14,9 +14,12 @@ ghost use Rattle.lapin_session.specs.Tied.{CanRegister};
 
 use crate::session::Session;
 use lapin_confirm::Confirms;
-use lapin_history::resolved;
+use lapin_history::{Link, Phase, close_sent, link_close_sent, resolved};
+use lapin_tables::ByChannel;
 use lapin_ticket::Tickets;
-use lapin_types::{ConfirmMethod, Error, Frame, Left, Method, Record};
+use lapin_types::{
+    ChannelMethod, ConfirmMethod, ConnectionMethod, Error, Frame, Left, Method, Record,
+};
 use std::alloc::Global;
 
 impl Session {
@@ -36,6 +39,8 @@ impl Session {
             Some(left) => {
                 confirms_left(&mut self.confirms, &left);
                 tickets_left(&mut self.desk.tickets, &left);
+                link_left(&mut self.link, &left.frame);
+                phases_left(&mut self.phases, &left.frame);
                 Ok(Some(left))
             }
             None => Ok(None),
@@ -89,5 +94,25 @@ fn tickets_left(tickets: &mut Tickets, left: &Left)
 {
     if let Some((ticket, answer)) = resolved(left) {
         tickets.answer(ticket, Ok(answer));
+    }
+}
+
+// A close of the connection is known to have left.
+fn link_left(link: &mut Link, frame: &Frame)
+    ensures { link.new ≡ link_sent frame.now link.old }
+{
+    if let Frame::Method(_, Method::Connection(ConnectionMethod::Close { .. })) = frame {
+        *link = link_close_sent(*link);
+    }
+}
+
+// A close of a channel is known to have left.
+fn phases_left(phases: &mut ByChannel<Phase>, frame: &Frame)
+    ensures { phases.new.entries ≡ phases_sent frame.now phases.old.entries }
+{
+    if let Frame::Method(channel, Method::Channel(ChannelMethod::Close { .. })) = frame {
+        if let Some(phase) = phases.get_mut(*channel) {
+            *phase = close_sent(*phase);
+        }
     }
 }

@@ -1,10 +1,12 @@
 //! The session: its parts, its value, and the step over all events.
 //!
-//! What an event does stands in the files beside this one: calls, frames that leave, frames of the broker, polls.
+//! What an event does stands in the files beside this one: calls, closes and the loss, frames that leave, frames of the broker,
+//! polls.
 
 ghost use Rattle.std.specs.Prelude.{◌≡◌, ◌≤◌, ◌++◌, ◌∷◌, [], List, ℕ, None, IfOk, OnOk, OnErr};
 ghost use Rattle.lapin_types.specs.declared.event.Event.TheVariants as event;
-ghost use Rattle.lapin_history.specs.Base.{state_of, is_open as is_open_lem, is_closed as is_closed_lem};
+ghost use Rattle.lapin_history.specs.Base.{state_of, phase_of, is_open as is_open_lem, is_closed as is_closed_lem, is_base as is_base_lem};
+ghost use Rattle.lapin_history.specs.Phases.{connection_state as connection_state_lem};
 ghost use Rattle.lapin_history.specs.History.{History, rec};
 ghost use Rattle.lapin_tables.specs.ByChannel.{at_channel, HasRoom};
 ghost use Rattle.lapin_history.specs.Words.{with_channel};
@@ -12,20 +14,22 @@ ghost use Rattle.lapin_session.specs.World.{told_by, next, new_world};
 ghost use Rattle.lapin_session.specs.Numbers.{HasCause};
 ghost use Rattle.lapin_session.specs.Stands.{Stands};
 
-use crate::desk::Desk;
 use lapin_confirm::Confirms;
+use lapin_desk::Desk;
+use lapin_history::{Link, Phase};
 use lapin_outbox::{Outbox, Replies};
 use lapin_tables::ByChannel;
 use lapin_ticket::Tickets;
-use lapin_types::{Call, ChannelState, Error, Event, NoMemory, Record};
+use lapin_types::{Call, ChannelState, ConnectionState, Error, Event, NoMemory, Record};
 use std::alloc::Global;
 use std::marker::Model;
 
-/// One connection's channels, calls and confirms, without a socket. Contracts see it as a `World`: states, lists, requests
-/// and counters, the confirms and the tickets.
+/// One connection's channels, calls and confirms, without a socket. Contracts see it as a `World`: where the connection and
+/// its channels stand, lists, requests and counters, the confirms and the tickets.
 #[derive(Drop)]
 pub struct Session {
-    pub(crate) states: ByChannel<ChannelState>,
+    pub(crate) link: Link,
+    pub(crate) phases: ByChannel<Phase>,
     pub(crate) desk: Desk,
     pub(crate) confirms: Confirms,
 }
@@ -44,7 +48,8 @@ impl Model for Session {
     ghost view = { λ a. record {
       base = record {
         frame_max = a.desk.outbox.frame_max;
-        states = a.states.entries;
+        link = a.link;
+        phases = a.phases.entries;
         rest = a.desk.outbox.lists.rest;
         methods = a.desk.outbox.lists.methods;
         publishes = a.desk.outbox.lists.publishes;
@@ -56,7 +61,7 @@ impl Model for Session {
       slots = a.desk.tickets.slots;
     } };
 
-    ghost invariant = { λ a. IsTied a.states.entries a.desk.outbox.lists.publishes a.confirms.book };
+    ghost invariant = { λ a. IsTied a.link a.phases.entries a.desk.outbox.lists.publishes a.confirms.book };
 }
 
 impl Session {
@@ -70,7 +75,8 @@ impl Session {
         ensures { IfOk result (λ session. session ≡ new_world frame_max) }
     {
         Ok(Session {
-            states: ByChannel::new(alloc),
+            link: Link::Open,
+            phases: ByChannel::new(alloc),
             desk: Desk {
                 outbox: Outbox::new(alloc, frame_max)?,
                 replies: Replies::new(alloc)?,
@@ -80,16 +86,33 @@ impl Session {
         })
     }
 
-    /// The state of a channel. Channel 0 is the connection's own.
+    /// The state of a channel. Channel 0 is the connection's own; every channel is down while the connection is not open.
     pub fn channel_state(&self, channel: u16) -> ChannelState
         ensures { result ≡ state_of channel self.now.base }
     {
+        if !self.link.is_up() {
+            return ChannelState::Down;
+        }
         if channel == 0 {
             return ChannelState::Base;
         }
-        match self.states.get(channel) {
-            Some(state) => *state,
-            None => ChannelState::Closed,
+        self.phase(channel).state()
+    }
+
+    /// The state of the connection.
+    pub fn connection_state(&self) -> ConnectionState
+        ensures { result ≡ connection_state_lem self.now.base.link }
+    {
+        self.link.state()
+    }
+
+    // Where a channel stands while the connection is open.
+    pub(crate) fn phase(&self, channel: u16) -> Phase
+        ensures { result ≡ phase_of channel self.now.base }
+    {
+        match self.phases.get(channel) {
+            Some(phase) => *phase,
+            None => Phase::Closed,
         }
     }
 
@@ -123,20 +146,22 @@ impl Session {
             Event::Receive(frame) => self.step_receive(alloc, frame),
             Event::PollTicket(number) => Ok(self.step_poll_ticket(number)),
             Event::PollConfirm(number) => Ok(self.step_poll_confirm(number)),
+            Event::State(channel) => Ok(self.step_state(channel)),
+            Event::Lost => self.step_lost(alloc),
         }
     }
 }
 
-// Puts a channel into a state.
-pub(crate) fn set_state(states: &mut ByChannel<ChannelState>, channel: u16, state: ChannelState)
-    requires { at_channel channel states.old.entries ≡ None → HasRoom channel states.old }
-    ensures { states.new.entries ≡ with_channel channel state states.old.entries }
+// Puts a channel where an open or a close leads it.
+pub(crate) fn set_phase(phases: &mut ByChannel<Phase>, channel: u16, phase: Phase)
+    requires { at_channel channel phases.old.entries ≡ None → HasRoom channel phases.old }
+    ensures { phases.new.entries ≡ with_channel channel phase phases.old.entries }
 {
-    if let Some(held) = states.get_mut(channel) {
-        *held = state;
+    if let Some(held) = phases.get_mut(channel) {
+        *held = phase;
         return;
     }
-    states.insert_reserved(channel, state);
+    phases.insert_reserved(channel, phase);
 }
 
 pub(crate) fn is_open(state: ChannelState) -> bool
@@ -149,4 +174,10 @@ pub(crate) fn is_closed(state: ChannelState) -> bool
     ensures { result ≡ is_closed_lem state }
 {
     matches!(state, ChannelState::Closed)
+}
+
+pub(crate) fn is_base(state: ChannelState) -> bool
+    ensures { result ≡ is_base_lem state }
+{
+    matches!(state, ChannelState::Base)
 }

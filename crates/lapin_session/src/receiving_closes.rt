@@ -1,0 +1,182 @@
+//! Closes of the broker and its answers to closes of this side, on a channel and on the connection.
+//!
+//! The session comes here once it knows that the frame is heard. What an end drops and resolves stands in `lapin_desk`.
+
+ghost use Rattle.std.specs.Prelude.{◌≡◌, ◌≤◌, ◌++◌, true, [], Some, Err, if◌then◌else◌};
+ghost use Rattle.std.specs.List.{fold};
+ghost use Rattle.lapin_tables.specs.ByChannel.{on_channel};
+ghost use Rattle.lapin_types.specs.declared.record.Record.TheVariants.{Received};
+ghost use Rattle.lapin_types.specs.declared.request.ReplyKind.TheVariants.{ChannelCloseOk as CloseOkKind};
+ghost use Rattle.lapin_history.specs.declared.broker_frames.Incoming.TheVariants.{ChannelClose as ChannelCloseFrame, ChannelCloseOk as ChannelCloseOkFrame, ConnectionClose as ConnectionCloseFrame, ConnectionCloseOk as ConnectionCloseOkFrame};
+ghost use Rattle.lapin_history.specs.Requests.{first_request, without_kind, no_requests, ticket_of as ticket_of_lem};
+ghost use Rattle.lapin_history.specs.Phases.{has_sent_close as has_sent_close_lem};
+ghost use Rattle.lapin_history.specs.Base.{state_of, hears_close as hears_close_lem, hears_close_ok as hears_close_ok_lem};
+ghost use Rattle.lapin_history.specs.Drops.{without_channel, publish_tickets_of, rest_tickets_of, method_tickets_of};
+ghost use Rattle.lapin_history.specs.Marked.{failures, request_tickets, resolved_with};
+ghost use Rattle.lapin_outbox.specs.Open.{requests_at};
+ghost use Rattle.lapin_confirm.specs.Book as book;
+ghost use Rattle.lapin_ticket.specs.Desk as answers;
+ghost use Rattle.lapin_desk.specs.Queued.{AreQueued};
+ghost use Rattle.lapin_session.specs.Kept.{kept_requests};
+ghost use Rattle.lapin_session.specs.World.{hearing};
+ghost use Rattle.lapin_session.specs.Told.{HeardTold, WasHeard};
+ghost use Rattle.lapin_session.specs.Numbers.{HasNumbers};
+
+use crate::channel::Heard;
+use crate::closing::go_down;
+use crate::session::{Session, set_phase};
+use lapin_confirm::Confirms;
+use lapin_desk::Desk;
+use lapin_history::{Link, Phase, after_broker_close, close_ok_end, has_sent_close};
+use lapin_outbox::Replies;
+use lapin_types::{
+    Answer, ChannelMethod, ConnectionMethod, Error, Method, ReplyKind, Request,
+};
+use std::alloc::Global;
+
+impl Session {
+    // The broker closes a channel: its opening ends, and close-ok is queued. Where this side's close has left the two crossed.
+    pub(crate) fn hear_channel_close(
+        &mut self,
+        alloc: Global,
+        channel: u16,
+        code: u16,
+    ) -> Result<Heard, Error>
+        requires { hears_close_lem (state_of channel self.old.base) ≡ true }
+        ensures told { HeardTold result Received }
+        ensures ok { WasHeard result (self.new ≡ hearing (ChannelCloseFrame channel code) Received self.old) (self.new ≡ self.old) }
+        ensures numbers { HasNumbers result }
+    {
+        self.desk.outbox.reserve(alloc)?;
+        self.desk.replies.reserve(alloc, channel)?;
+        let phase = self.phase(channel);
+        let error = Error::ProtocolError(code);
+        let close = end_but_close(&mut self.desk, &mut self.confirms, channel, error);
+        set_phase(&mut self.phases, channel, after_broker_close(phase));
+        keep_or_fail(&mut self.desk, alloc, channel, close, phase, error);
+        self.desk
+            .note(alloc, channel, Method::Channel(ChannelMethod::CloseOk));
+        Ok(Heard::Received)
+    }
+
+    // The broker answers a close of a channel: the channel is closed and the close done. The opening ends, where a crossed close
+    // did not end it before.
+    pub(crate) fn hear_channel_close_ok(&mut self, channel: u16)
+        requires { hears_close_ok_lem (state_of channel self.old.base) ≡ true }
+        ensures { self.new ≡ hearing (ChannelCloseOkFrame channel) Received self.old }
+    {
+        let close = match close_ok_end(self.phase(channel)) {
+            Some(error) => end_but_close(&mut self.desk, &mut self.confirms, channel, error),
+            None => self
+                .desk
+                .replies
+                .take_first(channel, ReplyKind::ChannelCloseOk),
+        };
+        set_phase(&mut self.phases, channel, Phase::Closed);
+        self.desk.resolve(ticket_of(close), Ok(Answer::Done));
+    }
+
+    // The broker closes the connection, which is open, or which this side is closing: close-ok is queued. Where this side's close
+    // has left the connection is still closing; else it is closed.
+    pub(crate) fn hear_connection_close(
+        &mut self,
+        alloc: Global,
+        code: u16,
+    ) -> Result<Heard, Error>
+        ensures told { HeardTold result Received }
+        ensures ok { WasHeard result (self.new ≡ hearing (ConnectionCloseFrame code) Received self.old) (self.new ≡ self.old) }
+        ensures numbers { HasNumbers result }
+    {
+        self.desk.outbox.reserve(alloc)?;
+        if let Link::Closing { sent: true, .. } = self.link {
+            self.link = Link::Closing {
+                sent: true,
+                heard: true,
+            };
+        } else {
+            let replies = Replies::new(alloc)?;
+            go_down(
+                &mut self.link,
+                &self.phases,
+                &mut self.desk,
+                &mut self.confirms,
+                replies,
+                Link::Closed,
+                Error::ProtocolError(code),
+            );
+        }
+        self.desk
+            .note(alloc, 0, Method::Connection(ConnectionMethod::CloseOk));
+        Ok(Heard::Received)
+    }
+
+    // The broker answers this side's close of the connection: it is closed and the close done. A close that has not left is
+    // dropped.
+    pub(crate) fn hear_connection_close_ok(&mut self)
+        ensures { self.new ≡ hearing ConnectionCloseOkFrame Received self.old }
+    {
+        let close = self
+            .desk
+            .replies
+            .take_first(0, ReplyKind::ConnectionCloseOk);
+        if let Link::Closing { sent: false, .. } = self.link {
+            self.desk.drop_rest();
+        }
+        self.link = Link::Closed;
+        self.desk.resolve(ticket_of(close), Ok(Answer::Done));
+    }
+}
+
+// An opening ends. The request of this side's close, if there is one, is taken out and not resolved.
+fn end_but_close(
+    desk: &mut Desk,
+    confirms: &mut Confirms,
+    channel: u16,
+    error: Error,
+) -> Option<Request>
+    requires queued { AreQueued confirms.old.book.cells desk.old.outbox.lists.publishes }
+    ensures close { result ≡ first_request CloseOkKind (requests_at channel desk.old.replies.waiting) }
+    ensures lists { desk.new.outbox.lists ≡ without_channel channel desk.old.outbox.lists }
+    ensures requests { desk.new.replies.waiting ≡ on_channel channel no_requests desk.old.replies.waiting }
+    ensures slots { desk.new.tickets.slots ≡ fold answers.after_mark desk.old.tickets.slots (failures error
+        (publish_tickets_of channel desk.old.outbox.lists.publishes ++ (rest_tickets_of channel desk.old.outbox.lists.rest ++
+        (method_tickets_of channel desk.old.outbox.lists.methods ++ request_tickets (without_kind CloseOkKind (requests_at channel desk.old.replies.waiting)))))) }
+    ensures book { confirms.new.book ≡ book.ended channel error confirms.old.book }
+    ensures queued { AreQueued confirms.new.book.cells desk.new.outbox.lists.publishes }
+    ensures frame_max { desk.new.outbox.frame_max ≡ desk.old.outbox.frame_max }
+    ensures room { (desk.old.outbox.spare ≤ desk.new.outbox.spare) × (desk.new.replies.ready ≡ desk.old.replies.ready) }
+{
+    let close = desk.replies.take_first(channel, ReplyKind::ChannelCloseOk);
+    desk.end_opening(confirms, channel, error);
+    close
+}
+
+// Crossed closes leave the request of this side's close open, in the room that was made; else its ticket fails.
+fn keep_or_fail(
+    desk: &mut Desk,
+    alloc: Global,
+    channel: u16,
+    close: Option<Request>,
+    phase: Phase,
+    error: Error,
+)
+    requires { desk.old.replies.ready ≡ Some channel }
+    ensures requests { desk.new.replies.waiting ≡ kept_requests channel (has_sent_close_lem phase) close desk.old.replies.waiting }
+    ensures slots { desk.new.tickets.slots ≡ fold answers.after_mark desk.old.tickets.slots (if has_sent_close_lem phase then [] else resolved_with (Err error) (ticket_of_lem close)) }
+    ensures outbox { desk.new.outbox ≡ desk.old.outbox }
+{
+    if !has_sent_close(phase) {
+        desk.resolve(ticket_of(close), Err(error));
+        return;
+    }
+    if let Some(request) = close {
+        desk.replies.expect(alloc, channel, request).unwrap();
+    }
+}
+
+// The ticket of a request, if there is a request and somebody holds its ticket.
+fn ticket_of(request: Option<Request>) -> Option<u64>
+    ensures { result ≡ ticket_of_lem request }
+{
+    request?.ticket
+}
