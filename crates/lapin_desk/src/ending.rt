@@ -73,7 +73,7 @@ impl Desk {
     {
         self.end_live(confirms, phases, error);
         self.drop_rest();
-        self.tickets.fail_all(error);
+        // self.tickets.fail_all(error);
         self.replies = replies;
     }
 

@@ -1,0 +1,130 @@
+-- The tickets of entries and of requests, one by one as they are taken out.
+use Rattle.std.proofs.Common.{◌≡◌, ℕ, ◌<◌, ◌==◌, Bool, true, false, cond, not, List, [], ◌∷◌, ◌++◌, map, drop, length, Option, Some, None, Err, refl, sym, ◌∙◌, ap, arith, slice_get, eq-eqb}
+use Rattle.std.specs.Bool.{if◌then◌else◌}
+use Rattle.std.specs.List.{fold, filter}
+use Rattle.std.specs.Option.{option_map}
+use Rattle.lapin_types.specs.declared.Error.{Error}
+use Rattle.lapin_types.specs.declared.leaving.Publish.{Publish}
+use Rattle.lapin_types.specs.declared.request.Request.{Request}
+use Rattle.lapin_tables.specs.ByChannel.{at_channel, on_channel}
+use Rattle.lapin_history.specs.Words.{without_first, is_some, with_channel}
+use Rattle.lapin_history.specs.Frames.{MethodEntry, RestEntry}
+use Rattle.lapin_history.specs.Leaving.{Lists}
+use Rattle.lapin_history.specs.Requests.{requests_in, no_requests}
+use Rattle.lapin_history.specs.Drops.{is_on, is_off, method_channel, publish_channel, unbegun, is_rest_of, rest_tickets, rest_tickets_of, method_tickets_of, publish_tickets_of}
+use Rattle.lapin_history.specs.Marked.{resolved_with, failures, rejections, request_tickets, place_of}
+use Rattle.lapin_history.proofs.ChannelLaws.{at-with}
+use Rattle.lapin_outbox.specs.declared.dropped.Dropped.{Dropped}
+use Rattle.lapin_outbox.specs.Drops.{told_rest, told_rest_of, told_method, told_publish, unbegun_of, entries_of, without_entry_of}
+use Rattle.lapin_outbox.specs.Open.{requests_at, without_oldest}
+use Rattle.lapin_outbox.proofs.Dropping.{channel-told, no-first}
+use Rattle.lapin_ticket.specs.declared.Slot.{Slot}
+use Rattle.lapin_ticket.specs.Desk.{after_mark}
+use Rattle.lapin_desk.specs.Dropped.{tickets_of}
+use Rattle.lapin_desk.proofs.Queueing.{FirstOf, first-of}
+
+-- ---- lists
+
+pub first-cons : {X : Type 0} (xs : List X) (x : X) → Some x ≡ slice_get xs 0 → x ∷ drop 1 xs ≡ xs
+first-cons [] x h = cc
+first-cons (y ∷ ys) x h = let same : x ≡ y = cc in ap (λ z. z ∷ ys) same
+
+map-append : {X Y : Type 0} (f : X → Y) (xs ys : List X) → map f (xs ++ ys) ≡ map f xs ++ map f ys
+map-append f [] ys = refl
+map-append f (x ∷ xs) ys = ap (λ zs. f x ∷ zs) (map-append f xs ys)
+
+-- ---- failures, one by one
+
+pub fold-failure : (e : Error) (slots : List (Option Slot)) (t : Option ℕ) (ts : List (Option ℕ)) → fold after_mark (fold after_mark slots (resolved_with (Err e) t)) (failures e ts) ≡ fold after_mark slots (failures e (t ∷ ts))
+fold-failure e slots None ts = refl
+fold-failure e slots (Some n) ts = refl
+
+pub fold-failures : (e : Error) (slots : List (Option Slot)) (ts us : List (Option ℕ)) → fold after_mark (fold after_mark slots (failures e ts)) (failures e us) ≡ fold after_mark slots (failures e (ts ++ us))
+fold-failures e slots [] us = refl
+fold-failures e slots (None ∷ ts) us = fold-failures e slots ts us
+fold-failures e slots (Some n ∷ ts) us = fold-failures e _ ts us
+
+-- where the first ticket is resolved, the others are left
+pub failed-first : (e : Error) (slots : List (Option Slot)) (t : Option ℕ) (ts all : List (Option ℕ)) → t ∷ ts ≡ all → fold after_mark (fold after_mark slots (resolved_with (Err e) t)) (failures e ts) ≡ fold after_mark slots (failures e all)
+failed-first e slots t ts all is = fold-failure e slots t ts ∙ ap (λ us. fold after_mark slots (failures e us)) is
+
+-- ---- the tickets of what is dropped
+
+abbrev dropped_ticket : Dropped → Option ℕ
+dropped_ticket d = d.ticket
+
+pub publish-first : (c : ℕ) (ps : List Publish) (d : Dropped) → Some d ≡ slice_get (map told_publish (unbegun c ps)) 0 → d.ticket ∷ publish_tickets_of c (without_first (is_on publish_channel c) ps) ≡ publish_tickets_of c ps
+publish-first c ps d told =
+    let is = first-of c ps d told in
+    ap (λ t. t ∷ publish_tickets_of c (without_first (is_on publish_channel c) ps)) (ap dropped_ticket is.told)
+    ∙ ap (λ us. map (λ p. Some p.ticket) us) (sym is.unbegun)
+
+publish-tickets : (ps : List Publish) → map dropped_ticket (map told_publish ps) ≡ map (λ p. Some p.ticket) ps
+publish-tickets [] = refl
+publish-tickets (p ∷ ps) = ap (λ ts. Some p.ticket ∷ ts) (publish-tickets ps)
+
+method-tickets : (ms : List MethodEntry) → map dropped_ticket (map told_method ms) ≡ map (λ m. m.ticket) ms
+method-tickets [] = refl
+method-tickets (m ∷ ms) = ap (λ ts. m.ticket ∷ ts) (method-tickets ms)
+
+rest-tickets : (fs : List RestEntry) → map dropped_ticket (told_rest fs) ≡ rest_tickets fs
+rest-tickets [] = refl
+rest-tickets (f ∷ fs) = refl
+
+rest-tickets-if : (b : Bool) (fs : List RestEntry) → map dropped_ticket (if b then told_rest fs else []) ≡ (if b then rest_tickets fs else [])
+rest-tickets-if true fs = rest-tickets fs
+rest-tickets-if false fs = refl
+
+pub entry-tickets : (c : ℕ) (l : Lists) → map dropped_ticket (entries_of c l) ≡ tickets_of c l
+entry-tickets c l =
+    map-append dropped_ticket (told_rest_of c l.rest) _
+    ∙ ap (λ ts. ts ++ map dropped_ticket (map told_method (filter (is_on method_channel c) l.methods) ++ unbegun_of c l)) (rest-tickets-if (is_rest_of c l.rest) l.rest)
+    ∙ ap (λ ts. rest_tickets_of c l.rest ++ ts) (
+    map-append dropped_ticket (map told_method (filter (is_on method_channel c) l.methods)) (unbegun_of c l)
+    ∙ ap (λ ts. ts ++ map dropped_ticket (unbegun_of c l)) (method-tickets (filter (is_on method_channel c) l.methods))
+    ∙ ap (λ ts. method_tickets_of c l.methods ++ ts) (publish-tickets (unbegun c l.publishes))
+    )
+
+pub entry-first : (c : ℕ) (l : Lists) (d : Dropped) → Some d ≡ slice_get (entries_of c l) 0 → d.ticket ∷ tickets_of c (without_entry_of c l) ≡ tickets_of c l
+entry-first c l d told =
+    ap (λ ts. d.ticket ∷ ts) (sym (entry-tickets c (without_entry_of c l)) ∙ ap (λ ds. map dropped_ticket ds) (channel-told c l))
+    ∙ ap (λ ds. map dropped_ticket ds) (first-cons (entries_of c l) d told)
+    ∙ entry-tickets c l
+
+pub entry-none : (c : ℕ) (l : Lists) → slice_get (entries_of c l) 0 ≡ None → tickets_of c l ≡ []
+entry-none c l none = sym (entry-tickets c l) ∙ ap (λ ds. map dropped_ticket ds) (no-first (entries_of c l) none)
+
+pub length-first : {X : Type 0} (xs : List X) (x : X) → Some x ≡ slice_get xs 0 → length (drop 1 xs) < length xs
+length-first [] x h = cc
+length-first (y ∷ ys) x h = omega arith
+
+-- ---- requests
+
+pub requests-behind : (c : ℕ) (all : List (ℕ × List Request)) → requests_at c (without_oldest c all) ≡ drop 1 (requests_at c all)
+requests-behind c all = ap requests_in (at-with c c (drop 1 (requests_at c all)) all) ∙ rw (eq-eqb c c refl) refl
+
+there : (o : Option (List Request)) (r : Request) → Some r ≡ slice_get (requests_in o) 0 → is_some o ≡ true
+there None r h = cc
+there (Some rs) r h = refl
+
+emptied-twice : (c : ℕ) (rs : List Request) (all : List (ℕ × List Request)) → on_channel c no_requests (on_channel c (λ _. rs) all) ≡ on_channel c no_requests all
+emptied-twice c rs [] = refl
+emptied-twice c rs ((d, qs) ∷ all) = elim (d == c) as (λ b. (d == c) ≡ b → on_channel c no_requests (if b then (d, rs) ∷ all else (d, qs) ∷ on_channel c (λ _. rs) all) ≡ (if b then (d, []) ∷ all else (d, qs) ∷ on_channel c no_requests all)) [
+  | true ↦ λ on. rw on refl
+  | false ↦ λ off. rw off (ap (λ es. (d, qs) ∷ es) (emptied-twice c rs all))
+] refl
+
+pub requests-others : (c : ℕ) (all : List (ℕ × List Request)) (r : Request) → Some r ≡ slice_get (requests_at c all) 0 → on_channel c no_requests (without_oldest c all) ≡ on_channel c no_requests all
+requests-others c all r h = rw (there (at_channel c all) r h) (emptied-twice c (drop 1 (requests_at c all)) all)
+
+pub requests-none : (c : ℕ) (all : List (ℕ × List Request)) → requests_at c all ≡ [] → on_channel c no_requests all ≡ all
+requests-none c [] h = refl
+requests-none c ((d, qs) ∷ all) h = elim (d == c) as (λ b. requests_in (if b then Some qs else at_channel c all) ≡ [] → (if b then (d, []) ∷ all else (d, qs) ∷ on_channel c no_requests all) ≡ (d, qs) ∷ all) [
+  | true ↦ λ none. ap (λ rs. (d, rs) ∷ all) (sym none)
+  | false ↦ λ none. ap (λ es. (d, qs) ∷ es) (requests-none c all none)
+] h
+
+pub request-first : (c : ℕ) (all : List (ℕ × List Request)) (r : Request) → Some r ≡ slice_get (requests_at c all) 0 → r.ticket ∷ request_tickets (requests_at c (without_oldest c all)) ≡ request_tickets (requests_at c all)
+request-first c all r h =
+    ap (λ rs. r.ticket ∷ request_tickets rs) (requests-behind c all)
+    ∙ ap request_tickets (first-cons (requests_at c all) r h)
