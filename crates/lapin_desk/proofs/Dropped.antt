@@ -11,13 +11,13 @@ use Rattle.lapin_history.specs.Words.{without_first, is_some, with_channel}
 use Rattle.lapin_history.specs.Frames.{MethodEntry, RestEntry}
 use Rattle.lapin_history.specs.Leaving.{Lists}
 use Rattle.lapin_history.specs.Requests.{requests_in, no_requests}
-use Rattle.lapin_history.specs.Drops.{is_on, is_off, method_channel, publish_channel, unbegun, is_rest_of, rest_tickets, rest_tickets_of, method_tickets_of, publish_tickets_of}
+use Rattle.lapin_history.specs.Drops.{is_on, is_off, method_channel, publish_channel, unbegun, is_rest_of, rest_tickets, rest_tickets_of, method_tickets_of, publish_tickets_of, without_channel, without_publishes_of}
 use Rattle.lapin_history.specs.Marked.{resolved_with, failures, rejections, request_tickets, place_of}
 use Rattle.lapin_history.proofs.ChannelLaws.{at-with}
 use Rattle.lapin_outbox.specs.declared.dropped.Dropped.{Dropped}
-use Rattle.lapin_outbox.specs.Drops.{told_rest, told_rest_of, told_method, told_publish, unbegun_of, entries_of, without_entry_of}
+use Rattle.lapin_outbox.specs.Drops.{told_rest, told_rest_of, told_method, told_publish, unbegun_of, entries_of, without_entry_of, without_unbegun}
 use Rattle.lapin_outbox.specs.Open.{requests_at, without_oldest}
-use Rattle.lapin_outbox.proofs.Dropping.{channel-told, no-first}
+use Rattle.lapin_outbox.proofs.Dropping.{channel-told, channel-others, channel-empty, unbegun-told, unbegun-others, unbegun-empty, no-first}
 use Rattle.lapin_ticket.specs.declared.Slot.{Slot}
 use Rattle.lapin_ticket.specs.Desk.{after_mark}
 use Rattle.lapin_desk.specs.Dropped.{tickets_of}
@@ -45,8 +45,15 @@ fold-failures e slots (None ∷ ts) us = fold-failures e slots ts us
 fold-failures e slots (Some n ∷ ts) us = fold-failures e _ ts us
 
 -- where the first ticket is resolved, the others are left
-pub failed-first : (e : Error) (slots : List (Option Slot)) (t : Option ℕ) (ts all : List (Option ℕ)) → t ∷ ts ≡ all → fold after_mark (fold after_mark slots (resolved_with (Err e) t)) (failures e ts) ≡ fold after_mark slots (failures e all)
-failed-first e slots t ts all is = fold-failure e slots t ts ∙ ap (λ us. fold after_mark slots (failures e us)) is
+pub failed-first : (e : Error) (slots after : List (Option Slot)) (t : Option ℕ) (ts all : List (Option ℕ)) → after ≡ fold after_mark slots (resolved_with (Err e) t) → t ∷ ts ≡ all → fold after_mark after (failures e ts) ≡ fold after_mark slots (failures e all)
+failed-first e slots after t ts all is left =
+    ap (λ xs. fold after_mark xs (failures e ts)) is
+    ∙ fold-failure e slots t ts
+    ∙ ap (λ us. fold after_mark slots (failures e us)) left
+
+-- where no ticket is left, all are resolved
+pub failed-none : (e : Error) (slots start : List (Option Slot)) (ts : List (Option ℕ)) → ts ≡ [] → fold after_mark slots (failures e ts) ≡ start → slots ≡ start
+failed-none e slots start ts none is = sym (ap (λ us. fold after_mark slots (failures e us)) none) ∙ is
 
 -- ---- the tickets of what is dropped
 
@@ -128,3 +135,42 @@ pub request-first : (c : ℕ) (all : List (ℕ × List Request)) (r : Request) �
 request-first c all r h =
     ap (λ rs. r.ticket ∷ request_tickets rs) (requests-behind c all)
     ∙ ap request_tickets (first-cons (requests_at c all) r h)
+
+-- ---- where a drop finds nothing
+
+pub entries-end : (c : ℕ) (l : Lists) → slice_get (entries_of c l) 0 ≡ None → without_entry_of c l ≡ without_channel c l
+entries-end c l none =
+    let empty : entries_of c (without_entry_of c l) ≡ [] = channel-told c l ∙ ap (λ ds. drop 1 ds) (no-first (entries_of c l) none) in
+    sym (channel-empty c (without_entry_of c l) (ap (λ ds. slice_get ds 0) empty)) ∙ channel-others c l
+
+pub unbegun-end : (c : ℕ) (l : Lists) → slice_get (unbegun_of c l) 0 ≡ None → without_unbegun c l ≡ without_publishes_of c l
+unbegun-end c l none =
+    let empty : unbegun_of c (without_unbegun c l) ≡ [] = unbegun-told c l ∙ ap (λ ds. drop 1 ds) (no-first (unbegun_of c l) none) in
+    sym (unbegun-empty c (without_unbegun c l) (ap (λ ds. slice_get ds 0) empty)) ∙ unbegun-others c l
+
+map-none : {X Y : Type 0} (f : X → Y) (xs : List X) → map f xs ≡ [] → xs ≡ []
+map-none f [] h = refl
+map-none f (x ∷ xs) h = cc
+
+pub none-unbegun : (c : ℕ) (ps : List Publish) → slice_get (map told_publish (unbegun c ps)) 0 ≡ None → unbegun c ps ≡ []
+none-unbegun c ps none = map-none told_publish (unbegun c ps) (no-first (map told_publish (unbegun c ps)) none)
+
+-- ---- what is left gets smaller
+
+pub entries-smaller : (c : ℕ) (l new : Lists) (d : Dropped) → new ≡ without_entry_of c l → Some d ≡ slice_get (entries_of c l) 0 → length (entries_of c new) < length (entries_of c l)
+entries-smaller c l new d left told =
+    let same : length (entries_of c new) ≡ length (drop 1 (entries_of c l)) = ap (λ ds. length ds) (ap (entries_of c) left ∙ channel-told c l) in
+    let less = length-first (entries_of c l) d told in
+    omega arith
+
+pub unbegun-smaller : (c : ℕ) (l new : Lists) (d : Dropped) → new ≡ without_unbegun c l → Some d ≡ slice_get (unbegun_of c l) 0 → length (unbegun_of c new) < length (unbegun_of c l)
+unbegun-smaller c l new d left told =
+    let same : length (unbegun_of c new) ≡ length (drop 1 (unbegun_of c l)) = ap (λ ds. length ds) (ap (unbegun_of c) left ∙ unbegun-told c l) in
+    let less = length-first (unbegun_of c l) d told in
+    omega arith
+
+pub requests-smaller : (c : ℕ) (all new : List (ℕ × List Request)) (r : Request) → new ≡ without_oldest c all → Some r ≡ slice_get (requests_at c all) 0 → length (requests_at c new) < length (requests_at c all)
+requests-smaller c all new r left told =
+    let same : length (requests_at c new) ≡ length (drop 1 (requests_at c all)) = ap (λ rs. length rs) (ap (requests_at c) left ∙ requests-behind c all) in
+    let less = length-first (requests_at c all) r told in
+    omega arith

@@ -31,16 +31,21 @@ use Rattle.lapin_desk.proofs.Queueing.{FirstOf, first-of, taken-out, queued-filt
 abbrev dropped_publish : Dropped → Option ℕ
 dropped_publish d = d.publish
 
-pub rejected-first : (c : ℕ) (e : Error) (ps : List Publish) (d : Dropped) (b : Book) → Some d ≡ slice_get (map told_publish (unbegun c ps)) 0 → AreQueued b.cells ps
-    → fold after_mark (rejected_told e d.publish b) (rejections e (unbegun c (without_first (is_on publish_channel c) ps))) ≡ fold after_mark b (rejections e (unbegun c ps))
-rejected-first c e ps d b told q =
+pub rejected-first : (c : ℕ) (e : Error) (ps stay : List Publish) (d : Dropped) (b after : Book) → Some d ≡ slice_get (map told_publish (unbegun c ps)) 0 → stay ≡ without_first (is_on publish_channel c) ps → after ≡ rejected_told e d.publish b → AreQueued b.cells ps
+    → fold after_mark after (rejections e (unbegun c stay)) ≡ fold after_mark b (rejections e (unbegun c ps))
+rejected-first c e ps stay d b after told left rejected_ q =
     let is = first-of c ps d told in
     let out = taken-out b.cells (is_on publish_channel c) ps is.first is.found q in
     let above = number-above is.first.confirm b.cells (cell.Queued is.first.channel) out.queued in
-    let left : List Publish = unbegun c (without_first (is_on publish_channel c) ps) in
-    ap (λ o. fold after_mark (rejected_told e o b) (rejections e left)) (ap dropped_publish is.told)
-    ∙ ap (λ n. fold after_mark (rejected n e b) (rejections e left)) (sym (suc_place is.first.confirm above))
+    let others : List Publish = unbegun c (without_first (is_on publish_channel c) ps) in
+    ap (λ x. fold after_mark x (rejections e (unbegun c stay))) rejected_
+    ∙ ap (λ qs. fold after_mark (rejected_told e d.publish b) (rejections e (unbegun c qs))) left
+    ∙ ap (λ o. fold after_mark (rejected_told e o b) (rejections e others)) (ap dropped_publish is.told)
+    ∙ ap (λ n. fold after_mark (rejected n e b) (rejections e others)) (sym (suc_place is.first.confirm above))
     ∙ ap (λ us. fold after_mark b (rejections e us)) (sym is.unbegun)
+
+pub rejected-none : (e : Error) (b start : Book) (us : List Publish) → us ≡ [] → fold after_mark b (rejections e us) ≡ start → b ≡ start
+rejected-none e b start us none is = sym (ap (λ xs. fold after_mark b (rejections e xs)) none) ∙ is
 
 -- ---- an end after its rejections is the end alone
 

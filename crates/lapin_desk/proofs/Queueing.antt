@@ -112,22 +112,33 @@ first-of c (p ∷ ps) d e = elim (is_on publish_channel c p) as (λ b. is_on pub
       record { first = behind.first; told = behind.told; found = rw off behind.found; unbegun = rw (off, off) behind.unbegun }
 ] refl e
 
-module _ (c : ℕ) (cells : List (Option Cell)) (ps : List Publish) (d : Dropped) (told : Some d ≡ slice_get (map told_publish (unbegun c ps)) 0) (q : AreQueued cells ps) where
-  pub may-reject : MayReject d.publish cells
-  may-reject =
-      let is = first-of c ps d told in
-      let out = taken-out cells (is_on publish_channel c) ps is.first is.found q in
-      let here : is_queued (under is.first.confirm cells) ≡ true = ap is_queued out.queued in
-      let P : Dropped → Type 0 = λ x. MayReject x.publish cells in
-      subst P (sym is.told) here
+pub may-reject : (c : ℕ) (cells : List (Option Cell)) (ps : List Publish) (d : Dropped) → Some d ≡ slice_get (map told_publish (unbegun c ps)) 0 → AreQueued cells ps → MayReject d.publish cells
+may-reject c cells ps d told q =
+    let is = first-of c ps d told in
+    let out = taken-out cells (is_on publish_channel c) ps is.first is.found q in
+    let here : is_queued (under is.first.confirm cells) ≡ true = ap is_queued out.queued in
+    let P : Dropped → Type 0 = λ x. MayReject x.publish cells in
+    subst P (sym is.told) here
 
-  pub still-queued : (e : Error) (b : Book) → b.cells ≡ cells → AreQueued (rejected_told e d.publish b).cells (without_first (is_on publish_channel c) ps)
-  still-queued e b same =
-      let is = first-of c ps d told in
-      let Q : List (Option Cell) → Type 0 = λ x. AreQueued x ps in
-      let out = taken-out b.cells (is_on publish_channel c) ps is.first is.found (subst Q (sym same) q) in
-      let P : Dropped → Type 0 = λ x. AreQueued (rejected_told e x.publish b).cells (without_first (is_on publish_channel c) ps) in
-      subst P (sym is.told) (queued-written is.first.confirm _ b.cells (without_first (is_on publish_channel c) ps) out.other out.still)
+-- the same publishes
+pub queued-by : (cells : List (Option Cell)) (ps qs : List Publish) → ps ≡ qs → AreQueued cells ps → AreQueued cells qs
+queued-by cells ps qs same q = let P : List Publish → Type 0 = λ xs. AreQueued cells xs in subst P same q
+
+pub still-queued : (c : ℕ) (ps stay : List Publish) (d : Dropped) (e : Error) (b after : Book) → Some d ≡ slice_get (map told_publish (unbegun c ps)) 0 → stay ≡ without_first (is_on publish_channel c) ps → after ≡ rejected_told e d.publish b → AreQueued b.cells ps → AreQueued after.cells stay
+still-queued c ps stay d e b after told left rejected q =
+    let is = first-of c ps d told in
+    let out = taken-out b.cells (is_on publish_channel c) ps is.first is.found q in
+    let P : Dropped → Type 0 = λ x. AreQueued (rejected_told e x.publish b).cells (without_first (is_on publish_channel c) ps) in
+    let here = subst P (sym is.told) (queued-written is.first.confirm _ b.cells (without_first (is_on publish_channel c) ps) out.other out.still) in
+    let Q : Book → Type 0 = λ x. AreQueued x.cells stay in
+    subst Q (sym rejected) (queued-by (rejected_told e d.publish b).cells _ _ (sym left) here)
+
+pub queued-without : (c : ℕ) (cells : List (Option Cell)) (ps : List Publish) → AreQueued cells ps → AreQueued cells (without_first (is_on publish_channel c) ps)
+queued-without c cells [] q = tt
+queued-without c cells (p ∷ ps) q = elim (is_on publish_channel c p) as (λ b. AreQueued cells (cond b ps (p ∷ without_first (is_on publish_channel c) ps))) [
+  | true ↦ q.2
+  | false ↦ (q.0, all-without (λ r. p.confirm ≢ r.confirm) (is_on publish_channel c) ps q.1, queued-without c cells ps q.2)
+]
 
 -- ---- an end of another channel
 
