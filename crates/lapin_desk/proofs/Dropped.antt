@@ -1,5 +1,5 @@
 -- The tickets of entries and of requests, one by one as they are taken out.
-use Rattle.std.proofs.Common.{◌≡◌, ℕ, ◌<◌, ◌==◌, Bool, true, false, cond, not, List, [], ◌∷◌, ◌++◌, map, drop, length, Option, Some, None, Err, refl, sym, ◌∙◌, ap, arith, slice_get, eq-eqb}
+use Rattle.std.proofs.Common.{◌≡◌, ℕ, ◌<◌, ◌==◌, Bool, true, false, cond, not, List, [], ◌∷◌, ◌++◌, map, drop, length, Option, Some, None, Err, refl, sym, ◌∙◌, ap, arith, slice_get, eq-eqb, append_assoc, append_nil}
 use Rattle.std.specs.Bool.{if◌then◌else◌}
 use Rattle.std.specs.List.{fold, filter}
 use Rattle.std.specs.Option.{option_map}
@@ -174,3 +174,43 @@ requests-smaller c all new r left told =
     let same : length (requests_at c new) ≡ length (drop 1 (requests_at c all)) = ap (λ rs. length rs) (ap (requests_at c) left ∙ requests-behind c all) in
     let less = length-first (requests_at c all) r told in
     omega arith
+
+-- ---- the entries of a channel once its publishes are gone
+
+off-twice : (c : ℕ) (ps : List Publish) → filter (is_off publish_channel c) (filter (is_off publish_channel c) ps) ≡ filter (is_off publish_channel c) ps
+off-twice c [] = refl
+off-twice c (p ∷ ps) = elim (p.channel == c) as (λ b. (p.channel == c) ≡ b → filter (is_off publish_channel c) (cond (not b) (p ∷ filter (is_off publish_channel c) ps) (filter (is_off publish_channel c) ps)) ≡ cond (not b) (p ∷ filter (is_off publish_channel c) ps) (filter (is_off publish_channel c) ps)) [
+  | true ↦ λ on. off-twice c ps
+  | false ↦ λ off. rw off (ap (λ qs. p ∷ qs) (off-twice c ps))
+] refl
+
+none-on : (c : ℕ) (ps : List Publish) → unbegun c (filter (is_off publish_channel c) ps) ≡ []
+none-on c [] = refl
+none-on c (p ∷ ps) = elim (p.channel == c) as (λ b. (p.channel == c) ≡ b → unbegun c (cond (not b) (p ∷ filter (is_off publish_channel c) ps) (filter (is_off publish_channel c) ps)) ≡ []) [
+  | true ↦ λ on. none-on c ps
+  | false ↦ λ off. rw off (none-on c ps)
+] refl
+
+pub channel-behind : (c : ℕ) (l : Lists) → without_channel c (without_publishes_of c l) ≡ without_channel c l
+channel-behind c l = ap (λ ps. record { rest = if is_rest_of c l.rest then [] else l.rest; methods = filter (is_off method_channel c) l.methods; publishes = ps }) (off-twice c l.publishes)
+
+pub tickets-behind : (c : ℕ) (l : Lists) → tickets_of c (without_publishes_of c l) ≡ rest_tickets_of c l.rest ++ method_tickets_of c l.methods
+tickets-behind c l =
+    ap (λ us. rest_tickets_of c l.rest ++ (method_tickets_of c l.methods ++ map (λ p. Some p.ticket) us)) (none-on c l.publishes)
+    ∙ ap (λ ts. rest_tickets_of c l.rest ++ ts) (append_nil (method_tickets_of c l.methods))
+
+-- publishes first, then what else waits, then requests
+pub failed-opening : (c : ℕ) (e : Error) (l behind : Lists) (rs : List Request) (start first second third : List (Option Slot)) → behind ≡ without_publishes_of c l
+    → first ≡ fold after_mark start (failures e (publish_tickets_of c l.publishes)) → second ≡ fold after_mark first (failures e (tickets_of c behind)) → third ≡ fold after_mark second (failures e (request_tickets rs))
+    → third ≡ fold after_mark start (failures e (publish_tickets_of c l.publishes ++ (rest_tickets_of c l.rest ++ (method_tickets_of c l.methods ++ request_tickets rs))))
+failed-opening c e l behind rs start first second third left is_first is_second is_third =
+    is_third
+    ∙ ap (λ xs. fold after_mark xs (failures e (request_tickets rs))) is_second
+    ∙ fold-failures e first (tickets_of c behind) (request_tickets rs)
+    ∙ ap (λ ts. fold after_mark first (failures e (ts ++ request_tickets rs))) (ap (tickets_of c) left ∙ tickets-behind c l)
+    ∙ ap (λ ts. fold after_mark first (failures e ts)) (append_assoc (rest_tickets_of c l.rest) (method_tickets_of c l.methods) (request_tickets rs))
+    ∙ ap (λ xs. fold after_mark xs (failures e (rest_tickets_of c l.rest ++ (method_tickets_of c l.methods ++ request_tickets rs)))) is_first
+    ∙ fold-failures e start (publish_tickets_of c l.publishes) (rest_tickets_of c l.rest ++ (method_tickets_of c l.methods ++ request_tickets rs))
+
+pub requests-kept : (c : ℕ) (e : Error) (slots : List (Option Slot)) (new old : List (ℕ × List Request)) → new ≡ old → fold after_mark slots (failures e (request_tickets (requests_at c new))) ≡ fold after_mark slots (failures e (request_tickets (requests_at c old)))
+requests-kept c e slots new old same = ap (λ all. fold after_mark slots (failures e (request_tickets (requests_at c all)))) same

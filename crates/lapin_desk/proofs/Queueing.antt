@@ -13,7 +13,7 @@ use Rattle.lapin_outbox.specs.declared.dropped.Dropped.{Dropped}
 use Rattle.lapin_outbox.specs.Drops.{told_publish}
 use Rattle.lapin_confirm.specs.declared.cell.Cell.{Cell}
 use Rattle.lapin_confirm.specs.declared.cell.Cell.TheVariants as cell
-use Rattle.lapin_confirm.specs.Book.{Book, is_queued, rejected, ended_cell}
+use Rattle.lapin_confirm.specs.Book.{Book, is_queued, rejected, ended, ended_cell}
 use Rattle.lapin_desk.specs.Queued.{AreQueued, MayReject, rejected_told}
 
 -- ---- what stands under a number
@@ -156,3 +156,8 @@ ended-queued c e cells (p ∷ ps) h = elim (p.channel == c) as (λ b. (p.channel
     ended-queued c e cells ps h.2,
   )
 ] refl h
+
+pub queued-ended : (c : ℕ) (e : Error) (ps stay : List Publish) (b after : Book) → stay ≡ filter (is_off publish_channel c) ps → after ≡ ended c e b → AreQueued b.cells stay → AreQueued after.cells stay
+queued-ended c e ps stay b after left ends q =
+    let Q : Book → Type 0 = λ x. AreQueued x.cells stay in
+    subst Q (sym ends) (queued-by (ended c e b).cells _ _ (sym left) (ended-queued c e b.cells ps (queued-by b.cells _ _ left q)))
