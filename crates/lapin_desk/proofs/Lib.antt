@@ -1,1 +1,3 @@
-
+pub mod Queueing
+pub mod Dropped
+pub mod Ends

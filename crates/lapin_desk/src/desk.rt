@@ -3,18 +3,18 @@
 //! First all room is made, which may fail and changes nothing that a contract of the session sees; then the call is queued,
 //! which cannot fail.
 
-ghost use Rattle.std.specs.Prelude.{◌≡◌, ◌+◌, ◌^◌, ◌<◌, ◌++◌, ◌∷◌, [], Some, OnOk, length};
+ghost use Rattle.std.specs.Prelude.{◌≡◌, ◌+◌, ◌^◌, ◌<◌, ◌++◌, ◌∷◌, [], Some, None, OnOk, length};
 ghost use Rattle.std.specs.List.{fold};
 ghost use Rattle.lapin_outbox.specs.Outgoing.{with_method, with_publish};
 ghost use Rattle.lapin_history.specs.Base.{requests_with};
 ghost use Rattle.lapin_history.specs.TicketReadings.{Given};
-ghost use Rattle.lapin_history.specs.Marked.{made_marks};
+ghost use Rattle.lapin_history.specs.Marked.{made_marks, resolved_with};
 ghost use Rattle.lapin_ticket.specs.Desk.{after_mark};
 ghost use Rattle.lapin_desk.specs.Rooms.{HasRoom, SameDesk};
 
 use lapin_outbox::{Outbox, Replies};
 use lapin_ticket::Tickets;
-use lapin_types::{Answer, Method, NoMemory, Publish, Reply, Request};
+use lapin_types::{Answer, Error, Method, NoMemory, Publish, Reply, Request};
 use std::alloc::Global;
 
 /// Frames that wait, open requests and tickets.
@@ -71,5 +71,31 @@ impl Desk {
             self.tickets.answer(ticket, Ok(answer));
         }
         ticket
+    }
+
+    /// Queues a method that no call asked for, in the room that was made.
+    pub fn note(&mut self, alloc: Global, channel: u16, method: Method)
+        requires { 0 < self.old.outbox.spare }
+        ensures lists { self.new.outbox.lists ≡ with_method (record { channel = channel; method = method; ticket = None }) self.old.outbox.lists }
+        ensures frame_max { self.new.outbox.frame_max ≡ self.old.outbox.frame_max }
+        ensures replies { self.new.replies ≡ self.old.replies }
+        ensures tickets { self.new.tickets ≡ self.old.tickets }
+    {
+        let _queued = self
+            .outbox
+            .push_method(alloc, channel, method, None)
+            .unwrap();
+    }
+
+    /// Resolves a ticket, if somebody holds it.
+    pub fn resolve(&mut self, ticket: Option<u64>, answer: Result<Answer, Error>)
+        ensures slots { self.new.tickets.slots ≡ fold after_mark self.old.tickets.slots (resolved_with answer ticket) }
+        ensures outbox { self.new.outbox ≡ self.old.outbox }
+        ensures replies { self.new.replies ≡ self.old.replies }
+        ensures room { self.new.tickets.spare ≡ self.old.tickets.spare }
+    {
+        if let Some(ticket) = ticket {
+            self.tickets.answer(ticket, answer);
+        }
     }
 }

@@ -50,6 +50,13 @@ impl<T> ByChannel<T> {
         }
     }
 
+    /// Each channel that has a value, with it, in order of first use.
+    pub fn entries(&self) -> &[(u16, T)]
+        ensures { result.now ≡ self.now.entries }
+    {
+        &self.entries
+    }
+
     /// The value of a channel, if it has one.
     pub fn get(&self, channel: u16) -> Option<&T>
         ensures { option_copied result ≡ at_channel channel self.now.entries }

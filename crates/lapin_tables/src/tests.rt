@@ -32,6 +32,7 @@ fn channels_are_changed(rt: HostRuntime) -> Result<(), Fail> {
     assert!(rt; table.get_mut(2).is_none());
     assert_eq!(rt; table.get(1).copied(), Some(11));
     assert_eq!(rt; table.get(3).copied(), Some(30));
+    assert_eq!(rt; table.entries(), [(3, 30), (1, 11)].as_slice());
     Ok(())
 }
 

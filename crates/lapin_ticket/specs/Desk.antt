@@ -1,10 +1,10 @@
 -- Tickets as a machine: what each mark does to the slots, and what a poll meets.
-use Rattle.std.specs.Prelude.{ℕ, nat_lt, nat_le, Bool, true, false, ◌&&◌, not, if◌then◌else◌, List, [], ◌∷◌, ◌++◌, length, Option, Some, None, Result, Ok, Err}
+use Rattle.std.specs.Prelude.{ℕ, nat_lt, nat_le, Bool, true, false, ◌&&◌, if◌then◌else◌, List, [], ◌∷◌, ◌++◌, length, map, Option, Some, None, Result, Ok, Err}
 use Rattle.lapin_types.specs.declared.answer.Answer.{Answer}
 use Rattle.lapin_types.specs.Types.{Error}
 use Rattle.lapin_types.specs.Types.error
 use Rattle.lapin_tables.specs.Numbered.{under, with_under}
-use Rattle.lapin_history.specs.TicketReadings.{TicketMark, Given, Answered, Collected}
+use Rattle.lapin_history.specs.TicketReadings.{TicketMark, Given, Answered, AllFailed, Collected}
 use Rattle.lapin_ticket.specs.declared.Slot.{Slot}
 use Rattle.lapin_ticket.specs.declared.Slot.TheVariants as slot
 
@@ -13,9 +13,11 @@ abbrev pub answered_slot : Result Answer Error → Option Slot → Option Slot
 answered_slot a (Some slot.Open) = Some (slot.Held a)
 answered_slot a o = o
 
+-- the slots after a mark: one more that is open, one or all of them answered, or one given out
 abbrev pub after_mark : List (Option Slot) → TicketMark → List (Option Slot)
 after_mark slots Given = slots ++ Some slot.Open ∷ []
 after_mark slots (Answered n a) = with_under n (answered_slot a (under n slots)) slots
+after_mark slots (AllFailed e) = map (answered_slot (Err e)) slots
 after_mark slots (Collected n) = with_under n None slots
 
 -- whether the ticket was given

@@ -1,5 +1,5 @@
 -- When the slots are what the marks of a history say.
-use Rattle.std.specs.Prelude.{◌≡◌, ℕ, suc, ◌<◌, Bool, true, false, if◌then◌else◌, List, Option, Some, None, Result, length, slice_get}
+use Rattle.std.specs.Prelude.{◌≡◌, ℕ, suc, ◌<◌, if◌then◌else◌, List, Option, Some, None, Result, length, slice_get}
 use Rattle.std.specs.List.{list_any}
 use Rattle.lapin_types.specs.declared.answer.Answer.{Answer}
 use Rattle.lapin_types.specs.Types.{Error}

@@ -8,7 +8,7 @@ mod tests;
 
 ghost use Rattle.std.specs.Prelude.{◌≡◌, ◌+◌, ◌^◌, ◌<◌, ◌++◌, ◌∷◌, List, [], length, not, OnOk, MatchOption, Option, Some};
 ghost use Rattle.lapin_tables.specs.Numbered.{under};
-ghost use Rattle.lapin_history.specs.TicketReadings.{TicketMark, Given, Answered};
+ghost use Rattle.lapin_history.specs.TicketReadings.{TicketMark, Given, Answered, AllFailed};
 ghost use Rattle.lapin_ticket.specs.declared.Slot.{Slot as ASlot};
 ghost use Rattle.lapin_ticket.specs.Desk.{after_mark, polled, polled_slot, after_poll, is_awaited, is_held};
 ghost use Rattle.lapin_ticket.specs.Follows.{Follows};
@@ -87,10 +87,27 @@ impl Tickets {
 
     /// Resolves a ticket. One that has an answer keeps it, and one whose answer was given drops this one.
     pub fn answer(&mut self, number: u64, answer: Result<Answer, Error>)
-        ensures { self.new.slots ≡ after_mark self.old.slots (Answered number answer) }
+        ensures slots { self.new.slots ≡ after_mark self.old.slots (Answered number answer) }
+        ensures room { self.new.spare ≡ self.old.spare }
     {
         if let Some(Slot::Open) = self.slots.get(number) {
             self.slots.set(number, Slot::Held(answer));
+        }
+    }
+
+    /// Resolves every open ticket with the error. One that has an answer keeps it. It walks from the last number to the
+    /// first one that is kept.
+    pub fn fail_all(&mut self, error: Error)
+        ensures slots { self.new.slots ≡ after_mark self.old.slots (AllFailed error) }
+        ensures room { self.new.spare ≡ self.old.spare }
+    {
+        let Some(first) = self.slots.first_number() else {
+            return;
+        };
+        let mut number = self.slots.count();
+        while number >= first {
+            self.answer(number, Err(error));
+            number -= 1;
         }
     }
 

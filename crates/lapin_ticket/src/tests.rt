@@ -64,3 +64,24 @@ fn a_second_answer_is_dropped(rt: HostRuntime) -> Result<(), Fail> {
     assert!(rt; matches!(tickets.take(number), Err(Error::AlreadyTaken)));
     Ok(())
 }
+
+// Every open ticket gets the error, one that has an answer keeps it, and one whose answer was given stays without.
+#[test]
+fn every_open_ticket_fails(rt: HostRuntime) -> Result<(), Fail> {
+    let mut tickets = Tickets::new(rt.alloc());
+    tickets.fail_all(Error::ConnectionLost);
+    for _ in 0..4 {
+        let _ = given(&mut tickets)?;
+    }
+    for number in [1, 3] {
+        tickets.answer(number, Ok(Answer::Done));
+    }
+    assert!(rt; matches!(tickets.take(1), Ok(Some(Ok(Answer::Done)))));
+    tickets.fail_all(Error::ConnectionLost);
+    assert!(rt; matches!(tickets.take(1), Err(Error::AlreadyTaken)));
+    assert!(rt; matches!(tickets.take(2), Ok(Some(Err(Error::ConnectionLost)))));
+    assert!(rt; matches!(tickets.take(3), Ok(Some(Ok(Answer::Done)))));
+    assert!(rt; matches!(tickets.take(4), Ok(Some(Err(Error::ConnectionLost)))));
+    assert_eq!(rt; tickets.count(), 4);
+    Ok(())
+}
