@@ -125,9 +125,9 @@ queued_beside e q (p ∷ gone) ms other h =
     (queued_beside e q gone (ms ++ m ∷ []) other.1 (queued_kept ms m q (rejected_other e p q (λ x. other.0 (sym x))) (omega arith) h))
 
 -- the confirms stand, and these publishes still wait
-record Standing (ms : List ConfirmMark) (bk : Book) (count : ℕ) (ps : List Publish) : Type 0 where
+record Standing (ms : List ConfirmMark) (bk : Book) (many : ℕ) (ps : List Publish) : Type 0 where
   book : Follows ms bk
-  count : added ms ≡ count
+  count : added ms ≡ many
   queue : AreFresh ms ps
 
 moved : (xs ys : List ConfirmMark) (bk : Book) (count : ℕ) (ps : List Publish) → xs ≡ ys → Standing xs bk count ps → Standing ys bk count ps

@@ -1,5 +1,5 @@
 -- No event uses more than one number of a counter.
-use Rattle.std.proofs.Common.{◌≡◌, ℕ, suc, ◌+◌, ◌<◌, ◌≤◌, ◌^◌, Bool, true, false, cond, List, [], ◌∷◌, ◌++◌, refl, ◌∙◌, ap, arith, append_assoc, ◌⊎◌, inl, inr}
+use Rattle.std.proofs.Common.{◌≡◌, ℕ, suc, ◌+◌, ◌<◌, ◌≤◌, ◌^◌, Bool, true, false, cond, List, [], ◌∷◌, ◌++◌, Option, Some, None, refl, ◌∙◌, ap, arith, append_assoc, ◌⊎◌, inl, inr}
 use Rattle.lapin_types.specs.declared.call.Call.{Call}
 use Rattle.lapin_types.specs.declared.call.Call.TheVariants as call
 use Rattle.lapin_types.specs.declared.event.Event.{Event}

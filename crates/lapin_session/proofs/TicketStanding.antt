@@ -16,7 +16,9 @@ use Rattle.lapin_history.specs.declared.broker_frames.Incoming.TheVariants as in
 use Rattle.lapin_history.specs.declared.phases.Link.{Link}
 use Rattle.lapin_history.specs.declared.phases.Link.TheVariants as link
 use Rattle.lapin_history.specs.Phases.{is_lost, has_sent_close}
-use Rattle.lapin_history.specs.Closes.{close_ok_end}
+use Rattle.lapin_history.specs.declared.phases.Closer.TheVariants as closer
+use Rattle.lapin_history.specs.Closes.{failed_at_close, close_ok_end}
+use Rattle.lapin_history.specs.Drops.{publish_tickets_of}
 use Rattle.lapin_history.specs.TicketReadings.{TicketMark, Given, Answered, AllFailed, Collected, gives, given}
 use Rattle.lapin_history.specs.Heard.{heard}
 use Rattle.lapin_history.specs.Base.{Base, state_of, phase_of, is_allowed, is_open, after_event, after_call, after_heard, handed}
@@ -75,7 +77,7 @@ choose_none false xs ys h k = k
 
 call_none : (c : ℕ) (k : Call) (b : Base) → gives_none (call_failures c k b)
 call_none c call.OpenChannel b = tt
-call_none c (call.ChannelClose code text) b = failures_none _ _
+call_none c (call.ChannelClose code text) b = failures_none (failed_at_close closer.Application) (publish_tickets_of c b.publishes)
 call_none c (call.ConnectionClose code text) b = (refl, tt)
 call_none c (call.ConfirmSelect o) b = tt
 call_none c (call.BasicPublish exchange key o payload properties) b = tt
@@ -94,14 +96,14 @@ connection_close_none link.Lost code = (refl, tt)
 received_none : (i : Incoming) (b : Base) → gives_none (received_tickets i b)
 received_none (incoming.Reply c k) b = resolved_none _ _
 received_none (incoming.Settlement c s) b = tt
-received_none (incoming.ChannelClose c code) b = join_none _ _ (failures_none _ _) (choose_none (has_sent_close (phase_of c b)) [] _ tt (resolved_none _ _))
+received_none (incoming.ChannelClose c code) b = join_none (failures (error.ProtocolError code) (end_tickets c b)) _ (failures_none (error.ProtocolError code) (end_tickets c b)) (choose_none (has_sent_close (phase_of c b)) [] _ tt (resolved_none _ _))
 received_none (incoming.ChannelCloseOk c) b = join_none _ _ (end_none c (close_ok_end (phase_of c b)) b) (resolved_none _ _)
 received_none (incoming.ConnectionClose code) b = connection_close_none b.link code
 received_none incoming.ConnectionCloseOk b = resolved_none _ _
 received_none incoming.Other b = tt
 
 failed_none : (i : Incoming) (b : Base) → gives_none (failed_tickets i b)
-failed_none (incoming.Settlement c s) b = choose_none (is_open (state_of c b)) _ [] (failures_none _ _) tt
+failed_none (incoming.Settlement c s) b = choose_none (is_open (state_of c b)) _ [] (failures_none (failed_at_close closer.Session) (publish_tickets_of c b.publishes)) tt
 failed_none (incoming.Reply c k) b = tt
 failed_none (incoming.ChannelClose c code) b = tt
 failed_none (incoming.ChannelCloseOk c) b = tt
