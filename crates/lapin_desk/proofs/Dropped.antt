@@ -1,18 +1,17 @@
 -- The tickets of entries and of requests, one by one as they are taken out.
-use Rattle.std.proofs.Common.{◌≡◌, ℕ, ◌<◌, ◌==◌, Bool, true, false, cond, not, List, [], ◌∷◌, ◌++◌, map, drop, length, Option, Some, None, Err, refl, sym, ◌∙◌, ap, arith, slice_get, eq-eqb, append_assoc, append_nil}
+use Rattle.std.proofs.Common.{◌≡◌, ℕ, ◌<◌, ◌==◌, Bool, true, false, cond, not, List, [], ◌∷◌, ◌++◌, map, drop, length, Option, Some, None, Err, refl, sym, ◌∙◌, ap, arith, slice_get, eq-eqb, append_assoc, append-nil}
 use Rattle.std.specs.Bool.{if◌then◌else◌}
 use Rattle.std.specs.List.{fold, filter}
-use Rattle.std.specs.Option.{option_map}
 use Rattle.lapin_types.specs.declared.Error.{Error}
 use Rattle.lapin_types.specs.declared.leaving.Publish.{Publish}
 use Rattle.lapin_types.specs.declared.request.Request.{Request}
 use Rattle.lapin_tables.specs.ByChannel.{at_channel, on_channel}
-use Rattle.lapin_history.specs.Words.{without_first, is_some, with_channel}
+use Rattle.lapin_history.specs.Words.{without_first, is_some}
 use Rattle.lapin_history.specs.Frames.{MethodEntry, RestEntry}
 use Rattle.lapin_history.specs.Leaving.{Lists}
 use Rattle.lapin_history.specs.Requests.{requests_in, no_requests}
 use Rattle.lapin_history.specs.Drops.{is_on, is_off, method_channel, publish_channel, unbegun, is_rest_of, rest_tickets, rest_tickets_of, method_tickets_of, publish_tickets_of, without_channel, without_publishes_of}
-use Rattle.lapin_history.specs.Marked.{resolved_with, failures, rejections, request_tickets, place_of}
+use Rattle.lapin_history.specs.Marked.{resolved_with, failures, request_tickets}
 use Rattle.lapin_history.proofs.ChannelLaws.{at-with}
 use Rattle.lapin_outbox.specs.declared.dropped.Dropped.{Dropped}
 use Rattle.lapin_outbox.specs.Drops.{told_rest, told_rest_of, told_method, told_publish, unbegun_of, entries_of, without_entry_of, without_unbegun}
@@ -21,7 +20,7 @@ use Rattle.lapin_outbox.proofs.Dropping.{channel-told, channel-others, channel-e
 use Rattle.lapin_ticket.specs.declared.Slot.{Slot}
 use Rattle.lapin_ticket.specs.Desk.{after_mark}
 use Rattle.lapin_desk.specs.Dropped.{tickets_of}
-use Rattle.lapin_desk.proofs.Queueing.{FirstOf, first-of}
+use Rattle.lapin_desk.proofs.Queueing.{first-of}
 
 -- ---- lists
 
@@ -197,7 +196,7 @@ channel-behind c l = ap (λ ps. record { rest = if is_rest_of c l.rest then [] e
 pub tickets-behind : (c : ℕ) (l : Lists) → tickets_of c (without_publishes_of c l) ≡ rest_tickets_of c l.rest ++ method_tickets_of c l.methods
 tickets-behind c l =
     ap (λ us. rest_tickets_of c l.rest ++ (method_tickets_of c l.methods ++ map (λ p. Some p.ticket) us)) (none-on c l.publishes)
-    ∙ ap (λ ts. rest_tickets_of c l.rest ++ ts) (append_nil (method_tickets_of c l.methods))
+    ∙ ap (λ ts. rest_tickets_of c l.rest ++ ts) (append-nil (method_tickets_of c l.methods))
 
 -- publishes first, then what else waits, then requests
 pub failed-opening : (c : ℕ) (e : Error) (l behind : Lists) (rs : List Request) (start first second third : List (Option Slot)) → behind ≡ without_publishes_of c l

@@ -1,30 +1,30 @@
 -- What an end of an opening, and one of every opening, make of confirms and tickets.
-use Rattle.std.proofs.Common.{◌≡◌, ℕ, zero, suc, ◌==◌, Bool, true, false, cond, not, List, [], ◌∷◌, ◌++◌, map, Option, Some, None, Result, Err, refl, sym, ◌∙◌, ap, subst, get_or, slice_set, slice_get, inl, inr}
+use Rattle.std.proofs.Common.{◌≡◌, ℕ, zero, suc, ◌+◌, ◌<◌, true, false, List, [], ◌∷◌, map, length, drop, Option, Some, None, Result, Err, refl, sym, ◌∙◌, ap, subst, add-one, drop-cons, get_or, slice_set, slice_get, inl, inr}
 use Rattle.std.specs.Bool.{if◌then◌else◌}
-use Rattle.std.specs.List.{fold, filter}
-use Rattle.std.specs.Option.{option_map}
+use Rattle.std.specs.List.{fold}
 use Rattle.std.proofs.lemmas.Bool.Decides.{eqb_tells}
 use Rattle.lapin_types.specs.declared.Error.{Error}
 use Rattle.lapin_types.specs.declared.answer.Answer.{Answer}
 use Rattle.lapin_types.specs.declared.leaving.Publish.{Publish}
 use Rattle.lapin_tables.specs.Numbered.{under, with_under}
 use Rattle.lapin_history.specs.declared.phases.Phase.{Phase}
+use Rattle.lapin_history.specs.declared.phases.Phase.TheVariants as phase
+use Rattle.lapin_history.specs.declared.marks.ConfirmMark.TheVariants as mark
 use Rattle.lapin_history.specs.Words.{without_first}
 use Rattle.lapin_history.specs.Phases.{is_live}
-use Rattle.lapin_history.specs.Drops.{is_on, is_off, publish_channel, unbegun, publish_tickets_of}
-use Rattle.lapin_history.specs.Marked.{failures, rejections, ends, place_of}
+use Rattle.lapin_history.specs.Drops.{is_on, publish_channel, unbegun}
+use Rattle.lapin_history.specs.Marked.{failures, rejections, ends}
 use Rattle.lapin_history.specs.TicketReadings.{AllFailed}
 use Rattle.lapin_outbox.specs.declared.dropped.Dropped.{Dropped}
 use Rattle.lapin_outbox.specs.Drops.{told_publish}
 use Rattle.lapin_ticket.specs.declared.Slot.{Slot}
 use Rattle.lapin_ticket.specs.declared.Slot.TheVariants as slot
 use Rattle.lapin_ticket.specs.Desk as desk
-use Rattle.lapin_confirm.specs.declared.cell.Cell.{Cell}
 use Rattle.lapin_confirm.specs.declared.cell.Cell.TheVariants as cell
-use Rattle.lapin_confirm.specs.Book.{Book, rejected, ended, ended_cell, after_mark}
+use Rattle.lapin_confirm.specs.Book.{Book, rejected, ended, after_mark}
 use Rattle.lapin_confirm.proofs.Ended.{ended-rejected}
 use Rattle.lapin_desk.specs.Queued.{AreQueued, rejected_told}
-use Rattle.lapin_desk.proofs.Queueing.{FirstOf, first-of, taken-out, queued-filter, queued-written, number-above, suc_place}
+use Rattle.lapin_desk.proofs.Queueing.{first-of, taken-out, queued-filter, queued-written, queued-by, number-within, suc_place}
 
 -- ---- publishes that are rejected, one by one
 
@@ -36,7 +36,7 @@ pub rejected-first : (c : ℕ) (e : Error) (ps stay : List Publish) (d : Dropped
 rejected-first c e ps stay d b after told left rejected_ q =
     let is = first-of c ps d told in
     let out = taken-out b.cells (is_on publish_channel c) ps is.first is.found q in
-    let above = number-above is.first.confirm b.cells (cell.Queued is.first.channel) out.queued in
+    let above = (number-within is.first.confirm b.cells (cell.Queued is.first.channel) out.queued).0 in
     let others : List Publish = unbegun c (without_first (is_on publish_channel c) ps) in
     ap (λ x. fold after_mark x (rejections e (unbegun c stay))) rejected_
     ∙ ap (λ qs. fold after_mark (rejected_told e d.publish b) (rejections e (unbegun c qs))) left
@@ -67,7 +67,7 @@ ended-once c n e b was = ap (λ cells. record { lines = b.lines; cells = cells }
 ended-all : (c : ℕ) (e : Error) (ps : List Publish) (b : Book) → AllOn c ps → AreQueued b.cells ps → ended c e (fold after_mark b (rejections e ps)) ≡ ended c e b
 ended-all c e [] b on q = refl
 ended-all c e (p ∷ ps) b on q =
-    let above = number-above p.confirm b.cells (cell.Queued p.channel) q.0 in
+    let above = (number-within p.confirm b.cells (cell.Queued p.channel) q.0).0 in
     let was : under p.confirm b.cells ≡ Some (cell.Queued c) = q.0 ∙ ap (λ d. Some (cell.Queued d)) on.0 in
     ap (λ n. ended c e (fold after_mark (rejected n e b) (rejections e ps))) (suc_place p.confirm above)
     ∙ ended-all c e ps (rejected p.confirm e b) on.1 (queued-written p.confirm _ b.cells ps q.1 q.2)
@@ -96,3 +96,32 @@ pub failed-before : (e : Error) (ts : List (Option ℕ)) (slots : List (Option S
 failed-before e [] slots = refl
 failed-before e (None ∷ ts) slots = failed-before e ts slots
 failed-before e (Some n ∷ ts) slots = failed-before e ts _ ∙ answered-under (Err e) n slots
+
+-- ---- the live openings end, one by one
+
+abbrev closed : ℕ × Phase
+closed = (0, phase.Closed)
+
+ends-from : (e : Error) (xs : List (ℕ × Phase)) (i : ℕ) → i < length xs → drop i xs ≡ get_or xs i closed ∷ drop (i + 1) xs
+ends-from e xs i h = drop-cons xs i closed h ∙ ap (λ k. get_or xs i closed ∷ drop k xs) (sym (add-one i))
+
+pub ends-live : (e : Error) (xs : List (ℕ × Phase)) (i : ℕ) (b after : Book) → i < length xs → is_live (get_or xs i closed).1 ≡ true → after ≡ ended (get_or xs i closed).0 e b → fold after_mark after (ends e (drop (i + 1) xs)) ≡ fold after_mark b (ends e (drop i xs))
+ends-live e xs i b after h live is =
+    ap (λ x. fold after_mark x (ends e (drop (i + 1) xs))) is
+    ∙ ap (λ l. fold after_mark b (if l then mark.Ended (get_or xs i closed).0 e ∷ ends e (drop (i + 1) xs) else ends e (drop (i + 1) xs))) (sym live)
+    ∙ ap (λ ys. fold after_mark b (ends e ys)) (sym (ends-from e xs i h))
+
+pub ends-not : (e : Error) (xs : List (ℕ × Phase)) (i : ℕ) (b after : Book) → i < length xs → is_live (get_or xs i closed).1 ≡ false → after ≡ b → fold after_mark after (ends e (drop (i + 1) xs)) ≡ fold after_mark b (ends e (drop i xs))
+ends-not e xs i b after h dead is =
+    ap (λ x. fold after_mark x (ends e (drop (i + 1) xs))) is
+    ∙ ap (λ l. fold after_mark b (if l then mark.Ended (get_or xs i closed).0 e ∷ ends e (drop (i + 1) xs) else ends e (drop (i + 1) xs))) (sym dead)
+    ∙ ap (λ ys. fold after_mark b (ends e ys)) (sym (ends-from e xs i h))
+
+-- the same book and the same publishes
+pub queued-same : (b after : Book) (ps qs : List Publish) → after ≡ b → qs ≡ ps → AreQueued b.cells ps → AreQueued after.cells qs
+queued-same b after ps qs same left q =
+    let P : Book → Type 0 = λ x. AreQueued x.cells qs in
+    subst P (sym same) (queued-by b.cells ps qs (sym left) q)
+
+pub failed-by : (e : Error) (ts : List (Option ℕ)) (slots after : List (Option Slot)) → after ≡ fold desk.after_mark slots (failures e ts) → desk.after_mark after (AllFailed e) ≡ desk.after_mark slots (AllFailed e)
+failed-by e ts slots after is = ap (λ xs. desk.after_mark xs (AllFailed e)) is ∙ failed-before e ts slots

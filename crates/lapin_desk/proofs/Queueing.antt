@@ -1,5 +1,5 @@
 -- Publishes that wait are different ones and queued: after one is taken out, and after others are resolved.
-use Rattle.std.proofs.Common.{◌≡◌, ◌≢◌, ℕ, zero, suc, ◌<◌, ◌==◌, Bool, true, false, cond, not, List, [], ◌∷◌, map, Option, Some, None, refl, sym, ◌∙◌, ap, subst, arith, get_or, slice_get}
+use Rattle.std.proofs.Common.{◌≡◌, ◌≢◌, ℕ, zero, suc, ◌+◌, ◌<◌, ◌≤◌, ◌==◌, Bool, true, false, cond, not, List, [], ◌∷◌, ◌++◌, map, length, Option, Some, None, refl, sym, ◌∙◌, ap, subst, arith, get_or, slice_get}
 use Rattle.std.specs.List.{AllByRecursion, find, filter}
 use Rattle.std.specs.Option.{option_map}
 use Rattle.std.proofs.lemmas.List.{get_or-set_other}
@@ -13,28 +13,52 @@ use Rattle.lapin_outbox.specs.declared.dropped.Dropped.{Dropped}
 use Rattle.lapin_outbox.specs.Drops.{told_publish}
 use Rattle.lapin_confirm.specs.declared.cell.Cell.{Cell}
 use Rattle.lapin_confirm.specs.declared.cell.Cell.TheVariants as cell
-use Rattle.lapin_confirm.specs.Book.{Book, is_queued, rejected, ended, ended_cell}
+use Rattle.lapin_confirm.specs.Book.{Book, is_queued, is_resolved, rejected, ended, ended_cell}
 use Rattle.lapin_desk.specs.Queued.{AreQueued, MayReject, rejected_told}
 
 -- ---- what stands under a number
+
+get_or-within : {X : Type 0} (xs : List (Option X)) (k : ℕ) (x : X) → get_or xs k None ≡ Some x → k < length xs
+get_or-within [] k x e = cc
+get_or-within (y ∷ ys) zero x e = omega arith
+get_or-within (y ∷ ys) (suc k) x e = let lt : k < length ys = get_or-within ys k x e in omega arith
+
+get_or-push : {X : Type 0} (xs : List X) (k : ℕ) (y d : X) → k < length xs → get_or (xs ++ y ∷ []) k d ≡ get_or xs k d
+get_or-push [] k y d h = absurd (omega arith)
+get_or-push (x ∷ xs) zero y d h = refl
+get_or-push (x ∷ xs) (suc k) y d h = get_or-push xs k y d (omega arith)
+
+get_or-last : {X : Type 0} (xs : List X) (k : ℕ) (y d : X) → k ≡ length xs → get_or (xs ++ y ∷ []) k d ≡ y
+get_or-last [] zero y d h = refl
+get_or-last [] (suc k) y d h = absurd (omega arith)
+get_or-last (x ∷ xs) zero y d h = absurd (omega arith)
+get_or-last (x ∷ xs) (suc k) y d h = get_or-last xs k y d (omega arith)
 
 get_or-map : {X Y : Type 0} (g : X → Y) (xs : List (Option X)) (k : ℕ) → get_or (map (option_map g) xs) k None ≡ option_map g (get_or xs k None)
 get_or-map g [] k = refl
 get_or-map g (x ∷ xs) zero = refl
 get_or-map g (x ∷ xs) (suc k) = get_or-map g xs k
 
-pub under-map : (n : ℕ) (g : Cell → Cell) (cells : List (Option Cell)) → under n (map (option_map g) cells) ≡ option_map g (under n cells)
-under-map zero g cells = refl
-under-map (suc k) g cells = get_or-map g cells k
+pub number-within : (n : ℕ) (cells : List (Option Cell)) (x : Cell) → under n cells ≡ Some x → (0 < n) × (n ≤ length cells)
+number-within zero cells x e = cc
+number-within (suc k) cells x e = let lt : k < length cells = get_or-within cells k x e in (omega arith, omega arith)
+
+pub under-push : (n : ℕ) (cells : List (Option Cell)) (y : Option Cell) (x : Cell) → under n cells ≡ Some x → under n (cells ++ y ∷ []) ≡ Some x
+under-push zero cells y x e = e
+under-push (suc k) cells y x e = get_or-push cells k y None (get_or-within cells k x e) ∙ e
+
+pub under-last : (n : ℕ) (cells : List (Option Cell)) (y : Option Cell) → n ≡ length cells + 1 → under n (cells ++ y ∷ []) ≡ y
+under-last zero cells y e = absurd (omega arith)
+under-last (suc k) cells y e = get_or-last cells k y None (omega arith)
 
 pub under-other : (n m : ℕ) (o : Option Cell) (cells : List (Option Cell)) → n ≢ m → under n (with_under m o cells) ≡ under n cells
 under-other zero m o cells ne = refl
 under-other (suc k) zero o cells ne = refl
 under-other (suc k) (suc j) o cells ne = get_or-set_other cells j k o None (λ e. ne (ap (λ i. suc i) e))
 
-pub number-above : (n : ℕ) (cells : List (Option Cell)) (x : Cell) → under n cells ≡ Some x → 0 < n
-number-above zero cells x e = cc
-number-above (suc k) cells x e = omega arith
+pub under-map : (n : ℕ) (g : Cell → Cell) (cells : List (Option Cell)) → under n (map (option_map g) cells) ≡ option_map g (under n cells)
+under-map zero g cells = refl
+under-map (suc k) g cells = get_or-map g cells k
 
 pub suc_place : (n : ℕ) → 0 < n → suc (place_of n) ≡ n
 suc_place zero h = absurd (omega arith)
@@ -42,9 +66,39 @@ suc_place (suc k) h = refl
 
 -- ---- publishes that wait stay queued
 
+-- what is queued stays so
+pub queued-kept : (cells new : List (Option Cell)) (ps : List Publish) → ((n c : ℕ) → under n cells ≡ Some (cell.Queued c) → under n new ≡ Some (cell.Queued c)) → AreQueued cells ps → AreQueued new ps
+queued-kept cells new [] keeps h = tt
+queued-kept cells new (p ∷ ps) keeps h = (keeps p.confirm p.channel h.0, h.1, queued-kept cells new ps keeps h.2)
+
+-- another cell is written
 pub queued-written : (n : ℕ) (o : Option Cell) (cells : List (Option Cell)) (ps : List Publish) → AllByRecursion (λ q. n ≢ q.confirm) ps → AreQueued cells ps → AreQueued (with_under n o cells) ps
 queued-written n o cells [] other h = tt
 queued-written n o cells (p ∷ ps) other h = (under-other p.confirm n o cells (λ e. other.0 (sym e)) ∙ h.0, h.1, queued-written n o cells ps other.1 h.2)
+
+-- one more publish waits
+pub queued-push : (c : ℕ) (cells : List (Option Cell)) (ps : List Publish) (p : Publish) → p.confirm ≡ length cells + 1 → p.channel ≡ c → AreQueued cells ps → AreQueued (cells ++ Some (cell.Queued c) ∷ []) (ps ++ p ∷ [])
+queued-push c cells [] p at on h = (under-last p.confirm cells (Some (cell.Queued c)) at ∙ ap (λ d. Some (cell.Queued d)) (sym on), tt, tt)
+queued-push c cells (q ∷ ps) p at on h =
+    let within = number-within q.confirm cells (cell.Queued q.channel) h.0 in
+    let le : q.confirm ≤ length cells = within.1 in
+    (under-push q.confirm cells (Some (cell.Queued c)) (cell.Queued q.channel) h.0, apart q.confirm ps (omega arith) h.1, queued-push c cells ps p at on h.2)
+  where
+    apart : (k : ℕ) (ps : List Publish) → k ≢ p.confirm → AllByRecursion (λ r. k ≢ r.confirm) ps → AllByRecursion (λ r. k ≢ r.confirm) (ps ++ p ∷ [])
+    apart k [] ne h = (ne, tt)
+    apart k (r ∷ rs) ne h = (h.0, apart k rs ne h.1)
+
+-- a publish that waits isn't one whose result is there
+pub resolved_apart : (n : ℕ) (cells : List (Option Cell)) (ps : List Publish) → is_resolved (under n cells) ≡ true → AreQueued cells ps → AllByRecursion (λ q. n ≢ q.confirm) ps
+resolved_apart n cells [] h q = tt
+resolved_apart n cells (p ∷ ps) h q = (
+  λ e.
+      let P : ℕ → Type 0 = λ k. is_resolved (under k cells) ≡ true in
+      let here : is_resolved (under p.confirm cells) ≡ true = subst P e h in
+      let not_ : is_resolved (under p.confirm cells) ≡ false = ap is_resolved q.0 in
+      cc,
+  resolved_apart n cells ps h q.2,
+)
 
 -- ---- one that is taken out
 

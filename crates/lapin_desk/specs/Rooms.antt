@@ -1,5 +1,5 @@
 -- The room that a call on a channel uses.
-use Rattle.std.specs.Prelude.{◌≡◌, ℕ, ◌<◌, Option, Some}
+use Rattle.std.specs.Prelude.{◌≡◌, ℕ, ◌<◌, Some}
 use Rattle.lapin_desk.specs.declared.desk.Desk.{Desk}
 
 -- room for one call on a channel

@@ -62,7 +62,13 @@ impl Desk {
 
     /// The connection leaves the open state, or is lost: every live opening ends, nothing waits any more, and every open ticket
     /// is resolved with the error. `replies` is what is open from now on.
-    pub fn end_all(&mut self, confirms: &mut Confirms, phases: &[(u16, Phase)], replies: Replies, error: Error)
+    pub fn end_all(
+        &mut self,
+        confirms: &mut Confirms,
+        phases: &[(u16, Phase)],
+        replies: Replies,
+        error: Error,
+    )
         requires queued { AreQueued confirms.old.book.cells self.old.outbox.lists.publishes }
         ensures lists { self.new.outbox.lists ≡ no_lists }
         ensures requests { self.new.replies ≡ replies }
@@ -73,7 +79,7 @@ impl Desk {
     {
         self.end_live(confirms, phases, error);
         self.drop_rest();
-        // self.tickets.fail_all(error);
+        self.tickets.fail_all(error);
         self.replies = replies;
     }
 

@@ -1,7 +1,5 @@
 use Rattle.std.proofs.Common.{sym, ◌∙◌, ap}
-use Rattle.lapin_tables.specs.ByChannel.{on_channel}
 use Rattle.lapin_history.specs.Leaving.{Lists}
-use Rattle.lapin_history.specs.Requests.{no_requests}
 use Rattle.lapin_history.specs.Drops.{without_channel, is_off, publish_channel}
 use Rattle.lapin_outbox.specs.Outgoing.{Outgoing}
 use Rattle.lapin_outbox.specs.Open.{OpenRequests, requests_at}

@@ -1,16 +1,11 @@
-use Rattle.std.proofs.Common.{◌≡◌, ◌∷◌, List, Option, map, Some, refl, sym, ◌∙◌, ap, subst, arith}
-use Rattle.std.specs.List.{fold}
+use Rattle.std.proofs.Common.{◌≡◌, ◌∷◌, List, map, Some, sym, ◌∙◌, ap, arith}
 use Rattle.lapin_types.specs.declared.leaving.Publish.{Publish}
 use Rattle.lapin_history.specs.Words.{without_first}
 use Rattle.lapin_history.specs.Leaving.{Lists}
-use Rattle.lapin_history.specs.Drops.{without_publishes_of, publish_tickets_of, unbegun, is_on, publish_channel}
-use Rattle.lapin_history.specs.Marked.{rejections}
+use Rattle.lapin_history.specs.Drops.{without_publishes_of, publish_tickets_of, is_on, publish_channel}
 use Rattle.lapin_outbox.specs.Outgoing.{Outgoing}
 use Rattle.lapin_outbox.specs.Drops.{without_unbegun}
 use Rattle.lapin_outbox.proofs.Dropping.{unbegun-others}
-use Rattle.lapin_confirm.specs.declared.cell.Cell.{Cell}
-use Rattle.lapin_confirm.specs.Book as book
-use Rattle.lapin_desk.specs.Queued.{AreQueued}
 use Rattle.lapin_desk.proofs.Queueing.{may-reject, still-queued, queued-by, queued-without}
 use Rattle.lapin_desk.proofs.Dropped.{unbegun-smaller, unbegun-end, publish-first, none-unbegun, failed-first, failed-none}
 use Rattle.lapin_desk.proofs.Ends.{rejected-first, rejected-none}
