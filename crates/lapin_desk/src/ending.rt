@@ -139,8 +139,8 @@ impl Desk {
         }
     }
 
-    // Takes out all that waits. Its tickets stay open.
-    fn drop_rest(&mut self)
+    /// Takes out all that waits. Its tickets stay open.
+    pub fn drop_rest(&mut self)
         ensures lists { self.new.outbox.lists ≡ no_lists }
         ensures frame_max { self.new.outbox.frame_max ≡ self.old.outbox.frame_max }
         ensures tickets { self.new.tickets ≡ self.old.tickets }

@@ -142,8 +142,8 @@ stand_rejected c e (p ∷ ps) ms bk f h =
           let m : ConfirmMark = mark.Rejected (place_of p.confirm) e in
           let same : added (ms ++ m ∷ []) ≡ added ms = added-push ms m in
           let rest = stand_rejected c e ps (ms ++ m ∷ []) (after_mark bk m)
-              (follows-push ms bk m f (h.0.0, (p.channel, h.0.1)))
-              (fresh_kept ms m ps (rejected_others e p ps h.1) (omega arith) h.2) in
+          (follows-push ms bk m f (h.0.0, (p.channel, h.0.1)))
+          (fresh_kept ms m ps (rejected_others e p ps h.1) (omega arith) h.2) in
           moved _ _ _ (added ms) _ (append_assoc ms (m ∷ []) (rejections e (unbegun c ps))) (record { book = rest.book; count = rest.count ∙ same; queue = rest.queue })
       | false ↦
           let rest = stand_rejected c e ps ms bk f h.2 in

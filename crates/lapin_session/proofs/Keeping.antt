@@ -19,6 +19,7 @@ use Rattle.lapin_tables.specs.ByChannel.{at_channel, on_channel}
 use Rattle.lapin_tables.specs.Numbered.{under, with_under}
 use Rattle.lapin_history.specs.declared.marks.Settlement.{Settlement}
 use Rattle.lapin_history.specs.declared.marks.Outcome.{Outcome}
+use Rattle.lapin_history.specs.declared.marks.Outcome.TheVariants as outcome
 use Rattle.lapin_history.specs.declared.marks.ConfirmMark.TheVariants as mark
 use Rattle.lapin_history.specs.declared.phases.Closer.{Closer}
 use Rattle.lapin_history.specs.declared.phases.Phase.{Phase}
@@ -37,8 +38,7 @@ use Rattle.lapin_history.proofs.ChannelLaws.{at-on, at-with}
 use Rattle.lapin_history.proofs.ListLaws.{any-push}
 use Rattle.lapin_confirm.specs.declared.cell.Cell.{Cell}
 use Rattle.lapin_confirm.specs.declared.cell.Cell.TheVariants as cell
-use Rattle.lapin_confirm.specs.Book.{Book, Line, fresh_line, selected_line, next_line, tag_for, lines_with, cell_with, settled_cell, is_open_on, is_resolved, begun, with_publish, select_left, left, settled, rejected, ended, taken, after_mark}
-use Rattle.lapin_confirm.proofs.Ended.{any-ended}
+use Rattle.lapin_confirm.specs.Book.{Book, Line, fresh_line, selected_line, next_line, tag_for, lines_with, cell_with, settled_cell, ended_cell, is_open_on, is_resolved, begun, with_publish, select_left, left, settled, rejected, ended, taken, after_mark}
 use Rattle.lapin_desk.specs.Queued.{AreQueued}
 use Rattle.lapin_desk.proofs.Queueing.{under-map, queued-written, suc_place}
 use Rattle.lapin_session.specs.Tied.{IsTied, is_live_on, MayRegister, CanRegister}
@@ -136,6 +136,37 @@ any-rejections c e [] b h = h
 any-rejections c e (p ∷ ps) b h = any-rejections c e ps (rejected (suc (place_of p.confirm)) e b) (any-under c (suc (place_of p.confirm)) _ b.cells h refl)
 
 -- what ends of openings leave
+ended_open : (d c : ℕ) (e : Error) (o : Option Cell) → is_open_on c (option_map (ended_cell d e) o) ≡ cond (d == c) false (is_open_on c o)
+ended_open d c e None = elim (d == c) as (λ b. false ≡ cond b false false) [ true ↦ refl | false ↦ refl ]
+ended_open d c e (Some (cell.Resolved x)) = elim (d == c) as (λ b. false ≡ cond b false false) [ true ↦ refl | false ↦ refl ]
+ended_open d c e (Some (cell.Queued x)) = elim (eqb_tells x d) [
+  | inl same ↦ let P : ℕ → Type 0 = λ k. is_open_on c (Some (cond (x == k) (cell.Resolved (outcome.Failed e)) (cell.Queued x))) ≡ cond (k == c) false (x == c) in
+      subst P same.1 (let here : (x == x) ≡ true = eq-eqb x x refl in rw here (elim (x == c) as (λ b. false ≡ cond b false b) [ true ↦ refl | false ↦ refl ]))
+  | inr other ↦ rw other.0 (elim (eqb_tells d c) [
+    | inl hit ↦ let P : ℕ → Type 0 = λ k. (x == k) ≡ cond (d == k) false (x == k) in
+        subst P hit.1 (let here : (d == d) ≡ true = eq-eqb d d refl in rw (here, other.0) refl)
+    | inr away ↦ rw away.0 refl
+  ])
+]
+ended_open d c e (Some (cell.Pending x t)) = elim (eqb_tells x d) [
+  | inl same ↦ let P : ℕ → Type 0 = λ k. is_open_on c (Some (cond (x == k) (cell.Resolved (outcome.Failed e)) (cell.Pending x t))) ≡ cond (k == c) false (x == c) in
+      subst P same.1 (let here : (x == x) ≡ true = eq-eqb x x refl in rw here (elim (x == c) as (λ b. false ≡ cond b false b) [ true ↦ refl | false ↦ refl ]))
+  | inr other ↦ rw other.0 (elim (eqb_tells d c) [
+    | inl hit ↦ let P : ℕ → Type 0 = λ k. (x == k) ≡ cond (d == k) false (x == k) in
+        subst P hit.1 (let here : (d == d) ≡ true = eq-eqb d d refl in rw (here, other.0) refl)
+    | inr away ↦ rw away.0 refl
+  ])
+]
+
+any-over : (p q : Option Cell → Bool) (g : Option Cell → Option Cell) (t : Bool) (xs : List (Option Cell)) → ((x : Option Cell) → p (g x) ≡ cond t false (q x)) → list_any p (map g xs) ≡ cond t false (list_any q xs)
+any-over p q g true [] same = refl
+any-over p q g false [] same = refl
+any-over p q g true (x ∷ xs) same = rw (same x, any-over p q g true xs same) refl
+any-over p q g false (x ∷ xs) same = rw (same x, any-over p q g false xs same) refl
+
+any-ended : (c d : ℕ) (e : Error) (b : Book) → list_any (is_open_on c) (ended d e b).cells ≡ cond (d == c) false (list_any (is_open_on c) b.cells)
+any-ended c d e b = any-over (is_open_on c) (is_open_on c) (option_map (ended_cell d e)) (d == c) b.cells (ended_open d c e)
+
 ended_none : (c d : ℕ) (e : Error) (b : Book) → list_any (is_open_on c) b.cells ≡ false → list_any (is_open_on c) (ended d e b).cells ≡ false
 ended_none c d e b h = any-ended c d e b ∙ elim (d == c) as (λ t. cond t false (list_any (is_open_on c) b.cells) ≡ false) [ true ↦ refl | false ↦ h ]
 
@@ -355,9 +386,9 @@ choose_same false x y e = refl
 tied_close_left : (l : Link) (c : ℕ) (phases : List (ℕ × Phase)) (ps : List Publish) (b : Book) → IsTied l phases ps b → IsTied l (on_channel c close_sent phases) ps b
 tied_close_left l c phases ps b t =
     let some : (d : ℕ) → is_some (at_channel d (on_channel c close_sent phases)) ≡ is_some (at_channel d phases) = λ d.
-        rw (at-on c d close_sent phases) (elim (c == d) as (λ b. is_some (cond b (option_map close_sent (at_channel d phases)) (at_channel d phases)) ≡ is_some (at_channel d phases)) [ true ↦ some-mapped close_sent (at_channel d phases) | false ↦ refl ]) in
+    rw (at-on c d close_sent phases) (elim (c == d) as (λ b. is_some (cond b (option_map close_sent (at_channel d phases)) (at_channel d phases)) ≡ is_some (at_channel d phases)) [ true ↦ some-mapped close_sent (at_channel d phases) | false ↦ refl ]) in
     let live : (d : ℕ) → is_live (phase_in (at_channel d (on_channel c close_sent phases))) ≡ is_live (phase_in (at_channel d phases)) = λ d.
-        rw (at-on c d close_sent phases) (elim (c == d) as (λ b. is_live (phase_in (cond b (option_map close_sent (at_channel d phases)) (at_channel d phases))) ≡ is_live (phase_in (at_channel d phases))) [ true ↦ live-mapped (at_channel d phases) | false ↦ refl ]) in
+    rw (at-on c d close_sent phases) (elim (c == d) as (λ b. is_live (phase_in (cond b (option_map close_sent (at_channel d phases)) (at_channel d phases))) ≡ is_live (phase_in (at_channel d phases))) [ true ↦ live-mapped (at_channel d phases) | false ↦ refl ]) in
     record {
       queued = t.queued;
       lines = λ d h. t.lines d (sym (some d) ∙ h);

@@ -3,7 +3,7 @@
 //! A close is refused by state, then for want of numbers; then all room is made; then what the close rejects or ends is
 //! resolved, and the close is queued. What is dropped and resolved stands in `lapin_desk`.
 
-ghost use Rattle.std.specs.Prelude.{◌≡◌, ◌≤◌, [], true, IfOk, OnOk, OnErr, if◌then◌else◌};
+ghost use Rattle.std.specs.Prelude.{◌≡◌, ◌≤◌, [], true, false, IfOk, OnOk, OnErr, if◌then◌else◌};
 ghost use Rattle.std.specs.List.{fold};
 ghost use Rattle.lapin_tables.specs.ByChannel.{at_channel};
 ghost use Rattle.lapin_types.specs.declared.event.Event.TheVariants.{Call as CallEvent, Lost as LostEvent};
@@ -139,9 +139,7 @@ impl Session {
             class_id: 0,
             method_id: 0,
         });
-        let number = self
-            .desk
-            .queue(alloc, channel, method, Some(Reply::ConnectionCloseOk), None);
+        let number = self.desk.queue(alloc, channel, method, Some(Reply::ConnectionCloseOk), None);
         Ok(Ticket { number })
     }
 

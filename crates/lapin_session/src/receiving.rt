@@ -58,7 +58,12 @@ impl Session {
     }
 
     // A frame that comes while the connection is open.
-    fn receive_up(&mut self, alloc: Global, frame: &Frame, incoming: Incoming) -> Result<Heard, Error>
+    fn receive_up(
+        &mut self,
+        alloc: Global,
+        frame: &Frame,
+        incoming: Incoming,
+    ) -> Result<Heard, Error>
         requires { is_up self.old.base.link ≡ true }
         ensures told { HeardTold result (heard_up self.old.base (sight_of self.old.book self.old.slots) frame.now incoming) }
         ensures ok { WasHeard result (self.new ≡ hearing incoming (heard_up self.old.base (sight_of self.old.book self.old.slots) frame.now incoming) self.old) (self.new ≡ self.old) }

@@ -29,9 +29,7 @@ use lapin_confirm::Confirms;
 use lapin_desk::Desk;
 use lapin_history::{Link, Phase, after_broker_close, close_ok_end, has_sent_close};
 use lapin_outbox::Replies;
-use lapin_types::{
-    Answer, ChannelMethod, ConnectionMethod, Error, Method, ReplyKind, Request,
-};
+use lapin_types::{Answer, ChannelMethod, ConnectionMethod, Error, Method, ReplyKind, Request};
 use std::alloc::Global;
 
 impl Session {
@@ -78,11 +76,7 @@ impl Session {
 
     // The broker closes the connection, which is open, or which this side is closing: close-ok is queued. Where this side's close
     // has left the connection is still closing; else it is closed.
-    pub(crate) fn hear_connection_close(
-        &mut self,
-        alloc: Global,
-        code: u16,
-    ) -> Result<Heard, Error>
+    pub(crate) fn hear_connection_close(&mut self, alloc: Global, code: u16) -> Result<Heard, Error>
         ensures told { HeardTold result Received }
         ensures ok { WasHeard result (self.new ≡ hearing (ConnectionCloseFrame code) Received self.old) (self.new ≡ self.old) }
         ensures numbers { HasNumbers result }

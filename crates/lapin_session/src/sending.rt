@@ -8,6 +8,8 @@ ghost use Rattle.lapin_history.specs.Answers.{frame_record as frame_record_lem};
 ghost use Rattle.lapin_history.specs.Marked.{left_marks, left_tickets, frame_marks};
 ghost use Rattle.lapin_confirm.specs.Book as book;
 ghost use Rattle.lapin_ticket.specs.Desk as desk;
+ghost use Rattle.lapin_tables.specs.ByChannel.{on_channel};
+ghost use Rattle.lapin_history.specs.Phases.{close_sent as close_sent_lem};
 ghost use Rattle.lapin_session.specs.World.{told_by, next};
 ghost use Rattle.lapin_session.specs.Numbers.{HasCause, OnlyMemory};
 ghost use Rattle.lapin_session.specs.Tied.{CanRegister};
@@ -111,8 +113,14 @@ fn phases_left(phases: &mut ByChannel<Phase>, frame: &Frame)
     ensures { phases.new.entries ≡ phases_sent frame.now phases.old.entries }
 {
     if let Frame::Method(channel, Method::Channel(ChannelMethod::Close { .. })) = frame {
-        if let Some(phase) = phases.get_mut(*channel) {
-            *phase = close_sent(*phase);
-        }
+        phase_left(phases, *channel);
+    }
+}
+
+fn phase_left(phases: &mut ByChannel<Phase>, channel: u16)
+    ensures { phases.new.entries ≡ on_channel channel close_sent_lem phases.old.entries }
+{
+    if let Some(phase) = phases.get_mut(channel) {
+        *phase = close_sent(*phase);
     }
 }

@@ -4,7 +4,7 @@ use Rattle.lapin_types.specs.declared.leaving.Left.{Left}
 use Rattle.lapin_history.specs.Leaving.{Lists}
 use Rattle.lapin_history.specs.Marked.{left_marks}
 use Rattle.lapin_confirm.specs.Book.{after_mark}
-use Rattle.lapin_session.proofs.Keeping.{tied_next, tied_by, can_register}
+use Rattle.lapin_session.proofs.Keeping.{tied_handed, tied_by, can_register}
 use Rattle.lapin_session.proofs.session.Session.next_frame.Goals as goal
 
 pub confirms_left-requires : goal.confirms_left-requires
@@ -14,7 +14,7 @@ confirms_left-requires c =
 
 pub invariant_of-self-in-Some : goal.invariant_of-self-in-Some
 invariant_of-self-in-Some c =
-    tied_by _ _ _ _ _ _ refl
+    tied_by _ _ _ _ _ _ _ _ c.link_left.ensures c.phases_left.ensures
     (ap (λ (l : Lists). l.publishes) c.in_ok-left.ensures.ok)
     (c.confirms_left.ensures ∙ ap (λ (o : Option Left). fold after_mark c.self.inside.confirms.book (left_marks o)) (sym c.in-Some.is ∙ c.in_ok-left.ensures.told))
-    (tied_next c.self.inside.desk.outbox.frame_max c.args.flow c.self.inside.desk.outbox.lists.rest c.self.inside.desk.outbox.lists.methods c.self.inside.desk.outbox.lists.publishes _ _ c.self.invariant)
+    (tied_handed c.self.inside.desk.outbox.frame_max c.args.flow c.self.inside.desk.outbox.lists.rest c.self.inside.desk.outbox.lists.methods c.self.inside.desk.outbox.lists.publishes _ _ _ c.in-Some.left c.self.invariant)
