@@ -22,6 +22,7 @@ use Rattle.lapin_text.specs.Calls.{call_name, call_fields, call_made}
 
 -- ---- the words that begin a frame or an event
 
+-- each word's text
 abbrev pub word_text : Word → List ℕ
 word_text word.Method = codes "method"
 word_text word.Header = codes "header"
@@ -70,6 +71,7 @@ call_at (piece ∷ rest) = call_kind_at piece >>= λ k. arguments_at k rest
 
 -- ---- events
 
+-- the event that a word and the pieces behind it make, and the pieces that are left
 abbrev pub event_of_word : Word → List (List ℕ) → Option (Event × List (List ℕ))
 event_of_word word.Call pieces = do
   channel ← field_at short_number pieces

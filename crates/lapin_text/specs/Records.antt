@@ -72,6 +72,7 @@ confirmation_tokens (confirmation.Ack message) = codes "ack" ∷ held_tokens mes
 confirmation_tokens (confirmation.Nack message) = codes "nack" ∷ held_tokens message
 confirmation_tokens confirmation.NotRequested = codes "notrequested" ∷ []
 
+-- a record: its word, and what it carries
 abbrev pub record_tokens : Record → List (List ℕ)
 record_tokens (record_.Ticket number) = codes "ticket" ∷ token wide_number number ∷ []
 record_tokens (record_.Publish ticket confirm) = codes "publish" ∷ token wide_number ticket ∷ token wide_number confirm ∷ []
