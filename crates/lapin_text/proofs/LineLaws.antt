@@ -48,6 +48,8 @@ word_again word.Next = refl
 word_again word.Recv = refl
 word_again word.Ticket = refl
 word_again word.Confirm = refl
+word_again word.State = refl
+word_again word.Lost = refl
 
 -- ---- frames
 
@@ -106,11 +108,15 @@ the_kind k = k
 call_rows : (k : CallKind) → RowLaws call_table call_kind_at the_kind k
 unfolding call_kind_at arguments_at
 call_rows kind.OpenChannel = record { named = refl; plain = refl; reads = λ _. refl; parted = λ _. refl }
+call_rows kind.ChannelClose = record { named = refl; plain = refl; reads = λ _. refl; parted = λ _. refl }
+call_rows kind.ConnectionClose = record { named = refl; plain = refl; reads = λ _. refl; parted = λ _. refl }
 call_rows kind.ConfirmSelect = record { named = refl; plain = refl; reads = λ _. refl; parted = λ _. refl }
 call_rows kind.BasicPublish = record { named = refl; plain = refl; reads = λ _. refl; parted = λ _. refl }
 
 call_laws : (c : Call) → EntryLaws call_table c
 call_laws call.OpenChannel = record { remade = refl; spells = refl }
+call_laws (call.ChannelClose reply_code reply_text) = record { remade = refl; spells = refl }
+call_laws (call.ConnectionClose reply_code reply_text) = record { remade = refl; spells = refl }
 call_laws (call.ConfirmSelect options) = record { remade = refl; spells = refl }
 call_laws (call.BasicPublish exchange routing_key options payload properties) = record { remade = refl; spells = refl }
 
@@ -139,6 +145,8 @@ event_again (event.Next flow) rest h = rw (word_again word.Next) (fields_again (
 event_again (event.Receive f) rest h = rw (word_again word.Recv, frame_again f rest h) refl
 event_again (event.PollTicket n) rest h = rw (word_again word.Ticket) (fields_again (wide_number ∷ []) (λ v. event.PollTicket v.0) (n, tt) rest (h, tt))
 event_again (event.PollConfirm n) rest h = rw (word_again word.Confirm) (fields_again (wide_number ∷ []) (λ v. event.PollConfirm v.0) (n, tt) rest (h, tt))
+event_again (event.State c) rest h = rw (word_again word.State) (fields_again (short_number ∷ []) (λ v. event.State v.0) (c, tt) rest (h, tt))
+event_again event.Lost rest h = rw (word_again word.Lost) refl
 
 -- the pieces are the tokens of an event that has a line, and others
 abbrev IsEvent : List (List ℕ) → Event × List (List ℕ) → Type 0
@@ -165,6 +173,11 @@ event_of_word_found word.Ticket rest x e =
 event_of_word_found word.Confirm rest x e =
     let r = fields_found (wide_number ∷ []) (λ v. event.PollConfirm v.0) rest x e in
     subst (λ (f : Event). IsEvent (word_text word.Confirm ∷ rest) (f, x.1)) (sym r.is) (ap (λ (t : List (List ℕ)). word_text word.Confirm ∷ t) r.spelled, r.fit.0)
+event_of_word_found word.State rest x e =
+    let r = fields_found (short_number ∷ []) (λ v. event.State v.0) rest x e in
+    subst (λ (f : Event). IsEvent (word_text word.State ∷ rest) (f, x.1)) (sym r.is) (ap (λ (t : List (List ℕ)). word_text word.State ∷ t) r.spelled, r.fit.0)
+event_of_word_found word.Lost rest x e =
+    subst (λ (y : Event × List (List ℕ)). IsEvent (word_text word.Lost ∷ rest) y) (some_is (event.Lost, rest) x e) (refl, tt)
 event_of_word_found _ rest x e = absurd cc
 
 pub event_found : (pieces : List (List ℕ)) (x : Event × List (List ℕ)) → event_at pieces ≡ Some x → IsEvent pieces x
@@ -191,6 +204,8 @@ plain_event (event.Next flow) h = (refl, (plain_token flag flow h, tt))
 plain_event (event.Receive f) h = (refl, plain_frame f h)
 plain_event (event.PollTicket n) h = (refl, (plain_token wide_number n h, tt))
 plain_event (event.PollConfirm n) h = (refl, (plain_token wide_number n h, tt))
+plain_event (event.State c) h = (refl, (plain_token short_number c h, tt))
+plain_event event.Lost h = (refl, tt)
 
 some_frame_tokens : (f : Frame) → 0 < length (frame_tokens f)
 some_frame_tokens (frame.Method c m) = omega arith
@@ -203,6 +218,8 @@ some_tokens (event.Next flow) = omega arith
 some_tokens (event.Receive f) = omega arith
 some_tokens (event.PollTicket n) = omega arith
 some_tokens (event.PollConfirm n) = omega arith
+some_tokens (event.State c) = omega arith
+some_tokens event.Lost = omega arith
 
 -- ---- whole texts
 

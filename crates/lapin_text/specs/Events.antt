@@ -8,13 +8,15 @@ use Rattle.lapin_tokens.specs.Fields.Field.{flag}
 use Rattle.lapin_text.specs.Frames.{frame_tokens, FrameFits}
 use Rattle.lapin_text.specs.Calls.{call_tokens, CallFits}
 
--- `call C NAME ARGS`, `next BOOL`, `recv FRAME`, `ticket N` or `confirm N`
+-- `call C NAME ARGS`, `next BOOL`, `recv FRAME`, `ticket N`, `confirm N`, `state C` or `lost`
 abbrev pub event_tokens : Event → List (List ℕ)
 event_tokens (event.Call channel call) = codes "call" ∷ token short_number channel ∷ call_tokens call
 event_tokens (event.Next flow) = codes "next" ∷ token flag flow ∷ []
 event_tokens (event.Receive frame) = codes "recv" ∷ frame_tokens frame
 event_tokens (event.PollTicket number) = codes "ticket" ∷ token wide_number number ∷ []
 event_tokens (event.PollConfirm number) = codes "confirm" ∷ token wide_number number ∷ []
+event_tokens (event.State channel) = codes "state" ∷ token short_number channel ∷ []
+event_tokens event.Lost = codes "lost" ∷ []
 
 -- the events that have a line: their numbers are in range, their texts are short, their tables nest at most 8 levels
 abbrev pub HasLine : Event → Type 0
@@ -23,6 +25,8 @@ HasLine (event.Next flow) = fits flag flow ≡ true
 HasLine (event.Receive frame) = FrameFits frame
 HasLine (event.PollTicket number) = fits wide_number number ≡ true
 HasLine (event.PollConfirm number) = fits wide_number number ≡ true
+HasLine (event.State channel) = fits short_number channel ≡ true
+HasLine event.Lost = Unit {0}
 
 -- an event's line: its tokens with one space between them
 abbrev pub line_of : Event → List ℕ

@@ -22,6 +22,7 @@ use Rattle.lapin_text.specs.Calls.{call_name, call_fields, call_made}
 
 -- ---- the words that begin a frame or an event
 
+-- each word's text
 abbrev pub word_text : Word → List ℕ
 word_text word.Method = codes "method"
 word_text word.Header = codes "header"
@@ -31,6 +32,8 @@ word_text word.Next = codes "next"
 word_text word.Recv = codes "recv"
 word_text word.Ticket = codes "ticket"
 word_text word.Confirm = codes "confirm"
+word_text word.State = codes "state"
+word_text word.Lost = codes "lost"
 
 unfoldable pub word_at : List ℕ → Option Word
 word_at piece = find (λ w. bytes_eq (word_text w) piece) WORDS
@@ -57,6 +60,8 @@ call_kind_at piece = find (λ k. bytes_eq (call_name k) piece) CALLS
 
 unfoldable pub arguments_at : CallKind → List (List ℕ) → Option (Call × List (List ℕ))
 arguments_at kind.OpenChannel pieces = fields_at (call_fields kind.OpenChannel) (call_made kind.OpenChannel) pieces
+arguments_at kind.ChannelClose pieces = fields_at (call_fields kind.ChannelClose) (call_made kind.ChannelClose) pieces
+arguments_at kind.ConnectionClose pieces = fields_at (call_fields kind.ConnectionClose) (call_made kind.ConnectionClose) pieces
 arguments_at kind.ConfirmSelect pieces = fields_at (call_fields kind.ConfirmSelect) (call_made kind.ConfirmSelect) pieces
 arguments_at kind.BasicPublish pieces = fields_at (call_fields kind.BasicPublish) (call_made kind.BasicPublish) pieces
 
@@ -66,6 +71,7 @@ call_at (piece ∷ rest) = call_kind_at piece >>= λ k. arguments_at k rest
 
 -- ---- events
 
+-- the event that a word and the pieces behind it make, and the pieces that are left
 abbrev pub event_of_word : Word → List (List ℕ) → Option (Event × List (List ℕ))
 event_of_word word.Call pieces = do
   channel ← field_at short_number pieces
@@ -75,6 +81,8 @@ event_of_word word.Next pieces = fields_at (flag ∷ []) (λ v. event.Next v.0) 
 event_of_word word.Recv pieces = frame_at pieces >>= λ f. Some (event.Receive f.0, f.1)
 event_of_word word.Ticket pieces = fields_at (wide_number ∷ []) (λ v. event.PollTicket v.0) pieces
 event_of_word word.Confirm pieces = fields_at (wide_number ∷ []) (λ v. event.PollConfirm v.0) pieces
+event_of_word word.State pieces = fields_at (short_number ∷ []) (λ v. event.State v.0) pieces
+event_of_word word.Lost pieces = Some (event.Lost, pieces)
 event_of_word _ pieces = None
 
 unfoldable pub event_at : List (List ℕ) → Option (Event × List (List ℕ))

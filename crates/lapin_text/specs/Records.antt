@@ -3,6 +3,8 @@ use Rattle.std.specs.Prelude.{ℕ, List, [], ◌∷◌, ◌++◌, codes, Option,
 use Rattle.std.specs.List.{join_with_byte, flat_map}
 use Rattle.lapin_types.specs.Types.{Error}
 use Rattle.lapin_types.specs.Types.error
+use Rattle.lapin_types.specs.Types.{ConnectionState}
+use Rattle.lapin_types.specs.Types.connection_state
 use Rattle.lapin_types.specs.Types.{ChannelState}
 use Rattle.lapin_types.specs.Types.channel_state
 use Rattle.lapin_types.specs.declared.answer.Answer.{Answer}
@@ -17,6 +19,13 @@ use Rattle.lapin_tokens.specs.Fields.{token, short_number, wide_number}
 use Rattle.lapin_tokens.specs.TokenText.{onto}
 use Rattle.lapin_tokens.specs.Fields.Field.{text, bytes, props, flag}
 use Rattle.lapin_text.specs.Frames.{frame_tokens}
+
+-- the name of a connection's state
+abbrev pub connection_name : ConnectionState → List ℕ
+connection_name connection_state.Open = codes "open"
+connection_name connection_state.Closing = codes "closing"
+connection_name connection_state.Closed = codes "closed"
+connection_name connection_state.Lost = codes "lost"
 
 -- the name of a channel's state
 abbrev pub state_name : ChannelState → List ℕ
@@ -63,6 +72,7 @@ confirmation_tokens (confirmation.Ack message) = codes "ack" ∷ held_tokens mes
 confirmation_tokens (confirmation.Nack message) = codes "nack" ∷ held_tokens message
 confirmation_tokens confirmation.NotRequested = codes "notrequested" ∷ []
 
+-- a record: its word, and what it carries
 abbrev pub record_tokens : Record → List (List ℕ)
 record_tokens (record_.Ticket number) = codes "ticket" ∷ token wide_number number ∷ []
 record_tokens (record_.Publish ticket confirm) = codes "publish" ∷ token wide_number ticket ∷ token wide_number confirm ∷ []
@@ -76,6 +86,8 @@ record_tokens (record_.Answer (Ok answer)) = codes "answer" ∷ answer_tokens an
 record_tokens (record_.Answer (Err error)) = codes "error" ∷ error_tokens error
 record_tokens (record_.Confirmed (Ok confirmation)) = codes "confirmed" ∷ confirmation_tokens confirmation
 record_tokens (record_.Confirmed (Err error)) = codes "error" ∷ error_tokens error
+record_tokens (record_.State connection channel) = codes "state" ∷ connection_name connection ∷ state_name channel ∷ []
+record_tokens record_.Lost = codes "lost" ∷ []
 
 -- a record's line: its tokens with one space between them
 abbrev pub record_line : Record → List ℕ

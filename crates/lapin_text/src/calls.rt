@@ -7,7 +7,7 @@ ghost use Rattle.lapin_tokens.specs.Reading.{Gives};
 ghost use Rattle.lapin_text.specs.Calls.{call_name};
 ghost use Rattle.lapin_text.specs.LineReading.{call_kind_at, arguments_at, call_at};
 
-use lapin_tokens::{ReadError, Tokens, flag, payload, properties, text};
+use lapin_tokens::{ReadError, Tokens, flag, payload, properties, text, u16_at};
 use lapin_types::{BasicPublishOptions, Call, ConfirmSelectOptions};
 use std::alloc::Global;
 
@@ -15,13 +15,17 @@ use std::alloc::Global;
 #[derive(Clone, Copy, Debug, PartialEq, Eq)]
 pub enum CallKind {
     OpenChannel,
+    ChannelClose,
+    ConnectionClose,
     ConfirmSelect,
     BasicPublish,
 }
 
 /// Each call once.
-pub const CALLS: [CallKind; 3] = [
+pub const CALLS: [CallKind; 5] = [
     CallKind::OpenChannel,
+    CallKind::ChannelClose,
+    CallKind::ConnectionClose,
     CallKind::ConfirmSelect,
     CallKind::BasicPublish,
 ];
@@ -31,6 +35,8 @@ fn name_of_call(kind: CallKind) -> &'static [u8]
 {
     match kind {
         CallKind::OpenChannel => b"channel.open",
+        CallKind::ChannelClose => b"channel.close",
+        CallKind::ConnectionClose => b"connection.close",
         CallKind::ConfirmSelect => b"confirm.select",
         CallKind::BasicPublish => b"basic.publish",
     }
@@ -74,6 +80,22 @@ fn read_arguments(alloc: Global, kind: CallKind, tokens: &mut Tokens) -> Result<
 {
     match kind {
         CallKind::OpenChannel => Ok(Call::OpenChannel),
+        CallKind::ChannelClose => {
+            let reply_code = u16_at(tokens)?;
+            let reply_text = text(alloc, tokens)?;
+            Ok(Call::ChannelClose {
+                reply_code,
+                reply_text,
+            })
+        }
+        CallKind::ConnectionClose => {
+            let reply_code = u16_at(tokens)?;
+            let reply_text = text(alloc, tokens)?;
+            Ok(Call::ConnectionClose {
+                reply_code,
+                reply_text,
+            })
+        }
         CallKind::ConfirmSelect => {
             let nowait = flag(tokens)?;
             Ok(Call::ConfirmSelect {

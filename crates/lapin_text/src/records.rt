@@ -7,12 +7,25 @@ ghost use Rattle.std.specs.Prelude.{◌≡◌, ◌++◌, ◌∷◌, [], OnOk, ma
 ghost use Rattle.lapin_tokens.specs.Fields.{token, wide_number};
 ghost use Rattle.lapin_tokens.specs.TokenText.{onto, text_of};
 ghost use Rattle.lapin_text.specs.Frames.{frame_tokens};
-ghost use Rattle.lapin_text.specs.Records.{state_name, error_tokens, message_tokens, held_tokens, answer_tokens, confirmation_tokens, record_tokens, line_onto};
+ghost use Rattle.lapin_text.specs.Records.{connection_name, state_name, error_tokens, message_tokens, held_tokens, answer_tokens, confirmation_tokens, record_tokens, line_onto};
 
 use crate::frames::put_frame;
 use lapin_tokens::{Token, put_tokens};
-use lapin_types::{Answer, BasicReturnMessage, ChannelState, Confirmation, Error, Record};
+use lapin_types::{
+    Answer, BasicReturnMessage, ChannelState, Confirmation, ConnectionState, Error, Record,
+};
 use std::alloc::{AllocError, Global};
+
+fn name_of_connection(state: ConnectionState) -> &'static [u8]
+    ensures { result.now ≡ connection_name state }
+{
+    match state {
+        ConnectionState::Open => b"open",
+        ConnectionState::Closing => b"closing",
+        ConnectionState::Closed => b"closed",
+        ConnectionState::Lost => b"lost",
+    }
+}
 
 fn name_of_state(state: ChannelState) -> &'static [u8]
     ensures { result.now ≡ state_name state }
@@ -187,6 +200,24 @@ fn put_error_line(
     put_error(alloc, out, error)
 }
 
+fn put_states(
+    alloc: Global,
+    out: &mut Vec<u8>,
+    connection: ConnectionState,
+    channel: ChannelState,
+) -> Result<(), AllocError>
+    ensures { OnOk result (out.new.items ≡ onto out.old.items (connection_name connection ∷ state_name channel ∷ [])) }
+{
+    put_tokens(
+        alloc,
+        out,
+        &[
+            Token::Word(name_of_connection(connection)),
+            Token::Word(name_of_state(channel)),
+        ],
+    )
+}
+
 /// Adds the record's line, without a line end.
 pub fn put_record(alloc: Global, out: &mut Vec<u8>, record: &Record) -> Result<(), AllocError>
     ensures { OnOk result (out.new.items ≡ line_onto out.old.items (record_tokens «record».now)) }
@@ -218,5 +249,10 @@ pub fn put_record(alloc: Global, out: &mut Vec<u8>, record: &Record) -> Result<(
         }
         Record::Answer(Err(error)) => put_error_line(alloc, out, b"error", *error),
         Record::Confirmed(Err(error)) => put_error_line(alloc, out, b"error", *error),
+        Record::State(connection, channel) => {
+            out.extend_from_slice(b"state")?;
+            put_states(alloc, out, *connection, *channel)
+        }
+        Record::Lost => out.extend_from_slice(b"lost"),
     }
 }

@@ -1,7 +1,9 @@
 //! Inputs and outputs as the format spells them: events read from their lines, records written as theirs.
 
 use super::*;
-use lapin_types::{Call, ChannelMethod, Event, Frame, Method, Record};
+use lapin_types::{
+    Call, ChannelMethod, ChannelState, ConnectionState, Event, Frame, Method, Record,
+};
 use std::alloc::Global;
 
 // `call 1 basic.publish x x68656c6c6f 1 0 x6869 []`
@@ -27,10 +29,33 @@ fn is_hello(event: &Event) -> bool {
     }
 }
 
+// A close in short: what is closed, the line's channel, the code and the text.
+fn close_of(event: &Event) -> Option<(&'static str, u16, u16, &str)> {
+    match event {
+        Event::Call(
+            channel,
+            Call::ChannelClose {
+                reply_code,
+                reply_text,
+            },
+        ) => Some(("channel", *channel, *reply_code, reply_text.as_str())),
+        Event::Call(
+            channel,
+            Call::ConnectionClose {
+                reply_code,
+                reply_text,
+            },
+        ) => Some(("connection", *channel, *reply_code, reply_text.as_str())),
+        _ => None,
+    }
+}
+
 // An event in short: what it is, its channel or number, and its flag.
 fn kind_of(event: &Event) -> (&'static str, u64, bool) {
     match event {
         Event::Call(channel, Call::OpenChannel) => ("open", u64::from(*channel), false),
+        Event::Call(channel, Call::ChannelClose { .. }) => ("close", u64::from(*channel), false),
+        Event::Call(channel, Call::ConnectionClose { .. }) => ("leave", u64::from(*channel), false),
         Event::Call(channel, Call::ConfirmSelect { options }) => {
             ("select", u64::from(*channel), options.nowait)
         }
@@ -42,6 +67,8 @@ fn kind_of(event: &Event) -> (&'static str, u64, bool) {
         Event::Receive(_) => ("frame", 0, false),
         Event::PollTicket(number) => ("ticket", *number, false),
         Event::PollConfirm(number) => ("confirm", *number, false),
+        Event::State(channel) => ("state", u64::from(*channel), false),
+        Event::Lost => ("lost", 0, false),
     }
 }
 
@@ -57,6 +84,17 @@ fn is_read_as_hello(alloc: Global, line: &[u8]) -> bool {
         Ok(Some(event)) => is_hello(&event),
         _ => false,
     }
+}
+
+fn is_read_as_close(alloc: Global, line: &[u8], close: (&'static str, u16, u16, &str)) -> bool {
+    match read_event(alloc, line) {
+        Ok(Some(event)) => close_of(&event) == Some(close),
+        _ => false,
+    }
+}
+
+fn is_refused(alloc: Global, line: &[u8]) -> bool {
+    matches!(read_event(alloc, line), Ok(None))
 }
 
 // The greatest frame size, the number of events and the bad line of an input.
@@ -114,6 +152,42 @@ fn reads_events(rt: HostRuntime) {
     assert!(rt; is_read_as(alloc, b"next 1", ("next", 0, true)));
     assert!(rt; is_read_as(alloc, b"ticket 0", ("ticket", 0, false)));
     assert!(rt; is_read_as(alloc, b"confirm 7", ("confirm", 7, false)));
+    assert!(rt; is_read_as(alloc, b"state 65535", ("state", 65535, false)));
+    assert!(rt; is_read_as(alloc, b"lost", ("lost", 0, false)));
+}
+
+#[test]
+fn reads_closes(rt: HostRuntime) {
+    let alloc = rt.alloc();
+    assert!(rt;
+        is_read_as_close(
+            alloc,
+            b"call 1 channel.close 65535 x676f6e65",
+            ("channel", 1, 65535, "gone")
+        )
+    );
+    assert!(rt;
+        is_read_as_close(
+            alloc,
+            b"call 0 connection.close 200 x",
+            ("connection", 0, 200, "")
+        )
+    );
+}
+
+#[test]
+fn refuses_near_misses(rt: HostRuntime) {
+    let alloc = rt.alloc();
+    for line in [
+        b"lost 1".as_slice(),
+        b"state",
+        b"state 65536",
+        b"call 0 connection.close 200",
+        b"call 1 channel.close 65536 x",
+        b"call 1 channel.close 200 x 0 0",
+    ] {
+        assert!(rt; is_refused(alloc, line));
+    }
 }
 
 #[test]
@@ -160,4 +234,17 @@ fn reads_and_writes_frames(rt: HostRuntime) {
 fn writes_many_records(rt: HostRuntime) {
     let records = [Record::Ticket(1), Record::NoFrame];
     assert!(rt; is_text(rt.alloc(), &records, b"ticket 1\nnoframe\n"));
+}
+
+#[test]
+fn writes_states_and_the_loss(rt: HostRuntime) {
+    let records = [
+        Record::State(ConnectionState::Open, ChannelState::Base),
+        Record::State(ConnectionState::Closing, ChannelState::Down),
+        Record::State(ConnectionState::Closed, ChannelState::Down),
+        Record::State(ConnectionState::Lost, ChannelState::Down),
+        Record::Lost,
+    ];
+    let text = b"state open base\nstate closing down\nstate closed down\nstate lost down\nlost\n";
+    assert!(rt; is_text(rt.alloc(), &records, text));
 }

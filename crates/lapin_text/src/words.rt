@@ -16,10 +16,12 @@ pub enum Word {
     Recv,
     Ticket,
     Confirm,
+    State,
+    Lost,
 }
 
 /// Each word once.
-pub const WORDS: [Word; 8] = [
+pub const WORDS: [Word; 10] = [
     Word::Method,
     Word::Header,
     Word::Body,
@@ -28,6 +30,8 @@ pub const WORDS: [Word; 8] = [
     Word::Recv,
     Word::Ticket,
     Word::Confirm,
+    Word::State,
+    Word::Lost,
 ];
 
 fn text_of_word(word: Word) -> &'static [u8]
@@ -42,6 +46,8 @@ fn text_of_word(word: Word) -> &'static [u8]
         Word::Recv => b"recv",
         Word::Ticket => b"ticket",
         Word::Confirm => b"confirm",
+        Word::State => b"state",
+        Word::Lost => b"lost",
     }
 }
 
