@@ -157,6 +157,16 @@ fn a_bad_line_is_named_behind_the_records_before_it(rt: HostRuntime) -> Result<(
     Ok(())
 }
 
+#[test]
+fn the_events_before_a_bad_line_are_run(rt: HostRuntime) -> Result<(), Fail> {
+    let alloc = rt.alloc();
+    let (status, sink) = session(alloc, OPEN, "state 1\nnxt 1\n")?;
+    let want = joined(alloc, OPENED, "state open open\nbadline 6\n")?;
+    assert_eq!(rt; status, Status::BadLine);
+    assert_eq!(rt; sink.bytes(), want.as_slice());
+    Ok(())
+}
+
 // It says a number of 32 bits, at least 4096, and nothing else stands in it. Without it no event is run.
 #[test]
 fn the_first_line_is_a_frame_size(rt: HostRuntime) -> Result<(), Fail> {
