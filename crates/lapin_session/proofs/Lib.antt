@@ -3,4 +3,5 @@ pub mod TicketStanding
 pub mod ConfirmStanding
 pub mod Standing
 pub mod Keeping
+pub mod Worlds
 pub mod Counting

@@ -3,13 +3,13 @@
 //! A close is refused by state, then for want of numbers; then all room is made; then what the close rejects or ends is
 //! resolved, and the close is queued. What is dropped and resolved stands in `lapin_desk`.
 
-ghost use Rattle.std.specs.Prelude.{◌≡◌, ◌≤◌, [], true, false, IfOk, OnOk, OnErr, if◌then◌else◌};
+ghost use Rattle.std.specs.Prelude.{◌≡◌, ◌≤◌, [], true, false, IfOk, OnOk, OnErr, length, if◌then◌else◌};
 ghost use Rattle.std.specs.List.{fold};
 ghost use Rattle.lapin_tables.specs.ByChannel.{at_channel};
 ghost use Rattle.lapin_types.specs.declared.event.Event.TheVariants.{Call as CallEvent, Lost as LostEvent};
 ghost use Rattle.lapin_types.specs.declared.call.Call.TheVariants.{ChannelClose, ConnectionClose};
 ghost use Rattle.lapin_history.specs.Words.{is_some, with_channel};
-ghost use Rattle.lapin_history.specs.Phases.{is_up as is_up_lem};
+ghost use Rattle.lapin_history.specs.Phases.{is_up as is_up_lem, is_lost as is_lost_lem};
 ghost use Rattle.lapin_history.specs.Closes.{failed_at_close as failed_at_close_lem};
 ghost use Rattle.lapin_history.specs.Drops.{no_lists, unbegun, without_publishes_of, publish_tickets_of};
 ghost use Rattle.lapin_history.specs.Marked.{ends, rejections, failures};
@@ -152,7 +152,7 @@ impl Session {
         ensures ok { OnOk result (self.new ≡ next self.old LostEvent) }
         ensures err { OnErr result (self.new ≡ self.old) }
     {
-        if matches!(self.link, Link::Lost) {
+        if is_lost(self.link) {
             return Ok(());
         }
         let replies = Replies::new(alloc)?;
@@ -181,6 +181,12 @@ impl Session {
     }
 }
 
+fn is_lost(link: Link) -> bool
+    ensures { result ≡ is_lost_lem link }
+{
+    matches!(link, Link::Lost)
+}
+
 // This side closes a channel: publishes that have not begun are rejected.
 pub(crate) fn begin_close(
     phases: &mut ByChannel<Phase>,
@@ -199,6 +205,7 @@ pub(crate) fn begin_close(
     ensures requests { desk.new.replies ≡ desk.old.replies }
     ensures frame_max { desk.new.outbox.frame_max ≡ desk.old.outbox.frame_max }
     ensures room { (desk.old.outbox.spare ≤ desk.new.outbox.spare) × (desk.new.tickets.spare ≡ desk.old.tickets.spare) }
+    ensures counts { (length desk.new.tickets.slots ≡ length desk.old.tickets.slots) × (length confirms.new.book.cells ≡ length confirms.old.book.cells) }
 {
     desk.reject_unbegun(confirms, channel, failed_at_close(closer));
     set_phase(
@@ -230,6 +237,7 @@ pub(crate) fn go_down(
     ensures requests { desk.new.replies ≡ replies }
     ensures frame_max { desk.new.outbox.frame_max ≡ desk.old.outbox.frame_max }
     ensures room { (desk.old.outbox.spare ≤ desk.new.outbox.spare) × (desk.new.tickets.spare ≡ desk.old.tickets.spare) }
+    ensures counts { (length desk.new.tickets.slots ≡ length desk.old.tickets.slots) × (length confirms.new.book.cells ≡ length confirms.old.book.cells) }
 {
     if link.is_up() {
         desk.end_all(confirms, phases.entries(), replies, error);

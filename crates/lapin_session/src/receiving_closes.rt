@@ -2,22 +2,23 @@
 //!
 //! The session comes here once it knows that the frame is heard. What an end drops and resolves stands in `lapin_desk`.
 
-ghost use Rattle.std.specs.Prelude.{◌≡◌, ◌≤◌, ◌++◌, true, [], Some, Err, if◌then◌else◌};
+ghost use Rattle.std.specs.Prelude.{◌≡◌, ◌≤◌, ◌++◌, true, false, [], Some, None, Err, if◌then◌else◌};
 ghost use Rattle.std.specs.List.{fold};
 ghost use Rattle.lapin_tables.specs.ByChannel.{on_channel};
 ghost use Rattle.lapin_types.specs.declared.record.Record.TheVariants.{Received};
 ghost use Rattle.lapin_types.specs.declared.request.ReplyKind.TheVariants.{ChannelCloseOk as CloseOkKind};
 ghost use Rattle.lapin_history.specs.declared.broker_frames.Incoming.TheVariants.{ChannelClose as ChannelCloseFrame, ChannelCloseOk as ChannelCloseOkFrame, ConnectionClose as ConnectionCloseFrame, ConnectionCloseOk as ConnectionCloseOkFrame};
 ghost use Rattle.lapin_history.specs.Requests.{first_request, without_kind, no_requests, ticket_of as ticket_of_lem};
-ghost use Rattle.lapin_history.specs.Phases.{has_sent_close as has_sent_close_lem};
-ghost use Rattle.lapin_history.specs.Base.{state_of, hears_close as hears_close_lem, hears_close_ok as hears_close_ok_lem};
+ghost use Rattle.lapin_history.specs.Phases.{is_up, has_sent_close as has_sent_close_lem};
+ghost use Rattle.lapin_history.specs.Base.{state_of, phase_of, hears_close as hears_close_lem, hears_close_ok as hears_close_ok_lem, unless_sent, has_sent};
+ghost use Rattle.lapin_history.specs.Closes.{close_ok_end as close_ok_end_lem};
 ghost use Rattle.lapin_history.specs.Drops.{without_channel, publish_tickets_of, rest_tickets_of, method_tickets_of};
 ghost use Rattle.lapin_history.specs.Marked.{failures, request_tickets, resolved_with};
 ghost use Rattle.lapin_outbox.specs.Open.{requests_at};
 ghost use Rattle.lapin_confirm.specs.Book as book;
 ghost use Rattle.lapin_ticket.specs.Desk as answers;
 ghost use Rattle.lapin_desk.specs.Queued.{AreQueued};
-ghost use Rattle.lapin_session.specs.Kept.{kept_requests};
+ghost use Rattle.lapin_session.specs.Kept.{kept_requests, is_close_sent as is_close_sent_lem};
 ghost use Rattle.lapin_session.specs.World.{hearing};
 ghost use Rattle.lapin_session.specs.Told.{HeardTold, WasHeard};
 ghost use Rattle.lapin_session.specs.Numbers.{HasNumbers};
@@ -57,19 +58,35 @@ impl Session {
         Ok(Heard::Received)
     }
 
-    // The broker answers a close of a channel: the channel is closed and the close done. The opening ends, where a crossed close
-    // did not end it before.
+    // The broker answers a close of a channel: the channel is closed and the close done.
     pub(crate) fn hear_channel_close_ok(&mut self, channel: u16)
         requires { hears_close_ok_lem (state_of channel self.old.base) ≡ true }
         ensures { self.new ≡ hearing (ChannelCloseOkFrame channel) Received self.old }
     {
-        let close = match close_ok_end(self.phase(channel)) {
-            Some(error) => end_but_close(&mut self.desk, &mut self.confirms, channel, error),
-            None => self
-                .desk
-                .replies
-                .take_first(channel, ReplyKind::ChannelCloseOk),
-        };
+        match close_ok_end(self.phase(channel)) {
+            Some(error) => self.end_closing(channel, error),
+            None => self.end_crossed(channel),
+        }
+    }
+
+    // The opening of a channel that this side closes ends with the answer.
+    fn end_closing(&mut self, channel: u16, error: Error)
+        requires heard { hears_close_ok_lem (state_of channel self.old.base) ≡ true }
+        requires end { close_ok_end_lem (phase_of channel self.old.base) ≡ Some error }
+        ensures { self.new ≡ hearing (ChannelCloseOkFrame channel) Received self.old }
+    {
+        let close = end_but_close(&mut self.desk, &mut self.confirms, channel, error);
+        set_phase(&mut self.phases, channel, Phase::Closed);
+        self.desk.resolve(ticket_of(close), Ok(Answer::Done));
+    }
+
+    // A crossed close ended the opening before.
+    fn end_crossed(&mut self, channel: u16)
+        requires heard { hears_close_ok_lem (state_of channel self.old.base) ≡ true }
+        requires end { close_ok_end_lem (phase_of channel self.old.base) ≡ None }
+        ensures { self.new ≡ hearing (ChannelCloseOkFrame channel) Received self.old }
+    {
+        let close = take_request(&mut self.desk.replies, channel, ReplyKind::ChannelCloseOk);
         set_phase(&mut self.phases, channel, Phase::Closed);
         self.desk.resolve(ticket_of(close), Ok(Answer::Done));
     }
@@ -82,23 +99,25 @@ impl Session {
         ensures numbers { HasNumbers result }
     {
         self.desk.outbox.reserve(alloc)?;
-        if let Link::Closing { sent: true, .. } = self.link {
+        if is_close_sent(self.link) {
             self.link = Link::Closing {
                 sent: true,
                 heard: true,
             };
-        } else {
-            let replies = Replies::new(alloc)?;
-            go_down(
-                &mut self.link,
-                &self.phases,
-                &mut self.desk,
-                &mut self.confirms,
-                replies,
-                Link::Closed,
-                Error::ProtocolError(code),
-            );
+            self.desk
+                .note(alloc, 0, Method::Connection(ConnectionMethod::CloseOk));
+            return Ok(Heard::Received);
         }
+        let replies = Replies::new(alloc)?;
+        go_down(
+            &mut self.link,
+            &self.phases,
+            &mut self.desk,
+            &mut self.confirms,
+            replies,
+            Link::Closed,
+            Error::ProtocolError(code),
+        );
         self.desk
             .note(alloc, 0, Method::Connection(ConnectionMethod::CloseOk));
         Ok(Heard::Received)
@@ -107,15 +126,11 @@ impl Session {
     // The broker answers this side's close of the connection: it is closed and the close done. A close that has not left is
     // dropped.
     pub(crate) fn hear_connection_close_ok(&mut self)
+        requires { is_up self.old.base.link ≡ false }
         ensures { self.new ≡ hearing ConnectionCloseOkFrame Received self.old }
     {
-        let close = self
-            .desk
-            .replies
-            .take_first(0, ReplyKind::ConnectionCloseOk);
-        if let Link::Closing { sent: false, .. } = self.link {
-            self.desk.drop_rest();
-        }
+        let close = take_request(&mut self.desk.replies, 0, ReplyKind::ConnectionCloseOk);
+        drop_unsent(self.link, &mut self.desk);
         self.link = Link::Closed;
         self.desk.resolve(ticket_of(close), Ok(Answer::Done));
     }
@@ -140,7 +155,7 @@ fn end_but_close(
     ensures frame_max { desk.new.outbox.frame_max ≡ desk.old.outbox.frame_max }
     ensures room { (desk.old.outbox.spare ≤ desk.new.outbox.spare) × (desk.new.replies.ready ≡ desk.old.replies.ready) }
 {
-    let close = desk.replies.take_first(channel, ReplyKind::ChannelCloseOk);
+    let close = take_request(&mut desk.replies, channel, ReplyKind::ChannelCloseOk);
     desk.end_opening(confirms, channel, error);
     close
 }
@@ -166,6 +181,34 @@ fn keep_or_fail(
     if let Some(request) = close {
         desk.replies.expect(alloc, channel, request).unwrap();
     }
+}
+
+// Takes out the oldest request of a kind, if there is one.
+fn take_request(replies: &mut Replies, channel: u16, kind: ReplyKind) -> Option<Request>
+    ensures taken { result ≡ first_request kind (requests_at channel replies.old.waiting) }
+    ensures waiting { replies.new.waiting ≡ on_channel channel (without_kind kind) replies.old.waiting }
+    ensures ready { replies.new.ready ≡ replies.old.ready }
+{
+    replies.take_first(channel, kind)
+}
+
+// A close of the connection that has not left is dropped; it is then all that waits.
+fn drop_unsent(link: Link, desk: &mut Desk)
+    ensures lists { desk.new.outbox.lists ≡ unless_sent (has_sent link) desk.old.outbox.lists }
+    ensures frame_max { desk.new.outbox.frame_max ≡ desk.old.outbox.frame_max }
+    ensures requests { desk.new.replies ≡ desk.old.replies }
+    ensures tickets { desk.new.tickets ≡ desk.old.tickets }
+{
+    if let Link::Closing { sent: false, .. } = link {
+        desk.drop_rest();
+    }
+}
+
+// Whether this side is closing the connection and its close has left.
+fn is_close_sent(link: Link) -> bool
+    ensures { result ≡ is_close_sent_lem link }
+{
+    matches!(link, Link::Closing { sent: true, .. })
 }
 
 // The ticket of a request, if there is a request and somebody holds its ticket.
