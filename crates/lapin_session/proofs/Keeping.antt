@@ -201,25 +201,6 @@ ends_live c e (x ∷ xs) b h =
           ]
     ]
 
--- ---- one channel's value
-
-value_is : {X : Type 0} {x y : X} → Some x ≡ Some y → x ≡ y
-value_is e = cc
-
-pub on_value : {X : Type 0} (c : ℕ) (f : X → X) (p : X) (es : List (ℕ × X)) → at_channel c es ≡ Some p → on_channel c (λ _. f p) es ≡ on_channel c f es
-on_value c f p [] e = refl
-on_value {X} c f p (x ∷ es) e = elim (x.0 == c) as (λ b. cond b (Some x.1) (at_channel c es) ≡ Some p → cond b ((x.0, f p) ∷ es) (x ∷ on_channel c (λ _. f p) es) ≡ cond b ((x.0, f x.1) ∷ es) (x ∷ on_channel c f es)) [
-  | true ↦ λ here. ap (λ (v : X). (x.0, f v) ∷ es) (sym (value_is here))
-  | false ↦ λ later. ap (λ (ys : List (ℕ × X)). x ∷ ys) (on_value c f p es later)
-] e
-
-pub on_absent : {X : Type 0} (c : ℕ) (f : X → X) (es : List (ℕ × X)) → at_channel c es ≡ None → on_channel c f es ≡ es
-on_absent c f [] e = refl
-on_absent {X} c f (x ∷ es) e = elim (x.0 == c) as (λ b. cond b (Some x.1) (at_channel c es) ≡ None → cond b ((x.0, f x.1) ∷ es) (x ∷ on_channel c f es) ≡ x ∷ es) [
-  | true ↦ λ here. cc
-  | false ↦ λ later. ap (λ (ys : List (ℕ × X)). x ∷ ys) (on_absent c f es later)
-] e
-
 -- ---- lines of channels
 
 some_with : {X : Type 0} (c d : ℕ) (x : X) (es : List (ℕ × X)) → IsSome (at_channel d es) → IsSome (at_channel d (with_channel c x es))

@@ -3,7 +3,7 @@ use Rattle.std.specs.Option.{option_copied_mut}
 use Rattle.lapin_tables.specs.ByChannel.{on_channel}
 use Rattle.lapin_history.specs.Phases.{close_sent}
 use Rattle.lapin_history.specs.declared.phases.Phase.{Phase}
-use Rattle.lapin_session.proofs.Keeping.{on_value, on_absent}
+use Rattle.lapin_session.proofs.Channels.{on_value, on_absent}
 use Rattle.lapin_session.proofs.sending.phase_left.Goals as goal
 
 pub returns-in-Some : goal.returns-in-Some

@@ -1,0 +1,8 @@
+use Rattle.std.proofs.Common.{◌≡◌, ◌∙◌, refl, sym, ap}
+use Rattle.lapin_session.proofs.session.Session.channel_close.Goals as goal
+
+pub invariant_of-self-2 : goal.invariant_of-self-2
+invariant_of-self-2 c = ?
+
+pub returns-clause-ok : goal.returns-clause-ok
+returns-clause-ok c = ?
