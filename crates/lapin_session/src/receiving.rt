@@ -49,9 +49,18 @@ impl Session {
         ensures ok { WasHeard result (self.new ≡ next self.old (event.Receive frame)) (self.new ≡ self.old) }
         ensures numbers { HasNumbers result }
     {
-        let incoming = sort_frame(&frame);
+        self.hear_frame(alloc, &frame)
+    }
+
+    // A frame of the broker, by whether the connection is open.
+    fn hear_frame(&mut self, alloc: Global, frame: &Frame) -> Result<Heard, Error>
+        ensures told { HeardTold result (told_by self.old (event.Receive frame.now)) }
+        ensures ok { WasHeard result (self.new ≡ next self.old (event.Receive frame.now)) (self.new ≡ self.old) }
+        ensures numbers { HasNumbers result }
+    {
+        let incoming = sort_frame(frame);
         if self.link.is_up() {
-            self.receive_up(alloc, &frame, incoming)
+            self.receive_up(alloc, frame, incoming)
         } else {
             self.receive_down(alloc, incoming)
         }
