@@ -14,7 +14,7 @@ use lapin_outbox::{Outbox, Replies};
 use lapin_ticket::Tickets;
 use lapin_types::{
     Answer, BasicProperties, BasicPublishOptions, ChannelMethod, ConfirmMethod, Error, Frame,
-    Method, Payload, Publish, Reply, Request, ShortString,
+    Method, Payload, Publish, Reply, ShortString,
 };
 use std::alloc::Global;
 use std::test::Fail;
@@ -86,16 +86,26 @@ fn select(alloc: Global, parts: &mut Parts, channel: u16) -> Result<(), Fail>
     Ok(())
 }
 
-// Publishes on channels 1, 2 and 1 with the tickets and confirms 1 to 3, then a select on each channel with tickets 4 and 5.
+// Publishes on channels 1, 2 and 1 get tickets and confirms 1 to 3, then a select on each channel tickets 4 and 5.
+fn fill(alloc: Global, parts: &mut Parts) -> Result<(), Fail>
+    requires first { IsSome (at_channel 1 parts.old.confirms.book.lines) }
+    requires second { IsSome (at_channel 2 parts.old.confirms.book.lines) }
+    requires queued { AreQueued parts.old.confirms.book.cells parts.old.desk.outbox.lists.publishes }
+    ensures { OnOk result (AreQueued parts.new.confirms.book.cells parts.new.desk.outbox.lists.publishes) }
+{
+    accept(alloc, parts, 1)?;
+    accept(alloc, parts, 2)?;
+    accept(alloc, parts, 1)?;
+    select(alloc, parts, 1)?;
+    select(alloc, parts, 2)?;
+    Ok(())
+}
+
 fn busy(alloc: Global) -> Result<Parts, Fail>
     ensures { IfOk result (λ parts. AreQueued parts.confirms.book.cells parts.desk.outbox.lists.publishes) }
 {
     let mut parts = two_openings(alloc)?;
-    accept(alloc, &mut parts, 1)?;
-    accept(alloc, &mut parts, 2)?;
-    accept(alloc, &mut parts, 1)?;
-    select(alloc, &mut parts, 1)?;
-    select(alloc, &mut parts, 2)?;
+    fill(alloc, &mut parts)?;
     Ok(parts)
 }
 
@@ -139,104 +149,82 @@ fn are(parts: &mut Parts, tickets: [&str; 5], confirms: [&str; 3]) -> bool {
     true
 }
 
-// The channels and the tickets of the frames that would leave, entry by entry.
-fn entries_are(
-    parts: &mut Parts,
-    alloc: Global,
-    wanted: &[(u16, Option<u64>)],
-) -> Result<bool, Fail> {
+// Whether the frames that leave next are methods of these channels with these tickets.
+fn leaves(parts: &mut Parts, alloc: Global, wanted: &[(u16, Option<u64>)]) -> bool {
     for (channel, ticket) in wanted {
-        let Some(left) = parts.desk.outbox.pop(alloc, true)? else {
-            return Ok(false);
+        let Ok(Some(left)) = parts.desk.outbox.pop(alloc, true) else {
+            return false;
         };
         let Frame::Method(on, _) = left.frame else {
-            return Ok(false);
+            return false;
         };
         if on != *channel || left.ticket != *ticket {
-            return Ok(false);
+            return false;
         }
     }
-    Ok(true)
+    true
 }
 
 #[test]
 fn a_close_of_this_side_rejects_what_has_not_begun(rt: HostRuntime) -> Result<(), Fail> {
-    let alloc = rt.alloc();
-    let mut parts = busy(alloc)?;
+    let mut parts = busy(rt.alloc())?;
     parts
         .desk
         .reject_unbegun(&mut parts.confirms, 1, Error::ProtocolError(404));
-    assert!(rt;
-        are(
-            &mut parts,
-            ["closed", "pending", "closed", "pending", "pending"],
-            ["closed", "pending", "closed"]
-        )
-    );
-    assert!(rt;
-        entries_are(
-            &mut parts,
-            alloc,
-            &[(1, Some(4)), (2, Some(5)), (2, Some(2))]
-        )?
-    );
+    let tickets = ["closed", "pending", "closed", "pending", "pending"];
+    assert!(rt; are(&mut parts, tickets, ["closed", "pending", "closed"]));
+    let wanted = [(1, Some(4)), (2, Some(5)), (2, Some(2))];
+    assert!(rt; leaves(&mut parts, rt.alloc(), &wanted));
     assert!(rt; parts.desk.replies.drain(1).is_some());
     Ok(())
 }
 
 #[test]
 fn an_end_of_an_opening_takes_all_of_its_channel(rt: HostRuntime) -> Result<(), Fail> {
-    let alloc = rt.alloc();
-    let mut parts = busy(alloc)?;
+    let mut parts = busy(rt.alloc())?;
     parts
         .desk
         .end_opening(&mut parts.confirms, 1, Error::ProtocolError(404));
-    assert!(rt;
-        are(
-            &mut parts,
-            ["closed", "pending", "closed", "closed", "pending"],
-            ["closed", "pending", "closed"]
-        )
-    );
-    assert!(rt; entries_are(&mut parts, alloc, &[(2, Some(5)), (2, Some(2))])?);
+    let tickets = ["closed", "pending", "closed", "closed", "pending"];
+    assert!(rt; are(&mut parts, tickets, ["closed", "pending", "closed"]));
+    assert!(rt; leaves(&mut parts, rt.alloc(), &[(2, Some(5)), (2, Some(2))]));
     assert!(rt; parts.desk.replies.drain(1).is_none() && parts.desk.replies.drain(2).is_some());
     Ok(())
 }
 
 #[test]
-fn a_loss_takes_everything(rt: HostRuntime) -> Result<(), Fail> {
-    let alloc = rt.alloc();
-    let mut parts = busy(alloc)?;
-    let mut replies = Replies::new(alloc)?;
-    let close = Request {
-        ticket: Some(6),
-        reply: Reply::ConnectionCloseOk,
-    };
-    replies.expect(alloc, 0, close)?;
+fn an_end_of_all_takes_everything(rt: HostRuntime) -> Result<(), Fail> {
     let closing = Phase::Closing {
         closer: Closer::Application,
         sent: false,
     };
     let phases = [(1, Phase::Open), (3, Phase::Closed), (2, closing)];
+    let replies = Replies::new(rt.alloc())?;
+    let mut parts = busy(rt.alloc())?;
     parts.desk.end_all(&mut parts.confirms, &phases, replies, Error::ConnectionLost);
     assert!(rt; are(&mut parts, ["lost"; 5], ["lost"; 3]));
-    assert!(rt; !parts.desk.outbox.has_pending());
-    assert!(rt; parts.desk.replies.drain(1).is_none() && parts.desk.replies.drain(0).is_some());
+    assert!(rt; !parts.desk.outbox.has_pending() && parts.desk.replies.drain(1).is_none());
     Ok(())
 }
 
-// A method that no call asked for leaves without a ticket, and a ticket is resolved where somebody holds one.
+// A method that no call asked for leaves without a ticket.
+fn note(alloc: Global, parts: &mut Parts) -> bool {
+    if parts.desk.reserve(alloc, 1).is_err() {
+        return false;
+    }
+    let method = Method::Channel(ChannelMethod::CloseOk);
+    parts.desk.note(alloc, 1, method);
+    true
+}
+
 #[test]
-fn a_method_is_noted_and_a_ticket_is_resolved(rt: HostRuntime) -> Result<(), Fail> {
-    let alloc = rt.alloc();
-    let mut parts = busy(alloc)?;
-    parts.desk.reserve(alloc, 1)?;
-    parts
-        .desk
-        .note(alloc, 1, Method::Channel(ChannelMethod::CloseOk));
+fn a_method_is_noted_and_a_ticket_resolved(rt: HostRuntime) -> Result<(), Fail> {
+    let mut parts = busy(rt.alloc())?;
+    assert!(rt; note(rt.alloc(), &mut parts));
     parts.desk.resolve(None, Ok(Answer::Done));
     parts.desk.resolve(Some(4), Ok(Answer::Done));
-    assert!(rt; entries_are(&mut parts, alloc, &[(1, Some(4)), (2, Some(5)), (1, None)])?);
+    let wanted = [(1, Some(4)), (2, Some(5)), (1, None)];
+    assert!(rt; leaves(&mut parts, rt.alloc(), &wanted));
     assert!(rt; ticket(&mut parts, 4) == "done" && ticket(&mut parts, 5) == "pending");
     Ok(())
 }
