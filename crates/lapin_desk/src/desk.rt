@@ -5,7 +5,7 @@
 
 ghost use Rattle.std.specs.Prelude.{◌≡◌, ◌+◌, ◌^◌, ◌<◌, ◌++◌, ◌∷◌, [], Some, None, OnOk, length};
 ghost use Rattle.std.specs.List.{fold};
-ghost use Rattle.lapin_outbox.specs.Outgoing.{with_method, with_publish};
+ghost use Rattle.lapin_outbox.specs.Outgoing.{with_method};
 ghost use Rattle.lapin_history.specs.Base.{requests_with};
 ghost use Rattle.lapin_history.specs.TicketReadings.{Given};
 ghost use Rattle.lapin_history.specs.Marked.{made_marks, resolved_with};

@@ -6,7 +6,7 @@
 ghost use Rattle.std.specs.Prelude.{◌≡◌, ◌≤◌, ◌++◌};
 ghost use Rattle.std.specs.List.{fold};
 ghost use Rattle.lapin_tables.specs.ByChannel.{on_channel};
-ghost use Rattle.lapin_history.specs.Requests.{no_requests, requests_in};
+ghost use Rattle.lapin_history.specs.Requests.{no_requests};
 ghost use Rattle.lapin_history.specs.Drops.{no_lists, without_publishes_of, without_channel, unbegun, publish_tickets_of, rest_tickets_of, method_tickets_of};
 ghost use Rattle.lapin_history.specs.Marked.{failures, rejections, request_tickets, ends};
 ghost use Rattle.lapin_history.specs.TicketReadings.{AllFailed};

@@ -7,5 +7,7 @@
 
 mod desk;
 mod ending;
+#[cfg(test)]
+mod tests;
 
 pub use desk::Desk;
