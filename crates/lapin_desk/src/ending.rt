@@ -143,6 +143,7 @@ impl Desk {
     pub fn drop_rest(&mut self)
         ensures lists { self.new.outbox.lists ≡ no_lists }
         ensures frame_max { self.new.outbox.frame_max ≡ self.old.outbox.frame_max }
+        ensures replies { self.new.replies ≡ self.old.replies }
         ensures tickets { self.new.tickets ≡ self.old.tickets }
         ensures room { self.old.outbox.spare ≤ self.new.outbox.spare }
     {

@@ -1,6 +1,13 @@
 -- Writes of one channel's value.
 use Rattle.std.proofs.Common.{◌≡◌, ℕ, ◌==◌, Bool, true, false, cond, List, [], ◌∷◌, Option, Some, None, refl, sym, ◌∙◌, ap}
+use Rattle.std.specs.Prelude.{OnSome, IfNone}
+use Rattle.std.specs.Option.{option_map}
+use Rattle.lapin_types.specs.declared.request.Request.{Request}
+use Rattle.lapin_types.specs.declared.request.ReplyKind.{ReplyKind}
 use Rattle.lapin_tables.specs.ByChannel.{at_channel, on_channel}
+use Rattle.lapin_tables.proofs.Channels.{at-on_same}
+use Rattle.lapin_history.specs.Requests.{requests_in, is_kind, first_request, without_kind, without_request}
+use Rattle.lapin_outbox.specs.Open.{requests_at}
 use Rattle.lapin_outbox.specs.Open.{requests_at}
 
 value_is : {X : Type 0} {x y : X} → Some x ≡ Some y → x ≡ y
@@ -35,3 +42,33 @@ on_twice {X} c f g (x ∷ es) = elim (x.0 == c) as (λ b. (x.0 == c) ≡ b → o
   | true ↦ λ here. rw here refl
   | false ↦ λ other. rw other (ap (λ (ys : List (ℕ × X)). x ∷ ys) (on_twice c f g es))
 ] refl
+
+on_itself : {X : Type 0} (c : ℕ) (es : List (ℕ × X)) → on_channel c (λ v. v) es ≡ es
+on_itself c [] = refl
+on_itself {X} c (x ∷ es) = elim (x.0 == c) as (λ b. cond b ((x.0, x.1) ∷ es) (x ∷ on_channel c (λ v. v) es) ≡ x ∷ es) [ true ↦ refl | false ↦ ap (λ (ys : List (ℕ × X)). x ∷ ys) (on_itself c es) ]
+
+-- ---- requests of a channel
+
+without_none : (k : ReplyKind) (qs : List Request) → first_request k qs ≡ None → without_kind k qs ≡ qs
+without_none k [] h = refl
+without_none k (q ∷ qs) h = elim (is_kind k q) as (λ b. cond b (Some q) (first_request k qs) ≡ None → cond b qs (q ∷ without_kind k qs) ≡ q ∷ qs) [
+  | true ↦ λ h. cc
+  | false ↦ λ h. ap (λ (ys : List Request). q ∷ ys) (without_none k qs h)
+] h
+
+module _ (c : ℕ) (k : ReplyKind) (rs new : List (ℕ × List Request)) where
+  taken_some : (r : Request) (o : Option (List Request)) → at_channel c rs ≡ o → Some r ≡ first_request k (requests_in o) → new ≡ without_request c k rs → new ≡ on_channel c (without_kind k) rs
+  taken_some r None e h t = cc
+  taken_some r (Some qs) e h t = t ∙ rw e (on_value c (without_kind k) qs rs e)
+
+  taken_none : (o : Option (List Request)) → at_channel c rs ≡ o → None ≡ first_request k (requests_in o) → new ≡ rs → new ≡ on_channel c (without_kind k) rs
+  taken_none None e h t = t ∙ sym (on_absent c (without_kind k) rs e)
+  taken_none (Some qs) e h t = t ∙ sym (on_same c (without_kind k) (λ v. v) qs rs e (without_none k qs (sym h)) ∙ on_itself c rs)
+
+  -- what is left once the oldest request of a kind is taken, if there is one
+  pub taken_is : (o : Option Request) → o ≡ first_request k (requests_at c rs) → OnSome o (new ≡ without_request c k rs) → IfNone o (new ≡ rs) → new ≡ on_channel c (without_kind k) rs
+  taken_is None h some none = taken_none (at_channel c rs) refl h none
+  taken_is (Some r) h some none = taken_some r (at_channel c rs) refl h some
+
+pub requests_left : (c : ℕ) (k : ReplyKind) (rs : List (ℕ × List Request)) → requests_at c (on_channel c (without_kind k) rs) ≡ without_kind k (requests_at c rs)
+requests_left c k rs = ap requests_in (at-on_same c (without_kind k) rs) ∙ elim (at_channel c rs) as (λ o. requests_in (option_map (without_kind k) o) ≡ without_kind k (requests_in o)) [ None ↦ refl | Some qs ↦ refl ]

@@ -19,7 +19,6 @@ use Rattle.lapin_tables.specs.ByChannel.{at_channel, on_channel}
 use Rattle.lapin_tables.specs.Numbered.{under, with_under}
 use Rattle.lapin_history.specs.declared.marks.Settlement.{Settlement}
 use Rattle.lapin_history.specs.declared.marks.Outcome.{Outcome}
-use Rattle.lapin_history.specs.declared.marks.Outcome.TheVariants as outcome
 use Rattle.lapin_history.specs.declared.marks.ConfirmMark.TheVariants as mark
 use Rattle.lapin_history.specs.declared.phases.Closer.{Closer}
 use Rattle.lapin_history.specs.declared.phases.Phase.{Phase}
@@ -31,16 +30,19 @@ use Rattle.lapin_history.specs.Phases.{channel_state, is_live, is_up, phase_in, 
 use Rattle.lapin_history.specs.ConfirmReadings.{covers, outcome_of}
 use Rattle.lapin_history.specs.Drops.{frame_channel}
 use Rattle.lapin_history.specs.Frames.{RestEntry, MethodEntry}
-use Rattle.lapin_history.specs.Leaving.{left_of, handed_of}
-use Rattle.lapin_history.specs.Base.{is_closed, is_open, is_opening, is_closing, is_crossed, hears_on, hears, hears_close, hears_close_ok, phases_with, phases_sent, link_sent}
+use Rattle.lapin_history.specs.Leaving.{Lists, left_of, handed_of}
+use Rattle.lapin_history.specs.Closes.{close_ok_end}
+use Rattle.lapin_history.specs.Base.{is_closed, is_open, is_opening, is_closing, is_crossed, hears_on, hears, hears_close, hears_close_ok, phases_with, phases_sent, link_sent, unless_sent}
 use Rattle.lapin_history.specs.Marked.{left_marks, method_marks, place_of, rejections, ends}
 use Rattle.lapin_history.proofs.ChannelLaws.{at-on, at-with}
 use Rattle.lapin_history.proofs.ListLaws.{any-push}
 use Rattle.lapin_confirm.specs.declared.cell.Cell.{Cell}
 use Rattle.lapin_confirm.specs.declared.cell.Cell.TheVariants as cell
-use Rattle.lapin_confirm.specs.Book.{Book, Line, fresh_line, selected_line, next_line, tag_for, lines_with, cell_with, settled_cell, ended_cell, is_open_on, is_resolved, begun, with_publish, select_left, left, settled, rejected, ended, taken, after_mark}
+use Rattle.lapin_confirm.specs.Book.{Book, Line, fresh_line, selected_line, next_line, tag_for, lines_with, cell_with, settled_cell, is_open_on, is_resolved, begun, with_publish, select_left, left, settled, rejected, ended, taken, after_mark}
+use Rattle.lapin_confirm.proofs.Ended.{any-ended}
 use Rattle.lapin_desk.specs.Queued.{AreQueued}
 use Rattle.lapin_desk.proofs.Queueing.{under-map, queued-written, suc_place}
+use Rattle.lapin_session.specs.Kept.{is_close_sent}
 use Rattle.lapin_session.specs.Tied.{IsTied, is_live_on, MayRegister, CanRegister}
 
 -- ---- what stands under a number
@@ -136,37 +138,6 @@ any-rejections c e [] b h = h
 any-rejections c e (p ∷ ps) b h = any-rejections c e ps (rejected (suc (place_of p.confirm)) e b) (any-under c (suc (place_of p.confirm)) _ b.cells h refl)
 
 -- what ends of openings leave
-ended_open : (d c : ℕ) (e : Error) (o : Option Cell) → is_open_on c (option_map (ended_cell d e) o) ≡ cond (d == c) false (is_open_on c o)
-ended_open d c e None = elim (d == c) as (λ b. false ≡ cond b false false) [ true ↦ refl | false ↦ refl ]
-ended_open d c e (Some (cell.Resolved x)) = elim (d == c) as (λ b. false ≡ cond b false false) [ true ↦ refl | false ↦ refl ]
-ended_open d c e (Some (cell.Queued x)) = elim (eqb_tells x d) [
-  | inl same ↦ let P : ℕ → Type 0 = λ k. is_open_on c (Some (cond (x == k) (cell.Resolved (outcome.Failed e)) (cell.Queued x))) ≡ cond (k == c) false (x == c) in
-      subst P same.1 (let here : (x == x) ≡ true = eq-eqb x x refl in rw here (elim (x == c) as (λ b. false ≡ cond b false b) [ true ↦ refl | false ↦ refl ]))
-  | inr other ↦ rw other.0 (elim (eqb_tells d c) [
-    | inl hit ↦ let P : ℕ → Type 0 = λ k. (x == k) ≡ cond (d == k) false (x == k) in
-        subst P hit.1 (let here : (d == d) ≡ true = eq-eqb d d refl in rw (here, other.0) refl)
-    | inr away ↦ rw away.0 refl
-  ])
-]
-ended_open d c e (Some (cell.Pending x t)) = elim (eqb_tells x d) [
-  | inl same ↦ let P : ℕ → Type 0 = λ k. is_open_on c (Some (cond (x == k) (cell.Resolved (outcome.Failed e)) (cell.Pending x t))) ≡ cond (k == c) false (x == c) in
-      subst P same.1 (let here : (x == x) ≡ true = eq-eqb x x refl in rw here (elim (x == c) as (λ b. false ≡ cond b false b) [ true ↦ refl | false ↦ refl ]))
-  | inr other ↦ rw other.0 (elim (eqb_tells d c) [
-    | inl hit ↦ let P : ℕ → Type 0 = λ k. (x == k) ≡ cond (d == k) false (x == k) in
-        subst P hit.1 (let here : (d == d) ≡ true = eq-eqb d d refl in rw (here, other.0) refl)
-    | inr away ↦ rw away.0 refl
-  ])
-]
-
-any-over : (p q : Option Cell → Bool) (g : Option Cell → Option Cell) (t : Bool) (xs : List (Option Cell)) → ((x : Option Cell) → p (g x) ≡ cond t false (q x)) → list_any p (map g xs) ≡ cond t false (list_any q xs)
-any-over p q g true [] same = refl
-any-over p q g false [] same = refl
-any-over p q g true (x ∷ xs) same = rw (same x, any-over p q g true xs same) refl
-any-over p q g false (x ∷ xs) same = rw (same x, any-over p q g false xs same) refl
-
-any-ended : (c d : ℕ) (e : Error) (b : Book) → list_any (is_open_on c) (ended d e b).cells ≡ cond (d == c) false (list_any (is_open_on c) b.cells)
-any-ended c d e b = any-over (is_open_on c) (is_open_on c) (option_map (ended_cell d e)) (d == c) b.cells (ended_open d c e)
-
 ended_none : (c d : ℕ) (e : Error) (b : Book) → list_any (is_open_on c) b.cells ≡ false → list_any (is_open_on c) (ended d e b).cells ≡ false
 ended_none c d e b h = any-ended c d e b ∙ elim (d == c) as (λ t. cond t false (list_any (is_open_on c) b.cells) ≡ false) [ true ↦ refl | false ↦ h ]
 
@@ -565,6 +536,29 @@ closed_over l c phases h =
 -- an open channel has a line
 pub open_line : (l : Link) (c : ℕ) (phases : List (ℕ × Phase)) (ps : List Publish) (b : Book) → is_open (state_at l c (at_channel c phases)) ≡ true → IsTied l phases ps b → IsSome (at_channel c b.lines)
 open_line l c phases ps b h t = t.lines c (open_opening l c phases h).some
+
+-- a channel whose opening a crossed close ended
+pub crossed_over : (l : Link) (c : ℕ) (phases : List (ℕ × Phase)) → close_ok_end (phase_in (at_channel c phases)) ≡ None → hears_close_ok (state_at l c (at_channel c phases)) ≡ true → is_live_on l (at_channel c phases) ≡ false
+crossed_over l c phases ended h = let s = stood l c (at_channel c phases) hears_close_ok refl refl h in rw s.up (over (at_channel c phases) ended s.at)
+  where
+    over : (o : Option Phase) → close_ok_end (phase_in o) ≡ None → hears_close_ok (channel_state (phase_in o)) ≡ true → is_live (phase_in o) ≡ false
+    over None e h = refl
+    over (Some phase.Closed) e h = refl
+    over (Some phase.Opening) e h = cc
+    over (Some phase.Open) e h = cc
+    over (Some (phase.Closing who sent)) e h = cc
+    over (Some phase.Crossed) e h = refl
+
+-- while this side closes the connection it is not open
+pub sent_down : (l : Link) → is_close_sent l ≡ true → is_up l ≡ false
+sent_down link.Open h = cc
+sent_down (link.Closing sent heard) h = refl
+sent_down link.Closed h = refl
+sent_down link.Lost h = refl
+
+pub tied_unless : (t : Bool) (x : Lists) (l : Link) (phases : List (ℕ × Phase)) (b : Book) → IsTied l phases x.publishes b → IsTied l phases (unless_sent t x).publishes b
+tied_unless true x l phases b t = t
+tied_unless false x l phases b t = tied_dropped l phases x.publishes b t
 
 -- what holds on Ok holds where the result is Ok
 pub ok_then : {T E : Type 0} (r : Result T E) (P : Type 0) → IsOk r → OnOk r P → P

@@ -46,9 +46,9 @@ impl Session {
         ensures ok { WasHeard result (self.new ≡ hearing (ChannelCloseFrame channel code) Received self.old) (self.new ≡ self.old) }
         ensures numbers { HasNumbers result }
     {
+        let phase = self.phase(channel);
         self.desk.outbox.reserve(alloc)?;
         self.desk.replies.reserve(alloc, channel)?;
-        let phase = self.phase(channel);
         let error = Error::ProtocolError(code);
         let close = end_but_close(&mut self.desk, &mut self.confirms, channel, error);
         set_phase(&mut self.phases, channel, after_broker_close(phase));
