@@ -7,6 +7,7 @@
 mod calling;
 mod channel;
 mod closing;
+mod laws;
 mod polling;
 mod receiving;
 mod receiving_closes;
