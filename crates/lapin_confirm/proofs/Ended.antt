@@ -1,6 +1,7 @@
 -- What the end of an opening makes of the cells.
-use Rattle.std.proofs.Common.{◌≡◌, ◌≢◌, ℕ, zero, suc, ◌<◌, ◌≤◌, Bool, true, false, List, [], ◌∷◌, map, Option, Some, refl, sym, ◌∙◌, ap, subst, arith, inl, inr, eq-eqb, ne_eqb}
-use Rattle.std.specs.List.{count_by}
+use Rattle.std.proofs.Common.{◌≡◌, ◌≢◌, ℕ, zero, suc, ◌<◌, ◌≤◌, ◌==◌, Bool, true, false, cond, ◌||◌, List, [], ◌∷◌, map, Option, Some, None, refl, sym, ◌∙◌, ap, subst, arith, inl, inr, eq-eqb, ne_eqb}
+use Rattle.std.specs.Bool.{if◌then◌else◌}
+use Rattle.std.specs.List.{count_by, list_any}
 use Rattle.std.specs.Option.{option_map}
 use Rattle.std.proofs.lemmas.Bool.Decides.{eqb_tells}
 use Rattle.lapin_types.specs.declared.Error.{Error}
@@ -8,11 +9,11 @@ use Rattle.lapin_history.specs.declared.marks.Outcome.{Outcome}
 use Rattle.lapin_history.specs.declared.marks.Outcome.TheVariants as outcome
 use Rattle.lapin_tables.specs.Numbered.{under, with_under}
 use Rattle.lapin_tables.proofs.Counts.{count-none}
-use Rattle.lapin_tables.proofs.SlotLaws.{under-same, under-other, counted, map-same}
+use Rattle.lapin_tables.proofs.SlotLaws.{under-same, under-other, under-map, counted, map-same}
 use Rattle.lapin_confirm.specs.declared.cell.Cell.{Cell}
 use Rattle.lapin_confirm.specs.declared.cell.Cell.TheVariants as cell
 use Rattle.lapin_confirm.specs.declared.ledger.Ledger.{Ledger}
-use Rattle.lapin_confirm.specs.Book.{is_queued_on, settled_cell, ended_cell}
+use Rattle.lapin_confirm.specs.Book.{Book, is_queued_on, is_open_on, settled_cell, ended_cell, ended}
 use Rattle.lapin_confirm.specs.Ties.{Tied, Untouched}
 use Rattle.lapin_confirm.proofs.Settled.{none-under, settled-untouched}
 
@@ -70,3 +71,41 @@ still-queued c n m x cells was there = (other, sym (under-other m n (Some (cell.
         let P : ℕ → Type 0 = λ j. under j (with_under n (Some (cell.Resolved x)) cells) ≡ Some (cell.Queued c) in
         let no : Some (cell.Resolved x) ≡ Some (cell.Queued c) = sym (under-same n (Some (cell.Resolved x)) (cell.Queued c) cells was) ∙ subst P same there in
         cc
+
+-- ---- what is open after an end
+
+-- a channel has nothing open after an end of its own
+same_channel : (x c d : ℕ) → x ≡ d → false ≡ cond (d == c) false (x == c)
+same_channel x c d same =
+    let P : ℕ → Type 0 = λ y. false ≡ cond (d == c) false (y == c) in
+    subst P (sym same) (elim (d == c) as (λ b. false ≡ cond b false b) [ true ↦ refl | false ↦ refl ])
+
+-- and after an end of another what it had
+other_channel : (x c d : ℕ) → x ≢ d → (x == c) ≡ cond (d == c) false (x == c)
+other_channel x c d apart =
+    elim (eqb_tells d c) [
+      | inl here ↦ rw here.0 (ne_eqb x c (λ same. apart (same ∙ sym here.1)))
+      | inr away ↦ rw away.0 refl
+    ]
+
+open-ended : (c d : ℕ) (e : Error) (o : Option Cell) → is_open_on c (option_map (ended_cell d e) o) ≡ cond (d == c) false (is_open_on c o)
+open-ended c d e None = elim (d == c) as (λ b. false ≡ cond b false false) [ true ↦ refl | false ↦ refl ]
+open-ended c d e (Some (cell.Queued x)) = elim (eqb_tells x d) [ inl same ↦ rw same.0 (same_channel x c d same.1) | inr away ↦ rw away.0 (other_channel x c d away.1) ]
+open-ended c d e (Some (cell.Pending x t)) = elim (eqb_tells x d) [ inl same ↦ rw same.0 (same_channel x c d same.1) | inr away ↦ rw away.0 (other_channel x c d away.1) ]
+open-ended c d e (Some (cell.Resolved o)) = elim (d == c) as (λ b. false ≡ cond b false false) [ true ↦ refl | false ↦ refl ]
+
+any_cell-ended : (c d : ℕ) (e : Error) (cells : List (Option Cell)) → list_any (is_open_on c) (map (option_map (ended_cell d e)) cells) ≡ cond (d == c) false (list_any (is_open_on c) cells)
+any_cell-ended c d e [] = elim (d == c) as (λ b. false ≡ cond b false false) [ true ↦ refl | false ↦ refl ]
+any_cell-ended c d e (o ∷ cells) =
+    rw (open-ended c d e o, any_cell-ended c d e cells)
+    (elim (d == c) as (λ b. (cond b false (is_open_on c o) || cond b false (list_any (is_open_on c) cells)) ≡ cond b false (is_open_on c o || list_any (is_open_on c) cells)) [ true ↦ refl | false ↦ refl ])
+
+-- whether anything of channel c is open after the end of channel d's opening
+pub any-ended : (c d : ℕ) (e : Error) (b : Book) → list_any (is_open_on c) (ended d e b).cells ≡ (if d == c then false else list_any (is_open_on c) b.cells)
+any-ended c d e b = any_cell-ended c d e b.cells
+
+-- a queued publish of another channel stays as it is
+pub queued-beside : (c d n : ℕ) (e : Error) (b : Book) → under n b.cells ≡ Some (cell.Queued c) → d ≢ c → under n (ended d e b).cells ≡ Some (cell.Queued c)
+queued-beside c d n e b was apart =
+    let away : (c == d) ≡ false = ne_eqb c d (λ same. apart (sym same)) in
+    under-map (ended_cell d e) n b.cells ∙ ap (option_map (ended_cell d e)) was ∙ rw away refl

@@ -7,4 +7,5 @@ pub mod CellFollowing
 pub mod Following
 pub mod Books
 pub mod Ended
+pub mod Closed
 pub mod Tags

@@ -28,6 +28,12 @@ pub fn outcome_stays()
     ensures { (k : ℕ) (ms : List AMark) (m : AMark) → k < added ms → MayCome ms m → is_open_outcome (outcome_at k ms) ≡ false → outcome_at k (ms ++ m ∷ []) ≡ outcome_at k ms }
 {}
 
+/// Every publish that was accepted has an outcome once its opening has ended, and by `outcome_stays` that outcome is the
+/// only one that it ever has.
+pub fn an_end_leaves_nothing_open()
+    ensures { (k c : ℕ) (e : AnError) (ms : List AMark) → k < added ms → channel_of k ms ≡ c → is_open_outcome (outcome_at k (ms ++ mark.Ended c e ∷ [])) ≡ false }
+{}
+
 /// The publishes that leave while their opening is selected take the tags 1, 2, 3, .. in order of leaving, and no other
 /// mark but a new opening changes the count.
 pub fn tags_count_up()

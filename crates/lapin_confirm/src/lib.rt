@@ -17,6 +17,7 @@ pub use cell::Cell;
 pub use confirms::Confirms;
 pub use lapin_history::SettleKind;
 pub use laws::{
-    end_takes_rejected, machine_follows, multiple_covers, nothing_follows, outcome_stays,
-    resolved_by_its_settlement, settlement_leaves, tag_stays, tags_count_up,
+    an_end_leaves_nothing_open, end_takes_rejected, machine_follows, multiple_covers,
+    nothing_follows, outcome_stays, resolved_by_its_settlement, settlement_leaves, tag_stays,
+    tags_count_up,
 };

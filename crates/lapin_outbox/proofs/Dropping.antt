@@ -7,16 +7,14 @@ use Rattle.std.proofs.lemmas.Bool.Decides.{eqb_tells}
 use Rattle.lapin_types.specs.Types.{Frame, ContentHeader}
 use Rattle.lapin_history.specs.Words.{without_first}
 use Rattle.lapin_history.specs.Frames.{MethodEntry, RestEntry, is_empty}
-use Rattle.lapin_history.specs.Drops.{frame_channel}
+use Rattle.lapin_history.specs.Drops.{frame_channel, no_lists, is_on, method_channel, publish_channel, is_rest_of, without_publishes_of, without_channel}
 use Rattle.lapin_history.specs.Leaving.{Lists}
 use Rattle.lapin_types.specs.declared.leaving.Publish.{Publish}
 use Rattle.lapin_outbox.specs.declared.dropped.Dropped.{Dropped}
 use Rattle.lapin_outbox.specs.declared.outbox.Waiting.{Waiting}
 use Rattle.lapin_outbox.specs.Begun.{following, frames_left}
 use Rattle.lapin_outbox.specs.Outgoing.{has_entries}
-use Rattle.lapin_history.specs.Drops.{no_lists}
 use Rattle.lapin_outbox.specs.Drops.{AreOn, told_rest, told_rest_of, told_method, told_publish, unbegun_of, entries_of, all_entries, without_unbegun, without_entry_of, without_entry}
-use Rattle.lapin_history.specs.Drops.{is_on, method_channel, publish_channel, is_rest_of, without_publishes_of, without_channel}
 
 -- ---- the first of a list that passes
 

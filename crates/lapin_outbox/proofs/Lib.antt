@@ -5,3 +5,4 @@ pub mod Firsts
 pub mod Chains
 pub mod Lines
 pub mod Dropping
+pub mod DropTickets

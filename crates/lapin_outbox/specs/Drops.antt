@@ -1,7 +1,7 @@
 -- What a drop takes out of the three lists, and what it leaves. A close of a channel takes its unbegun publishes, an end of a
 -- channel all its entries, an end of the connection everything, one entry a drop, in the order in which they would leave. The
 -- begun publish is one entry, however many of its frames wait.
-use Rattle.std.specs.Prelude.{◌≡◌, ℕ, if◌then◌else◌, List, [], ◌∷◌, ◌++◌, map, drop, Some, None}
+use Rattle.std.specs.Prelude.{◌≡◌, ℕ, if◌then◌else◌, List, [], ◌∷◌, ◌++◌, map, drop, Option, Some, None}
 use Rattle.std.specs.List.{filter, list_any}
 use Rattle.lapin_types.specs.declared.leaving.Publish.{Publish}
 use Rattle.lapin_history.specs.Frames.{MethodEntry, RestEntry}
@@ -32,6 +32,10 @@ told_method m = record { ticket = m.ticket; publish = None }
 -- of a publish its ticket and its confirm number
 abbrev pub told_publish : Publish → Dropped
 told_publish p = record { ticket = Some p.ticket; publish = Some p.confirm }
+
+-- the ticket of what was dropped
+abbrev pub dropped_ticket : Dropped → Option ℕ
+dropped_ticket d = d.ticket
 
 -- ---- what is dropped, first things first
 

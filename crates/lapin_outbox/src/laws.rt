@@ -9,9 +9,8 @@ ghost use Rattle.lapin_types.specs.Types.frame;
 ghost use Rattle.lapin_history.specs.Frames.{contents, content_header, cut, room_for_body};
 ghost use Rattle.lapin_history.specs.Leaving.{Lists};
 ghost use Rattle.lapin_outbox.specs.Cut.{IsCut, body_payloads};
-ghost use Rattle.lapin_history.specs.Drops.{no_lists};
+ghost use Rattle.lapin_history.specs.Drops.{no_lists, without_channel, without_publishes_of};
 ghost use Rattle.lapin_outbox.specs.Drops.{entries_of, without_entry_of, unbegun_of, without_unbegun, all_entries, without_entry};
-ghost use Rattle.lapin_history.specs.Drops.{without_channel, without_publishes_of};
 
 use lapin_types::{Payload, Publish};
 

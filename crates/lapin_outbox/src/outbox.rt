@@ -8,10 +8,9 @@
 ghost use Rattle.std.specs.Prelude.{◌≡◌, ℕ, true, ◌+◌, ◌<◌, ◌≤◌, ◌++◌, ◌∷◌, [], IsOk, IfOk, OnOk, OnErr, slice_get, is_some, if◌then◌else◌};
 ghost use Rattle.lapin_history.specs.Leaving.{handed_of, left_lists};
 ghost use Rattle.lapin_outbox.specs.Outgoing.{with_method, with_publish, has_entries};
-ghost use Rattle.lapin_history.specs.Drops.{no_lists};
+ghost use Rattle.lapin_history.specs.Drops.{no_lists, is_rest_of};
 ghost use Rattle.lapin_outbox.specs.Entries.{rest_in};
 ghost use Rattle.lapin_outbox.specs.Drops.{AreOn, told_rest, told_rest_of, told_publish, unbegun_of, without_unbegun, entries_of, without_entry_of, all_entries, without_entry};
-ghost use Rattle.lapin_history.specs.Drops.{is_rest_of};
 
 use crate::begun::Begun;
 use crate::dropped::Dropped;

@@ -54,7 +54,7 @@ impl<T> ByChannel<T> {
     pub fn entries(&self) -> &[(u16, T)]
         ensures { result.now ≡ self.now.entries }
     {
-        &self.entries
+        self.entries.as_slice()
     }
 
     /// The value of a channel, if it has one.
