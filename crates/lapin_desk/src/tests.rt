@@ -120,12 +120,10 @@ fn ticket(parts: &mut Parts, number: u64) -> &'static str {
     }
 }
 
-// Whether the tickets from 1 on have these answers.
-fn tickets_are(parts: &mut Parts, wanted: &[&str]) -> bool {
-    let mut number = 0;
-    for word in wanted {
-        number += 1;
-        if ticket(parts, number) != *word {
+// Whether these tickets have these answers.
+fn tickets_are(parts: &mut Parts, wanted: &[(u64, &str)]) -> bool {
+    for (number, word) in wanted {
+        if ticket(parts, *number) != *word {
             return false;
         }
     }
@@ -158,7 +156,13 @@ fn a_close_of_this_side_rejects_what_has_not_begun(rt: HostRuntime) -> Result<()
     parts
         .desk
         .reject_unbegun(&mut parts.confirms, 1, Error::ProtocolError(404));
-    let tickets = ["closed", "pending", "closed", "pending", "pending"];
+    let tickets = [
+        (1, "closed"),
+        (2, "pending"),
+        (3, "closed"),
+        (4, "pending"),
+        (5, "pending"),
+    ];
     assert!(rt; tickets_are(&mut parts, &tickets));
     assert!(rt; resolved(&parts) == [true, false, true]);
     assert!(rt; wait(&mut parts, &[Some(4), Some(5), Some(2)]));
@@ -172,7 +176,13 @@ fn an_end_of_an_opening_takes_all_of_its_channel(rt: HostRuntime) -> Result<(), 
     parts
         .desk
         .end_opening(&mut parts.confirms, 1, Error::ProtocolError(404));
-    let tickets = ["closed", "pending", "closed", "closed", "pending"];
+    let tickets = [
+        (1, "closed"),
+        (2, "pending"),
+        (3, "closed"),
+        (4, "closed"),
+        (5, "pending"),
+    ];
     assert!(rt; tickets_are(&mut parts, &tickets));
     assert!(rt; resolved(&parts) == [true, false, true]);
     assert!(rt; wait(&mut parts, &[Some(5), Some(2)]));
@@ -190,7 +200,14 @@ fn an_end_of_all_takes_everything(rt: HostRuntime) -> Result<(), Fail> {
     let replies = Replies::new(rt.alloc())?;
     let mut parts = busy(rt.alloc())?;
     parts.desk.end_all(&mut parts.confirms, &phases, replies, Error::ConnectionLost);
-    assert!(rt; tickets_are(&mut parts, &["lost", "lost", "lost", "lost", "lost"]));
+    let tickets = [
+        (1, "lost"),
+        (2, "lost"),
+        (3, "lost"),
+        (4, "lost"),
+        (5, "lost"),
+    ];
+    assert!(rt; tickets_are(&mut parts, &tickets));
     assert!(rt; resolved(&parts) == [true, true, true]);
     assert!(rt; wait(&mut parts, &[]) && parts.desk.replies.drain(1).is_none());
     Ok(())
