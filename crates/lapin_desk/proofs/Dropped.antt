@@ -1,25 +1,24 @@
 -- The tickets of entries and of requests, one by one as they are taken out.
-use Rattle.std.proofs.Common.{◌≡◌, ℕ, ◌<◌, ◌==◌, Bool, true, false, cond, not, List, [], ◌∷◌, ◌++◌, map, drop, length, Option, Some, None, Err, refl, sym, ◌∙◌, ap, arith, slice_get, eq-eqb, append_assoc, append-nil}
+use Rattle.std.proofs.Common.{◌≡◌, ℕ, ◌<◌, ◌==◌, true, false, List, [], ◌∷◌, ◌++◌, map, drop, length, Option, Some, None, Err, refl, sym, ◌∙◌, ap, arith, slice_get, eq-eqb, append_assoc}
 use Rattle.std.specs.Bool.{if◌then◌else◌}
-use Rattle.std.specs.List.{fold, filter}
+use Rattle.std.specs.List.{fold}
 use Rattle.lapin_types.specs.declared.Error.{Error}
 use Rattle.lapin_types.specs.declared.leaving.Publish.{Publish}
 use Rattle.lapin_types.specs.declared.request.Request.{Request}
 use Rattle.lapin_tables.specs.ByChannel.{at_channel, on_channel}
 use Rattle.lapin_history.specs.Words.{without_first, is_some}
-use Rattle.lapin_history.specs.Frames.{MethodEntry, RestEntry}
 use Rattle.lapin_history.specs.Leaving.{Lists}
 use Rattle.lapin_history.specs.Requests.{requests_in, no_requests}
-use Rattle.lapin_history.specs.Drops.{is_on, is_off, method_channel, publish_channel, unbegun, is_rest_of, rest_tickets, rest_tickets_of, method_tickets_of, publish_tickets_of, without_channel, without_publishes_of}
+use Rattle.lapin_history.specs.Drops.{is_on, publish_channel, unbegun, rest_tickets_of, method_tickets_of, publish_tickets_of, without_channel, without_publishes_of}
 use Rattle.lapin_history.specs.Marked.{resolved_with, failures, request_tickets}
 use Rattle.lapin_history.proofs.ChannelLaws.{at-with}
 use Rattle.lapin_outbox.specs.declared.dropped.Dropped.{Dropped}
-use Rattle.lapin_outbox.specs.Drops.{told_rest, told_rest_of, told_method, told_publish, unbegun_of, entries_of, without_entry_of, without_unbegun}
+use Rattle.lapin_outbox.specs.Drops.{told_publish, dropped_ticket, unbegun_of, entries_of, without_entry_of, without_unbegun}
 use Rattle.lapin_outbox.specs.Open.{requests_at, without_oldest}
+use Rattle.lapin_outbox.proofs.DropTickets.{entry-tickets}
 use Rattle.lapin_outbox.proofs.Dropping.{channel-told, channel-others, channel-empty, unbegun-told, unbegun-others, unbegun-empty, no-first}
 use Rattle.lapin_ticket.specs.declared.Slot.{Slot}
 use Rattle.lapin_ticket.specs.Desk.{after_mark}
-use Rattle.lapin_desk.specs.Dropped.{tickets_of}
 use Rattle.lapin_desk.proofs.Queueing.{first-of}
 
 -- ---- lists
@@ -27,10 +26,6 @@ use Rattle.lapin_desk.proofs.Queueing.{first-of}
 pub first-cons : {X : Type 0} (xs : List X) (x : X) → Some x ≡ slice_get xs 0 → x ∷ drop 1 xs ≡ xs
 first-cons [] x h = cc
 first-cons (y ∷ ys) x h = let same : x ≡ y = cc in ap (λ z. z ∷ ys) same
-
-map-append : {X Y : Type 0} (f : X → Y) (xs ys : List X) → map f (xs ++ ys) ≡ map f xs ++ map f ys
-map-append f [] ys = refl
-map-append f (x ∷ xs) ys = ap (λ zs. f x ∷ zs) (map-append f xs ys)
 
 -- ---- failures, one by one
 
@@ -56,49 +51,19 @@ failed-none e slots start ts none is = sym (ap (λ us. fold after_mark slots (fa
 
 -- ---- the tickets of what is dropped
 
-abbrev dropped_ticket : Dropped → Option ℕ
-dropped_ticket d = d.ticket
-
 pub publish-first : (c : ℕ) (ps : List Publish) (d : Dropped) → Some d ≡ slice_get (map told_publish (unbegun c ps)) 0 → d.ticket ∷ publish_tickets_of c (without_first (is_on publish_channel c) ps) ≡ publish_tickets_of c ps
 publish-first c ps d told =
     let is = first-of c ps d told in
     ap (λ t. t ∷ publish_tickets_of c (without_first (is_on publish_channel c) ps)) (ap dropped_ticket is.told)
     ∙ ap (λ us. map (λ p. Some p.ticket) us) (sym is.unbegun)
 
-publish-tickets : (ps : List Publish) → map dropped_ticket (map told_publish ps) ≡ map (λ p. Some p.ticket) ps
-publish-tickets [] = refl
-publish-tickets (p ∷ ps) = ap (λ ts. Some p.ticket ∷ ts) (publish-tickets ps)
-
-method-tickets : (ms : List MethodEntry) → map dropped_ticket (map told_method ms) ≡ map (λ m. m.ticket) ms
-method-tickets [] = refl
-method-tickets (m ∷ ms) = ap (λ ts. m.ticket ∷ ts) (method-tickets ms)
-
-rest-tickets : (fs : List RestEntry) → map dropped_ticket (told_rest fs) ≡ rest_tickets fs
-rest-tickets [] = refl
-rest-tickets (f ∷ fs) = refl
-
-rest-tickets-if : (b : Bool) (fs : List RestEntry) → map dropped_ticket (if b then told_rest fs else []) ≡ (if b then rest_tickets fs else [])
-rest-tickets-if true fs = rest-tickets fs
-rest-tickets-if false fs = refl
-
-pub entry-tickets : (c : ℕ) (l : Lists) → map dropped_ticket (entries_of c l) ≡ tickets_of c l
-entry-tickets c l =
-    map-append dropped_ticket (told_rest_of c l.rest) _
-    ∙ ap (λ ts. ts ++ map dropped_ticket (map told_method (filter (is_on method_channel c) l.methods) ++ unbegun_of c l)) (rest-tickets-if (is_rest_of c l.rest) l.rest)
-    ∙ ap (λ ts. rest_tickets_of c l.rest ++ ts) (
-    map-append dropped_ticket (map told_method (filter (is_on method_channel c) l.methods)) (unbegun_of c l)
-    ∙ ap (λ ts. ts ++ map dropped_ticket (unbegun_of c l)) (method-tickets (filter (is_on method_channel c) l.methods))
-    ∙ ap (λ ts. method_tickets_of c l.methods ++ ts) (publish-tickets (unbegun c l.publishes))
-    )
-
-pub entry-first : (c : ℕ) (l : Lists) (d : Dropped) → Some d ≡ slice_get (entries_of c l) 0 → d.ticket ∷ tickets_of c (without_entry_of c l) ≡ tickets_of c l
+pub entry-first : (c : ℕ) (l : Lists) (d : Dropped) → Some d ≡ slice_get (entries_of c l) 0 → d.ticket ∷ map dropped_ticket (entries_of c (without_entry_of c l)) ≡ map dropped_ticket (entries_of c l)
 entry-first c l d told =
-    ap (λ ts. d.ticket ∷ ts) (sym (entry-tickets c (without_entry_of c l)) ∙ ap (λ ds. map dropped_ticket ds) (channel-told c l))
-    ∙ ap (λ ds. map dropped_ticket ds) (first-cons (entries_of c l) d told)
-    ∙ entry-tickets c l
+    ap (λ (ds : List Dropped). d.ticket ∷ map dropped_ticket ds) (channel-told c l)
+    ∙ ap (map dropped_ticket) (first-cons (entries_of c l) d told)
 
-pub entry-none : (c : ℕ) (l : Lists) → slice_get (entries_of c l) 0 ≡ None → tickets_of c l ≡ []
-entry-none c l none = sym (entry-tickets c l) ∙ ap (λ ds. map dropped_ticket ds) (no-first (entries_of c l) none)
+pub entry-none : (c : ℕ) (l : Lists) → slice_get (entries_of c l) 0 ≡ None → map dropped_ticket (entries_of c l) ≡ []
+entry-none c l none = ap (map dropped_ticket) (no-first (entries_of c l) none)
 
 pub length-first : {X : Type 0} (xs : List X) (x : X) → Some x ≡ slice_get xs 0 → length (drop 1 xs) < length xs
 length-first [] x h = cc
@@ -174,39 +139,17 @@ requests-smaller c all new r left told =
     let less = length-first (requests_at c all) r told in
     omega arith
 
--- ---- the entries of a channel once its publishes are gone
-
-off-twice : (c : ℕ) (ps : List Publish) → filter (is_off publish_channel c) (filter (is_off publish_channel c) ps) ≡ filter (is_off publish_channel c) ps
-off-twice c [] = refl
-off-twice c (p ∷ ps) = elim (p.channel == c) as (λ b. (p.channel == c) ≡ b → filter (is_off publish_channel c) (cond (not b) (p ∷ filter (is_off publish_channel c) ps) (filter (is_off publish_channel c) ps)) ≡ cond (not b) (p ∷ filter (is_off publish_channel c) ps) (filter (is_off publish_channel c) ps)) [
-  | true ↦ λ on. off-twice c ps
-  | false ↦ λ off. rw off (ap (λ qs. p ∷ qs) (off-twice c ps))
-] refl
-
-none-on : (c : ℕ) (ps : List Publish) → unbegun c (filter (is_off publish_channel c) ps) ≡ []
-none-on c [] = refl
-none-on c (p ∷ ps) = elim (p.channel == c) as (λ b. (p.channel == c) ≡ b → unbegun c (cond (not b) (p ∷ filter (is_off publish_channel c) ps) (filter (is_off publish_channel c) ps)) ≡ []) [
-  | true ↦ λ on. none-on c ps
-  | false ↦ λ off. rw off (none-on c ps)
-] refl
-
-pub channel-behind : (c : ℕ) (l : Lists) → without_channel c (without_publishes_of c l) ≡ without_channel c l
-channel-behind c l = ap (λ ps. record { rest = if is_rest_of c l.rest then [] else l.rest; methods = filter (is_off method_channel c) l.methods; publishes = ps }) (off-twice c l.publishes)
-
-pub tickets-behind : (c : ℕ) (l : Lists) → tickets_of c (without_publishes_of c l) ≡ rest_tickets_of c l.rest ++ method_tickets_of c l.methods
-tickets-behind c l =
-    ap (λ us. rest_tickets_of c l.rest ++ (method_tickets_of c l.methods ++ map (λ p. Some p.ticket) us)) (none-on c l.publishes)
-    ∙ ap (λ ts. rest_tickets_of c l.rest ++ ts) (append-nil (method_tickets_of c l.methods))
+-- ---- an end of an opening
 
 -- publishes first, then what else waits, then requests
 pub failed-opening : (c : ℕ) (e : Error) (l behind : Lists) (rs : List Request) (start first second third : List (Option Slot)) → behind ≡ without_publishes_of c l
-    → first ≡ fold after_mark start (failures e (publish_tickets_of c l.publishes)) → second ≡ fold after_mark first (failures e (tickets_of c behind)) → third ≡ fold after_mark second (failures e (request_tickets rs))
+    → first ≡ fold after_mark start (failures e (publish_tickets_of c l.publishes)) → second ≡ fold after_mark first (failures e (map dropped_ticket (entries_of c behind))) → third ≡ fold after_mark second (failures e (request_tickets rs))
     → third ≡ fold after_mark start (failures e (publish_tickets_of c l.publishes ++ (rest_tickets_of c l.rest ++ (method_tickets_of c l.methods ++ request_tickets rs))))
 failed-opening c e l behind rs start first second third left is_first is_second is_third =
     is_third
     ∙ ap (λ xs. fold after_mark xs (failures e (request_tickets rs))) is_second
-    ∙ fold-failures e first (tickets_of c behind) (request_tickets rs)
-    ∙ ap (λ ts. fold after_mark first (failures e (ts ++ request_tickets rs))) (ap (tickets_of c) left ∙ tickets-behind c l)
+    ∙ fold-failures e first (map dropped_ticket (entries_of c behind)) (request_tickets rs)
+    ∙ ap (λ ts. fold after_mark first (failures e (ts ++ request_tickets rs))) (ap (λ (k : Lists). map dropped_ticket (entries_of c k)) left ∙ entry-tickets c l)
     ∙ ap (λ ts. fold after_mark first (failures e ts)) (append_assoc (rest_tickets_of c l.rest) (method_tickets_of c l.methods) (request_tickets rs))
     ∙ ap (λ xs. fold after_mark xs (failures e (rest_tickets_of c l.rest ++ (method_tickets_of c l.methods ++ request_tickets rs)))) is_first
     ∙ fold-failures e start (publish_tickets_of c l.publishes) (rest_tickets_of c l.rest ++ (method_tickets_of c l.methods ++ request_tickets rs))

@@ -3,18 +3,18 @@
 //! Each is done whole, in the room that was made before, and takes no memory. The session calls these once it knows that a
 //! close or an end has come.
 
-ghost use Rattle.std.specs.Prelude.{◌≡◌, ◌≤◌, ◌++◌};
+ghost use Rattle.std.specs.Prelude.{◌≡◌, ◌≤◌, ◌++◌, map};
 ghost use Rattle.std.specs.List.{fold};
 ghost use Rattle.lapin_tables.specs.ByChannel.{on_channel};
 ghost use Rattle.lapin_history.specs.Requests.{no_requests};
 ghost use Rattle.lapin_history.specs.Drops.{no_lists, without_publishes_of, without_channel, unbegun, publish_tickets_of, rest_tickets_of, method_tickets_of};
 ghost use Rattle.lapin_history.specs.Marked.{failures, rejections, request_tickets, ends};
 ghost use Rattle.lapin_history.specs.TicketReadings.{AllFailed};
+ghost use Rattle.lapin_outbox.specs.Drops.{dropped_ticket, entries_of};
 ghost use Rattle.lapin_outbox.specs.Open.{requests_at};
 ghost use Rattle.lapin_ticket.specs.Desk as desk;
 ghost use Rattle.lapin_confirm.specs.Book as book;
 ghost use Rattle.lapin_desk.specs.Queued.{AreQueued, MayReject, rejected_told};
-ghost use Rattle.lapin_desk.specs.Dropped.{tickets_of};
 
 use crate::desk::Desk;
 use lapin_confirm::Confirms;
@@ -102,7 +102,7 @@ impl Desk {
     // Takes out every entry of a channel, and resolves its ticket.
     fn drop_entries(&mut self, channel: u16, error: Error)
         ensures lists { self.new.outbox.lists ≡ without_channel channel self.old.outbox.lists }
-        ensures slots { self.new.tickets.slots ≡ fold desk.after_mark self.old.tickets.slots (failures error (tickets_of channel self.old.outbox.lists)) }
+        ensures slots { self.new.tickets.slots ≡ fold desk.after_mark self.old.tickets.slots (failures error (map dropped_ticket (entries_of channel self.old.outbox.lists))) }
         ensures requests { self.new.replies ≡ self.old.replies }
         ensures frame_max { self.new.outbox.frame_max ≡ self.old.outbox.frame_max }
         ensures room { (self.old.outbox.spare ≤ self.new.outbox.spare) × (self.new.tickets.spare ≡ self.old.tickets.spare) }

@@ -13,8 +13,8 @@ use lapin_history::{Closer, Phase};
 use lapin_outbox::{Outbox, Replies};
 use lapin_ticket::Tickets;
 use lapin_types::{
-    Answer, BasicProperties, BasicPublishOptions, ChannelMethod, ConfirmMethod, Error, Frame,
-    Method, Payload, Publish, Reply, ShortString,
+    Answer, BasicProperties, BasicPublishOptions, ChannelMethod, ConfirmMethod, Error, Method,
+    Payload, Publish, Reply, ShortString,
 };
 use std::alloc::Global;
 use std::test::Fail;
@@ -120,49 +120,34 @@ fn ticket(parts: &mut Parts, number: u64) -> &'static str {
     }
 }
 
-// What the result of a publish is, in a word.
-fn confirm(parts: &mut Parts, number: u64) -> &'static str {
-    match parts.confirms.take(number) {
-        Ok(None) => "pending",
-        Ok(Some(Err(Error::ProtocolError(404)))) => "closed",
-        Ok(Some(Err(Error::ConnectionLost))) => "lost",
-        _ => "something else",
-    }
-}
-
-// Whether tickets 1 to 5 and confirms 1 to 3 are these.
-fn are(parts: &mut Parts, tickets: [&str; 5], confirms: [&str; 3]) -> bool {
-    let mut number = 0;
-    for word in tickets.iter() {
-        number += 1;
-        if ticket(parts, number) != *word {
-            return false;
-        }
-    }
-    number = 0;
-    for word in confirms.iter() {
-        number += 1;
-        if confirm(parts, number) != *word {
+// Whether these tickets have these answers.
+fn tickets_are(parts: &mut Parts, wanted: &[(u64, &str)]) -> bool {
+    for (number, word) in wanted {
+        if ticket(parts, *number) != *word {
             return false;
         }
     }
     true
 }
 
-// Whether the frames that leave next are methods of these channels with these tickets.
-fn leaves(parts: &mut Parts, alloc: Global, wanted: &[(u16, Option<u64>)]) -> bool {
-    for (channel, ticket) in wanted {
-        let Ok(Some(left)) = parts.desk.outbox.pop(alloc, true) else {
-            return false;
-        };
-        let Frame::Method(on, _) = left.frame else {
-            return false;
-        };
-        if on != *channel || left.ticket != *ticket {
-            return false;
+// Whether the confirms 1 to 3 are resolved.
+fn resolved(parts: &Parts) -> [bool; 3] {
+    [
+        parts.confirms.ready(1),
+        parts.confirms.ready(2),
+        parts.confirms.ready(3),
+    ]
+}
+
+// Whether entries with these tickets wait, in the order in which they would leave, and no others.
+fn wait(parts: &mut Parts, wanted: &[Option<u64>]) -> bool {
+    for ticket in wanted {
+        match parts.desk.outbox.drop_all() {
+            Some(dropped) if dropped.ticket == *ticket => {}
+            _ => return false,
         }
     }
-    true
+    !parts.desk.outbox.has_pending()
 }
 
 #[test]
@@ -171,10 +156,16 @@ fn a_close_of_this_side_rejects_what_has_not_begun(rt: HostRuntime) -> Result<()
     parts
         .desk
         .reject_unbegun(&mut parts.confirms, 1, Error::ProtocolError(404));
-    let tickets = ["closed", "pending", "closed", "pending", "pending"];
-    assert!(rt; are(&mut parts, tickets, ["closed", "pending", "closed"]));
-    let wanted = [(1, Some(4)), (2, Some(5)), (2, Some(2))];
-    assert!(rt; leaves(&mut parts, rt.alloc(), &wanted));
+    let tickets = [
+        (1, "closed"),
+        (2, "pending"),
+        (3, "closed"),
+        (4, "pending"),
+        (5, "pending"),
+    ];
+    assert!(rt; tickets_are(&mut parts, &tickets));
+    assert!(rt; resolved(&parts) == [true, false, true]);
+    assert!(rt; wait(&mut parts, &[Some(4), Some(5), Some(2)]));
     assert!(rt; parts.desk.replies.drain(1).is_some());
     Ok(())
 }
@@ -185,10 +176,17 @@ fn an_end_of_an_opening_takes_all_of_its_channel(rt: HostRuntime) -> Result<(), 
     parts
         .desk
         .end_opening(&mut parts.confirms, 1, Error::ProtocolError(404));
-    let tickets = ["closed", "pending", "closed", "closed", "pending"];
-    assert!(rt; are(&mut parts, tickets, ["closed", "pending", "closed"]));
-    assert!(rt; leaves(&mut parts, rt.alloc(), &[(2, Some(5)), (2, Some(2))]));
-    assert!(rt; parts.desk.replies.drain(1).is_none() && parts.desk.replies.drain(2).is_some());
+    let tickets = [
+        (1, "closed"),
+        (2, "pending"),
+        (3, "closed"),
+        (4, "closed"),
+        (5, "pending"),
+    ];
+    assert!(rt; tickets_are(&mut parts, &tickets));
+    assert!(rt; resolved(&parts) == [true, false, true]);
+    assert!(rt; wait(&mut parts, &[Some(5), Some(2)]));
+    assert!(rt; parts.desk.replies.drain(1).is_none());
     Ok(())
 }
 
@@ -202,12 +200,20 @@ fn an_end_of_all_takes_everything(rt: HostRuntime) -> Result<(), Fail> {
     let replies = Replies::new(rt.alloc())?;
     let mut parts = busy(rt.alloc())?;
     parts.desk.end_all(&mut parts.confirms, &phases, replies, Error::ConnectionLost);
-    assert!(rt; are(&mut parts, ["lost"; 5], ["lost"; 3]));
-    assert!(rt; !parts.desk.outbox.has_pending() && parts.desk.replies.drain(1).is_none());
+    let tickets = [
+        (1, "lost"),
+        (2, "lost"),
+        (3, "lost"),
+        (4, "lost"),
+        (5, "lost"),
+    ];
+    assert!(rt; tickets_are(&mut parts, &tickets));
+    assert!(rt; resolved(&parts) == [true, true, true]);
+    assert!(rt; wait(&mut parts, &[]) && parts.desk.replies.drain(1).is_none());
     Ok(())
 }
 
-// A method that no call asked for leaves without a ticket.
+// A method that no call asked for waits from now on.
 fn note(alloc: Global, parts: &mut Parts) -> bool {
     if parts.desk.reserve(alloc, 1).is_err() {
         return false;
@@ -223,8 +229,12 @@ fn a_method_is_noted_and_a_ticket_resolved(rt: HostRuntime) -> Result<(), Fail> 
     assert!(rt; note(rt.alloc(), &mut parts));
     parts.desk.resolve(None, Ok(Answer::Done));
     parts.desk.resolve(Some(4), Ok(Answer::Done));
-    let wanted = [(1, Some(4)), (2, Some(5)), (1, None)];
-    assert!(rt; leaves(&mut parts, rt.alloc(), &wanted));
+    assert!(rt;
+        wait(
+            &mut parts,
+            &[Some(4), Some(5), None, Some(1), Some(2), Some(3)]
+        )
+    );
     assert!(rt; ticket(&mut parts, 4) == "done" && ticket(&mut parts, 5) == "pending");
     Ok(())
 }

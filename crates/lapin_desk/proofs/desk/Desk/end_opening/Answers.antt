@@ -3,8 +3,9 @@ use Rattle.lapin_history.specs.Leaving.{Lists}
 use Rattle.lapin_history.specs.Drops.{without_channel, is_off, publish_channel}
 use Rattle.lapin_outbox.specs.Outgoing.{Outgoing}
 use Rattle.lapin_outbox.specs.Open.{OpenRequests, requests_at}
+use Rattle.lapin_outbox.proofs.DropTickets.{publishes-before}
 use Rattle.lapin_desk.proofs.Queueing.{queued-by, queued-filter}
-use Rattle.lapin_desk.proofs.Dropped.{channel-behind, failed-opening, requests-kept}
+use Rattle.lapin_desk.proofs.Dropped.{failed-opening, requests-kept}
 use Rattle.lapin_desk.proofs.desk.Desk.end_opening.Goals as goal
 
 pub returns-clause-lists : goal.returns-clause-lists
@@ -12,7 +13,7 @@ returns-clause-lists c =
     ap (λ (o : Outgoing). o.lists) c.end_requests.ensures.outbox
     ∙ c.drop_entries.ensures.lists
     ∙ ap (without_channel c.args.channel) c.end_publishes.ensures.lists
-    ∙ channel-behind c.args.channel c.args.self.now.outbox.lists
+    ∙ publishes-before c.args.channel c.args.self.now.outbox.lists
 
 pub returns-clause-slots : goal.returns-clause-slots
 returns-clause-slots c =
