@@ -99,6 +99,22 @@ fn close_ok_comes_before_the_own_close_left(rt: HostRuntime) -> Result<(), Fail>
     Ok(())
 }
 
+// The close is done at close-ok also where it never left.
+#[test]
+fn a_close_that_has_not_left_is_done_at_close_ok(rt: HostRuntime) -> Result<(), Fail> {
+    shows(
+        &rt,
+        OPENED,
+        "call 1 channel.close 200 x -> ticket 2\n\
+         recv method 1 channel.close-ok -> received\n\
+         ticket 2 -> answer done\n\
+         ticket 2 -> refused AlreadyTaken\n\
+         next 1 -> noframe\n\
+         state 1 -> state open closed\n",
+    )?;
+    Ok(())
+}
+
 // A select that was queued earlier leaves first, selects a closing opening, and is answered there. Then a single settlement of
 // a tag that isn't pending is refused, and changes nothing more: one close is on its way already.
 #[test]
