@@ -279,7 +279,7 @@ module _ (m : ℕ) (l : Link) (p : List (ℕ × Phase)) (x : Lists) (rs : List (
       → seen m l P L rs S B ≡ hearing (incoming.Settlement c z) (record_.Refused (error.PreconditionFailed tag current)) old
   failed_seen c z tag current P L S B h eP eL eS eB =
       let is : hearing (incoming.Settlement c z) (record_.Refused (error.PreconditionFailed tag current)) old
-          ≡ record { base = noted c (session_close z.kind) (closing c closer.Session old.base); book = fold book.after_mark b (rejections (failed_at_close closer.Session) (unbegun c x.publishes)); slots = fold after_mark s (failures (failed_at_close closer.Session) (publish_tickets_of c x.publishes)) } = rw h refl in
+      ≡ record { base = noted c (session_close z.kind) (closing c closer.Session old.base); book = fold book.after_mark b (rejections (failed_at_close closer.Session) (unbegun c x.publishes)); slots = fold after_mark s (failures (failed_at_close closer.Session) (publish_tickets_of c x.publishes)) } = rw h refl in
       world_is _ _
       (base_is _ (noted c (session_close z.kind) (closing c closer.Session old.base)) refl refl eP
       (ap (λ (y : Lists). y.rest) eL) (ap (λ (y : Lists). y.methods) eL) (ap (λ (y : Lists). y.publishes) eL) refl

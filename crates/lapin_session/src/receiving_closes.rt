@@ -200,7 +200,7 @@ fn drop_unsent(link: Link, desk: &mut Desk)
     ensures tickets { desk.new.tickets ≡ desk.old.tickets }
 {
     if let Link::Closing { sent: false, .. } = link {
-        desk.drop_rest();
+        desk.drop_waiting();
     }
 }
 

@@ -33,12 +33,12 @@ pub returns : goal.returns
 returns c =
     seen_is _ _ _ _ _ _ _ _ _ _ _ _ _ _ (ap (λ (o : Outgoing). o.frame_max) c.resolve.ensures.outbox ∙ c.end_but_close-close.ensures.frame_max) refl refl refl refl refl refl
     ∙ closing_answered c.self.inside.desk.outbox.frame_max c.self.inside.link c.self.inside.phases.entries c.self.inside.desk.outbox.lists c.self.inside.desk.replies.waiting c.self.inside.desk.tickets.slots c.self.inside.confirms.book c.args.channel c.args.error _ _ _ _ _
-        (ap (λ (w : World). close_ok_end (phase_of c.args.channel w.base)) c.self.view_is ∙ c.requires.end)
-        c.set_phase.ensures
-        (ap (λ (o : Outgoing). o.lists) c.resolve.ensures.outbox ∙ c.end_but_close-close.ensures.lists)
-        (ap (λ (r : OpenRequests). r.waiting) c.resolve.ensures.replies ∙ c.end_but_close-close.ensures.requests)
-        (c.resolve.ensures.slots
-        ∙ ap (λ (t : Option ℕ). fold answers.after_mark c.end_but_close-close.new.desk.tickets.slots (resolved_with (Ok answer.Done) t)) (c.ticket_of.ensures ∙ ap ticket_of c.end_but_close-close.ensures.close)
-        ∙ ap (λ (y : List (Option Slot)). fold answers.after_mark y (resolved_with (Ok answer.Done) (ticket_of (first_request reply_kind.ChannelCloseOk (requests_at c.args.channel c.self.inside.desk.replies.waiting))))) c.end_but_close-close.ensures.slots)
-        c.end_but_close-close.ensures.book
+    (ap (λ (w : World). close_ok_end (phase_of c.args.channel w.base)) c.self.view_is ∙ c.requires.end)
+    c.set_phase.ensures
+    (ap (λ (o : Outgoing). o.lists) c.resolve.ensures.outbox ∙ c.end_but_close-close.ensures.lists)
+    (ap (λ (r : OpenRequests). r.waiting) c.resolve.ensures.replies ∙ c.end_but_close-close.ensures.requests)
+    (c.resolve.ensures.slots
+    ∙ ap (λ (t : Option ℕ). fold answers.after_mark c.end_but_close-close.new.desk.tickets.slots (resolved_with (Ok answer.Done) t)) (c.ticket_of.ensures ∙ ap ticket_of c.end_but_close-close.ensures.close)
+    ∙ ap (λ (y : List (Option Slot)). fold answers.after_mark y (resolved_with (Ok answer.Done) (ticket_of (first_request reply_kind.ChannelCloseOk (requests_at c.args.channel c.self.inside.desk.replies.waiting))))) c.end_but_close-close.ensures.slots)
+    c.end_but_close-close.ensures.book
     ∙ ap (λ (w : World). hearing (incoming.ChannelCloseOk c.args.channel) record_.Received w) c.self.view_is
