@@ -78,7 +78,7 @@ impl Desk {
         ensures room { (self.old.outbox.spare ≤ self.new.outbox.spare) × (self.new.tickets.spare ≡ self.old.tickets.spare) }
     {
         self.end_live(confirms, phases, error);
-        self.drop_rest();
+        self.drop_waiting();
         self.tickets.fail_all(error);
         self.replies = replies;
     }
@@ -140,7 +140,7 @@ impl Desk {
     }
 
     /// Takes out all that waits. Its tickets stay open.
-    pub fn drop_rest(&mut self)
+    pub fn drop_waiting(&mut self)
         ensures lists { self.new.outbox.lists ≡ no_lists }
         ensures frame_max { self.new.outbox.frame_max ≡ self.old.outbox.frame_max }
         ensures replies { self.new.replies ≡ self.old.replies }

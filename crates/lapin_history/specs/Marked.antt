@@ -192,13 +192,14 @@ reply_marks c k r = resolved_with (Ok (reply_answer c k)) (ticket_of r)
 abbrev pub channel_close_tickets : ℕ → Error → Phase → Base → List TicketMark
 channel_close_tickets c e p b = failures e (end_tickets c b) ++ (if has_sent_close p then [] else resolved_with (Err e) (close_ticket c b))
 
--- The broker answers this side's close, which is done. What the opening leaves unresolved fails, where it ends only now.
+-- The broker answers this side's close, which is done, also where it has not left. What else the opening leaves unresolved fails,
+-- where it ends only now.
 abbrev pub end_failures : ℕ → Option Error → Base → List TicketMark
 end_failures c None b = []
 end_failures c (Some e) b = failures e (end_tickets c b)
 
 abbrev pub close_ok_tickets : ℕ → Base → List TicketMark
-close_ok_tickets c b = end_failures c (close_ok_end (phase_of c b)) b ++ resolved_with (Ok answer.Done) (close_ticket c b)
+close_ok_tickets c b = resolved_with (Ok answer.Done) (close_ticket c b) ++ end_failures c (close_ok_end (phase_of c b)) b
 
 -- The broker closes the connection: every open ticket fails, but where this side's close has left.
 abbrev pub connection_close_tickets : Link → ℕ → List TicketMark

@@ -41,56 +41,9 @@ use Rattle.lapin_confirm.specs.declared.cell.Cell.TheVariants as cell
 use Rattle.lapin_confirm.specs.Book.{Book, Line, fresh_line, selected_line, next_line, tag_for, lines_with, cell_with, settled_cell, is_open_on, is_resolved, begun, with_publish, select_left, left, settled, rejected, ended, taken, after_mark}
 use Rattle.lapin_confirm.proofs.Ended.{any-ended}
 use Rattle.lapin_desk.specs.Queued.{AreQueued}
-use Rattle.lapin_desk.proofs.Queueing.{under-map, queued-written, suc_place}
+use Rattle.lapin_desk.proofs.Queueing.{number-within, under-map, queued-kept, queued-push, queued-written, resolved_apart, suc_place}
 use Rattle.lapin_session.specs.Kept.{is_close_sent}
 use Rattle.lapin_session.specs.Tied.{IsTied, is_live_on, MayRegister, CanRegister}
-
--- ---- what stands under a number
-
-get_or-within : {X : Type 0} (xs : List (Option X)) (k : ℕ) (x : X) → get_or xs k None ≡ Some x → k < length xs
-get_or-within [] k x e = cc
-get_or-within (y ∷ ys) zero x e = omega arith
-get_or-within (y ∷ ys) (suc k) x e = let lt : k < length ys = get_or-within ys k x e in omega arith
-
-get_or-push : {X : Type 0} (xs : List X) (k : ℕ) (y d : X) → k < length xs → get_or (xs ++ y ∷ []) k d ≡ get_or xs k d
-get_or-push [] k y d h = absurd (omega arith)
-get_or-push (x ∷ xs) zero y d h = refl
-get_or-push (x ∷ xs) (suc k) y d h = get_or-push xs k y d (omega arith)
-
-get_or-last : {X : Type 0} (xs : List X) (k : ℕ) (y d : X) → k ≡ length xs → get_or (xs ++ y ∷ []) k d ≡ y
-get_or-last [] zero y d h = refl
-get_or-last [] (suc k) y d h = absurd (omega arith)
-get_or-last (x ∷ xs) zero y d h = absurd (omega arith)
-get_or-last (x ∷ xs) (suc k) y d h = get_or-last xs k y d (omega arith)
-
-pub number-within : (n : ℕ) (cells : List (Option Cell)) (x : Cell) → under n cells ≡ Some x → (0 < n) × (n ≤ length cells)
-number-within zero cells x e = cc
-number-within (suc k) cells x e = let lt : k < length cells = get_or-within cells k x e in (omega arith, omega arith)
-
-under-push : (n : ℕ) (cells : List (Option Cell)) (y : Option Cell) (x : Cell) → under n cells ≡ Some x → under n (cells ++ y ∷ []) ≡ Some x
-under-push zero cells y x e = e
-under-push (suc k) cells y x e = get_or-push cells k y None (get_or-within cells k x e) ∙ e
-
-under-last : (n : ℕ) (cells : List (Option Cell)) (y : Option Cell) → n ≡ length cells + 1 → under n (cells ++ y ∷ []) ≡ y
-under-last zero cells y e = absurd (omega arith)
-under-last (suc k) cells y e = get_or-last cells k y None (omega arith)
-
--- ---- publishes that wait stay queued
-
-queued-kept : (cells new : List (Option Cell)) (ps : List Publish) → ((n c : ℕ) → under n cells ≡ Some (cell.Queued c) → under n new ≡ Some (cell.Queued c)) → AreQueued cells ps → AreQueued new ps
-queued-kept cells new [] keeps h = tt
-queued-kept cells new (p ∷ ps) keeps h = (keeps p.confirm p.channel h.0, h.1, queued-kept cells new ps keeps h.2)
-
-queued-push : (c : ℕ) (cells : List (Option Cell)) (ps : List Publish) (p : Publish) → p.confirm ≡ length cells + 1 → p.channel ≡ c → AreQueued cells ps → AreQueued (cells ++ Some (cell.Queued c) ∷ []) (ps ++ p ∷ [])
-queued-push c cells [] p at on h = (under-last p.confirm cells (Some (cell.Queued c)) at ∙ ap (λ d. Some (cell.Queued d)) (sym on), tt, tt)
-queued-push c cells (q ∷ ps) p at on h =
-    let within = number-within q.confirm cells (cell.Queued q.channel) h.0 in
-    let le : q.confirm ≤ length cells = within.1 in
-    (under-push q.confirm cells (Some (cell.Queued c)) (cell.Queued q.channel) h.0, apart q.confirm ps (omega arith) h.1, queued-push c cells ps p at on h.2)
-  where
-    apart : (k : ℕ) (ps : List Publish) → k ≢ p.confirm → AllByRecursion (λ r. k ≢ r.confirm) ps → AllByRecursion (λ r. k ≢ r.confirm) (ps ++ p ∷ [])
-    apart k [] ne h = (ne, tt)
-    apart k (r ∷ rs) ne h = (h.0, apart k rs ne h.1)
 
 -- ---- nothing opens on a channel that has no live opening
 
@@ -418,18 +371,6 @@ tied_settled l c s phases ps b t = record {
   lines = t.lines;
   done = λ d h. any-mapped (is_open_on d) (option_map (settled_cell c (covers s) (outcome_of s))) b.cells (settled-closed d c (covers s) (outcome_of s)) (t.done d h);
 }
-
--- a publish that waits isn't one whose result is given
-resolved_apart : (n : ℕ) (cells : List (Option Cell)) (ps : List Publish) → is_resolved (under n cells) ≡ true → AreQueued cells ps → AllByRecursion (λ q. n ≢ q.confirm) ps
-resolved_apart n cells [] h q = tt
-resolved_apart n cells (p ∷ ps) h q = (
-  λ e.
-      let P : ℕ → Type 0 = λ k. is_resolved (under k cells) ≡ true in
-      let here : is_resolved (under p.confirm cells) ≡ true = subst P e h in
-      let not_ : is_resolved (under p.confirm cells) ≡ false = ap is_resolved q.0 in
-      cc,
-  resolved_apart n cells ps h q.2,
-)
 
 pub tied_taken : (n : ℕ) (l : Link) (phases : List (ℕ × Phase)) (ps : List Publish) (b : Book) → is_resolved (under n b.cells) ≡ true → IsTied l phases ps b → IsTied l phases ps (taken n b)
 tied_taken n l phases ps b h t = record {

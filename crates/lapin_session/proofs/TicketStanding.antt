@@ -97,7 +97,7 @@ received_none : (i : Incoming) (b : Base) → gives_none (received_tickets i b)
 received_none (incoming.Reply c k) b = resolved_none _ _
 received_none (incoming.Settlement c s) b = tt
 received_none (incoming.ChannelClose c code) b = join_none (failures (error.ProtocolError code) (end_tickets c b)) _ (failures_none (error.ProtocolError code) (end_tickets c b)) (choose_none (has_sent_close (phase_of c b)) [] _ tt (resolved_none _ _))
-received_none (incoming.ChannelCloseOk c) b = join_none _ _ (end_none c (close_ok_end (phase_of c b)) b) (resolved_none _ _)
+received_none (incoming.ChannelCloseOk c) b = join_none _ (end_failures c (close_ok_end (phase_of c b)) b) (resolved_none _ _) (end_none c (close_ok_end (phase_of c b)) b)
 received_none (incoming.ConnectionClose code) b = connection_close_none b.link code
 received_none incoming.ConnectionCloseOk b = resolved_none _ _
 received_none incoming.Other b = tt

@@ -279,7 +279,7 @@ module _ (m : ℕ) (l : Link) (p : List (ℕ × Phase)) (x : Lists) (rs : List (
       → seen m l P L rs S B ≡ hearing (incoming.Settlement c z) (record_.Refused (error.PreconditionFailed tag current)) old
   failed_seen c z tag current P L S B h eP eL eS eB =
       let is : hearing (incoming.Settlement c z) (record_.Refused (error.PreconditionFailed tag current)) old
-          ≡ record { base = noted c (session_close z.kind) (closing c closer.Session old.base); book = fold book.after_mark b (rejections (failed_at_close closer.Session) (unbegun c x.publishes)); slots = fold after_mark s (failures (failed_at_close closer.Session) (publish_tickets_of c x.publishes)) } = rw h refl in
+      ≡ record { base = noted c (session_close z.kind) (closing c closer.Session old.base); book = fold book.after_mark b (rejections (failed_at_close closer.Session) (unbegun c x.publishes)); slots = fold after_mark s (failures (failed_at_close closer.Session) (publish_tickets_of c x.publishes)) } = rw h refl in
       world_is _ _
       (base_is _ (noted c (session_close z.kind) (closing c closer.Session old.base)) refl refl eP
       (ap (λ (y : Lists). y.rest) eL) (ap (λ (y : Lists). y.methods) eL) (ap (λ (y : Lists). y.publishes) eL) refl
@@ -318,18 +318,19 @@ module _ (m : ℕ) (l : Link) (p : List (ℕ × Phase)) (x : Lists) (rs : List (
       → P ≡ with_channel c phase.Closed p
       → L ≡ without_channel c x
       → R ≡ on_channel c no_requests rs
-      → S ≡ fold after_mark (fold after_mark s (failures e (end_tickets c old.base))) (resolved_with (Ok answer.Done) (ticket_of (first_request reply_kind.ChannelCloseOk (requests_at c rs))))
+      → S ≡ fold after_mark (fold after_mark s (resolved_with (Ok answer.Done) (ticket_of (first_request reply_kind.ChannelCloseOk (requests_at c rs))))) (failures e (end_tickets c old.base))
       → B ≡ ended c e b
       → seen m l P L R S B ≡ hearing (incoming.ChannelCloseOk c) record_.Received old
   closing_answered c e P L R S B h eP eL eR eS eB =
+      let done : List TicketMark = resolved_with (Ok answer.Done) (close_ticket c old.base) in
       world_is _ _
       (base_is _ (ended_base c phase.Closed no_requests old.base) refl refl eP
       (ap (λ (y : Lists). y.rest) eL) (ap (λ (y : Lists). y.methods) eL) (ap (λ (y : Lists). y.publishes) eL) eR
-      (ap length eS ∙ resolved-count (Ok answer.Done) (close_ticket c old.base) _ ∙ failures-count e (end_tickets c old.base) s)
+      (ap length eS ∙ failures-count e (end_tickets c old.base) (fold after_mark s done) ∙ resolved-count (Ok answer.Done) (close_ticket c old.base) s)
       (ap (λ (y : Book). length y.cells) eB ∙ ended-count c e b)
       ∙ sym (closing_base c (phase_of c old.base) e old.base h))
       (eB ∙ ap (λ ms. fold book.after_mark b ms) (ap (end_with c) (sym h)))
-      (eS ∙ sym (marks-join (failures e (end_tickets c old.base)) _ s) ∙ ap (λ o. fold after_mark s (end_failures c o old.base ++ resolved_with (Ok answer.Done) (close_ticket c old.base))) (sym h))
+      (eS ∙ sym (marks-join done (failures e (end_tickets c old.base)) s) ∙ ap (λ o. fold after_mark s (done ++ end_failures c o old.base)) (sym h))
 
   pub crossed_answered : (c : ℕ) (P : List (ℕ × Phase)) (R : List (ℕ × List Request)) (S : List (Option Slot))
       → close_ok_end (phase_of c old.base) ≡ None
@@ -338,13 +339,14 @@ module _ (m : ℕ) (l : Link) (p : List (ℕ × Phase)) (x : Lists) (rs : List (
       → S ≡ fold after_mark s (resolved_with (Ok answer.Done) (ticket_of (first_request reply_kind.ChannelCloseOk (requests_at c rs))))
       → seen m l P x R S b ≡ hearing (incoming.ChannelCloseOk c) record_.Received old
   crossed_answered c P R S h eP eR eS =
+      let done : List TicketMark = resolved_with (Ok answer.Done) (close_ticket c old.base) in
       world_is _ _
       (base_is _ (record old.base { phases = with_channel c phase.Closed p; requests = on_channel c (without_kind reply_kind.ChannelCloseOk) rs }) refl refl eP refl refl refl eR
       (ap length eS ∙ resolved-count (Ok answer.Done) (close_ticket c old.base) s)
       refl
       ∙ sym (crossed_base c (phase_of c old.base) old.base h))
       (ap (λ ms. fold book.after_mark b ms) (ap (end_with c) (sym h)))
-      (eS ∙ ap (λ o. fold after_mark s (end_failures c o old.base ++ resolved_with (Ok answer.Done) (close_ticket c old.base))) (sym h))
+      (eS ∙ sym (marks-join done [] s) ∙ ap (λ o. fold after_mark s (done ++ end_failures c o old.base)) (sym h))
 
   pub connection_close_crossed : (code : ℕ) (l2 : Link) (L : Lists) → is_close_sent l ≡ true → l2 ≡ link.Closing true true
       → L ≡ with_method (record { channel = 0; method = method.Connection connection.CloseOk; ticket = None }) x

@@ -69,15 +69,17 @@ impl Session {
         }
     }
 
-    // The opening of a channel that this side closes ends with the answer.
+    // The opening of a channel that this side closes ends with the answer. The close is done first, also where it has not left:
+    // the end drops it then.
     fn end_closing(&mut self, channel: u16, error: Error)
         requires heard { hears_close_ok_lem (state_of channel self.old.base) ≡ true }
         requires end { close_ok_end_lem (phase_of channel self.old.base) ≡ Some error }
         ensures { self.new ≡ hearing (ChannelCloseOkFrame channel) Received self.old }
     {
-        let close = end_but_close(&mut self.desk, &mut self.confirms, channel, error);
-        set_phase(&mut self.phases, channel, Phase::Closed);
+        let close = take_request(&mut self.desk.replies, channel, ReplyKind::ChannelCloseOk);
         self.desk.resolve(ticket_of(close), Ok(Answer::Done));
+        self.desk.end_opening(&mut self.confirms, channel, error);
+        set_phase(&mut self.phases, channel, Phase::Closed);
     }
 
     // A crossed close ended the opening before.
@@ -200,7 +202,7 @@ fn drop_unsent(link: Link, desk: &mut Desk)
     ensures tickets { desk.new.tickets ≡ desk.old.tickets }
 {
     if let Link::Closing { sent: false, .. } = link {
-        desk.drop_rest();
+        desk.drop_waiting();
     }
 }
 

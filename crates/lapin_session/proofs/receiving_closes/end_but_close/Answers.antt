@@ -21,6 +21,6 @@ pub returns-clause-slots : goal.returns-clause-slots
 returns-clause-slots c =
     c.end_opening.ensures.slots
     ∙ ap (λ (qs : List Request). fold answers.after_mark c.args.desk.now.tickets.slots (failures c.args.error
-        (publish_tickets_of c.args.channel c.args.desk.now.outbox.lists.publishes ++ (rest_tickets_of c.args.channel c.args.desk.now.outbox.lists.rest ++
-        (method_tickets_of c.args.channel c.args.desk.now.outbox.lists.methods ++ request_tickets qs)))))
+    (publish_tickets_of c.args.channel c.args.desk.now.outbox.lists.publishes ++ (rest_tickets_of c.args.channel c.args.desk.now.outbox.lists.rest ++
+    (method_tickets_of c.args.channel c.args.desk.now.outbox.lists.methods ++ request_tickets qs)))))
     (ap (requests_at c.args.channel) c.take_request-close.ensures.waiting ∙ requests_left c.args.channel reply_kind.ChannelCloseOk c.args.desk.now.replies.waiting)

@@ -8,5 +8,5 @@ use Rattle.lapin_desk.proofs.desk.Desk.end_all.Goals as goal
 pub returns-clause-slots : goal.returns-clause-slots
 returns-clause-slots c =
     c.fail_all.ensures.slots
-    ∙ ap (λ (s : Slots Slot). desk.after_mark s.slots (AllFailed c.args.error)) c.drop_rest.ensures.tickets
+    ∙ ap (λ (s : Slots Slot). desk.after_mark s.slots (AllFailed c.args.error)) c.drop_waiting.ensures.tickets
     ∙ c.end_live.ensures.slots

@@ -39,14 +39,14 @@ returns-clause-ok c =
     let number : ℕ = length c.begin_close.new.desk.tickets.slots + 1 in
     seen_is _ _ _ _ _ _ _ _ _ _ _ _ _ _ (c.queue-number.ensures.frame_max ∙ c.begin_close.ensures.frame_max ∙ c.reserve.ensures.same.frame_max) refl refl refl refl refl refl
     ∙ channel_close_seen c.self.inside.desk.outbox.frame_max c.self.inside.link c.self.inside.phases.entries c.self.inside.desk.outbox.lists c.self.inside.desk.replies.waiting c.self.inside.desk.tickets.slots c.self.inside.confirms.book c.args.channel c.args.reply_code c.args.reply_text _ _ _ c.begin_close.new.desk.tickets.slots _ _
-        open_
-        c.begin_close.ensures.phases
-        (c.begin_close.ensures.slots
-        ∙ ap (λ (y : List (Option Slot)). fold answers.after_mark y (failures (failed_at_close closer.Application) (publish_tickets_of c.args.channel c.reserve.new.self.outbox.lists.publishes))) c.reserve.ensures.same.slots
-        ∙ ap (λ (y : Lists). fold answers.after_mark c.self.inside.desk.tickets.slots (failures (failed_at_close closer.Application) (publish_tickets_of c.args.channel y.publishes))) lists)
-        (c.queue-number.ensures.lists
-        ∙ ap (with_method (record { channel = c.args.channel; method = method.Channel (channel.Close c.args.reply_code c.args.reply_text 0 0); ticket = Some number })) (c.begin_close.ensures.lists ∙ ap (without_publishes_of c.args.channel) lists))
-        (c.queue-number.ensures.requests ∙ ap (requests_with c.args.channel number (Some reply.ChannelCloseOk)) (ap (λ (r : OpenRequests). r.waiting) c.begin_close.ensures.requests ∙ c.reserve.ensures.same.requests))
-        c.queue-number.ensures.slots
-        (c.begin_close.ensures.book ∙ ap (λ (y : Lists). fold book.after_mark c.self.inside.confirms.book (rejections (failed_at_close closer.Application) (unbegun c.args.channel y.publishes))) lists)
+    open_
+    c.begin_close.ensures.phases
+    (c.begin_close.ensures.slots
+    ∙ ap (λ (y : List (Option Slot)). fold answers.after_mark y (failures (failed_at_close closer.Application) (publish_tickets_of c.args.channel c.reserve.new.self.outbox.lists.publishes))) c.reserve.ensures.same.slots
+    ∙ ap (λ (y : Lists). fold answers.after_mark c.self.inside.desk.tickets.slots (failures (failed_at_close closer.Application) (publish_tickets_of c.args.channel y.publishes))) lists)
+    (c.queue-number.ensures.lists
+    ∙ ap (with_method (record { channel = c.args.channel; method = method.Channel (channel.Close c.args.reply_code c.args.reply_text 0 0); ticket = Some number })) (c.begin_close.ensures.lists ∙ ap (without_publishes_of c.args.channel) lists))
+    (c.queue-number.ensures.requests ∙ ap (requests_with c.args.channel number (Some reply.ChannelCloseOk)) (ap (λ (r : OpenRequests). r.waiting) c.begin_close.ensures.requests ∙ c.reserve.ensures.same.requests))
+    c.queue-number.ensures.slots
+    (c.begin_close.ensures.book ∙ ap (λ (y : Lists). fold book.after_mark c.self.inside.confirms.book (rejections (failed_at_close closer.Application) (unbegun c.args.channel y.publishes))) lists)
     ∙ ap (λ (w : World). next w (event.Call c.args.channel (call.ChannelClose c.args.reply_code c.args.reply_text))) c.self.view_is

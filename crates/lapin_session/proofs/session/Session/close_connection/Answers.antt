@@ -29,12 +29,12 @@ returns-clause-ok c =
     let number : ℕ = length c.go_down.new.desk.tickets.slots + 1 in
     seen_is _ _ _ _ _ _ _ _ _ _ _ _ _ _ (c.queue-number.ensures.frame_max ∙ c.go_down.ensures.frame_max ∙ c.reserve-2.ensures.same.frame_max) refl refl refl refl refl refl
     ∙ connection_close_seen c.self.inside.desk.outbox.frame_max c.self.inside.link c.self.inside.phases.entries c.self.inside.desk.outbox.lists c.self.inside.desk.replies.waiting c.self.inside.desk.tickets.slots c.self.inside.confirms.book c.args.channel c.args.reply_code c.args.reply_text _ _ _ c.go_down.new.desk.tickets.slots _ _
-        base_
-        c.go_down.ensures.link
-        (c.go_down.ensures.slots ∙ ap (λ (y : List (Option Slot)). after_mark y (AllFailed failed_at_connection_close)) c.reserve-2.ensures.same.slots)
-        (c.queue-number.ensures.lists
-        ∙ ap (with_method (record { channel = c.args.channel; method = method.Connection (connection.Close c.args.reply_code c.args.reply_text 0 0); ticket = Some number })) c.go_down.ensures.lists)
-        (c.queue-number.ensures.requests ∙ ap (requests_with c.args.channel number (Some reply.ConnectionCloseOk)) (ap (λ (r : OpenRequests). r.waiting) c.go_down.ensures.requests ∙ c.reserve.ensures.same ∙ ap (λ (r : OpenRequests). r.waiting) c.in_ok-replies.ensures))
-        c.queue-number.ensures.slots
-        c.go_down.ensures.book
+    base_
+    c.go_down.ensures.link
+    (c.go_down.ensures.slots ∙ ap (λ (y : List (Option Slot)). after_mark y (AllFailed failed_at_connection_close)) c.reserve-2.ensures.same.slots)
+    (c.queue-number.ensures.lists
+    ∙ ap (with_method (record { channel = c.args.channel; method = method.Connection (connection.Close c.args.reply_code c.args.reply_text 0 0); ticket = Some number })) c.go_down.ensures.lists)
+    (c.queue-number.ensures.requests ∙ ap (requests_with c.args.channel number (Some reply.ConnectionCloseOk)) (ap (λ (r : OpenRequests). r.waiting) c.go_down.ensures.requests ∙ c.reserve.ensures.same ∙ ap (λ (r : OpenRequests). r.waiting) c.in_ok-replies.ensures))
+    c.queue-number.ensures.slots
+    c.go_down.ensures.book
     ∙ ap (λ (w : World). next w (event.Call c.args.channel (call.ConnectionClose c.args.reply_code c.args.reply_text))) c.self.view_is

@@ -38,12 +38,12 @@ returns-clause-ok c = λ tag current.
     let lists = c.reserve.ensures.same in
     seen_is _ _ _ _ _ _ _ _ _ _ _ _ _ _ (c.note.ensures.frame_max ∙ c.begin_close.ensures.frame_max ∙ c.reserve.ensures.frame_max) refl refl refl (ap (λ (r : OpenRequests). r.waiting) (c.note.ensures.replies ∙ c.begin_close.ensures.requests)) refl refl
     ∙ failed_seen c.self.inside.desk.outbox.frame_max c.self.inside.link c.self.inside.phases.entries c.self.inside.desk.outbox.lists c.self.inside.desk.replies.waiting c.self.inside.desk.tickets.slots c.self.inside.confirms.book c.args.channel (single_of c.args.kind tag) tag current _ _ _ _
-        open_
-        c.begin_close.ensures.phases
-        (c.note.ensures.lists
-        ∙ ap (with_method (record { channel = c.args.channel; method = c.in_ok-method.method; ticket = None })) (c.begin_close.ensures.lists ∙ ap (without_publishes_of c.args.channel) lists)
-        ∙ ap (λ (k : Method). with_method (record { channel = c.args.channel; method = k; ticket = None }) (without_publishes_of c.args.channel c.self.inside.desk.outbox.lists)) c.in_ok-method.ensures)
-        (ap (λ (t : Slots Slot). t.slots) c.note.ensures.tickets ∙ c.begin_close.ensures.slots
-        ∙ ap (λ (y : Lists). fold answers.after_mark c.self.inside.desk.tickets.slots (failures (failed_at_close closer.Session) (publish_tickets_of c.args.channel y.publishes))) lists)
-        (c.begin_close.ensures.book ∙ ap (λ (y : Lists). fold book.after_mark c.self.inside.confirms.book (rejections (failed_at_close closer.Session) (unbegun c.args.channel y.publishes))) lists)
+    open_
+    c.begin_close.ensures.phases
+    (c.note.ensures.lists
+    ∙ ap (with_method (record { channel = c.args.channel; method = c.in_ok-method.method; ticket = None })) (c.begin_close.ensures.lists ∙ ap (without_publishes_of c.args.channel) lists)
+    ∙ ap (λ (k : Method). with_method (record { channel = c.args.channel; method = k; ticket = None }) (without_publishes_of c.args.channel c.self.inside.desk.outbox.lists)) c.in_ok-method.ensures)
+    (ap (λ (t : Slots Slot). t.slots) c.note.ensures.tickets ∙ c.begin_close.ensures.slots
+    ∙ ap (λ (y : Lists). fold answers.after_mark c.self.inside.desk.tickets.slots (failures (failed_at_close closer.Session) (publish_tickets_of c.args.channel y.publishes))) lists)
+    (c.begin_close.ensures.book ∙ ap (λ (y : Lists). fold book.after_mark c.self.inside.confirms.book (rejections (failed_at_close closer.Session) (unbegun c.args.channel y.publishes))) lists)
     ∙ ap (λ (w : World). hearing (incoming.Settlement c.args.channel (single_of c.args.kind tag)) (record_.Refused (error.PreconditionFailed tag current)) w) c.self.view_is

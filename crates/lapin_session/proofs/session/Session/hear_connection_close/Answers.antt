@@ -29,10 +29,10 @@ pub returns-clause-ok : goal.returns-clause-ok
 returns-clause-ok c =
     seen_is _ _ _ _ _ _ _ _ _ _ _ _ _ _ (c.note-2.ensures.frame_max ∙ c.go_down.ensures.frame_max ∙ c.reserve.ensures.frame_max) refl refl refl refl refl refl
     ∙ connection_close_heard c.self.inside.desk.outbox.frame_max c.self.inside.link c.self.inside.phases.entries c.self.inside.desk.outbox.lists c.self.inside.desk.replies.waiting c.self.inside.desk.tickets.slots c.self.inside.confirms.book c.args.code _ _ _ _ _
-        (sym c.is_close_sent.ensures ∙ c.if-is_close_sent.false)
-        c.go_down.ensures.link
-        (c.note-2.ensures.lists ∙ ap (with_method (record { channel = 0; method = method.Connection connection.CloseOk; ticket = None })) c.go_down.ensures.lists)
-        (ap (λ (r : OpenRequests). r.waiting) (c.note-2.ensures.replies ∙ c.go_down.ensures.requests ∙ c.in_ok-replies.ensures))
-        (ap (λ (t : Slots Slot). t.slots) c.note-2.ensures.tickets ∙ c.go_down.ensures.slots)
-        c.go_down.ensures.book
+    (sym c.is_close_sent.ensures ∙ c.if-is_close_sent.false)
+    c.go_down.ensures.link
+    (c.note-2.ensures.lists ∙ ap (with_method (record { channel = 0; method = method.Connection connection.CloseOk; ticket = None })) c.go_down.ensures.lists)
+    (ap (λ (r : OpenRequests). r.waiting) (c.note-2.ensures.replies ∙ c.go_down.ensures.requests ∙ c.in_ok-replies.ensures))
+    (ap (λ (t : Slots Slot). t.slots) c.note-2.ensures.tickets ∙ c.go_down.ensures.slots)
+    c.go_down.ensures.book
     ∙ ap (λ (w : World). hearing (incoming.ConnectionClose c.args.code) record_.Received w) c.self.view_is

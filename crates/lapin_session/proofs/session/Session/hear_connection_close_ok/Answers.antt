@@ -29,10 +29,10 @@ pub returns : goal.returns
 returns c =
     seen_is _ _ _ _ _ _ _ _ _ _ _ _ _ _ (ap (λ (o : Outgoing). o.frame_max) c.resolve.ensures.outbox ∙ c.drop_unsent.ensures.frame_max) refl refl refl refl refl refl
     ∙ connection_answered c.self.inside.desk.outbox.frame_max c.self.inside.link c.self.inside.phases.entries c.self.inside.desk.outbox.lists c.self.inside.desk.replies.waiting c.self.inside.desk.tickets.slots c.self.inside.confirms.book _ _ _ _
-        refl
-        (ap (λ (o : Outgoing). o.lists) c.resolve.ensures.outbox ∙ c.drop_unsent.ensures.lists)
-        (ap (λ (r : OpenRequests). r.waiting) (c.resolve.ensures.replies ∙ c.drop_unsent.ensures.requests) ∙ c.take_request-close.ensures.waiting)
-        (c.resolve.ensures.slots
-        ∙ ap (λ (t : Option ℕ). fold answers.after_mark c.drop_unsent.new.desk.tickets.slots (resolved_with (Ok answer.Done) t)) (c.ticket_of.ensures ∙ ap ticket_of c.take_request-close.ensures.taken)
-        ∙ ap (λ (y : Slots Slot). fold answers.after_mark y.slots (resolved_with (Ok answer.Done) (ticket_of (first_request reply_kind.ConnectionCloseOk (requests_at 0 c.self.inside.desk.replies.waiting))))) c.drop_unsent.ensures.tickets)
+    refl
+    (ap (λ (o : Outgoing). o.lists) c.resolve.ensures.outbox ∙ c.drop_unsent.ensures.lists)
+    (ap (λ (r : OpenRequests). r.waiting) (c.resolve.ensures.replies ∙ c.drop_unsent.ensures.requests) ∙ c.take_request-close.ensures.waiting)
+    (c.resolve.ensures.slots
+    ∙ ap (λ (t : Option ℕ). fold answers.after_mark c.drop_unsent.new.desk.tickets.slots (resolved_with (Ok answer.Done) t)) (c.ticket_of.ensures ∙ ap ticket_of c.take_request-close.ensures.taken)
+    ∙ ap (λ (y : Slots Slot). fold answers.after_mark y.slots (resolved_with (Ok answer.Done) (ticket_of (first_request reply_kind.ConnectionCloseOk (requests_at 0 c.self.inside.desk.replies.waiting))))) c.drop_unsent.ensures.tickets)
     ∙ ap (λ (w : World). hearing incoming.ConnectionCloseOk record_.Received w) c.self.view_is

@@ -1,6 +1,6 @@
 use Rattle.std.proofs.Common.{◌≡◌, ◌≤◌, length}
 use Rattle.lapin_outbox.specs.Drops.{all_entries}
-use Rattle.lapin_desk.proofs.desk.Desk.drop_rest.Given as goal
+use Rattle.lapin_desk.proofs.desk.Desk.drop_waiting.Given as goal
 
 abbrev pub invariant-loop : goal.invariant-loop
 invariant-loop l = record {
