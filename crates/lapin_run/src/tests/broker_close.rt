@@ -32,12 +32,9 @@ fn an_opening_channel_is_closed(rt: HostRuntime) -> Result<(), Fail> {
 
 // The end drops the frames of its channel and resolves all that its opening had open: a pending tag, a begun publish, one that
 // hasn't begun, a ticket that waits. Frames of the other channel leave.
-#[test]
-fn an_open_channel_is_closed_with_all_that_it_holds(rt: HostRuntime) -> Result<(), Fail> {
-    shows(
-        &rt,
-        OPENED,
-        "call 2 channel.open -> ticket 2\n\
+const AN_OPEN_CHANNEL_IS_CLOSED_WITH_ALL_THAT_IT_HOLDS: (&str, &str) = (
+    OPENED,
+    "call 2 channel.open -> ticket 2\n\
          next 1 -> frame method 2 channel.open\n\
          recv method 2 channel.open-ok -> received\n\
          call 1 confirm.select 0 -> ticket 3\n\
@@ -70,9 +67,7 @@ fn an_open_channel_is_closed_with_all_that_it_holds(rt: HostRuntime) -> Result<(
          ticket 6 -> answer confirm 3\n\
          confirm 3 -> confirmed notrequested\n\
          confirm 4 -> refused AlreadyTaken\n",
-    )?;
-    Ok(())
-}
+);
 
 // What was decided before the end stays decided.
 #[test]
@@ -108,28 +103,20 @@ fn outcomes_from_before_the_close_stay(rt: HostRuntime) -> Result<(), Fail> {
 }
 
 // An end takes every frame of its channel, an answer to an earlier close too: one close-ok is left for the last close.
-#[test]
-fn an_end_drops_an_answer_that_has_not_left(rt: HostRuntime) -> Result<(), Fail> {
-    shows(
-        &rt,
-        OPENED,
-        "recv method 1 channel.close 404 x 0 0 -> received\n\
+const AN_END_DROPS_AN_ANSWER_THAT_HAS_NOT_LEFT: (&str, &str) = (
+    OPENED,
+    "recv method 1 channel.close 404 x 0 0 -> received\n\
          call 1 channel.open -> ticket 2\n\
          recv method 1 channel.close 405 x 0 0 -> received\n\
          ticket 2 -> error ProtocolError 405\n\
          next 1 -> frame method 1 channel.close-ok\n\
          next 1 -> noframe\n",
-    )?;
-    Ok(())
-}
+);
 
 // A new opening isn't selected and numbers its tags from 1. A settlement there says nothing of the opening before it.
-#[test]
-fn a_channel_opened_again_begins_anew(rt: HostRuntime) -> Result<(), Fail> {
-    shows(
-        &rt,
-        SELECTED,
-        "call 1 basic.publish x x71 0 0 x [] -> publish 3 1\n\
+const A_CHANNEL_OPENED_AGAIN_BEGINS_ANEW: (&str, &str) = (
+    SELECTED,
+    "call 1 basic.publish x x71 0 0 x [] -> publish 3 1\n\
          next 1 -> frame method 1 basic.publish x x71 0 0\n\
          next 1 -> frame header 1 60 0 []\n\
          call 1 channel.close 200 x -> ticket 4\n\
@@ -152,9 +139,7 @@ fn a_channel_opened_again_begins_anew(rt: HostRuntime) -> Result<(), Fail> {
          recv method 1 basic.ack 1 0 -> received\n\
          confirm 3 -> confirmed ack -\n\
          confirm 1 -> error InvalidChannelState closed\n",
-    )?;
-    Ok(())
-}
+);
 
 // Also after the broker's close, whose answer leaves before the new open, and after the session's own close.
 #[test]
@@ -198,5 +183,17 @@ fn tags_begin_at_one_after_each_end(rt: HostRuntime) -> Result<(), Fail> {
          confirm 2 -> pending\n\
          confirm 1 -> error ProtocolError 406\n",
     )?;
+    Ok(())
+}
+
+#[test]
+fn the_broker_closes_a_channel(rt: HostRuntime) -> Result<(), Fail> {
+    for (begun, history) in [
+        AN_OPEN_CHANNEL_IS_CLOSED_WITH_ALL_THAT_IT_HOLDS,
+        AN_END_DROPS_AN_ANSWER_THAT_HAS_NOT_LEFT,
+        A_CHANNEL_OPENED_AGAIN_BEGINS_ANEW,
+    ] {
+        shows(&rt, begun, history)?;
+    }
     Ok(())
 }

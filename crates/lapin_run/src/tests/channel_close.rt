@@ -3,12 +3,9 @@ use super::run::{OPENED, SELECTED, shows};
 use std::test::Fail;
 
 // The close rejects at once what hasn't begun. What has begun leaves whole, and before the close.
-#[test]
-fn a_begun_publish_leaves_before_the_close(rt: HostRuntime) -> Result<(), Fail> {
-    shows(
-        &rt,
-        OPENED,
-        "call 1 basic.publish x x68656c6c6f 0 0 x6162 [] -> publish 2 1\n\
+const A_BEGUN_PUBLISH_LEAVES_BEFORE_THE_CLOSE: (&str, &str) = (
+    OPENED,
+    "call 1 basic.publish x x68656c6c6f 0 0 x6162 [] -> publish 2 1\n\
          call 1 basic.publish x x68656c6c6f 0 0 x6364 [] -> publish 3 2\n\
          next 1 -> frame method 1 basic.publish x x68656c6c6f 0 0\n\
          call 1 channel.close 200 x6f6b -> ticket 4\n\
@@ -21,17 +18,12 @@ fn a_begun_publish_leaves_before_the_close(rt: HostRuntime) -> Result<(), Fail> 
          ticket 2 -> answer confirm 1\n\
          recv method 1 channel.close-ok -> received\n\
          ticket 4 -> answer done\n",
-    )?;
-    Ok(())
-}
+);
 
 // Until close-ok the opening lives: what is settled keeps its outcome, what isn't gets the error of the end. Each gives it once.
-#[test]
-fn settlements_count_until_close_ok(rt: HostRuntime) -> Result<(), Fail> {
-    shows(
-        &rt,
-        SELECTED,
-        "call 1 basic.publish x x71 0 0 x [] -> publish 3 1\n\
+const SETTLEMENTS_COUNT_UNTIL_CLOSE_OK: (&str, &str) = (
+    SELECTED,
+    "call 1 basic.publish x x71 0 0 x [] -> publish 3 1\n\
          call 1 basic.publish x x71 0 0 x [] -> publish 4 2\n\
          next 1 -> frame method 1 basic.publish x x71 0 0\n\
          next 1 -> frame header 1 60 0 []\n\
@@ -52,17 +44,12 @@ fn settlements_count_until_close_ok(rt: HostRuntime) -> Result<(), Fail> {
          confirm 2 -> refused AlreadyTaken\n\
          ticket 5 -> answer done\n\
          ticket 5 -> refused AlreadyTaken\n",
-    )?;
-    Ok(())
-}
+);
 
 // The broker's close ends the opening with the broker's code, for the ticket of the close too. The own close never leaves.
-#[test]
-fn the_brokers_close_comes_before_the_own_close_left(rt: HostRuntime) -> Result<(), Fail> {
-    shows(
-        &rt,
-        SELECTED,
-        "call 1 basic.publish x x71 0 0 x [] -> publish 3 1\n\
+const THE_BROKERS_CLOSE_COMES_BEFORE_THE_OWN_CLOSE_LEFT: (&str, &str) = (
+    SELECTED,
+    "call 1 basic.publish x x71 0 0 x [] -> publish 3 1\n\
          next 1 -> frame method 1 basic.publish x x71 0 0\n\
          next 1 -> frame header 1 60 0 []\n\
          call 1 basic.publish x x71 0 0 x [] -> publish 4 2\n\
@@ -76,17 +63,12 @@ fn the_brokers_close_comes_before_the_own_close_left(rt: HostRuntime) -> Result<
          ticket 3 -> answer confirm 1\n\
          next 1 -> frame method 1 channel.close-ok\n\
          next 1 -> noframe\n",
-    )?;
-    Ok(())
-}
+);
 
 // close-ok is heard by the state alone. It ends the opening, which drops a begun publish and the own close.
-#[test]
-fn close_ok_comes_before_the_own_close_left(rt: HostRuntime) -> Result<(), Fail> {
-    shows(
-        &rt,
-        SELECTED,
-        "call 1 basic.publish x x71 0 0 x616263 [] -> publish 3 1\n\
+const CLOSE_OK_COMES_BEFORE_THE_OWN_CLOSE_LEFT: (&str, &str) = (
+    SELECTED,
+    "call 1 basic.publish x x71 0 0 x616263 [] -> publish 3 1\n\
          next 1 -> frame method 1 basic.publish x x71 0 0\n\
          call 1 channel.close 200 x -> ticket 4\n\
          recv method 1 channel.close-ok -> received\n\
@@ -95,34 +77,24 @@ fn close_ok_comes_before_the_own_close_left(rt: HostRuntime) -> Result<(), Fail>
          ticket 3 -> error InvalidChannelState closed\n\
          confirm 1 -> error InvalidChannelState closed\n\
          next 1 -> noframe\n",
-    )?;
-    Ok(())
-}
+);
 
 // The close is done at close-ok also where it never left.
-#[test]
-fn a_close_that_has_not_left_is_done_at_close_ok(rt: HostRuntime) -> Result<(), Fail> {
-    shows(
-        &rt,
-        OPENED,
-        "call 1 channel.close 200 x -> ticket 2\n\
+const A_CLOSE_THAT_HAS_NOT_LEFT_IS_DONE_AT_CLOSE_OK: (&str, &str) = (
+    OPENED,
+    "call 1 channel.close 200 x -> ticket 2\n\
          recv method 1 channel.close-ok -> received\n\
          ticket 2 -> answer done\n\
          ticket 2 -> refused AlreadyTaken\n\
          next 1 -> noframe\n\
          state 1 -> state open closed\n",
-    )?;
-    Ok(())
-}
+);
 
 // A select that was queued earlier leaves first, selects a closing opening, and is answered there. Then a single settlement of
 // a tag that isn't pending is refused, and changes nothing more: one close is on its way already.
-#[test]
-fn a_select_before_the_close_is_answered_after_it(rt: HostRuntime) -> Result<(), Fail> {
-    shows(
-        &rt,
-        OPENED,
-        "call 1 confirm.select 0 -> ticket 2\n\
+const A_SELECT_BEFORE_THE_CLOSE_IS_ANSWERED_AFTER_IT: (&str, &str) = (
+    OPENED,
+    "call 1 confirm.select 0 -> ticket 2\n\
          call 1 basic.publish x x71 0 0 x [] -> publish 3 1\n\
          call 1 channel.close 200 x -> ticket 4\n\
          recv method 1 basic.ack 1 0 -> passed\n\
@@ -137,17 +109,12 @@ fn a_select_before_the_close_is_answered_after_it(rt: HostRuntime) -> Result<(),
          state 1 -> state open closing\n\
          recv method 1 channel.close-ok -> received\n\
          ticket 4 -> answer done\n",
-    )?;
-    Ok(())
-}
+);
 
 // A ticket that still waits at close-ok gets the error of the end. A select without wait was answered in the call.
-#[test]
-fn tickets_that_wait_at_close_ok_get_its_error(rt: HostRuntime) -> Result<(), Fail> {
-    shows(
-        &rt,
-        OPENED,
-        "call 1 confirm.select 0 -> ticket 2\n\
+const TICKETS_THAT_WAIT_AT_CLOSE_OK_GET_ITS_ERROR: (&str, &str) = (
+    OPENED,
+    "call 1 confirm.select 0 -> ticket 2\n\
          call 1 confirm.select 1 -> ticket 3\n\
          call 1 channel.close 200 x -> ticket 4\n\
          next 1 -> frame method 1 confirm.select 0\n\
@@ -157,18 +124,13 @@ fn tickets_that_wait_at_close_ok_get_its_error(rt: HostRuntime) -> Result<(), Fa
          ticket 2 -> error InvalidChannelState closed\n\
          ticket 3 -> answer done\n\
          ticket 4 -> answer done\n",
-    )?;
-    Ok(())
-}
+);
 
 // No call is allowed on a closing channel; one that is refused uses no number. A close needs an open channel, so that the
 // connection's number is refused too.
-#[test]
-fn a_closing_channel_takes_no_call(rt: HostRuntime) -> Result<(), Fail> {
-    shows(
-        &rt,
-        OPENED,
-        "call 0 channel.close 200 x -> refused InvalidChannelState base\n\
+const A_CLOSING_CHANNEL_TAKES_NO_CALL: (&str, &str) = (
+    OPENED,
+    "call 0 channel.close 200 x -> refused InvalidChannelState base\n\
          call 2 channel.close 200 x -> refused InvalidChannelState closed\n\
          call 1 channel.close 200 x -> ticket 2\n\
          call 1 channel.open -> refused InvalidChannelState closing\n\
@@ -182,17 +144,12 @@ fn a_closing_channel_takes_no_call(rt: HostRuntime) -> Result<(), Fail> {
          call 1 channel.close 200 x -> refused InvalidChannelState closed\n\
          call 1 channel.open -> ticket 3\n\
          call 1 channel.close 200 x -> refused InvalidChannelState opening\n",
-    )?;
-    Ok(())
-}
+);
 
 // A close touches its own channel alone.
-#[test]
-fn the_publishes_of_another_channel_stay(rt: HostRuntime) -> Result<(), Fail> {
-    shows(
-        &rt,
-        OPENED,
-        "call 2 channel.open -> ticket 2\n\
+const THE_PUBLISHES_OF_ANOTHER_CHANNEL_STAY: (&str, &str) = (
+    OPENED,
+    "call 2 channel.open -> ticket 2\n\
          next 1 -> frame method 2 channel.open\n\
          recv method 2 channel.open-ok -> received\n\
          call 1 basic.publish x x71 0 0 x [] -> publish 3 1\n\
@@ -213,6 +170,22 @@ fn the_publishes_of_another_channel_stay(rt: HostRuntime) -> Result<(), Fail> {
          next 1 -> noframe\n\
          state 2 -> state open open\n\
          ticket 6 -> answer confirm 4\n",
-    )?;
+);
+
+#[test]
+fn the_application_closes_a_channel(rt: HostRuntime) -> Result<(), Fail> {
+    for (begun, history) in [
+        A_BEGUN_PUBLISH_LEAVES_BEFORE_THE_CLOSE,
+        SETTLEMENTS_COUNT_UNTIL_CLOSE_OK,
+        THE_BROKERS_CLOSE_COMES_BEFORE_THE_OWN_CLOSE_LEFT,
+        CLOSE_OK_COMES_BEFORE_THE_OWN_CLOSE_LEFT,
+        A_CLOSE_THAT_HAS_NOT_LEFT_IS_DONE_AT_CLOSE_OK,
+        A_SELECT_BEFORE_THE_CLOSE_IS_ANSWERED_AFTER_IT,
+        TICKETS_THAT_WAIT_AT_CLOSE_OK_GET_ITS_ERROR,
+        A_CLOSING_CHANNEL_TAKES_NO_CALL,
+        THE_PUBLISHES_OF_ANOTHER_CHANNEL_STAY,
+    ] {
+        shows(&rt, begun, history)?;
+    }
     Ok(())
 }

@@ -42,12 +42,9 @@ const EACH_STATE: &str = "\
     state 0 -> state open base\n";
 
 // Every opening ends with the state that its channel has now, and every frame is dropped before the close is queued.
-#[test]
-fn the_application_closes_over_each_state(rt: HostRuntime) -> Result<(), Fail> {
-    shows(
-        &rt,
-        EACH_STATE,
-        "call 0 connection.close 200 x6f6b -> ticket 13\n\
+const THE_APPLICATION_CLOSES_OVER_EACH_STATE: (&str, &str) = (
+    EACH_STATE,
+    "call 0 connection.close 200 x6f6b -> ticket 13\n\
          state 5 -> state closing down\n\
          state 0 -> state closing down\n\
          ticket 1 -> error InvalidChannelState down\n\
@@ -65,17 +62,12 @@ fn the_application_closes_over_each_state(rt: HostRuntime) -> Result<(), Fail> {
          confirm 3 -> error InvalidChannelState down\n\
          next 1 -> frame method 0 connection.close 200 x6f6b 0 0\n\
          next 1 -> noframe\n",
-    )?;
-    Ok(())
-}
+);
 
 // Every opening ends with the broker's code, and every frame is dropped before close-ok is queued.
-#[test]
-fn the_broker_closes_over_each_state(rt: HostRuntime) -> Result<(), Fail> {
-    shows(
-        &rt,
-        EACH_STATE,
-        "recv method 0 connection.close 320 x6f6b 0 0 -> received\n\
+const THE_BROKER_CLOSES_OVER_EACH_STATE: (&str, &str) = (
+    EACH_STATE,
+    "recv method 0 connection.close 320 x6f6b 0 0 -> received\n\
          state 5 -> state closed down\n\
          state 0 -> state closed down\n\
          ticket 1 -> error ProtocolError 320\n\
@@ -92,17 +84,12 @@ fn the_broker_closes_over_each_state(rt: HostRuntime) -> Result<(), Fail> {
          confirm 3 -> error ProtocolError 320\n\
          next 1 -> frame method 0 connection.close-ok\n\
          next 1 -> noframe\n",
-    )?;
-    Ok(())
-}
+);
 
 // A frame that no rule hears ends every opening with the code of the session's close of the connection.
-#[test]
-fn an_unexpected_frame_closes_over_each_state(rt: HostRuntime) -> Result<(), Fail> {
-    shows(
-        &rt,
-        EACH_STATE,
-        "recv method 2 channel.open-ok -> refused UnexpectedFrame 20 11\n\
+const AN_UNEXPECTED_FRAME_CLOSES_OVER_EACH_STATE: (&str, &str) = (
+    EACH_STATE,
+    "recv method 2 channel.open-ok -> refused UnexpectedFrame 20 11\n\
          state 5 -> state closing down\n\
          state 0 -> state closing down\n\
          ticket 1 -> error ProtocolError 505\n\
@@ -119,17 +106,12 @@ fn an_unexpected_frame_closes_over_each_state(rt: HostRuntime) -> Result<(), Fai
          confirm 3 -> error ProtocolError 505\n\
          next 1 -> frame method 0 connection.close 505 x554e45585045435445445f4652414d45 20 11\n\
          next 1 -> noframe\n",
-    )?;
-    Ok(())
-}
+);
 
 // A loss ends every opening, and nothing leaves any more.
-#[test]
-fn the_connection_is_lost_over_each_state(rt: HostRuntime) -> Result<(), Fail> {
-    shows(
-        &rt,
-        EACH_STATE,
-        "lost -> lost\n\
+const THE_CONNECTION_IS_LOST_OVER_EACH_STATE: (&str, &str) = (
+    EACH_STATE,
+    "lost -> lost\n\
          state 5 -> state lost down\n\
          state 0 -> state lost down\n\
          ticket 1 -> error ConnectionLost\n\
@@ -145,17 +127,12 @@ fn the_connection_is_lost_over_each_state(rt: HostRuntime) -> Result<(), Fail> {
          confirm 2 -> error ConnectionLost\n\
          confirm 3 -> error ConnectionLost\n\
          next 1 -> noframe\n",
-    )?;
-    Ok(())
-}
+);
 
 // A publish that has begun is cut, and the answer to another channel's close is dropped.
-#[test]
-fn a_begun_publish_is_cut(rt: HostRuntime) -> Result<(), Fail> {
-    shows(
-        &rt,
-        OPENED,
-        "call 2 channel.open -> ticket 2\n\
+const A_BEGUN_PUBLISH_IS_CUT: (&str, &str) = (
+    OPENED,
+    "call 2 channel.open -> ticket 2\n\
          next 1 -> frame method 2 channel.open\n\
          recv method 2 channel.open-ok -> received\n\
          call 1 basic.publish x x68656c6c6f 0 0 x616263 [] -> publish 3 1\n\
@@ -166,9 +143,7 @@ fn a_begun_publish_is_cut(rt: HostRuntime) -> Result<(), Fail> {
          next 1 -> noframe\n\
          confirm 1 -> confirmed notrequested\n\
          ticket 3 -> error InvalidChannelState down\n",
-    )?;
-    Ok(())
-}
+);
 
 // Closes of the connection that cross: the broker's is answered once, and the own one still waits for close-ok.
 #[test]
@@ -203,12 +178,9 @@ fn closes_of_the_connection_cross(rt: HostRuntime) -> Result<(), Fail> {
 }
 
 // The broker's close drops an own close that hasn't left and is the end: the ticket gets the broker's code.
-#[test]
-fn the_brokers_close_comes_before_the_own_close_left(rt: HostRuntime) -> Result<(), Fail> {
-    shows(
-        &rt,
-        OPENED,
-        "call 0 connection.close 200 x -> ticket 2\n\
+const THE_BROKERS_CLOSE_COMES_BEFORE_THE_OWN_CLOSE_LEFT: (&str, &str) = (
+    OPENED,
+    "call 0 connection.close 200 x -> ticket 2\n\
          recv method 0 connection.close 320 x 0 0 -> received\n\
          state 0 -> state closed down\n\
          ticket 2 -> error ProtocolError 320\n\
@@ -217,33 +189,23 @@ fn the_brokers_close_comes_before_the_own_close_left(rt: HostRuntime) -> Result<
          recv method 0 connection.close-ok -> passed\n\
          recv method 0 connection.close 320 x 0 0 -> passed\n\
          next 1 -> noframe\n",
-    )?;
-    Ok(())
-}
+);
 
 // close-ok drops an own close that hasn't left, and is the end.
-#[test]
-fn close_ok_comes_before_the_own_close_left(rt: HostRuntime) -> Result<(), Fail> {
-    shows(
-        &rt,
-        OPENED,
-        "call 0 connection.close 200 x -> ticket 2\n\
+const CLOSE_OK_COMES_BEFORE_THE_OWN_CLOSE_LEFT: (&str, &str) = (
+    OPENED,
+    "call 0 connection.close 200 x -> ticket 2\n\
          recv method 0 connection.close-ok -> received\n\
          state 0 -> state closed down\n\
          ticket 2 -> answer done\n\
          ticket 2 -> refused AlreadyTaken\n\
          next 1 -> noframe\n",
-    )?;
-    Ok(())
-}
+);
 
 // While the connection is closing every frame is passed over but a close and close-ok on its own channel, and no call is allowed.
-#[test]
-fn a_closing_connection_passes_over_the_rest(rt: HostRuntime) -> Result<(), Fail> {
-    shows(
-        &rt,
-        OPENED,
-        "call 0 connection.close 200 x -> ticket 2\n\
+const A_CLOSING_CONNECTION_PASSES_OVER_THE_REST: (&str, &str) = (
+    OPENED,
+    "call 0 connection.close 200 x -> ticket 2\n\
          next 1 -> frame method 0 connection.close 200 x 0 0\n\
          recv method 1 channel.open-ok -> passed\n\
          recv method 1 confirm.select-ok -> passed\n\
@@ -271,26 +233,19 @@ fn a_closing_connection_passes_over_the_rest(rt: HostRuntime) -> Result<(), Fail
          recv method 0 connection.close 320 x 0 0 -> passed\n\
          next 1 -> noframe\n\
          state 1 -> state closed down\n",
-    )?;
-    Ok(())
-}
+);
 
 // The connection is closed on channel 0, and a call there is refused by no other state. A refused close uses no number.
-#[test]
-fn the_connection_is_closed_on_its_own_channel(rt: HostRuntime) -> Result<(), Fail> {
-    shows(
-        &rt,
-        OPENED,
-        "call 1 connection.close 200 x -> refused InvalidChannelState open\n\
+const THE_CONNECTION_IS_CLOSED_ON_ITS_OWN_CHANNEL: (&str, &str) = (
+    OPENED,
+    "call 1 connection.close 200 x -> refused InvalidChannelState open\n\
          call 2 connection.close 200 x -> refused InvalidChannelState closed\n\
          call 0 channel.open -> refused InvalidChannelState base\n\
          call 0 confirm.select 0 -> refused InvalidChannelState base\n\
          state 0 -> state open base\n\
          next 1 -> noframe\n\
          call 0 connection.close 200 x -> ticket 2\n",
-    )?;
-    Ok(())
-}
+);
 
 // The connection can be closed while no channel was ever opened, by either side.
 #[test]
@@ -313,5 +268,23 @@ fn a_connection_without_channels_is_closed(rt: HostRuntime) -> Result<(), Fail> 
          next 0 -> frame method 0 connection.close-ok\n\
          next 0 -> noframe\n",
     )?;
+    Ok(())
+}
+
+#[test]
+fn the_connection_is_closed(rt: HostRuntime) -> Result<(), Fail> {
+    for (begun, history) in [
+        THE_APPLICATION_CLOSES_OVER_EACH_STATE,
+        THE_BROKER_CLOSES_OVER_EACH_STATE,
+        AN_UNEXPECTED_FRAME_CLOSES_OVER_EACH_STATE,
+        THE_CONNECTION_IS_LOST_OVER_EACH_STATE,
+        A_BEGUN_PUBLISH_IS_CUT,
+        THE_BROKERS_CLOSE_COMES_BEFORE_THE_OWN_CLOSE_LEFT,
+        CLOSE_OK_COMES_BEFORE_THE_OWN_CLOSE_LEFT,
+        A_CLOSING_CONNECTION_PASSES_OVER_THE_REST,
+        THE_CONNECTION_IS_CLOSED_ON_ITS_OWN_CHANNEL,
+    ] {
+        shows(&rt, begun, history)?;
+    }
     Ok(())
 }

@@ -15,12 +15,9 @@ const CROSSED: &str = "\
 
 // The opening ends at the broker's close, with its code; the ticket of the own close waits for close-ok. Then the channel can be
 // opened again, and its tags begin at 1.
-#[test]
-fn crossed_closes_end_at_close_ok(rt: HostRuntime) -> Result<(), Fail> {
-    shows(
-        &rt,
-        SELECTED,
-        "call 1 basic.publish x x68656c6c6f 0 0 x [] -> publish 3 1\n\
+const CROSSED_CLOSES_END_AT_CLOSE_OK: (&str, &str) = (
+    SELECTED,
+    "call 1 basic.publish x x68656c6c6f 0 0 x [] -> publish 3 1\n\
          next 1 -> frame method 1 basic.publish x x68656c6c6f 0 0\n\
          next 1 -> frame header 1 60 0 []\n\
          call 1 channel.close 200 x -> ticket 4\n\
@@ -41,18 +38,13 @@ fn crossed_closes_end_at_close_ok(rt: HostRuntime) -> Result<(), Fail> {
          next 1 -> frame method 1 basic.publish x x68656c6c6f 0 0\n\
          recv method 1 basic.ack 1 0 -> received\n\
          confirm 2 -> confirmed ack -\n",
-    )?;
-    Ok(())
-}
+);
 
 // Every ticket of the opening but that of the close gets the broker's code. No call is allowed. A close-ok that comes before the
 // own answer left ends the crossing, and the answer leaves before the next open.
-#[test]
-fn a_crossed_channel_waits_for_close_ok(rt: HostRuntime) -> Result<(), Fail> {
-    shows(
-        &rt,
-        SELECTED,
-        "call 1 confirm.select 0 -> ticket 3\n\
+const A_CROSSED_CHANNEL_WAITS_FOR_CLOSE_OK: (&str, &str) = (
+    SELECTED,
+    "call 1 confirm.select 0 -> ticket 3\n\
          next 1 -> frame method 1 confirm.select 0\n\
          call 1 basic.publish x x71 0 0 x [] -> publish 4 1\n\
          next 1 -> frame method 1 basic.publish x x71 0 0\n\
@@ -76,9 +68,7 @@ fn a_crossed_channel_waits_for_close_ok(rt: HostRuntime) -> Result<(), Fail> {
          next 1 -> frame method 1 channel.close-ok\n\
          next 1 -> frame method 1 channel.open\n\
          next 1 -> noframe\n",
-    )?;
-    Ok(())
-}
+);
 
 // Of the broker's frames a crossed channel hears close-ok alone. Another closes the connection, with which the ticket of the
 // close ends.
@@ -136,5 +126,16 @@ fn a_crossed_channel_goes_down_with_its_close_ticket(rt: HostRuntime) -> Result<
          state 1 -> state lost down\n\
          next 1 -> noframe\n",
     )?;
+    Ok(())
+}
+
+#[test]
+fn closes_of_a_channel_cross(rt: HostRuntime) -> Result<(), Fail> {
+    for (begun, history) in [
+        CROSSED_CLOSES_END_AT_CLOSE_OK,
+        A_CROSSED_CHANNEL_WAITS_FOR_CLOSE_OK,
+    ] {
+        shows(&rt, begun, history)?;
+    }
     Ok(())
 }

@@ -2,12 +2,9 @@
 use super::run::{OPENED, SELECTED, shows};
 use std::test::Fail;
 
-#[test]
-fn what_waits_gets_connection_lost(rt: HostRuntime) -> Result<(), Fail> {
-    shows(
-        &rt,
-        SELECTED,
-        "call 1 basic.publish x x68656c6c6f 0 0 x616263 [] -> publish 3 1\n\
+const WHAT_WAITS_GETS_CONNECTION_LOST: (&str, &str) = (
+    SELECTED,
+    "call 1 basic.publish x x68656c6c6f 0 0 x616263 [] -> publish 3 1\n\
          next 1 -> frame method 1 basic.publish x x68656c6c6f 0 0\n\
          next 1 -> frame header 1 60 3 []\n\
          lost -> lost\n\
@@ -16,17 +13,12 @@ fn what_waits_gets_connection_lost(rt: HostRuntime) -> Result<(), Fail> {
          next 1 -> noframe\n\
          lost -> lost\n\
          state 1 -> state lost down\n",
-    )?;
-    Ok(())
-}
+);
 
 // What was decided or rejected before keeps its outcome, and gives it once.
-#[test]
-fn outcomes_from_before_the_loss_stay(rt: HostRuntime) -> Result<(), Fail> {
-    shows(
-        &rt,
-        OPENED,
-        "call 1 basic.publish x x71 0 0 x [] -> publish 2 1\n\
+const OUTCOMES_FROM_BEFORE_THE_LOSS_STAY: (&str, &str) = (
+    OPENED,
+    "call 1 basic.publish x x71 0 0 x [] -> publish 2 1\n\
          next 1 -> frame method 1 basic.publish x x71 0 0\n\
          next 1 -> frame header 1 60 0 []\n\
          call 1 confirm.select 0 -> ticket 3\n\
@@ -57,9 +49,7 @@ fn outcomes_from_before_the_loss_stay(rt: HostRuntime) -> Result<(), Fail> {
          ticket 7 -> error InvalidChannelState closing\n\
          ticket 8 -> error ConnectionLost\n\
          ticket 8 -> refused AlreadyTaken\n",
-    )?;
-    Ok(())
-}
+);
 
 // A loss while the connection is closing drops its close and ends the ticket of it. A second loss changes nothing, and no frame
 // is heard any more.
@@ -125,28 +115,20 @@ fn a_closed_connection_is_lost(rt: HostRuntime) -> Result<(), Fail> {
 }
 
 // A connection with crossed closes waits for close-ok: a loss ends its ticket, and drops the answer.
-#[test]
-fn a_connection_with_crossed_closes_is_lost(rt: HostRuntime) -> Result<(), Fail> {
-    shows(
-        &rt,
-        OPENED,
-        "call 0 connection.close 200 x -> ticket 2\n\
+const A_CONNECTION_WITH_CROSSED_CLOSES_IS_LOST: (&str, &str) = (
+    OPENED,
+    "call 0 connection.close 200 x -> ticket 2\n\
          next 1 -> frame method 0 connection.close 200 x 0 0\n\
          recv method 0 connection.close 320 x 0 0 -> received\n\
          lost -> lost\n\
          ticket 2 -> error ConnectionLost\n\
          next 1 -> noframe\n\
          state 0 -> state lost down\n",
-    )?;
-    Ok(())
-}
+);
 
-#[test]
-fn a_new_session_is_lost(rt: HostRuntime) -> Result<(), Fail> {
-    shows(
-        &rt,
-        "",
-        "state 0 -> state open base\n\
+const A_NEW_SESSION_IS_LOST: (&str, &str) = (
+    "",
+    "state 0 -> state open base\n\
          state 1 -> state open closed\n\
          lost -> lost\n\
          state 0 -> state lost down\n\
@@ -154,6 +136,17 @@ fn a_new_session_is_lost(rt: HostRuntime) -> Result<(), Fail> {
          call 1 channel.open -> refused InvalidChannelState down\n\
          ticket 1 -> refused UnknownTicket\n\
          lost -> lost\n",
-    )?;
+);
+
+#[test]
+fn the_connection_is_lost(rt: HostRuntime) -> Result<(), Fail> {
+    for (begun, history) in [
+        WHAT_WAITS_GETS_CONNECTION_LOST,
+        OUTCOMES_FROM_BEFORE_THE_LOSS_STAY,
+        A_CONNECTION_WITH_CROSSED_CLOSES_IS_LOST,
+        A_NEW_SESSION_IS_LOST,
+    ] {
+        shows(&rt, begun, history)?;
+    }
     Ok(())
 }

@@ -2,12 +2,9 @@
 use super::run::{OPENED, SELECTED, shows};
 use std::test::Fail;
 
-#[test]
-fn a_wrong_ack_closes_the_channel(rt: HostRuntime) -> Result<(), Fail> {
-    shows(
-        &rt,
-        SELECTED,
-        "call 1 basic.publish x x68656c6c6f 0 0 x [] -> publish 3 1\n\
+const A_WRONG_ACK_CLOSES_THE_CHANNEL: (&str, &str) = (
+    SELECTED,
+    "call 1 basic.publish x x68656c6c6f 0 0 x [] -> publish 3 1\n\
          next 1 -> frame method 1 basic.publish x x68656c6c6f 0 0\n\
          next 1 -> frame header 1 60 0 []\n\
          recv method 1 basic.ack 7 0 -> refused PreconditionFailed 7 1\n\
@@ -16,9 +13,7 @@ fn a_wrong_ack_closes_the_channel(rt: HostRuntime) -> Result<(), Fail> {
          confirm 1 -> confirmed ack -\n\
          recv method 1 channel.close-ok -> received\n\
          state 1 -> state open closed\n",
-    )?;
-    Ok(())
-}
+);
 
 // The close names the method of a nack; a tag that was settled isn't pending, and no tag is 0.
 #[test]
@@ -48,12 +43,9 @@ fn a_wrong_nack_is_named_in_the_close(rt: HostRuntime) -> Result<(), Fail> {
 
 // As at the application's close: what hasn't begun is rejected at once, what has begun leaves before the close. The error is
 // that of the close.
-#[test]
-fn it_rejects_what_has_not_begun(rt: HostRuntime) -> Result<(), Fail> {
-    shows(
-        &rt,
-        SELECTED,
-        "call 1 basic.publish x x71 0 0 x616263 [] -> publish 3 1\n\
+const IT_REJECTS_WHAT_HAS_NOT_BEGUN: (&str, &str) = (
+    SELECTED,
+    "call 1 basic.publish x x71 0 0 x616263 [] -> publish 3 1\n\
          call 1 basic.publish x x71 0 0 x [] -> publish 4 2\n\
          next 1 -> frame method 1 basic.publish x x71 0 0\n\
          recv method 1 basic.ack 2 0 -> refused PreconditionFailed 2 1\n\
@@ -69,17 +61,12 @@ fn it_rejects_what_has_not_begun(rt: HostRuntime) -> Result<(), Fail> {
          recv method 1 channel.close-ok -> received\n\
          confirm 1 -> error ProtocolError 406\n\
          state 1 -> state open closed\n",
-    )?;
-    Ok(())
-}
+);
 
 // A second wrong settlement is refused and queues no second close. An open ticket gets the error of the close at close-ok.
-#[test]
-fn one_close_for_two_wrong_settlements(rt: HostRuntime) -> Result<(), Fail> {
-    shows(
-        &rt,
-        SELECTED,
-        "call 1 confirm.select 0 -> ticket 3\n\
+const ONE_CLOSE_FOR_TWO_WRONG_SETTLEMENTS: (&str, &str) = (
+    SELECTED,
+    "call 1 confirm.select 0 -> ticket 3\n\
          recv method 1 basic.ack 9 0 -> refused PreconditionFailed 9 0\n\
          recv method 1 basic.nack 9 0 1 -> refused PreconditionFailed 9 0\n\
          state 1 -> state open closing\n\
@@ -90,17 +77,12 @@ fn one_close_for_two_wrong_settlements(rt: HostRuntime) -> Result<(), Fail> {
          recv method 1 channel.close-ok -> received\n\
          ticket 3 -> error ProtocolError 406\n\
          state 1 -> state open closed\n",
-    )?;
-    Ok(())
-}
+);
 
 // The broker's close drops the session's close and ends the opening with the broker's code.
-#[test]
-fn the_brokers_close_comes_before_it_left(rt: HostRuntime) -> Result<(), Fail> {
-    shows(
-        &rt,
-        SELECTED,
-        "call 1 basic.publish x x71 0 0 x [] -> publish 3 1\n\
+const THE_BROKERS_CLOSE_COMES_BEFORE_IT_LEFT: (&str, &str) = (
+    SELECTED,
+    "call 1 basic.publish x x71 0 0 x [] -> publish 3 1\n\
          next 1 -> frame method 1 basic.publish x x71 0 0\n\
          next 1 -> frame header 1 60 0 []\n\
          recv method 1 basic.ack 9 0 -> refused PreconditionFailed 9 1\n\
@@ -109,17 +91,12 @@ fn the_brokers_close_comes_before_it_left(rt: HostRuntime) -> Result<(), Fail> {
          confirm 1 -> error ProtocolError 404\n\
          next 1 -> frame method 1 channel.close-ok\n\
          next 1 -> noframe\n",
-    )?;
-    Ok(())
-}
+);
 
 // close-ok is heard by the state alone, and drops the session's close.
-#[test]
-fn close_ok_comes_before_it_left(rt: HostRuntime) -> Result<(), Fail> {
-    shows(
-        &rt,
-        SELECTED,
-        "call 1 basic.publish x x71 0 0 x [] -> publish 3 1\n\
+const CLOSE_OK_COMES_BEFORE_IT_LEFT: (&str, &str) = (
+    SELECTED,
+    "call 1 basic.publish x x71 0 0 x [] -> publish 3 1\n\
          next 1 -> frame method 1 basic.publish x x71 0 0\n\
          next 1 -> frame header 1 60 0 []\n\
          recv method 1 basic.ack 9 0 -> refused PreconditionFailed 9 1\n\
@@ -127,17 +104,12 @@ fn close_ok_comes_before_it_left(rt: HostRuntime) -> Result<(), Fail> {
          state 1 -> state open closed\n\
          confirm 1 -> error ProtocolError 406\n\
          next 1 -> noframe\n",
-    )?;
-    Ok(())
-}
+);
 
 // Closes that cross: the broker's code is the error, and nobody holds a ticket of the session's close.
-#[test]
-fn it_crosses_the_brokers_close(rt: HostRuntime) -> Result<(), Fail> {
-    shows(
-        &rt,
-        SELECTED,
-        "call 1 basic.publish x x71 0 0 x [] -> publish 3 1\n\
+const IT_CROSSES_THE_BROKERS_CLOSE: (&str, &str) = (
+    SELECTED,
+    "call 1 basic.publish x x71 0 0 x [] -> publish 3 1\n\
          next 1 -> frame method 1 basic.publish x x71 0 0\n\
          next 1 -> frame header 1 60 0 []\n\
          recv method 1 basic.ack 9 0 -> refused PreconditionFailed 9 1\n\
@@ -150,9 +122,7 @@ fn it_crosses_the_brokers_close(rt: HostRuntime) -> Result<(), Fail> {
          next 1 -> frame method 1 channel.close-ok\n\
          next 1 -> noframe\n\
          call 1 channel.open -> ticket 4\n",
-    )?;
-    Ok(())
-}
+);
 
 // Without a select a settlement is passed over, and a multiple one is never refused.
 #[test]
@@ -173,5 +143,20 @@ fn other_settlements_close_nothing(rt: HostRuntime) -> Result<(), Fail> {
          state 1 -> state open open\n\
          next 1 -> noframe\n",
     )?;
+    Ok(())
+}
+
+#[test]
+fn the_session_closes_a_channel(rt: HostRuntime) -> Result<(), Fail> {
+    for (begun, history) in [
+        A_WRONG_ACK_CLOSES_THE_CHANNEL,
+        IT_REJECTS_WHAT_HAS_NOT_BEGUN,
+        ONE_CLOSE_FOR_TWO_WRONG_SETTLEMENTS,
+        THE_BROKERS_CLOSE_COMES_BEFORE_IT_LEFT,
+        CLOSE_OK_COMES_BEFORE_IT_LEFT,
+        IT_CROSSES_THE_BROKERS_CLOSE,
+    ] {
+        shows(&rt, begun, history)?;
+    }
     Ok(())
 }

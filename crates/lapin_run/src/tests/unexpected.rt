@@ -3,20 +3,15 @@ use super::run::{OPENED, shows};
 use std::alloc::{AllocError, Global};
 use std::test::Fail;
 
-#[test]
-fn a_second_open_ok_closes_the_connection(rt: HostRuntime) -> Result<(), Fail> {
-    shows(
-        &rt,
-        OPENED,
-        "recv method 1 channel.open-ok -> refused UnexpectedFrame 20 11\n\
+const A_SECOND_OPEN_OK_CLOSES_THE_CONNECTION: (&str, &str) = (
+    OPENED,
+    "recv method 1 channel.open-ok -> refused UnexpectedFrame 20 11\n\
          next 1 -> frame method 0 connection.close 505 x554e45585045435445445f4652414d45 20 11\n\
          next 1 -> noframe\n\
          state 1 -> state closing down\n\
          recv method 1 channel.open-ok -> passed\n\
          call 0 connection.close 200 x -> refused InvalidChannelState down\n",
-    )?;
-    Ok(())
-}
+);
 
 // The frame is refused with its class and method; so says the close, which is the one frame left.
 fn refused(alloc: Global, frame: &str, numbers: &str) -> Result<String, AllocError> {
@@ -146,5 +141,13 @@ fn the_session_closes_and_so_does_the_broker(rt: HostRuntime) -> Result<(), Fail
          recv method 0 connection.close 320 x 0 0 -> passed\n\
          next 1 -> noframe\n",
     )?;
+    Ok(())
+}
+
+#[test]
+fn frames_that_are_not_heard(rt: HostRuntime) -> Result<(), Fail> {
+    for (begun, history) in [A_SECOND_OPEN_OK_CLOSES_THE_CONNECTION] {
+        shows(&rt, begun, history)?;
+    }
     Ok(())
 }
