@@ -35,38 +35,38 @@ fn an_opening_channel_is_closed(rt: HostRuntime) -> Result<(), Fail> {
 const AN_OPEN_CHANNEL_IS_CLOSED_WITH_ALL_THAT_IT_HOLDS: (&str, &str) = (
     OPENED,
     "call 2 channel.open -> ticket 2\n\
-         next 1 -> frame method 2 channel.open\n\
-         recv method 2 channel.open-ok -> received\n\
-         call 1 confirm.select 0 -> ticket 3\n\
-         next 1 -> frame method 1 confirm.select 0\n\
-         call 1 basic.publish x x71 0 0 x [] -> publish 4 1\n\
-         call 1 basic.publish x x71 0 0 x616263 [] -> publish 5 2\n\
-         call 2 basic.publish x x71 0 0 x [] -> publish 6 3\n\
-         call 1 basic.publish x x71 0 0 x [] -> publish 7 4\n\
-         next 1 -> frame method 1 basic.publish x x71 0 0\n\
-         next 1 -> frame header 1 60 0 []\n\
-         next 1 -> frame method 1 basic.publish x x71 0 0\n\
-         call 1 confirm.select 0 -> ticket 8\n\
-         recv method 1 channel.close 404 x6e6f 60 40 -> received\n\
-         state 1 -> state open closed\n\
-         ticket 1 -> answer channel 1\n\
-         ticket 3 -> error ProtocolError 404\n\
-         ticket 4 -> answer confirm 1\n\
-         ticket 5 -> error ProtocolError 404\n\
-         ticket 6 -> pending\n\
-         ticket 7 -> error ProtocolError 404\n\
-         ticket 8 -> error ProtocolError 404\n\
-         confirm 1 -> error ProtocolError 404\n\
-         confirm 2 -> error ProtocolError 404\n\
-         confirm 3 -> pending\n\
-         confirm 4 -> error ProtocolError 404\n\
-         next 1 -> frame method 1 channel.close-ok\n\
-         next 1 -> frame method 2 basic.publish x x71 0 0\n\
-         next 1 -> frame header 2 60 0 []\n\
-         next 1 -> noframe\n\
-         ticket 6 -> answer confirm 3\n\
-         confirm 3 -> confirmed notrequested\n\
-         confirm 4 -> refused AlreadyTaken\n",
+     next 1 -> frame method 2 channel.open\n\
+     recv method 2 channel.open-ok -> received\n\
+     call 1 confirm.select 0 -> ticket 3\n\
+     next 1 -> frame method 1 confirm.select 0\n\
+     call 1 basic.publish x x71 0 0 x [] -> publish 4 1\n\
+     call 1 basic.publish x x71 0 0 x616263 [] -> publish 5 2\n\
+     call 2 basic.publish x x71 0 0 x [] -> publish 6 3\n\
+     call 1 basic.publish x x71 0 0 x [] -> publish 7 4\n\
+     next 1 -> frame method 1 basic.publish x x71 0 0\n\
+     next 1 -> frame header 1 60 0 []\n\
+     next 1 -> frame method 1 basic.publish x x71 0 0\n\
+     call 1 confirm.select 0 -> ticket 8\n\
+     recv method 1 channel.close 404 x6e6f 60 40 -> received\n\
+     state 1 -> state open closed\n\
+     ticket 1 -> answer channel 1\n\
+     ticket 3 -> error ProtocolError 404\n\
+     ticket 4 -> answer confirm 1\n\
+     ticket 5 -> error ProtocolError 404\n\
+     ticket 6 -> pending\n\
+     ticket 7 -> error ProtocolError 404\n\
+     ticket 8 -> error ProtocolError 404\n\
+     confirm 1 -> error ProtocolError 404\n\
+     confirm 2 -> error ProtocolError 404\n\
+     confirm 3 -> pending\n\
+     confirm 4 -> error ProtocolError 404\n\
+     next 1 -> frame method 1 channel.close-ok\n\
+     next 1 -> frame method 2 basic.publish x x71 0 0\n\
+     next 1 -> frame header 2 60 0 []\n\
+     next 1 -> noframe\n\
+     ticket 6 -> answer confirm 3\n\
+     confirm 3 -> confirmed notrequested\n\
+     confirm 4 -> refused AlreadyTaken\n",
 );
 
 // What was decided before the end stays decided.
@@ -106,39 +106,39 @@ fn outcomes_from_before_the_close_stay(rt: HostRuntime) -> Result<(), Fail> {
 const AN_END_DROPS_AN_ANSWER_THAT_HAS_NOT_LEFT: (&str, &str) = (
     OPENED,
     "recv method 1 channel.close 404 x 0 0 -> received\n\
-         call 1 channel.open -> ticket 2\n\
-         recv method 1 channel.close 405 x 0 0 -> received\n\
-         ticket 2 -> error ProtocolError 405\n\
-         next 1 -> frame method 1 channel.close-ok\n\
-         next 1 -> noframe\n",
+     call 1 channel.open -> ticket 2\n\
+     recv method 1 channel.close 405 x 0 0 -> received\n\
+     ticket 2 -> error ProtocolError 405\n\
+     next 1 -> frame method 1 channel.close-ok\n\
+     next 1 -> noframe\n",
 );
 
 // A new opening isn't selected and numbers its tags from 1. A settlement there says nothing of the opening before it.
 const A_CHANNEL_OPENED_AGAIN_BEGINS_ANEW: (&str, &str) = (
     SELECTED,
     "call 1 basic.publish x x71 0 0 x [] -> publish 3 1\n\
-         next 1 -> frame method 1 basic.publish x x71 0 0\n\
-         next 1 -> frame header 1 60 0 []\n\
-         call 1 channel.close 200 x -> ticket 4\n\
-         next 1 -> frame method 1 channel.close 200 x 0 0\n\
-         recv method 1 channel.close-ok -> received\n\
-         call 1 channel.open -> ticket 5\n\
-         next 1 -> frame method 1 channel.open\n\
-         recv method 1 channel.open-ok -> received\n\
-         ticket 5 -> answer channel 1\n\
-         call 1 basic.publish x x71 0 0 x [] -> publish 6 2\n\
-         next 1 -> frame method 1 basic.publish x x71 0 0\n\
-         next 1 -> frame header 1 60 0 []\n\
-         confirm 2 -> confirmed notrequested\n\
-         recv method 1 basic.ack 1 0 -> passed\n\
-         call 1 confirm.select 1 -> ticket 7\n\
-         next 1 -> frame method 1 confirm.select 1\n\
-         call 1 basic.publish x x71 0 0 x [] -> publish 8 3\n\
-         next 1 -> frame method 1 basic.publish x x71 0 0\n\
-         next 1 -> frame header 1 60 0 []\n\
-         recv method 1 basic.ack 1 0 -> received\n\
-         confirm 3 -> confirmed ack -\n\
-         confirm 1 -> error InvalidChannelState closed\n",
+     next 1 -> frame method 1 basic.publish x x71 0 0\n\
+     next 1 -> frame header 1 60 0 []\n\
+     call 1 channel.close 200 x -> ticket 4\n\
+     next 1 -> frame method 1 channel.close 200 x 0 0\n\
+     recv method 1 channel.close-ok -> received\n\
+     call 1 channel.open -> ticket 5\n\
+     next 1 -> frame method 1 channel.open\n\
+     recv method 1 channel.open-ok -> received\n\
+     ticket 5 -> answer channel 1\n\
+     call 1 basic.publish x x71 0 0 x [] -> publish 6 2\n\
+     next 1 -> frame method 1 basic.publish x x71 0 0\n\
+     next 1 -> frame header 1 60 0 []\n\
+     confirm 2 -> confirmed notrequested\n\
+     recv method 1 basic.ack 1 0 -> passed\n\
+     call 1 confirm.select 1 -> ticket 7\n\
+     next 1 -> frame method 1 confirm.select 1\n\
+     call 1 basic.publish x x71 0 0 x [] -> publish 8 3\n\
+     next 1 -> frame method 1 basic.publish x x71 0 0\n\
+     next 1 -> frame header 1 60 0 []\n\
+     recv method 1 basic.ack 1 0 -> received\n\
+     confirm 3 -> confirmed ack -\n\
+     confirm 1 -> error InvalidChannelState closed\n",
 );
 
 // Also after the broker's close, whose answer leaves before the new open, and after the session's own close.

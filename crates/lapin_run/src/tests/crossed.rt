@@ -18,26 +18,26 @@ const CROSSED: &str = "\
 const CROSSED_CLOSES_END_AT_CLOSE_OK: (&str, &str) = (
     SELECTED,
     "call 1 basic.publish x x68656c6c6f 0 0 x [] -> publish 3 1\n\
-         next 1 -> frame method 1 basic.publish x x68656c6c6f 0 0\n\
-         next 1 -> frame header 1 60 0 []\n\
-         call 1 channel.close 200 x -> ticket 4\n\
-         next 1 -> frame method 1 channel.close 200 x 0 0\n\
-         recv method 1 channel.close 404 x 0 0 -> received\n\
-         state 1 -> state open crossed\n\
-         confirm 1 -> error ProtocolError 404\n\
-         next 1 -> frame method 1 channel.close-ok\n\
-         recv method 1 channel.close-ok -> received\n\
-         ticket 4 -> answer done\n\
-         call 1 channel.open -> ticket 5\n\
-         next 1 -> frame method 1 channel.open\n\
-         recv method 1 channel.open-ok -> received\n\
-         call 1 confirm.select 0 -> ticket 6\n\
-         next 1 -> frame method 1 confirm.select 0\n\
-         recv method 1 confirm.select-ok -> received\n\
-         call 1 basic.publish x x68656c6c6f 0 0 x [] -> publish 7 2\n\
-         next 1 -> frame method 1 basic.publish x x68656c6c6f 0 0\n\
-         recv method 1 basic.ack 1 0 -> received\n\
-         confirm 2 -> confirmed ack -\n",
+     next 1 -> frame method 1 basic.publish x x68656c6c6f 0 0\n\
+     next 1 -> frame header 1 60 0 []\n\
+     call 1 channel.close 200 x -> ticket 4\n\
+     next 1 -> frame method 1 channel.close 200 x 0 0\n\
+     recv method 1 channel.close 404 x 0 0 -> received\n\
+     state 1 -> state open crossed\n\
+     confirm 1 -> error ProtocolError 404\n\
+     next 1 -> frame method 1 channel.close-ok\n\
+     recv method 1 channel.close-ok -> received\n\
+     ticket 4 -> answer done\n\
+     call 1 channel.open -> ticket 5\n\
+     next 1 -> frame method 1 channel.open\n\
+     recv method 1 channel.open-ok -> received\n\
+     call 1 confirm.select 0 -> ticket 6\n\
+     next 1 -> frame method 1 confirm.select 0\n\
+     recv method 1 confirm.select-ok -> received\n\
+     call 1 basic.publish x x68656c6c6f 0 0 x [] -> publish 7 2\n\
+     next 1 -> frame method 1 basic.publish x x68656c6c6f 0 0\n\
+     recv method 1 basic.ack 1 0 -> received\n\
+     confirm 2 -> confirmed ack -\n",
 );
 
 // Every ticket of the opening but that of the close gets the broker's code. No call is allowed. A close-ok that comes before the
@@ -45,29 +45,29 @@ const CROSSED_CLOSES_END_AT_CLOSE_OK: (&str, &str) = (
 const A_CROSSED_CHANNEL_WAITS_FOR_CLOSE_OK: (&str, &str) = (
     SELECTED,
     "call 1 confirm.select 0 -> ticket 3\n\
-         next 1 -> frame method 1 confirm.select 0\n\
-         call 1 basic.publish x x71 0 0 x [] -> publish 4 1\n\
-         next 1 -> frame method 1 basic.publish x x71 0 0\n\
-         call 1 channel.close 200 x -> ticket 5\n\
-         next 1 -> frame header 1 60 0 []\n\
-         next 1 -> frame method 1 channel.close 200 x 0 0\n\
-         recv method 1 channel.close 404 x 0 0 -> received\n\
-         ticket 3 -> error ProtocolError 404\n\
-         ticket 5 -> pending\n\
-         call 1 channel.open -> refused InvalidChannelState crossed\n\
-         call 1 confirm.select 1 -> refused InvalidChannelState crossed\n\
-         call 1 basic.publish x x71 0 0 x [] -> refused InvalidChannelState crossed\n\
-         call 1 channel.close 200 x -> refused InvalidChannelState crossed\n\
-         call 1 connection.close 200 x -> refused InvalidChannelState crossed\n\
-         recv method 1 channel.close-ok -> received\n\
-         ticket 5 -> answer done\n\
-         ticket 4 -> answer confirm 1\n\
-         confirm 1 -> error ProtocolError 404\n\
-         state 1 -> state open closed\n\
-         call 1 channel.open -> ticket 6\n\
-         next 1 -> frame method 1 channel.close-ok\n\
-         next 1 -> frame method 1 channel.open\n\
-         next 1 -> noframe\n",
+     next 1 -> frame method 1 confirm.select 0\n\
+     call 1 basic.publish x x71 0 0 x [] -> publish 4 1\n\
+     next 1 -> frame method 1 basic.publish x x71 0 0\n\
+     call 1 channel.close 200 x -> ticket 5\n\
+     next 1 -> frame header 1 60 0 []\n\
+     next 1 -> frame method 1 channel.close 200 x 0 0\n\
+     recv method 1 channel.close 404 x 0 0 -> received\n\
+     ticket 3 -> error ProtocolError 404\n\
+     ticket 5 -> pending\n\
+     call 1 channel.open -> refused InvalidChannelState crossed\n\
+     call 1 confirm.select 1 -> refused InvalidChannelState crossed\n\
+     call 1 basic.publish x x71 0 0 x [] -> refused InvalidChannelState crossed\n\
+     call 1 channel.close 200 x -> refused InvalidChannelState crossed\n\
+     call 1 connection.close 200 x -> refused InvalidChannelState crossed\n\
+     recv method 1 channel.close-ok -> received\n\
+     ticket 5 -> answer done\n\
+     ticket 4 -> answer confirm 1\n\
+     confirm 1 -> error ProtocolError 404\n\
+     state 1 -> state open closed\n\
+     call 1 channel.open -> ticket 6\n\
+     next 1 -> frame method 1 channel.close-ok\n\
+     next 1 -> frame method 1 channel.open\n\
+     next 1 -> noframe\n",
 );
 
 // Of the broker's frames a crossed channel hears close-ok alone. Another closes the connection, with which the ticket of the

@@ -5,50 +5,50 @@ use std::test::Fail;
 const WHAT_WAITS_GETS_CONNECTION_LOST: (&str, &str) = (
     SELECTED,
     "call 1 basic.publish x x68656c6c6f 0 0 x616263 [] -> publish 3 1\n\
-         next 1 -> frame method 1 basic.publish x x68656c6c6f 0 0\n\
-         next 1 -> frame header 1 60 3 []\n\
-         lost -> lost\n\
-         ticket 3 -> error ConnectionLost\n\
-         confirm 1 -> error ConnectionLost\n\
-         next 1 -> noframe\n\
-         lost -> lost\n\
-         state 1 -> state lost down\n",
+     next 1 -> frame method 1 basic.publish x x68656c6c6f 0 0\n\
+     next 1 -> frame header 1 60 3 []\n\
+     lost -> lost\n\
+     ticket 3 -> error ConnectionLost\n\
+     confirm 1 -> error ConnectionLost\n\
+     next 1 -> noframe\n\
+     lost -> lost\n\
+     state 1 -> state lost down\n",
 );
 
 // What was decided or rejected before keeps its outcome, and gives it once.
 const OUTCOMES_FROM_BEFORE_THE_LOSS_STAY: (&str, &str) = (
     OPENED,
     "call 1 basic.publish x x71 0 0 x [] -> publish 2 1\n\
-         next 1 -> frame method 1 basic.publish x x71 0 0\n\
-         next 1 -> frame header 1 60 0 []\n\
-         call 1 confirm.select 0 -> ticket 3\n\
-         next 1 -> frame method 1 confirm.select 0\n\
-         recv method 1 confirm.select-ok -> received\n\
-         call 1 basic.publish x x71 0 0 x [] -> publish 4 2\n\
-         call 1 basic.publish x x71 0 0 x [] -> publish 5 3\n\
-         call 1 basic.publish x x71 0 0 x [] -> publish 6 4\n\
-         call 1 basic.publish x x71 0 0 x [] -> publish 7 5\n\
-         next 1 -> frame method 1 basic.publish x x71 0 0\n\
-         next 1 -> frame header 1 60 0 []\n\
-         next 1 -> frame method 1 basic.publish x x71 0 0\n\
-         next 1 -> frame header 1 60 0 []\n\
-         next 1 -> frame method 1 basic.publish x x71 0 0\n\
-         recv method 1 basic.nack 2 0 1 -> received\n\
-         recv method 1 basic.ack 1 0 -> received\n\
-         call 1 channel.close 200 x -> ticket 8\n\
-         lost -> lost\n\
-         confirm 1 -> confirmed notrequested\n\
-         confirm 2 -> confirmed ack -\n\
-         confirm 3 -> confirmed nack -\n\
-         confirm 4 -> error ConnectionLost\n\
-         confirm 5 -> error InvalidChannelState closing\n\
-         confirm 4 -> refused AlreadyTaken\n\
-         ticket 3 -> answer done\n\
-         ticket 4 -> answer confirm 2\n\
-         ticket 6 -> error ConnectionLost\n\
-         ticket 7 -> error InvalidChannelState closing\n\
-         ticket 8 -> error ConnectionLost\n\
-         ticket 8 -> refused AlreadyTaken\n",
+     next 1 -> frame method 1 basic.publish x x71 0 0\n\
+     next 1 -> frame header 1 60 0 []\n\
+     call 1 confirm.select 0 -> ticket 3\n\
+     next 1 -> frame method 1 confirm.select 0\n\
+     recv method 1 confirm.select-ok -> received\n\
+     call 1 basic.publish x x71 0 0 x [] -> publish 4 2\n\
+     call 1 basic.publish x x71 0 0 x [] -> publish 5 3\n\
+     call 1 basic.publish x x71 0 0 x [] -> publish 6 4\n\
+     call 1 basic.publish x x71 0 0 x [] -> publish 7 5\n\
+     next 1 -> frame method 1 basic.publish x x71 0 0\n\
+     next 1 -> frame header 1 60 0 []\n\
+     next 1 -> frame method 1 basic.publish x x71 0 0\n\
+     next 1 -> frame header 1 60 0 []\n\
+     next 1 -> frame method 1 basic.publish x x71 0 0\n\
+     recv method 1 basic.nack 2 0 1 -> received\n\
+     recv method 1 basic.ack 1 0 -> received\n\
+     call 1 channel.close 200 x -> ticket 8\n\
+     lost -> lost\n\
+     confirm 1 -> confirmed notrequested\n\
+     confirm 2 -> confirmed ack -\n\
+     confirm 3 -> confirmed nack -\n\
+     confirm 4 -> error ConnectionLost\n\
+     confirm 5 -> error InvalidChannelState closing\n\
+     confirm 4 -> refused AlreadyTaken\n\
+     ticket 3 -> answer done\n\
+     ticket 4 -> answer confirm 2\n\
+     ticket 6 -> error ConnectionLost\n\
+     ticket 7 -> error InvalidChannelState closing\n\
+     ticket 8 -> error ConnectionLost\n\
+     ticket 8 -> refused AlreadyTaken\n",
 );
 
 // A loss while the connection is closing drops its close and ends the ticket of it. A second loss changes nothing, and no frame
@@ -118,24 +118,24 @@ fn a_closed_connection_is_lost(rt: HostRuntime) -> Result<(), Fail> {
 const A_CONNECTION_WITH_CROSSED_CLOSES_IS_LOST: (&str, &str) = (
     OPENED,
     "call 0 connection.close 200 x -> ticket 2\n\
-         next 1 -> frame method 0 connection.close 200 x 0 0\n\
-         recv method 0 connection.close 320 x 0 0 -> received\n\
-         lost -> lost\n\
-         ticket 2 -> error ConnectionLost\n\
-         next 1 -> noframe\n\
-         state 0 -> state lost down\n",
+     next 1 -> frame method 0 connection.close 200 x 0 0\n\
+     recv method 0 connection.close 320 x 0 0 -> received\n\
+     lost -> lost\n\
+     ticket 2 -> error ConnectionLost\n\
+     next 1 -> noframe\n\
+     state 0 -> state lost down\n",
 );
 
 const A_NEW_SESSION_IS_LOST: (&str, &str) = (
     "",
     "state 0 -> state open base\n\
-         state 1 -> state open closed\n\
-         lost -> lost\n\
-         state 0 -> state lost down\n\
-         state 1 -> state lost down\n\
-         call 1 channel.open -> refused InvalidChannelState down\n\
-         ticket 1 -> refused UnknownTicket\n\
-         lost -> lost\n",
+     state 1 -> state open closed\n\
+     lost -> lost\n\
+     state 0 -> state lost down\n\
+     state 1 -> state lost down\n\
+     call 1 channel.open -> refused InvalidChannelState down\n\
+     ticket 1 -> refused UnknownTicket\n\
+     lost -> lost\n",
 );
 
 #[test]

@@ -6,11 +6,11 @@ use std::test::Fail;
 const A_SECOND_OPEN_OK_CLOSES_THE_CONNECTION: (&str, &str) = (
     OPENED,
     "recv method 1 channel.open-ok -> refused UnexpectedFrame 20 11\n\
-         next 1 -> frame method 0 connection.close 505 x554e45585045435445445f4652414d45 20 11\n\
-         next 1 -> noframe\n\
-         state 1 -> state closing down\n\
-         recv method 1 channel.open-ok -> passed\n\
-         call 0 connection.close 200 x -> refused InvalidChannelState down\n",
+     next 1 -> frame method 0 connection.close 505 x554e45585045435445445f4652414d45 20 11\n\
+     next 1 -> noframe\n\
+     state 1 -> state closing down\n\
+     recv method 1 channel.open-ok -> passed\n\
+     call 0 connection.close 200 x -> refused InvalidChannelState down\n",
 );
 
 // The frame is refused with its class and method; so says the close, which is the one frame left.
