@@ -108,8 +108,13 @@ channel_of k ms = channel_in (accepted k ms)
 abbrev pub tag_on : ℕ → List ConfirmMark → Option ℕ
 tag_on c ms = if is_selected c ms then Some (place c ms) else None
 
+-- the tag that a publish which left has taken
 abbrev pub tag_of : ℕ → List ConfirmMark → Option ℕ
 tag_of k ms = tag_on (channel_of k ms) (through (leaves k) ms)
+
+-- the tag of any publish: none before its method frame left
+abbrev pub tag_at : ℕ → List ConfirmMark → Option ℕ
+tag_at k ms = if has_left k ms then tag_of k ms else None
 
 -- ---- outcomes
 

@@ -13,6 +13,8 @@ pub mod leaving;
 pub mod marks;
 pub mod phases;
 pub mod readings;
+#[cfg(test)]
+mod tests;
 
 pub use broker_frames::{
     Incoming, class_of, hears, hears_close, hears_close_ok, hears_down, hears_on, is_kind,

@@ -7,7 +7,7 @@ ghost use Rattle.std.specs.Prelude.{◌≡◌, ◌≤◌, length, take, count_by
 ghost use Rattle.std.specs.List.{list_any};
 ghost use Rattle.lapin_history.specs.Words.{after as after_lem, through as through_lem, since as since_lem};
 ghost use Rattle.lapin_history.specs.Wanted.{passes as passes_lem};
-ghost use Rattle.lapin_history.specs.ConfirmReadings.{covers as covers_lem, kind_outcome as kind_outcome_lem, accepted as accepted_lem, life as life_lem, channel_of as channel_of_lem, tag_on as tag_on_lem, tag_of as tag_of_lem, rejection_of as rejection_of_lem, first_rejected as first_rejected_lem, settlement_on as settlement_on_lem, first_settled as first_settled_lem, outcome_after as outcome_after_lem, outcome_at};
+ghost use Rattle.lapin_history.specs.ConfirmReadings.{covers as covers_lem, kind_outcome as kind_outcome_lem, accepted as accepted_lem, life as life_lem, channel_of as channel_of_lem, tag_on as tag_on_lem, tag_of as tag_of_lem, tag_at, rejection_of as rejection_of_lem, first_rejected as first_rejected_lem, settlement_on as settlement_on_lem, first_settled as first_settled_lem, outcome_after as outcome_after_lem, outcome_at};
 
 use crate::marks::{ConfirmMark, Outcome, SettleKind, Settlement};
 
@@ -27,12 +27,15 @@ pub enum Wanted {
 /// The delivery tag of a publish, which is named by its place among all accepted ones, from 0.
 ///
 /// It is taken as the method frame leaves: the place of the publish among those of its opening that left after the opening's
-/// first `confirm.select`, from 1. `None` where no `confirm.select` had left (RabbitMQ publisher confirms).
+/// first `confirm.select`, from 1. `None` before the method frame left, and where no `confirm.select` had left by then
+/// (RabbitMQ publisher confirms).
 pub fn tag_of(marks: &[ConfirmMark], publish: u64) -> Option<u64>
-    ensures { result ≡ tag_of_lem publish marks.now }
+    ensures { result ≡ tag_at publish marks.now }
 {
-    let so_far = through(Wanted::Left(publish), marks);
-    tag_on(channel_of(publish, marks), so_far)
+    if !any(Wanted::Left(publish), marks) {
+        return None;
+    }
+    tag_taken(marks, publish)
 }
 
 /// The outcome of a publish, which is named by its place among all accepted ones, from 0. `None` while it is pending.
@@ -47,7 +50,15 @@ pub fn outcome_of(marks: &[ConfirmMark], publish: u64) -> Option<Outcome>
     if !any(wanted, marks) {
         return first_rejected(channel, publish, life(publish, marks));
     }
-    outcome_after(channel, tag_of(marks, publish), after(wanted, marks))
+    outcome_after(channel, tag_taken(marks, publish), after(wanted, marks))
+}
+
+// The tag that a publish which left has taken.
+fn tag_taken(marks: &[ConfirmMark], publish: u64) -> Option<u64>
+    ensures { result ≡ tag_of_lem publish marks.now }
+{
+    let so_far = through(Wanted::Left(publish), marks);
+    tag_on(channel_of(publish, marks), so_far)
 }
 
 // The tag that a publish of the channel would have, were it the last that left.

@@ -6,3 +6,4 @@ pub mod Keeping
 pub mod Channels
 pub mod Worlds
 pub mod Counting
+pub mod Alone

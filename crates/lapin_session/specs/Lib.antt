@@ -5,3 +5,4 @@ pub mod Tied
 pub mod Stands
 pub mod Codes
 pub mod Kept
+pub mod Alone
