@@ -20,6 +20,8 @@ pub mod reply_code;
 pub mod request;
 pub mod returned;
 pub mod run_error;
+#[cfg(test)]
+mod tests;
 
 pub use acker::Acker;
 pub use answer::Answer;
