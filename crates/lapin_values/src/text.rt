@@ -7,7 +7,7 @@ ghost use Rattle.std.specs.Cmp.{partial_equiv_from_equiv};
 ghost use Rattle.std.specs.Str.{IsUtf8};
 
 use crate::memory::NoMemory;
-use std::alloc::{AllocError, Global};
+use std::alloc::{AllocError, AllocFailed, Global};
 use std::marker::Model;
 use thiserror::Error;
 
@@ -33,21 +33,35 @@ impl From<AllocError> for ShortStringError {
     }
 }
 
+impl<T: Drop> From<AllocFailed<T>> for ShortStringError {
+    ghost use Rattle.std.specs.Prelude.{◌≡◌};
+    ghost use Rattle.lapin_values.specs.declared.text.ShortStringError.TheVariants.{NoMemory};
+
+    ghost from_gives = { λ _ error. error ≡ NoMemory };
+
+    fn from(_failed: AllocFailed<T>) -> ShortStringError {
+        ShortStringError::NoMemory
+    }
+}
+
 /// A text of at most 255 bytes in UTF-8 (AMQP 0-9-1, section 4.2.5.3, "short strings"): a name, a key or
 /// a tag. A contract sees it as the list of its bytes.
+///
+/// It is one pointer wide: a message has ten short strings among its properties, most of which are not set, and is handed on by
+/// value.
 #[derive(Debug, Drop)]
 pub struct ShortString {
-    text: String,
+    text: Box<String>,
 }
 
 impl Model for ShortString {
-    ghost use Rattle.std.specs.Prelude.{ℕ, List, string_bytes, length, ◌≤◌};
+    ghost use Rattle.std.specs.Prelude.{ℕ, List, string_bytes, box_value, length, ◌≤◌};
 
     ghost Value = { List ℕ };
 
-    ghost view = { λ s. string_bytes s.text };
+    ghost view = { λ s. string_bytes (box_value s.text) };
 
-    ghost invariant = { λ s. length (string_bytes s.text) ≤ 255 };
+    ghost invariant = { λ s. length (string_bytes (box_value s.text)) ≤ 255 };
 }
 
 impl ShortString {
@@ -63,8 +77,9 @@ impl ShortString {
         if text.len() > 255 {
             return Err(ShortStringError::TooLong { length: text.len() });
         }
+        let text = String::from_str(alloc, text)?;
         Ok(ShortString {
-            text: String::from_str(alloc, text)?,
+            text: Box::new(alloc, text)?,
         })
     }
 
@@ -85,8 +100,9 @@ impl ShortString {
     pub fn try_clone(&self, alloc: Global) -> Result<ShortString, NoMemory>
         ensures { IfOk result (λ copy. copy ≡ self.now) }
     {
+        let text = String::from_str(alloc, self.as_str())?;
         Ok(ShortString {
-            text: String::from_str(alloc, self.text.as_str())?,
+            text: Box::new(alloc, text)?,
         })
     }
 }
