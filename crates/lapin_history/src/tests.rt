@@ -32,12 +32,11 @@ fn up_to(kind: SettleKind, tag: u64) -> Settlement {
 
 // Whether a history says this of its publishes, in order of acceptance.
 fn says(marks: &[ConfirmMark], wanted: &[Reading]) -> bool {
-    let mut publish = 0;
-    for (tag, outcome) in wanted {
+    for (place, (tag, outcome)) in wanted.iter().enumerate() {
+        let publish = place as u64;
         if tag_of(marks, publish) != *tag || outcome_of(marks, publish) != *outcome {
             return false;
         }
-        publish += 1;
     }
     true
 }
