@@ -37,13 +37,6 @@ choose_alone : (t : Bool) (x y : Base) → Alone x → Alone y → Alone (cond t
 choose_alone true x y h k = h
 choose_alone false x y h k = k
 
--- a connection that this side isn't about to close has nothing to show
-not_closing : (l : Link) (b : Base) → b.link ≡ l → ((ls : Lists) → WaitsAlone l ls) → Alone b
-not_closing l b e h = rw e (h (lists_of b))
-
-open_alone : (b : Base) → b.link ≡ link.Open → Alone b
-open_alone b e = rw e tt
-
 -- ---- calls
 
 call_up : (c : ℕ) (k : Call) (b : Base) → b.link ≡ link.Open → Alone (after_call c k b)
@@ -78,7 +71,7 @@ down_refuses link.Lost c (call.BasicPublish exchange key o payload properties) b
 call_alone : (c : ℕ) (k : Call) (b : Base) → Alone b → Alone (cond (is_allowed k (state_of c b)) (after_call c k b) b)
 call_alone c k b h = elim (down_refuses b.link c k b refl) [
   | inl up ↦ choose_alone (is_allowed k (state_of c b)) (after_call c k b) b (call_up c k b up) h
-  | inr no ↦ call_down c k b no h
+  | inr shut ↦ call_down c k b shut h
 ]
 
 -- ---- frames that leave
@@ -181,11 +174,8 @@ up_alone i (record_.Confirmed o) b e = rw e tt
 up_alone i (record_.State x y) b e = rw e tt
 up_alone i record_.Lost b e = rw e tt
 
-down_record : (b : Base) (see : Sight) (f : Frame) (i : Incoming) (l : Link) → b.link ≡ l → Record
-down_record b see f i l e = heard_record b see f i
-
 -- of the two frames that are heard while this side closes, each takes the close out that has not left
-heard_alone : (l : Link) (see : Sight) (f : Frame) (i : Incoming) (b : Base) → b.link ≡ l → Alone b → Alone (after_heard i (heard_record b see f i) b)
+heard_alone : (l : Link) (see : Sight) (f : Frame) (i : Incoming) (b : Base) → b.link ≡ l → WaitsAlone l (lists_of b) → Alone (after_heard i (heard_record b see f i) b)
 heard_alone link.Open see f i b e h = up_alone i (heard_record b see f i) b e
 heard_alone link.Closed see f i b e h = rw e h
 heard_alone link.Lost see f i b e h = rw e h

@@ -2,4 +2,4 @@ use Rattle.lapin_history.proofs.Runs.{length-run}
 use Rattle.lapin_history.proofs.laws.one_record_an_event.Goals as goal
 
 pub returns : goal.returns
-returns c = length-run c.args._frame_max c.args._events.now
+returns c = length-run
