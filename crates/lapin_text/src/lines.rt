@@ -5,12 +5,13 @@
 ghost use Rattle.std.specs.Prelude.{◌≡◌, ◌==◌, ◌∷◌, ◌<◌, ℕ, List, [], length, IfNone, IfSome, position};
 ghost use Rattle.lapin_text.specs.Input.{lines_of};
 
+use memchr::memchr;
 use std::marker::Model;
 
 fn first_feed(bytes: &[u8]) -> Option<usize>
     ensures { result ≡ position (λ b. b == 10) bytes.now }
 {
-    bytes.iter().position(|byte| *byte == b'\n')
+    memchr(b'\n', bytes)
 }
 
 /// The line before the first line feed, and what stands after that line feed.

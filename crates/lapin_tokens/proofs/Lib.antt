@@ -2,6 +2,7 @@ pub mod Words
 pub mod Turns
 pub mod Rising
 pub mod ByLetter
+pub mod FirstPlace
 pub mod Splits
 pub mod MemberLaws
 pub mod ValueLaws

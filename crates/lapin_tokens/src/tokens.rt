@@ -3,12 +3,13 @@
 ghost use Rattle.std.specs.Prelude.{◌≡◌, ◌==◌, ◌∷◌, ℕ, List, [], IfNone, IfSome, position, if◌then◌else◌};
 ghost use Rattle.std.specs.List.{slice_split};
 
+use memchr::memchr;
 use std::marker::Model;
 
 fn first_space(line: &[u8]) -> Option<usize>
     ensures { result ≡ position (λ b. b == 32) line.now }
 {
-    line.iter().position(|b| *b == b' ')
+    memchr(b' ', line)
 }
 
 /// The piece before the first space, and what stands after that space.
