@@ -1,11 +1,12 @@
-use Rattle.std.proofs.lemmas.Result.{err_from_is_err_and}
+use Rattle.std.proofs.Common.{◌≡◌, [], ◌∷◌, Some, refl, sym, ap, ◌∙◌, arith}
+use Rattle.std.proofs.lemmas.Slice.Eq.{text_from_reads}
+use Rattle.lapin_values.specs.Properties.{no_properties}
+use Rattle.lapin_tokens.specs.Fields.Field.{props}
 use Rattle.lapin_tokens.specs.Reading.{value_of}
-use Rattle.lapin_tokens.specs.PropertyReading.{properties_at}
-use Rattle.lapin_tokens.proofs.PartTurns.{not_whole}
+use Rattle.lapin_tokens.proofs.FieldLaws.{value_again}
 use Rattle.lapin_tokens.proofs.fields.properties_of.Goals as goal
 
-pub returns-in_err-finish : goal.returns-in_err-finish
-unfolding value_of
-returns-in_err-finish c =
-    let p = err_from_is_err_and c.from_residual-in_err-finish.result c.from_residual-in_err-finish.ensures.1 in
-    rw (p.1, p.2) (not_whole _ (properties_at c.args.piece.now) c.in_ok-properties.properties c.properties_from.new.text (rw c.new-text.ensures at c.in_ok-properties.ensures) c.in_err-finish.ensures)
+pub returns-in-91 : goal.returns-in-91
+returns-in-91 c =
+    let bare : c.args.piece.now ≡ 91 ∷ 93 ∷ [] = text_from_reads c.args.piece.now (91 ∷ 93 ∷ []) (omega arith) (omega arith, (omega arith, tt)) in
+    ap (value_of props) bare ∙ value_again props no_properties refl ∙ ap Some (sym c.default.ensures)
