@@ -14,8 +14,6 @@ mod receiving_closes;
 mod run;
 mod sending;
 mod session;
-#[cfg(test)]
-mod tests;
 
 pub use channel::{Channel, Heard, Published, PublisherConfirm, Ticket};
 pub use laws::own_close_waits_alone;
