@@ -1,5 +1,5 @@
 -- An unsent `connection.close` of this side waits alone: kept by every event.
-use Rattle.std.proofs.Common.{◌≡◌, ℕ, Bool, true, false, cond, List, [], ◌∷◌, ◌++◌, Option, Some, None, refl, sym, ◌∙◌, ap, subst, ◌⊎◌, inl, inr}
+use Rattle.std.proofs.Common.{◌≡◌, ℕ, Bool, true, false, cond, List, [], ◌∷◌, Option, Some, None, refl, ◌⊎◌, inl, inr}
 use Rattle.std.specs.List.{fold}
 use Rattle.lapin_types.specs.declared.call.Call.{Call}
 use Rattle.lapin_types.specs.declared.call.Call.TheVariants as call
@@ -23,12 +23,12 @@ use Rattle.lapin_history.specs.declared.phases.Link.TheVariants as link
 use Rattle.lapin_history.specs.Heard.{heard}
 use Rattle.lapin_history.specs.Phases.{is_lost, link_close_sent}
 use Rattle.lapin_history.specs.Frames.{MethodEntry, RestEntry}
-use Rattle.lapin_history.specs.Leaving.{Lists, left_of, handed_of}
+use Rattle.lapin_history.specs.Leaving.{Lists, handed_of}
 use Rattle.lapin_history.specs.Drops.{no_lists}
 use Rattle.lapin_history.specs.Answers.{Sight, heard_record}
-use Rattle.lapin_history.specs.Base.{Base, state_of, phase_of, is_allowed, is_open, after_call, after_heard, after_received, after_failed, after_refused, after_close_ok, after_lost, after_next, handed, sent, link_sent, lists_of, has_sent}
+use Rattle.lapin_history.specs.Base.{Base, state_of, phase_of, is_allowed, is_open, after_call, after_heard, after_received, after_failed, after_refused, after_close_ok, after_next, handed, sent, link_sent, lists_of, has_sent}
 use Rattle.lapin_session.specs.World.{World, next, new_world, sight_of}
-use Rattle.lapin_session.specs.Alone.{is_connection_close, entry_closes, IsOneClose, IsCloseAlone, WaitsAlone, without_own_close}
+use Rattle.lapin_session.specs.Alone.{is_connection_close, IsOneClose, IsCloseAlone, WaitsAlone, without_own_close}
 
 abbrev Alone : Base → Type 0
 Alone b = WaitsAlone b.link (lists_of b)
@@ -99,10 +99,10 @@ sent_quiet (Some x) l b e h k = rw e (elim (link_moves x.frame l) [
 ])
 
 -- the close that waits alone is what leaves
-sent_close : (heard flow : Bool) (n : ℕ) (b d : Base) (rest : List RestEntry) (methods : List MethodEntry) (publishes : List Publish) → d.link ≡ link.Closing false heard → rest ≡ [] → IsOneClose methods → Alone (sent (handed_of flow rest methods publishes) d)
-sent_close heard flow n b d rest [] publishes e none c = absurd c
-sent_close heard flow n b d rest (m ∷ m' ∷ ms) publishes e none c = absurd c
-sent_close heard flow n b d rest (m ∷ []) publishes e none c = rw none (rw e (moved m.channel m.method c))
+sent_close : (heard flow : Bool) (d : Base) (rest : List RestEntry) (methods : List MethodEntry) (publishes : List Publish) → d.link ≡ link.Closing false heard → rest ≡ [] → IsOneClose methods → Alone (sent (handed_of flow rest methods publishes) d)
+sent_close heard flow d rest [] publishes e none c = absurd c
+sent_close heard flow d rest (m ∷ m' ∷ ms) publishes e none c = absurd c
+sent_close heard flow d rest (m ∷ []) publishes e none c = rw none (rw e (moved m.channel m.method c))
   where
     moved : (channel : ℕ) (x : Method) → is_connection_close x ≡ true → WaitsAlone (link_sent (frame.Method channel x) (link.Closing false heard)) (lists_of d)
     moved channel (method.Connection (connection.Close code text class number)) t = tt
@@ -118,7 +118,7 @@ sent_close heard flow n b d rest (m ∷ []) publishes e none c = rw none (rw e (
 next_alone : (flow : Bool) (l : Link) (b : Base) → b.link ≡ l → WaitsAlone l (lists_of b) → Alone (after_next flow b)
 next_alone flow link.Open b e h = sent_quiet (handed flow b) link.Open _ e (λ ls. tt) (λ ls. tt)
 next_alone flow (link.Closing true heard) b e h = sent_quiet (handed flow b) (link.Closing true heard) _ e (λ ls. tt) (λ ls. tt)
-next_alone flow (link.Closing false heard) b e h = sent_close heard flow b.frame_max b _ b.rest b.methods b.publishes e h.rest h.close
+next_alone flow (link.Closing false heard) b e h = sent_close heard flow _ b.rest b.methods b.publishes e h.rest h.close
 next_alone flow link.Closed b e h = sent_quiet (handed flow b) link.Closed _ e (λ ls. tt) (λ ls. tt)
 next_alone flow link.Lost b e h = sent_quiet (handed flow b) link.Lost _ e (λ ls. tt) (λ ls. tt)
 
