@@ -44,17 +44,24 @@ fn three_pending(alloc: Global) -> Result<Confirms, Fail>
 
 // What the result of a publish is, in a word. It is given once.
 fn taken(confirms: &mut Confirms, number: u64) -> &'static str {
-    match confirms.take(number) {
+    let result = confirms.take(number);
+    match &result {
         Ok(None) => "pending",
-        Ok(Some(Ok(Confirmation::Ack(None)))) => "ack",
-        Ok(Some(Ok(Confirmation::Nack(None)))) => "nack",
-        Ok(Some(Ok(Confirmation::NotRequested))) => "not requested",
-        Ok(Some(Err(Error::ConnectionLost))) => "lost",
-        Ok(Some(Err(Error::ProtocolError(406)))) => "closed with 406",
-        Ok(Some(_)) => "something else",
+        Ok(Some(outcome)) => outcome_word(outcome),
         Err(Error::AlreadyTaken) => "already taken",
         Err(Error::UnknownTicket) => "unknown",
         Err(_) => "refused",
+    }
+}
+
+fn outcome_word(outcome: &Result<Confirmation, Error>) -> &'static str {
+    match outcome {
+        Ok(Confirmation::Ack(None)) => "ack",
+        Ok(Confirmation::Nack(None)) => "nack",
+        Ok(Confirmation::NotRequested) => "not requested",
+        Err(Error::ConnectionLost) => "lost",
+        Err(Error::ProtocolError(406)) => "closed with 406",
+        _ => "something else",
     }
 }
 
