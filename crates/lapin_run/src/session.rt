@@ -13,7 +13,7 @@ ghost use Rattle.lapin_run.specs.Session.{Prints, PrintsRecords, PrintsEvents, P
 use lapin_session::Session;
 use lapin_text::records::put_record;
 use lapin_text::{Lines, read_event, read_max};
-use lapin_types::{Error, Event, NoMemory};
+use lapin_types::{Error, Event, NoMemory, Record};
 use std::alloc::Global;
 
 /// What is printed for an input.
@@ -106,14 +106,19 @@ fn print_step(
         line_onto text.old.items (record_tokens (told_by session.old event)) ++ 10 ∷ []) }
 {
     match session.step(alloc, event) {
-        Ok(record) => {
-            put_record(alloc, text, &record)?;
-            text.push(b'\n')?;
-            Ok(())
-        }
+        Ok(record) => put_line(alloc, text, &record),
         Err(Error::NoMemory) => Err(NoMemory),
         Err(_) => unreachable!(),
     }
+}
+
+/// Appends the line of a record.
+fn put_line(alloc: Global, text: &mut Vec<u8>, record: &Record) -> Result<(), NoMemory>
+    ensures { OnOk result (text.new.items ≡ line_onto text.old.items (record_tokens record.now) ++ 10 ∷ []) }
+{
+    put_record(alloc, text, record)?;
+    text.push(b'\n')?;
+    Ok(())
 }
 
 /// Appends the line that names the first bad line of the input, where there is one.
