@@ -113,10 +113,10 @@ fn print_step(
 }
 
 /// Appends the line of a record.
-fn put_line(alloc: Global, text: &mut Vec<u8>, record: &Record) -> Result<(), NoMemory>
-    ensures { OnOk result (text.new.items ≡ line_onto text.old.items (record_tokens record.now) ++ 10 ∷ []) }
+fn put_line(alloc: Global, text: &mut Vec<u8>, told: &Record) -> Result<(), NoMemory>
+    ensures { OnOk result (text.new.items ≡ line_onto text.old.items (record_tokens told.now) ++ 10 ∷ []) }
 {
-    put_record(alloc, text, record)?;
+    put_record(alloc, text, told)?;
     text.push(b'\n')?;
     Ok(())
 }
