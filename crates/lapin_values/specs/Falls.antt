@@ -1,12 +1,13 @@
 -- What stands inside a table or an array is less deep than it, so that a value is finite.
-use Rattle.std.specs.Prelude.{ℕ, ◌≤◌, max, List, [], ◌∷◌, map}
-use Rattle.std.proofs.Common.{arith}
+use Rattle.std.specs.Prelude.{ℕ, ◌≤◌, max, List, [], ◌∷◌, map, Option, Some, None, Box, Vec, box_value, vec_items}
+use Rattle.std.proofs.Common.{arith, Global}
 use denote.Param.Weighed.{most}
-use Rattle.lapin_values.specs.Data.{data_depth, items_depth, pairs_depth, items_of, pairs_of}
+use Rattle.lapin_values.specs.Data.{data_depth, items_depth, pairs_depth, items_of, pairs_of, table_depth}
+use Rattle.lapin_values.specs.Table.{rows}
 use Rattle.lapin_values.specs.DataOf.{data_of, to_pair}
 use Rattle.lapin_values.specs.declared.value.AMQPValue.{AMQPValue}
 use Rattle.lapin_values.specs.declared.value.AMQPValue.TheVariants as V
-use Rattle.lapin_values.specs.declared.value.FieldArray.TheDeep.{deep-AMQPValue}
+use Rattle.lapin_values.specs.declared.value.FieldArray.TheDeep.{deep-AMQPValue, deep-FieldTable}
 
 pub deep_le : (v : AMQPValue) → deep-AMQPValue v ≤ data_depth (data_of v)
 deep_le (V.Boolean b) = omega arith
@@ -34,3 +35,7 @@ table_falls μ h (e ∷ es) = omega (arith, h e, deep_le e.1, table_falls μ h e
 
 pub pair_weight : (d : ℕ) → max 0 (max d 0) ≤ d
 pair_weight d = omega arith
+
+pub boxed_falls : (e : Option (Box (Vec (List ℕ × AMQPValue) Global) Global)) → deep-FieldTable (record { entries = e }) ≤ table_depth (map to_pair (rows e))
+boxed_falls None = omega arith
+boxed_falls (Some b) = omega (arith, table_falls (λ p. max 0 (max (deep-AMQPValue p.1) 0)) (λ p. omega arith) (vec_items (box_value b)))

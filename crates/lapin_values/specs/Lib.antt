@@ -6,3 +6,4 @@ pub mod Table
 pub mod Falls
 pub mod ValueOf
 pub mod Properties
+pub mod Texts

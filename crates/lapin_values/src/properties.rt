@@ -1,35 +1,32 @@
 //! The properties of a message, as its content header carries them (AMQP 0-9-1, class basic, "properties").
 //! Which of them a header names on the wire is the matter of those who write frames.
 
-ghost use Rattle.std.specs.Prelude.{◌≡◌, IfOk};
+ghost use Rattle.std.specs.Prelude.{◌≡◌, IfOk, option_map};
 ghost use Rattle.std.specs.Bool.{Decides};
 
 use crate::memory::NoMemory;
-use crate::text::ShortString;
+use crate::properties::texts::{Texts, same_texts};
 use crate::value::FieldTable;
 use std::alloc::Global;
 use std::marker::Model;
 
 mod fields;
+mod texts;
 
 /// The fourteen properties of a message, each set or not. They are opaque to the protocol: a broker hands
 /// them on as they were published. A contract sees them as the record `Properties`.
+///
+/// It is handed on by value, so it is kept narrow: the texts that are set stand in a row, and `set` says by a bit a property which they are.
 #[derive(Debug, Drop)]
 pub struct BasicProperties {
-    content_type: Option<ShortString>,
-    content_encoding: Option<ShortString>,
-    headers: Option<FieldTable>,
+    texts: Texts,
+    headers: FieldTable,
+    timestamp: u64,
+    set: u16,
+    has_headers: bool,
+    has_timestamp: bool,
     delivery_mode: Option<u8>,
     priority: Option<u8>,
-    correlation_id: Option<ShortString>,
-    reply_to: Option<ShortString>,
-    expiration: Option<ShortString>,
-    message_id: Option<ShortString>,
-    timestamp: Option<u64>,
-    kind: Option<ShortString>,
-    user_id: Option<ShortString>,
-    app_id: Option<ShortString>,
-    cluster_id: Option<ShortString>,
 }
 
 impl Model for BasicProperties {
@@ -39,7 +36,11 @@ impl Model for BasicProperties {
 
     ghost coded = { properties_code };
 
-    ghost view = { λ p. record { content_type = p.content_type; content_encoding = p.content_encoding; headers = p.headers; delivery_mode = p.delivery_mode; priority = p.priority; correlation_id = p.correlation_id; reply_to = p.reply_to; expiration = p.expiration; message_id = p.message_id; timestamp = p.timestamp; kind = p.kind; user_id = p.user_id; app_id = p.app_id; cluster_id = p.cluster_id } };
+    ghost use Rattle.lapin_values.specs.Texts.{counted, seen};
+
+    ghost view = { λ p. seen p.set p.texts p.has_headers p.headers p.delivery_mode p.priority p.has_timestamp p.timestamp };
+
+    ghost invariant = { λ p. counted p.set p.texts };
 }
 
 impl Default for BasicProperties {
@@ -51,54 +52,20 @@ impl Default for BasicProperties {
     /// No property is set.
     fn default() -> BasicProperties {
         BasicProperties {
-            content_type: None,
-            content_encoding: None,
-            headers: None,
+            texts: Texts::T0,
+            headers: FieldTable::empty(),
+            timestamp: 0,
+            set: 0,
+            has_headers: false,
+            has_timestamp: false,
             delivery_mode: None,
             priority: None,
-            correlation_id: None,
-            reply_to: None,
-            expiration: None,
-            message_id: None,
-            timestamp: None,
-            kind: None,
-            user_id: None,
-            app_id: None,
-            cluster_id: None,
         }
     }
 }
 
-fn clone_text(text: &Option<ShortString>, alloc: Global) -> Result<Option<ShortString>, NoMemory>
-    ensures { IfOk result (λ copy. copy ≡ text.now) }
-{
-    match text {
-        Some(text) => Ok(Some(text.try_clone(alloc)?)),
-        None => Ok(None),
-    }
-}
-
-fn clone_table(table: &Option<FieldTable>, alloc: Global) -> Result<Option<FieldTable>, NoMemory>
-    ensures { IfOk result (λ copy. copy ≡ table.now) }
-{
-    match table {
-        Some(table) => Ok(Some(table.try_clone(alloc)?)),
-        None => Ok(None),
-    }
-}
-
-fn same_text(a: &Option<ShortString>, b: &Option<ShortString>) -> bool
-    ensures { Decides result (a.now ≡ b.now) }
-{
-    match (a, b) {
-        (Some(a), Some(b)) => a == b,
-        (None, None) => true,
-        _ => false,
-    }
-}
-
-fn same_table(a: &Option<FieldTable>, b: &Option<FieldTable>) -> bool
-    ensures { Decides result (a.now ≡ b.now) }
+fn same_headers(a: Option<&FieldTable>, b: Option<&FieldTable>) -> bool
+    ensures { Decides result (option_map (λ table. table.now) a.entry ≡ option_map (λ table. table.now) b.entry) }
 {
     match (a, b) {
         (Some(a), Some(b)) => a.same_as(b),
@@ -116,21 +83,17 @@ impl BasicProperties {
     pub fn try_clone(&self, alloc: Global) -> Result<BasicProperties, NoMemory>
         ensures { IfOk result (λ copy. copy ≡ self.now) }
     {
+        let texts = self.texts.try_clone(alloc)?;
+        let headers = self.headers.try_clone(alloc)?;
         Ok(BasicProperties {
-            content_type: clone_text(&self.content_type, alloc)?,
-            content_encoding: clone_text(&self.content_encoding, alloc)?,
-            headers: clone_table(&self.headers, alloc)?,
+            texts,
+            headers,
+            timestamp: self.timestamp,
+            set: self.set,
+            has_headers: self.has_headers,
+            has_timestamp: self.has_timestamp,
             delivery_mode: self.delivery_mode,
             priority: self.priority,
-            correlation_id: clone_text(&self.correlation_id, alloc)?,
-            reply_to: clone_text(&self.reply_to, alloc)?,
-            expiration: clone_text(&self.expiration, alloc)?,
-            message_id: clone_text(&self.message_id, alloc)?,
-            timestamp: self.timestamp,
-            kind: clone_text(&self.kind, alloc)?,
-            user_id: clone_text(&self.user_id, alloc)?,
-            app_id: clone_text(&self.app_id, alloc)?,
-            cluster_id: clone_text(&self.cluster_id, alloc)?,
         })
     }
 
@@ -138,20 +101,11 @@ impl BasicProperties {
     pub fn same_as(&self, other: &BasicProperties) -> bool
         ensures { Decides result (self.now ≡ other.now) }
     {
-        same_text(&self.content_type, &other.content_type)
-            && same_text(&self.content_encoding, &other.content_encoding)
-            && same_table(&self.headers, &other.headers)
+        same_texts(self.set, &self.texts, other.set, &other.texts)
+            && same_headers(self.headers(), other.headers())
             && self.delivery_mode == other.delivery_mode
             && self.priority == other.priority
-            && same_text(&self.correlation_id, &other.correlation_id)
-            && same_text(&self.reply_to, &other.reply_to)
-            && same_text(&self.expiration, &other.expiration)
-            && same_text(&self.message_id, &other.message_id)
-            && self.timestamp == other.timestamp
-            && same_text(&self.kind, &other.kind)
-            && same_text(&self.user_id, &other.user_id)
-            && same_text(&self.app_id, &other.app_id)
-            && same_text(&self.cluster_id, &other.cluster_id)
+            && self.timestamp() == other.timestamp()
     }
 }
 

@@ -62,11 +62,12 @@ impl Model for FieldArray {
 }
 
 /// A table of field values by name, with at most one value a name. A contract sees it as the list of its
-/// pairs, in rising order of the names' bytes.
+/// pairs, in rising order of the names' bytes. It is two words wide, since properties, which hold one, are handed on by value; a table
+/// with no entries takes no memory.
 #[cycle(value)]
 #[derive(Debug, Drop)]
 pub struct FieldTable {
-    entries: Vec<(ShortString, AMQPValue)>,
+    entries: Option<Box<Vec<(ShortString, AMQPValue)>>>,
 }
 
 impl Model for FieldTable {
@@ -79,16 +80,15 @@ impl Model for FieldTable {
     ghost coded = { table_code };
 
     ghost use Rattle.lapin_values.specs.DataOf.{to_pair};
-    ghost use Rattle.lapin_values.specs.Table.{IsRising};
+    ghost use Rattle.lapin_values.specs.Table.{IsRising, rows};
 
-    ghost view = { λ t. map to_pair t.entries.items };
+    ghost view = { λ t. map to_pair (rows t.entries) };
 
-    ghost invariant = { λ t. IsRising t.entries.items };
+    ghost invariant = { λ t. IsRising (rows t.entries) };
 
     ghost size = { table_depth };
 
-    ghost use Rattle.lapin_values.specs.Falls.{table_falls};
-    ghost use Rattle.std.proofs.Common.{arith};
+    ghost use Rattle.lapin_values.specs.Falls.{boxed_falls};
 
-    ghost size_decreases = { λ a h. table_falls _ (λ e. Prim.omega arith) a.entries.items };
+    ghost size_decreases = { λ a h. boxed_falls a.entries };
 }

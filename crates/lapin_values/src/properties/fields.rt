@@ -3,6 +3,7 @@
 ghost use Rattle.std.specs.Prelude.{◌≡◌, Some, option_map};
 
 use crate::properties::BasicProperties;
+use crate::properties::texts::{self, put_text, text_at};
 use crate::text::ShortString;
 use crate::value::FieldTable;
 
@@ -11,14 +12,14 @@ impl BasicProperties {
     pub fn content_type(&self) -> Option<&ShortString>
         ensures { option_map (λ value. value.now) result ≡ self.now.content_type }
     {
-        self.content_type.as_ref()
+        text_at(self.set, &self.texts, texts::CONTENT_TYPE)
     }
 
     /// These properties with `content_type` set to the value.
     pub fn with_content_type(mut self, value: ShortString) -> BasicProperties
         ensures { result ≡ record self { content_type = Some value } }
     {
-        self.content_type = Some(value);
+        put_text(&mut self.set, &mut self.texts, texts::CONTENT_TYPE, value);
         self
     }
 
@@ -26,14 +27,19 @@ impl BasicProperties {
     pub fn content_encoding(&self) -> Option<&ShortString>
         ensures { option_map (λ value. value.now) result ≡ self.now.content_encoding }
     {
-        self.content_encoding.as_ref()
+        text_at(self.set, &self.texts, texts::CONTENT_ENCODING)
     }
 
     /// These properties with `content_encoding` set to the value.
     pub fn with_content_encoding(mut self, value: ShortString) -> BasicProperties
         ensures { result ≡ record self { content_encoding = Some value } }
     {
-        self.content_encoding = Some(value);
+        put_text(
+            &mut self.set,
+            &mut self.texts,
+            texts::CONTENT_ENCODING,
+            value,
+        );
         self
     }
 
@@ -41,14 +47,19 @@ impl BasicProperties {
     pub fn headers(&self) -> Option<&FieldTable>
         ensures { option_map (λ value. value.now) result ≡ self.now.headers }
     {
-        self.headers.as_ref()
+        if self.has_headers {
+            Some(&self.headers)
+        } else {
+            None
+        }
     }
 
     /// These properties with `headers` set to the value.
     pub fn with_headers(mut self, value: FieldTable) -> BasicProperties
         ensures { result ≡ record self { headers = Some value } }
     {
-        self.headers = Some(value);
+        self.headers = value;
+        self.has_headers = true;
         self
     }
 
@@ -86,14 +97,14 @@ impl BasicProperties {
     pub fn correlation_id(&self) -> Option<&ShortString>
         ensures { option_map (λ value. value.now) result ≡ self.now.correlation_id }
     {
-        self.correlation_id.as_ref()
+        text_at(self.set, &self.texts, texts::CORRELATION_ID)
     }
 
     /// These properties with `correlation_id` set to the value.
     pub fn with_correlation_id(mut self, value: ShortString) -> BasicProperties
         ensures { result ≡ record self { correlation_id = Some value } }
     {
-        self.correlation_id = Some(value);
+        put_text(&mut self.set, &mut self.texts, texts::CORRELATION_ID, value);
         self
     }
 
@@ -101,14 +112,14 @@ impl BasicProperties {
     pub fn reply_to(&self) -> Option<&ShortString>
         ensures { option_map (λ value. value.now) result ≡ self.now.reply_to }
     {
-        self.reply_to.as_ref()
+        text_at(self.set, &self.texts, texts::REPLY_TO)
     }
 
     /// These properties with `reply_to` set to the value.
     pub fn with_reply_to(mut self, value: ShortString) -> BasicProperties
         ensures { result ≡ record self { reply_to = Some value } }
     {
-        self.reply_to = Some(value);
+        put_text(&mut self.set, &mut self.texts, texts::REPLY_TO, value);
         self
     }
 
@@ -116,14 +127,14 @@ impl BasicProperties {
     pub fn expiration(&self) -> Option<&ShortString>
         ensures { option_map (λ value. value.now) result ≡ self.now.expiration }
     {
-        self.expiration.as_ref()
+        text_at(self.set, &self.texts, texts::EXPIRATION)
     }
 
     /// These properties with `expiration` set to the value.
     pub fn with_expiration(mut self, value: ShortString) -> BasicProperties
         ensures { result ≡ record self { expiration = Some value } }
     {
-        self.expiration = Some(value);
+        put_text(&mut self.set, &mut self.texts, texts::EXPIRATION, value);
         self
     }
 
@@ -131,14 +142,14 @@ impl BasicProperties {
     pub fn message_id(&self) -> Option<&ShortString>
         ensures { option_map (λ value. value.now) result ≡ self.now.message_id }
     {
-        self.message_id.as_ref()
+        text_at(self.set, &self.texts, texts::MESSAGE_ID)
     }
 
     /// These properties with `message_id` set to the value.
     pub fn with_message_id(mut self, value: ShortString) -> BasicProperties
         ensures { result ≡ record self { message_id = Some value } }
     {
-        self.message_id = Some(value);
+        put_text(&mut self.set, &mut self.texts, texts::MESSAGE_ID, value);
         self
     }
 
@@ -146,14 +157,19 @@ impl BasicProperties {
     pub fn timestamp(&self) -> Option<u64>
         ensures { result ≡ self.now.timestamp }
     {
-        self.timestamp
+        if self.has_timestamp {
+            Some(self.timestamp)
+        } else {
+            None
+        }
     }
 
     /// These properties with `timestamp` set to the value.
     pub fn with_timestamp(mut self, value: u64) -> BasicProperties
         ensures { result ≡ record self { timestamp = Some value } }
     {
-        self.timestamp = Some(value);
+        self.timestamp = value;
+        self.has_timestamp = true;
         self
     }
 
@@ -161,14 +177,14 @@ impl BasicProperties {
     pub fn kind(&self) -> Option<&ShortString>
         ensures { option_map (λ value. value.now) result ≡ self.now.kind }
     {
-        self.kind.as_ref()
+        text_at(self.set, &self.texts, texts::KIND)
     }
 
     /// These properties with `kind` set to the value.
     pub fn with_kind(mut self, value: ShortString) -> BasicProperties
         ensures { result ≡ record self { kind = Some value } }
     {
-        self.kind = Some(value);
+        put_text(&mut self.set, &mut self.texts, texts::KIND, value);
         self
     }
 
@@ -176,14 +192,14 @@ impl BasicProperties {
     pub fn user_id(&self) -> Option<&ShortString>
         ensures { option_map (λ value. value.now) result ≡ self.now.user_id }
     {
-        self.user_id.as_ref()
+        text_at(self.set, &self.texts, texts::USER_ID)
     }
 
     /// These properties with `user_id` set to the value.
     pub fn with_user_id(mut self, value: ShortString) -> BasicProperties
         ensures { result ≡ record self { user_id = Some value } }
     {
-        self.user_id = Some(value);
+        put_text(&mut self.set, &mut self.texts, texts::USER_ID, value);
         self
     }
 
@@ -191,14 +207,14 @@ impl BasicProperties {
     pub fn app_id(&self) -> Option<&ShortString>
         ensures { option_map (λ value. value.now) result ≡ self.now.app_id }
     {
-        self.app_id.as_ref()
+        text_at(self.set, &self.texts, texts::APP_ID)
     }
 
     /// These properties with `app_id` set to the value.
     pub fn with_app_id(mut self, value: ShortString) -> BasicProperties
         ensures { result ≡ record self { app_id = Some value } }
     {
-        self.app_id = Some(value);
+        put_text(&mut self.set, &mut self.texts, texts::APP_ID, value);
         self
     }
 
@@ -206,14 +222,14 @@ impl BasicProperties {
     pub fn cluster_id(&self) -> Option<&ShortString>
         ensures { option_map (λ value. value.now) result ≡ self.now.cluster_id }
     {
-        self.cluster_id.as_ref()
+        text_at(self.set, &self.texts, texts::CLUSTER_ID)
     }
 
     /// These properties with `cluster_id` set to the value.
     pub fn with_cluster_id(mut self, value: ShortString) -> BasicProperties
         ensures { result ≡ record self { cluster_id = Some value } }
     {
-        self.cluster_id = Some(value);
+        put_text(&mut self.set, &mut self.texts, texts::CLUSTER_ID, value);
         self
     }
 }

@@ -3,6 +3,7 @@
 ghost use Rattle.std.specs.Prelude.{◌≡◌, IfOk};
 
 use crate::memory::NoMemory;
+use crate::text::ShortString;
 use crate::value::{AMQPValue, FieldArray, FieldTable};
 use std::alloc::{AllocError, Global};
 
@@ -63,13 +64,21 @@ impl FieldTable {
     pub fn try_clone(&self, alloc: Global) -> Result<FieldTable, NoMemory>
         ensures { IfOk result (λ copy. copy ≡ self.now) }
     {
-        let mut entries = Vec::new(alloc);
-        for entry in &self.entries {
-            let key = entry.0.try_clone(alloc)?;
-            let value = entry.1.try_clone(alloc)?;
-            entries.push((key, value))?;
+        match &self.entries {
+            Some(rows) => {
+                let rows: &Vec<(ShortString, AMQPValue)> = rows;
+                let mut entries = Vec::new(alloc);
+                for entry in rows {
+                    let key = entry.0.try_clone(alloc)?;
+                    let value = entry.1.try_clone(alloc)?;
+                    entries.push((key, value))?;
+                }
+                Ok(FieldTable {
+                    entries: Some(Box::new(alloc, entries)?),
+                })
+            }
+            None => Ok(FieldTable { entries: None }),
         }
-        Ok(FieldTable { entries })
     }
 }
 
@@ -78,7 +87,10 @@ impl Clone for FieldTable {
     ghost is_clone = { λ table copy. copy ≡ table };
 
     fn clone(&self) -> Result<FieldTable, AllocError> {
-        match self.try_clone(*self.entries.allocator()) {
+        let Some(entries) = &self.entries else {
+            return Ok(FieldTable { entries: None });
+        };
+        match self.try_clone(*entries.allocator()) {
             Ok(copy) => Ok(copy),
             Err(NoMemory) => Err(AllocError),
         }

@@ -56,7 +56,12 @@ fn same_items(a: &[AMQPValue], b: &[AMQPValue]) -> bool
 fn same_table(a: &FieldTable, b: &FieldTable) -> bool
     ensures { Decides result (a.now ≡ b.now) }
 {
-    same_entries(&a.entries, &b.entries)
+    match (&a.entries, &b.entries) {
+        (Some(x), Some(y)) => same_entries(x, y),
+        (Some(x), None) => x.is_empty(),
+        (None, Some(y)) => y.is_empty(),
+        (None, None) => true,
+    }
 }
 
 #[cycle(equal)]

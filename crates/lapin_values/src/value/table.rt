@@ -2,10 +2,10 @@
 //! by halving and a table that is built in that order grows at its back.
 
 ghost use Rattle.std.specs.Cmp.Lexicographic.{pointwise};
-ghost use Rattle.std.specs.Prelude.{IsTrue, IfSome, ◌<◌, ◌≤◌, ◌≡◌, [], nat_eq, slice_index_or, length, option_map, slice_get, is_ok, if◌then◌else◌};
+ghost use Rattle.std.specs.Prelude.{IfOk, vec_items, box_value, ◌∷◌, IsTrue, IfSome, ◌<◌, ◌≤◌, ◌≡◌, [], nat_eq, slice_index_or, length, option_map, slice_get, is_ok, if◌then◌else◌};
 ghost use Rattle.lapin_values.specs.DataOf.{data_of};
 ghost use Rattle.lapin_values.specs.Data.{data_depth, table_depth};
-ghost use Rattle.lapin_values.specs.Table.{IsRising, put, lookup, keys_below};
+ghost use Rattle.lapin_values.specs.Table.{IsRising, put, lookup, keys_below, rows};
 
 use crate::memory::NoMemory;
 use crate::text::ShortString;
@@ -14,12 +14,17 @@ use std::alloc::Global;
 
 impl FieldTable {
     /// A table of no entries. It takes no memory yet.
-    pub fn new(alloc: Global) -> FieldTable
+    pub fn new(_alloc: Global) -> FieldTable
         ensures { result ≡ [] }
     {
-        FieldTable {
-            entries: Vec::new(alloc),
-        }
+        FieldTable { entries: None }
+    }
+
+    /// A table of no entries.
+    pub(crate) fn empty() -> FieldTable
+        ensures { result ≡ [] }
+    {
+        FieldTable { entries: None }
     }
 
     /// The number of entries. Their names rise strictly by bytes.
@@ -27,7 +32,7 @@ impl FieldTable {
         ensures count { result ≡ length self.now }
         ensures rising { IsRising self.now }
     {
-        self.entries.len()
+        rows_of(&self.entries).len()
     }
 
     /// The name and the value at a place, counted from 0 in rising order of the names' bytes; `None` from the
@@ -42,7 +47,7 @@ impl FieldTable {
     fn entry_at(&self, place: usize) -> Option<(&ShortString, &AMQPValue)>
         ensures { option_map (λ entry. (entry.0.now, data_of entry.1.now)) result ≡ slice_get self.now place }
     {
-        match self.entries.get(place) {
+        match rows_of(&self.entries).get(place) {
             Some(entry) => Some((&entry.0, &entry.1)),
             None => None,
         }
@@ -52,7 +57,7 @@ impl FieldTable {
     pub fn get(&self, key: &str) -> Option<&AMQPValue>
         ensures { option_map (λ value. data_of value.now) result ≡ lookup key.now self.now }
     {
-        find(&self.entries, key)
+        find(rows_of(&self.entries), key)
     }
 
     /// Gives a name its value, in place of the one that it had.
@@ -62,14 +67,42 @@ impl FieldTable {
     /// `NoMemory`; the table is then unchanged.
     pub fn insert(
         &mut self,
-        _alloc: Global,
+        alloc: Global,
         key: ShortString,
         value: AMQPValue,
     ) -> Result<(), NoMemory>
         ensures { self.new ≡ (if is_ok result then put key (data_of value) self.old else self.old) }
     {
-        put_entry(&mut self.entries, key, value)
+        match &mut self.entries {
+            Some(entries) => put_entry(entries, key, value),
+            None => {
+                self.entries = Some(one_entry(alloc, key, value)?);
+                Ok(())
+            }
+        }
     }
+}
+
+/// The entries: none where the table has no memory yet.
+fn rows_of(entries: &Option<Box<Vec<(ShortString, AMQPValue)>>>) -> &[(ShortString, AMQPValue)]
+    ensures { result.now ≡ rows entries.now }
+{
+    match entries {
+        Some(entries) => entries.as_slice(),
+        None => &[],
+    }
+}
+
+fn one_entry(
+    alloc: Global,
+    key: ShortString,
+    value: AMQPValue,
+) -> Result<Box<Vec<(ShortString, AMQPValue)>>, NoMemory>
+    ensures { IfOk result (λ entries. vec_items (box_value entries) ≡ (key, value) ∷ []) }
+{
+    let mut entries = Vec::new(alloc);
+    entries.push((key, value))?;
+    Ok(Box::new(alloc, entries)?)
 }
 
 fn put_entry(
