@@ -120,7 +120,7 @@ impl Desk {
         ensures room { (self.new.replies.ready ≡ self.old.replies.ready) × (self.new.tickets.spare ≡ self.old.tickets.spare) }
     {
         while let Some(request) = self.replies.drain(channel) {
-            self.resolve(request.ticket, Err(error));
+            self.resolve(request.into_ticket(), Err(error));
         }
     }
 

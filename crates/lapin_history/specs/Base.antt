@@ -5,7 +5,7 @@ use Rattle.std.specs.Prelude.{ℕ, ◌+◌, ◌==◌, Bool, true, false, not, �
 use Rattle.std.specs.List.{list_any, filter}
 use Rattle.lapin_tables.specs.ByChannel.{at_channel, on_channel}
 use Rattle.lapin_types.specs.declared.event.Event.{Event}
-use Rattle.lapin_types.specs.declared.call.Call.{Call}
+use Rattle.lapin_types.specs.declared.answer.Answer.{Answer}
 use Rattle.lapin_types.specs.declared.record.Record.{Record}
 use Rattle.lapin_types.specs.declared.leaving.Publish.{Publish}
 use Rattle.lapin_types.specs.declared.leaving.Left.{Left}
@@ -14,14 +14,11 @@ use Rattle.lapin_types.specs.declared.request.Reply.{Reply}
 use Rattle.lapin_types.specs.declared.request.ReplyKind.{ReplyKind}
 use Rattle.lapin_types.specs.Types.{Frame, Method, ChannelState, Error}
 use Rattle.lapin_types.specs.declared.event.Event.TheVariants as event
-use Rattle.lapin_types.specs.declared.call.Call.TheVariants as call
 use Rattle.lapin_types.specs.declared.record.Record.TheVariants as record_
 use Rattle.lapin_types.specs.Types.frame
 use Rattle.lapin_types.specs.Types.method
 use Rattle.lapin_types.specs.Types.connection
 use Rattle.lapin_types.specs.Types.channel
-use Rattle.lapin_types.specs.Types.basic
-use Rattle.lapin_types.specs.Types.confirm
 use Rattle.lapin_types.specs.Types.error
 use Rattle.lapin_types.specs.Types.channel_state as state
 use Rattle.lapin_types.specs.declared.request.Reply.TheVariants as reply
@@ -33,13 +30,17 @@ use Rattle.lapin_history.specs.declared.phases.Phase.{Phase}
 use Rattle.lapin_history.specs.declared.phases.Phase.TheVariants as phase
 use Rattle.lapin_history.specs.declared.phases.Link.{Link}
 use Rattle.lapin_history.specs.declared.phases.Link.TheVariants as link
+use Rattle.lapin_history.specs.declared.calls.Row.{Row}
+use Rattle.lapin_history.specs.declared.calls.Asked.{Asked}
+use Rattle.lapin_history.specs.declared.calls.Asked.TheVariants as ask
+use Rattle.lapin_history.specs.Calls.{asked}
 use Rattle.lapin_history.specs.declared.broker_frames.Incoming.{Incoming}
 use Rattle.lapin_history.specs.declared.broker_frames.Incoming.TheVariants as incoming
 use Rattle.lapin_history.specs.Words.{is_some, with_channel}
 use Rattle.lapin_history.specs.Frames.{MethodEntry, RestEntry}
 use Rattle.lapin_history.specs.Leaving.{Lists, handed_of, left_lists}
 use Rattle.lapin_history.specs.Drops.{no_lists, without_publishes_of, without_channel}
-use Rattle.lapin_history.specs.Phases.{channel_state, is_live, is_up, is_lost, phase_in, close_sent, link_close_sent, after_broker_close, has_sent_close}
+use Rattle.lapin_history.specs.Phases.{channel_state, is_live, is_paused, is_up, is_lost, phase_in, close_sent, link_close_sent, after_broker_close, has_sent_close}
 use Rattle.lapin_history.specs.Closes.{session_close, unexpected_close}
 use Rattle.lapin_history.specs.Heard.{heard}
 use Rattle.lapin_history.specs.Requests.{requests_in, first_request, with_request, without_request, without_kind, close_alone, no_requests}
@@ -102,9 +103,9 @@ is_base _ = false
 
 -- `channel.open` is allowed on a closed channel, `connection.close` on channel 0 of an open connection, every other call on an
 -- open channel
-abbrev pub is_allowed : Call → ChannelState → Bool
-is_allowed call.OpenChannel s = is_closed s
-is_allowed (call.ConnectionClose code text) s = is_base s
+abbrev pub is_allowed : Asked → ChannelState → Bool
+is_allowed ask.Open s = is_closed s
+is_allowed (ask.CloseConnection code text) s = is_base s
 is_allowed _ s = is_open s
 
 -- ---- requests
@@ -143,22 +144,6 @@ down l b = record (with_lists no_lists b) { link = l; requests = [] }
 
 -- ---- calls
 
--- the method that a call queues
-abbrev pub called : Call → Method
-called call.OpenChannel = method.Channel channel.Open
-called (call.ChannelClose code text) = method.Channel (channel.Close code text 0 0)
-called (call.ConnectionClose code text) = method.Connection (connection.Close code text 0 0)
-called (call.ConfirmSelect o) = method.Confirm (confirm.Select o.nowait)
-called (call.BasicPublish exchange key o payload properties) = method.Basic (basic.Publish exchange key o.mandatory o.immediate)
-
--- the reply that a call awaits; a call without wait awaits none
-abbrev pub awaited : Call → Option Reply
-awaited call.OpenChannel = Some reply.ChannelOpenOk
-awaited (call.ChannelClose code text) = Some reply.ChannelCloseOk
-awaited (call.ConnectionClose code text) = Some reply.ConnectionCloseOk
-awaited (call.ConfirmSelect o) = if o.nowait then None else Some reply.ConfirmSelectOk
-awaited (call.BasicPublish exchange key o payload properties) = None
-
 abbrev pub requests_with : ℕ → ℕ → Option Reply → List (ℕ × List Request) → List (ℕ × List Request)
 requests_with c ticket None all = all
 requests_with c ticket (Some r) all = with_request c (record { ticket = Some ticket; reply = r }) all
@@ -171,13 +156,20 @@ queued c m awaits b = record b {
   tickets = b.tickets + 1;
 }
 
+-- the closes of this side, with the standard's class and method numbers 0: no method of the broker is the cause
+abbrev pub own_close : ℕ → List ℕ → Method
+own_close code text = method.Channel (channel.Close code text 0 0)
+
+abbrev pub own_connection_close : ℕ → List ℕ → Method
+own_connection_close code text = method.Connection (connection.Close code text 0 0)
+
 -- an accepted call: a close takes out what it drops before it is queued
-abbrev pub after_call : ℕ → Call → Base → Base
-after_call c call.OpenChannel b = record (queued c (called call.OpenChannel) (awaited call.OpenChannel) b) { phases = with_channel c phase.Opening b.phases }
-after_call c (call.ChannelClose code text) b = queued c (called (call.ChannelClose code text)) (awaited (call.ChannelClose code text)) (closing c closer.Application b)
-after_call c (call.ConnectionClose code text) b = queued c (called (call.ConnectionClose code text)) (awaited (call.ConnectionClose code text)) (down (link.Closing false false) b)
-after_call c (call.ConfirmSelect o) b = queued c (called (call.ConfirmSelect o)) (awaited (call.ConfirmSelect o)) b
-after_call c (call.BasicPublish exchange key o payload properties) b = record b {
+abbrev pub after_call : ℕ → Asked → Base → Base
+after_call c ask.Open b = record (queued c (method.Channel channel.Open) (Some reply.ChannelOpenOk) b) { phases = with_channel c phase.Opening b.phases }
+after_call c (ask.CloseChannel code text) b = queued c (own_close code text) (Some reply.ChannelCloseOk) (closing c closer.Application b)
+after_call c (ask.CloseConnection code text) b = queued c (own_connection_close code text) (Some reply.ConnectionCloseOk) (down (link.Closing false false) b)
+after_call c (ask.Method row) b = queued c row.method row.awaits b
+after_call c (ask.Publish exchange key o payload properties) b = record b {
   publishes = b.publishes ++ record {
     confirm = b.published + 1;
     ticket = b.tickets + 1;
@@ -192,10 +184,25 @@ after_call c (call.BasicPublish exchange key o payload properties) b = record b 
   published = b.published + 1;
 }
 
+-- a call that is not allowed changes nothing
+abbrev pub after_asking : ℕ → Asked → Base → Base
+after_asking c k b = if is_allowed k (state_of c b) then after_call c k b else b
+
 -- ---- frames that leave
 
+-- a publish may begin where the request's flow is true and no open channel is paused
+abbrev pub is_paused_on : ℕ × Phase → Bool
+is_paused_on x = is_paused x.1
+
+abbrev pub may_begin : Bool → Base → Bool
+may_begin flow b = flow && not (is_up b.link && list_any is_paused_on b.phases)
+
+-- what leaves, where t tells whether a publish may begin
+abbrev pub handed_out : Bool → Base → Option Left
+handed_out t b = handed_of t b.rest b.methods b.publishes
+
 abbrev pub handed : Bool → Base → Option Left
-handed flow b = handed_of flow b.rest b.methods b.publishes
+handed flow b = handed_out (may_begin flow b) b
 
 -- where channels and the connection stand once a frame left: a close of this side has left
 abbrev pub phases_sent : Frame → List (ℕ × Phase) → List (ℕ × Phase)
@@ -210,8 +217,11 @@ abbrev pub sent : Option Left → Base → Base
 sent None b = b
 sent (Some l) b = record b { link = link_sent l.frame b.link; phases = phases_sent l.frame b.phases }
 
+abbrev pub after_handing : Bool → Base → Base
+after_handing t b = sent (handed_out t b) (with_lists (left_lists b.frame_max t (lists_of b)) b)
+
 abbrev pub after_next : Bool → Base → Base
-after_next flow b = sent (handed flow b) (with_lists (left_lists b.frame_max flow (lists_of b)) b)
+after_next flow b = after_handing (may_begin flow b) b
 
 -- ---- frames of the broker
 
@@ -219,12 +229,14 @@ after_next flow b = sent (handed flow b) (with_lists (left_lists b.frame_max flo
 abbrev pub hears_on : ChannelState → Bool
 hears_on s = is_open s || is_closing s
 
--- the state in which a reply is heard; the replies to closes are heard by their state alone, below
+-- whether a reply opens its channel
+abbrev pub opens : ReplyKind → Bool
+opens reply_kind.ChannelOpenOk = true
+opens _ = false
+
+-- the state in which a reply is heard
 abbrev pub hears : ReplyKind → ChannelState → Bool
-hears reply_kind.ChannelOpenOk s = is_opening s
-hears reply_kind.ConfirmSelectOk s = hears_on s
-hears reply_kind.ChannelCloseOk s = false
-hears reply_kind.ConnectionCloseOk s = false
+hears k s = if opens k then is_opening s else hears_on s
 
 -- a reply is heard in its state where a request of its kind is open
 abbrev pub hears_reply : ℕ → ReplyKind → Base → Bool
@@ -245,12 +257,19 @@ hears_down (link.Closing sent heard) (incoming.ConnectionClose code) = not heard
 hears_down _ _ = false
 
 abbrev pub phases_with : ℕ → ReplyKind → List (ℕ × Phase) → List (ℕ × Phase)
-phases_with c reply_kind.ChannelOpenOk all = with_channel c phase.Open all
-phases_with c _ all = all
+phases_with c k all = if opens k then with_channel c (phase.Open false) all else all
 
 -- a reply takes the oldest request of its kind; `channel.open-ok` opens the channel
 abbrev pub after_reply : ℕ → ReplyKind → Base → Base
 after_reply c k b = record b { phases = phases_with c k b.phases; requests = without_request c k b.requests }
+
+-- The broker pauses an open channel, or ends its pause, and is answered. On a channel that this side is closing it changes
+-- nothing.
+abbrev pub after_flow : ℕ → Bool → Base → Base
+after_flow c active b =
+    if is_open (state_of c b)
+    then noted c (method.Channel (channel.FlowOk active)) (record b { phases = with_channel c (phase.Open (not active)) b.phases })
+    else b
 
 -- The broker closes a channel: its opening ends and close-ok is queued. Where this side's close has left the two crossed; the
 -- request of this side's close then stays open for the broker's close-ok.
@@ -285,7 +304,8 @@ after_connection_close_ok b = record (with_lists (unless_sent (has_sent b.link) 
 
 -- a frame that is received
 abbrev pub after_received : Incoming → Base → Base
-after_received (incoming.Reply c k) b = after_reply c k b
+after_received (incoming.Reply c k a) b = after_reply c k b
+after_received (incoming.Flow c active) b = after_flow c active b
 after_received (incoming.Settlement c s) b = b
 after_received (incoming.ChannelClose c code) b = after_channel_close c (phase_of c b) b
 after_received (incoming.ChannelCloseOk c) b = after_close_ok c (phase_of c b) b
@@ -323,7 +343,7 @@ abbrev pub after_lost : Base → Base
 after_lost b = if is_lost b.link then b else down link.Lost b
 
 abbrev pub after_event : Base → Event → Record → Base
-after_event b (event.Call c k) r = if is_allowed k (state_of c b) then after_call c k b else b
+after_event b (event.Call c k) r = after_asking c (asked k) b
 after_event b (event.Next flow) r = after_next flow b
 after_event b (event.Receive f) r = after_heard (heard f) r b
 after_event b (event.PollTicket n) r = b

@@ -1,8 +1,6 @@
 -- What a frame of the broker is to a channel.
 use Rattle.std.specs.Prelude.{ℕ, ◌==◌, Bool, if◌then◌else◌}
 use Rattle.lapin_methods.specs.Numbers.{class_number, method_number}
-use Rattle.lapin_types.specs.declared.request.ReplyKind.{ReplyKind}
-use Rattle.lapin_types.specs.declared.answer.Answer.{Answer}
 use Rattle.lapin_types.specs.Types.{Frame, Method}
 use Rattle.lapin_types.specs.Types.frame
 use Rattle.lapin_types.specs.Types.method
@@ -10,6 +8,9 @@ use Rattle.lapin_types.specs.Types.connection
 use Rattle.lapin_types.specs.Types.channel
 use Rattle.lapin_types.specs.Types.basic
 use Rattle.lapin_types.specs.Types.confirm
+use Rattle.lapin_types.specs.Types.exchange
+use Rattle.lapin_types.specs.Types.queue
+use Rattle.lapin_types.specs.Types.tx
 use Rattle.lapin_types.specs.declared.answer.Answer.TheVariants as answer
 use Rattle.lapin_types.specs.declared.request.ReplyKind.TheVariants as reply_kind
 use Rattle.lapin_history.specs.declared.marks.SettleKind.{SettleKind}
@@ -36,10 +37,19 @@ settlement kind tag multiple = record { kind = kind; tag = tag; multiple = multi
 abbrev pub on_connection : ℕ → Incoming → Incoming
 on_connection c i = if c == 0 then i else incoming.Other
 
--- replies, settlements and closes; every other method is none of these
+-- Replies with the answers that they make, settlements, flow and closes; every other method is none of these.
 abbrev pub heard_method : ℕ → Method → Incoming
-heard_method c (method.Channel channel.OpenOk) = incoming.Reply c reply_kind.ChannelOpenOk
-heard_method c (method.Confirm confirm.SelectOk) = incoming.Reply c reply_kind.ConfirmSelectOk
+heard_method c (method.Channel channel.OpenOk) = incoming.Reply c reply_kind.ChannelOpenOk (answer.Channel c)
+heard_method c (method.Channel (channel.FlowOk active)) = incoming.Reply c reply_kind.ChannelFlowOk (answer.Flow active)
+heard_method c (method.Exchange exchange.BindOk) = incoming.Reply c reply_kind.ExchangeBindOk answer.Done
+heard_method c (method.Queue (queue.DeclareOk name messages consumers)) = incoming.Reply c reply_kind.QueueDeclareOk (answer.Queue (record { name = name; message_count = messages; consumer_count = consumers }))
+heard_method c (method.Queue (queue.DeleteOk messages)) = incoming.Reply c reply_kind.QueueDeleteOk (answer.Count messages)
+heard_method c (method.Basic basic.QosOk) = incoming.Reply c reply_kind.BasicQosOk answer.Done
+heard_method c (method.Confirm confirm.SelectOk) = incoming.Reply c reply_kind.ConfirmSelectOk answer.Done
+heard_method c (method.Queue (queue.PurgeOk messages)) = incoming.Reply c reply_kind.QueuePurgeOk (answer.Count messages)
+heard_method c (method.Tx tx.CommitOk) = incoming.Reply c reply_kind.TxCommitOk answer.Done
+heard_method c (method.Tx tx.SelectOk) = incoming.Reply c reply_kind.TxSelectOk answer.Done
+heard_method c (method.Channel (channel.Flow active)) = incoming.Flow c active
 heard_method c (method.Basic (basic.Ack tag multiple)) = incoming.Settlement c (settlement settle.Ack tag multiple)
 heard_method c (method.Basic (basic.Nack tag multiple requeue)) = incoming.Settlement c (settlement settle.Nack tag multiple)
 heard_method c (method.Channel (channel.Close code text class number)) = incoming.ChannelClose c code
@@ -51,8 +61,3 @@ heard_method c _ = incoming.Other
 abbrev pub heard : Frame → Incoming
 heard (frame.Method c m) = heard_method c m
 heard _ = incoming.Other
-
--- the answer that a reply makes of its request's ticket
-abbrev pub reply_answer : ℕ → ReplyKind → Answer
-reply_answer c reply_kind.ChannelOpenOk = answer.Channel c
-reply_answer c _ = answer.Done

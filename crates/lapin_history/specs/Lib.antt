@@ -8,6 +8,7 @@ pub mod Drops
 pub mod Closes
 pub mod Leaving
 pub mod Requests
+pub mod Calls
 pub mod Base
 pub mod Marked
 pub mod Answers

@@ -1,7 +1,6 @@
 -- What an event does to confirms and tickets: the marks that it adds, with its record.
 use Rattle.std.specs.Prelude.{ℕ, zero, suc, ◌+◌, ◌-◌, Bool, true, false, if◌then◌else◌, List, [], ◌∷◌, ◌++◌, map, Option, Some, None, Result, Ok, Err}
 use Rattle.lapin_types.specs.declared.event.Event.{Event}
-use Rattle.lapin_types.specs.declared.call.Call.{Call}
 use Rattle.lapin_types.specs.declared.record.Record.{Record}
 use Rattle.lapin_types.specs.declared.answer.Answer.{Answer}
 use Rattle.lapin_types.specs.declared.leaving.Left.{Left}
@@ -10,7 +9,7 @@ use Rattle.lapin_types.specs.declared.request.Request.{Request}
 use Rattle.lapin_types.specs.declared.request.ReplyKind.{ReplyKind}
 use Rattle.lapin_types.specs.Types.{Frame, Method, Error}
 use Rattle.lapin_types.specs.declared.event.Event.TheVariants as event
-use Rattle.lapin_types.specs.declared.call.Call.TheVariants as call
+use Rattle.lapin_types.specs.Types.basic
 use Rattle.lapin_types.specs.Types.frame
 use Rattle.lapin_types.specs.Types.method
 use Rattle.lapin_types.specs.Types.confirm
@@ -25,6 +24,9 @@ use Rattle.lapin_history.specs.declared.phases.Closer.TheVariants as closer
 use Rattle.lapin_history.specs.declared.phases.Phase.{Phase}
 use Rattle.lapin_history.specs.declared.phases.Link.{Link}
 use Rattle.lapin_history.specs.declared.phases.Link.TheVariants as link
+use Rattle.lapin_history.specs.declared.calls.Asked.{Asked}
+use Rattle.lapin_history.specs.declared.calls.Asked.TheVariants as ask
+use Rattle.lapin_history.specs.Calls.{asked}
 use Rattle.lapin_history.specs.declared.broker_frames.Incoming.{Incoming}
 use Rattle.lapin_history.specs.declared.broker_frames.Incoming.TheVariants as incoming
 use Rattle.lapin_history.specs.TicketReadings.{TicketMark, Given, Answered, AllFailed, Collected}
@@ -33,7 +35,7 @@ use Rattle.lapin_history.specs.Drops.{frame_channel, unbegun, rest_tickets_of, m
 use Rattle.lapin_history.specs.Phases.{is_live, is_up, is_lost, has_sent_close}
 use Rattle.lapin_history.specs.Closes.{failed_at_close, failed_at_close_ok, close_ok_end, failed_at_connection_close, failed_at_unexpected}
 use Rattle.lapin_history.specs.Base.{Base, state_of, phase_of, is_allowed, is_open, hears_reply, requests_of, handed}
-use Rattle.lapin_history.specs.Heard.{heard, reply_answer}
+use Rattle.lapin_history.specs.Heard.{heard}
 
 -- the place of a publish, from 0, by its confirm number, from 1
 abbrev pub place_of : ℕ → ℕ
@@ -61,12 +63,15 @@ abbrev pub end_with : ℕ → Option Error → List ConfirmMark
 end_with c None = []
 end_with c (Some e) = mark.Ended c e ∷ []
 
-abbrev pub call_marks : ℕ → Call → Base → List ConfirmMark
-call_marks c call.OpenChannel b = mark.Begun c ∷ []
-call_marks c (call.ChannelClose code text) b = rejections (failed_at_close closer.Application) (unbegun c b.publishes)
-call_marks c (call.ConnectionClose code text) b = ends_all failed_at_connection_close b
-call_marks c (call.ConfirmSelect o) b = []
-call_marks c (call.BasicPublish exchange key o payload properties) b = mark.Added c ∷ []
+abbrev pub call_marks : ℕ → Asked → Base → List ConfirmMark
+call_marks c ask.Open b = mark.Begun c ∷ []
+call_marks c (ask.CloseChannel code text) b = rejections (failed_at_close closer.Application) (unbegun c b.publishes)
+call_marks c (ask.CloseConnection code text) b = ends_all failed_at_connection_close b
+call_marks c (ask.Publish exchange key o payload properties) b = mark.Added c ∷ []
+call_marks c (ask.Method row) b = []
+
+abbrev pub asking_marks : ℕ → Asked → Base → List ConfirmMark
+asking_marks c k b = if is_allowed k (state_of c b) then call_marks c k b else []
 
 -- a method that leaves: `confirm.select` selects its channel's opening
 abbrev pub method_marks : ℕ → Method → List ConfirmMark
@@ -117,7 +122,7 @@ is_confirmed (record_.Confirmed o) = true
 is_confirmed _ = false
 
 abbrev pub confirm_marks : Base → Event → Record → List ConfirmMark
-confirm_marks b (event.Call c k) r = if is_allowed k (state_of c b) then call_marks c k b else []
+confirm_marks b (event.Call c k) r = asking_marks c (asked k) b
 confirm_marks b (event.Next flow) r = left_marks (handed flow b)
 confirm_marks b (event.Receive f) r = heard_marks (heard f) r b
 confirm_marks b (event.PollTicket n) r = []
@@ -151,9 +156,9 @@ abbrev pub end_tickets : ℕ → Base → List (Option ℕ)
 end_tickets c b =
     publish_tickets_of c b.publishes ++ (rest_tickets_of c b.rest ++ (method_tickets_of c b.methods ++ request_tickets (without_kind reply_kind.ChannelCloseOk (requests_of c b))))
 
--- the answer of a call without wait, which resolves its ticket in the call
-abbrev pub made_answer : Call → Option Answer
-made_answer (call.ConfirmSelect o) = if o.nowait then Some answer.Done else None
+-- the answer that a call without wait makes, which resolves its ticket in the call
+abbrev pub made_answer : Asked → Option Answer
+made_answer (ask.Method row) = row.made
 made_answer _ = None
 
 -- the ticket that was just given is resolved, if the call has an answer of its own
@@ -162,17 +167,33 @@ made_marks ticket None = []
 made_marks ticket (Some a) = Answered ticket (Ok a) ∷ []
 
 -- what a close resolves as it is called: the tickets of publishes that it rejects, or every open one
-abbrev pub call_failures : ℕ → Call → Base → List TicketMark
-call_failures c (call.ChannelClose code text) b = failures (failed_at_close closer.Application) (publish_tickets_of c b.publishes)
-call_failures c (call.ConnectionClose code text) b = AllFailed failed_at_connection_close ∷ []
+abbrev pub call_failures : ℕ → Asked → Base → List TicketMark
+call_failures c (ask.CloseChannel code text) b = failures (failed_at_close closer.Application) (publish_tickets_of c b.publishes)
+call_failures c (ask.CloseConnection code text) b = AllFailed failed_at_connection_close ∷ []
 call_failures c _ b = []
 
-abbrev pub call_tickets : ℕ → Call → Base → List TicketMark
+abbrev pub call_tickets : ℕ → Asked → Base → List TicketMark
 call_tickets c k b = call_failures c k b ++ (Given ∷ made_marks (b.tickets + 1) (made_answer k))
 
--- the ticket of a publish is resolved with its confirm's number as its last frame leaves
-abbrev pub last_answer : Bool → Option ℕ → Option ℕ → Option (ℕ × Answer)
-last_answer true (Some t) (Some n) = Some (t, answer.Confirm n)
+abbrev pub asking_tickets : ℕ → Asked → Base → List TicketMark
+asking_tickets c k b = if is_allowed k (state_of c b) then call_tickets c k b else []
+
+-- `basic.ack`, `basic.nack`, `basic.reject` and `basic.recover-async` await no reply: each is done as its frame leaves
+abbrev pub is_done_leaving : Frame → Bool
+is_done_leaving (frame.Method c (method.Basic (basic.Ack tag multiple))) = true
+is_done_leaving (frame.Method c (method.Basic (basic.Nack tag multiple requeue))) = true
+is_done_leaving (frame.Method c (method.Basic (basic.Reject tag requeue))) = true
+is_done_leaving (frame.Method c (method.Basic (basic.RecoverAsync requeue))) = true
+is_done_leaving _ = false
+
+-- what the last frame of an entry makes as it leaves: of a publish its confirm's number, of a method nothing but where it is done
+abbrev pub leaving_answer : Frame → Option ℕ → Option Answer
+leaving_answer f (Some n) = Some (answer.Confirm n)
+leaving_answer f None = if is_done_leaving f then Some answer.Done else None
+
+-- the ticket of an entry is resolved as its last frame leaves
+abbrev pub last_answer : Bool → Option ℕ → Option Answer → Option (ℕ × Answer)
+last_answer true (Some t) (Some a) = Some (t, a)
 last_answer _ _ _ = None
 
 abbrev pub resolved_by : Option (ℕ × Answer) → List TicketMark
@@ -181,11 +202,11 @@ resolved_by (Some x) = Answered x.0 (Ok x.1) ∷ []
 
 abbrev pub left_tickets : Option Left → List TicketMark
 left_tickets None = []
-left_tickets (Some l) = resolved_by (last_answer l.last l.ticket l.publish)
+left_tickets (Some l) = resolved_by (last_answer l.last l.ticket (leaving_answer l.frame l.publish))
 
 -- a reply resolves the ticket of its request
-abbrev pub reply_marks : ℕ → ReplyKind → Option Request → List TicketMark
-reply_marks c k r = resolved_with (Ok (reply_answer c k)) (ticket_of r)
+abbrev pub reply_marks : Answer → Option Request → List TicketMark
+reply_marks a r = resolved_with (Ok a) (ticket_of r)
 
 -- The broker closes a channel: what its opening leaves unresolved fails. Where this side's close has left, its ticket stays open
 -- for the broker's close-ok.
@@ -208,7 +229,7 @@ connection_close_tickets l code = AllFailed (error.ProtocolError code) ∷ []
 
 -- a frame that is received
 abbrev pub received_tickets : Incoming → Base → List TicketMark
-received_tickets (incoming.Reply c k) b = reply_marks c k (first_request k (requests_of c b))
+received_tickets (incoming.Reply c k a) b = reply_marks a (first_request k (requests_of c b))
 received_tickets (incoming.ChannelClose c code) b = channel_close_tickets c (error.ProtocolError code) (phase_of c b) b
 received_tickets (incoming.ChannelCloseOk c) b = close_ok_tickets c b
 received_tickets (incoming.ConnectionClose code) b = connection_close_tickets b.link code
@@ -239,7 +260,7 @@ is_answer (record_.Answer a) = true
 is_answer _ = false
 
 abbrev pub ticket_marks : Base → Event → Record → List TicketMark
-ticket_marks b (event.Call c k) r = if is_allowed k (state_of c b) then call_tickets c k b else []
+ticket_marks b (event.Call c k) r = asking_tickets c (asked k) b
 ticket_marks b (event.Next flow) r = left_tickets (handed flow b)
 ticket_marks b (event.Receive f) r = heard_tickets (heard f) r b
 ticket_marks b (event.PollTicket n) r = if is_answer r then Collected n ∷ [] else []

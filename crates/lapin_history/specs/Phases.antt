@@ -12,7 +12,7 @@ use Rattle.lapin_history.specs.declared.phases.Link.TheVariants as link
 abbrev pub channel_state : Phase → ChannelState
 channel_state phase.Closed = state.Closed
 channel_state phase.Opening = state.Opening
-channel_state phase.Open = state.Open
+channel_state (phase.Open paused) = state.Open
 channel_state (phase.Closing closer sent) = state.Closing
 channel_state phase.Crossed = state.Crossed
 
@@ -25,9 +25,14 @@ connection_state link.Lost = link_state.Lost
 -- an opening is live from its call until it ends
 abbrev pub is_live : Phase → Bool
 is_live phase.Opening = true
-is_live phase.Open = true
+is_live (phase.Open paused) = true
 is_live (phase.Closing closer sent) = true
 is_live _ = false
+
+-- the broker's last `channel.flow` paused the open channel
+abbrev pub is_paused : Phase → Bool
+is_paused (phase.Open paused) = paused
+is_paused _ = false
 
 abbrev pub is_up : Link → Bool
 is_up link.Open = true

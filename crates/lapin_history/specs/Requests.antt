@@ -5,6 +5,7 @@ use Rattle.lapin_tables.specs.ByChannel.{at_channel}
 use Rattle.lapin_types.specs.declared.request.Request.{Request}
 use Rattle.lapin_types.specs.declared.request.ReplyKind.{ReplyKind}
 use Rattle.lapin_types.specs.Requests.{kind_of}
+use Rattle.lapin_types.specs.contracts.request.ReplyKindPartialEq.TheImpl as it
 use Rattle.lapin_types.specs.declared.request.ReplyKind.TheVariants as reply_kind
 use Rattle.lapin_history.specs.Words.{without_first, with_channel}
 
@@ -13,11 +14,7 @@ requests_in None = []
 requests_in (Some rs) = rs
 
 abbrev pub same_kind : ReplyKind → ReplyKind → Bool
-same_kind reply_kind.ConnectionCloseOk reply_kind.ConnectionCloseOk = true
-same_kind reply_kind.ChannelOpenOk reply_kind.ChannelOpenOk = true
-same_kind reply_kind.ChannelCloseOk reply_kind.ChannelCloseOk = true
-same_kind reply_kind.ConfirmSelectOk reply_kind.ConfirmSelectOk = true
-same_kind _ _ = false
+same_kind a b = it.ghosts.eq a b
 
 abbrev pub is_kind : ReplyKind → Request → Bool
 is_kind k r = same_kind (kind_of r.reply) k

@@ -3,24 +3,27 @@
 //! Here a frame is sorted, once for all methods; what a channel does with it is the session's.
 
 ghost use Rattle.std.specs.Prelude.{◌≡◌};
-ghost use Rattle.lapin_history.specs.Heard.{heard, heard_method, on_connection as on_connection_lem, frame_class, frame_method, reply_answer as reply_answer_lem};
+ghost use Rattle.lapin_history.specs.Heard.{heard, heard_method, on_connection as on_connection_lem, frame_class, frame_method};
+ghost use Rattle.lapin_types.specs.Types.method as method_;
 ghost use Rattle.lapin_history.specs.Requests.{is_kind as is_kind_lem};
-ghost use Rattle.lapin_history.specs.Base.{hears as hears_lem, hears_on as hears_on_lem, hears_close as hears_close_lem, hears_close_ok as hears_close_ok_lem, hears_down as hears_down_lem};
+ghost use Rattle.lapin_history.specs.Base.{opens as opens_lem, hears as hears_lem, hears_on as hears_on_lem, hears_close as hears_close_lem, hears_close_ok as hears_close_ok_lem, hears_down as hears_down_lem};
 
 use crate::marks::{SettleKind, Settlement};
 use crate::phases::Link;
 use lapin_types::{
-    Answer, BasicMethod, ChannelMethod, ChannelState, ConfirmMethod, ConnectionMethod, Frame,
-    Method, ReplyKind, Request,
+    Answer, BasicMethod, ChannelMethod, ChannelState, ConfirmMethod, ConnectionMethod,
+    ExchangeMethod, Frame, Method, Queue, QueueMethod, ReplyKind, Request, TxMethod,
 };
 
 /// A broker's frame, as the rules see it.
-#[derive(Clone, Copy, Debug, PartialEq, Eq)]
+#[derive(Debug, Drop)]
 pub enum Incoming {
-    /// A reply to the oldest open request of its kind on the channel.
-    Reply(u16, ReplyKind),
+    /// A reply to the oldest open request of its kind on the channel, with the answer that it makes.
+    Reply(u16, ReplyKind, Answer),
     /// A settlement of publishes of the channel.
     Settlement(u16, Settlement),
+    /// The broker pauses the channel, or with true ends the pause.
+    Flow(u16, bool),
     /// The broker closes the channel, with its reply code.
     ChannelClose(u16, u16),
     /// The broker answers a close of the channel.
@@ -34,62 +37,128 @@ pub enum Incoming {
 }
 
 /// Sorts a frame of the broker.
-pub fn sort_frame(frame: &Frame) -> Incoming
-    ensures { result ≡ heard frame.now }
+pub fn sort_frame(frame: Frame) -> Incoming
+    ensures { result ≡ heard frame }
 {
     match frame {
-        Frame::Method(channel, method) => sort_method(*channel, method),
+        Frame::Method(channel, method) => sort_method(channel, method),
         _ => Incoming::Other,
     }
 }
 
-fn sort_method(channel: u16, method: &Method) -> Incoming
-    ensures { result ≡ heard_method channel method.now }
+fn sort_method(channel: u16, method: Method) -> Incoming
+    ensures { result ≡ heard_method channel method }
 {
     match method {
-        Method::Connection(ConnectionMethod::Close { reply_code, .. }) => {
-            on_connection(channel, Incoming::ConnectionClose(*reply_code))
+        Method::Connection(method) => sort_connection(channel, method),
+        Method::Channel(method) => sort_channel(channel, method),
+        Method::Exchange(method) => sort_exchange(channel, method),
+        Method::Queue(method) => sort_queue(channel, method),
+        Method::Basic(method) => sort_basic(channel, method),
+        Method::Confirm(ConfirmMethod::SelectOk) => {
+            Incoming::Reply(channel, ReplyKind::ConfirmSelectOk, Answer::Done)
         }
-        Method::Connection(ConnectionMethod::CloseOk) => {
-            on_connection(channel, Incoming::ConnectionCloseOk)
+        Method::Tx(TxMethod::SelectOk) => {
+            Incoming::Reply(channel, ReplyKind::TxSelectOk, Answer::Done)
         }
-        Method::Channel(ChannelMethod::OpenOk) => Incoming::Reply(
+        Method::Tx(TxMethod::CommitOk) => {
+            Incoming::Reply(channel, ReplyKind::TxCommitOk, Answer::Done)
+        }
+        _ => Incoming::Other,
+    }
+}
+
+fn sort_connection(channel: u16, method: ConnectionMethod) -> Incoming
+    ensures { result ≡ heard_method channel (method_.Connection method) }
+{
+    match method {
+        ConnectionMethod::Close { reply_code, .. } => {
+            on_connection(channel, Incoming::ConnectionClose(reply_code))
+        }
+        ConnectionMethod::CloseOk => on_connection(channel, Incoming::ConnectionCloseOk),
+    }
+}
+
+fn sort_channel(channel: u16, method: ChannelMethod) -> Incoming
+    ensures { result ≡ heard_method channel (method_.Channel method) }
+{
+    match method {
+        ChannelMethod::OpenOk => {
+            Incoming::Reply(channel, ReplyKind::ChannelOpenOk, Answer::Channel(channel))
+        }
+        ChannelMethod::Flow { active } => Incoming::Flow(channel, active),
+        ChannelMethod::FlowOk { active } => {
+            Incoming::Reply(channel, ReplyKind::ChannelFlowOk, Answer::Flow(active))
+        }
+        ChannelMethod::Close { reply_code, .. } => Incoming::ChannelClose(channel, reply_code),
+        ChannelMethod::CloseOk => Incoming::ChannelCloseOk(channel),
+        _ => Incoming::Other,
+    }
+}
+
+fn sort_exchange(channel: u16, method: ExchangeMethod) -> Incoming
+    ensures { result ≡ heard_method channel (method_.Exchange method) }
+{
+    match method {
+        ExchangeMethod::BindOk => {
+            Incoming::Reply(channel, ReplyKind::ExchangeBindOk, Answer::Done)
+        }
+        _ => Incoming::Other,
+    }
+}
+
+fn sort_queue(channel: u16, method: QueueMethod) -> Incoming
+    ensures { result ≡ heard_method channel (method_.Queue method) }
+{
+    match method {
+        QueueMethod::DeclareOk {
+            queue,
+            message_count,
+            consumer_count,
+        } => {
+            let answer = Answer::Queue(Queue::new(queue, message_count, consumer_count));
+            Incoming::Reply(channel, ReplyKind::QueueDeclareOk, answer)
+        }
+        QueueMethod::PurgeOk { message_count } => Incoming::Reply(
             channel,
-            ReplyKind::ChannelOpenOk,
+            ReplyKind::QueuePurgeOk,
+            Answer::Count(message_count),
         ),
-        Method::Channel(ChannelMethod::Close { reply_code, .. }) => {
-            Incoming::ChannelClose(channel, *reply_code)
-        }
-        Method::Channel(ChannelMethod::CloseOk) => Incoming::ChannelCloseOk(channel),
-        Method::Confirm(ConfirmMethod::SelectOk) => Incoming::Reply(
+        QueueMethod::DeleteOk { message_count } => Incoming::Reply(
             channel,
-            ReplyKind::ConfirmSelectOk,
+            ReplyKind::QueueDeleteOk,
+            Answer::Count(message_count),
         ),
-        Method::Basic(
-            BasicMethod::Ack {
-                delivery_tag,
-                multiple,
-            },
-        ) => Incoming::Settlement(
+        _ => Incoming::Other,
+    }
+}
+
+fn sort_basic(channel: u16, method: BasicMethod) -> Incoming
+    ensures { result ≡ heard_method channel (method_.Basic method) }
+{
+    match method {
+        BasicMethod::QosOk => Incoming::Reply(channel, ReplyKind::BasicQosOk, Answer::Done),
+        BasicMethod::Ack {
+            delivery_tag,
+            multiple,
+        } => Incoming::Settlement(
             channel,
             Settlement {
                 kind: SettleKind::Ack,
-                tag: *delivery_tag,
-                multiple: *multiple,
+                tag: delivery_tag,
+                multiple,
             },
         ),
-        Method::Basic(
-            BasicMethod::Nack {
-                delivery_tag,
-                multiple,
-                requeue: _requeue,
-            },
-        ) => Incoming::Settlement(
+        BasicMethod::Nack {
+            delivery_tag,
+            multiple,
+            requeue: _requeue,
+        } => Incoming::Settlement(
             channel,
             Settlement {
                 kind: SettleKind::Nack,
-                tag: *delivery_tag,
-                multiple: *multiple,
+                tag: delivery_tag,
+                multiple,
             },
         ),
         _ => Incoming::Other,
@@ -128,16 +197,6 @@ pub fn method_of(frame: &Frame) -> u16
     }
 }
 
-/// The answer that a reply makes.
-pub fn reply_answer(channel: u16, kind: ReplyKind) -> Answer
-    ensures { result ≡ reply_answer_lem channel kind }
-{
-    match kind {
-        ReplyKind::ChannelOpenOk => Answer::Channel(channel),
-        _ => Answer::Done,
-    }
-}
-
 /// Whether a request awaits a reply of this kind.
 pub fn is_kind(kind: ReplyKind, request: &Request) -> bool
     ensures { result ≡ is_kind_lem kind request.now }
@@ -171,8 +230,8 @@ pub fn hears_close_ok(state: ChannelState) -> bool
 
 /// Whether a frame is heard though the connection is not open: while this side closes it, `connection.close-ok` and the first
 /// `connection.close`.
-pub fn hears_down(link: Link, incoming: Incoming) -> bool
-    ensures { result ≡ hears_down_lem link incoming }
+pub fn hears_down(link: Link, incoming: &Incoming) -> bool
+    ensures { result ≡ hears_down_lem link incoming.now }
 {
     match (link, incoming) {
         (Link::Closing { .. }, Incoming::ConnectionCloseOk) => true,
@@ -181,14 +240,21 @@ pub fn hears_down(link: Link, incoming: Incoming) -> bool
     }
 }
 
-/// Whether a reply of this kind is heard in a state: `channel.open-ok` on an opening channel, `confirm.select-ok` where replies
-/// are heard. The replies to closes are heard by the channel's state alone.
+/// Whether a reply of this kind opens its channel.
+pub fn opens(kind: ReplyKind) -> bool
+    ensures { result ≡ opens_lem kind }
+{
+    matches!(kind, ReplyKind::ChannelOpenOk)
+}
+
+/// Whether a reply of this kind is heard in a state: `channel.open-ok` on an opening channel, every other one where replies are
+/// heard.
 pub fn hears(kind: ReplyKind, state: ChannelState) -> bool
     ensures { result ≡ hears_lem kind state }
 {
-    match kind {
-        ReplyKind::ChannelOpenOk => matches!(state, ChannelState::Opening),
-        ReplyKind::ConfirmSelectOk => hears_on(state),
-        ReplyKind::ChannelCloseOk | ReplyKind::ConnectionCloseOk => false,
+    if opens(kind) {
+        matches!(state, ChannelState::Opening)
+    } else {
+        hears_on(state)
     }
 }

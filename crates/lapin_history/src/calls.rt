@@ -1,89 +1,260 @@
-//! The table of calls: the method that a call queues, the reply that it awaits, and the answer that it makes itself.
+//! What a call is to a session: the table of calls.
 //!
-//! One line a call, as the definitions of `specs/Base.antt` and `specs/Marked.antt` say. The session asks here.
+//! One line a call, as the definition of `specs/Calls.antt` says. Four calls do more than to queue their method; all others are
+//! their line of the table. The session asks here.
 
-ghost use Rattle.std.specs.Prelude.{◌≡◌};
-ghost use Rattle.lapin_history.specs.Base.{called as called_lem, awaited as awaited_lem, is_allowed as is_allowed_lem};
-ghost use Rattle.lapin_history.specs.Marked.{made_answer as made_answer_lem};
+ghost use Rattle.std.specs.Prelude.{◌≡◌, Option, IfOk};
+ghost use Rattle.lapin_history.specs.Calls.{asked, in_table as in_table_lem, waiting as waiting_lem};
+ghost use Rattle.lapin_history.specs.Base.{is_allowed as is_allowed_lem};
+ghost use Rattle.lapin_types.specs.declared.call.Call.TheVariants as call;
 
 use lapin_types::{
-    Answer, BasicMethod, Call, ChannelMethod, ChannelState, ConfirmMethod, ConnectionMethod,
-    Method, Reply,
+    Answer, BasicMethod, BasicProperties, BasicPublishOptions, Call, ChannelMethod, ChannelState,
+    ConfirmMethod, ExchangeBindOptions, ExchangeMethod, FieldTable, Method, NoMemory, Payload,
+    Queue, QueueDeclareOptions, QueueDeleteOptions, QueueMethod, Reply, ShortString, TxMethod,
 };
+use std::alloc::Global;
 
-/// Whether a call may be made on a channel in this state: `channel.open` on a closed one, `connection.close` on channel 0 of an
+/// A line of the table of calls.
+#[derive(Debug, Drop)]
+pub struct Row {
+    /// The method that the call queues.
+    pub method: Method,
+    /// The reply that it awaits; none where it is called without wait, and where its ticket is resolved as its frame leaves.
+    pub awaits: Option<Reply>,
+    /// The answer that it makes itself, where it is called without wait.
+    pub made: Option<Answer>,
+}
+
+/// A call, as the rules see it.
+#[derive(Debug, Drop)]
+pub enum Asked {
+    /// Opens the channel.
+    Open,
+    /// Closes the channel, with a reply code and a reply text.
+    CloseChannel(u16, ShortString),
+    /// Closes the connection, with a reply code and a reply text.
+    CloseConnection(u16, ShortString),
+    /// Publishes a message.
+    Publish {
+        /// The exchange to publish to.
+        exchange: ShortString,
+        /// The routing key.
+        routing_key: ShortString,
+        /// The marks of the method.
+        options: BasicPublishOptions,
+        /// The bytes of the message.
+        payload: Payload,
+        /// The properties of the message.
+        properties: BasicProperties,
+    },
+    /// Any other call: it queues its method, and does what its line says.
+    Method(Row),
+}
+
+/// Whether a call may be made on a channel in this state: an open on a closed one, a close of the connection on channel 0 of an
 /// open connection, every other call on an open one.
-pub fn is_allowed(call: &Call, state: ChannelState) -> bool
-    ensures { result ≡ is_allowed_lem call.now state }
+pub fn is_allowed(asked: &Asked, state: ChannelState) -> bool
+    ensures { result ≡ is_allowed_lem asked.now state }
 {
-    match call {
-        Call::OpenChannel => matches!(state, ChannelState::Closed),
-        Call::ConnectionClose { .. } => matches!(state, ChannelState::Base),
+    match asked {
+        Asked::Open => matches!(state, ChannelState::Closed),
+        Asked::CloseConnection(_, _) => matches!(state, ChannelState::Base),
         _ => matches!(state, ChannelState::Open),
     }
 }
 
-/// The method that a call queues.
-pub fn called(call: Call) -> Method
-    ensures { result ≡ called_lem call }
+/// Sorts a call.
+///
+/// # Errors
+/// `NoMemory` alone.
+pub fn sort_call(alloc: Global, call: Call) -> Result<Asked, NoMemory>
+    ensures { IfOk result (λ a. a ≡ asked call) }
 {
     match call {
-        Call::OpenChannel => Method::Channel(ChannelMethod::Open),
+        Call::OpenChannel => Ok(Asked::Open),
         Call::ChannelClose {
             reply_code,
             reply_text,
-        } => Method::Channel(ChannelMethod::Close {
-            reply_code,
-            reply_text,
-            class_id: 0,
-            method_id: 0,
-        }),
+        } => Ok(Asked::CloseChannel(reply_code, reply_text)),
         Call::ConnectionClose {
             reply_code,
             reply_text,
-        } => Method::Connection(ConnectionMethod::Close {
-            reply_code,
-            reply_text,
-            class_id: 0,
-            method_id: 0,
-        }),
-        Call::ConfirmSelect { options } => Method::Confirm(ConfirmMethod::Select {
-            nowait: options.nowait,
-        }),
+        } => Ok(Asked::CloseConnection(reply_code, reply_text)),
         Call::BasicPublish {
             exchange,
             routing_key,
             options,
-            payload: _payload,
-            properties: _properties,
-        } => Method::Basic(BasicMethod::Publish {
+            payload,
+            properties,
+        } => Ok(Asked::Publish {
             exchange,
             routing_key,
-            mandatory: options.mandatory,
-            immediate: options.immediate,
+            options,
+            payload,
+            properties,
         }),
+        Call::ChannelFlow { options } => {
+            let method = Method::Channel(ChannelMethod::Flow {
+                active: options.active,
+            });
+            Ok(in_table(method, Some(Reply::ChannelFlowOk)))
+        }
+        Call::ExchangeBind {
+            destination,
+            source,
+            routing_key,
+            options,
+            arguments,
+        } => exchange_bind(alloc, destination, source, routing_key, options, arguments),
+        Call::QueueDeclare {
+            queue,
+            options,
+            arguments,
+        } => queue_declare(alloc, queue, options, arguments),
+        Call::QueueDelete { queue, options } => queue_delete(alloc, queue, options),
+        Call::BasicQos {
+            prefetch_count,
+            options,
+        } => {
+            let method = Method::Basic(BasicMethod::Qos {
+                prefetch_count,
+                global: options.global,
+            });
+            Ok(in_table(method, Some(Reply::BasicQosOk)))
+        }
+        Call::BasicAck {
+            delivery_tag,
+            options,
+        } => {
+            let method = Method::Basic(BasicMethod::Ack {
+                delivery_tag,
+                multiple: options.multiple,
+            });
+            Ok(in_table(method, None))
+        }
+        Call::ConfirmSelect { options } => {
+            let method = Method::Confirm(ConfirmMethod::Select {
+                nowait: options.nowait,
+            });
+            Ok(waiting(
+                method, options.nowait, Reply::ConfirmSelectOk, Answer::Done,
+            ))
+        }
+        Call::QueuePurge { queue, options } => {
+            let nowait = options.nowait;
+            let method = Method::Queue(QueueMethod::Purge { queue, nowait });
+            Ok(waiting(
+                method, nowait, Reply::QueuePurgeOk, Answer::Count(0),
+            ))
+        }
+        Call::TxSelect => Ok(in_table(
+            Method::Tx(TxMethod::Select),
+            Some(Reply::TxSelectOk),
+        )),
+        Call::TxCommit => Ok(in_table(
+            Method::Tx(TxMethod::Commit),
+            Some(Reply::TxCommitOk),
+        )),
     }
 }
 
-/// The reply that a call awaits. A call without wait awaits none.
-pub fn awaited(call: &Call) -> Option<Reply>
-    ensures { result ≡ awaited_lem call.now }
+fn exchange_bind(
+    alloc: Global,
+    destination: ShortString,
+    source: ShortString,
+    routing_key: ShortString,
+    options: ExchangeBindOptions,
+    arguments: FieldTable,
+) -> Result<Asked, NoMemory>
+    ensures { IfOk result (λ a. a ≡ asked (call.ExchangeBind destination source routing_key options arguments)) }
 {
-    match call {
-        Call::OpenChannel => Some(Reply::ChannelOpenOk),
-        Call::ChannelClose { .. } => Some(Reply::ChannelCloseOk),
-        Call::ConnectionClose { .. } => Some(Reply::ConnectionCloseOk),
-        Call::ConfirmSelect { options } if !options.nowait => Some(Reply::ConfirmSelectOk),
-        _ => None,
-    }
+    let reply = Reply::ExchangeBindOk {
+        destination: destination.try_clone(alloc)?,
+        source: source.try_clone(alloc)?,
+        routing_key: routing_key.try_clone(alloc)?,
+        arguments: arguments.try_clone(alloc)?,
+    };
+    let method = Method::Exchange(ExchangeMethod::Bind {
+        destination,
+        source,
+        routing_key,
+        nowait: options.nowait,
+        arguments,
+    });
+    Ok(waiting(method, options.nowait, reply, Answer::Done))
 }
 
-/// The answer of a call without wait, which resolves its ticket in the call.
-pub fn made_answer(call: &Call) -> Option<Answer>
-    ensures { result ≡ made_answer_lem call.now }
+fn queue_declare(
+    alloc: Global,
+    queue: ShortString,
+    options: QueueDeclareOptions,
+    arguments: FieldTable,
+) -> Result<Asked, NoMemory>
+    ensures { IfOk result (λ a. a ≡ asked (call.QueueDeclare queue options arguments)) }
 {
-    match call {
-        Call::ConfirmSelect { options } if options.nowait => Some(Answer::Done),
-        _ => None,
+    let reply = Reply::QueueDeclareOk {
+        options,
+        arguments: arguments.try_clone(alloc)?,
+    };
+    let answer = Answer::Queue(Queue::new(queue.try_clone(alloc)?, 0, 0));
+    let method = Method::Queue(QueueMethod::Declare {
+        queue,
+        passive: options.passive,
+        durable: options.durable,
+        exclusive: options.exclusive,
+        auto_delete: options.auto_delete,
+        nowait: options.nowait,
+        arguments,
+    });
+    Ok(waiting(method, options.nowait, reply, answer))
+}
+
+fn queue_delete(
+    alloc: Global,
+    queue: ShortString,
+    options: QueueDeleteOptions,
+) -> Result<Asked, NoMemory>
+    ensures { IfOk result (λ a. a ≡ asked (call.QueueDelete queue options)) }
+{
+    let reply = Reply::QueueDeleteOk {
+        queue: queue.try_clone(alloc)?,
+    };
+    let method = Method::Queue(QueueMethod::Delete {
+        queue,
+        if_unused: options.if_unused,
+        if_empty: options.if_empty,
+        nowait: options.nowait,
+    });
+    Ok(waiting(method, options.nowait, reply, Answer::Count(0)))
+}
+
+// A call that has no way without wait.
+fn in_table(method: Method, awaits: Option<Reply>) -> Asked
+    ensures { result ≡ in_table_lem method awaits }
+{
+    Asked::Method(Row {
+        method,
+        awaits,
+        made: None,
+    })
+}
+
+// A call that awaits this reply, or without wait makes this answer itself.
+fn waiting(method: Method, nowait: bool, reply: Reply, answer: Answer) -> Asked
+    ensures { result ≡ waiting_lem method nowait reply answer }
+{
+    if nowait {
+        Asked::Method(Row {
+            method,
+            awaits: None,
+            made: Some(answer),
+        })
+    } else {
+        Asked::Method(Row {
+            method,
+            awaits: Some(reply),
+            made: None,
+        })
     }
 }

@@ -18,9 +18,9 @@ mod tests;
 
 pub use broker_frames::{
     Incoming, class_of, hears, hears_close, hears_close_ok, hears_down, hears_on, is_kind,
-    method_of, reply_answer, sort_frame,
+    method_of, opens, sort_frame,
 };
-pub use calls::{awaited, called, is_allowed, made_answer};
+pub use calls::{Asked, Row, is_allowed, sort_call};
 pub use closes::{
     after_broker_close, close_ok_end, close_sent, failed_at_close, has_sent_close, link_close_sent,
     session_close, unexpected_close,

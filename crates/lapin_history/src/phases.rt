@@ -4,7 +4,7 @@
 //! the close has left). The moves stand in `specs/Base.antt`.
 
 ghost use Rattle.std.specs.Prelude.{◌≡◌};
-ghost use Rattle.lapin_history.specs.Phases.{is_live as is_live_lem, is_up as is_up_lem, channel_state, connection_state};
+ghost use Rattle.lapin_history.specs.Phases.{is_live as is_live_lem, is_paused as is_paused_lem, is_up as is_up_lem, channel_state, connection_state};
 
 use lapin_types::{ChannelState, ConnectionState};
 
@@ -25,7 +25,10 @@ pub enum Phase {
     /// `channel.open` was called, and `channel.open-ok` is awaited.
     Opening,
     /// In use.
-    Open,
+    Open {
+        /// Whether the broker's last `channel.flow` paused it.
+        paused: bool,
+    },
     /// A close of this side is under way.
     Closing {
         /// Who began it.
@@ -60,7 +63,14 @@ impl Phase {
     pub fn is_live(self) -> bool
         ensures { result ≡ is_live_lem self }
     {
-        matches!(self, Phase::Opening | Phase::Open | Phase::Closing { .. })
+        matches!(self, Phase::Opening | Phase::Open { .. } | Phase::Closing { .. })
+    }
+
+    /// Whether the channel is open and the broker paused it.
+    pub fn is_paused(self) -> bool
+        ensures { result ≡ is_paused_lem self }
+    {
+        matches!(self, Phase::Open { paused: true })
     }
 
     /// The channel's state, as a caller sees it while the connection is open.
@@ -70,7 +80,7 @@ impl Phase {
         match self {
             Phase::Closed => ChannelState::Closed,
             Phase::Opening => ChannelState::Opening,
-            Phase::Open => ChannelState::Open,
+            Phase::Open { .. } => ChannelState::Open,
             Phase::Closing { .. } => ChannelState::Closing,
             Phase::Crossed => ChannelState::Crossed,
         }

@@ -7,9 +7,12 @@ use Rattle.lapin_types.specs.declared.leaving.Publish.{Publish}
 use Rattle.lapin_methods.specs.contracts.frame.Frame as frame_row
 use Rattle.lapin_methods.specs.contracts.method.Method as method_row
 use Rattle.lapin_types.specs.contracts.leaving.Publish as publish_row
+use Rattle.lapin_types.specs.declared.request.Request.{Request}
+use Rattle.lapin_types.specs.contracts.request.Request as request_row
 use Rattle.lapin_history.specs.Frames.{MethodEntry, RestEntry}
 use Rattle.lapin_history.specs.Leaving.{Lists}
 use Rattle.lapin_outbox.specs.Outgoing.{Outgoing}
+use Rattle.lapin_outbox.specs.Open.{OpenOnChannel, OpenRequests}
 
 -- a frame of the begun publish
 abbrev pub rest_entry_code : Coded RestEntry
@@ -49,4 +52,24 @@ outgoing_code =
     (coded× coded_ℕ (coded× lists_code coded_ℕ))
     (λ o. (o.frame_max, (o.lists, o.spare)))
     (λ p. record { frame_max = p.0; lists = p.1.0; spare = p.1.1 })
+    (λ _. refl)
+
+-- the open requests of a channel
+abbrev pub open_code : Coded OpenOnChannel
+open_code =
+    code_by
+    (List Request × ℕ)
+    (coded× (coded_list request_row.the_row.coded) coded_ℕ)
+    (λ o. (o.open_requests, o.spare))
+    (λ p. record { open_requests = p.0; spare = p.1 })
+    (λ _. refl)
+
+-- the open requests of all channels
+abbrev pub requests_code : Coded OpenRequests
+requests_code =
+    code_by
+    (List (ℕ × List Request) × Option ℕ)
+    (coded× (coded_list (coded× coded_ℕ (coded_list request_row.the_row.coded))) (coded_option coded_ℕ))
+    (λ o. (o.waiting, o.ready))
+    (λ p. record { waiting = p.0; ready = p.1 })
     (λ _. refl)

@@ -30,8 +30,11 @@ pub struct Replies {
 impl Model for Replies {
     ghost use Rattle.std.specs.Prelude.{◌≡◌, []};
     ghost use Rattle.lapin_outbox.specs.Open.{OpenRequests, seen, IsReady};
+    ghost use Rattle.lapin_outbox.specs.Codes.{requests_code};
 
     ghost Value = { OpenRequests };
+
+    ghost coded = { requests_code };
 
     ghost view = { λ r. seen r.channels.entries r.ready };
 

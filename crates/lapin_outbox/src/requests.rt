@@ -23,8 +23,11 @@ impl Model for Requests {
     ghost use Rattle.std.specs.Prelude.{◌-◌};
     ghost use Rattle.std.specs.VecDeque.{deque_len, deque_capacity};
     ghost use Rattle.lapin_outbox.specs.Open.{OpenOnChannel};
+    ghost use Rattle.lapin_outbox.specs.Codes.{open_code};
 
     ghost Value = { OpenOnChannel };
+
+    ghost coded = { open_code };
 
     ghost view = { λ r. record { open_requests = r.queue.items; spare = deque_capacity r.queue - deque_len r.queue } };
 }

@@ -1,8 +1,10 @@
 -- An unsent `connection.close` of this side waits alone: kept by every event.
 use Rattle.std.proofs.Common.{◌≡◌, ℕ, Bool, true, false, cond, List, [], ◌∷◌, Option, Some, None, refl, ◌⊎◌, inl, inr}
 use Rattle.std.specs.List.{fold}
-use Rattle.lapin_types.specs.declared.call.Call.{Call}
-use Rattle.lapin_types.specs.declared.call.Call.TheVariants as call
+use Rattle.lapin_history.specs.declared.calls.Row.{Row}
+use Rattle.lapin_history.specs.declared.calls.Asked.{Asked}
+use Rattle.lapin_history.specs.declared.calls.Asked.TheVariants as ask
+use Rattle.lapin_history.specs.Calls.{asked}
 use Rattle.lapin_types.specs.declared.event.Event.{Event}
 use Rattle.lapin_types.specs.declared.event.Event.TheVariants as event
 use Rattle.lapin_types.specs.declared.record.Record.{Record}
@@ -20,13 +22,13 @@ use Rattle.lapin_history.specs.declared.phases.Phase.{Phase}
 use Rattle.lapin_history.specs.declared.phases.Phase.TheVariants as phase
 use Rattle.lapin_history.specs.declared.phases.Link.{Link}
 use Rattle.lapin_history.specs.declared.phases.Link.TheVariants as link
-use Rattle.lapin_history.specs.Heard.{heard}
+use Rattle.lapin_history.specs.Heard.{heard, frame_class, frame_method}
 use Rattle.lapin_history.specs.Phases.{is_lost, link_close_sent}
 use Rattle.lapin_history.specs.Frames.{MethodEntry, RestEntry}
 use Rattle.lapin_history.specs.Leaving.{Lists, handed_of}
 use Rattle.lapin_history.specs.Drops.{no_lists}
-use Rattle.lapin_history.specs.Answers.{Sight, heard_record}
-use Rattle.lapin_history.specs.Base.{Base, state_of, phase_of, is_allowed, is_open, after_call, after_heard, after_received, after_failed, after_refused, after_close_ok, after_next, handed, sent, link_sent, lists_of, has_sent}
+use Rattle.lapin_history.specs.Answers.{Sight, refused, heard_record}
+use Rattle.lapin_history.specs.Base.{Base, state_of, phase_of, is_allowed, is_open, may_begin, after_call, after_heard, after_received, after_failed, after_refused, after_close_ok, after_next, handed, sent, link_sent, lists_of, has_sent}
 use Rattle.lapin_session.specs.World.{World, next, new_world, sight_of}
 use Rattle.lapin_session.specs.Alone.{is_connection_close, IsOneClose, IsCloseAlone, WaitsAlone, without_own_close}
 
@@ -39,36 +41,36 @@ choose_alone false x y h k = k
 
 -- ---- calls
 
-call_up : (c : ℕ) (k : Call) (b : Base) → b.link ≡ link.Open → Alone (after_call c k b)
-call_up c call.OpenChannel b e = rw e tt
-call_up c (call.ChannelClose code text) b e = rw e tt
-call_up c (call.ConnectionClose code text) b e = record { close = refl; rest = refl; publishes = refl }
-call_up c (call.ConfirmSelect o) b e = rw e tt
-call_up c (call.BasicPublish exchange key o payload properties) b e = rw e tt
+call_up : (c : ℕ) (k : Asked) (b : Base) → b.link ≡ link.Open → Alone (after_call c k b)
+call_up c ask.Open b e = rw e tt
+call_up c (ask.CloseChannel code text) b e = rw e tt
+call_up c (ask.CloseConnection code text) b e = record { close = refl; rest = refl; publishes = refl }
+call_up c (ask.Method row) b e = rw e tt
+call_up c (ask.Publish exchange key o payload properties) b e = rw e tt
 
 -- no call is allowed once the connection is not open
-call_down : (c : ℕ) (k : Call) (b : Base) → is_allowed k (state_of c b) ≡ false → Alone b → Alone (cond (is_allowed k (state_of c b)) (after_call c k b) b)
+call_down : (c : ℕ) (k : Asked) (b : Base) → is_allowed k (state_of c b) ≡ false → Alone b → Alone (cond (is_allowed k (state_of c b)) (after_call c k b) b)
 call_down c k b e h = rw e h
 
-down_refuses : (l : Link) (c : ℕ) (k : Call) (b : Base) → b.link ≡ l → (l ≡ link.Open) ⊎ (is_allowed k (state_of c b) ≡ false)
+down_refuses : (l : Link) (c : ℕ) (k : Asked) (b : Base) → b.link ≡ l → (l ≡ link.Open) ⊎ (is_allowed k (state_of c b) ≡ false)
 down_refuses link.Open c k b e = inl refl
-down_refuses (link.Closing s h) c call.OpenChannel b e = inr (rw e refl)
-down_refuses (link.Closing s h) c (call.ChannelClose code text) b e = inr (rw e refl)
-down_refuses (link.Closing s h) c (call.ConnectionClose code text) b e = inr (rw e refl)
-down_refuses (link.Closing s h) c (call.ConfirmSelect o) b e = inr (rw e refl)
-down_refuses (link.Closing s h) c (call.BasicPublish exchange key o payload properties) b e = inr (rw e refl)
-down_refuses link.Closed c call.OpenChannel b e = inr (rw e refl)
-down_refuses link.Closed c (call.ChannelClose code text) b e = inr (rw e refl)
-down_refuses link.Closed c (call.ConnectionClose code text) b e = inr (rw e refl)
-down_refuses link.Closed c (call.ConfirmSelect o) b e = inr (rw e refl)
-down_refuses link.Closed c (call.BasicPublish exchange key o payload properties) b e = inr (rw e refl)
-down_refuses link.Lost c call.OpenChannel b e = inr (rw e refl)
-down_refuses link.Lost c (call.ChannelClose code text) b e = inr (rw e refl)
-down_refuses link.Lost c (call.ConnectionClose code text) b e = inr (rw e refl)
-down_refuses link.Lost c (call.ConfirmSelect o) b e = inr (rw e refl)
-down_refuses link.Lost c (call.BasicPublish exchange key o payload properties) b e = inr (rw e refl)
+down_refuses (link.Closing s h) c ask.Open b e = inr (rw e refl)
+down_refuses (link.Closing s h) c (ask.CloseChannel code text) b e = inr (rw e refl)
+down_refuses (link.Closing s h) c (ask.CloseConnection code text) b e = inr (rw e refl)
+down_refuses (link.Closing s h) c (ask.Method row) b e = inr (rw e refl)
+down_refuses (link.Closing s h) c (ask.Publish exchange key o payload properties) b e = inr (rw e refl)
+down_refuses link.Closed c ask.Open b e = inr (rw e refl)
+down_refuses link.Closed c (ask.CloseChannel code text) b e = inr (rw e refl)
+down_refuses link.Closed c (ask.CloseConnection code text) b e = inr (rw e refl)
+down_refuses link.Closed c (ask.Method row) b e = inr (rw e refl)
+down_refuses link.Closed c (ask.Publish exchange key o payload properties) b e = inr (rw e refl)
+down_refuses link.Lost c ask.Open b e = inr (rw e refl)
+down_refuses link.Lost c (ask.CloseChannel code text) b e = inr (rw e refl)
+down_refuses link.Lost c (ask.CloseConnection code text) b e = inr (rw e refl)
+down_refuses link.Lost c (ask.Method row) b e = inr (rw e refl)
+down_refuses link.Lost c (ask.Publish exchange key o payload properties) b e = inr (rw e refl)
 
-call_alone : (c : ℕ) (k : Call) (b : Base) → Alone b → Alone (cond (is_allowed k (state_of c b)) (after_call c k b) b)
+call_alone : (c : ℕ) (k : Asked) (b : Base) → Alone b → Alone (cond (is_allowed k (state_of c b)) (after_call c k b) b)
 call_alone c k b h = elim (down_refuses b.link c k b refl) [
   | inl up ↦ choose_alone (is_allowed k (state_of c b)) (after_call c k b) b (call_up c k b up) h
   | inr shut ↦ call_down c k b shut h
@@ -118,7 +120,7 @@ sent_close heard flow d rest (m ∷ []) publishes e none c = rw none (rw e (move
 next_alone : (flow : Bool) (l : Link) (b : Base) → b.link ≡ l → WaitsAlone l (lists_of b) → Alone (after_next flow b)
 next_alone flow link.Open b e h = sent_quiet (handed flow b) link.Open _ e (λ ls. tt) (λ ls. tt)
 next_alone flow (link.Closing true heard) b e h = sent_quiet (handed flow b) (link.Closing true heard) _ e (λ ls. tt) (λ ls. tt)
-next_alone flow (link.Closing false heard) b e h = sent_close heard flow _ b.rest b.methods b.publishes e h.rest h.close
+next_alone flow (link.Closing false heard) b e h = sent_close heard (may_begin flow b) _ b.rest b.methods b.publishes e h.rest h.close
 next_alone flow link.Closed b e h = sent_quiet (handed flow b) link.Closed _ e (λ ls. tt) (λ ls. tt)
 next_alone flow link.Lost b e h = sent_quiet (handed flow b) link.Lost _ e (λ ls. tt) (λ ls. tt)
 
@@ -127,26 +129,28 @@ next_alone flow link.Lost b e h = sent_quiet (handed flow b) link.Lost _ e (λ l
 close_ok_alone : (c : ℕ) (p : Phase) (b : Base) → b.link ≡ link.Open → Alone (after_close_ok c p b)
 close_ok_alone c phase.Closed b e = rw e tt
 close_ok_alone c phase.Opening b e = rw e tt
-close_ok_alone c phase.Open b e = rw e tt
+close_ok_alone c (phase.Open paused) b e = rw e tt
 close_ok_alone c (phase.Closing who sent) b e = rw e tt
 close_ok_alone c phase.Crossed b e = rw e tt
 
 received_alone : (i : Incoming) (b : Base) → b.link ≡ link.Open → Alone (after_received i b)
-received_alone (incoming.Reply c k) b e = rw e tt
+received_alone (incoming.Reply c k a) b e = rw e tt
 received_alone (incoming.Settlement c s) b e = rw e tt
 received_alone (incoming.ChannelClose c code) b e = rw e tt
 received_alone (incoming.ChannelCloseOk c) b e = close_ok_alone c (phase_of c b) b e
 received_alone (incoming.ConnectionClose code) b e = rw e tt
 received_alone incoming.ConnectionCloseOk b e = tt
+received_alone (incoming.Flow c active) b e = choose_alone (is_open (state_of c b)) _ b (rw e tt) (rw e tt)
 received_alone incoming.Other b e = rw e tt
 
 failed_alone : (i : Incoming) (b : Base) → b.link ≡ link.Open → Alone (after_failed i b)
 failed_alone (incoming.Settlement c s) b e = choose_alone (is_open (state_of c b)) _ b (rw e tt) (rw e tt)
-failed_alone (incoming.Reply c k) b e = rw e tt
+failed_alone (incoming.Reply c k a) b e = rw e tt
 failed_alone (incoming.ChannelClose c code) b e = rw e tt
 failed_alone (incoming.ChannelCloseOk c) b e = rw e tt
 failed_alone (incoming.ConnectionClose code) b e = rw e tt
 failed_alone incoming.ConnectionCloseOk b e = rw e tt
+failed_alone (incoming.Flow c active) b e = rw e tt
 failed_alone incoming.Other b e = rw e tt
 
 refused_alone : (i : Incoming) (x : Error) (b : Base) → b.link ≡ link.Open → Alone (after_refused i x b)
@@ -175,7 +179,7 @@ up_alone i (record_.State x y) b e = rw e tt
 up_alone i record_.Lost b e = rw e tt
 
 -- of the two frames that are heard while this side closes, each takes the close out that has not left
-heard_alone : (l : Link) (see : Sight) (f : Frame) (i : Incoming) (b : Base) → b.link ≡ l → WaitsAlone l (lists_of b) → Alone (after_heard i (heard_record b see f i) b)
+heard_alone : (l : Link) (see : Sight) (f : Record) (i : Incoming) (b : Base) → b.link ≡ l → WaitsAlone l (lists_of b) → Alone (after_heard i (heard_record b see f i) b)
 heard_alone link.Open see f i b e h = up_alone i (heard_record b see f i) b e
 heard_alone link.Closed see f i b e h = rw e h
 heard_alone link.Lost see f i b e h = rw e h
@@ -183,18 +187,19 @@ heard_alone (link.Closing s was) see f incoming.ConnectionCloseOk b e h = rw e t
 heard_alone (link.Closing s true) see f (incoming.ConnectionClose code) b e h = rw e h
 heard_alone (link.Closing true false) see f (incoming.ConnectionClose code) b e h = rw e tt
 heard_alone (link.Closing false false) see f (incoming.ConnectionClose code) b e h = rw e tt
-heard_alone (link.Closing s was) see f (incoming.Reply c k) b e h = rw e h
+heard_alone (link.Closing s was) see f (incoming.Reply c k a) b e h = rw e h
 heard_alone (link.Closing s was) see f (incoming.Settlement c x) b e h = rw e h
 heard_alone (link.Closing s was) see f (incoming.ChannelClose c code) b e h = rw e h
 heard_alone (link.Closing s was) see f (incoming.ChannelCloseOk c) b e h = rw e h
+heard_alone (link.Closing s was) see f (incoming.Flow c active) b e h = rw e h
 heard_alone (link.Closing s was) see f incoming.Other b e h = rw e h
 
 -- ---- every event
 
 alone-next : (w : World) (e : Event) → Alone w.base → Alone (next w e).base
-alone-next w (event.Call c k) h = call_alone c k w.base h
+alone-next w (event.Call c k) h = call_alone c (asked k) w.base h
 alone-next w (event.Next flow) h = next_alone flow w.base.link w.base refl h
-alone-next w (event.Receive f) h = heard_alone w.base.link (sight_of w.book w.slots) f (heard f) w.base refl h
+alone-next w (event.Receive f) h = heard_alone w.base.link (sight_of w.book w.slots) (refused (frame_class f) (frame_method f)) (heard f) w.base refl h
 alone-next w (event.PollTicket n) h = h
 alone-next w (event.PollConfirm n) h = h
 alone-next w (event.State c) h = h

@@ -2,8 +2,10 @@
 use Rattle.std.proofs.Common.{◌≡◌, ◌≢◌, ℕ, zero, suc, ◌+◌, ◌<◌, ◌≤◌, nat_lt, Bool, true, false, cond, ◌||◌, ◌&&◌, List, [], ◌∷◌, ◌++◌, length, Option, Some, None, Result, Ok, Err, refl, sym, ◌∙◌, ap, subst, arith, append-nil, append_assoc, add-one, ne_eqb, ltb-true}
 use Rattle.std.specs.Prelude.{◌==◌, not}
 use Rattle.std.specs.List.{fold, filter, AllByRecursion}
-use Rattle.lapin_types.specs.declared.call.Call.{Call}
-use Rattle.lapin_types.specs.declared.call.Call.TheVariants as call
+use Rattle.lapin_history.specs.declared.calls.Row.{Row}
+use Rattle.lapin_history.specs.declared.calls.Asked.{Asked}
+use Rattle.lapin_history.specs.declared.calls.Asked.TheVariants as ask
+use Rattle.lapin_history.specs.Calls.{asked}
 use Rattle.lapin_types.specs.declared.event.Event.{Event}
 use Rattle.lapin_types.specs.declared.event.Event.TheVariants as event
 use Rattle.lapin_types.specs.declared.leaving.Publish.{Publish}
@@ -32,7 +34,7 @@ use Rattle.lapin_history.specs.Phases.{is_live, is_up, is_lost}
 use Rattle.lapin_history.specs.Drops.{is_on, is_off, publish_channel, unbegun}
 use Rattle.lapin_history.specs.Closes.{close_ok_end}
 use Rattle.lapin_history.specs.Heard.{heard}
-use Rattle.lapin_history.specs.Base.{Base, state_of, phase_of, is_allowed, is_open, after_event, after_call, after_heard, after_received, after_refused, after_failed, after_close_ok, after_connection_close, unless_sent, has_sent, handed, sent, after_next, lists_of, with_lists}
+use Rattle.lapin_history.specs.Base.{Base, state_of, phase_of, is_allowed, is_open, may_begin, after_event, after_call, after_heard, after_received, after_refused, after_failed, after_close_ok, after_connection_close, unless_sent, has_sent, handed, sent, after_next, lists_of, with_lists}
 use Rattle.lapin_history.specs.Marked.{confirm_marks, call_marks, rejections, ends, end_with, left_marks, method_marks, heard_marks, received_marks, refused_marks, failed_marks, is_confirmed, place_of}
 use Rattle.lapin_history.specs.Answers.{record_of}
 use Rattle.lapin_history.specs.History.{sight_of, polled_outcome, poll_at, confirm_poll}
@@ -224,12 +226,12 @@ fresh_added ms c n p (q ∷ ps) e on at new h =
 place_next : (n : ℕ) → place_of (n + 1) ≡ n
 place_next n = rw add-one refl
 
-stand_call : (c : ℕ) (k : Call) (b : Base) (ms : List ConfirmMark) (bk : Book) → ConfirmsStand b ms bk → ConfirmsStand (after_call c k b) (ms ++ call_marks c k b) (fold after_mark bk (call_marks c k b))
-stand_call c call.OpenChannel b ms bk s = stand_quiet b _ ms bk (mark.Begun c) s tt (spares_all (mark.Begun c) b.publishes (λ k. refl) (λ k. refl) (λ k. refl) (λ d. refl)) (added-push ms (mark.Begun c)) refl refl
-stand_call c (call.ChannelClose code text) b ms bk s = stand_by b _ ms _ bk s refl (stand_rejected c _ b.publishes ms bk s.book s.queue)
-stand_call c (call.ConnectionClose code text) b ms bk s = stand_down b.link _ b _ ms bk s refl refl
-stand_call c (call.ConfirmSelect o) b ms bk s = stand_still b _ ms bk s refl refl
-stand_call c (call.BasicPublish exchange key o payload properties) b ms bk s =
+stand_call : (c : ℕ) (k : Asked) (b : Base) (ms : List ConfirmMark) (bk : Book) → ConfirmsStand b ms bk → ConfirmsStand (after_call c k b) (ms ++ call_marks c k b) (fold after_mark bk (call_marks c k b))
+stand_call c ask.Open b ms bk s = stand_quiet b _ ms bk (mark.Begun c) s tt (spares_all (mark.Begun c) b.publishes (λ k. refl) (λ k. refl) (λ k. refl) (λ d. refl)) (added-push ms (mark.Begun c)) refl refl
+stand_call c (ask.CloseChannel code text) b ms bk s = stand_by b _ ms _ bk s refl (stand_rejected c _ b.publishes ms bk s.book s.queue)
+stand_call c (ask.CloseConnection code text) b ms bk s = stand_down b.link _ b _ ms bk s refl refl
+stand_call c (ask.Method row) b ms bk s = stand_still b _ ms bk s refl refl
+stand_call c (ask.Publish exchange key o payload properties) b ms bk s =
     let count : b.published ≡ added ms = s.published in
     stand-push b _ ms bk (mark.Added c) s tt (ap (λ n. n + 1) s.published ∙ sym (added-push ms (mark.Added c)))
     (fresh_added ms c b.published _ b.publishes s.published refl (place_next b.published) (s.book.fresh b.published (omega arith)) s.queue)
@@ -278,7 +280,7 @@ stand_close_ok : (c : ℕ) (p : Phase) (b : Base) (ms : List ConfirmMark) (bk : 
 stand_close_ok c (phase.Closing who sent) b ms bk s = stand_ended c _ b _ ms bk s refl refl
 stand_close_ok c phase.Closed b ms bk s = stand_still b _ ms bk s refl refl
 stand_close_ok c phase.Opening b ms bk s = stand_still b _ ms bk s refl refl
-stand_close_ok c phase.Open b ms bk s = stand_still b _ ms bk s refl refl
+stand_close_ok c (phase.Open paused) b ms bk s = stand_still b _ ms bk s refl refl
 stand_close_ok c phase.Crossed b ms bk s = stand_still b _ ms bk s refl refl
 
 stand_connection_close : (l : Link) (code : ℕ) (b : Base) (ms : List ConfirmMark) (bk : Book) → ConfirmsStand b ms bk → HeardStands b (after_connection_close l b) ms (cond (is_up l) (ends (error.ProtocolError code) b.phases) []) bk
@@ -292,13 +294,18 @@ stand_connection_close_ok : (x : Bool) (b d : Base) (ms : List ConfirmMark) (bk 
 stand_connection_close_ok true b d ms bk s n q = stand_still b d ms bk s n q
 stand_connection_close_ok false b d ms bk s n q = stand_dropped b d ms bk s n q
 
+stand_flow : (t : Bool) (d b : Base) (ms : List ConfirmMark) (bk : Book) → d.published ≡ b.published → d.publishes ≡ b.publishes → ConfirmsStand b ms bk → ConfirmsStand (cond t d b) (ms ++ []) bk
+stand_flow true d b ms bk n q s = stand_still b d ms bk s n q
+stand_flow false d b ms bk n q s = stand_still b b ms bk s refl refl
+
 stand_received : (i : Incoming) (b : Base) (ms : List ConfirmMark) (bk : Book) → ConfirmsStand b ms bk → HeardStands b (after_received i b) ms (received_marks i b) bk
-stand_received (incoming.Reply c k) b ms bk s = stand_still b _ ms bk s refl refl
+stand_received (incoming.Reply c k a) b ms bk s = stand_still b _ ms bk s refl refl
 stand_received (incoming.Settlement c x) b ms bk s = stand_quiet b b ms bk (mark.Settled c x) s tt (spares_all (mark.Settled c x) b.publishes (λ k. refl) (λ k. refl) (λ k. refl) (λ d. refl)) (added-push ms (mark.Settled c x)) refl refl
 stand_received (incoming.ChannelClose c code) b ms bk s = stand_ended c _ b _ ms bk s refl refl
 stand_received (incoming.ChannelCloseOk c) b ms bk s = stand_close_ok c (phase_of c b) b ms bk s
 stand_received (incoming.ConnectionClose code) b ms bk s = stand_connection_close b.link code b ms bk s
 stand_received incoming.ConnectionCloseOk b ms bk s = stand_connection_close_ok (has_sent b.link) b _ ms bk s refl refl
+stand_received (incoming.Flow c active) b ms bk s = stand_flow (is_open (state_of c b)) _ b ms bk refl refl s
 stand_received incoming.Other b ms bk s = stand_still b b ms bk s refl refl
 
 stand_failed_on : (t : Bool) (c : ℕ) (e : Error) (x b : Base) (ms : List ConfirmMark) (bk : Book) → x.published ≡ b.published → x.publishes ≡ filter (is_off publish_channel c) b.publishes → ConfirmsStand b ms bk → HeardStands b (cond t x b) ms (cond t (rejections e (unbegun c b.publishes)) []) bk
@@ -309,11 +316,12 @@ stand_failed_on false c e x b ms bk n q s = stand_still b b ms bk s refl refl
 
 stand_failed : (i : Incoming) (b : Base) (ms : List ConfirmMark) (bk : Book) → ConfirmsStand b ms bk → HeardStands b (after_failed i b) ms (failed_marks i b) bk
 stand_failed (incoming.Settlement c x) b ms bk s = stand_failed_on (is_open (state_of c b)) c _ _ b ms bk refl refl s
-stand_failed (incoming.Reply c k) b ms bk s = stand_still b b ms bk s refl refl
+stand_failed (incoming.Reply c k a) b ms bk s = stand_still b b ms bk s refl refl
 stand_failed (incoming.ChannelClose c code) b ms bk s = stand_still b b ms bk s refl refl
 stand_failed (incoming.ChannelCloseOk c) b ms bk s = stand_still b b ms bk s refl refl
 stand_failed (incoming.ConnectionClose code) b ms bk s = stand_still b b ms bk s refl refl
 stand_failed incoming.ConnectionCloseOk b ms bk s = stand_still b b ms bk s refl refl
+stand_failed (incoming.Flow c active) b ms bk s = stand_still b b ms bk s refl refl
 stand_failed incoming.Other b ms bk s = stand_still b b ms bk s refl refl
 
 stand_refused : (i : Incoming) (e : Error) (b : Base) (ms : List ConfirmMark) (bk : Book) → ConfirmsStand b ms bk → HeardStands b (after_refused i e b) ms (refused_marks i e b) bk
@@ -395,8 +403,8 @@ stand_sent (Some l) b ms bk s = record { book = s.book; published = s.published;
 
 pub confirms-next : (b : Base) (ms : List ConfirmMark) (tms : List TicketMark) (bk : Book) (e : Event) (r : Record) → r ≡ record_of b (sight_of ms tms) e → ConfirmsStand b ms bk
     → ConfirmsStand (after_event b e r) (ms ++ confirm_marks b e r) (fold after_mark bk (confirm_marks b e r))
-confirms-next b ms tms bk (event.Call c k) r is s = choose_mark (is_allowed k (state_of c b)) (after_call c k b) b ms bk (call_marks c k b) (stand_call c k b ms bk s) s
-confirms-next b ms tms bk (event.Next flow) r is s = stand_sent (handed flow b) _ _ _ (stand_next flow b ms bk b.rest b.methods b.publishes s)
+confirms-next b ms tms bk (event.Call c k) r is s = choose_mark (is_allowed (asked k) (state_of c b)) (after_call c (asked k) b) b ms bk (call_marks c (asked k) b) (stand_call c (asked k) b ms bk s) s
+confirms-next b ms tms bk (event.Next flow) r is s = stand_sent (handed flow b) _ _ _ (stand_next (may_begin flow b) b ms bk b.rest b.methods b.publishes s)
 confirms-next b ms tms bk (event.Receive f) r is s = stand_heard (heard f) r b ms bk s
 confirms-next b ms tms bk (event.PollTicket n) r is s = stand_still b b ms bk s refl refl
 confirms-next b ms tms bk (event.PollConfirm n) r is s =

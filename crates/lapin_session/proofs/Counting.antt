@@ -1,7 +1,9 @@
 -- No event uses more than one number of a counter.
 use Rattle.std.proofs.Common.{◌≡◌, ℕ, suc, ◌+◌, ◌<◌, ◌≤◌, ◌^◌, Bool, true, false, cond, List, [], ◌∷◌, ◌++◌, Option, Some, None, refl, ◌∙◌, ap, arith, append_assoc, ◌⊎◌, inl, inr}
-use Rattle.lapin_types.specs.declared.call.Call.{Call}
-use Rattle.lapin_types.specs.declared.call.Call.TheVariants as call
+use Rattle.lapin_history.specs.declared.calls.Row.{Row}
+use Rattle.lapin_history.specs.declared.calls.Asked.{Asked}
+use Rattle.lapin_history.specs.declared.calls.Asked.TheVariants as ask
+use Rattle.lapin_history.specs.Calls.{asked}
 use Rattle.lapin_types.specs.declared.event.Event.{Event}
 use Rattle.lapin_types.specs.declared.event.Event.TheVariants as event
 use Rattle.lapin_types.specs.declared.record.Record.{Record}
@@ -18,27 +20,27 @@ use Rattle.lapin_history.specs.declared.phases.Link.{Link}
 use Rattle.lapin_history.specs.declared.phases.Link.TheVariants as link
 use Rattle.lapin_history.specs.Phases.{is_lost}
 use Rattle.lapin_history.specs.Leaving.{left_lists}
-use Rattle.lapin_history.specs.Base.{Base, state_of, phase_of, is_allowed, is_open, after_event, after_call, after_heard, after_received, after_failed, after_refused, after_close_ok, after_connection_close, after_lost, after_next, handed, sent, with_lists, lists_of}
+use Rattle.lapin_history.specs.Base.{Base, state_of, phase_of, is_allowed, is_open, may_begin, after_event, after_call, after_heard, after_received, after_failed, after_refused, after_close_ok, after_connection_close, after_lost, after_next, handed, sent, with_lists, lists_of}
 use Rattle.lapin_session.specs.World.{World, next, told_by, IsLonger}
-use Rattle.lapin_session.specs.Numbers.{HasNumbersFor, EventUsedUp, UsedUp}
+use Rattle.lapin_session.specs.Numbers.{HasNumbersFor, EventUsedUp, LacksNumber}
 
 choose_le : (t : Bool) (x y : Base) (n : ℕ) (f : Base → ℕ) → f x ≤ n → f y ≤ n → f (cond t x y) ≤ n
 choose_le true x y n f h k = h
 choose_le false x y n f h k = k
 
-tickets_call : (c : ℕ) (k : Call) (b : Base) → (after_call c k b).tickets ≤ b.tickets + 1
-tickets_call c call.OpenChannel b = omega arith
-tickets_call c (call.ChannelClose code text) b = omega arith
-tickets_call c (call.ConnectionClose code text) b = omega arith
-tickets_call c (call.ConfirmSelect o) b = omega arith
-tickets_call c (call.BasicPublish exchange key o payload properties) b = omega arith
+tickets_call : (c : ℕ) (k : Asked) (b : Base) → (after_call c k b).tickets ≤ b.tickets + 1
+tickets_call c ask.Open b = omega arith
+tickets_call c (ask.CloseChannel code text) b = omega arith
+tickets_call c (ask.CloseConnection code text) b = omega arith
+tickets_call c (ask.Method row) b = omega arith
+tickets_call c (ask.Publish exchange key o payload properties) b = omega arith
 
-published_call : (c : ℕ) (k : Call) (b : Base) → (after_call c k b).published ≤ b.published + 1
-published_call c call.OpenChannel b = omega arith
-published_call c (call.ChannelClose code text) b = omega arith
-published_call c (call.ConnectionClose code text) b = omega arith
-published_call c (call.ConfirmSelect o) b = omega arith
-published_call c (call.BasicPublish exchange key o payload properties) b = omega arith
+published_call : (c : ℕ) (k : Asked) (b : Base) → (after_call c k b).published ≤ b.published + 1
+published_call c ask.Open b = omega arith
+published_call c (ask.CloseChannel code text) b = omega arith
+published_call c (ask.CloseConnection code text) b = omega arith
+published_call c (ask.Method row) b = omega arith
+published_call c (ask.Publish exchange key o payload properties) b = omega arith
 
 -- a frame of the broker and a loss change no counter
 abbrev SameCounts : Base → Base → Type 0
@@ -51,7 +53,7 @@ choose_counts false x y b h k = k
 close_ok_counts : (c : ℕ) (p : Phase) (b : Base) → SameCounts (after_close_ok c p b) b
 close_ok_counts c phase.Closed b = (refl, refl)
 close_ok_counts c phase.Opening b = (refl, refl)
-close_ok_counts c phase.Open b = (refl, refl)
+close_ok_counts c (phase.Open paused) b = (refl, refl)
 close_ok_counts c (phase.Closing who sent) b = (refl, refl)
 close_ok_counts c phase.Crossed b = (refl, refl)
 
@@ -63,21 +65,23 @@ connection_close_counts link.Closed b = (refl, refl)
 connection_close_counts link.Lost b = (refl, refl)
 
 received_counts : (i : Incoming) (b : Base) → SameCounts (after_received i b) b
-received_counts (incoming.Reply c k) b = (refl, refl)
+received_counts (incoming.Reply c k a) b = (refl, refl)
 received_counts (incoming.Settlement c s) b = (refl, refl)
 received_counts (incoming.ChannelClose c code) b = (refl, refl)
 received_counts (incoming.ChannelCloseOk c) b = close_ok_counts c (phase_of c b) b
 received_counts (incoming.ConnectionClose code) b = connection_close_counts b.link b
 received_counts incoming.ConnectionCloseOk b = (refl, refl)
+received_counts (incoming.Flow c active) b = choose_counts (is_open (state_of c b)) _ b b (refl, refl) (refl, refl)
 received_counts incoming.Other b = (refl, refl)
 
 failed_counts : (i : Incoming) (b : Base) → SameCounts (after_failed i b) b
 failed_counts (incoming.Settlement c s) b = choose_counts (is_open (state_of c b)) _ b b (refl, refl) (refl, refl)
-failed_counts (incoming.Reply c k) b = (refl, refl)
+failed_counts (incoming.Reply c k a) b = (refl, refl)
 failed_counts (incoming.ChannelClose c code) b = (refl, refl)
 failed_counts (incoming.ChannelCloseOk c) b = (refl, refl)
 failed_counts (incoming.ConnectionClose code) b = (refl, refl)
 failed_counts incoming.ConnectionCloseOk b = (refl, refl)
+failed_counts (incoming.Flow c active) b = (refl, refl)
 failed_counts incoming.Other b = (refl, refl)
 
 refused_counts : (i : Incoming) (e : Error) (b : Base) → SameCounts (after_refused i e b) b
@@ -111,12 +115,12 @@ lost_counts b = choose_counts (is_lost b.link) b _ b (refl, refl) (refl, refl)
 pub next_counts : (flow : Bool) (b : Base) → SameCounts (after_next flow b) b
 next_counts flow b = at (handed flow b)
   where
-    at : (o : Option Left) → SameCounts (sent o (with_lists (left_lists b.frame_max flow (lists_of b)) b)) b
+    at : (o : Option Left) → SameCounts (sent o (with_lists (left_lists b.frame_max (may_begin flow b) (lists_of b)) b)) b
     at None = (refl, refl)
     at (Some l) = (refl, refl)
 
 tickets-next : (b : Base) (e : Event) (r : Record) → (after_event b e r).tickets ≤ b.tickets + 1
-tickets-next b (event.Call c k) r = choose_le (is_allowed k (state_of c b)) (after_call c k b) b (b.tickets + 1) (λ x. x.tickets) (tickets_call c k b) (omega arith)
+tickets-next b (event.Call c k) r = choose_le (is_allowed (asked k) (state_of c b)) (after_call c (asked k) b) b (b.tickets + 1) (λ x. x.tickets) (tickets_call c (asked k) b) (omega arith)
 tickets-next b (event.Next flow) r = let same : (after_next flow b).tickets ≡ b.tickets = (next_counts flow b).0 in omega arith
 tickets-next b (event.Receive f) r = let same : (after_heard (heard f) r b).tickets ≡ b.tickets = (heard_counts (heard f) r b).0 in omega arith
 tickets-next b (event.PollTicket n) r = omega arith
@@ -125,7 +129,7 @@ tickets-next b (event.State c) r = omega arith
 tickets-next b event.Lost r = let same : (after_lost b).tickets ≡ b.tickets = (lost_counts b).0 in omega arith
 
 published-next : (b : Base) (e : Event) (r : Record) → (after_event b e r).published ≤ b.published + 1
-published-next b (event.Call c k) r = choose_le (is_allowed k (state_of c b)) (after_call c k b) b (b.published + 1) (λ x. x.published) (published_call c k b) (omega arith)
+published-next b (event.Call c k) r = choose_le (is_allowed (asked k) (state_of c b)) (after_call c (asked k) b) b (b.published + 1) (λ x. x.published) (published_call c (asked k) b) (omega arith)
 published-next b (event.Next flow) r = let same : (after_next flow b).published ≡ b.published = (next_counts flow b).1 in omega arith
 published-next b (event.Receive f) r = let same : (after_heard (heard f) r b).published ≡ b.published = (heard_counts (heard f) r b).1 in omega arith
 published-next b (event.PollTicket n) r = omega arith
@@ -141,16 +145,23 @@ numbers-next n w e h =
     let also : (next w e).base.published ≤ w.base.published + 1 = published-next w.base e (told_by w e) in
     record { tickets = omega arith; confirms = omega arith }
 
+more : (n : ℕ) (w : World) → HasNumbersFor (suc n) w → w.base.tickets + 1 ≡ 2 ^ 64 → ⊥
+more n w h full = let t : w.base.tickets + suc n < 2 ^ 64 = h.tickets in omega arith
+
+-- a call lacks no number where each counter has a further one
+no_lack : (n : ℕ) (w : World) (k : Asked) → HasNumbersFor (suc n) w → LacksNumber k w.base → ⊥
+no_lack n w ask.Open h full = more n w h full
+no_lack n w (ask.CloseChannel code text) h full = more n w h full
+no_lack n w (ask.CloseConnection code text) h full = more n w h full
+no_lack n w (ask.Method row) h full = more n w h full
+no_lack n w (ask.Publish exchange key o payload properties) h full = elim full [
+  | inl tickets ↦ more n w h tickets
+  | inr confirms ↦ (let p : w.base.published + suc n < 2 ^ 64 = h.confirms in let e : w.base.published + 1 ≡ 2 ^ 64 = confirms in omega arith)
+]
+
 -- a counter that has a further number isn't used up
 pub has_number : (n : ℕ) (w : World) (e : Event) → HasNumbersFor (suc n) w → EventUsedUp e w.base → ⊥
-has_number n w (event.Call c call.OpenChannel) h u = let t : w.base.tickets + suc n < 2 ^ 64 = h.tickets in let full : w.base.tickets + 1 ≡ 2 ^ 64 = u.1 in omega arith
-has_number n w (event.Call c (call.ChannelClose code text)) h u = let t : w.base.tickets + suc n < 2 ^ 64 = h.tickets in let full : w.base.tickets + 1 ≡ 2 ^ 64 = u.1 in omega arith
-has_number n w (event.Call c (call.ConnectionClose code text)) h u = let t : w.base.tickets + suc n < 2 ^ 64 = h.tickets in let full : w.base.tickets + 1 ≡ 2 ^ 64 = u.1 in omega arith
-has_number n w (event.Call c (call.ConfirmSelect o)) h u = let t : w.base.tickets + suc n < 2 ^ 64 = h.tickets in let full : w.base.tickets + 1 ≡ 2 ^ 64 = u.1 in omega arith
-has_number n w (event.Call c (call.BasicPublish exchange key o payload properties)) h u =
-    let t : w.base.tickets + suc n < 2 ^ 64 = h.tickets in
-    let p : w.base.published + suc n < 2 ^ 64 = h.confirms in
-    elim u.1 [ inl full ↦ (let e : w.base.tickets + 1 ≡ 2 ^ 64 = full in omega arith) | inr full ↦ (let e : w.base.published + 1 ≡ 2 ^ 64 = full in omega arith) ]
+has_number n w (event.Call c k) h u = no_lack n w (asked k) h u.1
 has_number n w (event.Next flow) h u = absurd u
 has_number n w (event.Receive f) h u = absurd u
 has_number n w (event.PollTicket k) h u = absurd u

@@ -32,7 +32,7 @@ use Rattle.lapin_history.specs.Drops.{frame_channel}
 use Rattle.lapin_history.specs.Frames.{RestEntry, MethodEntry}
 use Rattle.lapin_history.specs.Leaving.{Lists, left_of, handed_of}
 use Rattle.lapin_history.specs.Closes.{close_ok_end}
-use Rattle.lapin_history.specs.Base.{is_closed, is_open, is_opening, is_closing, is_crossed, hears_on, hears, hears_close, hears_close_ok, phases_with, phases_sent, link_sent, unless_sent}
+use Rattle.lapin_history.specs.Base.{is_closed, is_open, is_opening, is_closing, is_crossed, hears_on, opens, hears, hears_close, hears_close_ok, phases_with, phases_sent, link_sent, unless_sent}
 use Rattle.lapin_history.specs.Marked.{left_marks, method_marks, place_of, rejections, ends}
 use Rattle.lapin_history.proofs.ChannelLaws.{at-on, at-with}
 use Rattle.lapin_history.proofs.ListLaws.{any-push}
@@ -299,7 +299,7 @@ live-mapped : (o : Option Phase) → is_live (phase_in (option_map close_sent o)
 live-mapped None = refl
 live-mapped (Some phase.Closed) = refl
 live-mapped (Some phase.Opening) = refl
-live-mapped (Some phase.Open) = refl
+live-mapped (Some (phase.Open paused)) = refl
 live-mapped (Some (phase.Closing who sent)) = refl
 live-mapped (Some phase.Crossed) = refl
 
@@ -421,7 +421,7 @@ live_at : (o : Option Phase) (t : ChannelState → Bool) → t state.Closed ≡ 
 live_at None t closed crossed h = cc
 live_at (Some phase.Closed) t closed crossed h = cc
 live_at (Some phase.Opening) t closed crossed h = refl
-live_at (Some phase.Open) t closed crossed h = refl
+live_at (Some (phase.Open paused)) t closed crossed h = refl
 live_at (Some (phase.Closing who sent)) t closed crossed h = refl
 live_at (Some phase.Crossed) t closed crossed h = cc
 
@@ -445,16 +445,20 @@ hears_opening l c phases h = has_opening l c phases hears_close refl refl refl r
 
 -- a reply is heard on a channel with a live opening
 pub reply_opening : (l : Link) (c : ℕ) (k : ReplyKind) (phases : List (ℕ × Phase)) → hears k (state_at l c (at_channel c phases)) ≡ true → HasOpening l c phases
-reply_opening l c reply_kind.ChannelOpenOk phases h = has_opening l c phases is_opening refl refl refl refl h
-reply_opening l c reply_kind.ConfirmSelectOk phases h = has_opening l c phases hears_on refl refl refl refl h
-reply_opening l c reply_kind.ChannelCloseOk phases h = cc
-reply_opening l c reply_kind.ConnectionCloseOk phases h = cc
+reply_opening l c k phases h = elim (opens k) as (λ o. cond o (is_opening (state_at l c (at_channel c phases))) (hears_on (state_at l c (at_channel c phases))) ≡ true → HasOpening l c phases) [
+  | true ↦ λ h. has_opening l c phases is_opening refl refl refl refl h
+  | false ↦ λ h. has_opening l c phases hears_on refl refl refl refl h
+] h
 
 pub tied_replied : (l : Link) (c : ℕ) (k : ReplyKind) (phases : List (ℕ × Phase)) (ps : List Publish) (b : Book) → HasOpening l c phases → IsTied l phases ps b → IsTied l (phases_with c k phases) ps b
-tied_replied l c reply_kind.ChannelOpenOk phases ps b h t = tied_live l c phase.Open phases ps b h.up refl h.some t
-tied_replied l c reply_kind.ConfirmSelectOk phases ps b h t = t
-tied_replied l c reply_kind.ChannelCloseOk phases ps b h t = t
-tied_replied l c reply_kind.ConnectionCloseOk phases ps b h t = t
+tied_replied l c k phases ps b h t = elim (opens k) as (λ o. IsTied l (cond o (with_channel c (phase.Open false) phases) phases) ps b) [
+  | true ↦ tied_live l c (phase.Open false) phases ps b h.up refl h.some t
+  | false ↦ t
+]
+
+-- a pause, or its end, leaves an open channel open
+pub tied_paused : (l : Link) (c : ℕ) (paused : Bool) (phases : List (ℕ × Phase)) (ps : List Publish) (b : Book) → HasOpening l c phases → IsTied l phases ps b → IsTied l (with_channel c (phase.Open paused) phases) ps b
+tied_paused l c paused phases ps b h t = tied_live l c (phase.Open paused) phases ps b h.up refl h.some t
 
 -- close-ok is heard on a channel that was opened
 pub close_ok_some : (l : Link) (c : ℕ) (phases : List (ℕ × Phase)) → hears_close_ok (state_at l c (at_channel c phases)) ≡ true → is_some (at_channel c phases) ≡ true
@@ -470,7 +474,7 @@ closed_over l c phases h =
     over None h = refl
     over (Some phase.Closed) h = refl
     over (Some phase.Opening) h = cc
-    over (Some phase.Open) h = cc
+    over (Some (phase.Open paused)) h = cc
     over (Some (phase.Closing who sent)) h = cc
     over (Some phase.Crossed) h = cc
 
@@ -486,7 +490,7 @@ crossed_over l c phases ended h = let s = stood l c (at_channel c phases) hears_
     over None e h = refl
     over (Some phase.Closed) e h = refl
     over (Some phase.Opening) e h = cc
-    over (Some phase.Open) e h = cc
+    over (Some (phase.Open paused)) e h = cc
     over (Some (phase.Closing who sent)) e h = cc
     over (Some phase.Crossed) e h = refl
 

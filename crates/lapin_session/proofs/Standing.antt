@@ -11,11 +11,11 @@ use Rattle.lapin_history.specs.declared.marks.ConfirmMark.{ConfirmMark}
 use Rattle.lapin_history.specs.declared.broker_frames.Incoming.{Incoming}
 use Rattle.lapin_history.specs.declared.broker_frames.Incoming.TheVariants as incoming
 use Rattle.lapin_history.specs.TicketReadings.{TicketMark}
-use Rattle.lapin_history.specs.Heard.{heard}
+use Rattle.lapin_history.specs.Heard.{heard, frame_class, frame_method}
 use Rattle.lapin_history.specs.Phases.{is_up}
 use Rattle.lapin_history.specs.Base.{Base, start, after_event, hears_down}
 use Rattle.lapin_history.specs.Marked.{confirm_marks, ticket_marks}
-use Rattle.lapin_history.specs.Answers.{Sight, record_of, heard_up, heard_record}
+use Rattle.lapin_history.specs.Answers.{Sight, record_of, refused, heard_up, heard_record}
 use Rattle.lapin_history.specs.History.{History, Past, longer, past_on, past, record_after, rec, run_from, run}
 use Rattle.lapin_history.specs.History as history
 use Rattle.lapin_confirm.specs.Book.{Book, empty_book}
@@ -32,22 +32,23 @@ use Rattle.lapin_session.proofs.ConfirmStanding.{confirms-next}
 
 -- ---- what is seen of the parts is what the marks show
 
-up_same : (b : Base) (ms : List ConfirmMark) (tms : List TicketMark) (bk : Book) (slots : List (Option Slot)) (f : Frame) (i : Incoming) → confirms.Follows ms bk → heard_up b (sight_of bk slots) f i ≡ heard_up b (history.sight_of ms tms) f i
+up_same : (b : Base) (ms : List ConfirmMark) (tms : List TicketMark) (bk : Book) (slots : List (Option Slot)) (f : Record) (i : Incoming) → confirms.Follows ms bk → heard_up b (sight_of bk slots) f i ≡ heard_up b (history.sight_of ms tms) f i
 up_same b ms tms bk slots f (incoming.Settlement c s) h = rw (selected_shown c ms bk h, last_shown c ms bk h, pending_shown c s.tag ms bk h) refl
-up_same b ms tms bk slots f (incoming.Reply c k) h = refl
+up_same b ms tms bk slots f (incoming.Reply c k a) h = refl
 up_same b ms tms bk slots f (incoming.ChannelClose c code) h = refl
 up_same b ms tms bk slots f (incoming.ChannelCloseOk c) h = refl
 up_same b ms tms bk slots f (incoming.ConnectionClose code) h = refl
 up_same b ms tms bk slots f incoming.ConnectionCloseOk h = refl
+up_same b ms tms bk slots f (incoming.Flow c active) h = refl
 up_same b ms tms bk slots f incoming.Other h = refl
 
-heard_same : (b : Base) (ms : List ConfirmMark) (tms : List TicketMark) (bk : Book) (slots : List (Option Slot)) (f : Frame) (i : Incoming) → confirms.Follows ms bk → heard_record b (sight_of bk slots) f i ≡ heard_record b (history.sight_of ms tms) f i
+heard_same : (b : Base) (ms : List ConfirmMark) (tms : List TicketMark) (bk : Book) (slots : List (Option Slot)) (f : Record) (i : Incoming) → confirms.Follows ms bk → heard_record b (sight_of bk slots) f i ≡ heard_record b (history.sight_of ms tms) f i
 heard_same b ms tms bk slots f i h = ap (λ r. cond (is_up b.link) r (cond (hears_down b.link i) record_.Received record_.Passed)) (up_same b ms tms bk slots f i h)
 
 record_same : (b : Base) (ms : List ConfirmMark) (tms : List TicketMark) (bk : Book) (slots : List (Option Slot)) (e : Event) → confirms.Follows ms bk → tickets.Follows tms slots → record_of b (sight_of bk slots) e ≡ record_of b (history.sight_of ms tms) e
 record_same b ms tms bk slots (event.Call c k) h t = refl
 record_same b ms tms bk slots (event.Next flow) h t = refl
-record_same b ms tms bk slots (event.Receive f) h t = heard_same b ms tms bk slots f (heard f) h
+record_same b ms tms bk slots (event.Receive f) h t = heard_same b ms tms bk slots (refused (frame_class f) (frame_method f)) (heard f) h
 record_same b ms tms bk slots (event.PollTicket n) h t = ticket_shown n tms slots t
 record_same b ms tms bk slots (event.PollConfirm n) h t = confirm_shown n ms bk h
 record_same b ms tms bk slots (event.State c) h t = refl

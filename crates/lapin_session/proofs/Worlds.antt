@@ -6,15 +6,20 @@ use Rattle.std.proofs.Math.ListN.{length-set}
 use Rattle.std.proofs.lemmas.List.{length-map}
 use Rattle.lapin_types.specs.declared.answer.Answer.{Answer}
 use Rattle.lapin_types.specs.declared.answer.Answer.TheVariants as answer
-use Rattle.lapin_types.specs.declared.call.Call.{Call}
-use Rattle.lapin_types.specs.declared.call.Call.TheVariants as call
+use Rattle.lapin_history.specs.declared.calls.Row.{Row}
+use Rattle.lapin_history.specs.declared.calls.Asked.{Asked}
+use Rattle.lapin_history.specs.declared.calls.Asked.TheVariants as ask
+use Rattle.lapin_history.specs.Calls.{asked}
 use Rattle.lapin_types.specs.declared.event.Event.TheVariants as event
 use Rattle.lapin_types.specs.declared.leaving.Publish.{Publish}
 use Rattle.lapin_types.specs.declared.record.Record.TheVariants as record_
 use Rattle.lapin_types.specs.declared.request.Request.{Request}
 use Rattle.lapin_types.specs.declared.request.Reply.TheVariants as reply
 use Rattle.lapin_types.specs.declared.request.ReplyKind.TheVariants as reply_kind
-use Rattle.lapin_types.specs.Types.{Error}
+use Rattle.lapin_types.specs.declared.leaving.Left.{Left}
+use Rattle.lapin_types.specs.Types.{Error, Frame, Method}
+use Rattle.lapin_types.specs.Types.frame
+use Rattle.lapin_types.specs.Types.confirm
 use Rattle.lapin_types.specs.Types.error
 use Rattle.lapin_types.specs.Types.method
 use Rattle.lapin_types.specs.Types.connection
@@ -32,16 +37,16 @@ use Rattle.lapin_history.specs.declared.phases.Link.TheVariants as link
 use Rattle.lapin_history.specs.declared.broker_frames.Incoming.{Incoming}
 use Rattle.lapin_history.specs.declared.broker_frames.Incoming.TheVariants as incoming
 use Rattle.lapin_history.specs.Words.{with_channel}
-use Rattle.lapin_history.specs.Leaving.{Lists}
+use Rattle.lapin_history.specs.Leaving.{Lists, handed_of, left_lists}
 use Rattle.lapin_history.specs.Frames.{MethodEntry, RestEntry}
 use Rattle.lapin_history.specs.Drops.{no_lists, without_publishes_of, without_channel, unbegun, publish_tickets_of}
 use Rattle.lapin_history.specs.Phases.{is_live, is_up, is_lost, after_broker_close, has_sent_close}
 use Rattle.lapin_history.specs.Closes.{failed_at_close, close_ok_end, failed_at_connection_close, failed_at_unexpected, session_close, unexpected_close}
 use Rattle.lapin_history.specs.Requests.{requests_in, first_request, without_kind, no_requests, close_alone, request_alone, ticket_of}
 use Rattle.lapin_history.specs.TicketReadings.{TicketMark, Given, Answered, AllFailed, Collected}
-use Rattle.lapin_history.specs.Base.{Base, state_of, phase_of, is_allowed, is_open, is_base, after_call, requests_with, noted, closing, down, after_unexpected, after_channel_close, after_close_ok, after_connection_close, after_connection_close_ok, kept_at, unless_sent, has_sent}
+use Rattle.lapin_history.specs.Base.{Base, state_of, phase_of, is_allowed, is_open, is_base, after_call, requests_with, noted, closing, down, after_unexpected, after_channel_close, after_close_ok, after_connection_close, after_connection_close_ok, kept_at, unless_sent, has_sent, sent, link_sent, phases_sent, with_lists}
 use Rattle.lapin_history.specs.Base.{ended as ended_base}
-use Rattle.lapin_history.specs.Marked.{rejections, ends, end_with, failures, resolved_with, place_of, call_marks, call_tickets, end_tickets, end_failures, close_ticket, connection_close_tickets}
+use Rattle.lapin_history.specs.Marked.{rejections, ends, end_with, failures, resolved_with, place_of, call_marks, call_tickets, end_tickets, end_failures, close_ticket, connection_close_tickets, resolved_by, last_answer, leaving_answer, left_tickets, method_marks, frame_marks, entry_marks, left_marks}
 use Rattle.lapin_outbox.specs.Outgoing.{with_method}
 use Rattle.lapin_outbox.specs.Open.{requests_at}
 use Rattle.lapin_ticket.specs.declared.Slot.{Slot}
@@ -51,7 +56,7 @@ use Rattle.lapin_confirm.specs.declared.cell.Cell.{Cell}
 use Rattle.lapin_confirm.specs.Book.{Book, rejected, ended}
 use Rattle.lapin_confirm.specs.Book as book
 use Rattle.lapin_session.specs.Kept.{kept_requests, is_close_sent}
-use Rattle.lapin_session.specs.World.{World, next, hearing}
+use Rattle.lapin_session.specs.World.{World, next, asking, handing, hearing}
 use Rattle.lapin_session.proofs.Channels.{on_absent, on_same, on_twice}
 
 -- ---- by its fields
@@ -117,6 +122,41 @@ pub ends_if-count : (t : Bool) (e : Error) (xs : List (ℕ × Phase)) (b : Book)
 ends_if-count true e xs b = ends-count e xs b
 ends_if-count false e xs b = refl
 
+-- ---- a frame that leaves
+
+resolved_by-count : (o : Option (ℕ × Answer)) (slots : List (Option Slot)) → length (fold after_mark slots (resolved_by o)) ≡ length slots
+resolved_by-count None slots = refl
+resolved_by-count (Some x) slots = resolved-count (Ok x.1) (Some x.0) slots
+
+left_tickets-count : (o : Option Left) (slots : List (Option Slot)) → length (fold after_mark slots (left_tickets o)) ≡ length slots
+left_tickets-count None slots = refl
+left_tickets-count (Some l) slots = resolved_by-count (last_answer l.last l.ticket (leaving_answer l.frame l.publish)) slots
+
+method_marks-count : (c : ℕ) (m : Method) (b : Book) → length (fold book.after_mark b (method_marks c m)).cells ≡ length b.cells
+method_marks-count c (method.Confirm (confirm.Select nowait)) b = refl
+method_marks-count c (method.Confirm confirm.SelectOk) b = refl
+method_marks-count c (method.Connection m) b = refl
+method_marks-count c (method.Channel m) b = refl
+method_marks-count c (method.Access m) b = refl
+method_marks-count c (method.Exchange m) b = refl
+method_marks-count c (method.Queue m) b = refl
+method_marks-count c (method.Basic m) b = refl
+method_marks-count c (method.Tx m) b = refl
+
+frame_marks-count : (f : Frame) (b : Book) → length (fold book.after_mark b (frame_marks f)).cells ≡ length b.cells
+frame_marks-count (frame.Method c m) b = method_marks-count c m b
+frame_marks-count (frame.Header c h) b = refl
+frame_marks-count (frame.Body c bytes) b = refl
+
+entry_marks-count : (f : Frame) (o : Option ℕ) (first : Bool) (b : Book) → length (fold book.after_mark b (entry_marks f o first)).cells ≡ length b.cells
+entry_marks-count f None first b = frame_marks-count f b
+entry_marks-count f (Some n) true b = length-under (suc (place_of n)) _ b.cells
+entry_marks-count f (Some n) false b = refl
+
+left_marks-count : (o : Option Left) (b : Book) → length (fold book.after_mark b (left_marks o)).cells ≡ length b.cells
+left_marks-count None b = refl
+left_marks-count (Some l) b = entry_marks-count l.frame l.publish l.first b
+
 -- the same, of what is known to be so
 pub failures_counted : (e : Error) (ts : List (Option ℕ)) (slots new : List (Option Slot)) → new ≡ fold after_mark slots (failures e ts) → length new ≡ length slots
 failures_counted e ts slots new h = ap length h ∙ failures-count e ts slots
@@ -144,15 +184,15 @@ seen_is m m2 l l2 p p2 x x2 rs rs2 s s2 b b2 e1 e2 e3 e4 e5 e6 e7 = rw (e1, e2, 
 
 -- ---- what an event leaves, once it is known how it is taken
 
-call_next : (w : World) (c : ℕ) (k : Call) → is_allowed k (state_of c w.base) ≡ true
-    → next w (event.Call c k) ≡ record { base = after_call c k w.base; book = fold book.after_mark w.book (call_marks c k w.base); slots = fold after_mark w.slots (call_tickets c k w.base) }
+call_next : (w : World) (c : ℕ) (k : Asked) → is_allowed k (state_of c w.base) ≡ true
+    → asking c k w ≡ record { base = after_call c k w.base; book = fold book.after_mark w.book (call_marks c k w.base); slots = fold after_mark w.slots (call_tickets c k w.base) }
 call_next w c k h = rw h refl
 
 -- the request of a close of this side is open again where the closes crossed
 kept_is : (c : ℕ) (q : Phase) (rs : List (ℕ × List Request)) → kept_requests c (has_sent_close q) (first_request reply_kind.ChannelCloseOk (requests_at c rs)) (on_channel c no_requests rs) ≡ on_channel c (kept_at q) rs
 kept_is c phase.Closed rs = refl
 kept_is c phase.Opening rs = refl
-kept_is c phase.Open rs = refl
+kept_is c (phase.Open paused) rs = refl
 kept_is c (phase.Closing who false) rs = refl
 kept_is c phase.Crossed rs = refl
 kept_is c (phase.Closing who true) rs =
@@ -175,14 +215,14 @@ closing_base : (c : ℕ) (q : Phase) (e : Error) (d : Base) → close_ok_end q �
 closing_base c (phase.Closing who sent) e d h = refl
 closing_base c phase.Closed e d h = cc
 closing_base c phase.Opening e d h = cc
-closing_base c phase.Open e d h = cc
+closing_base c (phase.Open paused) e d h = cc
 closing_base c phase.Crossed e d h = cc
 
 crossed_base : (c : ℕ) (q : Phase) (d : Base) → close_ok_end q ≡ None → after_close_ok c q d ≡ record d { phases = with_channel c phase.Closed d.phases; requests = on_channel c (without_kind reply_kind.ChannelCloseOk) d.requests }
 crossed_base c (phase.Closing who sent) d h = cc
 crossed_base c phase.Closed d h = refl
 crossed_base c phase.Opening d h = refl
-crossed_base c phase.Open d h = refl
+crossed_base c (phase.Open paused) d h = refl
 crossed_base c phase.Crossed d h = refl
 
 module _ (m : ℕ) (l : Link) (p : List (ℕ × Phase)) (x : Lists) (rs : List (ℕ × List Request)) (s : List (Option Slot)) (b : Book) where
@@ -212,12 +252,12 @@ module _ (m : ℕ) (l : Link) (p : List (ℕ × Phase)) (x : Lists) (rs : List (
       → R ≡ requests_with c (length S + 1) (Some reply.ChannelCloseOk) rs
       → T ≡ after_mark S Given
       → B ≡ fold book.after_mark b (rejections (failed_at_close closer.Application) (unbegun c x.publishes))
-      → seen m l P L R T B ≡ next old (event.Call c (call.ChannelClose code text))
+      → seen m l P L R T B ≡ asking c (ask.CloseChannel code text) old
   channel_close_seen c code text P L R S T B h eP eS eL eR eT eB =
       let count : length S ≡ length s = failures_counted (failed_at_close closer.Application) (publish_tickets_of c x.publishes) s S eS in
       let entry : ℕ → MethodEntry = λ k. record { channel = c; method = method.Channel (channel.Close code text 0 0); ticket = Some (k + 1) } in
       world_is _ _
-      (base_is _ (after_call c (call.ChannelClose code text) old.base) refl refl eP
+      (base_is _ (after_call c (ask.CloseChannel code text) old.base) refl refl eP
       (ap (λ (y : Lists). y.rest) eL)
       (ap (λ (y : Lists). y.methods) eL ∙ ap (λ k. x.methods ++ entry k ∷ []) count)
       (ap (λ (y : Lists). y.publishes) eL)
@@ -226,7 +266,7 @@ module _ (m : ℕ) (l : Link) (p : List (ℕ × Phase)) (x : Lists) (rs : List (
       (rejections_counted (failed_at_close closer.Application) (unbegun c x.publishes) b B eB))
       eB
       (eT ∙ ap (λ y. after_mark y Given) eS ∙ sym (marks-join (failures (failed_at_close closer.Application) (publish_tickets_of c x.publishes)) (Given ∷ []) s))
-      ∙ sym (call_next old c (call.ChannelClose code text) h)
+      ∙ sym (call_next old c (ask.CloseChannel code text) h)
 
   pub connection_close_seen : (c code : ℕ) (text : List ℕ) (l2 : Link) (L : Lists) (R : List (ℕ × List Request)) (S T : List (Option Slot)) (B : Book)
       → is_base (state_of c old.base) ≡ true
@@ -236,12 +276,12 @@ module _ (m : ℕ) (l : Link) (p : List (ℕ × Phase)) (x : Lists) (rs : List (
       → R ≡ requests_with c (length S + 1) (Some reply.ConnectionCloseOk) []
       → T ≡ after_mark S Given
       → B ≡ fold book.after_mark b (cond (is_up l) (ends failed_at_connection_close p) [])
-      → seen m l2 p L R T B ≡ next old (event.Call c (call.ConnectionClose code text))
+      → seen m l2 p L R T B ≡ asking c (ask.CloseConnection code text) old
   connection_close_seen c code text l2 L R S T B h el eS eL eR eT eB =
       let count : length S ≡ length s = failed_counted failed_at_connection_close s S eS in
       let entry : ℕ → MethodEntry = λ k. record { channel = c; method = method.Connection (connection.Close code text 0 0); ticket = Some (k + 1) } in
       world_is _ _
-      (base_is _ (after_call c (call.ConnectionClose code text) old.base) refl el refl
+      (base_is _ (after_call c (ask.CloseConnection code text) old.base) refl el refl
       (ap (λ (y : Lists). y.rest) eL)
       (ap (λ (y : Lists). y.methods) eL ∙ ap (λ k. entry k ∷ []) count)
       (ap (λ (y : Lists). y.publishes) eL)
@@ -250,7 +290,7 @@ module _ (m : ℕ) (l : Link) (p : List (ℕ × Phase)) (x : Lists) (rs : List (
       (ap (λ (y : Book). length y.cells) eB ∙ ends_if-count (is_up l) failed_at_connection_close p b))
       eB
       (eT ∙ ap (λ y. after_mark y Given) eS)
-      ∙ sym (call_next old c (call.ConnectionClose code text) h)
+      ∙ sym (call_next old c (ask.CloseConnection code text) h)
 
   -- ---- frames that are not heard
 
@@ -400,3 +440,23 @@ module _ (m : ℕ) (l : Link) (p : List (ℕ × Phase)) (x : Lists) (rs : List (
       refl)
       refl
       eS
+
+  -- ---- a frame that leaves
+
+  pub handing_seen : (t : Bool) (a : Left) (l2 : Link) (P : List (ℕ × Phase)) (L : Lists) (S : List (Option Slot)) (B : Book)
+      → handed_of t x.rest x.methods x.publishes ≡ Some a
+      → l2 ≡ link_sent a.frame l
+      → P ≡ phases_sent a.frame p
+      → L ≡ left_lists m t x
+      → S ≡ fold after_mark s (left_tickets (Some a))
+      → B ≡ fold book.after_mark b (left_marks (Some a))
+      → seen m l2 P L rs S B ≡ handing t old
+  handing_seen t a l2 P L S B told el eP eL eS eB =
+      world_is _ _
+      (base_is _ (sent (Some a) (with_lists (left_lists m t x) old.base)) refl el eP
+      (ap (λ (y : Lists). y.rest) eL) (ap (λ (y : Lists). y.methods) eL) (ap (λ (y : Lists). y.publishes) eL) refl
+      (ap length eS ∙ left_tickets-count (Some a) s)
+      (ap (λ (y : Book). length y.cells) eB ∙ left_marks-count (Some a) b)
+      ∙ ap (λ o. sent o (with_lists (left_lists m t x) old.base)) (sym told))
+      (eB ∙ ap (λ o. fold book.after_mark b (left_marks o)) (sym told))
+      (eS ∙ ap (λ o. fold after_mark s (left_tickets o)) (sym told))

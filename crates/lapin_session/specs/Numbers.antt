@@ -1,7 +1,9 @@
 -- The counters: tickets and confirms are numbered by u64 from 1.
 use Rattle.std.specs.Prelude.{◌≡◌, ℕ, ◌+◌, ◌<◌, ◌^◌, ◌⊎◌, true, false, Result, Ok, Err}
 use Rattle.lapin_types.specs.declared.call.Call.{Call}
-use Rattle.lapin_types.specs.declared.call.Call.TheVariants as call
+use Rattle.lapin_history.specs.declared.calls.Asked.{Asked}
+use Rattle.lapin_history.specs.declared.calls.Asked.TheVariants as ask
+use Rattle.lapin_history.specs.Calls.{asked}
 use Rattle.lapin_types.specs.declared.event.Event.{Event}
 use Rattle.lapin_types.specs.declared.event.Event.TheVariants as event
 use Rattle.lapin_types.specs.Types.{Error}
@@ -22,26 +24,29 @@ abbrev pub NoConfirm : Base → Type 0
 NoConfirm b = b.published + 1 ≡ 2 ^ 64
 
 -- a number that the call needs would pass the greatest u64
-abbrev pub LacksNumber : Call → Base → Type 0
-LacksNumber (call.BasicPublish exchange key o payload properties) b = NoTicket b ⊎ NoConfirm b
+abbrev pub LacksNumber : Asked → Base → Type 0
+LacksNumber (ask.Publish exchange key o payload properties) b = NoTicket b ⊎ NoConfirm b
 LacksNumber _ b = NoTicket b
 
 -- numbers are used up exactly where an allowed call lacks one
-abbrev pub UsedUp : ℕ → Call → Base → Type 0
+abbrev pub UsedUp : ℕ → Asked → Base → Type 0
 UsedUp c k b = (is_allowed k (state_of c b) ≡ true) × LacksNumber k b
 
 abbrev pub EventUsedUp : Event → Base → Type 0
-EventUsedUp (event.Call c k) b = UsedUp c k b
+EventUsedUp (event.Call c k) b = UsedUp c (asked k) b
 EventUsedUp _ b = ⊥
 
 -- an error of a call: want of memory is free, numbers are used up only where the call lacks one, and it is refused by its state
 -- only where it isn't allowed
+abbrev pub AskCause : {T : Type 0} → Result T Error → ℕ → Asked → Base → Type 0
+AskCause (Ok x) c k b = Unit {0}
+AskCause (Err error.NoMemory) c k b = Unit {0}
+AskCause (Err error.NumbersUsedUp) c k b = UsedUp c k b
+AskCause (Err (error.InvalidChannelState s)) c k b = (is_allowed k (state_of c b) ≡ false) × (s ≡ state_of c b)
+AskCause (Err _) c k b = ⊥
+
 abbrev pub CallCause : {T : Type 0} → Result T Error → ℕ → Call → Base → Type 0
-CallCause (Ok x) c k b = Unit {0}
-CallCause (Err error.NoMemory) c k b = Unit {0}
-CallCause (Err error.NumbersUsedUp) c k b = UsedUp c k b
-CallCause (Err (error.InvalidChannelState s)) c k b = (is_allowed k (state_of c b) ≡ false) × (s ≡ state_of c b)
-CallCause (Err _) c k b = ⊥
+CallCause r c k b = AskCause r c (asked k) b
 
 -- want of memory is the only error
 abbrev pub OnlyMemory : {T : Type 0} → Result T Error → Type 0

@@ -1,5 +1,5 @@
 -- A session as a machine: what it keeps, and what an event does to it.
-use Rattle.std.specs.Prelude.{◌≡◌, ℕ, List, [], ◌∷◌, ◌++◌, Option, Some, None, Result, Ok, Err}
+use Rattle.std.specs.Prelude.{◌≡◌, ℕ, Bool, List, [], ◌∷◌, ◌++◌, Option, Some, None, Result, Ok, Err}
 use Rattle.std.specs.List.{fold}
 use Rattle.lapin_types.specs.declared.event.Event.{Event}
 use Rattle.lapin_types.specs.declared.record.Record.{Record}
@@ -8,9 +8,10 @@ use Rattle.lapin_types.specs.declared.answer.Answer.{Answer}
 use Rattle.lapin_types.specs.Types.{Error}
 use Rattle.lapin_types.specs.declared.confirmation.Confirmation.{Confirmation}
 use Rattle.lapin_history.specs.declared.marks.Settlement.{Settlement}
+use Rattle.lapin_history.specs.declared.calls.Asked.{Asked}
 use Rattle.lapin_history.specs.declared.broker_frames.Incoming.{Incoming}
-use Rattle.lapin_history.specs.Base.{Base, start, after_event, after_heard}
-use Rattle.lapin_history.specs.Marked.{confirm_marks, ticket_marks, heard_marks, heard_tickets}
+use Rattle.lapin_history.specs.Base.{Base, start, handed_out, after_event, after_asking, after_handing, after_heard}
+use Rattle.lapin_history.specs.Marked.{confirm_marks, ticket_marks, asking_marks, asking_tickets, left_marks, left_tickets, heard_marks, heard_tickets}
 use Rattle.lapin_history.specs.Answers.{Sight, record_of, settlement_record}
 use Rattle.lapin_confirm.specs.Answers.{answer_at}
 use Rattle.lapin_confirm.specs.Book.{Book, empty_book, selected_on, last_on, is_pending}
@@ -61,6 +62,22 @@ next w e = record {
   base = after_event w.base e (told_by w e);
   book = fold book.after_mark w.book (confirm_marks w.base e (told_by w e));
   slots = fold desk.after_mark w.slots (ticket_marks w.base e (told_by w e));
+}
+
+-- what a call leaves, that is allowed or refused by its channel's state
+abbrev pub asking : ℕ → Asked → World → World
+asking c k w = record {
+  base = after_asking c k w.base;
+  book = fold book.after_mark w.book (asking_marks c k w.base);
+  slots = fold desk.after_mark w.slots (asking_tickets c k w.base);
+}
+
+-- what a frame request leaves, where t tells whether a publish may begin
+abbrev pub handing : Bool → World → World
+handing t w = record {
+  base = after_handing t w.base;
+  book = fold book.after_mark w.book (left_marks (handed_out t w.base));
+  slots = fold desk.after_mark w.slots (left_tickets (handed_out t w.base));
 }
 
 -- what a frame of the broker leaves that got this record

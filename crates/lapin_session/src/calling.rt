@@ -2,19 +2,22 @@
 //!
 //! Each is refused by the channel's state, then for want of numbers; then it is queued whole, or nothing changes.
 
-ghost use Rattle.std.specs.Prelude.{◌≡◌, IfOk, OnOk, OnErr};
+ghost use Rattle.std.specs.Prelude.{◌≡◌, false, IfOk, OnOk, OnErr};
 ghost use Rattle.lapin_types.specs.declared.event.Event.TheVariants.{Call as CallEvent};
-ghost use Rattle.lapin_types.specs.declared.call.Call.TheVariants.{OpenChannel, ConfirmSelect, BasicPublish};
-ghost use Rattle.lapin_session.specs.World.{told_by, next};
+ghost use Rattle.lapin_types.specs.declared.call.Call.TheVariants.{OpenChannel, BasicPublish};
+ghost use Rattle.lapin_history.specs.declared.calls.Asked.TheVariants as ask;
+ghost use Rattle.lapin_history.specs.Calls.{asked as asked_lem, publishes};
+ghost use Rattle.lapin_history.specs.Answers.{call_record};
+ghost use Rattle.lapin_session.specs.World.{told_by, next, asking};
 ghost use Rattle.lapin_session.specs.Told.{TicketTold, PublishTold, ticket_told, publish_told};
-ghost use Rattle.lapin_session.specs.Numbers.{HasCause, CallCause};
+ghost use Rattle.lapin_session.specs.Numbers.{HasCause, CallCause, AskCause};
 
 use crate::channel::{Published, PublisherConfirm, Ticket};
 use crate::session::{Session, is_closed, is_open, set_phase};
-use lapin_history::Phase;
+use lapin_history::{Asked, Phase, Row, sort_call};
 use lapin_types::{
-    Answer, BasicProperties, BasicPublishOptions, Call, ChannelMethod, ConfirmMethod,
-    ConfirmSelectOptions, Error, Method, Payload, Publish, Record, Reply, ShortString,
+    BasicProperties, BasicPublishOptions, Call, ChannelMethod, Error, Method, Payload, Publish,
+    Record, Reply, ShortString,
 };
 use std::alloc::Global;
 
@@ -49,40 +52,65 @@ impl Session {
         Ok(Ticket { number })
     }
 
-    /// Asks the broker to confirm the publishes of a channel (RabbitMQ, `confirm.select`), as `Channel::confirm_select`.
-    pub fn confirm_select(
-        &mut self,
-        alloc: Global,
-        channel: u16,
-        options: ConfirmSelectOptions,
-    ) -> Result<Ticket, Error>
-        ensures told { TicketTold result (told_by self.old (CallEvent channel (ConfirmSelect options))) }
-        ensures ok { OnOk result (self.new ≡ next self.old (CallEvent channel (ConfirmSelect options))) }
+    /// Makes any call but a publish: it is refused by the channel's state, or done as its line of the table says.
+    ///
+    /// # Errors
+    /// `InvalidChannelState` where the call is not allowed in the channel's state, `NumbersUsedUp` where the next ticket would
+    /// pass the greatest `u64`, `NoMemory`. Nothing changes then.
+    pub fn call(&mut self, alloc: Global, channel: u16, call: Call) -> Result<Ticket, Error>
+        requires { publishes (asked_lem call) ≡ false }
+        ensures told { TicketTold result (told_by self.old (CallEvent channel call)) }
+        ensures ok { OnOk result (self.new ≡ next self.old (CallEvent channel call)) }
         ensures err { OnErr result (self.new ≡ self.old) }
-        ensures cause { CallCause result channel (ConfirmSelect options) self.old.base }
+        ensures cause { CallCause result channel call self.old.base }
+    {
+        let asked = sort_call(alloc, call)?;
+        self.ask(alloc, channel, asked)
+    }
+
+    // A sorted call that is no publish.
+    fn ask(&mut self, alloc: Global, channel: u16, asked: Asked) -> Result<Ticket, Error>
+        requires { publishes asked ≡ false }
+        ensures told { TicketTold result (call_record channel asked self.old.base) }
+        ensures ok { OnOk result (self.new ≡ asking channel asked self.old) }
+        ensures err { OnErr result (self.new ≡ self.old) }
+        ensures cause { AskCause result channel asked self.old.base }
+    {
+        match asked {
+            Asked::Open => self.open_channel(alloc, channel),
+            Asked::CloseChannel(reply_code, reply_text) => {
+                self.channel_close(alloc, channel, reply_code, reply_text)
+            }
+            Asked::CloseConnection(reply_code, reply_text) => {
+                self.close_connection(alloc, channel, reply_code, reply_text)
+            }
+            Asked::Method(row) => self.queue_row(alloc, channel, row),
+            Asked::Publish { .. } => unreachable!(),
+        }
+    }
+
+    // A call that is its line of the table. What is let go is let go by `drop`: so the ways by which a line can be let go, one
+    // for each of its methods and replies, are no ways through this function.
+    fn queue_row(&mut self, alloc: Global, channel: u16, row: Row) -> Result<Ticket, Error>
+        ensures told { TicketTold result (call_record channel (ask.Method row) self.old.base) }
+        ensures ok { OnOk result (self.new ≡ asking channel (ask.Method row) self.old) }
+        ensures err { OnErr result (self.new ≡ self.old) }
+        ensures cause { AskCause result channel (ask.Method row) self.old.base }
     {
         let state = self.channel_state(channel);
         if !is_open(state) {
+            drop(row);
             return Err(Error::InvalidChannelState(state));
         }
         if self.desk.tickets.next_number().is_none() {
+            drop(row);
             return Err(Error::NumbersUsedUp);
         }
-        self.desk.reserve(alloc, channel)?;
-        let method = Method::Confirm(ConfirmMethod::Select {
-            nowait: options.nowait,
-        });
-        let reply = if options.nowait {
-            None
-        } else {
-            Some(Reply::ConfirmSelectOk)
-        };
-        let made = if options.nowait {
-            Some(Answer::Done)
-        } else {
-            None
-        };
-        let number = self.desk.queue(alloc, channel, method, reply, made);
+        if self.desk.reserve(alloc, channel).is_err() {
+            drop(row);
+            return Err(Error::NoMemory);
+        }
+        let number = self.desk.queue(alloc, channel, row.method, row.awaits, row.made);
         Ok(Ticket { number })
     }
 
@@ -140,20 +168,9 @@ impl Session {
         ensures err { OnErr result (self.new ≡ self.old) }
         ensures cause { HasCause result (CallEvent channel call) self.old.base }
     {
-        match call {
-            Call::OpenChannel => ticket_record(self.open_channel(alloc, channel)),
-            Call::ChannelClose {
-                reply_code,
-                reply_text,
-            } => ticket_record(self.channel_close(alloc, channel, reply_code, reply_text)),
-            Call::ConnectionClose {
-                reply_code,
-                reply_text,
-            } => ticket_record(self.close_connection(alloc, channel, reply_code, reply_text)),
-            Call::ConfirmSelect { options } => ticket_record(self.confirm_select(
-                alloc, channel, options,
-            )),
-            Call::BasicPublish {
+        let asked = sort_call(alloc, call)?;
+        match asked {
+            Asked::Publish {
                 exchange,
                 routing_key,
                 options,
@@ -168,6 +185,7 @@ impl Session {
                 payload,
                 properties,
             )),
+            asked => ticket_record(self.ask(alloc, channel, asked)),
         }
     }
 }

@@ -11,7 +11,7 @@ ghost use Rattle.lapin_session.specs.Numbers.{CallCause};
 
 use crate::session::Session;
 use lapin_types::{
-    Answer, BasicProperties, BasicPublishOptions, ConfirmSelectOptions, Confirmation, Error,
+    Answer, BasicProperties, BasicPublishOptions, Call, ConfirmSelectOptions, Confirmation, Error,
     Payload, Poll, ShortString,
 };
 use std::alloc::Global;
@@ -91,7 +91,7 @@ impl Channel {
         ensures err { OnErr result (session.new ≡ session.old) }
         ensures cause { CallCause result self.now.id (ConfirmSelect options) session.old.base }
     {
-        session.confirm_select(alloc, self.id, options)
+        session.call(alloc, self.id, Call::ConfirmSelect { options })
     }
 
     /// Publishes a message (AMQP 0-9-1, `basic.publish`). Its frames leave whole and in one piece, after all publishes that

@@ -8,7 +8,7 @@ ghost use Rattle.lapin_types.specs.Types.error;
 ghost use Rattle.lapin_types.specs.declared.record.Record.TheVariants.{Received, Passed, Refused};
 ghost use Rattle.lapin_confirm.specs.Book.{single_of, multiple_of, selected_on};
 ghost use Rattle.lapin_history.specs.declared.broker_frames.Incoming.{Incoming as AnIncoming};
-ghost use Rattle.lapin_history.specs.declared.broker_frames.Incoming.TheVariants.{Reply as ReplyFrame, Settlement as SettlementFrame};
+ghost use Rattle.lapin_history.specs.declared.broker_frames.Incoming.TheVariants.{Reply as ReplyFrame, Settlement as SettlementFrame, Flow as FlowFrame};
 ghost use Rattle.lapin_history.specs.Words.{is_some};
 ghost use Rattle.lapin_history.specs.Phases.{is_up};
 ghost use Rattle.lapin_history.specs.Answers.{refused, heard_up};
@@ -22,12 +22,14 @@ use crate::closing::{begin_close, go_down};
 use crate::session::{Session, is_open, set_phase};
 use lapin_history::{
     Closer, Incoming, Link, Phase, SettleKind, Settlement, class_of, hears, hears_close,
-    hears_close_ok, hears_down, hears_on, method_of, reply_answer, session_close, sort_frame,
+    hears_close_ok, hears_down, hears_on, method_of, opens, session_close, sort_frame,
     unexpected_close,
 };
 use lapin_outbox::Replies;
 use lapin_tables::ByChannel;
-use lapin_types::{Error, Frame, NoMemory, Record, ReplyKind};
+use lapin_types::{
+    Answer, ChannelMethod, Error, Frame, Method, NoMemory, Record, ReplyKind,
+};
 use std::alloc::Global;
 
 impl Session {
@@ -49,18 +51,11 @@ impl Session {
         ensures ok { WasHeard result (self.new ≡ next self.old (event.Receive frame)) (self.new ≡ self.old) }
         ensures numbers { HasNumbers result }
     {
-        self.hear_frame(alloc, &frame)
-    }
-
-    // A frame of the broker, by whether the connection is open.
-    fn hear_frame(&mut self, alloc: Global, frame: &Frame) -> Result<Heard, Error>
-        ensures told { HeardTold result (told_by self.old (event.Receive frame.now)) }
-        ensures ok { WasHeard result (self.new ≡ next self.old (event.Receive frame.now)) (self.new ≡ self.old) }
-        ensures numbers { HasNumbers result }
-    {
+        let class = class_of(&frame);
+        let number = method_of(&frame);
         let incoming = sort_frame(frame);
         if self.link.is_up() {
-            self.receive_up(alloc, frame, incoming)
+            self.receive_up(alloc, class, number, incoming)
         } else {
             self.receive_down(alloc, incoming)
         }
@@ -70,34 +65,42 @@ impl Session {
     fn receive_up(
         &mut self,
         alloc: Global,
-        frame: &Frame,
+        class: u16,
+        number: u16,
         incoming: Incoming,
     ) -> Result<Heard, Error>
         requires { is_up self.old.base.link ≡ true }
-        ensures told { HeardTold result (heard_up self.old.base (sight_of self.old.book self.old.slots) frame.now incoming) }
-        ensures ok { WasHeard result (self.new ≡ hearing incoming (heard_up self.old.base (sight_of self.old.book self.old.slots) frame.now incoming) self.old) (self.new ≡ self.old) }
+        ensures told { HeardTold result (heard_up self.old.base (sight_of self.old.book self.old.slots) (refused class number) incoming) }
+        ensures ok { WasHeard result (self.new ≡ hearing incoming (heard_up self.old.base (sight_of self.old.book self.old.slots) (refused class number) incoming) self.old) (self.new ≡ self.old) }
         ensures numbers { HasNumbers result }
     {
         match incoming {
-            Incoming::Reply(channel, kind) => {
-                if self.hear_reply(channel, kind) {
+            Incoming::Reply(channel, kind, answer) => {
+                if self.hear_reply(channel, kind, answer) {
                     Ok(Heard::Received)
                 } else {
-                    self.refuse(alloc, frame)
+                    self.refuse(alloc, class, number)
                 }
             }
             Incoming::Settlement(channel, settlement) => {
                 if hears_on(self.channel_state(channel)) {
                     self.hear_settlement(alloc, channel, settlement)
                 } else {
-                    self.refuse(alloc, frame)
+                    self.refuse(alloc, class, number)
+                }
+            }
+            Incoming::Flow(channel, active) => {
+                if hears_on(self.channel_state(channel)) {
+                    self.hear_flow(alloc, channel, active)
+                } else {
+                    self.refuse(alloc, class, number)
                 }
             }
             Incoming::ChannelClose(channel, code) => {
                 if hears_close(self.channel_state(channel)) {
                     self.hear_channel_close(alloc, channel, code)
                 } else {
-                    self.refuse(alloc, frame)
+                    self.refuse(alloc, class, number)
                 }
             }
             Incoming::ChannelCloseOk(channel) => {
@@ -105,11 +108,11 @@ impl Session {
                     self.hear_channel_close_ok(channel);
                     Ok(Heard::Received)
                 } else {
-                    self.refuse(alloc, frame)
+                    self.refuse(alloc, class, number)
                 }
             }
             Incoming::ConnectionClose(code) => self.hear_connection_close(alloc, code),
-            Incoming::ConnectionCloseOk | Incoming::Other => self.refuse(alloc, frame),
+            Incoming::ConnectionCloseOk | Incoming::Other => self.refuse(alloc, class, number),
         }
     }
 
@@ -119,7 +122,7 @@ impl Session {
         ensures ok { WasHeard result (self.new ≡ hearing incoming (if hears_down_lem self.old.base.link incoming then Received else Passed) self.old) (self.new ≡ self.old) }
         ensures numbers { HasNumbers result }
     {
-        if !hears_down(self.link, incoming) {
+        if !hears_down(self.link, &incoming) {
             return Ok(Heard::Passed);
         }
         match incoming {
@@ -132,14 +135,12 @@ impl Session {
     }
 
     // A frame that is not heard: the connection is closed, and every opening ends.
-    fn refuse(&mut self, alloc: Global, frame: &Frame) -> Result<Heard, Error>
+    fn refuse(&mut self, alloc: Global, class: u16, number: u16) -> Result<Heard, Error>
         requires { is_up self.old.base.link ≡ true }
-        ensures told { HeardTold result (refused frame.now) }
-        ensures ok { WasHeard result ((i : AnIncoming) → self.new ≡ hearing i (refused frame.now) self.old) (self.new ≡ self.old) }
+        ensures told { HeardTold result (refused class number) }
+        ensures ok { WasHeard result ((i : AnIncoming) → self.new ≡ hearing i (refused class number) self.old) (self.new ≡ self.old) }
         ensures numbers { HasNumbers result }
     {
-        let class = class_of(frame);
-        let number = method_of(frame);
         let method = unexpected_close(alloc, class, number)?;
         let replies = Replies::new(alloc)?;
         self.desk.outbox.reserve(alloc)?;
@@ -165,9 +166,9 @@ impl Session {
     }
 
     // A reply, if it is heard, opens its channel where it is `channel.open-ok` and resolves the ticket of its request.
-    fn hear_reply(&mut self, channel: u16, kind: ReplyKind) -> bool
+    fn hear_reply(&mut self, channel: u16, kind: ReplyKind, answer: Answer) -> bool
         ensures told { result ≡ hears_reply channel kind self.old.base }
-        ensures ok { result ≡ true → self.new ≡ hearing (ReplyFrame channel kind) Received self.old }
+        ensures ok { result ≡ true → self.new ≡ hearing (ReplyFrame channel kind answer) Received self.old }
         ensures same { result ≡ false → self.new ≡ self.old }
     {
         if !hears(kind, self.channel_state(channel)) {
@@ -177,9 +178,24 @@ impl Session {
             return false;
         };
         phase_replied(&mut self.phases, channel, kind);
-        self.desk
-            .resolve(request.ticket, Ok(reply_answer(channel, kind)));
+        self.desk.resolve(request.into_ticket(), Ok(answer));
         true
+    }
+
+    // A flow on a channel that hears it: an open channel is paused or goes on, and the broker is answered.
+    fn hear_flow(&mut self, alloc: Global, channel: u16, active: bool) -> Result<Heard, Error>
+        ensures told { HeardTold result Received }
+        ensures ok { WasHeard result (self.new ≡ hearing (FlowFrame channel active) Received self.old) (self.new ≡ self.old) }
+        ensures numbers { HasNumbers result }
+    {
+        if !is_open(self.channel_state(channel)) {
+            return Ok(Heard::Received);
+        }
+        self.desk.outbox.reserve(alloc)?;
+        set_phase(&mut self.phases, channel, Phase::Open { paused: !active });
+        let method = Method::Channel(ChannelMethod::FlowOk { active });
+        self.desk.note(alloc, channel, method);
+        Ok(Heard::Received)
     }
 
     // A settlement on a channel that hears it.
@@ -283,7 +299,7 @@ fn phase_replied(phases: &mut ByChannel<Phase>, channel: u16, kind: ReplyKind)
     requires { is_some (at_channel channel phases.old.entries) ≡ true }
     ensures { phases.new.entries ≡ phases_with channel kind phases.old.entries }
 {
-    if let ReplyKind::ChannelOpenOk = kind {
-        set_phase(phases, channel, Phase::Open);
+    if opens(kind) {
+        set_phase(phases, channel, Phase::Open { paused: false });
     }
 }

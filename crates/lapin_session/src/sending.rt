@@ -1,16 +1,16 @@
 //! Frames that leave: what a frame request hands out, and what leaving does to confirms, tickets and closes.
 
-ghost use Rattle.std.specs.Prelude.{◌≡◌, Some, IfOk, OnOk, OnErr};
-ghost use Rattle.std.specs.List.{fold};
+ghost use Rattle.std.specs.Prelude.{◌≡◌, ◌&&◌, Some, IfOk, OnOk, OnErr};
+ghost use Rattle.std.specs.List.{fold, list_any};
 ghost use Rattle.lapin_types.specs.declared.event.Event.TheVariants as event;
-ghost use Rattle.lapin_history.specs.Base.{handed, link_sent, phases_sent};
+ghost use Rattle.lapin_history.specs.Base.{handed, handed_out, is_paused_on, link_sent, phases_sent};
 ghost use Rattle.lapin_history.specs.Answers.{frame_record as frame_record_lem};
 ghost use Rattle.lapin_history.specs.Marked.{left_marks, left_tickets, frame_marks};
 ghost use Rattle.lapin_confirm.specs.Book as book;
 ghost use Rattle.lapin_ticket.specs.Desk as desk;
 ghost use Rattle.lapin_tables.specs.ByChannel.{on_channel};
-ghost use Rattle.lapin_history.specs.Phases.{close_sent as close_sent_lem};
-ghost use Rattle.lapin_session.specs.World.{told_by, next};
+ghost use Rattle.lapin_history.specs.Phases.{close_sent as close_sent_lem, is_up};
+ghost use Rattle.lapin_session.specs.World.{told_by, next, handing};
 ghost use Rattle.lapin_session.specs.Numbers.{HasCause, OnlyMemory};
 ghost use Rattle.lapin_session.specs.Tied.{CanRegister};
 
@@ -37,7 +37,18 @@ impl Session {
         ensures err { OnErr result (self.new ≡ self.old) }
         ensures cause { OnlyMemory result }
     {
-        match self.desk.outbox.pop(alloc, flow)? {
+        let may_begin = flow && !self.is_paused();
+        self.hand_out(alloc, may_begin)
+    }
+
+    // Hands out the next frame, where it is known whether a publish may begin.
+    fn hand_out(&mut self, alloc: Global, may_begin: bool) -> Result<Option<Left>, Error>
+        ensures told { IfOk result (λ left. left ≡ handed_out may_begin self.old.base) }
+        ensures ok { OnOk result (self.new ≡ handing may_begin self.old) }
+        ensures err { OnErr result (self.new ≡ self.old) }
+        ensures cause { OnlyMemory result }
+    {
+        match self.desk.outbox.pop(alloc, may_begin)? {
             Some(left) => {
                 confirms_left(&mut self.confirms, &left);
                 tickets_left(&mut self.desk.tickets, &left);
@@ -49,6 +60,13 @@ impl Session {
         }
     }
 
+    // Whether the broker paused an open channel: then no publish begins.
+    fn is_paused(&self) -> bool
+        ensures { result ≡ (is_up self.now.base.link && list_any is_paused_on self.now.base.phases) }
+    {
+        self.link.is_up() && is_any_paused(self.phases.entries())
+    }
+
     pub(crate) fn step_next(&mut self, alloc: Global, flow: bool) -> Result<Record, Error>
         ensures told { IfOk result (λ r. r ≡ told_by self.old (event.Next flow)) }
         ensures ok { OnOk result (self.new ≡ next self.old (event.Next flow)) }
@@ -57,6 +75,12 @@ impl Session {
     {
         Ok(frame_record(self.next_frame(alloc, flow)?))
     }
+}
+
+fn is_any_paused(phases: &[(u16, Phase)]) -> bool
+    ensures { result ≡ list_any is_paused_on phases.now }
+{
+    phases.iter().any(|entry| entry.1.is_paused())
 }
 
 fn frame_record(left: Option<Left>) -> Record

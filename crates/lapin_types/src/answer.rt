@@ -3,6 +3,7 @@
 ghost use Rattle.std.specs.Prelude.{◌≡◌, IfOk};
 ghost use Rattle.std.specs.Bool.{Decides};
 
+use crate::queue::Queue;
 use lapin_values::NoMemory;
 use std::alloc::Global;
 
@@ -15,17 +16,26 @@ pub enum Answer {
     Channel(u16),
     /// The last frame of the publish with this confirm number has left.
     Confirm(u64),
+    /// The queue is declared.
+    Queue(Queue),
+    /// So many messages were dropped.
+    Count(u32),
+    /// Whether the broker goes on.
+    Flow(bool),
 }
 
 impl Answer {
     /// An equal answer, in memory of its own.
-    pub fn try_clone(&self, _alloc: Global) -> Result<Answer, NoMemory>
+    pub fn try_clone(&self, alloc: Global) -> Result<Answer, NoMemory>
         ensures { IfOk result (λ copy. copy ≡ self.now) }
     {
         match self {
             Answer::Done => Ok(Answer::Done),
             Answer::Channel(channel) => Ok(Answer::Channel(*channel)),
             Answer::Confirm(number) => Ok(Answer::Confirm(*number)),
+            Answer::Queue(queue) => Ok(Answer::Queue(queue.try_clone(alloc)?)),
+            Answer::Count(count) => Ok(Answer::Count(*count)),
+            Answer::Flow(active) => Ok(Answer::Flow(*active)),
         }
     }
 
@@ -37,6 +47,9 @@ impl Answer {
             (Answer::Done, Answer::Done) => true,
             (Answer::Channel(left), Answer::Channel(right)) => left == right,
             (Answer::Confirm(left), Answer::Confirm(right)) => left == right,
+            (Answer::Queue(left), Answer::Queue(right)) => left.same(right),
+            (Answer::Count(left), Answer::Count(right)) => left == right,
+            (Answer::Flow(left), Answer::Flow(right)) => left == right,
             _ => false,
         }
     }

@@ -3,8 +3,12 @@
 ghost use Rattle.std.specs.Prelude.{◌≡◌, IfOk};
 ghost use Rattle.std.specs.Bool.{Decides};
 
-use lapin_methods::{BasicPublishOptions, ConfirmSelectOptions};
-use lapin_values::{BasicProperties, NoMemory, Payload, ShortString};
+use lapin_methods::{
+    BasicAckOptions, BasicPublishOptions, BasicQosOptions, ChannelFlowOptions,
+    ConfirmSelectOptions, ExchangeBindOptions, QueueDeclareOptions, QueueDeleteOptions,
+    QueuePurgeOptions,
+};
+use lapin_values::{BasicProperties, FieldTable, NoMemory, Payload, ShortString};
 use std::alloc::Global;
 
 /// A call with its arguments. Its channel stands in the event.
@@ -31,6 +35,65 @@ pub enum Call {
         /// The marks of the method.
         options: ConfirmSelectOptions,
     },
+    /// Asks the broker to go on or to pause (`channel.flow`).
+    ChannelFlow {
+        /// The marks of the method.
+        options: ChannelFlowOptions,
+    },
+    /// Binds an exchange to another (`exchange.bind`).
+    ExchangeBind {
+        /// The exchange that gets the messages.
+        destination: ShortString,
+        /// The exchange that they come from.
+        source: ShortString,
+        /// The routing key.
+        routing_key: ShortString,
+        /// The marks of the method.
+        options: ExchangeBindOptions,
+        /// Further arguments.
+        arguments: FieldTable,
+    },
+    /// Declares a queue (`queue.declare`).
+    QueueDeclare {
+        /// Its name; the broker names it where this is empty.
+        queue: ShortString,
+        /// The marks of the method.
+        options: QueueDeclareOptions,
+        /// Further arguments.
+        arguments: FieldTable,
+    },
+    /// Deletes a queue (`queue.delete`).
+    QueueDelete {
+        /// Its name.
+        queue: ShortString,
+        /// The marks of the method.
+        options: QueueDeleteOptions,
+    },
+    /// Asks for a limit of unacknowledged messages (`basic.qos`).
+    BasicQos {
+        /// How many may be unacknowledged.
+        prefetch_count: u16,
+        /// The marks of the method.
+        options: BasicQosOptions,
+    },
+    /// Acknowledges deliveries (`basic.ack`).
+    BasicAck {
+        /// The tag of the delivery.
+        delivery_tag: u64,
+        /// The marks of the method.
+        options: BasicAckOptions,
+    },
+    /// Drops the messages of a queue (`queue.purge`).
+    QueuePurge {
+        /// Its name.
+        queue: ShortString,
+        /// The marks of the method.
+        options: QueuePurgeOptions,
+    },
+    /// Begins transactions (`tx.select`).
+    TxSelect,
+    /// Commits a transaction (`tx.commit`).
+    TxCommit,
     /// Publishes a message (`basic.publish`).
     BasicPublish {
         /// The exchange to publish to, empty for the default one.
@@ -68,6 +131,53 @@ impl Call {
                 reply_text: reply_text.try_clone(alloc)?,
             }),
             Call::ConfirmSelect { options } => Ok(Call::ConfirmSelect { options: *options }),
+            Call::ChannelFlow { options } => Ok(Call::ChannelFlow { options: *options }),
+            Call::ExchangeBind {
+                destination,
+                source,
+                routing_key,
+                options,
+                arguments,
+            } => Ok(Call::ExchangeBind {
+                destination: destination.try_clone(alloc)?,
+                source: source.try_clone(alloc)?,
+                routing_key: routing_key.try_clone(alloc)?,
+                options: *options,
+                arguments: arguments.try_clone(alloc)?,
+            }),
+            Call::QueueDeclare {
+                queue,
+                options,
+                arguments,
+            } => Ok(Call::QueueDeclare {
+                queue: queue.try_clone(alloc)?,
+                options: *options,
+                arguments: arguments.try_clone(alloc)?,
+            }),
+            Call::QueueDelete { queue, options } => Ok(Call::QueueDelete {
+                queue: queue.try_clone(alloc)?,
+                options: *options,
+            }),
+            Call::BasicQos {
+                prefetch_count,
+                options,
+            } => Ok(Call::BasicQos {
+                prefetch_count: *prefetch_count,
+                options: *options,
+            }),
+            Call::BasicAck {
+                delivery_tag,
+                options,
+            } => Ok(Call::BasicAck {
+                delivery_tag: *delivery_tag,
+                options: *options,
+            }),
+            Call::QueuePurge { queue, options } => Ok(Call::QueuePurge {
+                queue: queue.try_clone(alloc)?,
+                options: *options,
+            }),
+            Call::TxSelect => Ok(Call::TxSelect),
+            Call::TxCommit => Ok(Call::TxCommit),
             Call::BasicPublish {
                 exchange,
                 routing_key,
@@ -111,6 +221,77 @@ impl Call {
                 },
             ) => a == reply_code && b == reply_text,
             (Call::ConfirmSelect { options: a }, Call::ConfirmSelect { options: b }) => a == b,
+            (Call::ChannelFlow { options: a }, Call::ChannelFlow { options: b }) => a == b,
+            (
+                Call::ExchangeBind {
+                    destination: a,
+                    source: b,
+                    routing_key: c,
+                    options: d,
+                    arguments: e,
+                },
+                Call::ExchangeBind {
+                    destination,
+                    source,
+                    routing_key,
+                    options,
+                    arguments,
+                },
+            ) => {
+                a == destination
+                    && b == source
+                    && c == routing_key
+                    && d == options
+                    && e.same_as(arguments)
+            }
+            (
+                Call::QueueDeclare {
+                    queue: a,
+                    options: b,
+                    arguments: c,
+                },
+                Call::QueueDeclare {
+                    queue,
+                    options,
+                    arguments,
+                },
+            ) => a == queue && b == options && c.same_as(arguments),
+            (
+                Call::QueueDelete {
+                    queue: a,
+                    options: b,
+                },
+                Call::QueueDelete { queue, options },
+            ) => a == queue && b == options,
+            (
+                Call::BasicQos {
+                    prefetch_count: a,
+                    options: b,
+                },
+                Call::BasicQos {
+                    prefetch_count,
+                    options,
+                },
+            ) => a == prefetch_count && b == options,
+            (
+                Call::BasicAck {
+                    delivery_tag: a,
+                    options: b,
+                },
+                Call::BasicAck {
+                    delivery_tag,
+                    options,
+                },
+            ) => a == delivery_tag && b == options,
+            (
+                Call::QueuePurge {
+                    queue: a,
+                    options: b,
+                },
+                Call::QueuePurge { queue, options },
+            ) => a == queue && b == options,
+            (Call::TxSelect, Call::TxSelect) => true,
+            (Call::TxCommit, Call::TxCommit) => true,
             (
                 Call::BasicPublish {
                     exchange: a,

@@ -24,12 +24,12 @@ invariant_of-self-2 c =
 
 pub returns-clause-ok : goal.returns-clause-ok
 returns-clause-ok c = λ i.
-    let close = c.in_ok-method.ensures ∙ ap (λ n. unexpected_close n c.method_of-number.result) c.class_of-class.ensures ∙ ap (unexpected_close (frame_class c.args.frame.now)) c.method_of-number.ensures in
+    let close = c.in_ok-method.ensures in
     seen_is _ _ _ _ _ _ _ _ _ _ _ _ _ _ (c.note.ensures.frame_max ∙ c.go_down.ensures.frame_max ∙ c.reserve.ensures.frame_max) refl refl refl refl refl refl
-    ∙ unexpected_seen c.self.inside.desk.outbox.frame_max c.self.inside.link c.self.inside.phases.entries c.self.inside.desk.outbox.lists c.self.inside.desk.replies.waiting c.self.inside.desk.tickets.slots c.self.inside.confirms.book i (frame_class c.args.frame.now) (frame_method c.args.frame.now) _ _ _ _ _
+    ∙ unexpected_seen c.self.inside.desk.outbox.frame_max c.self.inside.link c.self.inside.phases.entries c.self.inside.desk.outbox.lists c.self.inside.desk.replies.waiting c.self.inside.desk.tickets.slots c.self.inside.confirms.book i c.args.class c.args.number _ _ _ _ _
     c.go_down.ensures.link
     (c.note.ensures.lists ∙ ap (with_method (record { channel = 0; method = c.in_ok-method.method; ticket = None })) c.go_down.ensures.lists ∙ ap (λ (k : Method). with_method (record { channel = 0; method = k; ticket = None }) no_lists) close)
     (ap (λ (r : OpenRequests). r.waiting) (c.note.ensures.replies ∙ c.go_down.ensures.requests ∙ c.in_ok-replies.ensures))
     (ap (λ (t : Slots Slot). t.slots) c.note.ensures.tickets ∙ c.go_down.ensures.slots)
     c.go_down.ensures.book
-    ∙ ap (λ (w : World). hearing i (refused c.args.frame.now) w) c.self.view_is
+    ∙ ap (λ (w : World). hearing i (refused c.args.class c.args.number) w) c.self.view_is

@@ -1,0 +1,112 @@
+//! Where each channel stands, and how many open channels the broker paused.
+//!
+//! The number stands beside the table, so that a frame request costs the same with one channel and with sixty thousand.
+#![tactic(auto)]
+
+ghost use Rattle.std.specs.Prelude.{◌≡◌, ◌+◌, ◌<◌, ◌≤◌, ◌^◌, true, [], None, OnOk, if◌then◌else◌};
+ghost use Rattle.std.specs.List.{list_any};
+ghost use Rattle.lapin_tables.specs.ByChannel.{at_channel, HasRoom};
+ghost use Rattle.lapin_history.specs.Words.{with_channel};
+ghost use Rattle.lapin_history.specs.Phases.{phase_in};
+ghost use Rattle.lapin_history.specs.Base.{is_paused_on};
+
+use lapin_history::Phase;
+use lapin_tables::ByChannel;
+use std::alloc::{AllocError, Global};
+use std::marker::Model;
+
+/// Where each channel stands that was ever opened. Contracts see the table alone.
+#[derive(Drop)]
+pub struct Phases {
+    table: ByChannel<Phase>,
+    paused: usize,
+}
+
+impl Model for Phases {
+    ghost use Rattle.std.specs.Prelude.{◌≡◌};
+    ghost use Rattle.lapin_tables.specs.ByChannel.{Table, table_code};
+    ghost use Rattle.lapin_history.specs.declared.phases.Phase.{Phase};
+    ghost use Rattle.lapin_history.specs.contracts.phases.Phase as phase_row;
+    ghost use Rattle.lapin_phases.specs.Paused.{paused_among};
+
+    ghost Value = { Table Phase };
+
+    ghost coded = { table_code phase_row.the_row.coded };
+
+    ghost view = { λ a. a.table };
+
+    ghost invariant = { λ a. a.paused ≡ paused_among a.table.entries };
+}
+
+impl Phases {
+    /// No channel was opened. It takes no memory.
+    pub fn new(alloc: Global) -> Phases
+        ensures { result.entries ≡ [] }
+    {
+        Phases {
+            table: ByChannel::new(alloc),
+            paused: 0,
+        }
+    }
+
+    /// Where a channel stands.
+    pub fn get(&self, channel: u16) -> Phase
+        ensures { result ≡ phase_in (at_channel channel self.now.entries) }
+    {
+        match self.table.get(channel) {
+            Some(phase) => *phase,
+            None => Phase::Closed,
+        }
+    }
+
+    /// Whether an open channel is paused.
+    pub fn is_any_paused(&self) -> bool
+        ensures { result ≡ list_any is_paused_on self.now.entries }
+    {
+        self.paused > 0
+    }
+
+    /// Makes room for `set` on a channel.
+    pub fn reserve(&mut self, channel: u16) -> Result<(), AllocError>
+        ensures room { OnOk result (HasRoom channel self.new) }
+        ensures same { self.new.entries ≡ self.old.entries }
+    {
+        self.table.reserve(channel)
+    }
+
+    /// Puts a channel where an open, a close or a flow leads it.
+    pub fn set(&mut self, channel: u16, phase: Phase)
+        requires { at_channel channel self.old.entries ≡ None → HasRoom channel self.old }
+        ensures { self.new.entries ≡ with_channel channel phase self.old.entries }
+    {
+        let was = self.get(channel).is_paused();
+        put(&mut self.table, channel, phase);
+        let held = self.table.entries().len();
+        self.paused = recounted(self.paused, was, phase.is_paused(), held);
+    }
+}
+
+// One channel fewer, one more, or neither or both, of at most `held`.
+fn recounted(count: usize, was: bool, is: bool, held: usize) -> usize
+    requires some { was ≡ true → 0 < count }
+    requires bound { count + (if is then 1 else 0) ≤ held + (if was then 1 else 0) }
+    ensures { result + (if was then 1 else 0) ≡ count + (if is then 1 else 0) }
+{
+    let _ = held;
+    match (was, is) {
+        (true, false) => count - 1,
+        (false, true) => count + 1,
+        _ => count,
+    }
+}
+
+fn put(phases: &mut ByChannel<Phase>, channel: u16, phase: Phase)
+    requires { at_channel channel phases.old.entries ≡ None → HasRoom channel phases.old }
+    ensures { phases.new.entries ≡ with_channel channel phase phases.old.entries }
+{
+    if let Some(held) = phases.get_mut(channel) {
+        *held = phase;
+        return;
+    }
+    phases.insert_reserved(channel, phase);
+}
