@@ -46,7 +46,7 @@ impl AccessMethod {
 
     /// Whether two methods are equal in every field.
     #[tactic(auto, using(crate::proofs::AccessAlike::access_alike))]
-    pub fn same_as(&self, other: &AccessMethod) -> bool
+    pub fn same(&self, other: &AccessMethod) -> bool
         ensures { Decides result (self.now ≡ other.now) }
     {
         self == other

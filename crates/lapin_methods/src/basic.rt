@@ -144,7 +144,7 @@ impl BasicMethod {
 
     /// Whether two methods are equal in every field.
     #[tactic(auto, using(crate::proofs::BasicAlike::basic_alike))]
-    pub fn same_as(&self, other: &BasicMethod) -> bool
+    pub fn same(&self, other: &BasicMethod) -> bool
         ensures { Decides result (self.now ≡ other.now) }
     {
         self == other

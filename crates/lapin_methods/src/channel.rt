@@ -60,7 +60,7 @@ impl ChannelMethod {
     }
 
     /// Whether two methods are equal in every field.
-    pub fn same_as(&self, other: &ChannelMethod) -> bool
+    pub fn same(&self, other: &ChannelMethod) -> bool
         ensures { Decides result (self.now ≡ other.now) }
     {
         self == other

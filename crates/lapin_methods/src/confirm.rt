@@ -38,7 +38,7 @@ impl ConfirmMethod {
     }
 
     /// Whether two methods are equal in every field.
-    pub fn same_as(&self, other: &ConfirmMethod) -> bool
+    pub fn same(&self, other: &ConfirmMethod) -> bool
         ensures { Decides result (self.now ≡ other.now) }
     {
         self == other

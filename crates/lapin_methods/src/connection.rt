@@ -44,7 +44,7 @@ impl ConnectionMethod {
     }
 
     /// Whether two methods are equal in every field.
-    pub fn same_as(&self, other: &ConnectionMethod) -> bool
+    pub fn same(&self, other: &ConnectionMethod) -> bool
         ensures { Decides result (self.now ≡ other.now) }
     {
         self == other

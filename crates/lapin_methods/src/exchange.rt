@@ -82,7 +82,7 @@ impl ExchangeMethod {
 
     /// Whether two methods are equal in every field.
     #[tactic(auto, using(crate::proofs::ExchangeAlike::exchange_alike))]
-    pub fn same_as(&self, other: &ExchangeMethod) -> bool
+    pub fn same(&self, other: &ExchangeMethod) -> bool
         ensures { Decides result (self.now ≡ other.now) }
     {
         self == other

@@ -33,12 +33,12 @@ impl ContentHeader {
     }
 
     /// Whether two headers are equal in every field.
-    pub fn same_as(&self, other: &ContentHeader) -> bool
+    pub fn same(&self, other: &ContentHeader) -> bool
         ensures { Decides result (self.now ≡ other.now) }
     {
         self.class_id == other.class_id
             && self.body_size == other.body_size
-            && self.properties.same_as(&other.properties)
+            && self.properties.same(&other.properties)
     }
 }
 
@@ -51,7 +51,7 @@ impl PartialEq for ContentHeader {
     ghost laws = { same_by_per it.the_row.coded };
 
     fn eq(&self, other: &ContentHeader) -> bool {
-        self.same_as(other)
+        self.same(other)
     }
 }
 
@@ -79,12 +79,12 @@ impl Frame {
     }
 
     /// Whether two frames are equal in every field.
-    pub fn same_as(&self, other: &Frame) -> bool
+    pub fn same(&self, other: &Frame) -> bool
         ensures { Decides result (self.now ≡ other.now) }
     {
         match (self, other) {
-            (Frame::Method(a, left), Frame::Method(b, right)) => a == b && left.same_as(right),
-            (Frame::Header(a, left), Frame::Header(b, right)) => a == b && left.same_as(right),
+            (Frame::Method(a, left), Frame::Method(b, right)) => a == b && left.same(right),
+            (Frame::Header(a, left), Frame::Header(b, right)) => a == b && left.same(right),
             (Frame::Body(a, left), Frame::Body(b, right)) => a == b && left == right,
             _ => false,
         }
@@ -100,6 +100,6 @@ impl PartialEq for Frame {
     ghost laws = { same_by_per it.the_row.coded };
 
     fn eq(&self, other: &Frame) -> bool {
-        self.same_as(other)
+        self.same(other)
     }
 }

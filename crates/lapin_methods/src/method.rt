@@ -80,18 +80,18 @@ impl Method {
     }
 
     /// Whether two methods are equal in every field.
-    pub fn same_as(&self, other: &Method) -> bool
+    pub fn same(&self, other: &Method) -> bool
         ensures { Decides result (self.now ≡ other.now) }
     {
         match (self, other) {
-            (Method::Connection(left), Method::Connection(right)) => left.same_as(right),
-            (Method::Channel(left), Method::Channel(right)) => left.same_as(right),
-            (Method::Access(left), Method::Access(right)) => left.same_as(right),
-            (Method::Exchange(left), Method::Exchange(right)) => left.same_as(right),
-            (Method::Queue(left), Method::Queue(right)) => left.same_as(right),
-            (Method::Basic(left), Method::Basic(right)) => left.same_as(right),
-            (Method::Confirm(left), Method::Confirm(right)) => left.same_as(right),
-            (Method::Tx(left), Method::Tx(right)) => left.same_as(right),
+            (Method::Connection(left), Method::Connection(right)) => left.same(right),
+            (Method::Channel(left), Method::Channel(right)) => left.same(right),
+            (Method::Access(left), Method::Access(right)) => left.same(right),
+            (Method::Exchange(left), Method::Exchange(right)) => left.same(right),
+            (Method::Queue(left), Method::Queue(right)) => left.same(right),
+            (Method::Basic(left), Method::Basic(right)) => left.same(right),
+            (Method::Confirm(left), Method::Confirm(right)) => left.same(right),
+            (Method::Tx(left), Method::Tx(right)) => left.same(right),
             _ => false,
         }
     }
@@ -106,6 +106,6 @@ impl PartialEq for Method {
     ghost laws = { same_by_per it.the_row.coded };
 
     fn eq(&self, other: &Method) -> bool {
-        self.same_as(other)
+        self.same(other)
     }
 }

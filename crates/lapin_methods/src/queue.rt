@@ -98,7 +98,7 @@ impl QueueMethod {
 
     /// Whether two methods are equal in every field.
     #[tactic(auto, using(crate::proofs::QueueAlike::queue_alike))]
-    pub fn same_as(&self, other: &QueueMethod) -> bool
+    pub fn same(&self, other: &QueueMethod) -> bool
         ensures { Decides result (self.now ≡ other.now) }
     {
         self == other

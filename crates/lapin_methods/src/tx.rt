@@ -50,7 +50,7 @@ impl TxMethod {
     }
 
     /// Whether two methods are equal in every field.
-    pub fn same_as(&self, other: &TxMethod) -> bool
+    pub fn same(&self, other: &TxMethod) -> bool
         ensures { Decides result (self.now ≡ other.now) }
     {
         self == other

@@ -7,10 +7,10 @@ use Rattle.std.proofs.lemmas.List.Splits.{length-slice_split}
 use Rattle.std.proofs.lemmas.List.Sums.{count_by-le-length}
 use Rattle.lapin_types.specs.declared.event.Event.{Event}
 use Rattle.lapin_types.specs.declared.record.Record.{Record}
-use Rattle.lapin_session.specs.World.{World, next, told_by, outputs, new_world}
-use Rattle.lapin_session.specs.Numbers.{HasNumbersFor}
-use Rattle.lapin_session.proofs.Standing.{outputs_run}
-use Rattle.lapin_session.proofs.Counting.{numbers-next}
+use Rattle.lapin_machine.specs.World.{World, next, told_by, outputs, new_world}
+use Rattle.lapin_machine.specs.Numbers.{HasNumbersFor}
+use Rattle.lapin_machine.proofs.Standing.{outputs_run}
+use Rattle.lapin_machine.proofs.Counting.{numbers-next}
 use Rattle.lapin_text.specs.Events.{line_of, HasLine}
 use Rattle.lapin_text.specs.Input.{lines_of, without_empty_end, max_line, IsMax, NoMax, NoLine, AreEvents, AreParsed}
 use Rattle.lapin_text.specs.Records.{record_tokens, record_line, line_onto, records_text}

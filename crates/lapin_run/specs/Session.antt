@@ -5,7 +5,7 @@ use Rattle.lapin_types.specs.declared.record.Record.{Record}
 use Rattle.lapin_history.specs.History.{run}
 use Rattle.lapin_text.specs.Input.{lines_of, AreEvents, AreParsed}
 use Rattle.lapin_text.specs.Records.{records_text}
-use Rattle.lapin_session.specs.World.{World, outputs}
+use Rattle.lapin_machine.specs.World.{World, outputs}
 
 -- The records of a session that begins new and meets these events, where the first line of the input says how large a
 -- frame may be. Without it nothing is run.

@@ -2,15 +2,15 @@
 //!
 //! A line is read, its event stepped, and its record's line written, before the next line is read: no list of events or
 //! of records is made. What a line says and how a record is written stands in `lapin_text`, what a step answers in
-//! `lapin_session`.
+//! `lapin_machine`.
 ghost use Rattle.std.specs.Prelude.{◌≡◌, ◌≤◌, ◌<◌, ◌^◌, ◌++◌, ◌∷◌, [], Some, None, length, IfOk, OnOk, IfSome, IfNone};
-ghost use Rattle.lapin_session.specs.Numbers.{HasNumbersFor};
-ghost use Rattle.lapin_session.specs.World.{next, told_by};
+ghost use Rattle.lapin_machine.specs.Numbers.{HasNumbersFor};
+ghost use Rattle.lapin_machine.specs.World.{next, told_by};
 ghost use Rattle.lapin_text.specs.Input.{max_line, IsMax, AreParsed};
 ghost use Rattle.lapin_text.specs.Records.{record_tokens, line_onto};
 ghost use Rattle.lapin_run.specs.Session.{Prints, PrintsRecords, PrintsEvents, PrintsFrom, bad_line_text};
 
-use lapin_session::Session;
+use lapin_machine::Session;
 use lapin_text::records::put_record;
 use lapin_text::{Lines, read_event, read_max};
 use lapin_types::{Error, Event, NoMemory, Record};

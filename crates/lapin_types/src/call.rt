@@ -195,7 +195,7 @@ impl Call {
     }
 
     /// Whether two calls are equal in every field.
-    pub fn same_as(&self, other: &Call) -> bool
+    pub fn same(&self, other: &Call) -> bool
         ensures { Decides result (self.now ≡ other.now) }
     {
         match (self, other) {
@@ -242,7 +242,7 @@ impl Call {
                     && b == source
                     && c == routing_key
                     && d == options
-                    && e.same_as(arguments)
+                    && e.same(arguments)
             }
             (
                 Call::QueueDeclare {
@@ -255,7 +255,7 @@ impl Call {
                     options,
                     arguments,
                 },
-            ) => a == queue && b == options && c.same_as(arguments),
+            ) => a == queue && b == options && c.same(arguments),
             (
                 Call::QueueDelete {
                     queue: a,
@@ -312,7 +312,7 @@ impl Call {
                     && b == routing_key
                     && c == options
                     && d == payload
-                    && e.same_as(properties)
+                    && e.same(properties)
             }
             _ => false,
         }
@@ -328,6 +328,6 @@ impl PartialEq for Call {
     ghost laws = { same_by_per it.the_row.coded };
 
     fn eq(&self, other: &Call) -> bool {
-        self.same_as(other)
+        self.same(other)
     }
 }

@@ -48,9 +48,9 @@ impl Event {
         ensures { Decides result (self.now ≡ other.now) }
     {
         match (self, other) {
-            (Event::Call(a, left), Event::Call(b, right)) => a == b && left.same_as(right),
+            (Event::Call(a, left), Event::Call(b, right)) => a == b && left.same(right),
             (Event::Next(left), Event::Next(right)) => left == right,
-            (Event::Receive(left), Event::Receive(right)) => left.same_as(right),
+            (Event::Receive(left), Event::Receive(right)) => left.same(right),
             (Event::PollTicket(left), Event::PollTicket(right)) => left == right,
             (Event::PollConfirm(left), Event::PollConfirm(right)) => left == right,
             (Event::State(left), Event::State(right)) => left == right,

@@ -50,7 +50,7 @@ impl ExchangeKind {
     }
 
     /// Whether two kinds are equal.
-    pub fn same_as(&self, other: &ExchangeKind) -> bool
+    pub fn same(&self, other: &ExchangeKind) -> bool
         ensures { Decides result (self.now ≡ other.now) }
     {
         match (self, other) {
@@ -84,7 +84,7 @@ impl PartialEq for ExchangeKind {
     ghost laws = { same_by_per it.the_row.coded };
 
     fn eq(&self, other: &ExchangeKind) -> bool {
-        self.same_as(other)
+        self.same(other)
     }
 }
 

@@ -56,7 +56,7 @@ impl Publish {
             && self.routing_key == other.routing_key
             && self.options == other.options
             && self.payload == other.payload
-            && self.properties.same_as(&other.properties)
+            && self.properties.same(&other.properties)
     }
 }
 
@@ -109,7 +109,7 @@ impl Left {
     pub fn same(&self, other: &Left) -> bool
         ensures { Decides result (self.now ≡ other.now) }
     {
-        self.frame.same_as(&other.frame)
+        self.frame.same(&other.frame)
             && self.ticket == other.ticket
             && self.publish == other.publish
             && self.first == other.first

@@ -83,7 +83,7 @@ impl Delivery {
             && self.exchange == other.exchange
             && self.routing_key == other.routing_key
             && self.redelivered == other.redelivered
-            && self.properties.same_as(&other.properties)
+            && self.properties.same(&other.properties)
             && self.payload == other.payload
             && self.acker.same(&other.acker)
     }

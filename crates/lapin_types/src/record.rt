@@ -81,7 +81,7 @@ impl Record {
                 Record::Publish { ticket, confirm },
             ) => a == ticket && b == confirm,
             (Record::Refused(left), Record::Refused(right)) => left == right,
-            (Record::Frame(left), Record::Frame(right)) => left.same_as(right),
+            (Record::Frame(left), Record::Frame(right)) => left.same(right),
             (Record::NoFrame, Record::NoFrame) => true,
             (Record::Received, Record::Received) => true,
             (Record::Passed, Record::Passed) => true,

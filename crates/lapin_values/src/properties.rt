@@ -68,7 +68,7 @@ fn same_headers(a: Option<&FieldTable>, b: Option<&FieldTable>) -> bool
     ensures { Decides result (option_map (λ table. table.now) a.entry ≡ option_map (λ table. table.now) b.entry) }
 {
     match (a, b) {
-        (Some(a), Some(b)) => a.same_as(b),
+        (Some(a), Some(b)) => a.same(b),
         (None, None) => true,
         _ => false,
     }
@@ -98,7 +98,7 @@ impl BasicProperties {
     }
 
     /// Whether the same properties are set, to equal values.
-    pub fn same_as(&self, other: &BasicProperties) -> bool
+    pub fn same(&self, other: &BasicProperties) -> bool
         ensures { Decides result (self.now ≡ other.now) }
     {
         same_texts(self.set, &self.texts, other.set, &other.texts)
@@ -118,6 +118,6 @@ impl PartialEq for BasicProperties {
     ghost laws = { same_by_per properties_code };
 
     fn eq(&self, other: &BasicProperties) -> bool {
-        self.same_as(other)
+        self.same(other)
     }
 }

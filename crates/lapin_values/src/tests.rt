@@ -105,10 +105,10 @@ fn nested_values_are_copied(rt: HostRuntime) -> Result<(), Fail> {
     );
     assert!(rt; array.at(13).is_none());
     let copy = array.try_clone(rt.alloc())?;
-    assert!(rt; copy.same_as(&array));
+    assert!(rt; copy.same(&array));
     let whole = AMQPValue::FieldArray(array);
     assert!(rt; whole.try_clone(rt.alloc())? == AMQPValue::FieldArray(copy));
-    assert!(rt; !whole.same_as(&AMQPValue::FieldArray(FieldArray::new(rt.alloc()))));
+    assert!(rt; !whole.same(&AMQPValue::FieldArray(FieldArray::new(rt.alloc()))));
     assert!(rt; AMQPValue::ShortInt(1) != AMQPValue::ShortUInt(1));
     Ok(())
 }
@@ -214,6 +214,6 @@ fn properties_are_copied(rt: HostRuntime) -> Result<(), Fail> {
     let all = none().with_priority(9);
     let copy = all.try_clone(rt.alloc())?;
     assert!(rt; copy == all);
-    assert!(rt; !copy.with_priority(8).same_as(&all));
+    assert!(rt; !copy.with_priority(8).same(&all));
     Ok(())
 }

@@ -84,7 +84,7 @@ fn same_entries(a: &[(ShortString, AMQPValue)], b: &[(ShortString, AMQPValue)]) 
 
 impl AMQPValue {
     /// Whether two values are of one type and equal.
-    pub fn same_as(&self, other: &AMQPValue) -> bool
+    pub fn same(&self, other: &AMQPValue) -> bool
         ensures { Decides result (self.now ≡ other.now) }
     {
         same_value(self, other)
@@ -93,7 +93,7 @@ impl AMQPValue {
 
 impl FieldArray {
     /// Whether two arrays hold equal values in one order.
-    pub fn same_as(&self, other: &FieldArray) -> bool
+    pub fn same(&self, other: &FieldArray) -> bool
         ensures { Decides result (self.now ≡ other.now) }
     {
         same_array(self, other)
@@ -102,7 +102,7 @@ impl FieldArray {
 
 impl FieldTable {
     /// Whether two tables have the same names with equal values.
-    pub fn same_as(&self, other: &FieldTable) -> bool
+    pub fn same(&self, other: &FieldTable) -> bool
         ensures { Decides result (self.now ≡ other.now) }
     {
         same_table(self, other)

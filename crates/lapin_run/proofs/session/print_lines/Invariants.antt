@@ -1,5 +1,5 @@
 use Rattle.std.proofs.Common.{◌+◌, ◌<◌, ◌^◌, length}
-use Rattle.lapin_session.specs.Numbers.{HasNumbersFor}
+use Rattle.lapin_machine.specs.Numbers.{HasNumbersFor}
 use Rattle.lapin_run.proofs.Streaming.{Leads}
 use Rattle.lapin_run.proofs.session.print_lines.Given as goal
 

@@ -2,4 +2,4 @@ use Rattle.lapin_values.specs.Same.{same_by-is}
 use Rattle.lapin_methods.proofs.frame.FramePartialEq.eq.Goals as goal
 
 pub returns : goal.returns
-returns c = same_by-is _ _ _ _ c.same_as.ensures
+returns c = same_by-is _ _ _ _ c.same.ensures

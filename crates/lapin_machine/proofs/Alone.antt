@@ -1,0 +1,230 @@
+-- An unsent `connection.close` of this side waits alone: kept by every event.
+use Rattle.std.proofs.Common.{◌≡◌, ℕ, Bool, true, false, cond, List, [], ◌∷◌, Option, Some, None, refl, ◌⊎◌, inl, inr}
+use Rattle.std.specs.List.{fold}
+use Rattle.lapin_history.specs.declared.calls.Row.{Row}
+use Rattle.lapin_history.specs.declared.calls.Asked.{Asked}
+use Rattle.lapin_history.specs.declared.calls.Asked.TheVariants as ask
+use Rattle.lapin_history.specs.Calls.{asked}
+use Rattle.lapin_types.specs.declared.event.Event.{Event}
+use Rattle.lapin_types.specs.declared.event.Event.TheVariants as event
+use Rattle.lapin_types.specs.declared.record.Record.{Record}
+use Rattle.lapin_types.specs.declared.record.Record.TheVariants as record_
+use Rattle.lapin_types.specs.declared.leaving.Left.{Left}
+use Rattle.lapin_types.specs.declared.leaving.Publish.{Publish}
+use Rattle.lapin_types.specs.Types.{Error, Frame, Method}
+use Rattle.lapin_types.specs.Types.error
+use Rattle.lapin_types.specs.Types.frame
+use Rattle.lapin_types.specs.Types.method
+use Rattle.lapin_types.specs.Types.connection
+use Rattle.lapin_history.specs.declared.broker_frames.Incoming.{Incoming}
+use Rattle.lapin_history.specs.declared.broker_frames.Incoming.TheVariants as incoming
+use Rattle.lapin_history.specs.declared.phases.Phase.{Phase}
+use Rattle.lapin_history.specs.declared.phases.Phase.TheVariants as phase
+use Rattle.lapin_history.specs.declared.phases.Link.{Link}
+use Rattle.lapin_history.specs.declared.phases.Link.TheVariants as link
+use Rattle.lapin_history.specs.Heard.{heard, frame_class, frame_method}
+use Rattle.lapin_history.specs.Phases.{is_lost, link_close_sent}
+use Rattle.lapin_history.specs.Frames.{MethodEntry, RestEntry}
+use Rattle.lapin_history.specs.Leaving.{Lists, handed_of}
+use Rattle.lapin_history.specs.Drops.{no_lists}
+use Rattle.lapin_history.specs.Answers.{Sight, refused, heard_record}
+use Rattle.lapin_history.specs.Base.{Base, state_of, phase_of, is_allowed, is_open, may_begin, after_call, after_heard, after_received, after_failed, after_refused, after_close_ok, after_next, handed, sent, link_sent, lists_of, has_sent}
+use Rattle.lapin_machine.specs.World.{World, next, new_world, sight_of}
+use Rattle.lapin_machine.specs.Alone.{is_connection_close, IsOneClose, IsCloseAlone, WaitsAlone, without_own_close}
+
+abbrev Alone : Base → Type 0
+Alone b = WaitsAlone b.link (lists_of b)
+
+choose_alone : (t : Bool) (x y : Base) → Alone x → Alone y → Alone (cond t x y)
+choose_alone true x y h k = h
+choose_alone false x y h k = k
+
+-- ---- calls
+
+call_up : (c : ℕ) (k : Asked) (b : Base) → b.link ≡ link.Open → Alone (after_call c k b)
+call_up c ask.Open b e = rw e tt
+call_up c (ask.CloseChannel code text) b e = rw e tt
+call_up c (ask.CloseConnection code text) b e = record { close = refl; rest = refl; publishes = refl }
+call_up c (ask.Method row) b e = rw e tt
+call_up c (ask.Publish exchange key o payload properties) b e = rw e tt
+
+-- no call is allowed once the connection is not open
+call_down : (c : ℕ) (k : Asked) (b : Base) → is_allowed k (state_of c b) ≡ false → Alone b → Alone (cond (is_allowed k (state_of c b)) (after_call c k b) b)
+call_down c k b e h = rw e h
+
+down_refuses : (l : Link) (c : ℕ) (k : Asked) (b : Base) → b.link ≡ l → (l ≡ link.Open) ⊎ (is_allowed k (state_of c b) ≡ false)
+down_refuses link.Open c k b e = inl refl
+down_refuses (link.Closing s h) c ask.Open b e = inr (rw e refl)
+down_refuses (link.Closing s h) c (ask.CloseChannel code text) b e = inr (rw e refl)
+down_refuses (link.Closing s h) c (ask.CloseConnection code text) b e = inr (rw e refl)
+down_refuses (link.Closing s h) c (ask.Method row) b e = inr (rw e refl)
+down_refuses (link.Closing s h) c (ask.Publish exchange key o payload properties) b e = inr (rw e refl)
+down_refuses link.Closed c ask.Open b e = inr (rw e refl)
+down_refuses link.Closed c (ask.CloseChannel code text) b e = inr (rw e refl)
+down_refuses link.Closed c (ask.CloseConnection code text) b e = inr (rw e refl)
+down_refuses link.Closed c (ask.Method row) b e = inr (rw e refl)
+down_refuses link.Closed c (ask.Publish exchange key o payload properties) b e = inr (rw e refl)
+down_refuses link.Lost c ask.Open b e = inr (rw e refl)
+down_refuses link.Lost c (ask.CloseChannel code text) b e = inr (rw e refl)
+down_refuses link.Lost c (ask.CloseConnection code text) b e = inr (rw e refl)
+down_refuses link.Lost c (ask.Method row) b e = inr (rw e refl)
+down_refuses link.Lost c (ask.Publish exchange key o payload properties) b e = inr (rw e refl)
+
+call_alone : (c : ℕ) (k : Asked) (b : Base) → Alone b → Alone (cond (is_allowed k (state_of c b)) (after_call c k b) b)
+call_alone c k b h = elim (down_refuses b.link c k b refl) [
+  | inl up ↦ choose_alone (is_allowed k (state_of c b)) (after_call c k b) b (call_up c k b up) h
+  | inr shut ↦ call_down c k b shut h
+]
+
+-- ---- frames that leave
+
+-- a connection's close that leaves, and any other frame
+link_moves : (f : Frame) (l : Link) → (link_sent f l ≡ l) ⊎ (link_sent f l ≡ link_close_sent l)
+link_moves (frame.Method c (method.Connection (connection.Close code text class number))) l = inr refl
+link_moves (frame.Method c (method.Connection connection.CloseOk)) l = inl refl
+link_moves (frame.Method c (method.Channel m)) l = inl refl
+link_moves (frame.Method c (method.Access m)) l = inl refl
+link_moves (frame.Method c (method.Exchange m)) l = inl refl
+link_moves (frame.Method c (method.Queue m)) l = inl refl
+link_moves (frame.Method c (method.Basic m)) l = inl refl
+link_moves (frame.Method c (method.Confirm m)) l = inl refl
+link_moves (frame.Method c (method.Tx m)) l = inl refl
+link_moves (frame.Header c h) l = inl refl
+link_moves (frame.Body c bytes) l = inl refl
+
+-- whatever leaves, a link that shows nothing goes on so
+sent_quiet : (o : Option Left) (l : Link) (b : Base) → b.link ≡ l → ((ls : Lists) → WaitsAlone l ls) → ((ls : Lists) → WaitsAlone (link_close_sent l) ls) → Alone (sent o b)
+sent_quiet None l b e h k = rw e (h (lists_of b))
+sent_quiet (Some x) l b e h k = rw e (elim (link_moves x.frame l) [
+  | inl same ↦ rw same (h (lists_of b))
+  | inr left ↦ rw left (k (lists_of b))
+])
+
+-- the close that waits alone is what leaves
+sent_close : (heard flow : Bool) (d : Base) (rest : List RestEntry) (methods : List MethodEntry) (publishes : List Publish) → d.link ≡ link.Closing false heard → rest ≡ [] → IsOneClose methods → Alone (sent (handed_of flow rest methods publishes) d)
+sent_close heard flow d rest [] publishes e none c = absurd c
+sent_close heard flow d rest (m ∷ m' ∷ ms) publishes e none c = absurd c
+sent_close heard flow d rest (m ∷ []) publishes e none c = rw none (rw e (moved m.channel m.method c))
+  where
+    moved : (channel : ℕ) (x : Method) → is_connection_close x ≡ true → WaitsAlone (link_sent (frame.Method channel x) (link.Closing false heard)) (lists_of d)
+    moved channel (method.Connection (connection.Close code text class number)) t = tt
+    moved channel (method.Connection connection.CloseOk) t = cc
+    moved channel (method.Channel x) t = cc
+    moved channel (method.Access x) t = cc
+    moved channel (method.Exchange x) t = cc
+    moved channel (method.Queue x) t = cc
+    moved channel (method.Basic x) t = cc
+    moved channel (method.Confirm x) t = cc
+    moved channel (method.Tx x) t = cc
+
+next_alone : (flow : Bool) (l : Link) (b : Base) → b.link ≡ l → WaitsAlone l (lists_of b) → Alone (after_next flow b)
+next_alone flow link.Open b e h = sent_quiet (handed flow b) link.Open _ e (λ ls. tt) (λ ls. tt)
+next_alone flow (link.Closing true heard) b e h = sent_quiet (handed flow b) (link.Closing true heard) _ e (λ ls. tt) (λ ls. tt)
+next_alone flow (link.Closing false heard) b e h = sent_close heard (may_begin flow b) _ b.rest b.methods b.publishes e h.rest h.close
+next_alone flow link.Closed b e h = sent_quiet (handed flow b) link.Closed _ e (λ ls. tt) (λ ls. tt)
+next_alone flow link.Lost b e h = sent_quiet (handed flow b) link.Lost _ e (λ ls. tt) (λ ls. tt)
+
+-- ---- frames of the broker
+
+close_ok_alone : (c : ℕ) (p : Phase) (b : Base) → b.link ≡ link.Open → Alone (after_close_ok c p b)
+close_ok_alone c phase.Closed b e = rw e tt
+close_ok_alone c phase.Opening b e = rw e tt
+close_ok_alone c (phase.Open paused) b e = rw e tt
+close_ok_alone c (phase.Closing who sent) b e = rw e tt
+close_ok_alone c phase.Crossed b e = rw e tt
+
+received_alone : (i : Incoming) (b : Base) → b.link ≡ link.Open → Alone (after_received i b)
+received_alone (incoming.Reply c k a) b e = rw e tt
+received_alone (incoming.Settlement c s) b e = rw e tt
+received_alone (incoming.ChannelClose c code) b e = rw e tt
+received_alone (incoming.ChannelCloseOk c) b e = close_ok_alone c (phase_of c b) b e
+received_alone (incoming.ConnectionClose code) b e = rw e tt
+received_alone incoming.ConnectionCloseOk b e = tt
+received_alone (incoming.Flow c active) b e = choose_alone (is_open (state_of c b)) _ b (rw e tt) (rw e tt)
+received_alone incoming.Other b e = rw e tt
+
+failed_alone : (i : Incoming) (b : Base) → b.link ≡ link.Open → Alone (after_failed i b)
+failed_alone (incoming.Settlement c s) b e = choose_alone (is_open (state_of c b)) _ b (rw e tt) (rw e tt)
+failed_alone (incoming.Reply c k a) b e = rw e tt
+failed_alone (incoming.ChannelClose c code) b e = rw e tt
+failed_alone (incoming.ChannelCloseOk c) b e = rw e tt
+failed_alone (incoming.ConnectionClose code) b e = rw e tt
+failed_alone incoming.ConnectionCloseOk b e = rw e tt
+failed_alone (incoming.Flow c active) b e = rw e tt
+failed_alone incoming.Other b e = rw e tt
+
+refused_alone : (i : Incoming) (x : Error) (b : Base) → b.link ≡ link.Open → Alone (after_refused i x b)
+refused_alone i error.NoMemory b e = rw e tt
+refused_alone i error.NumbersUsedUp b e = rw e tt
+refused_alone i (error.InvalidChannelState s) b e = rw e tt
+refused_alone i (error.ProtocolError code) b e = rw e tt
+refused_alone i error.ConnectionLost b e = rw e tt
+refused_alone i (error.UnexpectedFrame class number) b e = record { close = refl; rest = refl; publishes = refl }
+refused_alone i (error.PreconditionFailed tag current) b e = failed_alone i b e
+refused_alone i error.AlreadyTaken b e = rw e tt
+refused_alone i error.UnknownTicket b e = rw e tt
+
+up_alone : (i : Incoming) (r : Record) (b : Base) → b.link ≡ link.Open → Alone (after_heard i r b)
+up_alone i (record_.Refused x) b e = refused_alone i x b e
+up_alone i record_.Received b e = received_alone i b e
+up_alone i (record_.Ticket n) b e = rw e tt
+up_alone i (record_.Publish t n) b e = rw e tt
+up_alone i (record_.Frame f) b e = rw e tt
+up_alone i record_.NoFrame b e = rw e tt
+up_alone i record_.Passed b e = rw e tt
+up_alone i record_.Pending b e = rw e tt
+up_alone i (record_.Answer a) b e = rw e tt
+up_alone i (record_.Confirmed o) b e = rw e tt
+up_alone i (record_.State x y) b e = rw e tt
+up_alone i record_.Lost b e = rw e tt
+
+-- of the two frames that are heard while this side closes, each takes the close out that has not left
+heard_alone : (l : Link) (see : Sight) (f : Record) (i : Incoming) (b : Base) → b.link ≡ l → WaitsAlone l (lists_of b) → Alone (after_heard i (heard_record b see f i) b)
+heard_alone link.Open see f i b e h = up_alone i (heard_record b see f i) b e
+heard_alone link.Closed see f i b e h = rw e h
+heard_alone link.Lost see f i b e h = rw e h
+heard_alone (link.Closing s was) see f incoming.ConnectionCloseOk b e h = rw e tt
+heard_alone (link.Closing s true) see f (incoming.ConnectionClose code) b e h = rw e h
+heard_alone (link.Closing true false) see f (incoming.ConnectionClose code) b e h = rw e tt
+heard_alone (link.Closing false false) see f (incoming.ConnectionClose code) b e h = rw e tt
+heard_alone (link.Closing s was) see f (incoming.Reply c k a) b e h = rw e h
+heard_alone (link.Closing s was) see f (incoming.Settlement c x) b e h = rw e h
+heard_alone (link.Closing s was) see f (incoming.ChannelClose c code) b e h = rw e h
+heard_alone (link.Closing s was) see f (incoming.ChannelCloseOk c) b e h = rw e h
+heard_alone (link.Closing s was) see f (incoming.Flow c active) b e h = rw e h
+heard_alone (link.Closing s was) see f incoming.Other b e h = rw e h
+
+-- ---- every event
+
+alone-next : (w : World) (e : Event) → Alone w.base → Alone (next w e).base
+alone-next w (event.Call c k) h = call_alone c (asked k) w.base h
+alone-next w (event.Next flow) h = next_alone flow w.base.link w.base refl h
+alone-next w (event.Receive f) h = heard_alone w.base.link (sight_of w.book w.slots) (refused (frame_class f) (frame_method f)) (heard f) w.base refl h
+alone-next w (event.PollTicket n) h = h
+alone-next w (event.PollConfirm n) h = h
+alone-next w (event.State c) h = h
+alone-next w event.Lost h = choose_alone (is_lost w.base.link) w.base _ h tt
+
+alone-fold : (w : World) (es : List Event) → Alone w.base → Alone (fold next w es).base
+alone-fold w [] h = h
+alone-fold w (e ∷ es) h = alone-fold (next w e) es (alone-next w e h)
+
+pub waits_alone : (frame_max : ℕ) (es : List Event) → Alone (fold next (new_world frame_max) es).base
+waits_alone frame_max es = alone-fold (new_world frame_max) es tt
+
+-- ---- to drop what waits alone
+
+one_dropped : (l : Lists) → IsCloseAlone l → without_own_close l ≡ no_lists
+one_dropped l h = dropped l.rest l.methods l.publishes h.rest h.close h.publishes
+  where
+    dropped : (rest : List RestEntry) (methods : List MethodEntry) (publishes : List Publish) → rest ≡ [] → IsOneClose methods → publishes ≡ [] → without_own_close (record { rest = rest; methods = methods; publishes = publishes }) ≡ no_lists
+    dropped rest [] publishes r c p = absurd c
+    dropped rest (m ∷ m' ∷ ms) publishes r c p = absurd c
+    dropped rest (m ∷ []) publishes r c p = rw r (rw p (rw c refl))
+
+pub own_close_dropped : (l : Link) (ls : Lists) → WaitsAlone l ls → has_sent l ≡ false → without_own_close ls ≡ no_lists
+own_close_dropped link.Open ls h s = cc
+own_close_dropped (link.Closing true heard) ls h s = cc
+own_close_dropped (link.Closing false heard) ls h s = one_dropped ls h
+own_close_dropped link.Closed ls h s = cc
+own_close_dropped link.Lost ls h s = cc

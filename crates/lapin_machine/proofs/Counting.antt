@@ -1,0 +1,178 @@
+-- No event uses more than one number of a counter.
+use Rattle.std.proofs.Common.{◌≡◌, ℕ, suc, ◌+◌, ◌<◌, ◌≤◌, ◌^◌, Bool, true, false, cond, List, [], ◌∷◌, ◌++◌, Option, Some, None, refl, ◌∙◌, ap, arith, append_assoc, ◌⊎◌, inl, inr}
+use Rattle.lapin_history.specs.declared.calls.Row.{Row}
+use Rattle.lapin_history.specs.declared.calls.Asked.{Asked}
+use Rattle.lapin_history.specs.declared.calls.Asked.TheVariants as ask
+use Rattle.lapin_history.specs.Calls.{asked}
+use Rattle.lapin_types.specs.declared.event.Event.{Event}
+use Rattle.lapin_types.specs.declared.event.Event.TheVariants as event
+use Rattle.lapin_types.specs.declared.record.Record.{Record}
+use Rattle.lapin_types.specs.declared.record.Record.TheVariants as record_
+use Rattle.lapin_types.specs.declared.leaving.Left.{Left}
+use Rattle.lapin_types.specs.Types.{Error}
+use Rattle.lapin_types.specs.Types.error
+use Rattle.lapin_history.specs.declared.broker_frames.Incoming.{Incoming}
+use Rattle.lapin_history.specs.declared.broker_frames.Incoming.TheVariants as incoming
+use Rattle.lapin_history.specs.Heard.{heard}
+use Rattle.lapin_history.specs.declared.phases.Phase.{Phase}
+use Rattle.lapin_history.specs.declared.phases.Phase.TheVariants as phase
+use Rattle.lapin_history.specs.declared.phases.Link.{Link}
+use Rattle.lapin_history.specs.declared.phases.Link.TheVariants as link
+use Rattle.lapin_history.specs.Phases.{is_lost}
+use Rattle.lapin_history.specs.Leaving.{left_lists}
+use Rattle.lapin_history.specs.Base.{Base, state_of, phase_of, is_allowed, is_open, may_begin, after_event, after_call, after_heard, after_received, after_failed, after_refused, after_close_ok, after_connection_close, after_lost, after_next, handed, sent, with_lists, lists_of}
+use Rattle.lapin_machine.specs.World.{World, next, told_by, IsLonger}
+use Rattle.lapin_machine.specs.Numbers.{HasNumbersFor, EventUsedUp, LacksNumber}
+
+choose_le : (t : Bool) (x y : Base) (n : ℕ) (f : Base → ℕ) → f x ≤ n → f y ≤ n → f (cond t x y) ≤ n
+choose_le true x y n f h k = h
+choose_le false x y n f h k = k
+
+tickets_call : (c : ℕ) (k : Asked) (b : Base) → (after_call c k b).tickets ≤ b.tickets + 1
+tickets_call c ask.Open b = omega arith
+tickets_call c (ask.CloseChannel code text) b = omega arith
+tickets_call c (ask.CloseConnection code text) b = omega arith
+tickets_call c (ask.Method row) b = omega arith
+tickets_call c (ask.Publish exchange key o payload properties) b = omega arith
+
+published_call : (c : ℕ) (k : Asked) (b : Base) → (after_call c k b).published ≤ b.published + 1
+published_call c ask.Open b = omega arith
+published_call c (ask.CloseChannel code text) b = omega arith
+published_call c (ask.CloseConnection code text) b = omega arith
+published_call c (ask.Method row) b = omega arith
+published_call c (ask.Publish exchange key o payload properties) b = omega arith
+
+-- a frame of the broker and a loss change no counter
+abbrev SameCounts : Base → Base → Type 0
+SameCounts d b = (d.tickets ≡ b.tickets) × (d.published ≡ b.published)
+
+choose_counts : (t : Bool) (x y b : Base) → SameCounts x b → SameCounts y b → SameCounts (cond t x y) b
+choose_counts true x y b h k = h
+choose_counts false x y b h k = k
+
+close_ok_counts : (c : ℕ) (p : Phase) (b : Base) → SameCounts (after_close_ok c p b) b
+close_ok_counts c phase.Closed b = (refl, refl)
+close_ok_counts c phase.Opening b = (refl, refl)
+close_ok_counts c (phase.Open paused) b = (refl, refl)
+close_ok_counts c (phase.Closing who sent) b = (refl, refl)
+close_ok_counts c phase.Crossed b = (refl, refl)
+
+connection_close_counts : (l : Link) (b : Base) → SameCounts (after_connection_close l b) b
+connection_close_counts link.Open b = (refl, refl)
+connection_close_counts (link.Closing true heard) b = (refl, refl)
+connection_close_counts (link.Closing false heard) b = (refl, refl)
+connection_close_counts link.Closed b = (refl, refl)
+connection_close_counts link.Lost b = (refl, refl)
+
+received_counts : (i : Incoming) (b : Base) → SameCounts (after_received i b) b
+received_counts (incoming.Reply c k a) b = (refl, refl)
+received_counts (incoming.Settlement c s) b = (refl, refl)
+received_counts (incoming.ChannelClose c code) b = (refl, refl)
+received_counts (incoming.ChannelCloseOk c) b = close_ok_counts c (phase_of c b) b
+received_counts (incoming.ConnectionClose code) b = connection_close_counts b.link b
+received_counts incoming.ConnectionCloseOk b = (refl, refl)
+received_counts (incoming.Flow c active) b = choose_counts (is_open (state_of c b)) _ b b (refl, refl) (refl, refl)
+received_counts incoming.Other b = (refl, refl)
+
+failed_counts : (i : Incoming) (b : Base) → SameCounts (after_failed i b) b
+failed_counts (incoming.Settlement c s) b = choose_counts (is_open (state_of c b)) _ b b (refl, refl) (refl, refl)
+failed_counts (incoming.Reply c k a) b = (refl, refl)
+failed_counts (incoming.ChannelClose c code) b = (refl, refl)
+failed_counts (incoming.ChannelCloseOk c) b = (refl, refl)
+failed_counts (incoming.ConnectionClose code) b = (refl, refl)
+failed_counts incoming.ConnectionCloseOk b = (refl, refl)
+failed_counts (incoming.Flow c active) b = (refl, refl)
+failed_counts incoming.Other b = (refl, refl)
+
+refused_counts : (i : Incoming) (e : Error) (b : Base) → SameCounts (after_refused i e b) b
+refused_counts i error.NoMemory b = (refl, refl)
+refused_counts i error.NumbersUsedUp b = (refl, refl)
+refused_counts i (error.InvalidChannelState s) b = (refl, refl)
+refused_counts i (error.ProtocolError code) b = (refl, refl)
+refused_counts i error.ConnectionLost b = (refl, refl)
+refused_counts i (error.UnexpectedFrame class number) b = (refl, refl)
+refused_counts i (error.PreconditionFailed tag current) b = failed_counts i b
+refused_counts i error.AlreadyTaken b = (refl, refl)
+refused_counts i error.UnknownTicket b = (refl, refl)
+
+pub heard_counts : (i : Incoming) (r : Record) (b : Base) → SameCounts (after_heard i r b) b
+heard_counts i (record_.Refused e) b = refused_counts i e b
+heard_counts i record_.Received b = received_counts i b
+heard_counts i (record_.Ticket n) b = (refl, refl)
+heard_counts i (record_.Publish t n) b = (refl, refl)
+heard_counts i (record_.Frame f) b = (refl, refl)
+heard_counts i record_.NoFrame b = (refl, refl)
+heard_counts i record_.Passed b = (refl, refl)
+heard_counts i record_.Pending b = (refl, refl)
+heard_counts i (record_.Answer a) b = (refl, refl)
+heard_counts i (record_.Confirmed o) b = (refl, refl)
+heard_counts i (record_.State x y) b = (refl, refl)
+heard_counts i record_.Lost b = (refl, refl)
+
+pub lost_counts : (b : Base) → SameCounts (after_lost b) b
+lost_counts b = choose_counts (is_lost b.link) b _ b (refl, refl) (refl, refl)
+
+pub next_counts : (flow : Bool) (b : Base) → SameCounts (after_next flow b) b
+next_counts flow b = at (handed flow b)
+  where
+    at : (o : Option Left) → SameCounts (sent o (with_lists (left_lists b.frame_max (may_begin flow b) (lists_of b)) b)) b
+    at None = (refl, refl)
+    at (Some l) = (refl, refl)
+
+tickets-next : (b : Base) (e : Event) (r : Record) → (after_event b e r).tickets ≤ b.tickets + 1
+tickets-next b (event.Call c k) r = choose_le (is_allowed (asked k) (state_of c b)) (after_call c (asked k) b) b (b.tickets + 1) (λ x. x.tickets) (tickets_call c (asked k) b) (omega arith)
+tickets-next b (event.Next flow) r = let same : (after_next flow b).tickets ≡ b.tickets = (next_counts flow b).0 in omega arith
+tickets-next b (event.Receive f) r = let same : (after_heard (heard f) r b).tickets ≡ b.tickets = (heard_counts (heard f) r b).0 in omega arith
+tickets-next b (event.PollTicket n) r = omega arith
+tickets-next b (event.PollConfirm n) r = omega arith
+tickets-next b (event.State c) r = omega arith
+tickets-next b event.Lost r = let same : (after_lost b).tickets ≡ b.tickets = (lost_counts b).0 in omega arith
+
+published-next : (b : Base) (e : Event) (r : Record) → (after_event b e r).published ≤ b.published + 1
+published-next b (event.Call c k) r = choose_le (is_allowed (asked k) (state_of c b)) (after_call c (asked k) b) b (b.published + 1) (λ x. x.published) (published_call c (asked k) b) (omega arith)
+published-next b (event.Next flow) r = let same : (after_next flow b).published ≡ b.published = (next_counts flow b).1 in omega arith
+published-next b (event.Receive f) r = let same : (after_heard (heard f) r b).published ≡ b.published = (heard_counts (heard f) r b).1 in omega arith
+published-next b (event.PollTicket n) r = omega arith
+published-next b (event.PollConfirm n) r = omega arith
+published-next b (event.State c) r = omega arith
+published-next b event.Lost r = let same : (after_lost b).published ≡ b.published = (lost_counts b).1 in omega arith
+
+pub numbers-next : (n : ℕ) (w : World) (e : Event) → HasNumbersFor (suc n) w → HasNumbersFor n (next w e)
+numbers-next n w e h =
+    let tickets : w.base.tickets + suc n < 2 ^ 64 = h.tickets in
+    let confirms : w.base.published + suc n < 2 ^ 64 = h.confirms in
+    let more : (next w e).base.tickets ≤ w.base.tickets + 1 = tickets-next w.base e (told_by w e) in
+    let also : (next w e).base.published ≤ w.base.published + 1 = published-next w.base e (told_by w e) in
+    record { tickets = omega arith; confirms = omega arith }
+
+more : (n : ℕ) (w : World) → HasNumbersFor (suc n) w → w.base.tickets + 1 ≡ 2 ^ 64 → ⊥
+more n w h full = let t : w.base.tickets + suc n < 2 ^ 64 = h.tickets in omega arith
+
+-- a call lacks no number where each counter has a further one
+no_lack : (n : ℕ) (w : World) (k : Asked) → HasNumbersFor (suc n) w → LacksNumber k w.base → ⊥
+no_lack n w ask.Open h full = more n w h full
+no_lack n w (ask.CloseChannel code text) h full = more n w h full
+no_lack n w (ask.CloseConnection code text) h full = more n w h full
+no_lack n w (ask.Method row) h full = more n w h full
+no_lack n w (ask.Publish exchange key o payload properties) h full = elim full [
+  | inl tickets ↦ more n w h tickets
+  | inr confirms ↦ (let p : w.base.published + suc n < 2 ^ 64 = h.confirms in let e : w.base.published + 1 ≡ 2 ^ 64 = confirms in omega arith)
+]
+
+-- a counter that has a further number isn't used up
+pub has_number : (n : ℕ) (w : World) (e : Event) → HasNumbersFor (suc n) w → EventUsedUp e w.base → ⊥
+has_number n w (event.Call c k) h u = no_lack n w (asked k) h u.1
+has_number n w (event.Next flow) h u = absurd u
+has_number n w (event.Receive f) h u = absurd u
+has_number n w (event.PollTicket k) h u = absurd u
+has_number n w (event.PollConfirm k) h u = absurd u
+has_number n w (event.State c) h u = absurd u
+has_number n w event.Lost h u = absurd u
+
+-- the list of records grows by one
+pub longer-push : (old new records rest ends : List Record) (r : Record) → IsLonger old new records (r ∷ rest) → ends ≡ new ++ r ∷ [] → IsLonger old ends records rest
+longer-push old new records rest ends r h e = record {
+  done = h.done ++ r ∷ [];
+  all = append_assoc h.done (r ∷ []) rest ∙ h.all;
+  new_is = e ∙ ap (λ (xs : List Record). xs ++ r ∷ []) h.new_is ∙ append_assoc old h.done (r ∷ []);
+}

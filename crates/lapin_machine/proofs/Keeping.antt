@@ -1,0 +1,511 @@
+-- What ties a session's parts together holds after each change.
+use Rattle.std.proofs.Common.{◌≡◌, ◌≢◌, ℕ, zero, suc, ◌+◌, ◌<◌, ◌≤◌, ◌==◌, Bool, true, false, cond, ◌||◌, ◌&&◌, List, [], ◌∷◌, ◌++◌, map, length, Option, Some, None, refl, sym, ◌∙◌, ap, subst, arith, slice_set, get_or, add-one, ◌⊎◌, inl, inr, eqb-true, ne_eqb, eq-eqb}
+use Rattle.std.specs.Prelude.{IsSome, IsOk, OnOk, Result, Ok, Err}
+use Rattle.std.specs.List.{list_any, fold, AllByRecursion}
+use Rattle.std.specs.Option.{option_map}
+use Rattle.std.proofs.lemmas.Bool.Decides.{eqb_tells}
+use Rattle.lapin_types.specs.declared.leaving.Publish.{Publish}
+use Rattle.lapin_types.specs.declared.leaving.Left.{Left}
+use Rattle.lapin_types.specs.Types.{ChannelState, Frame, Method, Error}
+use Rattle.lapin_types.specs.Types.channel_state as state
+use Rattle.lapin_types.specs.Types.frame
+use Rattle.lapin_types.specs.Types.method
+use Rattle.lapin_types.specs.Types.connection
+use Rattle.lapin_types.specs.Types.channel
+use Rattle.lapin_types.specs.Types.confirm
+use Rattle.lapin_types.specs.declared.request.ReplyKind.{ReplyKind}
+use Rattle.lapin_types.specs.declared.request.ReplyKind.TheVariants as reply_kind
+use Rattle.lapin_tables.specs.ByChannel.{at_channel, on_channel}
+use Rattle.lapin_tables.specs.Numbered.{under, with_under}
+use Rattle.lapin_history.specs.declared.marks.Settlement.{Settlement}
+use Rattle.lapin_history.specs.declared.marks.Outcome.{Outcome}
+use Rattle.lapin_history.specs.declared.marks.ConfirmMark.TheVariants as mark
+use Rattle.lapin_history.specs.declared.phases.Closer.{Closer}
+use Rattle.lapin_history.specs.declared.phases.Phase.{Phase}
+use Rattle.lapin_history.specs.declared.phases.Phase.TheVariants as phase
+use Rattle.lapin_history.specs.declared.phases.Link.{Link}
+use Rattle.lapin_history.specs.declared.phases.Link.TheVariants as link
+use Rattle.lapin_history.specs.Words.{is_some, with_channel}
+use Rattle.lapin_history.specs.Phases.{channel_state, is_live, is_up, phase_in, close_sent, link_close_sent}
+use Rattle.lapin_history.specs.ConfirmReadings.{covers, outcome_of}
+use Rattle.lapin_history.specs.Drops.{frame_channel}
+use Rattle.lapin_history.specs.Frames.{RestEntry, MethodEntry}
+use Rattle.lapin_history.specs.Leaving.{Lists, left_of, handed_of}
+use Rattle.lapin_history.specs.Closes.{close_ok_end}
+use Rattle.lapin_history.specs.Base.{is_closed, is_open, is_opening, is_closing, is_crossed, hears_on, opens, hears, hears_close, hears_close_ok, phases_with, phases_sent, link_sent, unless_sent}
+use Rattle.lapin_history.specs.Marked.{left_marks, method_marks, place_of, rejections, ends}
+use Rattle.lapin_history.proofs.ChannelLaws.{at-on, at-with}
+use Rattle.lapin_history.proofs.ListLaws.{any-push}
+use Rattle.lapin_confirm.specs.declared.cell.Cell.{Cell}
+use Rattle.lapin_confirm.specs.declared.cell.Cell.TheVariants as cell
+use Rattle.lapin_confirm.specs.Book.{Book, Line, fresh_line, selected_line, next_line, tag_for, lines_with, cell_with, settled_cell, is_open_on, is_resolved, begun, with_publish, select_left, left, settled, rejected, ended, taken, after_mark}
+use Rattle.lapin_confirm.proofs.Ended.{any-ended}
+use Rattle.lapin_desk.specs.Queued.{AreQueued}
+use Rattle.lapin_desk.proofs.Queueing.{number-within, under-map, queued-kept, queued-push, queued-written, resolved_apart, suc_place}
+use Rattle.lapin_machine.specs.Kept.{is_close_sent}
+use Rattle.lapin_machine.specs.Tied.{IsTied, is_live_on, MayRegister, CanRegister}
+
+-- ---- nothing opens on a channel that has no live opening
+
+both_false : (a b : Bool) → (a || b) ≡ false → (a ≡ false) × (b ≡ false)
+both_false true b h = cc
+both_false false b h = (refl, h)
+
+any-written : {X : Type 0} (p : X → Bool) (xs : List X) (k : ℕ) (y : X) → list_any p xs ≡ false → p y ≡ false → list_any p (slice_set xs k y) ≡ false
+any-written p [] k y h e = refl
+any-written p (x ∷ xs) zero y h e = let parts = both_false (p x) (list_any p xs) h in rw e parts.1
+any-written p (x ∷ xs) (suc k) y h e = let parts = both_false (p x) (list_any p xs) h in rw parts.0 (any-written p xs k y parts.1 e)
+
+any-under : (c n : ℕ) (o : Option Cell) (cells : List (Option Cell)) → list_any (is_open_on c) cells ≡ false → is_open_on c o ≡ false → list_any (is_open_on c) (with_under n o cells) ≡ false
+any-under c zero o cells h e = h
+any-under c (suc k) o cells h e = any-written (is_open_on c) cells k o h e
+
+any-get : {X : Type 0} (p : Option X → Bool) (xs : List (Option X)) (k : ℕ) → p None ≡ false → list_any p xs ≡ false → p (get_or xs k None) ≡ false
+any-get p [] k none h = none
+any-get p (x ∷ xs) zero none h = (both_false (p x) (list_any p xs) h).0
+any-get p (x ∷ xs) (suc k) none h = any-get p xs k none (both_false (p x) (list_any p xs) h).1
+
+closed-under : (c n : ℕ) (cells : List (Option Cell)) → list_any (is_open_on c) cells ≡ false → is_open_on c (under n cells) ≡ false
+closed-under c zero cells h = refl
+closed-under c (suc k) cells h = any-get (is_open_on c) cells k refl h
+
+settled-closed : (c d : ℕ) (covered : ℕ → Bool) (o : Outcome) (x : Option Cell) → is_open_on c x ≡ false → is_open_on c (option_map (settled_cell d covered o) x) ≡ false
+settled-closed c d covered o None h = refl
+settled-closed c d covered o (Some (cell.Queued e)) h = h
+settled-closed c d covered o (Some (cell.Pending e t)) h = elim (e == d && covered t) as (λ b. is_open_on c (Some (cond b (cell.Resolved o) (cell.Pending e t))) ≡ false) [ true ↦ refl | false ↦ h ]
+settled-closed c d covered o (Some (cell.Resolved x)) h = refl
+
+any-mapped : {X : Type 0} (p : X → Bool) (g : X → X) (xs : List X) → ((x : X) → p x ≡ false → p (g x) ≡ false) → list_any p xs ≡ false → list_any p (map g xs) ≡ false
+any-mapped p g [] keeps h = refl
+any-mapped p g (x ∷ xs) keeps h =
+    elim (p x) as (λ b. p x ≡ b → (b || list_any p xs) ≡ false → (p (g x) || list_any p (map g xs)) ≡ false)
+    [ true ↦ λ is h. cc | false ↦ λ is h. rw (keeps x is) (any-mapped p g xs keeps h) ] refl h
+
+-- what rejections of publishes leave
+rejections-lines : (e : Error) (ps : List Publish) (b : Book) → (fold after_mark b (rejections e ps)).lines ≡ b.lines
+rejections-lines e [] b = refl
+rejections-lines e (p ∷ ps) b = rejections-lines e ps (rejected (suc (place_of p.confirm)) e b)
+
+any-rejections : (c : ℕ) (e : Error) (ps : List Publish) (b : Book) → list_any (is_open_on c) b.cells ≡ false → list_any (is_open_on c) (fold after_mark b (rejections e ps)).cells ≡ false
+any-rejections c e [] b h = h
+any-rejections c e (p ∷ ps) b h = any-rejections c e ps (rejected (suc (place_of p.confirm)) e b) (any-under c (suc (place_of p.confirm)) _ b.cells h refl)
+
+-- what ends of openings leave
+ended_none : (c d : ℕ) (e : Error) (b : Book) → list_any (is_open_on c) b.cells ≡ false → list_any (is_open_on c) (ended d e b).cells ≡ false
+ended_none c d e b h = any-ended c d e b ∙ elim (d == c) as (λ t. cond t false (list_any (is_open_on c) b.cells) ≡ false) [ true ↦ refl | false ↦ h ]
+
+ended_here : (c : ℕ) (e : Error) (b : Book) → list_any (is_open_on c) (ended c e b).cells ≡ false
+ended_here c e b = let same : (c == c) ≡ true = eq-eqb c c refl in any-ended c c e b ∙ rw same refl
+
+ends-lines : (e : Error) (xs : List (ℕ × Phase)) (b : Book) → (fold after_mark b (ends e xs)).lines ≡ b.lines
+ends-lines e [] b = refl
+ends-lines e (x ∷ xs) b = elim (is_live x.1) as (λ t. (fold after_mark b (cond t (mark.Ended x.0 e ∷ ends e xs) (ends e xs))).lines ≡ b.lines) [ true ↦ ends-lines e xs (ended x.0 e b) | false ↦ ends-lines e xs b ]
+
+ends_none : (c : ℕ) (e : Error) (xs : List (ℕ × Phase)) (b : Book) → list_any (is_open_on c) b.cells ≡ false → list_any (is_open_on c) (fold after_mark b (ends e xs)).cells ≡ false
+ends_none c e [] b h = h
+ends_none c e (x ∷ xs) b h = elim (is_live x.1) as (λ t. list_any (is_open_on c) (fold after_mark b (cond t (mark.Ended x.0 e ∷ ends e xs) (ends e xs))).cells ≡ false) [
+  | true ↦ ends_none c e xs (ended x.0 e b) (ended_none c x.0 e b h)
+  | false ↦ ends_none c e xs b h
+]
+
+-- a channel with a live opening has nothing unresolved once all ended
+ends_live : (c : ℕ) (e : Error) (xs : List (ℕ × Phase)) (b : Book) → is_live (phase_in (at_channel c xs)) ≡ true → list_any (is_open_on c) (fold after_mark b (ends e xs)).cells ≡ false
+ends_live c e [] b h = cc
+ends_live c e (x ∷ xs) b h =
+    elim (eqb_tells x.0 c) [
+      | inl same ↦
+          let live : is_live x.1 ≡ true = rw same.0 at h in
+          let P : ℕ → Type 0 = λ k. list_any (is_open_on k) (ended x.0 e b).cells ≡ false in
+          rw live (ends_none c e xs (ended x.0 e b) (subst P same.1 (ended_here x.0 e b)))
+      | inr other ↦
+          let later : is_live (phase_in (at_channel c xs)) ≡ true = rw other.0 at h in
+          elim (is_live x.1) as (λ t. list_any (is_open_on c) (fold after_mark b (cond t (mark.Ended x.0 e ∷ ends e xs) (ends e xs))).cells ≡ false) [
+            | true ↦ ends_live c e xs (ended x.0 e b) later
+            | false ↦ ends_live c e xs b later
+          ]
+    ]
+
+-- ---- lines of channels
+
+some_with : {X : Type 0} (c d : ℕ) (x : X) (es : List (ℕ × X)) → IsSome (at_channel d es) → IsSome (at_channel d (with_channel c x es))
+some_with c d x es h = rw (at-with c d x es) (elim (c == d) as (λ b. IsSome (cond b (Some x) (at_channel d es))) [ true ↦ refl | false ↦ h ])
+
+some_on : {X : Type 0} (c d : ℕ) (f : X → X) (es : List (ℕ × X)) → IsSome (at_channel d es) → IsSome (at_channel d (on_channel c f es))
+some_on {X} c d f es h = rw (at-on c d f es) (elim (c == d) as (λ b. IsSome (cond b (option_map f (at_channel d es)) (at_channel d es))) [ true ↦ mapped (at_channel d es) h | false ↦ h ])
+  where
+    mapped : (o : Option X) → IsSome o → IsSome (option_map f o)
+    mapped None h = h
+    mapped (Some y) h = refl
+
+-- ---- a channel is put where an open or a close leads it
+
+-- where a channel without a live opening has nothing unresolved
+abbrev Done : Link → List (ℕ × Phase) → List (Option Cell) → Type 0
+Done l phases cells = (c : ℕ) → is_live_on l (at_channel c phases) ≡ false → list_any (is_open_on c) cells ≡ false
+
+abbrev Lined : List (ℕ × Phase) → List (ℕ × Line) → Type 0
+Lined phases lines = (c : ℕ) → is_some (at_channel c phases) ≡ true → IsSome (at_channel c lines)
+
+lined-put : (c : ℕ) (p : Phase) (phases : List (ℕ × Phase)) (lines : List (ℕ × Line)) → IsSome (at_channel c lines) → Lined phases lines → Lined (with_channel c p phases) lines
+lined-put c p phases lines here has = λ d h.
+    elim (eqb_tells c d) [
+      | inl same ↦ let P : ℕ → Type 0 = λ k. IsSome (at_channel k lines) in subst P same.1 here
+      | inr other ↦ has d (rw (at-with c d p phases, other.0) at h)
+    ]
+
+done-put : (l : Link) (c : ℕ) (p : Phase) (phases : List (ℕ × Phase)) (cells : List (Option Cell)) → (is_live_on l (Some p) ≡ false → list_any (is_open_on c) cells ≡ false) → Done l phases cells → Done l (with_channel c p phases) cells
+done-put l c p phases cells here done = λ d h.
+    elim (eqb_tells c d) [
+      | inl same ↦
+          let P : ℕ → Type 0 = λ k. list_any (is_open_on k) cells ≡ false in
+          let gone : is_live_on l (Some p) ≡ false = rw (at-with c d p phases, same.0) at h in
+          subst P same.1 (here gone)
+      | inr other ↦ done d (rw (at-with c d p phases, other.0) at h)
+    ]
+
+live_up : (l : Link) (p : Phase) → is_up l ≡ true → is_live p ≡ true → is_live_on l (Some p) ≡ true
+live_up l p up live = rw up live
+
+-- a channel is opened
+pub tied_open : (l : Link) (c : ℕ) (phases : List (ℕ × Phase)) (ps : List Publish) (b : Book) → is_up l ≡ true → IsTied l phases ps b → IsTied l (with_channel c phase.Opening phases) ps (begun c b)
+tied_open l c phases ps b up t =
+    let here : IsSome (at_channel c (with_channel c fresh_line b.lines)) = let same : (c == c) ≡ true = eq-eqb c c refl in rw (at-with c c fresh_line b.lines, same) refl in
+    record {
+      queued = t.queued;
+      lines = lined-put c phase.Opening phases (with_channel c fresh_line b.lines) here (λ d h. some_with c d fresh_line b.lines (t.lines d h));
+      done = done-put l c phase.Opening phases b.cells (λ gone. let live : is_live_on l (Some phase.Opening) ≡ true = live_up l phase.Opening up refl in cc) t.done;
+    }
+
+-- an opening goes on
+pub tied_live : (l : Link) (c : ℕ) (p : Phase) (phases : List (ℕ × Phase)) (ps : List Publish) (b : Book) → is_up l ≡ true → is_live p ≡ true → is_some (at_channel c phases) ≡ true → IsTied l phases ps b → IsTied l (with_channel c p phases) ps b
+tied_live l c p phases ps b up live some t = record {
+  queued = t.queued;
+  lines = lined-put c p phases b.lines (t.lines c some) t.lines;
+  done = done-put l c p phases b.cells (λ gone. let is : is_live_on l (Some p) ≡ true = live_up l p up live in cc) t.done;
+}
+
+-- this side closes a channel
+pub tied_closing : (l : Link) (c : ℕ) (who : Closer) (e : Error) (gone : List Publish) (phases : List (ℕ × Phase)) (ps new : List Publish) (b : Book) → is_up l ≡ true → is_some (at_channel c phases) ≡ true
+    → AreQueued (fold after_mark b (rejections e gone)).cells new → IsTied l phases ps b → IsTied l (with_channel c (phase.Closing who false) phases) new (fold after_mark b (rejections e gone))
+tied_closing l c who e gone phases ps new b up some q t =
+    let L : List (ℕ × Line) → Type 0 = λ ls. Lined phases ls in
+    let lined : Lined phases (fold after_mark b (rejections e gone)).lines = subst L (sym (rejections-lines e gone b)) t.lines in
+    tied_live l c (phase.Closing who false) phases new (fold after_mark b (rejections e gone)) up refl some
+    (record { queued = q; lines = lined; done = λ d h. any-rejections d e gone b (t.done d h) })
+
+-- an opening ends
+pub tied_ended : (l : Link) (c : ℕ) (p : Phase) (e : Error) (phases : List (ℕ × Phase)) (ps new : List Publish) (b : Book) → is_some (at_channel c phases) ≡ true
+    → AreQueued (ended c e b).cells new → IsTied l phases ps b → IsTied l (with_channel c p phases) new (ended c e b)
+tied_ended l c p e phases ps new b some q t = record {
+  queued = q;
+  lines = lined-put c p phases b.lines (t.lines c some) t.lines;
+  done = done-put l c p phases (ended c e b).cells (λ gone. ended_here c e b) (λ d h. ended_none d c e b (t.done d h));
+}
+
+-- a channel whose opening has ended is closed
+pub tied_closed : (l : Link) (c : ℕ) (phases : List (ℕ × Phase)) (ps : List Publish) (b : Book) → is_live_on l (at_channel c phases) ≡ false → is_some (at_channel c phases) ≡ true → IsTied l phases ps b → IsTied l (with_channel c phase.Closed phases) ps b
+tied_closed l c phases ps b over some t = record {
+  queued = t.queued;
+  lines = lined-put c phase.Closed phases b.lines (t.lines c some) t.lines;
+  done = done-put l c phase.Closed phases b.cells (λ gone. t.done c over) t.done;
+}
+
+-- the connection is not open any more
+pub tied_down : (l m : Link) (e : Error) (phases : List (ℕ × Phase)) (ps : List Publish) (b : Book) → IsTied l phases ps b → IsTied m phases [] (fold after_mark b (cond (is_up l) (ends e phases) []))
+tied_down l m e phases ps b t =
+    elim (is_up l) as (λ u. is_up l ≡ u → IsTied m phases [] (fold after_mark b (cond u (ends e phases) []))) [
+      | true ↦ λ up.
+          let L : List (ℕ × Line) → Type 0 = λ ls. Lined phases ls in
+          record {
+            queued = tt;
+            lines = subst L (sym (ends-lines e phases b)) t.lines;
+            done = λ c h.
+                elim (is_live (phase_in (at_channel c phases))) as (λ v. is_live (phase_in (at_channel c phases)) ≡ v → list_any (is_open_on c) (fold after_mark b (ends e phases)).cells ≡ false) [
+                  | true ↦ λ live. ends_live c e phases b live
+                  | false ↦ λ over. ends_none c e phases b (t.done c (rw (up, over) refl))
+                ] refl;
+          }
+      | false ↦ λ down. record { queued = tt; lines = t.lines; done = λ c h. t.done c (rw down refl) }
+    ] refl
+
+-- once the connection is not open it may close further, and what waits may be dropped
+pub tied_further : (l m : Link) (phases : List (ℕ × Phase)) (ps : List Publish) (b : Book) → is_up l ≡ false → IsTied l phases ps b → IsTied m phases ps b
+tied_further l m phases ps b down t = record { queued = t.queued; lines = t.lines; done = λ c h. t.done c (rw down refl) }
+
+pub tied_dropped : (l : Link) (phases : List (ℕ × Phase)) (ps : List Publish) (b : Book) → IsTied l phases ps b → IsTied l phases [] b
+tied_dropped l phases ps b t = record { queued = tt; lines = t.lines; done = t.done }
+
+-- ---- publishes, settlements and polls
+
+-- a channel with a live opening is another than one without
+not_over : (l : Link) (c d : ℕ) (phases : List (ℕ × Phase)) → is_live_on l (at_channel c phases) ≡ true → is_live_on l (at_channel d phases) ≡ false → c ≢ d
+not_over l c d phases live over e = let P : ℕ → Type 0 = λ k. is_live_on l (at_channel k phases) ≡ false in let here : is_live_on l (at_channel c phases) ≡ false = subst P (sym e) over in cc
+
+pub tied_publish : (l : Link) (c : ℕ) (phases : List (ℕ × Phase)) (ps : List Publish) (b : Book) (p : Publish) → is_live_on l (at_channel c phases) ≡ true → p.confirm ≡ length b.cells + 1 → p.channel ≡ c → IsTied l phases ps b → IsTied l phases (ps ++ p ∷ []) (with_publish c b)
+tied_publish l c phases ps b p is at on t = record {
+  queued = queued-push c b.cells ps p at on t.queued;
+  lines = t.lines;
+  done = λ d h.
+      let ne : c ≢ d = not_over l c d phases is h in
+      let away : (c == d) ≡ false = ne_eqb c d ne in
+      any-push (is_open_on d) b.cells (Some (cell.Queued c)) ∙ rw (t.done d h, away) refl;
+}
+
+left_closed : (c d n : ℕ) (t : Option ℕ) (cells : List (Option Cell)) → under n cells ≡ Some (cell.Queued c) → list_any (is_open_on d) cells ≡ false → is_open_on d (Some (cell_with c t)) ≡ false
+left_closed c d n None cells is h = refl
+left_closed c d n (Some t) cells is h = let was : is_open_on d (under n cells) ≡ false = closed-under d n cells h in rw is at was
+
+tied_left : (l : Link) (phases : List (ℕ × Phase)) (p : Publish) (ps : List Publish) (b : Book) → IsTied l phases (p ∷ ps) b → IsTied l phases ps (left p.channel p.confirm b)
+tied_left l phases p ps b t = record {
+  queued = queued-written p.confirm _ b.cells ps t.queued.1 t.queued.2;
+  lines = λ d h. lines-left (tag_for (at_channel p.channel b.lines)) d (t.lines d h);
+  done = λ d h. any-under d p.confirm _ b.cells (t.done d h) (left_closed p.channel d p.confirm (tag_for (at_channel p.channel b.lines)) b.cells t.queued.0 (t.done d h));
+}
+  where
+    lines-left : (o : Option ℕ) (d : ℕ) → IsSome (at_channel d b.lines) → IsSome (at_channel d (lines_with p.channel o b.lines))
+    lines-left None d h = h
+    lines-left (Some x) d h = some_on p.channel d next_line b.lines h
+
+tied_select : (l : Link) (c : ℕ) (phases : List (ℕ × Phase)) (ps : List Publish) (b : Book) → IsTied l phases ps b → IsTied l phases ps (select_left c b)
+tied_select l c phases ps b t = record { queued = t.queued; lines = λ d h. some_on c d selected_line b.lines (t.lines d h); done = t.done }
+
+tied_method : (l : Link) (c : ℕ) (m : Method) (phases : List (ℕ × Phase)) (ps : List Publish) (b : Book) → IsTied l phases ps b → IsTied l phases ps (fold after_mark b (method_marks c m))
+tied_method l c (method.Connection m) phases ps b t = t
+tied_method l c (method.Channel m) phases ps b t = t
+tied_method l c (method.Access m) phases ps b t = t
+tied_method l c (method.Exchange m) phases ps b t = t
+tied_method l c (method.Queue m) phases ps b t = t
+tied_method l c (method.Basic m) phases ps b t = t
+tied_method l c (method.Confirm (confirm.Select nowait)) phases ps b t = tied_select l c phases ps b t
+tied_method l c (method.Confirm confirm.SelectOk) phases ps b t = t
+tied_method l c (method.Tx m) phases ps b t = t
+
+tied_next : (frame_max : ℕ) (flow : Bool) (rest : List RestEntry) (methods : List MethodEntry) (ps : List Publish) (l : Link) (phases : List (ℕ × Phase)) (b : Book) → IsTied l phases ps b → IsTied l phases (left_of frame_max flow rest methods ps).publishes (fold after_mark b (left_marks (handed_of flow rest methods ps)))
+tied_next frame_max flow (f ∷ fs) methods ps l phases b t = t
+tied_next frame_max flow [] (m ∷ ms) ps l phases b t = tied_method l m.channel m.method phases ps b t
+tied_next frame_max true [] [] [] l phases b t = t
+tied_next frame_max true [] [] (p ∷ ps) l phases b t =
+    let P : ℕ → Type 0 = λ n. IsTied l phases ps (left p.channel n b) in
+    let some = number-within p.confirm b.cells (cell.Queued p.channel) t.queued.0 in
+    subst P (sym (suc_place p.confirm some.0)) (tied_left l phases p ps b t)
+tied_next frame_max false [] [] ps l phases b t = t
+
+-- a close of this side that left changes no opening
+some-mapped : {X : Type 0} (f : X → X) (o : Option X) → is_some (option_map f o) ≡ is_some o
+some-mapped f None = refl
+some-mapped f (Some x) = refl
+
+live-mapped : (o : Option Phase) → is_live (phase_in (option_map close_sent o)) ≡ is_live (phase_in o)
+live-mapped None = refl
+live-mapped (Some phase.Closed) = refl
+live-mapped (Some phase.Opening) = refl
+live-mapped (Some (phase.Open paused)) = refl
+live-mapped (Some (phase.Closing who sent)) = refl
+live-mapped (Some phase.Crossed) = refl
+
+choose_same : {X : Type 0} (b : Bool) (x y : X) → x ≡ y → cond b x y ≡ y
+choose_same true x y e = e
+choose_same false x y e = refl
+
+tied_close_left : (l : Link) (c : ℕ) (phases : List (ℕ × Phase)) (ps : List Publish) (b : Book) → IsTied l phases ps b → IsTied l (on_channel c close_sent phases) ps b
+tied_close_left l c phases ps b t =
+    let some : (d : ℕ) → is_some (at_channel d (on_channel c close_sent phases)) ≡ is_some (at_channel d phases) = λ d.
+    rw (at-on c d close_sent phases) (elim (c == d) as (λ b. is_some (cond b (option_map close_sent (at_channel d phases)) (at_channel d phases)) ≡ is_some (at_channel d phases)) [ true ↦ some-mapped close_sent (at_channel d phases) | false ↦ refl ]) in
+    let live : (d : ℕ) → is_live (phase_in (at_channel d (on_channel c close_sent phases))) ≡ is_live (phase_in (at_channel d phases)) = λ d.
+    rw (at-on c d close_sent phases) (elim (c == d) as (λ b. is_live (phase_in (cond b (option_map close_sent (at_channel d phases)) (at_channel d phases))) ≡ is_live (phase_in (at_channel d phases))) [ true ↦ live-mapped (at_channel d phases) | false ↦ refl ]) in
+    record {
+      queued = t.queued;
+      lines = λ d h. t.lines d (sym (some d) ∙ h);
+      done = λ d h. t.done d (ap (λ x. is_up l && x) (sym (live d)) ∙ h);
+    }
+
+up_sent : (l : Link) → is_up (link_close_sent l) ≡ is_up l
+up_sent link.Open = refl
+up_sent (link.Closing sent heard) = refl
+up_sent link.Closed = refl
+up_sent link.Lost = refl
+
+tied_link_left : (l : Link) (phases : List (ℕ × Phase)) (ps : List Publish) (b : Book) → IsTied l phases ps b → IsTied (link_close_sent l) phases ps b
+tied_link_left l phases ps b t = record { queued = t.queued; lines = t.lines; done = λ c h. t.done c (ap (λ x. x && is_live (phase_in (at_channel c phases))) (sym (up_sent l)) ∙ h) }
+
+pub tied_sent : (f : Frame) (l : Link) (phases : List (ℕ × Phase)) (ps : List Publish) (b : Book) → IsTied l phases ps b → IsTied (link_sent f l) (phases_sent f phases) ps b
+tied_sent (frame.Method c (method.Connection (connection.Close code text class number))) l phases ps b t = tied_link_left l phases ps b t
+tied_sent (frame.Method c (method.Connection connection.CloseOk)) l phases ps b t = t
+tied_sent (frame.Method c (method.Channel (channel.Close code text class number))) l phases ps b t = tied_close_left l c phases ps b t
+tied_sent (frame.Method c (method.Channel channel.Open)) l phases ps b t = t
+tied_sent (frame.Method c (method.Channel channel.OpenOk)) l phases ps b t = t
+tied_sent (frame.Method c (method.Channel (channel.Flow active))) l phases ps b t = t
+tied_sent (frame.Method c (method.Channel (channel.FlowOk active))) l phases ps b t = t
+tied_sent (frame.Method c (method.Channel channel.CloseOk)) l phases ps b t = t
+tied_sent (frame.Method c (method.Access m)) l phases ps b t = t
+tied_sent (frame.Method c (method.Exchange m)) l phases ps b t = t
+tied_sent (frame.Method c (method.Queue m)) l phases ps b t = t
+tied_sent (frame.Method c (method.Basic m)) l phases ps b t = t
+tied_sent (frame.Method c (method.Confirm m)) l phases ps b t = t
+tied_sent (frame.Method c (method.Tx m)) l phases ps b t = t
+tied_sent (frame.Header c h) l phases ps b t = t
+tied_sent (frame.Body c bytes) l phases ps b t = t
+
+-- a frame leaves
+pub tied_handed : (frame_max : ℕ) (flow : Bool) (rest : List RestEntry) (methods : List MethodEntry) (ps : List Publish) (l : Link) (phases : List (ℕ × Phase)) (b : Book) (x : Left) → IsTied l phases ps b → IsTied (link_sent x.frame l) (phases_sent x.frame phases) (left_of frame_max flow rest methods ps).publishes (fold after_mark b (left_marks (handed_of flow rest methods ps)))
+tied_handed frame_max flow rest methods ps l phases b x t = tied_sent x.frame l phases _ _ (tied_next frame_max flow rest methods ps l phases b t)
+
+-- the publish that leaves is queued
+pub can_register : (flow : Bool) (rest : List RestEntry) (methods : List MethodEntry) (ps : List Publish) (cells : List (Option Cell)) (l : Left) → handed_of flow rest methods ps ≡ Some l → AreQueued cells ps → CanRegister l cells
+can_register flow rest methods ps cells l e q = let P : Option Left → Type 0 = λ o. registers o in subst P e (at flow rest methods ps q)
+  where
+    registers : Option Left → Type 0
+    registers None = Unit {0}
+    registers (Some l) = CanRegister l cells
+
+    at : (flow : Bool) (rest : List RestEntry) (methods : List MethodEntry) (ps : List Publish) → AreQueued cells ps → registers (handed_of flow rest methods ps)
+    at flow (f ∷ fs) methods ps q = tt
+    at flow [] (m ∷ ms) ps q = tt
+    at true [] [] [] q = tt
+    at true [] [] (p ∷ ps) q = q.0
+    at false [] [] ps q = tt
+
+pub tied_settled : (l : Link) (c : ℕ) (s : Settlement) (phases : List (ℕ × Phase)) (ps : List Publish) (b : Book) → IsTied l phases ps b → IsTied l phases ps (settled c s b)
+tied_settled l c s phases ps b t = record {
+  queued = queued-kept b.cells _ ps (λ n d is. under-map n (settled_cell c (covers s) (outcome_of s)) b.cells ∙ ap (option_map (settled_cell c (covers s) (outcome_of s))) is) t.queued;
+  lines = t.lines;
+  done = λ d h. any-mapped (is_open_on d) (option_map (settled_cell c (covers s) (outcome_of s))) b.cells (settled-closed d c (covers s) (outcome_of s)) (t.done d h);
+}
+
+pub tied_taken : (n : ℕ) (l : Link) (phases : List (ℕ × Phase)) (ps : List Publish) (b : Book) → is_resolved (under n b.cells) ≡ true → IsTied l phases ps b → IsTied l phases ps (taken n b)
+tied_taken n l phases ps b h t = record {
+  queued = queued-written n None b.cells ps (resolved_apart n b.cells ps h t.queued) t.queued;
+  lines = t.lines;
+  done = λ d over. any-under d n None b.cells (t.done d over) refl;
+}
+
+-- a poll gives the result only where it is there
+pub tied_poll : (n : ℕ) (l : Link) (phases : List (ℕ × Phase)) (ps : List Publish) (b : Book) → IsTied l phases ps b → IsTied l phases ps (cond (is_resolved (under n b.cells)) (taken n b) b)
+tied_poll n l phases ps b t =
+    elim (is_resolved (under n b.cells)) as (λ r. is_resolved (under n b.cells) ≡ r → IsTied l phases ps (cond r (taken n b) b))
+    [ true ↦ λ h. tied_taken n l phases ps b h t | false ↦ λ h. t ] refl
+
+-- the same values
+pub tied_by : (l k : Link) (s r : List (ℕ × Phase)) (p q : List Publish) (b d : Book) → l ≡ k → s ≡ r → p ≡ q → b ≡ d → IsTied k r q d → IsTied l s p b
+tied_by l k s r p q b d el es ep eb t =
+    let L : Link → Type 0 = λ x. IsTied x s p b in
+    let S : List (ℕ × Phase) → Type 0 = λ x. IsTied k x p b in
+    let P : List Publish → Type 0 = λ x. IsTied k r x b in
+    let B : Book → Type 0 = λ x. IsTied k r q x in
+    subst L (sym el) (subst S (sym es) (subst P (sym ep) (subst B (sym eb) t)))
+
+-- ---- a state tells of the phase
+
+-- the state of a channel, by the connection and by where the channel stands
+abbrev state_at : Link → ℕ → Option Phase → ChannelState
+state_at l c o = cond (is_up l) (cond (c == 0) state.Base (channel_state (phase_in o))) state.Down
+
+-- what a state says that only a channel above 0 of an open connection can have
+record Stood (l : Link) (o : Option Phase) (t : ChannelState → Bool) : Type 0 where
+  up : is_up l ≡ true
+  at : t (channel_state (phase_in o)) ≡ true
+
+stood : (l : Link) (c : ℕ) (o : Option Phase) (t : ChannelState → Bool) → t state.Base ≡ false → t state.Down ≡ false → t (state_at l c o) ≡ true → Stood l o t
+stood l c o t base down h =
+    elim (is_up l) as (λ u. is_up l ≡ u → t (cond u (cond (c == 0) state.Base (channel_state (phase_in o))) state.Down) ≡ true → Stood l o t) [
+      | true ↦ λ up h. elim (c == 0) as (λ z. t (cond z state.Base (channel_state (phase_in o))) ≡ true → Stood l o t) [ true ↦ λ h. cc | false ↦ λ h. record { up = up; at = h } ] h
+      | false ↦ λ up h. cc
+    ] refl h
+
+-- such a channel was opened
+some_at : (o : Option Phase) (t : ChannelState → Bool) → t state.Closed ≡ false → t (channel_state (phase_in o)) ≡ true → is_some o ≡ true
+some_at None t closed h = cc
+some_at (Some p) t closed h = refl
+
+live_at : (o : Option Phase) (t : ChannelState → Bool) → t state.Closed ≡ false → t state.Crossed ≡ false → t (channel_state (phase_in o)) ≡ true → is_live (phase_in o) ≡ true
+live_at None t closed crossed h = cc
+live_at (Some phase.Closed) t closed crossed h = cc
+live_at (Some phase.Opening) t closed crossed h = refl
+live_at (Some (phase.Open paused)) t closed crossed h = refl
+live_at (Some (phase.Closing who sent)) t closed crossed h = refl
+live_at (Some phase.Crossed) t closed crossed h = cc
+
+-- a channel in a state of a live opening
+pub record HasOpening (l : Link) (c : ℕ) (phases : List (ℕ × Phase)) : Type 0 where
+  pub up : is_up l ≡ true
+  pub some : is_some (at_channel c phases) ≡ true
+  pub live : is_live_on l (at_channel c phases) ≡ true
+
+has_opening : (l : Link) (c : ℕ) (phases : List (ℕ × Phase)) (t : ChannelState → Bool) → t state.Base ≡ false → t state.Down ≡ false → t state.Closed ≡ false → t state.Crossed ≡ false → t (state_at l c (at_channel c phases)) ≡ true → HasOpening l c phases
+has_opening l c phases t base down closed crossed h =
+    let s = stood l c (at_channel c phases) t base down h in
+    let live : is_live (phase_in (at_channel c phases)) ≡ true = live_at (at_channel c phases) t closed crossed s.at in
+    record { up = s.up; some = some_at (at_channel c phases) t closed s.at; live = rw s.up live }
+
+pub open_opening : (l : Link) (c : ℕ) (phases : List (ℕ × Phase)) → is_open (state_at l c (at_channel c phases)) ≡ true → HasOpening l c phases
+open_opening l c phases h = has_opening l c phases is_open refl refl refl refl h
+
+pub hears_opening : (l : Link) (c : ℕ) (phases : List (ℕ × Phase)) → hears_close (state_at l c (at_channel c phases)) ≡ true → HasOpening l c phases
+hears_opening l c phases h = has_opening l c phases hears_close refl refl refl refl h
+
+-- a reply is heard on a channel with a live opening
+pub reply_opening : (l : Link) (c : ℕ) (k : ReplyKind) (phases : List (ℕ × Phase)) → hears k (state_at l c (at_channel c phases)) ≡ true → HasOpening l c phases
+reply_opening l c k phases h = elim (opens k) as (λ o. cond o (is_opening (state_at l c (at_channel c phases))) (hears_on (state_at l c (at_channel c phases))) ≡ true → HasOpening l c phases) [
+  | true ↦ λ h. has_opening l c phases is_opening refl refl refl refl h
+  | false ↦ λ h. has_opening l c phases hears_on refl refl refl refl h
+] h
+
+pub tied_replied : (l : Link) (c : ℕ) (k : ReplyKind) (phases : List (ℕ × Phase)) (ps : List Publish) (b : Book) → HasOpening l c phases → IsTied l phases ps b → IsTied l (phases_with c k phases) ps b
+tied_replied l c k phases ps b h t = elim (opens k) as (λ o. IsTied l (cond o (with_channel c (phase.Open false) phases) phases) ps b) [
+  | true ↦ tied_live l c (phase.Open false) phases ps b h.up refl h.some t
+  | false ↦ t
+]
+
+-- a pause, or its end, leaves an open channel open
+pub tied_paused : (l : Link) (c : ℕ) (paused : Bool) (phases : List (ℕ × Phase)) (ps : List Publish) (b : Book) → HasOpening l c phases → IsTied l phases ps b → IsTied l (with_channel c (phase.Open paused) phases) ps b
+tied_paused l c paused phases ps b h t = tied_live l c (phase.Open paused) phases ps b h.up refl h.some t
+
+-- close-ok is heard on a channel that was opened
+pub close_ok_some : (l : Link) (c : ℕ) (phases : List (ℕ × Phase)) → hears_close_ok (state_at l c (at_channel c phases)) ≡ true → is_some (at_channel c phases) ≡ true
+close_ok_some l c phases h = let s = stood l c (at_channel c phases) hears_close_ok refl refl h in some_at (at_channel c phases) hears_close_ok refl s.at
+
+-- a closed channel has no live opening
+pub closed_over : (l : Link) (c : ℕ) (phases : List (ℕ × Phase)) → is_closed (state_at l c (at_channel c phases)) ≡ true → (is_up l ≡ true) × (is_live_on l (at_channel c phases) ≡ false)
+closed_over l c phases h =
+    let s = stood l c (at_channel c phases) is_closed refl refl h in
+    (s.up, rw s.up (over (at_channel c phases) s.at))
+  where
+    over : (o : Option Phase) → is_closed (channel_state (phase_in o)) ≡ true → is_live (phase_in o) ≡ false
+    over None h = refl
+    over (Some phase.Closed) h = refl
+    over (Some phase.Opening) h = cc
+    over (Some (phase.Open paused)) h = cc
+    over (Some (phase.Closing who sent)) h = cc
+    over (Some phase.Crossed) h = cc
+
+-- an open channel has a line
+pub open_line : (l : Link) (c : ℕ) (phases : List (ℕ × Phase)) (ps : List Publish) (b : Book) → is_open (state_at l c (at_channel c phases)) ≡ true → IsTied l phases ps b → IsSome (at_channel c b.lines)
+open_line l c phases ps b h t = t.lines c (open_opening l c phases h).some
+
+-- a channel whose opening a crossed close ended
+pub crossed_over : (l : Link) (c : ℕ) (phases : List (ℕ × Phase)) → close_ok_end (phase_in (at_channel c phases)) ≡ None → hears_close_ok (state_at l c (at_channel c phases)) ≡ true → is_live_on l (at_channel c phases) ≡ false
+crossed_over l c phases ended h = let s = stood l c (at_channel c phases) hears_close_ok refl refl h in rw s.up (over (at_channel c phases) ended s.at)
+  where
+    over : (o : Option Phase) → close_ok_end (phase_in o) ≡ None → hears_close_ok (channel_state (phase_in o)) ≡ true → is_live (phase_in o) ≡ false
+    over None e h = refl
+    over (Some phase.Closed) e h = refl
+    over (Some phase.Opening) e h = cc
+    over (Some (phase.Open paused)) e h = cc
+    over (Some (phase.Closing who sent)) e h = cc
+    over (Some phase.Crossed) e h = refl
+
+-- while this side closes the connection it is not open
+pub sent_down : (l : Link) → is_close_sent l ≡ true → is_up l ≡ false
+sent_down link.Open h = cc
+sent_down (link.Closing sent heard) h = refl
+sent_down link.Closed h = refl
+sent_down link.Lost h = refl
+
+pub tied_unless : (t : Bool) (x : Lists) (l : Link) (phases : List (ℕ × Phase)) (b : Book) → IsTied l phases x.publishes b → IsTied l phases (unless_sent t x).publishes b
+tied_unless true x l phases b t = t
+tied_unless false x l phases b t = tied_dropped l phases x.publishes b t
+
+-- what holds on Ok holds where the result is Ok
+pub ok_then : {T E : Type 0} (r : Result T E) (P : Type 0) → IsOk r → OnOk r P → P
+ok_then (Ok x) P h p = p
+ok_then (Err e) P h p = cc

@@ -1,0 +1,134 @@
+-- A session that stands for a history tells the records of that history.
+use Rattle.std.proofs.Common.{◌≡◌, ◌≢◌, ℕ, zero, suc, ◌+◌, ◌<◌, ◌≤◌, Bool, true, false, cond, List, [], ◌∷◌, ◌++◌, length, Option, Some, None, Result, Ok, Err, refl, sym, ◌∙◌, ap, subst, arith}
+use Rattle.std.specs.List.{fold}
+use Rattle.std.specs.Result.{IfOk, OnOk}
+use Rattle.lapin_types.specs.declared.event.Event.{Event}
+use Rattle.lapin_types.specs.declared.event.Event.TheVariants as event
+use Rattle.lapin_types.specs.declared.record.Record.{Record}
+use Rattle.lapin_types.specs.declared.record.Record.TheVariants as record_
+use Rattle.lapin_types.specs.Types.{Frame}
+use Rattle.lapin_history.specs.declared.marks.ConfirmMark.{ConfirmMark}
+use Rattle.lapin_history.specs.declared.broker_frames.Incoming.{Incoming}
+use Rattle.lapin_history.specs.declared.broker_frames.Incoming.TheVariants as incoming
+use Rattle.lapin_history.specs.TicketReadings.{TicketMark}
+use Rattle.lapin_history.specs.Heard.{heard, frame_class, frame_method}
+use Rattle.lapin_history.specs.Phases.{is_up}
+use Rattle.lapin_history.specs.Base.{Base, start, after_event, hears_down}
+use Rattle.lapin_history.specs.Marked.{confirm_marks, ticket_marks}
+use Rattle.lapin_history.specs.Answers.{Sight, record_of, refused, heard_up, heard_record}
+use Rattle.lapin_history.specs.History.{History, Past, longer, past_on, past, record_after, rec, run_from, run}
+use Rattle.lapin_history.specs.History as history
+use Rattle.lapin_confirm.specs.Book.{Book, empty_book}
+use Rattle.lapin_confirm.specs.Book as book
+use Rattle.lapin_confirm.specs.Follows as confirms
+use Rattle.lapin_ticket.specs.declared.Slot.{Slot}
+use Rattle.lapin_ticket.specs.Desk as desk
+use Rattle.lapin_ticket.specs.Follows as tickets
+use Rattle.lapin_machine.specs.World.{World, next, told_by, outputs, new_world, sight_of}
+use Rattle.lapin_machine.specs.Stands.{ConfirmsStand, TicketsStand, Stands}
+use Rattle.lapin_machine.proofs.Sights.{selected_shown, last_shown, pending_shown, confirm_shown, ticket_shown}
+use Rattle.lapin_machine.proofs.TicketStanding.{tickets-next}
+use Rattle.lapin_machine.proofs.ConfirmStanding.{confirms-next}
+
+-- ---- what is seen of the parts is what the marks show
+
+up_same : (b : Base) (ms : List ConfirmMark) (tms : List TicketMark) (bk : Book) (slots : List (Option Slot)) (f : Record) (i : Incoming) → confirms.Follows ms bk → heard_up b (sight_of bk slots) f i ≡ heard_up b (history.sight_of ms tms) f i
+up_same b ms tms bk slots f (incoming.Settlement c s) h = rw (selected_shown c ms bk h, last_shown c ms bk h, pending_shown c s.tag ms bk h) refl
+up_same b ms tms bk slots f (incoming.Reply c k a) h = refl
+up_same b ms tms bk slots f (incoming.ChannelClose c code) h = refl
+up_same b ms tms bk slots f (incoming.ChannelCloseOk c) h = refl
+up_same b ms tms bk slots f (incoming.ConnectionClose code) h = refl
+up_same b ms tms bk slots f incoming.ConnectionCloseOk h = refl
+up_same b ms tms bk slots f (incoming.Flow c active) h = refl
+up_same b ms tms bk slots f incoming.Other h = refl
+
+heard_same : (b : Base) (ms : List ConfirmMark) (tms : List TicketMark) (bk : Book) (slots : List (Option Slot)) (f : Record) (i : Incoming) → confirms.Follows ms bk → heard_record b (sight_of bk slots) f i ≡ heard_record b (history.sight_of ms tms) f i
+heard_same b ms tms bk slots f i h = ap (λ r. cond (is_up b.link) r (cond (hears_down b.link i) record_.Received record_.Passed)) (up_same b ms tms bk slots f i h)
+
+record_same : (b : Base) (ms : List ConfirmMark) (tms : List TicketMark) (bk : Book) (slots : List (Option Slot)) (e : Event) → confirms.Follows ms bk → tickets.Follows tms slots → record_of b (sight_of bk slots) e ≡ record_of b (history.sight_of ms tms) e
+record_same b ms tms bk slots (event.Call c k) h t = refl
+record_same b ms tms bk slots (event.Next flow) h t = refl
+record_same b ms tms bk slots (event.Receive f) h t = heard_same b ms tms bk slots (refused (frame_class f) (frame_method f)) (heard f) h
+record_same b ms tms bk slots (event.PollTicket n) h t = ticket_shown n tms slots t
+record_same b ms tms bk slots (event.PollConfirm n) h t = confirm_shown n ms bk h
+record_same b ms tms bk slots (event.State c) h t = refl
+record_same b ms tms bk slots event.Lost h t = refl
+
+-- ---- one event
+
+record Ready (p : Past) (w : World) : Type 0 where
+  base : w.base ≡ p.base
+  confirms : ConfirmsStand w.base p.confirms w.book
+  tickets : TicketsStand w.base p.tickets w.slots
+
+told_same : (p : Past) (w : World) (e : Event) → Ready p w → told_by w e ≡ record_after p e
+told_same p w e r =
+    record_same w.base p.confirms p.tickets w.book w.slots e r.confirms.book r.tickets.kept
+    ∙ ap (λ b. record_of b (history.sight_of p.confirms p.tickets) e) r.base
+
+ready-next : (p : Past) (w : World) (e : Event) → Ready p w → Ready (longer p e (told_by w e)) (next w e)
+ready-next p w e r =
+    let told : Record = told_by w e in
+    let same : told ≡ record_of w.base (history.sight_of p.confirms p.tickets) e = record_same w.base p.confirms p.tickets w.book w.slots e r.confirms.book r.tickets.kept in
+    let confirms_stand = confirms-next w.base p.confirms p.tickets w.book e told same r.confirms in
+    let tickets_stand = tickets-next w.base p.tickets w.slots e told r.tickets in
+    let D : Base → Type 0 = λ b. ConfirmsStand (after_event w.base e told) (p.confirms ++ confirm_marks b e told) (next w e).book in
+    let T : Base → Type 0 = λ b. TicketsStand (after_event w.base e told) (p.tickets ++ ticket_marks b e told) (next w e).slots in
+    record {
+      base = ap (λ b. after_event b e told) r.base;
+      confirms = subst D r.base confirms_stand;
+      tickets = subst T r.base tickets_stand;
+    }
+
+-- ---- whole runs
+
+abbrev told_from : Past → List Event → List Record
+told_from p [] = []
+told_from p (e ∷ es) = record_after p e ∷ told_from (longer p e (record_after p e)) es
+
+outputs_told : (p : Past) (w : World) (es : List Event) → Ready p w → outputs w es ≡ told_from p es
+outputs_told p w [] r = refl
+outputs_told p w (e ∷ es) r =
+    let same : told_by w e ≡ record_after p e = told_same p w e r in
+    let R : Record → Type 0 = λ x. Ready (longer p e x) (next w e) in
+    let rest : outputs (next w e) es ≡ told_from (longer p e (record_after p e)) es = outputs_told (longer p e (record_after p e)) (next w e) es (subst R same (ready-next p w e r)) in
+    cc
+
+past-push : (p : Past) (h : History) (e : Event) (r : Record) → past_on p (h ++ (e, r) ∷ []) ≡ longer (past_on p h) e r
+past-push p [] e r = refl
+past-push p (x ∷ h) e r = past-push (longer p x.0 x.1) h e r
+
+run_told : (n : ℕ) (h : History) (es : List Event) → run_from n h es ≡ told_from (past n h) es
+run_told n h [] = refl
+run_told n h (e ∷ es) = ap (λ rs. rec n h e ∷ rs) (run_told n (h ++ (e, rec n h e) ∷ []) es ∙ ap (λ p. told_from p es) (past-push _ h e (rec n h e)))
+
+new_ready : (n : ℕ) → Ready (past n []) (new_world n)
+new_ready n = record {
+  base = refl;
+  confirms = record {
+    book = record { lines = λ c. refl; count = refl; cells = λ k lt. absurd (omega arith); fresh = λ k le. (refl, refl); given = λ k lt h. absurd (omega arith) };
+    published = refl;
+    queue = tt;
+  };
+  tickets = record { kept = record { count = refl; slot = λ k lt. absurd (omega arith) }; given = refl };
+}
+
+-- a new session tells what the history determines
+pub outputs_run : (n : ℕ) (es : List Event) → outputs (new_world n) es ≡ run n es
+outputs_run n es = outputs_told (past n []) (new_world n) es (new_ready n) ∙ sym (run_told n [] es)
+
+-- a session that stands for a history tells its record, and then stands for the longer history
+pub stands-next : (n : ℕ) (h : History) (w v : World) (e : Event) (r : Record) → Stands n h w → r ≡ told_by w e → v ≡ next w e → (r ≡ rec n h e) × Stands n (h ++ (e, r) ∷ []) v
+stands-next n h w v e r stands told_is next_is =
+    let p : Past = past n h in
+    let ready : Ready p w = record { base = stands.base; confirms = stands.confirms; tickets = stands.tickets } in
+    let long : past n (h ++ (e, r) ∷ []) ≡ longer p e r = past-push _ h e r in
+    let R : Record → Type 0 = λ x. Ready (longer p e x) (next w e) in
+    let V : World → Type 0 = λ x. Ready (longer p e r) x in
+    let P : Past → Type 0 = λ x. Ready x v in
+    let after : Ready (past n (h ++ (e, r) ∷ [])) v = subst P (sym long) (subst V (sym next_is) (subst R (sym told_is) (ready-next p w e ready))) in
+    (told_is ∙ told_same p w e ready, record { base = after.base; confirms = after.confirms; tickets = after.tickets })
+
+pub stands_result : {E : Type 0} (res : Result Record E) (w v : World) (e : Event) → IfOk res (λ r. r ≡ told_by w e) → OnOk res (v ≡ next w e) → IfOk res (λ r. (n : ℕ) (h : History) → Stands n h w → (r ≡ rec n h e) × Stands n (h ++ (e, r) ∷ []) v)
+stands_result (Ok r) w v e told_is next_is = λ n h stands. stands-next n h w v e r stands told_is next_is
+stands_result (Err x) w v e told_is next_is = tt

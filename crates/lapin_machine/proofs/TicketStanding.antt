@@ -1,0 +1,185 @@
+-- Tickets stand for the longer history after each event.
+use Rattle.std.proofs.Common.{◌≡◌, ℕ, ◌+◌, Bool, true, false, cond, List, [], ◌∷◌, ◌++◌, Option, Some, None, Result, Err, refl, sym, ◌∙◌, ap, subst, arith, append_assoc, append-nil}
+use Rattle.std.specs.List.{fold}
+use Rattle.lapin_types.specs.declared.answer.Answer.{Answer}
+use Rattle.lapin_history.specs.declared.calls.Row.{Row}
+use Rattle.lapin_history.specs.declared.calls.Asked.{Asked}
+use Rattle.lapin_history.specs.declared.calls.Asked.TheVariants as ask
+use Rattle.lapin_history.specs.Calls.{asked}
+use Rattle.lapin_types.specs.declared.event.Event.{Event}
+use Rattle.lapin_types.specs.declared.event.Event.TheVariants as event
+use Rattle.lapin_types.specs.declared.leaving.Left.{Left}
+use Rattle.lapin_types.specs.declared.record.Record.{Record}
+use Rattle.lapin_types.specs.declared.record.Record.TheVariants as record_
+use Rattle.lapin_types.specs.Types.{Error}
+use Rattle.lapin_types.specs.Types.error
+use Rattle.lapin_history.specs.declared.broker_frames.Incoming.{Incoming}
+use Rattle.lapin_history.specs.declared.broker_frames.Incoming.TheVariants as incoming
+use Rattle.lapin_history.specs.declared.phases.Link.{Link}
+use Rattle.lapin_history.specs.declared.phases.Link.TheVariants as link
+use Rattle.lapin_history.specs.Phases.{is_lost, has_sent_close}
+use Rattle.lapin_history.specs.declared.phases.Closer.TheVariants as closer
+use Rattle.lapin_history.specs.Closes.{failed_at_close, close_ok_end}
+use Rattle.lapin_history.specs.Drops.{publish_tickets_of}
+use Rattle.lapin_history.specs.TicketReadings.{TicketMark, Given, Answered, AllFailed, Collected, gives, given}
+use Rattle.lapin_history.specs.Heard.{heard}
+use Rattle.lapin_history.specs.Base.{Base, state_of, phase_of, is_allowed, is_open, after_event, after_call, after_heard, handed}
+use Rattle.lapin_history.specs.Marked.{ticket_marks, made_answer, made_marks, call_failures, call_tickets, last_answer, leaving_answer, resolved_by, left_tickets, resolved_with, failures, end_tickets, end_failures, connection_close_tickets, received_tickets, failed_tickets, refused_tickets, heard_tickets, is_answer}
+use Rattle.lapin_history.proofs.TicketLaws.{given-push}
+use Rattle.lapin_ticket.specs.declared.Slot.{Slot}
+use Rattle.lapin_ticket.specs.Desk.{after_mark}
+use Rattle.lapin_ticket.specs.Follows.{Follows}
+use Rattle.lapin_ticket.proofs.Following.{follows-push}
+use Rattle.lapin_machine.specs.Stands.{TicketsStand}
+use Rattle.lapin_machine.proofs.Counting.{heard_counts, next_counts}
+
+-- tickets follow, whatever marks come
+follows_fold : (ms new : List TicketMark) (slots : List (Option Slot)) → Follows ms slots → Follows (ms ++ new) (fold after_mark slots new)
+follows_fold ms [] slots f = let P : List TicketMark → Type 0 = λ xs. Follows xs slots in subst P (sym (append-nil ms)) f
+follows_fold ms (m ∷ new) slots f =
+    let P : List TicketMark → Type 0 = λ xs. Follows xs (fold after_mark (after_mark slots m) new) in
+    subst P (append_assoc ms (m ∷ []) new) (follows_fold (ms ++ m ∷ []) new (after_mark slots m) (follows-push ms slots m f))
+
+-- marks that give no ticket
+abbrev gives_none : List TicketMark → Type 0
+gives_none [] = Unit {0}
+gives_none (m ∷ ms) = (gives m ≡ false) × gives_none ms
+
+given-none : (ms new : List TicketMark) → gives_none new → given (ms ++ new) ≡ given ms
+given-none ms [] h = ap given (append-nil ms)
+given-none ms (m ∷ new) h = ap given (sym (append_assoc ms (m ∷ []) new)) ∙ given-none (ms ++ m ∷ []) new h.1 ∙ given-push ms m ∙ rw h.0 refl
+
+join_none : (xs ys : List TicketMark) → gives_none xs → gives_none ys → gives_none (xs ++ ys)
+join_none [] ys h k = k
+join_none (x ∷ xs) ys h k = (h.0, join_none xs ys h.1 k)
+
+resolved_none : (a : Result Answer Error) (t : Option ℕ) → gives_none (resolved_with a t)
+resolved_none a None = tt
+resolved_none a (Some n) = (refl, tt)
+
+failures_none : (e : Error) (ts : List (Option ℕ)) → gives_none (failures e ts)
+failures_none e [] = tt
+failures_none e (t ∷ ts) = join_none (resolved_with (Err e) t) (failures e ts) (resolved_none (Err e) t) (failures_none e ts)
+
+made_none : (n : ℕ) (a : Option Answer) → gives_none (made_marks n a)
+made_none n None = tt
+made_none n (Some a) = (refl, tt)
+
+last_none : (o : Option (ℕ × Answer)) → gives_none (resolved_by o)
+last_none None = tt
+last_none (Some x) = (refl, tt)
+
+left_none : (o : Option Left) → gives_none (left_tickets o)
+left_none None = tt
+left_none (Some l) = last_none (last_answer l.last l.ticket (leaving_answer l.frame l.publish))
+
+choose_none : (t : Bool) (xs ys : List TicketMark) → gives_none xs → gives_none ys → gives_none (cond t xs ys)
+choose_none true xs ys h k = h
+choose_none false xs ys h k = k
+
+call_none : (c : ℕ) (k : Asked) (b : Base) → gives_none (call_failures c k b)
+call_none c ask.Open b = tt
+call_none c (ask.CloseChannel code text) b = failures_none (failed_at_close closer.Application) (publish_tickets_of c b.publishes)
+call_none c (ask.CloseConnection code text) b = (refl, tt)
+call_none c (ask.Method row) b = tt
+call_none c (ask.Publish exchange key o payload properties) b = tt
+
+end_none : (c : ℕ) (e : Option Error) (b : Base) → gives_none (end_failures c e b)
+end_none c None b = tt
+end_none c (Some e) b = failures_none e (end_tickets c b)
+
+connection_close_none : (l : Link) (code : ℕ) → gives_none (connection_close_tickets l code)
+connection_close_none link.Open code = (refl, tt)
+connection_close_none (link.Closing true heard) code = tt
+connection_close_none (link.Closing false heard) code = (refl, tt)
+connection_close_none link.Closed code = (refl, tt)
+connection_close_none link.Lost code = (refl, tt)
+
+received_none : (i : Incoming) (b : Base) → gives_none (received_tickets i b)
+received_none (incoming.Reply c k a) b = resolved_none _ _
+received_none (incoming.Settlement c s) b = tt
+received_none (incoming.ChannelClose c code) b = join_none (failures (error.ProtocolError code) (end_tickets c b)) _ (failures_none (error.ProtocolError code) (end_tickets c b)) (choose_none (has_sent_close (phase_of c b)) [] _ tt (resolved_none _ _))
+received_none (incoming.ChannelCloseOk c) b = join_none _ (end_failures c (close_ok_end (phase_of c b)) b) (resolved_none _ _) (end_none c (close_ok_end (phase_of c b)) b)
+received_none (incoming.ConnectionClose code) b = connection_close_none b.link code
+received_none incoming.ConnectionCloseOk b = resolved_none _ _
+received_none (incoming.Flow c active) b = tt
+received_none incoming.Other b = tt
+
+failed_none : (i : Incoming) (b : Base) → gives_none (failed_tickets i b)
+failed_none (incoming.Settlement c s) b = choose_none (is_open (state_of c b)) _ [] (failures_none (failed_at_close closer.Session) (publish_tickets_of c b.publishes)) tt
+failed_none (incoming.Reply c k a) b = tt
+failed_none (incoming.ChannelClose c code) b = tt
+failed_none (incoming.ChannelCloseOk c) b = tt
+failed_none (incoming.ConnectionClose code) b = tt
+failed_none incoming.ConnectionCloseOk b = tt
+failed_none (incoming.Flow c active) b = tt
+failed_none incoming.Other b = tt
+
+refused_none : (i : Incoming) (e : Error) (b : Base) → gives_none (refused_tickets i e b)
+refused_none i (error.UnexpectedFrame class number) b = (refl, tt)
+refused_none i (error.PreconditionFailed tag current) b = failed_none i b
+refused_none i error.NoMemory b = tt
+refused_none i error.NumbersUsedUp b = tt
+refused_none i (error.InvalidChannelState x) b = tt
+refused_none i (error.ProtocolError code) b = tt
+refused_none i error.ConnectionLost b = tt
+refused_none i error.AlreadyTaken b = tt
+refused_none i error.UnknownTicket b = tt
+
+heard_none : (i : Incoming) (r : Record) (b : Base) → gives_none (heard_tickets i r b)
+heard_none i (record_.Refused e) b = refused_none i e b
+heard_none i record_.Received b = received_none i b
+heard_none i (record_.Ticket n) b = tt
+heard_none i (record_.Publish t n) b = tt
+heard_none i (record_.Frame f) b = tt
+heard_none i record_.NoFrame b = tt
+heard_none i record_.Passed b = tt
+heard_none i record_.Pending b = tt
+heard_none i (record_.Answer a) b = tt
+heard_none i (record_.Confirmed o) b = tt
+heard_none i (record_.State x y) b = tt
+heard_none i record_.Lost b = tt
+
+-- an event that gives no ticket
+stand_quiet : (b d : Base) (ms new : List TicketMark) (slots : List (Option Slot)) → TicketsStand b ms slots → gives_none new → d.tickets ≡ b.tickets → TicketsStand d (ms ++ new) (fold after_mark slots new)
+stand_quiet b d ms new slots s h e = record { kept = follows_fold ms new slots s.kept; given = e ∙ s.given ∙ sym (given-none ms new h) }
+
+call_tickets_more : (c : ℕ) (k : Asked) (b : Base) → (after_call c k b).tickets ≡ b.tickets + 1
+call_tickets_more c ask.Open b = refl
+call_tickets_more c (ask.CloseChannel code text) b = refl
+call_tickets_more c (ask.CloseConnection code text) b = refl
+call_tickets_more c (ask.Method row) b = refl
+call_tickets_more c (ask.Publish exchange key o payload properties) b = refl
+
+-- marks that give one ticket
+given-one : (ms before made : List TicketMark) → gives_none before → gives_none made → given (ms ++ (before ++ (Given ∷ made))) ≡ given ms + 1
+given-one ms before made h k =
+    ap given (sym (append_assoc ms before (Given ∷ made)))
+    ∙ ap given (sym (append_assoc (ms ++ before) (Given ∷ []) made))
+    ∙ given-none ((ms ++ before) ++ Given ∷ []) made k
+    ∙ given-push (ms ++ before) Given
+    ∙ ap (λ n. n + 1) (given-none ms before h)
+
+stand_call : (c : ℕ) (k : Asked) (b : Base) (ms : List TicketMark) (slots : List (Option Slot)) → TicketsStand b ms slots → TicketsStand (after_call c k b) (ms ++ call_tickets c k b) (fold after_mark slots (call_tickets c k b))
+stand_call c k b ms slots s =
+    let all : given (ms ++ call_tickets c k b) ≡ given ms + 1 = given-one ms (call_failures c k b) (made_marks (b.tickets + 1) (made_answer k)) (call_none c k b) (made_none (b.tickets + 1) (made_answer k)) in
+    record { kept = follows_fold ms (call_tickets c k b) slots s.kept; given = call_tickets_more c k b ∙ ap (λ n. n + 1) s.given ∙ sym all }
+
+choose_call : (t : Bool) (x b : Base) (ms new : List TicketMark) (slots : List (Option Slot)) → TicketsStand x (ms ++ new) (fold after_mark slots new) → TicketsStand b ms slots → TicketsStand (cond t x b) (ms ++ cond t new []) (fold after_mark slots (cond t new []))
+choose_call true x b ms new slots h s = h
+choose_call false x b ms new slots h s = stand_quiet b b ms [] slots s tt refl
+
+stand_lost : (l : Link) (b d : Base) (ms : List TicketMark) (slots : List (Option Slot)) (e : Error) → d.tickets ≡ b.tickets → TicketsStand b ms slots → TicketsStand (cond (is_lost l) b d) (ms ++ cond (is_lost l) [] (AllFailed e ∷ [])) (fold after_mark slots (cond (is_lost l) [] (AllFailed e ∷ [])))
+stand_lost link.Open b d ms slots e same s = stand_quiet b d ms (AllFailed e ∷ []) slots s (refl, tt) same
+stand_lost (link.Closing sent heard) b d ms slots e same s = stand_quiet b d ms (AllFailed e ∷ []) slots s (refl, tt) same
+stand_lost link.Closed b d ms slots e same s = stand_quiet b d ms (AllFailed e ∷ []) slots s (refl, tt) same
+stand_lost link.Lost b d ms slots e same s = stand_quiet b b ms [] slots s tt refl
+
+pub tickets-next : (b : Base) (ms : List TicketMark) (slots : List (Option Slot)) (e : Event) (r : Record) → TicketsStand b ms slots → TicketsStand (after_event b e r) (ms ++ ticket_marks b e r) (fold after_mark slots (ticket_marks b e r))
+tickets-next b ms slots (event.Call c k) r s = choose_call (is_allowed (asked k) (state_of c b)) (after_call c (asked k) b) b ms (call_tickets c (asked k) b) slots (stand_call c (asked k) b ms slots s) s
+tickets-next b ms slots (event.Next flow) r s = stand_quiet b (after_event b (event.Next flow) r) ms (left_tickets (handed flow b)) slots s (left_none (handed flow b)) (next_counts flow b).0
+tickets-next b ms slots (event.Receive f) r s = stand_quiet b (after_heard (heard f) r b) ms (heard_tickets (heard f) r b) slots s (heard_none (heard f) r b) (heard_counts (heard f) r b).0
+tickets-next b ms slots (event.PollTicket n) r s = stand_quiet b b ms (cond (is_answer r) (Collected n ∷ []) []) slots s (choose_none (is_answer r) (Collected n ∷ []) [] (refl, tt) tt) refl
+tickets-next b ms slots (event.PollConfirm n) r s = stand_quiet b b ms [] slots s tt refl
+tickets-next b ms slots (event.State c) r s = stand_quiet b b ms [] slots s tt refl
+tickets-next b ms slots event.Lost r s = stand_lost b.link b _ ms slots error.ConnectionLost refl s

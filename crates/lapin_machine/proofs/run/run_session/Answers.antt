@@ -1,0 +1,35 @@
+use Rattle.std.proofs.Common.{◌≡◌, ◌∙◌, ap, sym, subst, refl, List, [], ◌++◌, append-nil}
+use Rattle.std.specs.Result.{OnOk, OnErr}
+use Rattle.std.specs.Prelude.{Result, Ok, Err}
+use Rattle.lapin_types.specs.declared.record.Record.{Record}
+use Rattle.lapin_machine.specs.World.{World, outputs, IsStarted}
+use Rattle.lapin_machine.proofs.Standing.{outputs_run}
+use Rattle.lapin_machine.proofs.run.run_session.Goals as goal
+
+-- nothing was appended
+not_started : (old new records : List Record) → new ≡ old → IsStarted old new records
+not_started old new records e = (records, record { done = []; all = refl; new_is = e ∙ sym (append-nil old) })
+
+on_err : {T E : Type 0} (r : Result T E) (P : Type 0) → P → OnErr r P
+on_err (Ok x) P p = tt
+on_err (Err e) P p = p
+
+pub returns-in_err-reserve_exact-clause-err : goal.returns-in_err-reserve_exact-clause-err
+returns-in_err-reserve_exact-clause-err c = on_err c.from_residual.result _ (not_started _ _ _ c.reserve_exact.ensures.items)
+
+pub returns-in_err-session-clause-err : goal.returns-in_err-session-clause-err
+returns-in_err-session-clause-err c = on_err c.from_residual-in_err-session.result _ (not_started _ _ _ c.reserve_exact.ensures.items)
+
+pub returns-clause-ok : goal.returns-clause-ok
+returns-clause-ok c =
+    let T : List Record → Type 0 = λ old. OnOk c.run_events.result (c.run_events.new.trace.items ≡ old ++ outputs c.in_ok-session.session c.args.events.items) in
+    let P : World → Type 0 = λ w. OnOk c.run_events.result (c.run_events.new.trace.items ≡ c.args.trace.now.items ++ outputs w c.args.events.items) in
+    let Q : List Record → Type 0 = λ rs. OnOk c.run_events.result (c.run_events.new.trace.items ≡ c.args.trace.now.items ++ rs) in
+    subst Q (outputs_run c.args.frame_max c.args.events.items) (subst P c.in_ok-session.ensures (subst T c.reserve_exact.ensures.items c.run_events.ensures.ok))
+
+pub returns-clause-err : goal.returns-clause-err
+returns-clause-err c =
+    let T : List Record → Type 0 = λ old. OnErr c.run_events.result (IsStarted old c.run_events.new.trace.items (outputs c.in_ok-session.session c.args.events.items)) in
+    let P : World → Type 0 = λ w. OnErr c.run_events.result (IsStarted c.args.trace.now.items c.run_events.new.trace.items (outputs w c.args.events.items)) in
+    let Q : List Record → Type 0 = λ rs. OnErr c.run_events.result (IsStarted c.args.trace.now.items c.run_events.new.trace.items rs) in
+    subst Q (outputs_run c.args.frame_max c.args.events.items) (subst P c.in_ok-session.ensures (subst T c.reserve_exact.ensures.items c.run_events.ensures.err))

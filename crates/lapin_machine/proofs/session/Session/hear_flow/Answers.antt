@@ -1,0 +1,14 @@
+use Rattle.std.proofs.Common.{◌≡◌, ◌∙◌, refl, sym, ap, not}
+use Rattle.lapin_history.specs.Leaving.{Lists}
+use Rattle.lapin_history.specs.Base.{is_open, state_of}
+use Rattle.lapin_machine.specs.World.{World}
+use Rattle.lapin_machine.proofs.Keeping.{tied_paused, tied_by, open_opening}
+use Rattle.lapin_machine.proofs.session.Session.hear_flow.Goals as goal
+
+pub invariant_of-self-2 : goal.invariant_of-self-2
+invariant_of-self-2 c =
+    let open_ = ap (λ (w : World). is_open (state_of c.args.channel w.base)) c.self.view_is ∙ sym (ap is_open c.channel_state.ensures) ∙ sym c.is_open.ensures ∙ c.if-not-is_open.false in
+    let here = open_opening c.self.inside.link c.args.channel c.self.inside.phases.entries open_ in
+    tied_by _ _ _ _ _ _ _ _ refl c.set_phase.ensures
+    (ap (λ (l : Lists). l.publishes) (c.note.ensures.lists) ∙ ap (λ (l : Lists). l.publishes) c.reserve.ensures.same) refl
+    (tied_paused c.self.inside.link c.args.channel (not c.args.active) c.self.inside.phases.entries _ _ here c.self.invariant)

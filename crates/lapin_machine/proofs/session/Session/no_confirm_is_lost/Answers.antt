@@ -1,0 +1,12 @@
+use Rattle.std.proofs.Common.{◌≡◌, ℕ, false, subst}
+use Rattle.std.specs.List.{list_any}
+use Rattle.lapin_tables.specs.ByChannel.{at_channel}
+use Rattle.lapin_confirm.specs.Book.{is_open_on}
+use Rattle.lapin_machine.specs.Tied.{is_live_on}
+use Rattle.lapin_machine.specs.World.{World}
+use Rattle.lapin_machine.proofs.session.Session.no_confirm_is_lost.Goals as goal
+
+pub returns : goal.returns
+returns c =
+    let P : World → Type 0 = λ w. (d : ℕ) → is_live_on w.base.link (at_channel d w.base.phases) ≡ false → list_any (is_open_on d) w.book.cells ≡ false in
+    subst P c.self.view_is c.self.invariant.done

@@ -1,0 +1,67 @@
+-- The counters: tickets and confirms are numbered by u64 from 1.
+use Rattle.std.specs.Prelude.{◌≡◌, ℕ, ◌+◌, ◌<◌, ◌^◌, ◌⊎◌, true, false, Result, Ok, Err}
+use Rattle.lapin_types.specs.declared.call.Call.{Call}
+use Rattle.lapin_history.specs.declared.calls.Asked.{Asked}
+use Rattle.lapin_history.specs.declared.calls.Asked.TheVariants as ask
+use Rattle.lapin_history.specs.Calls.{asked}
+use Rattle.lapin_types.specs.declared.event.Event.{Event}
+use Rattle.lapin_types.specs.declared.event.Event.TheVariants as event
+use Rattle.lapin_types.specs.Types.{Error}
+use Rattle.lapin_types.specs.Types.error
+use Rattle.lapin_history.specs.Base.{Base, state_of, is_allowed}
+use Rattle.lapin_machine.specs.World.{World}
+
+-- each counter has n further numbers
+pub record HasNumbersFor (n : ℕ) (w : World) : Type 0 where
+  pub tickets : w.base.tickets + n < 2 ^ 64
+  pub confirms : w.base.published + n < 2 ^ 64
+
+-- the next ticket would pass the greatest u64
+abbrev pub NoTicket : Base → Type 0
+NoTicket b = b.tickets + 1 ≡ 2 ^ 64
+
+abbrev pub NoConfirm : Base → Type 0
+NoConfirm b = b.published + 1 ≡ 2 ^ 64
+
+-- a number that the call needs would pass the greatest u64
+abbrev pub LacksNumber : Asked → Base → Type 0
+LacksNumber (ask.Publish exchange key o payload properties) b = NoTicket b ⊎ NoConfirm b
+LacksNumber _ b = NoTicket b
+
+-- numbers are used up exactly where an allowed call lacks one
+abbrev pub UsedUp : ℕ → Asked → Base → Type 0
+UsedUp c k b = (is_allowed k (state_of c b) ≡ true) × LacksNumber k b
+
+abbrev pub EventUsedUp : Event → Base → Type 0
+EventUsedUp (event.Call c k) b = UsedUp c (asked k) b
+EventUsedUp _ b = ⊥
+
+-- an error of a call: want of memory is free, numbers are used up only where the call lacks one, and it is refused by its state
+-- only where it isn't allowed
+abbrev pub AskCause : {T : Type 0} → Result T Error → ℕ → Asked → Base → Type 0
+AskCause (Ok x) c k b = Unit {0}
+AskCause (Err error.NoMemory) c k b = Unit {0}
+AskCause (Err error.NumbersUsedUp) c k b = UsedUp c k b
+AskCause (Err (error.InvalidChannelState s)) c k b = (is_allowed k (state_of c b) ≡ false) × (s ≡ state_of c b)
+AskCause (Err _) c k b = ⊥
+
+abbrev pub CallCause : {T : Type 0} → Result T Error → ℕ → Call → Base → Type 0
+CallCause r c k b = AskCause r c (asked k) b
+
+-- want of memory is the only error
+abbrev pub OnlyMemory : {T : Type 0} → Result T Error → Type 0
+OnlyMemory (Ok x) = Unit {0}
+OnlyMemory (Err error.NoMemory) = Unit {0}
+OnlyMemory (Err _) = ⊥
+
+-- numbers are not used up
+abbrev pub HasNumbers : {T : Type 0} → Result T Error → Type 0
+HasNumbers (Err error.NumbersUsedUp) = ⊥
+HasNumbers _ = Unit {0}
+
+-- an error of a step: want of memory is free, and numbers are used up only where a call lacks one
+abbrev pub HasCause : {T : Type 0} → Result T Error → Event → Base → Type 0
+HasCause (Ok x) e b = Unit {0}
+HasCause (Err error.NoMemory) e b = Unit {0}
+HasCause (Err error.NumbersUsedUp) e b = EventUsedUp e b
+HasCause (Err _) e b = ⊥

@@ -1,0 +1,40 @@
+-- When a session's value is what a history says.
+use Rattle.std.specs.Prelude.{◌≡◌, ◌≢◌, ℕ, List, [], ◌∷◌, Option}
+use Rattle.std.specs.List.{AllByRecursion}
+use Rattle.lapin_types.specs.declared.leaving.Publish.{Publish}
+use Rattle.lapin_history.specs.declared.marks.ConfirmMark.{ConfirmMark}
+use Rattle.lapin_history.specs.declared.marks.ConfirmMark.TheVariants as mark
+use Rattle.lapin_history.specs.ConfirmReadings.{added}
+use Rattle.lapin_history.specs.TicketReadings.{TicketMark, given}
+use Rattle.lapin_history.specs.Base.{Base}
+use Rattle.lapin_history.specs.Marked.{place_of}
+use Rattle.lapin_history.specs.History.{History, past}
+use Rattle.lapin_confirm.specs.Book.{Book}
+use Rattle.lapin_confirm.specs.Follows.{MayCome}
+use Rattle.lapin_confirm.specs.Follows as confirms
+use Rattle.lapin_ticket.specs.declared.Slot.{Slot}
+use Rattle.lapin_ticket.specs.Follows as tickets
+use Rattle.lapin_machine.specs.World.{World}
+
+-- the publishes that wait have not left, and are different ones
+abbrev pub AreFresh : List ConfirmMark → List Publish → Type 0
+AreFresh ms [] = Unit {0}
+AreFresh ms (p ∷ ps) = MayCome ms (mark.Left p.channel (place_of p.confirm)) × AllByRecursion (λ q. place_of p.confirm ≢ place_of q.confirm) ps × AreFresh ms ps
+
+-- the confirms are what the marks say
+pub record ConfirmsStand (b : Base) (ms : List ConfirmMark) (bk : Book) : Type 0 where
+  pub book : confirms.Follows ms bk
+  pub published : b.published ≡ added ms
+  pub queue : AreFresh ms b.publishes
+
+-- the tickets are what the marks say
+pub record TicketsStand (b : Base) (ms : List TicketMark) (slots : List (Option Slot)) : Type 0 where
+  pub kept : tickets.Follows ms slots
+  pub given : b.tickets ≡ given ms
+
+-- The session stands for the history: it has its states, lists, requests and counters; its tags, outcomes and answers are those
+-- that the history's marks say.
+pub record Stands (frame_max : ℕ) (h : History) (w : World) : Type 0 where
+  pub base : w.base ≡ (past frame_max h).base
+  pub confirms : ConfirmsStand w.base (past frame_max h).confirms w.book
+  pub tickets : TicketsStand w.base (past frame_max h).tickets w.slots

@@ -1,0 +1,71 @@
+-- The answers of the public calls, as the records of their events.
+use Rattle.std.specs.Prelude.{◌≡◌, Bool, true, false, Option, Some, None, Result, Ok, Err}
+use Rattle.lapin_types.specs.declared.answer.Answer.{Answer}
+use Rattle.lapin_types.specs.declared.confirmation.Confirmation.{Confirmation}
+use Rattle.lapin_types.specs.declared.leaving.Left.{Left}
+use Rattle.lapin_types.specs.declared.poll.Poll.{Poll}
+use Rattle.lapin_types.specs.declared.poll.Poll.TheVariants as poll
+use Rattle.lapin_types.specs.declared.record.Record.{Record}
+use Rattle.lapin_types.specs.declared.record.Record.TheVariants as record_
+use Rattle.lapin_types.specs.Types.{Error}
+use Rattle.lapin_types.specs.Types.error
+use Rattle.lapin_machine.specs.declared.channel.Ticket.{Ticket}
+use Rattle.lapin_machine.specs.declared.channel.Published.{Published}
+use Rattle.lapin_machine.specs.declared.channel.Heard.{Heard}
+use Rattle.lapin_machine.specs.declared.channel.Heard.TheVariants as heard
+
+-- a call that is refused changes nothing; want of memory and of numbers have no record
+abbrev pub IsRefusal : Error → Record → Type 0
+IsRefusal error.NoMemory r = Unit {0}
+IsRefusal error.NumbersUsedUp r = Unit {0}
+IsRefusal e r = r ≡ record_.Refused e
+
+-- a call's ticket
+abbrev pub TicketTold : Result Ticket Error → Record → Type 0
+TicketTold (Ok t) r = r ≡ record_.Ticket t.number
+TicketTold (Err e) r = IsRefusal e r
+
+-- a publish's ticket and confirm
+abbrev pub PublishTold : Result Published Error → Record → Type 0
+PublishTold (Ok p) r = r ≡ record_.Publish p.ticket.number p.confirm.number
+PublishTold (Err e) r = IsRefusal e r
+
+-- what became of a frame of the broker
+abbrev pub HeardTold : Result Heard Error → Record → Type 0
+HeardTold (Ok heard.Received) r = r ≡ record_.Received
+HeardTold (Ok heard.Passed) r = r ≡ record_.Passed
+HeardTold (Err e) r = IsRefusal e r
+
+-- p where the frame was heard, passed over or refused, q where it was not taken for want of memory or numbers
+abbrev pub WasHeard : Result Heard Error → Type 0 → Type 0 → Type 0
+WasHeard (Err error.NoMemory) p q = q
+WasHeard (Err error.NumbersUsedUp) p q = q
+WasHeard _ p q = p
+
+-- what a poll answers
+abbrev pub ticket_record : Result (Poll (Result Answer Error)) Error → Record
+ticket_record (Ok (poll.Ready a)) = record_.Answer a
+ticket_record (Ok poll.Pending) = record_.Pending
+ticket_record (Err e) = record_.Refused e
+
+abbrev pub confirm_record : Result (Poll (Result Confirmation Error)) Error → Record
+confirm_record (Ok (poll.Ready o)) = record_.Confirmed o
+confirm_record (Ok poll.Pending) = record_.Pending
+confirm_record (Err e) = record_.Refused e
+
+-- the record of a call's answer, where it has one
+abbrev pub ticket_told : Result Ticket Error → Result Record Error
+ticket_told (Ok t) = Ok (record_.Ticket t.number)
+ticket_told (Err error.NoMemory) = Err error.NoMemory
+ticket_told (Err error.NumbersUsedUp) = Err error.NumbersUsedUp
+ticket_told (Err e) = Ok (record_.Refused e)
+
+abbrev pub publish_told : Result Published Error → Result Record Error
+publish_told (Ok p) = Ok (record_.Publish p.ticket.number p.confirm.number)
+publish_told (Err error.NoMemory) = Err error.NoMemory
+publish_told (Err error.NumbersUsedUp) = Err error.NumbersUsedUp
+publish_told (Err e) = Ok (record_.Refused e)
+
+abbrev pub is_pending_record : Record → Bool
+is_pending_record record_.Pending = true
+is_pending_record _ = false

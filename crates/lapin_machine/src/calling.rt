@@ -1,0 +1,217 @@
+//! Calls: what the application asks for.
+//!
+//! Each is refused by the channel's state, then for want of numbers; then it is queued whole, or nothing changes.
+
+ghost use Rattle.std.specs.Prelude.{◌≡◌, false, IfOk, OnOk, OnErr};
+ghost use Rattle.lapin_types.specs.declared.event.Event.TheVariants.{Call as CallEvent};
+ghost use Rattle.lapin_types.specs.declared.call.Call.TheVariants.{OpenChannel, BasicPublish};
+ghost use Rattle.lapin_history.specs.declared.calls.Asked.TheVariants as ask;
+ghost use Rattle.lapin_history.specs.Calls.{asked as asked_lem, publishes};
+ghost use Rattle.lapin_history.specs.Answers.{call_record};
+ghost use Rattle.lapin_machine.specs.World.{told_by, next, asking};
+ghost use Rattle.lapin_machine.specs.Told.{TicketTold, PublishTold, ticket_told, publish_told};
+ghost use Rattle.lapin_machine.specs.Numbers.{HasCause, CallCause, AskCause};
+
+use crate::channel::{Published, PublisherConfirm, Ticket};
+use crate::session::{Session, is_closed, is_open, set_phase};
+use lapin_history::{Asked, Phase, Row, sort_call};
+use lapin_types::{
+    BasicProperties, BasicPublishOptions, Call, ChannelMethod, Error, Method, Payload, Publish,
+    Record, Reply, ShortString,
+};
+use std::alloc::Global;
+
+impl Session {
+    /// Opens a channel (AMQP 0-9-1, `channel.open`). The ticket is answered with the channel's number at the broker's
+    /// `channel.open-ok`.
+    ///
+    /// # Errors
+    /// `InvalidChannelState` where the channel is not closed, also on channel 0; `NumbersUsedUp` where the next ticket would
+    /// pass the greatest `u64`; `NoMemory`. Nothing changes then.
+    pub fn open_channel(&mut self, alloc: Global, channel: u16) -> Result<Ticket, Error>
+        ensures told { TicketTold result (told_by self.old (CallEvent channel OpenChannel)) }
+        ensures ok { OnOk result (self.new ≡ next self.old (CallEvent channel OpenChannel)) }
+        ensures err { OnErr result (self.new ≡ self.old) }
+        ensures cause { CallCause result channel OpenChannel self.old.base }
+    {
+        let state = self.channel_state(channel);
+        if !is_closed(state) {
+            return Err(Error::InvalidChannelState(state));
+        }
+        if self.desk.tickets.next_number().is_none() {
+            return Err(Error::NumbersUsedUp);
+        }
+        self.phases.reserve(channel)?;
+        self.desk.reserve(alloc, channel)?;
+        self.confirms.begin(alloc, channel)?;
+        set_phase(&mut self.phases, channel, Phase::Opening);
+        let method = Method::Channel(ChannelMethod::Open);
+        let number = self
+            .desk
+            .queue(alloc, channel, method, Some(Reply::ChannelOpenOk), None);
+        Ok(Ticket { number })
+    }
+
+    /// Makes any call but a publish: it is refused by the channel's state, or done as its line of the table says.
+    ///
+    /// # Errors
+    /// `InvalidChannelState` where the call is not allowed in the channel's state, `NumbersUsedUp` where the next ticket would
+    /// pass the greatest `u64`, `NoMemory`. Nothing changes then.
+    pub fn call(&mut self, alloc: Global, channel: u16, call: Call) -> Result<Ticket, Error>
+        requires { publishes (asked_lem call) ≡ false }
+        ensures told { TicketTold result (told_by self.old (CallEvent channel call)) }
+        ensures ok { OnOk result (self.new ≡ next self.old (CallEvent channel call)) }
+        ensures err { OnErr result (self.new ≡ self.old) }
+        ensures cause { CallCause result channel call self.old.base }
+    {
+        let asked = sort_call(alloc, call)?;
+        self.ask(alloc, channel, asked)
+    }
+
+    // A sorted call that is no publish.
+    fn ask(&mut self, alloc: Global, channel: u16, asked: Asked) -> Result<Ticket, Error>
+        requires { publishes asked ≡ false }
+        ensures told { TicketTold result (call_record channel asked self.old.base) }
+        ensures ok { OnOk result (self.new ≡ asking channel asked self.old) }
+        ensures err { OnErr result (self.new ≡ self.old) }
+        ensures cause { AskCause result channel asked self.old.base }
+    {
+        match asked {
+            Asked::Open => self.open_channel(alloc, channel),
+            Asked::CloseChannel(reply_code, reply_text) => {
+                self.channel_close(alloc, channel, reply_code, reply_text)
+            }
+            Asked::CloseConnection(reply_code, reply_text) => {
+                self.close_connection(alloc, channel, reply_code, reply_text)
+            }
+            Asked::Method(row) => self.queue_row(alloc, channel, row),
+            Asked::Publish { .. } => unreachable!(),
+        }
+    }
+
+    // A call that is its line of the table. What is let go is let go by `drop`: so the ways by which a line can be let go, one
+    // for each of its methods and replies, are no ways through this function.
+    fn queue_row(&mut self, alloc: Global, channel: u16, row: Row) -> Result<Ticket, Error>
+        ensures told { TicketTold result (call_record channel (ask.Method row) self.old.base) }
+        ensures ok { OnOk result (self.new ≡ asking channel (ask.Method row) self.old) }
+        ensures err { OnErr result (self.new ≡ self.old) }
+        ensures cause { AskCause result channel (ask.Method row) self.old.base }
+    {
+        let state = self.channel_state(channel);
+        if !is_open(state) {
+            drop(row);
+            return Err(Error::InvalidChannelState(state));
+        }
+        if self.desk.tickets.next_number().is_none() {
+            drop(row);
+            return Err(Error::NumbersUsedUp);
+        }
+        if self.desk.reserve(alloc, channel).is_err() {
+            drop(row);
+            return Err(Error::NoMemory);
+        }
+        let number = self.desk.queue(alloc, channel, row.method, row.awaits, row.made);
+        Ok(Ticket { number })
+    }
+
+    /// Publishes a message (AMQP 0-9-1, `basic.publish`), as `Channel::basic_publish`.
+    pub fn basic_publish(
+        &mut self,
+        alloc: Global,
+        channel: u16,
+        exchange: ShortString,
+        routing_key: ShortString,
+        options: BasicPublishOptions,
+        payload: Payload,
+        properties: BasicProperties,
+    ) -> Result<Published, Error>
+        ensures told { PublishTold result (told_by self.old (CallEvent channel (BasicPublish exchange routing_key options payload properties))) }
+        ensures ok { OnOk result (self.new ≡ next self.old (CallEvent channel (BasicPublish exchange routing_key options payload properties))) }
+        ensures err { OnErr result (self.new ≡ self.old) }
+        ensures cause { CallCause result channel (BasicPublish exchange routing_key options payload properties) self.old.base }
+    {
+        let state = self.channel_state(channel);
+        if !is_open(state) {
+            return Err(Error::InvalidChannelState(state));
+        }
+        if self.desk.tickets.next_number().is_none() {
+            return Err(Error::NumbersUsedUp);
+        }
+        self.desk.reserve(alloc, channel)?;
+        let confirm = self.confirms.add(alloc, channel)?;
+        let ticket = self.desk.tickets.give();
+        let publish = Publish {
+            confirm,
+            ticket,
+            channel,
+            exchange,
+            routing_key,
+            options,
+            payload,
+            properties,
+        };
+        let _queued = self.desk.outbox.push_publish(alloc, publish).unwrap();
+        Ok(Published {
+            ticket: Ticket { number: ticket },
+            confirm: PublisherConfirm { number: confirm },
+        })
+    }
+
+    pub(crate) fn step_call(
+        &mut self,
+        alloc: Global,
+        channel: u16,
+        call: Call,
+    ) -> Result<Record, Error>
+        ensures told { IfOk result (λ r. r ≡ told_by self.old (CallEvent channel call)) }
+        ensures ok { OnOk result (self.new ≡ next self.old (CallEvent channel call)) }
+        ensures err { OnErr result (self.new ≡ self.old) }
+        ensures cause { HasCause result (CallEvent channel call) self.old.base }
+    {
+        let asked = sort_call(alloc, call)?;
+        match asked {
+            Asked::Publish {
+                exchange,
+                routing_key,
+                options,
+                payload,
+                properties,
+            } => publish_record(self.basic_publish(
+                alloc,
+                channel,
+                exchange,
+                routing_key,
+                options,
+                payload,
+                properties,
+            )),
+            asked => ticket_record(self.ask(alloc, channel, asked)),
+        }
+    }
+}
+
+// The record of a call's answer; want of memory and of numbers have none.
+fn ticket_record(told: Result<Ticket, Error>) -> Result<Record, Error>
+    ensures { result ≡ ticket_told told }
+{
+    match told {
+        Ok(ticket) => Ok(Record::Ticket(ticket.number)),
+        Err(Error::NoMemory) => Err(Error::NoMemory),
+        Err(Error::NumbersUsedUp) => Err(Error::NumbersUsedUp),
+        Err(error) => Ok(Record::Refused(error)),
+    }
+}
+
+fn publish_record(told: Result<Published, Error>) -> Result<Record, Error>
+    ensures { result ≡ publish_told told }
+{
+    match told {
+        Ok(published) => Ok(Record::Publish {
+            ticket: published.ticket.number,
+            confirm: published.confirm.number,
+        }),
+        Err(Error::NoMemory) => Err(Error::NoMemory),
+        Err(Error::NumbersUsedUp) => Err(Error::NumbersUsedUp),
+        Err(error) => Ok(Record::Refused(error)),
+    }
+}

@@ -1,0 +1,248 @@
+//! Closes of this side, and the loss.
+//!
+//! A close is refused by state, then for want of numbers; then all room is made; then what the close rejects or ends is
+//! resolved, and the close is queued. What is dropped and resolved stands in `lapin_desk`.
+
+ghost use Rattle.std.specs.Prelude.{◌≡◌, ◌≤◌, [], true, false, IfOk, OnOk, OnErr, length, if◌then◌else◌};
+ghost use Rattle.std.specs.List.{fold};
+ghost use Rattle.lapin_tables.specs.ByChannel.{at_channel};
+ghost use Rattle.lapin_types.specs.declared.event.Event.TheVariants.{Call as CallEvent, Lost as LostEvent};
+ghost use Rattle.lapin_types.specs.declared.call.Call.TheVariants.{ChannelClose, ConnectionClose};
+ghost use Rattle.lapin_history.specs.Words.{is_some, with_channel};
+ghost use Rattle.lapin_history.specs.Phases.{is_up as is_up_lem, is_lost as is_lost_lem};
+ghost use Rattle.lapin_history.specs.Closes.{failed_at_close as failed_at_close_lem};
+ghost use Rattle.lapin_history.specs.Drops.{no_lists, unbegun, without_publishes_of, publish_tickets_of};
+ghost use Rattle.lapin_history.specs.Marked.{ends, rejections, failures};
+ghost use Rattle.lapin_history.specs.TicketReadings.{AllFailed};
+ghost use Rattle.lapin_confirm.specs.Book as book;
+ghost use Rattle.lapin_ticket.specs.Desk as answers;
+ghost use Rattle.lapin_desk.specs.Queued.{AreQueued};
+ghost use Rattle.lapin_machine.specs.World.{told_by, next};
+ghost use Rattle.lapin_machine.specs.Told.{TicketTold};
+ghost use Rattle.lapin_machine.specs.Numbers.{HasCause, CallCause};
+
+use crate::channel::Ticket;
+use crate::session::{Session, is_base, is_open, set_phase};
+use lapin_confirm::Confirms;
+use lapin_desk::Desk;
+use lapin_history::{Closer, Link, Phase, failed_at_close};
+use lapin_outbox::Replies;
+use lapin_tables::ByChannel;
+use lapin_types::{
+    ChannelMethod, ChannelState, ConnectionMethod, Error, Method, NoMemory, Record, Reply,
+    ShortString,
+};
+use std::alloc::Global;
+
+impl Session {
+    /// Closes a channel (AMQP 0-9-1, `channel.close`), as `Channel::channel_close`.
+    pub fn channel_close(
+        &mut self,
+        alloc: Global,
+        channel: u16,
+        reply_code: u16,
+        reply_text: ShortString,
+    ) -> Result<Ticket, Error>
+        ensures told { TicketTold result (told_by self.old (CallEvent channel (ChannelClose reply_code reply_text))) }
+        ensures ok { OnOk result (self.new ≡ next self.old (CallEvent channel (ChannelClose reply_code reply_text))) }
+        ensures err { OnErr result (self.new ≡ self.old) }
+        ensures cause { CallCause result channel (ChannelClose reply_code reply_text) self.old.base }
+    {
+        let state = self.channel_state(channel);
+        if !is_open(state) {
+            return Err(Error::InvalidChannelState(state));
+        }
+        if self.desk.tickets.next_number().is_none() {
+            return Err(Error::NumbersUsedUp);
+        }
+        self.desk.reserve(alloc, channel)?;
+        begin_close(
+            &mut self.phases,
+            &mut self.desk,
+            &mut self.confirms,
+            channel,
+            Closer::Application,
+        );
+        let method = Method::Channel(ChannelMethod::Close {
+            reply_code,
+            reply_text,
+            class_id: 0,
+            method_id: 0,
+        });
+        let number = self
+            .desk
+            .queue(alloc, channel, method, Some(Reply::ChannelCloseOk), None);
+        Ok(Ticket { number })
+    }
+
+    /// Closes the connection (AMQP 0-9-1, `connection.close`), with a reply code and a reply text. Every opening ends, nothing
+    /// that waits leaves any more, and every open ticket fails. The ticket of this call is done at the broker's
+    /// `connection.close-ok`.
+    ///
+    /// # Errors
+    /// `InvalidChannelState` where the connection is not open, `NumbersUsedUp` where the next ticket would pass the greatest
+    /// `u64`, `NoMemory`. Nothing changes then.
+    pub fn connection_close(
+        &mut self,
+        alloc: Global,
+        reply_code: u16,
+        reply_text: ShortString,
+    ) -> Result<Ticket, Error>
+        ensures told { TicketTold result (told_by self.old (CallEvent 0 (ConnectionClose reply_code reply_text))) }
+        ensures ok { OnOk result (self.new ≡ next self.old (CallEvent 0 (ConnectionClose reply_code reply_text))) }
+        ensures err { OnErr result (self.new ≡ self.old) }
+        ensures cause { CallCause result 0 (ConnectionClose reply_code reply_text) self.old.base }
+    {
+        self.close_connection(alloc, 0, reply_code, reply_text)
+    }
+
+    // The same as an event names it, with a channel: that of the connection is the only one on which it is allowed.
+    pub(crate) fn close_connection(
+        &mut self,
+        alloc: Global,
+        channel: u16,
+        reply_code: u16,
+        reply_text: ShortString,
+    ) -> Result<Ticket, Error>
+        ensures told { TicketTold result (told_by self.old (CallEvent channel (ConnectionClose reply_code reply_text))) }
+        ensures ok { OnOk result (self.new ≡ next self.old (CallEvent channel (ConnectionClose reply_code reply_text))) }
+        ensures err { OnErr result (self.new ≡ self.old) }
+        ensures cause { CallCause result channel (ConnectionClose reply_code reply_text) self.old.base }
+    {
+        let state = self.channel_state(channel);
+        if !is_base(state) {
+            return Err(Error::InvalidChannelState(state));
+        }
+        if self.desk.tickets.next_number().is_none() {
+            return Err(Error::NumbersUsedUp);
+        }
+        let mut replies = Replies::new(alloc)?;
+        replies.reserve(alloc, channel)?;
+        self.desk.reserve(alloc, channel)?;
+        let to = Link::Closing {
+            sent: false,
+            heard: false,
+        };
+        let error = Error::InvalidChannelState(ChannelState::Down);
+        go_down(
+            &mut self.link,
+            &self.phases,
+            &mut self.desk,
+            &mut self.confirms,
+            replies,
+            to,
+            error,
+        );
+        let method = Method::Connection(ConnectionMethod::Close {
+            reply_code,
+            reply_text,
+            class_id: 0,
+            method_id: 0,
+        });
+        let number = self.desk.queue(alloc, channel, method, Some(Reply::ConnectionCloseOk), None);
+        Ok(Ticket { number })
+    }
+
+    /// The connection is gone without a close: nothing leaves any more, and all that is unresolved fails with
+    /// `ConnectionLost`. A second loss changes nothing.
+    ///
+    /// # Errors
+    /// `NoMemory` alone. Nothing changes then.
+    pub fn lost(&mut self, alloc: Global) -> Result<(), NoMemory>
+        ensures ok { OnOk result (self.new ≡ next self.old LostEvent) }
+        ensures err { OnErr result (self.new ≡ self.old) }
+    {
+        if is_lost(self.link) {
+            return Ok(());
+        }
+        let replies = Replies::new(alloc)?;
+        go_down(
+            &mut self.link,
+            &self.phases,
+            &mut self.desk,
+            &mut self.confirms,
+            replies,
+            Link::Lost,
+            Error::ConnectionLost,
+        );
+        Ok(())
+    }
+
+    pub(crate) fn step_lost(&mut self, alloc: Global) -> Result<Record, Error>
+        ensures told { IfOk result (λ r. r ≡ told_by self.old LostEvent) }
+        ensures ok { OnOk result (self.new ≡ next self.old LostEvent) }
+        ensures err { OnErr result (self.new ≡ self.old) }
+        ensures cause { HasCause result LostEvent self.old.base }
+    {
+        match self.lost(alloc) {
+            Ok(()) => Ok(Record::Lost),
+            Err(NoMemory) => Err(Error::NoMemory),
+        }
+    }
+}
+
+fn is_lost(link: Link) -> bool
+    ensures { result ≡ is_lost_lem link }
+{
+    matches!(link, Link::Lost)
+}
+
+// This side closes a channel: publishes that have not begun are rejected.
+pub(crate) fn begin_close(
+    phases: &mut ByChannel<Phase>,
+    desk: &mut Desk,
+    confirms: &mut Confirms,
+    channel: u16,
+    closer: Closer,
+)
+    requires present { is_some (at_channel channel phases.old.entries) ≡ true }
+    requires queued { AreQueued confirms.old.book.cells desk.old.outbox.lists.publishes }
+    ensures phases { phases.new.entries ≡ with_channel channel (Phase.Closing closer false) phases.old.entries }
+    ensures lists { desk.new.outbox.lists ≡ without_publishes_of channel desk.old.outbox.lists }
+    ensures slots { desk.new.tickets.slots ≡ fold answers.after_mark desk.old.tickets.slots (failures (failed_at_close_lem closer) (publish_tickets_of channel desk.old.outbox.lists.publishes)) }
+    ensures book { confirms.new.book ≡ fold book.after_mark confirms.old.book (rejections (failed_at_close_lem closer) (unbegun channel desk.old.outbox.lists.publishes)) }
+    ensures queued { AreQueued confirms.new.book.cells desk.new.outbox.lists.publishes }
+    ensures requests { desk.new.replies ≡ desk.old.replies }
+    ensures frame_max { desk.new.outbox.frame_max ≡ desk.old.outbox.frame_max }
+    ensures room { (desk.old.outbox.spare ≤ desk.new.outbox.spare) × (desk.new.tickets.spare ≡ desk.old.tickets.spare) }
+    ensures counts { (length desk.new.tickets.slots ≡ length desk.old.tickets.slots) × (length confirms.new.book.cells ≡ length confirms.old.book.cells) }
+{
+    desk.reject_unbegun(confirms, channel, failed_at_close(closer));
+    set_phase(
+        phases,
+        channel,
+        Phase::Closing {
+            closer,
+            sent: false,
+        },
+    );
+}
+
+// The connection leaves the open state, or is lost: every live opening ends, nothing waits any more, and every open ticket
+// fails.
+pub(crate) fn go_down(
+    link: &mut Link,
+    phases: &ByChannel<Phase>,
+    desk: &mut Desk,
+    confirms: &mut Confirms,
+    replies: Replies,
+    to: Link,
+    error: Error,
+)
+    requires queued { AreQueued confirms.old.book.cells desk.old.outbox.lists.publishes }
+    ensures link { link.new ≡ to }
+    ensures lists { desk.new.outbox.lists ≡ no_lists }
+    ensures slots { desk.new.tickets.slots ≡ answers.after_mark desk.old.tickets.slots (AllFailed error) }
+    ensures book { confirms.new.book ≡ fold book.after_mark confirms.old.book (if is_up_lem link.old then ends error phases.now.entries else []) }
+    ensures requests { desk.new.replies ≡ replies }
+    ensures frame_max { desk.new.outbox.frame_max ≡ desk.old.outbox.frame_max }
+    ensures room { (desk.old.outbox.spare ≤ desk.new.outbox.spare) × (desk.new.tickets.spare ≡ desk.old.tickets.spare) }
+    ensures counts { (length desk.new.tickets.slots ≡ length desk.old.tickets.slots) × (length confirms.new.book.cells ≡ length confirms.old.book.cells) }
+{
+    if link.is_up() {
+        desk.end_all(confirms, phases.entries(), replies, error);
+    } else {
+        desk.end_all(confirms, &[], replies, error);
+    }
+    *link = to;
+}

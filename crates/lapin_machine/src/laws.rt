@@ -1,0 +1,32 @@
+//! Laws of a session's values, on functions that do nothing: what they say holds of every session, whatever events it met.
+
+ghost use Rattle.std.specs.Prelude.{◌≡◌, ℕ, false, List};
+ghost use Rattle.std.specs.List.{list_any, fold};
+ghost use Rattle.lapin_tables.specs.ByChannel.{at_channel};
+ghost use Rattle.lapin_types.specs.declared.event.Event.{Event as AnEvent};
+ghost use Rattle.lapin_history.specs.Base.{lists_of, has_sent};
+ghost use Rattle.lapin_history.specs.Drops.{no_lists};
+ghost use Rattle.lapin_confirm.specs.Book.{is_open_on};
+ghost use Rattle.lapin_machine.specs.Alone.{WaitsAlone, without_own_close};
+ghost use Rattle.lapin_machine.specs.Tied.{is_live_on};
+ghost use Rattle.lapin_machine.specs.World.{next, new_world};
+
+use crate::session::Session;
+
+/// While this side closes the connection and its `connection.close` has not left, that close is all that waits (`alone`). So
+/// where the broker's close or close-ok comes first, to drop the own close is to drop all that waits (`dropped`), which is how
+/// the definitions say it.
+pub fn own_close_waits_alone()
+    ensures alone { (frame_max : ℕ) (events : List AnEvent) → WaitsAlone (fold next (new_world frame_max) events).base.link (lists_of (fold next (new_world frame_max) events).base) }
+    ensures dropped { (frame_max : ℕ) (events : List AnEvent) → has_sent (fold next (new_world frame_max) events).base.link ≡ false → without_own_close (lists_of (fold next (new_world frame_max) events).base) ≡ no_lists }
+{}
+
+impl Session {
+    /// No confirm is lost: on a channel without a live opening, and on every channel once the connection is not open, each
+    /// publish that was accepted has its outcome.
+    pub fn no_confirm_is_lost(&self)
+        ensures { (c : ℕ) → is_live_on self.now.base.link (at_channel c self.now.base.phases) ≡ false → list_any (is_open_on c) self.now.book.cells ≡ false }
+    {
+        let _link = self.link;
+    }
+}

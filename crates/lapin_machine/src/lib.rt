@@ -1,0 +1,21 @@
+//! A session without sockets: calls, frame requests, broker frames and polls go in, records come out.
+//!
+//! Here the parts (outbox, requests, confirms, tickets) are put together by their contracts alone. No text and no lock
+//! lives here. `step` is the one door over all events, and `run_session` runs a list of them.
+#![tactic(auto)]
+
+mod calling;
+mod channel;
+mod closing;
+mod laws;
+mod polling;
+mod receiving;
+mod receiving_closes;
+mod run;
+mod sending;
+mod session;
+
+pub use channel::{Channel, Heard, Published, PublisherConfirm, Ticket};
+pub use laws::own_close_waits_alone;
+pub use run::run_session;
+pub use session::Session;

@@ -1,0 +1,305 @@
+//! Frames of the broker: replies and settlements. Closes stand in `receiving_closes`. A frame that is not heard closes the
+//! connection with its class and method.
+
+ghost use Rattle.std.specs.Prelude.{◌≡◌, ℕ, true, false, IfOk, OnOk, OnErr, if◌then◌else◌};
+ghost use Rattle.lapin_tables.specs.ByChannel.{at_channel};
+ghost use Rattle.lapin_types.specs.declared.event.Event.TheVariants as event;
+ghost use Rattle.lapin_types.specs.Types.error;
+ghost use Rattle.lapin_types.specs.declared.record.Record.TheVariants.{Received, Passed, Refused};
+ghost use Rattle.lapin_confirm.specs.Book.{single_of, multiple_of, selected_on};
+ghost use Rattle.lapin_history.specs.declared.broker_frames.Incoming.{Incoming as AnIncoming};
+ghost use Rattle.lapin_history.specs.declared.broker_frames.Incoming.TheVariants.{Reply as ReplyFrame, Settlement as SettlementFrame, Flow as FlowFrame};
+ghost use Rattle.lapin_history.specs.Words.{is_some};
+ghost use Rattle.lapin_history.specs.Phases.{is_up};
+ghost use Rattle.lapin_history.specs.Answers.{refused, heard_up};
+ghost use Rattle.lapin_history.specs.Base.{state_of, hears_on as hears_on_lem, hears_reply, hears_down as hears_down_lem, phases_with};
+ghost use Rattle.lapin_machine.specs.World.{told_by, next, hearing, sight_of, settlement_told};
+ghost use Rattle.lapin_machine.specs.Told.{HeardTold, WasHeard};
+ghost use Rattle.lapin_machine.specs.Numbers.{HasCause, HasNumbers};
+
+use crate::channel::Heard;
+use crate::closing::{begin_close, go_down};
+use crate::session::{Session, is_open, set_phase};
+use lapin_history::{
+    Closer, Incoming, Link, Phase, SettleKind, Settlement, class_of, hears, hears_close,
+    hears_close_ok, hears_down, hears_on, method_of, opens, session_close, sort_frame,
+    unexpected_close,
+};
+use lapin_outbox::Replies;
+use lapin_tables::ByChannel;
+use lapin_types::{
+    Answer, ChannelMethod, Error, Frame, Method, NoMemory, Record, ReplyKind,
+};
+use std::alloc::Global;
+
+impl Session {
+    /// Takes a frame of the broker.
+    ///
+    /// While the connection is open: a reply is heard in its state and takes the oldest request of its kind on its channel; a
+    /// settlement is heard on an open or closing channel, and passed over where the channel asked for no confirms; a close is
+    /// heard on a channel with a live opening, its answer where this side's close is under way, and a close of the connection
+    /// always. Once the connection is not open every frame is passed over, but for two while this side closes it: the answer,
+    /// and the broker's first close.
+    ///
+    /// # Errors
+    /// `UnexpectedFrame` with the class and method of a frame that is not heard (0 and 0 of a body, the class and 0 of a
+    /// header): the connection is then closed with the reply code 505, and every opening ends. `PreconditionFailed` where a
+    /// single settlement names a tag that is not pending, with that tag and the last tag taken: an open channel is then closed
+    /// with the reply code 406. `NoMemory`: nothing changes then.
+    pub fn receive(&mut self, alloc: Global, frame: Frame) -> Result<Heard, Error>
+        ensures told { HeardTold result (told_by self.old (event.Receive frame)) }
+        ensures ok { WasHeard result (self.new ≡ next self.old (event.Receive frame)) (self.new ≡ self.old) }
+        ensures numbers { HasNumbers result }
+    {
+        let class = class_of(&frame);
+        let number = method_of(&frame);
+        let incoming = sort_frame(frame);
+        if self.link.is_up() {
+            self.receive_up(alloc, class, number, incoming)
+        } else {
+            self.receive_down(alloc, incoming)
+        }
+    }
+
+    // A frame that comes while the connection is open.
+    fn receive_up(
+        &mut self,
+        alloc: Global,
+        class: u16,
+        number: u16,
+        incoming: Incoming,
+    ) -> Result<Heard, Error>
+        requires { is_up self.old.base.link ≡ true }
+        ensures told { HeardTold result (heard_up self.old.base (sight_of self.old.book self.old.slots) (refused class number) incoming) }
+        ensures ok { WasHeard result (self.new ≡ hearing incoming (heard_up self.old.base (sight_of self.old.book self.old.slots) (refused class number) incoming) self.old) (self.new ≡ self.old) }
+        ensures numbers { HasNumbers result }
+    {
+        match incoming {
+            Incoming::Reply(channel, kind, answer) => {
+                if self.hear_reply(channel, kind, answer) {
+                    Ok(Heard::Received)
+                } else {
+                    self.refuse(alloc, class, number)
+                }
+            }
+            Incoming::Settlement(channel, settlement) => {
+                if hears_on(self.channel_state(channel)) {
+                    self.hear_settlement(alloc, channel, settlement)
+                } else {
+                    self.refuse(alloc, class, number)
+                }
+            }
+            Incoming::Flow(channel, active) => {
+                if hears_on(self.channel_state(channel)) {
+                    self.hear_flow(alloc, channel, active)
+                } else {
+                    self.refuse(alloc, class, number)
+                }
+            }
+            Incoming::ChannelClose(channel, code) => {
+                if hears_close(self.channel_state(channel)) {
+                    self.hear_channel_close(alloc, channel, code)
+                } else {
+                    self.refuse(alloc, class, number)
+                }
+            }
+            Incoming::ChannelCloseOk(channel) => {
+                if hears_close_ok(self.channel_state(channel)) {
+                    self.hear_channel_close_ok(channel);
+                    Ok(Heard::Received)
+                } else {
+                    self.refuse(alloc, class, number)
+                }
+            }
+            Incoming::ConnectionClose(code) => self.hear_connection_close(alloc, code),
+            Incoming::ConnectionCloseOk | Incoming::Other => self.refuse(alloc, class, number),
+        }
+    }
+
+    // A frame that comes once the connection is not open.
+    fn receive_down(&mut self, alloc: Global, incoming: Incoming) -> Result<Heard, Error>
+        ensures told { HeardTold result (if hears_down_lem self.old.base.link incoming then Received else Passed) }
+        ensures ok { WasHeard result (self.new ≡ hearing incoming (if hears_down_lem self.old.base.link incoming then Received else Passed) self.old) (self.new ≡ self.old) }
+        ensures numbers { HasNumbers result }
+    {
+        if !hears_down(self.link, &incoming) {
+            return Ok(Heard::Passed);
+        }
+        match incoming {
+            Incoming::ConnectionClose(code) => self.hear_connection_close(alloc, code),
+            _ => {
+                self.hear_connection_close_ok();
+                Ok(Heard::Received)
+            }
+        }
+    }
+
+    // A frame that is not heard: the connection is closed, and every opening ends.
+    fn refuse(&mut self, alloc: Global, class: u16, number: u16) -> Result<Heard, Error>
+        requires { is_up self.old.base.link ≡ true }
+        ensures told { HeardTold result (refused class number) }
+        ensures ok { WasHeard result ((i : AnIncoming) → self.new ≡ hearing i (refused class number) self.old) (self.new ≡ self.old) }
+        ensures numbers { HasNumbers result }
+    {
+        let method = unexpected_close(alloc, class, number)?;
+        let replies = Replies::new(alloc)?;
+        self.desk.outbox.reserve(alloc)?;
+        let to = Link::Closing {
+            sent: false,
+            heard: false,
+        };
+        let error = Error::ProtocolError(505);
+        go_down(
+            &mut self.link,
+            &self.phases,
+            &mut self.desk,
+            &mut self.confirms,
+            replies,
+            to,
+            error,
+        );
+        self.desk.note(alloc, 0, method);
+        Err(Error::UnexpectedFrame {
+            class,
+            method: number,
+        })
+    }
+
+    // A reply, if it is heard, opens its channel where it is `channel.open-ok` and resolves the ticket of its request.
+    fn hear_reply(&mut self, channel: u16, kind: ReplyKind, answer: Answer) -> bool
+        ensures told { result ≡ hears_reply channel kind self.old.base }
+        ensures ok { result ≡ true → self.new ≡ hearing (ReplyFrame channel kind answer) Received self.old }
+        ensures same { result ≡ false → self.new ≡ self.old }
+    {
+        if !hears(kind, self.channel_state(channel)) {
+            return false;
+        }
+        let Some(request) = self.desk.replies.take_first(channel, kind) else {
+            return false;
+        };
+        phase_replied(&mut self.phases, channel, kind);
+        self.desk.resolve(request.into_ticket(), Ok(answer));
+        true
+    }
+
+    // A flow on a channel that hears it: an open channel is paused or goes on, and the broker is answered.
+    fn hear_flow(&mut self, alloc: Global, channel: u16, active: bool) -> Result<Heard, Error>
+        ensures told { HeardTold result Received }
+        ensures ok { WasHeard result (self.new ≡ hearing (FlowFrame channel active) Received self.old) (self.new ≡ self.old) }
+        ensures numbers { HasNumbers result }
+    {
+        if !is_open(self.channel_state(channel)) {
+            return Ok(Heard::Received);
+        }
+        self.desk.outbox.reserve(alloc)?;
+        set_phase(&mut self.phases, channel, Phase::Open { paused: !active });
+        let method = Method::Channel(ChannelMethod::FlowOk { active });
+        self.desk.note(alloc, channel, method);
+        Ok(Heard::Received)
+    }
+
+    // A settlement on a channel that hears it.
+    fn hear_settlement(
+        &mut self,
+        alloc: Global,
+        channel: u16,
+        settlement: Settlement,
+    ) -> Result<Heard, Error>
+        requires { hears_on_lem (state_of channel self.old.base) ≡ true }
+        ensures told { HeardTold result (settlement_told channel settlement self.old) }
+        ensures ok { WasHeard result (self.new ≡ hearing (SettlementFrame channel settlement) (settlement_told channel settlement self.old) self.old) (self.new ≡ self.old) }
+        ensures numbers { HasNumbers result }
+    {
+        if !self.confirms.selected(channel) {
+            return Ok(Heard::Passed);
+        }
+        if settlement.multiple {
+            self.settle_many(channel, settlement.kind, settlement.tag);
+            return Ok(Heard::Received);
+        }
+        self.settle_single(alloc, channel, settlement.kind, settlement.tag)
+    }
+
+    // A settlement of many tags: of every tag up to its own, or with tag 0 of every tag.
+    fn settle_many(&mut self, channel: u16, kind: SettleKind, tag: u64)
+        ensures { self.new ≡ hearing (SettlementFrame channel (multiple_of kind tag)) Received self.old }
+    {
+        if tag == 0 {
+            self.confirms.settle_all(channel, kind);
+        } else {
+            self.confirms.settle_up_to(channel, kind, tag);
+        }
+    }
+
+    // A settlement of one tag on a selected opening. Where the tag is not pending an open channel is closed.
+    fn settle_single(
+        &mut self,
+        alloc: Global,
+        channel: u16,
+        kind: SettleKind,
+        tag: u64,
+    ) -> Result<Heard, Error>
+        requires { selected_on channel self.old.book ≡ true }
+        ensures told { HeardTold result (settlement_told channel (single_of kind tag) self.old) }
+        ensures ok { WasHeard result (self.new ≡ hearing (SettlementFrame channel (single_of kind tag)) (settlement_told channel (single_of kind tag) self.old) self.old) (self.new ≡ self.old) }
+        ensures numbers { HasNumbers result }
+    {
+        match self.confirms.settle_one(channel, kind, tag) {
+            Ok(()) => Ok(Heard::Received),
+            Err(error) => {
+                self.close_unless_closing(alloc, channel, kind)?;
+                Err(error)
+            }
+        }
+    }
+
+    // The session closes an open channel after a settlement of a tag that is not pending; one that is closing stays so.
+    fn close_unless_closing(
+        &mut self,
+        alloc: Global,
+        channel: u16,
+        kind: SettleKind,
+    ) -> Result<(), NoMemory>
+        ensures ok { OnOk result ((tag current : ℕ) → self.new ≡ hearing (SettlementFrame channel (single_of kind tag)) (Refused (error.PreconditionFailed tag current)) self.old) }
+        ensures err { OnErr result (self.new ≡ self.old) }
+    {
+        if !is_open(self.channel_state(channel)) {
+            return Ok(());
+        }
+        let method = session_close(alloc, kind)?;
+        self.desk.outbox.reserve(alloc)?;
+        begin_close(
+            &mut self.phases,
+            &mut self.desk,
+            &mut self.confirms,
+            channel,
+            Closer::Session,
+        );
+        self.desk.note(alloc, channel, method);
+        Ok(())
+    }
+
+    pub(crate) fn step_receive(&mut self, alloc: Global, frame: Frame) -> Result<Record, Error>
+        ensures told { IfOk result (λ r. r ≡ told_by self.old (event.Receive frame)) }
+        ensures ok { OnOk result (self.new ≡ next self.old (event.Receive frame)) }
+        ensures err { OnErr result (self.new ≡ self.old) }
+        ensures cause { HasCause result (event.Receive frame) self.old.base }
+    {
+        match self.receive(alloc, frame) {
+            Ok(Heard::Received) => Ok(Record::Received),
+            Ok(Heard::Passed) => Ok(Record::Passed),
+            Err(Error::NoMemory) => Err(Error::NoMemory),
+            Err(error) => Ok(Record::Refused(error)),
+        }
+    }
+}
+
+// `channel.open-ok` opens its channel.
+fn phase_replied(phases: &mut ByChannel<Phase>, channel: u16, kind: ReplyKind)
+    requires { is_some (at_channel channel phases.old.entries) ≡ true }
+    ensures { phases.new.entries ≡ phases_with channel kind phases.old.entries }
+{
+    if opens(kind) {
+        set_phase(phases, channel, Phase::Open { paused: false });
+    }
+}

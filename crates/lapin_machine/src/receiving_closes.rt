@@ -1,0 +1,221 @@
+//! Closes of the broker and its answers to closes of this side, on a channel and on the connection.
+//!
+//! The session comes here once it knows that the frame is heard. What an end drops and resolves stands in `lapin_desk`.
+
+ghost use Rattle.std.specs.Prelude.{◌≡◌, ◌≤◌, ◌++◌, true, false, [], Some, None, Err, if◌then◌else◌};
+ghost use Rattle.std.specs.List.{fold};
+ghost use Rattle.lapin_tables.specs.ByChannel.{on_channel};
+ghost use Rattle.lapin_types.specs.declared.record.Record.TheVariants.{Received};
+ghost use Rattle.lapin_types.specs.declared.request.ReplyKind.TheVariants.{ChannelCloseOk as CloseOkKind};
+ghost use Rattle.lapin_history.specs.declared.broker_frames.Incoming.TheVariants.{ChannelClose as ChannelCloseFrame, ChannelCloseOk as ChannelCloseOkFrame, ConnectionClose as ConnectionCloseFrame, ConnectionCloseOk as ConnectionCloseOkFrame};
+ghost use Rattle.lapin_history.specs.Requests.{first_request, without_kind, no_requests, ticket_of as ticket_of_lem};
+ghost use Rattle.lapin_history.specs.Phases.{is_up, has_sent_close as has_sent_close_lem};
+ghost use Rattle.lapin_history.specs.Base.{state_of, phase_of, hears_close as hears_close_lem, hears_close_ok as hears_close_ok_lem, unless_sent, has_sent};
+ghost use Rattle.lapin_history.specs.Closes.{close_ok_end as close_ok_end_lem};
+ghost use Rattle.lapin_history.specs.Drops.{without_channel, publish_tickets_of, rest_tickets_of, method_tickets_of};
+ghost use Rattle.lapin_history.specs.Marked.{failures, request_tickets, resolved_with};
+ghost use Rattle.lapin_outbox.specs.Open.{requests_at};
+ghost use Rattle.lapin_confirm.specs.Book as book;
+ghost use Rattle.lapin_ticket.specs.Desk as answers;
+ghost use Rattle.lapin_desk.specs.Queued.{AreQueued};
+ghost use Rattle.lapin_machine.specs.Kept.{kept_requests, is_close_sent as is_close_sent_lem};
+ghost use Rattle.lapin_machine.specs.World.{hearing};
+ghost use Rattle.lapin_machine.specs.Told.{HeardTold, WasHeard};
+ghost use Rattle.lapin_machine.specs.Numbers.{HasNumbers};
+
+use crate::channel::Heard;
+use crate::closing::go_down;
+use crate::session::{Session, set_phase};
+use lapin_confirm::Confirms;
+use lapin_desk::Desk;
+use lapin_history::{Link, Phase, after_broker_close, close_ok_end, has_sent_close};
+use lapin_outbox::Replies;
+use lapin_types::{Answer, ChannelMethod, ConnectionMethod, Error, Method, ReplyKind, Request};
+use std::alloc::Global;
+
+impl Session {
+    // The broker closes a channel: its opening ends, and close-ok is queued. Where this side's close has left the two crossed.
+    pub(crate) fn hear_channel_close(
+        &mut self,
+        alloc: Global,
+        channel: u16,
+        code: u16,
+    ) -> Result<Heard, Error>
+        requires { hears_close_lem (state_of channel self.old.base) ≡ true }
+        ensures told { HeardTold result Received }
+        ensures ok { WasHeard result (self.new ≡ hearing (ChannelCloseFrame channel code) Received self.old) (self.new ≡ self.old) }
+        ensures numbers { HasNumbers result }
+    {
+        let phase = self.phase(channel);
+        self.desk.outbox.reserve(alloc)?;
+        self.desk.replies.reserve(alloc, channel)?;
+        let error = Error::ProtocolError(code);
+        let close = end_but_close(&mut self.desk, &mut self.confirms, channel, error);
+        set_phase(&mut self.phases, channel, after_broker_close(phase));
+        keep_or_fail(&mut self.desk, alloc, channel, close, phase, error);
+        self.desk
+            .note(alloc, channel, Method::Channel(ChannelMethod::CloseOk));
+        Ok(Heard::Received)
+    }
+
+    // The broker answers a close of a channel: the channel is closed and the close done.
+    pub(crate) fn hear_channel_close_ok(&mut self, channel: u16)
+        requires { hears_close_ok_lem (state_of channel self.old.base) ≡ true }
+        ensures { self.new ≡ hearing (ChannelCloseOkFrame channel) Received self.old }
+    {
+        match close_ok_end(self.phase(channel)) {
+            Some(error) => self.end_closing(channel, error),
+            None => self.end_crossed(channel),
+        }
+    }
+
+    // The opening of a channel that this side closes ends with the answer. The close is done first, also where it has not left:
+    // the end drops it then.
+    fn end_closing(&mut self, channel: u16, error: Error)
+        requires heard { hears_close_ok_lem (state_of channel self.old.base) ≡ true }
+        requires end { close_ok_end_lem (phase_of channel self.old.base) ≡ Some error }
+        ensures { self.new ≡ hearing (ChannelCloseOkFrame channel) Received self.old }
+    {
+        let close = take_request(&mut self.desk.replies, channel, ReplyKind::ChannelCloseOk);
+        self.desk.resolve(ticket_of(close), Ok(Answer::Done));
+        self.desk.end_opening(&mut self.confirms, channel, error);
+        set_phase(&mut self.phases, channel, Phase::Closed);
+    }
+
+    // A crossed close ended the opening before.
+    fn end_crossed(&mut self, channel: u16)
+        requires heard { hears_close_ok_lem (state_of channel self.old.base) ≡ true }
+        requires end { close_ok_end_lem (phase_of channel self.old.base) ≡ None }
+        ensures { self.new ≡ hearing (ChannelCloseOkFrame channel) Received self.old }
+    {
+        let close = take_request(&mut self.desk.replies, channel, ReplyKind::ChannelCloseOk);
+        set_phase(&mut self.phases, channel, Phase::Closed);
+        self.desk.resolve(ticket_of(close), Ok(Answer::Done));
+    }
+
+    // The broker closes the connection, which is open, or which this side is closing: close-ok is queued. Where this side's close
+    // has left the connection is still closing; else it is closed.
+    pub(crate) fn hear_connection_close(&mut self, alloc: Global, code: u16) -> Result<Heard, Error>
+        ensures told { HeardTold result Received }
+        ensures ok { WasHeard result (self.new ≡ hearing (ConnectionCloseFrame code) Received self.old) (self.new ≡ self.old) }
+        ensures numbers { HasNumbers result }
+    {
+        self.desk.outbox.reserve(alloc)?;
+        if is_close_sent(self.link) {
+            self.link = Link::Closing {
+                sent: true,
+                heard: true,
+            };
+            self.desk
+                .note(alloc, 0, Method::Connection(ConnectionMethod::CloseOk));
+            return Ok(Heard::Received);
+        }
+        let replies = Replies::new(alloc)?;
+        go_down(
+            &mut self.link,
+            &self.phases,
+            &mut self.desk,
+            &mut self.confirms,
+            replies,
+            Link::Closed,
+            Error::ProtocolError(code),
+        );
+        self.desk
+            .note(alloc, 0, Method::Connection(ConnectionMethod::CloseOk));
+        Ok(Heard::Received)
+    }
+
+    // The broker answers this side's close of the connection: it is closed and the close done. A close that has not left is
+    // dropped.
+    pub(crate) fn hear_connection_close_ok(&mut self)
+        requires { is_up self.old.base.link ≡ false }
+        ensures { self.new ≡ hearing ConnectionCloseOkFrame Received self.old }
+    {
+        let close = take_request(&mut self.desk.replies, 0, ReplyKind::ConnectionCloseOk);
+        drop_unsent(self.link, &mut self.desk);
+        self.link = Link::Closed;
+        self.desk.resolve(ticket_of(close), Ok(Answer::Done));
+    }
+}
+
+// An opening ends. The request of this side's close, if there is one, is taken out and not resolved.
+fn end_but_close(
+    desk: &mut Desk,
+    confirms: &mut Confirms,
+    channel: u16,
+    error: Error,
+) -> Option<Request>
+    requires queued { AreQueued confirms.old.book.cells desk.old.outbox.lists.publishes }
+    ensures close { result ≡ first_request CloseOkKind (requests_at channel desk.old.replies.waiting) }
+    ensures lists { desk.new.outbox.lists ≡ without_channel channel desk.old.outbox.lists }
+    ensures requests { desk.new.replies.waiting ≡ on_channel channel no_requests desk.old.replies.waiting }
+    ensures slots { desk.new.tickets.slots ≡ fold answers.after_mark desk.old.tickets.slots (failures error
+        (publish_tickets_of channel desk.old.outbox.lists.publishes ++ (rest_tickets_of channel desk.old.outbox.lists.rest ++
+        (method_tickets_of channel desk.old.outbox.lists.methods ++ request_tickets (without_kind CloseOkKind (requests_at channel desk.old.replies.waiting)))))) }
+    ensures book { confirms.new.book ≡ book.ended channel error confirms.old.book }
+    ensures queued { AreQueued confirms.new.book.cells desk.new.outbox.lists.publishes }
+    ensures frame_max { desk.new.outbox.frame_max ≡ desk.old.outbox.frame_max }
+    ensures room { (desk.old.outbox.spare ≤ desk.new.outbox.spare) × (desk.new.replies.ready ≡ desk.old.replies.ready) }
+{
+    let close = take_request(&mut desk.replies, channel, ReplyKind::ChannelCloseOk);
+    desk.end_opening(confirms, channel, error);
+    close
+}
+
+// Crossed closes leave the request of this side's close open, in the room that was made; else its ticket fails.
+fn keep_or_fail(
+    desk: &mut Desk,
+    alloc: Global,
+    channel: u16,
+    close: Option<Request>,
+    phase: Phase,
+    error: Error,
+)
+    requires { desk.old.replies.ready ≡ Some channel }
+    ensures requests { desk.new.replies.waiting ≡ kept_requests channel (has_sent_close_lem phase) close desk.old.replies.waiting }
+    ensures slots { desk.new.tickets.slots ≡ fold answers.after_mark desk.old.tickets.slots (if has_sent_close_lem phase then [] else resolved_with (Err error) (ticket_of_lem close)) }
+    ensures outbox { desk.new.outbox ≡ desk.old.outbox }
+{
+    if !has_sent_close(phase) {
+        desk.resolve(ticket_of(close), Err(error));
+        return;
+    }
+    if let Some(request) = close {
+        desk.replies.expect(alloc, channel, request).unwrap();
+    }
+}
+
+// Takes out the oldest request of a kind, if there is one.
+fn take_request(replies: &mut Replies, channel: u16, kind: ReplyKind) -> Option<Request>
+    ensures taken { result ≡ first_request kind (requests_at channel replies.old.waiting) }
+    ensures waiting { replies.new.waiting ≡ on_channel channel (without_kind kind) replies.old.waiting }
+    ensures ready { replies.new.ready ≡ replies.old.ready }
+{
+    replies.take_first(channel, kind)
+}
+
+// A close of the connection that has not left is dropped; it is then all that waits.
+fn drop_unsent(link: Link, desk: &mut Desk)
+    ensures lists { desk.new.outbox.lists ≡ unless_sent (has_sent link) desk.old.outbox.lists }
+    ensures frame_max { desk.new.outbox.frame_max ≡ desk.old.outbox.frame_max }
+    ensures requests { desk.new.replies ≡ desk.old.replies }
+    ensures tickets { desk.new.tickets ≡ desk.old.tickets }
+{
+    if let Link::Closing { sent: false, .. } = link {
+        desk.drop_waiting();
+    }
+}
+
+// Whether this side is closing the connection and its close has left.
+fn is_close_sent(link: Link) -> bool
+    ensures { result ≡ is_close_sent_lem link }
+{
+    matches!(link, Link::Closing { sent: true, .. })
+}
+
+// The ticket of a request, if there is a request and somebody holds its ticket.
+fn ticket_of(request: Option<Request>) -> Option<u64>
+    ensures { result ≡ ticket_of_lem request }
+{
+    request?.ticket
+}

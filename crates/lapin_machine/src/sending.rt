@@ -1,0 +1,150 @@
+//! Frames that leave: what a frame request hands out, and what leaving does to confirms, tickets and closes.
+
+ghost use Rattle.std.specs.Prelude.{◌≡◌, ◌&&◌, Some, IfOk, OnOk, OnErr};
+ghost use Rattle.std.specs.List.{fold, list_any};
+ghost use Rattle.lapin_types.specs.declared.event.Event.TheVariants as event;
+ghost use Rattle.lapin_history.specs.Base.{handed, handed_out, is_paused_on, link_sent, phases_sent};
+ghost use Rattle.lapin_history.specs.Answers.{frame_record as frame_record_lem};
+ghost use Rattle.lapin_history.specs.Marked.{left_marks, left_tickets, frame_marks};
+ghost use Rattle.lapin_confirm.specs.Book as book;
+ghost use Rattle.lapin_ticket.specs.Desk as desk;
+ghost use Rattle.lapin_tables.specs.ByChannel.{on_channel};
+ghost use Rattle.lapin_history.specs.Phases.{close_sent as close_sent_lem, is_up};
+ghost use Rattle.lapin_machine.specs.World.{told_by, next, handing};
+ghost use Rattle.lapin_machine.specs.Numbers.{HasCause, OnlyMemory};
+ghost use Rattle.lapin_machine.specs.Tied.{CanRegister};
+
+use crate::session::Session;
+use lapin_confirm::Confirms;
+use lapin_history::{Link, Phase, close_sent, link_close_sent, resolved};
+use lapin_tables::ByChannel;
+use lapin_ticket::Tickets;
+use lapin_types::{
+    ChannelMethod, ConfirmMethod, ConnectionMethod, Error, Frame, Left, Method, Record,
+};
+use std::alloc::Global;
+
+impl Session {
+    /// Hands out the next frame: the first of what follows the begun publish, else the first method, else, where `flow` is
+    /// true, the method frame of the first publish. None exactly where none of these is there. A publish whose method frame
+    /// leaves after its channel's first `confirm.select` takes the next delivery tag (RabbitMQ, publisher confirms).
+    ///
+    /// # Errors
+    /// `NoMemory` alone. Nothing changes then.
+    pub fn next_frame(&mut self, alloc: Global, flow: bool) -> Result<Option<Left>, Error>
+        ensures told { IfOk result (λ left. left ≡ handed flow self.old.base) }
+        ensures ok { OnOk result (self.new ≡ next self.old (event.Next flow)) }
+        ensures err { OnErr result (self.new ≡ self.old) }
+        ensures cause { OnlyMemory result }
+    {
+        let may_begin = flow && !self.is_paused();
+        self.hand_out(alloc, may_begin)
+    }
+
+    // Hands out the next frame, where it is known whether a publish may begin.
+    fn hand_out(&mut self, alloc: Global, may_begin: bool) -> Result<Option<Left>, Error>
+        ensures told { IfOk result (λ left. left ≡ handed_out may_begin self.old.base) }
+        ensures ok { OnOk result (self.new ≡ handing may_begin self.old) }
+        ensures err { OnErr result (self.new ≡ self.old) }
+        ensures cause { OnlyMemory result }
+    {
+        match self.desk.outbox.pop(alloc, may_begin)? {
+            Some(left) => {
+                confirms_left(&mut self.confirms, &left);
+                tickets_left(&mut self.desk.tickets, &left);
+                link_left(&mut self.link, &left.frame);
+                phases_left(&mut self.phases, &left.frame);
+                Ok(Some(left))
+            }
+            None => Ok(None),
+        }
+    }
+
+    // Whether the broker paused an open channel: then no publish begins.
+    fn is_paused(&self) -> bool
+        ensures { result ≡ (is_up self.now.base.link && list_any is_paused_on self.now.base.phases) }
+    {
+        self.link.is_up() && is_any_paused(self.phases.entries())
+    }
+
+    pub(crate) fn step_next(&mut self, alloc: Global, flow: bool) -> Result<Record, Error>
+        ensures told { IfOk result (λ r. r ≡ told_by self.old (event.Next flow)) }
+        ensures ok { OnOk result (self.new ≡ next self.old (event.Next flow)) }
+        ensures err { OnErr result (self.new ≡ self.old) }
+        ensures cause { HasCause result (event.Next flow) self.old.base }
+    {
+        Ok(frame_record(self.next_frame(alloc, flow)?))
+    }
+}
+
+fn is_any_paused(phases: &[(u16, Phase)]) -> bool
+    ensures { result ≡ list_any is_paused_on phases.now }
+{
+    phases.iter().any(|entry| entry.1.is_paused())
+}
+
+fn frame_record(left: Option<Left>) -> Record
+    ensures { result ≡ frame_record_lem left }
+{
+    match left {
+        Some(left) => Record::Frame(left.frame),
+        None => Record::NoFrame,
+    }
+}
+
+// A frame leaves: the first `confirm.select` selects, the method frame of a publish takes a tag.
+fn confirms_left(confirms: &mut Confirms, left: &Left)
+    requires { CanRegister left.now confirms.old.book.cells }
+    ensures { confirms.new.book ≡ fold book.after_mark confirms.old.book (left_marks (Some left.now)) }
+{
+    match (left.publish, left.first) {
+        (None, _) => select_left(confirms, &left.frame),
+        (Some(number), true) => {
+            let _tag = confirms.register(number);
+        }
+        (Some(_), false) => {}
+    }
+}
+
+fn select_left(confirms: &mut Confirms, frame: &Frame)
+    ensures { confirms.new.book ≡ fold book.after_mark confirms.old.book (frame_marks frame.now) }
+{
+    if let Frame::Method(channel, Method::Confirm(ConfirmMethod::Select { .. })) = frame {
+        confirms.select_left(*channel);
+    }
+}
+
+// The last frame of a publish resolves its ticket.
+fn tickets_left(tickets: &mut Tickets, left: &Left)
+    ensures { tickets.new.slots ≡ fold desk.after_mark tickets.old.slots (left_tickets (Some left.now)) }
+{
+    if let Some((ticket, answer)) = resolved(left) {
+        tickets.answer(ticket, Ok(answer));
+    }
+}
+
+// A close of the connection is known to have left.
+fn link_left(link: &mut Link, frame: &Frame)
+    ensures { link.new ≡ link_sent frame.now link.old }
+{
+    if let Frame::Method(_, Method::Connection(ConnectionMethod::Close { .. })) = frame {
+        *link = link_close_sent(*link);
+    }
+}
+
+// A close of a channel is known to have left.
+fn phases_left(phases: &mut ByChannel<Phase>, frame: &Frame)
+    ensures { phases.new.entries ≡ phases_sent frame.now phases.old.entries }
+{
+    if let Frame::Method(channel, Method::Channel(ChannelMethod::Close { .. })) = frame {
+        phase_left(phases, *channel);
+    }
+}
+
+fn phase_left(phases: &mut ByChannel<Phase>, channel: u16)
+    ensures { phases.new.entries ≡ on_channel channel close_sent_lem phases.old.entries }
+{
+    if let Some(phase) = phases.get_mut(channel) {
+        *phase = close_sent(*phase);
+    }
+}

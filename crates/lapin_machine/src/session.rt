@@ -1,0 +1,183 @@
+//! The session: its parts, its value, and the step over all events.
+//!
+//! What an event does stands in the files beside this one: calls, closes and the loss, frames that leave, frames of the broker,
+//! polls.
+
+ghost use Rattle.std.specs.Prelude.{◌≡◌, ◌≤◌, ◌++◌, ◌∷◌, [], List, ℕ, None, IfOk, OnOk, OnErr};
+ghost use Rattle.lapin_types.specs.declared.event.Event.TheVariants as event;
+ghost use Rattle.lapin_history.specs.Base.{state_of, phase_of, is_open as is_open_lem, is_closed as is_closed_lem, is_base as is_base_lem};
+ghost use Rattle.lapin_history.specs.Phases.{connection_state as connection_state_lem};
+ghost use Rattle.lapin_history.specs.History.{History, rec};
+ghost use Rattle.lapin_tables.specs.ByChannel.{at_channel, HasRoom};
+ghost use Rattle.lapin_history.specs.Words.{with_channel};
+ghost use Rattle.lapin_machine.specs.World.{told_by, next, new_world};
+ghost use Rattle.lapin_machine.specs.Numbers.{HasCause};
+ghost use Rattle.lapin_machine.specs.Stands.{Stands};
+
+use lapin_confirm::Confirms;
+use lapin_desk::Desk;
+use lapin_history::{Link, Phase};
+use lapin_outbox::{Outbox, Replies};
+use lapin_tables::ByChannel;
+use lapin_ticket::Tickets;
+use lapin_types::{Call, ChannelState, ConnectionState, Error, Event, NoMemory, Record};
+use std::alloc::Global;
+use std::marker::Model;
+
+/// One connection's channels, calls and confirms, without a socket. Contracts see it as a `World`: where the connection and
+/// its channels stand, lists, requests and counters, the confirms and the tickets.
+#[derive(Drop)]
+pub struct Session {
+    pub(crate) link: Link,
+    pub(crate) phases: ByChannel<Phase>,
+    pub(crate) desk: Desk,
+    pub(crate) confirms: Confirms,
+}
+
+impl Model for Session {
+    ghost use Rattle.std.specs.Prelude.{length};
+    ghost use Rattle.lapin_machine.specs.World.{World};
+    ghost use Rattle.lapin_machine.specs.Codes.{world_code};
+
+    ghost Value = { World };
+
+    ghost coded = { world_code };
+
+    ghost use Rattle.lapin_machine.specs.Tied.{IsTied};
+
+    ghost view = { λ a. record {
+      base = record {
+        frame_max = a.desk.outbox.frame_max;
+        link = a.link;
+        phases = a.phases.entries;
+        rest = a.desk.outbox.lists.rest;
+        methods = a.desk.outbox.lists.methods;
+        publishes = a.desk.outbox.lists.publishes;
+        requests = a.desk.replies.waiting;
+        tickets = length a.desk.tickets.slots;
+        published = length a.confirms.book.cells;
+      };
+      book = a.confirms.book;
+      slots = a.desk.tickets.slots;
+    } };
+
+    ghost invariant = { λ a. IsTied a.link a.phases.entries a.desk.outbox.lists.publishes a.confirms.book };
+}
+
+impl Session {
+    /// A new session: the connection is open and every channel closed. `frame_max` is the greatest size of a frame in bytes
+    /// (AMQP 0-9-1, section 4.2.3).
+    ///
+    /// # Errors
+    /// `NoMemory` alone.
+    pub fn new(alloc: Global, frame_max: u32) -> Result<Session, NoMemory>
+        requires { 4096 ≤ frame_max }
+        ensures { IfOk result (λ session. session ≡ new_world frame_max) }
+    {
+        Ok(Session {
+            link: Link::Open,
+            phases: ByChannel::new(alloc),
+            desk: Desk {
+                outbox: Outbox::new(alloc, frame_max)?,
+                replies: Replies::new(alloc)?,
+                tickets: Tickets::new(alloc),
+            },
+            confirms: Confirms::new(alloc)?,
+        })
+    }
+
+    /// The state of a channel. Channel 0 is the connection's own; every channel is down while the connection is not open.
+    pub fn channel_state(&self, channel: u16) -> ChannelState
+        ensures { result ≡ state_of channel self.now.base }
+    {
+        if !self.link.is_up() {
+            return ChannelState::Down;
+        }
+        if channel == 0 {
+            return ChannelState::Base;
+        }
+        self.phase(channel).state()
+    }
+
+    /// The state of the connection.
+    pub fn connection_state(&self) -> ConnectionState
+        ensures { result ≡ connection_state_lem self.now.base.link }
+    {
+        self.link.state()
+    }
+
+    // Where a channel stands while the connection is open.
+    pub(crate) fn phase(&self, channel: u16) -> Phase
+        ensures { result ≡ phase_of channel self.now.base }
+    {
+        match self.phases.get(channel) {
+            Some(phase) => *phase,
+            None => Phase::Closed,
+        }
+    }
+
+    /// The one door over all events: its record, which the history determines.
+    ///
+    /// # Errors
+    /// `NoMemory`, and `NumbersUsedUp` where a number that the event needs would pass the greatest `u64`. Nothing changes
+    /// then. Every other refusal is a record.
+    pub fn step(&mut self, alloc: Global, event: Event) -> Result<Record, Error>
+        ensures told { IfOk result (λ r. r ≡ told_by self.old event) }
+        ensures ok { OnOk result (self.new ≡ next self.old event) }
+        ensures err { OnErr result (self.new ≡ self.old) }
+        ensures cause { HasCause result event self.old.base }
+
+        // In the words of a history: its record, and the session then stands for the longer one.
+        ensures stands { IfOk result (λ r. (frame_max : ℕ) (h : History) → Stands frame_max h self.old →
+            (r ≡ rec frame_max h event) × Stands frame_max (h ++ (event, r) ∷ []) self.new) }
+    {
+        self.step_machine(alloc, event)
+    }
+
+    fn step_machine(&mut self, alloc: Global, event: Event) -> Result<Record, Error>
+        ensures told { IfOk result (λ r. r ≡ told_by self.old event) }
+        ensures ok { OnOk result (self.new ≡ next self.old event) }
+        ensures err { OnErr result (self.new ≡ self.old) }
+        ensures cause { HasCause result event self.old.base }
+    {
+        match event {
+            Event::Call(channel, call) => self.step_call(alloc, channel, call),
+            Event::Next(flow) => self.step_next(alloc, flow),
+            Event::Receive(frame) => self.step_receive(alloc, frame),
+            Event::PollTicket(number) => Ok(self.step_poll_ticket(number)),
+            Event::PollConfirm(number) => Ok(self.step_poll_confirm(number)),
+            Event::State(channel) => Ok(self.step_state(channel)),
+            Event::Lost => self.step_lost(alloc),
+        }
+    }
+}
+
+// Puts a channel where an open or a close leads it.
+pub(crate) fn set_phase(phases: &mut ByChannel<Phase>, channel: u16, phase: Phase)
+    requires { at_channel channel phases.old.entries ≡ None → HasRoom channel phases.old }
+    ensures { phases.new.entries ≡ with_channel channel phase phases.old.entries }
+{
+    if let Some(held) = phases.get_mut(channel) {
+        *held = phase;
+        return;
+    }
+    phases.insert_reserved(channel, phase);
+}
+
+pub(crate) fn is_open(state: ChannelState) -> bool
+    ensures { result ≡ is_open_lem state }
+{
+    matches!(state, ChannelState::Open)
+}
+
+pub(crate) fn is_closed(state: ChannelState) -> bool
+    ensures { result ≡ is_closed_lem state }
+{
+    matches!(state, ChannelState::Closed)
+}
+
+pub(crate) fn is_base(state: ChannelState) -> bool
+    ensures { result ≡ is_base_lem state }
+{
+    matches!(state, ChannelState::Base)
+}

@@ -1,5 +1,0 @@
-use Rattle.lapin_session.proofs.Standing.{stands_result}
-use Rattle.lapin_session.proofs.session.Session.step.Goals as goal
-
-pub returns-clause-stands : goal.returns-clause-stands
-returns-clause-stands c = stands_result c.step_machine.result c.args.self.now c.step_machine.new.self c.args.event c.step_machine.ensures.told c.step_machine.ensures.ok
