@@ -1,73 +1,52 @@
 -- The cells of a book that follows a history follow the longer one.
-use Rattle.std.proofs.Common.{◌≡◌, ℕ, ◌<◌, ◌==◌, Bool, true, false, cond, ◌||◌, ◌&&◌, List, [], ◌∷◌, ◌++◌, Option, Some, None, refl, ◌∙◌, ap, eq-eqb}
+use Rattle.std.proofs.Common.{◌≡◌, ℕ, suc, ◌<◌, ◌==◌, true, false, cond, ◌||◌, ◌&&◌, List, [], ◌∷◌, ◌++◌, Option, Some, None, refl, ◌∙◌, ap, eq-eqb}
 use Rattle.std.specs.Option.{option_or, option_map}
-use Rattle.lapin_types.specs.Types.{Error}
 use Rattle.lapin_history.specs.declared.marks.Outcome.{Outcome}
 use Rattle.lapin_history.specs.declared.marks.Outcome.TheVariants as outcome
-use Rattle.lapin_history.specs.declared.marks.ConfirmMark.{ConfirmMark}
-use Rattle.lapin_history.specs.declared.marks.ConfirmMark.TheVariants as mark
+use Rattle.lapin_history.specs.ConfirmMarks.{ConfirmMark}
+use Rattle.lapin_history.specs.ConfirmMarks as mark
 use Rattle.lapin_history.specs.Words.{after}
-use Rattle.lapin_history.specs.ConfirmReadings.{leaves, takes, has_left, is_taken, channel_of, tag_of, tag_on, first_settled, settlement_on, first_rejected, rejection_of, life, added, covers, outcome_of}
+use Rattle.lapin_history.specs.ConfirmReadings.{leaves, takes, has_left, is_taken, channel_of, tag_of, tag_on, first_settled, settlement_on, first_rejected, rejection_on, life, added, covers, outcome_of}
 use Rattle.lapin_history.proofs.ListLaws.{any-push, after-push, through-push}
 use Rattle.lapin_history.proofs.ConfirmLaws.{settled-push, rejected-push, accepted-push, life-push, accepted_new, life_new}
 use Rattle.lapin_confirm.specs.declared.cell.Cell.{Cell}
 use Rattle.lapin_confirm.specs.declared.cell.Cell.TheVariants as cell
-use Rattle.lapin_confirm.specs.Book.{tag_for, cell_with, settled_cell, ended_cell}
+use Rattle.lapin_confirm.specs.Book.{tag_for, cell_with, settled_cell, closed_cell, ended_cell}
 use Rattle.lapin_confirm.specs.Follows.{line_in, open_cell, cell_in, left_cell, pending_cell, queued_cell}
 use Rattle.lapin_confirm.proofs.LineFollowing.{tag-push}
-
--- the mark rejects publish k
-abbrev pub rejects : ℕ → ConfirmMark → Bool
-rejects k (mark.Rejected j e) = k == j
-rejects k _ = false
 
 -- what a mark of something else does to a publish's cell
 abbrev pub stood : ConfirmMark → Option Cell → Option Cell
 stood (mark.Settled c s) o = option_map (settled_cell c (covers s) (outcome_of s)) o
+stood (mark.ClosedHere c e) o = option_map (closed_cell c e) o
 stood (mark.Ended c e) o = option_map (ended_cell c e) o
 stood _ o = o
 
 resolved_stays : (m : ConfirmMark) (o : Outcome) → Some (cell.Resolved o) ≡ stood m (Some (cell.Resolved o))
-resolved_stays (mark.Begun c) o = refl
-resolved_stays (mark.Added c) o = refl
-resolved_stays (mark.SelectLeft c) o = refl
-resolved_stays (mark.Left c k) o = refl
 resolved_stays (mark.Settled c s) o = refl
-resolved_stays (mark.Rejected k e) o = refl
+resolved_stays (mark.ClosedHere c e) o = refl
 resolved_stays (mark.Ended c e) o = refl
-resolved_stays (mark.Taken k) o = refl
+resolved_stays _ o = refl
 
 none_stays : (m : ConfirmMark) → None ≡ stood m None
-none_stays (mark.Begun c) = refl
-none_stays (mark.Added c) = refl
-none_stays (mark.SelectLeft c) = refl
-none_stays (mark.Left c k) = refl
 none_stays (mark.Settled c s) = refl
-none_stays (mark.Rejected k e) = refl
+none_stays (mark.ClosedHere c e) = refl
 none_stays (mark.Ended c e) = refl
-none_stays (mark.Taken k) = refl
+none_stays _ = refl
 
 pending-push : (c t : ℕ) (o : Option Outcome) (m : ConfirmMark) → Some (pending_cell c t (option_or o (settlement_on c t m))) ≡ stood m (Some (pending_cell c t o))
 pending-push c t (Some o) m = resolved_stays m o
-pending-push c t None (mark.Begun d) = refl
-pending-push c t None (mark.Added d) = refl
-pending-push c t None (mark.SelectLeft d) = refl
-pending-push c t None (mark.Left d k) = refl
 pending-push c t None (mark.Settled d s) = elim (c == d && covers s t) as (λ b. Some (pending_cell c t (cond b (Some (outcome_of s)) None)) ≡ Some (cond b (cell.Resolved (outcome_of s)) (cell.Pending c t))) [ true ↦ refl | false ↦ refl ]
-pending-push c t None (mark.Rejected k e) = refl
+pending-push c t None (mark.ClosedHere d e) = refl
 pending-push c t None (mark.Ended d e) = elim (c == d) as (λ b. Some (pending_cell c t (cond b (Some (outcome.Failed e)) None)) ≡ Some (cond b (cell.Resolved (outcome.Failed e)) (cell.Pending c t))) [ true ↦ refl | false ↦ refl ]
-pending-push c t None (mark.Taken k) = refl
+pending-push c t None _ = refl
 
-queued-push : (c k : ℕ) (o : Option Outcome) (m : ConfirmMark) → rejects k m ≡ false → Some (queued_cell c (option_or o (rejection_of c k m))) ≡ stood m (Some (queued_cell c o))
-queued-push c k (Some o) m h = resolved_stays m o
-queued-push c k None (mark.Begun d) h = refl
-queued-push c k None (mark.Added d) h = refl
-queued-push c k None (mark.SelectLeft d) h = refl
-queued-push c k None (mark.Left d j) h = refl
-queued-push c k None (mark.Settled d s) h = refl
-queued-push c k None (mark.Rejected j e) h = rw h refl
-queued-push c k None (mark.Ended d e) h = elim (c == d) as (λ b. Some (queued_cell c (cond b (Some (outcome.Failed e)) None)) ≡ Some (cond b (cell.Resolved (outcome.Failed e)) (cell.Queued c))) [ true ↦ refl | false ↦ refl ]
-queued-push c k None (mark.Taken j) h = refl
+queued-push : (c : ℕ) (o : Option Outcome) (m : ConfirmMark) → Some (queued_cell c (option_or o (rejection_on c m))) ≡ stood m (Some (queued_cell c o))
+queued-push c (Some o) m = resolved_stays m o
+queued-push c None (mark.Settled d s) = refl
+queued-push c None (mark.ClosedHere d e) = elim (c == d) as (λ b. Some (queued_cell c (cond b (Some (outcome.Failed e)) None)) ≡ Some (cond b (cell.Resolved (outcome.Failed e)) (cell.Queued c))) [ true ↦ refl | false ↦ refl ]
+queued-push c None (mark.Ended d e) = elim (c == d) as (λ b. Some (queued_cell c (cond b (Some (outcome.Failed e)) None)) ≡ Some (cond b (cell.Resolved (outcome.Failed e)) (cell.Queued c))) [ true ↦ refl | false ↦ refl ]
+queued-push c None _ = refl
 
 left_cell-push : (c : ℕ) (t : Option ℕ) (ms : List ConfirmMark) (m : ConfirmMark) → Some (left_cell c t (ms ++ m ∷ [])) ≡ stood m (Some (left_cell c t ms))
 left_cell-push c None ms m = resolved_stays m outcome.NotRequested
@@ -79,21 +58,21 @@ left-push k ms m = any-push (leaves k) ms m
 pub taken-push : (k : ℕ) (ms : List ConfirmMark) (m : ConfirmMark) → is_taken k (ms ++ m ∷ []) ≡ (is_taken k ms || takes k m)
 taken-push k ms m = any-push (takes k) ms m
 
-open-step : (k : ℕ) (ms : List ConfirmMark) (m : ConfirmMark) → k < added ms → leaves k m ≡ false → rejects k m ≡ false → Some (open_cell k (ms ++ m ∷ [])) ≡ stood m (Some (open_cell k ms))
-open-step k ms m known away kept =
-    elim (has_left k ms) as (λ b. has_left k ms ≡ b → Some (open_cell k (ms ++ m ∷ [])) ≡ stood m (Some (open_cell k ms))) [
-      | true ↦ λ left. rw (left-push k ms m, left, accepted-push k ms m known, through-push (leaves k) ms m, left, after-push (leaves k) ms m, left) (left_cell-push (channel_of k ms) (tag_of k ms) (after (leaves k) ms) m)
-      | false ↦ λ left. rw (left-push k ms m, left, away, accepted-push k ms m known, life-push k ms m known, rejected-push (channel_of k ms) k (life k ms) m) (queued-push (channel_of k ms) k (first_rejected (channel_of k ms) k (life k ms)) m kept)
+open-step : (k : ℕ) (ms : List ConfirmMark) (m : ConfirmMark) → k < added ms → leaves (suc k) m ≡ false → Some (open_cell (suc k) (ms ++ m ∷ [])) ≡ stood m (Some (open_cell (suc k) ms))
+open-step k ms m known away =
+    elim (has_left (suc k) ms) as (λ b. has_left (suc k) ms ≡ b → Some (open_cell (suc k) (ms ++ m ∷ [])) ≡ stood m (Some (open_cell (suc k) ms))) [
+      | true ↦ λ left. rw (left-push (suc k) ms m, left, accepted-push k ms m known, through-push (leaves (suc k)) ms m, left, after-push (leaves (suc k)) ms m, left) (left_cell-push (channel_of (suc k) ms) (tag_of (suc k) ms) (after (leaves (suc k)) ms) m)
+      | false ↦ λ left. rw (left-push (suc k) ms m, left, away, accepted-push k ms m known, life-push k ms m known, rejected-push (channel_of (suc k) ms) (life (suc k) ms) m) (queued-push (channel_of (suc k) ms) (first_rejected (channel_of (suc k) ms) (life (suc k) ms)) m)
     ] refl
 
 -- what a mark of something else does to a publish's cell
-pub cell-step : (k : ℕ) (ms : List ConfirmMark) (m : ConfirmMark) → k < added ms → leaves k m ≡ false → takes k m ≡ false → rejects k m ≡ false → cell_in k (ms ++ m ∷ []) ≡ stood m (cell_in k ms)
-cell-step k ms m known away kept held =
-    elim (is_taken k ms) as (λ b. is_taken k ms ≡ b → cell_in k (ms ++ m ∷ []) ≡ stood m (cell_in k ms)) [
-      | true ↦ λ h. rw (taken-push k ms m, h) (none_stays m)
+pub cell-step : (k : ℕ) (ms : List ConfirmMark) (m : ConfirmMark) → k < added ms → leaves (suc k) m ≡ false → takes (suc k) m ≡ false → cell_in (suc k) (ms ++ m ∷ []) ≡ stood m (cell_in (suc k) ms)
+cell-step k ms m known away kept =
+    elim (is_taken (suc k) ms) as (λ b. is_taken (suc k) ms ≡ b → cell_in (suc k) (ms ++ m ∷ []) ≡ stood m (cell_in (suc k) ms)) [
+      | true ↦ λ h. rw (taken-push (suc k) ms m, h) (none_stays m)
       | false ↦ λ h.
-          let still : is_taken k (ms ++ m ∷ []) ≡ false = taken-push k ms m ∙ rw (h, kept) refl in
-          rw (still, h) (open-step k ms m known away held)
+          let still : is_taken (suc k) (ms ++ m ∷ []) ≡ false = taken-push (suc k) ms m ∙ rw (h, kept) refl in
+          rw (still, h) (open-step k ms m known away)
     ] refl
 
 left_first : (c : ℕ) (t : Option ℕ) → left_cell c t [] ≡ cell_with c t
@@ -105,7 +84,7 @@ pub record IsQueued (c k : ℕ) (ms : List ConfirmMark) : Type 0 where
   pub kept : is_taken k ms ≡ false
   pub waits : has_left k ms ≡ false
   pub channel : channel_of k ms ≡ c
-  pub unrejected : first_rejected (channel_of k ms) k (life k ms) ≡ None
+  pub unrejected : first_rejected (channel_of k ms) (life k ms) ≡ None
 
 unqueued : (c d : ℕ) (t : Option ℕ) (later : List ConfirmMark) → Some (left_cell d t later) ≡ Some (cell.Queued c) → ⊥
 unqueued c d None later e = cc
@@ -119,29 +98,22 @@ pub queued_facts : (c k : ℕ) (ms : List ConfirmMark) → cell_in k ms ≡ Some
 queued_facts c k ms =
     elim (is_taken k ms) as (λ a. is_taken k ms ≡ a → cond a None (Some (open_cell k ms)) ≡ Some (cell.Queued c) → IsQueued c k ms) [
       | true ↦ λ t e. cc
-      | false ↦ λ t. elim (has_left k ms) as (λ a. has_left k ms ≡ a → Some (cond a (left_cell (channel_of k ms) (tag_of k ms) (after (leaves k) ms)) (queued_cell (channel_of k ms) (first_rejected (channel_of k ms) k (life k ms)))) ≡ Some (cell.Queued c) → IsQueued c k ms) [
+      | false ↦ λ t. elim (has_left k ms) as (λ a. has_left k ms ≡ a → Some (cond a (left_cell (channel_of k ms) (tag_of k ms) (after (leaves k) ms)) (queued_cell (channel_of k ms) (first_rejected (channel_of k ms) (life k ms)))) ≡ Some (cell.Queued c) → IsQueued c k ms) [
         | true ↦ λ l e. absurd (unqueued c (channel_of k ms) (tag_of k ms) (after (leaves k) ms) e)
         | false ↦ λ l e.
-            let facts = same_channel c (channel_of k ms) (first_rejected (channel_of k ms) k (life k ms)) e in
+            let facts = same_channel c (channel_of k ms) (first_rejected (channel_of k ms) (life k ms)) e in
             record { kept = t; waits = l; channel = facts.0; unrejected = facts.1 }
       ] refl
     ] refl
 
 -- a publish leaves
-pub cell-left : (c k : ℕ) (ms : List ConfirmMark) → k < added ms → cell_in k ms ≡ Some (cell.Queued c) → cell_in k (ms ++ mark.Left c k ∷ []) ≡ Some (cell_with c (tag_for (line_in c ms)))
+pub cell-left : (c k : ℕ) (ms : List ConfirmMark) → k < added ms → cell_in (suc k) ms ≡ Some (cell.Queued c) → cell_in (suc k) (ms ++ mark.Left c (suc k) ∷ []) ≡ Some (cell_with c (tag_for (line_in c ms)))
 cell-left c k ms known is =
-    let facts : IsQueued c k ms = queued_facts c k ms is in
-    let here : (k == k) ≡ true = eq-eqb k k refl in
-    rw (taken-push k ms (mark.Left c k), facts.kept, left-push k ms (mark.Left c k), facts.waits, here, accepted-push k ms (mark.Left c k) known, facts.channel, through-push (leaves k) ms (mark.Left c k), facts.waits, after-push (leaves k) ms (mark.Left c k), facts.waits)
-    (ap Some (left_first c (tag_on c (ms ++ mark.Left c k ∷ [])) ∙ ap (cell_with c) (tag-push c k ms)))
-
--- a publish is rejected
-pub cell-rejected : (c k : ℕ) (e : Error) (ms : List ConfirmMark) → k < added ms → cell_in k ms ≡ Some (cell.Queued c) → cell_in k (ms ++ mark.Rejected k e ∷ []) ≡ Some (cell.Resolved (outcome.Failed e))
-cell-rejected c k e ms known is =
-    let facts : IsQueued c k ms = queued_facts c k ms is in
-    let here : (k == k) ≡ true = eq-eqb k k refl in
-    rw (taken-push k ms (mark.Rejected k e), facts.kept, left-push k ms (mark.Rejected k e), facts.waits, accepted-push k ms (mark.Rejected k e) known, life-push k ms (mark.Rejected k e) known, rejected-push (channel_of k ms) k (life k ms) (mark.Rejected k e), facts.unrejected, here) refl
+    let facts : IsQueued c (suc k) ms = queued_facts c (suc k) ms is in
+    let here : (suc k == suc k) ≡ true = eq-eqb (suc k) (suc k) refl in
+    rw (taken-push (suc k) ms (mark.Left c (suc k)), facts.kept, left-push (suc k) ms (mark.Left c (suc k)), facts.waits, here, accepted-push k ms (mark.Left c (suc k)) known, facts.channel, through-push (leaves (suc k)) ms (mark.Left c (suc k)), facts.waits, after-push (leaves (suc k)) ms (mark.Left c (suc k)), facts.waits)
+    (ap Some (left_first c (tag_on c (ms ++ mark.Left c (suc k) ∷ [])) ∙ ap (cell_with c) (tag-push c (suc k) ms)))
 
 -- a new publish
-pub cell-added : (c k : ℕ) (ms : List ConfirmMark) → k ≡ added ms → (has_left k ms ≡ false) × (is_taken k ms ≡ false) → cell_in k (ms ++ mark.Added c ∷ []) ≡ Some (cell.Queued c)
-cell-added c k ms last fresh = rw (taken-push k ms (mark.Added c), fresh.1, left-push k ms (mark.Added c), fresh.0, accepted_new k c ms last, life_new k c ms last) refl
+pub cell-added : (c k : ℕ) (ms : List ConfirmMark) → k ≡ added ms → (has_left (suc k) ms ≡ false) × (is_taken (suc k) ms ≡ false) → cell_in (suc k) (ms ++ mark.Added c ∷ []) ≡ Some (cell.Queued c)
+cell-added c k ms last fresh = rw (taken-push (suc k) ms (mark.Added c), fresh.1, left-push (suc k) ms (mark.Added c), fresh.0, accepted_new k c ms last, life_new k c ms last) refl

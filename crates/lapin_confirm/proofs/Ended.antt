@@ -38,7 +38,7 @@ ended-settled c p e cells none all = map-same (settled_cell c p (outcome.Failed 
 pub ended-untouched : (c : ℕ) (e : Error) (cells : List (Option Cell)) → Untouched c cells → map (option_map (ended_cell c e)) cells ≡ cells
 ended-untouched c e cells none = sym (ended-settled c (λ _. true) e cells none.queued (λ n t there. refl)) ∙ settled-untouched c (λ _. true) (outcome.Failed e) cells none
 
-map-with : {T U : Type 0} (f : Option T → U) (n : ℕ) (o : Option T) (x : T) (xs : List (Option T)) → under n xs ≡ Some x → f o ≡ f (Some x) → map f (with_under n o xs) ≡ map f xs
+pub map-with : {T U : Type 0} (f : Option T → U) (n : ℕ) (o : Option T) (x : T) (xs : List (Option T)) → under n xs ≡ Some x → f o ≡ f (Some x) → map f (with_under n o xs) ≡ map f xs
 map-with f zero o x xs was same = cc
 map-with f (suc k) o x [] was same = cc
 map-with f (suc zero) o x (p ∷ xs) was same = ap (λ y. y ∷ map f xs) (same ∙ ap f (sym was))

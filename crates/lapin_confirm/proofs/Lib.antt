@@ -9,3 +9,9 @@ pub mod Books
 pub mod Ended
 pub mod Closed
 pub mod Tags
+pub mod Closing
+pub mod Spans
+pub mod Places
+pub mod Trays
+pub mod Attaching
+pub mod Covered

@@ -1,26 +1,31 @@
 -- The lines of a book that follows a history follow the longer one.
 use Rattle.std.proofs.Common.{◌≡◌, ℕ, ◌+◌, ◌==◌, Bool, true, false, cond, ◌||◌, ◌&&◌, List, [], ◌∷◌, ◌++◌, Option, Some, None, refl, sym, ◌∙◌, ap, subst, inl, inr, eq-eqb}
-use Rattle.std.specs.List.{count_by}
+use Rattle.std.specs.List.{count_by, list_any}
 use Rattle.std.specs.Option.{option_map}
 use Rattle.std.proofs.Math.Bool.{or-true}
 use Rattle.std.proofs.lemmas.Bool.Decides.{eqb_tells}
-use Rattle.lapin_tables.specs.ByChannel.{at_channel}
-use Rattle.lapin_history.specs.declared.marks.ConfirmMark.{ConfirmMark}
-use Rattle.lapin_history.specs.declared.marks.ConfirmMark.TheVariants as mark
+use Rattle.lapin_tables.specs.ByChannel.{at_channel, on_channel}
+use Rattle.lapin_history.specs.ConfirmMarks.{ConfirmMark}
+use Rattle.lapin_history.specs.ConfirmMarks as mark
 use Rattle.lapin_history.specs.Words.{after}
-use Rattle.lapin_history.specs.ConfirmReadings.{begins, selects, leaves_on, opening, is_begun, is_selected, place}
+use Rattle.lapin_history.specs.ConfirmReadings.{begins, turns, selects, asks, leaves_on, limit_after, opening, present, is_begun, is_selected, place, is_asked, last_limit, limit_of}
 use Rattle.lapin_history.proofs.ListLaws.{any-push, after-push, after_none, count-push, since-push}
+use Rattle.lapin_history.proofs.ConfirmLaws.{limit-push}
 use Rattle.lapin_history.proofs.ChannelLaws.{at-on, at-with}
-use Rattle.lapin_confirm.specs.Book.{Line, Book, fresh_line, selected_line, next_line, tag_for, lines_with, after_mark}
+use Rattle.lapin_confirm.specs.Book.{Line, Book, fresh_line, selected_line, asked_line, limited_line, ended_line, next_line, tag_for, lines_with, after_mark}
 use Rattle.lapin_confirm.specs.Follows.{line_in}
 
-abbrev line : Bool → ℕ → Line
-line s n = record { selected = s; last = n }
+abbrev line : Bool → ℕ → Bool → ℕ → Line
+line s n a l = record { selected = s; last = n; asked = a; limit = l }
 
--- what one more mark does to the line of channel c
+-- what one more mark does to a line that is there
+abbrev moved : ℕ → ConfirmMark → Line → Line
+moved c m l = line (l.selected || selects c m) (cond (l.selected && leaves_on c m) (l.last + 1) l.last) (cond (turns c m) false (l.asked || asks c m)) (cond (turns c m) 0 (limit_after c l.limit m))
+
+-- and to the line of channel c
 abbrev line_after : ℕ → ConfirmMark → Option Line → Option Line
-line_after c m None = cond (begins c m) (Some (line false 0)) None
-line_after c m (Some l) = cond (begins c m) (Some (line false 0)) (Some (line (l.selected || selects c m) (cond (l.selected && leaves_on c m) (l.last + 1) l.last)))
+line_after c m None = cond (begins c m) (Some fresh_line) None
+line_after c m (Some l) = cond (begins c m) (Some fresh_line) (Some (moved c m l))
 
 pub selected-push : (c : ℕ) (ms : List ConfirmMark) (m : ConfirmMark) → begins c m ≡ false → is_begun c ms ≡ true → is_selected c (ms ++ m ∷ []) ≡ (is_selected c ms || selects c m)
 selected-push c ms m old h = rw (since-push (begins c) ms m, old, h) (any-push (selects c) (opening c ms) m)
@@ -33,58 +38,119 @@ place-push c ms m old h =
       | false ↦ λ s. ap (count_by (leaves_on c)) (sym (after_none (selects c) (opening c ms) s))
     ] refl)
 
+-- a begin is a turn
+turned : (c : ℕ) (m : ConfirmMark) → begins c m ≡ true → turns c m ≡ true
+turned c (mark.Begun d) h = h
+turned c _ h = cc
+
+begun-turned : (c : ℕ) (ms : List ConfirmMark) → is_begun c ms ≡ true → list_any (turns c) ms ≡ true
+begun-turned c [] h = cc
+begun-turned c (m ∷ ms) h =
+    elim (begins c m) as (λ b. begins c m ≡ b → (b || is_begun c ms) ≡ true → (turns c m || list_any (turns c) ms) ≡ true) [
+      | true ↦ λ now h. rw (turned c m now) refl
+      | false ↦ λ now h. rw (begun-turned c ms h) (or-true (turns c m))
+    ] refl h
+
+asked-push : (c : ℕ) (ms : List ConfirmMark) (m : ConfirmMark) → is_begun c ms ≡ true → is_asked c (ms ++ m ∷ []) ≡ cond (turns c m) false (is_asked c ms || asks c m)
+asked-push c ms m h =
+    rw (since-push (turns c) ms m, begun-turned c ms h)
+    (elim (turns c m) as (λ b. list_any (asks c) (cond b [] (present c ms ++ m ∷ [])) ≡ cond b false (is_asked c ms || asks c m)) [ true ↦ refl | false ↦ any-push (asks c) (present c ms) m ])
+
+limited-push : (c : ℕ) (ms : List ConfirmMark) (m : ConfirmMark) → is_begun c ms ≡ true → limit_of c (ms ++ m ∷ []) ≡ cond (turns c m) 0 (limit_after c (limit_of c ms) m)
+limited-push c ms m h =
+    rw (since-push (turns c) ms m, begun-turned c ms h)
+    (elim (turns c m) as (λ b. last_limit c 0 (cond b [] (present c ms ++ m ∷ [])) ≡ cond b 0 (limit_after c (limit_of c ms) m)) [ true ↦ refl | false ↦ limit-push c 0 (present c ms) m ])
+
+-- at a begin
+begun_new : (c : ℕ) (ms : List ConfirmMark) (m : ConfirmMark) → begins c m ≡ true → line_in c (ms ++ m ∷ []) ≡ Some fresh_line
+begun_new c ms m new = rw (any-push (begins c) ms m, new, or-true (is_begun c ms), since-push (begins c) ms m, new, since-push (turns c) ms m, turned c m new) refl
+
 line-push : (c : ℕ) (ms : List ConfirmMark) (m : ConfirmMark) → line_in c (ms ++ m ∷ []) ≡ line_after c m (line_in c ms)
 line-push c ms m =
     elim (begins c m) as (λ n. begins c m ≡ n → line_in c (ms ++ m ∷ []) ≡ line_after c m (line_in c ms)) [
-      | true ↦ λ new. rw (any-push (begins c) ms m, new, or-true (is_begun c ms), since-push (begins c) ms m, new)
-          (elim (is_begun c ms) as (λ b. Some (line false 0) ≡ line_after c m (cond b (Some (line (is_selected c ms) (place c ms))) None)) [ true ↦ rw new refl | false ↦ rw new refl ])
+      | true ↦ λ new. begun_new c ms m new ∙
+          (elim (is_begun c ms) as (λ b. Some fresh_line ≡ line_after c m (cond b (Some (line (is_selected c ms) (place c ms) (is_asked c ms) (limit_of c ms))) None)) [ true ↦ rw new refl | false ↦ rw new refl ])
       | false ↦ λ old.
-          elim (is_begun c ms) as (λ b. is_begun c ms ≡ b → line_in c (ms ++ m ∷ []) ≡ line_after c m (cond b (Some (line (is_selected c ms) (place c ms))) None)) [
-            | true ↦ λ h. rw (any-push (begins c) ms m, h, selected-push c ms m old h, place-push c ms m old h, old) refl
+          elim (is_begun c ms) as (λ b. is_begun c ms ≡ b → line_in c (ms ++ m ∷ []) ≡ line_after c m (cond b (Some (line (is_selected c ms) (place c ms) (is_asked c ms) (limit_of c ms))) None)) [
+            | true ↦ λ h. rw (any-push (begins c) ms m, h, selected-push c ms m old h, place-push c ms m old h, asked-push c ms m h, limited-push c ms m h, old) refl
             | false ↦ λ h. rw (any-push (begins c) ms m, h, old) refl
           ] refl
     ] refl
 
-was : (s : Bool) (n : ℕ) → line (s || false) (cond (s && false) (n + 1) n) ≡ line s n
-was true n = refl
-was false n = refl
+-- a mark that does nothing to channel d
+pub record Quiet (d : ℕ) (m : ConfirmMark) : Type 0 where
+  pub begins : begins d m ≡ false
+  pub turns : turns d m ≡ false
+  pub selects : selects d m ≡ false
+  pub leaves : leaves_on d m ≡ false
+  pub asks : asks d m ≡ false
+  pub limit : (l : ℕ) → limit_after d l m ≡ l
 
-as_was : (l : Line) → Some l ≡ Some (line (l.selected || false) (cond (l.selected && false) (l.last + 1) l.last))
-as_was l = ap Some (sym (was l.selected l.last))
+still : (s a : Bool) (n l : ℕ) → line s n a l ≡ line (s || false) (cond (s && false) (n + 1) n) (a || false) l
+still true true n l = refl
+still true false n l = refl
+still false true n l = refl
+still false false n l = refl
 
--- a mark that is none of the three
-same_line : (d : ℕ) (m : ConfirmMark) (o : Option Line) → begins d m ≡ false → selects d m ≡ false → leaves_on d m ≡ false → o ≡ line_after d m o
-same_line d m None b s l = rw b refl
-same_line d m (Some x) b s l = rw (b, s, l) (as_was x)
+same_line : (d : ℕ) (m : ConfirmMark) (o : Option Line) → Quiet d m → o ≡ line_after d m o
+same_line d m None q = rw q.begins refl
+same_line d m (Some x) q = rw (q.begins, q.turns, q.selects, q.leaves, q.asks, q.limit x.limit) (ap Some (still x.selected x.asked x.last x.limit))
 
-select_line : (e s : Bool) (n : ℕ) → cond e (Some (line true n)) (Some (line s n)) ≡ Some (line (s || e) (cond (s && false) (n + 1) n))
-select_line true true n = refl
-select_line true false n = refl
-select_line false true n = refl
-select_line false false n = refl
-
-left_line : (c d k n : ℕ) (s : Bool) (ls : List (ℕ × Line)) → (c == d) ≡ true → at_channel d ls ≡ Some (line s n) → at_channel d (lines_with c (tag_for (Some (line s n))) ls) ≡ line_after d (mark.Left c k) (Some (line s n))
-left_line c d k n true ls e is = at-on c d next_line ls ∙ rw (e, is) refl
-left_line c d k n false ls e is = is
+left_line : (c d k n q : ℕ) (s a : Bool) (ls : List (ℕ × Line)) → (c == d) ≡ true → at_channel d ls ≡ Some (line s n a q) → at_channel d (lines_with c (tag_for (Some (line s n a q))) ls) ≡ line_after d (mark.Left c k) (Some (line s n a q))
+left_line c d k n q true true ls e is = at-on c d next_line ls ∙ rw (e, is) refl
+left_line c d k n q true false ls e is = at-on c d next_line ls ∙ rw (e, is) refl
+left_line c d k n q false true ls e is = is
+left_line c d k n q false false ls e is = is
 
 left_elsewhere : (c d : ℕ) (t : Option ℕ) (ls : List (ℕ × Line)) → (c == d) ≡ false → at_channel d (lines_with c t ls) ≡ at_channel d ls
 left_elsewhere c d None ls e = refl
 left_elsewhere c d (Some t) ls e = at-on c d next_line ls ∙ rw e refl
 
-begun_line : (c d : ℕ) (o : Option Line) → cond (c == d) (Some fresh_line) o ≡ line_after d (mark.Begun c) o
-begun_line c d None = refl
-begun_line c d (Some l) = elim (c == d) as (λ b. cond b (Some (line false 0)) (Some l) ≡ cond b (Some (line false 0)) (Some (line (l.selected || false) (cond (l.selected && false) (l.last + 1) l.last)))) [ true ↦ refl | false ↦ as_was l ]
+-- a mark that changes the line of channel c by f and is quiet elsewhere
+changed_line : (c d : ℕ) (f : Line → Line) (m : ConfirmMark) (ls : List (ℕ × Line)) → begins d m ≡ false → ((c == d) ≡ false → Quiet d m) → ((c == d) ≡ true → (l : Line) → f l ≡ moved d m l) → at_channel d (on_channel c f ls) ≡ line_after d m (at_channel d ls)
+changed_line c d f m ls old quiet does =
+    at-on c d f ls ∙
+    elim (c == d) as (λ e. (c == d) ≡ e → cond e (option_map f (at_channel d ls)) (at_channel d ls) ≡ line_after d m (at_channel d ls)) [
+      | true ↦ λ e. elim (at_channel d ls) as (λ o. option_map f o ≡ line_after d m o) [ None ↦ rw old refl | Some l ↦ rw old (ap Some (does e l)) ]
+      | false ↦ λ e. same_line d m (at_channel d ls) (quiet e)
+    ] refl
+
+select_moves : (s a : Bool) (n l : ℕ) → line true n a l ≡ line (s || true) (cond (s && false) (n + 1) n) (a || false) l
+select_moves true true n l = refl
+select_moves true false n l = refl
+select_moves false true n l = refl
+select_moves false false n l = refl
+
+ask_moves : (s a : Bool) (n l : ℕ) → line s n true l ≡ line (s || false) (cond (s && false) (n + 1) n) (a || true) l
+ask_moves true true n l = refl
+ask_moves true false n l = refl
+ask_moves false true n l = refl
+ask_moves false false n l = refl
+
+end_moves : (s : Bool) (n : ℕ) → line s n false 0 ≡ line (s || false) (cond (s && false) (n + 1) n) false 0
+end_moves true n = refl
+end_moves false n = refl
 
 -- each mark does to a line what the readings say
 line-step : (b : Book) (m : ConfirmMark) (d : ℕ) → at_channel d (after_mark b m).lines ≡ line_after d m (at_channel d b.lines)
-line-step b (mark.Begun c) d = at-with c d fresh_line b.lines ∙ begun_line c d (at_channel d b.lines)
-line-step b (mark.Added c) d = same_line d (mark.Added c) (at_channel d b.lines) refl refl refl
+line-step b (mark.Begun c) d =
+    at-with c d fresh_line b.lines ∙
+    elim (c == d) as (λ e. (c == d) ≡ e → cond e (Some fresh_line) (at_channel d b.lines) ≡ line_after d (mark.Begun c) (at_channel d b.lines)) [
+      | true ↦ λ e. elim (at_channel d b.lines) as (λ o. Some fresh_line ≡ line_after d (mark.Begun c) o) [ None ↦ rw e refl | Some l ↦ rw e refl ]
+      | false ↦ λ e. same_line d (mark.Begun c) (at_channel d b.lines) (record { begins = e; turns = e; selects = refl; leaves = refl; asks = refl; limit = λ l. refl })
+    ] refl
+line-step b (mark.SelectCalled c) d =
+    changed_line c d asked_line (mark.SelectCalled c) b.lines refl
+    (λ e. record { begins = refl; turns = refl; selects = refl; leaves = refl; asks = e; limit = λ l. refl })
+    (λ e l. rw e (ask_moves l.selected l.asked l.last l.limit))
+line-step b (mark.LimitSet c n) d =
+    changed_line c d (limited_line n) (mark.LimitSet c n) b.lines refl
+    (λ e. record { begins = refl; turns = refl; selects = refl; leaves = refl; asks = refl; limit = λ l. rw e refl })
+    (λ e l. rw e (still l.selected l.asked l.last n))
 line-step b (mark.SelectLeft c) d =
-    at-on c d selected_line b.lines ∙
-    elim (at_channel d b.lines) as (λ o. cond (c == d) (option_map selected_line o) o ≡ line_after d (mark.SelectLeft c) o) [
-      | None ↦ elim (c == d) as (λ e. ◌≡◌ {A = Option Line} (cond e None None) None) [ true ↦ refl | false ↦ refl ]
-      | Some l ↦ select_line (c == d) l.selected l.last
-    ]
+    changed_line c d selected_line (mark.SelectLeft c) b.lines refl
+    (λ e. record { begins = refl; turns = refl; selects = e; leaves = refl; asks = refl; limit = λ l. refl })
+    (λ e l. rw e (select_moves l.selected l.asked l.last l.limit))
 line-step b (mark.Left c k) d =
     elim (eqb_tells c d) [
       | inl same ↦
@@ -92,14 +158,21 @@ line-step b (mark.Left c k) d =
           subst P (sym same.1)
           (elim (at_channel d b.lines) as (λ o. at_channel d b.lines ≡ o → at_channel d (lines_with c (tag_for o) b.lines) ≡ line_after d (mark.Left c k) o) [
             | None ↦ λ none. none
-            | Some l ↦ λ is. left_line c d k l.last l.selected b.lines same.0 is
+            | Some l ↦ λ is. left_line c d k l.last l.limit l.selected l.asked b.lines same.0 is
           ] refl)
-      | inr other ↦ left_elsewhere c d (tag_for (at_channel c b.lines)) b.lines other.0 ∙ same_line d (mark.Left c k) (at_channel d b.lines) refl refl other.0
+      | inr other ↦ left_elsewhere c d (tag_for (at_channel c b.lines)) b.lines other.0 ∙ same_line d (mark.Left c k) (at_channel d b.lines) (record { begins = refl; turns = refl; selects = refl; leaves = other.0; asks = refl; limit = λ l. refl })
     ]
-line-step b (mark.Settled c s) d = same_line d (mark.Settled c s) (at_channel d b.lines) refl refl refl
-line-step b (mark.Rejected k e) d = same_line d (mark.Rejected k e) (at_channel d b.lines) refl refl refl
-line-step b (mark.Ended c e) d = same_line d (mark.Ended c e) (at_channel d b.lines) refl refl refl
-line-step b (mark.Taken k) d = same_line d (mark.Taken k) (at_channel d b.lines) refl refl refl
+line-step b (mark.Ended c e) d =
+    changed_line c d ended_line (mark.Ended c e) b.lines refl
+    (λ e. record { begins = refl; turns = e; selects = refl; leaves = refl; asks = refl; limit = λ l. refl })
+    (λ e l. rw e (end_moves l.selected l.last))
+line-step b (mark.Added c) d = same_line d (mark.Added c) (at_channel d b.lines) (record { begins = refl; turns = refl; selects = refl; leaves = refl; asks = refl; limit = λ l. refl })
+line-step b (mark.Settled c s) d = same_line d (mark.Settled c s) (at_channel d b.lines) (record { begins = refl; turns = refl; selects = refl; leaves = refl; asks = refl; limit = λ l. refl })
+line-step b (mark.Arrived c x) d = same_line d (mark.Arrived c x) (at_channel d b.lines) (record { begins = refl; turns = refl; selects = refl; leaves = refl; asks = refl; limit = λ l. refl })
+line-step b (mark.ClosedHere c e) d = same_line d (mark.ClosedHere c e) (at_channel d b.lines) (record { begins = refl; turns = refl; selects = refl; leaves = refl; asks = refl; limit = λ l. refl })
+line-step b (mark.Taken n) d = same_line d (mark.Taken n) (at_channel d b.lines) (record { begins = refl; turns = refl; selects = refl; leaves = refl; asks = refl; limit = λ l. refl })
+line-step b (mark.SetAside n) d = same_line d (mark.SetAside n) (at_channel d b.lines) (record { begins = refl; turns = refl; selects = refl; leaves = refl; asks = refl; limit = λ l. refl })
+line-step b (mark.Drained c) d = same_line d (mark.Drained c) (at_channel d b.lines) (record { begins = refl; turns = refl; selects = refl; leaves = refl; asks = refl; limit = λ l. refl })
 
 pub line-follows : (ms : List ConfirmMark) (b : Book) (m : ConfirmMark) → ((c : ℕ) → at_channel c b.lines ≡ line_in c ms) → (c : ℕ) → at_channel c (after_mark b m).lines ≡ line_in c (ms ++ m ∷ [])
 line-follows ms b m h c = line-step b m c ∙ ap (line_after c m) (h c) ∙ sym (line-push c ms m)
@@ -107,7 +180,7 @@ line-follows ms b m h c = line-step b m c ∙ ap (line_after c m) (h c) ∙ sym 
 -- the tag that a publish takes as it leaves
 pub tag-push : (c k : ℕ) (ms : List ConfirmMark) → cond (is_selected c (ms ++ mark.Left c k ∷ [])) (Some (place c (ms ++ mark.Left c k ∷ []))) None ≡ tag_for (line_in c ms)
 tag-push c k ms =
-    elim (is_begun c ms) as (λ b. is_begun c ms ≡ b → cond (is_selected c (ms ++ mark.Left c k ∷ [])) (Some (place c (ms ++ mark.Left c k ∷ []))) None ≡ tag_for (cond b (Some (line (is_selected c ms) (place c ms))) None)) [
+    elim (is_begun c ms) as (λ b. is_begun c ms ≡ b → cond (is_selected c (ms ++ mark.Left c k ∷ [])) (Some (place c (ms ++ mark.Left c k ∷ []))) None ≡ tag_for (cond b (Some (line (is_selected c ms) (place c ms) (is_asked c ms) (limit_of c ms))) None)) [
       | true ↦ λ h.
           let here : (c == c) ≡ true = eq-eqb c c refl in
           rw (selected-push c ms (mark.Left c k) refl h, place-push c ms (mark.Left c k) refl h, here)

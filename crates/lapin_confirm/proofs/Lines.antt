@@ -57,11 +57,15 @@ pub same-book : (ls ks : List (ℕ × Line)) (cells after : List (Option Cell)) 
 same-book ls ks cells after lines same = rw (lines, same) refl
 
 pub fresh-line : (l : Ledger) → IsFresh l → line_of l ≡ fresh_line
-fresh-line l fresh = rw (fresh.selected, fresh.tags) refl
+fresh-line l fresh = rw (fresh.selected, fresh.tags, fresh.asked, fresh.limit) refl
 
 -- a ledger with other room alone
 pub same-line : (l k : Ledger) → k ≡ record l { tags = k.tags } → k.tags.slots ≡ l.tags.slots → line_of k ≡ line_of l
-same-line l k rest tags = let selected : k.selected ≡ l.selected = ap (λ (x : Ledger). x.selected) rest in rw (selected, tags) refl
+same-line l k rest tags =
+    let selected : k.selected ≡ l.selected = ap (λ (x : Ledger). x.selected) rest in
+    let asked : k.asked ≡ l.asked = ap (λ (x : Ledger). x.asked) rest in
+    let limit : k.limit ≡ l.limit = ap (λ (x : Ledger). x.limit) rest in
+    rw (selected, tags, asked, limit) refl
 
 pub room-on : (c : ℕ) (l k : Ledger) (es : List (ℕ × Ledger)) → at_channel c es ≡ Some l → k.queued < k.tags.spare → HasSome (at_channel c (rooms_of (on_channel c (λ _. k) es)))
 room-on c l k es is room =

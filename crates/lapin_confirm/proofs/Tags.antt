@@ -1,17 +1,17 @@
 -- Tags count up in order of leaving, and a confirm is resolved by what covers its tag.
-use Rattle.std.proofs.Common.{◌≡◌, ℕ, ◌+◌, ◌<◌, ◌==◌, Bool, true, false, cond, ◌&&◌, List, [], ◌∷◌, ◌++◌, Some, None, refl, sym, ◌∙◌, ap, inl, inr, eq-eqb, eqb-true}
+use Rattle.std.proofs.Common.{◌≡◌, ℕ, zero, suc, ◌+◌, ◌<◌, ◌≤◌, ◌==◌, Bool, true, false, cond, ◌&&◌, List, [], ◌∷◌, ◌++◌, Some, None, refl, sym, ◌∙◌, ap, arith, inl, inr, eq-eqb, eqb-true}
 use Rattle.std.specs.Prelude.{◌↔◌}
 use Rattle.std.specs.List.{list_any}
 use Rattle.std.proofs.lemmas.Bool.Decides.{eqb_tells}
 use Rattle.lapin_history.specs.declared.marks.Outcome.{Outcome}
 use Rattle.lapin_history.specs.declared.marks.Outcome.TheVariants as outcome
-use Rattle.lapin_history.specs.declared.marks.ConfirmMark.{ConfirmMark}
-use Rattle.lapin_history.specs.declared.marks.ConfirmMark.TheVariants as mark
+use Rattle.lapin_history.specs.ConfirmMarks.{ConfirmMark}
+use Rattle.lapin_history.specs.ConfirmMarks as mark
 use Rattle.lapin_history.specs.Words.{after}
 use Rattle.lapin_history.specs.ConfirmReadings.{begins, selects, leaves, leaves_on, is_begun, is_selected, place, has_left, channel_of, tag_of, added, covers, outcome_of, outcome_at, outcome_after, first_settled, settlement_on}
 use Rattle.lapin_history.proofs.ListLaws.{after-push, through-push, since-push, since_none}
 use Rattle.lapin_history.proofs.ConfirmLaws.{settled-push, accepted-push}
-use Rattle.lapin_confirm.specs.Follows.{MayCome, Resolves}
+use Rattle.lapin_confirm.specs.Follows.{WasAdded, MayCome, Resolves}
 use Rattle.lapin_confirm.proofs.LineFollowing.{place-push, tag-push}
 use Rattle.lapin_confirm.proofs.CellFollowing.{left-push, IsQueued, queued_facts}
 
@@ -36,14 +36,17 @@ place-still c ms m old still =
       | false ↦ λ h. rw (since-push (begins c) ms m, since_none (begins c) ms h, old, h) refl
     ] refl
 
-pub tag-taken : (c k : ℕ) (ms : List ConfirmMark) → MayCome ms (mark.Left c k) → is_selected c ms ≡ true → tag_of k (ms ++ mark.Left c k ∷ []) ≡ Some (place c ms + 1)
-tag-taken c k ms may h =
-    let facts : IsQueued c k ms = queued_facts c k ms may.1 in
-    rw (accepted-push k ms (mark.Left c k) may.0, facts.channel, through-push (leaves k) ms (mark.Left c k), facts.waits)
-    (tag-push c k ms ∙ rw (selected-begun c ms h, h) refl)
+pub tag-taken : (c n : ℕ) (ms : List ConfirmMark) → MayCome ms (mark.Left c n) → is_selected c ms ≡ true → tag_of n (ms ++ mark.Left c n ∷ []) ≡ Some (place c ms + 1)
+tag-taken c zero ms may h = let none : 1 ≤ 0 = may.0.0 in absurd (omega arith)
+tag-taken c (suc k) ms may h =
+    let facts : IsQueued c (suc k) ms = queued_facts c (suc k) ms may.1 in
+    let last : suc k ≤ added ms = may.0.1 in
+    rw (accepted-push k ms (mark.Left c (suc k)) (omega arith), facts.channel, through-push (leaves (suc k)) ms (mark.Left c (suc k)), facts.waits)
+    (tag-push c (suc k) ms ∙ rw (selected-begun c ms h, h) refl)
 
-pub tag-kept : (k : ℕ) (ms : List ConfirmMark) (m : ConfirmMark) → k < added ms → has_left k ms ≡ true → tag_of k (ms ++ m ∷ []) ≡ tag_of k ms
-tag-kept k ms m known left = rw (accepted-push k ms m known, through-push (leaves k) ms m, left) refl
+pub tag-kept : (n : ℕ) (ms : List ConfirmMark) (m : ConfirmMark) → WasAdded n ms → has_left n ms ≡ true → tag_of n (ms ++ m ∷ []) ≡ tag_of n ms
+tag-kept zero ms m known left = let none : 1 ≤ 0 = known.0 in absurd (omega arith)
+tag-kept (suc k) ms m known left = let last : suc k ≤ added ms = known.1 in rw (accepted-push k ms m (omega arith), through-push (leaves (suc k)) ms m, left) refl
 
 -- ---- what resolves a confirm that is pending
 
@@ -59,22 +62,18 @@ covered c d b x o h =
     ]
 
 resolves : (c t : ℕ) (o : Outcome) (m : ConfirmMark) → (settlement_on c t m ≡ Some o) ↔ Resolves c t o m
-resolves c t o (mark.Begun d) = (λ h. cc, λ never. absurd never)
-resolves c t o (mark.Added d) = (λ h. cc, λ never. absurd never)
-resolves c t o (mark.SelectLeft d) = (λ h. cc, λ never. absurd never)
-resolves c t o (mark.Left d k) = (λ h. cc, λ never. absurd never)
 resolves c t o (mark.Settled d s) = (covered c d (covers s t) (outcome_of s) o, λ is. rw (eq-eqb c d is.0, is.1, is.2) refl)
-resolves c t o (mark.Rejected k e) = (λ h. cc, λ never. absurd never)
 resolves c t o (mark.Ended d e) = (λ h. let is = there (c == d) (outcome.Failed e) o h in (eqb-true c d is.0, is.1), λ is. rw (eq-eqb c d is.0, is.1) refl)
-resolves c t o (mark.Taken k) = (λ h. cc, λ never. absurd never)
+resolves c t o _ = (λ h. cc, λ never. absurd never)
 
-outcome-next : (k t : ℕ) (ms : List ConfirmMark) (m : ConfirmMark) → k < added ms → has_left k ms ≡ true → tag_of k ms ≡ Some t → outcome_at k ms ≡ None → outcome_at k (ms ++ m ∷ []) ≡ settlement_on (channel_of k ms) t m
+outcome-next : (k t : ℕ) (ms : List ConfirmMark) (m : ConfirmMark) → k < added ms → has_left (suc k) ms ≡ true → tag_of (suc k) ms ≡ Some t → outcome_at (suc k) ms ≡ None → outcome_at (suc k) (ms ++ m ∷ []) ≡ settlement_on (channel_of (suc k) ms) t m
 outcome-next k t ms m known left tag none =
-    let later : List ConfirmMark = after (leaves k) ms in
-    let here : outcome_after (channel_of k ms) (tag_of k ms) later ≡ None = rw left at none in
-    let unsettled : first_settled (channel_of k ms) t later ≡ None = ap (λ u. outcome_after (channel_of k ms) u later) (sym tag) ∙ here in
-    rw (left-push k ms m, left, accepted-push k ms m known, through-push (leaves k) ms m, left, after-push (leaves k) ms m, left)
-    (ap (λ u. outcome_after (channel_of k ms) u (later ++ m ∷ [])) tag ∙ settled-push (channel_of k ms) t later m ∙ rw unsettled refl)
+    let later : List ConfirmMark = after (leaves (suc k)) ms in
+    let here : outcome_after (channel_of (suc k) ms) (tag_of (suc k) ms) later ≡ None = rw left at none in
+    let unsettled : first_settled (channel_of (suc k) ms) t later ≡ None = ap (λ u. outcome_after (channel_of (suc k) ms) u later) (sym tag) ∙ here in
+    rw (left-push (suc k) ms m, left, accepted-push k ms m known, through-push (leaves (suc k)) ms m, left, after-push (leaves (suc k)) ms m, left)
+    (ap (λ u. outcome_after (channel_of (suc k) ms) u (later ++ m ∷ [])) tag ∙ settled-push (channel_of (suc k) ms) t later m ∙ rw unsettled refl)
 
-pub resolved-by : (k t : ℕ) (o : Outcome) (ms : List ConfirmMark) (m : ConfirmMark) → k < added ms → has_left k ms ≡ true → tag_of k ms ≡ Some t → outcome_at k ms ≡ None → (outcome_at k (ms ++ m ∷ []) ≡ Some o) ↔ Resolves (channel_of k ms) t o m
-resolved-by k t o ms m known left tag none = rw (outcome-next k t ms m known left tag none) (resolves (channel_of k ms) t o m)
+pub resolved-by : (n t : ℕ) (o : Outcome) (ms : List ConfirmMark) (m : ConfirmMark) → WasAdded n ms → has_left n ms ≡ true → tag_of n ms ≡ Some t → outcome_at n ms ≡ None → (outcome_at n (ms ++ m ∷ []) ≡ Some o) ↔ Resolves (channel_of n ms) t o m
+resolved-by zero t o ms m known left tag none = let no : 1 ≤ 0 = known.0 in absurd (omega arith)
+resolved-by (suc k) t o ms m known left tag none = let last : suc k ≤ added ms = known.1 in rw (outcome-next k t ms m (omega arith) left tag none) (resolves (channel_of (suc k) ms) t o m)

@@ -1,5 +1,5 @@
 -- The confirms as a machine: what each mark of a history does to them.
-use Rattle.std.specs.Prelude.{ℕ, suc, ◌+◌, ◌==◌, Bool, true, false, ◌&&◌, if◌then◌else◌, List, [], ◌∷◌, ◌++◌, Option, Some, None, map}
+use Rattle.std.specs.Prelude.{ℕ, ◌+◌, ◌-◌, ◌==◌, nat_lt, nat_le, Bool, true, false, ◌&&◌, if◌then◌else◌, List, [], ◌∷◌, ◌++◌, Option, Some, None, map}
 use Rattle.std.specs.List.{list_any, count_by}
 use Rattle.std.specs.Option.{option_map}
 use Rattle.lapin_types.specs.declared.Error.{Error}
@@ -7,8 +7,8 @@ use Rattle.lapin_history.specs.declared.marks.SettleKind.{SettleKind}
 use Rattle.lapin_history.specs.declared.marks.Settlement.{Settlement}
 use Rattle.lapin_history.specs.declared.marks.Outcome.{Outcome}
 use Rattle.lapin_history.specs.declared.marks.Outcome.TheVariants as outcome
-use Rattle.lapin_history.specs.declared.marks.ConfirmMark.{ConfirmMark}
-use Rattle.lapin_history.specs.declared.marks.ConfirmMark.TheVariants as mark
+use Rattle.lapin_history.specs.ConfirmMarks.{ConfirmMark}
+use Rattle.lapin_history.specs.ConfirmMarks as mark
 use Rattle.lapin_history.specs.ConfirmReadings.{covers, outcome_of}
 use Rattle.lapin_history.specs.Words.{with_channel}
 use Rattle.lapin_tables.specs.ByChannel.{at_channel, on_channel}
@@ -16,11 +16,13 @@ use Rattle.lapin_tables.specs.Numbered.{with_under}
 use Rattle.lapin_confirm.specs.declared.cell.Cell.{Cell}
 use Rattle.lapin_confirm.specs.declared.cell.Cell.TheVariants as cell
 
--- what a caller sees of a channel's opening: whether a `confirm.select` frame has left, and the last tag that was taken,
--- 0 if none
+-- what a caller sees of a channel's opening: whether a `confirm.select` frame has left, the last tag that was taken, 0 if
+-- none; and while it is live, whether a `confirm.select` call was accepted, and the limit of its pending tags, 0 for none
 pub record Line : Type 0 where
   pub selected : Bool
   pub last : ℕ
+  pub asked : Bool
+  pub limit : ℕ
 
 -- the line of each channel that had an opening, and a cell per confirm number, none where its result was given
 pub record Book : Type 0 where
@@ -34,13 +36,23 @@ empty_book = record { lines = []; cells = [] }
 
 -- a new opening is not selected and has taken no tag
 abbrev pub fresh_line : Line
-fresh_line = record { selected = false; last = 0 }
+fresh_line = record { selected = false; last = 0; asked = false; limit = 0 }
 
 abbrev pub selected_line : Line → Line
-selected_line l = record { selected = true; last = l.last }
+selected_line l = record l { selected = true }
+
+abbrev pub asked_line : Line → Line
+asked_line l = record l { asked = true }
+
+abbrev pub limited_line : ℕ → Line → Line
+limited_line n l = record l { limit = n }
+
+-- the opening ends
+abbrev pub ended_line : Line → Line
+ended_line l = record l { asked = false; limit = 0 }
 
 abbrev pub next_line : Line → Line
-next_line l = record { selected = l.selected; last = l.last + 1 }
+next_line l = record l { last = l.last + 1 }
 
 -- the tag that the next publish of the channel takes as its method frame leaves: none before the selection, then counted
 -- from 1 (RabbitMQ publisher confirms)
@@ -73,6 +85,12 @@ abbrev pub settled_cell : ℕ → (ℕ → Bool) → Outcome → Cell → Cell
 settled_cell c covered o (cell.Queued d) = cell.Queued d
 settled_cell c covered o (cell.Pending d t) = if d == c && covered t then cell.Resolved o else cell.Pending d t
 settled_cell c covered o (cell.Resolved x) = cell.Resolved x
+
+-- a close of this side fails what has not left
+abbrev pub closed_cell : ℕ → Error → Cell → Cell
+closed_cell c e (cell.Queued d) = if d == c then cell.Resolved (outcome.Failed e) else cell.Queued d
+closed_cell c e (cell.Pending d t) = cell.Pending d t
+closed_cell c e (cell.Resolved x) = cell.Resolved x
 
 -- the end of the channel's opening fails all of it that is unresolved
 abbrev pub ended_cell : ℕ → Error → Cell → Cell
@@ -129,6 +147,10 @@ is_pending c t b = list_any (is_pending_as c t) b.cells
 abbrev pub pending_count : ℕ → Book → ℕ
 pending_count c b = count_by (is_pending_on c) b.cells
 
+-- how many publishes of channel c have not left
+abbrev pub queued_count : ℕ → Book → ℕ
+queued_count c b = count_by (is_queued_on c) b.cells
+
 abbrev pub last_in : Option Line → ℕ
 last_in None = 0
 last_in (Some l) = l.last
@@ -145,6 +167,48 @@ selected_in (Some l) = l.selected
 abbrev pub selected_on : ℕ → Book → Bool
 selected_on c b = selected_in (at_channel c b.lines)
 
+abbrev pub asked_in : Option Line → Bool
+asked_in None = false
+asked_in (Some l) = l.asked
+
+-- the channel's live opening accepted a `confirm.select` call
+abbrev pub asked_on : ℕ → Book → Bool
+asked_on c b = asked_in (at_channel c b.lines)
+
+abbrev pub limit_in : Option Line → ℕ
+limit_in None = 0
+limit_in (Some l) = l.limit
+
+-- the limit of the channel's live opening
+abbrev pub limit_on : ℕ → Book → ℕ
+limit_on c b = limit_in (at_channel c b.lines)
+
+-- the channel is full: selected, with a limit that its pending tags have reached
+abbrev pub full_on : ℕ → Book → Bool
+full_on c b = selected_on c b && (nat_lt 0 (limit_on c b) && nat_le (limit_on c b) (pending_count c b))
+
+-- The last tag taken less the least pending one, plus 1; 0 where none is pending.
+abbrev pub tag_on : ℕ → Option Cell → Option ℕ
+tag_on c (Some (cell.Pending d t)) = if d == c then Some t else None
+tag_on c _ = None
+
+-- the least tag that is pending on channel c
+abbrev pub least_of : Option ℕ → Option ℕ → Option ℕ
+least_of None o = o
+least_of (Some t) None = Some t
+least_of (Some t) (Some u) = if nat_le t u then Some t else Some u
+
+abbrev pub least_in : ℕ → List (Option Cell) → Option ℕ
+least_in c [] = None
+least_in c (o ∷ cells) = least_of (tag_on c o) (least_in c cells)
+
+abbrev pub span_from : ℕ → Option ℕ → ℕ
+span_from last None = 0
+span_from last (Some t) = last + 1 - t
+
+abbrev pub span_on : ℕ → Book → ℕ
+span_on c b = span_from (last_on c b) (least_in c b.cells)
+
 -- ---- what happens to a book. A publish is named by its confirm number, from 1.
 
 abbrev pub begun : ℕ → Book → Book
@@ -156,6 +220,12 @@ with_publish c b = record { lines = b.lines; cells = b.cells ++ Some (cell.Queue
 abbrev pub select_left : ℕ → Book → Book
 select_left c b = record { lines = on_channel c selected_line b.lines; cells = b.cells }
 
+abbrev pub select_called : ℕ → Book → Book
+select_called c b = record { lines = on_channel c asked_line b.lines; cells = b.cells }
+
+abbrev pub limited : ℕ → ℕ → Book → Book
+limited c n b = record { lines = on_channel c (limited_line n) b.lines; cells = b.cells }
+
 abbrev pub left : ℕ → ℕ → Book → Book
 left c n b = record {
   lines = lines_with c (tag_for (at_channel c b.lines)) b.lines;
@@ -165,22 +235,30 @@ left c n b = record {
 abbrev pub settled : ℕ → Settlement → Book → Book
 settled c s b = record { lines = b.lines; cells = map (option_map (settled_cell c (covers s) (outcome_of s))) b.cells }
 
+-- every publish of the channel that has not left is rejected
+abbrev pub closed_here : ℕ → Error → Book → Book
+closed_here c e b = record { lines = b.lines; cells = map (option_map (closed_cell c e)) b.cells }
+
+-- one of them: no mark of a history is this alone, but `closed_here` is these one after another
 abbrev pub rejected : ℕ → Error → Book → Book
 rejected n e b = record { lines = b.lines; cells = with_under n (Some (cell.Resolved (outcome.Failed e))) b.cells }
 
 abbrev pub ended : ℕ → Error → Book → Book
-ended c e b = record { lines = b.lines; cells = map (option_map (ended_cell c e)) b.cells }
+ended c e b = record { lines = on_channel c ended_line b.lines; cells = map (option_map (ended_cell c e)) b.cells }
 
 abbrev pub taken : ℕ → Book → Book
 taken n b = record { lines = b.lines; cells = with_under n None b.cells }
 
--- The book after a mark. A mark names a publish by its place from 0, which is one below its confirm number.
+-- The book after a mark. What only returned messages have to do with changes nothing here.
 abbrev pub after_mark : Book → ConfirmMark → Book
 after_mark b (mark.Begun c) = begun c b
+after_mark b (mark.SelectCalled c) = select_called c b
+after_mark b (mark.LimitSet c n) = limited c n b
 after_mark b (mark.Added c) = with_publish c b
 after_mark b (mark.SelectLeft c) = select_left c b
-after_mark b (mark.Left c k) = left c (suc k) b
+after_mark b (mark.Left c n) = left c n b
 after_mark b (mark.Settled c s) = settled c s b
-after_mark b (mark.Rejected k e) = rejected (suc k) e b
+after_mark b (mark.ClosedHere c e) = closed_here c e b
 after_mark b (mark.Ended c e) = ended c e b
-after_mark b (mark.Taken k) = taken (suc k) b
+after_mark b (mark.Taken n) = taken n b
+after_mark b _ = b

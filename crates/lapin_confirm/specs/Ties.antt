@@ -6,11 +6,13 @@ use Rattle.lapin_tables.specs.Numbered.{under}
 use Rattle.lapin_confirm.specs.declared.cell.Cell.{Cell}
 use Rattle.lapin_confirm.specs.declared.cell.Cell.TheVariants as cell
 use Rattle.lapin_confirm.specs.declared.ledger.Ledger.{Ledger}
+use Rattle.lapin_history.specs.Letters.{Letters}
+use Rattle.lapin_confirm.specs.Tray.{Tray}
 use Rattle.lapin_confirm.specs.Book.{Line, next_line, is_queued_on, is_pending_on}
 
 -- what a caller sees of a ledger
 abbrev pub line_of : Ledger → Line
-line_of l = record { selected = l.selected; last = length l.tags.slots }
+line_of l = record { selected = l.selected; last = length l.tags.slots; asked = l.asked; limit = l.limit }
 
 -- the line as a publish leaves that takes this tag, or none
 abbrev pub line_after : Option ℕ → Line → Line
@@ -27,9 +29,14 @@ lines_of es = map (λ e. (e.0, line_of e.1)) es
 abbrev pub rooms_of : List (ℕ × Ledger) → List (ℕ × ℕ)
 rooms_of es = map (λ e. (e.0, room_of e.1)) es
 
+abbrev pub trays_of : List (ℕ × Tray) → List (ℕ × Letters)
+trays_of ts = map (λ e. (e.0, e.1.letters)) ts
+
 -- the ledger of a new opening
 pub record IsFresh (l : Ledger) : Type 0 where
   pub selected : l.selected ≡ false
+  pub asked : l.asked ≡ false
+  pub limit : l.limit ≡ 0
   pub tags : l.tags.slots ≡ []
   pub queued : l.queued ≡ 0
   pub pending : l.pending ≡ 0

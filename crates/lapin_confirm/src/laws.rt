@@ -1,17 +1,17 @@
 //! Laws of the book, each on a function with an empty body: what they say holds of every history and every book.
 
-ghost use Rattle.std.specs.Prelude.{◌≡◌, ℕ, ◌+◌, ◌<◌, ◌≤◌, ◌↔◌, ◌&&◌, true, false, not, List, [], ◌∷◌, ◌++◌, Some, None};
+ghost use Rattle.std.specs.Prelude.{◌≡◌, ◌≢◌, ℕ, ◌+◌, ◌<◌, ◌≤◌, ◌↔◌, ◌&&◌, true, false, not, List, [], ◌∷◌, ◌++◌, Some, None};
 ghost use Rattle.lapin_types.specs.declared.Error.{Error as AnError};
-ghost use Rattle.lapin_history.specs.declared.marks.ConfirmMark.{ConfirmMark as AMark};
+ghost use Rattle.lapin_history.specs.ConfirmMarks.{ConfirmMark as AMark};
 ghost use Rattle.lapin_history.specs.declared.marks.SettleKind.{SettleKind as AKind};
 ghost use Rattle.lapin_history.specs.declared.marks.Settlement.{Settlement as ASettlement};
 ghost use Rattle.lapin_history.specs.declared.marks.Outcome.{Outcome as AnOutcome};
-ghost use Rattle.lapin_history.specs.declared.marks.ConfirmMark.TheVariants as mark;
-ghost use Rattle.lapin_history.specs.ConfirmReadings.{begins, leaves_on, is_selected, place, has_left, channel_of, tag_of, added, covers, outcome_at, is_open_outcome};
+ghost use Rattle.lapin_history.specs.ConfirmMarks as mark;
+ghost use Rattle.lapin_history.specs.ConfirmReadings.{begins, leaves_on, is_selected, place, has_left, channel_of, tag_of, covers, outcome_at, is_open_outcome};
 ghost use Rattle.lapin_tables.specs.Numbered.{under};
 ghost use Rattle.lapin_confirm.specs.declared.cell.Cell.TheVariants as cell;
-ghost use Rattle.lapin_confirm.specs.Book.{Book, empty_book, after_mark, settled, rejected, ended, is_pending, multiple_of};
-ghost use Rattle.lapin_confirm.specs.Follows.{Follows, MayCome, Resolves};
+ghost use Rattle.lapin_confirm.specs.Book.{Book, empty_book, after_mark, settled, rejected, closed_here, ended, queued_count, is_pending, multiple_of};
+ghost use Rattle.lapin_confirm.specs.Follows.{Follows, WasAdded, MayCome, Resolves};
 
 /// New confirms are what the history without a mark says.
 pub fn nothing_follows()
@@ -25,13 +25,13 @@ pub fn machine_follows()
 
 /// A publish is resolved once: an outcome that is there stays, whatever comes.
 pub fn outcome_stays()
-    ensures { (k : ℕ) (ms : List AMark) (m : AMark) → k < added ms → MayCome ms m → is_open_outcome (outcome_at k ms) ≡ false → outcome_at k (ms ++ m ∷ []) ≡ outcome_at k ms }
+    ensures { (n : ℕ) (ms : List AMark) (m : AMark) → WasAdded n ms → MayCome ms m → is_open_outcome (outcome_at n ms) ≡ false → outcome_at n (ms ++ m ∷ []) ≡ outcome_at n ms }
 {}
 
 /// Every publish that was accepted has an outcome once its opening has ended, and by `outcome_stays` that outcome is the
 /// only one that it ever has.
 pub fn an_end_leaves_nothing_open()
-    ensures { (k c : ℕ) (e : AnError) (ms : List AMark) → k < added ms → channel_of k ms ≡ c → is_open_outcome (outcome_at k (ms ++ mark.Ended c e ∷ [])) ≡ false }
+    ensures { (n c : ℕ) (e : AnError) (ms : List AMark) → WasAdded n ms → channel_of n ms ≡ c → is_open_outcome (outcome_at n (ms ++ mark.Ended c e ∷ [])) ≡ false }
 {}
 
 /// The publishes that leave while their opening is selected take the tags 1, 2, 3, .. in order of leaving, and no other
@@ -45,13 +45,32 @@ pub fn tags_count_up()
 
 /// A publish that left keeps its tag, or has none for good.
 pub fn tag_stays()
-    ensures { (k : ℕ) (ms : List AMark) (m : AMark) → k < added ms → has_left k ms ≡ true → tag_of k (ms ++ m ∷ []) ≡ tag_of k ms }
+    ensures { (n : ℕ) (ms : List AMark) (m : AMark) → WasAdded n ms → has_left n ms ≡ true → tag_of n (ms ++ m ∷ []) ≡ tag_of n ms }
 {}
 
 /// A confirm that is pending with a tag is resolved by a settlement of its channel that covers the tag, or by the end of its
 /// opening, and by nothing else.
 pub fn resolved_by_its_settlement()
-    ensures { (k t : ℕ) (o : AnOutcome) (ms : List AMark) (m : AMark) → k < added ms → has_left k ms ≡ true → tag_of k ms ≡ Some t → outcome_at k ms ≡ None → (outcome_at k (ms ++ m ∷ []) ≡ Some o) ↔ Resolves (channel_of k ms) t o m }
+    ensures { (n t : ℕ) (o : AnOutcome) (ms : List AMark) (m : AMark) → WasAdded n ms → has_left n ms ≡ true → tag_of n ms ≡ Some t → outcome_at n ms ≡ None → (outcome_at n (ms ++ m ∷ []) ≡ Some o) ↔ Resolves (channel_of n ms) t o m }
+{}
+
+/// A close of this side resolves every publish of its channel that has not left.
+pub fn a_close_rejects_what_waits()
+    ensures { (n : ℕ) (e : AnError) (ms : List AMark) → WasAdded n ms → has_left n ms ≡ false → is_open_outcome (outcome_at n (ms ++ mark.ClosedHere (channel_of n ms) e ∷ [])) ≡ false }
+{}
+
+/// A close of this side is its publishes that have not left, rejected one after another, in any order: a rejection leaves what
+/// the close then comes to, and where none is left that has not left, the close is done.
+pub fn a_close_one_by_one()
+    ensures next { (c n : ℕ) (e : AnError) (b : Book) → under n b.cells ≡ Some (cell.Queued c) → closed_here c e (rejected n e b) ≡ closed_here c e b }
+    ensures done { (c : ℕ) (e : AnError) (b : Book) → queued_count c b ≡ 0 → closed_here c e b ≡ b }
+    ensures less { (c n : ℕ) (e : AnError) (b : Book) → under n b.cells ≡ Some (cell.Queued c) → queued_count c (rejected n e b) + 1 ≡ queued_count c b }
+    ensures other { (c d n : ℕ) (e : AnError) (b : Book) → under n b.cells ≡ Some (cell.Queued c) → c ≢ d → queued_count d (rejected n e b) ≡ queued_count d b }
+{}
+
+/// An end after a close of this side with the same error is the end alone.
+pub fn end_takes_close()
+    ensures { (c : ℕ) (e : AnError) (b : Book) → ended c e (closed_here c e b) ≡ ended c e b }
 {}
 
 /// An end after a publish of the channel that had not left was rejected with the same error is the end alone.

@@ -14,6 +14,10 @@ use std::alloc::Global;
 pub struct Ledger {
     /// Whether a `confirm.select` frame of the opening has left.
     pub selected: bool,
+    /// Whether the live opening accepted a `confirm.select` call.
+    pub asked: bool,
+    /// The limit of pending tags of the live opening, 0 for none.
+    pub limit: u64,
     /// By tag: the confirm number of the publish that took it, until it is settled.
     pub tags: Numbered<u64>,
     /// How many publishes of the channel were accepted and have not left.
@@ -29,6 +33,8 @@ impl Ledger {
     {
         Ledger {
             selected: false,
+            asked: false,
+            limit: 0,
             tags: Numbered::new(alloc),
             queued: 0,
             pending: 0,

@@ -9,15 +9,14 @@ mod cell;
 mod confirms;
 mod laws;
 mod ledger;
+mod returned;
 mod settling;
-#[cfg(test)]
-mod tests;
 
 pub use cell::Cell;
 pub use confirms::Confirms;
 pub use lapin_history::SettleKind;
 pub use laws::{
-    an_end_leaves_nothing_open, end_takes_rejected, machine_follows, multiple_covers,
-    nothing_follows, outcome_stays, resolved_by_its_settlement, settlement_leaves, tag_stays,
-    tags_count_up,
+    a_close_one_by_one, a_close_rejects_what_waits, an_end_leaves_nothing_open, end_takes_close,
+    end_takes_rejected, machine_follows, multiple_covers, nothing_follows, outcome_stays,
+    resolved_by_its_settlement, settlement_leaves, tag_stays, tags_count_up,
 };

@@ -7,7 +7,7 @@ ghost use Rattle.std.specs.Prelude.{◌≡◌, ◌≢◌, ℕ, ◌+◌, ◌-◌,
 ghost use Rattle.std.specs.Option.{option_map};
 ghost use Rattle.std.specs.Bool.{Decides};
 ghost use Rattle.lapin_tables.specs.Numbered.{under, with_under};
-ghost use Rattle.lapin_confirm.specs.Book.{Line, tag_for, cell_with, settled_cell, ended_cell, next_line};
+ghost use Rattle.lapin_confirm.specs.Book.{Line, tag_for, cell_with, settled_cell, ended_cell, ended_line, next_line};
 ghost use Rattle.lapin_confirm.specs.Ties.{Tied, line_of, room_of, line_after};
 
 use crate::cell::Cell;
@@ -207,9 +207,11 @@ pub fn end_opening(channel: u16, ledger: &mut Ledger, cells: &mut Numbered<Cell>
     requires { Tied channel ledger.old cells.old.slots }
     ensures cells { cells.new.slots ≡ map (option_map (ended_cell channel error)) cells.old.slots }
     ensures tied { Tied channel ledger.new cells.new.slots }
-    ensures line { line_of ledger.new ≡ line_of ledger.old }
+    ensures line { line_of ledger.new ≡ ended_line (line_of ledger.old) }
 {
     reject_queued(channel, ledger, cells, error);
     let last = ledger.tags.count();
     settle_through(channel, ledger, cells, last, Outcome::Failed(error));
+    ledger.asked = false;
+    ledger.limit = 0;
 }

@@ -3,4 +3,4 @@ pub mod ConfirmLaws
 pub mod TicketLaws
 pub mod Runs
 pub mod ChannelLaws
-pub mod Publishes
+pub mod ReturnLaws

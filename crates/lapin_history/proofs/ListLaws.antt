@@ -1,11 +1,11 @@
 -- Laws of the words on lists: what one more element at the end does to them.
-use Rattle.std.proofs.Common.{◌≡◌, ℕ, zero, suc, ◌+◌, ◌<◌, Bool, true, false, cond, ◌||◌, List, [], ◌∷◌, ◌++◌, Option, Some, None, refl, sym, ◌∙◌, ap, arith}
+use Rattle.std.proofs.Common.{◌≡◌, ℕ, zero, suc, ◌+◌, ◌<◌, Bool, true, false, cond, ◌||◌, List, [], ◌∷◌, ◌++◌, Some, None, refl, ◌∙◌, ap, arith}
 use Rattle.std.specs.List.{list_any, find, count_by, sum_by}
 use Rattle.std.proofs.lemmas.List.Folds.{list_any-append}
 use Rattle.std.proofs.lemmas.List.Sums.{sum_by-append}
 use Rattle.std.proofs.lemmas.Grind.{common_steps}
 use Rattle.std.proofs.Math.Bool.{or-true}
-use Rattle.lapin_history.specs.Words.{after, through, since}
+use Rattle.lapin_history.specs.Words.{after, through, since, many, one_after, rest_after}
 
 pub or_false : (b : Bool) → (b || false) ≡ b
 or_false true = refl
@@ -82,3 +82,51 @@ since-push {X = X} p (x ∷ xs) y =
         | false ↦ elim (p x) as (λ b. cond b (xs ++ y ∷ []) [] ≡ cond (b || false) (cond b xs [] ++ y ∷ []) []) [ true ↦ refl | false ↦ refl ]
       ]
     ])
+
+-- ---- the elements that pass, by their numbers
+
+pub many-push : {X : Type 0} (p : X → Bool) (xs : List X) (y : X) → many p (xs ++ y ∷ []) ≡ cond (p y) (many p xs + 1) (many p xs)
+many-push p [] y = refl
+many-push p (x ∷ xs) y = rw (many-push p xs y) (elim (p x) as (λ a. cond a (cond (p y) (many p xs + 1) (many p xs) + 1) (cond (p y) (many p xs + 1) (many p xs)) ≡ cond (p y) (cond a (many p xs + 1) (many p xs) + 1) (cond a (many p xs + 1) (many p xs))) [
+  | true ↦ elim (p y) as (λ b. cond b (many p xs + 1) (many p xs) + 1 ≡ cond b (many p xs + 1 + 1) (many p xs + 1)) [ true ↦ refl | false ↦ refl ]
+  | false ↦ refl
+])
+
+pub one-push : {X : Type 0} (p : X → Bool) (k : ℕ) (xs : List X) (y : X) → k < many p xs → one_after p k (xs ++ y ∷ []) ≡ one_after p k xs
+one-push p k [] y lt = absurd (omega arith)
+one-push p zero (x ∷ xs) y lt =
+    elim (p x) as (λ a. 0 < cond a (many p xs + 1) (many p xs) → cond a (Some x) (one_after p 0 (xs ++ y ∷ [])) ≡ cond a (Some x) (one_after p 0 xs))
+    [ true ↦ λ lt. refl | false ↦ λ lt. one-push p 0 xs y lt ] lt
+one-push p (suc k) (x ∷ xs) y lt =
+    elim (p x) as (λ a. suc k < cond a (many p xs + 1) (many p xs) → cond a (one_after p k (xs ++ y ∷ [])) (one_after p (suc k) (xs ++ y ∷ [])) ≡ cond a (one_after p k xs) (one_after p (suc k) xs))
+    [ true ↦ λ lt. one-push p k xs y (omega arith) | false ↦ λ lt. one-push p (suc k) xs y lt ] lt
+
+pub rest-push : {X : Type 0} (p : X → Bool) (k : ℕ) (xs : List X) (y : X) → k < many p xs → rest_after p k (xs ++ y ∷ []) ≡ rest_after p k xs ++ y ∷ []
+rest-push p k [] y lt = absurd (omega arith)
+rest-push p zero (x ∷ xs) y lt =
+    elim (p x) as (λ a. 0 < cond a (many p xs + 1) (many p xs) → cond a (xs ++ y ∷ []) (rest_after p 0 (xs ++ y ∷ [])) ≡ cond a xs (rest_after p 0 xs) ++ y ∷ [])
+    [ true ↦ λ lt. refl | false ↦ λ lt. rest-push p 0 xs y lt ] lt
+rest-push p (suc k) (x ∷ xs) y lt =
+    elim (p x) as (λ a. suc k < cond a (many p xs + 1) (many p xs) → cond a (rest_after p k (xs ++ y ∷ [])) (rest_after p (suc k) (xs ++ y ∷ [])) ≡ cond a (rest_after p k xs) (rest_after p (suc k) xs) ++ y ∷ [])
+    [ true ↦ λ lt. rest-push p k xs y (omega arith) | false ↦ λ lt. rest-push p (suc k) xs y lt ] lt
+
+-- the last one
+pub one_new : {X : Type 0} (p : X → Bool) (k : ℕ) (xs : List X) (y : X) → p y ≡ true → k ≡ many p xs → one_after p k (xs ++ y ∷ []) ≡ Some y
+one_new p zero [] y new e = rw new refl
+one_new p (suc k) [] y new e = absurd (omega arith)
+one_new p zero (x ∷ xs) y new e =
+    elim (p x) as (λ a. 0 ≡ cond a (many p xs + 1) (many p xs) → cond a (Some x) (one_after p 0 (xs ++ y ∷ [])) ≡ Some y)
+    [ true ↦ λ e. absurd (omega arith) | false ↦ λ e. one_new p 0 xs y new e ] e
+one_new p (suc k) (x ∷ xs) y new e =
+    elim (p x) as (λ a. suc k ≡ cond a (many p xs + 1) (many p xs) → cond a (one_after p k (xs ++ y ∷ [])) (one_after p (suc k) (xs ++ y ∷ [])) ≡ Some y)
+    [ true ↦ λ e. one_new p k xs y new (omega arith) | false ↦ λ e. one_new p (suc k) xs y new e ] e
+
+pub rest_new : {X : Type 0} (p : X → Bool) (k : ℕ) (xs : List X) (y : X) → p y ≡ true → k ≡ many p xs → rest_after p k (xs ++ y ∷ []) ≡ []
+rest_new p zero [] y new e = rw new refl
+rest_new p (suc k) [] y new e = absurd (omega arith)
+rest_new p zero (x ∷ xs) y new e =
+    elim (p x) as (λ a. 0 ≡ cond a (many p xs + 1) (many p xs) → cond a (xs ++ y ∷ []) (rest_after p 0 (xs ++ y ∷ [])) ≡ [])
+    [ true ↦ λ e. absurd (omega arith) | false ↦ λ e. rest_new p 0 xs y new e ] e
+rest_new p (suc k) (x ∷ xs) y new e =
+    elim (p x) as (λ a. suc k ≡ cond a (many p xs + 1) (many p xs) → cond a (rest_after p k (xs ++ y ∷ [])) (rest_after p (suc k) (xs ++ y ∷ [])) ≡ [])
+    [ true ↦ λ e. rest_new p k xs y new (omega arith) | false ↦ λ e. rest_new p (suc k) xs y new e ] e

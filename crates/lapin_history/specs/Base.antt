@@ -1,8 +1,7 @@
 -- What a history comes to beside confirms and answers: where the connection and its channels stand, the frames that wait, the
 -- open requests and the counters. Each event changes it as the rules say, by its record; nothing here looks at a tag, an
 -- outcome or an answer.
-use Rattle.std.specs.Prelude.{ℕ, ◌+◌, ◌==◌, Bool, true, false, not, ◌&&◌, ◌||◌, if◌then◌else◌, List, [], ◌∷◌, ◌++◌, Option, Some, None, find}
-use Rattle.std.specs.List.{list_any, filter}
+use Rattle.std.specs.Prelude.{ℕ, ◌+◌, ◌==◌, Bool, true, false, not, ◌&&◌, ◌||◌, if◌then◌else◌, List, [], ◌∷◌, ◌++◌, Option, Some, None}
 use Rattle.lapin_tables.specs.ByChannel.{at_channel, on_channel}
 use Rattle.lapin_types.specs.declared.event.Event.{Event}
 use Rattle.lapin_types.specs.declared.answer.Answer.{Answer}
@@ -40,7 +39,7 @@ use Rattle.lapin_history.specs.Words.{is_some, with_channel}
 use Rattle.lapin_history.specs.Frames.{MethodEntry, RestEntry}
 use Rattle.lapin_history.specs.Leaving.{Lists, handed_of, left_lists}
 use Rattle.lapin_history.specs.Drops.{no_lists, without_publishes_of, without_channel}
-use Rattle.lapin_history.specs.Phases.{channel_state, is_live, is_paused, is_up, is_lost, phase_in, close_sent, link_close_sent, after_broker_close, has_sent_close}
+use Rattle.lapin_history.specs.Phases.{channel_state, is_paused, is_up, is_lost, phase_in, close_sent, link_close_sent, after_broker_close, has_sent_close}
 use Rattle.lapin_history.specs.Closes.{session_close, unexpected_close}
 use Rattle.lapin_history.specs.Heard.{heard}
 use Rattle.lapin_history.specs.Requests.{requests_in, first_request, with_request, without_request, without_kind, close_alone, no_requests}

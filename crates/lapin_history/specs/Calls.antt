@@ -15,19 +15,26 @@ use Rattle.lapin_types.specs.Types.queue
 use Rattle.lapin_types.specs.Types.basic
 use Rattle.lapin_types.specs.Types.confirm
 use Rattle.lapin_types.specs.Types.tx
+use Rattle.lapin_history.specs.declared.marks.AtLeaving.TheVariants as leaving
 use Rattle.lapin_history.specs.declared.calls.Row.{Row}
 use Rattle.lapin_history.specs.declared.calls.Asked.{Asked}
 use Rattle.lapin_history.specs.declared.calls.Asked.TheVariants as ask
 
--- a call that has no way without wait
-abbrev pub in_table : Method → Option Reply → Asked
-in_table m awaits = ask.Method (record { method = m; awaits = awaits; made = None })
+-- a call that awaits this reply
+abbrev pub awaiting : Method → Reply → Asked
+awaiting m r = ask.Method (record { method = m; awaits = Some r; made = None; at_leaving = leaving.Nothing })
 
--- a call that awaits this reply; without wait it awaits none, and makes this answer itself
-abbrev pub waiting : Method → Bool → Reply → Answer → Asked
-waiting m nowait r a = if nowait
-  then ask.Method (record { method = m; awaits = None; made = Some a })
-  else ask.Method (record { method = m; awaits = Some r; made = None })
+-- a call that awaits no reply, and is answered as it is made
+abbrev pub answered_at_once : Method → Answer → Asked
+answered_at_once m a = ask.Method (record { method = m; awaits = None; made = Some a; at_leaving = leaving.Nothing })
+
+-- a call that awaits this reply, or, without wait, makes this answer itself
+abbrev pub unless_nowait : Method → Bool → Reply → Answer → Asked
+unless_nowait m nowait r a = if nowait then answered_at_once m a else awaiting m r
+
+-- a call that awaits no reply, and is done as its frame leaves
+abbrev pub done_as_it_leaves : Method → Asked
+done_as_it_leaves m = ask.Method (record { method = m; awaits = None; made = None; at_leaving = leaving.Done })
 
 abbrev pub publishes : Asked → Bool
 publishes (ask.Publish exchange key o payload properties) = true
@@ -38,18 +45,18 @@ asked call.OpenChannel = ask.Open
 asked (call.ChannelClose code text) = ask.CloseChannel code text
 asked (call.ConnectionClose code text) = ask.CloseConnection code text
 asked (call.BasicPublish exchange key o payload properties) = ask.Publish exchange key o payload properties
-asked (call.ChannelFlow o) = in_table (method.Channel (channel.Flow o.active)) (Some reply.ChannelFlowOk)
-asked (call.ExchangeBind to from key o more) = waiting (method.Exchange (exchange.Bind to from key o.nowait more)) o.nowait (reply.ExchangeBindOk to from key more) answer.Done
+asked (call.ChannelFlow o) = awaiting (method.Channel (channel.Flow o.active)) reply.ChannelFlowOk
+asked (call.ExchangeBind to from key o more) = unless_nowait (method.Exchange (exchange.Bind to from key o.nowait more)) o.nowait (reply.ExchangeBindOk to from key more) answer.Done
 asked (call.QueueDeclare name o more) =
-    waiting
+    unless_nowait
     (method.Queue (queue.Declare name o.passive o.durable o.exclusive o.auto_delete o.nowait more))
     o.nowait
     (reply.QueueDeclareOk o more)
     (answer.Queue (record { name = name; message_count = 0; consumer_count = 0 }))
-asked (call.QueueDelete name o) = waiting (method.Queue (queue.Delete name o.if_unused o.if_empty o.nowait)) o.nowait (reply.QueueDeleteOk name) (answer.Count 0)
-asked (call.BasicQos most o) = in_table (method.Basic (basic.Qos most o.global)) (Some reply.BasicQosOk)
-asked (call.BasicAck tag o) = in_table (method.Basic (basic.Ack tag o.multiple)) None
-asked (call.ConfirmSelect o) = waiting (method.Confirm (confirm.Select o.nowait)) o.nowait reply.ConfirmSelectOk answer.Done
-asked call.TxSelect = in_table (method.Tx tx.Select) (Some reply.TxSelectOk)
-asked (call.QueuePurge name o) = waiting (method.Queue (queue.Purge name o.nowait)) o.nowait reply.QueuePurgeOk (answer.Count 0)
-asked call.TxCommit = in_table (method.Tx tx.Commit) (Some reply.TxCommitOk)
+asked (call.QueueDelete name o) = unless_nowait (method.Queue (queue.Delete name o.if_unused o.if_empty o.nowait)) o.nowait (reply.QueueDeleteOk name) (answer.Count 0)
+asked (call.BasicQos most o) = awaiting (method.Basic (basic.Qos most o.global)) reply.BasicQosOk
+asked (call.BasicAck tag o) = done_as_it_leaves (method.Basic (basic.Ack tag o.multiple))
+asked (call.ConfirmSelect o) = unless_nowait (method.Confirm (confirm.Select o.nowait)) o.nowait reply.ConfirmSelectOk answer.Done
+asked call.TxSelect = awaiting (method.Tx tx.Select) reply.TxSelectOk
+asked (call.QueuePurge name o) = unless_nowait (method.Queue (queue.Purge name o.nowait)) o.nowait reply.QueuePurgeOk (answer.Count 0)
+asked call.TxCommit = awaiting (method.Tx tx.Commit) reply.TxCommitOk

@@ -1,5 +1,5 @@
 -- Tags and outcomes, read off the marks of a whole history (RabbitMQ publisher confirms).
-use Rattle.std.specs.Prelude.{◌≡◌, ℕ, zero, suc, ◌+◌, ◌==◌, nat_le, Bool, true, false, ◌&&◌, ◌||◌, if◌then◌else◌, List, [], ◌∷◌, Option, Some, None, count_by}
+use Rattle.std.specs.Prelude.{ℕ, ◌==◌, nat_lt, nat_le, not, Bool, true, false, ◌&&◌, ◌||◌, if◌then◌else◌, List, [], ◌∷◌, Option, Some, None, count_by}
 use Rattle.std.specs.List.{list_any, range_with_len}
 use Rattle.std.specs.Option.{option_or}
 use Rattle.lapin_history.specs.declared.marks.SettleKind.{SettleKind}
@@ -7,9 +7,9 @@ use Rattle.lapin_history.specs.declared.marks.SettleKind.TheVariants as kind
 use Rattle.lapin_history.specs.declared.marks.Settlement.{Settlement}
 use Rattle.lapin_history.specs.declared.marks.Outcome.{Outcome}
 use Rattle.lapin_history.specs.declared.marks.Outcome.TheVariants as outcome
-use Rattle.lapin_history.specs.declared.marks.ConfirmMark.{ConfirmMark}
-use Rattle.lapin_history.specs.declared.marks.ConfirmMark.TheVariants as mark
-use Rattle.lapin_history.specs.Words.{after, through, since}
+use Rattle.lapin_history.specs.ConfirmMarks.{ConfirmMark}
+use Rattle.lapin_history.specs.ConfirmMarks as mark
+use Rattle.lapin_history.specs.Words.{after, through, since, many, nth, after_nth}
 
 -- ---- which mark is it
 
@@ -33,15 +33,36 @@ abbrev pub leaves_on : ℕ → ConfirmMark → Bool
 leaves_on c (mark.Left d k) = d == c
 leaves_on c _ = false
 
--- the method frame of publish k leaves
+-- the method frame of publish n leaves
 abbrev pub leaves : ℕ → ConfirmMark → Bool
-leaves k (mark.Left d j) = j == k
-leaves k _ = false
+leaves n (mark.Left d j) = j == n
+leaves n _ = false
 
--- the result of publish k is given
+-- the result of publish n is given
 abbrev pub takes : ℕ → ConfirmMark → Bool
-takes k (mark.Taken j) = j == k
-takes k _ = false
+takes n (mark.Taken j) = j == n
+takes n _ = false
+
+-- publish n is set aside
+abbrev pub lays : ℕ → ConfirmMark → Bool
+lays n (mark.SetAside j) = j == n
+lays n _ = false
+
+-- a `confirm.select` call of channel c is accepted
+abbrev pub asks : ℕ → ConfirmMark → Bool
+asks c (mark.SelectCalled d) = d == c
+asks c _ = false
+
+-- an opening of channel c begins or ends
+abbrev pub turns : ℕ → ConfirmMark → Bool
+turns c (mark.Begun d) = d == c
+turns c (mark.Ended d e) = d == c
+turns c _ = false
+
+-- the limit of channel c after a mark
+abbrev pub limit_after : ℕ → ℕ → ConfirmMark → ℕ
+limit_after c l (mark.LimitSet d n) = if d == c then n else l
+limit_after c l _ = l
 
 -- ---- settlements
 
@@ -84,24 +105,18 @@ channel_in _ = 0
 
 -- how many publishes were accepted
 abbrev pub added : List ConfirmMark → ℕ
-added [] = 0
-added (m ∷ ms) = if adds m then added ms + 1 else added ms
+added ms = many adds ms
 
--- the mark by which publish k was accepted
+-- the mark by which publish n was accepted, and the marks after it
 abbrev pub accepted : ℕ → List ConfirmMark → Option ConfirmMark
-accepted k [] = None
-accepted zero (m ∷ ms) = if adds m then Some m else accepted zero ms
-accepted (suc k) (m ∷ ms) = if adds m then accepted k ms else accepted (suc k) ms
+accepted n ms = nth adds n ms
 
--- the marks after it
 abbrev pub life : ℕ → List ConfirmMark → List ConfirmMark
-life k [] = []
-life zero (m ∷ ms) = if adds m then ms else life zero ms
-life (suc k) (m ∷ ms) = if adds m then life k ms else life (suc k) ms
+life n ms = after_nth adds n ms
 
--- the channel of publish k
+-- the channel of publish n
 abbrev pub channel_of : ℕ → List ConfirmMark → ℕ
-channel_of k ms = channel_in (accepted k ms)
+channel_of n ms = channel_in (accepted n ms)
 
 -- A publish takes its place, as its method frame leaves, among those of its opening that left after the first
 -- `confirm.select`, counted from 1. It has no tag if none had left.
@@ -118,16 +133,16 @@ tag_at k ms = if has_left k ms then tag_of k ms else None
 
 -- ---- outcomes
 
--- what a mark does to publish k of channel c while its method frame has not left: a close of this side, or the end
-abbrev pub rejection_of : ℕ → ℕ → ConfirmMark → Option Outcome
-rejection_of c k (mark.Rejected j e) = if k == j then Some (outcome.Failed e) else None
-rejection_of c k (mark.Ended d e) = if c == d then Some (outcome.Failed e) else None
-rejection_of c k _ = None
+-- what a mark does to a publish of channel c while its method frame has not left: a close of this side, or the end
+abbrev pub rejection_on : ℕ → ConfirmMark → Option Outcome
+rejection_on c (mark.ClosedHere d e) = if c == d then Some (outcome.Failed e) else None
+rejection_on c (mark.Ended d e) = if c == d then Some (outcome.Failed e) else None
+rejection_on c _ = None
 
 -- the first of these
-abbrev pub first_rejected : ℕ → ℕ → List ConfirmMark → Option Outcome
-first_rejected c k [] = None
-first_rejected c k (m ∷ ms) = option_or (rejection_of c k m) (first_rejected c k ms)
+abbrev pub first_rejected : ℕ → List ConfirmMark → Option Outcome
+first_rejected c [] = None
+first_rejected c (m ∷ ms) = option_or (rejection_on c m) (first_rejected c ms)
 
 -- what a mark does to a publish of channel c that is pending with tag t: a settlement that covers it, or the end
 abbrev pub settlement_on : ℕ → ℕ → ConfirmMark → Option Outcome
@@ -145,16 +160,19 @@ abbrev pub outcome_after : ℕ → Option ℕ → List ConfirmMark → Option Ou
 outcome_after c None later = Some outcome.NotRequested
 outcome_after c (Some t) later = first_settled c t later
 
--- The outcome of publish k, none while it is pending. Before its method frame left: the first close of this side or end.
+-- The outcome of publish n, none while it is pending. Before its method frame left: the first close of this side or end.
 -- After it: not requested where it took no tag, else the first settlement that covers its tag, or the end.
 abbrev pub outcome_at : ℕ → List ConfirmMark → Option Outcome
-outcome_at k ms =
-    if has_left k ms
-    then outcome_after (channel_of k ms) (tag_of k ms) (after (leaves k) ms)
-    else first_rejected (channel_of k ms) k (life k ms)
+outcome_at n ms =
+    if has_left n ms
+    then outcome_after (channel_of n ms) (tag_of n ms) (after (leaves n) ms)
+    else first_rejected (channel_of n ms) (life n ms)
 
 abbrev pub is_taken : ℕ → List ConfirmMark → Bool
-is_taken k ms = list_any (takes k) ms
+is_taken n ms = list_any (takes n) ms
+
+abbrev pub is_aside : ℕ → List ConfirmMark → Bool
+is_aside n ms = list_any (lays n) ms
 
 -- ---- pending tags
 
@@ -166,17 +184,50 @@ abbrev pub is_open_outcome : Option Outcome → Bool
 is_open_outcome None = true
 is_open_outcome (Some o) = false
 
--- publish k is of channel c, has tag t and no outcome yet
+-- publish n is of channel c, has tag t and no outcome yet
 abbrev pub is_pending_as : ℕ → ℕ → List ConfirmMark → ℕ → Bool
-is_pending_as c t ms k = has_left k ms && (channel_of k ms == c && (is_tag t (tag_of k ms) && is_open_outcome (outcome_at k ms)))
+is_pending_as c t ms n = has_left n ms && (channel_of n ms == c && (is_tag t (tag_of n ms) && is_open_outcome (outcome_at n ms)))
+
+-- the numbers of all publishes
+abbrev pub numbers : List ConfirmMark → List ℕ
+numbers ms = range_with_len 1 (added ms)
 
 -- the tag is pending on channel c: one of its publishes is pending with it
 abbrev pub is_pending : ℕ → ℕ → List ConfirmMark → Bool
-is_pending c t ms = list_any (is_pending_as c t ms) (range_with_len 0 (added ms))
+is_pending c t ms = list_any (is_pending_as c t ms) (numbers ms)
 
 -- how many tags are pending on channel c
 abbrev pub is_pending_on : ℕ → List ConfirmMark → ℕ → Bool
-is_pending_on c ms k = has_left k ms && (channel_of k ms == c && is_open_outcome (outcome_at k ms))
+is_pending_on c ms n = has_left n ms && (channel_of n ms == c && is_open_outcome (outcome_at n ms))
 
 abbrev pub pending_count : ℕ → List ConfirmMark → ℕ
-pending_count c ms = count_by (is_pending_on c ms) (range_with_len 0 (added ms))
+pending_count c ms = count_by (is_pending_on c ms) (numbers ms)
+
+-- publish n is of channel c, and its method frame has neither left nor will leave no more
+abbrev pub is_queued_on : ℕ → List ConfirmMark → ℕ → Bool
+is_queued_on c ms n = not (has_left n ms) && (channel_of n ms == c && is_open_outcome (outcome_at n ms))
+
+abbrev pub queued_count : ℕ → List ConfirmMark → ℕ
+queued_count c ms = count_by (is_queued_on c ms) (numbers ms)
+
+-- ---- what an opening has beside its tags: it is there from the opening's begin to its end
+
+-- the marks since the channel's opening began, none where it has ended
+abbrev pub present : ℕ → List ConfirmMark → List ConfirmMark
+present c ms = since (turns c) ms
+
+-- a `confirm.select` call was accepted in it
+abbrev pub is_asked : ℕ → List ConfirmMark → Bool
+is_asked c ms = list_any (asks c) (present c ms)
+
+-- the last limit that was set in it, 0 if none
+abbrev pub last_limit : ℕ → ℕ → List ConfirmMark → ℕ
+last_limit c l [] = l
+last_limit c l (m ∷ ms) = last_limit c (limit_after c l m) ms
+
+abbrev pub limit_of : ℕ → List ConfirmMark → ℕ
+limit_of c ms = last_limit c 0 (present c ms)
+
+-- the channel is full: no further publish of it begins
+abbrev pub is_full : ℕ → List ConfirmMark → Bool
+is_full c ms = is_selected c ms && (nat_lt 0 (limit_of c ms) && nat_le (limit_of c ms) (pending_count c ms))

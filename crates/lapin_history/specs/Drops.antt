@@ -1,7 +1,7 @@
 -- What a close or an end takes out of the three lists of frames that wait. A close of this side takes its channel's publishes
 -- that have not begun, an end of a channel's opening all the channel's entries, an end of the connection everything. The begun
 -- publish is one entry, however many of its frames wait.
-use Rattle.std.specs.Prelude.{◌≡◌, ℕ, ◌==◌, Bool, false, not, if◌then◌else◌, List, [], ◌∷◌, ◌++◌, map, Option, Some, None}
+use Rattle.std.specs.Prelude.{ℕ, ◌==◌, Bool, false, not, if◌then◌else◌, List, [], ◌∷◌, map, Option, Some}
 use Rattle.std.specs.List.{filter}
 use Rattle.lapin_types.specs.declared.leaving.Publish.{Publish}
 use Rattle.lapin_types.specs.Types.{Frame}

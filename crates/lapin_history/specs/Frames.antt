@@ -1,5 +1,5 @@
 -- The frames of a publish, and the entries of the lists that leave (AMQP 0-9-1, sections 4.2.3 and 4.2.6, content framing).
-use Rattle.std.specs.Prelude.{ℕ, zero, suc, ◌-◌, Bool, true, false, List, [], ◌∷◌, ◌++◌, map, length, take, drop, Option, Some, None}
+use Rattle.std.specs.Prelude.{ℕ, zero, suc, ◌-◌, Bool, true, false, List, [], ◌∷◌, map, length, take, drop, Option, Some, None}
 use Rattle.lapin_types.specs.declared.leaving.Publish.{Publish}
 use Rattle.lapin_types.specs.declared.leaving.Left.{Left}
 use Rattle.lapin_types.specs.Types.{Frame, Method}

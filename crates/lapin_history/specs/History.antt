@@ -1,12 +1,12 @@
 -- The records that a history determines.
-use Rattle.std.specs.Prelude.{ℕ, zero, suc, nat_lt, nat_le, Bool, ◌&&◌, true, false, if◌then◌else◌, List, [], ◌∷◌, ◌++◌, Option, Some, None, Result, Ok, Err}
+use Rattle.std.specs.Prelude.{ℕ, nat_lt, nat_le, Bool, ◌&&◌, if◌then◌else◌, List, [], ◌∷◌, ◌++◌, Option, Some, None, Result}
 use Rattle.lapin_types.specs.declared.event.Event.{Event}
 use Rattle.lapin_types.specs.declared.record.Record.{Record}
 use Rattle.lapin_types.specs.declared.answer.Answer.{Answer}
 use Rattle.lapin_types.specs.Types.{Error}
 use Rattle.lapin_types.specs.declared.record.Record.TheVariants as record_
 use Rattle.lapin_types.specs.Types.error
-use Rattle.lapin_history.specs.declared.marks.ConfirmMark.{ConfirmMark}
+use Rattle.lapin_history.specs.ConfirmMarks.{ConfirmMark}
 use Rattle.lapin_history.specs.declared.marks.Outcome.{Outcome}
 use Rattle.lapin_history.specs.ConfirmReadings.{is_selected, place, is_pending, added, is_taken, outcome_at}
 use Rattle.lapin_history.specs.TicketReadings.{TicketMark, given, is_collected, answer_of}
@@ -43,15 +43,14 @@ abbrev pub polled_outcome : Option Outcome → Record
 polled_outcome None = record_.Pending
 polled_outcome (Some o) = confirmed o
 
-abbrev pub poll_at : ℕ → List ConfirmMark → Record
-poll_at k ms =
-    if nat_lt k (added ms)
-    then (if is_taken k ms then record_.Refused error.AlreadyTaken else polled_outcome (outcome_at k ms))
-    else record_.Refused error.UnknownTicket
+abbrev pub was_added : ℕ → List ConfirmMark → Bool
+was_added n ms = nat_lt 0 n && nat_le n (added ms)
 
 abbrev pub confirm_poll : List ConfirmMark → ℕ → Record
-confirm_poll ms zero = record_.Refused error.UnknownTicket
-confirm_poll ms (suc k) = poll_at k ms
+confirm_poll ms n =
+    if was_added n ms
+    then (if is_taken n ms then record_.Refused error.AlreadyTaken else polled_outcome (outcome_at n ms))
+    else record_.Refused error.UnknownTicket
 
 -- what a poll of a ticket's number gives: the answer once
 abbrev pub polled_answer : Option (Result Answer Error) → Record

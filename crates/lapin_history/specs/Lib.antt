@@ -1,5 +1,8 @@
 pub mod Words
+pub mod ConfirmMarks
+pub mod Letters
 pub mod ConfirmReadings
+pub mod ReturnReadings
 pub mod TicketReadings
 pub mod Frames
 pub mod Heard
@@ -13,4 +16,3 @@ pub mod Base
 pub mod Marked
 pub mod Answers
 pub mod History
-pub mod Wanted

@@ -1,5 +1,5 @@
 -- Where the connection and its channels stand (AMQP 0-9-1, classes connection and channel).
-use Rattle.std.specs.Prelude.{ℕ, Bool, true, false, Option, Some, None}
+use Rattle.std.specs.Prelude.{Bool, true, false, Option, Some, None}
 use Rattle.lapin_types.specs.Types.{ChannelState, ConnectionState}
 use Rattle.lapin_types.specs.Types.channel_state as state
 use Rattle.lapin_types.specs.Types.connection_state as link_state

@@ -1,5 +1,5 @@
 -- Words on lists, in which the rules are said: after the first, up to the first, since the last, the first of a channel.
-use Rattle.std.specs.Prelude.{ℕ, ◌==◌, Bool, true, false, ◌||◌, if◌then◌else◌, List, [], ◌∷◌, ◌++◌, Option, Some, None, find}
+use Rattle.std.specs.Prelude.{ℕ, zero, suc, ◌+◌, Bool, true, false, if◌then◌else◌, List, [], ◌∷◌, ◌++◌, Option, Some, None}
 use Rattle.std.specs.List.{list_any}
 use Rattle.lapin_tables.specs.ByChannel.{at_channel, on_channel}
 
@@ -35,3 +35,28 @@ is_some (Some x) = true
 -- the table with this at the channel, which joins at the back where it has no entry yet
 abbrev pub with_channel : {X : Type 0} → ℕ → X → List (ℕ × X) → List (ℕ × X)
 with_channel c x all = if is_some (at_channel c all) then on_channel c (λ _. x) all else all ++ (c, x) ∷ []
+
+-- how many elements pass
+abbrev pub many : {X : Type 0} → (X → Bool) → List X → ℕ
+many p [] = 0
+many p (x ∷ xs) = if p x then many p xs + 1 else many p xs
+
+-- the element that passes after so many that do, and what stands after it
+abbrev pub one_after : {X : Type 0} → (X → Bool) → ℕ → List X → Option X
+one_after p k [] = None
+one_after p zero (x ∷ xs) = if p x then Some x else one_after p zero xs
+one_after p (suc k) (x ∷ xs) = if p x then one_after p k xs else one_after p (suc k) xs
+
+abbrev pub rest_after : {X : Type 0} → (X → Bool) → ℕ → List X → List X
+rest_after p k [] = []
+rest_after p zero (x ∷ xs) = if p x then xs else rest_after p zero xs
+rest_after p (suc k) (x ∷ xs) = if p x then rest_after p k xs else rest_after p (suc k) xs
+
+-- the n-th element that passes, counted from 1, and what stands after it
+abbrev pub nth : {X : Type 0} → (X → Bool) → ℕ → List X → Option X
+nth p zero xs = None
+nth p (suc k) xs = one_after p k xs
+
+abbrev pub after_nth : {X : Type 0} → (X → Bool) → ℕ → List X → List X
+after_nth p zero xs = []
+after_nth p (suc k) xs = rest_after p k xs

@@ -4,10 +4,11 @@
 //! their line of the table. The session asks here.
 
 ghost use Rattle.std.specs.Prelude.{◌≡◌, Option, IfOk};
-ghost use Rattle.lapin_history.specs.Calls.{asked, in_table as in_table_lem, waiting as waiting_lem};
+ghost use Rattle.lapin_history.specs.Calls.{asked, awaiting as awaiting_lem, unless_nowait as unless_nowait_lem, done_as_it_leaves as done_as_it_leaves_lem};
 ghost use Rattle.lapin_history.specs.Base.{is_allowed as is_allowed_lem};
 ghost use Rattle.lapin_types.specs.declared.call.Call.TheVariants as call;
 
+use crate::marks::AtLeaving;
 use lapin_types::{
     Answer, BasicMethod, BasicProperties, BasicPublishOptions, Call, ChannelMethod, ChannelState,
     ConfirmMethod, ExchangeBindOptions, ExchangeMethod, FieldTable, Method, NoMemory, Payload,
@@ -20,10 +21,12 @@ use std::alloc::Global;
 pub struct Row {
     /// The method that the call queues.
     pub method: Method,
-    /// The reply that it awaits; none where it is called without wait, and where its ticket is resolved as its frame leaves.
+    /// The reply that it awaits, if it awaits one.
     pub awaits: Option<Reply>,
-    /// The answer that it makes itself, where it is called without wait.
+    /// The answer that its ticket gets in the call, where it is called without wait.
     pub made: Option<Answer>,
+    /// The answer that its ticket gets as its frame leaves.
+    pub at_leaving: AtLeaving,
 }
 
 /// A call, as the rules see it.
@@ -98,7 +101,7 @@ pub fn sort_call(alloc: Global, call: Call) -> Result<Asked, NoMemory>
             let method = Method::Channel(ChannelMethod::Flow {
                 active: options.active,
             });
-            Ok(in_table(method, Some(Reply::ChannelFlowOk)))
+            Ok(awaiting(method, Reply::ChannelFlowOk))
         }
         Call::ExchangeBind {
             destination,
@@ -121,7 +124,7 @@ pub fn sort_call(alloc: Global, call: Call) -> Result<Asked, NoMemory>
                 prefetch_count,
                 global: options.global,
             });
-            Ok(in_table(method, Some(Reply::BasicQosOk)))
+            Ok(awaiting(method, Reply::BasicQosOk))
         }
         Call::BasicAck {
             delivery_tag,
@@ -131,31 +134,21 @@ pub fn sort_call(alloc: Global, call: Call) -> Result<Asked, NoMemory>
                 delivery_tag,
                 multiple: options.multiple,
             });
-            Ok(in_table(method, None))
+            Ok(done_as_it_leaves(method))
         }
         Call::ConfirmSelect { options } => {
             let method = Method::Confirm(ConfirmMethod::Select {
                 nowait: options.nowait,
             });
-            Ok(waiting(
-                method, options.nowait, Reply::ConfirmSelectOk, Answer::Done,
-            ))
+            Ok(unless_nowait(method, options.nowait, Reply::ConfirmSelectOk, Answer::Done))
         }
         Call::QueuePurge { queue, options } => {
             let nowait = options.nowait;
             let method = Method::Queue(QueueMethod::Purge { queue, nowait });
-            Ok(waiting(
-                method, nowait, Reply::QueuePurgeOk, Answer::Count(0),
-            ))
+            Ok(unless_nowait(method, nowait, Reply::QueuePurgeOk, Answer::Count(0)))
         }
-        Call::TxSelect => Ok(in_table(
-            Method::Tx(TxMethod::Select),
-            Some(Reply::TxSelectOk),
-        )),
-        Call::TxCommit => Ok(in_table(
-            Method::Tx(TxMethod::Commit),
-            Some(Reply::TxCommitOk),
-        )),
+        Call::TxSelect => Ok(awaiting(Method::Tx(TxMethod::Select), Reply::TxSelectOk)),
+        Call::TxCommit => Ok(awaiting(Method::Tx(TxMethod::Commit), Reply::TxCommitOk)),
     }
 }
 
@@ -182,7 +175,7 @@ fn exchange_bind(
         nowait: options.nowait,
         arguments,
     });
-    Ok(waiting(method, options.nowait, reply, Answer::Done))
+    Ok(unless_nowait(method, options.nowait, reply, Answer::Done))
 }
 
 fn queue_declare(
@@ -207,7 +200,7 @@ fn queue_declare(
         nowait: options.nowait,
         arguments,
     });
-    Ok(waiting(method, options.nowait, reply, answer))
+    Ok(unless_nowait(method, options.nowait, reply, answer))
 }
 
 fn queue_delete(
@@ -226,35 +219,45 @@ fn queue_delete(
         if_empty: options.if_empty,
         nowait: options.nowait,
     });
-    Ok(waiting(method, options.nowait, reply, Answer::Count(0)))
+    Ok(unless_nowait(method, options.nowait, reply, Answer::Count(0)))
 }
 
-// A call that has no way without wait.
-fn in_table(method: Method, awaits: Option<Reply>) -> Asked
-    ensures { result ≡ in_table_lem method awaits }
+// A call that awaits this reply.
+fn awaiting(method: Method, reply: Reply) -> Asked
+    ensures { result ≡ awaiting_lem method reply }
 {
     Asked::Method(Row {
         method,
-        awaits,
+        awaits: Some(reply),
         made: None,
+        at_leaving: AtLeaving::Nothing,
     })
 }
 
 // A call that awaits this reply, or without wait makes this answer itself.
-fn waiting(method: Method, nowait: bool, reply: Reply, answer: Answer) -> Asked
-    ensures { result ≡ waiting_lem method nowait reply answer }
+fn unless_nowait(method: Method, nowait: bool, reply: Reply, answer: Answer) -> Asked
+    ensures { result ≡ unless_nowait_lem method nowait reply answer }
 {
     if nowait {
         Asked::Method(Row {
             method,
             awaits: None,
             made: Some(answer),
+            at_leaving: AtLeaving::Nothing,
         })
     } else {
-        Asked::Method(Row {
-            method,
-            awaits: Some(reply),
-            made: None,
-        })
+        awaiting(method, reply)
     }
+}
+
+// A call that awaits no reply, and is done as its frame leaves.
+fn done_as_it_leaves(method: Method) -> Asked
+    ensures { result ≡ done_as_it_leaves_lem method }
+{
+    Asked::Method(Row {
+        method,
+        awaits: None,
+        made: None,
+        at_leaving: AtLeaving::Done,
+    })
 }

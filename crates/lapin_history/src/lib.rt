@@ -9,12 +9,8 @@ pub mod broker_frames;
 pub mod calls;
 pub mod closes;
 pub mod laws;
-pub mod leaving;
 pub mod marks;
 pub mod phases;
-pub mod readings;
-#[cfg(test)]
-mod tests;
 
 pub use broker_frames::{
     Incoming, class_of, hears, hears_close, hears_close_ok, hears_down, hears_on, is_kind,
@@ -25,7 +21,5 @@ pub use closes::{
     after_broker_close, close_ok_end, close_sent, failed_at_close, has_sent_close, link_close_sent,
     session_close, unexpected_close,
 };
-pub use leaving::resolved;
-pub use marks::{ConfirmMark, Outcome, SettleKind, Settlement};
+pub use marks::{AtLeaving, Outcome, SettleKind, Settlement};
 pub use phases::{Closer, Link, Phase};
-pub use readings::{outcome_of, tag_of};

@@ -1,6 +1,6 @@
-//! What happens to publisher confirms, in the words of the protocol. A history gives a list of these, oldest first.
+//! The small words in which marks speak of settlements, outcomes and leaving. The marks stand in `specs/`.
 //!
-//! Plain data alone: nothing here decides anything. The readings of `specs/` and the confirms read these marks.
+//! Plain data alone: nothing here decides anything.
 
 use lapin_types::Error;
 
@@ -31,24 +31,12 @@ pub enum Outcome {
     Failed(Error),
 }
 
-/// One thing that happened to confirms. A publish is named by its place among all accepted ones, from 0; its confirm number
-/// is one more.
+/// The answer that the leaving of its last frame gives a call's ticket.
 #[derive(Clone, Copy, Debug, PartialEq, Eq)]
-pub enum ConfirmMark {
-    /// An opening of the channel began.
-    Begun(u16),
-    /// A publish was accepted on the channel.
-    Added(u16),
-    /// A `confirm.select` frame of the channel left.
-    SelectLeft(u16),
-    /// The method frame of the publish left on the channel.
-    Left(u16, u64),
-    /// The broker's settlement came on the channel.
-    Settled(u16, Settlement),
-    /// A close of this side rejected the publish before its method frame left.
-    Rejected(u64, Error),
-    /// The channel's opening ended.
-    Ended(u16, Error),
-    /// The result of the publish was given.
-    Taken(u64),
+pub enum AtLeaving {
+    /// None: the ticket awaits a reply, or was answered in the call.
+    Nothing,
+    Done,
+    /// A publish: the number of its confirm.
+    Confirm(u64),
 }

@@ -63,7 +63,10 @@ impl Phase {
     pub fn is_live(self) -> bool
         ensures { result ≡ is_live_lem self }
     {
-        matches!(self, Phase::Opening | Phase::Open { .. } | Phase::Closing { .. })
+        matches!(
+            self,
+            Phase::Opening | Phase::Open { .. } | Phase::Closing { .. }
+        )
     }
 
     /// Whether the channel is open and the broker paused it.

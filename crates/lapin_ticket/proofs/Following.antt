@@ -1,6 +1,5 @@
 -- Slots that follow a history follow the longer one after the machine's step.
-use Rattle.std.proofs.Common.{◌≡◌, ℕ, zero, suc, ◌+◌, ◌<◌, ◌==◌, true, false, cond, ◌||◌, List, [], ◌∷◌, ◌++◌, length, map, Option, Some, None, Result, Err, refl, sym, ◌∙◌, ap, subst, arith, slice_get, slice_set, inl, inr, eq-eqb, ne_eqb, length-append}
-use Rattle.std.proofs.Math.ListN.{length-set}
+use Rattle.std.proofs.Common.{◌≡◌, ℕ, zero, suc, ◌+◌, ◌<◌, ◌==◌, Bool, true, false, not, cond, ◌||◌, ◌&&◌, List, [], ◌∷◌, ◌++◌, length, map, Option, Some, None, Result, Ok, Err, option_map, refl, sym, ◌∙◌, ap, subst, arith, slice_get, slice_set, inl, inr, eq-eqb, ne_eqb, length-append}
 use Rattle.std.proofs.lemmas.Bool.Decides.{eqb_tells}
 use Rattle.std.proofs.lemmas.List.{length-map}
 use Rattle.std.proofs.lemmas.Option.{get_or_from_slice_get}
@@ -10,13 +9,16 @@ use Rattle.lapin_types.specs.declared.answer.Answer.{Answer}
 use Rattle.lapin_types.specs.Types.{Error}
 use Rattle.lapin_tables.specs.Numbered.{under, with_under}
 use Rattle.lapin_tables.proofs.Lists.{get-set_same, get-set_other}
-use Rattle.lapin_history.specs.TicketReadings.{TicketMark, Given, Answered, AllFailed, Collected, given, after_given, answer_by, first_answer, collects}
+use Rattle.lapin_tables.proofs.SlotLaws.{length-with}
+use Rattle.lapin_history.specs.declared.marks.AtLeaving.{AtLeaving}
+use Rattle.lapin_history.specs.TicketReadings.{TicketMark, gives, given, channel_of, leaving_of, channel_in, leaving_in, life, begins, is_publish, is_kept, answer_at, answer_by, first_answer, closes}
+use Rattle.lapin_history.specs.TicketReadings as mark
 use Rattle.lapin_history.proofs.ListLaws.{any-push}
-use Rattle.lapin_history.proofs.TicketLaws.{given-push, answer-push, after_given-push, after_given_new}
+use Rattle.lapin_history.proofs.TicketLaws.{given-push, answer-push, nth-push, life-push, nth_new, life_new}
 use Rattle.lapin_ticket.specs.declared.Slot.{Slot}
 use Rattle.lapin_ticket.specs.declared.Slot.TheVariants as slot
-use Rattle.lapin_ticket.specs.Desk.{after_mark, answered_slot}
-use Rattle.lapin_ticket.specs.Follows.{Follows, held, slot_in}
+use Rattle.lapin_ticket.specs.Desk.{after_mark, answered_slot, begun_slot, left_slot, held_or, closed_slot, failed_slot, failed}
+use Rattle.lapin_ticket.specs.Follows.{Follows, held, slot_in, slot_of}
 
 get-push_old : {X : Type 0} (xs : List X) (k : ℕ) (y : X) → k < length xs → slice_get (xs ++ y ∷ []) k ≡ slice_get xs k
 get-push_old [] k y h = absurd (omega arith)
@@ -36,39 +38,97 @@ get-map f (y ∷ xs) (suc k) x h = get-map f xs k x h
 
 -- what a mark does to the slot of ticket n
 abbrev slot_after : ℕ → TicketMark → Option Slot → Option Slot
-slot_after n Given o = o
-slot_after n (Answered j a) o = cond (j == n) (answered_slot a o) o
-slot_after n (AllFailed e) o = answered_slot (Err e) o
-slot_after n (Collected j) o = cond (j == n) None o
+slot_after n (mark.Begun j) o = cond (j == n) (begun_slot o) o
+slot_after n (mark.LastLeft j) o = cond (j == n) (left_slot o) o
+slot_after n (mark.Answered j a) o = cond (j == n) (answered_slot a o) o
+slot_after n (mark.ClosedHere c e) o = closed_slot c e o
+slot_after n (mark.OpeningFailed c kept e) o = cond (is_kept n kept) o (failed_slot c e o)
+slot_after n (mark.AllFailed e) o = answered_slot (Err e) o
+slot_after n (mark.Collected j) o = cond (j == n) None o
+slot_after n (mark.SetAside j) o = cond (j == n) None o
+slot_after n _ o = o
 
-answered_none : (a : Result Answer Error) → answered_slot a None ≡ None
-answered_none a = refl
+same_or : (b : Bool) (o : Option Slot) → o ≡ cond b o o
+same_or true o = refl
+same_or false o = refl
 
 -- a slot that is empty stays so
 gone_stays : (n : ℕ) (m : TicketMark) → None ≡ slot_after n m None
-gone_stays n Given = refl
-gone_stays n (Answered j a) = elim (j == n) as (λ b. ◌≡◌ {A = Option Slot} None (cond b (answered_slot a None) None)) [ true ↦ refl | false ↦ refl ]
-gone_stays n (AllFailed e) = refl
-gone_stays n (Collected j) = elim (j == n) as (λ b. ◌≡◌ {A = Option Slot} None (cond b None None)) [ true ↦ refl | false ↦ refl ]
+gone_stays n (mark.Given c l) = refl
+gone_stays n (mark.Begun j) = same_or (j == n) None
+gone_stays n (mark.LastLeft j) = same_or (j == n) None
+gone_stays n (mark.Answered j a) = same_or (j == n) None
+gone_stays n (mark.ClosedHere c e) = refl
+gone_stays n (mark.OpeningFailed c kept e) = same_or (is_kept n kept) None
+gone_stays n (mark.AllFailed e) = refl
+gone_stays n (mark.Collected j) = same_or (j == n) None
+gone_stays n (mark.SetAside j) = same_or (j == n) None
 
-held-push : (n : ℕ) (o : Option (Result Answer Error)) (m : TicketMark) → cond (collects n m) None (Some (held (option_or o (answer_by n m)))) ≡ slot_after n m (Some (held o))
-held-push n None Given = refl
-held-push n (Some a) Given = refl
-held-push n None (Answered j a) = elim (j == n) as (λ b. Some (held (option_or None (cond b (Some a) None))) ≡ cond b (answered_slot a (Some slot.Open)) (Some slot.Open)) [ true ↦ refl | false ↦ refl ]
-held-push n (Some x) (Answered j a) = elim (j == n) as (λ b. Some (slot.Held x) ≡ cond b (answered_slot a (Some (slot.Held x))) (Some (slot.Held x))) [ true ↦ refl | false ↦ refl ]
-held-push n None (AllFailed e) = refl
-held-push n (Some x) (AllFailed e) = refl
-held-push n None (Collected j) = refl
-held-push n (Some x) (Collected j) = refl
+-- what a mark does to a ticket that has an answer
+held_stays : (n c : ℕ) (l : AtLeaving) (b : Bool) (x : Result Answer Error) (m : TicketMark) → cond (closes n m) None (Some (slot.Held x)) ≡ slot_after n m (Some (slot.Held x))
+held_stays n c l b x (mark.Given d k) = refl
+held_stays n c l b x (mark.Begun j) = same_or (j == n) (Some (slot.Held x))
+held_stays n c l b x (mark.LastLeft j) = same_or (j == n) (Some (slot.Held x))
+held_stays n c l b x (mark.Answered j a) = same_or (j == n) (Some (slot.Held x))
+held_stays n c l b x (mark.ClosedHere d e) = refl
+held_stays n c l b x (mark.OpeningFailed d kept e) = same_or (is_kept n kept) (Some (slot.Held x))
+held_stays n c l b x (mark.AllFailed e) = refl
+held_stays n c l b x (mark.Collected j) = refl
+held_stays n c l b x (mark.SetAside j) = refl
+
+-- and to one that is open
+open_moves : (n c : ℕ) (l : AtLeaving) (b : Bool) (m : TicketMark) → cond (closes n m) None (Some (held c l (b || begins n m) (answer_by n c l b m))) ≡ slot_after n m (Some (slot.Open c l b))
+open_moves n c l true (mark.Given d k) = refl
+open_moves n c l false (mark.Given d k) = refl
+open_moves n c l true (mark.Begun j) = elim (j == n) as (λ x. Some (slot.Open c l true) ≡ cond x (Some (slot.Open c l true)) (Some (slot.Open c l true))) [ true ↦ refl | false ↦ refl ]
+open_moves n c l false (mark.Begun j) = elim (j == n) as (λ x. Some (slot.Open c l x) ≡ cond x (Some (slot.Open c l true)) (Some (slot.Open c l false))) [ true ↦ refl | false ↦ refl ]
+open_moves n c l b (mark.LastLeft j) =
+    rw (same_flag b)
+    (elim (j == n) as (λ x. Some (held c l b (cond x (option_map Ok (answer_at l)) None)) ≡ cond x (Some (held_or (slot.Open c l b) (answer_at l))) (Some (slot.Open c l b))) [
+      | true ↦ elim (answer_at l) as (λ o. Some (held c l b (option_map Ok o)) ≡ Some (held_or (slot.Open c l b) o)) [ None ↦ refl | Some a ↦ refl ]
+      | false ↦ refl
+    ])
+  where
+    same_flag : (b : Bool) → (b || false) ≡ b
+    same_flag true = refl
+    same_flag false = refl
+open_moves n c l true (mark.Answered j a) = elim (j == n) as (λ x. Some (held c l true (cond x (Some a) None)) ≡ cond x (Some (slot.Held a)) (Some (slot.Open c l true))) [ true ↦ refl | false ↦ refl ]
+open_moves n c l false (mark.Answered j a) = elim (j == n) as (λ x. Some (held c l false (cond x (Some a) None)) ≡ cond x (Some (slot.Held a)) (Some (slot.Open c l false))) [ true ↦ refl | false ↦ refl ]
+open_moves n c l true (mark.ClosedHere d e) = elim (d == c && (is_publish l && false)) as (λ x. Some (held c l true (cond x (Some (Err e)) None)) ≡ cond x (Some (slot.Held (Err e))) (Some (slot.Open c l true))) [ true ↦ refl | false ↦ refl ]
+open_moves n c l false (mark.ClosedHere d e) = elim (d == c && (is_publish l && true)) as (λ x. Some (held c l false (cond x (Some (Err e)) None)) ≡ cond x (Some (slot.Held (Err e))) (Some (slot.Open c l false))) [ true ↦ refl | false ↦ refl ]
+open_moves n c l true (mark.OpeningFailed d kept e) = elim (is_kept n kept) as (λ k. Some (held c l true (cond (d == c && not k) (Some (Err e)) None)) ≡ cond k (Some (slot.Open c l true)) (cond (d == c) (Some (slot.Held (Err e))) (Some (slot.Open c l true)))) [
+  | true ↦ elim (d == c) as (λ x. Some (held c l true (cond (x && false) (Some (Err e)) None)) ≡ Some (slot.Open c l true)) [ true ↦ refl | false ↦ refl ]
+  | false ↦ elim (d == c) as (λ x. Some (held c l true (cond (x && true) (Some (Err e)) None)) ≡ cond x (Some (slot.Held (Err e))) (Some (slot.Open c l true))) [ true ↦ refl | false ↦ refl ]
+]
+open_moves n c l false (mark.OpeningFailed d kept e) = elim (is_kept n kept) as (λ k. Some (held c l false (cond (d == c && not k) (Some (Err e)) None)) ≡ cond k (Some (slot.Open c l false)) (cond (d == c) (Some (slot.Held (Err e))) (Some (slot.Open c l false)))) [
+  | true ↦ elim (d == c) as (λ x. Some (held c l false (cond (x && false) (Some (Err e)) None)) ≡ Some (slot.Open c l false)) [ true ↦ refl | false ↦ refl ]
+  | false ↦ elim (d == c) as (λ x. Some (held c l false (cond (x && true) (Some (Err e)) None)) ≡ cond x (Some (slot.Held (Err e))) (Some (slot.Open c l false))) [ true ↦ refl | false ↦ refl ]
+]
+open_moves n c l true (mark.AllFailed e) = refl
+open_moves n c l false (mark.AllFailed e) = refl
+open_moves n c l true (mark.Collected j) = refl
+open_moves n c l false (mark.Collected j) = refl
+open_moves n c l true (mark.SetAside j) = refl
+open_moves n c l false (mark.SetAside j) = refl
+
+moves : (n c : ℕ) (l : AtLeaving) (b : Bool) (o : Option (Result Answer Error)) (m : TicketMark) → cond (closes n m) None (Some (held c l (b || begins n m) (option_or o (answer_by n c l b m)))) ≡ slot_after n m (Some (held c l b o))
+moves n c l b None m = open_moves n c l b m
+moves n c l b (Some x) m = held_stays n c l b x m
 
 -- the slot by the marks after the ticket was given, with one more mark
-slot-push : (n : ℕ) (later : List TicketMark) (m : TicketMark) → slot_in n (later ++ m ∷ []) ≡ slot_after n m (slot_in n later)
-slot-push n later m =
-    rw (any-push (collects n) later m, answer-push n later m)
-    (elim (list_any (collects n) later) as (λ b. cond (b || collects n m) None (Some (held (option_or (first_answer n later) (answer_by n m)))) ≡ slot_after n m (cond b None (Some (held (first_answer n later))))) [
+slot-push : (n c : ℕ) (l : AtLeaving) (later : List TicketMark) (m : TicketMark) → slot_in n c l (later ++ m ∷ []) ≡ slot_after n m (slot_in n c l later)
+slot-push n c l later m =
+    rw (any-push (closes n) later m, any-push (begins n) later m, answer-push n c l false later m)
+    (elim (list_any (closes n) later) as (λ b. cond (b || closes n m) None (Some (held c l (list_any (begins n) later || begins n m) (option_or (first_answer n c l false later) (answer_by n c l (list_any (begins n) later) m)))) ≡ slot_after n m (cond b None (Some (held c l (list_any (begins n) later) (first_answer n c l false later))))) [
       | true ↦ gone_stays n m
-      | false ↦ held-push n (first_answer n later) m
+      | false ↦ moves n c l (list_any (begins n) later) (first_answer n c l false later) m
     ])
+
+pub old-slot : (k : ℕ) (ms : List TicketMark) (m : TicketMark) → k < given ms → slot_of (suc k) (ms ++ m ∷ []) ≡ slot_after (suc k) m (slot_of (suc k) ms)
+old-slot k ms m lt = rw (nth-push k ms m lt, life-push k ms m lt) (slot-push (suc k) (channel_of (suc k) ms) (leaving_of (suc k) ms) (life (suc k) ms) m)
+
+new-slot : (k c : ℕ) (l : AtLeaving) (ms : List TicketMark) → k ≡ given ms → slot_of (suc k) (ms ++ mark.Given c l ∷ []) ≡ Some (slot.Open c l false)
+new-slot k c l ms e = rw (nth_new k c l ms e, life_new k c l ms e) refl
 
 -- a write under number j, as ticket n sees it
 under_write : (j k : ℕ) (f : Option Slot → Option Slot) (xs : List (Option Slot)) (o : Option Slot) → k < length xs → slice_get xs k ≡ Some o → slice_get (with_under j (f (under j xs)) xs) k ≡ Some (cond (j == suc k) (f o) o)
@@ -85,41 +145,75 @@ under_write (suc j) k f xs o lt is =
           get-set_other xs j k (f (under (suc j) xs)) other.1 ∙ is ∙ rw away refl
     ]
 
-slots-follow : (ms : List TicketMark) (xs : List (Option Slot)) (m : TicketMark) → Follows ms xs → (k : ℕ) → k < given (ms ++ m ∷ []) → slice_get (after_mark xs m) k ≡ Some (slot_in (suc k) (after_given k (ms ++ m ∷ [])))
-slots-follow ms xs Given f k lt =
-    let more : k < given ms + 1 = rw (given-push ms Given) at lt in
+-- a slot that is put back, as ticket n sees it
+put_back : (j k : ℕ) (xs ys : List (Option Slot)) (o p : Option Slot) → k < length ys → slice_get xs k ≡ Some o → slice_get ys k ≡ Some p → slice_get (with_under j (under j xs) ys) k ≡ Some (cond (j == suc k) o p)
+put_back zero k xs ys o p lt is then = let away : (0 == suc k) ≡ false = ne_eqb 0 (suc k) (λ e. omega arith) in rw away then
+put_back (suc j) k xs ys o p lt is then =
+    elim (eqb_tells j k) [
+      | inl here ↦
+          let P : ℕ → Type 0 = λ i. slice_get (slice_set ys i (under (suc i) xs)) k ≡ Some (cond (suc i == suc k) o p) in
+          let read : under (suc k) xs ≡ o = get_or_from_slice_get xs k o None is in
+          let same : (suc k == suc k) ≡ true = eq-eqb (suc k) (suc k) refl in
+          subst P (sym here.1) (get-set_same ys k (under (suc k) xs) lt ∙ rw (read, same) refl)
+      | inr other ↦
+          let away : (suc j == suc k) ≡ false = ne_eqb (suc j) (suc k) (λ e. other.1 (omega arith)) in
+          get-set_other ys j k (under (suc j) xs) other.1 ∙ then ∙ rw away refl
+    ]
+
+failed_get : (k d : ℕ) (kept : Option ℕ) (e : Error) (xs : List (Option Slot)) (o : Option Slot) → k < length xs → slice_get xs k ≡ Some o → slice_get (failed d kept e xs) k ≡ Some (cond (is_kept (suc k) kept) o (failed_slot d e o))
+failed_get k d None e xs o lt is = get-map (failed_slot d e) xs k o is
+failed_get k d (Some j) e xs o lt is = let long : length (map (failed_slot d e) xs) ≡ length xs = length-map xs (failed_slot d e) in put_back j k xs (map (failed_slot d e) xs) o (failed_slot d e o) (omega arith) is (get-map (failed_slot d e) xs k o is)
+
+-- a mark that gives no ticket
+moved-slot : (ms : List TicketMark) (xs : List (Option Slot)) (m : TicketMark) → Follows ms xs → gives m ≡ false → (k : ℕ) → k < given ms → slice_get (after_mark xs m) k ≡ Some (slot_after (suc k) m (slot_of (suc k) ms))
+moved-slot ms xs (mark.Given c l) f none k old = cc
+moved-slot ms xs (mark.Begun j) f none k old = let count : length xs ≡ given ms = f.count in under_write j k begun_slot xs (slot_of (suc k) ms) (omega arith) (f.slot k old)
+moved-slot ms xs (mark.LastLeft j) f none k old = let count : length xs ≡ given ms = f.count in under_write j k left_slot xs (slot_of (suc k) ms) (omega arith) (f.slot k old)
+moved-slot ms xs (mark.Answered j a) f none k old = let count : length xs ≡ given ms = f.count in under_write j k (answered_slot a) xs (slot_of (suc k) ms) (omega arith) (f.slot k old)
+moved-slot ms xs (mark.ClosedHere c e) f none k old = get-map (closed_slot c e) xs k (slot_of (suc k) ms) (f.slot k old)
+moved-slot ms xs (mark.OpeningFailed c kept e) f none k old = let count : length xs ≡ given ms = f.count in failed_get k c kept e xs (slot_of (suc k) ms) (omega arith) (f.slot k old)
+moved-slot ms xs (mark.AllFailed e) f none k old = get-map (answered_slot (Err e)) xs k (slot_of (suc k) ms) (f.slot k old)
+moved-slot ms xs (mark.Collected j) f none k old = let count : length xs ≡ given ms = f.count in under_write j k (λ _. None) xs (slot_of (suc k) ms) (omega arith) (f.slot k old)
+moved-slot ms xs (mark.SetAside j) f none k old = let count : length xs ≡ given ms = f.count in under_write j k (λ _. None) xs (slot_of (suc k) ms) (omega arith) (f.slot k old)
+
+quiet-slot : (ms : List TicketMark) (xs : List (Option Slot)) (m : TicketMark) → Follows ms xs → gives m ≡ false → (k : ℕ) → k < given (ms ++ m ∷ []) → slice_get (after_mark xs m) k ≡ Some (slot_of (suc k) (ms ++ m ∷ []))
+quiet-slot ms xs m f none k lt =
+    let old : k < given ms = rw (given-push ms m, none) at lt in
+    moved-slot ms xs m f none k old ∙ ap Some (sym (old-slot k ms m old))
+
+slots-follow : (ms : List TicketMark) (xs : List (Option Slot)) (m : TicketMark) → Follows ms xs → (k : ℕ) → k < given (ms ++ m ∷ []) → slice_get (after_mark xs m) k ≡ Some (slot_of (suc k) (ms ++ m ∷ []))
+slots-follow ms xs (mark.Given c l) f k lt =
+    let more : k < given ms + 1 = rw (given-push ms (mark.Given c l)) at lt in
     let count : length xs ≡ given ms = f.count in
     elim (eqb_tells k (given ms)) [
-      | inl last ↦ get-push_new xs k (Some slot.Open) (last.1 ∙ sym f.count) ∙ ap (λ later. Some (slot_in (suc k) later)) (sym (after_given_new k ms last.1))
+      | inl last ↦ get-push_new xs k (Some (slot.Open c l false)) (last.1 ∙ sym f.count) ∙ ap Some (sym (new-slot k c l ms last.1))
       | inr other ↦
           let old : k < given ms = omega arith in
-          get-push_old xs k (Some slot.Open) (omega arith) ∙ f.slot k old
-          ∙ ap Some (sym (ap (slot_in (suc k)) (after_given-push k ms Given old) ∙ slot-push (suc k) (after_given k ms) Given))
+          get-push_old xs k (Some (slot.Open c l false)) (omega arith) ∙ f.slot k old ∙ ap Some (sym (old-slot k ms (mark.Given c l) old))
     ]
-slots-follow ms xs (Answered j a) f k lt =
-    let old : k < given ms = rw (given-push ms (Answered j a)) at lt in
-    let count : length xs ≡ given ms = f.count in
-    under_write j k (answered_slot a) xs (slot_in (suc k) (after_given k ms)) (omega arith) (f.slot k old)
-    ∙ ap Some (sym (ap (slot_in (suc k)) (after_given-push k ms (Answered j a) old) ∙ slot-push (suc k) (after_given k ms) (Answered j a)))
-slots-follow ms xs (AllFailed e) f k lt =
-    let old : k < given ms = rw (given-push ms (AllFailed e)) at lt in
-    get-map (answered_slot (Err e)) xs k (slot_in (suc k) (after_given k ms)) (f.slot k old)
-    ∙ ap Some (sym (ap (slot_in (suc k)) (after_given-push k ms (AllFailed e) old) ∙ slot-push (suc k) (after_given k ms) (AllFailed e)))
-slots-follow ms xs (Collected j) f k lt =
-    let old : k < given ms = rw (given-push ms (Collected j)) at lt in
-    let count : length xs ≡ given ms = f.count in
-    under_write j k (λ _. None) xs (slot_in (suc k) (after_given k ms)) (omega arith) (f.slot k old)
-    ∙ ap Some (sym (ap (slot_in (suc k)) (after_given-push k ms (Collected j) old) ∙ slot-push (suc k) (after_given k ms) (Collected j)))
+slots-follow ms xs (mark.Begun j) f k lt = quiet-slot ms xs (mark.Begun j) f refl k lt
+slots-follow ms xs (mark.LastLeft j) f k lt = quiet-slot ms xs (mark.LastLeft j) f refl k lt
+slots-follow ms xs (mark.Answered j a) f k lt = quiet-slot ms xs (mark.Answered j a) f refl k lt
+slots-follow ms xs (mark.ClosedHere c e) f k lt = quiet-slot ms xs (mark.ClosedHere c e) f refl k lt
+slots-follow ms xs (mark.OpeningFailed c kept e) f k lt = quiet-slot ms xs (mark.OpeningFailed c kept e) f refl k lt
+slots-follow ms xs (mark.AllFailed e) f k lt = quiet-slot ms xs (mark.AllFailed e) f refl k lt
+slots-follow ms xs (mark.Collected j) f k lt = quiet-slot ms xs (mark.Collected j) f refl k lt
+slots-follow ms xs (mark.SetAside j) f k lt = quiet-slot ms xs (mark.SetAside j) f refl k lt
 
-length-under : (n : ℕ) (o : Option Slot) (xs : List (Option Slot)) → length (with_under n o xs) ≡ length xs
-length-under zero o xs = refl
-length-under (suc k) o xs = simp length-set
+length-failed : (c : ℕ) (kept : Option ℕ) (e : Error) (xs : List (Option Slot)) → length (failed c kept e xs) ≡ length xs
+length-failed c None e xs = length-map xs (failed_slot c e)
+length-failed c (Some j) e xs = length-with j (under j xs) (map (failed_slot c e) xs) ∙ length-map xs (failed_slot c e)
 
 count-follows : (ms : List TicketMark) (xs : List (Option Slot)) (m : TicketMark) → length xs ≡ given ms → length (after_mark xs m) ≡ given (ms ++ m ∷ [])
-count-follows ms xs Given e = rw (given-push ms Given) (omega (arith, length-append xs (Some slot.Open ∷ [])))
-count-follows ms xs (Answered j a) e = rw (given-push ms (Answered j a)) (length-under j (answered_slot a (under j xs)) xs ∙ e)
-count-follows ms xs (AllFailed x) e = rw (given-push ms (AllFailed x)) (length-map xs (answered_slot (Err x)) ∙ e)
-count-follows ms xs (Collected j) e = rw (given-push ms (Collected j)) (length-under j None xs ∙ e)
+count-follows ms xs (mark.Given c l) e = rw (given-push ms (mark.Given c l)) (omega (arith, length-append xs (Some (slot.Open c l false) ∷ [])))
+count-follows ms xs (mark.Begun j) e = length-with j _ xs ∙ e ∙ sym (given-push ms (mark.Begun j))
+count-follows ms xs (mark.LastLeft j) e = length-with j _ xs ∙ e ∙ sym (given-push ms (mark.LastLeft j))
+count-follows ms xs (mark.Answered j a) e = length-with j _ xs ∙ e ∙ sym (given-push ms (mark.Answered j a))
+count-follows ms xs (mark.ClosedHere c x) e = length-map xs (closed_slot c x) ∙ e ∙ sym (given-push ms (mark.ClosedHere c x))
+count-follows ms xs (mark.OpeningFailed c kept x) e = length-failed c kept x xs ∙ e ∙ sym (given-push ms (mark.OpeningFailed c kept x))
+count-follows ms xs (mark.AllFailed x) e = length-map xs (answered_slot (Err x)) ∙ e ∙ sym (given-push ms (mark.AllFailed x))
+count-follows ms xs (mark.Collected j) e = length-with j None xs ∙ e ∙ sym (given-push ms (mark.Collected j))
+count-follows ms xs (mark.SetAside j) e = length-with j None xs ∙ e ∙ sym (given-push ms (mark.SetAside j))
 
 -- slots that follow a history follow it one mark further
 pub follows-push : (ms : List TicketMark) (xs : List (Option Slot)) (m : TicketMark) → Follows ms xs → Follows (ms ++ m ∷ []) (after_mark xs m)

@@ -3,16 +3,17 @@
 //! Here lives what is kept of tickets, and nothing of what resolves them: the session says which ticket gets which answer.
 #![tactic(auto)]
 
-#[cfg(test)]
-mod tests;
-
-ghost use Rattle.std.specs.Prelude.{◌≡◌, ◌+◌, ◌^◌, ◌<◌, ◌++◌, ◌∷◌, List, [], length, not, OnOk, MatchOption, Option, Some};
+ghost use Rattle.std.specs.Prelude.{◌≡◌, ℕ, ◌+◌, ◌^◌, ◌<◌, ◌++◌, ◌∷◌, true, false, List, [], length, map, not, is_ok, OnOk, MatchOption, Option, Some, None, Err, if◌then◌else◌};
 ghost use Rattle.lapin_tables.specs.Numbered.{under};
-ghost use Rattle.lapin_history.specs.TicketReadings.{TicketMark, Given, Answered, AllFailed};
+ghost use Rattle.lapin_history.specs.TicketReadings.{TicketMark, answer_at, channel_of, answer_of, is_kept, is_awaited as is_unanswered};
+ghost use Rattle.lapin_history.specs.TicketReadings as mark;
+ghost use Rattle.lapin_types.specs.declared.Error.{Error as AnError};
 ghost use Rattle.lapin_ticket.specs.declared.Slot.{Slot as ASlot};
-ghost use Rattle.lapin_ticket.specs.Desk.{after_mark, polled, polled_slot, after_poll, is_awaited, is_held};
-ghost use Rattle.lapin_ticket.specs.Follows.{Follows};
+ghost use Rattle.lapin_ticket.specs.declared.Slot.TheVariants as slot;
+ghost use Rattle.lapin_ticket.specs.Desk.{after_mark, polled, polled_slot, after_poll, laid, laid_slot, rejects, held_or, is_awaited, is_open_on, failed, failed_slot, closed_slot};
+ghost use Rattle.lapin_ticket.specs.Follows.{Follows, WasGiven};
 
+use lapin_history::AtLeaving;
 use lapin_tables::Numbered;
 use lapin_types::{Answer, Error, NoMemory};
 use std::alloc::Global;
@@ -21,8 +22,9 @@ use std::marker::Model;
 /// What is kept of a ticket until its answer is given.
 #[derive(Debug, Drop)]
 pub enum Slot {
-    /// It has no answer yet.
-    Open,
+    /// It has no answer yet: the channel of its call, the answer that the leaving of its last frame gives, and whether its
+    /// publish has begun.
+    Open(u16, AtLeaving, bool),
     /// Its answer, not given yet.
     Held(Result<Answer, Error>),
 }
@@ -75,22 +77,45 @@ impl Tickets {
         Ok(())
     }
 
-    /// Gives the next ticket, in the room that `reserve` made.
-    pub fn give(&mut self) -> u64
+    /// Gives the next ticket to a call on a channel, in the room that `reserve` made.
+    pub fn give(&mut self, channel: u16, at_leaving: AtLeaving) -> u64
         requires room { 0 < self.old.spare }
         requires numbers { length self.old.slots + 1 < 2 ^ 64 }
         ensures number { result ≡ length self.old.slots + 1 }
-        ensures slots { self.new.slots ≡ after_mark self.old.slots Given }
+        ensures slots { self.new.slots ≡ after_mark self.old.slots (mark.Given channel at_leaving) }
     {
-        self.slots.push_reserved(Slot::Open)
+        self.slots
+            .push_reserved(Slot::Open(channel, at_leaving, false))
+    }
+
+    /// The method frame of the ticket's publish leaves.
+    pub fn begin(&mut self, number: u64)
+        ensures slots { self.new.slots ≡ after_mark self.old.slots (mark.Begun number) }
+        ensures room { self.new.spare ≡ self.old.spare }
+    {
+        if let Some(Slot::Open(channel, at_leaving, _)) = self.slots.get(number) {
+            let begun = Slot::Open(*channel, *at_leaving, true);
+            self.slots.set(number, begun);
+        }
+    }
+
+    /// The last frame of the ticket's call leaves, which may answer it.
+    pub fn leave(&mut self, number: u64)
+        ensures slots { self.new.slots ≡ after_mark self.old.slots (mark.LastLeft number) }
+        ensures room { self.new.spare ≡ self.old.spare }
+    {
+        if let Some(Slot::Open(channel, at_leaving, begun)) = self.slots.get(number) {
+            let left = left(*channel, *at_leaving, *begun);
+            self.slots.set(number, left);
+        }
     }
 
     /// Resolves a ticket. One that has an answer keeps it, and one whose answer was given drops this one.
     pub fn answer(&mut self, number: u64, answer: Result<Answer, Error>)
-        ensures slots { self.new.slots ≡ after_mark self.old.slots (Answered number answer) }
+        ensures slots { self.new.slots ≡ after_mark self.old.slots (mark.Answered number answer) }
         ensures room { self.new.spare ≡ self.old.spare }
     {
-        if let Some(Slot::Open) = self.slots.get(number) {
+        if let Some(Slot::Open(..)) = self.slots.get(number) {
             self.slots.set(number, Slot::Held(answer));
         }
     }
@@ -98,7 +123,7 @@ impl Tickets {
     /// Resolves every open ticket with the error. One that has an answer keeps it. It walks from the last number to the
     /// first one that is kept.
     pub fn fail_all(&mut self, error: Error)
-        ensures slots { self.new.slots ≡ after_mark self.old.slots (AllFailed error) }
+        ensures slots { self.new.slots ≡ after_mark self.old.slots (mark.AllFailed error) }
         ensures room { self.new.spare ≡ self.old.spare }
     {
         let Some(first) = self.slots.first_number() else {
@@ -115,7 +140,7 @@ impl Tickets {
     pub fn ready(&self, number: u64) -> bool
         ensures { result ≡ not (is_awaited (under number self.now.slots)) }
     {
-        !matches!(self.slots.get(number), Some(Slot::Open))
+        !matches!(self.slots.get(number), Some(Slot::Open(..)))
     }
 
     /// Gives the answer of a ticket, once. `None` while it has none.
@@ -139,16 +164,60 @@ impl Tickets {
     {
         match self.slots.get(number) {
             None => Err(Error::AlreadyTaken),
-            Some(Slot::Open) => Ok(None),
+            Some(Slot::Open(..)) => Ok(None),
             Some(Slot::Held(_)) => match self.slots.take(number) {
                 Some(Slot::Held(answer)) => Ok(Some(answer)),
                 _ => Ok(None),
             },
         }
     }
+
+    /// Sets a ticket aside: its answer, there or to come, is dropped.
+    ///
+    /// # Errors
+    /// As `take`.
+    pub fn set_aside(&mut self, number: u64) -> Result<(), Error>
+        ensures told { result ≡ laid number self.old.slots }
+        ensures slots { self.new.slots ≡ (if is_ok result then after_mark self.old.slots (mark.SetAside number) else self.old.slots) }
+    {
+        if number == 0 || number > self.slots.count() {
+            return Err(Error::UnknownTicket);
+        }
+        if self.slots.get(number).is_none() {
+            return Err(Error::AlreadyTaken);
+        }
+        let _ = self.slots.take(number);
+        Ok(())
+    }
+}
+
+// What is kept of an open ticket as its last frame leaves.
+fn left(channel: u16, at_leaving: AtLeaving, begun: bool) -> Slot
+    ensures { result ≡ held_or (slot.Open channel at_leaving begun) (answer_at at_leaving) }
+{
+    match at_leaving {
+        AtLeaving::Nothing => Slot::Open(channel, at_leaving, begun),
+        AtLeaving::Done => Slot::Held(Ok(Answer::Done)),
+        AtLeaving::Confirm(number) => Slot::Held(Ok(Answer::Confirm(number))),
+    }
 }
 
 /// The machine keeps what the readings say, whatever marks come.
 pub fn follows_history()
     ensures { (ms : List TicketMark) (slots : List (Option ASlot)) (m : TicketMark) → Follows ms slots → Follows (ms ++ m ∷ []) (after_mark slots m) }
+{}
+
+/// No ticket of an ended opening is open: the end of a channel's opening answers every ticket that was given there, but for the
+/// one that it keeps.
+pub fn an_end_leaves_no_ticket_open()
+    ensures { (n c : ℕ) (kept : Option ℕ) (e : AnError) (ms : List TicketMark) → WasGiven n ms → channel_of n ms ≡ c → is_kept n kept ≡ false → is_unanswered (answer_of n (ms ++ mark.OpeningFailed c kept e ∷ [])) ≡ false }
+{}
+
+/// An end of an opening is its open tickets, failed one after another, in any order: a failure leaves what the end then comes
+/// to, and where no open ticket of the channel is left but the one that is kept, the end is done. So is a close of this side.
+pub fn an_end_one_by_one()
+    ensures next { (n c : ℕ) (kept : Option ℕ) (e : AnError) (slots : List (Option ASlot)) → is_open_on c (under n slots) ≡ true → is_kept n kept ≡ false → failed c kept e (after_mark slots (mark.Answered n (Err e))) ≡ failed c kept e slots }
+    ensures done { (c : ℕ) (kept : Option ℕ) (e : AnError) (slots : List (Option ASlot)) → ((n : ℕ) → is_open_on c (under n slots) ≡ true → is_kept n kept ≡ true) → failed c kept e slots ≡ slots }
+    ensures closing { (n c : ℕ) (e : AnError) (slots : List (Option ASlot)) → rejects c (under n slots) ≡ true → map (closed_slot c e) (after_mark slots (mark.Answered n (Err e))) ≡ map (closed_slot c e) slots }
+    ensures closed { (c : ℕ) (e : AnError) (slots : List (Option ASlot)) → ((n : ℕ) → rejects c (under n slots) ≡ false) → map (closed_slot c e) slots ≡ slots }
 {}

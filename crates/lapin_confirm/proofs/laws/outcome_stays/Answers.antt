@@ -1,5 +1,5 @@
-use Rattle.lapin_confirm.proofs.Following.{outcome-push}
+use Rattle.lapin_confirm.proofs.Following.{outcome-stays}
 use Rattle.lapin_confirm.proofs.laws.outcome_stays.Goals as goal
 
 pub returns : goal.returns
-returns c = outcome-push
+returns c = outcome-stays

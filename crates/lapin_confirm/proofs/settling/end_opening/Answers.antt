@@ -1,7 +1,9 @@
-use Rattle.std.proofs.Common.{◌≤◌, ◌∙◌, nat_le, length, arith}
+use Rattle.std.proofs.Common.{ap, refl, ◌≤◌, ◌∙◌, nat_le, length, arith}
 use Rattle.std.proofs.lemmas.Bool.{le-leb}
 use Rattle.lapin_tables.proofs.SlotLaws.{given}
+use Rattle.lapin_confirm.specs.Book.{Line, ended_line}
 use Rattle.lapin_confirm.proofs.Ended.{ended-settled}
+use Rattle.lapin_confirm.proofs.Whole.{tied-room}
 use Rattle.lapin_confirm.proofs.settling.end_opening.Goals as goal
 
 pub returns-clause-cells : goal.returns-clause-cells
@@ -12,3 +14,9 @@ returns-clause-cells c =
     let last : t ≤ length c.reject_queued.new.ledger.tags.slots = given t n c.reject_queued.new.ledger.tags.slots (tied.named n t there) in
     le-leb t c.count-last.result (omega (arith, c.count-last.ensures)))
     ∙ c.reject_queued.ensures.same
+
+pub returns-clause-tied : goal.returns-clause-tied
+returns-clause-tied c = tied-room c.args.channel c.settle_through.new.ledger _ c.settle_through.new.cells.slots c.settle_through.ensures.tied refl refl refl c.settle_through.ensures.tied.room
+
+pub returns-clause-line : goal.returns-clause-line
+returns-clause-line c = ap (λ (l : Line). ended_line l) (c.settle_through.ensures.line ∙ c.reject_queued.ensures.line)

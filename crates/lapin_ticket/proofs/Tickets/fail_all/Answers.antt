@@ -1,19 +1,18 @@
 use Rattle.std.proofs.Common.{◌≢◌, ◌≤◌, ◌∙◌, Err, suc, sym, refl, arith}
 use Rattle.lapin_tables.proofs.SlotLaws.{given, first-least, first-none}
-use Rattle.lapin_ticket.specs.declared.Slot.TheVariants as slot
 use Rattle.lapin_ticket.proofs.Failing.{answered-before, answered-none, still_open, first-positive}
 use Rattle.lapin_ticket.proofs.Tickets.fail_all.Goals as goal
 
 pub returns-in_default-clause-slots : goal.returns-in_default-clause-slots
-returns-in_default-clause-slots c = sym (answered-none (Err c.args.error) c.args.self.now.slots (λ k open_there. first-none (suc k) slot.Open c.args.self.now.slots (rw c.self.view_is at (sym c.in_default.ensures)) open_there))
+returns-in_default-clause-slots c = sym (answered-none (Err c.args.error) c.args.self.now.slots (λ k s open_there _. first-none (suc k) s c.args.self.now.slots (rw c.self.view_is at (sym c.in_default.ensures)) open_there))
 
 pub loop-number-init : goal.loop-number-init
 loop-number-init c = record {
   same = refl;
   spare = refl;
-  open_left = λ n there.
-      let least : c.in-Some.first ≤ n = first-least n c.in-Some.first slot.Open c.args.self.now.slots (rw c.self.view_is at (sym c.in-Some.ensures)) there in
-      let last = given n slot.Open c.args.self.now.slots there in
+  open_left = λ n s there _.
+      let least : c.in-Some.first ≤ n = first-least n c.in-Some.first s c.args.self.now.slots (rw c.self.view_is at (sym c.in-Some.ensures)) there in
+      let last = given n s c.args.self.now.slots there in
       (least, omega (arith, last, rw c.self.view_is at c.count-number.ensures));
 }
 
@@ -27,14 +26,14 @@ pub loop-number-preserved : goal.loop-number-preserved
 loop-number-preserved c = record {
   same = rw c.answer.ensures.slots (answered-before c.loop-number.number (Err c.args.error) c.loop-number.self.slots) ∙ c.loop-number.invariant.same;
   spare = c.answer.ensures.room ∙ c.loop-number.invariant.spare;
-  open_left = λ n there.
-      let was = still_open c.loop-number.number n (Err c.args.error) c.loop-number.self.slots (rw c.answer.ensures.slots at there) in
+  open_left = λ n s there open_.
+      let was = still_open c.loop-number.number n (Err c.args.error) c.loop-number.self.slots s (rw c.answer.ensures.slots at there) open_ in
       let apart : n ≢ c.loop-number.number = was.0 in
-      let within = c.loop-number.invariant.open_left n was.1 in
+      let within = c.loop-number.invariant.open_left n s was.1 open_ in
       (within.0, omega (arith, within.1));
 }
 
 pub returns-clause-slots : goal.returns-clause-slots
 returns-clause-slots c =
-    sym (answered-none (Err c.args.error) c.loop-number.self.slots (λ k there. let within = c.loop-number.invariant.open_left (suc k) there in absurd (omega (arith, within.0, within.1))))
+    sym (answered-none (Err c.args.error) c.loop-number.self.slots (λ k s there open_. let within = c.loop-number.invariant.open_left (suc k) s there open_ in absurd (omega (arith, within.0, within.1))))
     ∙ c.loop-number.invariant.same

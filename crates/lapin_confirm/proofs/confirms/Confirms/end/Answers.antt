@@ -1,11 +1,12 @@
-use Rattle.std.proofs.Common.{sym, refl}
-use Rattle.lapin_confirm.proofs.Lines.{lines-same, same-book}
+use Rattle.std.proofs.Common.{sym}
+use Rattle.lapin_confirm.specs.Book.{ended_line}
+use Rattle.lapin_confirm.proofs.Lines.{lines-absent, lines-on, same-book}
 use Rattle.lapin_confirm.proofs.Whole.{untouched-of, all-on, tied_at-ended}
 use Rattle.lapin_confirm.proofs.Ended.{ended-untouched}
 use Rattle.lapin_confirm.proofs.confirms.Confirms.end.Goals as goal
 
 pub returns-in_default : goal.returns-in_default
-returns-in_default c = rw (← c.self.view_is) (same-book _ _ _ _ refl (sym (ended-untouched c.args.channel c.args.error c.self.inside.cells.slots (untouched-of c.args.channel c.self.inside.ledgers.entries c.self.inside.cells.slots (sym c.in_default.ensures.value) c.self.invariant))))
+returns-in_default c = rw (← c.self.view_is) (same-book _ _ _ _ (sym (lines-absent c.args.channel ended_line c.self.inside.ledgers.entries (sym c.in_default.ensures.value))) (sym (ended-untouched c.args.channel c.args.error c.self.inside.cells.slots (untouched-of c.args.channel c.self.inside.ledgers.entries c.self.inside.cells.slots (sym c.in_default.ensures.value) c.self.invariant))))
 
 pub invariant_of-self-2 : goal.invariant_of-self-2
 invariant_of-self-2 c =
@@ -14,4 +15,4 @@ invariant_of-self-2 c =
     (λ d o other tied. rw c.end_opening.ensures.cells (tied_at-ended c.args.channel d c.args.error o c.self.inside.cells.slots other tied))
 
 pub returns : goal.returns
-returns c = rw (← c.self.view_is) (same-book _ _ _ _ (lines-same c.args.channel c.in-Some.ledger.now c.end_opening.new.ledger c.self.inside.ledgers.entries (sym c.in-Some.ensures.value) c.end_opening.ensures.line) c.end_opening.ensures.cells)
+returns c = rw (← c.self.view_is) (same-book _ _ _ _ (lines-on c.args.channel ended_line c.in-Some.ledger.now c.end_opening.new.ledger c.self.inside.ledgers.entries (sym c.in-Some.ensures.value) c.end_opening.ensures.line) c.end_opening.ensures.cells)

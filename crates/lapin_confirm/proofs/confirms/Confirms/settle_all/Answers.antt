@@ -1,20 +1,29 @@
-use Rattle.std.proofs.Common.{◌≤◌, ◌∙◌, nat_le, length, sym, refl, arith}
+use Rattle.std.proofs.Common.{◌≡◌, ℕ, List, [], Some, None, ap, ◌≤◌, ◌∙◌, nat_le, length, sym, refl, arith}
 use Rattle.std.proofs.lemmas.Bool.{le-leb}
 use Rattle.lapin_tables.proofs.SlotLaws.{given}
-use Rattle.lapin_history.specs.ConfirmReadings.{kind_outcome}
-use Rattle.lapin_confirm.proofs.Lines.{lines-same, same-book}
+use Rattle.lapin_history.specs.ConfirmReadings.{covers, kind_outcome}
+use Rattle.std.specs.List.{range_with_len}
+use Rattle.lapin_history.specs.Letters.{attached_to_all}
+use Rattle.lapin_history.specs.ReturnReadings.{taking}
+use Rattle.lapin_tables.specs.ByChannel.{at_channel, on_channel}
+use Rattle.lapin_confirm.specs.Book.{last_in, multiple_of}
+use Rattle.lapin_confirm.specs.Post.{number_from}
+use Rattle.lapin_confirm.specs.Ties.{lines_of, trays_of}
+use Rattle.lapin_confirm.proofs.Covered.{covered-all}
+use Rattle.lapin_confirm.proofs.Trays.{on-still}
+use Rattle.lapin_confirm.proofs.Lines.{line-at, lines-same, same-book}
 use Rattle.lapin_confirm.proofs.Whole.{tied-of, untouched-of, all-settled}
 use Rattle.lapin_confirm.proofs.Settled.{settled-same, settled-untouched}
 use Rattle.lapin_confirm.proofs.confirms.Confirms.settle_all.Goals as goal
 
-pub returns-in_default : goal.returns-in_default
-returns-in_default c = rw (← c.self.view_is) (same-book _ _ _ _ refl (sym (settled-untouched c.args.channel _ _ c.self.inside.cells.slots (untouched-of c.args.channel c.self.inside.ledgers.entries c.self.inside.cells.slots (sym c.in_default.ensures.value) c.self.invariant))))
+pub returns-in_default-clause-book : goal.returns-in_default-clause-book
+returns-in_default-clause-book c = rw (← c.self.view_is) (same-book _ _ _ _ refl (sym (settled-untouched c.args.channel _ _ c.self.inside.cells.slots (untouched-of c.args.channel c.self.inside.ledgers.entries c.self.inside.cells.slots (sym c.in_default.ensures.value) c.self.invariant))))
 
 pub invariant_of-self-2 : goal.invariant_of-self-2
 invariant_of-self-2 c = all-settled c.args.channel _ _ c.in-Some.ledger.now c.settle_through.new.ledger c.self.inside.ledgers.entries c.self.inside.cells.slots c.settle_through.new.cells.slots (sym c.in-Some.ensures.value) c.self.invariant c.settle_through.ensures.tied c.settle_through.ensures.cells
 
-pub returns : goal.returns
-returns c =
+pub returns-clause-book : goal.returns-clause-book
+returns-clause-book c =
     let tied = tied-of c.args.channel c.in-Some.ledger.now c.self.inside.ledgers.entries c.self.inside.cells.slots (sym c.in-Some.ensures.value) c.self.invariant in
     rw (← c.self.view_is)
     (same-book _ _ _ _
@@ -22,3 +31,18 @@ returns c =
     (c.settle_through.ensures.cells ∙ rw c.outcome_of.ensures (settled-same c.args.channel (λ t. nat_le t c.count-last.result) _ (kind_outcome c.args.kind) c.self.inside.cells.slots (λ n t there.
     let last : t ≤ length c.in-Some.ledger.now.tags.slots = given t n c.in-Some.ledger.now.tags.slots (tied.named n t there) in
     le-leb t c.count-last.result (omega (arith, c.count-last.ensures))))))
+
+pub returns-in_default-clause-trays : goal.returns-in_default-clause-trays
+returns-in_default-clause-trays c =
+    let none : last_in (at_channel c.args.channel (lines_of c.self.inside.ledgers.entries)) ≡ 0 = ap last_in (line-at c.args.channel c.self.inside.ledgers.entries None (sym c.in_default.ensures.value)) in
+    rw (← c.self.view_is) (rw none (sym (on-still c.args.channel (attached_to_all []) (trays_of c.self.inside.trays.entries) (λ l. refl))))
+
+pub returns-clause-trays : goal.returns-clause-trays
+returns-clause-trays c =
+    let is = sym c.in-Some.ensures.value in
+    let tied = tied-of c.args.channel c.in-Some.ledger.now c.self.inside.ledgers.entries c.self.inside.cells.slots is c.self.invariant in
+    rw (← c.self.view_is)
+    (c.attach_on.ensures ∙ ap (λ (ns : List ℕ). on_channel c.args.channel (attached_to_all ns) (trays_of c.self.inside.trays.entries))
+    (covered-all c.args.channel c.args.kind c.in-Some.ledger.now c.self.inside.cells.slots (range_with_len 1 c.count-last.result) tied
+    ∙ ap (λ (n : ℕ). taking (covers (multiple_of c.args.kind 0)) (λ t. number_from c.args.channel t 1 c.self.inside.cells.slots) (range_with_len 1 n))
+    (c.count-last.ensures ∙ ap last_in (sym (line-at c.args.channel c.self.inside.ledgers.entries (Some c.in-Some.ledger.now) is)))))

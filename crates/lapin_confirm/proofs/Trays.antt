@@ -1,0 +1,39 @@
+-- What callers see of the trays of returned messages, as one channel's changes.
+use Rattle.std.proofs.Common.{◌≡◌, ℕ, ◌==◌, cond, true, false, List, [], ◌∷◌, Option, Some, None, refl, sym, ◌∙◌, ap}
+use Rattle.std.specs.Option.{option_map, IsSome}
+use Rattle.lapin_history.specs.Letters.{Letters}
+use Rattle.lapin_tables.specs.ByChannel.{at_channel, on_channel}
+use Rattle.lapin_tables.proofs.Channels.{at-values, on-values, on-absent, on-known, on-same}
+use Rattle.lapin_confirm.specs.Tray.{Tray}
+use Rattle.lapin_confirm.specs.Ties.{trays_of}
+
+pub tray-at : (c : ℕ) (es : List (ℕ × Tray)) (o : Option Tray) → at_channel c es ≡ o → at_channel c (trays_of es) ≡ option_map (λ t. t.letters) o
+tray-at c es o is = at-values (λ (t : Tray). t.letters) c es ∙ ap (option_map (λ (t : Tray). t.letters)) is
+
+-- a channel without a tray
+pub no-tray : (c : ℕ) (es : List (ℕ × Tray)) → at_channel c es ≡ None → IsSome (at_channel c (trays_of es)) → ⊥
+no-tray c es none has = let never : false ≡ true = rw (tray-at c es None none) at has in cc
+
+pub trays-on : (c : ℕ) (f : Letters → Letters) (t k : Tray) (es : List (ℕ × Tray)) → at_channel c es ≡ Some t → k.letters ≡ f t.letters → trays_of (on_channel c (λ _. k) es) ≡ on_channel c f (trays_of es)
+trays-on c f t k es is letters =
+    on-values (λ (t : Tray). t.letters) c k es
+    ∙ ap (λ (l : Letters). on_channel c (λ _. l) (trays_of es)) letters
+    ∙ sym (on-known c f t.letters (trays_of es) (tray-at c es (Some t) is))
+
+pub trays-same : (c : ℕ) (t k : Tray) (es : List (ℕ × Tray)) → at_channel c es ≡ Some t → k.letters ≡ t.letters → trays_of (on_channel c (λ _. k) es) ≡ trays_of es
+trays-same c t k es is letters =
+    on-values (λ (t : Tray). t.letters) c k es
+    ∙ ap (λ (l : Letters). on_channel c (λ _. l) (trays_of es)) letters
+    ∙ on-same c t.letters (trays_of es) (tray-at c es (Some t) is)
+
+pub trays-absent : (c : ℕ) (f : Letters → Letters) (es : List (ℕ × Tray)) → at_channel c es ≡ None → on_channel c f (trays_of es) ≡ trays_of es
+trays-absent c f es none = on-absent c f (trays_of es) (tray-at c es None none)
+
+-- a change that changes nothing
+pub on-still : {X : Type 0} (c : ℕ) (f : X → X) (es : List (ℕ × X)) → ((x : X) → f x ≡ x) → on_channel c f es ≡ es
+on-still c f [] h = refl
+on-still c f (e ∷ es) h =
+    elim (e.0 == c) as (λ b. cond b ((e.0, f e.1) ∷ es) (e ∷ on_channel c f es) ≡ e ∷ es) [
+      | true ↦ ap (λ y. (e.0, y) ∷ es) (h e.1)
+      | false ↦ ap (λ ys. e ∷ ys) (on-still c f es h)
+    ]

@@ -1,0 +1,88 @@
+-- The returned messages of a channel: four lists, and the messages that resolved confirms took.
+use Rattle.std.specs.Prelude.{ℕ, ◌==◌, Bool, not, if◌then◌else◌, List, [], ◌∷◌, ◌++◌, Option, Some, None}
+use Rattle.std.specs.List.{filter}
+use Rattle.lapin_types.specs.declared.message.BasicReturnMessage.{BasicReturnMessage}
+
+-- The messages that resolved confirms took, each with the confirm's number; those that wait for a settlement; those of an opening
+-- that was not selected; those of confirms that were set aside as they were resolved; and the confirms that were set aside
+-- unresolved. Oldest first.
+pub record Letters : Type 0 where
+  pub attached : List (ℕ × BasicReturnMessage)
+  pub waiting : List BasicReturnMessage
+  pub unconfirmed : List BasicReturnMessage
+  pub kept : List BasicReturnMessage
+  pub aside : List ℕ
+
+abbrev pub no_letters : Letters
+no_letters = record { attached = []; waiting = []; unconfirmed = []; kept = []; aside = [] }
+
+-- one more message arrives: it waits where the opening is selected
+abbrev pub arrived_in : Bool → BasicReturnMessage → Letters → Letters
+arrived_in selected m l = if selected then record l { waiting = l.waiting ++ m ∷ [] } else record l { unconfirmed = l.unconfirmed ++ m ∷ [] }
+
+-- a confirm that is resolved by a settlement takes the oldest waiting message, if there is one
+abbrev pub given_first : ℕ → List BasicReturnMessage → Letters → Letters
+given_first n [] l = l
+given_first n (m ∷ ms) l = record l { attached = l.attached ++ (n, m) ∷ []; waiting = ms }
+
+abbrev pub attached_to : ℕ → Letters → Letters
+attached_to n l = given_first n l.waiting l
+
+abbrev pub attached_to_all : List ℕ → Letters → Letters
+attached_to_all [] l = l
+attached_to_all (n ∷ ns) l = attached_to_all ns (attached_to n l)
+
+-- the message that confirm n took
+abbrev pub message_at : ℕ → List (ℕ × BasicReturnMessage) → Option BasicReturnMessage
+message_at n [] = None
+message_at n (x ∷ xs) = if x.0 == n then Some x.1 else message_at n xs
+
+abbrev pub without : ℕ → List (ℕ × BasicReturnMessage) → List (ℕ × BasicReturnMessage)
+without n [] = []
+without n (x ∷ xs) = if x.0 == n then xs else x ∷ without n xs
+
+abbrev pub letter_of : ℕ → Letters → Option BasicReturnMessage
+letter_of n l = message_at n l.attached
+
+abbrev pub taken_out : ℕ → Letters → Letters
+taken_out n l = record l { attached = without n l.attached }
+
+-- a confirm is set aside: resolved, its message is kept; unresolved, its number stands aside
+abbrev pub kept_of : Option BasicReturnMessage → Letters → Letters
+kept_of None l = l
+kept_of (Some m) l = record l { kept = l.kept ++ m ∷ [] }
+
+abbrev pub set_by : ℕ → Bool → Letters → Letters
+set_by n resolved l = if resolved then kept_of (letter_of n l) (taken_out n l) else record l { aside = l.aside ++ n ∷ [] }
+
+-- ---- the confirms that were set aside and are resolved by now
+
+abbrev pub opt_list : Option BasicReturnMessage → List BasicReturnMessage
+opt_list None = []
+opt_list (Some m) = m ∷ []
+
+-- their messages, in the order of setting aside, and what they leave
+abbrev pub messages_of : List ℕ → List (ℕ × BasicReturnMessage) → List BasicReturnMessage
+messages_of [] a = []
+messages_of (n ∷ ns) a = opt_list (message_at n a) ++ messages_of ns (without n a)
+
+abbrev pub without_all : List ℕ → List (ℕ × BasicReturnMessage) → List (ℕ × BasicReturnMessage)
+without_all [] a = a
+without_all (n ∷ ns) a = without_all ns (without n a)
+
+-- what a drain gives: the unconfirmed messages, then the kept ones, then those of resolved confirms that were set aside
+abbrev pub drained_messages : (ℕ → Bool) → Letters → List BasicReturnMessage
+drained_messages done l = l.unconfirmed ++ (l.kept ++ messages_of (filter done l.aside) l.attached)
+
+abbrev pub drained_letters : (ℕ → Bool) → Letters → Letters
+drained_letters done l = record {
+  attached = without_all (filter done l.aside) l.attached;
+  waiting = l.waiting;
+  unconfirmed = [];
+  kept = [];
+  aside = filter (λ n. not (done n)) l.aside;
+}
+
+-- a new opening begins: nothing waits, is kept or stands aside
+abbrev pub renewed : Letters → Letters
+renewed l = record no_letters { attached = without_all l.aside l.attached }
