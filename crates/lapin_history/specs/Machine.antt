@@ -11,11 +11,14 @@ use Rattle.lapin_history.specs.History.{History, rec}
 
 -- ---- which tickets are the machine's
 
--- the event was given a ticket
+-- the record gives a ticket
+abbrev pub is_ticket : Record → Bool
+is_ticket (record_.Ticket t) = true
+is_ticket (record_.Publish t n) = true
+is_ticket _ = false
+
 abbrev pub has_ticket : Event × Record → Bool
-has_ticket (e, record_.Ticket t) = true
-has_ticket (e, record_.Publish t n) = true
-has_ticket _ = false
+has_ticket x = is_ticket x.1
 
 -- the event that was given ticket n: tickets are numbered from 1 in the order in which they are given
 abbrev pub given_by : ℕ → History → Option (Event × Record)
@@ -30,11 +33,14 @@ is_known (call.ConfirmSelect o) = true
 is_known (call.BasicPublish exchange key o payload properties) = true
 is_known _ = false
 
+abbrev pub is_known_call : Event → Bool
+is_known_call (event.Call c k) = is_known k
+is_known_call _ = false
+
 -- the ticket is of such a call, or was never given
 abbrev pub is_known_in : Option (Event × Record) → Bool
 is_known_in None = true
-is_known_in (Some (event.Call c k, r)) = is_known k
-is_known_in (Some _) = false
+is_known_in (Some x) = is_known_call x.0
 
 -- ---- kept records
 

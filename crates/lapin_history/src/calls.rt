@@ -4,7 +4,7 @@
 //! their line of the table, made by class in the files below. The session asks here, and nothing here knows of a state.
 
 ghost use Rattle.std.specs.Prelude.{◌≡◌, Option, IfOk};
-ghost use Rattle.lapin_history.specs.Calls.{asked, awaiting as awaiting_lem, unless_nowait as unless_nowait_lem, done_as_it_leaves as done_as_it_leaves_lem};
+ghost use Rattle.lapin_history.specs.Calls.{asked, awaiting as awaiting_lem, answered_at_once as answered_at_once_lem, unless_nowait as unless_nowait_lem, done_as_it_leaves as done_as_it_leaves_lem};
 ghost use Rattle.lapin_history.specs.Asking.{is_allowed as is_allowed_lem};
 ghost use Rattle.lapin_history.specs.Select.{is_select as is_select_lem};
 ghost use Rattle.lapin_types.specs.Types.method as method_;
@@ -209,15 +209,22 @@ pub(crate) fn unless_nowait(method: Method, nowait: bool, reply: Reply, answer: 
     ensures { result ≡ unless_nowait_lem method nowait reply answer }
 {
     if nowait {
-        Asked::Method(Row {
-            method,
-            awaits: None,
-            made: Some(answer),
-            at_leaving: AtLeaving::Nothing,
-        })
+        answered_at_once(method, answer)
     } else {
         awaiting(method, reply)
     }
+}
+
+// A call that awaits no reply, and is answered as it is made.
+fn answered_at_once(method: Method, answer: Answer) -> Asked
+    ensures { result ≡ answered_at_once_lem method answer }
+{
+    Asked::Method(Row {
+        method,
+        awaits: None,
+        made: Some(answer),
+        at_leaving: AtLeaving::Nothing,
+    })
 }
 
 // A call that awaits no reply, and is done as its frame leaves.
