@@ -96,9 +96,20 @@ pub fn is_access_request(call: &Call, realm: &ShortString, options: &AccessReque
         Call::AccessRequest {
             realm: a,
             options: b,
-        } => a == realm && b == options,
+        } => a == realm && same_options(b, options),
         _ => false,
     }
+}
+
+// Whether two requests have the same marks.
+fn same_options(left: &AccessRequestOptions, right: &AccessRequestOptions) -> bool
+    ensures { Decides result (left.now ≡ right.now) }
+{
+    left.exclusive == right.exclusive
+        && left.passive == right.passive
+        && left.active == right.active
+        && left.write == right.write
+        && left.read == right.read
 }
 
 /// Whether a call is `Call::ConfirmSelect` with these arguments.

@@ -47,9 +47,20 @@ pub fn is_exchange_declare(
             kind: b,
             options: c,
             arguments: d,
-        } => a == exchange && b.same(kind) && c == options && d.same(arguments),
+        } => a == exchange && b.same(kind) && same_options(c, options) && d.same(arguments),
         _ => false,
     }
+}
+
+// Whether two declares have the same marks.
+fn same_options(left: &ExchangeDeclareOptions, right: &ExchangeDeclareOptions) -> bool
+    ensures { Decides result (left.now ≡ right.now) }
+{
+    left.passive == right.passive
+        && left.durable == right.durable
+        && left.auto_delete == right.auto_delete
+        && left.internal == right.internal
+        && left.nowait == right.nowait
 }
 
 /// A copy of `Call::ExchangeDelete`.

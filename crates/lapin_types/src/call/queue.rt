@@ -40,9 +40,20 @@ pub fn is_queue_declare(
             queue: a,
             options: b,
             arguments: c,
-        } => a == queue && b == options && c.same(arguments),
+        } => a == queue && same_options(b, options) && c.same(arguments),
         _ => false,
     }
+}
+
+// Whether two declares have the same marks.
+fn same_options(left: &QueueDeclareOptions, right: &QueueDeclareOptions) -> bool
+    ensures { Decides result (left.now ≡ right.now) }
+{
+    left.passive == right.passive
+        && left.durable == right.durable
+        && left.exclusive == right.exclusive
+        && left.auto_delete == right.auto_delete
+        && left.nowait == right.nowait
 }
 
 /// A copy of `Call::QueueBind`.
