@@ -13,6 +13,8 @@ ghost use Rattle.lapin_ticket.specs.declared.Slot.TheVariants as slot;
 ghost use Rattle.lapin_ticket.specs.Desk.{after_mark, polled, polled_slot, after_poll, laid, laid_slot, rejects, held_or, is_awaited, is_open_on, failed, failed_slot, closed_slot};
 ghost use Rattle.lapin_ticket.specs.Follows.{Follows, WasGiven};
 
+pub mod laws;
+
 use lapin_history::AtLeaving;
 use lapin_tables::Numbered;
 use lapin_types::{Answer, Error, NoMemory};
