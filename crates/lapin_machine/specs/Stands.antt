@@ -2,12 +2,11 @@
 use Rattle.std.specs.Prelude.{◌≡◌, ◌≢◌, ℕ, List, [], ◌∷◌, Option}
 use Rattle.std.specs.List.{AllByRecursion}
 use Rattle.lapin_types.specs.declared.leaving.Publish.{Publish}
-use Rattle.lapin_history.specs.declared.marks.ConfirmMark.{ConfirmMark}
-use Rattle.lapin_history.specs.declared.marks.ConfirmMark.TheVariants as mark
+use Rattle.lapin_history.specs.ConfirmMarks.{ConfirmMark}
+use Rattle.lapin_history.specs.ConfirmMarks as mark
 use Rattle.lapin_history.specs.ConfirmReadings.{added}
 use Rattle.lapin_history.specs.TicketReadings.{TicketMark, given}
 use Rattle.lapin_history.specs.Base.{Base}
-use Rattle.lapin_history.specs.Marked.{place_of}
 use Rattle.lapin_history.specs.History.{History, past}
 use Rattle.lapin_confirm.specs.Book.{Book}
 use Rattle.lapin_confirm.specs.Follows.{MayCome}
@@ -19,7 +18,7 @@ use Rattle.lapin_machine.specs.World.{World}
 -- the publishes that wait have not left, and are different ones
 abbrev pub AreFresh : List ConfirmMark → List Publish → Type 0
 AreFresh ms [] = Unit {0}
-AreFresh ms (p ∷ ps) = MayCome ms (mark.Left p.channel (place_of p.confirm)) × AllByRecursion (λ q. place_of p.confirm ≢ place_of q.confirm) ps × AreFresh ms ps
+AreFresh ms (p ∷ ps) = MayCome ms (mark.Left p.channel p.confirm) × AllByRecursion (λ q. p.confirm ≢ q.confirm) ps × AreFresh ms ps
 
 -- the confirms are what the marks say
 pub record ConfirmsStand (b : Base) (ms : List ConfirmMark) (bk : Book) : Type 0 where

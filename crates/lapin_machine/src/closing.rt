@@ -11,9 +11,9 @@ ghost use Rattle.lapin_types.specs.declared.call.Call.TheVariants.{ChannelClose,
 ghost use Rattle.lapin_history.specs.Words.{is_some, with_channel};
 ghost use Rattle.lapin_history.specs.Phases.{is_up as is_up_lem, is_lost as is_lost_lem};
 ghost use Rattle.lapin_history.specs.Closes.{failed_at_close as failed_at_close_lem};
-ghost use Rattle.lapin_history.specs.Drops.{no_lists, unbegun, without_publishes_of, publish_tickets_of};
-ghost use Rattle.lapin_history.specs.Marked.{ends, rejections, failures};
-ghost use Rattle.lapin_history.specs.TicketReadings.{AllFailed};
+ghost use Rattle.lapin_history.specs.Drops.{no_lists, without_publishes_of};
+ghost use Rattle.lapin_history.specs.Marked.{ends};
+ghost use Rattle.lapin_history.specs.TicketReadings as mark;
 ghost use Rattle.lapin_confirm.specs.Book as book;
 ghost use Rattle.lapin_ticket.specs.Desk as answers;
 ghost use Rattle.lapin_desk.specs.Queued.{AreQueued};
@@ -25,7 +25,7 @@ use crate::channel::Ticket;
 use crate::session::{Session, is_base, is_open, set_phase};
 use lapin_confirm::Confirms;
 use lapin_desk::Desk;
-use lapin_history::{Closer, Link, Phase, failed_at_close};
+use lapin_history::{AtLeaving, Closer, Link, Phase, Row, failed_at_close};
 use lapin_outbox::Replies;
 use lapin_tables::ByChannel;
 use lapin_types::{
@@ -63,15 +63,18 @@ impl Session {
             channel,
             Closer::Application,
         );
-        let method = Method::Channel(ChannelMethod::Close {
-            reply_code,
-            reply_text,
-            class_id: 0,
-            method_id: 0,
-        });
-        let number = self
-            .desk
-            .queue(alloc, channel, method, Some(Reply::ChannelCloseOk), None);
+        let row = Row {
+            method: Method::Channel(ChannelMethod::Close {
+                reply_code,
+                reply_text,
+                class_id: 0,
+                method_id: 0,
+            }),
+            awaits: Some(Reply::ChannelCloseOk),
+            made: None,
+            at_leaving: AtLeaving::Nothing,
+        };
+        let number = self.desk.queue(alloc, channel, row);
         Ok(Ticket { number })
     }
 
@@ -133,13 +136,18 @@ impl Session {
             to,
             error,
         );
-        let method = Method::Connection(ConnectionMethod::Close {
-            reply_code,
-            reply_text,
-            class_id: 0,
-            method_id: 0,
-        });
-        let number = self.desk.queue(alloc, channel, method, Some(Reply::ConnectionCloseOk), None);
+        let row = Row {
+            method: Method::Connection(ConnectionMethod::Close {
+                reply_code,
+                reply_text,
+                class_id: 0,
+                method_id: 0,
+            }),
+            awaits: Some(Reply::ConnectionCloseOk),
+            made: None,
+            at_leaving: AtLeaving::Nothing,
+        };
+        let number = self.desk.queue(alloc, channel, row);
         Ok(Ticket { number })
     }
 
@@ -199,8 +207,8 @@ pub(crate) fn begin_close(
     requires queued { AreQueued confirms.old.book.cells desk.old.outbox.lists.publishes }
     ensures phases { phases.new.entries ≡ with_channel channel (Phase.Closing closer false) phases.old.entries }
     ensures lists { desk.new.outbox.lists ≡ without_publishes_of channel desk.old.outbox.lists }
-    ensures slots { desk.new.tickets.slots ≡ fold answers.after_mark desk.old.tickets.slots (failures (failed_at_close_lem closer) (publish_tickets_of channel desk.old.outbox.lists.publishes)) }
-    ensures book { confirms.new.book ≡ fold book.after_mark confirms.old.book (rejections (failed_at_close_lem closer) (unbegun channel desk.old.outbox.lists.publishes)) }
+    ensures slots { desk.new.tickets.slots ≡ answers.after_mark desk.old.tickets.slots (mark.ClosedHere channel (failed_at_close_lem closer)) }
+    ensures book { confirms.new.book ≡ book.closed_here channel (failed_at_close_lem closer) confirms.old.book }
     ensures queued { AreQueued confirms.new.book.cells desk.new.outbox.lists.publishes }
     ensures requests { desk.new.replies ≡ desk.old.replies }
     ensures frame_max { desk.new.outbox.frame_max ≡ desk.old.outbox.frame_max }
@@ -232,7 +240,7 @@ pub(crate) fn go_down(
     requires queued { AreQueued confirms.old.book.cells desk.old.outbox.lists.publishes }
     ensures link { link.new ≡ to }
     ensures lists { desk.new.outbox.lists ≡ no_lists }
-    ensures slots { desk.new.tickets.slots ≡ answers.after_mark desk.old.tickets.slots (AllFailed error) }
+    ensures slots { desk.new.tickets.slots ≡ answers.after_mark desk.old.tickets.slots (mark.AllFailed error) }
     ensures book { confirms.new.book ≡ fold book.after_mark confirms.old.book (if is_up_lem link.old then ends error phases.now.entries else []) }
     ensures requests { desk.new.replies ≡ replies }
     ensures frame_max { desk.new.outbox.frame_max ≡ desk.old.outbox.frame_max }

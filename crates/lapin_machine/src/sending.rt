@@ -5,9 +5,8 @@ ghost use Rattle.std.specs.List.{fold, list_any};
 ghost use Rattle.lapin_types.specs.declared.event.Event.TheVariants as event;
 ghost use Rattle.lapin_history.specs.Base.{handed, handed_out, is_paused_on, link_sent, phases_sent};
 ghost use Rattle.lapin_history.specs.Answers.{frame_record as frame_record_lem};
-ghost use Rattle.lapin_history.specs.Marked.{left_marks, left_tickets, frame_marks};
+ghost use Rattle.lapin_history.specs.Marked.{left_marks, frame_marks};
 ghost use Rattle.lapin_confirm.specs.Book as book;
-ghost use Rattle.lapin_ticket.specs.Desk as desk;
 ghost use Rattle.lapin_tables.specs.ByChannel.{on_channel};
 ghost use Rattle.lapin_history.specs.Phases.{close_sent as close_sent_lem, is_up};
 ghost use Rattle.lapin_machine.specs.World.{told_by, next, handing};
@@ -16,9 +15,8 @@ ghost use Rattle.lapin_machine.specs.Tied.{CanRegister};
 
 use crate::session::Session;
 use lapin_confirm::Confirms;
-use lapin_history::{Link, Phase, close_sent, link_close_sent, resolved};
+use lapin_history::{Link, Phase, close_sent, link_close_sent};
 use lapin_tables::ByChannel;
-use lapin_ticket::Tickets;
 use lapin_types::{
     ChannelMethod, ConfirmMethod, ConnectionMethod, Error, Frame, Left, Method, Record,
 };
@@ -51,7 +49,7 @@ impl Session {
         match self.desk.outbox.pop(alloc, may_begin)? {
             Some(left) => {
                 confirms_left(&mut self.confirms, &left);
-                tickets_left(&mut self.desk.tickets, &left);
+                self.desk.leave(&left);
                 link_left(&mut self.link, &left.frame);
                 phases_left(&mut self.phases, &left.frame);
                 Ok(Some(left))
@@ -111,15 +109,6 @@ fn select_left(confirms: &mut Confirms, frame: &Frame)
 {
     if let Frame::Method(channel, Method::Confirm(ConfirmMethod::Select { .. })) = frame {
         confirms.select_left(*channel);
-    }
-}
-
-// The last frame of a publish resolves its ticket.
-fn tickets_left(tickets: &mut Tickets, left: &Left)
-    ensures { tickets.new.slots ≡ fold desk.after_mark tickets.old.slots (left_tickets (Some left.now)) }
-{
-    if let Some((ticket, answer)) = resolved(left) {
-        tickets.answer(ticket, Ok(answer));
     }
 }
 

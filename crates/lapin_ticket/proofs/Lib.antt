@@ -1,3 +1,4 @@
 pub mod Failing
 pub mod Following
 pub mod Ending
+pub mod Walking

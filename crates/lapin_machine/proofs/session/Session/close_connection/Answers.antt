@@ -7,7 +7,7 @@ use Rattle.lapin_types.specs.Types.connection
 use Rattle.lapin_history.specs.Leaving.{Lists}
 use Rattle.lapin_history.specs.Closes.{failed_at_connection_close}
 use Rattle.lapin_history.specs.Base.{is_base, state_of, requests_with}
-use Rattle.lapin_history.specs.TicketReadings.{AllFailed}
+use Rattle.lapin_history.specs.TicketReadings as mark
 use Rattle.lapin_ticket.specs.declared.Slot.{Slot}
 use Rattle.lapin_ticket.specs.Desk.{after_mark}
 use Rattle.lapin_outbox.specs.Open.{OpenRequests}
@@ -31,7 +31,7 @@ returns-clause-ok c =
     ∙ connection_close_seen c.self.inside.desk.outbox.frame_max c.self.inside.link c.self.inside.phases.entries c.self.inside.desk.outbox.lists c.self.inside.desk.replies.waiting c.self.inside.desk.tickets.slots c.self.inside.confirms.book c.args.channel c.args.reply_code c.args.reply_text _ _ _ c.go_down.new.desk.tickets.slots _ _
     base_
     c.go_down.ensures.link
-    (c.go_down.ensures.slots ∙ ap (λ (y : List (Option Slot)). after_mark y (AllFailed failed_at_connection_close)) c.reserve-2.ensures.same.slots)
+    (c.go_down.ensures.slots ∙ ap (λ (y : List (Option Slot)). after_mark y (mark.AllFailed failed_at_connection_close)) c.reserve-2.ensures.same.slots)
     (c.queue-number.ensures.lists
     ∙ ap (with_method (record { channel = c.args.channel; method = method.Connection (connection.Close c.args.reply_code c.args.reply_text 0 0); ticket = Some number })) c.go_down.ensures.lists)
     (c.queue-number.ensures.requests ∙ ap (requests_with c.args.channel number (Some reply.ConnectionCloseOk)) (ap (λ (r : OpenRequests). r.waiting) c.go_down.ensures.requests ∙ c.reserve.ensures.same ∙ ap (λ (r : OpenRequests). r.waiting) c.in_ok-replies.ensures))
