@@ -8,6 +8,7 @@ use Rattle.lapin_types.specs.declared.leaving.Publish.{Publish}
 use Rattle.lapin_tables.specs.Numbered.{under, with_under}
 use Rattle.lapin_tables.proofs.SlotLaws.{under-other, map-kept}
 use Rattle.lapin_history.specs.declared.marks.Outcome.{Outcome}
+use Rattle.lapin_history.specs.declared.marks.Outcome.TheVariants as outcome
 use Rattle.lapin_history.specs.Words.{without_first}
 use Rattle.lapin_history.specs.Drops.{is_on, is_off, publish_channel, unbegun}
 use Rattle.lapin_history.proofs.ListLaws.{any-push}
@@ -78,22 +79,24 @@ passes-other P n m o cells none fails h =
 -- ---- what has not left waits
 
 waits-push : (c : ℕ) (cells : List (Option Cell)) (ps : List Publish) (p : Publish) → p.confirm ≡ length cells + 1 → p.channel ≡ c → AllWait cells ps → AllWait (cells ++ Some (cell.Queued c) ∷ []) (ps ++ p ∷ [])
-waits-push c cells ps p at on all = λ d n h.
-    any-push (is_publish_of d n) ps p
-    ∙ elim (eqb_tells n (length cells + 1)) [
-      | inl here ↦
-          let queued : (c == d) ≡ true = sym (ap (is_queued_on d) (under-last n cells (Some (cell.Queued c)) here.1)) ∙ h in
-          let channel : (p.channel == d) ≡ true = ap (λ k. k == d) on ∙ queued in
-          let number : (p.confirm == n) ≡ true = eq-eqb p.confirm n (at ∙ sym here.1) in
-          rw (channel, number) (or_true (list_any (is_publish_of d n) ps))
-      | inr other ↦
-          let was = all d n (sym (ap (is_queued_on d) (under-beyond n cells (Some (cell.Queued c)) other.1)) ∙ h) in
-          rw was refl
-    ]
+waits-push c cells ps p at on all = λ d n h. any-push (is_publish_of d n) ps p ∙ joined d n h
   where
     or_true : (b : Bool) → (b || true) ≡ true
     or_true true = refl
     or_true false = refl
+
+    joined : (d n : ℕ) → is_queued_on d (under n (cells ++ Some (cell.Queued c) ∷ [])) ≡ true → (list_any (is_publish_of d n) ps || is_publish_of d n p) ≡ true
+    joined d n h =
+        elim (eqb_tells n (length cells + 1)) [
+          | inl here ↦
+              let queued : (c == d) ≡ true = sym (ap (is_queued_on d) (under-last n cells (Some (cell.Queued c)) here.1)) ∙ h in
+              let channel : (p.channel == d) ≡ true = ap (λ k. k == d) on ∙ queued in
+              let number : (p.confirm == n) ≡ true = eq-eqb p.confirm n (at ∙ sym here.1) in
+              rw (channel, number) (or_true (list_any (is_publish_of d n) ps))
+          | inr other ↦
+              let was : list_any (is_publish_of d n) ps ≡ true = all d n (sym (ap (is_queued_on d) (under-beyond n cells (Some (cell.Queued c)) other.1)) ∙ h) in
+              rw was refl
+        ]
 
 -- one is written that now has left
 waits-written : (n : ℕ) (o : Option Cell) (cells : List (Option Cell)) (ps qs : List Publish) → ((d : ℕ) → is_queued_on d o ≡ false) → ((d m : ℕ) → m ≢ n → list_any (is_publish_of d m) ps ≡ true → list_any (is_publish_of d m) qs ≡ true) → AllWait cells ps → AllWait (with_under n o cells) qs
@@ -113,8 +116,8 @@ settled-back c d covered o (cell.Pending e t) h = elim (e == c && covered t) as 
 settled-back c d covered o (cell.Resolved y) h = cc
 
 ended-back : (c d : ℕ) (e : Error) (x : Cell) → is_queued_on d (Some (ended_cell c e x)) ≡ true → is_queued_on d (Some x) ≡ true
-ended-back c d e (cell.Queued k) h = elim (k == c) as (λ b. is_queued_on d (Some (cond b (cell.Resolved _) (cell.Queued k))) ≡ true → (k == d) ≡ true) [ true ↦ λ h. cc | false ↦ λ h. h ] h
-ended-back c d e (cell.Pending k t) h = elim (k == c) as (λ b. is_queued_on d (Some (cond b (cell.Resolved _) (cell.Pending k t))) ≡ true → is_queued_on d (Some (cell.Pending k t)) ≡ true) [ true ↦ λ h. cc | false ↦ λ h. cc ] h
+ended-back c d e (cell.Queued k) h = elim (k == c) as (λ b. is_queued_on d (Some (cond b (cell.Resolved (outcome.Failed e)) (cell.Queued k))) ≡ true → (k == d) ≡ true) [ true ↦ λ h. cc | false ↦ λ h. h ] h
+ended-back c d e (cell.Pending k t) h = elim (k == c) as (λ b. is_queued_on d (Some (cond b (cell.Resolved (outcome.Failed e)) (cell.Pending k t))) ≡ true → is_queued_on d (Some (cell.Pending k t)) ≡ true) [ true ↦ λ h. cc | false ↦ λ h. cc ] h
 ended-back c d e (cell.Resolved y) h = cc
 
 -- ---- publishes that wait and confirms, after each change
@@ -189,9 +192,10 @@ queue-none cells none = record {
 pub queue-rejected : (c : ℕ) (ps stay : List Publish) (d : Dropped) (e : Error) (b after : Book) → Some d ≡ slice_get (map told_publish (unbegun c ps)) 0 → stay ≡ without_first (is_on publish_channel c) ps → after ≡ rejected_told e d.publish b → AreQueued b.cells ps → AreQueued after.cells stay
 queue-rejected c ps stay d e b after told left rejected_ q =
     let is = first-of c ps d told in
-    let n : ℕ = is.first.confirm in
     let others : List Publish = without_first (is_on publish_channel c) ps in
-    let all : AllWait (rejected n e b).cells others = waits-written n _ b.cells ps others (λ k. refl) (λ k m apart h. any-out (is_on publish_channel c) (is_publish_of k m) ps is.first is.found (rw (ne_eqb n m (λ x. apart (sym x))) (and_false (is.first.channel == k))) ∙ h) q.all in
+    let gone : (k m : ℕ) → m ≢ is.first.confirm → is_publish_of k m is.first ≡ false = λ k m apart. rw (ne_eqb is.first.confirm m (λ x. apart (sym x))) (and_false (is.first.channel == k)) in
+    let all : AllWait (rejected is.first.confirm e b).cells others =
+    waits-written is.first.confirm (Some (cell.Resolved (outcome.Failed e))) b.cells ps others (λ k. refl) (λ k m apart h. any-out (is_on publish_channel c) (is_publish_of k m) ps is.first is.found (gone k m apart) ∙ h) q.all in
     let P : Dropped → Type 0 = λ x. AllWait (rejected_told e x.publish b).cells others in
     let Q : Book → Type 0 = λ x. AllWait x.cells others in
     let R : List Publish → Type 0 = λ xs. AllWait after.cells xs in

@@ -214,7 +214,7 @@ stand_call c (ask.Method row) b ms bk s = stand_queued b _ ms bk c row.method s 
 stand_call c (ask.Publish exchange key o payload properties) b ms bk s =
     let count : b.published ≡ added ms = s.published in
     stand-push b _ ms bk (mark.Added c) s tt (ap (λ n. n + 1) s.published ∙ sym (added-push ms (mark.Added c)))
-    (fresh_added ms c _ b.publishes refl (ap (λ n. n + 1) s.published ∙ add-one) (s.book.fresh (added ms) (omega arith)) s.queue)
+    (fresh_added ms c _ b.publishes refl (ap (λ n. n + 1) s.published ∙ add-one (added ms)) (s.book.fresh (added ms) (omega arith)) s.queue)
 
 -- ---- frames that leave
 

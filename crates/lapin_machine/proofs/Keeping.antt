@@ -19,6 +19,7 @@ use Rattle.lapin_tables.specs.ByChannel.{at_channel, on_channel}
 use Rattle.lapin_tables.specs.Numbered.{under, with_under}
 use Rattle.lapin_history.specs.declared.marks.Settlement.{Settlement}
 use Rattle.lapin_history.specs.declared.marks.Outcome.{Outcome}
+use Rattle.lapin_history.specs.declared.marks.Outcome.TheVariants as outcome
 use Rattle.lapin_history.specs.ConfirmMarks as mark
 use Rattle.lapin_history.specs.declared.phases.Closer.{Closer}
 use Rattle.lapin_history.specs.declared.phases.Phase.{Phase}
@@ -83,7 +84,7 @@ any-mapped p g (x ∷ xs) keeps h =
 
 closed-closed : (c d : ℕ) (e : Error) (x : Option Cell) → is_open_on c x ≡ false → is_open_on c (option_map (closed_cell d e) x) ≡ false
 closed-closed c d e None h = refl
-closed-closed c d e (Some (cell.Queued k)) h = elim (k == d) as (λ b. is_open_on c (Some (cond b (cell.Resolved _) (cell.Queued k))) ≡ false) [ true ↦ refl | false ↦ h ]
+closed-closed c d e (Some (cell.Queued k)) h = elim (k == d) as (λ b. is_open_on c (Some (cond b (cell.Resolved (outcome.Failed e)) (cell.Queued k))) ≡ false) [ true ↦ refl | false ↦ h ]
 closed-closed c d e (Some (cell.Pending k t)) h = h
 closed-closed c d e (Some (cell.Resolved x)) h = refl
 

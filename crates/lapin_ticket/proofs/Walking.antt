@@ -53,10 +53,6 @@ still-on c n m e xs h = still-passes (is_open_on c) (Err e) gone n m xs h
     gone (Some (slot.Open d l b)) = refl
     gone (Some (slot.Held a)) = refl
 
--- a test that fails of one number is passed by others alone
-pub apart-from : (p : ℕ → Bool) (n m : ℕ) → p n ≡ false → p m ≡ true → m ≢ n
-apart-from p n m fails passes same = let yes : p n ≡ true = subst (λ i. p i ≡ true) same passes in cc
-
 pub none-passes : (b : Bool) → (b ≡ true → ⊥) → b ≡ false
 none-passes true h = absurd (h refl)
 none-passes false h = refl
