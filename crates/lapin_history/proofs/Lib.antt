@@ -4,3 +4,4 @@ pub mod TicketLaws
 pub mod Runs
 pub mod ChannelLaws
 pub mod ReturnLaws
+pub mod EndLaws

@@ -1,15 +1,14 @@
--- The table of calls: what each call is to a session. A line a call says the method that it queues, the reply that it awaits,
--- and the answer that it makes itself where it is called without wait.
-use Rattle.std.specs.Prelude.{Bool, true, false, if◌then◌else◌, Option, Some, None}
-use Rattle.lapin_types.specs.declared.call.Call.{Call}
-use Rattle.lapin_types.specs.declared.call.Call.TheVariants as call
-use Rattle.lapin_types.specs.declared.answer.Answer.{Answer}
-use Rattle.lapin_types.specs.declared.answer.Answer.TheVariants as answer
-use Rattle.lapin_types.specs.declared.request.Reply.{Reply}
-use Rattle.lapin_types.specs.declared.request.Reply.TheVariants as reply
-use Rattle.lapin_types.specs.Types.{Method}
+-- The table of calls: what each call is to a session. A line a call says the method that it queues, and how its ticket is answered:
+-- by a reply, by the call itself where it is made without wait, or as its frame leaves. Four calls do more, and are named.
+use Rattle.std.specs.Prelude.{Bool, if◌then◌else◌, Option, Some, None}
+use Rattle.lapin_types.specs.ExchangeKinds.{kind_text}
+use Rattle.lapin_types.specs.Types.{Call, Answer, Reply, Method}
+use Rattle.lapin_types.specs.Types.call
+use Rattle.lapin_types.specs.Types.answer
+use Rattle.lapin_types.specs.Types.reply
 use Rattle.lapin_types.specs.Types.method
 use Rattle.lapin_types.specs.Types.channel
+use Rattle.lapin_types.specs.Types.access
 use Rattle.lapin_types.specs.Types.exchange
 use Rattle.lapin_types.specs.Types.queue
 use Rattle.lapin_types.specs.Types.basic
@@ -46,17 +45,33 @@ asked (call.ChannelClose code text) = ask.CloseChannel code text
 asked (call.ConnectionClose code text) = ask.CloseConnection code text
 asked (call.BasicPublish exchange key o payload properties) = ask.Publish exchange key o payload properties
 asked (call.ChannelFlow o) = awaiting (method.Channel (channel.Flow o.active)) reply.ChannelFlowOk
+asked (call.AccessRequest realm o) = awaiting (method.Access (access.Request realm o.exclusive o.passive o.active o.write o.read)) reply.AccessRequestOk
+asked (call.ExchangeDeclare name kind o more) =
+    unless_nowait
+    (method.Exchange (exchange.Declare name (kind_text kind) o.passive o.durable o.auto_delete o.internal o.nowait more))
+    o.nowait
+    (reply.ExchangeDeclareOk name kind o more)
+    answer.Done
+asked (call.ExchangeDelete name o) = unless_nowait (method.Exchange (exchange.Delete name o.if_unused o.nowait)) o.nowait (reply.ExchangeDeleteOk name) answer.Done
 asked (call.ExchangeBind to from key o more) = unless_nowait (method.Exchange (exchange.Bind to from key o.nowait more)) o.nowait (reply.ExchangeBindOk to from key more) answer.Done
+asked (call.ExchangeUnbind to from key o more) = unless_nowait (method.Exchange (exchange.Unbind to from key o.nowait more)) o.nowait (reply.ExchangeUnbindOk to from key more) answer.Done
 asked (call.QueueDeclare name o more) =
     unless_nowait
     (method.Queue (queue.Declare name o.passive o.durable o.exclusive o.auto_delete o.nowait more))
     o.nowait
     (reply.QueueDeclareOk o more)
     (answer.Queue (record { name = name; message_count = 0; consumer_count = 0 }))
+asked (call.QueueBind name from key o more) = unless_nowait (method.Queue (queue.Bind name from key o.nowait more)) o.nowait (reply.QueueBindOk name from key more) answer.Done
+asked (call.QueuePurge name o) = unless_nowait (method.Queue (queue.Purge name o.nowait)) o.nowait reply.QueuePurgeOk (answer.Count 0)
 asked (call.QueueDelete name o) = unless_nowait (method.Queue (queue.Delete name o.if_unused o.if_empty o.nowait)) o.nowait (reply.QueueDeleteOk name) (answer.Count 0)
+asked (call.QueueUnbind name from key more) = awaiting (method.Queue (queue.Unbind name from key more)) (reply.QueueUnbindOk name from key more)
 asked (call.BasicQos most o) = awaiting (method.Basic (basic.Qos most o.global)) reply.BasicQosOk
 asked (call.BasicAck tag o) = done_as_it_leaves (method.Basic (basic.Ack tag o.multiple))
+asked (call.BasicNack tag o) = done_as_it_leaves (method.Basic (basic.Nack tag o.multiple o.requeue))
+asked (call.BasicReject tag o) = done_as_it_leaves (method.Basic (basic.Reject tag o.requeue))
+asked (call.BasicRecoverAsync o) = done_as_it_leaves (method.Basic (basic.RecoverAsync o.requeue))
+asked (call.BasicRecover o) = awaiting (method.Basic (basic.Recover o.requeue)) reply.BasicRecoverOk
 asked (call.ConfirmSelect o) = unless_nowait (method.Confirm (confirm.Select o.nowait)) o.nowait reply.ConfirmSelectOk answer.Done
 asked call.TxSelect = awaiting (method.Tx tx.Select) reply.TxSelectOk
-asked (call.QueuePurge name o) = unless_nowait (method.Queue (queue.Purge name o.nowait)) o.nowait reply.QueuePurgeOk (answer.Count 0)
 asked call.TxCommit = awaiting (method.Tx tx.Commit) reply.TxCommitOk
+asked call.TxRollback = awaiting (method.Tx tx.Rollback) reply.TxRollbackOk

@@ -1,4 +1,4 @@
--- What a frame of the broker is to a channel.
+-- The table of the broker's frames: what each frame is to its channel. A line a method; a reply makes its answer from its own data.
 use Rattle.std.specs.Prelude.{ℕ, ◌==◌, Bool, if◌then◌else◌}
 use Rattle.lapin_methods.specs.Numbers.{class_number, method_number}
 use Rattle.lapin_types.specs.Types.{Frame, Method}
@@ -6,13 +6,14 @@ use Rattle.lapin_types.specs.Types.frame
 use Rattle.lapin_types.specs.Types.method
 use Rattle.lapin_types.specs.Types.connection
 use Rattle.lapin_types.specs.Types.channel
+use Rattle.lapin_types.specs.Types.access
 use Rattle.lapin_types.specs.Types.basic
 use Rattle.lapin_types.specs.Types.confirm
 use Rattle.lapin_types.specs.Types.exchange
 use Rattle.lapin_types.specs.Types.queue
 use Rattle.lapin_types.specs.Types.tx
-use Rattle.lapin_types.specs.declared.answer.Answer.TheVariants as answer
-use Rattle.lapin_types.specs.declared.request.ReplyKind.TheVariants as reply_kind
+use Rattle.lapin_types.specs.Types.answer
+use Rattle.lapin_types.specs.Types.reply_kind
 use Rattle.lapin_history.specs.declared.marks.SettleKind.{SettleKind}
 use Rattle.lapin_history.specs.declared.marks.SettleKind.TheVariants as settle
 use Rattle.lapin_history.specs.declared.marks.Settlement.{Settlement}
@@ -39,23 +40,31 @@ on_connection c i = if c == 0 then i else incoming.Other
 
 -- Replies with the answers that they make, settlements, flow and closes; every other method is none of these.
 abbrev pub heard_method : ℕ → Method → Incoming
-heard_method c (method.Channel channel.OpenOk) = incoming.Reply c reply_kind.ChannelOpenOk (answer.Channel c)
-heard_method c (method.Channel (channel.FlowOk active)) = incoming.Reply c reply_kind.ChannelFlowOk (answer.Flow active)
-heard_method c (method.Exchange exchange.BindOk) = incoming.Reply c reply_kind.ExchangeBindOk answer.Done
-heard_method c (method.Queue (queue.DeclareOk name messages consumers)) = incoming.Reply c reply_kind.QueueDeclareOk (answer.Queue (record { name = name; message_count = messages; consumer_count = consumers }))
-heard_method c (method.Queue (queue.DeleteOk messages)) = incoming.Reply c reply_kind.QueueDeleteOk (answer.Count messages)
-heard_method c (method.Basic basic.QosOk) = incoming.Reply c reply_kind.BasicQosOk answer.Done
-heard_method c (method.Confirm confirm.SelectOk) = incoming.Reply c reply_kind.ConfirmSelectOk answer.Done
-heard_method c (method.Queue (queue.PurgeOk messages)) = incoming.Reply c reply_kind.QueuePurgeOk (answer.Count messages)
-heard_method c (method.Tx tx.CommitOk) = incoming.Reply c reply_kind.TxCommitOk answer.Done
-heard_method c (method.Tx tx.SelectOk) = incoming.Reply c reply_kind.TxSelectOk answer.Done
-heard_method c (method.Channel (channel.Flow active)) = incoming.Flow c active
-heard_method c (method.Basic (basic.Ack tag multiple)) = incoming.Settlement c (settlement settle.Ack tag multiple)
-heard_method c (method.Basic (basic.Nack tag multiple requeue)) = incoming.Settlement c (settlement settle.Nack tag multiple)
-heard_method c (method.Channel (channel.Close code text class number)) = incoming.ChannelClose c code
-heard_method c (method.Channel channel.CloseOk) = incoming.ChannelCloseOk c
 heard_method c (method.Connection (connection.Close code text class number)) = on_connection c (incoming.ConnectionClose code)
 heard_method c (method.Connection connection.CloseOk) = on_connection c incoming.ConnectionCloseOk
+heard_method c (method.Channel channel.OpenOk) = incoming.Reply c reply_kind.ChannelOpenOk (answer.Channel c)
+heard_method c (method.Channel (channel.Flow active)) = incoming.Flow c active
+heard_method c (method.Channel (channel.FlowOk active)) = incoming.Reply c reply_kind.ChannelFlowOk (answer.Flow active)
+heard_method c (method.Channel (channel.Close code text class number)) = incoming.ChannelClose c code
+heard_method c (method.Channel channel.CloseOk) = incoming.ChannelCloseOk c
+heard_method c (method.Access access.RequestOk) = incoming.Reply c reply_kind.AccessRequestOk answer.Done
+heard_method c (method.Exchange exchange.DeclareOk) = incoming.Reply c reply_kind.ExchangeDeclareOk answer.Done
+heard_method c (method.Exchange exchange.DeleteOk) = incoming.Reply c reply_kind.ExchangeDeleteOk answer.Done
+heard_method c (method.Exchange exchange.BindOk) = incoming.Reply c reply_kind.ExchangeBindOk answer.Done
+heard_method c (method.Exchange exchange.UnbindOk) = incoming.Reply c reply_kind.ExchangeUnbindOk answer.Done
+heard_method c (method.Queue (queue.DeclareOk name messages consumers)) = incoming.Reply c reply_kind.QueueDeclareOk (answer.Queue (record { name = name; message_count = messages; consumer_count = consumers }))
+heard_method c (method.Queue queue.BindOk) = incoming.Reply c reply_kind.QueueBindOk answer.Done
+heard_method c (method.Queue (queue.PurgeOk messages)) = incoming.Reply c reply_kind.QueuePurgeOk (answer.Count messages)
+heard_method c (method.Queue (queue.DeleteOk messages)) = incoming.Reply c reply_kind.QueueDeleteOk (answer.Count messages)
+heard_method c (method.Queue queue.UnbindOk) = incoming.Reply c reply_kind.QueueUnbindOk answer.Done
+heard_method c (method.Basic basic.QosOk) = incoming.Reply c reply_kind.BasicQosOk answer.Done
+heard_method c (method.Basic (basic.Ack tag multiple)) = incoming.Settlement c (settlement settle.Ack tag multiple)
+heard_method c (method.Basic (basic.Nack tag multiple requeue)) = incoming.Settlement c (settlement settle.Nack tag multiple)
+heard_method c (method.Basic basic.RecoverOk) = incoming.Reply c reply_kind.BasicRecoverOk answer.Done
+heard_method c (method.Confirm confirm.SelectOk) = incoming.Reply c reply_kind.ConfirmSelectOk answer.Done
+heard_method c (method.Tx tx.SelectOk) = incoming.Reply c reply_kind.TxSelectOk answer.Done
+heard_method c (method.Tx tx.CommitOk) = incoming.Reply c reply_kind.TxCommitOk answer.Done
+heard_method c (method.Tx tx.RollbackOk) = incoming.Reply c reply_kind.TxRollbackOk answer.Done
 heard_method c _ = incoming.Other
 
 abbrev pub heard : Frame → Incoming

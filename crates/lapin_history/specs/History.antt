@@ -1,18 +1,16 @@
 -- The records that a history determines.
 use Rattle.std.specs.Prelude.{ℕ, nat_lt, nat_le, Bool, ◌&&◌, if◌then◌else◌, List, [], ◌∷◌, ◌++◌, Option, Some, None, Result}
-use Rattle.lapin_types.specs.declared.event.Event.{Event}
-use Rattle.lapin_types.specs.declared.record.Record.{Record}
-use Rattle.lapin_types.specs.declared.answer.Answer.{Answer}
-use Rattle.lapin_types.specs.Types.{Error}
-use Rattle.lapin_types.specs.declared.record.Record.TheVariants as record_
+use Rattle.lapin_types.specs.Types.{Event, Record, Answer, Error}
+use Rattle.lapin_types.specs.Types.record_
 use Rattle.lapin_types.specs.Types.error
 use Rattle.lapin_history.specs.ConfirmMarks.{ConfirmMark}
 use Rattle.lapin_history.specs.declared.marks.Outcome.{Outcome}
 use Rattle.lapin_history.specs.ConfirmReadings.{is_selected, place, is_pending, added, is_taken, outcome_at}
 use Rattle.lapin_history.specs.TicketReadings.{TicketMark, given, is_collected, answer_of}
-use Rattle.lapin_history.specs.Base.{Base, start, after_event}
-use Rattle.lapin_history.specs.Marked.{confirm_marks, ticket_marks}
-use Rattle.lapin_history.specs.Answers.{Sight, confirmed, record_of}
+use Rattle.lapin_history.specs.Sight.{Sight}
+use Rattle.lapin_history.specs.Base.{Base, start}
+use Rattle.lapin_history.specs.Polls.{confirmed}
+use Rattle.lapin_history.specs.Events.{record_of, after_event, confirm_marks, ticket_marks}
 
 -- events with their records, oldest first; the empty one is that of a new session
 abbrev pub History : Type 0
@@ -66,6 +64,13 @@ ticket_poll ms n =
     then (if is_collected n ms then record_.Refused error.AlreadyTaken else polled_answer (answer_of n ms))
     else record_.Refused error.UnknownTicket
 
+-- what setting a ticket aside gives: its answer is asked for no more
+abbrev pub ticket_aside : List TicketMark → ℕ → Record
+ticket_aside ms n =
+    if was_given n ms
+    then (if is_collected n ms then record_.Refused error.AlreadyTaken else record_.Aside)
+    else record_.Refused error.UnknownTicket
+
 -- what the marks show
 abbrev pub sight_of : List ConfirmMark → List TicketMark → Sight
 sight_of confirms tickets = record {
@@ -74,6 +79,7 @@ sight_of confirms tickets = record {
   pending = λ c t. is_pending c t confirms;
   confirm = confirm_poll confirms;
   ticket = ticket_poll tickets;
+  ticket_aside = ticket_aside tickets;
 }
 
 abbrev pub record_after : Past → Event → Record

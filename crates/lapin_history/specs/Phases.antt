@@ -46,23 +46,3 @@ is_lost _ = false
 abbrev pub phase_in : Option Phase → Phase
 phase_in None = phase.Closed
 phase_in (Some p) = p
-
--- this side's `channel.close` leaves
-abbrev pub close_sent : Phase → Phase
-close_sent (phase.Closing closer sent) = phase.Closing closer true
-close_sent p = p
-
--- this side's `connection.close` leaves
-abbrev pub link_close_sent : Link → Link
-link_close_sent (link.Closing sent heard) = link.Closing true heard
-link_close_sent l = l
-
--- the broker's `channel.close` came: where this side's own has left, the two crossed, and the broker's close-ok is still to come
-abbrev pub after_broker_close : Phase → Phase
-after_broker_close (phase.Closing closer true) = phase.Crossed
-after_broker_close p = phase.Closed
-
--- this side's close has left, and the broker answers its own later
-abbrev pub has_sent_close : Phase → Bool
-has_sent_close (phase.Closing closer sent) = sent
-has_sent_close _ = false

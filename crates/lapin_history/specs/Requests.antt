@@ -1,12 +1,13 @@
 -- The open requests of each channel, and which one a reply takes (AMQP 0-9-1: replies come in the order of the requests of
 -- their channel).
-use Rattle.std.specs.Prelude.{ℕ, Bool, true, false, List, [], ◌∷◌, ◌++◌, Option, Some, None, find}
+use Rattle.std.specs.Prelude.{ℕ, Bool, true, false, List, [], ◌∷◌, ◌++◌, Option, Some, None, find, Result}
 use Rattle.lapin_tables.specs.ByChannel.{at_channel}
-use Rattle.lapin_types.specs.declared.request.Request.{Request}
-use Rattle.lapin_types.specs.declared.request.ReplyKind.{ReplyKind}
+use Rattle.lapin_types.specs.Types.{Request, ReplyKind, Answer, Error}
 use Rattle.lapin_types.specs.Requests.{kind_of}
 use Rattle.lapin_types.specs.contracts.request.ReplyKindPartialEq.TheImpl as it
-use Rattle.lapin_types.specs.declared.request.ReplyKind.TheVariants as reply_kind
+use Rattle.lapin_types.specs.Types.reply_kind
+use Rattle.lapin_history.specs.TicketReadings.{TicketMark}
+use Rattle.lapin_history.specs.TicketReadings as ticket
 use Rattle.lapin_history.specs.Words.{without_first, with_channel}
 
 abbrev pub requests_in : Option (List Request) → List Request
@@ -48,3 +49,8 @@ with_request c r all = with_channel c (requests_in (at_channel c all) ++ r ∷ [
 
 abbrev pub without_request : ℕ → ReplyKind → List (ℕ × List Request) → List (ℕ × List Request)
 without_request c k all = with_channel c (without_first (is_kind k) (requests_in (at_channel c all))) all
+
+-- a ticket is answered, if somebody holds it
+abbrev pub resolved_with : Result Answer Error → Option ℕ → List TicketMark
+resolved_with a None = []
+resolved_with a (Some n) = ticket.Answered n a ∷ []

@@ -6,13 +6,20 @@ ghost use Rattle.std.specs.Prelude.{◌≡◌};
 ghost use Rattle.lapin_history.specs.Heard.{heard, heard_method, on_connection as on_connection_lem, frame_class, frame_method};
 ghost use Rattle.lapin_types.specs.Types.method as method_;
 ghost use Rattle.lapin_history.specs.Requests.{is_kind as is_kind_lem};
-ghost use Rattle.lapin_history.specs.Base.{opens as opens_lem, hears as hears_lem, hears_on as hears_on_lem, hears_close as hears_close_lem, hears_close_ok as hears_close_ok_lem, hears_down as hears_down_lem};
+ghost use Rattle.lapin_history.specs.declared.broker_frames.Incoming.TheVariants as incoming;
+ghost use Rattle.lapin_types.specs.Types.answer;
+ghost use Rattle.lapin_history.specs.Base.{hears_on as hears_on_lem};
+ghost use Rattle.lapin_history.specs.Opening.{opens as opens_lem};
+ghost use Rattle.lapin_history.specs.Reply.{hears as hears_lem};
+ghost use Rattle.lapin_history.specs.ChannelClose.{hears_close as hears_close_lem, hears_close_ok as hears_close_ok_lem};
+ghost use Rattle.lapin_history.specs.ConnectionClose.{hears_down as hears_down_lem};
 
 use crate::marks::{SettleKind, Settlement};
 use crate::phases::Link;
 use lapin_types::{
-    Answer, BasicMethod, ChannelMethod, ChannelState, ConfirmMethod, ConnectionMethod,
-    ExchangeMethod, Frame, Method, Queue, QueueMethod, ReplyKind, Request, TxMethod,
+    AccessMethod, Answer, BasicMethod, ChannelMethod, ChannelState, ConfirmMethod,
+    ConnectionMethod, ExchangeMethod, Frame, Method, Queue, QueueMethod, ReplyKind, Request,
+    TxMethod,
 };
 
 /// A broker's frame, as the rules see it.
@@ -52,18 +59,14 @@ fn sort_method(channel: u16, method: Method) -> Incoming
     match method {
         Method::Connection(method) => sort_connection(channel, method),
         Method::Channel(method) => sort_channel(channel, method),
+        Method::Access(AccessMethod::RequestOk) => done(channel, ReplyKind::AccessRequestOk),
         Method::Exchange(method) => sort_exchange(channel, method),
         Method::Queue(method) => sort_queue(channel, method),
         Method::Basic(method) => sort_basic(channel, method),
-        Method::Confirm(ConfirmMethod::SelectOk) => {
-            Incoming::Reply(channel, ReplyKind::ConfirmSelectOk, Answer::Done)
-        }
-        Method::Tx(TxMethod::SelectOk) => {
-            Incoming::Reply(channel, ReplyKind::TxSelectOk, Answer::Done)
-        }
-        Method::Tx(TxMethod::CommitOk) => {
-            Incoming::Reply(channel, ReplyKind::TxCommitOk, Answer::Done)
-        }
+        Method::Confirm(ConfirmMethod::SelectOk) => done(channel, ReplyKind::ConfirmSelectOk),
+        Method::Tx(TxMethod::SelectOk) => done(channel, ReplyKind::TxSelectOk),
+        Method::Tx(TxMethod::CommitOk) => done(channel, ReplyKind::TxCommitOk),
+        Method::Tx(TxMethod::RollbackOk) => done(channel, ReplyKind::TxRollbackOk),
         _ => Incoming::Other,
     }
 }
@@ -100,9 +103,10 @@ fn sort_exchange(channel: u16, method: ExchangeMethod) -> Incoming
     ensures { result ≡ heard_method channel (method_.Exchange method) }
 {
     match method {
-        ExchangeMethod::BindOk => {
-            Incoming::Reply(channel, ReplyKind::ExchangeBindOk, Answer::Done)
-        }
+        ExchangeMethod::DeclareOk => done(channel, ReplyKind::ExchangeDeclareOk),
+        ExchangeMethod::DeleteOk => done(channel, ReplyKind::ExchangeDeleteOk),
+        ExchangeMethod::BindOk => done(channel, ReplyKind::ExchangeBindOk),
+        ExchangeMethod::UnbindOk => done(channel, ReplyKind::ExchangeUnbindOk),
         _ => Incoming::Other,
     }
 }
@@ -119,6 +123,8 @@ fn sort_queue(channel: u16, method: QueueMethod) -> Incoming
             let answer = Answer::Queue(Queue::new(queue, message_count, consumer_count));
             Incoming::Reply(channel, ReplyKind::QueueDeclareOk, answer)
         }
+        QueueMethod::BindOk => done(channel, ReplyKind::QueueBindOk),
+        QueueMethod::UnbindOk => done(channel, ReplyKind::QueueUnbindOk),
         QueueMethod::PurgeOk { message_count } => Incoming::Reply(
             channel,
             ReplyKind::QueuePurgeOk,
@@ -137,7 +143,8 @@ fn sort_basic(channel: u16, method: BasicMethod) -> Incoming
     ensures { result ≡ heard_method channel (method_.Basic method) }
 {
     match method {
-        BasicMethod::QosOk => Incoming::Reply(channel, ReplyKind::BasicQosOk, Answer::Done),
+        BasicMethod::QosOk => done(channel, ReplyKind::BasicQosOk),
+        BasicMethod::RecoverOk => done(channel, ReplyKind::BasicRecoverOk),
         BasicMethod::Ack {
             delivery_tag,
             multiple,
@@ -163,6 +170,13 @@ fn sort_basic(channel: u16, method: BasicMethod) -> Incoming
         ),
         _ => Incoming::Other,
     }
+}
+
+// A reply that tells nothing but that its call is done.
+fn done(channel: u16, kind: ReplyKind) -> Incoming
+    ensures { result ≡ incoming.Reply channel kind answer.Done }
+{
+    Incoming::Reply(channel, kind, Answer::Done)
 }
 
 // Closes of the connection are heard on its own channel alone.

@@ -1,20 +1,26 @@
 //! What a call is to a session: the table of calls.
 //!
 //! One line a call, as the definition of `specs/Calls.antt` says. Four calls do more than to queue their method; all others are
-//! their line of the table. The session asks here.
+//! their line of the table, made by class in the files below. The session asks here, and nothing here knows of a state.
 
 ghost use Rattle.std.specs.Prelude.{◌≡◌, Option, IfOk};
-ghost use Rattle.lapin_history.specs.Calls.{asked, awaiting as awaiting_lem, unless_nowait as unless_nowait_lem, done_as_it_leaves as done_as_it_leaves_lem};
-ghost use Rattle.lapin_history.specs.Base.{is_allowed as is_allowed_lem};
+ghost use Rattle.lapin_history.specs.Calls.{asked, awaiting as awaiting_lem, answered_at_once as answered_at_once_lem, unless_nowait as unless_nowait_lem, done_as_it_leaves as done_as_it_leaves_lem};
+ghost use Rattle.lapin_history.specs.Asking.{is_allowed as is_allowed_lem};
+ghost use Rattle.lapin_history.specs.Select.{is_select as is_select_lem};
+ghost use Rattle.lapin_types.specs.Types.method as method_;
 ghost use Rattle.lapin_types.specs.declared.call.Call.TheVariants as call;
 
 use crate::marks::AtLeaving;
 use lapin_types::{
-    Answer, BasicMethod, BasicProperties, BasicPublishOptions, Call, ChannelMethod, ChannelState,
-    ConfirmMethod, ExchangeBindOptions, ExchangeMethod, FieldTable, Method, NoMemory, Payload,
-    Queue, QueueDeclareOptions, QueueDeleteOptions, QueueMethod, Reply, ShortString, TxMethod,
+    Answer, BasicProperties, BasicPublishOptions, Call, ChannelState, ConfirmMethod,
+    ConfirmSelectOptions, Method, NoMemory, Payload, Reply, ShortString, TxMethod,
 };
 use std::alloc::Global;
+
+mod basic;
+mod channel;
+mod exchange;
+mod queue;
 
 /// A line of the table of calls.
 #[derive(Debug, Drop)]
@@ -67,7 +73,7 @@ pub fn is_allowed(asked: &Asked, state: ChannelState) -> bool
     }
 }
 
-/// Sorts a call.
+/// Sorts a call: one line a call, as in the table of calls.
 ///
 /// # Errors
 /// `NoMemory` alone.
@@ -97,133 +103,97 @@ pub fn sort_call(alloc: Global, call: Call) -> Result<Asked, NoMemory>
             payload,
             properties,
         }),
-        Call::ChannelFlow { options } => {
-            let method = Method::Channel(ChannelMethod::Flow {
-                active: options.active,
-            });
-            Ok(awaiting(method, Reply::ChannelFlowOk))
-        }
+        Call::ChannelFlow { options } => Ok(channel::flow(options)),
+        Call::AccessRequest { realm, options } => Ok(channel::access_request(realm, options)),
+        Call::ExchangeDeclare {
+            exchange,
+            kind,
+            options,
+            arguments,
+        } => exchange::declare(alloc, exchange, kind, options, arguments),
+        Call::ExchangeDelete { exchange, options } => exchange::delete(alloc, exchange, options),
         Call::ExchangeBind {
             destination,
             source,
             routing_key,
             options,
             arguments,
-        } => exchange_bind(alloc, destination, source, routing_key, options, arguments),
+        } => exchange::bind(alloc, destination, source, routing_key, options, arguments),
+        Call::ExchangeUnbind {
+            destination,
+            source,
+            routing_key,
+            options,
+            arguments,
+        } => exchange::unbind(alloc, destination, source, routing_key, options, arguments),
         Call::QueueDeclare {
             queue,
             options,
             arguments,
-        } => queue_declare(alloc, queue, options, arguments),
-        Call::QueueDelete { queue, options } => queue_delete(alloc, queue, options),
+        } => queue::declare(alloc, queue, options, arguments),
+        Call::QueueBind {
+            queue,
+            exchange,
+            routing_key,
+            options,
+            arguments,
+        } => queue::bind(alloc, queue, exchange, routing_key, options, arguments),
+        Call::QueuePurge { queue, options } => Ok(queue::purge(queue, options)),
+        Call::QueueDelete { queue, options } => queue::delete(alloc, queue, options),
+        Call::QueueUnbind {
+            queue,
+            exchange,
+            routing_key,
+            arguments,
+        } => queue::unbind(alloc, queue, exchange, routing_key, arguments),
         Call::BasicQos {
             prefetch_count,
             options,
-        } => {
-            let method = Method::Basic(BasicMethod::Qos {
-                prefetch_count,
-                global: options.global,
-            });
-            Ok(awaiting(method, Reply::BasicQosOk))
-        }
+        } => Ok(basic::qos(prefetch_count, options)),
         Call::BasicAck {
             delivery_tag,
             options,
-        } => {
-            let method = Method::Basic(BasicMethod::Ack {
-                delivery_tag,
-                multiple: options.multiple,
-            });
-            Ok(done_as_it_leaves(method))
-        }
-        Call::ConfirmSelect { options } => {
-            let method = Method::Confirm(ConfirmMethod::Select {
-                nowait: options.nowait,
-            });
-            Ok(unless_nowait(method, options.nowait, Reply::ConfirmSelectOk, Answer::Done))
-        }
-        Call::QueuePurge { queue, options } => {
-            let nowait = options.nowait;
-            let method = Method::Queue(QueueMethod::Purge { queue, nowait });
-            Ok(unless_nowait(method, nowait, Reply::QueuePurgeOk, Answer::Count(0)))
-        }
-        Call::TxSelect => Ok(awaiting(Method::Tx(TxMethod::Select), Reply::TxSelectOk)),
-        Call::TxCommit => Ok(awaiting(Method::Tx(TxMethod::Commit), Reply::TxCommitOk)),
+        } => Ok(basic::ack(delivery_tag, options)),
+        Call::BasicNack {
+            delivery_tag,
+            options,
+        } => Ok(basic::nack(delivery_tag, options)),
+        Call::BasicReject {
+            delivery_tag,
+            options,
+        } => Ok(basic::reject(delivery_tag, options)),
+        Call::BasicRecoverAsync { options } => Ok(basic::recover_async(options)),
+        Call::BasicRecover { options } => Ok(basic::recover(options)),
+        Call::ConfirmSelect { options } => Ok(confirm_select(options)),
+        Call::TxSelect => Ok(tx(TxMethod::Select, Reply::TxSelectOk)),
+        Call::TxCommit => Ok(tx(TxMethod::Commit, Reply::TxCommitOk)),
+        Call::TxRollback => Ok(tx(TxMethod::Rollback, Reply::TxRollbackOk)),
     }
 }
 
-fn exchange_bind(
-    alloc: Global,
-    destination: ShortString,
-    source: ShortString,
-    routing_key: ShortString,
-    options: ExchangeBindOptions,
-    arguments: FieldTable,
-) -> Result<Asked, NoMemory>
-    ensures { IfOk result (λ a. a ≡ asked (call.ExchangeBind destination source routing_key options arguments)) }
+/// Whether a method is `confirm.select`.
+pub fn is_select(method: &Method) -> bool
+    ensures { result ≡ is_select_lem method.now }
 {
-    let reply = Reply::ExchangeBindOk {
-        destination: destination.try_clone(alloc)?,
-        source: source.try_clone(alloc)?,
-        routing_key: routing_key.try_clone(alloc)?,
-        arguments: arguments.try_clone(alloc)?,
-    };
-    let method = Method::Exchange(ExchangeMethod::Bind {
-        destination,
-        source,
-        routing_key,
-        nowait: options.nowait,
-        arguments,
-    });
-    Ok(unless_nowait(method, options.nowait, reply, Answer::Done))
+    matches!(method, Method::Confirm(ConfirmMethod::Select { .. }))
 }
 
-fn queue_declare(
-    alloc: Global,
-    queue: ShortString,
-    options: QueueDeclareOptions,
-    arguments: FieldTable,
-) -> Result<Asked, NoMemory>
-    ensures { IfOk result (λ a. a ≡ asked (call.QueueDeclare queue options arguments)) }
+fn confirm_select(options: ConfirmSelectOptions) -> Asked
+    ensures { result ≡ asked (call.ConfirmSelect options) }
 {
-    let reply = Reply::QueueDeclareOk {
-        options,
-        arguments: arguments.try_clone(alloc)?,
-    };
-    let answer = Answer::Queue(Queue::new(queue.try_clone(alloc)?, 0, 0));
-    let method = Method::Queue(QueueMethod::Declare {
-        queue,
-        passive: options.passive,
-        durable: options.durable,
-        exclusive: options.exclusive,
-        auto_delete: options.auto_delete,
-        nowait: options.nowait,
-        arguments,
-    });
-    Ok(unless_nowait(method, options.nowait, reply, answer))
+    let nowait = options.nowait;
+    let method = Method::Confirm(ConfirmMethod::Select { nowait });
+    unless_nowait(method, nowait, Reply::ConfirmSelectOk, Answer::Done)
 }
 
-fn queue_delete(
-    alloc: Global,
-    queue: ShortString,
-    options: QueueDeleteOptions,
-) -> Result<Asked, NoMemory>
-    ensures { IfOk result (λ a. a ≡ asked (call.QueueDelete queue options)) }
+fn tx(method: TxMethod, reply: Reply) -> Asked
+    ensures { result ≡ awaiting_lem (method_.Tx method) reply }
 {
-    let reply = Reply::QueueDeleteOk {
-        queue: queue.try_clone(alloc)?,
-    };
-    let method = Method::Queue(QueueMethod::Delete {
-        queue,
-        if_unused: options.if_unused,
-        if_empty: options.if_empty,
-        nowait: options.nowait,
-    });
-    Ok(unless_nowait(method, options.nowait, reply, Answer::Count(0)))
+    awaiting(Method::Tx(method), reply)
 }
 
 // A call that awaits this reply.
-fn awaiting(method: Method, reply: Reply) -> Asked
+pub(crate) fn awaiting(method: Method, reply: Reply) -> Asked
     ensures { result ≡ awaiting_lem method reply }
 {
     Asked::Method(Row {
@@ -235,23 +205,30 @@ fn awaiting(method: Method, reply: Reply) -> Asked
 }
 
 // A call that awaits this reply, or without wait makes this answer itself.
-fn unless_nowait(method: Method, nowait: bool, reply: Reply, answer: Answer) -> Asked
+pub(crate) fn unless_nowait(method: Method, nowait: bool, reply: Reply, answer: Answer) -> Asked
     ensures { result ≡ unless_nowait_lem method nowait reply answer }
 {
     if nowait {
-        Asked::Method(Row {
-            method,
-            awaits: None,
-            made: Some(answer),
-            at_leaving: AtLeaving::Nothing,
-        })
+        answered_at_once(method, answer)
     } else {
         awaiting(method, reply)
     }
 }
 
+// A call that awaits no reply, and is answered as it is made.
+fn answered_at_once(method: Method, answer: Answer) -> Asked
+    ensures { result ≡ answered_at_once_lem method answer }
+{
+    Asked::Method(Row {
+        method,
+        awaits: None,
+        made: Some(answer),
+        at_leaving: AtLeaving::Nothing,
+    })
+}
+
 // A call that awaits no reply, and is done as its frame leaves.
-fn done_as_it_leaves(method: Method) -> Asked
+pub(crate) fn done_as_it_leaves(method: Method) -> Asked
     ensures { result ≡ done_as_it_leaves_lem method }
 {
     Asked::Method(Row {

@@ -1,10 +1,13 @@
 //! Closes of this side: the errors that they resolve with, and the methods that the session queues itself.
 //!
-//! The definitions stand in `specs/Closes.antt`; the session asks here.
+//! The definitions stand in `specs/`, with the rules of channel and connection closes, of settlements and of unexpected frames.
+//! The session asks here.
 
 ghost use Rattle.std.specs.Prelude.{◌≡◌, IfOk};
-ghost use Rattle.lapin_history.specs.Closes.{failed_at_close as failed_at_close_lem, failed_at_close_ok as failed_at_close_ok_lem, close_ok_end as close_ok_end_lem, settle_method as settle_method_lem, session_close as session_close_lem, unexpected_close as unexpected_close_lem};
-ghost use Rattle.lapin_history.specs.Phases.{after_broker_close as after_broker_close_lem, has_sent_close as has_sent_close_lem, close_sent as close_sent_lem, link_close_sent as link_close_sent_lem};
+ghost use Rattle.lapin_history.specs.ChannelClose.{failed_at_close as failed_at_close_lem, failed_at_close_ok as failed_at_close_ok_lem, close_ok_end as close_ok_end_lem, after_broker_close as after_broker_close_lem, has_sent_close as has_sent_close_lem, close_sent as close_sent_lem};
+ghost use Rattle.lapin_history.specs.ConnectionClose.{link_close_sent as link_close_sent_lem};
+ghost use Rattle.lapin_history.specs.Settlement.{settle_method as settle_method_lem, session_close as session_close_lem};
+ghost use Rattle.lapin_history.specs.Unexpected.{unexpected_close as unexpected_close_lem};
 
 use crate::marks::SettleKind;
 use crate::phases::{Closer, Link, Phase};

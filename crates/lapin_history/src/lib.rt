@@ -1,8 +1,8 @@
 //! What a history says: the definitions that every contract above cites.
 //!
-//! Here live the words for what happened (marks), the readings of tags, outcomes and answers, the states and lists that a
-//! history comes to, and the records that it determines. No state lives here and no fast code: the few plain functions read
-//! a list of marks from its start each time, and serve tests.
+//! Here live the rules: the words for what happened (marks), the readings of tags, outcomes and answers, the states and lists
+//! that a history comes to, and the records that it determines; beside them the plain functions by which a session asks a
+//! rule. No state lives here.
 #![tactic(auto)]
 
 pub mod broker_frames;
@@ -16,7 +16,7 @@ pub use broker_frames::{
     Incoming, class_of, hears, hears_close, hears_close_ok, hears_down, hears_on, is_kind,
     method_of, opens, sort_frame,
 };
-pub use calls::{Asked, Row, is_allowed, sort_call};
+pub use calls::{Asked, Row, is_allowed, is_select, sort_call};
 pub use closes::{
     after_broker_close, close_ok_end, close_sent, failed_at_close, has_sent_close, link_close_sent,
     session_close, unexpected_close,

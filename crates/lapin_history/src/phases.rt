@@ -1,7 +1,7 @@
 //! Where the connection and its channels stand between their opens and closes.
 //!
 //! Plain data: a state as a caller sees it, and beside it what the rules of closing ask of the past (who closed, whether
-//! the close has left). The moves stand in `specs/Base.antt`.
+//! the close has left). The moves stand in `specs/`, each with its rule.
 
 ghost use Rattle.std.specs.Prelude.{◌≡◌};
 ghost use Rattle.lapin_history.specs.Phases.{is_live as is_live_lem, is_paused as is_paused_lem, is_up as is_up_lem, channel_state, connection_state};

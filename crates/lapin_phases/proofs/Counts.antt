@@ -7,7 +7,7 @@ use Rattle.lapin_history.specs.declared.phases.Phase.{Phase}
 use Rattle.lapin_history.specs.declared.phases.Phase.TheVariants as phase
 use Rattle.lapin_history.specs.Words.{is_some, with_channel}
 use Rattle.lapin_history.specs.Phases.{is_paused, phase_in}
-use Rattle.lapin_history.specs.Base.{is_paused_on}
+use Rattle.lapin_history.specs.Flow.{is_paused_on}
 
 abbrev pub one : Bool → ℕ
 one b = cond b 1 0

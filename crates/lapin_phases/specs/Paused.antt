@@ -1,7 +1,7 @@
 -- How many channels are open and paused.
 use Rattle.std.specs.Prelude.{ℕ, suc, if◌then◌else◌, List, [], ◌∷◌}
 use Rattle.lapin_history.specs.declared.phases.Phase.{Phase}
-use Rattle.lapin_history.specs.Base.{is_paused_on}
+use Rattle.lapin_history.specs.Flow.{is_paused_on}
 
 abbrev pub paused_among : List (ℕ × Phase) → ℕ
 paused_among [] = 0

@@ -3,12 +3,13 @@
 //! The number stands beside the table, so that a frame request costs the same with one channel and with sixty thousand.
 #![tactic(auto)]
 
-ghost use Rattle.std.specs.Prelude.{◌≡◌, ◌+◌, ◌<◌, ◌≤◌, ◌^◌, true, [], None, OnOk, if◌then◌else◌};
+ghost use Rattle.std.specs.Prelude.{◌≡◌, ◌+◌, ◌<◌, ◌≤◌, ◌^◌, true, [], Some, None, OnOk, if◌then◌else◌};
 ghost use Rattle.std.specs.List.{list_any};
 ghost use Rattle.lapin_tables.specs.ByChannel.{at_channel, HasRoom};
 ghost use Rattle.lapin_history.specs.Words.{with_channel};
-ghost use Rattle.lapin_history.specs.Phases.{phase_in};
-ghost use Rattle.lapin_history.specs.Base.{is_paused_on};
+ghost use Rattle.lapin_history.specs.Phases.{phase_in, is_live};
+ghost use Rattle.lapin_history.specs.Ends.{live_below, live_channels};
+ghost use Rattle.lapin_history.specs.Flow.{is_paused_on};
 
 use lapin_history::Phase;
 use lapin_tables::ByChannel;
@@ -59,11 +60,36 @@ impl Phases {
         }
     }
 
+    /// Above every channel that was opened. With `live_at` it leads through the live openings in rising number of their channel.
+    pub fn reach(&self) -> usize
+        ensures { live_below result self.now.entries ≡ live_channels self.now.entries }
+    {
+        self.table.reach()
+    }
+
+    /// The channel of this number, if its opening is live.
+    pub fn live_at(&self, number: usize) -> Option<u16>
+        ensures { result ≡ (if is_live (phase_in (at_channel number self.now.entries)) then Some number else None) }
+    {
+        match self.table.entry_at(number) {
+            Some((channel, phase)) if phase.is_live() => Some(*channel),
+            _ => None,
+        }
+    }
+
     /// Whether an open channel is paused.
     pub fn is_any_paused(&self) -> bool
         ensures { result ≡ list_any is_paused_on self.now.entries }
     {
         self.paused > 0
+    }
+
+    /// No channel is open any more, or opening or closing.
+    pub fn clear(&mut self)
+        ensures { self.new.entries ≡ [] }
+    {
+        self.table.clear();
+        self.paused = 0;
     }
 
     /// Makes room for `set` on a channel.

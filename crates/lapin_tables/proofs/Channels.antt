@@ -61,6 +61,10 @@ module _ {T : Type 0} where
         | false ↦ λ h. absent c es (nowhere-later (place_of c es) h)
       ] h
 
+  -- the pair that stands at a channel's place
+  pub entry-found : (c p : ℕ) (es : List (ℕ × T)) → Stands c p es → (d : ℕ × T) → Some (get_or es p d) ≡ option_map (λ v. (c, v)) (at_channel c es)
+  entry-found c p es s d = ap (λ k. Some (k, (get_or es p d).1)) (s.channel d) ∙ sym (ap (option_map (λ v. (c, v))) (s.value d))
+
   pub unplaced : (c : ℕ) (es : List (ℕ × T)) → at_channel c es ≡ None → place_of c es ≡ None
   unplaced c [] h = refl
   unplaced c (e ∷ es) h =

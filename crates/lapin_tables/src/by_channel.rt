@@ -3,8 +3,8 @@
 //! The values stand in order of first use. An index by channel number stands beside them, so that a look-up costs the
 //! same with one channel and with sixty thousand. No other file knows of the index.
 
-ghost use Rattle.std.specs.Prelude.{◌≡◌, ◌+◌, ◌≤◌, ◌<◌, ◌∷◌, ◌++◌, [], OnOk, OnErr, IsOk, IfSome, IfNone, None, Some, slice_get};
-ghost use Rattle.std.specs.Option.{option_copied, option_copied_mut, option_flatten};
+ghost use Rattle.std.specs.Prelude.{◌≡◌, ℕ, ◌+◌, ◌≤◌, ◌<◌, ◌∷◌, ◌++◌, [], OnOk, OnErr, IsOk, IfSome, IfNone, None, Some, slice_get};
+ghost use Rattle.std.specs.Option.{option_copied, option_copied_mut, option_flatten, option_map};
 ghost use Rattle.std.specs.Borrow.{sem};
 ghost use Rattle.lapin_tables.specs.ByChannel.{Table, at_channel, on_channel, HasRoom, SameEntries};
 ghost use Rattle.lapin_tables.specs.Lends.{LendsValue, LendsFound};
@@ -78,11 +78,34 @@ impl<T> ByChannel<T> {
         }
     }
 
+    /// Above every channel that has a value. With `entry_at` it leads through the channels in rising number.
+    pub fn reach(&self) -> usize
+        ensures { (c : ℕ) → result ≤ c → at_channel c self.now.entries ≡ None }
+    {
+        self.places.len()
+    }
+
+    /// The channel of this number with its value, if it has one.
+    pub fn entry_at(&self, number: usize) -> Option<&(u16, T)>
+        ensures { option_copied result ≡ option_map (λ value. (number, value)) (at_channel number self.now.entries) }
+    {
+        match self.place_at(number) {
+            Some(place) => Some(&self.entries[place]),
+            None => None,
+        }
+    }
+
     // The place of a channel's entry, if it has one.
     fn place(&self, channel: u16) -> Option<usize>
         ensures { result ≡ place_of channel self.now.entries }
     {
-        match self.places.get(usize::from(channel)) {
+        self.place_at(usize::from(channel))
+    }
+
+    fn place_at(&self, number: usize) -> Option<usize>
+        ensures { result ≡ place_of number self.now.entries }
+    {
+        match self.places.get(number) {
             Some(place) => *place,
             None => None,
         }
@@ -126,6 +149,14 @@ impl<T> ByChannel<T> {
 }
 
 impl<T: Drop> ByChannel<T> {
+    /// Lets every channel go with its value.
+    pub fn clear(&mut self)
+        ensures { self.new.entries ≡ [] }
+    {
+        self.entries.clear();
+        self.places.clear();
+    }
+
     /// Gives a channel that has no value its first one. The entries stay where there is no memory, and `value` is gone.
     pub fn insert(&mut self, channel: u16, value: T) -> Result<(), AllocError>
         requires { at_channel channel self.old.entries ≡ None }

@@ -1,7 +1,7 @@
 use Rattle.std.proofs.Common.{◌≡◌, ◌∙◌, ℕ, nat_lt, List, sym, ap}
 use Rattle.lapin_tables.specs.ByChannel.{Table}
 use Rattle.lapin_history.specs.declared.phases.Phase.{Phase}
-use Rattle.lapin_history.specs.Base.{is_paused_on}
+use Rattle.lapin_history.specs.Flow.{is_paused_on}
 use Rattle.std.specs.List.{list_any}
 use Rattle.lapin_phases.proofs.Counts.{any-paused}
 use Rattle.lapin_phases.proofs.Phases.is_any_paused.Goals as goal

@@ -3,7 +3,7 @@ use Rattle.lapin_tables.specs.ByChannel.{Table, at_channel}
 use Rattle.lapin_history.specs.declared.phases.Phase.{Phase}
 use Rattle.lapin_history.specs.Words.{with_channel}
 use Rattle.lapin_history.specs.Phases.{is_paused, phase_in}
-use Rattle.lapin_history.specs.Base.{is_paused_on}
+use Rattle.lapin_history.specs.Flow.{is_paused_on}
 use Rattle.lapin_phases.proofs.Counts.{one, paused, recount, was-some, bounded, counted}
 use Rattle.lapin_phases.proofs.Phases.set.Goals as goal
 

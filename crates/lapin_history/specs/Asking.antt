@@ -1,0 +1,110 @@
+-- A call: when it is allowed, its record, what it leaves, and its marks. All of this goes by what the call is in the table of calls.
+use Rattle.std.specs.Prelude.{ℕ, ◌+◌, Bool, if◌then◌else◌, List, [], ◌∷◌, ◌++◌, Option, Some, None, Ok}
+use Rattle.lapin_types.specs.Types.{ChannelState, Record, Answer}
+use Rattle.lapin_types.specs.Types.record_
+use Rattle.lapin_types.specs.Types.error
+use Rattle.lapin_history.specs.declared.marks.AtLeaving.{AtLeaving}
+use Rattle.lapin_history.specs.declared.marks.AtLeaving.TheVariants as leaving
+use Rattle.lapin_history.specs.declared.phases.Closer.TheVariants as closer
+use Rattle.lapin_history.specs.declared.calls.Row.{Row}
+use Rattle.lapin_history.specs.declared.calls.Asked.{Asked}
+use Rattle.lapin_history.specs.declared.calls.Asked.TheVariants as ask
+use Rattle.lapin_history.specs.ConfirmMarks.{ConfirmMark}
+use Rattle.lapin_history.specs.ConfirmMarks as mark
+use Rattle.lapin_history.specs.TicketReadings.{TicketMark}
+use Rattle.lapin_history.specs.TicketReadings as ticket
+use Rattle.lapin_history.specs.Base.{Base, state_of, is_closed, is_base, is_open, queued}
+use Rattle.lapin_history.specs.Opening.{after_open_call, open_marks}
+use Rattle.lapin_history.specs.ChannelClose.{after_close_call, close_marks, close_tickets}
+use Rattle.lapin_history.specs.ConnectionClose.{after_connection_close_call, connection_close_call_marks, connection_close_call_tickets}
+use Rattle.lapin_history.specs.Select.{queued_marks}
+
+-- `channel.open` is allowed on a closed channel, `connection.close` on channel 0 of an open connection, every other call on an
+-- open channel
+abbrev pub is_allowed : Asked → ChannelState → Bool
+is_allowed ask.Open s = is_closed s
+is_allowed (ask.CloseConnection code text) s = is_base s
+is_allowed _ s = is_open s
+
+-- ---- its record
+
+-- an accepted call is answered by the next ticket number, a publish also by the next confirm number
+abbrev pub accepted_record : Asked → Base → Record
+accepted_record (ask.Publish exchange key o payload properties) b = record_.Publish (b.tickets + 1) (b.published + 1)
+accepted_record _ b = record_.Ticket (b.tickets + 1)
+
+-- one that is not allowed is refused with the state of its channel
+abbrev pub call_record : ℕ → Asked → Base → Record
+call_record c k b =
+    if is_allowed k (state_of c b)
+    then accepted_record k b
+    else record_.Refused (error.InvalidChannelState (state_of c b))
+
+-- ---- what it leaves
+
+-- an accepted call queues its method, a publish joins the publishes
+abbrev pub after_call : ℕ → Asked → Base → Base
+after_call c ask.Open b = after_open_call c b
+after_call c (ask.CloseChannel code text) b = after_close_call c code text b
+after_call c (ask.CloseConnection code text) b = after_connection_close_call c code text b
+after_call c (ask.Method row) b = queued c row.method row.awaits b
+after_call c (ask.Publish exchange key o payload properties) b = record b {
+  publishes = b.publishes ++ record {
+    confirm = b.published + 1;
+    ticket = b.tickets + 1;
+    channel = c;
+    exchange = exchange;
+    routing_key = key;
+    options = o;
+    payload = payload;
+    properties = properties;
+  } ∷ [];
+  tickets = b.tickets + 1;
+  published = b.published + 1;
+}
+
+-- one that is not allowed changes nothing
+abbrev pub after_asking : ℕ → Asked → Base → Base
+after_asking c k b = if is_allowed k (state_of c b) then after_call c k b else b
+
+-- ---- confirms
+
+abbrev pub call_marks : ℕ → Asked → Base → List ConfirmMark
+call_marks c ask.Open b = open_marks c
+call_marks c (ask.CloseChannel code text) b = close_marks c closer.Application
+call_marks c (ask.CloseConnection code text) b = connection_close_call_marks b
+call_marks c (ask.Publish exchange key o payload properties) b = mark.Added c ∷ []
+call_marks c (ask.Method row) b = queued_marks c row.method
+
+abbrev pub asking_marks : ℕ → Asked → Base → List ConfirmMark
+asking_marks c k b = if is_allowed k (state_of c b) then call_marks c k b else []
+
+-- ---- tickets
+
+-- a close rejects or fails older tickets first
+abbrev pub closing_tickets : ℕ → Asked → List TicketMark
+closing_tickets c (ask.CloseChannel code text) = close_tickets c closer.Application
+closing_tickets c (ask.CloseConnection code text) = connection_close_call_tickets
+closing_tickets c _ = []
+
+-- the answer that the leaving of its last frame gives: of a publish, its confirm's number
+abbrev pub leaving_answer : Asked → Base → AtLeaving
+leaving_answer (ask.Publish exchange key o payload properties) b = leaving.Confirm (b.published + 1)
+leaving_answer (ask.Method row) b = row.at_leaving
+leaving_answer _ b = leaving.Nothing
+
+-- the answer that it makes itself: that of a call without wait
+abbrev pub made_answer : Asked → Option Answer
+made_answer (ask.Method row) = row.made
+made_answer _ = None
+
+abbrev pub made_marks : ℕ → Option Answer → List TicketMark
+made_marks n None = []
+made_marks n (Some a) = ticket.Answered n (Ok a) ∷ []
+
+-- the next ticket is given, and answered where the call makes its answer itself
+abbrev pub call_tickets : ℕ → Asked → Base → List TicketMark
+call_tickets c k b = closing_tickets c k ++ (ticket.Given c (leaving_answer k b) ∷ made_marks (b.tickets + 1) (made_answer k))
+
+abbrev pub asking_tickets : ℕ → Asked → Base → List TicketMark
+asking_tickets c k b = if is_allowed k (state_of c b) then call_tickets c k b else []

@@ -1,0 +1,69 @@
+-- A frame request: the frame that leaves is its record, and what its leaving does to lists, states, confirms and tickets.
+use Rattle.std.specs.Prelude.{ℕ, Bool, true, false, List, [], ◌∷◌, ◌++◌, Option, Some, None}
+use Rattle.lapin_types.specs.Types.{Frame, Left, Record}
+use Rattle.lapin_types.specs.Types.record_
+use Rattle.lapin_types.specs.Types.frame
+use Rattle.lapin_history.specs.ConfirmMarks.{ConfirmMark}
+use Rattle.lapin_history.specs.ConfirmMarks as mark
+use Rattle.lapin_history.specs.TicketReadings.{TicketMark}
+use Rattle.lapin_history.specs.TicketReadings as ticket
+use Rattle.lapin_history.specs.Drops.{frame_channel}
+use Rattle.lapin_history.specs.Leaving.{handed_of, left_lists}
+use Rattle.lapin_history.specs.Base.{Base, lists_of, with_lists}
+use Rattle.lapin_history.specs.ChannelClose.{phases_sent}
+use Rattle.lapin_history.specs.ConnectionClose.{link_sent}
+use Rattle.lapin_history.specs.Flow.{may_begin}
+use Rattle.lapin_history.specs.Select.{method_marks}
+
+-- what leaves, where t tells whether a publish may begin
+abbrev pub handed_out : Bool → Base → Option Left
+handed_out t b = handed_of t b.rest b.methods b.publishes
+
+abbrev pub handed : Bool → Base → Option Left
+handed flow b = handed_out (may_begin flow b) b
+
+abbrev pub frame_record : Option Left → Record
+frame_record None = record_.NoFrame
+frame_record (Some l) = record_.Frame l.frame
+
+-- ---- what it leaves
+
+-- a close of this side is known to have left
+abbrev pub sent : Option Left → Base → Base
+sent None b = b
+sent (Some l) b = record b { link = link_sent l.frame b.link; phases = phases_sent l.frame b.phases }
+
+abbrev pub after_handing : Bool → Base → Base
+after_handing t b = sent (handed_out t b) (with_lists (left_lists b.frame_max t (lists_of b)) b)
+
+abbrev pub after_next : Bool → Base → Base
+after_next flow b = after_handing (may_begin flow b) b
+
+-- ---- confirms: a method leaves, a publish begins, or a frame behind its method leaves
+
+abbrev pub frame_marks : Frame → List ConfirmMark
+frame_marks (frame.Method c m) = method_marks c m
+frame_marks _ = []
+
+abbrev pub entry_marks : Frame → Option ℕ → Bool → List ConfirmMark
+entry_marks f None first = frame_marks f
+entry_marks f (Some n) true = mark.Left (frame_channel f) n ∷ []
+entry_marks f (Some n) false = []
+
+abbrev pub left_marks : Option Left → List ConfirmMark
+left_marks None = []
+left_marks (Some l) = entry_marks l.frame l.publish l.first
+
+-- ---- tickets: the first frame of a publish leaves, or the last one of a call
+
+abbrev pub begun_ticket : Bool → Option ℕ → Option ℕ → List TicketMark
+begun_ticket true (Some t) (Some n) = ticket.Begun t ∷ []
+begun_ticket _ _ _ = []
+
+abbrev pub last_ticket : Bool → Option ℕ → List TicketMark
+last_ticket true (Some t) = ticket.LastLeft t ∷ []
+last_ticket _ _ = []
+
+abbrev pub left_tickets : Option Left → List TicketMark
+left_tickets None = []
+left_tickets (Some l) = begun_ticket l.first l.ticket l.publish ++ last_ticket l.last l.ticket

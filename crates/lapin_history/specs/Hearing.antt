@@ -1,0 +1,112 @@
+-- A frame of the broker: when it is heard, its record, what it leaves, and its marks. All of this goes by what the frame is to its
+-- channel.
+use Rattle.std.specs.Prelude.{ℕ, Bool, if◌then◌else◌, List, []}
+use Rattle.lapin_types.specs.Types.{Record, Error}
+use Rattle.lapin_types.specs.Types.record_
+use Rattle.lapin_types.specs.Types.error
+use Rattle.lapin_history.specs.declared.broker_frames.Incoming.{Incoming}
+use Rattle.lapin_history.specs.declared.broker_frames.Incoming.TheVariants as incoming
+use Rattle.lapin_history.specs.ConfirmMarks.{ConfirmMark}
+use Rattle.lapin_history.specs.TicketReadings.{TicketMark}
+use Rattle.lapin_history.specs.Phases.{is_up}
+use Rattle.lapin_history.specs.Sight.{Sight}
+use Rattle.lapin_history.specs.Base.{Base, state_of, phase_of, hears_on}
+use Rattle.lapin_history.specs.ChannelClose.{hears_close, hears_close_ok, after_channel_close, after_close_ok, broker_close_marks, close_ok_marks, broker_close_tickets, close_ok_tickets}
+use Rattle.lapin_history.specs.ConnectionClose.{hears_down, after_connection_close, after_connection_close_ok, connection_close_marks, connection_close_tickets, connection_close_ok_tickets}
+use Rattle.lapin_history.specs.Unexpected.{after_unexpected, unexpected_marks, unexpected_tickets}
+use Rattle.lapin_history.specs.Settlement.{settlement_record, settlement_marks, after_failed_on, failed_marks_on, failed_tickets_on}
+use Rattle.lapin_history.specs.Reply.{hears_reply, after_reply, reply_tickets}
+use Rattle.lapin_history.specs.Flow.{after_flow}
+
+-- ---- its record: received, passed over, or refused, where r is the refusal
+
+abbrev pub when : Bool → Record → Record
+when b r = if b then record_.Received else r
+
+-- while the connection is open
+abbrev pub heard_up : Base → Sight → Record → Incoming → Record
+heard_up b see r (incoming.Reply c k a) = when (hears_reply c k b) r
+heard_up b see r (incoming.Settlement c s) = if hears_on (state_of c b) then settlement_record see c s else r
+heard_up b see r (incoming.Flow c active) = when (hears_on (state_of c b)) r
+heard_up b see r (incoming.ChannelClose c code) = when (hears_close (state_of c b)) r
+heard_up b see r (incoming.ChannelCloseOk c) = when (hears_close_ok (state_of c b)) r
+heard_up b see r (incoming.ConnectionClose code) = record_.Received
+heard_up b see r incoming.ConnectionCloseOk = r
+heard_up b see r incoming.Other = r
+
+-- once it is not, a frame is passed over, but for two while it is closing
+abbrev pub heard_record : Base → Sight → Record → Incoming → Record
+heard_record b see r i = if is_up b.link then heard_up b see r i else (if hears_down b.link i then record_.Received else record_.Passed)
+
+-- ---- what it leaves, by its record; one that is passed over changes nothing
+
+abbrev pub after_received : Incoming → Base → Base
+after_received (incoming.Reply c k a) b = after_reply c k b
+after_received (incoming.Flow c active) b = after_flow c active b
+after_received (incoming.Settlement c s) b = b
+after_received (incoming.ChannelClose c code) b = after_channel_close c (phase_of c b) b
+after_received (incoming.ChannelCloseOk c) b = after_close_ok c (phase_of c b) b
+after_received (incoming.ConnectionClose code) b = after_connection_close b.link b
+after_received incoming.ConnectionCloseOk b = after_connection_close_ok b
+after_received incoming.Other b = b
+
+abbrev pub after_failed : Incoming → Base → Base
+after_failed (incoming.Settlement c s) b = after_failed_on c s b
+after_failed _ b = b
+
+abbrev pub after_refused : Incoming → Error → Base → Base
+after_refused i (error.UnexpectedFrame class number) b = after_unexpected class number b
+after_refused i (error.PreconditionFailed tag current) b = after_failed i b
+after_refused i _ b = b
+
+abbrev pub after_heard : Incoming → Record → Base → Base
+after_heard i (record_.Refused e) b = after_refused i e b
+after_heard i record_.Received b = after_received i b
+after_heard i _ b = b
+
+-- ---- confirms
+
+abbrev pub received_marks : Incoming → Base → List ConfirmMark
+received_marks (incoming.Settlement c s) b = settlement_marks c s
+received_marks (incoming.ChannelClose c code) b = broker_close_marks c code
+received_marks (incoming.ChannelCloseOk c) b = close_ok_marks c b
+received_marks (incoming.ConnectionClose code) b = connection_close_marks code b
+received_marks _ b = []
+
+abbrev pub failed_marks : Incoming → Base → List ConfirmMark
+failed_marks (incoming.Settlement c s) b = failed_marks_on c b
+failed_marks _ b = []
+
+abbrev pub refused_marks : Incoming → Error → Base → List ConfirmMark
+refused_marks i (error.UnexpectedFrame class number) b = unexpected_marks b
+refused_marks i (error.PreconditionFailed tag current) b = failed_marks i b
+refused_marks i _ b = []
+
+abbrev pub heard_marks : Incoming → Record → Base → List ConfirmMark
+heard_marks i (record_.Refused e) b = refused_marks i e b
+heard_marks i record_.Received b = received_marks i b
+heard_marks i _ b = []
+
+-- ---- tickets
+
+abbrev pub received_tickets : Incoming → Base → List TicketMark
+received_tickets (incoming.Reply c k a) b = reply_tickets c k a b
+received_tickets (incoming.ChannelClose c code) b = broker_close_tickets c code b
+received_tickets (incoming.ChannelCloseOk c) b = close_ok_tickets c b
+received_tickets (incoming.ConnectionClose code) b = connection_close_tickets b.link code
+received_tickets incoming.ConnectionCloseOk b = connection_close_ok_tickets b
+received_tickets _ b = []
+
+abbrev pub failed_tickets : Incoming → Base → List TicketMark
+failed_tickets (incoming.Settlement c s) b = failed_tickets_on c b
+failed_tickets _ b = []
+
+abbrev pub refused_tickets : Incoming → Error → Base → List TicketMark
+refused_tickets i (error.UnexpectedFrame class number) b = unexpected_tickets
+refused_tickets i (error.PreconditionFailed tag current) b = failed_tickets i b
+refused_tickets i _ b = []
+
+abbrev pub heard_tickets : Incoming → Record → Base → List TicketMark
+heard_tickets i (record_.Refused e) b = refused_tickets i e b
+heard_tickets i record_.Received b = received_tickets i b
+heard_tickets i _ b = []

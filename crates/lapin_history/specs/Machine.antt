@@ -1,0 +1,74 @@
+-- The wire machine: the part of a trace that states, lists and confirms determine, and when a trace is the machine's. It says
+-- nothing of what the broker's data brings in: the answers that carry it are left out, and so are returned messages.
+use Rattle.std.specs.Prelude.{◌≡◌, ℕ, Bool, true, false, if◌then◌else◌, List, [], ◌∷◌, ◌++◌, Option, Some, None, Result, Ok}
+use Rattle.lapin_types.specs.Types.{Event, Record, Call}
+use Rattle.lapin_types.specs.Types.event
+use Rattle.lapin_types.specs.Types.record_
+use Rattle.lapin_types.specs.Types.call
+use Rattle.lapin_types.specs.Types.confirmation
+use Rattle.lapin_history.specs.Words.{nth}
+use Rattle.lapin_history.specs.History.{History, rec}
+
+-- ---- which tickets are the machine's
+
+-- the record gives a ticket
+abbrev pub is_ticket : Record → Bool
+is_ticket (record_.Ticket t) = true
+is_ticket (record_.Publish t n) = true
+is_ticket _ = false
+
+abbrev pub has_ticket : Event × Record → Bool
+has_ticket x = is_ticket x.1
+
+-- the event that was given ticket n: tickets are numbered from 1 in the order in which they are given
+abbrev pub given_by : ℕ → History → Option (Event × Record)
+given_by n h = nth has_ticket n h
+
+-- the machine knows the answers of opens, of closes of a channel or of the connection, of `confirm.select` and of publishes
+abbrev pub is_known : Call → Bool
+is_known call.OpenChannel = true
+is_known (call.ChannelClose code text) = true
+is_known (call.ConnectionClose code text) = true
+is_known (call.ConfirmSelect o) = true
+is_known (call.BasicPublish exchange key o payload properties) = true
+is_known _ = false
+
+abbrev pub is_known_call : Event → Bool
+is_known_call (event.Call c k) = is_known k
+is_known_call _ = false
+
+-- the ticket is of such a call, or was never given
+abbrev pub is_known_in : Option (Event × Record) → Bool
+is_known_in None = true
+is_known_in (Some x) = is_known_call x.0
+
+-- ---- kept records
+
+-- an outcome without its returned message
+abbrev pub without_message : Record → Record
+without_message (record_.Confirmed (Ok (confirmation.Ack m))) = record_.Confirmed (Ok (confirmation.Ack None))
+without_message (record_.Confirmed (Ok (confirmation.Nack m))) = record_.Confirmed (Ok (confirmation.Nack None))
+without_message r = r
+
+abbrev pub kept_of_ticket : ℕ → History → Record → Option Record
+kept_of_ticket n h r = if is_known_in (given_by n h) then Some r else None
+
+-- what the machine keeps of the record of an event after a history: all of it, but for a returned message, and nothing of the
+-- polls of a ticket that it does not know
+abbrev pub kept : History → Event → Record → Option Record
+kept h (event.PollTicket n) r = kept_of_ticket n h r
+kept h (event.AsideTicket n) r = kept_of_ticket n h r
+kept h (event.PollConfirm n) r = Some (without_message r)
+kept h _ r = Some r
+
+-- ---- traces
+
+-- each record is kept as the history of the records before it says
+abbrev pub GoesOn : ℕ → History → List Event → List Record → Type 0
+GoesOn frame_max h [] [] = Unit {0}
+GoesOn frame_max h (e ∷ es) (r ∷ rs) = (kept h e r ≡ kept h e (rec frame_max h e)) × GoesOn frame_max (h ++ (e, r) ∷ []) es rs
+GoesOn frame_max h _ _ = ⊥
+
+-- the trace is the machine's for these events: one record an event, and its kept records are the machine's
+abbrev pub IsTheMachines : ℕ → List Event → List Record → Type 0
+IsTheMachines frame_max es rs = GoesOn frame_max [] es rs

@@ -1,0 +1,31 @@
+-- An opening of a channel begins: the call `channel.open`, and the broker's `channel.open-ok` (AMQP 0-9-1, channel class).
+use Rattle.std.specs.Prelude.{ℕ, Bool, true, false, if◌then◌else◌, List, [], ◌∷◌, Some}
+use Rattle.lapin_types.specs.Types.{ChannelState, ReplyKind}
+use Rattle.lapin_types.specs.Types.method
+use Rattle.lapin_types.specs.Types.channel
+use Rattle.lapin_types.specs.Types.reply
+use Rattle.lapin_types.specs.Types.reply_kind
+use Rattle.lapin_history.specs.declared.phases.Phase.{Phase}
+use Rattle.lapin_history.specs.declared.phases.Phase.TheVariants as phase
+use Rattle.lapin_history.specs.ConfirmMarks.{ConfirmMark}
+use Rattle.lapin_history.specs.ConfirmMarks as mark
+use Rattle.lapin_history.specs.Words.{with_channel}
+use Rattle.lapin_history.specs.Base.{Base, queued}
+
+-- ---- the call: an opening begins on a closed channel
+
+abbrev pub after_open_call : ℕ → Base → Base
+after_open_call c b = record (queued c (method.Channel channel.Open) (Some reply.ChannelOpenOk) b) { phases = with_channel c phase.Opening b.phases }
+
+abbrev pub open_marks : ℕ → List ConfirmMark
+open_marks c = mark.Begun c ∷ []
+
+-- ---- the broker's `channel.open-ok`: of all replies it alone is heard on an opening channel, and opens it
+
+abbrev pub opens : ReplyKind → Bool
+opens reply_kind.ChannelOpenOk = true
+opens _ = false
+
+-- a new opening is not paused
+abbrev pub phases_with : ℕ → ReplyKind → List (ℕ × Phase) → List (ℕ × Phase)
+phases_with c k all = if opens k then with_channel c (phase.Open false) all else all

@@ -1,0 +1,35 @@
+-- A frame of the broker that is not heard closes the connection, and every opening ends (AMQP 0-9-1, reply code 505).
+use Rattle.std.specs.Prelude.{ℕ, codes, List, [], ◌∷◌}
+use Rattle.lapin_types.specs.Types.{Method, Error, Record}
+use Rattle.lapin_types.specs.Types.record_
+use Rattle.lapin_types.specs.Types.method
+use Rattle.lapin_types.specs.Types.connection
+use Rattle.lapin_types.specs.Types.error
+use Rattle.lapin_history.specs.declared.phases.Link.TheVariants as link
+use Rattle.lapin_history.specs.ConfirmMarks.{ConfirmMark}
+use Rattle.lapin_history.specs.TicketReadings.{TicketMark}
+use Rattle.lapin_history.specs.TicketReadings as ticket
+use Rattle.lapin_history.specs.Base.{Base, noted}
+use Rattle.lapin_history.specs.Ends.{down, ends_all}
+
+-- it is refused with its class and method
+abbrev pub refused : ℕ → ℕ → Record
+refused class number = record_.Refused (error.UnexpectedFrame class number)
+
+-- what is unresolved fails with this
+abbrev pub failed_at_unexpected : Error
+failed_at_unexpected = error.ProtocolError 505
+
+-- the close names the class and method of the frame
+abbrev pub unexpected_close : ℕ → ℕ → Method
+unexpected_close class number = method.Connection (connection.Close 505 (codes "UNEXPECTED_FRAME") class number)
+
+-- all that waits is dropped before it is queued
+abbrev pub after_unexpected : ℕ → ℕ → Base → Base
+after_unexpected class number b = noted 0 (unexpected_close class number) (down (link.Closing false false) b)
+
+abbrev pub unexpected_marks : Base → List ConfirmMark
+unexpected_marks b = ends_all failed_at_unexpected b
+
+abbrev pub unexpected_tickets : List TicketMark
+unexpected_tickets = ticket.AllFailed failed_at_unexpected ∷ []
