@@ -1,32 +1,38 @@
 -- What the ends of the live openings make of confirms, one by one.
-use Rattle.std.proofs.Common.{◌≡◌, ℕ, ◌+◌, ◌<◌, true, false, List, ◌∷◌, length, drop, sym, ◌∙◌, ap, add-one, drop-cons, get_or}
-use Rattle.std.specs.Bool.{if◌then◌else◌}
+use Rattle.std.proofs.Common.{◌≡◌, ℕ, ◌+◌, Bool, true, false, cond, List, [], ◌∷◌, ◌++◌, Option, Some, None, refl, sym, ◌∙◌, ap}
 use Rattle.std.specs.List.{fold}
 use Rattle.lapin_types.specs.declared.Error.{Error}
+use Rattle.lapin_tables.specs.ByChannel.{at_channel}
 use Rattle.lapin_history.specs.declared.phases.Phase.{Phase}
-use Rattle.lapin_history.specs.declared.phases.Phase.TheVariants as phase
+use Rattle.lapin_history.specs.ConfirmMarks.{ConfirmMark}
 use Rattle.lapin_history.specs.ConfirmMarks as mark
-use Rattle.lapin_history.specs.Phases.{is_live}
-use Rattle.lapin_history.specs.Marked.{ends}
+use Rattle.lapin_history.specs.Phases.{is_live, phase_in}
+use Rattle.lapin_history.specs.Ends.{ends, live_below}
+use Rattle.lapin_history.proofs.EndLaws.{live-next}
 use Rattle.lapin_confirm.specs.Book.{Book, ended, after_mark}
+use Rattle.lapin_desk.specs.Live.{live_at}
 
--- ---- the live openings end, one by one
+pub ends-join : (e : Error) (xs ys : List ℕ) (b : Book) → fold after_mark b (ends e (xs ++ ys)) ≡ fold after_mark (fold after_mark b (ends e xs)) (ends e ys)
+ends-join e [] ys b = refl
+ends-join e (x ∷ xs) ys b = ends-join e xs ys (ended x e b)
 
-abbrev closed : ℕ × Phase
-closed = (0, phase.Closed)
+-- the channel of one more number
+pub ends-next : (e : Error) (n : ℕ) (all : List (ℕ × Phase)) (start b after : Book) → b ≡ fold after_mark start (ends e (live_below n all)) → after ≡ fold after_mark b (ends e (live_at n all)) → after ≡ fold after_mark start (ends e (live_below (n + 1) all))
+ends-next e n all start b after before is =
+    is
+    ∙ ap (λ x. fold after_mark x (ends e (live_at n all))) before
+    ∙ sym (ends-join e (live_below n all) (live_at n all) start)
+    ∙ ap (λ cs. fold after_mark start (ends e cs)) (sym (live-next n all))
 
-ends-from : (e : Error) (xs : List (ℕ × Phase)) (i : ℕ) → i < length xs → drop i xs ≡ get_or xs i closed ∷ drop (i + 1) xs
-ends-from e xs i h = drop-cons xs i closed h ∙ ap (λ k. get_or xs i closed ∷ drop k xs) (sym (add-one i))
+-- a number that was found is that of a channel with a live opening
+pub found-live : (e : Error) (n c : ℕ) (all : List (ℕ × Phase)) (b : Book) → Some c ≡ cond (is_live (phase_in (at_channel n all))) (Some n) None → ended c e b ≡ fold after_mark b (ends e (live_at n all))
+found-live e n c all b = elim (is_live (phase_in (at_channel n all))) as (λ t. Some c ≡ cond t (Some n) None → ended c e b ≡ fold after_mark b (ends e (cond t (n ∷ []) []))) [
+  | true ↦ λ h. let same : c ≡ n = cc in ap (λ d. ended d e b) same
+  | false ↦ λ h. cc
+]
 
-pub ends-live : (e : Error) (xs : List (ℕ × Phase)) (i : ℕ) (b after : Book) → i < length xs → is_live (get_or xs i closed).1 ≡ true → after ≡ ended (get_or xs i closed).0 e b → fold after_mark after (ends e (drop (i + 1) xs)) ≡ fold after_mark b (ends e (drop i xs))
-ends-live e xs i b after h live is =
-    ap (λ x. fold after_mark x (ends e (drop (i + 1) xs))) is
-    ∙ ap (λ l. fold after_mark b (if l then mark.Ended (get_or xs i closed).0 e ∷ ends e (drop (i + 1) xs) else ends e (drop (i + 1) xs))) (sym live)
-    ∙ ap (λ ys. fold after_mark b (ends e ys)) (sym (ends-from e xs i h))
-
-pub ends-not : (e : Error) (xs : List (ℕ × Phase)) (i : ℕ) (b after : Book) → i < length xs → is_live (get_or xs i closed).1 ≡ false → after ≡ b → fold after_mark after (ends e (drop (i + 1) xs)) ≡ fold after_mark b (ends e (drop i xs))
-ends-not e xs i b after h dead is =
-    ap (λ x. fold after_mark x (ends e (drop (i + 1) xs))) is
-    ∙ ap (λ l. fold after_mark b (if l then mark.Ended (get_or xs i closed).0 e ∷ ends e (drop (i + 1) xs) else ends e (drop (i + 1) xs))) (sym dead)
-    ∙ ap (λ ys. fold after_mark b (ends e ys)) (sym (ends-from e xs i h))
-
+pub none-live : (e : Error) (n : ℕ) (all : List (ℕ × Phase)) (b : Book) → None ≡ cond (is_live (phase_in (at_channel n all))) (Some n) None → b ≡ fold after_mark b (ends e (live_at n all))
+none-live e n all b = elim (is_live (phase_in (at_channel n all))) as (λ t. None ≡ cond t (Some n) None → b ≡ fold after_mark b (ends e (cond t (n ∷ []) []))) [
+  | true ↦ λ h. cc
+  | false ↦ λ h. refl
+]

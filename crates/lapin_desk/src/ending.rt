@@ -8,16 +8,17 @@ ghost use Rattle.std.specs.List.{fold};
 ghost use Rattle.lapin_tables.specs.ByChannel.{on_channel};
 ghost use Rattle.lapin_history.specs.Requests.{no_requests};
 ghost use Rattle.lapin_history.specs.Drops.{no_lists, without_publishes_of, without_channel};
-ghost use Rattle.lapin_history.specs.Marked.{ends};
+ghost use Rattle.lapin_history.specs.Ends.{ends, live_channels};
 ghost use Rattle.lapin_history.specs.TicketReadings as mark;
 ghost use Rattle.lapin_ticket.specs.Desk as desk;
 ghost use Rattle.lapin_confirm.specs.Book as book;
+ghost use Rattle.lapin_desk.specs.Live.{live_at};
 ghost use Rattle.lapin_desk.specs.Queued.{AreQueued, MayReject, rejected_told};
 
 use crate::desk::Desk;
 use lapin_confirm::Confirms;
-use lapin_history::Phase;
 use lapin_outbox::Replies;
+use lapin_phases::Phases;
 use lapin_types::Error;
 
 impl Desk {
@@ -66,7 +67,7 @@ impl Desk {
     pub fn end_all(
         &mut self,
         confirms: &mut Confirms,
-        phases: &[(u16, Phase)],
+        phases: &Phases,
         replies: Replies,
         error: Error,
     )
@@ -74,7 +75,7 @@ impl Desk {
         ensures lists { self.new.outbox.lists ≡ no_lists }
         ensures requests { self.new.replies ≡ replies }
         ensures slots { self.new.tickets.slots ≡ desk.after_mark self.old.tickets.slots (mark.AllFailed error) }
-        ensures book { confirms.new.book ≡ fold book.after_mark confirms.old.book (ends error phases.now) }
+        ensures book { confirms.new.book ≡ fold book.after_mark confirms.old.book (ends error (live_channels phases.now.entries)) }
         ensures frame_max { self.new.outbox.frame_max ≡ self.old.outbox.frame_max }
         ensures room { (self.old.outbox.spare ≤ self.new.outbox.spare) × (self.new.tickets.spare ≡ self.old.tickets.spare) }
     {
@@ -125,7 +126,9 @@ impl Desk {
         ensures frame_max { self.new.outbox.frame_max ≡ self.old.outbox.frame_max }
         ensures room { self.old.outbox.spare ≤ self.new.outbox.spare }
     {
-        while self.outbox.drop_channel(channel).is_some() {}
+        while let Some(dropped) = self.outbox.drop_channel(channel) {
+            drop(dropped);
+        }
     }
 
     // Takes out every request of a channel.
@@ -140,19 +143,35 @@ impl Desk {
         }
     }
 
-    // The publishes of every live opening end. What else waits stays, for `end_all`.
-    fn end_live(&mut self, confirms: &mut Confirms, phases: &[(u16, Phase)], error: Error)
+    // The publishes of every live opening end, in rising number of its channel. What else waits stays, for `end_all`.
+    fn end_live(&mut self, confirms: &mut Confirms, phases: &Phases, error: Error)
         requires queued { AreQueued confirms.old.book.cells self.old.outbox.lists.publishes }
-        ensures book { confirms.new.book ≡ fold book.after_mark confirms.old.book (ends error phases.now) }
+        ensures book { confirms.new.book ≡ fold book.after_mark confirms.old.book (ends error (live_channels phases.now.entries)) }
         ensures tickets { self.new.tickets ≡ self.old.tickets }
         ensures frame_max { self.new.outbox.frame_max ≡ self.old.outbox.frame_max }
         ensures room { self.old.outbox.spare ≤ self.new.outbox.spare }
     {
-        for (channel, phase) in phases {
-            if phase.is_live() {
-                self.end_publishes(confirms, *channel, error);
-            }
+        let reach = phases.reach();
+        let mut number = 0;
+        while number < reach {
+            self.end_live_at(confirms, phases, number, error);
+            number += 1;
         }
+    }
+
+    // The publishes of the opening of this channel end, if it has a live one.
+    fn end_live_at(&mut self, confirms: &mut Confirms, phases: &Phases, number: usize, error: Error)
+        requires queued { AreQueued confirms.old.book.cells self.old.outbox.lists.publishes }
+        ensures book { confirms.new.book ≡ fold book.after_mark confirms.old.book (ends error (live_at number phases.now.entries)) }
+        ensures queued { AreQueued confirms.new.book.cells self.new.outbox.lists.publishes }
+        ensures tickets { self.new.tickets ≡ self.old.tickets }
+        ensures frame_max { self.new.outbox.frame_max ≡ self.old.outbox.frame_max }
+        ensures room { self.old.outbox.spare ≤ self.new.outbox.spare }
+    {
+        let Some(channel) = phases.live_at(number) else {
+            return;
+        };
+        self.end_publishes(confirms, channel, error);
     }
 
     /// Takes out all that waits. Its tickets stay open.

@@ -33,11 +33,24 @@ use Rattle.lapin_history.specs.declared.phases.Link.{Link}
 use Rattle.lapin_history.specs.declared.phases.Link.TheVariants as link
 use Rattle.lapin_history.specs.Phases.{is_live, is_up, is_lost}
 use Rattle.lapin_history.specs.Drops.{is_on, is_off, publish_channel, unbegun}
-use Rattle.lapin_history.specs.Closes.{close_ok_end}
+use Rattle.lapin_history.specs.ChannelClose.{close_ok_end}
 use Rattle.lapin_history.specs.Heard.{heard}
-use Rattle.lapin_history.specs.Base.{Base, state_of, phase_of, is_allowed, is_open, may_begin, after_event, after_call, after_heard, after_received, after_refused, after_failed, after_close_ok, after_connection_close, unless_sent, has_sent, handed, sent, after_next, lists_of, with_lists}
-use Rattle.lapin_history.specs.Marked.{confirm_marks, call_marks, queued_marks, is_select, ends, end_with, left_marks, method_marks, heard_marks, received_marks, refused_marks, failed_marks, is_confirmed}
-use Rattle.lapin_history.specs.Answers.{record_of}
+use Rattle.lapin_history.specs.Base.{Base, state_of, phase_of, is_open, lists_of, with_lists}
+use Rattle.lapin_history.specs.Asking.{is_allowed, after_call}
+use Rattle.lapin_history.specs.Flow.{may_begin}
+use Rattle.lapin_history.specs.Events.{after_event}
+use Rattle.lapin_history.specs.Hearing.{after_heard, after_received, after_refused, after_failed}
+use Rattle.lapin_history.specs.ChannelClose.{after_close_ok}
+use Rattle.lapin_history.specs.ConnectionClose.{after_connection_close, unless_sent, has_sent}
+use Rattle.lapin_history.specs.Handing.{handed, sent, after_next}
+use Rattle.lapin_history.specs.Events.{confirm_marks}
+use Rattle.lapin_history.specs.Asking.{call_marks}
+use Rattle.lapin_history.specs.Select.{queued_marks, is_select, method_marks}
+use Rattle.lapin_history.specs.Ends.{live_channels, ends, ends_all, end_with}
+use Rattle.lapin_history.specs.Handing.{left_marks}
+use Rattle.lapin_history.specs.Hearing.{heard_marks, received_marks, refused_marks, failed_marks}
+use Rattle.lapin_history.specs.Polls.{is_confirmed}
+use Rattle.lapin_history.specs.Events.{record_of}
 use Rattle.lapin_history.specs.History.{sight_of, polled_outcome, was_added, confirm_poll}
 use Rattle.lapin_history.proofs.ConfirmLaws.{added-push}
 use Rattle.lapin_confirm.specs.declared.cell.Cell.{Cell}
@@ -46,7 +59,7 @@ use Rattle.lapin_confirm.specs.Book.{Book, after_mark}
 use Rattle.lapin_confirm.specs.Follows.{Follows, WasAdded, MayCome, cell_in}
 use Rattle.lapin_confirm.proofs.CellFollowing.{stood, cell-step, cell-added, IsQueued, queued_facts}
 use Rattle.lapin_confirm.proofs.Following.{follows-push}
-use Rattle.lapin_machine.specs.Stands.{AreFresh, ConfirmsStand}
+use Rattle.lapin_machine.specs.Stands.{AreFresh, ConfirmsStand, IsShut}
 
 abbrev queued_at : List ConfirmMark → Publish → Type 0
 queued_at ms p = MayCome ms (mark.Left p.channel p.confirm)
@@ -147,18 +160,14 @@ stand_ended c e b d ms bk s n q = stand_off c (mark.Ended c e) (λ k. refl) (λ 
 stand_closed : (c : ℕ) (e : Error) (b d : Base) (ms : List ConfirmMark) (bk : Book) → ConfirmsStand b ms bk → d.published ≡ b.published → d.publishes ≡ filter (is_off publish_channel c) b.publishes → ConfirmsStand d (ms ++ mark.ClosedHere c e ∷ []) (after_mark bk (mark.ClosedHere c e))
 stand_closed c e b d ms bk s n q = stand_off c (mark.ClosedHere c e) (λ k. refl) (λ k. refl) (λ x off. rw off refl) b d ms bk s tt (added-push ms (mark.ClosedHere c e)) n q
 
--- every live opening ends, and nothing waits any more
-stand_ends : (e : Error) (xs : List (ℕ × Phase)) (ms : List ConfirmMark) (bk : Book) → Follows ms bk → Standing (ms ++ ends e xs) (fold after_mark bk (ends e xs)) (added ms) []
+-- these openings end, and nothing waits any more
+stand_ends : (e : Error) (cs : List ℕ) (ms : List ConfirmMark) (bk : Book) → Follows ms bk → Standing (ms ++ ends e cs) (fold after_mark bk (ends e cs)) (added ms) []
 stand_ends e [] ms bk f = moved ms (ms ++ []) bk (added ms) [] (sym (append-nil ms)) (record { book = f; count = refl; queue = tt })
-stand_ends e (x ∷ xs) ms bk f =
-    elim (is_live x.1) as (λ b. Standing (ms ++ cond b (mark.Ended x.0 e ∷ ends e xs) (ends e xs)) (fold after_mark bk (cond b (mark.Ended x.0 e ∷ ends e xs) (ends e xs))) (added ms) []) [
-      | true ↦
-          let m : ConfirmMark = mark.Ended x.0 e in
-          let same : added (ms ++ m ∷ []) ≡ added ms = added-push ms m in
-          let rest = stand_ends e xs (ms ++ m ∷ []) (after_mark bk m) (follows-push ms bk m f tt) in
-          moved _ _ _ (added ms) [] (append_assoc ms (m ∷ []) (ends e xs)) (record { book = rest.book; count = rest.count ∙ same; queue = tt })
-      | false ↦ stand_ends e xs ms bk f
-    ]
+stand_ends e (c ∷ cs) ms bk f =
+    let m : ConfirmMark = mark.Ended c e in
+    let same : added (ms ++ m ∷ []) ≡ added ms = added-push ms m in
+    let rest = stand_ends e cs (ms ++ m ∷ []) (after_mark bk m) (follows-push ms bk m f tt) in
+    moved _ _ _ (added ms) [] (append_assoc ms (m ∷ []) (ends e cs)) (record { book = rest.book; count = rest.count ∙ same; queue = tt })
 
 -- what stands after a close or an end
 stand_by : (b d : Base) (ms new : List ConfirmMark) (bk : Book) → ConfirmsStand b ms bk → d.published ≡ b.published → Standing (ms ++ new) (fold after_mark bk new) (added ms) d.publishes → ConfirmsStand d (ms ++ new) (fold after_mark bk new)
@@ -171,15 +180,17 @@ stand_dropped b d ms bk s n q =
     let Q : List Publish → Type 0 = AreFresh ms in
     subst P (sym (append-nil ms)) (record { book = s.book; published = n ∙ s.published; queue = subst Q (sym q) tt })
 
--- the connection is not open any more, whether it was before or not
-stand_down : (l : Link) (e : Error) (b d : Base) (ms : List ConfirmMark) (bk : Book) → ConfirmsStand b ms bk → d.published ≡ b.published → d.publishes ≡ [] → ConfirmsStand d (ms ++ cond (is_up l) (ends e b.phases) []) (fold after_mark bk (cond (is_up l) (ends e b.phases) []))
-stand_down l e b d ms bk s n q =
-    elim (is_up l) as (λ u. ConfirmsStand d (ms ++ cond u (ends e b.phases) []) (fold after_mark bk (cond u (ends e b.phases) []))) [
-      | true ↦
-          let P : List Publish → Type 0 = λ ps. Standing (ms ++ ends e b.phases) (fold after_mark bk (ends e b.phases)) (added ms) ps in
-          stand_by b d ms (ends e b.phases) bk s n (subst P (sym q) (stand_ends e b.phases ms bk s.book))
-      | false ↦ stand_dropped b d ms bk s n q
-    ]
+-- every live opening ends, if there is one
+stand_down : (e : Error) (b d : Base) (ms : List ConfirmMark) (bk : Book) → ConfirmsStand b ms bk → d.published ≡ b.published → d.publishes ≡ [] → ConfirmsStand d (ms ++ ends_all e b) (fold after_mark bk (ends_all e b))
+stand_down e b d ms bk s n q =
+    let P : List Publish → Type 0 = λ ps. Standing (ms ++ ends_all e b) (fold after_mark bk (ends_all e b)) (added ms) ps in
+    stand_by b d ms (ends_all e b) bk s n (subst P (sym q) (stand_ends e (live_channels b.phases) ms bk s.book))
+
+-- none is live
+stand_none : (e : Error) (b d : Base) (ms : List ConfirmMark) (bk : Book) → b.phases ≡ [] → ConfirmsStand b ms bk → d.published ≡ b.published → d.publishes ≡ b.publishes → ConfirmsStand d (ms ++ ends_all e b) (fold after_mark bk (ends_all e b))
+stand_none e b d ms bk none s n q =
+    let P : List (ℕ × Phase) → Type 0 = λ ps. ConfirmsStand d (ms ++ ends e (live_channels ps)) (fold after_mark bk (ends e (live_channels ps))) in
+    subst P (sym none) (stand_still b d ms bk s n q)
 
 -- ---- calls
 
@@ -209,7 +220,7 @@ stand_queued b d ms bk c m s n q = elim (is_select m) as (λ t. ConfirmsStand d 
 stand_call : (c : ℕ) (k : Asked) (b : Base) (ms : List ConfirmMark) (bk : Book) → ConfirmsStand b ms bk → ConfirmsStand (after_call c k b) (ms ++ call_marks c k b) (fold after_mark bk (call_marks c k b))
 stand_call c ask.Open b ms bk s = stand_quiet b _ ms bk (mark.Begun c) s tt (spares_all (mark.Begun c) b.publishes (λ k. refl) (λ k. refl) (λ d. refl)) (added-push ms (mark.Begun c)) refl refl
 stand_call c (ask.CloseChannel code text) b ms bk s = stand_closed c _ b _ ms bk s refl refl
-stand_call c (ask.CloseConnection code text) b ms bk s = stand_down b.link _ b _ ms bk s refl refl
+stand_call c (ask.CloseConnection code text) b ms bk s = stand_down _ b _ ms bk s refl refl
 stand_call c (ask.Method row) b ms bk s = stand_queued b _ ms bk c row.method s refl refl
 stand_call c (ask.Publish exchange key o payload properties) b ms bk s =
     let count : b.published ≡ added ms = s.published in
@@ -258,12 +269,12 @@ stand_close_ok c phase.Opening b ms bk s = stand_still b _ ms bk s refl refl
 stand_close_ok c (phase.Open paused) b ms bk s = stand_still b _ ms bk s refl refl
 stand_close_ok c phase.Crossed b ms bk s = stand_still b _ ms bk s refl refl
 
-stand_connection_close : (l : Link) (code : ℕ) (b : Base) (ms : List ConfirmMark) (bk : Book) → ConfirmsStand b ms bk → HeardStands b (after_connection_close l b) ms (cond (is_up l) (ends (error.ProtocolError code) b.phases) []) bk
-stand_connection_close link.Open code b ms bk s = stand_down link.Open _ b _ ms bk s refl refl
-stand_connection_close (link.Closing true heard) code b ms bk s = stand_still b _ ms bk s refl refl
-stand_connection_close (link.Closing false heard) code b ms bk s = stand_dropped b _ ms bk s refl refl
-stand_connection_close link.Closed code b ms bk s = stand_dropped b _ ms bk s refl refl
-stand_connection_close link.Lost code b ms bk s = stand_dropped b _ ms bk s refl refl
+stand_connection_close : (l : Link) (code : ℕ) (b : Base) (ms : List ConfirmMark) (bk : Book) → b.link ≡ l → IsShut b → ConfirmsStand b ms bk → HeardStands b (after_connection_close l b) ms (ends_all (error.ProtocolError code) b) bk
+stand_connection_close link.Open code b ms bk e shut s = stand_down _ b _ ms bk s refl refl
+stand_connection_close (link.Closing true heard) code b ms bk e shut s = stand_none _ b _ ms bk (shut (ap is_up e)) s refl refl
+stand_connection_close (link.Closing false heard) code b ms bk e shut s = stand_down _ b _ ms bk s refl refl
+stand_connection_close link.Closed code b ms bk e shut s = stand_down _ b _ ms bk s refl refl
+stand_connection_close link.Lost code b ms bk e shut s = stand_down _ b _ ms bk s refl refl
 
 stand_connection_close_ok : (x : Bool) (b d : Base) (ms : List ConfirmMark) (bk : Book) → ConfirmsStand b ms bk → d.published ≡ b.published → d.publishes ≡ (unless_sent x (lists_of b)).publishes → ConfirmsStand d (ms ++ []) bk
 stand_connection_close_ok true b d ms bk s n q = stand_still b d ms bk s n q
@@ -273,15 +284,15 @@ stand_flow : (t : Bool) (d b : Base) (ms : List ConfirmMark) (bk : Book) → d.p
 stand_flow true d b ms bk n q s = stand_still b d ms bk s n q
 stand_flow false d b ms bk n q s = stand_still b b ms bk s refl refl
 
-stand_received : (i : Incoming) (b : Base) (ms : List ConfirmMark) (bk : Book) → ConfirmsStand b ms bk → HeardStands b (after_received i b) ms (received_marks i b) bk
-stand_received (incoming.Reply c k a) b ms bk s = stand_still b _ ms bk s refl refl
-stand_received (incoming.Settlement c x) b ms bk s = stand_quiet b b ms bk (mark.Settled c x) s tt (spares_all (mark.Settled c x) b.publishes (λ k. refl) (λ k. refl) (λ d. refl)) (added-push ms (mark.Settled c x)) refl refl
-stand_received (incoming.ChannelClose c code) b ms bk s = stand_ended c _ b _ ms bk s refl refl
-stand_received (incoming.ChannelCloseOk c) b ms bk s = stand_close_ok c (phase_of c b) b ms bk s
-stand_received (incoming.ConnectionClose code) b ms bk s = stand_connection_close b.link code b ms bk s
-stand_received incoming.ConnectionCloseOk b ms bk s = stand_connection_close_ok (has_sent b.link) b _ ms bk s refl refl
-stand_received (incoming.Flow c active) b ms bk s = stand_flow (is_open (state_of c b)) _ b ms bk refl refl s
-stand_received incoming.Other b ms bk s = stand_still b b ms bk s refl refl
+stand_received : (i : Incoming) (b : Base) (ms : List ConfirmMark) (bk : Book) → IsShut b → ConfirmsStand b ms bk → HeardStands b (after_received i b) ms (received_marks i b) bk
+stand_received (incoming.Reply c k a) b ms bk shut s = stand_still b _ ms bk s refl refl
+stand_received (incoming.Settlement c x) b ms bk shut s = stand_quiet b b ms bk (mark.Settled c x) s tt (spares_all (mark.Settled c x) b.publishes (λ k. refl) (λ k. refl) (λ d. refl)) (added-push ms (mark.Settled c x)) refl refl
+stand_received (incoming.ChannelClose c code) b ms bk shut s = stand_ended c _ b _ ms bk s refl refl
+stand_received (incoming.ChannelCloseOk c) b ms bk shut s = stand_close_ok c (phase_of c b) b ms bk s
+stand_received (incoming.ConnectionClose code) b ms bk shut s = stand_connection_close b.link code b ms bk refl shut s
+stand_received incoming.ConnectionCloseOk b ms bk shut s = stand_connection_close_ok (has_sent b.link) b _ ms bk s refl refl
+stand_received (incoming.Flow c active) b ms bk shut s = stand_flow (is_open (state_of c b)) _ b ms bk refl refl s
+stand_received incoming.Other b ms bk shut s = stand_still b b ms bk s refl refl
 
 stand_failed_on : (t : Bool) (c : ℕ) (e : Error) (x b : Base) (ms : List ConfirmMark) (bk : Book) → x.published ≡ b.published → x.publishes ≡ filter (is_off publish_channel c) b.publishes → ConfirmsStand b ms bk → HeardStands b (cond t x b) ms (cond t (mark.ClosedHere c e ∷ []) []) bk
 stand_failed_on true c e x b ms bk n q s = stand_closed c e b x ms bk s n q
@@ -298,7 +309,7 @@ stand_failed (incoming.Flow c active) b ms bk s = stand_still b b ms bk s refl r
 stand_failed incoming.Other b ms bk s = stand_still b b ms bk s refl refl
 
 stand_refused : (i : Incoming) (e : Error) (b : Base) (ms : List ConfirmMark) (bk : Book) → ConfirmsStand b ms bk → HeardStands b (after_refused i e b) ms (refused_marks i e b) bk
-stand_refused i (error.UnexpectedFrame class number) b ms bk s = stand_down b.link _ b _ ms bk s refl refl
+stand_refused i (error.UnexpectedFrame class number) b ms bk s = stand_down _ b _ ms bk s refl refl
 stand_refused i (error.PreconditionFailed tag current) b ms bk s = stand_failed i b ms bk s
 stand_refused i error.NoMemory b ms bk s = stand_still b b ms bk s refl refl
 stand_refused i error.NumbersUsedUp b ms bk s = stand_still b b ms bk s refl refl
@@ -308,25 +319,26 @@ stand_refused i error.ConnectionLost b ms bk s = stand_still b b ms bk s refl re
 stand_refused i error.AlreadyTaken b ms bk s = stand_still b b ms bk s refl refl
 stand_refused i error.UnknownTicket b ms bk s = stand_still b b ms bk s refl refl
 
-stand_heard : (i : Incoming) (r : Record) (b : Base) (ms : List ConfirmMark) (bk : Book) → ConfirmsStand b ms bk → HeardStands b (after_heard i r b) ms (heard_marks i r b) bk
-stand_heard i (record_.Refused e) b ms bk s = stand_refused i e b ms bk s
-stand_heard i record_.Received b ms bk s = stand_received i b ms bk s
-stand_heard i (record_.Ticket n) b ms bk s = stand_still b b ms bk s refl refl
-stand_heard i (record_.Publish t n) b ms bk s = stand_still b b ms bk s refl refl
-stand_heard i (record_.Frame f) b ms bk s = stand_still b b ms bk s refl refl
-stand_heard i record_.NoFrame b ms bk s = stand_still b b ms bk s refl refl
-stand_heard i record_.Passed b ms bk s = stand_still b b ms bk s refl refl
-stand_heard i record_.Pending b ms bk s = stand_still b b ms bk s refl refl
-stand_heard i (record_.Answer a) b ms bk s = stand_still b b ms bk s refl refl
-stand_heard i (record_.Confirmed o) b ms bk s = stand_still b b ms bk s refl refl
-stand_heard i (record_.State x y) b ms bk s = stand_still b b ms bk s refl refl
-stand_heard i record_.Lost b ms bk s = stand_still b b ms bk s refl refl
+stand_heard : (i : Incoming) (r : Record) (b : Base) (ms : List ConfirmMark) (bk : Book) → IsShut b → ConfirmsStand b ms bk → HeardStands b (after_heard i r b) ms (heard_marks i r b) bk
+stand_heard i (record_.Refused e) b ms bk shut s = stand_refused i e b ms bk s
+stand_heard i record_.Received b ms bk shut s = stand_received i b ms bk shut s
+stand_heard i (record_.Ticket n) b ms bk shut s = stand_still b b ms bk s refl refl
+stand_heard i (record_.Publish t n) b ms bk shut s = stand_still b b ms bk s refl refl
+stand_heard i (record_.Frame f) b ms bk shut s = stand_still b b ms bk s refl refl
+stand_heard i record_.NoFrame b ms bk shut s = stand_still b b ms bk s refl refl
+stand_heard i record_.Passed b ms bk shut s = stand_still b b ms bk s refl refl
+stand_heard i record_.Pending b ms bk shut s = stand_still b b ms bk s refl refl
+stand_heard i (record_.Answer a) b ms bk shut s = stand_still b b ms bk s refl refl
+stand_heard i (record_.Confirmed o) b ms bk shut s = stand_still b b ms bk s refl refl
+stand_heard i (record_.State x y) b ms bk shut s = stand_still b b ms bk s refl refl
+stand_heard i record_.Aside b ms bk shut s = stand_still b b ms bk s refl refl
+stand_heard i record_.Lost b ms bk shut s = stand_still b b ms bk s refl refl
 
-stand_lost : (l : Link) (b d : Base) (ms : List ConfirmMark) (bk : Book) → ConfirmsStand b ms bk → d.published ≡ b.published → d.publishes ≡ [] → HeardStands b (cond (is_lost l) b d) ms (cond (is_up l) (ends error.ConnectionLost b.phases) []) bk
-stand_lost link.Open b d ms bk s n q = stand_down link.Open _ b d ms bk s n q
-stand_lost (link.Closing sent heard) b d ms bk s n q = stand_dropped b d ms bk s n q
-stand_lost link.Closed b d ms bk s n q = stand_dropped b d ms bk s n q
-stand_lost link.Lost b d ms bk s n q = stand_still b b ms bk s refl refl
+stand_lost : (l : Link) (b d : Base) (ms : List ConfirmMark) (bk : Book) → b.link ≡ l → IsShut b → ConfirmsStand b ms bk → d.published ≡ b.published → d.publishes ≡ [] → HeardStands b (cond (is_lost l) b d) ms (ends_all error.ConnectionLost b) bk
+stand_lost link.Open b d ms bk e shut s n q = stand_down _ b d ms bk s n q
+stand_lost (link.Closing sent heard) b d ms bk e shut s n q = stand_down _ b d ms bk s n q
+stand_lost link.Closed b d ms bk e shut s n q = stand_down _ b d ms bk s n q
+stand_lost link.Lost b d ms bk e shut s n q = stand_none _ b b ms bk (shut (ap is_up e)) s refl refl
 
 -- ---- polls
 
@@ -379,14 +391,15 @@ stand_sent : (o : Option Left) (b : Base) (ms : List ConfirmMark) (bk : Book) �
 stand_sent None b ms bk s = s
 stand_sent (Some l) b ms bk s = record { book = s.book; published = s.published; queue = s.queue }
 
-pub confirms-next : (b : Base) (ms : List ConfirmMark) (tms : List TicketMark) (bk : Book) (e : Event) (r : Record) → r ≡ record_of b (sight_of ms tms) e → ConfirmsStand b ms bk
+pub confirms-next : (b : Base) (ms : List ConfirmMark) (tms : List TicketMark) (bk : Book) (e : Event) (r : Record) → r ≡ record_of b (sight_of ms tms) e → IsShut b → ConfirmsStand b ms bk
     → ConfirmsStand (after_event b e r) (ms ++ confirm_marks b e r) (fold after_mark bk (confirm_marks b e r))
-confirms-next b ms tms bk (event.Call c k) r is s = choose_mark (is_allowed (asked k) (state_of c b)) (after_call c (asked k) b) b ms bk (call_marks c (asked k) b) (stand_call c (asked k) b ms bk s) s
-confirms-next b ms tms bk (event.Next flow) r is s = stand_sent (handed flow b) _ _ _ (stand_next (may_begin flow b) b ms bk b.rest b.methods b.publishes s)
-confirms-next b ms tms bk (event.Receive f) r is s = stand_heard (heard f) r b ms bk s
-confirms-next b ms tms bk (event.PollTicket n) r is s = stand_still b b ms bk s refl refl
-confirms-next b ms tms bk (event.PollConfirm n) r is s =
+confirms-next b ms tms bk (event.Call c k) r is shut s = choose_mark (is_allowed (asked k) (state_of c b)) (after_call c (asked k) b) b ms bk (call_marks c (asked k) b) (stand_call c (asked k) b ms bk s) s
+confirms-next b ms tms bk (event.Next flow) r is shut s = stand_sent (handed flow b) _ _ _ (stand_next (may_begin flow b) b ms bk b.rest b.methods b.publishes s)
+confirms-next b ms tms bk (event.Receive f) r is shut s = stand_heard (heard f) r b ms bk shut s
+confirms-next b ms tms bk (event.PollTicket n) r is shut s = stand_still b b ms bk s refl refl
+confirms-next b ms tms bk (event.PollConfirm n) r is shut s =
     let P : Record → Type 0 = λ x. ConfirmsStand b (ms ++ cond (is_confirmed x) (mark.Taken n ∷ []) []) (fold after_mark bk (cond (is_confirmed x) (mark.Taken n ∷ []) [])) in
     subst P (sym is) (stand_poll b ms bk n s)
-confirms-next b ms tms bk (event.State c) r is s = stand_still b b ms bk s refl refl
-confirms-next b ms tms bk event.Lost r is s = stand_lost b.link b _ ms bk s refl refl
+confirms-next b ms tms bk (event.AsideTicket n) r is shut s = stand_still b b ms bk s refl refl
+confirms-next b ms tms bk (event.State c) r is shut s = stand_still b b ms bk s refl refl
+confirms-next b ms tms bk event.Lost r is shut s = stand_lost b.link b _ ms bk refl shut s refl refl

@@ -20,7 +20,15 @@ use Rattle.lapin_history.specs.declared.phases.Link.{Link}
 use Rattle.lapin_history.specs.declared.phases.Link.TheVariants as link
 use Rattle.lapin_history.specs.Phases.{is_lost}
 use Rattle.lapin_history.specs.Leaving.{left_lists}
-use Rattle.lapin_history.specs.Base.{Base, state_of, phase_of, is_allowed, is_open, may_begin, after_event, after_call, after_heard, after_received, after_failed, after_refused, after_close_ok, after_connection_close, after_lost, after_next, handed, sent, with_lists, lists_of}
+use Rattle.lapin_history.specs.Base.{Base, state_of, phase_of, is_open, with_lists, lists_of}
+use Rattle.lapin_history.specs.Asking.{is_allowed, after_call}
+use Rattle.lapin_history.specs.Flow.{may_begin}
+use Rattle.lapin_history.specs.Events.{after_event}
+use Rattle.lapin_history.specs.Hearing.{after_heard, after_received, after_failed, after_refused}
+use Rattle.lapin_history.specs.ChannelClose.{after_close_ok}
+use Rattle.lapin_history.specs.ConnectionClose.{after_connection_close}
+use Rattle.lapin_history.specs.Loss.{after_lost}
+use Rattle.lapin_history.specs.Handing.{after_next, handed, sent}
 use Rattle.lapin_machine.specs.World.{World, next, told_by, IsLonger}
 use Rattle.lapin_machine.specs.Numbers.{HasNumbersFor, EventUsedUp, LacksNumber}
 
@@ -107,6 +115,7 @@ heard_counts i record_.Pending b = (refl, refl)
 heard_counts i (record_.Answer a) b = (refl, refl)
 heard_counts i (record_.Confirmed o) b = (refl, refl)
 heard_counts i (record_.State x y) b = (refl, refl)
+heard_counts i record_.Aside b = (refl, refl)
 heard_counts i record_.Lost b = (refl, refl)
 
 pub lost_counts : (b : Base) → SameCounts (after_lost b) b
@@ -125,6 +134,7 @@ tickets-next b (event.Next flow) r = let same : (after_next flow b).tickets ≡ 
 tickets-next b (event.Receive f) r = let same : (after_heard (heard f) r b).tickets ≡ b.tickets = (heard_counts (heard f) r b).0 in omega arith
 tickets-next b (event.PollTicket n) r = omega arith
 tickets-next b (event.PollConfirm n) r = omega arith
+tickets-next b (event.AsideTicket n) r = omega arith
 tickets-next b (event.State c) r = omega arith
 tickets-next b event.Lost r = let same : (after_lost b).tickets ≡ b.tickets = (lost_counts b).0 in omega arith
 
@@ -134,6 +144,7 @@ published-next b (event.Next flow) r = let same : (after_next flow b).published 
 published-next b (event.Receive f) r = let same : (after_heard (heard f) r b).published ≡ b.published = (heard_counts (heard f) r b).1 in omega arith
 published-next b (event.PollTicket n) r = omega arith
 published-next b (event.PollConfirm n) r = omega arith
+published-next b (event.AsideTicket n) r = omega arith
 published-next b (event.State c) r = omega arith
 published-next b event.Lost r = let same : (after_lost b).published ≡ b.published = (lost_counts b).1 in omega arith
 

@@ -19,8 +19,8 @@ use Rattle.lapin_history.specs.ConfirmReadings.{begins, selects, leaves, opening
 use Rattle.lapin_history.specs.ConfirmReadings as readings
 use Rattle.lapin_history.specs.declared.marks.AtLeaving.{AtLeaving}
 use Rattle.lapin_history.specs.TicketReadings.{TicketMark, given, begins as begins_ticket, closes, first_answer, is_collected, answer_of, channel_of as channel_of_ticket, leaving_of, life as life_of_ticket}
-use Rattle.lapin_history.specs.Answers.{confirmed}
-use Rattle.lapin_history.specs.History.{polled_outcome, was_added, confirm_poll, polled_answer, was_given, ticket_poll}
+use Rattle.lapin_history.specs.Polls.{confirmed}
+use Rattle.lapin_history.specs.History.{polled_outcome, was_added, confirm_poll, polled_answer, was_given, ticket_poll, ticket_aside}
 use Rattle.lapin_history.proofs.ListLaws.{since_none}
 use Rattle.lapin_confirm.specs.declared.cell.Cell.{Cell}
 use Rattle.lapin_confirm.specs.declared.cell.Cell.TheVariants as cell
@@ -29,10 +29,10 @@ use Rattle.lapin_confirm.specs.Answers.{result_of, answer_in, answer_at}
 use Rattle.lapin_confirm.specs.Follows.{Follows, line_in, cell_in, open_cell, left_cell, pending_cell, queued_cell}
 use Rattle.lapin_ticket.specs.declared.Slot.{Slot}
 use Rattle.lapin_ticket.specs.declared.Slot.TheVariants as slot
-use Rattle.lapin_ticket.specs.Desk.{polled, polled_slot}
+use Rattle.lapin_ticket.specs.Desk.{polled, polled_slot, laid, laid_slot}
 use Rattle.lapin_ticket.specs.Follows.{held, slot_in, slot_of}
 use Rattle.lapin_ticket.specs.Follows as tickets
-use Rattle.lapin_machine.specs.World.{outcome_record, poll_record}
+use Rattle.lapin_machine.specs.World.{outcome_record, poll_record, aside_record}
 
 -- ---- lines
 
@@ -190,5 +190,23 @@ ticket_shown (suc k) ms slots f =
       | true ↦ λ h.
           let lt : k < given ms = within_count k (given ms) h in
           rw (get_or_from_slice_get slots k (slot_of (suc k) ms) None (f.slot k lt)) (slot_poll (suc k) (channel_of_ticket (suc k) ms) (leaving_of (suc k) ms) (life_of_ticket (suc k) ms))
+      | false ↦ λ h. refl
+    ] refl)
+
+-- setting a ticket aside
+slot_aside : (n c : ℕ) (l : AtLeaving) (later : List TicketMark) → aside_record (laid_slot (slot_in n c l later)) ≡ cond (list_any (closes n) later) (record_.Refused error.AlreadyTaken) record_.Aside
+slot_aside n c l later =
+    elim (list_any (closes n) later) as (λ a. aside_record (laid_slot (cond a None (Some (held c l (list_any (begins_ticket n) later) (first_answer n c l false later))))) ≡ cond a (record_.Refused error.AlreadyTaken) record_.Aside)
+    [ true ↦ refl | false ↦ refl ]
+
+pub aside_shown : (n : ℕ) (ms : List TicketMark) (slots : List (Option Slot)) → tickets.Follows ms slots → aside_record (laid n slots) ≡ ticket_aside ms n
+aside_shown zero ms slots f = refl
+aside_shown (suc k) ms slots f =
+    let count : length slots ≡ given ms = f.count in
+    rw count
+    (elim (was_given (suc k) ms) as (λ a. was_given (suc k) ms ≡ a → aside_record (cond a (laid_slot (under (suc k) slots)) (Err error.UnknownTicket)) ≡ cond a (cond (is_collected (suc k) ms) (record_.Refused error.AlreadyTaken) record_.Aside) (record_.Refused error.UnknownTicket)) [
+      | true ↦ λ h.
+          let lt : k < given ms = within_count k (given ms) h in
+          rw (get_or_from_slice_get slots k (slot_of (suc k) ms) None (f.slot k lt)) (slot_aside (suc k) (channel_of_ticket (suc k) ms) (leaving_of (suc k) ms) (life_of_ticket (suc k) ms))
       | false ↦ λ h. refl
     ] refl)

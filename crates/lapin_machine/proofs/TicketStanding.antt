@@ -17,14 +17,27 @@ use Rattle.lapin_history.specs.declared.broker_frames.Incoming.{Incoming}
 use Rattle.lapin_history.specs.declared.broker_frames.Incoming.TheVariants as incoming
 use Rattle.lapin_history.specs.declared.phases.Link.{Link}
 use Rattle.lapin_history.specs.declared.phases.Link.TheVariants as link
-use Rattle.lapin_history.specs.Phases.{is_lost, has_sent_close}
+use Rattle.lapin_history.specs.Phases.{is_lost}
+use Rattle.lapin_history.specs.ChannelClose.{has_sent_close}
 use Rattle.lapin_history.specs.declared.phases.Closer.TheVariants as closer
-use Rattle.lapin_history.specs.Closes.{failed_at_close, close_ok_end}
-use Rattle.lapin_history.specs.TicketReadings.{TicketMark, Given, ClosedHere, OpeningFailed, AllFailed, Collected, gives, given}
+use Rattle.lapin_history.specs.ChannelClose.{failed_at_close, close_ok_end}
+use Rattle.lapin_history.specs.TicketReadings.{TicketMark, Given, ClosedHere, OpeningFailed, AllFailed, Collected, SetAside, gives, given}
 use Rattle.lapin_history.specs.Heard.{heard}
-use Rattle.lapin_history.specs.Base.{Base, state_of, phase_of, is_allowed, is_open, after_event, after_call, after_heard, handed}
+use Rattle.lapin_history.specs.Base.{Base, state_of, phase_of, is_open}
+use Rattle.lapin_history.specs.Asking.{is_allowed, after_call}
+use Rattle.lapin_history.specs.Events.{after_event}
+use Rattle.lapin_history.specs.Hearing.{after_heard}
+use Rattle.lapin_history.specs.Handing.{handed}
 use Rattle.lapin_history.specs.declared.marks.AtLeaving.{AtLeaving}
-use Rattle.lapin_history.specs.Marked.{ticket_marks, made_answer, made_marks, leaving_answer, close_tickets, call_tickets, begun_ticket, last_ticket, left_tickets, resolved_with, end_tickets, connection_close_tickets, received_tickets, failed_tickets, refused_tickets, heard_tickets, is_answer}
+use Rattle.lapin_history.specs.Events.{ticket_marks}
+use Rattle.lapin_history.specs.Asking.{made_answer, made_marks, leaving_answer, call_tickets}
+use Rattle.lapin_history.specs.Asking.{closing_tickets}
+use Rattle.lapin_history.specs.Handing.{begun_ticket, last_ticket, left_tickets}
+use Rattle.lapin_history.specs.Requests.{resolved_with}
+use Rattle.lapin_history.specs.Ends.{end_tickets}
+use Rattle.lapin_history.specs.ConnectionClose.{connection_close_tickets}
+use Rattle.lapin_history.specs.Hearing.{received_tickets, failed_tickets, refused_tickets, heard_tickets}
+use Rattle.lapin_history.specs.Polls.{is_answer, is_aside}
 use Rattle.lapin_history.proofs.TicketLaws.{given-push}
 use Rattle.lapin_ticket.specs.declared.Slot.{Slot}
 use Rattle.lapin_ticket.specs.Desk.{after_mark}
@@ -80,7 +93,7 @@ choose_none : (t : Bool) (xs ys : List TicketMark) → gives_none xs → gives_n
 choose_none true xs ys h k = h
 choose_none false xs ys h k = k
 
-call_none : (c : ℕ) (k : Asked) → gives_none (close_tickets c k)
+call_none : (c : ℕ) (k : Asked) → gives_none (closing_tickets c k)
 call_none c ask.Open = tt
 call_none c (ask.CloseChannel code text) = (refl, tt)
 call_none c (ask.CloseConnection code text) = (refl, tt)
@@ -141,6 +154,7 @@ heard_none i record_.Pending b = tt
 heard_none i (record_.Answer a) b = tt
 heard_none i (record_.Confirmed o) b = tt
 heard_none i (record_.State x y) b = tt
+heard_none i record_.Aside b = tt
 heard_none i record_.Lost b = tt
 
 -- an event that gives no ticket
@@ -165,7 +179,7 @@ given-one c l ms before made h k =
 
 stand_call : (c : ℕ) (k : Asked) (b : Base) (ms : List TicketMark) (slots : List (Option Slot)) → TicketsStand b ms slots → TicketsStand (after_call c k b) (ms ++ call_tickets c k b) (fold after_mark slots (call_tickets c k b))
 stand_call c k b ms slots s =
-    let all : given (ms ++ call_tickets c k b) ≡ given ms + 1 = given-one c (leaving_answer k b) ms (close_tickets c k) (made_marks (b.tickets + 1) (made_answer k)) (call_none c k) (made_none (b.tickets + 1) (made_answer k)) in
+    let all : given (ms ++ call_tickets c k b) ≡ given ms + 1 = given-one c (leaving_answer k b) ms (closing_tickets c k) (made_marks (b.tickets + 1) (made_answer k)) (call_none c k) (made_none (b.tickets + 1) (made_answer k)) in
     record { kept = follows_fold ms (call_tickets c k b) slots s.kept; given = call_tickets_more c k b ∙ ap (λ n. n + 1) s.given ∙ sym all }
 
 choose_call : (t : Bool) (x b : Base) (ms new : List TicketMark) (slots : List (Option Slot)) → TicketsStand x (ms ++ new) (fold after_mark slots new) → TicketsStand b ms slots → TicketsStand (cond t x b) (ms ++ cond t new []) (fold after_mark slots (cond t new []))
@@ -183,6 +197,7 @@ tickets-next b ms slots (event.Call c k) r s = choose_call (is_allowed (asked k)
 tickets-next b ms slots (event.Next flow) r s = stand_quiet b (after_event b (event.Next flow) r) ms (left_tickets (handed flow b)) slots s (left_none (handed flow b)) (next_counts flow b).0
 tickets-next b ms slots (event.Receive f) r s = stand_quiet b (after_heard (heard f) r b) ms (heard_tickets (heard f) r b) slots s (heard_none (heard f) r b) (heard_counts (heard f) r b).0
 tickets-next b ms slots (event.PollTicket n) r s = stand_quiet b b ms (cond (is_answer r) (Collected n ∷ []) []) slots s (choose_none (is_answer r) (Collected n ∷ []) [] (refl, tt) tt) refl
+tickets-next b ms slots (event.AsideTicket n) r s = stand_quiet b b ms (cond (is_aside r) (SetAside n ∷ []) []) slots s (choose_none (is_aside r) (SetAside n ∷ []) [] (refl, tt) tt) refl
 tickets-next b ms slots (event.PollConfirm n) r s = stand_quiet b b ms [] slots s tt refl
 tickets-next b ms slots (event.State c) r s = stand_quiet b b ms [] slots s tt refl
 tickets-next b ms slots event.Lost r s = stand_lost b.link b _ ms slots error.ConnectionLost refl s

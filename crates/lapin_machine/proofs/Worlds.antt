@@ -40,15 +40,31 @@ use Rattle.lapin_history.specs.Words.{with_channel}
 use Rattle.lapin_history.specs.Leaving.{Lists, handed_of, left_lists}
 use Rattle.lapin_history.specs.Frames.{MethodEntry, RestEntry}
 use Rattle.lapin_history.specs.Drops.{no_lists, without_publishes_of, without_channel}
-use Rattle.lapin_history.specs.Phases.{is_live, is_up, is_lost, after_broker_close, has_sent_close}
-use Rattle.lapin_history.specs.Closes.{failed_at_close, close_ok_end, failed_at_connection_close, failed_at_unexpected, session_close, unexpected_close}
+use Rattle.lapin_history.specs.Phases.{is_live, is_up, is_lost}
+use Rattle.lapin_history.specs.ChannelClose.{after_broker_close, has_sent_close}
+use Rattle.lapin_history.specs.ChannelClose.{failed_at_close, close_ok_end}
+use Rattle.lapin_history.specs.ConnectionClose.{failed_at_connection_close}
+use Rattle.lapin_history.specs.Unexpected.{failed_at_unexpected, unexpected_close}
+use Rattle.lapin_history.specs.Settlement.{session_close}
 use Rattle.lapin_history.specs.Requests.{requests_in, first_request, without_kind, no_requests, close_alone, request_alone, ticket_of}
 use Rattle.lapin_history.specs.declared.marks.AtLeaving.TheVariants as leaving
 use Rattle.lapin_history.specs.TicketReadings.{TicketMark}
 use Rattle.lapin_history.specs.TicketReadings as ticket
-use Rattle.lapin_history.specs.Base.{Base, state_of, phase_of, is_allowed, is_open, is_base, after_call, requests_with, noted, closing, down, after_unexpected, after_channel_close, after_close_ok, after_connection_close, after_connection_close_ok, kept_at, unless_sent, has_sent, sent, link_sent, phases_sent, with_lists}
-use Rattle.lapin_history.specs.Base.{ended as ended_base}
-use Rattle.lapin_history.specs.Marked.{is_select, ends, end_with, resolved_with, made_marks, queued_marks, call_marks, call_tickets, kept_ticket, end_tickets, close_ticket, connection_close_tickets, begun_ticket, last_ticket, left_tickets, method_marks, frame_marks, entry_marks, left_marks}
+use Rattle.lapin_history.specs.Base.{Base, state_of, phase_of, is_open, is_base, requests_with, noted, with_lists}
+use Rattle.lapin_history.specs.Asking.{is_allowed, after_call}
+use Rattle.lapin_history.specs.ChannelClose.{closing, after_channel_close, after_close_ok, kept_at, phases_sent}
+use Rattle.lapin_history.specs.Ends.{down}
+use Rattle.lapin_history.specs.Unexpected.{after_unexpected}
+use Rattle.lapin_history.specs.ConnectionClose.{after_connection_close, after_connection_close_ok, unless_sent, has_sent, link_sent}
+use Rattle.lapin_history.specs.Handing.{sent}
+use Rattle.lapin_history.specs.Ends.{ended as ended_base}
+use Rattle.lapin_history.specs.Select.{is_select, queued_marks, method_marks}
+use Rattle.lapin_history.specs.Ends.{ends, live_channels, end_with, end_tickets}
+use Rattle.lapin_history.specs.Requests.{resolved_with}
+use Rattle.lapin_history.specs.Asking.{made_marks, call_marks, call_tickets}
+use Rattle.lapin_history.specs.ChannelClose.{kept_ticket, close_ticket}
+use Rattle.lapin_history.specs.ConnectionClose.{connection_close_tickets}
+use Rattle.lapin_history.specs.Handing.{begun_ticket, last_ticket, left_tickets, frame_marks, entry_marks, left_marks}
 use Rattle.lapin_outbox.specs.Outgoing.{with_method}
 use Rattle.lapin_outbox.specs.Open.{requests_at}
 use Rattle.lapin_ticket.specs.declared.Slot.{Slot}
@@ -118,16 +134,9 @@ rejected-count c e b = length-map b.cells _
 pub ended-count : (c : ℕ) (e : Error) (b : Book) → length (ended c e b).cells ≡ length b.cells
 ended-count c e b = length-map b.cells _
 
-pub ends-count : (e : Error) (xs : List (ℕ × Phase)) (b : Book) → length (fold book.after_mark b (ends e xs)).cells ≡ length b.cells
+pub ends-count : (e : Error) (cs : List ℕ) (b : Book) → length (fold book.after_mark b (ends e cs)).cells ≡ length b.cells
 ends-count e [] b = refl
-ends-count e (x ∷ xs) b = elim (is_live x.1) as (λ t. length (fold book.after_mark b (cond t (mark.Ended x.0 e ∷ ends e xs) (ends e xs))).cells ≡ length b.cells) [
-  | true ↦ ends-count e xs (ended x.0 e b) ∙ ended-count x.0 e b
-  | false ↦ ends-count e xs b
-]
-
-pub ends_if-count : (t : Bool) (e : Error) (xs : List (ℕ × Phase)) (b : Book) → length (fold book.after_mark b (cond t (ends e xs) [])).cells ≡ length b.cells
-ends_if-count true e xs b = ends-count e xs b
-ends_if-count false e xs b = refl
+ends-count e (c ∷ cs) b = ends-count e cs (ended c e b) ∙ ended-count c e b
 
 -- ---- a frame that leaves
 
@@ -176,7 +185,7 @@ closed_counted c e slots new h = ap length h ∙ closed-count c e slots
 pub rejected_counted : (c : ℕ) (e : Error) (b new : Book) → new ≡ closed_here c e b → length new.cells ≡ length b.cells
 rejected_counted c e b new h = ap (λ (x : Book). length x.cells) h ∙ rejected-count c e b
 
-pub ends_counted : (e : Error) (xs : List (ℕ × Phase)) (b new : Book) → new ≡ fold book.after_mark b (ends e xs) → length new.cells ≡ length b.cells
+pub ends_counted : (e : Error) (xs : List ℕ) (b new : Book) → new ≡ fold book.after_mark b (ends e xs) → length new.cells ≡ length b.cells
 ends_counted e xs b new h = ap (λ (x : Book). length x.cells) h ∙ ends-count e xs b
 
 pub called-count : (c : ℕ) (m : Method) (b : Book) → length (fold book.after_mark b (queued_marks c m)).cells ≡ length b.cells
@@ -246,9 +255,9 @@ module _ (m : ℕ) (l : Link) (p : List (ℕ × Phase)) (x : Lists) (rs : List (
       → (seen m l2 p2 x2 rs2 s2 b2).base ≡ record { frame_max = m; link = l2; phases = p2; rest = x2.rest; methods = x2.methods; publishes = x2.publishes; requests = rs2; tickets = length s; published = length b.cells }
   counted l2 p2 x2 rs2 s2 b2 e f = rw (e, f) refl
 
-  pub lost_seen : is_lost l ≡ false → seen m link.Lost p no_lists [] (after_mark s (ticket.AllFailed error.ConnectionLost)) (fold book.after_mark b (cond (is_up l) (ends error.ConnectionLost p) [])) ≡ next old event.Lost
+  pub lost_seen : is_lost l ≡ false → seen m link.Lost [] no_lists [] (after_mark s (ticket.AllFailed error.ConnectionLost)) (fold book.after_mark b (ends error.ConnectionLost (live_channels p))) ≡ next old event.Lost
   lost_seen h =
-      let base = counted link.Lost p no_lists [] (after_mark s (ticket.AllFailed error.ConnectionLost)) (fold book.after_mark b (cond (is_up l) (ends error.ConnectionLost p) [])) (failed-count error.ConnectionLost s) (ends_if-count (is_up l) error.ConnectionLost p b) in
+      let base = counted link.Lost [] no_lists [] (after_mark s (ticket.AllFailed error.ConnectionLost)) (fold book.after_mark b (ends error.ConnectionLost (live_channels p))) (failed-count error.ConnectionLost s) (ends-count error.ConnectionLost (live_channels p) b) in
       world_is _ _ (base ∙ sym (rw h refl)) refl (sym (rw h refl))
 
   -- ---- closes of this side
@@ -280,26 +289,27 @@ module _ (m : ℕ) (l : Link) (p : List (ℕ × Phase)) (x : Lists) (rs : List (
       (eT ∙ ap (λ y. after_mark y (ticket.Given c leaving.Nothing)) eS)
       ∙ sym (call_next old c (ask.CloseChannel code text) h)
 
-  pub connection_close_seen : (c code : ℕ) (text : List ℕ) (l2 : Link) (L : Lists) (R : List (ℕ × List Request)) (S T : List (Option Slot)) (B : Book)
+  pub connection_close_seen : (c code : ℕ) (text : List ℕ) (l2 : Link) (P : List (ℕ × Phase)) (L : Lists) (R : List (ℕ × List Request)) (S T : List (Option Slot)) (B : Book)
       → is_base (state_of c old.base) ≡ true
       → l2 ≡ link.Closing false false
+      → P ≡ []
       → S ≡ after_mark s (ticket.AllFailed failed_at_connection_close)
       → L ≡ with_method (record { channel = c; method = method.Connection (connection.Close code text 0 0); ticket = Some (length S + 1) }) no_lists
       → R ≡ requests_with c (length S + 1) (Some reply.ConnectionCloseOk) []
       → T ≡ after_mark S (ticket.Given c leaving.Nothing)
-      → B ≡ fold book.after_mark b (cond (is_up l) (ends failed_at_connection_close p) [])
-      → seen m l2 p L R T B ≡ asking c (ask.CloseConnection code text) old
-  connection_close_seen c code text l2 L R S T B h el eS eL eR eT eB =
+      → B ≡ fold book.after_mark b (ends failed_at_connection_close (live_channels p))
+      → seen m l2 P L R T B ≡ asking c (ask.CloseConnection code text) old
+  connection_close_seen c code text l2 P L R S T B h el eP eS eL eR eT eB =
       let count : length S ≡ length s = failed_counted failed_at_connection_close s S eS in
       let entry : ℕ → MethodEntry = λ k. record { channel = c; method = method.Connection (connection.Close code text 0 0); ticket = Some (k + 1) } in
       world_is _ _
-      (base_is _ (after_call c (ask.CloseConnection code text) old.base) refl el refl
+      (base_is _ (after_call c (ask.CloseConnection code text) old.base) refl el eP
       (ap (λ (y : Lists). y.rest) eL)
       (ap (λ (y : Lists). y.methods) eL ∙ ap (λ k. entry k ∷ []) count)
       (ap (λ (y : Lists). y.publishes) eL)
       (eR ∙ ap (λ k. requests_with c (k + 1) (Some reply.ConnectionCloseOk) []) count)
       (given-count c (length s) S T eT count)
-      (ap (λ (y : Book). length y.cells) eB ∙ ends_if-count (is_up l) failed_at_connection_close p b))
+      (ap (λ (y : Book). length y.cells) eB ∙ ends-count failed_at_connection_close (live_channels p) b))
       eB
       (eT ∙ ap (λ y. after_mark y (ticket.Given c leaving.Nothing)) eS)
       ∙ sym (call_next old c (ask.CloseConnection code text) h)
@@ -324,19 +334,20 @@ module _ (m : ℕ) (l : Link) (p : List (ℕ × Phase)) (x : Lists) (rs : List (
 
   -- ---- frames that are not heard
 
-  pub unexpected_seen : (i : Incoming) (class number : ℕ) (l2 : Link) (L : Lists) (R : List (ℕ × List Request)) (S : List (Option Slot)) (B : Book)
+  pub unexpected_seen : (i : Incoming) (class number : ℕ) (l2 : Link) (P : List (ℕ × Phase)) (L : Lists) (R : List (ℕ × List Request)) (S : List (Option Slot)) (B : Book)
       → l2 ≡ link.Closing false false
+      → P ≡ []
       → L ≡ with_method (record { channel = 0; method = unexpected_close class number; ticket = None }) no_lists
       → R ≡ []
       → S ≡ after_mark s (ticket.AllFailed failed_at_unexpected)
-      → B ≡ fold book.after_mark b (cond (is_up l) (ends failed_at_unexpected p) [])
-      → seen m l2 p L R S B ≡ hearing i (record_.Refused (error.UnexpectedFrame class number)) old
-  unexpected_seen i class number l2 L R S B el eL eR eS eB =
+      → B ≡ fold book.after_mark b (ends failed_at_unexpected (live_channels p))
+      → seen m l2 P L R S B ≡ hearing i (record_.Refused (error.UnexpectedFrame class number)) old
+  unexpected_seen i class number l2 P L R S B el eP eL eR eS eB =
       world_is _ _
-      (base_is _ (after_unexpected class number old.base) refl el refl
+      (base_is _ (after_unexpected class number old.base) refl el eP
       (ap (λ (y : Lists). y.rest) eL) (ap (λ (y : Lists). y.methods) eL) (ap (λ (y : Lists). y.publishes) eL) eR
       (failed_counted failed_at_unexpected s S eS)
-      (ap (λ (y : Book). length y.cells) eB ∙ ends_if-count (is_up l) failed_at_unexpected p b))
+      (ap (λ (y : Book). length y.cells) eB ∙ ends-count failed_at_unexpected (live_channels p) b))
       eB
       eS
 
@@ -418,44 +429,47 @@ module _ (m : ℕ) (l : Link) (p : List (ℕ × Phase)) (x : Lists) (rs : List (
       (ap (λ ms. fold book.after_mark b ms) (ap (end_with c) (sym h)))
       (eS ∙ sym (marks-join done [] s) ∙ ap (λ o. fold after_mark s (done ++ end_tickets c o)) (sym h))
 
-  pub connection_close_crossed : (code : ℕ) (l2 : Link) (L : Lists) → is_close_sent l ≡ true → l2 ≡ link.Closing true true
+  pub connection_close_crossed : (code : ℕ) (l2 : Link) (L : Lists) → is_close_sent l ≡ true → p ≡ [] → l2 ≡ link.Closing true true
       → L ≡ with_method (record { channel = 0; method = method.Connection connection.CloseOk; ticket = None }) x
       → seen m l2 p L rs s b ≡ hearing (incoming.ConnectionClose code) record_.Received old
-  connection_close_crossed code l2 L h el eL = at l h
+  connection_close_crossed code l2 L h none el eL = at l h
     where
       at : (k : Link) → is_close_sent k ≡ true → seen m l2 p L rs s b ≡ hearing (incoming.ConnectionClose code) record_.Received (seen m k p x rs s b)
       at link.Open h = cc
-      at (link.Closing true heard) h = world_is _ _ (base_is _ _ refl el refl (ap (λ (y : Lists). y.rest) eL) (ap (λ (y : Lists). y.methods) eL) (ap (λ (y : Lists). y.publishes) eL) refl refl refl) refl refl
+      at (link.Closing true heard) h =
+          world_is _ _ (base_is _ _ refl el refl (ap (λ (y : Lists). y.rest) eL) (ap (λ (y : Lists). y.methods) eL) (ap (λ (y : Lists). y.publishes) eL) refl refl refl)
+          (ap (λ (ps : List (ℕ × Phase)). fold book.after_mark b (ends (error.ProtocolError code) (live_channels ps))) (sym none)) refl
       at (link.Closing false heard) h = cc
       at link.Closed h = cc
       at link.Lost h = cc
 
-  pub connection_close_heard : (code : ℕ) (l2 : Link) (L : Lists) (R : List (ℕ × List Request)) (S : List (Option Slot)) (B : Book) → is_close_sent l ≡ false → l2 ≡ link.Closed
+  pub connection_close_heard : (code : ℕ) (l2 : Link) (P : List (ℕ × Phase)) (L : Lists) (R : List (ℕ × List Request)) (S : List (Option Slot)) (B : Book) → is_close_sent l ≡ false → l2 ≡ link.Closed
+      → P ≡ []
       → L ≡ with_method (record { channel = 0; method = method.Connection connection.CloseOk; ticket = None }) no_lists
       → R ≡ []
       → S ≡ after_mark s (ticket.AllFailed (error.ProtocolError code))
-      → B ≡ fold book.after_mark b (cond (is_up l) (ends (error.ProtocolError code) p) [])
-      → seen m l2 p L R S B ≡ hearing (incoming.ConnectionClose code) record_.Received old
-  connection_close_heard code l2 L R S B h el eL eR eS eB = at l h eB
+      → B ≡ fold book.after_mark b (ends (error.ProtocolError code) (live_channels p))
+      → seen m l2 P L R S B ≡ hearing (incoming.ConnectionClose code) record_.Received old
+  connection_close_heard code l2 P L R S B h el eP eL eR eS eB = at l h
     where
       by_parts : (k : Link) → (after_connection_close k (seen m k p x rs s b).base ≡ noted 0 (method.Connection connection.CloseOk) (down link.Closed (seen m k p x rs s b).base)) → connection_close_tickets k code ≡ ticket.AllFailed (error.ProtocolError code) ∷ []
-          → B ≡ fold book.after_mark b (cond (is_up k) (ends (error.ProtocolError code) p) []) → seen m l2 p L R S B ≡ hearing (incoming.ConnectionClose code) record_.Received (seen m k p x rs s b)
-      by_parts k base tickets eB =
+          → seen m l2 P L R S B ≡ hearing (incoming.ConnectionClose code) record_.Received (seen m k p x rs s b)
+      by_parts k base tickets =
           world_is _ _
-          (base_is _ (noted 0 (method.Connection connection.CloseOk) (down link.Closed (seen m k p x rs s b).base)) refl el refl
+          (base_is _ (noted 0 (method.Connection connection.CloseOk) (down link.Closed (seen m k p x rs s b).base)) refl el eP
           (ap (λ (y : Lists). y.rest) eL) (ap (λ (y : Lists). y.methods) eL) (ap (λ (y : Lists). y.publishes) eL) eR
           (failed_counted (error.ProtocolError code) s S eS)
-          (ap (λ (y : Book). length y.cells) eB ∙ ends_if-count (is_up k) (error.ProtocolError code) p b)
+          (ap (λ (y : Book). length y.cells) eB ∙ ends-count (error.ProtocolError code) (live_channels p) b)
           ∙ sym base)
           eB
           (eS ∙ ap (λ ms. fold after_mark s ms) (sym tickets))
 
-      at : (k : Link) → is_close_sent k ≡ false → B ≡ fold book.after_mark b (cond (is_up k) (ends (error.ProtocolError code) p) []) → seen m l2 p L R S B ≡ hearing (incoming.ConnectionClose code) record_.Received (seen m k p x rs s b)
-      at link.Open h e = by_parts link.Open refl refl e
-      at (link.Closing true heard) h e = cc
-      at (link.Closing false heard) h e = by_parts (link.Closing false heard) refl refl e
-      at link.Closed h e = by_parts link.Closed refl refl e
-      at link.Lost h e = by_parts link.Lost refl refl e
+      at : (k : Link) → is_close_sent k ≡ false → seen m l2 P L R S B ≡ hearing (incoming.ConnectionClose code) record_.Received (seen m k p x rs s b)
+      at link.Open h = by_parts link.Open refl refl
+      at (link.Closing true heard) h = cc
+      at (link.Closing false heard) h = by_parts (link.Closing false heard) refl refl
+      at link.Closed h = by_parts link.Closed refl refl
+      at link.Lost h = by_parts link.Lost refl refl
 
   pub connection_answered : (l2 : Link) (L : Lists) (R : List (ℕ × List Request)) (S : List (Option Slot)) → l2 ≡ link.Closed
       → L ≡ unless_sent (has_sent l) x

@@ -1,11 +1,12 @@
 -- When a session's value is what a history says.
-use Rattle.std.specs.Prelude.{◌≡◌, ◌≢◌, ℕ, List, [], ◌∷◌, Option}
+use Rattle.std.specs.Prelude.{◌≡◌, ◌≢◌, ℕ, false, List, [], ◌∷◌, Option}
 use Rattle.std.specs.List.{AllByRecursion}
 use Rattle.lapin_types.specs.declared.leaving.Publish.{Publish}
 use Rattle.lapin_history.specs.ConfirmMarks.{ConfirmMark}
 use Rattle.lapin_history.specs.ConfirmMarks as mark
 use Rattle.lapin_history.specs.ConfirmReadings.{added}
 use Rattle.lapin_history.specs.TicketReadings.{TicketMark, given}
+use Rattle.lapin_history.specs.Phases.{is_up}
 use Rattle.lapin_history.specs.Base.{Base}
 use Rattle.lapin_history.specs.History.{History, past}
 use Rattle.lapin_confirm.specs.Book.{Book}
@@ -31,9 +32,14 @@ pub record TicketsStand (b : Base) (ms : List TicketMark) (slots : List (Option 
   pub kept : tickets.Follows ms slots
   pub given : b.tickets ≡ given ms
 
+-- no channel stands open once the connection does not
+abbrev pub IsShut : Base → Type 0
+IsShut b = is_up b.link ≡ false → b.phases ≡ []
+
 -- The session stands for the history: it has its states, lists, requests and counters; its tags, outcomes and answers are those
 -- that the history's marks say.
 pub record Stands (frame_max : ℕ) (h : History) (w : World) : Type 0 where
   pub base : w.base ≡ (past frame_max h).base
+  pub shut : IsShut w.base
   pub confirms : ConfirmsStand w.base (past frame_max h).confirms w.book
   pub tickets : TicketsStand w.base (past frame_max h).tickets w.slots

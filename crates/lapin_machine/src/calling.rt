@@ -8,15 +8,15 @@ ghost use Rattle.lapin_types.specs.declared.event.Event.TheVariants.{Call as Cal
 ghost use Rattle.lapin_types.specs.declared.call.Call.TheVariants.{OpenChannel, BasicPublish};
 ghost use Rattle.lapin_history.specs.declared.calls.Asked.TheVariants as ask;
 ghost use Rattle.lapin_history.specs.Calls.{asked as asked_lem, publishes};
-ghost use Rattle.lapin_history.specs.Answers.{call_record};
-ghost use Rattle.lapin_history.specs.Marked.{queued_marks};
+ghost use Rattle.lapin_history.specs.Asking.{call_record};
+ghost use Rattle.lapin_history.specs.Select.{queued_marks};
 ghost use Rattle.lapin_confirm.specs.Book as book;
 ghost use Rattle.lapin_machine.specs.World.{told_by, next, asking};
 ghost use Rattle.lapin_machine.specs.Told.{TicketTold, PublishTold, ticket_told, publish_told};
 ghost use Rattle.lapin_machine.specs.Numbers.{HasCause, CallCause, AskCause};
 
 use crate::channel::{Published, PublisherConfirm, Ticket};
-use crate::session::{Session, is_closed, is_open, set_phase};
+use crate::session::{Session, is_closed, is_open};
 use lapin_confirm::Confirms;
 use lapin_history::{Asked, AtLeaving, Phase, Row, sort_call};
 use lapin_types::{
@@ -48,7 +48,7 @@ impl Session {
         self.phases.reserve(channel)?;
         self.desk.reserve(alloc, channel)?;
         self.confirms.begin(alloc, channel)?;
-        set_phase(&mut self.phases, channel, Phase::Opening);
+        self.phases.set(channel, Phase::Opening);
         let row = Row {
             method: Method::Channel(ChannelMethod::Open),
             awaits: Some(Reply::ChannelOpenOk),

@@ -7,9 +7,12 @@ ghost use Rattle.lapin_tables.specs.ByChannel.{on_channel};
 ghost use Rattle.lapin_types.specs.declared.record.Record.TheVariants.{Received};
 ghost use Rattle.lapin_history.specs.declared.broker_frames.Incoming.TheVariants.{ChannelClose as ChannelCloseFrame, ChannelCloseOk as ChannelCloseOkFrame, ConnectionClose as ConnectionCloseFrame, ConnectionCloseOk as ConnectionCloseOkFrame};
 ghost use Rattle.lapin_history.specs.Requests.{first_request, without_kind, no_requests, ticket_of as ticket_of_lem};
-ghost use Rattle.lapin_history.specs.Phases.{is_up, has_sent_close as has_sent_close_lem};
-ghost use Rattle.lapin_history.specs.Base.{state_of, phase_of, hears_close as hears_close_lem, hears_close_ok as hears_close_ok_lem, unless_sent, has_sent};
-ghost use Rattle.lapin_history.specs.Closes.{close_ok_end as close_ok_end_lem};
+ghost use Rattle.lapin_history.specs.Phases.{is_up};
+ghost use Rattle.lapin_history.specs.ChannelClose.{has_sent_close as has_sent_close_lem};
+ghost use Rattle.lapin_history.specs.Base.{state_of, phase_of};
+ghost use Rattle.lapin_history.specs.ChannelClose.{hears_close as hears_close_lem, hears_close_ok as hears_close_ok_lem};
+ghost use Rattle.lapin_history.specs.ConnectionClose.{unless_sent, has_sent};
+ghost use Rattle.lapin_history.specs.ChannelClose.{close_ok_end as close_ok_end_lem};
 ghost use Rattle.lapin_outbox.specs.Open.{requests_at};
 ghost use Rattle.lapin_machine.specs.Kept.{kept_request, with_kept, is_close_sent as is_close_sent_lem};
 ghost use Rattle.lapin_machine.specs.World.{hearing};
@@ -18,7 +21,7 @@ ghost use Rattle.lapin_machine.specs.Numbers.{HasNumbers};
 
 use crate::channel::Heard;
 use crate::closing::go_down;
-use crate::session::{Session, set_phase};
+use crate::session::Session;
 use lapin_desk::Desk;
 use lapin_history::{Link, Phase, after_broker_close, close_ok_end, has_sent_close};
 use lapin_outbox::Replies;
@@ -45,7 +48,7 @@ impl Session {
         let kept = ticket_of(&close);
         let error = Error::ProtocolError(code);
         self.desk.end_opening(&mut self.confirms, channel, kept, error);
-        set_phase(&mut self.phases, channel, after_broker_close(phase));
+        self.phases.set(channel, after_broker_close(phase));
         keep(&mut self.desk.replies, alloc, channel, close);
         self.desk
             .note(alloc, channel, Method::Channel(ChannelMethod::CloseOk));
@@ -73,7 +76,7 @@ impl Session {
         let close = take_request(&mut self.desk.replies, channel, ReplyKind::ChannelCloseOk);
         self.desk.resolve(into_ticket(close), Ok(Answer::Done));
         self.desk.end_opening(&mut self.confirms, channel, None, error);
-        set_phase(&mut self.phases, channel, Phase::Closed);
+        self.phases.set(channel, Phase::Closed);
     }
 
     // A crossed close ended the opening before.
@@ -83,7 +86,7 @@ impl Session {
         ensures { self.new ≡ hearing (ChannelCloseOkFrame channel) Received self.old }
     {
         let close = take_request(&mut self.desk.replies, channel, ReplyKind::ChannelCloseOk);
-        set_phase(&mut self.phases, channel, Phase::Closed);
+        self.phases.set(channel, Phase::Closed);
         self.desk.resolve(into_ticket(close), Ok(Answer::Done));
     }
 
@@ -107,7 +110,7 @@ impl Session {
         let replies = Replies::new(alloc)?;
         go_down(
             &mut self.link,
-            &self.phases,
+            &mut self.phases,
             &mut self.desk,
             &mut self.confirms,
             replies,

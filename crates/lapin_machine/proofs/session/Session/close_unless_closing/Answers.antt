@@ -7,7 +7,7 @@ use Rattle.lapin_history.specs.declared.broker_frames.Incoming.TheVariants as in
 use Rattle.lapin_history.specs.declared.phases.Closer.TheVariants as closer
 use Rattle.lapin_history.specs.Leaving.{Lists}
 use Rattle.lapin_history.specs.Drops.{without_publishes_of}
-use Rattle.lapin_history.specs.Closes.{failed_at_close}
+use Rattle.lapin_history.specs.ChannelClose.{failed_at_close}
 use Rattle.lapin_history.specs.Base.{is_open, state_of}
 use Rattle.lapin_outbox.specs.Open.{OpenRequests}
 use Rattle.lapin_outbox.specs.Outgoing.{with_method}

@@ -8,10 +8,11 @@ use Rattle.lapin_history.specs.declared.phases.Phase.TheVariants as phase
 use Rattle.lapin_history.specs.declared.broker_frames.Incoming.TheVariants as incoming
 use Rattle.lapin_history.specs.Drops.{without_channel}
 use Rattle.lapin_history.specs.Requests.{without_kind, no_requests, ticket_of}
-use Rattle.lapin_history.specs.Closes.{close_ok_end}
+use Rattle.lapin_history.specs.ChannelClose.{close_ok_end}
 use Rattle.lapin_history.specs.TicketReadings as mark
-use Rattle.lapin_history.specs.Marked.{resolved_with}
-use Rattle.lapin_history.specs.Base.{hears_close_ok, state_of, phase_of}
+use Rattle.lapin_history.specs.Requests.{resolved_with}
+use Rattle.lapin_history.specs.ChannelClose.{hears_close_ok}
+use Rattle.lapin_history.specs.Base.{state_of, phase_of}
 use Rattle.lapin_outbox.specs.Open.{OpenRequests}
 use Rattle.lapin_outbox.specs.Outgoing.{Outgoing}
 use Rattle.lapin_ticket.specs.declared.Slot.{Slot}
@@ -27,10 +28,11 @@ use Rattle.lapin_machine.proofs.session.Session.end_closing.Goals as goal
 pub invariant_of-self : goal.invariant_of-self
 invariant_of-self c =
     let heard = ap (λ (w : World). hears_close_ok (state_of c.args.channel w.base)) c.self.view_is ∙ c.requires.heard in
+    let here = close_ok_some c.self.inside.link c.args.channel c.self.inside.phases.entries heard in
     let Q : Book → Type 0 = λ k. AreQueued k.cells c.end_opening.new.self.outbox.lists.publishes in
-    tied_by _ _ _ _ _ _ _ _ refl c.set_phase.ensures refl
+    tied_by _ _ _ _ _ _ _ _ refl c.set.ensures refl
     c.end_opening.ensures.book
-    (tied_ended c.self.inside.link c.args.channel phase.Closed c.args.error c.self.inside.phases.entries _ _ c.self.inside.confirms.book (close_ok_some c.self.inside.link c.args.channel c.self.inside.phases.entries heard) (subst Q c.end_opening.ensures.book c.end_opening.ensures.queued) c.self.invariant)
+    (tied_ended c.self.inside.link c.args.channel phase.Closed c.args.error c.self.inside.phases.entries _ _ c.self.inside.confirms.book here.0 here.1 (subst Q c.end_opening.ensures.book c.end_opening.ensures.queued) c.self.invariant)
 
 pub returns : goal.returns
 returns c =
@@ -38,7 +40,7 @@ returns c =
     seen_is _ _ _ _ _ _ _ _ _ _ _ _ _ _ (c.end_opening.ensures.frame_max ∙ ap (λ (o : Outgoing). o.frame_max) c.resolve.ensures.outbox) refl refl refl refl refl refl
     ∙ closing_answered c.self.inside.desk.outbox.frame_max c.self.inside.link c.self.inside.phases.entries c.self.inside.desk.outbox.lists c.self.inside.desk.replies.waiting c.self.inside.desk.tickets.slots c.self.inside.confirms.book c.args.channel c.args.error _ _ _ _ _
     (ap (λ (w : World). close_ok_end (phase_of c.args.channel w.base)) c.self.view_is ∙ c.requires.end)
-    c.set_phase.ensures
+    c.set.ensures
     (c.end_opening.ensures.lists ∙ ap (λ (o : Outgoing). without_channel c.args.channel o.lists) c.resolve.ensures.outbox)
     (c.end_opening.ensures.requests ∙ ap (on_channel c.args.channel no_requests) waiting ∙ on_twice c.args.channel (without_kind reply_kind.ChannelCloseOk) no_requests c.self.inside.desk.replies.waiting)
     (c.end_opening.ensures.slots

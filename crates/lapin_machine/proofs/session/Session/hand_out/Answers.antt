@@ -2,7 +2,7 @@ use Rattle.std.proofs.Common.{◌≡◌, ◌∙◌, sym, ap, refl, List, Option,
 use Rattle.std.specs.List.{fold}
 use Rattle.lapin_types.specs.declared.leaving.Left.{Left}
 use Rattle.lapin_history.specs.Leaving.{Lists}
-use Rattle.lapin_history.specs.Marked.{left_marks}
+use Rattle.lapin_history.specs.Handing.{left_marks}
 use Rattle.lapin_confirm.specs.Book.{after_mark}
 use Rattle.lapin_outbox.specs.Open.{OpenRequests}
 use Rattle.lapin_outbox.specs.Outgoing.{Outgoing}

@@ -11,10 +11,12 @@ use Rattle.lapin_history.specs.declared.broker_frames.Incoming.TheVariants as in
 use Rattle.lapin_history.specs.Words.{with_channel}
 use Rattle.lapin_history.specs.Leaving.{Lists}
 use Rattle.lapin_history.specs.Drops.{without_channel}
-use Rattle.lapin_history.specs.Phases.{phase_in, after_broker_close, has_sent_close}
+use Rattle.lapin_history.specs.Phases.{phase_in}
+use Rattle.lapin_history.specs.ChannelClose.{after_broker_close, has_sent_close}
 use Rattle.lapin_history.specs.Requests.{no_requests, ticket_of}
 use Rattle.lapin_history.specs.TicketReadings as mark
-use Rattle.lapin_history.specs.Base.{hears_close, state_of, phase_of}
+use Rattle.lapin_history.specs.ChannelClose.{hears_close}
+use Rattle.lapin_history.specs.Base.{state_of, phase_of}
 use Rattle.lapin_outbox.specs.Open.{OpenRequests, requests_at}
 use Rattle.lapin_outbox.specs.Outgoing.{with_method}
 use Rattle.lapin_ticket.specs.declared.Slot.{Slot}
@@ -32,10 +34,10 @@ invariant_of-self-2 c =
     let heard = ap (λ (w : World). hears_close (state_of c.args.channel w.base)) c.self.view_is ∙ c.requires in
     let here = hears_opening c.self.inside.link c.args.channel c.self.inside.phases.entries heard in
     let Q : Book → Type 0 = λ k. AreQueued k.cells c.end_opening.new.self.outbox.lists.publishes in
-    tied_by _ _ _ _ _ _ _ _ refl c.set_phase.ensures
+    tied_by _ _ _ _ _ _ _ _ refl c.set.ensures
     (ap (λ (l : Lists). l.publishes) c.note.ensures.lists)
     c.end_opening.ensures.book
-    (tied_ended c.self.inside.link c.args.channel c.after_broker_close.result (error.ProtocolError c.args.code) c.self.inside.phases.entries _ _ c.self.inside.confirms.book here.some (subst Q c.end_opening.ensures.book c.end_opening.ensures.queued) c.self.invariant)
+    (tied_ended c.self.inside.link c.args.channel c.after_broker_close.result (error.ProtocolError c.args.code) c.self.inside.phases.entries _ _ c.self.inside.confirms.book here.up here.some (subst Q c.end_opening.ensures.book c.end_opening.ensures.queued) c.self.invariant)
 
 pub returns-clause-ok : goal.returns-clause-ok
 returns-clause-ok c =
@@ -49,7 +51,7 @@ returns-clause-ok c =
     c.end_opening.ensures.requests ∙ c.kept_close-close.ensures.emptied ∙ ap (on_channel c.args.channel no_requests) c.reserve-2.ensures.same in
     seen_is _ _ _ _ _ _ _ _ _ _ _ _ _ _ (c.note.ensures.frame_max ∙ c.end_opening.ensures.frame_max ∙ c.reserve.ensures.frame_max) refl refl refl refl refl refl
     ∙ channel_close_heard c.self.inside.desk.outbox.frame_max c.self.inside.link c.self.inside.phases.entries c.self.inside.desk.outbox.lists c.self.inside.desk.replies.waiting c.self.inside.desk.tickets.slots c.self.inside.confirms.book c.args.channel c.args.code _ _ _ _ _
-    (c.set_phase.ensures ∙ ap (λ (q : Phase). with_channel c.args.channel q c.self.inside.phases.entries) (c.after_broker_close.ensures ∙ ap after_broker_close stood))
+    (c.set.ensures ∙ ap (λ (q : Phase). with_channel c.args.channel q c.self.inside.phases.entries) (c.after_broker_close.ensures ∙ ap after_broker_close stood))
     (c.note.ensures.lists ∙ ap (with_method (record { channel = c.args.channel; method = method.Channel channel.CloseOk; ticket = None })) (c.end_opening.ensures.lists ∙ ap (without_channel c.args.channel) c.reserve.ensures.same))
     (ap (λ (r : OpenRequests). r.waiting) c.note.ensures.replies ∙ c.keep.ensures
     ∙ ap (λ (o : Option Request). with_kept c.args.channel o c.end_opening.new.self.replies.waiting) close

@@ -8,8 +8,8 @@ use Rattle.lapin_history.specs.Leaving.{Lists}
 use Rattle.lapin_history.specs.Phases.{is_up}
 use Rattle.lapin_types.specs.declared.request.ReplyKind.TheVariants as reply_kind
 use Rattle.lapin_history.specs.Requests.{first_request, ticket_of}
-use Rattle.lapin_history.specs.Marked.{resolved_with}
-use Rattle.lapin_history.specs.Base.{has_sent}
+use Rattle.lapin_history.specs.Requests.{resolved_with}
+use Rattle.lapin_history.specs.ConnectionClose.{has_sent}
 use Rattle.lapin_outbox.specs.Open.{OpenRequests, requests_at}
 use Rattle.lapin_outbox.specs.Outgoing.{Outgoing}
 use Rattle.lapin_ticket.specs.declared.Slot.{Slot}

@@ -3,7 +3,7 @@ use Rattle.std.specs.List.{fold}
 use Rattle.lapin_history.specs.declared.calls.Asked.TheVariants as ask
 use Rattle.lapin_history.specs.Leaving.{Lists}
 use Rattle.lapin_history.specs.TicketReadings as mark
-use Rattle.lapin_history.specs.Marked.{made_marks}
+use Rattle.lapin_history.specs.Asking.{made_marks}
 use Rattle.lapin_history.specs.Base.{is_open, state_of, requests_with}
 use Rattle.lapin_outbox.specs.Outgoing.{with_method}
 use Rattle.lapin_ticket.specs.declared.Slot.{Slot}
