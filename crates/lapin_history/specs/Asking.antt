@@ -1,7 +1,9 @@
 -- A call: when it is allowed, its record, what it leaves, and its marks. All of this goes by what the call is in the table of calls.
 use Rattle.std.specs.Prelude.{ℕ, ◌+◌, Bool, if◌then◌else◌, List, [], ◌∷◌, ◌++◌, Option, Some, None, Ok}
-use Rattle.lapin_types.specs.Types.{ChannelState, Record, Answer}
-use Rattle.lapin_types.specs.Types.record_
+use Rattle.lapin_types.specs.declared.record.Record.{Record}
+use Rattle.lapin_types.specs.declared.answer.Answer.{Answer}
+use Rattle.lapin_types.specs.Types.{ChannelState}
+use Rattle.lapin_types.specs.declared.record.Record.TheVariants as record_
 use Rattle.lapin_types.specs.Types.error
 use Rattle.lapin_history.specs.declared.marks.AtLeaving.{AtLeaving}
 use Rattle.lapin_history.specs.declared.marks.AtLeaving.TheVariants as leaving

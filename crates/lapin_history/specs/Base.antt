@@ -2,7 +2,10 @@
 -- open requests and the counters; and the words on it that the rules share. What an event does to it stands with the event's rule.
 use Rattle.std.specs.Prelude.{ℕ, ◌+◌, ◌==◌, Bool, true, false, ◌||◌, if◌then◌else◌, List, [], ◌∷◌, ◌++◌, Option, Some, None}
 use Rattle.lapin_tables.specs.ByChannel.{at_channel}
-use Rattle.lapin_types.specs.Types.{Method, ChannelState, Publish, Request, Reply}
+use Rattle.lapin_types.specs.declared.leaving.Publish.{Publish}
+use Rattle.lapin_types.specs.declared.request.Request.{Request}
+use Rattle.lapin_types.specs.declared.request.Reply.{Reply}
+use Rattle.lapin_types.specs.Types.{Method, ChannelState}
 use Rattle.lapin_types.specs.Types.channel_state as state
 use Rattle.lapin_history.specs.declared.phases.Phase.{Phase}
 use Rattle.lapin_history.specs.declared.phases.Link.{Link}

@@ -1,11 +1,14 @@
 -- The table of calls: what each call is to a session. A line a call says the method that it queues, and how its ticket is answered:
 -- by a reply, by the call itself where it is made without wait, or as its frame leaves. Four calls do more, and are named.
-use Rattle.std.specs.Prelude.{Bool, if◌then◌else◌, Option, Some, None}
+use Rattle.std.specs.Prelude.{Bool, true, false, if◌then◌else◌, Option, Some, None}
 use Rattle.lapin_types.specs.ExchangeKinds.{kind_text}
-use Rattle.lapin_types.specs.Types.{Call, Answer, Reply, Method}
-use Rattle.lapin_types.specs.Types.call
-use Rattle.lapin_types.specs.Types.answer
-use Rattle.lapin_types.specs.Types.reply
+use Rattle.lapin_types.specs.declared.call.Call.{Call}
+use Rattle.lapin_types.specs.declared.answer.Answer.{Answer}
+use Rattle.lapin_types.specs.declared.request.Reply.{Reply}
+use Rattle.lapin_types.specs.Types.{Method}
+use Rattle.lapin_types.specs.declared.call.Call.TheVariants as call
+use Rattle.lapin_types.specs.declared.answer.Answer.TheVariants as answer
+use Rattle.lapin_types.specs.declared.request.Reply.TheVariants as reply
 use Rattle.lapin_types.specs.Types.method
 use Rattle.lapin_types.specs.Types.channel
 use Rattle.lapin_types.specs.Types.access

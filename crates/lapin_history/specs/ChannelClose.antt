@@ -1,15 +1,17 @@
 -- The close of a channel, by this side and by the broker (AMQP 0-9-1, channel class, `close` and `close-ok`).
 use Rattle.std.specs.Prelude.{ℕ, Bool, true, false, ◌||◌, if◌then◌else◌, List, [], ◌∷◌, ◌++◌, Option, Some, None, Result, Ok}
 use Rattle.lapin_tables.specs.ByChannel.{on_channel}
-use Rattle.lapin_types.specs.Types.{Frame, Method, ChannelState, Error, Answer, Request}
+use Rattle.lapin_types.specs.declared.answer.Answer.{Answer}
+use Rattle.lapin_types.specs.declared.request.Request.{Request}
+use Rattle.lapin_types.specs.Types.{Frame, Method, ChannelState, Error}
 use Rattle.lapin_types.specs.Types.frame
 use Rattle.lapin_types.specs.Types.method
 use Rattle.lapin_types.specs.Types.channel
 use Rattle.lapin_types.specs.Types.error
-use Rattle.lapin_types.specs.Types.answer
+use Rattle.lapin_types.specs.declared.answer.Answer.TheVariants as answer
 use Rattle.lapin_types.specs.Types.channel_state as state
-use Rattle.lapin_types.specs.Types.reply
-use Rattle.lapin_types.specs.Types.reply_kind
+use Rattle.lapin_types.specs.declared.request.Reply.TheVariants as reply
+use Rattle.lapin_types.specs.declared.request.ReplyKind.TheVariants as reply_kind
 use Rattle.lapin_history.specs.declared.phases.Closer.{Closer}
 use Rattle.lapin_history.specs.declared.phases.Closer.TheVariants as closer
 use Rattle.lapin_history.specs.declared.phases.Phase.{Phase}

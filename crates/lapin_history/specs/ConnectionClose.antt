@@ -6,10 +6,10 @@ use Rattle.lapin_types.specs.Types.frame
 use Rattle.lapin_types.specs.Types.method
 use Rattle.lapin_types.specs.Types.connection
 use Rattle.lapin_types.specs.Types.error
-use Rattle.lapin_types.specs.Types.answer
+use Rattle.lapin_types.specs.declared.answer.Answer.TheVariants as answer
 use Rattle.lapin_types.specs.Types.channel_state as state
-use Rattle.lapin_types.specs.Types.reply
-use Rattle.lapin_types.specs.Types.reply_kind
+use Rattle.lapin_types.specs.declared.request.Reply.TheVariants as reply
+use Rattle.lapin_types.specs.declared.request.ReplyKind.TheVariants as reply_kind
 use Rattle.lapin_history.specs.declared.phases.Link.{Link}
 use Rattle.lapin_history.specs.declared.phases.Link.TheVariants as link
 use Rattle.lapin_history.specs.declared.broker_frames.Incoming.{Incoming}

@@ -1,9 +1,10 @@
 -- The rules, event by event: the record of an event, what it leaves, and what it does to confirms and tickets. Each line names the
 -- rule that says the rest.
 use Rattle.std.specs.Prelude.{List, []}
-use Rattle.lapin_types.specs.Types.{Event, Record}
-use Rattle.lapin_types.specs.Types.event
-use Rattle.lapin_types.specs.Types.record_
+use Rattle.lapin_types.specs.declared.event.Event.{Event}
+use Rattle.lapin_types.specs.declared.record.Record.{Record}
+use Rattle.lapin_types.specs.declared.event.Event.TheVariants as event
+use Rattle.lapin_types.specs.declared.record.Record.TheVariants as record_
 use Rattle.lapin_history.specs.ConfirmMarks.{ConfirmMark}
 use Rattle.lapin_history.specs.TicketReadings.{TicketMark}
 use Rattle.lapin_history.specs.Phases.{connection_state}

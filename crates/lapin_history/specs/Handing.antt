@@ -1,7 +1,9 @@
 -- A frame request: the frame that leaves is its record, and what its leaving does to lists, states, confirms and tickets.
 use Rattle.std.specs.Prelude.{ℕ, Bool, true, false, List, [], ◌∷◌, ◌++◌, Option, Some, None}
-use Rattle.lapin_types.specs.Types.{Frame, Left, Record}
-use Rattle.lapin_types.specs.Types.record_
+use Rattle.lapin_types.specs.declared.leaving.Left.{Left}
+use Rattle.lapin_types.specs.declared.record.Record.{Record}
+use Rattle.lapin_types.specs.Types.{Frame}
+use Rattle.lapin_types.specs.declared.record.Record.TheVariants as record_
 use Rattle.lapin_types.specs.Types.frame
 use Rattle.lapin_history.specs.ConfirmMarks.{ConfirmMark}
 use Rattle.lapin_history.specs.ConfirmMarks as mark

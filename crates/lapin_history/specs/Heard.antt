@@ -12,8 +12,8 @@ use Rattle.lapin_types.specs.Types.confirm
 use Rattle.lapin_types.specs.Types.exchange
 use Rattle.lapin_types.specs.Types.queue
 use Rattle.lapin_types.specs.Types.tx
-use Rattle.lapin_types.specs.Types.answer
-use Rattle.lapin_types.specs.Types.reply_kind
+use Rattle.lapin_types.specs.declared.answer.Answer.TheVariants as answer
+use Rattle.lapin_types.specs.declared.request.ReplyKind.TheVariants as reply_kind
 use Rattle.lapin_history.specs.declared.marks.SettleKind.{SettleKind}
 use Rattle.lapin_history.specs.declared.marks.SettleKind.TheVariants as settle
 use Rattle.lapin_history.specs.declared.marks.Settlement.{Settlement}

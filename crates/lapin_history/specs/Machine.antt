@@ -1,11 +1,13 @@
 -- The wire machine: the part of a trace that states, lists and confirms determine, and when a trace is the machine's. It says
 -- nothing of what the broker's data brings in: the answers that carry it are left out, and so are returned messages.
 use Rattle.std.specs.Prelude.{◌≡◌, ℕ, Bool, true, false, if◌then◌else◌, List, [], ◌∷◌, ◌++◌, Option, Some, None, Result, Ok}
-use Rattle.lapin_types.specs.Types.{Event, Record, Call}
-use Rattle.lapin_types.specs.Types.event
-use Rattle.lapin_types.specs.Types.record_
-use Rattle.lapin_types.specs.Types.call
-use Rattle.lapin_types.specs.Types.confirmation
+use Rattle.lapin_types.specs.declared.event.Event.{Event}
+use Rattle.lapin_types.specs.declared.record.Record.{Record}
+use Rattle.lapin_types.specs.declared.call.Call.{Call}
+use Rattle.lapin_types.specs.declared.event.Event.TheVariants as event
+use Rattle.lapin_types.specs.declared.record.Record.TheVariants as record_
+use Rattle.lapin_types.specs.declared.call.Call.TheVariants as call
+use Rattle.lapin_types.specs.declared.confirmation.Confirmation.TheVariants as confirmation
 use Rattle.lapin_history.specs.Words.{nth}
 use Rattle.lapin_history.specs.History.{History, rec}
 

@@ -1,10 +1,11 @@
 -- An opening of a channel begins: the call `channel.open`, and the broker's `channel.open-ok` (AMQP 0-9-1, channel class).
 use Rattle.std.specs.Prelude.{ℕ, Bool, true, false, if◌then◌else◌, List, [], ◌∷◌, Some}
-use Rattle.lapin_types.specs.Types.{ChannelState, ReplyKind}
+use Rattle.lapin_types.specs.declared.request.ReplyKind.{ReplyKind}
+use Rattle.lapin_types.specs.Types.{ChannelState}
 use Rattle.lapin_types.specs.Types.method
 use Rattle.lapin_types.specs.Types.channel
-use Rattle.lapin_types.specs.Types.reply
-use Rattle.lapin_types.specs.Types.reply_kind
+use Rattle.lapin_types.specs.declared.request.Reply.TheVariants as reply
+use Rattle.lapin_types.specs.declared.request.ReplyKind.TheVariants as reply_kind
 use Rattle.lapin_history.specs.declared.phases.Phase.{Phase}
 use Rattle.lapin_history.specs.declared.phases.Phase.TheVariants as phase
 use Rattle.lapin_history.specs.ConfirmMarks.{ConfirmMark}

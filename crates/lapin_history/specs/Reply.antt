@@ -1,7 +1,10 @@
 -- A reply of the broker: it answers the oldest open request of its kind on its channel, whether or not the request's frame has
 -- left (AMQP 0-9-1: replies come in the order of the requests of their channel).
 use Rattle.std.specs.Prelude.{ℕ, Bool, ◌&&◌, if◌then◌else◌, List, Option, Result, Ok}
-use Rattle.lapin_types.specs.Types.{ChannelState, Answer, Request, ReplyKind}
+use Rattle.lapin_types.specs.declared.answer.Answer.{Answer}
+use Rattle.lapin_types.specs.declared.request.Request.{Request}
+use Rattle.lapin_types.specs.declared.request.ReplyKind.{ReplyKind}
+use Rattle.lapin_types.specs.Types.{ChannelState}
 use Rattle.lapin_history.specs.TicketReadings.{TicketMark}
 use Rattle.lapin_history.specs.Words.{is_some}
 use Rattle.lapin_history.specs.Requests.{first_request, without_request, ticket_of, resolved_with}

@@ -2,10 +2,13 @@
 -- their channel).
 use Rattle.std.specs.Prelude.{ℕ, Bool, true, false, List, [], ◌∷◌, ◌++◌, Option, Some, None, find, Result}
 use Rattle.lapin_tables.specs.ByChannel.{at_channel}
-use Rattle.lapin_types.specs.Types.{Request, ReplyKind, Answer, Error}
+use Rattle.lapin_types.specs.declared.request.Request.{Request}
+use Rattle.lapin_types.specs.declared.request.ReplyKind.{ReplyKind}
+use Rattle.lapin_types.specs.declared.answer.Answer.{Answer}
+use Rattle.lapin_types.specs.Types.{Error}
 use Rattle.lapin_types.specs.Requests.{kind_of}
 use Rattle.lapin_types.specs.contracts.request.ReplyKindPartialEq.TheImpl as it
-use Rattle.lapin_types.specs.Types.reply_kind
+use Rattle.lapin_types.specs.declared.request.ReplyKind.TheVariants as reply_kind
 use Rattle.lapin_history.specs.TicketReadings.{TicketMark}
 use Rattle.lapin_history.specs.TicketReadings as ticket
 use Rattle.lapin_history.specs.Words.{without_first, with_channel}

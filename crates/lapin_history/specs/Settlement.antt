@@ -1,8 +1,9 @@
 -- A settlement of the broker, `basic.ack` or `basic.nack` (RabbitMQ publisher confirms). It is heard on an open channel, and still
 -- on one that this side is closing.
 use Rattle.std.specs.Prelude.{ℕ, codes, ◌||◌, if◌then◌else◌, List, [], ◌∷◌}
-use Rattle.lapin_types.specs.Types.{Method, Record}
-use Rattle.lapin_types.specs.Types.record_
+use Rattle.lapin_types.specs.declared.record.Record.{Record}
+use Rattle.lapin_types.specs.Types.{Method}
+use Rattle.lapin_types.specs.declared.record.Record.TheVariants as record_
 use Rattle.lapin_types.specs.Types.method
 use Rattle.lapin_types.specs.Types.channel
 use Rattle.lapin_types.specs.Types.error

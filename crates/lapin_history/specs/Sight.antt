@@ -1,6 +1,6 @@
 -- What the rules need to know of confirms and tickets beside the states, lists and requests.
 use Rattle.std.specs.Prelude.{ℕ, Bool}
-use Rattle.lapin_types.specs.Types.{Record}
+use Rattle.lapin_types.specs.declared.record.Record.{Record}
 
 -- It is made once from the marks of a history, and once from what a session keeps.
 pub record Sight : Type 0 where

@@ -1,7 +1,8 @@
 -- A frame of the broker that is not heard closes the connection, and every opening ends (AMQP 0-9-1, reply code 505).
-use Rattle.std.specs.Prelude.{ℕ, codes, List, [], ◌∷◌}
-use Rattle.lapin_types.specs.Types.{Method, Error, Record}
-use Rattle.lapin_types.specs.Types.record_
+use Rattle.std.specs.Prelude.{ℕ, codes, false, List, [], ◌∷◌}
+use Rattle.lapin_types.specs.declared.record.Record.{Record}
+use Rattle.lapin_types.specs.Types.{Method, Error}
+use Rattle.lapin_types.specs.declared.record.Record.TheVariants as record_
 use Rattle.lapin_types.specs.Types.method
 use Rattle.lapin_types.specs.Types.connection
 use Rattle.lapin_types.specs.Types.error

@@ -7,7 +7,7 @@ ghost use Rattle.lapin_history.specs.Heard.{heard, heard_method, on_connection a
 ghost use Rattle.lapin_types.specs.Types.method as method_;
 ghost use Rattle.lapin_history.specs.Requests.{is_kind as is_kind_lem};
 ghost use Rattle.lapin_history.specs.declared.broker_frames.Incoming.TheVariants as incoming;
-ghost use Rattle.lapin_types.specs.Types.answer;
+ghost use Rattle.lapin_types.specs.declared.answer.Answer.TheVariants as answer;
 ghost use Rattle.lapin_history.specs.Base.{hears_on as hears_on_lem};
 ghost use Rattle.lapin_history.specs.Opening.{opens as opens_lem};
 ghost use Rattle.lapin_history.specs.Reply.{hears as hears_lem};

@@ -1,7 +1,7 @@
 //! The lines of the classes channel and access.
 
 ghost use Rattle.std.specs.Prelude.{◌≡◌};
-ghost use Rattle.lapin_types.specs.Types.call;
+ghost use Rattle.lapin_types.specs.declared.call.Call.TheVariants as call;
 ghost use Rattle.lapin_history.specs.Calls.{asked};
 
 use super::{Asked, awaiting};

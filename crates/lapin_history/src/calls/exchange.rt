@@ -1,7 +1,7 @@
 //! The lines of the class exchange. A reply that is awaited keeps what it declares, binds or takes away.
 
 ghost use Rattle.std.specs.Prelude.{◌≡◌, IfOk};
-ghost use Rattle.lapin_types.specs.Types.call;
+ghost use Rattle.lapin_types.specs.declared.call.Call.TheVariants as call;
 ghost use Rattle.lapin_types.specs.ExchangeKinds.{kind_text};
 ghost use Rattle.lapin_history.specs.Calls.{asked};
 
