@@ -1,5 +1,5 @@
 -- No event uses more than one number of a counter.
-use Rattle.std.proofs.Common.{◌≡◌, ℕ, suc, ◌+◌, ◌<◌, ◌≤◌, ◌^◌, Bool, true, false, cond, List, [], ◌∷◌, ◌++◌, Option, Some, None, refl, ◌∙◌, ap, arith, append_assoc, ◌⊎◌, inl, inr}
+use Rattle.std.proofs.Common.{◌≡◌, ℕ, suc, ◌+◌, ◌<◌, ◌≤◌, ◌^◌, Bool, true, false, cond, List, [], ◌∷◌, ◌++◌, length, Option, Some, None, refl, ◌∙◌, ap, arith, append_assoc, ◌⊎◌, inl, inr}
 use Rattle.lapin_history.specs.declared.calls.Row.{Row}
 use Rattle.lapin_history.specs.declared.calls.Asked.{Asked}
 use Rattle.lapin_history.specs.declared.calls.Asked.TheVariants as ask
@@ -29,7 +29,9 @@ use Rattle.lapin_history.specs.ChannelClose.{after_close_ok}
 use Rattle.lapin_history.specs.ConnectionClose.{after_connection_close}
 use Rattle.lapin_history.specs.Loss.{after_lost}
 use Rattle.lapin_history.specs.Handing.{after_next, handed, sent}
+use Rattle.lapin_history.specs.History.{History, Past, longer, past_on, past}
 use Rattle.lapin_machine.specs.World.{World, next, told_by, IsLonger}
+use Rattle.lapin_machine.specs.Stands.{Stands}
 use Rattle.lapin_machine.specs.Numbers.{HasNumbersFor, EventUsedUp, LacksNumber}
 
 choose_le : (t : Bool) (x y : Base) (n : ℕ) (f : Base → ℕ) → f x ≤ n → f y ≤ n → f (cond t x y) ≤ n
@@ -187,3 +189,21 @@ longer-push old new records rest ends r h e = record {
   all = append_assoc h.done (r ∷ []) rest ∙ h.all;
   new_is = e ∙ ap (λ (xs : List Record). xs ++ r ∷ []) h.new_is ∙ append_assoc old h.done (r ∷ []);
 }
+
+-- ---- no counter is above the number of events
+
+within_on : (p : Past) (h : History) → ((past_on p h).base.tickets ≤ p.base.tickets + length h) × ((past_on p h).base.published ≤ p.base.published + length h)
+within_on p [] = (omega arith, omega arith)
+within_on p (x ∷ h) =
+    let rest = within_on (longer p x.0 x.1) h in
+    let one : (longer p x.0 x.1).base.tickets ≤ p.base.tickets + 1 = tickets-next p.base x.0 x.1 in
+    let also : (longer p x.0 x.1).base.published ≤ p.base.published + 1 = published-next p.base x.0 x.1 in
+    (omega (arith, rest.0, one), omega (arith, rest.1, also))
+
+-- a session that stands for a history has used at most one number of each counter an event
+pub standing_numbers : (n m : ℕ) (h : History) (w : World) → Stands n h w → length h + m < 2 ^ 64 → HasNumbersFor m w
+standing_numbers n m h w s few =
+    let within = within_on (past n []) h in
+    let t : w.base.tickets ≡ (past n h).base.tickets = ap (λ b. b.tickets) s.base in
+    let p : w.base.published ≡ (past n h).base.published = ap (λ b. b.published) s.base in
+    record { tickets = omega (arith, within.0, t); confirms = omega (arith, within.1, p) }

@@ -70,7 +70,10 @@ impl Session {
     /// `NoMemory` alone.
     pub fn new(alloc: Global, frame_max: u32) -> Result<Session, NoMemory>
         requires { 4096 ≤ frame_max }
-        ensures { IfOk result (λ session. session ≡ new_world frame_max) }
+        ensures value { IfOk result (λ session. session ≡ new_world frame_max) }
+
+        // It stands for the history in which nothing happened.
+        ensures stands { IfOk result (λ session. Stands frame_max [] session) }
     {
         Ok(Session {
             link: Link::Open,
