@@ -5,7 +5,7 @@
 
 ghost use Rattle.std.specs.Prelude.{◌≡◌, ◌≤◌, ◌++◌, ◌∷◌, [], List, ℕ, None, IfOk, OnOk, OnErr};
 ghost use Rattle.lapin_types.specs.declared.event.Event.TheVariants as event;
-ghost use Rattle.lapin_history.specs.Base.{state_of, phase_of, is_open as is_open_lem, is_closed as is_closed_lem, is_base as is_base_lem};
+ghost use Rattle.lapin_history.specs.Base.{lists_of, state_of, phase_of, is_open as is_open_lem, is_closed as is_closed_lem, is_base as is_base_lem};
 ghost use Rattle.lapin_history.specs.Phases.{connection_state as connection_state_lem};
 ghost use Rattle.lapin_history.specs.History.{History, rec};
 ghost use Rattle.lapin_machine.specs.World.{told_by, next, new_world};
@@ -105,6 +105,28 @@ impl Session {
         ensures { result ≡ connection_state_lem self.now.base.link }
     {
         self.link.state()
+    }
+
+    /// The frames that wait to leave.
+    pub fn outbox(&self) -> &Outbox
+        ensures lists { result.now.lists ≡ lists_of self.now.base }
+        ensures frame_max { result.now.frame_max ≡ self.now.base.frame_max }
+    {
+        &self.desk.outbox
+    }
+
+    /// The open requests of each channel.
+    pub fn replies(&self) -> &Replies
+        ensures { result.now.waiting ≡ self.now.base.requests }
+    {
+        &self.desk.replies
+    }
+
+    /// The publishes that were accepted, each until its outcome was given.
+    pub fn confirms(&self) -> &Confirms
+        ensures { result.now.book ≡ self.now.book }
+    {
+        &self.confirms
     }
 
     // Where a channel stands while the connection is open.
