@@ -1,6 +1,6 @@
 -- The table of calls: what each call is to a session. A line a call says the method that it queues, and how its ticket is answered:
 -- by a reply, by the call itself where it is made without wait, or as its frame leaves. Four calls do more, and are named.
-use Rattle.std.specs.Prelude.{Bool, true, false, if◌then◌else◌, Option, Some, None}
+use Rattle.std.specs.Prelude.{Bool, true, false, if◌then◌else◌, Some, None}
 use Rattle.lapin_types.specs.ExchangeKinds.{kind_text}
 use Rattle.lapin_types.specs.declared.call.Call.{Call}
 use Rattle.lapin_types.specs.declared.answer.Answer.{Answer}
@@ -18,7 +18,6 @@ use Rattle.lapin_types.specs.Types.basic
 use Rattle.lapin_types.specs.Types.confirm
 use Rattle.lapin_types.specs.Types.tx
 use Rattle.lapin_history.specs.declared.marks.AtLeaving.TheVariants as leaving
-use Rattle.lapin_history.specs.declared.calls.Row.{Row}
 use Rattle.lapin_history.specs.declared.calls.Asked.{Asked}
 use Rattle.lapin_history.specs.declared.calls.Asked.TheVariants as ask
 

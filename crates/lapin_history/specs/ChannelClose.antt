@@ -1,7 +1,6 @@
 -- The close of a channel, by this side and by the broker (AMQP 0-9-1, channel class, `close` and `close-ok`).
-use Rattle.std.specs.Prelude.{ℕ, Bool, true, false, ◌||◌, if◌then◌else◌, List, [], ◌∷◌, ◌++◌, Option, Some, None, Result, Ok}
+use Rattle.std.specs.Prelude.{ℕ, Bool, true, false, ◌||◌, if◌then◌else◌, List, [], ◌∷◌, ◌++◌, Option, Some, None, Ok}
 use Rattle.lapin_tables.specs.ByChannel.{on_channel}
-use Rattle.lapin_types.specs.declared.answer.Answer.{Answer}
 use Rattle.lapin_types.specs.declared.request.Request.{Request}
 use Rattle.lapin_types.specs.Types.{Frame, Method, ChannelState, Error}
 use Rattle.lapin_types.specs.Types.frame

@@ -1,5 +1,5 @@
 -- The close of the connection, by this side and by the broker (AMQP 0-9-1, connection class, `close` and `close-ok`).
-use Rattle.std.specs.Prelude.{ℕ, Bool, true, false, not, if◌then◌else◌, List, [], ◌∷◌, Option, Some, None, Result, Ok}
+use Rattle.std.specs.Prelude.{ℕ, Bool, true, false, not, if◌then◌else◌, List, [], ◌∷◌, Some, Ok}
 use Rattle.lapin_tables.specs.ByChannel.{on_channel}
 use Rattle.lapin_types.specs.Types.{Frame, Method, Error}
 use Rattle.lapin_types.specs.Types.frame

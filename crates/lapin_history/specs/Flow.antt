@@ -1,5 +1,5 @@
 -- The broker's `channel.flow` (AMQP 0-9-1, channel class): a pause of a channel, which holds publishes back.
-use Rattle.std.specs.Prelude.{ℕ, Bool, not, ◌&&◌, if◌then◌else◌, List}
+use Rattle.std.specs.Prelude.{ℕ, Bool, not, ◌&&◌, if◌then◌else◌}
 use Rattle.std.specs.List.{list_any}
 use Rattle.lapin_types.specs.Types.method
 use Rattle.lapin_types.specs.Types.channel

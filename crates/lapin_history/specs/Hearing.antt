@@ -1,6 +1,6 @@
 -- A frame of the broker: when it is heard, its record, what it leaves, and its marks. All of this goes by what the frame is to its
 -- channel.
-use Rattle.std.specs.Prelude.{ℕ, Bool, if◌then◌else◌, List, []}
+use Rattle.std.specs.Prelude.{Bool, if◌then◌else◌, List, []}
 use Rattle.lapin_types.specs.declared.record.Record.{Record}
 use Rattle.lapin_types.specs.Types.{Error}
 use Rattle.lapin_types.specs.declared.record.Record.TheVariants as record_

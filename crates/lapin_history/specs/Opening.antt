@@ -1,7 +1,6 @@
 -- An opening of a channel begins: the call `channel.open`, and the broker's `channel.open-ok` (AMQP 0-9-1, channel class).
 use Rattle.std.specs.Prelude.{ℕ, Bool, true, false, if◌then◌else◌, List, [], ◌∷◌, Some}
 use Rattle.lapin_types.specs.declared.request.ReplyKind.{ReplyKind}
-use Rattle.lapin_types.specs.Types.{ChannelState}
 use Rattle.lapin_types.specs.Types.method
 use Rattle.lapin_types.specs.Types.channel
 use Rattle.lapin_types.specs.declared.request.Reply.TheVariants as reply

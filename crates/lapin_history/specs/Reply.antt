@@ -1,6 +1,6 @@
 -- A reply of the broker: it answers the oldest open request of its kind on its channel, whether or not the request's frame has
 -- left (AMQP 0-9-1: replies come in the order of the requests of their channel).
-use Rattle.std.specs.Prelude.{ℕ, Bool, ◌&&◌, if◌then◌else◌, List, Option, Result, Ok}
+use Rattle.std.specs.Prelude.{ℕ, Bool, ◌&&◌, if◌then◌else◌, List, Option, Ok}
 use Rattle.lapin_types.specs.declared.answer.Answer.{Answer}
 use Rattle.lapin_types.specs.declared.request.Request.{Request}
 use Rattle.lapin_types.specs.declared.request.ReplyKind.{ReplyKind}

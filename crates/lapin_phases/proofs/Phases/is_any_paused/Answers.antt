@@ -1,4 +1,4 @@
-use Rattle.std.proofs.Common.{◌≡◌, ◌∙◌, ℕ, nat_lt, List, sym, ap}
+use Rattle.std.proofs.Common.{◌∙◌, nat_lt, ap}
 use Rattle.lapin_tables.specs.ByChannel.{Table}
 use Rattle.lapin_history.specs.declared.phases.Phase.{Phase}
 use Rattle.lapin_history.specs.Flow.{is_paused_on}

@@ -1,10 +1,8 @@
-use Rattle.std.proofs.Common.{◌≡◌, ◌∙◌, ℕ, ◌+◌, ◌<◌, ◌≤◌, Bool, true, false, List, length, refl, sym, ap, arith}
+use Rattle.std.proofs.Common.{◌≡◌, ◌∙◌, sym, ap}
 use Rattle.lapin_tables.specs.ByChannel.{Table, at_channel}
 use Rattle.lapin_history.specs.declared.phases.Phase.{Phase}
-use Rattle.lapin_history.specs.Words.{with_channel}
 use Rattle.lapin_history.specs.Phases.{is_paused, phase_in}
-use Rattle.lapin_history.specs.Flow.{is_paused_on}
-use Rattle.lapin_phases.proofs.Counts.{one, paused, recount, was-some, bounded, counted}
+use Rattle.lapin_phases.proofs.Counts.{was-some, bounded, counted}
 use Rattle.lapin_phases.proofs.Phases.set.Goals as goal
 
 pub recounted-self-inside-requires-clause-some : goal.recounted-self-inside-requires-clause-some
