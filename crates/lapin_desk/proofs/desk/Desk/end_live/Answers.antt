@@ -14,3 +14,10 @@ loop-number-preserved c = record {
   frame_max = c.end_live_at.ensures.frame_max ∙ c.loop-number.invariant.frame_max;
   outbox_room = omega arith;
 }
+
+pub returns-clause-book : goal.returns-clause-book
+returns-clause-book c =
+    let last : c.loop-number.number ≡ c.reach-reach.result = omega arith in
+    c.loop-number.invariant.book
+    ∙ ap (λ n. fold book.after_mark c.args.confirms.now.book (ends c.args.error (live_below n c.args.phases.now.entries))) last
+    ∙ ap (λ cs. fold book.after_mark c.args.confirms.now.book (ends c.args.error cs)) c.reach-reach.ensures
