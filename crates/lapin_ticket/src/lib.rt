@@ -38,10 +38,13 @@ pub struct Tickets {
 }
 
 impl Model for Tickets {
-    ghost use Rattle.lapin_tables.specs.Numbered.{Slots};
+    ghost use Rattle.lapin_tables.specs.Numbered.{Slots, slots_code};
     ghost use Rattle.lapin_ticket.specs.declared.Slot.{Slot};
+    ghost use Rattle.lapin_ticket.specs.contracts.Slot as slot_row;
 
     ghost Value = { Slots Slot };
+
+    ghost coded = { slots_code slot_row.the_row.coded };
 
     ghost view = { λ a. a.slots };
 }
