@@ -96,8 +96,9 @@ impl Desk {
         ensures replies { self.new.replies ≡ self.old.replies }
         ensures room { self.new.tickets.spare ≡ self.old.tickets.spare }
     {
-        if let Some(ticket) = ticket {
-            self.tickets.answer(ticket, answer);
+        match ticket {
+            Some(ticket) => self.tickets.answer(ticket, answer),
+            None => drop(answer),
         }
     }
 

@@ -127,11 +127,13 @@ impl Session {
         ensures numbers { HasNumbers result }
     {
         if !hears_down(self.link, &incoming) {
+            drop(incoming);
             return Ok(Heard::Passed);
         }
         match incoming {
             Incoming::ConnectionClose(code) => self.hear_connection_close(alloc, code),
-            _ => {
+            other => {
+                drop(other);
                 self.hear_connection_close_ok();
                 Ok(Heard::Received)
             }
@@ -176,9 +178,11 @@ impl Session {
         ensures same { result ≡ false → self.new ≡ self.old }
     {
         if !hears(kind, self.channel_state(channel)) {
+            drop(answer);
             return false;
         }
         let Some(request) = self.desk.replies.take_first(channel, kind) else {
+            drop(answer);
             return false;
         };
         phase_replied(&mut self.phases, channel, kind);
