@@ -22,14 +22,18 @@ use Rattle.lapin_confirm.proofs.Closing.{close-next}
 use Rattle.lapin_desk.specs.Queued.{EachQueued, AllWait, AreQueued, is_publish_of, rejected_told}
 use Rattle.lapin_desk.proofs.Queueing.{under-last, under-map, queued-kept, queued-push, queued-written, resolved_apart, still-queued, queued-without, queued-ended, first-of}
 
+and_false : (b : Bool) → (b && false) ≡ false
+and_false true = refl
+and_false false = refl
+
 -- ---- whether a list has an element that passes
 
 -- one that does not pass is taken out
 any-out : {X : Type 0} (t q : X → Bool) (xs : List X) (x : X) → find t xs ≡ Some x → q x ≡ false → list_any q (without_first t xs) ≡ list_any q xs
-any-out t q [] x e no = cc
-any-out {X} t q (y ∷ ys) x e no = elim (t y) as (λ b. cond b (Some y) (find t ys) ≡ Some x → list_any q (cond b ys (y ∷ without_first t ys)) ≡ (q y || list_any q ys)) [
-  | true ↦ λ here. let same : y ≡ x = cc in rw (ap q same ∙ no) refl
-  | false ↦ λ later. ap (λ b. q y || b) (any-out t q ys x later no)
+any-out t q [] x e fails = cc
+any-out {X} t q (y ∷ ys) x e fails = elim (t y) as (λ b. cond b (Some y) (find t ys) ≡ Some x → list_any q (cond b ys (y ∷ without_first t ys)) ≡ (q y || list_any q ys)) [
+  | true ↦ λ here. let same : y ≡ x = cc in rw (ap q same ∙ fails) refl
+  | false ↦ λ later. ap (λ b. q y || b) (any-out t q ys x later fails)
 ] e
 
 any-off : (c d n : ℕ) (ps : List Publish) → c ≢ d → list_any (is_publish_of d n) (filter (is_off publish_channel c) ps) ≡ list_any (is_publish_of d n) ps
@@ -142,10 +146,6 @@ queue-left o cells p ps gone q = record {
     later : (d m : ℕ) → m ≢ p.confirm → list_any (is_publish_of d m) (p ∷ ps) ≡ true → list_any (is_publish_of d m) ps ≡ true
     later d m apart h = let no : is_publish_of d m p ≡ false = rw (ne_eqb p.confirm m (λ e. apart (sym e))) (and_false (p.channel == d)) in rw no at h
 
-    and_false : (b : Bool) → (b && false) ≡ false
-    and_false true = refl
-    and_false false = refl
-
 pub queue-settled : (c : ℕ) (covered : ℕ → Bool) (o : Outcome) (cells : List (Option Cell)) (ps : List Publish) → AreQueued cells ps → AreQueued (map (option_map (settled_cell c covered o)) cells) ps
 queue-settled c covered o cells ps q = record {
   each = queued-kept cells _ ps (λ n d is. under-map n (settled_cell c covered o) cells ∙ ap (option_map (settled_cell c covered o)) is) q.each;
@@ -180,9 +180,9 @@ queue-none cells none = record {
     queued-open c (Some (cell.Resolved x)) h = cc
 
     any-get : (p : Option Cell → Bool) (xs : List (Option Cell)) (k : ℕ) → p None ≡ false → list_any p xs ≡ false → p (get_or xs k None) ≡ false
-    any-get p [] k no h = no
-    any-get p (x ∷ xs) zero no h = elim (p x) as (λ b. (b || list_any p xs) ≡ false → b ≡ false) [ true ↦ λ h. cc | false ↦ λ h. refl ] h
-    any-get p (x ∷ xs) (suc k) no h = any-get p xs k no (elim (p x) as (λ b. (b || list_any p xs) ≡ false → list_any p xs ≡ false) [ true ↦ λ h. cc | false ↦ λ h. h ] h)
+    any-get p [] k fails h = fails
+    any-get p (x ∷ xs) zero fails h = elim (p x) as (λ b. (b || list_any p xs) ≡ false → b ≡ false) [ true ↦ λ h. cc | false ↦ λ h. refl ] h
+    any-get p (x ∷ xs) (suc k) fails h = any-get p xs k fails (elim (p x) as (λ b. (b || list_any p xs) ≡ false → list_any p xs ≡ false) [ true ↦ λ h. cc | false ↦ λ h. h ] h)
 
     any-under : (c n : ℕ) (cells : List (Option Cell)) → list_any (is_open_on c) cells ≡ false → is_open_on c (under n cells) ≡ false
     any-under c zero cells h = refl
@@ -200,10 +200,6 @@ queue-rejected c ps stay d e b after told left rejected_ q =
     let Q : Book → Type 0 = λ x. AllWait x.cells others in
     let R : List Publish → Type 0 = λ xs. AllWait after.cells xs in
     record { each = still-queued c ps stay d e b after told left rejected_ q.each; all = subst R (sym left) (subst Q (sym rejected_) (subst P (sym is.told) all)) }
-  where
-    and_false : (b : Bool) → (b && false) ≡ false
-    and_false true = refl
-    and_false false = refl
 
 -- a drop found no publish of the channel
 pub queue-without : (c : ℕ) (cells : List (Option Cell)) (ps : List Publish) → unbegun c ps ≡ [] → AreQueued cells ps → AreQueued cells (without_first (is_on publish_channel c) ps)

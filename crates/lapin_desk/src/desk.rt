@@ -49,19 +49,25 @@ impl Desk {
         ensures requests { self.new.replies.waiting ≡ requests_with channel (length self.old.tickets.slots + 1) row.awaits self.old.replies.waiting }
         ensures slots { self.new.tickets.slots ≡ fold after_mark (after_mark self.old.tickets.slots (mark.Given channel row.at_leaving)) (made_marks (length self.old.tickets.slots + 1) row.made) }
     {
-        let ticket = self.tickets.give(channel, row.at_leaving);
+        let Row {
+            method,
+            awaits,
+            made,
+            at_leaving,
+        } = row;
+        let ticket = self.tickets.give(channel, at_leaving);
         let _queued = self
             .outbox
-            .push_method(alloc, channel, row.method, Some(ticket))
+            .push_method(alloc, channel, method, Some(ticket))
             .unwrap();
-        if let Some(reply) = row.awaits {
+        if let Some(reply) = awaits {
             let request = Request {
                 ticket: Some(ticket),
                 reply,
             };
             self.replies.expect(alloc, channel, request).unwrap();
         }
-        if let Some(answer) = row.made {
+        if let Some(answer) = made {
             self.tickets.answer(ticket, Ok(answer));
         }
         ticket

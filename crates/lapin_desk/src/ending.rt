@@ -125,7 +125,9 @@ impl Desk {
         ensures frame_max { self.new.outbox.frame_max ≡ self.old.outbox.frame_max }
         ensures room { self.old.outbox.spare ≤ self.new.outbox.spare }
     {
-        while self.outbox.drop_channel(channel).is_some() {}
+        while let Some(dropped) = self.outbox.drop_channel(channel) {
+            drop(dropped);
+        }
     }
 
     // Takes out every request of a channel.
