@@ -1,5 +1,5 @@
 -- What has not left waits: after one publish joins, leaves or is taken out, and after others are resolved.
-use Rattle.std.proofs.Common.{◌≡◌, ◌≢◌, ℕ, zero, suc, ◌+◌, ◌==◌, ◌||◌, ◌&&◌, Bool, true, false, cond, not, List, [], ◌∷◌, ◌++◌, map, length, Option, Some, None, refl, sym, ◌∙◌, ap, subst, arith, get_or, slice_set, slice_get, inl, inr, eq-eqb, ne_eqb}
+use Rattle.std.proofs.Common.{◌≡◌, ◌≢◌, ℕ, zero, suc, ◌+◌, ◌==◌, ◌||◌, ◌&&◌, Bool, true, false, cond, not, List, [], ◌∷◌, ◌++◌, map, length, Option, Some, None, refl, sym, ◌∙◌, ap, subst, arith, get_or, slice_get, inl, inr, eq-eqb, ne_eqb}
 use Rattle.std.specs.List.{list_any, find, filter}
 use Rattle.std.specs.Option.{option_map}
 use Rattle.std.proofs.lemmas.Bool.Decides.{eqb_tells}
@@ -20,7 +20,7 @@ use Rattle.lapin_confirm.specs.Book.{Book, is_queued_on, is_open_on, is_resolved
 use Rattle.lapin_confirm.proofs.Lines.{same-book}
 use Rattle.lapin_confirm.proofs.Closing.{close-next}
 use Rattle.lapin_desk.specs.Queued.{EachQueued, AllWait, AreQueued, is_publish_of, rejected_told}
-use Rattle.lapin_desk.proofs.Queueing.{under-last, under-map, queued-kept, queued-push, queued-written, resolved_apart, still-queued, queued-without, queued-ended, first-of}
+use Rattle.lapin_desk.proofs.Queueing.{under-last, under-map, queued-kept, queued-push, queued-written, resolved_apart, still-queued, queued-ended, first-of}
 
 and_false : (b : Bool) → (b && false) ≡ false
 and_false true = refl
@@ -36,7 +36,7 @@ any-out {X} t q (y ∷ ys) x e fails = elim (t y) as (λ b. cond b (Some y) (fin
   | false ↦ λ later. ap (λ b. q y || b) (any-out t q ys x later fails)
 ] e
 
-any-off : (c d n : ℕ) (ps : List Publish) → c ≢ d → list_any (is_publish_of d n) (filter (is_off publish_channel c) ps) ≡ list_any (is_publish_of d n) ps
+pub any-off : (c d n : ℕ) (ps : List Publish) → c ≢ d → list_any (is_publish_of d n) (filter (is_off publish_channel c) ps) ≡ list_any (is_publish_of d n) ps
 any-off c d n [] apart = refl
 any-off c d n (p ∷ ps) apart = elim (eqb_tells p.channel c) [
   | inl here ↦ let away : p.channel ≢ d = λ e. apart (sym here.1 ∙ e) in rw (here.0, ne_eqb p.channel d away) (any-off c d n ps apart)

@@ -48,7 +48,7 @@ use Rattle.lapin_history.proofs.ChannelLaws.{at-on, at-with}
 use Rattle.lapin_history.proofs.ListLaws.{any-push}
 use Rattle.lapin_confirm.specs.declared.cell.Cell.{Cell}
 use Rattle.lapin_confirm.specs.declared.cell.Cell.TheVariants as cell
-use Rattle.lapin_confirm.specs.Book.{Book, Line, fresh_line, selected_line, asked_line, next_line, ended_line, tag_for, lines_with, cell_with, settled_cell, closed_cell, is_queued_on, is_open_on, is_resolved, begun, with_publish, select_left, select_called, left, settled, closed_here, ended, taken, after_mark}
+use Rattle.lapin_confirm.specs.Book.{Book, Line, empty_book, fresh_line, selected_line, asked_line, next_line, ended_line, tag_for, lines_with, cell_with, settled_cell, closed_cell, is_queued_on, is_open_on, is_resolved, begun, with_publish, select_left, select_called, left, settled, closed_here, ended, taken, after_mark}
 use Rattle.lapin_confirm.proofs.Ended.{any-ended}
 use Rattle.lapin_desk.specs.Queued.{AreQueued}
 use Rattle.lapin_desk.proofs.Ends.{ends-join}
@@ -177,6 +177,10 @@ done-put l c p phases cells here done = λ d h.
 
 live_up : (l : Link) (p : Phase) → is_up l ≡ true → is_live p ≡ true → is_live_on l (Some p) ≡ true
 live_up l p up live = rw up live
+
+-- a new session
+pub tied_new : IsTied link.Open [] [] empty_book
+tied_new = record { queued = queue-none [] (λ c. refl); lines = λ c h. cc; done = λ c h. refl; down = λ h. cc }
 
 -- a channel is opened
 pub tied_open : (l : Link) (c : ℕ) (phases : List (ℕ × Phase)) (ps : List Publish) (b : Book) → is_up l ≡ true → IsTied l phases ps b → IsTied l (with_channel c phase.Opening phases) ps (begun c b)

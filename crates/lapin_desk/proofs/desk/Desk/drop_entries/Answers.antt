@@ -1,4 +1,4 @@
-use Rattle.std.proofs.Common.{◌≡◌, sym, ◌∙◌, ap, arith}
+use Rattle.std.proofs.Common.{sym, ◌∙◌, ap, arith}
 use Rattle.lapin_history.specs.Drops.{without_channel}
 use Rattle.lapin_outbox.proofs.Dropping.{channel-others}
 use Rattle.lapin_desk.proofs.Dropped.{entries-smaller, entries-end}

@@ -1,4 +1,4 @@
-use Rattle.std.proofs.Common.{◌≡◌, sym, ◌∙◌, ap}
+use Rattle.std.proofs.Common.{sym, ◌∙◌, ap}
 use Rattle.lapin_tables.specs.ByChannel.{on_channel}
 use Rattle.lapin_history.specs.Requests.{no_requests}
 use Rattle.lapin_outbox.specs.Open.{requests_at}

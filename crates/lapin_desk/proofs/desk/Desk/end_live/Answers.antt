@@ -1,4 +1,4 @@
-use Rattle.std.proofs.Common.{◌≡◌, ◌<◌, ◌≤◌, ◌∙◌, ap, subst, arith}
+use Rattle.std.proofs.Common.{◌≡◌, ◌∙◌, ap, arith}
 use Rattle.std.specs.List.{fold}
 use Rattle.lapin_history.specs.Ends.{ends, live_below}
 use Rattle.lapin_confirm.specs.Book as book

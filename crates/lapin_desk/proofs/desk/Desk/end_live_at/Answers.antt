@@ -1,4 +1,4 @@
-use Rattle.std.proofs.Common.{◌≡◌, sym, ◌∙◌}
+use Rattle.std.proofs.Common.{◌∙◌}
 use Rattle.lapin_desk.proofs.Ends.{found-live, none-live}
 use Rattle.lapin_desk.proofs.desk.Desk.end_live_at.Goals as goal
 

@@ -1,12 +1,9 @@
 use Rattle.std.proofs.Common.{refl, sym, ◌∙◌, ap}
-use Rattle.lapin_tables.specs.ByChannel.{on_channel}
 use Rattle.lapin_tables.specs.Numbered.{Slots}
 use Rattle.lapin_history.specs.Leaving.{Lists}
 use Rattle.lapin_history.specs.Drops.{without_channel}
-use Rattle.lapin_history.specs.Requests.{no_requests}
 use Rattle.lapin_history.specs.TicketReadings as mark
 use Rattle.lapin_outbox.specs.Outgoing.{Outgoing}
-use Rattle.lapin_outbox.specs.Open.{OpenRequests}
 use Rattle.lapin_outbox.proofs.DropTickets.{publishes-before}
 use Rattle.lapin_ticket.specs.declared.Slot.{Slot}
 use Rattle.lapin_ticket.specs.Desk.{after_mark}
