@@ -1,3 +1,4 @@
 pub mod Queueing
+pub mod Waiting
 pub mod Dropped
 pub mod Ends

@@ -8,13 +8,12 @@ use Rattle.lapin_types.specs.declared.leaving.Publish.{Publish}
 use Rattle.lapin_tables.specs.Numbered.{under, with_under}
 use Rattle.lapin_history.specs.Words.{without_first}
 use Rattle.lapin_history.specs.Drops.{is_on, is_off, publish_channel, unbegun}
-use Rattle.lapin_history.specs.Marked.{place_of}
 use Rattle.lapin_outbox.specs.declared.dropped.Dropped.{Dropped}
 use Rattle.lapin_outbox.specs.Drops.{told_publish}
 use Rattle.lapin_confirm.specs.declared.cell.Cell.{Cell}
 use Rattle.lapin_confirm.specs.declared.cell.Cell.TheVariants as cell
 use Rattle.lapin_confirm.specs.Book.{Book, is_queued, is_resolved, rejected, ended, ended_cell}
-use Rattle.lapin_desk.specs.Queued.{AreQueued, MayReject, rejected_told}
+use Rattle.lapin_desk.specs.Queued.{EachQueued, MayReject, rejected_told}
 
 -- ---- what stands under a number
 
@@ -60,24 +59,20 @@ pub under-map : (n : ℕ) (g : Cell → Cell) (cells : List (Option Cell)) → u
 under-map zero g cells = refl
 under-map (suc k) g cells = get_or-map g cells k
 
-pub suc_place : (n : ℕ) → 0 < n → suc (place_of n) ≡ n
-suc_place zero h = absurd (omega arith)
-suc_place (suc k) h = refl
-
 -- ---- publishes that wait stay queued
 
 -- what is queued stays so
-pub queued-kept : (cells new : List (Option Cell)) (ps : List Publish) → ((n c : ℕ) → under n cells ≡ Some (cell.Queued c) → under n new ≡ Some (cell.Queued c)) → AreQueued cells ps → AreQueued new ps
+pub queued-kept : (cells new : List (Option Cell)) (ps : List Publish) → ((n c : ℕ) → under n cells ≡ Some (cell.Queued c) → under n new ≡ Some (cell.Queued c)) → EachQueued cells ps → EachQueued new ps
 queued-kept cells new [] keeps h = tt
 queued-kept cells new (p ∷ ps) keeps h = (keeps p.confirm p.channel h.0, h.1, queued-kept cells new ps keeps h.2)
 
 -- another cell is written
-pub queued-written : (n : ℕ) (o : Option Cell) (cells : List (Option Cell)) (ps : List Publish) → AllByRecursion (λ q. n ≢ q.confirm) ps → AreQueued cells ps → AreQueued (with_under n o cells) ps
+pub queued-written : (n : ℕ) (o : Option Cell) (cells : List (Option Cell)) (ps : List Publish) → AllByRecursion (λ q. n ≢ q.confirm) ps → EachQueued cells ps → EachQueued (with_under n o cells) ps
 queued-written n o cells [] other h = tt
 queued-written n o cells (p ∷ ps) other h = (under-other p.confirm n o cells (λ e. other.0 (sym e)) ∙ h.0, h.1, queued-written n o cells ps other.1 h.2)
 
 -- one more publish waits
-pub queued-push : (c : ℕ) (cells : List (Option Cell)) (ps : List Publish) (p : Publish) → p.confirm ≡ length cells + 1 → p.channel ≡ c → AreQueued cells ps → AreQueued (cells ++ Some (cell.Queued c) ∷ []) (ps ++ p ∷ [])
+pub queued-push : (c : ℕ) (cells : List (Option Cell)) (ps : List Publish) (p : Publish) → p.confirm ≡ length cells + 1 → p.channel ≡ c → EachQueued cells ps → EachQueued (cells ++ Some (cell.Queued c) ∷ []) (ps ++ p ∷ [])
 queued-push c cells [] p at on h = (under-last p.confirm cells (Some (cell.Queued c)) at ∙ ap (λ d. Some (cell.Queued d)) (sym on), tt, tt)
 queued-push c cells (q ∷ ps) p at on h =
     let within = number-within q.confirm cells (cell.Queued q.channel) h.0 in
@@ -89,7 +84,7 @@ queued-push c cells (q ∷ ps) p at on h =
     apart k (r ∷ rs) ne h = (h.0, apart k rs ne h.1)
 
 -- a publish that waits isn't one whose result is there
-pub resolved_apart : (n : ℕ) (cells : List (Option Cell)) (ps : List Publish) → is_resolved (under n cells) ≡ true → AreQueued cells ps → AllByRecursion (λ q. n ≢ q.confirm) ps
+pub resolved_apart : (n : ℕ) (cells : List (Option Cell)) (ps : List Publish) → is_resolved (under n cells) ≡ true → EachQueued cells ps → AllByRecursion (λ q. n ≢ q.confirm) ps
 resolved_apart n cells [] h q = tt
 resolved_apart n cells (p ∷ ps) h q = (
   λ e.
@@ -122,10 +117,10 @@ module _ {X : Type 0} (P : X → Type 0) (t : X → Bool) where
 pub record TakenOut (cells : List (Option Cell)) (q : Publish) (stay : List Publish) : Type 0 where
   pub queued : under q.confirm cells ≡ Some (cell.Queued q.channel)
   pub other : AllByRecursion (λ r. q.confirm ≢ r.confirm) stay
-  pub still : AreQueued cells stay
+  pub still : EachQueued cells stay
 
 module _ (cells : List (Option Cell)) (t : Publish → Bool) where
-  pub taken-out : (ps : List Publish) (q : Publish) → find t ps ≡ Some q → AreQueued cells ps → TakenOut cells q (without_first t ps)
+  pub taken-out : (ps : List Publish) (q : Publish) → find t ps ≡ Some q → EachQueued cells ps → TakenOut cells q (without_first t ps)
   taken-out [] q e h = cc
   taken-out (p ∷ ps) q e h = elim (t p) as (λ b. cond b (Some p) (find t ps) ≡ Some q → TakenOut cells q (cond b ps (p ∷ without_first t ps))) [
     | true ↦ λ here.
@@ -142,9 +137,9 @@ module _ (cells : List (Option Cell)) (t : Publish → Bool) where
         }
   ] e
 
-  pub queued-filter : (ps : List Publish) → AreQueued cells ps → AreQueued cells (filter t ps)
+  pub queued-filter : (ps : List Publish) → EachQueued cells ps → EachQueued cells (filter t ps)
   queued-filter [] h = tt
-  queued-filter (p ∷ ps) h = elim (t p) as (λ b. AreQueued cells (cond b (p ∷ filter t ps) (filter t ps))) [
+  queued-filter (p ∷ ps) h = elim (t p) as (λ b. EachQueued cells (cond b (p ∷ filter t ps) (filter t ps))) [
     | true ↦ (h.0, all-filter (λ r. p.confirm ≢ r.confirm) t ps h.1, queued-filter ps h.2)
     | false ↦ queued-filter ps h.2
   ]
@@ -166,7 +161,7 @@ first-of c (p ∷ ps) d e = elim (is_on publish_channel c p) as (λ b. is_on pub
       record { first = behind.first; told = behind.told; found = rw off behind.found; unbegun = rw (off, off) behind.unbegun }
 ] refl e
 
-pub may-reject : (c : ℕ) (cells : List (Option Cell)) (ps : List Publish) (d : Dropped) → Some d ≡ slice_get (map told_publish (unbegun c ps)) 0 → AreQueued cells ps → MayReject d.publish cells
+pub may-reject : (c : ℕ) (cells : List (Option Cell)) (ps : List Publish) (d : Dropped) → Some d ≡ slice_get (map told_publish (unbegun c ps)) 0 → EachQueued cells ps → MayReject d.publish cells
 may-reject c cells ps d told q =
     let is = first-of c ps d told in
     let out = taken-out cells (is_on publish_channel c) ps is.first is.found q in
@@ -175,21 +170,21 @@ may-reject c cells ps d told q =
     subst P (sym is.told) here
 
 -- the same publishes
-pub queued-by : (cells : List (Option Cell)) (ps qs : List Publish) → ps ≡ qs → AreQueued cells ps → AreQueued cells qs
-queued-by cells ps qs same q = let P : List Publish → Type 0 = λ xs. AreQueued cells xs in subst P same q
+pub queued-by : (cells : List (Option Cell)) (ps qs : List Publish) → ps ≡ qs → EachQueued cells ps → EachQueued cells qs
+queued-by cells ps qs same q = let P : List Publish → Type 0 = λ xs. EachQueued cells xs in subst P same q
 
-pub still-queued : (c : ℕ) (ps stay : List Publish) (d : Dropped) (e : Error) (b after : Book) → Some d ≡ slice_get (map told_publish (unbegun c ps)) 0 → stay ≡ without_first (is_on publish_channel c) ps → after ≡ rejected_told e d.publish b → AreQueued b.cells ps → AreQueued after.cells stay
+pub still-queued : (c : ℕ) (ps stay : List Publish) (d : Dropped) (e : Error) (b after : Book) → Some d ≡ slice_get (map told_publish (unbegun c ps)) 0 → stay ≡ without_first (is_on publish_channel c) ps → after ≡ rejected_told e d.publish b → EachQueued b.cells ps → EachQueued after.cells stay
 still-queued c ps stay d e b after told left rejected q =
     let is = first-of c ps d told in
     let out = taken-out b.cells (is_on publish_channel c) ps is.first is.found q in
-    let P : Dropped → Type 0 = λ x. AreQueued (rejected_told e x.publish b).cells (without_first (is_on publish_channel c) ps) in
+    let P : Dropped → Type 0 = λ x. EachQueued (rejected_told e x.publish b).cells (without_first (is_on publish_channel c) ps) in
     let here = subst P (sym is.told) (queued-written is.first.confirm _ b.cells (without_first (is_on publish_channel c) ps) out.other out.still) in
-    let Q : Book → Type 0 = λ x. AreQueued x.cells stay in
+    let Q : Book → Type 0 = λ x. EachQueued x.cells stay in
     subst Q (sym rejected) (queued-by (rejected_told e d.publish b).cells _ _ (sym left) here)
 
-pub queued-without : (c : ℕ) (cells : List (Option Cell)) (ps : List Publish) → AreQueued cells ps → AreQueued cells (without_first (is_on publish_channel c) ps)
+pub queued-without : (c : ℕ) (cells : List (Option Cell)) (ps : List Publish) → EachQueued cells ps → EachQueued cells (without_first (is_on publish_channel c) ps)
 queued-without c cells [] q = tt
-queued-without c cells (p ∷ ps) q = elim (is_on publish_channel c p) as (λ b. AreQueued cells (cond b ps (p ∷ without_first (is_on publish_channel c) ps))) [
+queued-without c cells (p ∷ ps) q = elim (is_on publish_channel c p) as (λ b. EachQueued cells (cond b ps (p ∷ without_first (is_on publish_channel c) ps))) [
   | true ↦ q.2
   | false ↦ (q.0, all-without (λ r. p.confirm ≢ r.confirm) (is_on publish_channel c) ps q.1, queued-without c cells ps q.2)
 ]
@@ -200,9 +195,9 @@ ended-other : (c d : ℕ) (e : Error) → (d == c) ≡ false → ended_cell c e 
 ended-other c d e off = rw off refl
 
 -- what is queued on another channel stays queued
-pub ended-queued : (c : ℕ) (e : Error) (cells : List (Option Cell)) (ps : List Publish) → AreQueued cells (filter (is_off publish_channel c) ps) → AreQueued (map (option_map (ended_cell c e)) cells) (filter (is_off publish_channel c) ps)
+pub ended-queued : (c : ℕ) (e : Error) (cells : List (Option Cell)) (ps : List Publish) → EachQueued cells (filter (is_off publish_channel c) ps) → EachQueued (map (option_map (ended_cell c e)) cells) (filter (is_off publish_channel c) ps)
 ended-queued c e cells [] h = tt
-ended-queued c e cells (p ∷ ps) h = elim (p.channel == c) as (λ b. (p.channel == c) ≡ b → AreQueued cells (cond (not b) (p ∷ filter (is_off publish_channel c) ps) (filter (is_off publish_channel c) ps)) → AreQueued (map (option_map (ended_cell c e)) cells) (cond (not b) (p ∷ filter (is_off publish_channel c) ps) (filter (is_off publish_channel c) ps))) [
+ended-queued c e cells (p ∷ ps) h = elim (p.channel == c) as (λ b. (p.channel == c) ≡ b → EachQueued cells (cond (not b) (p ∷ filter (is_off publish_channel c) ps) (filter (is_off publish_channel c) ps)) → EachQueued (map (option_map (ended_cell c e)) cells) (cond (not b) (p ∷ filter (is_off publish_channel c) ps) (filter (is_off publish_channel c) ps))) [
   | true ↦ λ on h. ended-queued c e cells ps h
   | false ↦ λ off h. (
     under-map p.confirm (ended_cell c e) cells ∙ ap (option_map (ended_cell c e)) h.0 ∙ ap Some (ended-other c p.channel e off),
@@ -211,7 +206,7 @@ ended-queued c e cells (p ∷ ps) h = elim (p.channel == c) as (λ b. (p.channel
   )
 ] refl h
 
-pub queued-ended : (c : ℕ) (e : Error) (ps stay : List Publish) (b after : Book) → stay ≡ filter (is_off publish_channel c) ps → after ≡ ended c e b → AreQueued b.cells stay → AreQueued after.cells stay
+pub queued-ended : (c : ℕ) (e : Error) (ps stay : List Publish) (b after : Book) → stay ≡ filter (is_off publish_channel c) ps → after ≡ ended c e b → EachQueued b.cells stay → EachQueued after.cells stay
 queued-ended c e ps stay b after left ends q =
-    let Q : Book → Type 0 = λ x. AreQueued x.cells stay in
+    let Q : Book → Type 0 = λ x. EachQueued x.cells stay in
     subst Q (sym ends) (queued-by (ended c e b).cells _ _ (sym left) (ended-queued c e b.cells ps (queued-by b.cells _ _ left q)))

@@ -7,14 +7,17 @@ ghost use Rattle.std.specs.Prelude.{◌≡◌, ◌+◌, ◌^◌, ◌<◌, ◌++�
 ghost use Rattle.std.specs.List.{fold};
 ghost use Rattle.lapin_outbox.specs.Outgoing.{with_method};
 ghost use Rattle.lapin_history.specs.Base.{requests_with};
-ghost use Rattle.lapin_history.specs.TicketReadings.{Given};
-ghost use Rattle.lapin_history.specs.Marked.{made_marks, resolved_with};
+ghost use Rattle.lapin_history.specs.TicketReadings as mark;
+ghost use Rattle.lapin_history.specs.Asking.{made_marks};
+ghost use Rattle.lapin_history.specs.Requests.{resolved_with};
+ghost use Rattle.lapin_history.specs.Handing.{left_tickets, begun_ticket, last_ticket};
 ghost use Rattle.lapin_ticket.specs.Desk.{after_mark};
 ghost use Rattle.lapin_desk.specs.Rooms.{HasRoom, SameDesk};
 
+use lapin_history::Row;
 use lapin_outbox::{Outbox, Replies};
 use lapin_ticket::Tickets;
-use lapin_types::{Answer, Error, Method, NoMemory, Publish, Reply, Request};
+use lapin_types::{Answer, Error, Left, Method, NoMemory, Request};
 use std::alloc::Global;
 
 /// Frames that wait, open requests and tickets.
@@ -37,30 +40,29 @@ impl Desk {
         Ok(())
     }
 
-    /// Queues the method of a call under the next ticket, opens the request of the reply that it awaits, and resolves the
+    /// Queues the method of a call under the next ticket, opens the request of the reply that it awaits, and answers the
     /// ticket where the call makes its own answer.
-    pub fn queue(
-        &mut self,
-        alloc: Global,
-        channel: u16,
-        method: Method,
-        reply: Option<Reply>,
-        made: Option<Answer>,
-    ) -> u64
+    pub fn queue(&mut self, alloc: Global, channel: u16, row: Row) -> u64
         requires room { HasRoom channel self.old }
         requires numbers { length self.old.tickets.slots + 1 < 2 ^ 64 }
         ensures ticket { result ≡ length self.old.tickets.slots + 1 }
-        ensures lists { self.new.outbox.lists ≡ with_method (record { channel = channel; method = method; ticket = Some (length self.old.tickets.slots + 1) }) self.old.outbox.lists }
+        ensures lists { self.new.outbox.lists ≡ with_method (record { channel = channel; method = row.method; ticket = Some (length self.old.tickets.slots + 1) }) self.old.outbox.lists }
         ensures frame_max { self.new.outbox.frame_max ≡ self.old.outbox.frame_max }
-        ensures requests { self.new.replies.waiting ≡ requests_with channel (length self.old.tickets.slots + 1) reply self.old.replies.waiting }
-        ensures slots { self.new.tickets.slots ≡ fold after_mark (after_mark self.old.tickets.slots Given) (made_marks (length self.old.tickets.slots + 1) made) }
+        ensures requests { self.new.replies.waiting ≡ requests_with channel (length self.old.tickets.slots + 1) row.awaits self.old.replies.waiting }
+        ensures slots { self.new.tickets.slots ≡ fold after_mark (after_mark self.old.tickets.slots (mark.Given channel row.at_leaving)) (made_marks (length self.old.tickets.slots + 1) row.made) }
     {
-        let ticket = self.tickets.give();
+        let Row {
+            method,
+            awaits,
+            made,
+            at_leaving,
+        } = row;
+        let ticket = self.tickets.give(channel, at_leaving);
         let _queued = self
             .outbox
             .push_method(alloc, channel, method, Some(ticket))
             .unwrap();
-        if let Some(reply) = reply {
+        if let Some(reply) = awaits {
             let request = Request {
                 ticket: Some(ticket),
                 reply,
@@ -94,8 +96,38 @@ impl Desk {
         ensures replies { self.new.replies ≡ self.old.replies }
         ensures room { self.new.tickets.spare ≡ self.old.tickets.spare }
     {
-        if let Some(ticket) = ticket {
-            self.tickets.answer(ticket, answer);
+        match ticket {
+            Some(ticket) => self.tickets.answer(ticket, answer),
+            None => drop(answer),
         }
+    }
+
+    /// A frame leaves: a publish begins with its first, and with the last frame of a call its ticket gets the answer that the
+    /// leaving gives, if it gives one.
+    pub fn leave(&mut self, left: &Left)
+        ensures slots { self.new.tickets.slots ≡ fold after_mark self.old.tickets.slots (left_tickets (Some left.now)) }
+        ensures outbox { self.new.outbox ≡ self.old.outbox }
+        ensures replies { self.new.replies ≡ self.old.replies }
+    {
+        first_left(&mut self.tickets, left);
+        last_left(&mut self.tickets, left);
+    }
+}
+
+// The first frame of a publish leaves.
+fn first_left(tickets: &mut Tickets, left: &Left)
+    ensures { tickets.new.slots ≡ fold after_mark tickets.old.slots (begun_ticket left.now.first left.now.ticket left.now.publish) }
+{
+    if let (true, Some(ticket), Some(_)) = (left.first, left.ticket, left.publish) {
+        tickets.begin(ticket);
+    }
+}
+
+// The last frame of a call leaves.
+fn last_left(tickets: &mut Tickets, left: &Left)
+    ensures { tickets.new.slots ≡ fold after_mark tickets.old.slots (last_ticket left.now.last left.now.ticket) }
+{
+    if let (true, Some(ticket)) = (left.last, left.ticket) {
+        tickets.leave(ticket);
     }
 }

@@ -1,79 +1,81 @@
-//! Ends: what a close of this side rejects, what an end of an opening drops and resolves, and what the connection's end does.
+//! Ends: what a close of this side rejects, what an end of an opening drops and fails, and what the connection's end does.
 //!
 //! Each is done whole, in the room that was made before, and takes no memory. The session calls these once it knows that a
 //! close or an end has come.
 
-ghost use Rattle.std.specs.Prelude.{◌≡◌, ◌≤◌, ◌++◌, map};
+ghost use Rattle.std.specs.Prelude.{◌≡◌, ◌≤◌};
 ghost use Rattle.std.specs.List.{fold};
 ghost use Rattle.lapin_tables.specs.ByChannel.{on_channel};
 ghost use Rattle.lapin_history.specs.Requests.{no_requests};
-ghost use Rattle.lapin_history.specs.Drops.{no_lists, without_publishes_of, without_channel, unbegun, publish_tickets_of, rest_tickets_of, method_tickets_of};
-ghost use Rattle.lapin_history.specs.Marked.{failures, rejections, request_tickets, ends};
-ghost use Rattle.lapin_history.specs.TicketReadings.{AllFailed};
-ghost use Rattle.lapin_outbox.specs.Drops.{dropped_ticket, entries_of};
-ghost use Rattle.lapin_outbox.specs.Open.{requests_at};
+ghost use Rattle.lapin_history.specs.Drops.{no_lists, without_publishes_of, without_channel};
+ghost use Rattle.lapin_history.specs.Ends.{ends, live_channels};
+ghost use Rattle.lapin_history.specs.TicketReadings as mark;
 ghost use Rattle.lapin_ticket.specs.Desk as desk;
 ghost use Rattle.lapin_confirm.specs.Book as book;
+ghost use Rattle.lapin_desk.specs.Live.{live_at};
 ghost use Rattle.lapin_desk.specs.Queued.{AreQueued, MayReject, rejected_told};
 
 use crate::desk::Desk;
 use lapin_confirm::Confirms;
-use lapin_history::Phase;
 use lapin_outbox::Replies;
+use lapin_phases::Phases;
 use lapin_types::Error;
 
 impl Desk {
-    /// A close of this side: the publishes of a channel that have not begun are taken out, and their tickets and confirms are
-    /// resolved with the error.
+    /// A close of this side: the publishes of a channel that have not begun are taken out, and their tickets and confirms fail
+    /// with the error.
     pub fn reject_unbegun(&mut self, confirms: &mut Confirms, channel: u16, error: Error)
         requires queued { AreQueued confirms.old.book.cells self.old.outbox.lists.publishes }
         ensures lists { self.new.outbox.lists ≡ without_publishes_of channel self.old.outbox.lists }
-        ensures slots { self.new.tickets.slots ≡ fold desk.after_mark self.old.tickets.slots (failures error (publish_tickets_of channel self.old.outbox.lists.publishes)) }
-        ensures book { confirms.new.book ≡ fold book.after_mark confirms.old.book (rejections error (unbegun channel self.old.outbox.lists.publishes)) }
+        ensures slots { self.new.tickets.slots ≡ desk.after_mark self.old.tickets.slots (mark.ClosedHere channel error) }
+        ensures book { confirms.new.book ≡ book.closed_here channel error confirms.old.book }
         ensures queued { AreQueued confirms.new.book.cells self.new.outbox.lists.publishes }
         ensures requests { self.new.replies ≡ self.old.replies }
         ensures frame_max { self.new.outbox.frame_max ≡ self.old.outbox.frame_max }
         ensures room { (self.old.outbox.spare ≤ self.new.outbox.spare) × (self.new.tickets.spare ≡ self.old.tickets.spare) }
     {
-        while let Some(dropped) = self.outbox.drop_unbegun(channel) {
-            self.resolve(dropped.ticket, Err(error));
-            reject(confirms, dropped.publish, error);
-        }
+        self.take_unbegun(confirms, channel, error);
+        self.tickets.close(channel, error);
     }
 
-    /// An opening ends: nothing of its channel waits any more and none of its requests is open. Their tickets, and the confirms
-    /// that are unresolved, are resolved with the error.
-    pub fn end_opening(&mut self, confirms: &mut Confirms, channel: u16, error: Error)
+    /// An opening ends: nothing of its channel waits any more and none of its requests is open. Its open tickets, but for one
+    /// that is kept, and the confirms that are unresolved fail with the error.
+    pub fn end_opening(
+        &mut self,
+        confirms: &mut Confirms,
+        channel: u16,
+        kept: Option<u64>,
+        error: Error,
+    )
         requires queued { AreQueued confirms.old.book.cells self.old.outbox.lists.publishes }
         ensures lists { self.new.outbox.lists ≡ without_channel channel self.old.outbox.lists }
         ensures requests { self.new.replies.waiting ≡ on_channel channel no_requests self.old.replies.waiting }
-        ensures slots { self.new.tickets.slots ≡ fold desk.after_mark self.old.tickets.slots (failures error
-            (publish_tickets_of channel self.old.outbox.lists.publishes ++ (rest_tickets_of channel self.old.outbox.lists.rest ++
-            (method_tickets_of channel self.old.outbox.lists.methods ++ request_tickets (requests_at channel self.old.replies.waiting))))) }
+        ensures slots { self.new.tickets.slots ≡ desk.after_mark self.old.tickets.slots (mark.OpeningFailed channel kept error) }
         ensures book { confirms.new.book ≡ book.ended channel error confirms.old.book }
         ensures queued { AreQueued confirms.new.book.cells self.new.outbox.lists.publishes }
         ensures frame_max { self.new.outbox.frame_max ≡ self.old.outbox.frame_max }
         ensures room { (self.old.outbox.spare ≤ self.new.outbox.spare) × (self.new.replies.ready ≡ self.old.replies.ready) × (self.new.tickets.spare ≡ self.old.tickets.spare) }
     {
         self.end_publishes(confirms, channel, error);
-        self.drop_entries(channel, error);
-        self.end_requests(channel, error);
+        self.drop_entries(channel);
+        self.drop_requests(channel);
+        self.tickets.end(channel, kept, error);
     }
 
     /// The connection leaves the open state, or is lost: every live opening ends, nothing waits any more, and every open ticket
-    /// is resolved with the error. `replies` is what is open from now on.
+    /// fails with the error. `replies` is what is open from now on.
     pub fn end_all(
         &mut self,
         confirms: &mut Confirms,
-        phases: &[(u16, Phase)],
+        phases: &Phases,
         replies: Replies,
         error: Error,
     )
         requires queued { AreQueued confirms.old.book.cells self.old.outbox.lists.publishes }
         ensures lists { self.new.outbox.lists ≡ no_lists }
         ensures requests { self.new.replies ≡ replies }
-        ensures slots { self.new.tickets.slots ≡ desk.after_mark self.old.tickets.slots (AllFailed error) }
-        ensures book { confirms.new.book ≡ fold book.after_mark confirms.old.book (ends error phases.now) }
+        ensures slots { self.new.tickets.slots ≡ desk.after_mark self.old.tickets.slots (mark.AllFailed error) }
+        ensures book { confirms.new.book ≡ fold book.after_mark confirms.old.book (ends error (live_channels phases.now.entries)) }
         ensures frame_max { self.new.outbox.frame_max ≡ self.old.outbox.frame_max }
         ensures room { (self.old.outbox.spare ≤ self.new.outbox.spare) × (self.new.tickets.spare ≡ self.old.tickets.spare) }
     {
@@ -83,60 +85,93 @@ impl Desk {
         self.replies = replies;
     }
 
+    // The publishes of a channel that have not begun are taken out, and their confirms rejected. What a close of this side
+    // makes of the confirms that are left is what it makes of all of them.
+    fn take_unbegun(&mut self, confirms: &mut Confirms, channel: u16, error: Error)
+        requires queued { AreQueued confirms.old.book.cells self.old.outbox.lists.publishes }
+        ensures lists { self.new.outbox.lists ≡ without_publishes_of channel self.old.outbox.lists }
+        ensures book { book.closed_here channel error confirms.new.book ≡ book.closed_here channel error confirms.old.book }
+        ensures queued { AreQueued confirms.new.book.cells self.new.outbox.lists.publishes }
+        ensures requests { self.new.replies ≡ self.old.replies }
+        ensures tickets { self.new.tickets ≡ self.old.tickets }
+        ensures frame_max { self.new.outbox.frame_max ≡ self.old.outbox.frame_max }
+        ensures room { self.old.outbox.spare ≤ self.new.outbox.spare }
+    {
+        while let Some(dropped) = self.outbox.drop_unbegun(channel) {
+            reject(confirms, dropped.publish, error);
+        }
+    }
+
     // The publishes of a channel end with its opening: those that have not begun are taken out, so that the end of the confirms
     // costs no more than it resolves.
     fn end_publishes(&mut self, confirms: &mut Confirms, channel: u16, error: Error)
         requires queued { AreQueued confirms.old.book.cells self.old.outbox.lists.publishes }
         ensures lists { self.new.outbox.lists ≡ without_publishes_of channel self.old.outbox.lists }
-        ensures slots { self.new.tickets.slots ≡ fold desk.after_mark self.old.tickets.slots (failures error (publish_tickets_of channel self.old.outbox.lists.publishes)) }
         ensures book { confirms.new.book ≡ book.ended channel error confirms.old.book }
         ensures queued { AreQueued confirms.new.book.cells self.new.outbox.lists.publishes }
         ensures requests { self.new.replies ≡ self.old.replies }
+        ensures tickets { self.new.tickets ≡ self.old.tickets }
         ensures frame_max { self.new.outbox.frame_max ≡ self.old.outbox.frame_max }
-        ensures room { (self.old.outbox.spare ≤ self.new.outbox.spare) × (self.new.tickets.spare ≡ self.old.tickets.spare) }
+        ensures room { self.old.outbox.spare ≤ self.new.outbox.spare }
     {
-        self.reject_unbegun(confirms, channel, error);
+        self.take_unbegun(confirms, channel, error);
         confirms.end(channel, error);
     }
 
-    // Takes out every entry of a channel, and resolves its ticket.
-    fn drop_entries(&mut self, channel: u16, error: Error)
+    // Takes out every entry of a channel.
+    fn drop_entries(&mut self, channel: u16)
         ensures lists { self.new.outbox.lists ≡ without_channel channel self.old.outbox.lists }
-        ensures slots { self.new.tickets.slots ≡ fold desk.after_mark self.old.tickets.slots (failures error (map dropped_ticket (entries_of channel self.old.outbox.lists))) }
         ensures requests { self.new.replies ≡ self.old.replies }
+        ensures tickets { self.new.tickets ≡ self.old.tickets }
         ensures frame_max { self.new.outbox.frame_max ≡ self.old.outbox.frame_max }
-        ensures room { (self.old.outbox.spare ≤ self.new.outbox.spare) × (self.new.tickets.spare ≡ self.old.tickets.spare) }
+        ensures room { self.old.outbox.spare ≤ self.new.outbox.spare }
     {
         while let Some(dropped) = self.outbox.drop_channel(channel) {
-            self.resolve(dropped.ticket, Err(error));
+            drop(dropped);
         }
     }
 
-    // Takes out every request of a channel, and resolves its ticket.
-    fn end_requests(&mut self, channel: u16, error: Error)
+    // Takes out every request of a channel.
+    fn drop_requests(&mut self, channel: u16)
         ensures requests { self.new.replies.waiting ≡ on_channel channel no_requests self.old.replies.waiting }
-        ensures slots { self.new.tickets.slots ≡ fold desk.after_mark self.old.tickets.slots (failures error (request_tickets (requests_at channel self.old.replies.waiting))) }
         ensures outbox { self.new.outbox ≡ self.old.outbox }
-        ensures room { (self.new.replies.ready ≡ self.old.replies.ready) × (self.new.tickets.spare ≡ self.old.tickets.spare) }
+        ensures tickets { self.new.tickets ≡ self.old.tickets }
+        ensures room { self.new.replies.ready ≡ self.old.replies.ready }
     {
         while let Some(request) = self.replies.drain(channel) {
-            self.resolve(request.into_ticket(), Err(error));
+            drop(request);
         }
     }
 
-    // The publishes of every live opening end. What else waits stays, for `end_all`.
-    fn end_live(&mut self, confirms: &mut Confirms, phases: &[(u16, Phase)], error: Error)
+    // The publishes of every live opening end, in rising number of its channel. What else waits stays, for `end_all`.
+    fn end_live(&mut self, confirms: &mut Confirms, phases: &Phases, error: Error)
         requires queued { AreQueued confirms.old.book.cells self.old.outbox.lists.publishes }
-        ensures slots { desk.after_mark self.new.tickets.slots (AllFailed error) ≡ desk.after_mark self.old.tickets.slots (AllFailed error) }
-        ensures book { confirms.new.book ≡ fold book.after_mark confirms.old.book (ends error phases.now) }
+        ensures book { confirms.new.book ≡ fold book.after_mark confirms.old.book (ends error (live_channels phases.now.entries)) }
+        ensures tickets { self.new.tickets ≡ self.old.tickets }
         ensures frame_max { self.new.outbox.frame_max ≡ self.old.outbox.frame_max }
-        ensures room { (self.old.outbox.spare ≤ self.new.outbox.spare) × (self.new.tickets.spare ≡ self.old.tickets.spare) }
+        ensures room { self.old.outbox.spare ≤ self.new.outbox.spare }
     {
-        for (channel, phase) in phases {
-            if phase.is_live() {
-                self.end_publishes(confirms, *channel, error);
-            }
+        let reach = phases.reach();
+        let mut number = 0;
+        while number < reach {
+            self.end_live_at(confirms, phases, number, error);
+            number += 1;
         }
+    }
+
+    // The publishes of the opening of this channel end, if it has a live one.
+    fn end_live_at(&mut self, confirms: &mut Confirms, phases: &Phases, number: usize, error: Error)
+        requires queued { AreQueued confirms.old.book.cells self.old.outbox.lists.publishes }
+        ensures book { confirms.new.book ≡ fold book.after_mark confirms.old.book (ends error (live_at number phases.now.entries)) }
+        ensures queued { AreQueued confirms.new.book.cells self.new.outbox.lists.publishes }
+        ensures tickets { self.new.tickets ≡ self.old.tickets }
+        ensures frame_max { self.new.outbox.frame_max ≡ self.old.outbox.frame_max }
+        ensures room { self.old.outbox.spare ≤ self.new.outbox.spare }
+    {
+        let Some(channel) = phases.live_at(number) else {
+            return;
+        };
+        self.end_publishes(confirms, channel, error);
     }
 
     /// Takes out all that waits. Its tickets stay open.

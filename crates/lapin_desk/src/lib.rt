@@ -7,7 +7,5 @@
 
 mod desk;
 mod ending;
-#[cfg(test)]
-mod tests;
 
 pub use desk::Desk;

@@ -23,12 +23,21 @@ use Rattle.lapin_history.specs.declared.phases.Phase.TheVariants as phase
 use Rattle.lapin_history.specs.declared.phases.Link.{Link}
 use Rattle.lapin_history.specs.declared.phases.Link.TheVariants as link
 use Rattle.lapin_history.specs.Heard.{heard, frame_class, frame_method}
-use Rattle.lapin_history.specs.Phases.{is_lost, link_close_sent}
+use Rattle.lapin_history.specs.Phases.{is_lost}
+use Rattle.lapin_history.specs.ConnectionClose.{link_close_sent}
 use Rattle.lapin_history.specs.Frames.{MethodEntry, RestEntry}
 use Rattle.lapin_history.specs.Leaving.{Lists, handed_of}
 use Rattle.lapin_history.specs.Drops.{no_lists}
-use Rattle.lapin_history.specs.Answers.{Sight, refused, heard_record}
-use Rattle.lapin_history.specs.Base.{Base, state_of, phase_of, is_allowed, is_open, may_begin, after_call, after_heard, after_received, after_failed, after_refused, after_close_ok, after_next, handed, sent, link_sent, lists_of, has_sent}
+use Rattle.lapin_history.specs.Sight.{Sight}
+use Rattle.lapin_history.specs.Unexpected.{refused}
+use Rattle.lapin_history.specs.Hearing.{heard_record}
+use Rattle.lapin_history.specs.Base.{Base, state_of, phase_of, is_open, lists_of}
+use Rattle.lapin_history.specs.Asking.{is_allowed, after_call}
+use Rattle.lapin_history.specs.Flow.{may_begin}
+use Rattle.lapin_history.specs.Hearing.{after_heard, after_received, after_failed, after_refused}
+use Rattle.lapin_history.specs.ChannelClose.{after_close_ok}
+use Rattle.lapin_history.specs.Handing.{after_next, handed, sent}
+use Rattle.lapin_history.specs.ConnectionClose.{link_sent, has_sent}
 use Rattle.lapin_machine.specs.World.{World, next, new_world, sight_of}
 use Rattle.lapin_machine.specs.Alone.{is_connection_close, IsOneClose, IsCloseAlone, WaitsAlone, without_own_close}
 
@@ -52,7 +61,7 @@ call_up c (ask.Publish exchange key o payload properties) b e = rw e tt
 call_down : (c : ℕ) (k : Asked) (b : Base) → is_allowed k (state_of c b) ≡ false → Alone b → Alone (cond (is_allowed k (state_of c b)) (after_call c k b) b)
 call_down c k b e h = rw e h
 
-down_refuses : (l : Link) (c : ℕ) (k : Asked) (b : Base) → b.link ≡ l → (l ≡ link.Open) ⊎ (is_allowed k (state_of c b) ≡ false)
+pub down_refuses : (l : Link) (c : ℕ) (k : Asked) (b : Base) → b.link ≡ l → (l ≡ link.Open) ⊎ (is_allowed k (state_of c b) ≡ false)
 down_refuses link.Open c k b e = inl refl
 down_refuses (link.Closing s h) c ask.Open b e = inr (rw e refl)
 down_refuses (link.Closing s h) c (ask.CloseChannel code text) b e = inr (rw e refl)
@@ -176,6 +185,7 @@ up_alone i record_.Pending b e = rw e tt
 up_alone i (record_.Answer a) b e = rw e tt
 up_alone i (record_.Confirmed o) b e = rw e tt
 up_alone i (record_.State x y) b e = rw e tt
+up_alone i record_.Aside b e = rw e tt
 up_alone i record_.Lost b e = rw e tt
 
 -- of the two frames that are heard while this side closes, each takes the close out that has not left
@@ -202,6 +212,7 @@ alone-next w (event.Next flow) h = next_alone flow w.base.link w.base refl h
 alone-next w (event.Receive f) h = heard_alone w.base.link (sight_of w.book w.slots) (refused (frame_class f) (frame_method f)) (heard f) w.base refl h
 alone-next w (event.PollTicket n) h = h
 alone-next w (event.PollConfirm n) h = h
+alone-next w (event.AsideTicket n) h = h
 alone-next w (event.State c) h = h
 alone-next w event.Lost h = choose_alone (is_lost w.base.link) w.base _ h tt
 

@@ -1,7 +1,8 @@
 -- Confirms stand for the longer history after each event.
-use Rattle.std.proofs.Common.{◌≡◌, ◌≢◌, ℕ, zero, suc, ◌+◌, ◌<◌, ◌≤◌, nat_lt, Bool, true, false, cond, ◌||◌, ◌&&◌, List, [], ◌∷◌, ◌++◌, length, Option, Some, None, Result, Ok, Err, refl, sym, ◌∙◌, ap, subst, arith, append-nil, append_assoc, add-one, ne_eqb, ltb-true}
+use Rattle.std.proofs.Common.{◌≡◌, ◌≢◌, ℕ, zero, suc, ◌+◌, ◌<◌, ◌≤◌, nat_lt, nat_le, Bool, true, false, cond, ◌||◌, ◌&&◌, List, [], ◌∷◌, ◌++◌, length, Option, Some, None, Result, Ok, Err, refl, sym, ◌∙◌, ap, subst, arith, append-nil, append_assoc, add-one, ne_eqb, ltb-true}
 use Rattle.std.specs.Prelude.{◌==◌, not}
 use Rattle.std.specs.List.{fold, filter, AllByRecursion}
+use Rattle.std.proofs.lemmas.Bool.{leb-true}
 use Rattle.lapin_history.specs.declared.calls.Row.{Row}
 use Rattle.lapin_history.specs.declared.calls.Asked.{Asked}
 use Rattle.lapin_history.specs.declared.calls.Asked.TheVariants as ask
@@ -16,8 +17,8 @@ use Rattle.lapin_types.specs.Types.{Method, Error}
 use Rattle.lapin_types.specs.Types.method
 use Rattle.lapin_types.specs.Types.confirm
 use Rattle.lapin_types.specs.Types.error
-use Rattle.lapin_history.specs.declared.marks.ConfirmMark.{ConfirmMark}
-use Rattle.lapin_history.specs.declared.marks.ConfirmMark.TheVariants as mark
+use Rattle.lapin_history.specs.ConfirmMarks.{ConfirmMark}
+use Rattle.lapin_history.specs.ConfirmMarks as mark
 use Rattle.lapin_history.specs.declared.marks.Outcome.{Outcome}
 use Rattle.lapin_history.specs.declared.marks.Settlement.{Settlement}
 use Rattle.lapin_history.specs.declared.broker_frames.Incoming.{Incoming}
@@ -32,43 +33,62 @@ use Rattle.lapin_history.specs.declared.phases.Link.{Link}
 use Rattle.lapin_history.specs.declared.phases.Link.TheVariants as link
 use Rattle.lapin_history.specs.Phases.{is_live, is_up, is_lost}
 use Rattle.lapin_history.specs.Drops.{is_on, is_off, publish_channel, unbegun}
-use Rattle.lapin_history.specs.Closes.{close_ok_end}
+use Rattle.lapin_history.specs.ChannelClose.{close_ok_end}
 use Rattle.lapin_history.specs.Heard.{heard}
-use Rattle.lapin_history.specs.Base.{Base, state_of, phase_of, is_allowed, is_open, may_begin, after_event, after_call, after_heard, after_received, after_refused, after_failed, after_close_ok, after_connection_close, unless_sent, has_sent, handed, sent, after_next, lists_of, with_lists}
-use Rattle.lapin_history.specs.Marked.{confirm_marks, call_marks, rejections, ends, end_with, left_marks, method_marks, heard_marks, received_marks, refused_marks, failed_marks, is_confirmed, place_of}
-use Rattle.lapin_history.specs.Answers.{record_of}
-use Rattle.lapin_history.specs.History.{sight_of, polled_outcome, poll_at, confirm_poll}
+use Rattle.lapin_history.specs.Base.{Base, state_of, phase_of, is_open, lists_of, with_lists}
+use Rattle.lapin_history.specs.Asking.{is_allowed, after_call}
+use Rattle.lapin_history.specs.Flow.{may_begin}
+use Rattle.lapin_history.specs.Events.{after_event}
+use Rattle.lapin_history.specs.Hearing.{after_heard, after_received, after_refused, after_failed}
+use Rattle.lapin_history.specs.ChannelClose.{after_close_ok}
+use Rattle.lapin_history.specs.ConnectionClose.{after_connection_close, unless_sent, has_sent}
+use Rattle.lapin_history.specs.Handing.{handed, sent, after_next}
+use Rattle.lapin_history.specs.Events.{confirm_marks}
+use Rattle.lapin_history.specs.Asking.{call_marks}
+use Rattle.lapin_history.specs.Select.{queued_marks, is_select, method_marks}
+use Rattle.lapin_history.specs.Ends.{live_channels, ends, ends_all, end_with}
+use Rattle.lapin_history.specs.Handing.{left_marks}
+use Rattle.lapin_history.specs.Hearing.{heard_marks, received_marks, refused_marks, failed_marks}
+use Rattle.lapin_history.specs.Polls.{is_confirmed}
+use Rattle.lapin_history.specs.Events.{record_of}
+use Rattle.lapin_history.specs.History.{sight_of, polled_outcome, was_added, confirm_poll}
 use Rattle.lapin_history.proofs.ConfirmLaws.{added-push}
 use Rattle.lapin_confirm.specs.declared.cell.Cell.{Cell}
 use Rattle.lapin_confirm.specs.declared.cell.Cell.TheVariants as cell
 use Rattle.lapin_confirm.specs.Book.{Book, after_mark}
-use Rattle.lapin_confirm.specs.Follows.{Follows, MayCome, cell_in}
-use Rattle.lapin_confirm.proofs.CellFollowing.{rejects, stood, cell-step, cell-added, IsQueued, queued_facts}
+use Rattle.lapin_confirm.specs.Follows.{Follows, WasAdded, MayCome, cell_in}
+use Rattle.lapin_confirm.proofs.CellFollowing.{stood, cell-step, cell-added, IsQueued, queued_facts}
 use Rattle.lapin_confirm.proofs.Following.{follows-push}
-use Rattle.lapin_machine.specs.Stands.{AreFresh, ConfirmsStand}
+use Rattle.lapin_machine.specs.Stands.{AreFresh, ConfirmsStand, IsShut}
 
 abbrev queued_at : List ConfirmMark → Publish → Type 0
-queued_at ms p = MayCome ms (mark.Left p.channel (place_of p.confirm))
+queued_at ms p = MayCome ms (mark.Left p.channel p.confirm)
 
 -- the mark is of another publish than this, and leaves it queued
 abbrev SparesOne : ConfirmMark → Publish → Type 0
-SparesOne m p = (leaves (place_of p.confirm) m ≡ false) × (takes (place_of p.confirm) m ≡ false) × (rejects (place_of p.confirm) m ≡ false) × (stood m (Some (cell.Queued p.channel)) ≡ Some (cell.Queued p.channel))
+SparesOne m p = (leaves p.confirm m ≡ false) × (takes p.confirm m ≡ false) × (stood m (Some (cell.Queued p.channel)) ≡ Some (cell.Queued p.channel))
 
 abbrev Spares : ConfirmMark → List Publish → Type 0
 Spares m ps = AllByRecursion (SparesOne m) ps
 
+-- what a mark of something else does to a publish's cell
+step_at : (n : ℕ) (ms : List ConfirmMark) (m : ConfirmMark) → WasAdded n ms → leaves n m ≡ false → takes n m ≡ false → cell_in n (ms ++ m ∷ []) ≡ stood m (cell_in n ms)
+step_at zero ms m known away kept = let none : 1 ≤ 0 = known.0 in absurd (omega arith)
+step_at (suc k) ms m known away kept = let last : suc k ≤ added ms = known.1 in cell-step k ms m (omega arith) away kept
+
 queued_kept : (ms : List ConfirmMark) (m : ConfirmMark) (p : Publish) → SparesOne m p → added ms ≤ added (ms ++ m ∷ []) → queued_at ms p → queued_at (ms ++ m ∷ []) p
 queued_kept ms m p other le h =
-    let below : place_of p.confirm < added ms = h.0 in
-    (omega arith, cell-step (place_of p.confirm) ms m below other.0 other.1 other.2 ∙ ap (stood m) h.1 ∙ other.3)
+    let first : 1 ≤ p.confirm = h.0.0 in
+    let last : p.confirm ≤ added ms = h.0.1 in
+    ((first, omega arith), step_at p.confirm ms m h.0 other.0 other.1 ∙ ap (stood m) h.1 ∙ other.2)
 
 fresh_kept : (ms : List ConfirmMark) (m : ConfirmMark) (ps : List Publish) → Spares m ps → added ms ≤ added (ms ++ m ∷ []) → AreFresh ms ps → AreFresh (ms ++ m ∷ []) ps
 fresh_kept ms m [] other le h = tt
 fresh_kept ms m (p ∷ ps) other le h = (queued_kept ms m p other.0 le h.0, h.1, fresh_kept ms m ps other.1 le h.2)
 
-spares_all : (m : ConfirmMark) (ps : List Publish) → ((k : ℕ) → leaves k m ≡ false) → ((k : ℕ) → takes k m ≡ false) → ((k : ℕ) → rejects k m ≡ false) → ((c : ℕ) → stood m (Some (cell.Queued c)) ≡ Some (cell.Queued c)) → Spares m ps
-spares_all m [] l t r s = tt
-spares_all m (p ∷ ps) l t r s = ((l (place_of p.confirm), t (place_of p.confirm), r (place_of p.confirm), s p.channel), spares_all m ps l t r s)
+spares_all : (m : ConfirmMark) (ps : List Publish) → ((n : ℕ) → leaves n m ≡ false) → ((n : ℕ) → takes n m ≡ false) → ((c : ℕ) → stood m (Some (cell.Queued c)) ≡ Some (cell.Queued c)) → Spares m ps
+spares_all m [] l t s = tt
+spares_all m (p ∷ ps) l t s = ((l p.confirm, t p.confirm, s p.channel), spares_all m ps l t s)
 
 -- no mark
 stand_still : (b d : Base) (ms : List ConfirmMark) (bk : Book) → ConfirmsStand b ms bk → d.published ≡ b.published → d.publishes ≡ b.publishes → ConfirmsStand d (ms ++ []) bk
@@ -104,27 +124,9 @@ module _ {X : Type 0} (P : X → Type 0) (t : X → Bool) where
 fresh_filter : (t : Publish → Bool) (ms : List ConfirmMark) (ps : List Publish) → AreFresh ms ps → AreFresh ms (filter t ps)
 fresh_filter t ms [] h = tt
 fresh_filter t ms (p ∷ ps) h = elim (t p) as (λ b. AreFresh ms (cond b (p ∷ filter t ps) (filter t ps))) [
-  | true ↦ (h.0, all-filter (λ r. place_of p.confirm ≢ place_of r.confirm) t ps h.1, fresh_filter t ms ps h.2)
+  | true ↦ (h.0, all-filter (λ r. p.confirm ≢ r.confirm) t ps h.1, fresh_filter t ms ps h.2)
   | false ↦ fresh_filter t ms ps h.2
 ]
-
--- a mark that rejects a publish is of no other
-rejected_other : (e : Error) (p q : Publish) → place_of p.confirm ≢ place_of q.confirm → SparesOne (mark.Rejected (place_of p.confirm) e) q
-rejected_other e p q ne = (refl, refl, ne_eqb (place_of q.confirm) (place_of p.confirm) (λ x. ne (sym x)), refl)
-
-rejected_others : (e : Error) (p : Publish) (ps : List Publish) → AllByRecursion (λ r. place_of p.confirm ≢ place_of r.confirm) ps → Spares (mark.Rejected (place_of p.confirm) e) ps
-rejected_others e p [] h = tt
-rejected_others e p (q ∷ ps) h = (rejected_other e p q h.0, rejected_others e p ps h.1)
-
--- a publish that none of these is stays queued as they are rejected
-queued_beside : (e : Error) (q : Publish) (gone : List Publish) (ms : List ConfirmMark) → AllByRecursion (λ r. place_of q.confirm ≢ place_of r.confirm) gone → queued_at ms q → queued_at (ms ++ rejections e gone) q
-queued_beside e q [] ms other h = let P : List ConfirmMark → Type 0 = λ xs. queued_at xs q in subst P (sym (append-nil ms)) h
-queued_beside e q (p ∷ gone) ms other h =
-    let m : ConfirmMark = mark.Rejected (place_of p.confirm) e in
-    let same : added (ms ++ m ∷ []) ≡ added ms = added-push ms m in
-    let P : List ConfirmMark → Type 0 = λ xs. queued_at xs q in
-    subst P (append_assoc ms (m ∷ []) (rejections e gone))
-    (queued_beside e q gone (ms ++ m ∷ []) other.1 (queued_kept ms m q (rejected_other e p q (λ x. other.0 (sym x))) (omega arith) h))
 
 -- the confirms stand, and these publishes still wait
 record Standing (ms : List ConfirmMark) (bk : Book) (many : ℕ) (ps : List Publish) : Type 0 where
@@ -135,55 +137,37 @@ record Standing (ms : List ConfirmMark) (bk : Book) (many : ℕ) (ps : List Publ
 moved : (xs ys : List ConfirmMark) (bk : Book) (count : ℕ) (ps : List Publish) → xs ≡ ys → Standing xs bk count ps → Standing ys bk count ps
 moved xs ys bk count ps e s = let P : List ConfirmMark → Type 0 = λ zs. Standing zs bk count ps in subst P e s
 
--- the publishes of a channel that have not begun are rejected; the others still wait
-stand_rejected : (c : ℕ) (e : Error) (ps : List Publish) (ms : List ConfirmMark) (bk : Book) → Follows ms bk → AreFresh ms ps → Standing (ms ++ rejections e (unbegun c ps)) (fold after_mark bk (rejections e (unbegun c ps))) (added ms) (filter (is_off publish_channel c) ps)
-stand_rejected c e [] ms bk f h = moved ms (ms ++ []) bk (added ms) [] (sym (append-nil ms)) (record { book = f; count = refl; queue = tt })
-stand_rejected c e (p ∷ ps) ms bk f h =
-    elim (p.channel == c) as (λ b. Standing (ms ++ rejections e (cond b (p ∷ unbegun c ps) (unbegun c ps))) (fold after_mark bk (rejections e (cond b (p ∷ unbegun c ps) (unbegun c ps)))) (added ms) (cond (not b) (p ∷ filter (is_off publish_channel c) ps) (filter (is_off publish_channel c) ps))) [
-      | true ↦
-          let m : ConfirmMark = mark.Rejected (place_of p.confirm) e in
-          let same : added (ms ++ m ∷ []) ≡ added ms = added-push ms m in
-          let rest = stand_rejected c e ps (ms ++ m ∷ []) (after_mark bk m)
-          (follows-push ms bk m f (h.0.0, (p.channel, h.0.1)))
-          (fresh_kept ms m ps (rejected_others e p ps h.1) (omega arith) h.2) in
-          moved _ _ _ (added ms) _ (append_assoc ms (m ∷ []) (rejections e (unbegun c ps))) (record { book = rest.book; count = rest.count ∙ same; queue = rest.queue })
-      | false ↦
-          let rest = stand_rejected c e ps ms bk f h.2 in
-          record {
-            book = rest.book;
-            count = rest.count;
-            queue = (queued_beside e p (unbegun c ps) ms (all-filter (λ r. place_of p.confirm ≢ place_of r.confirm) (is_on publish_channel c) ps h.1) h.0, all-filter (λ r. place_of p.confirm ≢ place_of r.confirm) (is_off publish_channel c) ps h.1, rest.queue);
-          }
-    ]
+-- a mark of one channel alone, that adds no publish: what waits of other channels still waits
+module _ (c : ℕ) (m : ConfirmMark) (leaves_none : (n : ℕ) → leaves n m ≡ false) (takes_none : (n : ℕ) → takes n m ≡ false) (away : (d : ℕ) → (d == c) ≡ false → stood m (Some (cell.Queued d)) ≡ Some (cell.Queued d)) where
+  spares_others : (ps : List Publish) → Spares m (filter (is_off publish_channel c) ps)
+  spares_others [] = tt
+  spares_others (p ∷ ps) = elim (p.channel == c) as (λ b. (p.channel == c) ≡ b → Spares m (cond (not b) (p ∷ filter (is_off publish_channel c) ps) (filter (is_off publish_channel c) ps))) [
+    | true ↦ λ on. spares_others ps
+    | false ↦ λ off. ((leaves_none p.confirm, takes_none p.confirm, away p.channel off), spares_others ps)
+  ] refl
 
--- what is queued on another channel stays so as an opening ends
-ended_others : (c : ℕ) (e : Error) (ps : List Publish) → Spares (mark.Ended c e) (filter (is_off publish_channel c) ps)
-ended_others c e [] = tt
-ended_others c e (p ∷ ps) = elim (p.channel == c) as (λ b. (p.channel == c) ≡ b → Spares (mark.Ended c e) (cond (not b) (p ∷ filter (is_off publish_channel c) ps) (filter (is_off publish_channel c) ps))) [
-  | true ↦ λ on. ended_others c e ps
-  | false ↦ λ off. ((refl, refl, refl, rw off refl), ended_others c e ps)
-] refl
+  stand_off : (b d : Base) (ms : List ConfirmMark) (bk : Book) → ConfirmsStand b ms bk → MayCome ms m → added (ms ++ m ∷ []) ≡ added ms → d.published ≡ b.published → d.publishes ≡ filter (is_off publish_channel c) b.publishes → ConfirmsStand d (ms ++ m ∷ []) (after_mark bk m)
+  stand_off b d ms bk s may same n q =
+      let P : List Publish → Type 0 = AreFresh (ms ++ m ∷ []) in
+      stand-push b d ms bk m s may (n ∙ s.published ∙ sym same)
+      (subst P (sym q) (fresh_kept ms m (filter (is_off publish_channel c) b.publishes) (spares_others b.publishes) (omega arith) (fresh_filter (is_off publish_channel c) ms b.publishes s.queue)))
 
+-- an opening ends
 stand_ended : (c : ℕ) (e : Error) (b d : Base) (ms : List ConfirmMark) (bk : Book) → ConfirmsStand b ms bk → d.published ≡ b.published → d.publishes ≡ filter (is_off publish_channel c) b.publishes → ConfirmsStand d (ms ++ mark.Ended c e ∷ []) (after_mark bk (mark.Ended c e))
-stand_ended c e b d ms bk s n q =
+stand_ended c e b d ms bk s n q = stand_off c (mark.Ended c e) (λ k. refl) (λ k. refl) (λ x off. rw off refl) b d ms bk s tt (added-push ms (mark.Ended c e)) n q
+
+-- this side closes a channel
+stand_closed : (c : ℕ) (e : Error) (b d : Base) (ms : List ConfirmMark) (bk : Book) → ConfirmsStand b ms bk → d.published ≡ b.published → d.publishes ≡ filter (is_off publish_channel c) b.publishes → ConfirmsStand d (ms ++ mark.ClosedHere c e ∷ []) (after_mark bk (mark.ClosedHere c e))
+stand_closed c e b d ms bk s n q = stand_off c (mark.ClosedHere c e) (λ k. refl) (λ k. refl) (λ x off. rw off refl) b d ms bk s tt (added-push ms (mark.ClosedHere c e)) n q
+
+-- these openings end, and nothing waits any more
+stand_ends : (e : Error) (cs : List ℕ) (ms : List ConfirmMark) (bk : Book) → Follows ms bk → Standing (ms ++ ends e cs) (fold after_mark bk (ends e cs)) (added ms) []
+stand_ends e [] ms bk f = moved ms (ms ++ []) bk (added ms) [] (sym (append-nil ms)) (record { book = f; count = refl; queue = tt })
+stand_ends e (c ∷ cs) ms bk f =
     let m : ConfirmMark = mark.Ended c e in
     let same : added (ms ++ m ∷ []) ≡ added ms = added-push ms m in
-    let P : List Publish → Type 0 = AreFresh (ms ++ m ∷ []) in
-    stand-push b d ms bk m s tt (n ∙ s.published ∙ sym same)
-    (subst P (sym q) (fresh_kept ms m (filter (is_off publish_channel c) b.publishes) (ended_others c e b.publishes) (omega arith) (fresh_filter (is_off publish_channel c) ms b.publishes s.queue)))
-
--- every live opening ends, and nothing waits any more
-stand_ends : (e : Error) (xs : List (ℕ × Phase)) (ms : List ConfirmMark) (bk : Book) → Follows ms bk → Standing (ms ++ ends e xs) (fold after_mark bk (ends e xs)) (added ms) []
-stand_ends e [] ms bk f = moved ms (ms ++ []) bk (added ms) [] (sym (append-nil ms)) (record { book = f; count = refl; queue = tt })
-stand_ends e (x ∷ xs) ms bk f =
-    elim (is_live x.1) as (λ b. Standing (ms ++ cond b (mark.Ended x.0 e ∷ ends e xs) (ends e xs)) (fold after_mark bk (cond b (mark.Ended x.0 e ∷ ends e xs) (ends e xs))) (added ms) []) [
-      | true ↦
-          let m : ConfirmMark = mark.Ended x.0 e in
-          let same : added (ms ++ m ∷ []) ≡ added ms = added-push ms m in
-          let rest = stand_ends e xs (ms ++ m ∷ []) (after_mark bk m) (follows-push ms bk m f tt) in
-          moved _ _ _ (added ms) [] (append_assoc ms (m ∷ []) (ends e xs)) (record { book = rest.book; count = rest.count ∙ same; queue = tt })
-      | false ↦ stand_ends e xs ms bk f
-    ]
+    let rest = stand_ends e cs (ms ++ m ∷ []) (after_mark bk m) (follows-push ms bk m f tt) in
+    moved _ _ _ (added ms) [] (append_assoc ms (m ∷ []) (ends e cs)) (record { book = rest.book; count = rest.count ∙ same; queue = tt })
 
 -- what stands after a close or an end
 stand_by : (b d : Base) (ms new : List ConfirmMark) (bk : Book) → ConfirmsStand b ms bk → d.published ≡ b.published → Standing (ms ++ new) (fold after_mark bk new) (added ms) d.publishes → ConfirmsStand d (ms ++ new) (fold after_mark bk new)
@@ -196,62 +180,64 @@ stand_dropped b d ms bk s n q =
     let Q : List Publish → Type 0 = AreFresh ms in
     subst P (sym (append-nil ms)) (record { book = s.book; published = n ∙ s.published; queue = subst Q (sym q) tt })
 
--- the connection is not open any more, whether it was before or not
-stand_down : (l : Link) (e : Error) (b d : Base) (ms : List ConfirmMark) (bk : Book) → ConfirmsStand b ms bk → d.published ≡ b.published → d.publishes ≡ [] → ConfirmsStand d (ms ++ cond (is_up l) (ends e b.phases) []) (fold after_mark bk (cond (is_up l) (ends e b.phases) []))
-stand_down l e b d ms bk s n q =
-    elim (is_up l) as (λ u. ConfirmsStand d (ms ++ cond u (ends e b.phases) []) (fold after_mark bk (cond u (ends e b.phases) []))) [
-      | true ↦
-          let P : List Publish → Type 0 = λ ps. Standing (ms ++ ends e b.phases) (fold after_mark bk (ends e b.phases)) (added ms) ps in
-          stand_by b d ms (ends e b.phases) bk s n (subst P (sym q) (stand_ends e b.phases ms bk s.book))
-      | false ↦ stand_dropped b d ms bk s n q
-    ]
+-- every live opening ends, if there is one
+stand_down : (e : Error) (b d : Base) (ms : List ConfirmMark) (bk : Book) → ConfirmsStand b ms bk → d.published ≡ b.published → d.publishes ≡ [] → ConfirmsStand d (ms ++ ends_all e b) (fold after_mark bk (ends_all e b))
+stand_down e b d ms bk s n q =
+    let P : List Publish → Type 0 = λ ps. Standing (ms ++ ends_all e b) (fold after_mark bk (ends_all e b)) (added ms) ps in
+    stand_by b d ms (ends_all e b) bk s n (subst P (sym q) (stand_ends e (live_channels b.phases) ms bk s.book))
+
+-- none is live
+stand_none : (e : Error) (b d : Base) (ms : List ConfirmMark) (bk : Book) → b.phases ≡ [] → ConfirmsStand b ms bk → d.published ≡ b.published → d.publishes ≡ b.publishes → ConfirmsStand d (ms ++ ends_all e b) (fold after_mark bk (ends_all e b))
+stand_none e b d ms bk none s n q =
+    let P : List (ℕ × Phase) → Type 0 = λ ps. ConfirmsStand d (ms ++ ends e (live_channels ps)) (fold after_mark bk (ends e (live_channels ps))) in
+    subst P (sym none) (stand_still b d ms bk s n q)
 
 -- ---- calls
 
-fresh_added : (ms : List ConfirmMark) (c n : ℕ) (p : Publish) (ps : List Publish) → n ≡ added ms → p.channel ≡ c → place_of p.confirm ≡ n → (has_left n ms ≡ false) × (is_taken n ms ≡ false) → AreFresh ms ps → AreFresh (ms ++ mark.Added c ∷ []) (ps ++ p ∷ [])
-fresh_added ms c n p [] e on at new h =
+fresh_added : (ms : List ConfirmMark) (c : ℕ) (p : Publish) (ps : List Publish) → p.channel ≡ c → p.confirm ≡ suc (added ms) → (has_left (suc (added ms)) ms ≡ false) × (is_taken (suc (added ms)) ms ≡ false) → AreFresh ms ps → AreFresh (ms ++ mark.Added c ∷ []) (ps ++ p ∷ [])
+fresh_added ms c p [] on at new h =
     let more : added (ms ++ mark.Added c ∷ []) ≡ added ms + 1 = added-push ms (mark.Added c) in
-    let P : ℕ → Type 0 = λ k. cell_in k (ms ++ mark.Added c ∷ []) ≡ Some (cell.Queued c) in
-    let Q : ℕ → Type 0 = λ d. cell_in (place_of p.confirm) (ms ++ mark.Added c ∷ []) ≡ Some (cell.Queued d) in
-    ((omega arith, subst Q (sym on) (subst P (sym at) (cell-added c n ms e new))), tt, tt)
-fresh_added ms c n p (q ∷ ps) e on at new h =
+    let P : ℕ → Type 0 = λ i. cell_in i (ms ++ mark.Added c ∷ []) ≡ Some (cell.Queued c) in
+    let Q : ℕ → Type 0 = λ d. cell_in p.confirm (ms ++ mark.Added c ∷ []) ≡ Some (cell.Queued d) in
+    (((omega arith, omega arith), subst Q (sym on) (subst P (sym at) (cell-added c (added ms) ms refl new))), tt, tt)
+fresh_added ms c p (q ∷ ps) on at new h =
     let more : added (ms ++ mark.Added c ∷ []) ≡ added ms + 1 = added-push ms (mark.Added c) in
-    let below : place_of q.confirm < added ms = h.0.0 in
-    ((omega arith, cell-step (place_of q.confirm) ms (mark.Added c) below refl refl refl ∙ h.0.1), apart (place_of q.confirm) ps (omega arith) h.1, fresh_added ms c n p ps e on at new h.2)
+    let first : 1 ≤ q.confirm = h.0.0.0 in
+    let last : q.confirm ≤ added ms = h.0.0.1 in
+    (((first, omega arith), step_at q.confirm ms (mark.Added c) h.0.0 refl refl ∙ h.0.1), apart q.confirm ps (omega arith) h.1, fresh_added ms c p ps on at new h.2)
   where
-    apart : (k : ℕ) (ps : List Publish) → k ≢ place_of p.confirm → AllByRecursion (λ r. k ≢ place_of r.confirm) ps → AllByRecursion (λ r. k ≢ place_of r.confirm) (ps ++ p ∷ [])
+    apart : (k : ℕ) (ps : List Publish) → k ≢ p.confirm → AllByRecursion (λ r. k ≢ r.confirm) ps → AllByRecursion (λ r. k ≢ r.confirm) (ps ++ p ∷ [])
     apart k [] ne h = (ne, tt)
     apart k (r ∷ rs) ne h = (h.0, apart k rs ne h.1)
 
-place_next : (n : ℕ) → place_of (n + 1) ≡ n
-place_next n = rw add-one refl
+-- a call that queues a method
+stand_queued : (b d : Base) (ms : List ConfirmMark) (bk : Book) (c : ℕ) (m : Method) → ConfirmsStand b ms bk → d.published ≡ b.published → d.publishes ≡ b.publishes → ConfirmsStand d (ms ++ queued_marks c m) (fold after_mark bk (queued_marks c m))
+stand_queued b d ms bk c m s n q = elim (is_select m) as (λ t. ConfirmsStand d (ms ++ cond t (mark.SelectCalled c ∷ []) []) (fold after_mark bk (cond t (mark.SelectCalled c ∷ []) []))) [
+  | true ↦ stand_quiet b d ms bk (mark.SelectCalled c) s tt (spares_all (mark.SelectCalled c) b.publishes (λ k. refl) (λ k. refl) (λ d. refl)) (added-push ms (mark.SelectCalled c)) n q
+  | false ↦ stand_still b d ms bk s n q
+]
 
 stand_call : (c : ℕ) (k : Asked) (b : Base) (ms : List ConfirmMark) (bk : Book) → ConfirmsStand b ms bk → ConfirmsStand (after_call c k b) (ms ++ call_marks c k b) (fold after_mark bk (call_marks c k b))
-stand_call c ask.Open b ms bk s = stand_quiet b _ ms bk (mark.Begun c) s tt (spares_all (mark.Begun c) b.publishes (λ k. refl) (λ k. refl) (λ k. refl) (λ d. refl)) (added-push ms (mark.Begun c)) refl refl
-stand_call c (ask.CloseChannel code text) b ms bk s = stand_by b _ ms _ bk s refl (stand_rejected c _ b.publishes ms bk s.book s.queue)
-stand_call c (ask.CloseConnection code text) b ms bk s = stand_down b.link _ b _ ms bk s refl refl
-stand_call c (ask.Method row) b ms bk s = stand_still b _ ms bk s refl refl
+stand_call c ask.Open b ms bk s = stand_quiet b _ ms bk (mark.Begun c) s tt (spares_all (mark.Begun c) b.publishes (λ k. refl) (λ k. refl) (λ d. refl)) (added-push ms (mark.Begun c)) refl refl
+stand_call c (ask.CloseChannel code text) b ms bk s = stand_closed c _ b _ ms bk s refl refl
+stand_call c (ask.CloseConnection code text) b ms bk s = stand_down _ b _ ms bk s refl refl
+stand_call c (ask.Method row) b ms bk s = stand_queued b _ ms bk c row.method s refl refl
 stand_call c (ask.Publish exchange key o payload properties) b ms bk s =
     let count : b.published ≡ added ms = s.published in
     stand-push b _ ms bk (mark.Added c) s tt (ap (λ n. n + 1) s.published ∙ sym (added-push ms (mark.Added c)))
-    (fresh_added ms c b.published _ b.publishes s.published refl (place_next b.published) (s.book.fresh b.published (omega arith)) s.queue)
+    (fresh_added ms c _ b.publishes refl (ap (λ n. n + 1) s.published ∙ add-one (added ms)) (s.book.fresh (added ms) (omega arith)) s.queue)
 
 -- ---- frames that leave
 
 stand_method : (b d : Base) (ms : List ConfirmMark) (bk : Book) (c : ℕ) (m : Method) → ConfirmsStand b ms bk → d.published ≡ b.published → d.publishes ≡ b.publishes → ConfirmsStand d (ms ++ method_marks c m) (fold after_mark bk (method_marks c m))
-stand_method b d ms bk c (method.Connection m) s n q = stand_still b d ms bk s n q
-stand_method b d ms bk c (method.Channel m) s n q = stand_still b d ms bk s n q
-stand_method b d ms bk c (method.Access m) s n q = stand_still b d ms bk s n q
-stand_method b d ms bk c (method.Exchange m) s n q = stand_still b d ms bk s n q
-stand_method b d ms bk c (method.Queue m) s n q = stand_still b d ms bk s n q
-stand_method b d ms bk c (method.Basic m) s n q = stand_still b d ms bk s n q
-stand_method b d ms bk c (method.Confirm (confirm.Select nowait)) s n q = stand_quiet b d ms bk (mark.SelectLeft c) s tt (spares_all (mark.SelectLeft c) b.publishes (λ k. refl) (λ k. refl) (λ k. refl) (λ d. refl)) (added-push ms (mark.SelectLeft c)) n q
-stand_method b d ms bk c (method.Confirm confirm.SelectOk) s n q = stand_still b d ms bk s n q
-stand_method b d ms bk c (method.Tx m) s n q = stand_still b d ms bk s n q
+stand_method b d ms bk c m s n q = elim (is_select m) as (λ t. ConfirmsStand d (ms ++ cond t (mark.SelectLeft c ∷ []) []) (fold after_mark bk (cond t (mark.SelectLeft c ∷ []) []))) [
+  | true ↦ stand_quiet b d ms bk (mark.SelectLeft c) s tt (spares_all (mark.SelectLeft c) b.publishes (λ k. refl) (λ k. refl) (λ d. refl)) (added-push ms (mark.SelectLeft c)) n q
+  | false ↦ stand_still b d ms bk s n q
+]
 
-others : (c j : ℕ) (ps : List Publish) → AllByRecursion (λ r. j ≢ place_of r.confirm) ps → Spares (mark.Left c j) ps
+others : (c j : ℕ) (ps : List Publish) → AllByRecursion (λ r. j ≢ r.confirm) ps → Spares (mark.Left c j) ps
 others c j [] h = tt
-others c j (p ∷ ps) h = ((ne_eqb j (place_of p.confirm) h.0, refl, refl, refl), others c j ps h.1)
+others c j (p ∷ ps) h = ((ne_eqb j p.confirm h.0, refl, refl), others c j ps h.1)
 
 abbrev base_with : Base → List RestEntry → List MethodEntry → List Publish → Base
 base_with b rest methods publishes = record b { rest = rest; methods = methods; publishes = publishes }
@@ -265,10 +251,10 @@ stand_next flow b ms bk (f ∷ fs) methods publishes s = stand_still (base_with 
 stand_next flow b ms bk [] (m ∷ more) publishes s = stand_method (base_with b [] (m ∷ more) publishes) _ ms bk m.channel m.method s refl refl
 stand_next true b ms bk [] [] [] s = stand_still (base_with b [] [] []) _ ms bk s refl refl
 stand_next true b ms bk [] [] (p ∷ ps) s =
-    let m : ConfirmMark = mark.Left p.channel (place_of p.confirm) in
+    let m : ConfirmMark = mark.Left p.channel p.confirm in
     let same : added (ms ++ m ∷ []) ≡ added ms = added-push ms m in
     stand-push (base_with b [] [] (p ∷ ps)) _ ms bk m s s.queue.0 (s.published ∙ sym same)
-    (fresh_kept ms m ps (others p.channel (place_of p.confirm) ps s.queue.1) (omega arith) s.queue.2)
+    (fresh_kept ms m ps (others p.channel p.confirm ps s.queue.1) (omega arith) s.queue.2)
 stand_next false b ms bk [] [] publishes s = stand_still (base_with b [] [] publishes) _ ms bk s refl refl
 
 -- ---- frames of the broker
@@ -283,12 +269,12 @@ stand_close_ok c phase.Opening b ms bk s = stand_still b _ ms bk s refl refl
 stand_close_ok c (phase.Open paused) b ms bk s = stand_still b _ ms bk s refl refl
 stand_close_ok c phase.Crossed b ms bk s = stand_still b _ ms bk s refl refl
 
-stand_connection_close : (l : Link) (code : ℕ) (b : Base) (ms : List ConfirmMark) (bk : Book) → ConfirmsStand b ms bk → HeardStands b (after_connection_close l b) ms (cond (is_up l) (ends (error.ProtocolError code) b.phases) []) bk
-stand_connection_close link.Open code b ms bk s = stand_down link.Open _ b _ ms bk s refl refl
-stand_connection_close (link.Closing true heard) code b ms bk s = stand_still b _ ms bk s refl refl
-stand_connection_close (link.Closing false heard) code b ms bk s = stand_dropped b _ ms bk s refl refl
-stand_connection_close link.Closed code b ms bk s = stand_dropped b _ ms bk s refl refl
-stand_connection_close link.Lost code b ms bk s = stand_dropped b _ ms bk s refl refl
+stand_connection_close : (l : Link) (code : ℕ) (b : Base) (ms : List ConfirmMark) (bk : Book) → b.link ≡ l → IsShut b → ConfirmsStand b ms bk → HeardStands b (after_connection_close l b) ms (ends_all (error.ProtocolError code) b) bk
+stand_connection_close link.Open code b ms bk e shut s = stand_down _ b _ ms bk s refl refl
+stand_connection_close (link.Closing true heard) code b ms bk e shut s = stand_none _ b _ ms bk (shut (ap is_up e)) s refl refl
+stand_connection_close (link.Closing false heard) code b ms bk e shut s = stand_down _ b _ ms bk s refl refl
+stand_connection_close link.Closed code b ms bk e shut s = stand_down _ b _ ms bk s refl refl
+stand_connection_close link.Lost code b ms bk e shut s = stand_down _ b _ ms bk s refl refl
 
 stand_connection_close_ok : (x : Bool) (b d : Base) (ms : List ConfirmMark) (bk : Book) → ConfirmsStand b ms bk → d.published ≡ b.published → d.publishes ≡ (unless_sent x (lists_of b)).publishes → ConfirmsStand d (ms ++ []) bk
 stand_connection_close_ok true b d ms bk s n q = stand_still b d ms bk s n q
@@ -298,20 +284,18 @@ stand_flow : (t : Bool) (d b : Base) (ms : List ConfirmMark) (bk : Book) → d.p
 stand_flow true d b ms bk n q s = stand_still b d ms bk s n q
 stand_flow false d b ms bk n q s = stand_still b b ms bk s refl refl
 
-stand_received : (i : Incoming) (b : Base) (ms : List ConfirmMark) (bk : Book) → ConfirmsStand b ms bk → HeardStands b (after_received i b) ms (received_marks i b) bk
-stand_received (incoming.Reply c k a) b ms bk s = stand_still b _ ms bk s refl refl
-stand_received (incoming.Settlement c x) b ms bk s = stand_quiet b b ms bk (mark.Settled c x) s tt (spares_all (mark.Settled c x) b.publishes (λ k. refl) (λ k. refl) (λ k. refl) (λ d. refl)) (added-push ms (mark.Settled c x)) refl refl
-stand_received (incoming.ChannelClose c code) b ms bk s = stand_ended c _ b _ ms bk s refl refl
-stand_received (incoming.ChannelCloseOk c) b ms bk s = stand_close_ok c (phase_of c b) b ms bk s
-stand_received (incoming.ConnectionClose code) b ms bk s = stand_connection_close b.link code b ms bk s
-stand_received incoming.ConnectionCloseOk b ms bk s = stand_connection_close_ok (has_sent b.link) b _ ms bk s refl refl
-stand_received (incoming.Flow c active) b ms bk s = stand_flow (is_open (state_of c b)) _ b ms bk refl refl s
-stand_received incoming.Other b ms bk s = stand_still b b ms bk s refl refl
+stand_received : (i : Incoming) (b : Base) (ms : List ConfirmMark) (bk : Book) → IsShut b → ConfirmsStand b ms bk → HeardStands b (after_received i b) ms (received_marks i b) bk
+stand_received (incoming.Reply c k a) b ms bk shut s = stand_still b _ ms bk s refl refl
+stand_received (incoming.Settlement c x) b ms bk shut s = stand_quiet b b ms bk (mark.Settled c x) s tt (spares_all (mark.Settled c x) b.publishes (λ k. refl) (λ k. refl) (λ d. refl)) (added-push ms (mark.Settled c x)) refl refl
+stand_received (incoming.ChannelClose c code) b ms bk shut s = stand_ended c _ b _ ms bk s refl refl
+stand_received (incoming.ChannelCloseOk c) b ms bk shut s = stand_close_ok c (phase_of c b) b ms bk s
+stand_received (incoming.ConnectionClose code) b ms bk shut s = stand_connection_close b.link code b ms bk refl shut s
+stand_received incoming.ConnectionCloseOk b ms bk shut s = stand_connection_close_ok (has_sent b.link) b _ ms bk s refl refl
+stand_received (incoming.Flow c active) b ms bk shut s = stand_flow (is_open (state_of c b)) _ b ms bk refl refl s
+stand_received incoming.Other b ms bk shut s = stand_still b b ms bk s refl refl
 
-stand_failed_on : (t : Bool) (c : ℕ) (e : Error) (x b : Base) (ms : List ConfirmMark) (bk : Book) → x.published ≡ b.published → x.publishes ≡ filter (is_off publish_channel c) b.publishes → ConfirmsStand b ms bk → HeardStands b (cond t x b) ms (cond t (rejections e (unbegun c b.publishes)) []) bk
-stand_failed_on true c e x b ms bk n q s =
-    let P : List Publish → Type 0 = λ ps. Standing (ms ++ rejections e (unbegun c b.publishes)) (fold after_mark bk (rejections e (unbegun c b.publishes))) (added ms) ps in
-    stand_by b x ms _ bk s n (subst P (sym q) (stand_rejected c e b.publishes ms bk s.book s.queue))
+stand_failed_on : (t : Bool) (c : ℕ) (e : Error) (x b : Base) (ms : List ConfirmMark) (bk : Book) → x.published ≡ b.published → x.publishes ≡ filter (is_off publish_channel c) b.publishes → ConfirmsStand b ms bk → HeardStands b (cond t x b) ms (cond t (mark.ClosedHere c e ∷ []) []) bk
+stand_failed_on true c e x b ms bk n q s = stand_closed c e b x ms bk s n q
 stand_failed_on false c e x b ms bk n q s = stand_still b b ms bk s refl refl
 
 stand_failed : (i : Incoming) (b : Base) (ms : List ConfirmMark) (bk : Book) → ConfirmsStand b ms bk → HeardStands b (after_failed i b) ms (failed_marks i b) bk
@@ -325,7 +309,7 @@ stand_failed (incoming.Flow c active) b ms bk s = stand_still b b ms bk s refl r
 stand_failed incoming.Other b ms bk s = stand_still b b ms bk s refl refl
 
 stand_refused : (i : Incoming) (e : Error) (b : Base) (ms : List ConfirmMark) (bk : Book) → ConfirmsStand b ms bk → HeardStands b (after_refused i e b) ms (refused_marks i e b) bk
-stand_refused i (error.UnexpectedFrame class number) b ms bk s = stand_down b.link _ b _ ms bk s refl refl
+stand_refused i (error.UnexpectedFrame class number) b ms bk s = stand_down _ b _ ms bk s refl refl
 stand_refused i (error.PreconditionFailed tag current) b ms bk s = stand_failed i b ms bk s
 stand_refused i error.NoMemory b ms bk s = stand_still b b ms bk s refl refl
 stand_refused i error.NumbersUsedUp b ms bk s = stand_still b b ms bk s refl refl
@@ -335,25 +319,26 @@ stand_refused i error.ConnectionLost b ms bk s = stand_still b b ms bk s refl re
 stand_refused i error.AlreadyTaken b ms bk s = stand_still b b ms bk s refl refl
 stand_refused i error.UnknownTicket b ms bk s = stand_still b b ms bk s refl refl
 
-stand_heard : (i : Incoming) (r : Record) (b : Base) (ms : List ConfirmMark) (bk : Book) → ConfirmsStand b ms bk → HeardStands b (after_heard i r b) ms (heard_marks i r b) bk
-stand_heard i (record_.Refused e) b ms bk s = stand_refused i e b ms bk s
-stand_heard i record_.Received b ms bk s = stand_received i b ms bk s
-stand_heard i (record_.Ticket n) b ms bk s = stand_still b b ms bk s refl refl
-stand_heard i (record_.Publish t n) b ms bk s = stand_still b b ms bk s refl refl
-stand_heard i (record_.Frame f) b ms bk s = stand_still b b ms bk s refl refl
-stand_heard i record_.NoFrame b ms bk s = stand_still b b ms bk s refl refl
-stand_heard i record_.Passed b ms bk s = stand_still b b ms bk s refl refl
-stand_heard i record_.Pending b ms bk s = stand_still b b ms bk s refl refl
-stand_heard i (record_.Answer a) b ms bk s = stand_still b b ms bk s refl refl
-stand_heard i (record_.Confirmed o) b ms bk s = stand_still b b ms bk s refl refl
-stand_heard i (record_.State x y) b ms bk s = stand_still b b ms bk s refl refl
-stand_heard i record_.Lost b ms bk s = stand_still b b ms bk s refl refl
+stand_heard : (i : Incoming) (r : Record) (b : Base) (ms : List ConfirmMark) (bk : Book) → IsShut b → ConfirmsStand b ms bk → HeardStands b (after_heard i r b) ms (heard_marks i r b) bk
+stand_heard i (record_.Refused e) b ms bk shut s = stand_refused i e b ms bk s
+stand_heard i record_.Received b ms bk shut s = stand_received i b ms bk shut s
+stand_heard i (record_.Ticket n) b ms bk shut s = stand_still b b ms bk s refl refl
+stand_heard i (record_.Publish t n) b ms bk shut s = stand_still b b ms bk s refl refl
+stand_heard i (record_.Frame f) b ms bk shut s = stand_still b b ms bk s refl refl
+stand_heard i record_.NoFrame b ms bk shut s = stand_still b b ms bk s refl refl
+stand_heard i record_.Passed b ms bk shut s = stand_still b b ms bk s refl refl
+stand_heard i record_.Pending b ms bk shut s = stand_still b b ms bk s refl refl
+stand_heard i (record_.Answer a) b ms bk shut s = stand_still b b ms bk s refl refl
+stand_heard i (record_.Confirmed o) b ms bk shut s = stand_still b b ms bk s refl refl
+stand_heard i (record_.State x y) b ms bk shut s = stand_still b b ms bk s refl refl
+stand_heard i record_.Aside b ms bk shut s = stand_still b b ms bk s refl refl
+stand_heard i record_.Lost b ms bk shut s = stand_still b b ms bk s refl refl
 
-stand_lost : (l : Link) (b d : Base) (ms : List ConfirmMark) (bk : Book) → ConfirmsStand b ms bk → d.published ≡ b.published → d.publishes ≡ [] → HeardStands b (cond (is_lost l) b d) ms (cond (is_up l) (ends error.ConnectionLost b.phases) []) bk
-stand_lost link.Open b d ms bk s n q = stand_down link.Open _ b d ms bk s n q
-stand_lost (link.Closing sent heard) b d ms bk s n q = stand_dropped b d ms bk s n q
-stand_lost link.Closed b d ms bk s n q = stand_dropped b d ms bk s n q
-stand_lost link.Lost b d ms bk s n q = stand_still b b ms bk s refl refl
+stand_lost : (l : Link) (b d : Base) (ms : List ConfirmMark) (bk : Book) → b.link ≡ l → IsShut b → ConfirmsStand b ms bk → d.published ≡ b.published → d.publishes ≡ [] → HeardStands b (cond (is_lost l) b d) ms (ends_all error.ConnectionLost b) bk
+stand_lost link.Open b d ms bk e shut s n q = stand_down _ b d ms bk s n q
+stand_lost (link.Closing sent heard) b d ms bk e shut s n q = stand_down _ b d ms bk s n q
+stand_lost link.Closed b d ms bk e shut s n q = stand_down _ b d ms bk s n q
+stand_lost link.Lost b d ms bk e shut s n q = stand_none _ b b ms bk (shut (ap is_up e)) s refl refl
 
 -- ---- polls
 
@@ -361,16 +346,22 @@ confirmed_open : (o : Option Outcome) → is_confirmed (polled_outcome o) ≡ tr
 confirmed_open None h = cc
 confirmed_open (Some o) h = refl
 
+added_is : (n : ℕ) (ms : List ConfirmMark) → was_added n ms ≡ true → WasAdded n ms
+added_is n ms h = elim (nat_lt 0 n) as (λ a. nat_lt 0 n ≡ a → (a && nat_le n (added ms)) ≡ true → WasAdded n ms) [
+  | true ↦ λ above within. let some : 0 < n = ltb-true 0 n above in (omega arith, leb-true n (added ms) within)
+  | false ↦ λ none h. cc
+] refl h
+
 -- a result that is given is that of a publish whose outcome is there
-given_is : (k : ℕ) (ms : List ConfirmMark) → is_confirmed (poll_at k ms) ≡ true → (k < added ms) × (is_open_outcome (outcome_at k ms) ≡ false)
-given_is k ms =
-    elim (nat_lt k (added ms)) as (λ a. nat_lt k (added ms) ≡ a → is_confirmed (cond a (cond (is_taken k ms) (record_.Refused error.AlreadyTaken) (polled_outcome (outcome_at k ms))) (record_.Refused error.UnknownTicket)) ≡ true → (k < added ms) × (is_open_outcome (outcome_at k ms) ≡ false)) [
-      | true ↦ λ lt.
-          elim (is_taken k ms) as (λ a. is_confirmed (cond a (record_.Refused error.AlreadyTaken) (polled_outcome (outcome_at k ms))) ≡ true → (k < added ms) × (is_open_outcome (outcome_at k ms) ≡ false)) [
+given_is : (n : ℕ) (ms : List ConfirmMark) → is_confirmed (confirm_poll ms n) ≡ true → WasAdded n ms × (is_open_outcome (outcome_at n ms) ≡ false)
+given_is n ms =
+    elim (was_added n ms) as (λ a. was_added n ms ≡ a → is_confirmed (cond a (cond (is_taken n ms) (record_.Refused error.AlreadyTaken) (polled_outcome (outcome_at n ms))) (record_.Refused error.UnknownTicket)) ≡ true → WasAdded n ms × (is_open_outcome (outcome_at n ms) ≡ false)) [
+      | true ↦ λ known.
+          elim (is_taken n ms) as (λ a. is_confirmed (cond a (record_.Refused error.AlreadyTaken) (polled_outcome (outcome_at n ms))) ≡ true → WasAdded n ms × (is_open_outcome (outcome_at n ms) ≡ false)) [
             | true ↦ λ h. cc
-            | false ↦ λ h. (ltb-true k (added ms) lt, confirmed_open (outcome_at k ms) h)
+            | false ↦ λ h. (added_is n ms known, confirmed_open (outcome_at n ms) h)
           ]
-      | false ↦ λ lt h. cc
+      | false ↦ λ known h. cc
     ] refl
 
 -- a queued publish has no outcome
@@ -379,36 +370,36 @@ queued_open c k ms e =
     let facts : IsQueued c k ms = queued_facts c k ms e in
     rw (facts.waits, facts.unrejected) refl
 
-untaken : (k : ℕ) (ms : List ConfirmMark) (ps : List Publish) → is_open_outcome (outcome_at k ms) ≡ false → AreFresh ms ps → Spares (mark.Taken k) ps
-untaken k ms [] done h = tt
-untaken k ms (p ∷ ps) done h =
-    let open_ : is_open_outcome (outcome_at (place_of p.confirm) ms) ≡ true = queued_open p.channel (place_of p.confirm) ms h.0.1 in
+untaken : (n : ℕ) (ms : List ConfirmMark) (ps : List Publish) → is_open_outcome (outcome_at n ms) ≡ false → AreFresh ms ps → Spares (mark.Taken n) ps
+untaken n ms [] done h = tt
+untaken n ms (p ∷ ps) done h =
+    let open_ : is_open_outcome (outcome_at p.confirm ms) ≡ true = queued_open p.channel p.confirm ms h.0.1 in
     let P : ℕ → Type 0 = λ i. is_open_outcome (outcome_at i ms) ≡ false in
-    ((refl, ne_eqb k (place_of p.confirm) (λ e. let closed : is_open_outcome (outcome_at (place_of p.confirm) ms) ≡ false = subst P e done in cc), refl, refl), untaken k ms ps done h.2)
+    ((refl, ne_eqb n p.confirm (λ e. let closed : is_open_outcome (outcome_at p.confirm ms) ≡ false = subst P e done in cc), refl), untaken n ms ps done h.2)
 
-stand_poll : (b : Base) (ms : List ConfirmMark) (bk : Book) (n : ℕ) → ConfirmsStand b ms bk → ConfirmsStand b (ms ++ cond (is_confirmed (confirm_poll ms n)) (mark.Taken (place_of n) ∷ []) []) (fold after_mark bk (cond (is_confirmed (confirm_poll ms n)) (mark.Taken (place_of n) ∷ []) []))
-stand_poll b ms bk zero s = stand_still b b ms bk s refl refl
-stand_poll b ms bk (suc k) s =
-    choose_only (is_confirmed (poll_at k ms)) b ms bk (mark.Taken k)
+stand_poll : (b : Base) (ms : List ConfirmMark) (bk : Book) (n : ℕ) → ConfirmsStand b ms bk → ConfirmsStand b (ms ++ cond (is_confirmed (confirm_poll ms n)) (mark.Taken n ∷ []) []) (fold after_mark bk (cond (is_confirmed (confirm_poll ms n)) (mark.Taken n ∷ []) []))
+stand_poll b ms bk n s =
+    choose_only (is_confirmed (confirm_poll ms n)) b ms bk (mark.Taken n)
     (λ h.
-    let was : (k < added ms) × (is_open_outcome (outcome_at k ms) ≡ false) = given_is k ms h in
-    let same : added (ms ++ mark.Taken k ∷ []) ≡ added ms = added-push ms (mark.Taken k) in
-    stand-push b b ms bk (mark.Taken k) s was (s.published ∙ sym same)
-    (fresh_kept ms (mark.Taken k) b.publishes (untaken k ms b.publishes was.1 s.queue) (omega arith) s.queue)) s
+    let was : WasAdded n ms × (is_open_outcome (outcome_at n ms) ≡ false) = given_is n ms h in
+    let same : added (ms ++ mark.Taken n ∷ []) ≡ added ms = added-push ms (mark.Taken n) in
+    stand-push b b ms bk (mark.Taken n) s was (s.published ∙ sym same)
+    (fresh_kept ms (mark.Taken n) b.publishes (untaken n ms b.publishes was.1 s.queue) (omega arith) s.queue)) s
 
 -- where channels and the connection stand is nothing to the confirms
 stand_sent : (o : Option Left) (b : Base) (ms : List ConfirmMark) (bk : Book) → ConfirmsStand b ms bk → ConfirmsStand (sent o b) ms bk
 stand_sent None b ms bk s = s
 stand_sent (Some l) b ms bk s = record { book = s.book; published = s.published; queue = s.queue }
 
-pub confirms-next : (b : Base) (ms : List ConfirmMark) (tms : List TicketMark) (bk : Book) (e : Event) (r : Record) → r ≡ record_of b (sight_of ms tms) e → ConfirmsStand b ms bk
+pub confirms-next : (b : Base) (ms : List ConfirmMark) (tms : List TicketMark) (bk : Book) (e : Event) (r : Record) → r ≡ record_of b (sight_of ms tms) e → IsShut b → ConfirmsStand b ms bk
     → ConfirmsStand (after_event b e r) (ms ++ confirm_marks b e r) (fold after_mark bk (confirm_marks b e r))
-confirms-next b ms tms bk (event.Call c k) r is s = choose_mark (is_allowed (asked k) (state_of c b)) (after_call c (asked k) b) b ms bk (call_marks c (asked k) b) (stand_call c (asked k) b ms bk s) s
-confirms-next b ms tms bk (event.Next flow) r is s = stand_sent (handed flow b) _ _ _ (stand_next (may_begin flow b) b ms bk b.rest b.methods b.publishes s)
-confirms-next b ms tms bk (event.Receive f) r is s = stand_heard (heard f) r b ms bk s
-confirms-next b ms tms bk (event.PollTicket n) r is s = stand_still b b ms bk s refl refl
-confirms-next b ms tms bk (event.PollConfirm n) r is s =
-    let P : Record → Type 0 = λ x. ConfirmsStand b (ms ++ cond (is_confirmed x) (mark.Taken (place_of n) ∷ []) []) (fold after_mark bk (cond (is_confirmed x) (mark.Taken (place_of n) ∷ []) [])) in
+confirms-next b ms tms bk (event.Call c k) r is shut s = choose_mark (is_allowed (asked k) (state_of c b)) (after_call c (asked k) b) b ms bk (call_marks c (asked k) b) (stand_call c (asked k) b ms bk s) s
+confirms-next b ms tms bk (event.Next flow) r is shut s = stand_sent (handed flow b) _ _ _ (stand_next (may_begin flow b) b ms bk b.rest b.methods b.publishes s)
+confirms-next b ms tms bk (event.Receive f) r is shut s = stand_heard (heard f) r b ms bk shut s
+confirms-next b ms tms bk (event.PollTicket n) r is shut s = stand_still b b ms bk s refl refl
+confirms-next b ms tms bk (event.PollConfirm n) r is shut s =
+    let P : Record → Type 0 = λ x. ConfirmsStand b (ms ++ cond (is_confirmed x) (mark.Taken n ∷ []) []) (fold after_mark bk (cond (is_confirmed x) (mark.Taken n ∷ []) [])) in
     subst P (sym is) (stand_poll b ms bk n s)
-confirms-next b ms tms bk (event.State c) r is s = stand_still b b ms bk s refl refl
-confirms-next b ms tms bk event.Lost r is s = stand_lost b.link b _ ms bk s refl refl
+confirms-next b ms tms bk (event.AsideTicket n) r is shut s = stand_still b b ms bk s refl refl
+confirms-next b ms tms bk (event.State c) r is shut s = stand_still b b ms bk s refl refl
+confirms-next b ms tms bk event.Lost r is shut s = stand_lost b.link b _ ms bk refl shut s refl refl

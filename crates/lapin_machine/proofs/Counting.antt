@@ -1,5 +1,5 @@
 -- No event uses more than one number of a counter.
-use Rattle.std.proofs.Common.{◌≡◌, ℕ, suc, ◌+◌, ◌<◌, ◌≤◌, ◌^◌, Bool, true, false, cond, List, [], ◌∷◌, ◌++◌, Option, Some, None, refl, ◌∙◌, ap, arith, append_assoc, ◌⊎◌, inl, inr}
+use Rattle.std.proofs.Common.{◌≡◌, ℕ, suc, ◌+◌, ◌<◌, ◌≤◌, ◌^◌, Bool, true, false, cond, List, [], ◌∷◌, ◌++◌, length, Option, Some, None, refl, ◌∙◌, ap, arith, append_assoc, ◌⊎◌, inl, inr}
 use Rattle.lapin_history.specs.declared.calls.Row.{Row}
 use Rattle.lapin_history.specs.declared.calls.Asked.{Asked}
 use Rattle.lapin_history.specs.declared.calls.Asked.TheVariants as ask
@@ -20,8 +20,18 @@ use Rattle.lapin_history.specs.declared.phases.Link.{Link}
 use Rattle.lapin_history.specs.declared.phases.Link.TheVariants as link
 use Rattle.lapin_history.specs.Phases.{is_lost}
 use Rattle.lapin_history.specs.Leaving.{left_lists}
-use Rattle.lapin_history.specs.Base.{Base, state_of, phase_of, is_allowed, is_open, may_begin, after_event, after_call, after_heard, after_received, after_failed, after_refused, after_close_ok, after_connection_close, after_lost, after_next, handed, sent, with_lists, lists_of}
+use Rattle.lapin_history.specs.Base.{Base, state_of, phase_of, is_open, with_lists, lists_of}
+use Rattle.lapin_history.specs.Asking.{is_allowed, after_call}
+use Rattle.lapin_history.specs.Flow.{may_begin}
+use Rattle.lapin_history.specs.Events.{after_event}
+use Rattle.lapin_history.specs.Hearing.{after_heard, after_received, after_failed, after_refused}
+use Rattle.lapin_history.specs.ChannelClose.{after_close_ok}
+use Rattle.lapin_history.specs.ConnectionClose.{after_connection_close}
+use Rattle.lapin_history.specs.Loss.{after_lost}
+use Rattle.lapin_history.specs.Handing.{after_next, handed, sent}
+use Rattle.lapin_history.specs.History.{History, Past, longer, past_on, past}
 use Rattle.lapin_machine.specs.World.{World, next, told_by, IsLonger}
+use Rattle.lapin_machine.specs.Stands.{Stands}
 use Rattle.lapin_machine.specs.Numbers.{HasNumbersFor, EventUsedUp, LacksNumber}
 
 choose_le : (t : Bool) (x y : Base) (n : ℕ) (f : Base → ℕ) → f x ≤ n → f y ≤ n → f (cond t x y) ≤ n
@@ -107,6 +117,7 @@ heard_counts i record_.Pending b = (refl, refl)
 heard_counts i (record_.Answer a) b = (refl, refl)
 heard_counts i (record_.Confirmed o) b = (refl, refl)
 heard_counts i (record_.State x y) b = (refl, refl)
+heard_counts i record_.Aside b = (refl, refl)
 heard_counts i record_.Lost b = (refl, refl)
 
 pub lost_counts : (b : Base) → SameCounts (after_lost b) b
@@ -125,6 +136,7 @@ tickets-next b (event.Next flow) r = let same : (after_next flow b).tickets ≡ 
 tickets-next b (event.Receive f) r = let same : (after_heard (heard f) r b).tickets ≡ b.tickets = (heard_counts (heard f) r b).0 in omega arith
 tickets-next b (event.PollTicket n) r = omega arith
 tickets-next b (event.PollConfirm n) r = omega arith
+tickets-next b (event.AsideTicket n) r = omega arith
 tickets-next b (event.State c) r = omega arith
 tickets-next b event.Lost r = let same : (after_lost b).tickets ≡ b.tickets = (lost_counts b).0 in omega arith
 
@@ -134,6 +146,7 @@ published-next b (event.Next flow) r = let same : (after_next flow b).published 
 published-next b (event.Receive f) r = let same : (after_heard (heard f) r b).published ≡ b.published = (heard_counts (heard f) r b).1 in omega arith
 published-next b (event.PollTicket n) r = omega arith
 published-next b (event.PollConfirm n) r = omega arith
+published-next b (event.AsideTicket n) r = omega arith
 published-next b (event.State c) r = omega arith
 published-next b event.Lost r = let same : (after_lost b).published ≡ b.published = (lost_counts b).1 in omega arith
 
@@ -176,3 +189,21 @@ longer-push old new records rest ends r h e = record {
   all = append_assoc h.done (r ∷ []) rest ∙ h.all;
   new_is = e ∙ ap (λ (xs : List Record). xs ++ r ∷ []) h.new_is ∙ append_assoc old h.done (r ∷ []);
 }
+
+-- ---- no counter is above the number of events
+
+within_on : (p : Past) (h : History) → ((past_on p h).base.tickets ≤ p.base.tickets + length h) × ((past_on p h).base.published ≤ p.base.published + length h)
+within_on p [] = (omega arith, omega arith)
+within_on p (x ∷ h) =
+    let rest = within_on (longer p x.0 x.1) h in
+    let one : (longer p x.0 x.1).base.tickets ≤ p.base.tickets + 1 = tickets-next p.base x.0 x.1 in
+    let also : (longer p x.0 x.1).base.published ≤ p.base.published + 1 = published-next p.base x.0 x.1 in
+    (omega (arith, rest.0, one), omega (arith, rest.1, also))
+
+-- a session that stands for a history has used at most one number of each counter an event
+pub standing_numbers : (n m : ℕ) (h : History) (w : World) → Stands n h w → length h + m < 2 ^ 64 → HasNumbersFor m w
+standing_numbers n m h w s few =
+    let within = within_on (past n []) h in
+    let t : w.base.tickets ≡ (past n h).base.tickets = ap (λ b. b.tickets) s.base in
+    let p : w.base.published ≡ (past n h).base.published = ap (λ b. b.published) s.base in
+    record { tickets = omega (arith, within.0, t); confirms = omega (arith, within.1, p) }

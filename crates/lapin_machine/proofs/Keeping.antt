@@ -1,5 +1,5 @@
 -- What ties a session's parts together holds after each change.
-use Rattle.std.proofs.Common.{◌≡◌, ◌≢◌, ℕ, zero, suc, ◌+◌, ◌<◌, ◌≤◌, ◌==◌, Bool, true, false, cond, ◌||◌, ◌&&◌, List, [], ◌∷◌, ◌++◌, map, length, Option, Some, None, refl, sym, ◌∙◌, ap, subst, arith, slice_set, get_or, add-one, ◌⊎◌, inl, inr, eqb-true, ne_eqb, eq-eqb}
+use Rattle.std.proofs.Common.{◌≡◌, ◌≢◌, ℕ, zero, suc, ◌+◌, ◌<◌, ◌≤◌, ◌==◌, nat_lt, ltb-true, ltb-false, Bool, true, false, cond, ◌||◌, ◌&&◌, List, [], ◌∷◌, ◌++◌, map, length, Option, Some, None, refl, sym, ◌∙◌, ap, subst, arith, slice_set, get_or, add-one, ◌⊎◌, inl, inr, eqb-true, ne_eqb, eq-eqb}
 use Rattle.std.specs.Prelude.{IsSome, IsOk, OnOk, Result, Ok, Err}
 use Rattle.std.specs.List.{list_any, fold, AllByRecursion}
 use Rattle.std.specs.Option.{option_map}
@@ -19,29 +19,40 @@ use Rattle.lapin_tables.specs.ByChannel.{at_channel, on_channel}
 use Rattle.lapin_tables.specs.Numbered.{under, with_under}
 use Rattle.lapin_history.specs.declared.marks.Settlement.{Settlement}
 use Rattle.lapin_history.specs.declared.marks.Outcome.{Outcome}
-use Rattle.lapin_history.specs.declared.marks.ConfirmMark.TheVariants as mark
+use Rattle.lapin_history.specs.declared.marks.Outcome.TheVariants as outcome
+use Rattle.lapin_history.specs.ConfirmMarks as mark
 use Rattle.lapin_history.specs.declared.phases.Closer.{Closer}
 use Rattle.lapin_history.specs.declared.phases.Phase.{Phase}
 use Rattle.lapin_history.specs.declared.phases.Phase.TheVariants as phase
 use Rattle.lapin_history.specs.declared.phases.Link.{Link}
 use Rattle.lapin_history.specs.declared.phases.Link.TheVariants as link
 use Rattle.lapin_history.specs.Words.{is_some, with_channel}
-use Rattle.lapin_history.specs.Phases.{channel_state, is_live, is_up, phase_in, close_sent, link_close_sent}
+use Rattle.lapin_history.specs.Phases.{channel_state, is_live, is_up, phase_in}
+use Rattle.lapin_history.specs.ChannelClose.{close_sent}
+use Rattle.lapin_history.specs.ConnectionClose.{link_close_sent}
 use Rattle.lapin_history.specs.ConfirmReadings.{covers, outcome_of}
 use Rattle.lapin_history.specs.Drops.{frame_channel}
 use Rattle.lapin_history.specs.Frames.{RestEntry, MethodEntry}
 use Rattle.lapin_history.specs.Leaving.{Lists, left_of, handed_of}
-use Rattle.lapin_history.specs.Closes.{close_ok_end}
-use Rattle.lapin_history.specs.Base.{is_closed, is_open, is_opening, is_closing, is_crossed, hears_on, opens, hears, hears_close, hears_close_ok, phases_with, phases_sent, link_sent, unless_sent}
-use Rattle.lapin_history.specs.Marked.{left_marks, method_marks, place_of, rejections, ends}
+use Rattle.lapin_history.specs.ChannelClose.{close_ok_end}
+use Rattle.lapin_history.specs.Base.{is_closed, is_open, is_opening, is_closing, is_crossed, hears_on}
+use Rattle.lapin_history.specs.Opening.{opens, phases_with}
+use Rattle.lapin_history.specs.Reply.{hears}
+use Rattle.lapin_history.specs.ChannelClose.{hears_close, hears_close_ok, phases_sent}
+use Rattle.lapin_history.specs.ConnectionClose.{link_sent, unless_sent}
+use Rattle.lapin_history.specs.Select.{is_select, queued_marks, method_marks}
+use Rattle.lapin_history.specs.Handing.{left_marks}
+use Rattle.lapin_history.specs.Ends.{beyond, live_below, live_channels, ends}
+use Rattle.lapin_history.proofs.EndLaws.{beyond-none}
 use Rattle.lapin_history.proofs.ChannelLaws.{at-on, at-with}
 use Rattle.lapin_history.proofs.ListLaws.{any-push}
 use Rattle.lapin_confirm.specs.declared.cell.Cell.{Cell}
 use Rattle.lapin_confirm.specs.declared.cell.Cell.TheVariants as cell
-use Rattle.lapin_confirm.specs.Book.{Book, Line, fresh_line, selected_line, next_line, tag_for, lines_with, cell_with, settled_cell, is_open_on, is_resolved, begun, with_publish, select_left, left, settled, rejected, ended, taken, after_mark}
+use Rattle.lapin_confirm.specs.Book.{Book, Line, empty_book, fresh_line, selected_line, asked_line, next_line, ended_line, tag_for, lines_with, cell_with, settled_cell, closed_cell, is_queued_on, is_open_on, is_resolved, begun, with_publish, select_left, select_called, left, settled, closed_here, ended, taken, after_mark}
 use Rattle.lapin_confirm.proofs.Ended.{any-ended}
 use Rattle.lapin_desk.specs.Queued.{AreQueued}
-use Rattle.lapin_desk.proofs.Queueing.{number-within, under-map, queued-kept, queued-push, queued-written, resolved_apart, suc_place}
+use Rattle.lapin_desk.proofs.Ends.{ends-join}
+use Rattle.lapin_desk.proofs.Waiting.{queue-push, queue-left, queue-settled, queue-taken, queue-none}
 use Rattle.lapin_machine.specs.Kept.{is_close_sent}
 use Rattle.lapin_machine.specs.Tied.{IsTied, is_live_on, MayRegister, CanRegister}
 
@@ -81,14 +92,11 @@ any-mapped p g (x ∷ xs) keeps h =
     elim (p x) as (λ b. p x ≡ b → (b || list_any p xs) ≡ false → (p (g x) || list_any p (map g xs)) ≡ false)
     [ true ↦ λ is h. cc | false ↦ λ is h. rw (keeps x is) (any-mapped p g xs keeps h) ] refl h
 
--- what rejections of publishes leave
-rejections-lines : (e : Error) (ps : List Publish) (b : Book) → (fold after_mark b (rejections e ps)).lines ≡ b.lines
-rejections-lines e [] b = refl
-rejections-lines e (p ∷ ps) b = rejections-lines e ps (rejected (suc (place_of p.confirm)) e b)
-
-any-rejections : (c : ℕ) (e : Error) (ps : List Publish) (b : Book) → list_any (is_open_on c) b.cells ≡ false → list_any (is_open_on c) (fold after_mark b (rejections e ps)).cells ≡ false
-any-rejections c e [] b h = h
-any-rejections c e (p ∷ ps) b h = any-rejections c e ps (rejected (suc (place_of p.confirm)) e b) (any-under c (suc (place_of p.confirm)) _ b.cells h refl)
+closed-closed : (c d : ℕ) (e : Error) (x : Option Cell) → is_open_on c x ≡ false → is_open_on c (option_map (closed_cell d e) x) ≡ false
+closed-closed c d e None h = refl
+closed-closed c d e (Some (cell.Queued k)) h = elim (k == d) as (λ b. is_open_on c (Some (cond b (cell.Resolved (outcome.Failed e)) (cell.Queued k))) ≡ false) [ true ↦ refl | false ↦ h ]
+closed-closed c d e (Some (cell.Pending k t)) h = h
+closed-closed c d e (Some (cell.Resolved x)) h = refl
 
 -- what ends of openings leave
 ended_none : (c d : ℕ) (e : Error) (b : Book) → list_any (is_open_on c) b.cells ≡ false → list_any (is_open_on c) (ended d e b).cells ≡ false
@@ -97,33 +105,37 @@ ended_none c d e b h = any-ended c d e b ∙ elim (d == c) as (λ t. cond t fals
 ended_here : (c : ℕ) (e : Error) (b : Book) → list_any (is_open_on c) (ended c e b).cells ≡ false
 ended_here c e b = let same : (c == c) ≡ true = eq-eqb c c refl in any-ended c c e b ∙ rw same refl
 
-ends-lines : (e : Error) (xs : List (ℕ × Phase)) (b : Book) → (fold after_mark b (ends e xs)).lines ≡ b.lines
-ends-lines e [] b = refl
-ends-lines e (x ∷ xs) b = elim (is_live x.1) as (λ t. (fold after_mark b (cond t (mark.Ended x.0 e ∷ ends e xs) (ends e xs))).lines ≡ b.lines) [ true ↦ ends-lines e xs (ended x.0 e b) | false ↦ ends-lines e xs b ]
-
-ends_none : (c : ℕ) (e : Error) (xs : List (ℕ × Phase)) (b : Book) → list_any (is_open_on c) b.cells ≡ false → list_any (is_open_on c) (fold after_mark b (ends e xs)).cells ≡ false
+ends_none : (c : ℕ) (e : Error) (cs : List ℕ) (b : Book) → list_any (is_open_on c) b.cells ≡ false → list_any (is_open_on c) (fold after_mark b (ends e cs)).cells ≡ false
 ends_none c e [] b h = h
-ends_none c e (x ∷ xs) b h = elim (is_live x.1) as (λ t. list_any (is_open_on c) (fold after_mark b (cond t (mark.Ended x.0 e ∷ ends e xs) (ends e xs))).cells ≡ false) [
-  | true ↦ ends_none c e xs (ended x.0 e b) (ended_none c x.0 e b h)
-  | false ↦ ends_none c e xs b h
-]
+ends_none c e (d ∷ cs) b h = ends_none c e cs (ended d e b) (ended_none c d e b h)
 
--- a channel with a live opening has nothing unresolved once all ended
-ends_live : (c : ℕ) (e : Error) (xs : List (ℕ × Phase)) (b : Book) → is_live (phase_in (at_channel c xs)) ≡ true → list_any (is_open_on c) (fold after_mark b (ends e xs)).cells ≡ false
-ends_live c e [] b h = cc
-ends_live c e (x ∷ xs) b h =
-    elim (eqb_tells x.0 c) [
+-- a channel of a live opening has nothing unresolved once all those below a greater number ended
+ends_below : (c n : ℕ) (e : Error) (xs : List (ℕ × Phase)) (b : Book) → c < n → is_live (phase_in (at_channel c xs)) ≡ true → list_any (is_open_on c) (fold after_mark b (ends e (live_below n xs))).cells ≡ false
+ends_below c zero e xs b lt live = absurd (omega arith)
+ends_below c (suc k) e xs b lt live =
+    let B : Book = fold after_mark b (ends e (live_below k xs)) in
+    let last : List ℕ = cond (is_live (phase_in (at_channel k xs))) (k ∷ []) [] in
+    let C : Book → Type 0 = λ x. list_any (is_open_on c) x.cells ≡ false in
+    subst C (sym (ends-join e (live_below k xs) last b))
+    (elim (eqb_tells c k) [
       | inl same ↦
-          let live : is_live x.1 ≡ true = rw same.0 at h in
-          let P : ℕ → Type 0 = λ k. list_any (is_open_on k) (ended x.0 e b).cells ≡ false in
-          rw live (ends_none c e xs (ended x.0 e b) (subst P same.1 (ended_here x.0 e b)))
+          let here : is_live (phase_in (at_channel k xs)) ≡ true = subst (λ i. is_live (phase_in (at_channel i xs)) ≡ true) same.1 live in
+          let P : ℕ → Type 0 = λ i. list_any (is_open_on i) (ended k e B).cells ≡ false in
+          rw here (subst P (sym same.1) (ended_here k e B))
       | inr other ↦
-          let later : is_live (phase_in (at_channel c xs)) ≡ true = rw other.0 at h in
-          elim (is_live x.1) as (λ t. list_any (is_open_on c) (fold after_mark b (cond t (mark.Ended x.0 e ∷ ends e xs) (ends e xs))).cells ≡ false) [
-            | true ↦ ends_live c e xs (ended x.0 e b) later
-            | false ↦ ends_live c e xs b later
-          ]
-    ]
+          let apart : c ≢ k = other.1 in
+          ends_none c e last B (ends_below c k e xs b (omega arith) live)
+    ])
+
+-- and once all ended
+ends_live : (c : ℕ) (e : Error) (xs : List (ℕ × Phase)) (b : Book) → is_live (phase_in (at_channel c xs)) ≡ true → list_any (is_open_on c) (fold after_mark b (ends e (live_channels xs))).cells ≡ false
+ends_live c e xs b live = elim (nat_lt c (beyond xs)) as (λ t. nat_lt c (beyond xs) ≡ t → list_any (is_open_on c) (fold after_mark b (ends e (live_channels xs))).cells ≡ false) [
+  | true ↦ λ within. ends_below c (beyond xs) e xs b (ltb-true c (beyond xs) within) live
+  | false ↦ λ past.
+      let none : at_channel c xs ≡ None = beyond-none c xs (ltb-false c (beyond xs) past) in
+      let dead : is_live (phase_in (at_channel c xs)) ≡ false = ap (λ o. is_live (phase_in o)) none in
+      cc
+] refl
 
 -- ---- lines of channels
 
@@ -166,6 +178,10 @@ done-put l c p phases cells here done = λ d h.
 live_up : (l : Link) (p : Phase) → is_up l ≡ true → is_live p ≡ true → is_live_on l (Some p) ≡ true
 live_up l p up live = rw up live
 
+-- a new session
+pub tied_new : IsTied link.Open [] [] empty_book
+tied_new = record { queued = queue-none [] (λ c. refl); lines = λ c h. cc; done = λ c h. refl; down = λ h. cc }
+
 -- a channel is opened
 pub tied_open : (l : Link) (c : ℕ) (phases : List (ℕ × Phase)) (ps : List Publish) (b : Book) → is_up l ≡ true → IsTied l phases ps b → IsTied l (with_channel c phase.Opening phases) ps (begun c b)
 tied_open l c phases ps b up t =
@@ -174,6 +190,7 @@ tied_open l c phases ps b up t =
       queued = t.queued;
       lines = lined-put c phase.Opening phases (with_channel c fresh_line b.lines) here (λ d h. some_with c d fresh_line b.lines (t.lines d h));
       done = done-put l c phase.Opening phases b.cells (λ gone. let live : is_live_on l (Some phase.Opening) ≡ true = live_up l phase.Opening up refl in cc) t.done;
+      down = λ h. cc;
     }
 
 -- an opening goes on
@@ -182,58 +199,58 @@ tied_live l c p phases ps b up live some t = record {
   queued = t.queued;
   lines = lined-put c p phases b.lines (t.lines c some) t.lines;
   done = done-put l c p phases b.cells (λ gone. let is : is_live_on l (Some p) ≡ true = live_up l p up live in cc) t.done;
+  down = λ h. cc;
 }
 
 -- this side closes a channel
-pub tied_closing : (l : Link) (c : ℕ) (who : Closer) (e : Error) (gone : List Publish) (phases : List (ℕ × Phase)) (ps new : List Publish) (b : Book) → is_up l ≡ true → is_some (at_channel c phases) ≡ true
-    → AreQueued (fold after_mark b (rejections e gone)).cells new → IsTied l phases ps b → IsTied l (with_channel c (phase.Closing who false) phases) new (fold after_mark b (rejections e gone))
-tied_closing l c who e gone phases ps new b up some q t =
-    let L : List (ℕ × Line) → Type 0 = λ ls. Lined phases ls in
-    let lined : Lined phases (fold after_mark b (rejections e gone)).lines = subst L (sym (rejections-lines e gone b)) t.lines in
-    tied_live l c (phase.Closing who false) phases new (fold after_mark b (rejections e gone)) up refl some
-    (record { queued = q; lines = lined; done = λ d h. any-rejections d e gone b (t.done d h) })
+pub tied_closing : (l : Link) (c : ℕ) (who : Closer) (e : Error) (phases : List (ℕ × Phase)) (ps new : List Publish) (b : Book) → is_up l ≡ true → is_some (at_channel c phases) ≡ true
+    → AreQueued (closed_here c e b).cells new → IsTied l phases ps b → IsTied l (with_channel c (phase.Closing who false) phases) new (closed_here c e b)
+tied_closing l c who e phases ps new b up some q t =
+    tied_live l c (phase.Closing who false) phases new (closed_here c e b) up refl some
+    (record { queued = q; lines = t.lines; done = λ d h. any-mapped (is_open_on d) (option_map (closed_cell c e)) b.cells (closed-closed d c e) (t.done d h); down = t.down })
 
 -- an opening ends
-pub tied_ended : (l : Link) (c : ℕ) (p : Phase) (e : Error) (phases : List (ℕ × Phase)) (ps new : List Publish) (b : Book) → is_some (at_channel c phases) ≡ true
+pub tied_ended : (l : Link) (c : ℕ) (p : Phase) (e : Error) (phases : List (ℕ × Phase)) (ps new : List Publish) (b : Book) → is_up l ≡ true → is_some (at_channel c phases) ≡ true
     → AreQueued (ended c e b).cells new → IsTied l phases ps b → IsTied l (with_channel c p phases) new (ended c e b)
-tied_ended l c p e phases ps new b some q t = record {
+tied_ended l c p e phases ps new b up some q t = record {
   queued = q;
-  lines = lined-put c p phases b.lines (t.lines c some) t.lines;
+  lines = lined-put c p phases (on_channel c ended_line b.lines) (some_on c c ended_line b.lines (t.lines c some)) (λ d h. some_on c d ended_line b.lines (t.lines d h));
   done = done-put l c p phases (ended c e b).cells (λ gone. ended_here c e b) (λ d h. ended_none d c e b (t.done d h));
+  down = λ h. cc;
 }
 
 -- a channel whose opening has ended is closed
-pub tied_closed : (l : Link) (c : ℕ) (phases : List (ℕ × Phase)) (ps : List Publish) (b : Book) → is_live_on l (at_channel c phases) ≡ false → is_some (at_channel c phases) ≡ true → IsTied l phases ps b → IsTied l (with_channel c phase.Closed phases) ps b
-tied_closed l c phases ps b over some t = record {
+pub tied_closed : (l : Link) (c : ℕ) (phases : List (ℕ × Phase)) (ps : List Publish) (b : Book) → is_up l ≡ true → is_live_on l (at_channel c phases) ≡ false → is_some (at_channel c phases) ≡ true → IsTied l phases ps b → IsTied l (with_channel c phase.Closed phases) ps b
+tied_closed l c phases ps b up over some t = record {
   queued = t.queued;
   lines = lined-put c phase.Closed phases b.lines (t.lines c some) t.lines;
   done = done-put l c phase.Closed phases b.cells (λ gone. t.done c over) t.done;
+  down = λ h. cc;
 }
 
+-- once the connection is not open what waits may be dropped
+pub tied_dropped : (l m : Link) (phases : List (ℕ × Phase)) (ps : List Publish) (b : Book) → is_up l ≡ false → IsTied l phases ps b → IsTied m phases [] b
+tied_dropped l m phases ps b down t =
+    let done : (c : ℕ) → list_any (is_open_on c) b.cells ≡ false = λ c. t.done c (rw down refl) in
+    record { queued = queue-none b.cells done; lines = t.lines; done = λ c h. done c; down = λ h. t.down down }
+
 -- the connection is not open any more
-pub tied_down : (l m : Link) (e : Error) (phases : List (ℕ × Phase)) (ps : List Publish) (b : Book) → IsTied l phases ps b → IsTied m phases [] (fold after_mark b (cond (is_up l) (ends e phases) []))
+pub tied_down : (l m : Link) (e : Error) (phases : List (ℕ × Phase)) (ps : List Publish) (b : Book) → IsTied l phases ps b → IsTied m [] [] (fold after_mark b (ends e (live_channels phases)))
 tied_down l m e phases ps b t =
-    elim (is_up l) as (λ u. is_up l ≡ u → IsTied m phases [] (fold after_mark b (cond u (ends e phases) []))) [
-      | true ↦ λ up.
-          let L : List (ℕ × Line) → Type 0 = λ ls. Lined phases ls in
-          record {
-            queued = tt;
-            lines = subst L (sym (ends-lines e phases b)) t.lines;
-            done = λ c h.
-                elim (is_live (phase_in (at_channel c phases))) as (λ v. is_live (phase_in (at_channel c phases)) ≡ v → list_any (is_open_on c) (fold after_mark b (ends e phases)).cells ≡ false) [
-                  | true ↦ λ live. ends_live c e phases b live
-                  | false ↦ λ over. ends_none c e phases b (t.done c (rw (up, over) refl))
-                ] refl;
-          }
-      | false ↦ λ down. record { queued = tt; lines = t.lines; done = λ c h. t.done c (rw down refl) }
-    ] refl
+    let done : (c : ℕ) → list_any (is_open_on c) (fold after_mark b (ends e (live_channels phases))).cells ≡ false = λ c.
+    elim (is_live (phase_in (at_channel c phases))) as (λ v. is_live (phase_in (at_channel c phases)) ≡ v → list_any (is_open_on c) (fold after_mark b (ends e (live_channels phases))).cells ≡ false) [
+      | true ↦ λ live. ends_live c e phases b live
+      | false ↦ λ over. ends_none c e (live_channels phases) b (t.done c (ap (λ v. is_up l && v) over ∙ and_false (is_up l)))
+    ] refl in
+    record { queued = queue-none (fold after_mark b (ends e (live_channels phases))).cells done; lines = λ c h. cc; done = λ c h. done c; down = λ h. refl }
+  where
+    and_false : (x : Bool) → (x && false) ≡ false
+    and_false true = refl
+    and_false false = refl
 
--- once the connection is not open it may close further, and what waits may be dropped
+-- once the connection is not open it may close further
 pub tied_further : (l m : Link) (phases : List (ℕ × Phase)) (ps : List Publish) (b : Book) → is_up l ≡ false → IsTied l phases ps b → IsTied m phases ps b
-tied_further l m phases ps b down t = record { queued = t.queued; lines = t.lines; done = λ c h. t.done c (rw down refl) }
-
-pub tied_dropped : (l : Link) (phases : List (ℕ × Phase)) (ps : List Publish) (b : Book) → IsTied l phases ps b → IsTied l phases [] b
-tied_dropped l phases ps b t = record { queued = tt; lines = t.lines; done = t.done }
+tied_further l m phases ps b down t = record { queued = t.queued; lines = t.lines; done = λ c h. t.done c (rw down refl); down = λ h. t.down down }
 
 -- ---- publishes, settlements and polls
 
@@ -243,12 +260,13 @@ not_over l c d phases live over e = let P : ℕ → Type 0 = λ k. is_live_on l 
 
 pub tied_publish : (l : Link) (c : ℕ) (phases : List (ℕ × Phase)) (ps : List Publish) (b : Book) (p : Publish) → is_live_on l (at_channel c phases) ≡ true → p.confirm ≡ length b.cells + 1 → p.channel ≡ c → IsTied l phases ps b → IsTied l phases (ps ++ p ∷ []) (with_publish c b)
 tied_publish l c phases ps b p is at on t = record {
-  queued = queued-push c b.cells ps p at on t.queued;
+  queued = queue-push c b.cells ps p at on t.queued;
   lines = t.lines;
   done = λ d h.
       let ne : c ≢ d = not_over l c d phases is h in
       let away : (c == d) ≡ false = ne_eqb c d ne in
       any-push (is_open_on d) b.cells (Some (cell.Queued c)) ∙ rw (t.done d h, away) refl;
+  down = t.down;
 }
 
 left_closed : (c d n : ℕ) (t : Option ℕ) (cells : List (Option Cell)) → under n cells ≡ Some (cell.Queued c) → list_any (is_open_on d) cells ≡ false → is_open_on d (Some (cell_with c t)) ≡ false
@@ -257,37 +275,38 @@ left_closed c d n (Some t) cells is h = let was : is_open_on d (under n cells) �
 
 tied_left : (l : Link) (phases : List (ℕ × Phase)) (p : Publish) (ps : List Publish) (b : Book) → IsTied l phases (p ∷ ps) b → IsTied l phases ps (left p.channel p.confirm b)
 tied_left l phases p ps b t = record {
-  queued = queued-written p.confirm _ b.cells ps t.queued.1 t.queued.2;
+  queued = queue-left (Some (cell_with p.channel (tag_for (at_channel p.channel b.lines)))) b.cells p ps (has-left p.channel (tag_for (at_channel p.channel b.lines))) t.queued;
   lines = λ d h. lines-left (tag_for (at_channel p.channel b.lines)) d (t.lines d h);
-  done = λ d h. any-under d p.confirm _ b.cells (t.done d h) (left_closed p.channel d p.confirm (tag_for (at_channel p.channel b.lines)) b.cells t.queued.0 (t.done d h));
+  done = λ d h. any-under d p.confirm _ b.cells (t.done d h) (left_closed p.channel d p.confirm (tag_for (at_channel p.channel b.lines)) b.cells t.queued.each.0 (t.done d h));
+  down = t.down;
 }
   where
+    has-left : (c : ℕ) (t : Option ℕ) (d : ℕ) → is_queued_on d (Some (cell_with c t)) ≡ false
+    has-left c None d = refl
+    has-left c (Some x) d = refl
+
     lines-left : (o : Option ℕ) (d : ℕ) → IsSome (at_channel d b.lines) → IsSome (at_channel d (lines_with p.channel o b.lines))
     lines-left None d h = h
     lines-left (Some x) d h = some_on p.channel d next_line b.lines h
 
 tied_select : (l : Link) (c : ℕ) (phases : List (ℕ × Phase)) (ps : List Publish) (b : Book) → IsTied l phases ps b → IsTied l phases ps (select_left c b)
-tied_select l c phases ps b t = record { queued = t.queued; lines = λ d h. some_on c d selected_line b.lines (t.lines d h); done = t.done }
+tied_select l c phases ps b t = record { queued = t.queued; lines = λ d h. some_on c d selected_line b.lines (t.lines d h); done = t.done; down = t.down }
 
 tied_method : (l : Link) (c : ℕ) (m : Method) (phases : List (ℕ × Phase)) (ps : List Publish) (b : Book) → IsTied l phases ps b → IsTied l phases ps (fold after_mark b (method_marks c m))
-tied_method l c (method.Connection m) phases ps b t = t
-tied_method l c (method.Channel m) phases ps b t = t
-tied_method l c (method.Access m) phases ps b t = t
-tied_method l c (method.Exchange m) phases ps b t = t
-tied_method l c (method.Queue m) phases ps b t = t
-tied_method l c (method.Basic m) phases ps b t = t
-tied_method l c (method.Confirm (confirm.Select nowait)) phases ps b t = tied_select l c phases ps b t
-tied_method l c (method.Confirm confirm.SelectOk) phases ps b t = t
-tied_method l c (method.Tx m) phases ps b t = t
+tied_method l c m phases ps b t = elim (is_select m) as (λ s. IsTied l phases ps (fold after_mark b (cond s (mark.SelectLeft c ∷ []) []))) [ true ↦ tied_select l c phases ps b t | false ↦ t ]
+
+-- a `confirm.select` is called
+pub tied_called : (l : Link) (c : ℕ) (m : Method) (phases : List (ℕ × Phase)) (ps : List Publish) (b : Book) → IsTied l phases ps b → IsTied l phases ps (fold after_mark b (queued_marks c m))
+tied_called l c m phases ps b t = elim (is_select m) as (λ s. IsTied l phases ps (fold after_mark b (cond s (mark.SelectCalled c ∷ []) []))) [
+  | true ↦ record { queued = t.queued; lines = λ d h. some_on c d asked_line b.lines (t.lines d h); done = t.done; down = t.down }
+  | false ↦ t
+]
 
 tied_next : (frame_max : ℕ) (flow : Bool) (rest : List RestEntry) (methods : List MethodEntry) (ps : List Publish) (l : Link) (phases : List (ℕ × Phase)) (b : Book) → IsTied l phases ps b → IsTied l phases (left_of frame_max flow rest methods ps).publishes (fold after_mark b (left_marks (handed_of flow rest methods ps)))
 tied_next frame_max flow (f ∷ fs) methods ps l phases b t = t
 tied_next frame_max flow [] (m ∷ ms) ps l phases b t = tied_method l m.channel m.method phases ps b t
 tied_next frame_max true [] [] [] l phases b t = t
-tied_next frame_max true [] [] (p ∷ ps) l phases b t =
-    let P : ℕ → Type 0 = λ n. IsTied l phases ps (left p.channel n b) in
-    let some = number-within p.confirm b.cells (cell.Queued p.channel) t.queued.0 in
-    subst P (sym (suc_place p.confirm some.0)) (tied_left l phases p ps b t)
+tied_next frame_max true [] [] (p ∷ ps) l phases b t = tied_left l phases p ps b t
 tied_next frame_max false [] [] ps l phases b t = t
 
 -- a close of this side that left changes no opening
@@ -317,6 +336,7 @@ tied_close_left l c phases ps b t =
       queued = t.queued;
       lines = λ d h. t.lines d (sym (some d) ∙ h);
       done = λ d h. t.done d (ap (λ x. is_up l && x) (sym (live d)) ∙ h);
+      down = λ h. ap (on_channel c close_sent) (t.down h);
     }
 
 up_sent : (l : Link) → is_up (link_close_sent l) ≡ is_up l
@@ -326,7 +346,7 @@ up_sent link.Closed = refl
 up_sent link.Lost = refl
 
 tied_link_left : (l : Link) (phases : List (ℕ × Phase)) (ps : List Publish) (b : Book) → IsTied l phases ps b → IsTied (link_close_sent l) phases ps b
-tied_link_left l phases ps b t = record { queued = t.queued; lines = t.lines; done = λ c h. t.done c (ap (λ x. x && is_live (phase_in (at_channel c phases))) (sym (up_sent l)) ∙ h) }
+tied_link_left l phases ps b t = record { queued = t.queued; lines = t.lines; done = λ c h. t.done c (ap (λ x. x && is_live (phase_in (at_channel c phases))) (sym (up_sent l)) ∙ h); down = λ h. t.down (sym (up_sent l) ∙ h) }
 
 pub tied_sent : (f : Frame) (l : Link) (phases : List (ℕ × Phase)) (ps : List Publish) (b : Book) → IsTied l phases ps b → IsTied (link_sent f l) (phases_sent f phases) ps b
 tied_sent (frame.Method c (method.Connection (connection.Close code text class number))) l phases ps b t = tied_link_left l phases ps b t
@@ -362,21 +382,23 @@ can_register flow rest methods ps cells l e q = let P : Option Left → Type 0 =
     at flow (f ∷ fs) methods ps q = tt
     at flow [] (m ∷ ms) ps q = tt
     at true [] [] [] q = tt
-    at true [] [] (p ∷ ps) q = q.0
+    at true [] [] (p ∷ ps) q = q.each.0
     at false [] [] ps q = tt
 
 pub tied_settled : (l : Link) (c : ℕ) (s : Settlement) (phases : List (ℕ × Phase)) (ps : List Publish) (b : Book) → IsTied l phases ps b → IsTied l phases ps (settled c s b)
 tied_settled l c s phases ps b t = record {
-  queued = queued-kept b.cells _ ps (λ n d is. under-map n (settled_cell c (covers s) (outcome_of s)) b.cells ∙ ap (option_map (settled_cell c (covers s) (outcome_of s))) is) t.queued;
+  queued = queue-settled c (covers s) (outcome_of s) b.cells ps t.queued;
   lines = t.lines;
   done = λ d h. any-mapped (is_open_on d) (option_map (settled_cell c (covers s) (outcome_of s))) b.cells (settled-closed d c (covers s) (outcome_of s)) (t.done d h);
+  down = t.down;
 }
 
 pub tied_taken : (n : ℕ) (l : Link) (phases : List (ℕ × Phase)) (ps : List Publish) (b : Book) → is_resolved (under n b.cells) ≡ true → IsTied l phases ps b → IsTied l phases ps (taken n b)
 tied_taken n l phases ps b h t = record {
-  queued = queued-written n None b.cells ps (resolved_apart n b.cells ps h t.queued) t.queued;
+  queued = queue-taken n b.cells ps h t.queued;
   lines = t.lines;
   done = λ d over. any-under d n None b.cells (t.done d over) refl;
+  down = t.down;
 }
 
 -- a poll gives the result only where it is there
@@ -461,8 +483,8 @@ pub tied_paused : (l : Link) (c : ℕ) (paused : Bool) (phases : List (ℕ × Ph
 tied_paused l c paused phases ps b h t = tied_live l c (phase.Open paused) phases ps b h.up refl h.some t
 
 -- close-ok is heard on a channel that was opened
-pub close_ok_some : (l : Link) (c : ℕ) (phases : List (ℕ × Phase)) → hears_close_ok (state_at l c (at_channel c phases)) ≡ true → is_some (at_channel c phases) ≡ true
-close_ok_some l c phases h = let s = stood l c (at_channel c phases) hears_close_ok refl refl h in some_at (at_channel c phases) hears_close_ok refl s.at
+pub close_ok_some : (l : Link) (c : ℕ) (phases : List (ℕ × Phase)) → hears_close_ok (state_at l c (at_channel c phases)) ≡ true → (is_up l ≡ true) × (is_some (at_channel c phases) ≡ true)
+close_ok_some l c phases h = let s = stood l c (at_channel c phases) hears_close_ok refl refl h in (s.up, some_at (at_channel c phases) hears_close_ok refl s.at)
 
 -- a closed channel has no live opening
 pub closed_over : (l : Link) (c : ℕ) (phases : List (ℕ × Phase)) → is_closed (state_at l c (at_channel c phases)) ≡ true → (is_up l ≡ true) × (is_live_on l (at_channel c phases) ≡ false)
@@ -501,9 +523,9 @@ sent_down (link.Closing sent heard) h = refl
 sent_down link.Closed h = refl
 sent_down link.Lost h = refl
 
-pub tied_unless : (t : Bool) (x : Lists) (l : Link) (phases : List (ℕ × Phase)) (b : Book) → IsTied l phases x.publishes b → IsTied l phases (unless_sent t x).publishes b
-tied_unless true x l phases b t = t
-tied_unless false x l phases b t = tied_dropped l phases x.publishes b t
+pub tied_unless : (t : Bool) (x : Lists) (l m : Link) (phases : List (ℕ × Phase)) (b : Book) → is_up l ≡ false → IsTied l phases x.publishes b → IsTied m phases (unless_sent t x).publishes b
+tied_unless true x l m phases b down t = tied_further l m phases x.publishes b down t
+tied_unless false x l m phases b down t = tied_dropped l m phases x.publishes b down t
 
 -- what holds on Ok holds where the result is Ok
 pub ok_then : {T E : Type 0} (r : Result T E) (P : Type 0) → IsOk r → OnOk r P → P

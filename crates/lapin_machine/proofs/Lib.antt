@@ -7,3 +7,4 @@ pub mod Channels
 pub mod Worlds
 pub mod Counting
 pub mod Alone
+pub mod Shut

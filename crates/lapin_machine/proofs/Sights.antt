@@ -2,7 +2,7 @@
 use Rattle.std.proofs.Common.{◌≡◌, ◌≢◌, ℕ, zero, suc, ◌+◌, ◌<◌, ◌≤◌, ◌==◌, nat_lt, nat_le, Bool, true, false, cond, ◌||◌, ◌&&◌, List, [], ◌∷◌, ◌++◌, map, length, Option, Some, None, Result, Ok, Err, refl, sym, ◌∙◌, ap, subst, arith, slice_get, ltb-true, ltb-false, add-zero, ne_eqb}
 use Rattle.std.proofs.Math.Bool.{and-true}
 use Rattle.std.specs.List.{list_any, range_with_len}
-use Rattle.std.proofs.lemmas.Bool.{leb-true}
+use Rattle.std.proofs.lemmas.Bool.{leb-true, leb-false}
 use Rattle.std.proofs.lemmas.Option.{get_or_from_slice_get, slice_get_within}
 use Rattle.lapin_types.specs.declared.answer.Answer.{Answer}
 use Rattle.lapin_types.specs.declared.record.Record.{Record}
@@ -13,13 +13,14 @@ use Rattle.lapin_tables.specs.Numbered.{under}
 use Rattle.lapin_tables.specs.ByChannel.{at_channel}
 use Rattle.lapin_history.specs.declared.marks.Outcome.{Outcome}
 use Rattle.lapin_history.specs.declared.marks.Outcome.TheVariants as outcome
-use Rattle.lapin_history.specs.declared.marks.ConfirmMark.{ConfirmMark}
+use Rattle.lapin_history.specs.ConfirmMarks.{ConfirmMark}
 use Rattle.lapin_history.specs.Words.{after}
-use Rattle.lapin_history.specs.ConfirmReadings.{begins, selects, leaves, opening, is_begun, is_selected, place, has_left, is_taken, channel_of, tag_of, first_settled, first_rejected, life, added, outcome_at, outcome_after, is_tag, is_open_outcome}
+use Rattle.lapin_history.specs.ConfirmReadings.{begins, selects, leaves, opening, is_begun, is_selected, place, has_left, is_taken, channel_of, tag_of, first_settled, first_rejected, life, added, outcome_at, outcome_after, is_tag, is_open_outcome, is_asked, limit_of}
 use Rattle.lapin_history.specs.ConfirmReadings as readings
-use Rattle.lapin_history.specs.TicketReadings.{TicketMark, given, after_given, collects, first_answer}
-use Rattle.lapin_history.specs.Answers.{confirmed}
-use Rattle.lapin_history.specs.History.{polled_outcome, poll_at, confirm_poll, polled_answer, was_given, ticket_poll}
+use Rattle.lapin_history.specs.declared.marks.AtLeaving.{AtLeaving}
+use Rattle.lapin_history.specs.TicketReadings.{TicketMark, given, begins as begins_ticket, closes, first_answer, is_collected, answer_of, channel_of as channel_of_ticket, leaving_of, life as life_of_ticket}
+use Rattle.lapin_history.specs.Polls.{confirmed}
+use Rattle.lapin_history.specs.History.{polled_outcome, was_added, confirm_poll, polled_answer, was_given, ticket_poll, ticket_aside}
 use Rattle.lapin_history.proofs.ListLaws.{since_none}
 use Rattle.lapin_confirm.specs.declared.cell.Cell.{Cell}
 use Rattle.lapin_confirm.specs.declared.cell.Cell.TheVariants as cell
@@ -28,21 +29,21 @@ use Rattle.lapin_confirm.specs.Answers.{result_of, answer_in, answer_at}
 use Rattle.lapin_confirm.specs.Follows.{Follows, line_in, cell_in, open_cell, left_cell, pending_cell, queued_cell}
 use Rattle.lapin_ticket.specs.declared.Slot.{Slot}
 use Rattle.lapin_ticket.specs.declared.Slot.TheVariants as slot
-use Rattle.lapin_ticket.specs.Desk.{polled, polled_slot}
-use Rattle.lapin_ticket.specs.Follows.{held, slot_in}
+use Rattle.lapin_ticket.specs.Desk.{polled, polled_slot, laid, laid_slot}
+use Rattle.lapin_ticket.specs.Follows.{held, slot_in, slot_of}
 use Rattle.lapin_ticket.specs.Follows as tickets
-use Rattle.lapin_machine.specs.World.{outcome_record, poll_record}
+use Rattle.lapin_machine.specs.World.{outcome_record, poll_record, aside_record}
 
 -- ---- lines
 
 selected_same : (c : ℕ) (ms : List ConfirmMark) → selected_in (line_in c ms) ≡ is_selected c ms
 selected_same c ms =
-    elim (is_begun c ms) as (λ b. is_begun c ms ≡ b → selected_in (cond b (Some (record { selected = is_selected c ms; last = place c ms })) None) ≡ is_selected c ms)
+    elim (is_begun c ms) as (λ b. is_begun c ms ≡ b → selected_in (cond b (Some (record { selected = is_selected c ms; last = place c ms; asked = is_asked c ms; limit = limit_of c ms })) None) ≡ is_selected c ms)
     [ true ↦ λ h. refl | false ↦ λ h. sym (ap (list_any (selects c)) (since_none (begins c) ms h)) ] refl
 
 last_same : (c : ℕ) (ms : List ConfirmMark) → last_in (line_in c ms) ≡ place c ms
 last_same c ms =
-    elim (is_begun c ms) as (λ b. is_begun c ms ≡ b → last_in (cond b (Some (record { selected = is_selected c ms; last = place c ms })) None) ≡ place c ms)
+    elim (is_begun c ms) as (λ b. is_begun c ms ≡ b → last_in (cond b (Some (record { selected = is_selected c ms; last = place c ms; asked = is_asked c ms; limit = limit_of c ms })) None) ≡ place c ms)
     [ true ↦ λ h. refl | false ↦ λ h. rw (since_none (begins c) ms h) refl ] refl
 
 pub selected_shown : (c : ℕ) (ms : List ConfirmMark) (b : Book) → Follows ms b → selected_on c b ≡ is_selected c ms
@@ -67,9 +68,9 @@ queued_not c t d (Some o) = refl
 
 pending_open : (c t k : ℕ) (ms : List ConfirmMark) → is_pending_as c t (Some (open_cell k ms)) ≡ readings.is_pending_as c t ms k
 pending_open c t k ms =
-    elim (has_left k ms) as (λ a. has_left k ms ≡ a → is_pending_as c t (Some (cond a (left_cell (channel_of k ms) (tag_of k ms) (after (leaves k) ms)) (queued_cell (channel_of k ms) (first_rejected (channel_of k ms) k (life k ms))))) ≡ (a && (channel_of k ms == c && (is_tag t (tag_of k ms) && is_open_outcome (outcome_at k ms))))) [
+    elim (has_left k ms) as (λ a. has_left k ms ≡ a → is_pending_as c t (Some (cond a (left_cell (channel_of k ms) (tag_of k ms) (after (leaves k) ms)) (queued_cell (channel_of k ms) (first_rejected (channel_of k ms) (life k ms))))) ≡ (a && (channel_of k ms == c && (is_tag t (tag_of k ms) && is_open_outcome (outcome_at k ms))))) [
       | true ↦ λ h. rw h (pending_left c t (channel_of k ms) (tag_of k ms) (after (leaves k) ms))
-      | false ↦ λ h. queued_not c t (channel_of k ms) (first_rejected (channel_of k ms) k (life k ms))
+      | false ↦ λ h. queued_not c t (channel_of k ms) (first_rejected (channel_of k ms) (life k ms))
     ] refl
 
 closed_not : (a b c : Bool) (o : Option Outcome) → is_open_outcome o ≡ false → (a && (b && (c && is_open_outcome o))) ≡ false
@@ -79,11 +80,12 @@ closed_not true false c o h = refl
 closed_not false b c o h = refl
 
 -- a cell is pending with a tag where the readings say that the tag is pending
-pending_as : (c t k : ℕ) (ms : List ConfirmMark) (b : Book) → Follows ms b → k < added ms → is_pending_as c t (cell_in k ms) ≡ readings.is_pending_as c t ms k
+pending_as : (c t k : ℕ) (ms : List ConfirmMark) (b : Book) → Follows ms b → k < added ms → is_pending_as c t (cell_in (suc k) ms) ≡ readings.is_pending_as c t ms (suc k)
 pending_as c t k ms b f lt =
-    elim (is_taken k ms) as (λ a. is_taken k ms ≡ a → is_pending_as c t (cond a None (Some (open_cell k ms))) ≡ readings.is_pending_as c t ms k) [
-      | true ↦ λ h. sym (closed_not (has_left k ms) (channel_of k ms == c) (is_tag t (tag_of k ms)) (outcome_at k ms) (f.given k lt h))
-      | false ↦ λ h. pending_open c t k ms
+    let n : ℕ = suc k in
+    elim (is_taken n ms) as (λ a. is_taken n ms ≡ a → is_pending_as c t (cond a None (Some (open_cell n ms))) ≡ readings.is_pending_as c t ms n) [
+      | true ↦ λ h. sym (closed_not (has_left n ms) (channel_of n ms == c) (is_tag t (tag_of n ms)) (outcome_at n ms) (f.given k lt h))
+      | false ↦ λ h. pending_open c t n ms
     ] refl
 
 -- any of a list that is known by its places
@@ -101,12 +103,12 @@ some_same e = cc
 pub pending_shown : (c t : ℕ) (ms : List ConfirmMark) (b : Book) → Follows ms b → is_pending c t b ≡ readings.is_pending c t ms
 pending_shown c t ms b f =
     let count : length b.cells ≡ added ms = f.count in
-    any_places (is_pending_as c t) (readings.is_pending_as c t ms) b.cells 0
+    any_places (is_pending_as c t) (readings.is_pending_as c t ms) b.cells 1
     (λ k x is.
     let lt : k < added ms = rw count at (slice_get_within b.cells k x is) in
-    let same : x ≡ cell_in k ms = some_same (sym is ∙ f.cells k lt) in
+    let same : x ≡ cell_in (suc k) ms = some_same (sym is ∙ f.cells k lt) in
     ap (is_pending_as c t) same ∙ pending_as c t k ms b f lt ∙ ap (readings.is_pending_as c t ms) (omega arith))
-    ∙ ap (λ n. list_any (readings.is_pending_as c t ms) (range_with_len 0 n)) f.count
+    ∙ ap (λ n. list_any (readings.is_pending_as c t ms) (range_with_len 1 n)) f.count
 
 -- ---- polls of confirms
 
@@ -132,9 +134,9 @@ cell_poll : (k : ℕ) (ms : List ConfirmMark) → outcome_record (answer_in (cel
 cell_poll k ms =
     elim (is_taken k ms) as (λ a. outcome_record (answer_in (cond a None (Some (open_cell k ms)))) ≡ cond a (record_.Refused error.AlreadyTaken) (polled_outcome (outcome_at k ms))) [
       | true ↦ refl
-      | false ↦ elim (has_left k ms) as (λ a. outcome_record (answer_in (Some (cond a (left_cell (channel_of k ms) (tag_of k ms) (after (leaves k) ms)) (queued_cell (channel_of k ms) (first_rejected (channel_of k ms) k (life k ms)))))) ≡ polled_outcome (cond a (outcome_after (channel_of k ms) (tag_of k ms) (after (leaves k) ms)) (first_rejected (channel_of k ms) k (life k ms)))) [
+      | false ↦ elim (has_left k ms) as (λ a. outcome_record (answer_in (Some (cond a (left_cell (channel_of k ms) (tag_of k ms) (after (leaves k) ms)) (queued_cell (channel_of k ms) (first_rejected (channel_of k ms) (life k ms)))))) ≡ polled_outcome (cond a (outcome_after (channel_of k ms) (tag_of k ms) (after (leaves k) ms)) (first_rejected (channel_of k ms) (life k ms)))) [
         | true ↦ left_poll (channel_of k ms) (tag_of k ms) (after (leaves k) ms)
-        | false ↦ queued_poll (channel_of k ms) (first_rejected (channel_of k ms) k (life k ms))
+        | false ↦ queued_poll (channel_of k ms) (first_rejected (channel_of k ms) (life k ms))
       ]
     ]
 
@@ -144,29 +146,39 @@ not_past k n lt = elim (nat_lt n (suc k)) as (λ a. nat_lt n (suc k) ≡ a → a
 past_end : (k n : ℕ) → n ≤ k → nat_lt n (suc k) ≡ true
 past_end k n le = elim (nat_lt n (suc k)) as (λ a. nat_lt n (suc k) ≡ a → a ≡ true) [ true ↦ λ h. refl | false ↦ λ h. let within : suc k ≤ n = ltb-false n (suc k) h in absurd (omega arith) ] refl
 
+-- whether a number is one of so many, from 1
+within_count : (k n : ℕ) → (nat_lt 0 (suc k) && nat_le (suc k) n) ≡ true → k < n
+within_count k n h = elim (nat_lt 0 (suc k)) as (λ a. (a && nat_le (suc k) n) ≡ true → k < n) [ true ↦ λ e. let le : suc k ≤ n = leb-true (suc k) n e in omega arith | false ↦ λ e. cc ] h
+
+past_count : (k n : ℕ) → (nat_lt 0 (suc k) && nat_le (suc k) n) ≡ false → n ≤ k
+past_count k n h = elim (nat_lt 0 (suc k)) as (λ a. nat_lt 0 (suc k) ≡ a → (a && nat_le (suc k) n) ≡ false → n ≤ k) [
+  | true ↦ λ some e. let lt : n < suc k = leb-false (suc k) n e in omega arith
+  | false ↦ λ none e. let no : suc k ≤ 0 = ltb-false 0 (suc k) none in absurd (omega arith)
+] refl h
+
 pub confirm_shown : (n : ℕ) (ms : List ConfirmMark) (b : Book) → Follows ms b → outcome_record (answer_at n b) ≡ confirm_poll ms n
 confirm_shown zero ms b f = refl
 confirm_shown (suc k) ms b f =
     let count : length b.cells ≡ added ms = f.count in
     let some : (suc k == 0) ≡ false = ne_eqb (suc k) 0 (λ e. omega arith) in
-    elim (nat_lt k (added ms)) as (λ a. nat_lt k (added ms) ≡ a → outcome_record (answer_at (suc k) b) ≡ cond a (cond (is_taken k ms) (record_.Refused error.AlreadyTaken) (polled_outcome (outcome_at k ms))) (record_.Refused error.UnknownTicket)) [
+    elim (was_added (suc k) ms) as (λ a. was_added (suc k) ms ≡ a → outcome_record (answer_at (suc k) b) ≡ cond a (cond (is_taken (suc k) ms) (record_.Refused error.AlreadyTaken) (polled_outcome (outcome_at (suc k) ms))) (record_.Refused error.UnknownTicket)) [
       | true ↦ λ h.
-          let lt : k < added ms = ltb-true k (added ms) h in
+          let lt : k < added ms = within_count k (added ms) h in
           let within : nat_lt (length b.cells) (suc k) ≡ false = not_past k (length b.cells) (omega arith) in
-          rw (some, within, get_or_from_slice_get b.cells k (cell_in k ms) None (f.cells k lt)) (cell_poll k ms)
+          rw (some, within, get_or_from_slice_get b.cells k (cell_in (suc k) ms) None (f.cells k lt)) (cell_poll (suc k) ms)
       | false ↦ λ h.
-          let le : added ms ≤ k = ltb-false k (added ms) h in
+          let le : added ms ≤ k = past_count k (added ms) h in
           let past : nat_lt (length b.cells) (suc k) ≡ true = past_end k (length b.cells) (omega arith) in
           rw (some, past) refl
     ] refl
 
 -- ---- polls of tickets
 
-slot_poll : (n : ℕ) (later : List TicketMark) → poll_record (polled_slot (slot_in n later)) ≡ cond (list_any (collects n) later) (record_.Refused error.AlreadyTaken) (polled_answer (first_answer n later))
-slot_poll n later =
-    elim (list_any (collects n) later) as (λ a. poll_record (polled_slot (cond a None (Some (held (first_answer n later))))) ≡ cond a (record_.Refused error.AlreadyTaken) (polled_answer (first_answer n later))) [
+slot_poll : (n c : ℕ) (l : AtLeaving) (later : List TicketMark) → poll_record (polled_slot (slot_in n c l later)) ≡ cond (list_any (closes n) later) (record_.Refused error.AlreadyTaken) (polled_answer (first_answer n c l false later))
+slot_poll n c l later =
+    elim (list_any (closes n) later) as (λ a. poll_record (polled_slot (cond a None (Some (held c l (list_any (begins_ticket n) later) (first_answer n c l false later))))) ≡ cond a (record_.Refused error.AlreadyTaken) (polled_answer (first_answer n c l false later))) [
       | true ↦ refl
-      | false ↦ elim (first_answer n later) as (λ o. poll_record (polled_slot (Some (held o))) ≡ polled_answer o) [ None ↦ refl | Some a ↦ refl ]
+      | false ↦ elim (first_answer n c l false later) as (λ o. poll_record (polled_slot (Some (held c l (list_any (begins_ticket n) later) o))) ≡ polled_answer o) [ None ↦ refl | Some a ↦ refl ]
     ]
 
 pub ticket_shown : (n : ℕ) (ms : List TicketMark) (slots : List (Option Slot)) → tickets.Follows ms slots → poll_record (polled n slots) ≡ ticket_poll ms n
@@ -174,12 +186,27 @@ ticket_shown zero ms slots f = refl
 ticket_shown (suc k) ms slots f =
     let count : length slots ≡ given ms = f.count in
     rw count
-    (elim (was_given (suc k) ms) as (λ a. was_given (suc k) ms ≡ a → poll_record (cond a (polled_slot (under (suc k) slots)) (Err error.UnknownTicket)) ≡ cond a (cond (list_any (collects (suc k)) (after_given k ms)) (record_.Refused error.AlreadyTaken) (polled_answer (first_answer (suc k) (after_given k ms)))) (record_.Refused error.UnknownTicket)) [
+    (elim (was_given (suc k) ms) as (λ a. was_given (suc k) ms ≡ a → poll_record (cond a (polled_slot (under (suc k) slots)) (Err error.UnknownTicket)) ≡ cond a (cond (is_collected (suc k) ms) (record_.Refused error.AlreadyTaken) (polled_answer (answer_of (suc k) ms))) (record_.Refused error.UnknownTicket)) [
       | true ↦ λ h.
-          let lt : k < given ms = given_lt k (given ms) h in
-          rw (get_or_from_slice_get slots k (slot_in (suc k) (after_given k ms)) None (f.slot k lt)) (slot_poll (suc k) (after_given k ms))
+          let lt : k < given ms = within_count k (given ms) h in
+          rw (get_or_from_slice_get slots k (slot_of (suc k) ms) None (f.slot k lt)) (slot_poll (suc k) (channel_of_ticket (suc k) ms) (leaving_of (suc k) ms) (life_of_ticket (suc k) ms))
       | false ↦ λ h. refl
     ] refl)
-  where
-    given_lt : (k n : ℕ) → (nat_lt 0 (suc k) && nat_le (suc k) n) ≡ true → k < n
-    given_lt k n h = elim (nat_lt 0 (suc k)) as (λ a. (a && nat_le (suc k) n) ≡ true → k < n) [ true ↦ λ e. let le : suc k ≤ n = leb-true (suc k) n e in omega arith | false ↦ λ e. cc ] h
+
+-- setting a ticket aside
+slot_aside : (n c : ℕ) (l : AtLeaving) (later : List TicketMark) → aside_record (laid_slot (slot_in n c l later)) ≡ cond (list_any (closes n) later) (record_.Refused error.AlreadyTaken) record_.Aside
+slot_aside n c l later =
+    elim (list_any (closes n) later) as (λ a. aside_record (laid_slot (cond a None (Some (held c l (list_any (begins_ticket n) later) (first_answer n c l false later))))) ≡ cond a (record_.Refused error.AlreadyTaken) record_.Aside)
+    [ true ↦ refl | false ↦ refl ]
+
+pub aside_shown : (n : ℕ) (ms : List TicketMark) (slots : List (Option Slot)) → tickets.Follows ms slots → aside_record (laid n slots) ≡ ticket_aside ms n
+aside_shown zero ms slots f = refl
+aside_shown (suc k) ms slots f =
+    let count : length slots ≡ given ms = f.count in
+    rw count
+    (elim (was_given (suc k) ms) as (λ a. was_given (suc k) ms ≡ a → aside_record (cond a (laid_slot (under (suc k) slots)) (Err error.UnknownTicket)) ≡ cond a (cond (is_collected (suc k) ms) (record_.Refused error.AlreadyTaken) record_.Aside) (record_.Refused error.UnknownTicket)) [
+      | true ↦ λ h.
+          let lt : k < given ms = within_count k (given ms) h in
+          rw (get_or_from_slice_get slots k (slot_of (suc k) ms) None (f.slot k lt)) (slot_aside (suc k) (channel_of_ticket (suc k) ms) (leaving_of (suc k) ms) (life_of_ticket (suc k) ms))
+      | false ↦ λ h. refl
+    ] refl)

@@ -7,15 +7,20 @@ use Rattle.lapin_types.specs.declared.event.Event.TheVariants as event
 use Rattle.lapin_types.specs.declared.record.Record.{Record}
 use Rattle.lapin_types.specs.declared.record.Record.TheVariants as record_
 use Rattle.lapin_types.specs.Types.{Frame}
-use Rattle.lapin_history.specs.declared.marks.ConfirmMark.{ConfirmMark}
+use Rattle.lapin_history.specs.ConfirmMarks.{ConfirmMark}
 use Rattle.lapin_history.specs.declared.broker_frames.Incoming.{Incoming}
 use Rattle.lapin_history.specs.declared.broker_frames.Incoming.TheVariants as incoming
 use Rattle.lapin_history.specs.TicketReadings.{TicketMark}
 use Rattle.lapin_history.specs.Heard.{heard, frame_class, frame_method}
 use Rattle.lapin_history.specs.Phases.{is_up}
-use Rattle.lapin_history.specs.Base.{Base, start, after_event, hears_down}
-use Rattle.lapin_history.specs.Marked.{confirm_marks, ticket_marks}
-use Rattle.lapin_history.specs.Answers.{Sight, record_of, refused, heard_up, heard_record}
+use Rattle.lapin_history.specs.Base.{Base, start}
+use Rattle.lapin_history.specs.Events.{after_event}
+use Rattle.lapin_history.specs.ConnectionClose.{hears_down}
+use Rattle.lapin_history.specs.Events.{confirm_marks, ticket_marks}
+use Rattle.lapin_history.specs.Sight.{Sight}
+use Rattle.lapin_history.specs.Events.{record_of}
+use Rattle.lapin_history.specs.Unexpected.{refused}
+use Rattle.lapin_history.specs.Hearing.{heard_up, heard_record}
 use Rattle.lapin_history.specs.History.{History, Past, longer, past_on, past, record_after, rec, run_from, run}
 use Rattle.lapin_history.specs.History as history
 use Rattle.lapin_confirm.specs.Book.{Book, empty_book}
@@ -25,8 +30,9 @@ use Rattle.lapin_ticket.specs.declared.Slot.{Slot}
 use Rattle.lapin_ticket.specs.Desk as desk
 use Rattle.lapin_ticket.specs.Follows as tickets
 use Rattle.lapin_machine.specs.World.{World, next, told_by, outputs, new_world, sight_of}
-use Rattle.lapin_machine.specs.Stands.{ConfirmsStand, TicketsStand, Stands}
-use Rattle.lapin_machine.proofs.Sights.{selected_shown, last_shown, pending_shown, confirm_shown, ticket_shown}
+use Rattle.lapin_machine.specs.Stands.{ConfirmsStand, TicketsStand, IsShut, Stands}
+use Rattle.lapin_machine.proofs.Sights.{selected_shown, last_shown, pending_shown, confirm_shown, ticket_shown, aside_shown}
+use Rattle.lapin_machine.proofs.Shut.{shut-next}
 use Rattle.lapin_machine.proofs.TicketStanding.{tickets-next}
 use Rattle.lapin_machine.proofs.ConfirmStanding.{confirms-next}
 
@@ -51,6 +57,7 @@ record_same b ms tms bk slots (event.Next flow) h t = refl
 record_same b ms tms bk slots (event.Receive f) h t = heard_same b ms tms bk slots (refused (frame_class f) (frame_method f)) (heard f) h
 record_same b ms tms bk slots (event.PollTicket n) h t = ticket_shown n tms slots t
 record_same b ms tms bk slots (event.PollConfirm n) h t = confirm_shown n ms bk h
+record_same b ms tms bk slots (event.AsideTicket n) h t = aside_shown n tms slots t
 record_same b ms tms bk slots (event.State c) h t = refl
 record_same b ms tms bk slots event.Lost h t = refl
 
@@ -58,6 +65,7 @@ record_same b ms tms bk slots event.Lost h t = refl
 
 record Ready (p : Past) (w : World) : Type 0 where
   base : w.base ≡ p.base
+  shut : IsShut w.base
   confirms : ConfirmsStand w.base p.confirms w.book
   tickets : TicketsStand w.base p.tickets w.slots
 
@@ -70,12 +78,13 @@ ready-next : (p : Past) (w : World) (e : Event) → Ready p w → Ready (longer 
 ready-next p w e r =
     let told : Record = told_by w e in
     let same : told ≡ record_of w.base (history.sight_of p.confirms p.tickets) e = record_same w.base p.confirms p.tickets w.book w.slots e r.confirms.book r.tickets.kept in
-    let confirms_stand = confirms-next w.base p.confirms p.tickets w.book e told same r.confirms in
+    let confirms_stand = confirms-next w.base p.confirms p.tickets w.book e told same r.shut r.confirms in
     let tickets_stand = tickets-next w.base p.tickets w.slots e told r.tickets in
     let D : Base → Type 0 = λ b. ConfirmsStand (after_event w.base e told) (p.confirms ++ confirm_marks b e told) (next w e).book in
     let T : Base → Type 0 = λ b. TicketsStand (after_event w.base e told) (p.tickets ++ ticket_marks b e told) (next w e).slots in
     record {
       base = ap (λ b. after_event b e told) r.base;
+      shut = shut-next w.base (sight_of w.book w.slots) e r.shut;
       confirms = subst D r.base confirms_stand;
       tickets = subst T r.base tickets_stand;
     }
@@ -105,6 +114,7 @@ run_told n h (e ∷ es) = ap (λ rs. rec n h e ∷ rs) (run_told n (h ++ (e, rec
 new_ready : (n : ℕ) → Ready (past n []) (new_world n)
 new_ready n = record {
   base = refl;
+  shut = λ _. refl;
   confirms = record {
     book = record { lines = λ c. refl; count = refl; cells = λ k lt. absurd (omega arith); fresh = λ k le. (refl, refl); given = λ k lt h. absurd (omega arith) };
     published = refl;
@@ -121,14 +131,21 @@ outputs_run n es = outputs_told (past n []) (new_world n) es (new_ready n) ∙ s
 pub stands-next : (n : ℕ) (h : History) (w v : World) (e : Event) (r : Record) → Stands n h w → r ≡ told_by w e → v ≡ next w e → (r ≡ rec n h e) × Stands n (h ++ (e, r) ∷ []) v
 stands-next n h w v e r stands told_is next_is =
     let p : Past = past n h in
-    let ready : Ready p w = record { base = stands.base; confirms = stands.confirms; tickets = stands.tickets } in
+    let ready : Ready p w = record { base = stands.base; shut = stands.shut; confirms = stands.confirms; tickets = stands.tickets } in
     let long : past n (h ++ (e, r) ∷ []) ≡ longer p e r = past-push _ h e r in
     let R : Record → Type 0 = λ x. Ready (longer p e x) (next w e) in
     let V : World → Type 0 = λ x. Ready (longer p e r) x in
     let P : Past → Type 0 = λ x. Ready x v in
     let after : Ready (past n (h ++ (e, r) ∷ [])) v = subst P (sym long) (subst V (sym next_is) (subst R (sym told_is) (ready-next p w e ready))) in
-    (told_is ∙ told_same p w e ready, record { base = after.base; confirms = after.confirms; tickets = after.tickets })
+    (told_is ∙ told_same p w e ready, record { base = after.base; shut = after.shut; confirms = after.confirms; tickets = after.tickets })
 
 pub stands_result : {E : Type 0} (res : Result Record E) (w v : World) (e : Event) → IfOk res (λ r. r ≡ told_by w e) → OnOk res (v ≡ next w e) → IfOk res (λ r. (n : ℕ) (h : History) → Stands n h w → (r ≡ rec n h e) × Stands n (h ++ (e, r) ∷ []) v)
 stands_result (Ok r) w v e told_is next_is = λ n h stands. stands-next n h w v e r stands told_is next_is
 stands_result (Err x) w v e told_is next_is = tt
+
+-- a new session stands for the history in which nothing happened
+pub new_stands : (n : ℕ) (w : World) → w ≡ new_world n → Stands n [] w
+new_stands n w is =
+    let r : Ready (past n []) (new_world n) = new_ready n in
+    let P : World → Type 0 = λ v. Stands n [] v in
+    subst P (sym is) (record { base = r.base; shut = r.shut; confirms = r.confirms; tickets = r.tickets })

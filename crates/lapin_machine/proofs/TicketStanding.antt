@@ -17,14 +17,27 @@ use Rattle.lapin_history.specs.declared.broker_frames.Incoming.{Incoming}
 use Rattle.lapin_history.specs.declared.broker_frames.Incoming.TheVariants as incoming
 use Rattle.lapin_history.specs.declared.phases.Link.{Link}
 use Rattle.lapin_history.specs.declared.phases.Link.TheVariants as link
-use Rattle.lapin_history.specs.Phases.{is_lost, has_sent_close}
+use Rattle.lapin_history.specs.Phases.{is_lost}
+use Rattle.lapin_history.specs.ChannelClose.{has_sent_close}
 use Rattle.lapin_history.specs.declared.phases.Closer.TheVariants as closer
-use Rattle.lapin_history.specs.Closes.{failed_at_close, close_ok_end}
-use Rattle.lapin_history.specs.Drops.{publish_tickets_of}
-use Rattle.lapin_history.specs.TicketReadings.{TicketMark, Given, Answered, AllFailed, Collected, gives, given}
+use Rattle.lapin_history.specs.ChannelClose.{failed_at_close, close_ok_end}
+use Rattle.lapin_history.specs.TicketReadings.{TicketMark, Given, ClosedHere, OpeningFailed, AllFailed, Collected, SetAside, gives, given}
 use Rattle.lapin_history.specs.Heard.{heard}
-use Rattle.lapin_history.specs.Base.{Base, state_of, phase_of, is_allowed, is_open, after_event, after_call, after_heard, handed}
-use Rattle.lapin_history.specs.Marked.{ticket_marks, made_answer, made_marks, call_failures, call_tickets, last_answer, leaving_answer, resolved_by, left_tickets, resolved_with, failures, end_tickets, end_failures, connection_close_tickets, received_tickets, failed_tickets, refused_tickets, heard_tickets, is_answer}
+use Rattle.lapin_history.specs.Base.{Base, state_of, phase_of, is_open}
+use Rattle.lapin_history.specs.Asking.{is_allowed, after_call}
+use Rattle.lapin_history.specs.Events.{after_event}
+use Rattle.lapin_history.specs.Hearing.{after_heard}
+use Rattle.lapin_history.specs.Handing.{handed}
+use Rattle.lapin_history.specs.declared.marks.AtLeaving.{AtLeaving}
+use Rattle.lapin_history.specs.Events.{ticket_marks}
+use Rattle.lapin_history.specs.Asking.{made_answer, made_marks, leaving_answer, call_tickets}
+use Rattle.lapin_history.specs.Asking.{closing_tickets}
+use Rattle.lapin_history.specs.Handing.{begun_ticket, last_ticket, left_tickets}
+use Rattle.lapin_history.specs.Requests.{resolved_with}
+use Rattle.lapin_history.specs.Ends.{end_tickets}
+use Rattle.lapin_history.specs.ConnectionClose.{connection_close_tickets}
+use Rattle.lapin_history.specs.Hearing.{received_tickets, failed_tickets, refused_tickets, heard_tickets}
+use Rattle.lapin_history.specs.Polls.{is_answer, is_aside}
 use Rattle.lapin_history.proofs.TicketLaws.{given-push}
 use Rattle.lapin_ticket.specs.declared.Slot.{Slot}
 use Rattle.lapin_ticket.specs.Desk.{after_mark}
@@ -57,36 +70,39 @@ resolved_none : (a : Result Answer Error) (t : Option ℕ) → gives_none (resol
 resolved_none a None = tt
 resolved_none a (Some n) = (refl, tt)
 
-failures_none : (e : Error) (ts : List (Option ℕ)) → gives_none (failures e ts)
-failures_none e [] = tt
-failures_none e (t ∷ ts) = join_none (resolved_with (Err e) t) (failures e ts) (resolved_none (Err e) t) (failures_none e ts)
-
 made_none : (n : ℕ) (a : Option Answer) → gives_none (made_marks n a)
 made_none n None = tt
 made_none n (Some a) = (refl, tt)
 
-last_none : (o : Option (ℕ × Answer)) → gives_none (resolved_by o)
-last_none None = tt
-last_none (Some x) = (refl, tt)
+begun_none : (first : Bool) (t n : Option ℕ) → gives_none (begun_ticket first t n)
+begun_none true (Some t) (Some n) = (refl, tt)
+begun_none true (Some t) None = tt
+begun_none true None n = tt
+begun_none false t n = tt
+
+last_none : (last : Bool) (t : Option ℕ) → gives_none (last_ticket last t)
+last_none true (Some t) = (refl, tt)
+last_none true None = tt
+last_none false t = tt
 
 left_none : (o : Option Left) → gives_none (left_tickets o)
 left_none None = tt
-left_none (Some l) = last_none (last_answer l.last l.ticket (leaving_answer l.frame l.publish))
+left_none (Some l) = join_none (begun_ticket l.first l.ticket l.publish) (last_ticket l.last l.ticket) (begun_none l.first l.ticket l.publish) (last_none l.last l.ticket)
 
 choose_none : (t : Bool) (xs ys : List TicketMark) → gives_none xs → gives_none ys → gives_none (cond t xs ys)
 choose_none true xs ys h k = h
 choose_none false xs ys h k = k
 
-call_none : (c : ℕ) (k : Asked) (b : Base) → gives_none (call_failures c k b)
-call_none c ask.Open b = tt
-call_none c (ask.CloseChannel code text) b = failures_none (failed_at_close closer.Application) (publish_tickets_of c b.publishes)
-call_none c (ask.CloseConnection code text) b = (refl, tt)
-call_none c (ask.Method row) b = tt
-call_none c (ask.Publish exchange key o payload properties) b = tt
+call_none : (c : ℕ) (k : Asked) → gives_none (closing_tickets c k)
+call_none c ask.Open = tt
+call_none c (ask.CloseChannel code text) = (refl, tt)
+call_none c (ask.CloseConnection code text) = (refl, tt)
+call_none c (ask.Method row) = tt
+call_none c (ask.Publish exchange key o payload properties) = tt
 
-end_none : (c : ℕ) (e : Option Error) (b : Base) → gives_none (end_failures c e b)
-end_none c None b = tt
-end_none c (Some e) b = failures_none e (end_tickets c b)
+end_none : (c : ℕ) (e : Option Error) → gives_none (end_tickets c e)
+end_none c None = tt
+end_none c (Some e) = (refl, tt)
 
 connection_close_none : (l : Link) (code : ℕ) → gives_none (connection_close_tickets l code)
 connection_close_none link.Open code = (refl, tt)
@@ -98,15 +114,15 @@ connection_close_none link.Lost code = (refl, tt)
 received_none : (i : Incoming) (b : Base) → gives_none (received_tickets i b)
 received_none (incoming.Reply c k a) b = resolved_none _ _
 received_none (incoming.Settlement c s) b = tt
-received_none (incoming.ChannelClose c code) b = join_none (failures (error.ProtocolError code) (end_tickets c b)) _ (failures_none (error.ProtocolError code) (end_tickets c b)) (choose_none (has_sent_close (phase_of c b)) [] _ tt (resolved_none _ _))
-received_none (incoming.ChannelCloseOk c) b = join_none _ (end_failures c (close_ok_end (phase_of c b)) b) (resolved_none _ _) (end_none c (close_ok_end (phase_of c b)) b)
+received_none (incoming.ChannelClose c code) b = (refl, tt)
+received_none (incoming.ChannelCloseOk c) b = join_none _ (end_tickets c (close_ok_end (phase_of c b))) (resolved_none _ _) (end_none c (close_ok_end (phase_of c b)))
 received_none (incoming.ConnectionClose code) b = connection_close_none b.link code
 received_none incoming.ConnectionCloseOk b = resolved_none _ _
 received_none (incoming.Flow c active) b = tt
 received_none incoming.Other b = tt
 
 failed_none : (i : Incoming) (b : Base) → gives_none (failed_tickets i b)
-failed_none (incoming.Settlement c s) b = choose_none (is_open (state_of c b)) _ [] (failures_none (failed_at_close closer.Session) (publish_tickets_of c b.publishes)) tt
+failed_none (incoming.Settlement c s) b = choose_none (is_open (state_of c b)) (ClosedHere c (failed_at_close closer.Session) ∷ []) [] (refl, tt) tt
 failed_none (incoming.Reply c k a) b = tt
 failed_none (incoming.ChannelClose c code) b = tt
 failed_none (incoming.ChannelCloseOk c) b = tt
@@ -138,6 +154,7 @@ heard_none i record_.Pending b = tt
 heard_none i (record_.Answer a) b = tt
 heard_none i (record_.Confirmed o) b = tt
 heard_none i (record_.State x y) b = tt
+heard_none i record_.Aside b = tt
 heard_none i record_.Lost b = tt
 
 -- an event that gives no ticket
@@ -152,17 +169,17 @@ call_tickets_more c (ask.Method row) b = refl
 call_tickets_more c (ask.Publish exchange key o payload properties) b = refl
 
 -- marks that give one ticket
-given-one : (ms before made : List TicketMark) → gives_none before → gives_none made → given (ms ++ (before ++ (Given ∷ made))) ≡ given ms + 1
-given-one ms before made h k =
-    ap given (sym (append_assoc ms before (Given ∷ made)))
-    ∙ ap given (sym (append_assoc (ms ++ before) (Given ∷ []) made))
-    ∙ given-none ((ms ++ before) ++ Given ∷ []) made k
-    ∙ given-push (ms ++ before) Given
+given-one : (c : ℕ) (l : AtLeaving) (ms before made : List TicketMark) → gives_none before → gives_none made → given (ms ++ (before ++ (Given c l ∷ made))) ≡ given ms + 1
+given-one c l ms before made h k =
+    ap given (sym (append_assoc ms before (Given c l ∷ made)))
+    ∙ ap given (sym (append_assoc (ms ++ before) (Given c l ∷ []) made))
+    ∙ given-none ((ms ++ before) ++ Given c l ∷ []) made k
+    ∙ given-push (ms ++ before) (Given c l)
     ∙ ap (λ n. n + 1) (given-none ms before h)
 
 stand_call : (c : ℕ) (k : Asked) (b : Base) (ms : List TicketMark) (slots : List (Option Slot)) → TicketsStand b ms slots → TicketsStand (after_call c k b) (ms ++ call_tickets c k b) (fold after_mark slots (call_tickets c k b))
 stand_call c k b ms slots s =
-    let all : given (ms ++ call_tickets c k b) ≡ given ms + 1 = given-one ms (call_failures c k b) (made_marks (b.tickets + 1) (made_answer k)) (call_none c k b) (made_none (b.tickets + 1) (made_answer k)) in
+    let all : given (ms ++ call_tickets c k b) ≡ given ms + 1 = given-one c (leaving_answer k b) ms (closing_tickets c k) (made_marks (b.tickets + 1) (made_answer k)) (call_none c k) (made_none (b.tickets + 1) (made_answer k)) in
     record { kept = follows_fold ms (call_tickets c k b) slots s.kept; given = call_tickets_more c k b ∙ ap (λ n. n + 1) s.given ∙ sym all }
 
 choose_call : (t : Bool) (x b : Base) (ms new : List TicketMark) (slots : List (Option Slot)) → TicketsStand x (ms ++ new) (fold after_mark slots new) → TicketsStand b ms slots → TicketsStand (cond t x b) (ms ++ cond t new []) (fold after_mark slots (cond t new []))
@@ -180,6 +197,7 @@ tickets-next b ms slots (event.Call c k) r s = choose_call (is_allowed (asked k)
 tickets-next b ms slots (event.Next flow) r s = stand_quiet b (after_event b (event.Next flow) r) ms (left_tickets (handed flow b)) slots s (left_none (handed flow b)) (next_counts flow b).0
 tickets-next b ms slots (event.Receive f) r s = stand_quiet b (after_heard (heard f) r b) ms (heard_tickets (heard f) r b) slots s (heard_none (heard f) r b) (heard_counts (heard f) r b).0
 tickets-next b ms slots (event.PollTicket n) r s = stand_quiet b b ms (cond (is_answer r) (Collected n ∷ []) []) slots s (choose_none (is_answer r) (Collected n ∷ []) [] (refl, tt) tt) refl
+tickets-next b ms slots (event.AsideTicket n) r s = stand_quiet b b ms (cond (is_aside r) (SetAside n ∷ []) []) slots s (choose_none (is_aside r) (SetAside n ∷ []) [] (refl, tt) tt) refl
 tickets-next b ms slots (event.PollConfirm n) r s = stand_quiet b b ms [] slots s tt refl
 tickets-next b ms slots (event.State c) r s = stand_quiet b b ms [] slots s tt refl
 tickets-next b ms slots event.Lost r s = stand_lost b.link b _ ms slots error.ConnectionLost refl s

@@ -27,7 +27,7 @@ use Rattle.lapin_types.specs.Types.channel
 use Rattle.lapin_tables.specs.ByChannel.{at_channel, on_channel}
 use Rattle.lapin_tables.specs.Numbered.{with_under, under}
 use Rattle.lapin_tables.proofs.Channels.{at-on_same}
-use Rattle.lapin_history.specs.declared.marks.ConfirmMark.TheVariants as mark
+use Rattle.lapin_history.specs.ConfirmMarks as mark
 use Rattle.lapin_history.specs.declared.marks.Settlement.{Settlement}
 use Rattle.lapin_history.specs.declared.phases.Closer.TheVariants as closer
 use Rattle.lapin_history.specs.declared.phases.Phase.{Phase}
@@ -39,23 +39,41 @@ use Rattle.lapin_history.specs.declared.broker_frames.Incoming.TheVariants as in
 use Rattle.lapin_history.specs.Words.{with_channel}
 use Rattle.lapin_history.specs.Leaving.{Lists, handed_of, left_lists}
 use Rattle.lapin_history.specs.Frames.{MethodEntry, RestEntry}
-use Rattle.lapin_history.specs.Drops.{no_lists, without_publishes_of, without_channel, unbegun, publish_tickets_of}
-use Rattle.lapin_history.specs.Phases.{is_live, is_up, is_lost, after_broker_close, has_sent_close}
-use Rattle.lapin_history.specs.Closes.{failed_at_close, close_ok_end, failed_at_connection_close, failed_at_unexpected, session_close, unexpected_close}
+use Rattle.lapin_history.specs.Drops.{no_lists, without_publishes_of, without_channel}
+use Rattle.lapin_history.specs.Phases.{is_live, is_up, is_lost}
+use Rattle.lapin_history.specs.ChannelClose.{after_broker_close, has_sent_close}
+use Rattle.lapin_history.specs.ChannelClose.{failed_at_close, close_ok_end}
+use Rattle.lapin_history.specs.ConnectionClose.{failed_at_connection_close}
+use Rattle.lapin_history.specs.Unexpected.{failed_at_unexpected, unexpected_close}
+use Rattle.lapin_history.specs.Settlement.{session_close}
 use Rattle.lapin_history.specs.Requests.{requests_in, first_request, without_kind, no_requests, close_alone, request_alone, ticket_of}
-use Rattle.lapin_history.specs.TicketReadings.{TicketMark, Given, Answered, AllFailed, Collected}
-use Rattle.lapin_history.specs.Base.{Base, state_of, phase_of, is_allowed, is_open, is_base, after_call, requests_with, noted, closing, down, after_unexpected, after_channel_close, after_close_ok, after_connection_close, after_connection_close_ok, kept_at, unless_sent, has_sent, sent, link_sent, phases_sent, with_lists}
-use Rattle.lapin_history.specs.Base.{ended as ended_base}
-use Rattle.lapin_history.specs.Marked.{rejections, ends, end_with, failures, resolved_with, place_of, call_marks, call_tickets, end_tickets, end_failures, close_ticket, connection_close_tickets, resolved_by, last_answer, leaving_answer, left_tickets, method_marks, frame_marks, entry_marks, left_marks}
+use Rattle.lapin_history.specs.declared.marks.AtLeaving.TheVariants as leaving
+use Rattle.lapin_history.specs.TicketReadings.{TicketMark}
+use Rattle.lapin_history.specs.TicketReadings as ticket
+use Rattle.lapin_history.specs.Base.{Base, state_of, phase_of, is_open, is_base, requests_with, noted, with_lists}
+use Rattle.lapin_history.specs.Asking.{is_allowed, after_call}
+use Rattle.lapin_history.specs.ChannelClose.{closing, after_channel_close, after_close_ok, kept_at, phases_sent}
+use Rattle.lapin_history.specs.Ends.{down}
+use Rattle.lapin_history.specs.Unexpected.{after_unexpected}
+use Rattle.lapin_history.specs.ConnectionClose.{after_connection_close, after_connection_close_ok, unless_sent, has_sent, link_sent}
+use Rattle.lapin_history.specs.Handing.{sent}
+use Rattle.lapin_history.specs.Ends.{ended as ended_base}
+use Rattle.lapin_history.specs.Select.{is_select, queued_marks, method_marks}
+use Rattle.lapin_history.specs.Ends.{ends, live_channels, end_with, end_tickets}
+use Rattle.lapin_history.specs.Requests.{resolved_with}
+use Rattle.lapin_history.specs.Asking.{made_marks, call_marks, call_tickets}
+use Rattle.lapin_history.specs.ChannelClose.{kept_ticket, close_ticket}
+use Rattle.lapin_history.specs.ConnectionClose.{connection_close_tickets}
+use Rattle.lapin_history.specs.Handing.{begun_ticket, last_ticket, left_tickets, frame_marks, entry_marks, left_marks}
 use Rattle.lapin_outbox.specs.Outgoing.{with_method}
 use Rattle.lapin_outbox.specs.Open.{requests_at}
 use Rattle.lapin_ticket.specs.declared.Slot.{Slot}
 use Rattle.lapin_ticket.specs.declared.Slot.TheVariants as slot
-use Rattle.lapin_ticket.specs.Desk.{after_mark, answered_slot}
+use Rattle.lapin_ticket.specs.Desk.{after_mark, answered_slot, begun_slot, left_slot, closed_slot, failed_slot, failed, keeping}
 use Rattle.lapin_confirm.specs.declared.cell.Cell.{Cell}
-use Rattle.lapin_confirm.specs.Book.{Book, rejected, ended}
+use Rattle.lapin_confirm.specs.Book.{Book, closed_here, ended}
 use Rattle.lapin_confirm.specs.Book as book
-use Rattle.lapin_machine.specs.Kept.{kept_requests, is_close_sent}
+use Rattle.lapin_machine.specs.Kept.{kept_request, with_kept, is_close_sent}
 use Rattle.lapin_machine.specs.World.{World, next, asking, handing, hearing}
 use Rattle.lapin_machine.proofs.Channels.{on_absent, on_same, on_twice}
 
@@ -87,6 +105,10 @@ pub resolved-count : (a : Result Answer Error) (t : Option ℕ) (slots : List (O
 resolved-count a None slots = refl
 resolved-count a (Some n) slots = length-under n (answered_slot a (under n slots)) slots
 
+pub made-count : (n : ℕ) (a : Option Answer) (slots : List (Option Slot)) → length (fold after_mark slots (made_marks n a)) ≡ length slots
+made-count n None slots = refl
+made-count n (Some a) slots = resolved-count (Ok a) (Some n) slots
+
 fold-join : (xs ys : List TicketMark) (slots : List (Option Slot)) → fold after_mark slots (xs ++ ys) ≡ fold after_mark (fold after_mark slots xs) ys
 fold-join [] ys slots = refl
 fold-join (x ∷ xs) ys slots = fold-join xs ys (after_mark slots x)
@@ -94,54 +116,50 @@ fold-join (x ∷ xs) ys slots = fold-join xs ys (after_mark slots x)
 pub marks-join : (xs ys : List TicketMark) (slots : List (Option Slot)) → fold after_mark slots (xs ++ ys) ≡ fold after_mark (fold after_mark slots xs) ys
 marks-join xs ys slots = fold-join xs ys slots
 
-pub failures-count : (e : Error) (ts : List (Option ℕ)) (slots : List (Option Slot)) → length (fold after_mark slots (failures e ts)) ≡ length slots
-failures-count e [] slots = refl
-failures-count e (t ∷ ts) slots =
-    ap length (fold-join (resolved_with (Err e) t) (failures e ts) slots) ∙ failures-count e ts (fold after_mark slots (resolved_with (Err e) t)) ∙ resolved-count (Err e) t slots
-
-pub failed-count : (e : Error) (slots : List (Option Slot)) → length (after_mark slots (AllFailed e)) ≡ length slots
+pub failed-count : (e : Error) (slots : List (Option Slot)) → length (after_mark slots (ticket.AllFailed e)) ≡ length slots
 failed-count e slots = length-map slots (answered_slot (Err e))
+
+pub closed-count : (c : ℕ) (e : Error) (slots : List (Option Slot)) → length (after_mark slots (ticket.ClosedHere c e)) ≡ length slots
+closed-count c e slots = length-map slots (closed_slot c e)
+
+pub opening-count : (c : ℕ) (kept : Option ℕ) (e : Error) (slots : List (Option Slot)) → length (after_mark slots (ticket.OpeningFailed c kept e)) ≡ length slots
+opening-count c None e slots = length-map slots (failed_slot c e)
+opening-count c (Some n) e slots = length-under n (under n slots) (map (failed_slot c e) slots) ∙ length-map slots (failed_slot c e)
 
 -- ---- as many confirms
 
-pub rejections-count : (e : Error) (ps : List Publish) (b : Book) → length (fold book.after_mark b (rejections e ps)).cells ≡ length b.cells
-rejections-count e [] b = refl
-rejections-count e (p ∷ ps) b = rejections-count e ps (rejected (suc (place_of p.confirm)) e b) ∙ length-under (suc (place_of p.confirm)) _ b.cells
+pub rejected-count : (c : ℕ) (e : Error) (b : Book) → length (closed_here c e b).cells ≡ length b.cells
+rejected-count c e b = length-map b.cells _
 
 pub ended-count : (c : ℕ) (e : Error) (b : Book) → length (ended c e b).cells ≡ length b.cells
 ended-count c e b = length-map b.cells _
 
-pub ends-count : (e : Error) (xs : List (ℕ × Phase)) (b : Book) → length (fold book.after_mark b (ends e xs)).cells ≡ length b.cells
+pub ends-count : (e : Error) (cs : List ℕ) (b : Book) → length (fold book.after_mark b (ends e cs)).cells ≡ length b.cells
 ends-count e [] b = refl
-ends-count e (x ∷ xs) b = elim (is_live x.1) as (λ t. length (fold book.after_mark b (cond t (mark.Ended x.0 e ∷ ends e xs) (ends e xs))).cells ≡ length b.cells) [
-  | true ↦ ends-count e xs (ended x.0 e b) ∙ ended-count x.0 e b
-  | false ↦ ends-count e xs b
-]
-
-pub ends_if-count : (t : Bool) (e : Error) (xs : List (ℕ × Phase)) (b : Book) → length (fold book.after_mark b (cond t (ends e xs) [])).cells ≡ length b.cells
-ends_if-count true e xs b = ends-count e xs b
-ends_if-count false e xs b = refl
+ends-count e (c ∷ cs) b = ends-count e cs (ended c e b) ∙ ended-count c e b
 
 -- ---- a frame that leaves
 
-resolved_by-count : (o : Option (ℕ × Answer)) (slots : List (Option Slot)) → length (fold after_mark slots (resolved_by o)) ≡ length slots
-resolved_by-count None slots = refl
-resolved_by-count (Some x) slots = resolved-count (Ok x.1) (Some x.0) slots
+begun-count : (first : Bool) (t n : Option ℕ) (slots : List (Option Slot)) → length (fold after_mark slots (begun_ticket first t n)) ≡ length slots
+begun-count true (Some t) (Some n) slots = length-under t (begun_slot (under t slots)) slots
+begun-count true (Some t) None slots = refl
+begun-count true None n slots = refl
+begun-count false t n slots = refl
+
+last-count : (last : Bool) (t : Option ℕ) (slots : List (Option Slot)) → length (fold after_mark slots (last_ticket last t)) ≡ length slots
+last-count true (Some t) slots = length-under t (left_slot (under t slots)) slots
+last-count true None slots = refl
+last-count false t slots = refl
 
 left_tickets-count : (o : Option Left) (slots : List (Option Slot)) → length (fold after_mark slots (left_tickets o)) ≡ length slots
 left_tickets-count None slots = refl
-left_tickets-count (Some l) slots = resolved_by-count (last_answer l.last l.ticket (leaving_answer l.frame l.publish)) slots
+left_tickets-count (Some l) slots =
+    ap length (marks-join (begun_ticket l.first l.ticket l.publish) (last_ticket l.last l.ticket) slots)
+    ∙ last-count l.last l.ticket (fold after_mark slots (begun_ticket l.first l.ticket l.publish))
+    ∙ begun-count l.first l.ticket l.publish slots
 
 method_marks-count : (c : ℕ) (m : Method) (b : Book) → length (fold book.after_mark b (method_marks c m)).cells ≡ length b.cells
-method_marks-count c (method.Confirm (confirm.Select nowait)) b = refl
-method_marks-count c (method.Confirm confirm.SelectOk) b = refl
-method_marks-count c (method.Connection m) b = refl
-method_marks-count c (method.Channel m) b = refl
-method_marks-count c (method.Access m) b = refl
-method_marks-count c (method.Exchange m) b = refl
-method_marks-count c (method.Queue m) b = refl
-method_marks-count c (method.Basic m) b = refl
-method_marks-count c (method.Tx m) b = refl
+method_marks-count c m b = elim (is_select m) as (λ s. length (fold book.after_mark b (cond s (mark.SelectLeft c ∷ []) [])).cells ≡ length b.cells) [ true ↦ refl | false ↦ refl ]
 
 frame_marks-count : (f : Frame) (b : Book) → length (fold book.after_mark b (frame_marks f)).cells ≡ length b.cells
 frame_marks-count (frame.Method c m) b = method_marks-count c m b
@@ -150,7 +168,7 @@ frame_marks-count (frame.Body c bytes) b = refl
 
 entry_marks-count : (f : Frame) (o : Option ℕ) (first : Bool) (b : Book) → length (fold book.after_mark b (entry_marks f o first)).cells ≡ length b.cells
 entry_marks-count f None first b = frame_marks-count f b
-entry_marks-count f (Some n) true b = length-under (suc (place_of n)) _ b.cells
+entry_marks-count f (Some n) true b = length-under n _ b.cells
 entry_marks-count f (Some n) false b = refl
 
 left_marks-count : (o : Option Left) (b : Book) → length (fold book.after_mark b (left_marks o)).cells ≡ length b.cells
@@ -158,17 +176,20 @@ left_marks-count None b = refl
 left_marks-count (Some l) b = entry_marks-count l.frame l.publish l.first b
 
 -- the same, of what is known to be so
-pub failures_counted : (e : Error) (ts : List (Option ℕ)) (slots new : List (Option Slot)) → new ≡ fold after_mark slots (failures e ts) → length new ≡ length slots
-failures_counted e ts slots new h = ap length h ∙ failures-count e ts slots
-
-pub failed_counted : (e : Error) (slots new : List (Option Slot)) → new ≡ after_mark slots (AllFailed e) → length new ≡ length slots
+pub failed_counted : (e : Error) (slots new : List (Option Slot)) → new ≡ after_mark slots (ticket.AllFailed e) → length new ≡ length slots
 failed_counted e slots new h = ap length h ∙ failed-count e slots
 
-pub rejections_counted : (e : Error) (ps : List Publish) (b new : Book) → new ≡ fold book.after_mark b (rejections e ps) → length new.cells ≡ length b.cells
-rejections_counted e ps b new h = ap (λ (x : Book). length x.cells) h ∙ rejections-count e ps b
+pub closed_counted : (c : ℕ) (e : Error) (slots new : List (Option Slot)) → new ≡ after_mark slots (ticket.ClosedHere c e) → length new ≡ length slots
+closed_counted c e slots new h = ap length h ∙ closed-count c e slots
 
-pub ends_counted : (e : Error) (xs : List (ℕ × Phase)) (b new : Book) → new ≡ fold book.after_mark b (ends e xs) → length new.cells ≡ length b.cells
+pub rejected_counted : (c : ℕ) (e : Error) (b new : Book) → new ≡ closed_here c e b → length new.cells ≡ length b.cells
+rejected_counted c e b new h = ap (λ (x : Book). length x.cells) h ∙ rejected-count c e b
+
+pub ends_counted : (e : Error) (xs : List ℕ) (b new : Book) → new ≡ fold book.after_mark b (ends e xs) → length new.cells ≡ length b.cells
 ends_counted e xs b new h = ap (λ (x : Book). length x.cells) h ∙ ends-count e xs b
+
+pub called-count : (c : ℕ) (m : Method) (b : Book) → length (fold book.after_mark b (queued_marks c m)).cells ≡ length b.cells
+called-count c m b = elim (is_select m) as (λ s. length (fold book.after_mark b (cond s (mark.SelectCalled c ∷ []) [])).cells ≡ length b.cells) [ true ↦ refl | false ↦ refl ]
 
 -- ---- the value of a session by its parts
 
@@ -189,27 +210,27 @@ call_next : (w : World) (c : ℕ) (k : Asked) → is_allowed k (state_of c w.bas
 call_next w c k h = rw h refl
 
 -- the request of a close of this side is open again where the closes crossed
-kept_is : (c : ℕ) (q : Phase) (rs : List (ℕ × List Request)) → kept_requests c (has_sent_close q) (first_request reply_kind.ChannelCloseOk (requests_at c rs)) (on_channel c no_requests rs) ≡ on_channel c (kept_at q) rs
+kept_is : (c : ℕ) (q : Phase) (rs : List (ℕ × List Request)) → with_kept c (kept_request (has_sent_close q) (requests_at c rs)) (on_channel c no_requests rs) ≡ on_channel c (kept_at q) rs
 kept_is c phase.Closed rs = refl
 kept_is c phase.Opening rs = refl
 kept_is c (phase.Open paused) rs = refl
 kept_is c (phase.Closing who false) rs = refl
 kept_is c phase.Crossed rs = refl
 kept_is c (phase.Closing who true) rs =
-    elim (at_channel c rs) as (λ o. at_channel c rs ≡ o → kept_requests c true (first_request reply_kind.ChannelCloseOk (requests_in o)) (on_channel c no_requests rs) ≡ on_channel c close_alone rs) [
+    elim (at_channel c rs) as (λ o. at_channel c rs ≡ o → with_kept c (first_request reply_kind.ChannelCloseOk (requests_in o)) (on_channel c no_requests rs) ≡ on_channel c close_alone rs) [
       | None ↦ λ e. on_absent c no_requests rs e ∙ sym (on_absent c close_alone rs e)
       | Some qs ↦ λ e. kept_some c qs rs e (first_request reply_kind.ChannelCloseOk qs) refl
     ] refl
   where
-    kept_some : (c : ℕ) (qs : List Request) (rs : List (ℕ × List Request)) → at_channel c rs ≡ Some qs → (o : Option Request) → first_request reply_kind.ChannelCloseOk qs ≡ o → kept_requests c true o (on_channel c no_requests rs) ≡ on_channel c close_alone rs
+    kept_some : (c : ℕ) (qs : List Request) (rs : List (ℕ × List Request)) → at_channel c rs ≡ Some qs → (o : Option Request) → first_request reply_kind.ChannelCloseOk qs ≡ o → with_kept c o (on_channel c no_requests rs) ≡ on_channel c close_alone rs
     kept_some c qs rs e None is = on_same c no_requests close_alone qs rs e (ap request_alone (sym is))
     kept_some c qs rs e (Some r) is =
         let there : at_channel c (on_channel c no_requests rs) ≡ Some [] = at-on_same c no_requests rs ∙ ap (option_map no_requests) e in
         rw there (on_twice c no_requests (λ _. r ∷ []) rs ∙ on_same c (λ _. r ∷ []) close_alone qs rs e (ap request_alone (sym is)))
 
-fate-count : (t : Bool) (a : Result Answer Error) (o : Option ℕ) (slots : List (Option Slot)) → length (fold after_mark slots (cond t [] (resolved_with a o))) ≡ length slots
-fate-count true a o slots = refl
-fate-count false a o slots = resolved-count a o slots
+-- and its ticket is kept
+kept_ticket_is : (c : ℕ) (q : Phase) (d : Base) → ticket_of (kept_request (has_sent_close q) (requests_at c d.requests)) ≡ kept_ticket c q d
+kept_ticket_is c q d = elim (has_sent_close q) as (λ t. ticket_of (cond t (first_request reply_kind.ChannelCloseOk (requests_at c d.requests)) None) ≡ cond t (close_ticket c d) None) [ true ↦ refl | false ↦ refl ]
 
 closing_base : (c : ℕ) (q : Phase) (e : Error) (d : Base) → close_ok_end q ≡ Some e → after_close_ok c q d ≡ ended_base c phase.Closed no_requests d
 closing_base c (phase.Closing who sent) e d h = refl
@@ -234,27 +255,27 @@ module _ (m : ℕ) (l : Link) (p : List (ℕ × Phase)) (x : Lists) (rs : List (
       → (seen m l2 p2 x2 rs2 s2 b2).base ≡ record { frame_max = m; link = l2; phases = p2; rest = x2.rest; methods = x2.methods; publishes = x2.publishes; requests = rs2; tickets = length s; published = length b.cells }
   counted l2 p2 x2 rs2 s2 b2 e f = rw (e, f) refl
 
-  pub lost_seen : is_lost l ≡ false → seen m link.Lost p no_lists [] (after_mark s (AllFailed error.ConnectionLost)) (fold book.after_mark b (cond (is_up l) (ends error.ConnectionLost p) [])) ≡ next old event.Lost
+  pub lost_seen : is_lost l ≡ false → seen m link.Lost [] no_lists [] (after_mark s (ticket.AllFailed error.ConnectionLost)) (fold book.after_mark b (ends error.ConnectionLost (live_channels p))) ≡ next old event.Lost
   lost_seen h =
-      let base = counted link.Lost p no_lists [] (after_mark s (AllFailed error.ConnectionLost)) (fold book.after_mark b (cond (is_up l) (ends error.ConnectionLost p) [])) (failed-count error.ConnectionLost s) (ends_if-count (is_up l) error.ConnectionLost p b) in
+      let base = counted link.Lost [] no_lists [] (after_mark s (ticket.AllFailed error.ConnectionLost)) (fold book.after_mark b (ends error.ConnectionLost (live_channels p))) (failed-count error.ConnectionLost s) (ends-count error.ConnectionLost (live_channels p) b) in
       world_is _ _ (base ∙ sym (rw h refl)) refl (sym (rw h refl))
 
   -- ---- closes of this side
 
-  given-count : (n : ℕ) (S T : List (Option Slot)) → T ≡ after_mark S Given → length S ≡ n → length T ≡ n + 1
-  given-count n S T e h = ap length e ∙ length-append S (Some slot.Open ∷ []) ∙ ap (λ k. k + 1) h
+  given-count : (c n : ℕ) (S T : List (Option Slot)) → T ≡ after_mark S (ticket.Given c leaving.Nothing) → length S ≡ n → length T ≡ n + 1
+  given-count c n S T e h = ap length e ∙ length-append S (Some (slot.Open c leaving.Nothing false) ∷ []) ∙ ap (λ k. k + 1) h
 
   pub channel_close_seen : (c code : ℕ) (text : List ℕ) (P : List (ℕ × Phase)) (L : Lists) (R : List (ℕ × List Request)) (S T : List (Option Slot)) (B : Book)
       → is_open (state_of c old.base) ≡ true
       → P ≡ with_channel c (phase.Closing closer.Application false) p
-      → S ≡ fold after_mark s (failures (failed_at_close closer.Application) (publish_tickets_of c x.publishes))
+      → S ≡ after_mark s (ticket.ClosedHere c (failed_at_close closer.Application))
       → L ≡ with_method (record { channel = c; method = method.Channel (channel.Close code text 0 0); ticket = Some (length S + 1) }) (without_publishes_of c x)
       → R ≡ requests_with c (length S + 1) (Some reply.ChannelCloseOk) rs
-      → T ≡ after_mark S Given
-      → B ≡ fold book.after_mark b (rejections (failed_at_close closer.Application) (unbegun c x.publishes))
+      → T ≡ after_mark S (ticket.Given c leaving.Nothing)
+      → B ≡ closed_here c (failed_at_close closer.Application) b
       → seen m l P L R T B ≡ asking c (ask.CloseChannel code text) old
   channel_close_seen c code text P L R S T B h eP eS eL eR eT eB =
-      let count : length S ≡ length s = failures_counted (failed_at_close closer.Application) (publish_tickets_of c x.publishes) s S eS in
+      let count : length S ≡ length s = closed_counted c (failed_at_close closer.Application) s S eS in
       let entry : ℕ → MethodEntry = λ k. record { channel = c; method = method.Channel (channel.Close code text 0 0); ticket = Some (k + 1) } in
       world_is _ _
       (base_is _ (after_call c (ask.CloseChannel code text) old.base) refl refl eP
@@ -262,51 +283,71 @@ module _ (m : ℕ) (l : Link) (p : List (ℕ × Phase)) (x : Lists) (rs : List (
       (ap (λ (y : Lists). y.methods) eL ∙ ap (λ k. x.methods ++ entry k ∷ []) count)
       (ap (λ (y : Lists). y.publishes) eL)
       (eR ∙ ap (λ k. requests_with c (k + 1) (Some reply.ChannelCloseOk) rs) count)
-      (given-count (length s) S T eT count)
-      (rejections_counted (failed_at_close closer.Application) (unbegun c x.publishes) b B eB))
+      (given-count c (length s) S T eT count)
+      (rejected_counted c (failed_at_close closer.Application) b B eB))
       eB
-      (eT ∙ ap (λ y. after_mark y Given) eS ∙ sym (marks-join (failures (failed_at_close closer.Application) (publish_tickets_of c x.publishes)) (Given ∷ []) s))
+      (eT ∙ ap (λ y. after_mark y (ticket.Given c leaving.Nothing)) eS)
       ∙ sym (call_next old c (ask.CloseChannel code text) h)
 
-  pub connection_close_seen : (c code : ℕ) (text : List ℕ) (l2 : Link) (L : Lists) (R : List (ℕ × List Request)) (S T : List (Option Slot)) (B : Book)
+  pub connection_close_seen : (c code : ℕ) (text : List ℕ) (l2 : Link) (P : List (ℕ × Phase)) (L : Lists) (R : List (ℕ × List Request)) (S T : List (Option Slot)) (B : Book)
       → is_base (state_of c old.base) ≡ true
       → l2 ≡ link.Closing false false
-      → S ≡ after_mark s (AllFailed failed_at_connection_close)
+      → P ≡ []
+      → S ≡ after_mark s (ticket.AllFailed failed_at_connection_close)
       → L ≡ with_method (record { channel = c; method = method.Connection (connection.Close code text 0 0); ticket = Some (length S + 1) }) no_lists
       → R ≡ requests_with c (length S + 1) (Some reply.ConnectionCloseOk) []
-      → T ≡ after_mark S Given
-      → B ≡ fold book.after_mark b (cond (is_up l) (ends failed_at_connection_close p) [])
-      → seen m l2 p L R T B ≡ asking c (ask.CloseConnection code text) old
-  connection_close_seen c code text l2 L R S T B h el eS eL eR eT eB =
+      → T ≡ after_mark S (ticket.Given c leaving.Nothing)
+      → B ≡ fold book.after_mark b (ends failed_at_connection_close (live_channels p))
+      → seen m l2 P L R T B ≡ asking c (ask.CloseConnection code text) old
+  connection_close_seen c code text l2 P L R S T B h el eP eS eL eR eT eB =
       let count : length S ≡ length s = failed_counted failed_at_connection_close s S eS in
       let entry : ℕ → MethodEntry = λ k. record { channel = c; method = method.Connection (connection.Close code text 0 0); ticket = Some (k + 1) } in
       world_is _ _
-      (base_is _ (after_call c (ask.CloseConnection code text) old.base) refl el refl
+      (base_is _ (after_call c (ask.CloseConnection code text) old.base) refl el eP
       (ap (λ (y : Lists). y.rest) eL)
       (ap (λ (y : Lists). y.methods) eL ∙ ap (λ k. entry k ∷ []) count)
       (ap (λ (y : Lists). y.publishes) eL)
       (eR ∙ ap (λ k. requests_with c (k + 1) (Some reply.ConnectionCloseOk) []) count)
-      (given-count (length s) S T eT count)
-      (ap (λ (y : Book). length y.cells) eB ∙ ends_if-count (is_up l) failed_at_connection_close p b))
+      (given-count c (length s) S T eT count)
+      (ap (λ (y : Book). length y.cells) eB ∙ ends-count failed_at_connection_close (live_channels p) b))
       eB
-      (eT ∙ ap (λ y. after_mark y Given) eS)
+      (eT ∙ ap (λ y. after_mark y (ticket.Given c leaving.Nothing)) eS)
       ∙ sym (call_next old c (ask.CloseConnection code text) h)
+
+  -- a call that is its line of the table
+  pub row_seen : (c : ℕ) (row : Row) (L : Lists) (R : List (ℕ × List Request)) (S : List (Option Slot)) (B : Book)
+      → is_open (state_of c old.base) ≡ true
+      → L ≡ with_method (record { channel = c; method = row.method; ticket = Some (length s + 1) }) x
+      → R ≡ requests_with c (length s + 1) row.awaits rs
+      → S ≡ fold after_mark (after_mark s (ticket.Given c row.at_leaving)) (made_marks (length s + 1) row.made)
+      → B ≡ fold book.after_mark b (queued_marks c row.method)
+      → seen m l p L R S B ≡ asking c (ask.Method row) old
+  row_seen c row L R S B h eL eR eS eB =
+      world_is _ _
+      (base_is _ (after_call c (ask.Method row) old.base) refl refl refl
+      (ap (λ (y : Lists). y.rest) eL) (ap (λ (y : Lists). y.methods) eL) (ap (λ (y : Lists). y.publishes) eL) eR
+      (ap length eS ∙ made-count (length s + 1) row.made (after_mark s (ticket.Given c row.at_leaving)) ∙ length-append s (Some (slot.Open c row.at_leaving false) ∷ []))
+      (ap (λ (y : Book). length y.cells) eB ∙ called-count c row.method b))
+      eB
+      eS
+      ∙ sym (call_next old c (ask.Method row) h)
 
   -- ---- frames that are not heard
 
-  pub unexpected_seen : (i : Incoming) (class number : ℕ) (l2 : Link) (L : Lists) (R : List (ℕ × List Request)) (S : List (Option Slot)) (B : Book)
+  pub unexpected_seen : (i : Incoming) (class number : ℕ) (l2 : Link) (P : List (ℕ × Phase)) (L : Lists) (R : List (ℕ × List Request)) (S : List (Option Slot)) (B : Book)
       → l2 ≡ link.Closing false false
+      → P ≡ []
       → L ≡ with_method (record { channel = 0; method = unexpected_close class number; ticket = None }) no_lists
       → R ≡ []
-      → S ≡ after_mark s (AllFailed failed_at_unexpected)
-      → B ≡ fold book.after_mark b (cond (is_up l) (ends failed_at_unexpected p) [])
-      → seen m l2 p L R S B ≡ hearing i (record_.Refused (error.UnexpectedFrame class number)) old
-  unexpected_seen i class number l2 L R S B el eL eR eS eB =
+      → S ≡ after_mark s (ticket.AllFailed failed_at_unexpected)
+      → B ≡ fold book.after_mark b (ends failed_at_unexpected (live_channels p))
+      → seen m l2 P L R S B ≡ hearing i (record_.Refused (error.UnexpectedFrame class number)) old
+  unexpected_seen i class number l2 P L R S B el eP eL eR eS eB =
       world_is _ _
-      (base_is _ (after_unexpected class number old.base) refl el refl
+      (base_is _ (after_unexpected class number old.base) refl el eP
       (ap (λ (y : Lists). y.rest) eL) (ap (λ (y : Lists). y.methods) eL) (ap (λ (y : Lists). y.publishes) eL) eR
       (failed_counted failed_at_unexpected s S eS)
-      (ap (λ (y : Book). length y.cells) eB ∙ ends_if-count (is_up l) failed_at_unexpected p b))
+      (ap (λ (y : Book). length y.cells) eB ∙ ends-count failed_at_unexpected (live_channels p) b))
       eB
       eS
 
@@ -314,17 +355,17 @@ module _ (m : ℕ) (l : Link) (p : List (ℕ × Phase)) (x : Lists) (rs : List (
       → is_open (state_of c old.base) ≡ true
       → P ≡ with_channel c (phase.Closing closer.Session false) p
       → L ≡ with_method (record { channel = c; method = session_close z.kind; ticket = None }) (without_publishes_of c x)
-      → S ≡ fold after_mark s (failures (failed_at_close closer.Session) (publish_tickets_of c x.publishes))
-      → B ≡ fold book.after_mark b (rejections (failed_at_close closer.Session) (unbegun c x.publishes))
+      → S ≡ after_mark s (ticket.ClosedHere c (failed_at_close closer.Session))
+      → B ≡ closed_here c (failed_at_close closer.Session) b
       → seen m l P L rs S B ≡ hearing (incoming.Settlement c z) (record_.Refused (error.PreconditionFailed tag current)) old
   failed_seen c z tag current P L S B h eP eL eS eB =
       let is : hearing (incoming.Settlement c z) (record_.Refused (error.PreconditionFailed tag current)) old
-      ≡ record { base = noted c (session_close z.kind) (closing c closer.Session old.base); book = fold book.after_mark b (rejections (failed_at_close closer.Session) (unbegun c x.publishes)); slots = fold after_mark s (failures (failed_at_close closer.Session) (publish_tickets_of c x.publishes)) } = rw h refl in
+      ≡ record { base = noted c (session_close z.kind) (closing c closer.Session old.base); book = closed_here c (failed_at_close closer.Session) b; slots = after_mark s (ticket.ClosedHere c (failed_at_close closer.Session)) } = rw h refl in
       world_is _ _
       (base_is _ (noted c (session_close z.kind) (closing c closer.Session old.base)) refl refl eP
       (ap (λ (y : Lists). y.rest) eL) (ap (λ (y : Lists). y.methods) eL) (ap (λ (y : Lists). y.publishes) eL) refl
-      (failures_counted (failed_at_close closer.Session) (publish_tickets_of c x.publishes) s S eS)
-      (rejections_counted (failed_at_close closer.Session) (unbegun c x.publishes) b B eB))
+      (closed_counted c (failed_at_close closer.Session) s S eS)
+      (rejected_counted c (failed_at_close closer.Session) b B eB))
       eB
       eS
       ∙ sym is
@@ -337,28 +378,28 @@ module _ (m : ℕ) (l : Link) (p : List (ℕ × Phase)) (x : Lists) (rs : List (
   pub channel_close_heard : (c code : ℕ) (P : List (ℕ × Phase)) (L : Lists) (R : List (ℕ × List Request)) (S : List (Option Slot)) (B : Book)
       → P ≡ with_channel c (after_broker_close (phase_of c old.base)) p
       → L ≡ with_method (record { channel = c; method = method.Channel channel.CloseOk; ticket = None }) (without_channel c x)
-      → R ≡ kept_requests c (has_sent_close (phase_of c old.base)) (first_request reply_kind.ChannelCloseOk (requests_at c rs)) (on_channel c no_requests rs)
-      → S ≡ fold after_mark (fold after_mark s (failures (error.ProtocolError code) (end_tickets c old.base))) (cond (has_sent_close (phase_of c old.base)) [] (resolved_with (Err (error.ProtocolError code)) (ticket_of (first_request reply_kind.ChannelCloseOk (requests_at c rs)))))
+      → R ≡ with_kept c (kept_request (has_sent_close (phase_of c old.base)) (requests_at c rs)) (on_channel c no_requests rs)
+      → S ≡ after_mark s (ticket.OpeningFailed c (ticket_of (kept_request (has_sent_close (phase_of c old.base)) (requests_at c rs))) (error.ProtocolError code))
       → B ≡ ended c (error.ProtocolError code) b
       → seen m l P L R S B ≡ hearing (incoming.ChannelClose c code) record_.Received old
   channel_close_heard c code P L R S B eP eL eR eS eB =
       let e : Error = error.ProtocolError code in
-      let fates : List TicketMark = cond (has_sent_close (phase_of c old.base)) [] (resolved_with (Err e) (close_ticket c old.base)) in
+      let q : Phase = phase_of c old.base in
       world_is _ _
-      (base_is _ (after_channel_close c (phase_of c old.base) old.base) refl refl eP
+      (base_is _ (after_channel_close c q old.base) refl refl eP
       (ap (λ (y : Lists). y.rest) eL) (ap (λ (y : Lists). y.methods) eL) (ap (λ (y : Lists). y.publishes) eL)
-      (eR ∙ kept_is c (phase_of c old.base) rs)
-      (ap length eS ∙ fate-count (has_sent_close (phase_of c old.base)) (Err e) (close_ticket c old.base) _ ∙ failures-count e (end_tickets c old.base) s)
+      (eR ∙ kept_is c q rs)
+      (ap length eS ∙ opening-count c (ticket_of (kept_request (has_sent_close q) (requests_at c rs))) e s)
       (ap (λ (y : Book). length y.cells) eB ∙ ended-count c e b))
       eB
-      (eS ∙ sym (marks-join (failures e (end_tickets c old.base)) fates s))
+      (eS ∙ ap (λ k. after_mark s (ticket.OpeningFailed c k e)) (kept_ticket_is c q old.base))
 
   pub closing_answered : (c : ℕ) (e : Error) (P : List (ℕ × Phase)) (L : Lists) (R : List (ℕ × List Request)) (S : List (Option Slot)) (B : Book)
       → close_ok_end (phase_of c old.base) ≡ Some e
       → P ≡ with_channel c phase.Closed p
       → L ≡ without_channel c x
       → R ≡ on_channel c no_requests rs
-      → S ≡ fold after_mark (fold after_mark s (resolved_with (Ok answer.Done) (ticket_of (first_request reply_kind.ChannelCloseOk (requests_at c rs))))) (failures e (end_tickets c old.base))
+      → S ≡ after_mark (fold after_mark s (resolved_with (Ok answer.Done) (ticket_of (first_request reply_kind.ChannelCloseOk (requests_at c rs))))) (ticket.OpeningFailed c None e)
       → B ≡ ended c e b
       → seen m l P L R S B ≡ hearing (incoming.ChannelCloseOk c) record_.Received old
   closing_answered c e P L R S B h eP eL eR eS eB =
@@ -366,11 +407,11 @@ module _ (m : ℕ) (l : Link) (p : List (ℕ × Phase)) (x : Lists) (rs : List (
       world_is _ _
       (base_is _ (ended_base c phase.Closed no_requests old.base) refl refl eP
       (ap (λ (y : Lists). y.rest) eL) (ap (λ (y : Lists). y.methods) eL) (ap (λ (y : Lists). y.publishes) eL) eR
-      (ap length eS ∙ failures-count e (end_tickets c old.base) (fold after_mark s done) ∙ resolved-count (Ok answer.Done) (close_ticket c old.base) s)
+      (ap length eS ∙ opening-count c None e (fold after_mark s done) ∙ resolved-count (Ok answer.Done) (close_ticket c old.base) s)
       (ap (λ (y : Book). length y.cells) eB ∙ ended-count c e b)
       ∙ sym (closing_base c (phase_of c old.base) e old.base h))
       (eB ∙ ap (λ ms. fold book.after_mark b ms) (ap (end_with c) (sym h)))
-      (eS ∙ sym (marks-join done (failures e (end_tickets c old.base)) s) ∙ ap (λ o. fold after_mark s (done ++ end_failures c o old.base)) (sym h))
+      (eS ∙ sym (marks-join done (ticket.OpeningFailed c None e ∷ []) s) ∙ ap (λ o. fold after_mark s (done ++ end_tickets c o)) (sym h))
 
   pub crossed_answered : (c : ℕ) (P : List (ℕ × Phase)) (R : List (ℕ × List Request)) (S : List (Option Slot))
       → close_ok_end (phase_of c old.base) ≡ None
@@ -386,46 +427,49 @@ module _ (m : ℕ) (l : Link) (p : List (ℕ × Phase)) (x : Lists) (rs : List (
       refl
       ∙ sym (crossed_base c (phase_of c old.base) old.base h))
       (ap (λ ms. fold book.after_mark b ms) (ap (end_with c) (sym h)))
-      (eS ∙ sym (marks-join done [] s) ∙ ap (λ o. fold after_mark s (done ++ end_failures c o old.base)) (sym h))
+      (eS ∙ sym (marks-join done [] s) ∙ ap (λ o. fold after_mark s (done ++ end_tickets c o)) (sym h))
 
-  pub connection_close_crossed : (code : ℕ) (l2 : Link) (L : Lists) → is_close_sent l ≡ true → l2 ≡ link.Closing true true
+  pub connection_close_crossed : (code : ℕ) (l2 : Link) (L : Lists) → is_close_sent l ≡ true → p ≡ [] → l2 ≡ link.Closing true true
       → L ≡ with_method (record { channel = 0; method = method.Connection connection.CloseOk; ticket = None }) x
       → seen m l2 p L rs s b ≡ hearing (incoming.ConnectionClose code) record_.Received old
-  connection_close_crossed code l2 L h el eL = at l h
+  connection_close_crossed code l2 L h none el eL = at l h
     where
       at : (k : Link) → is_close_sent k ≡ true → seen m l2 p L rs s b ≡ hearing (incoming.ConnectionClose code) record_.Received (seen m k p x rs s b)
       at link.Open h = cc
-      at (link.Closing true heard) h = world_is _ _ (base_is _ _ refl el refl (ap (λ (y : Lists). y.rest) eL) (ap (λ (y : Lists). y.methods) eL) (ap (λ (y : Lists). y.publishes) eL) refl refl refl) refl refl
+      at (link.Closing true heard) h =
+          world_is _ _ (base_is _ _ refl el refl (ap (λ (y : Lists). y.rest) eL) (ap (λ (y : Lists). y.methods) eL) (ap (λ (y : Lists). y.publishes) eL) refl refl refl)
+          (ap (λ (ps : List (ℕ × Phase)). fold book.after_mark b (ends (error.ProtocolError code) (live_channels ps))) (sym none)) refl
       at (link.Closing false heard) h = cc
       at link.Closed h = cc
       at link.Lost h = cc
 
-  pub connection_close_heard : (code : ℕ) (l2 : Link) (L : Lists) (R : List (ℕ × List Request)) (S : List (Option Slot)) (B : Book) → is_close_sent l ≡ false → l2 ≡ link.Closed
+  pub connection_close_heard : (code : ℕ) (l2 : Link) (P : List (ℕ × Phase)) (L : Lists) (R : List (ℕ × List Request)) (S : List (Option Slot)) (B : Book) → is_close_sent l ≡ false → l2 ≡ link.Closed
+      → P ≡ []
       → L ≡ with_method (record { channel = 0; method = method.Connection connection.CloseOk; ticket = None }) no_lists
       → R ≡ []
-      → S ≡ after_mark s (AllFailed (error.ProtocolError code))
-      → B ≡ fold book.after_mark b (cond (is_up l) (ends (error.ProtocolError code) p) [])
-      → seen m l2 p L R S B ≡ hearing (incoming.ConnectionClose code) record_.Received old
-  connection_close_heard code l2 L R S B h el eL eR eS eB = at l h eB
+      → S ≡ after_mark s (ticket.AllFailed (error.ProtocolError code))
+      → B ≡ fold book.after_mark b (ends (error.ProtocolError code) (live_channels p))
+      → seen m l2 P L R S B ≡ hearing (incoming.ConnectionClose code) record_.Received old
+  connection_close_heard code l2 P L R S B h el eP eL eR eS eB = at l h
     where
-      by_parts : (k : Link) → (after_connection_close k (seen m k p x rs s b).base ≡ noted 0 (method.Connection connection.CloseOk) (down link.Closed (seen m k p x rs s b).base)) → connection_close_tickets k code ≡ AllFailed (error.ProtocolError code) ∷ []
-          → B ≡ fold book.after_mark b (cond (is_up k) (ends (error.ProtocolError code) p) []) → seen m l2 p L R S B ≡ hearing (incoming.ConnectionClose code) record_.Received (seen m k p x rs s b)
-      by_parts k base tickets eB =
+      by_parts : (k : Link) → (after_connection_close k (seen m k p x rs s b).base ≡ noted 0 (method.Connection connection.CloseOk) (down link.Closed (seen m k p x rs s b).base)) → connection_close_tickets k code ≡ ticket.AllFailed (error.ProtocolError code) ∷ []
+          → seen m l2 P L R S B ≡ hearing (incoming.ConnectionClose code) record_.Received (seen m k p x rs s b)
+      by_parts k base tickets =
           world_is _ _
-          (base_is _ (noted 0 (method.Connection connection.CloseOk) (down link.Closed (seen m k p x rs s b).base)) refl el refl
+          (base_is _ (noted 0 (method.Connection connection.CloseOk) (down link.Closed (seen m k p x rs s b).base)) refl el eP
           (ap (λ (y : Lists). y.rest) eL) (ap (λ (y : Lists). y.methods) eL) (ap (λ (y : Lists). y.publishes) eL) eR
           (failed_counted (error.ProtocolError code) s S eS)
-          (ap (λ (y : Book). length y.cells) eB ∙ ends_if-count (is_up k) (error.ProtocolError code) p b)
+          (ap (λ (y : Book). length y.cells) eB ∙ ends-count (error.ProtocolError code) (live_channels p) b)
           ∙ sym base)
           eB
           (eS ∙ ap (λ ms. fold after_mark s ms) (sym tickets))
 
-      at : (k : Link) → is_close_sent k ≡ false → B ≡ fold book.after_mark b (cond (is_up k) (ends (error.ProtocolError code) p) []) → seen m l2 p L R S B ≡ hearing (incoming.ConnectionClose code) record_.Received (seen m k p x rs s b)
-      at link.Open h e = by_parts link.Open refl refl e
-      at (link.Closing true heard) h e = cc
-      at (link.Closing false heard) h e = by_parts (link.Closing false heard) refl refl e
-      at link.Closed h e = by_parts link.Closed refl refl e
-      at link.Lost h e = by_parts link.Lost refl refl e
+      at : (k : Link) → is_close_sent k ≡ false → seen m l2 P L R S B ≡ hearing (incoming.ConnectionClose code) record_.Received (seen m k p x rs s b)
+      at link.Open h = by_parts link.Open refl refl
+      at (link.Closing true heard) h = cc
+      at (link.Closing false heard) h = by_parts (link.Closing false heard) refl refl
+      at link.Closed h = by_parts link.Closed refl refl
+      at link.Lost h = by_parts link.Lost refl refl
 
   pub connection_answered : (l2 : Link) (L : Lists) (R : List (ℕ × List Request)) (S : List (Option Slot)) → l2 ≡ link.Closed
       → L ≡ unless_sent (has_sent l) x

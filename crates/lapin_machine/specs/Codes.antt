@@ -20,7 +20,13 @@ use Rattle.lapin_ticket.specs.declared.Slot.{Slot}
 use Rattle.lapin_machine.specs.World.{World}
 
 abbrev pub line_code : Coded Line
-line_code = code_by (Bool × ℕ) (coded× coded_bool coded_ℕ) (λ l. (l.selected, l.last)) (λ p. record { selected = p.0; last = p.1 }) (λ _. refl)
+line_code =
+    code_by
+    (Bool × (ℕ × (Bool × ℕ)))
+    (coded× coded_bool (coded× coded_ℕ (coded× coded_bool coded_ℕ)))
+    (λ l. (l.selected, (l.last, (l.asked, l.limit))))
+    (λ p. record { selected = p.0; last = p.1.0; asked = p.1.1.0; limit = p.1.1.1 })
+    (λ _. refl)
 
 abbrev pub book_code : Coded Book
 book_code =

@@ -8,7 +8,8 @@ use Rattle.lapin_types.specs.declared.event.Event.{Event}
 use Rattle.lapin_types.specs.declared.event.Event.TheVariants as event
 use Rattle.lapin_types.specs.Types.{Error}
 use Rattle.lapin_types.specs.Types.error
-use Rattle.lapin_history.specs.Base.{Base, state_of, is_allowed}
+use Rattle.lapin_history.specs.Base.{Base, state_of}
+use Rattle.lapin_history.specs.Asking.{is_allowed}
 use Rattle.lapin_machine.specs.World.{World}
 
 -- each counter has n further numbers

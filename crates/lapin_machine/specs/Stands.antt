@@ -1,13 +1,13 @@
 -- When a session's value is what a history says.
-use Rattle.std.specs.Prelude.{◌≡◌, ◌≢◌, ℕ, List, [], ◌∷◌, Option}
+use Rattle.std.specs.Prelude.{◌≡◌, ◌≢◌, ℕ, false, List, [], ◌∷◌, Option}
 use Rattle.std.specs.List.{AllByRecursion}
 use Rattle.lapin_types.specs.declared.leaving.Publish.{Publish}
-use Rattle.lapin_history.specs.declared.marks.ConfirmMark.{ConfirmMark}
-use Rattle.lapin_history.specs.declared.marks.ConfirmMark.TheVariants as mark
+use Rattle.lapin_history.specs.ConfirmMarks.{ConfirmMark}
+use Rattle.lapin_history.specs.ConfirmMarks as mark
 use Rattle.lapin_history.specs.ConfirmReadings.{added}
 use Rattle.lapin_history.specs.TicketReadings.{TicketMark, given}
+use Rattle.lapin_history.specs.Phases.{is_up}
 use Rattle.lapin_history.specs.Base.{Base}
-use Rattle.lapin_history.specs.Marked.{place_of}
 use Rattle.lapin_history.specs.History.{History, past}
 use Rattle.lapin_confirm.specs.Book.{Book}
 use Rattle.lapin_confirm.specs.Follows.{MayCome}
@@ -19,7 +19,7 @@ use Rattle.lapin_machine.specs.World.{World}
 -- the publishes that wait have not left, and are different ones
 abbrev pub AreFresh : List ConfirmMark → List Publish → Type 0
 AreFresh ms [] = Unit {0}
-AreFresh ms (p ∷ ps) = MayCome ms (mark.Left p.channel (place_of p.confirm)) × AllByRecursion (λ q. place_of p.confirm ≢ place_of q.confirm) ps × AreFresh ms ps
+AreFresh ms (p ∷ ps) = MayCome ms (mark.Left p.channel p.confirm) × AllByRecursion (λ q. p.confirm ≢ q.confirm) ps × AreFresh ms ps
 
 -- the confirms are what the marks say
 pub record ConfirmsStand (b : Base) (ms : List ConfirmMark) (bk : Book) : Type 0 where
@@ -32,9 +32,14 @@ pub record TicketsStand (b : Base) (ms : List TicketMark) (slots : List (Option 
   pub kept : tickets.Follows ms slots
   pub given : b.tickets ≡ given ms
 
+-- no channel stands open once the connection does not
+abbrev pub IsShut : Base → Type 0
+IsShut b = is_up b.link ≡ false → b.phases ≡ []
+
 -- The session stands for the history: it has its states, lists, requests and counters; its tags, outcomes and answers are those
 -- that the history's marks say.
 pub record Stands (frame_max : ℕ) (h : History) (w : World) : Type 0 where
   pub base : w.base ≡ (past frame_max h).base
+  pub shut : IsShut w.base
   pub confirms : ConfirmsStand w.base (past frame_max h).confirms w.book
   pub tickets : TicketsStand w.base (past frame_max h).tickets w.slots

@@ -1,5 +1,5 @@
 -- What a session keeps true of its parts, and the room that a call uses.
-use Rattle.std.specs.Prelude.{◌≡◌, ℕ, ◌&&◌, Bool, true, false, List, Option, Some, None, IsSome}
+use Rattle.std.specs.Prelude.{◌≡◌, ℕ, ◌&&◌, Bool, true, false, List, [], Option, Some, None, IsSome}
 use Rattle.std.specs.List.{list_any}
 use Rattle.lapin_types.specs.declared.leaving.Publish.{Publish}
 use Rattle.lapin_types.specs.declared.leaving.Left.{Left}
@@ -21,11 +21,12 @@ abbrev pub is_live_on : Link → Option Phase → Bool
 is_live_on l p = is_up l && is_live (phase_in p)
 
 -- States, waiting publishes and confirms hang together: a publish that waits is queued, a channel that was ever opened has a
--- line, and a channel without a live opening has nothing unresolved.
+-- line, a channel without a live opening has nothing unresolved, and no channel stands open once the connection does not.
 pub record IsTied (l : Link) (phases : List (ℕ × Phase)) (publishes : List Publish) (b : Book) : Type 0 where
   pub queued : AreQueued b.cells publishes
   pub lines : (c : ℕ) → is_some (at_channel c phases) ≡ true → IsSome (at_channel c b.lines)
   pub done : (c : ℕ) → is_live_on l (at_channel c phases) ≡ false → list_any (is_open_on c) b.cells ≡ false
+  pub down : is_up l ≡ false → phases ≡ []
 
 -- the publish whose method frame leaves is queued on the frame's channel
 abbrev pub MayRegister : Frame → Option ℕ → Bool → List (Option Cell) → Type 0

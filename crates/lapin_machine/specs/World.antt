@@ -10,9 +10,18 @@ use Rattle.lapin_types.specs.declared.confirmation.Confirmation.{Confirmation}
 use Rattle.lapin_history.specs.declared.marks.Settlement.{Settlement}
 use Rattle.lapin_history.specs.declared.calls.Asked.{Asked}
 use Rattle.lapin_history.specs.declared.broker_frames.Incoming.{Incoming}
-use Rattle.lapin_history.specs.Base.{Base, start, handed_out, after_event, after_asking, after_handing, after_heard}
-use Rattle.lapin_history.specs.Marked.{confirm_marks, ticket_marks, asking_marks, asking_tickets, left_marks, left_tickets, heard_marks, heard_tickets}
-use Rattle.lapin_history.specs.Answers.{Sight, record_of, settlement_record}
+use Rattle.lapin_history.specs.Base.{Base, start}
+use Rattle.lapin_history.specs.Handing.{handed_out, after_handing}
+use Rattle.lapin_history.specs.Events.{after_event}
+use Rattle.lapin_history.specs.Asking.{after_asking}
+use Rattle.lapin_history.specs.Hearing.{after_heard}
+use Rattle.lapin_history.specs.Events.{confirm_marks, ticket_marks}
+use Rattle.lapin_history.specs.Asking.{asking_marks, asking_tickets}
+use Rattle.lapin_history.specs.Handing.{left_marks, left_tickets}
+use Rattle.lapin_history.specs.Hearing.{heard_marks, heard_tickets}
+use Rattle.lapin_history.specs.Sight.{Sight}
+use Rattle.lapin_history.specs.Events.{record_of}
+use Rattle.lapin_history.specs.Settlement.{settlement_record}
 use Rattle.lapin_confirm.specs.Answers.{answer_at}
 use Rattle.lapin_confirm.specs.Book.{Book, empty_book, selected_on, last_on, is_pending}
 use Rattle.lapin_confirm.specs.Book as book
@@ -42,6 +51,11 @@ poll_record (Ok None) = record_.Pending
 poll_record (Ok (Some a)) = record_.Answer a
 poll_record (Err e) = record_.Refused e
 
+-- setting a ticket aside
+abbrev pub aside_record : Result (Unit {0}) Error → Record
+aside_record (Ok x) = record_.Aside
+aside_record (Err e) = record_.Refused e
+
 -- what is seen of confirms and tickets
 abbrev pub sight_of : Book → List (Option Slot) → Sight
 sight_of b slots = record {
@@ -50,6 +64,7 @@ sight_of b slots = record {
   pending = λ c t. is_pending c t b;
   confirm = λ n. outcome_record (answer_at n b);
   ticket = λ n. poll_record (desk.polled n slots);
+  ticket_aside = λ n. aside_record (desk.laid n slots);
 }
 
 -- the record of an event

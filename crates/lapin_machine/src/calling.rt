@@ -3,21 +3,25 @@
 //! Each is refused by the channel's state, then for want of numbers; then it is queued whole, or nothing changes.
 
 ghost use Rattle.std.specs.Prelude.{◌≡◌, false, IfOk, OnOk, OnErr};
+ghost use Rattle.std.specs.List.{fold};
 ghost use Rattle.lapin_types.specs.declared.event.Event.TheVariants.{Call as CallEvent};
 ghost use Rattle.lapin_types.specs.declared.call.Call.TheVariants.{OpenChannel, BasicPublish};
 ghost use Rattle.lapin_history.specs.declared.calls.Asked.TheVariants as ask;
 ghost use Rattle.lapin_history.specs.Calls.{asked as asked_lem, publishes};
-ghost use Rattle.lapin_history.specs.Answers.{call_record};
+ghost use Rattle.lapin_history.specs.Asking.{call_record};
+ghost use Rattle.lapin_history.specs.Select.{queued_marks};
+ghost use Rattle.lapin_confirm.specs.Book as book;
 ghost use Rattle.lapin_machine.specs.World.{told_by, next, asking};
 ghost use Rattle.lapin_machine.specs.Told.{TicketTold, PublishTold, ticket_told, publish_told};
 ghost use Rattle.lapin_machine.specs.Numbers.{HasCause, CallCause, AskCause};
 
 use crate::channel::{Published, PublisherConfirm, Ticket};
-use crate::session::{Session, is_closed, is_open, set_phase};
-use lapin_history::{Asked, Phase, Row, sort_call};
+use crate::session::{Session, is_closed, is_open};
+use lapin_confirm::Confirms;
+use lapin_history::{Asked, AtLeaving, Phase, Row, sort_call};
 use lapin_types::{
-    BasicProperties, BasicPublishOptions, Call, ChannelMethod, Error, Method, Payload, Publish,
-    Record, Reply, ShortString,
+    BasicProperties, BasicPublishOptions, Call, ChannelMethod, ConfirmMethod, Error, Method,
+    Payload, Publish, Record, Reply, ShortString,
 };
 use std::alloc::Global;
 
@@ -44,11 +48,14 @@ impl Session {
         self.phases.reserve(channel)?;
         self.desk.reserve(alloc, channel)?;
         self.confirms.begin(alloc, channel)?;
-        set_phase(&mut self.phases, channel, Phase::Opening);
-        let method = Method::Channel(ChannelMethod::Open);
-        let number = self
-            .desk
-            .queue(alloc, channel, method, Some(Reply::ChannelOpenOk), None);
+        self.phases.set(channel, Phase::Opening);
+        let row = Row {
+            method: Method::Channel(ChannelMethod::Open),
+            awaits: Some(Reply::ChannelOpenOk),
+            made: None,
+            at_leaving: AtLeaving::Nothing,
+        };
+        let number = self.desk.queue(alloc, channel, row);
         Ok(Ticket { number })
     }
 
@@ -110,7 +117,8 @@ impl Session {
             drop(row);
             return Err(Error::NoMemory);
         }
-        let number = self.desk.queue(alloc, channel, row.method, row.awaits, row.made);
+        confirms_called(&mut self.confirms, channel, &row.method);
+        let number = self.desk.queue(alloc, channel, row);
         Ok(Ticket { number })
     }
 
@@ -139,7 +147,10 @@ impl Session {
         }
         self.desk.reserve(alloc, channel)?;
         let confirm = self.confirms.add(alloc, channel)?;
-        let ticket = self.desk.tickets.give();
+        let ticket = self
+            .desk
+            .tickets
+            .give(channel, AtLeaving::Confirm(confirm));
         let publish = Publish {
             confirm,
             ticket,
@@ -187,6 +198,15 @@ impl Session {
             )),
             asked => ticket_record(self.ask(alloc, channel, asked)),
         }
+    }
+}
+
+// A call that queues this method was accepted: `confirm.select` asks for confirms.
+fn confirms_called(confirms: &mut Confirms, channel: u16, method: &Method)
+    ensures { confirms.new.book ≡ fold book.after_mark confirms.old.book (queued_marks channel method.now) }
+{
+    if let Method::Confirm(ConfirmMethod::Select { .. }) = method {
+        confirms.select_called(channel);
     }
 }
 

@@ -3,17 +3,17 @@
 //! A close is refused by state, then for want of numbers; then all room is made; then what the close rejects or ends is
 //! resolved, and the close is queued. What is dropped and resolved stands in `lapin_desk`.
 
-ghost use Rattle.std.specs.Prelude.{◌≡◌, ◌≤◌, [], true, false, IfOk, OnOk, OnErr, length, if◌then◌else◌};
+ghost use Rattle.std.specs.Prelude.{◌≡◌, ◌≤◌, [], true, false, IfOk, OnOk, OnErr, length};
 ghost use Rattle.std.specs.List.{fold};
 ghost use Rattle.lapin_tables.specs.ByChannel.{at_channel};
 ghost use Rattle.lapin_types.specs.declared.event.Event.TheVariants.{Call as CallEvent, Lost as LostEvent};
 ghost use Rattle.lapin_types.specs.declared.call.Call.TheVariants.{ChannelClose, ConnectionClose};
 ghost use Rattle.lapin_history.specs.Words.{is_some, with_channel};
-ghost use Rattle.lapin_history.specs.Phases.{is_up as is_up_lem, is_lost as is_lost_lem};
-ghost use Rattle.lapin_history.specs.Closes.{failed_at_close as failed_at_close_lem};
-ghost use Rattle.lapin_history.specs.Drops.{no_lists, unbegun, without_publishes_of, publish_tickets_of};
-ghost use Rattle.lapin_history.specs.Marked.{ends, rejections, failures};
-ghost use Rattle.lapin_history.specs.TicketReadings.{AllFailed};
+ghost use Rattle.lapin_history.specs.Phases.{is_lost as is_lost_lem};
+ghost use Rattle.lapin_history.specs.ChannelClose.{failed_at_close as failed_at_close_lem};
+ghost use Rattle.lapin_history.specs.Drops.{no_lists, without_publishes_of};
+ghost use Rattle.lapin_history.specs.Ends.{ends, live_channels};
+ghost use Rattle.lapin_history.specs.TicketReadings as mark;
 ghost use Rattle.lapin_confirm.specs.Book as book;
 ghost use Rattle.lapin_ticket.specs.Desk as answers;
 ghost use Rattle.lapin_desk.specs.Queued.{AreQueued};
@@ -22,12 +22,12 @@ ghost use Rattle.lapin_machine.specs.Told.{TicketTold};
 ghost use Rattle.lapin_machine.specs.Numbers.{HasCause, CallCause};
 
 use crate::channel::Ticket;
-use crate::session::{Session, is_base, is_open, set_phase};
+use crate::session::{Session, is_base, is_open};
 use lapin_confirm::Confirms;
 use lapin_desk::Desk;
-use lapin_history::{Closer, Link, Phase, failed_at_close};
+use lapin_history::{AtLeaving, Closer, Link, Phase, Row, failed_at_close};
 use lapin_outbox::Replies;
-use lapin_tables::ByChannel;
+use lapin_phases::Phases;
 use lapin_types::{
     ChannelMethod, ChannelState, ConnectionMethod, Error, Method, NoMemory, Record, Reply,
     ShortString,
@@ -63,15 +63,18 @@ impl Session {
             channel,
             Closer::Application,
         );
-        let method = Method::Channel(ChannelMethod::Close {
-            reply_code,
-            reply_text,
-            class_id: 0,
-            method_id: 0,
-        });
-        let number = self
-            .desk
-            .queue(alloc, channel, method, Some(Reply::ChannelCloseOk), None);
+        let row = Row {
+            method: Method::Channel(ChannelMethod::Close {
+                reply_code,
+                reply_text,
+                class_id: 0,
+                method_id: 0,
+            }),
+            awaits: Some(Reply::ChannelCloseOk),
+            made: None,
+            at_leaving: AtLeaving::Nothing,
+        };
+        let number = self.desk.queue(alloc, channel, row);
         Ok(Ticket { number })
     }
 
@@ -126,20 +129,25 @@ impl Session {
         let error = Error::InvalidChannelState(ChannelState::Down);
         go_down(
             &mut self.link,
-            &self.phases,
+            &mut self.phases,
             &mut self.desk,
             &mut self.confirms,
             replies,
             to,
             error,
         );
-        let method = Method::Connection(ConnectionMethod::Close {
-            reply_code,
-            reply_text,
-            class_id: 0,
-            method_id: 0,
-        });
-        let number = self.desk.queue(alloc, channel, method, Some(Reply::ConnectionCloseOk), None);
+        let row = Row {
+            method: Method::Connection(ConnectionMethod::Close {
+                reply_code,
+                reply_text,
+                class_id: 0,
+                method_id: 0,
+            }),
+            awaits: Some(Reply::ConnectionCloseOk),
+            made: None,
+            at_leaving: AtLeaving::Nothing,
+        };
+        let number = self.desk.queue(alloc, channel, row);
         Ok(Ticket { number })
     }
 
@@ -158,7 +166,7 @@ impl Session {
         let replies = Replies::new(alloc)?;
         go_down(
             &mut self.link,
-            &self.phases,
+            &mut self.phases,
             &mut self.desk,
             &mut self.confirms,
             replies,
@@ -189,7 +197,7 @@ fn is_lost(link: Link) -> bool
 
 // This side closes a channel: publishes that have not begun are rejected.
 pub(crate) fn begin_close(
-    phases: &mut ByChannel<Phase>,
+    phases: &mut Phases,
     desk: &mut Desk,
     confirms: &mut Confirms,
     channel: u16,
@@ -199,8 +207,8 @@ pub(crate) fn begin_close(
     requires queued { AreQueued confirms.old.book.cells desk.old.outbox.lists.publishes }
     ensures phases { phases.new.entries ≡ with_channel channel (Phase.Closing closer false) phases.old.entries }
     ensures lists { desk.new.outbox.lists ≡ without_publishes_of channel desk.old.outbox.lists }
-    ensures slots { desk.new.tickets.slots ≡ fold answers.after_mark desk.old.tickets.slots (failures (failed_at_close_lem closer) (publish_tickets_of channel desk.old.outbox.lists.publishes)) }
-    ensures book { confirms.new.book ≡ fold book.after_mark confirms.old.book (rejections (failed_at_close_lem closer) (unbegun channel desk.old.outbox.lists.publishes)) }
+    ensures slots { desk.new.tickets.slots ≡ answers.after_mark desk.old.tickets.slots (mark.ClosedHere channel (failed_at_close_lem closer)) }
+    ensures book { confirms.new.book ≡ book.closed_here channel (failed_at_close_lem closer) confirms.old.book }
     ensures queued { AreQueued confirms.new.book.cells desk.new.outbox.lists.publishes }
     ensures requests { desk.new.replies ≡ desk.old.replies }
     ensures frame_max { desk.new.outbox.frame_max ≡ desk.old.outbox.frame_max }
@@ -208,8 +216,7 @@ pub(crate) fn begin_close(
     ensures counts { (length desk.new.tickets.slots ≡ length desk.old.tickets.slots) × (length confirms.new.book.cells ≡ length confirms.old.book.cells) }
 {
     desk.reject_unbegun(confirms, channel, failed_at_close(closer));
-    set_phase(
-        phases,
+    phases.set(
         channel,
         Phase::Closing {
             closer,
@@ -218,11 +225,11 @@ pub(crate) fn begin_close(
     );
 }
 
-// The connection leaves the open state, or is lost: every live opening ends, nothing waits any more, and every open ticket
-// fails.
+// The connection leaves the open state, or is lost: every live opening ends and no channel stands open, nothing waits any more,
+// and every open ticket fails.
 pub(crate) fn go_down(
     link: &mut Link,
-    phases: &ByChannel<Phase>,
+    phases: &mut Phases,
     desk: &mut Desk,
     confirms: &mut Confirms,
     replies: Replies,
@@ -231,18 +238,16 @@ pub(crate) fn go_down(
 )
     requires queued { AreQueued confirms.old.book.cells desk.old.outbox.lists.publishes }
     ensures link { link.new ≡ to }
+    ensures phases { phases.new.entries ≡ [] }
     ensures lists { desk.new.outbox.lists ≡ no_lists }
-    ensures slots { desk.new.tickets.slots ≡ answers.after_mark desk.old.tickets.slots (AllFailed error) }
-    ensures book { confirms.new.book ≡ fold book.after_mark confirms.old.book (if is_up_lem link.old then ends error phases.now.entries else []) }
+    ensures slots { desk.new.tickets.slots ≡ answers.after_mark desk.old.tickets.slots (mark.AllFailed error) }
+    ensures book { confirms.new.book ≡ fold book.after_mark confirms.old.book (ends error (live_channels phases.old.entries)) }
     ensures requests { desk.new.replies ≡ replies }
     ensures frame_max { desk.new.outbox.frame_max ≡ desk.old.outbox.frame_max }
     ensures room { (desk.old.outbox.spare ≤ desk.new.outbox.spare) × (desk.new.tickets.spare ≡ desk.old.tickets.spare) }
     ensures counts { (length desk.new.tickets.slots ≡ length desk.old.tickets.slots) × (length confirms.new.book.cells ≡ length confirms.old.book.cells) }
 {
-    if link.is_up() {
-        desk.end_all(confirms, phases.entries(), replies, error);
-    } else {
-        desk.end_all(confirms, &[], replies, error);
-    }
+    desk.end_all(confirms, phases, replies, error);
+    phases.clear();
     *link = to;
 }

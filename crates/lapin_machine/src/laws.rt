@@ -1,15 +1,19 @@
 //! Laws of a session's values, on functions that do nothing: what they say holds of every session, whatever events it met.
 
-ghost use Rattle.std.specs.Prelude.{◌≡◌, ℕ, false, List};
+ghost use Rattle.std.specs.Prelude.{◌≡◌, ℕ, ◌+◌, ◌<◌, ◌^◌, false, List, [], ◌∷◌, ◌++◌, length};
 ghost use Rattle.std.specs.List.{list_any, fold};
 ghost use Rattle.lapin_tables.specs.ByChannel.{at_channel};
 ghost use Rattle.lapin_types.specs.declared.event.Event.{Event as AnEvent};
-ghost use Rattle.lapin_history.specs.Base.{lists_of, has_sent};
+ghost use Rattle.lapin_history.specs.Base.{lists_of};
+ghost use Rattle.lapin_history.specs.ConnectionClose.{has_sent};
 ghost use Rattle.lapin_history.specs.Drops.{no_lists};
 ghost use Rattle.lapin_confirm.specs.Book.{is_open_on};
 ghost use Rattle.lapin_machine.specs.Alone.{WaitsAlone, without_own_close};
 ghost use Rattle.lapin_machine.specs.Tied.{is_live_on};
-ghost use Rattle.lapin_machine.specs.World.{next, new_world};
+ghost use Rattle.lapin_history.specs.History.{History, rec};
+ghost use Rattle.lapin_machine.specs.Numbers.{HasNumbersFor};
+ghost use Rattle.lapin_machine.specs.Stands.{Stands};
+ghost use Rattle.lapin_machine.specs.World.{World, told_by, next, new_world};
 
 use crate::session::Session;
 
@@ -19,6 +23,19 @@ use crate::session::Session;
 pub fn own_close_waits_alone()
     ensures alone { (frame_max : ℕ) (events : List AnEvent) → WaitsAlone (fold next (new_world frame_max) events).base.link (lists_of (fold next (new_world frame_max) events).base) }
     ensures dropped { (frame_max : ℕ) (events : List AnEvent) → has_sent (fold next (new_world frame_max) events).base.link ≡ false → without_own_close (lists_of (fold next (new_world frame_max) events).base) ≡ no_lists }
+{}
+
+/// What a session tells of an event, and what the event leaves, are what the history says, one event after another: so a call
+/// whose answer is `told_by` and that leaves `next` answers by the history, and then stands for the longer one.
+pub fn a_step_goes_on()
+    ensures { (frame_max : ℕ) (h : History) (w : World) (e : AnEvent) → Stands frame_max h w →
+        (told_by w e ≡ rec frame_max h e) × Stands frame_max (h ++ (e, told_by w e) ∷ []) (next w e) }
+{}
+
+/// No counter is above the number of events: a session that stands for a history has numbers for as many further events as are
+/// missing to the greatest `u64`.
+pub fn an_event_uses_one_number()
+    ensures { (frame_max more : ℕ) (h : History) (w : World) → Stands frame_max h w → length h + more < 2 ^ 64 → HasNumbersFor more w }
 {}
 
 impl Session {

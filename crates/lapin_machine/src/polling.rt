@@ -1,8 +1,8 @@
 //! Polls: the answer of a ticket and the outcome of a confirm, each given once; and the states.
 
-ghost use Rattle.std.specs.Prelude.{◌≡◌, not};
+ghost use Rattle.std.specs.Prelude.{◌≡◌, OnErr, not};
 ghost use Rattle.lapin_types.specs.declared.event.Event.TheVariants as event;
-ghost use Rattle.lapin_machine.specs.World.{told_by, next};
+ghost use Rattle.lapin_machine.specs.World.{told_by, next, aside_record as aside_record_lem};
 ghost use Rattle.lapin_machine.specs.Told.{ticket_record as ticket_record_lem, confirm_record as confirm_record_lem, is_pending_record};
 
 use crate::session::Session;
@@ -39,6 +39,19 @@ impl Session {
         }
     }
 
+    /// Sets a ticket aside: its answer, there or to come, is dropped. It takes no memory.
+    ///
+    /// # Errors
+    /// `UnknownTicket` exactly where the ticket was never given, `AlreadyTaken` exactly where its answer was given or it was set
+    /// aside before. Nothing changes then.
+    pub fn set_aside_ticket(&mut self, number: u64) -> Result<(), Error>
+        ensures told { aside_record_lem result ≡ told_by self.old (event.AsideTicket number) }
+        ensures ok { self.new ≡ next self.old (event.AsideTicket number) }
+        ensures err { OnErr result (self.new ≡ self.old) }
+    {
+        self.desk.tickets.set_aside(number)
+    }
+
     /// Whether a poll of the ticket would not be pending.
     pub fn ticket_ready(&self, number: u64) -> bool
         ensures { result ≡ not (is_pending_record (told_by self.now (event.PollTicket number))) }
@@ -66,6 +79,13 @@ impl Session {
         ticket_record(self.poll_ticket(number))
     }
 
+    pub(crate) fn step_aside_ticket(&mut self, number: u64) -> Record
+        ensures told { result ≡ told_by self.old (event.AsideTicket number) }
+        ensures ok { self.new ≡ next self.old (event.AsideTicket number) }
+    {
+        aside_record(self.set_aside_ticket(number))
+    }
+
     pub(crate) fn step_poll_confirm(&mut self, number: u64) -> Record
         ensures told { result ≡ told_by self.old (event.PollConfirm number) }
         ensures ok { self.new ≡ next self.old (event.PollConfirm number) }
@@ -80,6 +100,15 @@ fn ticket_record(poll: Result<Poll<Result<Answer, Error>>, Error>) -> Record
     match poll {
         Ok(Poll::Ready(answer)) => Record::Answer(answer),
         Ok(Poll::Pending) => Record::Pending,
+        Err(error) => Record::Refused(error),
+    }
+}
+
+fn aside_record(aside: Result<(), Error>) -> Record
+    ensures { result ≡ aside_record_lem aside }
+{
+    match aside {
+        Ok(()) => Record::Aside,
         Err(error) => Record::Refused(error),
     }
 }

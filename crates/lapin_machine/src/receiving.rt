@@ -11,22 +11,26 @@ ghost use Rattle.lapin_history.specs.declared.broker_frames.Incoming.{Incoming a
 ghost use Rattle.lapin_history.specs.declared.broker_frames.Incoming.TheVariants.{Reply as ReplyFrame, Settlement as SettlementFrame, Flow as FlowFrame};
 ghost use Rattle.lapin_history.specs.Words.{is_some};
 ghost use Rattle.lapin_history.specs.Phases.{is_up};
-ghost use Rattle.lapin_history.specs.Answers.{refused, heard_up};
-ghost use Rattle.lapin_history.specs.Base.{state_of, hears_on as hears_on_lem, hears_reply, hears_down as hears_down_lem, phases_with};
+ghost use Rattle.lapin_history.specs.Unexpected.{refused};
+ghost use Rattle.lapin_history.specs.Hearing.{heard_up};
+ghost use Rattle.lapin_history.specs.Base.{state_of, hears_on as hears_on_lem};
+ghost use Rattle.lapin_history.specs.Reply.{hears_reply};
+ghost use Rattle.lapin_history.specs.ConnectionClose.{hears_down as hears_down_lem};
+ghost use Rattle.lapin_history.specs.Opening.{phases_with};
 ghost use Rattle.lapin_machine.specs.World.{told_by, next, hearing, sight_of, settlement_told};
 ghost use Rattle.lapin_machine.specs.Told.{HeardTold, WasHeard};
 ghost use Rattle.lapin_machine.specs.Numbers.{HasCause, HasNumbers};
 
 use crate::channel::Heard;
 use crate::closing::{begin_close, go_down};
-use crate::session::{Session, is_open, set_phase};
+use crate::session::{Session, is_open};
 use lapin_history::{
     Closer, Incoming, Link, Phase, SettleKind, Settlement, class_of, hears, hears_close,
     hears_close_ok, hears_down, hears_on, method_of, opens, session_close, sort_frame,
     unexpected_close,
 };
 use lapin_outbox::Replies;
-use lapin_tables::ByChannel;
+use lapin_phases::Phases;
 use lapin_types::{
     Answer, ChannelMethod, Error, Frame, Method, NoMemory, Record, ReplyKind,
 };
@@ -123,11 +127,13 @@ impl Session {
         ensures numbers { HasNumbers result }
     {
         if !hears_down(self.link, &incoming) {
+            drop(incoming);
             return Ok(Heard::Passed);
         }
         match incoming {
             Incoming::ConnectionClose(code) => self.hear_connection_close(alloc, code),
-            _ => {
+            other => {
+                drop(other);
                 self.hear_connection_close_ok();
                 Ok(Heard::Received)
             }
@@ -151,7 +157,7 @@ impl Session {
         let error = Error::ProtocolError(505);
         go_down(
             &mut self.link,
-            &self.phases,
+            &mut self.phases,
             &mut self.desk,
             &mut self.confirms,
             replies,
@@ -172,9 +178,11 @@ impl Session {
         ensures same { result ≡ false → self.new ≡ self.old }
     {
         if !hears(kind, self.channel_state(channel)) {
+            drop(answer);
             return false;
         }
         let Some(request) = self.desk.replies.take_first(channel, kind) else {
+            drop(answer);
             return false;
         };
         phase_replied(&mut self.phases, channel, kind);
@@ -192,7 +200,7 @@ impl Session {
             return Ok(Heard::Received);
         }
         self.desk.outbox.reserve(alloc)?;
-        set_phase(&mut self.phases, channel, Phase::Open { paused: !active });
+        self.phases.set(channel, Phase::Open { paused: !active });
         let method = Method::Channel(ChannelMethod::FlowOk { active });
         self.desk.note(alloc, channel, method);
         Ok(Heard::Received)
@@ -295,11 +303,11 @@ impl Session {
 }
 
 // `channel.open-ok` opens its channel.
-fn phase_replied(phases: &mut ByChannel<Phase>, channel: u16, kind: ReplyKind)
+fn phase_replied(phases: &mut Phases, channel: u16, kind: ReplyKind)
     requires { is_some (at_channel channel phases.old.entries) ≡ true }
     ensures { phases.new.entries ≡ phases_with channel kind phases.old.entries }
 {
     if opens(kind) {
-        set_phase(phases, channel, Phase::Open { paused: false });
+        phases.set(channel, Phase::Open { paused: false });
     }
 }

@@ -2,31 +2,26 @@
 //!
 //! The session comes here once it knows that the frame is heard. What an end drops and resolves stands in `lapin_desk`.
 
-ghost use Rattle.std.specs.Prelude.{◌≡◌, ◌≤◌, ◌++◌, true, false, [], Some, None, Err, if◌then◌else◌};
-ghost use Rattle.std.specs.List.{fold};
+ghost use Rattle.std.specs.Prelude.{◌≡◌, true, false, Some, None};
 ghost use Rattle.lapin_tables.specs.ByChannel.{on_channel};
 ghost use Rattle.lapin_types.specs.declared.record.Record.TheVariants.{Received};
-ghost use Rattle.lapin_types.specs.declared.request.ReplyKind.TheVariants.{ChannelCloseOk as CloseOkKind};
 ghost use Rattle.lapin_history.specs.declared.broker_frames.Incoming.TheVariants.{ChannelClose as ChannelCloseFrame, ChannelCloseOk as ChannelCloseOkFrame, ConnectionClose as ConnectionCloseFrame, ConnectionCloseOk as ConnectionCloseOkFrame};
 ghost use Rattle.lapin_history.specs.Requests.{first_request, without_kind, no_requests, ticket_of as ticket_of_lem};
-ghost use Rattle.lapin_history.specs.Phases.{is_up, has_sent_close as has_sent_close_lem};
-ghost use Rattle.lapin_history.specs.Base.{state_of, phase_of, hears_close as hears_close_lem, hears_close_ok as hears_close_ok_lem, unless_sent, has_sent};
-ghost use Rattle.lapin_history.specs.Closes.{close_ok_end as close_ok_end_lem};
-ghost use Rattle.lapin_history.specs.Drops.{without_channel, publish_tickets_of, rest_tickets_of, method_tickets_of};
-ghost use Rattle.lapin_history.specs.Marked.{failures, request_tickets, resolved_with};
+ghost use Rattle.lapin_history.specs.Phases.{is_up};
+ghost use Rattle.lapin_history.specs.ChannelClose.{has_sent_close as has_sent_close_lem};
+ghost use Rattle.lapin_history.specs.Base.{state_of, phase_of};
+ghost use Rattle.lapin_history.specs.ChannelClose.{hears_close as hears_close_lem, hears_close_ok as hears_close_ok_lem};
+ghost use Rattle.lapin_history.specs.ConnectionClose.{unless_sent, has_sent};
+ghost use Rattle.lapin_history.specs.ChannelClose.{close_ok_end as close_ok_end_lem};
 ghost use Rattle.lapin_outbox.specs.Open.{requests_at};
-ghost use Rattle.lapin_confirm.specs.Book as book;
-ghost use Rattle.lapin_ticket.specs.Desk as answers;
-ghost use Rattle.lapin_desk.specs.Queued.{AreQueued};
-ghost use Rattle.lapin_machine.specs.Kept.{kept_requests, is_close_sent as is_close_sent_lem};
+ghost use Rattle.lapin_machine.specs.Kept.{kept_request, with_kept, is_close_sent as is_close_sent_lem};
 ghost use Rattle.lapin_machine.specs.World.{hearing};
 ghost use Rattle.lapin_machine.specs.Told.{HeardTold, WasHeard};
 ghost use Rattle.lapin_machine.specs.Numbers.{HasNumbers};
 
 use crate::channel::Heard;
 use crate::closing::go_down;
-use crate::session::{Session, set_phase};
-use lapin_confirm::Confirms;
+use crate::session::Session;
 use lapin_desk::Desk;
 use lapin_history::{Link, Phase, after_broker_close, close_ok_end, has_sent_close};
 use lapin_outbox::Replies;
@@ -49,10 +44,12 @@ impl Session {
         let phase = self.phase(channel);
         self.desk.outbox.reserve(alloc)?;
         self.desk.replies.reserve(alloc, channel)?;
+        let close = kept_close(&mut self.desk.replies, channel, phase);
+        let kept = ticket_of(&close);
         let error = Error::ProtocolError(code);
-        let close = end_but_close(&mut self.desk, &mut self.confirms, channel, error);
-        set_phase(&mut self.phases, channel, after_broker_close(phase));
-        keep_or_fail(&mut self.desk, alloc, channel, close, phase, error);
+        self.desk.end_opening(&mut self.confirms, channel, kept, error);
+        self.phases.set(channel, after_broker_close(phase));
+        keep(&mut self.desk.replies, alloc, channel, close);
         self.desk
             .note(alloc, channel, Method::Channel(ChannelMethod::CloseOk));
         Ok(Heard::Received)
@@ -77,9 +74,9 @@ impl Session {
         ensures { self.new ≡ hearing (ChannelCloseOkFrame channel) Received self.old }
     {
         let close = take_request(&mut self.desk.replies, channel, ReplyKind::ChannelCloseOk);
-        self.desk.resolve(ticket_of(close), Ok(Answer::Done));
-        self.desk.end_opening(&mut self.confirms, channel, error);
-        set_phase(&mut self.phases, channel, Phase::Closed);
+        self.desk.resolve(into_ticket(close), Ok(Answer::Done));
+        self.desk.end_opening(&mut self.confirms, channel, None, error);
+        self.phases.set(channel, Phase::Closed);
     }
 
     // A crossed close ended the opening before.
@@ -89,8 +86,8 @@ impl Session {
         ensures { self.new ≡ hearing (ChannelCloseOkFrame channel) Received self.old }
     {
         let close = take_request(&mut self.desk.replies, channel, ReplyKind::ChannelCloseOk);
-        set_phase(&mut self.phases, channel, Phase::Closed);
-        self.desk.resolve(ticket_of(close), Ok(Answer::Done));
+        self.phases.set(channel, Phase::Closed);
+        self.desk.resolve(into_ticket(close), Ok(Answer::Done));
     }
 
     // The broker closes the connection, which is open, or which this side is closing: close-ok is queued. Where this side's close
@@ -113,7 +110,7 @@ impl Session {
         let replies = Replies::new(alloc)?;
         go_down(
             &mut self.link,
-            &self.phases,
+            &mut self.phases,
             &mut self.desk,
             &mut self.confirms,
             replies,
@@ -134,54 +131,29 @@ impl Session {
         let close = take_request(&mut self.desk.replies, 0, ReplyKind::ConnectionCloseOk);
         drop_unsent(self.link, &mut self.desk);
         self.link = Link::Closed;
-        self.desk.resolve(ticket_of(close), Ok(Answer::Done));
+        self.desk.resolve(into_ticket(close), Ok(Answer::Done));
     }
 }
 
-// An opening ends. The request of this side's close, if there is one, is taken out and not resolved.
-fn end_but_close(
-    desk: &mut Desk,
-    confirms: &mut Confirms,
-    channel: u16,
-    error: Error,
-) -> Option<Request>
-    requires queued { AreQueued confirms.old.book.cells desk.old.outbox.lists.publishes }
-    ensures close { result ≡ first_request CloseOkKind (requests_at channel desk.old.replies.waiting) }
-    ensures lists { desk.new.outbox.lists ≡ without_channel channel desk.old.outbox.lists }
-    ensures requests { desk.new.replies.waiting ≡ on_channel channel no_requests desk.old.replies.waiting }
-    ensures slots { desk.new.tickets.slots ≡ fold answers.after_mark desk.old.tickets.slots (failures error
-        (publish_tickets_of channel desk.old.outbox.lists.publishes ++ (rest_tickets_of channel desk.old.outbox.lists.rest ++
-        (method_tickets_of channel desk.old.outbox.lists.methods ++ request_tickets (without_kind CloseOkKind (requests_at channel desk.old.replies.waiting)))))) }
-    ensures book { confirms.new.book ≡ book.ended channel error confirms.old.book }
-    ensures queued { AreQueued confirms.new.book.cells desk.new.outbox.lists.publishes }
-    ensures frame_max { desk.new.outbox.frame_max ≡ desk.old.outbox.frame_max }
-    ensures room { (desk.old.outbox.spare ≤ desk.new.outbox.spare) × (desk.new.replies.ready ≡ desk.old.replies.ready) }
-{
-    let close = take_request(&mut desk.replies, channel, ReplyKind::ChannelCloseOk);
-    desk.end_opening(confirms, channel, error);
-    close
-}
-
-// Crossed closes leave the request of this side's close open, in the room that was made; else its ticket fails.
-fn keep_or_fail(
-    desk: &mut Desk,
-    alloc: Global,
-    channel: u16,
-    close: Option<Request>,
-    phase: Phase,
-    error: Error,
-)
-    requires { desk.old.replies.ready ≡ Some channel }
-    ensures requests { desk.new.replies.waiting ≡ kept_requests channel (has_sent_close_lem phase) close desk.old.replies.waiting }
-    ensures slots { desk.new.tickets.slots ≡ fold answers.after_mark desk.old.tickets.slots (if has_sent_close_lem phase then [] else resolved_with (Err error) (ticket_of_lem close)) }
-    ensures outbox { desk.new.outbox ≡ desk.old.outbox }
+// Where this side's close of a channel has left, its request is taken out, to be kept.
+fn kept_close(replies: &mut Replies, channel: u16, phase: Phase) -> Option<Request>
+    ensures close { result ≡ kept_request (has_sent_close_lem phase) (requests_at channel replies.old.waiting) }
+    ensures emptied { on_channel channel no_requests replies.new.waiting ≡ on_channel channel no_requests replies.old.waiting }
+    ensures ready { replies.new.ready ≡ replies.old.ready }
 {
     if !has_sent_close(phase) {
-        desk.resolve(ticket_of(close), Err(error));
-        return;
+        return None;
     }
+    take_request(replies, channel, ReplyKind::ChannelCloseOk)
+}
+
+// A request that is kept is open again, in the room that was made.
+fn keep(replies: &mut Replies, alloc: Global, channel: u16, close: Option<Request>)
+    requires { replies.old.ready ≡ Some channel }
+    ensures { replies.new.waiting ≡ with_kept channel close replies.old.waiting }
+{
     if let Some(request) = close {
-        desk.replies.expect(alloc, channel, request).unwrap();
+        replies.expect(alloc, channel, request).unwrap();
     }
 }
 
@@ -214,8 +186,21 @@ fn is_close_sent(link: Link) -> bool
 }
 
 // The ticket of a request, if there is a request and somebody holds its ticket.
-fn ticket_of(request: Option<Request>) -> Option<u64>
+fn ticket_of(request: &Option<Request>) -> Option<u64>
+    ensures { result ≡ ticket_of_lem request.now }
+{
+    match request {
+        Some(request) => request.ticket,
+        None => None,
+    }
+}
+
+// The same, where the request is not needed any more.
+fn into_ticket(request: Option<Request>) -> Option<u64>
     ensures { result ≡ ticket_of_lem request }
 {
-    request?.ticket
+    match request {
+        Some(request) => request.into_ticket(),
+        None => None,
+    }
 }

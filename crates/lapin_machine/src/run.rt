@@ -38,7 +38,10 @@ fn run_events(
     ensures err { OnErr result (IsStarted trace.old.items trace.new.items (outputs session.old events.items)) }
 {
     for event in events {
-        trace.reserve(1)?;
+        if trace.reserve(1).is_err() {
+            drop(event);
+            return Err(NoMemory);
+        }
         match session.step(alloc, event) {
             Ok(record) => trace.push_reserved(record),
             Err(Error::NoMemory) => return Err(NoMemory),

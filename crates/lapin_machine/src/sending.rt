@@ -3,22 +3,26 @@
 ghost use Rattle.std.specs.Prelude.{◌≡◌, ◌&&◌, Some, IfOk, OnOk, OnErr};
 ghost use Rattle.std.specs.List.{fold, list_any};
 ghost use Rattle.lapin_types.specs.declared.event.Event.TheVariants as event;
-ghost use Rattle.lapin_history.specs.Base.{handed, handed_out, is_paused_on, link_sent, phases_sent};
-ghost use Rattle.lapin_history.specs.Answers.{frame_record as frame_record_lem};
-ghost use Rattle.lapin_history.specs.Marked.{left_marks, left_tickets, frame_marks};
+ghost use Rattle.lapin_history.specs.Handing.{handed, handed_out};
+ghost use Rattle.lapin_history.specs.Flow.{is_paused_on};
+ghost use Rattle.lapin_history.specs.ConnectionClose.{link_sent};
+ghost use Rattle.lapin_history.specs.ChannelClose.{phases_sent};
+ghost use Rattle.lapin_history.specs.Handing.{frame_record as frame_record_lem};
+ghost use Rattle.lapin_history.specs.Handing.{left_marks, frame_marks};
 ghost use Rattle.lapin_confirm.specs.Book as book;
-ghost use Rattle.lapin_ticket.specs.Desk as desk;
 ghost use Rattle.lapin_tables.specs.ByChannel.{on_channel};
-ghost use Rattle.lapin_history.specs.Phases.{close_sent as close_sent_lem, is_up};
+ghost use Rattle.lapin_history.specs.ChannelClose.{close_sent as close_sent_lem};
+ghost use Rattle.lapin_history.specs.Phases.{is_up};
+ghost use Rattle.lapin_history.specs.Base.{is_closing as is_closing_lem};
+ghost use Rattle.lapin_history.specs.Phases.{channel_state};
 ghost use Rattle.lapin_machine.specs.World.{told_by, next, handing};
 ghost use Rattle.lapin_machine.specs.Numbers.{HasCause, OnlyMemory};
 ghost use Rattle.lapin_machine.specs.Tied.{CanRegister};
 
 use crate::session::Session;
 use lapin_confirm::Confirms;
-use lapin_history::{Link, Phase, close_sent, link_close_sent, resolved};
-use lapin_tables::ByChannel;
-use lapin_ticket::Tickets;
+use lapin_history::{Link, Phase, close_sent, link_close_sent};
+use lapin_phases::Phases;
 use lapin_types::{
     ChannelMethod, ConfirmMethod, ConnectionMethod, Error, Frame, Left, Method, Record,
 };
@@ -37,7 +41,7 @@ impl Session {
         ensures err { OnErr result (self.new ≡ self.old) }
         ensures cause { OnlyMemory result }
     {
-        let may_begin = flow && !self.is_paused();
+        let may_begin = flow && !self.phases.is_any_paused();
         self.hand_out(alloc, may_begin)
     }
 
@@ -51,20 +55,13 @@ impl Session {
         match self.desk.outbox.pop(alloc, may_begin)? {
             Some(left) => {
                 confirms_left(&mut self.confirms, &left);
-                tickets_left(&mut self.desk.tickets, &left);
+                self.desk.leave(&left);
                 link_left(&mut self.link, &left.frame);
                 phases_left(&mut self.phases, &left.frame);
                 Ok(Some(left))
             }
             None => Ok(None),
         }
-    }
-
-    // Whether the broker paused an open channel: then no publish begins.
-    fn is_paused(&self) -> bool
-        ensures { result ≡ (is_up self.now.base.link && list_any is_paused_on self.now.base.phases) }
-    {
-        self.link.is_up() && is_any_paused(self.phases.entries())
     }
 
     pub(crate) fn step_next(&mut self, alloc: Global, flow: bool) -> Result<Record, Error>
@@ -75,12 +72,6 @@ impl Session {
     {
         Ok(frame_record(self.next_frame(alloc, flow)?))
     }
-}
-
-fn is_any_paused(phases: &[(u16, Phase)]) -> bool
-    ensures { result ≡ list_any is_paused_on phases.now }
-{
-    phases.iter().any(|entry| entry.1.is_paused())
 }
 
 fn frame_record(left: Option<Left>) -> Record
@@ -114,15 +105,6 @@ fn select_left(confirms: &mut Confirms, frame: &Frame)
     }
 }
 
-// The last frame of a publish resolves its ticket.
-fn tickets_left(tickets: &mut Tickets, left: &Left)
-    ensures { tickets.new.slots ≡ fold desk.after_mark tickets.old.slots (left_tickets (Some left.now)) }
-{
-    if let Some((ticket, answer)) = resolved(left) {
-        tickets.answer(ticket, Ok(answer));
-    }
-}
-
 // A close of the connection is known to have left.
 fn link_left(link: &mut Link, frame: &Frame)
     ensures { link.new ≡ link_sent frame.now link.old }
@@ -133,7 +115,7 @@ fn link_left(link: &mut Link, frame: &Frame)
 }
 
 // A close of a channel is known to have left.
-fn phases_left(phases: &mut ByChannel<Phase>, frame: &Frame)
+fn phases_left(phases: &mut Phases, frame: &Frame)
     ensures { phases.new.entries ≡ phases_sent frame.now phases.old.entries }
 {
     if let Frame::Method(channel, Method::Channel(ChannelMethod::Close { .. })) = frame {
@@ -141,10 +123,18 @@ fn phases_left(phases: &mut ByChannel<Phase>, frame: &Frame)
     }
 }
 
-fn phase_left(phases: &mut ByChannel<Phase>, channel: u16)
+fn phase_left(phases: &mut Phases, channel: u16)
     ensures { phases.new.entries ≡ on_channel channel close_sent_lem phases.old.entries }
 {
-    if let Some(phase) = phases.get_mut(channel) {
-        *phase = close_sent(*phase);
+    let phase = phases.get(channel);
+    if is_closing(phase) {
+        phases.set(channel, close_sent(phase));
     }
+}
+
+// Whether this side is closing the channel.
+fn is_closing(phase: Phase) -> bool
+    ensures { result ≡ is_closing_lem (channel_state phase) }
+{
+    matches!(phase, Phase::Closing { .. })
 }

@@ -5,11 +5,9 @@
 
 ghost use Rattle.std.specs.Prelude.{◌≡◌, ◌≤◌, ◌++◌, ◌∷◌, [], List, ℕ, None, IfOk, OnOk, OnErr};
 ghost use Rattle.lapin_types.specs.declared.event.Event.TheVariants as event;
-ghost use Rattle.lapin_history.specs.Base.{state_of, phase_of, is_open as is_open_lem, is_closed as is_closed_lem, is_base as is_base_lem};
+ghost use Rattle.lapin_history.specs.Base.{lists_of, state_of, phase_of, is_open as is_open_lem, is_closed as is_closed_lem, is_base as is_base_lem};
 ghost use Rattle.lapin_history.specs.Phases.{connection_state as connection_state_lem};
 ghost use Rattle.lapin_history.specs.History.{History, rec};
-ghost use Rattle.lapin_tables.specs.ByChannel.{at_channel, HasRoom};
-ghost use Rattle.lapin_history.specs.Words.{with_channel};
 ghost use Rattle.lapin_machine.specs.World.{told_by, next, new_world};
 ghost use Rattle.lapin_machine.specs.Numbers.{HasCause};
 ghost use Rattle.lapin_machine.specs.Stands.{Stands};
@@ -18,7 +16,7 @@ use lapin_confirm::Confirms;
 use lapin_desk::Desk;
 use lapin_history::{Link, Phase};
 use lapin_outbox::{Outbox, Replies};
-use lapin_tables::ByChannel;
+use lapin_phases::Phases;
 use lapin_ticket::Tickets;
 use lapin_types::{Call, ChannelState, ConnectionState, Error, Event, NoMemory, Record};
 use std::alloc::Global;
@@ -29,7 +27,7 @@ use std::marker::Model;
 #[derive(Drop)]
 pub struct Session {
     pub(crate) link: Link,
-    pub(crate) phases: ByChannel<Phase>,
+    pub(crate) phases: Phases,
     pub(crate) desk: Desk,
     pub(crate) confirms: Confirms,
 }
@@ -72,11 +70,14 @@ impl Session {
     /// `NoMemory` alone.
     pub fn new(alloc: Global, frame_max: u32) -> Result<Session, NoMemory>
         requires { 4096 ≤ frame_max }
-        ensures { IfOk result (λ session. session ≡ new_world frame_max) }
+        ensures value { IfOk result (λ session. session ≡ new_world frame_max) }
+
+        // It stands for the history in which nothing happened.
+        ensures stands { IfOk result (λ session. Stands frame_max [] session) }
     {
         Ok(Session {
             link: Link::Open,
-            phases: ByChannel::new(alloc),
+            phases: Phases::new(alloc),
             desk: Desk {
                 outbox: Outbox::new(alloc, frame_max)?,
                 replies: Replies::new(alloc)?,
@@ -106,14 +107,33 @@ impl Session {
         self.link.state()
     }
 
+    /// The frames that wait to leave.
+    pub fn outbox(&self) -> &Outbox
+        ensures lists { result.now.lists ≡ lists_of self.now.base }
+        ensures frame_max { result.now.frame_max ≡ self.now.base.frame_max }
+    {
+        &self.desk.outbox
+    }
+
+    /// The open requests of each channel.
+    pub fn replies(&self) -> &Replies
+        ensures { result.now.waiting ≡ self.now.base.requests }
+    {
+        &self.desk.replies
+    }
+
+    /// The publishes that were accepted, each until its outcome was given.
+    pub fn confirms(&self) -> &Confirms
+        ensures { result.now.book ≡ self.now.book }
+    {
+        &self.confirms
+    }
+
     // Where a channel stands while the connection is open.
     pub(crate) fn phase(&self, channel: u16) -> Phase
         ensures { result ≡ phase_of channel self.now.base }
     {
-        match self.phases.get(channel) {
-            Some(phase) => *phase,
-            None => Phase::Closed,
-        }
+        self.phases.get(channel)
     }
 
     /// The one door over all events: its record, which the history determines.
@@ -146,22 +166,11 @@ impl Session {
             Event::Receive(frame) => self.step_receive(alloc, frame),
             Event::PollTicket(number) => Ok(self.step_poll_ticket(number)),
             Event::PollConfirm(number) => Ok(self.step_poll_confirm(number)),
+            Event::AsideTicket(number) => Ok(self.step_aside_ticket(number)),
             Event::State(channel) => Ok(self.step_state(channel)),
             Event::Lost => self.step_lost(alloc),
         }
     }
-}
-
-// Puts a channel where an open or a close leads it.
-pub(crate) fn set_phase(phases: &mut ByChannel<Phase>, channel: u16, phase: Phase)
-    requires { at_channel channel phases.old.entries ≡ None → HasRoom channel phases.old }
-    ensures { phases.new.entries ≡ with_channel channel phase phases.old.entries }
-{
-    if let Some(held) = phases.get_mut(channel) {
-        *held = phase;
-        return;
-    }
-    phases.insert_reserved(channel, phase);
 }
 
 pub(crate) fn is_open(state: ChannelState) -> bool

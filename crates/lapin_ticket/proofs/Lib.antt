@@ -1,4 +1,5 @@
 pub mod Failing
 pub mod Following
 pub mod Ending
+pub mod Walking
 pub mod Once

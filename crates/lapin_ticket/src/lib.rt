@@ -3,6 +3,8 @@
 //! Here lives what is kept of tickets, and nothing of what resolves them: the session says which ticket gets which answer.
 #![tactic(auto)]
 
+mod ends;
+
 ghost use Rattle.std.specs.Prelude.{◌≡◌, ℕ, ◌+◌, ◌^◌, ◌<◌, ◌++◌, ◌∷◌, true, false, List, [], length, map, not, is_ok, OnOk, MatchOption, Option, Some, None, Err, if◌then◌else◌};
 ghost use Rattle.lapin_tables.specs.Numbered.{under};
 ghost use Rattle.lapin_history.specs.TicketReadings.{TicketMark, answer_at, channel_of, answer_of, is_kept, is_awaited as is_unanswered};

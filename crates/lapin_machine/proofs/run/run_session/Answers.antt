@@ -25,11 +25,11 @@ returns-clause-ok c =
     let T : List Record → Type 0 = λ old. OnOk c.run_events.result (c.run_events.new.trace.items ≡ old ++ outputs c.in_ok-session.session c.args.events.items) in
     let P : World → Type 0 = λ w. OnOk c.run_events.result (c.run_events.new.trace.items ≡ c.args.trace.now.items ++ outputs w c.args.events.items) in
     let Q : List Record → Type 0 = λ rs. OnOk c.run_events.result (c.run_events.new.trace.items ≡ c.args.trace.now.items ++ rs) in
-    subst Q (outputs_run c.args.frame_max c.args.events.items) (subst P c.in_ok-session.ensures (subst T c.reserve_exact.ensures.items c.run_events.ensures.ok))
+    subst Q (outputs_run c.args.frame_max c.args.events.items) (subst P c.in_ok-session.ensures.value (subst T c.reserve_exact.ensures.items c.run_events.ensures.ok))
 
 pub returns-clause-err : goal.returns-clause-err
 returns-clause-err c =
     let T : List Record → Type 0 = λ old. OnErr c.run_events.result (IsStarted old c.run_events.new.trace.items (outputs c.in_ok-session.session c.args.events.items)) in
     let P : World → Type 0 = λ w. OnErr c.run_events.result (IsStarted c.args.trace.now.items c.run_events.new.trace.items (outputs w c.args.events.items)) in
     let Q : List Record → Type 0 = λ rs. OnErr c.run_events.result (IsStarted c.args.trace.now.items c.run_events.new.trace.items rs) in
-    subst Q (outputs_run c.args.frame_max c.args.events.items) (subst P c.in_ok-session.ensures (subst T c.reserve_exact.ensures.items c.run_events.ensures.err))
+    subst Q (outputs_run c.args.frame_max c.args.events.items) (subst P c.in_ok-session.ensures.value (subst T c.reserve_exact.ensures.items c.run_events.ensures.err))

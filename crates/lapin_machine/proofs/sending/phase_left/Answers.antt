@@ -1,15 +1,16 @@
-use Rattle.std.proofs.Common.{◌≡◌, ◌∙◌, refl, sym, ap}
-use Rattle.std.specs.Option.{option_copied_mut}
-use Rattle.lapin_tables.specs.ByChannel.{on_channel}
-use Rattle.lapin_history.specs.Phases.{close_sent}
+use Rattle.std.proofs.Common.{◌≡◌, ◌∙◌, sym, ap}
+use Rattle.lapin_tables.specs.ByChannel.{at_channel}
+use Rattle.lapin_history.specs.Phases.{channel_state}
+use Rattle.lapin_history.specs.Base.{is_closing}
 use Rattle.lapin_history.specs.declared.phases.Phase.{Phase}
-use Rattle.lapin_machine.proofs.Channels.{on_value, on_absent}
+use Rattle.lapin_machine.proofs.Channels.{closing_there, closing_left, others_left}
 use Rattle.lapin_machine.proofs.sending.phase_left.Goals as goal
 
-pub returns-in-Some : goal.returns-in-Some
-returns-in-Some c =
-    ap (λ (p : Phase). on_channel c.args.channel (λ _. p) c.args.phases.now.entries) c.close_sent.ensures
-    ∙ on_value c.args.channel close_sent c.in-Some.phase.now c.args.phases.now.entries (sym c.get_mut.follows ∙ ap option_copied_mut c.in-Some.is)
+pub set-requires : goal.set-requires
+set-requires c = closing_there (at_channel c.args.channel c.args.phases.now.entries) (ap (λ (p : Phase). is_closing (channel_state p)) (sym c.get-phase.ensures) ∙ sym c.is_closing.ensures ∙ c.if-is_closing.true)
 
-pub returns-in_default : goal.returns-in_default
-returns-in_default c = sym (on_absent c.args.channel close_sent c.args.phases.now.entries (sym c.get_mut.follows ∙ ap option_copied_mut c.in_default.is))
+pub returns-then-is_closing : goal.returns-then-is_closing
+returns-then-is_closing c = c.set.ensures ∙ closing_left c.args.channel c.get-phase.result _ c.args.phases.now.entries c.get-phase.ensures (sym c.is_closing.ensures ∙ c.if-is_closing.true) c.close_sent.ensures
+
+pub returns : goal.returns
+returns c = others_left c.args.channel c.get-phase.result c.args.phases.now.entries c.get-phase.ensures (sym c.is_closing.ensures ∙ c.if-is_closing.false)

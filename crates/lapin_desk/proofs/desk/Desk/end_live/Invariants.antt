@@ -1,18 +1,19 @@
-use Rattle.std.proofs.Common.{◌≡◌, ◌≤◌, drop}
+use Rattle.std.proofs.Common.{◌≡◌, ◌≤◌, ◌-◌}
 use Rattle.std.specs.List.{fold}
-use Rattle.lapin_history.specs.Marked.{ends}
-use Rattle.lapin_history.specs.TicketReadings.{AllFailed}
-use Rattle.lapin_ticket.specs.Desk as desk
+use Rattle.lapin_history.specs.Ends.{ends, live_below}
 use Rattle.lapin_confirm.specs.Book as book
 use Rattle.lapin_desk.specs.Queued.{AreQueued}
 use Rattle.lapin_desk.proofs.desk.Desk.end_live.Given as goal
 
-abbrev pub invariant-loop-channel : goal.invariant-loop-channel
-invariant-loop-channel l = record {
-  slots : desk.after_mark l.self.tickets.slots (AllFailed l.error) ≡ desk.after_mark l.initial.self.tickets.slots (AllFailed l.error);
-  book : fold book.after_mark l.confirms.book (ends l.error (drop l.channel-index l.phases)) ≡ fold book.after_mark l.initial.confirms.book (ends l.error l.phases);
+abbrev pub invariant-loop-number : goal.invariant-loop-number
+invariant-loop-number l = record {
+  within : l.number ≤ l.reach;
+  book : l.confirms.book ≡ fold book.after_mark l.initial.confirms.book (ends l.error (live_below l.number l.phases.entries));
   queued : AreQueued l.confirms.book.cells l.self.outbox.lists.publishes;
+  tickets : l.self.tickets ≡ l.initial.self.tickets;
   frame_max : l.self.outbox.frame_max ≡ l.initial.self.outbox.frame_max;
   outbox_room : l.initial.self.outbox.spare ≤ l.self.outbox.spare;
-  ticket_room : l.self.tickets.spare ≡ l.initial.self.tickets.spare;
 }
+
+abbrev pub decreases-loop-number : goal.decreases-loop-number
+decreases-loop-number l = l.reach - l.number

@@ -1,5 +1,4 @@
 use Rattle.std.proofs.Common.{◌≡◌, ◌∙◌, refl, sym, ap, subst, length, ℕ, ◌+◌, List, Option, Some}
-use Rattle.std.specs.List.{fold}
 use Rattle.lapin_types.specs.declared.call.Call.TheVariants as call
 use Rattle.lapin_types.specs.declared.event.Event.TheVariants as event
 use Rattle.lapin_types.specs.declared.request.Reply.TheVariants as reply
@@ -7,16 +6,15 @@ use Rattle.lapin_types.specs.Types.method
 use Rattle.lapin_types.specs.Types.channel
 use Rattle.lapin_history.specs.declared.phases.Closer.TheVariants as closer
 use Rattle.lapin_history.specs.Leaving.{Lists}
-use Rattle.lapin_history.specs.Drops.{unbegun, publish_tickets_of, without_publishes_of}
-use Rattle.lapin_history.specs.Closes.{failed_at_close}
-use Rattle.lapin_history.specs.Marked.{failures, rejections}
+use Rattle.lapin_history.specs.Drops.{without_publishes_of}
+use Rattle.lapin_history.specs.ChannelClose.{failed_at_close}
+use Rattle.lapin_history.specs.TicketReadings as mark
 use Rattle.lapin_history.specs.Base.{is_open, state_of, requests_with}
 use Rattle.lapin_outbox.specs.Open.{OpenRequests}
 use Rattle.lapin_outbox.specs.Outgoing.{with_method}
 use Rattle.lapin_ticket.specs.declared.Slot.{Slot}
-use Rattle.lapin_ticket.specs.Desk as answers
+use Rattle.lapin_ticket.specs.Desk.{after_mark}
 use Rattle.lapin_confirm.specs.Book.{Book}
-use Rattle.lapin_confirm.specs.Book as book
 use Rattle.lapin_desk.specs.Queued.{AreQueued}
 use Rattle.lapin_machine.specs.World.{World, next}
 use Rattle.lapin_machine.proofs.Keeping.{tied_closing, tied_by, open_opening}
@@ -29,7 +27,7 @@ invariant_of-self-2 c =
     let here = open_opening c.self.inside.link c.args.channel c.self.inside.phases.entries open_ in
     let Q : Book → Type 0 = λ k. AreQueued k.cells c.begin_close.new.desk.outbox.lists.publishes in
     tied_by _ _ _ _ _ _ _ _ refl c.begin_close.ensures.phases (ap (λ (l : Lists). l.publishes) c.queue-number.ensures.lists) c.begin_close.ensures.book
-    (tied_closing c.self.inside.link c.args.channel closer.Application (failed_at_close closer.Application) (unbegun c.args.channel c.reserve.new.self.outbox.lists.publishes) c.self.inside.phases.entries _ _ c.self.inside.confirms.book here.up here.some
+    (tied_closing c.self.inside.link c.args.channel closer.Application (failed_at_close closer.Application) c.self.inside.phases.entries _ _ c.self.inside.confirms.book here.up here.some
     (subst Q c.begin_close.ensures.book c.begin_close.ensures.queued) c.self.invariant)
 
 pub returns-clause-ok : goal.returns-clause-ok
@@ -41,12 +39,10 @@ returns-clause-ok c =
     ∙ channel_close_seen c.self.inside.desk.outbox.frame_max c.self.inside.link c.self.inside.phases.entries c.self.inside.desk.outbox.lists c.self.inside.desk.replies.waiting c.self.inside.desk.tickets.slots c.self.inside.confirms.book c.args.channel c.args.reply_code c.args.reply_text _ _ _ c.begin_close.new.desk.tickets.slots _ _
     open_
     c.begin_close.ensures.phases
-    (c.begin_close.ensures.slots
-    ∙ ap (λ (y : List (Option Slot)). fold answers.after_mark y (failures (failed_at_close closer.Application) (publish_tickets_of c.args.channel c.reserve.new.self.outbox.lists.publishes))) c.reserve.ensures.same.slots
-    ∙ ap (λ (y : Lists). fold answers.after_mark c.self.inside.desk.tickets.slots (failures (failed_at_close closer.Application) (publish_tickets_of c.args.channel y.publishes))) lists)
+    (c.begin_close.ensures.slots ∙ ap (λ (y : List (Option Slot)). after_mark y (mark.ClosedHere c.args.channel (failed_at_close closer.Application))) c.reserve.ensures.same.slots)
     (c.queue-number.ensures.lists
     ∙ ap (with_method (record { channel = c.args.channel; method = method.Channel (channel.Close c.args.reply_code c.args.reply_text 0 0); ticket = Some number })) (c.begin_close.ensures.lists ∙ ap (without_publishes_of c.args.channel) lists))
     (c.queue-number.ensures.requests ∙ ap (requests_with c.args.channel number (Some reply.ChannelCloseOk)) (ap (λ (r : OpenRequests). r.waiting) c.begin_close.ensures.requests ∙ c.reserve.ensures.same.requests))
     c.queue-number.ensures.slots
-    (c.begin_close.ensures.book ∙ ap (λ (y : Lists). fold book.after_mark c.self.inside.confirms.book (rejections (failed_at_close closer.Application) (unbegun c.args.channel y.publishes))) lists)
+    c.begin_close.ensures.book
     ∙ ap (λ (w : World). next w (event.Call c.args.channel (call.ChannelClose c.args.reply_code c.args.reply_text))) c.self.view_is

@@ -1,5 +1,4 @@
 use Rattle.std.proofs.Common.{◌≡◌, ◌∙◌, refl, sym, ap, subst, length, ℕ, List, Option, None}
-use Rattle.std.specs.List.{fold}
 use Rattle.lapin_types.specs.declared.record.Record.TheVariants as record_
 use Rattle.lapin_types.specs.Types.{Method}
 use Rattle.lapin_types.specs.Types.error
@@ -7,16 +6,13 @@ use Rattle.lapin_tables.specs.Numbered.{Slots}
 use Rattle.lapin_history.specs.declared.broker_frames.Incoming.TheVariants as incoming
 use Rattle.lapin_history.specs.declared.phases.Closer.TheVariants as closer
 use Rattle.lapin_history.specs.Leaving.{Lists}
-use Rattle.lapin_history.specs.Drops.{unbegun, publish_tickets_of, without_publishes_of}
-use Rattle.lapin_history.specs.Closes.{failed_at_close}
-use Rattle.lapin_history.specs.Marked.{failures, rejections}
+use Rattle.lapin_history.specs.Drops.{without_publishes_of}
+use Rattle.lapin_history.specs.ChannelClose.{failed_at_close}
 use Rattle.lapin_history.specs.Base.{is_open, state_of}
 use Rattle.lapin_outbox.specs.Open.{OpenRequests}
 use Rattle.lapin_outbox.specs.Outgoing.{with_method}
 use Rattle.lapin_ticket.specs.declared.Slot.{Slot}
-use Rattle.lapin_ticket.specs.Desk as answers
 use Rattle.lapin_confirm.specs.Book.{Book, single_of}
-use Rattle.lapin_confirm.specs.Book as book
 use Rattle.lapin_desk.specs.Queued.{AreQueued}
 use Rattle.lapin_machine.specs.World.{World, hearing}
 use Rattle.lapin_machine.proofs.Keeping.{tied_closing, tied_by, open_opening}
@@ -29,7 +25,7 @@ invariant_of-self-2 c =
     let here = open_opening c.self.inside.link c.args.channel c.self.inside.phases.entries open_ in
     let Q : Book → Type 0 = λ k. AreQueued k.cells c.begin_close.new.desk.outbox.lists.publishes in
     tied_by _ _ _ _ _ _ _ _ refl c.begin_close.ensures.phases (ap (λ (l : Lists). l.publishes) c.note.ensures.lists) c.begin_close.ensures.book
-    (tied_closing c.self.inside.link c.args.channel closer.Session (failed_at_close closer.Session) (unbegun c.args.channel c.reserve.new.self.lists.publishes) c.self.inside.phases.entries _ _ c.self.inside.confirms.book here.up here.some
+    (tied_closing c.self.inside.link c.args.channel closer.Session (failed_at_close closer.Session) c.self.inside.phases.entries _ _ c.self.inside.confirms.book here.up here.some
     (subst Q c.begin_close.ensures.book c.begin_close.ensures.queued) c.self.invariant)
 
 pub returns-clause-ok : goal.returns-clause-ok
@@ -43,7 +39,6 @@ returns-clause-ok c = λ tag current.
     (c.note.ensures.lists
     ∙ ap (with_method (record { channel = c.args.channel; method = c.in_ok-method.method; ticket = None })) (c.begin_close.ensures.lists ∙ ap (without_publishes_of c.args.channel) lists)
     ∙ ap (λ (k : Method). with_method (record { channel = c.args.channel; method = k; ticket = None }) (without_publishes_of c.args.channel c.self.inside.desk.outbox.lists)) c.in_ok-method.ensures)
-    (ap (λ (t : Slots Slot). t.slots) c.note.ensures.tickets ∙ c.begin_close.ensures.slots
-    ∙ ap (λ (y : Lists). fold answers.after_mark c.self.inside.desk.tickets.slots (failures (failed_at_close closer.Session) (publish_tickets_of c.args.channel y.publishes))) lists)
-    (c.begin_close.ensures.book ∙ ap (λ (y : Lists). fold book.after_mark c.self.inside.confirms.book (rejections (failed_at_close closer.Session) (unbegun c.args.channel y.publishes))) lists)
+    (ap (λ (t : Slots Slot). t.slots) c.note.ensures.tickets ∙ c.begin_close.ensures.slots)
+    c.begin_close.ensures.book
     ∙ ap (λ (w : World). hearing (incoming.Settlement c.args.channel (single_of c.args.kind tag)) (record_.Refused (error.PreconditionFailed tag current)) w) c.self.view_is

@@ -8,8 +8,8 @@ use Rattle.lapin_history.specs.Leaving.{Lists}
 use Rattle.lapin_history.specs.Phases.{is_up}
 use Rattle.lapin_types.specs.declared.request.ReplyKind.TheVariants as reply_kind
 use Rattle.lapin_history.specs.Requests.{first_request, ticket_of}
-use Rattle.lapin_history.specs.Marked.{resolved_with}
-use Rattle.lapin_history.specs.Base.{has_sent}
+use Rattle.lapin_history.specs.Requests.{resolved_with}
+use Rattle.lapin_history.specs.ConnectionClose.{has_sent}
 use Rattle.lapin_outbox.specs.Open.{OpenRequests, requests_at}
 use Rattle.lapin_outbox.specs.Outgoing.{Outgoing}
 use Rattle.lapin_ticket.specs.declared.Slot.{Slot}
@@ -23,7 +23,7 @@ pub invariant_of-self : goal.invariant_of-self
 invariant_of-self c =
     let down = ap (λ (w : World). is_up w.base.link) c.self.view_is ∙ c.requires in
     tied_by _ _ _ _ _ _ _ _ refl refl (ap (λ (o : Outgoing). o.lists.publishes) c.resolve.ensures.outbox ∙ ap (λ (l : Lists). l.publishes) c.drop_unsent.ensures.lists) refl
-    (tied_unless (has_sent c.self.inside.link) c.self.inside.desk.outbox.lists _ _ _ (tied_further c.self.inside.link _ _ _ _ down c.self.invariant))
+    (tied_unless (has_sent c.self.inside.link) c.self.inside.desk.outbox.lists c.self.inside.link _ _ _ down c.self.invariant)
 
 pub returns : goal.returns
 returns c =
@@ -33,6 +33,6 @@ returns c =
     (ap (λ (o : Outgoing). o.lists) c.resolve.ensures.outbox ∙ c.drop_unsent.ensures.lists)
     (ap (λ (r : OpenRequests). r.waiting) (c.resolve.ensures.replies ∙ c.drop_unsent.ensures.requests) ∙ c.take_request-close.ensures.waiting)
     (c.resolve.ensures.slots
-    ∙ ap (λ (t : Option ℕ). fold answers.after_mark c.drop_unsent.new.desk.tickets.slots (resolved_with (Ok answer.Done) t)) (c.ticket_of.ensures ∙ ap ticket_of c.take_request-close.ensures.taken)
+    ∙ ap (λ (t : Option ℕ). fold answers.after_mark c.drop_unsent.new.desk.tickets.slots (resolved_with (Ok answer.Done) t)) (c.into_ticket.ensures ∙ ap ticket_of c.take_request-close.ensures.taken)
     ∙ ap (λ (y : Slots Slot). fold answers.after_mark y.slots (resolved_with (Ok answer.Done) (ticket_of (first_request reply_kind.ConnectionCloseOk (requests_at 0 c.self.inside.desk.replies.waiting))))) c.drop_unsent.ensures.tickets)
     ∙ ap (λ (w : World). hearing incoming.ConnectionCloseOk record_.Received w) c.self.view_is

@@ -9,6 +9,6 @@ pub invariant_of-self-2 : goal.invariant_of-self-2
 invariant_of-self-2 c =
     let open_ = ap (λ (w : World). is_open (state_of c.args.channel w.base)) c.self.view_is ∙ sym (ap is_open c.channel_state.ensures) ∙ sym c.is_open.ensures ∙ c.if-not-is_open.false in
     let here = open_opening c.self.inside.link c.args.channel c.self.inside.phases.entries open_ in
-    tied_by _ _ _ _ _ _ _ _ refl c.set_phase.ensures
+    tied_by _ _ _ _ _ _ _ _ refl c.set.ensures
     (ap (λ (l : Lists). l.publishes) (c.note.ensures.lists) ∙ ap (λ (l : Lists). l.publishes) c.reserve.ensures.same) refl
     (tied_paused c.self.inside.link c.args.channel (not c.args.active) c.self.inside.phases.entries _ _ here c.self.invariant)

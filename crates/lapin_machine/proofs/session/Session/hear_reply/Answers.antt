@@ -1,5 +1,6 @@
 use Rattle.std.proofs.Common.{◌≡◌, ◌∙◌, sym, ap, refl}
-use Rattle.lapin_history.specs.Base.{hears, state_of}
+use Rattle.lapin_history.specs.Reply.{hears}
+use Rattle.lapin_history.specs.Base.{state_of}
 use Rattle.lapin_outbox.specs.Outgoing.{Outgoing}
 use Rattle.lapin_machine.specs.World.{World}
 use Rattle.lapin_machine.proofs.Keeping.{tied_replied, tied_by, reply_opening}

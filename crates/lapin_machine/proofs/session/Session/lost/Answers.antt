@@ -10,11 +10,11 @@ use Rattle.lapin_machine.proofs.session.Session.lost.Goals as goal
 
 pub invariant_of-self : goal.invariant_of-self
 invariant_of-self c =
-    tied_by _ _ _ _ _ _ _ _ refl refl (ap (λ (l : Lists). l.publishes) c.go_down.ensures.lists) c.go_down.ensures.book
+    tied_by _ _ _ _ _ _ _ _ refl c.go_down.ensures.phases (ap (λ (l : Lists). l.publishes) c.go_down.ensures.lists) c.go_down.ensures.book
     (tied_down c.self.inside.link c.go_down.new.link error.ConnectionLost _ _ _ c.self.invariant)
 
 pub returns-clause-ok : goal.returns-clause-ok
 returns-clause-ok c =
-    seen_is _ _ _ _ _ _ _ _ _ _ _ _ _ _ c.go_down.ensures.frame_max c.go_down.ensures.link refl c.go_down.ensures.lists (ap (λ (r : OpenRequests). r.waiting) (c.go_down.ensures.requests ∙ c.in_ok-replies.ensures)) c.go_down.ensures.slots c.go_down.ensures.book
+    seen_is _ _ _ _ _ _ _ _ _ _ _ _ _ _ c.go_down.ensures.frame_max c.go_down.ensures.link c.go_down.ensures.phases c.go_down.ensures.lists (ap (λ (r : OpenRequests). r.waiting) (c.go_down.ensures.requests ∙ c.in_ok-replies.ensures)) c.go_down.ensures.slots c.go_down.ensures.book
     ∙ lost_seen c.self.inside.desk.outbox.frame_max c.self.inside.link c.self.inside.phases.entries c.self.inside.desk.outbox.lists c.self.inside.desk.replies.waiting c.self.inside.desk.tickets.slots c.self.inside.confirms.book (sym c.is_lost.ensures ∙ c.if-is_lost.false)
     ∙ ap (λ (w : World). next w event.Lost) c.self.view_is

@@ -4,8 +4,11 @@ use Rattle.lapin_types.specs.Types.{Error}
 use Rattle.lapin_types.specs.Types.error
 use Rattle.lapin_history.specs.declared.broker_frames.Incoming.{Incoming}
 use Rattle.lapin_history.specs.declared.broker_frames.Incoming.TheVariants as incoming
-use Rattle.lapin_history.specs.Answers.{heard_up, refused, settlement_record, when}
-use Rattle.lapin_history.specs.Base.{hears_on, hears_close, hears_close_ok}
+use Rattle.lapin_history.specs.Hearing.{heard_up, when}
+use Rattle.lapin_history.specs.Unexpected.{refused}
+use Rattle.lapin_history.specs.Settlement.{settlement_record}
+use Rattle.lapin_history.specs.Base.{hears_on}
+use Rattle.lapin_history.specs.ChannelClose.{hears_close, hears_close_ok}
 use Rattle.lapin_machine.specs.declared.channel.Heard.{Heard}
 use Rattle.lapin_machine.specs.World.{World, hearing, sight_of}
 use Rattle.lapin_machine.specs.Told.{WasHeard}
