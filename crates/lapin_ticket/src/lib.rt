@@ -4,6 +4,7 @@
 #![tactic(auto)]
 
 mod ends;
+pub mod laws;
 
 ghost use Rattle.std.specs.Prelude.{◌≡◌, ℕ, ◌+◌, ◌^◌, ◌<◌, ◌++◌, ◌∷◌, true, false, List, [], length, map, not, is_ok, OnOk, MatchOption, Option, Some, None, Err, if◌then◌else◌};
 ghost use Rattle.lapin_tables.specs.Numbered.{under};
@@ -14,8 +15,6 @@ ghost use Rattle.lapin_ticket.specs.declared.Slot.{Slot as ASlot};
 ghost use Rattle.lapin_ticket.specs.declared.Slot.TheVariants as slot;
 ghost use Rattle.lapin_ticket.specs.Desk.{after_mark, polled, polled_slot, after_poll, laid, laid_slot, rejects, held_or, is_awaited, is_open_on, failed, failed_slot, closed_slot};
 ghost use Rattle.lapin_ticket.specs.Follows.{Follows, WasGiven};
-
-pub mod laws;
 
 use lapin_history::AtLeaving;
 use lapin_tables::Numbered;
