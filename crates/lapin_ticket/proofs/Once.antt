@@ -1,11 +1,10 @@
 -- What one more mark does to the answer of a ticket that was given.
-use Rattle.std.proofs.Common.{◌≡◌, ℕ, zero, suc, ◌≤◌, ◌<◌, ◌||◌, Bool, true, false, List, [], ◌∷◌, ◌++◌, Option, Some, None, Result, refl, ◌∙◌, ap, arith}
+use Rattle.std.proofs.Common.{◌≡◌, ℕ, zero, suc, ◌≤◌, ◌<◌, ◌||◌, true, false, List, [], ◌∷◌, ◌++◌, Some, Result, refl, ◌∙◌, ap, arith}
 use Rattle.std.specs.List.{list_any}
-use Rattle.std.specs.Option.{option_or}
 use Rattle.std.proofs.Math.Bool.{or-true}
 use Rattle.lapin_types.specs.declared.Error.{Error}
 use Rattle.lapin_types.specs.declared.answer.Answer.{Answer}
-use Rattle.lapin_history.specs.TicketReadings.{TicketMark, given, channel_of, leaving_of, life, answer_of, first_answer, is_collected, closes}
+use Rattle.lapin_history.specs.TicketReadings.{TicketMark, given, channel_of, leaving_of, life, answer_of, is_collected, closes}
 use Rattle.lapin_history.proofs.ListLaws.{any-push}
 use Rattle.lapin_history.proofs.TicketLaws.{answer-push, nth-push, life-push}
 use Rattle.lapin_ticket.specs.Follows.{WasGiven}
