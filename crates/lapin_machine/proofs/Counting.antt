@@ -179,6 +179,7 @@ has_number n w (event.Next flow) h u = absurd u
 has_number n w (event.Receive f) h u = absurd u
 has_number n w (event.PollTicket k) h u = absurd u
 has_number n w (event.PollConfirm k) h u = absurd u
+has_number n w (event.AsideTicket k) h u = absurd u
 has_number n w (event.State c) h u = absurd u
 has_number n w event.Lost h u = absurd u
 
