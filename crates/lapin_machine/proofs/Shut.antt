@@ -1,6 +1,5 @@
 -- No channel stands open once the connection does not: kept by every event.
-use Rattle.std.proofs.Common.{◌≡◌, ℕ, Bool, true, false, cond, not, ◌||◌, subst, List, [], ◌∷◌, Option, Some, None, refl, sym, ◌∙◌, ap, inl, inr}
-use Rattle.lapin_history.specs.declared.calls.Row.{Row}
+use Rattle.std.proofs.Common.{◌≡◌, ℕ, Bool, true, false, cond, not, ◌||◌, subst, [], Option, Some, None, refl, sym, ◌∙◌, ap, inl, inr}
 use Rattle.lapin_history.specs.declared.calls.Asked.{Asked}
 use Rattle.lapin_history.specs.declared.calls.Asked.TheVariants as ask
 use Rattle.lapin_history.specs.Calls.{asked}
@@ -9,7 +8,7 @@ use Rattle.lapin_types.specs.declared.event.Event.TheVariants as event
 use Rattle.lapin_types.specs.declared.record.Record.{Record}
 use Rattle.lapin_types.specs.declared.record.Record.TheVariants as record_
 use Rattle.lapin_types.specs.declared.leaving.Left.{Left}
-use Rattle.lapin_types.specs.Types.{Error, Frame}
+use Rattle.lapin_types.specs.Types.{Frame}
 use Rattle.lapin_types.specs.Types.error
 use Rattle.lapin_types.specs.Types.frame
 use Rattle.lapin_types.specs.Types.method
@@ -38,7 +37,7 @@ use Rattle.lapin_history.specs.Base.{Base, state_of, phase_of, is_open, hears_on
 use Rattle.lapin_history.specs.Asking.{is_allowed, after_call}
 use Rattle.lapin_history.specs.Hearing.{heard_up, heard_record, after_heard}
 use Rattle.lapin_history.specs.ChannelClose.{hears_close, hears_close_ok, phases_sent, closing, after_channel_close, after_close_ok}
-use Rattle.lapin_history.specs.Handing.{after_next, handed, sent}
+use Rattle.lapin_history.specs.Handing.{handed, sent}
 use Rattle.lapin_history.specs.Events.{record_of, after_event}
 use Rattle.lapin_machine.specs.Stands.{IsShut}
 use Rattle.lapin_machine.proofs.Alone.{down_refuses}

@@ -10,8 +10,8 @@ use Rattle.lapin_ticket.proofs.Tickets.close.Goals as goal
 pub returns-in_default-clause-slots : goal.returns-in_default-clause-slots
 returns-in_default-clause-slots c =
     sym (close-done c.args.channel c.args.error c.args.self.now.slots (λ n. none-passes _ (λ h.
-      let there = rejected_some c.args.channel (under n c.args.self.now.slots) h in
-      first-none n there.0 c.args.self.now.slots (rw c.self.view_is at (sym c.in_default.ensures)) there.1)))
+    let there = rejected_some c.args.channel (under n c.args.self.now.slots) h in
+    first-none n there.0 c.args.self.now.slots (rw c.self.view_is at (sym c.in_default.ensures)) there.1)))
 
 pub loop-number-init : goal.loop-number-init
 loop-number-init c = record {
