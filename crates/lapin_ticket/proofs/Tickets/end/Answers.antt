@@ -1,8 +1,6 @@
-use Rattle.std.proofs.Common.{◌≡◌, ◌≢◌, ◌≤◌, ◌∙◌, Bool, true, false, Some, suc, sym, refl, ap, arith}
+use Rattle.std.proofs.Common.{◌≢◌, ◌≤◌, ◌∙◌, sym, refl, arith}
 use Rattle.lapin_tables.specs.Numbered.{under}
 use Rattle.lapin_tables.proofs.SlotLaws.{given, first-least, first-none}
-use Rattle.lapin_history.specs.TicketReadings.{is_kept}
-use Rattle.lapin_ticket.specs.Desk.{is_open_on}
 use Rattle.lapin_ticket.proofs.Failing.{first-positive}
 use Rattle.lapin_ticket.proofs.Ending.{end-done}
 use Rattle.lapin_ticket.proofs.Walking.{open_some, all-pass}
