@@ -84,4 +84,3 @@ requests-smaller c all new r left told =
     let same : length (requests_at c new) ≡ length (drop 1 (requests_at c all)) = ap (λ rs. length rs) (ap (requests_at c) left ∙ requests-behind c all) in
     let less = length-first (requests_at c all) r told in
     omega arith
-

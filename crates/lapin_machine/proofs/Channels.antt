@@ -1,5 +1,5 @@
 -- Writes of one channel's value.
-use Rattle.std.proofs.Common.{◌≡◌, ℕ, ◌==◌, Bool, true, false, cond, List, [], ◌∷◌, Option, Some, None, refl, sym, ◌∙◌, ap}
+use Rattle.std.proofs.Common.{◌≡◌, ℕ, ◌==◌, true, false, cond, List, [], ◌∷◌, Option, Some, None, refl, sym, ◌∙◌, ap}
 use Rattle.std.specs.Prelude.{OnSome, IfNone}
 use Rattle.std.specs.Option.{option_map}
 use Rattle.lapin_types.specs.declared.request.Request.{Request}

@@ -1,9 +1,8 @@
 -- Confirms stand for the longer history after each event.
-use Rattle.std.proofs.Common.{◌≡◌, ◌≢◌, ℕ, zero, suc, ◌+◌, ◌<◌, ◌≤◌, nat_lt, nat_le, Bool, true, false, cond, ◌||◌, ◌&&◌, List, [], ◌∷◌, ◌++◌, length, Option, Some, None, Result, Ok, Err, refl, sym, ◌∙◌, ap, subst, arith, append-nil, append_assoc, add-one, ne_eqb, ltb-true}
+use Rattle.std.proofs.Common.{◌≡◌, ◌≢◌, ℕ, zero, suc, ◌+◌, ◌<◌, ◌≤◌, nat_lt, nat_le, Bool, true, false, cond, ◌&&◌, List, [], ◌∷◌, ◌++◌, Option, Some, None, refl, sym, ◌∙◌, ap, subst, arith, append-nil, append_assoc, add-one, ne_eqb, ltb-true}
 use Rattle.std.specs.Prelude.{◌==◌, not}
 use Rattle.std.specs.List.{fold, filter, AllByRecursion}
 use Rattle.std.proofs.lemmas.Bool.{leb-true}
-use Rattle.lapin_history.specs.declared.calls.Row.{Row}
 use Rattle.lapin_history.specs.declared.calls.Asked.{Asked}
 use Rattle.lapin_history.specs.declared.calls.Asked.TheVariants as ask
 use Rattle.lapin_history.specs.Calls.{asked}
@@ -14,25 +13,22 @@ use Rattle.lapin_types.specs.declared.record.Record.{Record}
 use Rattle.lapin_types.specs.declared.record.Record.TheVariants as record_
 use Rattle.lapin_types.specs.declared.leaving.Left.{Left}
 use Rattle.lapin_types.specs.Types.{Method, Error}
-use Rattle.lapin_types.specs.Types.method
-use Rattle.lapin_types.specs.Types.confirm
 use Rattle.lapin_types.specs.Types.error
 use Rattle.lapin_history.specs.ConfirmMarks.{ConfirmMark}
 use Rattle.lapin_history.specs.ConfirmMarks as mark
 use Rattle.lapin_history.specs.declared.marks.Outcome.{Outcome}
-use Rattle.lapin_history.specs.declared.marks.Settlement.{Settlement}
 use Rattle.lapin_history.specs.declared.broker_frames.Incoming.{Incoming}
 use Rattle.lapin_history.specs.declared.broker_frames.Incoming.TheVariants as incoming
-use Rattle.lapin_history.specs.ConfirmReadings.{leaves, takes, has_left, is_taken, added, outcome_at, outcome_after, is_open_outcome, first_rejected, channel_of, life}
+use Rattle.lapin_history.specs.ConfirmReadings.{leaves, takes, has_left, is_taken, added, outcome_at, is_open_outcome}
 use Rattle.lapin_history.specs.TicketReadings.{TicketMark}
 use Rattle.lapin_history.specs.Frames.{RestEntry, MethodEntry}
-use Rattle.lapin_history.specs.Leaving.{Lists, left_lists, left_of, handed_of}
+use Rattle.lapin_history.specs.Leaving.{left_of, handed_of}
 use Rattle.lapin_history.specs.declared.phases.Phase.{Phase}
 use Rattle.lapin_history.specs.declared.phases.Phase.TheVariants as phase
 use Rattle.lapin_history.specs.declared.phases.Link.{Link}
 use Rattle.lapin_history.specs.declared.phases.Link.TheVariants as link
-use Rattle.lapin_history.specs.Phases.{is_live, is_up, is_lost}
-use Rattle.lapin_history.specs.Drops.{is_on, is_off, publish_channel, unbegun}
+use Rattle.lapin_history.specs.Phases.{is_up, is_lost}
+use Rattle.lapin_history.specs.Drops.{is_off, publish_channel}
 use Rattle.lapin_history.specs.ChannelClose.{close_ok_end}
 use Rattle.lapin_history.specs.Heard.{heard}
 use Rattle.lapin_history.specs.Base.{Base, state_of, phase_of, is_open, lists_of, with_lists}
@@ -42,7 +38,7 @@ use Rattle.lapin_history.specs.Events.{after_event}
 use Rattle.lapin_history.specs.Hearing.{after_heard, after_received, after_refused, after_failed}
 use Rattle.lapin_history.specs.ChannelClose.{after_close_ok}
 use Rattle.lapin_history.specs.ConnectionClose.{after_connection_close, unless_sent, has_sent}
-use Rattle.lapin_history.specs.Handing.{handed, sent, after_next}
+use Rattle.lapin_history.specs.Handing.{handed, sent}
 use Rattle.lapin_history.specs.Events.{confirm_marks}
 use Rattle.lapin_history.specs.Asking.{call_marks}
 use Rattle.lapin_history.specs.Select.{queued_marks, is_select, method_marks}
@@ -53,7 +49,6 @@ use Rattle.lapin_history.specs.Polls.{is_confirmed}
 use Rattle.lapin_history.specs.Events.{record_of}
 use Rattle.lapin_history.specs.History.{sight_of, polled_outcome, was_added, confirm_poll}
 use Rattle.lapin_history.proofs.ConfirmLaws.{added-push}
-use Rattle.lapin_confirm.specs.declared.cell.Cell.{Cell}
 use Rattle.lapin_confirm.specs.declared.cell.Cell.TheVariants as cell
 use Rattle.lapin_confirm.specs.Book.{Book, after_mark}
 use Rattle.lapin_confirm.specs.Follows.{Follows, WasAdded, MayCome, cell_in}

@@ -1,6 +1,5 @@
 -- No event uses more than one number of a counter.
-use Rattle.std.proofs.Common.{◌≡◌, ℕ, suc, ◌+◌, ◌<◌, ◌≤◌, ◌^◌, Bool, true, false, cond, List, [], ◌∷◌, ◌++◌, length, Option, Some, None, refl, ◌∙◌, ap, arith, append_assoc, ◌⊎◌, inl, inr}
-use Rattle.lapin_history.specs.declared.calls.Row.{Row}
+use Rattle.std.proofs.Common.{◌≡◌, ℕ, suc, ◌+◌, ◌<◌, ◌≤◌, ◌^◌, Bool, true, false, cond, List, [], ◌∷◌, ◌++◌, length, Option, Some, None, refl, ◌∙◌, ap, arith, append_assoc, inl, inr}
 use Rattle.lapin_history.specs.declared.calls.Asked.{Asked}
 use Rattle.lapin_history.specs.declared.calls.Asked.TheVariants as ask
 use Rattle.lapin_history.specs.Calls.{asked}
@@ -179,6 +178,7 @@ has_number n w (event.Next flow) h u = absurd u
 has_number n w (event.Receive f) h u = absurd u
 has_number n w (event.PollTicket k) h u = absurd u
 has_number n w (event.PollConfirm k) h u = absurd u
+has_number n w (event.AsideTicket k) h u = absurd u
 has_number n w (event.State c) h u = absurd u
 has_number n w event.Lost h u = absurd u
 

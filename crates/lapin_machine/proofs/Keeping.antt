@@ -1,7 +1,7 @@
 -- What ties a session's parts together holds after each change.
-use Rattle.std.proofs.Common.{◌≡◌, ◌≢◌, ℕ, zero, suc, ◌+◌, ◌<◌, ◌≤◌, ◌==◌, nat_lt, ltb-true, ltb-false, Bool, true, false, cond, ◌||◌, ◌&&◌, List, [], ◌∷◌, ◌++◌, map, length, Option, Some, None, refl, sym, ◌∙◌, ap, subst, arith, slice_set, get_or, add-one, ◌⊎◌, inl, inr, eqb-true, ne_eqb, eq-eqb}
+use Rattle.std.proofs.Common.{◌≡◌, ◌≢◌, ℕ, zero, suc, ◌+◌, ◌<◌, ◌==◌, nat_lt, ltb-true, ltb-false, Bool, true, false, cond, ◌||◌, ◌&&◌, List, [], ◌∷◌, ◌++◌, map, length, Option, Some, None, refl, sym, ◌∙◌, ap, subst, arith, slice_set, get_or, inl, inr, ne_eqb, eq-eqb}
 use Rattle.std.specs.Prelude.{IsSome, IsOk, OnOk, Result, Ok, Err}
-use Rattle.std.specs.List.{list_any, fold, AllByRecursion}
+use Rattle.std.specs.List.{list_any, fold}
 use Rattle.std.specs.Option.{option_map}
 use Rattle.std.proofs.lemmas.Bool.Decides.{eqb_tells}
 use Rattle.lapin_types.specs.declared.leaving.Publish.{Publish}
@@ -12,9 +12,7 @@ use Rattle.lapin_types.specs.Types.frame
 use Rattle.lapin_types.specs.Types.method
 use Rattle.lapin_types.specs.Types.connection
 use Rattle.lapin_types.specs.Types.channel
-use Rattle.lapin_types.specs.Types.confirm
 use Rattle.lapin_types.specs.declared.request.ReplyKind.{ReplyKind}
-use Rattle.lapin_types.specs.declared.request.ReplyKind.TheVariants as reply_kind
 use Rattle.lapin_tables.specs.ByChannel.{at_channel, on_channel}
 use Rattle.lapin_tables.specs.Numbered.{under, with_under}
 use Rattle.lapin_history.specs.declared.marks.Settlement.{Settlement}
@@ -31,11 +29,10 @@ use Rattle.lapin_history.specs.Phases.{channel_state, is_live, is_up, phase_in}
 use Rattle.lapin_history.specs.ChannelClose.{close_sent}
 use Rattle.lapin_history.specs.ConnectionClose.{link_close_sent}
 use Rattle.lapin_history.specs.ConfirmReadings.{covers, outcome_of}
-use Rattle.lapin_history.specs.Drops.{frame_channel}
 use Rattle.lapin_history.specs.Frames.{RestEntry, MethodEntry}
 use Rattle.lapin_history.specs.Leaving.{Lists, left_of, handed_of}
 use Rattle.lapin_history.specs.ChannelClose.{close_ok_end}
-use Rattle.lapin_history.specs.Base.{is_closed, is_open, is_opening, is_closing, is_crossed, hears_on}
+use Rattle.lapin_history.specs.Base.{is_closed, is_open, is_opening, hears_on}
 use Rattle.lapin_history.specs.Opening.{opens, phases_with}
 use Rattle.lapin_history.specs.Reply.{hears}
 use Rattle.lapin_history.specs.ChannelClose.{hears_close, hears_close_ok, phases_sent}
@@ -48,13 +45,13 @@ use Rattle.lapin_history.proofs.ChannelLaws.{at-on, at-with}
 use Rattle.lapin_history.proofs.ListLaws.{any-push}
 use Rattle.lapin_confirm.specs.declared.cell.Cell.{Cell}
 use Rattle.lapin_confirm.specs.declared.cell.Cell.TheVariants as cell
-use Rattle.lapin_confirm.specs.Book.{Book, Line, empty_book, fresh_line, selected_line, asked_line, next_line, ended_line, tag_for, lines_with, cell_with, settled_cell, closed_cell, is_queued_on, is_open_on, is_resolved, begun, with_publish, select_left, select_called, left, settled, closed_here, ended, taken, after_mark}
+use Rattle.lapin_confirm.specs.Book.{Book, Line, empty_book, fresh_line, selected_line, asked_line, next_line, ended_line, tag_for, lines_with, cell_with, settled_cell, closed_cell, is_queued_on, is_open_on, is_resolved, begun, with_publish, select_left, left, settled, closed_here, ended, taken, after_mark}
 use Rattle.lapin_confirm.proofs.Ended.{any-ended}
 use Rattle.lapin_desk.specs.Queued.{AreQueued}
 use Rattle.lapin_desk.proofs.Ends.{ends-join}
 use Rattle.lapin_desk.proofs.Waiting.{queue-push, queue-left, queue-settled, queue-taken, queue-none}
 use Rattle.lapin_machine.specs.Kept.{is_close_sent}
-use Rattle.lapin_machine.specs.Tied.{IsTied, is_live_on, MayRegister, CanRegister}
+use Rattle.lapin_machine.specs.Tied.{IsTied, is_live_on, CanRegister}
 
 -- ---- nothing opens on a channel that has no live opening
 

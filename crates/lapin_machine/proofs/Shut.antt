@@ -1,6 +1,5 @@
 -- No channel stands open once the connection does not: kept by every event.
-use Rattle.std.proofs.Common.{◌≡◌, ℕ, Bool, true, false, cond, ◌||◌, subst, List, [], ◌∷◌, Option, Some, None, refl, sym, ◌∙◌, ap, inl, inr}
-use Rattle.lapin_history.specs.declared.calls.Row.{Row}
+use Rattle.std.proofs.Common.{◌≡◌, ℕ, Bool, true, false, cond, not, ◌||◌, subst, [], Option, Some, None, refl, sym, ◌∙◌, ap, inl, inr}
 use Rattle.lapin_history.specs.declared.calls.Asked.{Asked}
 use Rattle.lapin_history.specs.declared.calls.Asked.TheVariants as ask
 use Rattle.lapin_history.specs.Calls.{asked}
@@ -9,7 +8,7 @@ use Rattle.lapin_types.specs.declared.event.Event.TheVariants as event
 use Rattle.lapin_types.specs.declared.record.Record.{Record}
 use Rattle.lapin_types.specs.declared.record.Record.TheVariants as record_
 use Rattle.lapin_types.specs.declared.leaving.Left.{Left}
-use Rattle.lapin_types.specs.Types.{Error, Frame}
+use Rattle.lapin_types.specs.Types.{Frame}
 use Rattle.lapin_types.specs.Types.error
 use Rattle.lapin_types.specs.Types.frame
 use Rattle.lapin_types.specs.Types.method
@@ -27,13 +26,18 @@ use Rattle.lapin_history.specs.ConnectionClose.{link_close_sent, link_sent, afte
 use Rattle.lapin_history.specs.Sight.{Sight}
 use Rattle.lapin_history.specs.Unexpected.{refused}
 use Rattle.lapin_history.specs.declared.marks.Settlement.{Settlement}
-use Rattle.lapin_history.specs.Settlement.{settlement_record, after_failed_on}
-use Rattle.lapin_history.specs.Reply.{hears_reply}
-use Rattle.lapin_history.specs.Base.{Base, state_of, phase_of, is_open, hears_on}
+use Rattle.lapin_history.specs.Settlement.{settlement_record, session_close, after_failed_on}
+use Rattle.lapin_history.specs.declared.phases.Closer.TheVariants as closer
+use Rattle.lapin_history.specs.Words.{with_channel}
+use Rattle.lapin_history.specs.Leaving.{left_lists}
+use Rattle.lapin_history.specs.Ends.{down}
+use Rattle.lapin_history.specs.Flow.{may_begin, after_flow}
+use Rattle.lapin_history.specs.Reply.{hears_reply, after_reply}
+use Rattle.lapin_history.specs.Base.{Base, state_of, phase_of, is_open, hears_on, noted, lists_of, with_lists}
 use Rattle.lapin_history.specs.Asking.{is_allowed, after_call}
 use Rattle.lapin_history.specs.Hearing.{heard_up, heard_record, after_heard}
-use Rattle.lapin_history.specs.ChannelClose.{hears_close, hears_close_ok, phases_sent, after_close_ok}
-use Rattle.lapin_history.specs.Handing.{after_next, handed, sent}
+use Rattle.lapin_history.specs.ChannelClose.{hears_close, hears_close_ok, phases_sent, closing, after_channel_close, after_close_ok}
+use Rattle.lapin_history.specs.Handing.{handed, sent}
 use Rattle.lapin_history.specs.Events.{record_of, after_event}
 use Rattle.lapin_machine.specs.Stands.{IsShut}
 use Rattle.lapin_machine.proofs.Alone.{down_refuses}
@@ -49,11 +53,11 @@ choose_shut false x y h k = k
 -- ---- calls
 
 call_up : (c : ℕ) (k : Asked) (b : Base) → b.link ≡ link.Open → IsShut (after_call c k b)
-call_up c ask.Open b e = up_shut _ e
-call_up c (ask.CloseChannel code text) b e = up_shut _ e
+call_up c ask.Open b e = up_shut (after_call c ask.Open b) e
+call_up c (ask.CloseChannel code text) b e = up_shut (after_call c (ask.CloseChannel code text) b) e
 call_up c (ask.CloseConnection code text) b e = λ _. refl
-call_up c (ask.Method row) b e = up_shut _ e
-call_up c (ask.Publish exchange key o payload properties) b e = up_shut _ e
+call_up c (ask.Method row) b e = up_shut (after_call c (ask.Method row) b) e
+call_up c (ask.Publish exchange key o payload properties) b e = up_shut (after_call c (ask.Publish exchange key o payload properties) b) e
 
 call_shut : (c : ℕ) (k : Asked) (b : Base) → IsShut b → IsShut (cond (is_allowed k (state_of c b)) (after_call c k b) b)
 call_shut c k b h = elim (down_refuses b.link c k b refl) [
@@ -84,11 +88,11 @@ sent_shut (Some x) b h = λ d. ap (phases_sent x.frame) (h (sym (frame_left x.fr
 -- ---- frames of the broker
 
 close_ok_up : (c : ℕ) (p : Phase) (b : Base) → b.link ≡ link.Open → IsShut (after_close_ok c p b)
-close_ok_up c phase.Closed b e = up_shut _ e
-close_ok_up c phase.Opening b e = up_shut _ e
-close_ok_up c (phase.Open paused) b e = up_shut _ e
-close_ok_up c (phase.Closing who sent) b e = up_shut _ e
-close_ok_up c phase.Crossed b e = up_shut _ e
+close_ok_up c phase.Closed b e = up_shut (after_close_ok c phase.Closed b) e
+close_ok_up c phase.Opening b e = up_shut (after_close_ok c phase.Opening b) e
+close_ok_up c (phase.Open paused) b e = up_shut (after_close_ok c (phase.Open paused) b) e
+close_ok_up c (phase.Closing who sent) b e = up_shut (after_close_ok c (phase.Closing who sent) b) e
+close_ok_up c phase.Crossed b e = up_shut (after_close_ok c phase.Crossed b) e
 
 connection_close_shut : (l : Link) (b : Base) → IsShut b → b.link ≡ l → IsShut (after_connection_close l b)
 connection_close_shut link.Open b h e = λ _. refl
@@ -102,19 +106,22 @@ choose_record true i x y b h k = h
 choose_record false i x y b h k = k
 
 failed_up : (c : ℕ) (s : Settlement) (b : Base) → b.link ≡ link.Open → IsShut b → IsShut (after_failed_on c s b)
-failed_up c s b e h = choose_shut (is_open (state_of c b)) _ b (up_shut _ e) h
+failed_up c s b e h = let d : Base = noted c (session_close s.kind) (closing c closer.Session b) in choose_shut (is_open (state_of c b)) d b (up_shut d e) h
+
+flow_up : (c : ℕ) (active : Bool) (b : Base) → b.link ≡ link.Open → IsShut b → IsShut (after_flow c active b)
+flow_up c active b e h = let d : Base = noted c (method.Channel (channel.FlowOk active)) (record b { phases = with_channel c (phase.Open (not active)) b.phases }) in choose_shut (is_open (state_of c b)) d b (up_shut d e) h
 
 -- while the connection is open
 heard_open : (see : Sight) (class number : ℕ) (i : Incoming) (b : Base) → b.link ≡ link.Open → IsShut b → IsShut (after_heard i (heard_up b see (refused class number) i) b)
-heard_open see class number (incoming.Reply c k a) b e h = choose_record (hears_reply c k b) (incoming.Reply c k a) record_.Received (refused class number) b (up_shut _ e) (λ _. refl)
+heard_open see class number (incoming.Reply c k a) b e h = choose_record (hears_reply c k b) (incoming.Reply c k a) record_.Received (refused class number) b (up_shut (after_reply c k b) e) (λ _. refl)
 heard_open see class number (incoming.Settlement c s) b e h =
     choose_record (hears_on (state_of c b)) (incoming.Settlement c s) (settlement_record see c s) (refused class number) b
-    (choose_record (see.selected c) (incoming.Settlement c s) _ record_.Passed b
+    (choose_record (see.selected c) (incoming.Settlement c s) (cond (s.multiple || see.pending c s.tag) record_.Received (record_.Refused (error.PreconditionFailed s.tag (see.last c)))) record_.Passed b
     (choose_record (s.multiple || see.pending c s.tag) (incoming.Settlement c s) record_.Received (record_.Refused (error.PreconditionFailed s.tag (see.last c))) b h (failed_up c s b e h))
     h)
     (λ _. refl)
-heard_open see class number (incoming.Flow c active) b e h = choose_record (hears_on (state_of c b)) (incoming.Flow c active) record_.Received (refused class number) b (choose_shut (is_open (state_of c b)) _ b (up_shut _ e) h) (λ _. refl)
-heard_open see class number (incoming.ChannelClose c code) b e h = choose_record (hears_close (state_of c b)) (incoming.ChannelClose c code) record_.Received (refused class number) b (up_shut _ e) (λ _. refl)
+heard_open see class number (incoming.Flow c active) b e h = choose_record (hears_on (state_of c b)) (incoming.Flow c active) record_.Received (refused class number) b (flow_up c active b e h) (λ _. refl)
+heard_open see class number (incoming.ChannelClose c code) b e h = choose_record (hears_close (state_of c b)) (incoming.ChannelClose c code) record_.Received (refused class number) b (up_shut (after_channel_close c (phase_of c b) b) e) (λ _. refl)
 heard_open see class number (incoming.ChannelCloseOk c) b e h = choose_record (hears_close_ok (state_of c b)) (incoming.ChannelCloseOk c) record_.Received (refused class number) b (close_ok_up c (phase_of c b) b e) (λ _. refl)
 heard_open see class number (incoming.ConnectionClose code) b e h = connection_close_shut b.link b h refl
 heard_open see class number incoming.ConnectionCloseOk b e h = λ _. refl
@@ -143,10 +150,10 @@ heard_shut (link.Closing s was) see class number incoming.Other b e h = let none
 
 pub shut-next : (b : Base) (see : Sight) (e : Event) → IsShut b → IsShut (after_event b e (record_of b see e))
 shut-next b see (event.Call c k) h = call_shut c (asked k) b h
-shut-next b see (event.Next flow) h = sent_shut (handed flow b) _ h
+shut-next b see (event.Next flow) h = sent_shut (handed flow b) (with_lists (left_lists b.frame_max (may_begin flow b) (lists_of b)) b) h
 shut-next b see (event.Receive f) h = heard_shut b.link see (frame_class f) (frame_method f) (heard f) b refl h
 shut-next b see (event.PollTicket n) h = h
 shut-next b see (event.PollConfirm n) h = h
 shut-next b see (event.AsideTicket n) h = h
 shut-next b see (event.State c) h = h
-shut-next b see event.Lost h = choose_shut (is_lost b.link) b _ h (λ _. refl)
+shut-next b see event.Lost h = choose_shut (is_lost b.link) b (down link.Lost b) h (λ _. refl)

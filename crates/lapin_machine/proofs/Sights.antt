@@ -1,16 +1,12 @@
 -- Confirms and tickets that follow the marks show what the marks show.
-use Rattle.std.proofs.Common.{◌≡◌, ◌≢◌, ℕ, zero, suc, ◌+◌, ◌<◌, ◌≤◌, ◌==◌, nat_lt, nat_le, Bool, true, false, cond, ◌||◌, ◌&&◌, List, [], ◌∷◌, ◌++◌, map, length, Option, Some, None, Result, Ok, Err, refl, sym, ◌∙◌, ap, subst, arith, slice_get, ltb-true, ltb-false, add-zero, ne_eqb}
+use Rattle.std.proofs.Common.{◌≡◌, ℕ, zero, suc, ◌+◌, ◌<◌, ◌≤◌, ◌==◌, nat_lt, nat_le, Bool, true, false, cond, ◌&&◌, List, [], ◌∷◌, length, Option, Some, None, Err, refl, sym, ◌∙◌, ap, arith, slice_get, ltb-true, ltb-false, add-zero, ne_eqb}
 use Rattle.std.proofs.Math.Bool.{and-true}
 use Rattle.std.specs.List.{list_any, range_with_len}
 use Rattle.std.proofs.lemmas.Bool.{leb-true, leb-false}
 use Rattle.std.proofs.lemmas.Option.{get_or_from_slice_get, slice_get_within}
-use Rattle.lapin_types.specs.declared.answer.Answer.{Answer}
-use Rattle.lapin_types.specs.declared.record.Record.{Record}
 use Rattle.lapin_types.specs.declared.record.Record.TheVariants as record_
-use Rattle.lapin_types.specs.Types.{Error}
 use Rattle.lapin_types.specs.Types.error
 use Rattle.lapin_tables.specs.Numbered.{under}
-use Rattle.lapin_tables.specs.ByChannel.{at_channel}
 use Rattle.lapin_history.specs.declared.marks.Outcome.{Outcome}
 use Rattle.lapin_history.specs.declared.marks.Outcome.TheVariants as outcome
 use Rattle.lapin_history.specs.ConfirmMarks.{ConfirmMark}
@@ -22,13 +18,10 @@ use Rattle.lapin_history.specs.TicketReadings.{TicketMark, given, begins as begi
 use Rattle.lapin_history.specs.Polls.{confirmed}
 use Rattle.lapin_history.specs.History.{polled_outcome, was_added, confirm_poll, polled_answer, was_given, ticket_poll, ticket_aside}
 use Rattle.lapin_history.proofs.ListLaws.{since_none}
-use Rattle.lapin_confirm.specs.declared.cell.Cell.{Cell}
-use Rattle.lapin_confirm.specs.declared.cell.Cell.TheVariants as cell
-use Rattle.lapin_confirm.specs.Book.{Book, Line, selected_in, last_in, selected_on, last_on, is_pending, is_pending_as}
+use Rattle.lapin_confirm.specs.Book.{Book, selected_in, last_in, selected_on, last_on, is_pending, is_pending_as}
 use Rattle.lapin_confirm.specs.Answers.{result_of, answer_in, answer_at}
 use Rattle.lapin_confirm.specs.Follows.{Follows, line_in, cell_in, open_cell, left_cell, pending_cell, queued_cell}
 use Rattle.lapin_ticket.specs.declared.Slot.{Slot}
-use Rattle.lapin_ticket.specs.declared.Slot.TheVariants as slot
 use Rattle.lapin_ticket.specs.Desk.{polled, polled_slot, laid, laid_slot}
 use Rattle.lapin_ticket.specs.Follows.{held, slot_in, slot_of}
 use Rattle.lapin_ticket.specs.Follows as tickets

@@ -1,33 +1,28 @@
 -- A session that stands for a history tells the records of that history.
-use Rattle.std.proofs.Common.{◌≡◌, ◌≢◌, ℕ, zero, suc, ◌+◌, ◌<◌, ◌≤◌, Bool, true, false, cond, List, [], ◌∷◌, ◌++◌, length, Option, Some, None, Result, Ok, Err, refl, sym, ◌∙◌, ap, subst, arith}
-use Rattle.std.specs.List.{fold}
+use Rattle.std.proofs.Common.{◌≡◌, ℕ, cond, List, [], ◌∷◌, ◌++◌, Option, Result, Ok, Err, refl, sym, ◌∙◌, ap, subst, arith}
 use Rattle.std.specs.Result.{IfOk, OnOk}
 use Rattle.lapin_types.specs.declared.event.Event.{Event}
 use Rattle.lapin_types.specs.declared.event.Event.TheVariants as event
 use Rattle.lapin_types.specs.declared.record.Record.{Record}
 use Rattle.lapin_types.specs.declared.record.Record.TheVariants as record_
-use Rattle.lapin_types.specs.Types.{Frame}
 use Rattle.lapin_history.specs.ConfirmMarks.{ConfirmMark}
 use Rattle.lapin_history.specs.declared.broker_frames.Incoming.{Incoming}
 use Rattle.lapin_history.specs.declared.broker_frames.Incoming.TheVariants as incoming
 use Rattle.lapin_history.specs.TicketReadings.{TicketMark}
 use Rattle.lapin_history.specs.Heard.{heard, frame_class, frame_method}
 use Rattle.lapin_history.specs.Phases.{is_up}
-use Rattle.lapin_history.specs.Base.{Base, start}
+use Rattle.lapin_history.specs.Base.{Base}
 use Rattle.lapin_history.specs.Events.{after_event}
 use Rattle.lapin_history.specs.ConnectionClose.{hears_down}
 use Rattle.lapin_history.specs.Events.{confirm_marks, ticket_marks}
-use Rattle.lapin_history.specs.Sight.{Sight}
 use Rattle.lapin_history.specs.Events.{record_of}
 use Rattle.lapin_history.specs.Unexpected.{refused}
 use Rattle.lapin_history.specs.Hearing.{heard_up, heard_record}
 use Rattle.lapin_history.specs.History.{History, Past, longer, past_on, past, record_after, rec, run_from, run}
 use Rattle.lapin_history.specs.History as history
-use Rattle.lapin_confirm.specs.Book.{Book, empty_book}
-use Rattle.lapin_confirm.specs.Book as book
+use Rattle.lapin_confirm.specs.Book.{Book}
 use Rattle.lapin_confirm.specs.Follows as confirms
 use Rattle.lapin_ticket.specs.declared.Slot.{Slot}
-use Rattle.lapin_ticket.specs.Desk as desk
 use Rattle.lapin_ticket.specs.Follows as tickets
 use Rattle.lapin_machine.specs.World.{World, next, told_by, outputs, new_world, sight_of}
 use Rattle.lapin_machine.specs.Stands.{ConfirmsStand, TicketsStand, IsShut, Stands}

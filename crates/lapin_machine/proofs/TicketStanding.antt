@@ -1,8 +1,7 @@
 -- Tickets stand for the longer history after each event.
-use Rattle.std.proofs.Common.{◌≡◌, ℕ, ◌+◌, Bool, true, false, cond, List, [], ◌∷◌, ◌++◌, Option, Some, None, Result, Err, refl, sym, ◌∙◌, ap, subst, arith, append_assoc, append-nil}
+use Rattle.std.proofs.Common.{◌≡◌, ℕ, ◌+◌, Bool, true, false, cond, List, [], ◌∷◌, ◌++◌, Option, Some, None, Result, refl, sym, ◌∙◌, ap, subst, append_assoc, append-nil}
 use Rattle.std.specs.List.{fold}
 use Rattle.lapin_types.specs.declared.answer.Answer.{Answer}
-use Rattle.lapin_history.specs.declared.calls.Row.{Row}
 use Rattle.lapin_history.specs.declared.calls.Asked.{Asked}
 use Rattle.lapin_history.specs.declared.calls.Asked.TheVariants as ask
 use Rattle.lapin_history.specs.Calls.{asked}
@@ -18,10 +17,9 @@ use Rattle.lapin_history.specs.declared.broker_frames.Incoming.TheVariants as in
 use Rattle.lapin_history.specs.declared.phases.Link.{Link}
 use Rattle.lapin_history.specs.declared.phases.Link.TheVariants as link
 use Rattle.lapin_history.specs.Phases.{is_lost}
-use Rattle.lapin_history.specs.ChannelClose.{has_sent_close}
 use Rattle.lapin_history.specs.declared.phases.Closer.TheVariants as closer
 use Rattle.lapin_history.specs.ChannelClose.{failed_at_close, close_ok_end}
-use Rattle.lapin_history.specs.TicketReadings.{TicketMark, Given, ClosedHere, OpeningFailed, AllFailed, Collected, SetAside, gives, given}
+use Rattle.lapin_history.specs.TicketReadings.{TicketMark, Given, ClosedHere, AllFailed, Collected, SetAside, gives, given}
 use Rattle.lapin_history.specs.Heard.{heard}
 use Rattle.lapin_history.specs.Base.{Base, state_of, phase_of, is_open}
 use Rattle.lapin_history.specs.Asking.{is_allowed, after_call}

@@ -1,5 +1,5 @@
 -- A session's value is known by its fields; closes and ends change no counter.
-use Rattle.std.proofs.Common.{◌≡◌, ℕ, zero, suc, ◌+◌, Bool, true, false, cond, List, [], ◌∷◌, ◌++◌, map, length, Option, Some, None, Result, Ok, Err, refl, sym, ◌∙◌, ap, subst, arith, length-append}
+use Rattle.std.proofs.Common.{◌≡◌, ℕ, zero, suc, ◌+◌, Bool, true, false, cond, List, [], ◌∷◌, ◌++◌, map, length, Option, Some, None, Result, Ok, Err, refl, sym, ◌∙◌, ap, length-append}
 use Rattle.std.specs.List.{fold}
 use Rattle.std.specs.Option.{option_map}
 use Rattle.std.proofs.Math.ListN.{length-set}
@@ -9,7 +9,6 @@ use Rattle.lapin_types.specs.declared.answer.Answer.TheVariants as answer
 use Rattle.lapin_history.specs.declared.calls.Row.{Row}
 use Rattle.lapin_history.specs.declared.calls.Asked.{Asked}
 use Rattle.lapin_history.specs.declared.calls.Asked.TheVariants as ask
-use Rattle.lapin_history.specs.Calls.{asked}
 use Rattle.lapin_types.specs.declared.event.Event.TheVariants as event
 use Rattle.lapin_types.specs.declared.leaving.Publish.{Publish}
 use Rattle.lapin_types.specs.declared.record.Record.TheVariants as record_
@@ -19,7 +18,6 @@ use Rattle.lapin_types.specs.declared.request.ReplyKind.TheVariants as reply_kin
 use Rattle.lapin_types.specs.declared.leaving.Left.{Left}
 use Rattle.lapin_types.specs.Types.{Error, Frame, Method}
 use Rattle.lapin_types.specs.Types.frame
-use Rattle.lapin_types.specs.Types.confirm
 use Rattle.lapin_types.specs.Types.error
 use Rattle.lapin_types.specs.Types.method
 use Rattle.lapin_types.specs.Types.connection
@@ -40,7 +38,7 @@ use Rattle.lapin_history.specs.Words.{with_channel}
 use Rattle.lapin_history.specs.Leaving.{Lists, handed_of, left_lists}
 use Rattle.lapin_history.specs.Frames.{MethodEntry, RestEntry}
 use Rattle.lapin_history.specs.Drops.{no_lists, without_publishes_of, without_channel}
-use Rattle.lapin_history.specs.Phases.{is_live, is_up, is_lost}
+use Rattle.lapin_history.specs.Phases.{is_lost}
 use Rattle.lapin_history.specs.ChannelClose.{after_broker_close, has_sent_close}
 use Rattle.lapin_history.specs.ChannelClose.{failed_at_close, close_ok_end}
 use Rattle.lapin_history.specs.ConnectionClose.{failed_at_connection_close}
@@ -69,8 +67,7 @@ use Rattle.lapin_outbox.specs.Outgoing.{with_method}
 use Rattle.lapin_outbox.specs.Open.{requests_at}
 use Rattle.lapin_ticket.specs.declared.Slot.{Slot}
 use Rattle.lapin_ticket.specs.declared.Slot.TheVariants as slot
-use Rattle.lapin_ticket.specs.Desk.{after_mark, answered_slot, begun_slot, left_slot, closed_slot, failed_slot, failed, keeping}
-use Rattle.lapin_confirm.specs.declared.cell.Cell.{Cell}
+use Rattle.lapin_ticket.specs.Desk.{after_mark, answered_slot, begun_slot, left_slot, closed_slot, failed_slot}
 use Rattle.lapin_confirm.specs.Book.{Book, closed_here, ended}
 use Rattle.lapin_confirm.specs.Book as book
 use Rattle.lapin_machine.specs.Kept.{kept_request, with_kept, is_close_sent}

@@ -1,5 +1,5 @@
 -- What a session keeps true of its parts, and the room that a call uses.
-use Rattle.std.specs.Prelude.{◌≡◌, ℕ, ◌&&◌, Bool, true, false, List, [], Option, Some, None, IsSome}
+use Rattle.std.specs.Prelude.{◌≡◌, ℕ, ◌&&◌, Bool, true, false, List, [], Option, Some, IsSome}
 use Rattle.std.specs.List.{list_any}
 use Rattle.lapin_types.specs.declared.leaving.Publish.{Publish}
 use Rattle.lapin_types.specs.declared.leaving.Left.{Left}
@@ -12,7 +12,7 @@ use Rattle.lapin_history.specs.declared.phases.Link.{Link}
 use Rattle.lapin_history.specs.Drops.{frame_channel}
 use Rattle.lapin_history.specs.Phases.{is_live, is_up, phase_in}
 use Rattle.lapin_desk.specs.Queued.{AreQueued}
-use Rattle.lapin_confirm.specs.Book.{Book, Line, is_open_on}
+use Rattle.lapin_confirm.specs.Book.{Book, is_open_on}
 use Rattle.lapin_confirm.specs.declared.cell.Cell.{Cell}
 use Rattle.lapin_confirm.specs.declared.cell.Cell.TheVariants as cell
 

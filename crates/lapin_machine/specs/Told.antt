@@ -1,8 +1,7 @@
 -- The answers of the public calls, as the records of their events.
-use Rattle.std.specs.Prelude.{◌≡◌, Bool, true, false, Option, Some, None, Result, Ok, Err}
+use Rattle.std.specs.Prelude.{◌≡◌, Bool, true, false, Result, Ok, Err}
 use Rattle.lapin_types.specs.declared.answer.Answer.{Answer}
 use Rattle.lapin_types.specs.declared.confirmation.Confirmation.{Confirmation}
-use Rattle.lapin_types.specs.declared.leaving.Left.{Left}
 use Rattle.lapin_types.specs.declared.poll.Poll.{Poll}
 use Rattle.lapin_types.specs.declared.poll.Poll.TheVariants as poll
 use Rattle.lapin_types.specs.declared.record.Record.{Record}

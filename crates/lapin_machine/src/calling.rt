@@ -147,10 +147,7 @@ impl Session {
         }
         self.desk.reserve(alloc, channel)?;
         let confirm = self.confirms.add(alloc, channel)?;
-        let ticket = self
-            .desk
-            .tickets
-            .give(channel, AtLeaving::Confirm(confirm));
+        let ticket = self.desk.tickets.give(channel, AtLeaving::Confirm(confirm));
         let publish = Publish {
             confirm,
             ticket,

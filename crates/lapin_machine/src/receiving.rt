@@ -31,9 +31,7 @@ use lapin_history::{
 };
 use lapin_outbox::Replies;
 use lapin_phases::Phases;
-use lapin_types::{
-    Answer, ChannelMethod, Error, Frame, Method, NoMemory, Record, ReplyKind,
-};
+use lapin_types::{Answer, ChannelMethod, Error, Frame, Method, NoMemory, Record, ReplyKind};
 use std::alloc::Global;
 
 impl Session {

@@ -47,7 +47,8 @@ impl Session {
         let close = kept_close(&mut self.desk.replies, channel, phase);
         let kept = ticket_of(&close);
         let error = Error::ProtocolError(code);
-        self.desk.end_opening(&mut self.confirms, channel, kept, error);
+        self.desk
+            .end_opening(&mut self.confirms, channel, kept, error);
         self.phases.set(channel, after_broker_close(phase));
         keep(&mut self.desk.replies, alloc, channel, close);
         self.desk
@@ -75,7 +76,8 @@ impl Session {
     {
         let close = take_request(&mut self.desk.replies, channel, ReplyKind::ChannelCloseOk);
         self.desk.resolve(into_ticket(close), Ok(Answer::Done));
-        self.desk.end_opening(&mut self.confirms, channel, None, error);
+        self.desk
+            .end_opening(&mut self.confirms, channel, None, error);
         self.phases.set(channel, Phase::Closed);
     }
 

@@ -1,4 +1,3 @@
-use Rattle.std.proofs.Common.{◌≡◌}
 use Rattle.lapin_machine.proofs.Worlds.{closed_counted, rejected_counted}
 use Rattle.lapin_machine.proofs.closing.begin_close.Goals as goal
 

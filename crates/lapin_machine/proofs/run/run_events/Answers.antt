@@ -1,4 +1,4 @@
-use Rattle.std.proofs.Common.{◌≡◌, ◌∙◌, ap, sym, subst, List, ◌∷◌, ◌++◌, length, []}
+use Rattle.std.proofs.Common.{◌∙◌, ap, sym, subst, List, ◌∷◌, ◌++◌, length, []}
 use Rattle.lapin_types.specs.declared.event.Event.{Event}
 use Rattle.lapin_types.specs.declared.record.Record.{Record}
 use Rattle.lapin_machine.specs.World.{World, outputs, IsLonger}

@@ -1,4 +1,4 @@
-use Rattle.std.proofs.Common.{◌≡◌, ◌∙◌, ap, sym, subst, refl, List, [], ◌++◌, append-nil}
+use Rattle.std.proofs.Common.{◌≡◌, ◌∙◌, sym, subst, refl, List, [], ◌++◌, append-nil}
 use Rattle.std.specs.Result.{OnOk, OnErr}
 use Rattle.std.specs.Prelude.{Result, Ok, Err}
 use Rattle.lapin_types.specs.declared.record.Record.{Record}

@@ -1,4 +1,4 @@
-use Rattle.std.proofs.Common.{◌≡◌, ◌∙◌, sym, ap}
+use Rattle.std.proofs.Common.{◌∙◌, sym, ap}
 use Rattle.lapin_tables.specs.ByChannel.{at_channel}
 use Rattle.lapin_history.specs.Phases.{channel_state}
 use Rattle.lapin_history.specs.Base.{is_closing}
@@ -12,5 +12,5 @@ set-requires c = closing_there (at_channel c.args.channel c.args.phases.now.entr
 pub returns-then-is_closing : goal.returns-then-is_closing
 returns-then-is_closing c = c.set.ensures ∙ closing_left c.args.channel c.get-phase.result _ c.args.phases.now.entries c.get-phase.ensures (sym c.is_closing.ensures ∙ c.if-is_closing.true) c.close_sent.ensures
 
-pub returns : goal.returns
-returns c = others_left c.args.channel c.get-phase.result c.args.phases.now.entries c.get-phase.ensures (sym c.is_closing.ensures ∙ c.if-is_closing.false)
+pub returns-else-is_closing : goal.returns-else-is_closing
+returns-else-is_closing c = others_left c.args.channel c.get-phase.result c.args.phases.now.entries c.get-phase.ensures (sym c.is_closing.ensures ∙ c.if-is_closing.false)

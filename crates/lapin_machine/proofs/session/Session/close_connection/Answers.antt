@@ -1,4 +1,4 @@
-use Rattle.std.proofs.Common.{◌≡◌, ◌∙◌, refl, sym, ap, length, ℕ, ◌+◌, List, Option, Some}
+use Rattle.std.proofs.Common.{◌∙◌, refl, sym, ap, length, ℕ, ◌+◌, List, Option, Some}
 use Rattle.lapin_types.specs.declared.call.Call.TheVariants as call
 use Rattle.lapin_types.specs.declared.event.Event.TheVariants as event
 use Rattle.lapin_types.specs.declared.request.Reply.TheVariants as reply

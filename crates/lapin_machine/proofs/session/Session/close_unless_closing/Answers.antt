@@ -1,4 +1,4 @@
-use Rattle.std.proofs.Common.{◌≡◌, ◌∙◌, refl, sym, ap, subst, length, ℕ, List, Option, None}
+use Rattle.std.proofs.Common.{◌∙◌, refl, sym, ap, subst, None}
 use Rattle.lapin_types.specs.declared.record.Record.TheVariants as record_
 use Rattle.lapin_types.specs.Types.{Method}
 use Rattle.lapin_types.specs.Types.error
@@ -16,7 +16,7 @@ use Rattle.lapin_confirm.specs.Book.{Book, single_of}
 use Rattle.lapin_desk.specs.Queued.{AreQueued}
 use Rattle.lapin_machine.specs.World.{World, hearing}
 use Rattle.lapin_machine.proofs.Keeping.{tied_closing, tied_by, open_opening}
-use Rattle.lapin_machine.proofs.Worlds.{seen_is, failed_seen, failed_still}
+use Rattle.lapin_machine.proofs.Worlds.{seen_is, failed_seen}
 use Rattle.lapin_machine.proofs.session.Session.close_unless_closing.Goals as goal
 
 pub invariant_of-self-2 : goal.invariant_of-self-2

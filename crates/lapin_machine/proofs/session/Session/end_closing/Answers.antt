@@ -1,4 +1,4 @@
-use Rattle.std.proofs.Common.{◌≡◌, ◌∙◌, ℕ, refl, sym, ap, subst, List, Option, None, Ok}
+use Rattle.std.proofs.Common.{◌∙◌, ℕ, refl, ap, subst, List, Option, None, Ok}
 use Rattle.std.specs.List.{fold}
 use Rattle.lapin_types.specs.declared.answer.Answer.TheVariants as answer
 use Rattle.lapin_types.specs.declared.record.Record.TheVariants as record_

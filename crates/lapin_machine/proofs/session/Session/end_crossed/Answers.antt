@@ -1,4 +1,4 @@
-use Rattle.std.proofs.Common.{◌≡◌, ◌∙◌, refl, ap}
+use Rattle.std.proofs.Common.{◌∙◌, refl, ap}
 use Rattle.lapin_history.specs.ChannelClose.{close_ok_end}
 use Rattle.lapin_history.specs.ChannelClose.{hears_close_ok}
 use Rattle.lapin_history.specs.Base.{state_of, phase_of}

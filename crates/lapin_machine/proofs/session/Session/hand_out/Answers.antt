@@ -1,4 +1,4 @@
-use Rattle.std.proofs.Common.{◌≡◌, ◌∙◌, sym, ap, refl, List, Option, Some}
+use Rattle.std.proofs.Common.{◌∙◌, sym, ap, refl, Option}
 use Rattle.std.specs.List.{fold}
 use Rattle.lapin_types.specs.declared.leaving.Left.{Left}
 use Rattle.lapin_history.specs.Leaving.{Lists}

@@ -1,4 +1,4 @@
-use Rattle.std.proofs.Common.{◌≡◌, ◌∙◌, ℕ, refl, sym, ap, List, Option, Ok}
+use Rattle.std.proofs.Common.{◌∙◌, ℕ, refl, ap, Option, Ok}
 use Rattle.std.specs.List.{fold}
 use Rattle.lapin_types.specs.declared.answer.Answer.TheVariants as answer
 use Rattle.lapin_types.specs.declared.record.Record.TheVariants as record_
@@ -15,7 +15,7 @@ use Rattle.lapin_outbox.specs.Outgoing.{Outgoing}
 use Rattle.lapin_ticket.specs.declared.Slot.{Slot}
 use Rattle.lapin_ticket.specs.Desk as answers
 use Rattle.lapin_machine.specs.World.{World, hearing}
-use Rattle.lapin_machine.proofs.Keeping.{tied_further, tied_unless, tied_by}
+use Rattle.lapin_machine.proofs.Keeping.{tied_unless, tied_by}
 use Rattle.lapin_machine.proofs.Worlds.{seen_is, connection_answered}
 use Rattle.lapin_machine.proofs.session.Session.hear_connection_close_ok.Goals as goal
 

@@ -1,4 +1,4 @@
-use Rattle.std.proofs.Common.{◌≡◌, ◌∙◌, refl, sym, ap, not}
+use Rattle.std.proofs.Common.{◌∙◌, refl, sym, ap, not}
 use Rattle.lapin_history.specs.Leaving.{Lists}
 use Rattle.lapin_history.specs.Base.{is_open, state_of}
 use Rattle.lapin_machine.specs.World.{World}

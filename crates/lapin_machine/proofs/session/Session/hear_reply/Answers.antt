@@ -1,4 +1,4 @@
-use Rattle.std.proofs.Common.{◌≡◌, ◌∙◌, sym, ap, refl}
+use Rattle.std.proofs.Common.{◌∙◌, sym, ap, refl}
 use Rattle.lapin_history.specs.Reply.{hears}
 use Rattle.lapin_history.specs.Base.{state_of}
 use Rattle.lapin_outbox.specs.Outgoing.{Outgoing}

@@ -1,4 +1,4 @@
-use Rattle.std.proofs.Common.{◌≡◌, ◌∙◌, refl, sym, ap}
+use Rattle.std.proofs.Common.{◌∙◌, refl, sym, ap}
 use Rattle.lapin_types.specs.declared.event.Event.TheVariants as event
 use Rattle.lapin_types.specs.Types.error
 use Rattle.lapin_history.specs.Leaving.{Lists}

@@ -1,12 +1,9 @@
-use Rattle.std.proofs.Common.{◌≡◌, ◌∙◌, refl, sym, ap, None}
+use Rattle.std.proofs.Common.{◌∙◌, refl, ap, None}
 use Rattle.lapin_types.specs.Types.{Method}
 use Rattle.lapin_types.specs.Types.error
 use Rattle.lapin_tables.specs.Numbered.{Slots}
-use Rattle.lapin_history.specs.declared.phases.Link.TheVariants as link
 use Rattle.lapin_history.specs.Leaving.{Lists}
 use Rattle.lapin_history.specs.Drops.{no_lists}
-use Rattle.lapin_history.specs.Heard.{frame_class, frame_method}
-use Rattle.lapin_history.specs.Unexpected.{unexpected_close}
 use Rattle.lapin_history.specs.Unexpected.{refused}
 use Rattle.lapin_outbox.specs.Open.{OpenRequests}
 use Rattle.lapin_outbox.specs.Outgoing.{with_method}
