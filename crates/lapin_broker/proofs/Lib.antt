@@ -1,0 +1,3 @@
+pub mod PlainMay
+pub mod Settling
+pub mod Tables
