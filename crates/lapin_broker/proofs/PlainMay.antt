@@ -31,7 +31,7 @@ use Rattle.lapin_broker.specs.Sends.{none_waits, first_is, first_name, may, may_
 use Rattle.lapin_broker.specs.Plain.{given_name, reply_by, plain_ack, plain_open, or_close_ok, plain_in, plain_at, lowest_from, is_sending_on, plain}
 
 -- what holds of either branch holds of the choice
-of_if : {A : Type 0} (P : A → Type 0) (b : Bool) (x y : A) → (b ≡ true → P x) → (b ≡ false → P y) → P (if b then x else y)
+pub of_if : {A : Type 0} (P : A → Type 0) (b : Bool) (x y : A) → (b ≡ true → P x) → (b ≡ false → P y) → P (if b then x else y)
 of_if P true x y yes no = yes refl
 of_if P false x y yes no = no refl
 

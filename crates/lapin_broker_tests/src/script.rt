@@ -12,8 +12,9 @@
 //! | `waiting C N`, `numbered C N`, `settled C N B`, `delivers C TAG B` | the readers of those names tell that |
 
 use lapin_broker::{Broker, BrokerState, PeerState, PlainBroker};
-use lapin_text::read_frame;
-use lapin_types::{Frame, NoMemory};
+use lapin_method_text::read_method;
+use lapin_tokens::{ReadError, Tokens, payload, properties, u16_at, u64_at};
+use lapin_types::{ContentHeader, Frame, NoMemory};
 use std::alloc::Global;
 
 /// The first line of a script that doesn't hold, if any, on a broker that has run those before it.
@@ -74,13 +75,55 @@ fn frame_holds(
     word: &str,
     text: &str,
 ) -> Result<bool, NoMemory> {
-    let frame = read_frame(alloc, text.as_bytes())?;
-    let answer = match &frame {
-        Some(frame) => moves(alloc, broker, word, frame),
-        None => Ok(false),
+    match frame_of(alloc, text) {
+        Ok(frame) => {
+            let answer = moves(alloc, broker, word, &frame);
+            drop(frame);
+            answer
+        }
+        Err(ReadError::Bad) => Ok(false),
+        Err(ReadError::Memory) => Err(NoMemory),
+    }
+}
+
+fn frame_of(alloc: Global, text: &str) -> Result<Frame, ReadError> {
+    let Some((kind, rest)) = text.split_once(' ') else {
+        return Err(ReadError::Bad);
     };
-    drop(frame);
-    answer
+    let mut tokens = Tokens::new(rest.as_bytes());
+    match kind {
+        "method" => method_frame(alloc, &mut tokens),
+        "header" => header_frame(alloc, &mut tokens),
+        "body" => body_frame(alloc, &mut tokens),
+        _ => Err(ReadError::Bad),
+    }
+}
+
+fn method_frame(alloc: Global, tokens: &mut Tokens) -> Result<Frame, ReadError> {
+    let channel = u16_at(tokens)?;
+    let method = read_method(alloc, tokens)?;
+    Ok(Frame::Method(channel, method))
+}
+
+fn header_frame(alloc: Global, tokens: &mut Tokens) -> Result<Frame, ReadError> {
+    let channel = u16_at(tokens)?;
+    let class_id = u16_at(tokens)?;
+    let body_size = u64_at(tokens)?;
+    let properties = properties(alloc, tokens)?;
+    Ok(Frame::Header(
+        channel,
+        ContentHeader {
+            class_id,
+            body_size,
+            properties,
+        },
+    ))
+}
+
+fn body_frame(alloc: Global, tokens: &mut Tokens) -> Result<Frame, ReadError> {
+    let channel = u16_at(tokens)?;
+    let payload = payload(alloc, tokens)?;
+    Ok(Frame::Body(channel, payload))
 }
 
 fn moves(alloc: Global, broker: &mut Broker, word: &str, frame: &Frame) -> Result<bool, NoMemory> {
