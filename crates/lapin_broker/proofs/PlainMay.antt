@@ -32,8 +32,8 @@ use Rattle.lapin_broker.specs.Plain.{given_name, reply_by, plain_ack, plain_open
 
 -- what holds of either branch holds of the choice
 pub of_if : {A : Type 0} (P : A → Type 0) (b : Bool) (x y : A) → (b ≡ true → P x) → (b ≡ false → P y) → P (if b then x else y)
-of_if P true x y yes no = yes refl
-of_if P false x y yes no = no refl
+of_if P true x y holds fails = holds refl
+of_if P false x y holds fails = fails refl
 
 of_map : {A B : Type 0} (P : B → Type 0) (f : A → B) (o : Option A) → ((a : A) → o ≡ Some a → P (f a)) → IfSome (option_map f o) P
 of_map P f None each = tt
@@ -51,8 +51,8 @@ or_right : (a b : Bool) → b ≡ true → (a || b) ≡ true
 or_right true b h = refl
 or_right false b h = h
 
-apart_of : (b : Bool) → b ≡ true → b ≡ false → ⊥
-apart_of b yes no = cc
+pub apart_of : (b : Bool) → b ≡ true → b ≡ false → ⊥
+apart_of b holds fails = cc
 
 neither : (a b : Bool) → (a || b) ≡ false → (a ≡ false) × (b ≡ false)
 neither true b h = cc
@@ -141,11 +141,10 @@ record MayGo (p : Peer) (x : Channel) (t : List ℕ) (d : BrokerFrame) : Type 0 
   apart : is_connection_close d ≡ false
   apart_too : is_connection_close_ok d ≡ false
 
-Gives : Peer → ℕ → Channel → Method → Type 0
+abbrev Gives : Peer → ℕ → Channel → Method → Type 0
 Gives p c x m = MayGo p x (tag_of (frame.Method c m)) (broker_method c m)
 
 leaving_goes : (c : ℕ) (o : Option Method) (x : Channel) (m : Method) → is_idle x.sending ≡ true → plain_open x.waiting x ≡ o → or_close_ok o ≡ Some m → Gives peer.Leaving c x m
-unfolding Gives
 leaving_goes c None x m idle none given =
     let same : method.Channel channel.CloseOk ≡ m = cc in
     subst (λ m. MayGo peer.Leaving x (tag_of (frame.Method c m)) (broker_method c m)) same
@@ -154,11 +153,10 @@ leaving_goes c (Some k) x m idle some given =
     let same : Some k ≡ Some m = cc in
     let g = open_goes c x.waiting x m idle refl (some ∙ same) in
     let d : BrokerFrame = broker_method c m in
-    let stays : (is_close_ok d ≡ true) → may_leave x ≡ true = λ yes. absurd (apart_of (is_close_ok d) yes g.stays) in
+    let stays : (is_close_ok d ≡ true) → may_leave x ≡ true = λ holds. absurd (apart_of (is_close_ok d) holds g.stays) in
     record { goes = of_if (λ b. b ≡ true) (is_close_ok d) _ _ stays (λ _. g.opens); apart = g.apart; apart_too = g.apart_too }
 
 channel_goes : (p : Peer) (c : ℕ) (x : Channel) (m : Method) → is_idle x.sending ≡ true → plain_in p x ≡ Some m → Gives p c x m
-unfolding Gives
 channel_goes peer.StoppingOwes c x m idle given =
     let same : method.Channel channel.CloseOk ≡ m = cc in
     subst (λ m. MayGo peer.StoppingOwes x (tag_of (frame.Method c m)) (broker_method c m)) same (record { goes = refl; apart = refl; apart_too = refl })
@@ -187,10 +185,9 @@ idle_at c (e ∷ es) none =
 -- ---- The whole.
 
 may_go : (c : ℕ) (m : Method) (b : Broker) → is_up b.connection ≡ true → Gives (channel_at b c).peer c (channel_at b c) m → may b (frame.Method c m) ≡ true
-unfolding Gives
 may_go c m b up g =
-    of_if (λ v. v ≡ true) (is_connection_close (broker_method c m)) _ _ (λ yes. absurd (apart_of _ yes g.apart))
-    (λ _. of_if (λ v. v ≡ true) (is_connection_close_ok (broker_method c m)) _ _ (λ yes. absurd (apart_of _ yes g.apart_too))
+    of_if (λ v. v ≡ true) (is_connection_close (broker_method c m)) _ _ (λ holds. absurd (apart_of _ holds g.apart))
+    (λ _. of_if (λ v. v ≡ true) (is_connection_close_ok (broker_method c m)) _ _ (λ holds. absurd (apart_of _ holds g.apart_too))
     (λ _. and_from (is_up b.connection) _ up g.goes))
 
 at_goes : (b : Broker) (o : Option ℕ) → is_up b.connection ≡ true → list_any is_sending_on b.channels ≡ false → IfSome (plain_at b o) (λ f. may b f ≡ true)

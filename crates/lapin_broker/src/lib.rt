@@ -12,6 +12,7 @@ pub mod broker;
 mod channel;
 pub mod content;
 pub mod frames;
+pub mod laws;
 mod numbers;
 pub mod peer;
 pub mod plain;
