@@ -1,0 +1,4 @@
+pub mod PlainMay
+pub mod Settling
+pub mod SoundLaw
+pub mod Tables
