@@ -19,6 +19,3 @@ pub use marks::behind;
 pub use numbers::{read_num, u8_of, u16_of, u32_of, u64_of};
 pub use signed::{i8_of, i16_of, i32_of, i64_of};
 pub use writing::{put_flag, put_hex, put_number, put_pairs, put_signed};
-
-#[cfg(test)]
-mod tests;
