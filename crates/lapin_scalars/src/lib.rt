@@ -7,6 +7,7 @@
 pub mod bytes;
 pub mod fault;
 pub mod flags;
+mod hexadecimal;
 pub mod marks;
 pub mod numbers;
 pub mod signed;
