@@ -1,57 +1,43 @@
 #!/usr/bin/env python3
-"""Time and memory an event of the program's command `session`, and how they grow.
+"""What an event costs the program's command `session`: instructions, time and memory, a row a workload.
 
-It makes inputs, runs the built program on each and prints a table. It stands outside the gate: `rt run` in
-crates/lapin_run builds the program, and this script only runs it.
+It stands outside the gate: `rt run` in crates/lapin_run builds the program, and this script makes inputs and runs it.
 
-An input opens its channels, selects confirms on each, and then publishes in turn over them. A publish has its call, a
-`next` a frame, the broker's ack and a poll of its confirm. Either all publishes are outstanding before the first ack, or
-a window of them. What the opening costs is measured apart and taken off, so that a row says what a publish's events cost.
+Instructions are counted by `valgrind --tool=callgrind` and told as a slope: those of a larger input without those of a
+smaller one of the same kind, by the events that the larger one has more. They don't depend on what else the machine does.
+Time is user and system time, the least of some runs, as a slope between the same inputs. Memory is the most that the
+process held on the larger input, in all.
 
-    bench/run.py [--program PATH] [--repeat N] [--most EVENTS] [--quick]
+    bench/run.py [--program PATH] [--repeat N] [--only WORD] [--growth] [--no-valgrind]
 """
 import argparse
-import fcntl
 import os
+import re
 import subprocess
 import sys
 import tempfile
-import time
 
 FRAME_MAX = 131072
-LONGEST_INPUT = 16 * 1024 * 1024
 FIRST_LINE = f"frame_max {FRAME_MAX}"
 BODY_MAX = FRAME_MAX - 8
 
-# The sizes of inputs in events. The last one stands for as many as 16 MiB hold.
-SIZES = [1_000, 10_000, 100_000, 400_000, 10**9]
-PAYLOADS = [0, 100, 5_000]
-CHANNELS = [1, 1_000]
-WINDOWS = [None, 1_000]
 
-# The size that growth is told against, and the number of the Linux request that sets the length of a pipe.
-SMALL = 10_000
-SET_PIPE_LENGTH = 1031
-
-
-def opening(channels):
-    """Each channel is opened and selected, and frames are asked for that are not there."""
+def opened(channels, nowait=0):
+    """Each channel is opened, and its publishes are confirmed from then on."""
     for channel in range(1, channels + 1):
         yield f"call {channel} channel.open"
         yield "next 1"
         yield f"recv method {channel} channel.open-ok"
-        yield f"call {channel} confirm.select 0"
+        yield f"call {channel} confirm.select {nowait}"
         yield "next 1"
-        yield f"recv method {channel} confirm.select-ok"
-    for _ in range(1_000):
-        yield "next 1"
+        if not nowait:
+            yield f"recv method {channel} confirm.select-ok"
 
 
-def publish(channel, payload):
-    """A publish, and each of its frames."""
-    yield f"call {channel} basic.publish x x6b6579 0 0 x{payload} []"
-    frames = 2 + -(-(len(payload) // 2) // BODY_MAX)
-    for _ in range(frames):
+def publish(channel, length=0):
+    """A publish, and a request for each of its frames."""
+    yield f"call {channel} basic.publish x x6b6579 0 0 x{'61' * length} []"
+    for _ in range(2 + -(-length // BODY_MAX)):
         yield "next 1"
 
 
@@ -60,155 +46,143 @@ def settled(channel, tag, confirm):
     yield f"confirm {confirm}"
 
 
-def history(channels, outstanding, payload_length, events):
-    """The lines of a history with at most that many events behind the opening, as many as an input holds: publishes in
-    turn over the channels, each acknowledged once `outstanding` others left after it, or all at the end where that is
-    None."""
-    lines = list(opening(channels))
-    room = LONGEST_INPUT - len(FIRST_LINE) - 1 - sum(len(line) + 1 for line in lines)
-    most = events + len(lines)
-    payload = "61" * payload_length
-    waiting = []
-    first = 0
-    number = 0
-    while True:
+def published(count, length=0, window=0, channels=1):
+    """Publishes in turn over the channels, each settled and polled once `window` others were published after it."""
+    yield from opened(channels)
+    for number in range(count + window):
+        if number < count:
+            yield from publish(number % channels + 1, length)
+        if number >= window:
+            first = number - window
+            yield from settled(first % channels + 1, first // channels + 1, first + 1)
+
+
+def held(count):
+    """Publishes that wait for their frames, and leave all at once."""
+    yield from opened(1)
+    for _ in range(count):
+        yield from list(publish(1))[:1]
+    for _ in range(2 * count):
+        yield "next 1"
+
+
+def polls(count):
+    """Polls of a confirm that is outstanding, and of a ticket."""
+    yield from opened(1)
+    yield from publish(1)
+    for number in range(count):
+        yield "confirm 1" if number % 2 else "ticket 1"
+
+
+def closes(count, channels=1):
+    """Cycles: a channel is opened, publishes twice, and is closed by this side with a third publish that has not begun."""
+    for number in range(count):
         channel = number % channels + 1
-        sent = list(publish(channel, payload))
-        answered = list(settled(channel, number // channels + 1, number + 1))
-        room -= sum(len(line) + 1 for line in sent + answered)
-        to_come = 2 * (len(waiting) - first)
-        if room < 0 or len(lines) + len(sent) + len(answered) + to_come > most:
-            break
-        lines.extend(sent)
-        waiting.append(answered)
-        number += 1
-        if outstanding is not None and len(waiting) - first > outstanding:
-            lines.extend(waiting[first])
-            first += 1
-    for answered in waiting[first:]:
-        lines.extend(answered)
-    return lines
+        yield f"call {channel} channel.open"
+        yield "next 1"
+        yield f"recv method {channel} channel.open-ok"
+        yield f"call {channel} confirm.select 1"
+        yield "next 1"
+        yield from publish(channel)
+        yield from publish(channel)
+        yield from list(publish(channel))[:1]
+        yield f"call {channel} channel.close 200 x"
+        yield "next 1"
+        yield f"recv method {channel} channel.close-ok"
+
+
+# A row: its name, its input of so many turns, and the turns of the smaller and of the larger input.
+WORKLOADS = [
+    ("publish and confirm, empty", lambda n: published(n), 2_000, 20_000),
+    ("publish and confirm, 100 bytes", lambda n: published(n, length=100), 2_000, 10_000),
+    ("publish and confirm, 5,000 bytes", lambda n: published(n, length=5_000), 200, 1_000),
+    ("window of 1,000 outstanding", lambda n: published(n, window=1_000), 2_000, 20_000),
+    ("publish and confirm on 1,000 channels", lambda n: published(n, channels=1_000), 2_000, 20_000),
+    ("publishes held, then sent", held, 2_000, 20_000),
+    ("polls", polls, 10_000, 50_000),
+    ("closes", closes, 500, 5_000),
+    ("closes on 1,000 channels", lambda n: closes(n, channels=1_000), 2_000, 7_000),
+]
+
+# The same at other sizes: how an event's cost grows with the events before it.
+GROWTH = [
+    (f"publish and confirm, empty, {few:,} to {many:,} events", lambda n: published(n), few // 5, many // 5)
+    for few, many in [(10_000, 20_000), (100_000, 200_000), (400_000, 800_000)]
+]
 
 
 def write_input(path, lines):
+    """Writes an input, and answers how many events it has."""
+    events = 0
     with open(path, "w") as file:
-        file.write(FIRST_LINE + "\n" + "\n".join(lines) + "\n")
-
-
-def written(path, channels, outstanding, payload_length, size):
-    """Writes an input in a process of its own, so that this one stays small, and answers how many events it has."""
-    ends, begins = os.pipe()
-    child = os.fork()
-    if child == 0:
-        lines = history(channels, outstanding, payload_length, size)
-        write_input(path, lines)
-        os.write(begins, str(len(lines)).encode())
-        os._exit(0)
-    os.close(begins)
-    events = int(os.read(ends, 32))
-    os.close(ends)
-    os.waitpid(child, 0)
+        file.write(FIRST_LINE + "\n")
+        for line in lines:
+            file.write(line + "\n")
+            events += 1
     return events
 
 
-def spent(program, path, repeat):
-    """The least user and system time of some runs in seconds; short runs are made more often."""
-    least, total, runs = None, 0.0, 0
-    while runs < repeat or (total < 0.3 and runs < 50):
-        with open(path, "rb") as source, open(os.devnull, "wb") as sink:
-            child = subprocess.Popen([program, "session"], stdin=source, stdout=sink)
-            _, status, usage = os.wait4(child.pid, 0)
-            child.returncode = os.waitstatus_to_exitcode(status)
-        if child.returncode != 0:
-            sys.exit(f"the program ended with status {child.returncode} on {path}")
-        one = usage.ru_utime + usage.ru_stime
-        least = one if least is None else min(least, one)
-        total += one
-        runs += 1
+def run(command, path):
+    with open(path, "rb") as source:
+        done = subprocess.run(command, stdin=source, stdout=subprocess.DEVNULL, stderr=subprocess.PIPE)
+    if done.returncode != 0:
+        sys.exit(f"status {done.returncode} of {' '.join(command)} on {path}\n{done.stderr.decode()}")
+    return done.stderr.decode()
+
+
+def instructions(program, path):
+    told = run(["valgrind", "--tool=callgrind", "--callgrind-out-file=/dev/null", program, "session"], path)
+    return int(re.search(r"Collected : (\d+)", told)[1])
+
+
+def seconds(program, path, repeat):
+    """The least user and system time of the runs."""
+    least = None
+    for _ in range(repeat):
+        before = os.times()
+        run([program, "session"], path)
+        after = os.times()
+        spent = after.children_user - before.children_user + after.children_system - before.children_system
+        least = spent if least is None else min(least, spent)
     return least
 
 
 def peak(program, path):
-    """The most memory that a run held, in bytes. The program writes when all is done, and more than the pipe holds: so it
-    waits here, while its own peak is read. (The peak that `wait` tells would count this script's memory too.)"""
-    out, into = os.pipe()
-    fcntl.fcntl(into, SET_PIPE_LENGTH, 4096)
-    with open(path, "rb") as source:
-        child = subprocess.Popen([program, "session"], stdin=source, stdout=into)
-    os.close(into)
-    with open(out, "rb", buffering=0) as text:
-        text.read(1)
-        with open(f"/proc/{child.pid}/status") as file:
-            held = [int(line.split()[1]) * 1024 for line in file if line.startswith("VmHWM")]
-        while text.read(1 << 20):
-            pass
-    child.wait()
-    return held[0]
+    """The most memory that the process held, in bytes. `time` starts it: of a process that this script started itself, the
+    system would tell the script's own memory."""
+    return 1024 * int(run(["/usr/bin/time", "-f", "%M", program, "session"], path).split()[-1])
 
 
-def series(program, folder, repeat, most, channels, outstanding, payload):
-    """Inputs of one kind that grow: the size that was asked for, the events behind the opening, the bytes of the input, and
-    the seconds and bytes that are not the opening's."""
-    bare, full = os.path.join(folder, "opening"), os.path.join(folder, "input")
-    write_input(bare, opening(channels))
-    begun = sum(1 for _ in opening(channels))
-    bare_seconds, bare_memory = spent(program, bare, repeat), peak(program, bare)
-    last = 0
-    for size in SIZES:
-        events = written(full, channels, outstanding, payload, min(size, most)) - begun
-        if events < 1.3 * last or events == 0:
-            return
-        last = events
-        seconds = max(0.0, spent(program, full, repeat) - bare_seconds)
-        memory = max(0, peak(program, full) - bare_memory)
-        yield size, events, os.path.getsize(full), seconds, memory
-
-
-def rows(program, repeat, most, quick):
-    """Each row: its place in the plan, its events, its input's bytes, and the nanoseconds and bytes an event."""
-    with tempfile.TemporaryDirectory() as folder:
-        for outstanding in WINDOWS:
-            for payload in PAYLOADS if not quick else PAYLOADS[:1]:
-                for channels in CHANNELS:
-                    for size, events, length, seconds, memory in series(
-                        program, folder, repeat, most, channels, outstanding, payload
-                    ):
-                        place = channels, outstanding, payload, size
-                        yield place, events, length, seconds / events * 1e9, memory / events
-
-
-def ratio(now, before):
-    return f"{now / before:.2f}" if before else "-"
+def row(program, folder, repeat, counted, workload):
+    name, make, few, many = workload
+    small, large = os.path.join(folder, "small"), os.path.join(folder, "large")
+    more = -write_input(small, make(few)) + write_input(large, make(many))
+    count = "-"
+    if counted:
+        count = f"{(instructions(program, large) - instructions(program, small)) / more:,.0f}"
+    spent = max(0.0, seconds(program, large, repeat) - seconds(program, small, repeat)) / more * 1e9
+    mebi = 1 << 20
+    return f"| {name} | {count} | {spent:,.0f} | {os.path.getsize(large) / mebi:.2f} | {peak(program, large) / mebi:.2f} |"
 
 
 def main():
     here = os.path.dirname(os.path.abspath(__file__))
     words = argparse.ArgumentParser(description=__doc__, formatter_class=argparse.RawDescriptionHelpFormatter)
     words.add_argument("--program", default=os.path.join(here, "..", "crates", "lapin_run", "out", "lapin_run"))
-    words.add_argument("--repeat", type=int, default=3)
-    words.add_argument("--most", type=int, default=SIZES[-1])
-    words.add_argument("--quick", action="store_true", help="empty payloads alone")
+    words.add_argument("--repeat", type=int, default=5)
+    words.add_argument("--only", default="", help="the rows whose name has this word")
+    words.add_argument("--growth", action="store_true", help="the rows of growth too; they take minutes")
+    words.add_argument("--no-valgrind", action="store_true", help="without instructions")
     given = words.parse_args()
     if not os.path.exists(given.program):
         sys.exit(f"{given.program} isn't there: run `rt run` in crates/lapin_run first")
-    began = time.time()
-    load = os.getloadavg()[0]
-    print(f"{os.cpu_count()} processors, load {load:.1f}; user and system time, the least of {given.repeat} runs or more\n")
-    print("| outstanding | payload | channels | events | input bytes | ns an event | bytes an event | ns to 10,000 events | bytes to 10,000 events | ns to 1 channel | bytes to 1 channel |")
-    print("|---|---|---|---|---|---|---|---|---|---|---|")
-    seen = {}
-    for place, events, length, nanoseconds, memory in rows(given.program, given.repeat, given.most, given.quick):
-        channels, outstanding, payload, size = place
-        seen[place] = (nanoseconds, memory)
-        small = seen.get((channels, outstanding, payload, SMALL)) if size > SMALL else None
-        one = seen.get((1, outstanding, payload, size)) if channels > 1 else None
-        growth = [ratio(now, before[i]) if before else "" for before in (small, one) for i, now in enumerate((nanoseconds, memory))]
-        window = "all" if outstanding is None else outstanding
-        print(
-            f"| {window} | {payload} | {channels} | {events} | {length} | {nanoseconds:.0f} | {memory:.0f} | {' | '.join(growth)} |",
-            flush=True,
-        )
-    print(f"\ntook {time.time() - began:.0f} s, load {os.getloadavg()[0]:.1f} at the end")
+    print(f"{os.cpu_count()} processors, load {os.getloadavg()[0]:.1f}\n")
+    print("| workload | instructions an event | ns an event | input MiB | peak MiB |")
+    print("|---|---|---|---|---|")
+    with tempfile.TemporaryDirectory() as folder:
+        for workload in WORKLOADS + (GROWTH if given.growth else []):
+            if given.only in workload[0]:
+                print(row(given.program, folder, given.repeat, not given.no_valgrind, workload), flush=True)
 
 
 if __name__ == "__main__":

@@ -14,6 +14,3 @@ pub use sink::{Sink, SinkError};
 pub use source::{Failed, Source};
 pub use standard::{StdSink, StdSource};
 pub use sure::{SureSink, SureSource};
-
-#[cfg(test)]
-mod tests;

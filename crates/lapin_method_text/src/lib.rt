@@ -16,6 +16,3 @@ pub mod rows;
 pub mod tx;
 
 pub use methods::{put_method, read_method};
-
-#[cfg(test)]
-mod tests;

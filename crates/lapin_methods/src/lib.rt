@@ -16,8 +16,6 @@ pub mod method;
 pub mod options;
 pub mod queue;
 pub mod states;
-#[cfg(test)]
-mod tests;
 pub mod tx;
 
 pub use access::AccessMethod;

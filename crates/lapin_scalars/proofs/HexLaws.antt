@@ -1,44 +1,157 @@
 -- Bytes as pairs of hexadecimal digits, and short texts.
-use Rattle.std.proofs.Common.{◌≡◌, ℕ, suc, ◌<◌, ◌≤◌, List, [], ◌∷◌, length, get_or, Option, Some, None, Ok, Err, refl, sym, ap, subst, ◌∙◌, true, ltb, leb, ◌⊎◌, inl, inr}
-use Rattle.std.specs.Prelude.{◌&&◌}
+use Rattle.std.proofs.Common.{◌≡◌, ℕ, suc, Bool, ◌++◌, ◌+◌, ◌-◌, ◌*◌, ◌/◌, ◌%◌, ◌<◌, ◌≤◌, ◌≢◌, zero, false, arith, take, List, [], ◌∷◌, length, get_or, Option, Some, None, Ok, Err, refl, sym, ap, subst, ◌∙◌, true, ltb, leb, ◌⊎◌, inl, inr}
+use Rattle.std.specs.Prelude.{◌&&◌, ◌||◌, ◌==◌, slice_set}
+use Rattle.std.proofs.lemmas.Bool.{cases_lt, eqb-true}
+use Rattle.std.proofs.lemmas.List.{append_assoc, get_or_past, take_all, take_more, take_more_set}
 use Rattle.std.specs.Str.{is_utf8, IsUtf8}
 use Rattle.std.proofs.lemmas.Str.{IsUtf8-from_is_utf8, is_utf8-from_IsUtf8}
 use Rattle.std.proofs.lemmas.Bool.{lt-ltb, leb-true, le-leb}
-use Rattle.hex.specs.Hex.{encode_lower, decode_of}
-use Rattle.hex.specs.declared.error.FromHexError.{FromHexError}
-use Rattle.hex.specs.declared.error.FromHexError.TheVariants.{InvalidHexCharacter, OddLength, InvalidStringLength, OutOfMemory}
-use Rattle.hex.proofs.HexLemmas.{decode_of-encode_lower}
+use Rattle.hex.specs.Hex.{IsBytes, encode_lower, encode_with, lower_digits}
+use Rattle.hex.proofs.HexLemmas.{length-encode_with}
 use Rattle.lapin_scalars.specs.declared.fault.ReadError.{ReadError}
 use Rattle.lapin_scalars.specs.declared.fault.ReadError.TheVariants as errors
 use Rattle.lapin_scalars.specs.Scalars.{scalar_fits, are_bytes}
 use Rattle.lapin_scalars.specs.Scalars.Scalar.{text, bytes, pairs}
-use Rattle.lapin_scalars.specs.Reading.{hex_fault, Fails, scalar_of}
+use Rattle.lapin_scalars.specs.Reading.{Fails, scalar_of}
+use Rattle.lapin_scalars.specs.Digits.{is_digit, all_digits}
 use Rattle.lapin_scalars.proofs.ScalarLaws.{both_true, true_both, bytes_fit, scalar_again, scalar_found, is_scalar}
 
 pub fit_bytes : (s : List ℕ) → ((i : ℕ) → get_or s i 0 < 256) → are_bytes s ≡ true
 fit_bytes [] h = refl
 fit_bytes (b ∷ bs) h = true_both (ltb b 256) (are_bytes bs) (lt-ltb _ _ (h 0)) (fit_bytes bs (λ i. h (suc i)))
 
-pub pairs_some : (digits bs : List ℕ) → encode_lower bs ≡ digits → ((i : ℕ) → get_or bs i 0 < 256) → scalar_of pairs digits ≡ Some bs
-pairs_some digits bs same h = ap (scalar_of pairs) (sym same) ∙ scalar_again pairs bs (fit_bytes bs h)
+-- ---- the digits of the table
 
-decoded : (digits v : List ℕ) → are_bytes v ≡ true → digits ≡ encode_lower v → decode_of digits ≡ Ok v
-decoded digits v fit e = ap decode_of e ∙ decode_of-encode_lower v (bytes_fit v fit)
+abbrev below : (ℕ → Bool) → ℕ → Bool
+below test zero = true
+below test (suc n) = test n && below test n
 
-pub pairs_not_hex : (digits : List ℕ) (e : FromHexError) → decode_of digits ≡ Err e → scalar_of pairs digits ≡ None
-pairs_not_hex digits e err = sym (is_scalar pairs digits None (λ v fit t. let ok = decoded digits v fit t in cc))
+below-at : (test : ℕ → Bool) (n k : ℕ) → below test n ≡ true → k < n → test k ≡ true
+below-at test zero k h lt = absurd (omega arith)
+below-at test (suc n) k h lt =
+    let parts = both_true (test n) (below test n) h in
+    elim (cases_lt k n) [
+      | inl under ↦ below-at test n k parts.1 under
+      | inr top ↦
+          let e : k ≡ n = omega arith in
+          rw e parts.0
+    ]
 
-pub pairs_not_lower : (digits bs : List ℕ) → decode_of digits ≡ Ok bs → (encode_lower bs ≡ digits → ⊥) → scalar_of pairs digits ≡ None
-pairs_not_lower digits bs ok other = sym (is_scalar pairs digits None (λ v fit t. let again = decoded digits v fit t in let k : bs ≡ v = cc in other (ap encode_lower k ∙ sym t)))
+pub number_text : (d : ℕ) → d < 10 → get_or lower_digits d 0 ≡ 48 + d
+number_text d lt = eqb-true (get_or lower_digits d 0) (48 + d) (below-at (λ (n : ℕ). get_or lower_digits n 0 == 48 + n) 10 d refl lt)
 
-pub hex_fails : (e : FromHexError) (digits : List ℕ) → (e ≡ OutOfMemory) ⊎ (decode_of digits ≡ Err e) → Fails (hex_fault e) (scalar_of pairs digits)
-hex_fails OutOfMemory digits h = tt
-hex_fails OddLength digits (inl m) = absurd cc
-hex_fails OddLength digits (inr h) = pairs_not_hex digits OddLength h
-hex_fails InvalidStringLength digits (inl m) = absurd cc
-hex_fails InvalidStringLength digits (inr h) = pairs_not_hex digits InvalidStringLength h
-hex_fails (InvalidHexCharacter c i) digits (inl m) = absurd cc
-hex_fails (InvalidHexCharacter c i) digits (inr h) = pairs_not_hex digits (InvalidHexCharacter c i) h
+pub letter_text : (d : ℕ) → 10 ≤ d → d < 16 → get_or lower_digits d 0 ≡ 97 + (d - 10)
+letter_text d low high =
+    let e : 10 + (d - 10) ≡ d = omega arith in
+    sym (ap (λ (k : ℕ). get_or lower_digits k 0) e)
+    ∙ eqb-true (get_or lower_digits (10 + (d - 10)) 0) (97 + (d - 10)) (below-at (λ (n : ℕ). get_or lower_digits (10 + n) 0 == 97 + n) 6 (d - 10) refl (omega arith))
+
+either_true : (a b : Bool) → (a || b) ≡ true → (a ≡ true) ⊎ (b ≡ true)
+either_true true b e = inl refl
+either_true false b e = inr e
+
+-- what a digit says, by its bits
+pub value_text : (c v : ℕ) → is_digit c ≡ true → v ≡ c % 16 + 9 * (c / 64) → (v < 16) × (get_or lower_digits v 0 ≡ c)
+value_text c v h e = elim (either_true (leb 48 c && leb c 57) (leb 97 c && leb c 102) h) [
+  | inl number ↦
+      let p = both_true (leb 48 c) (leb c 57) number in
+      let low : 48 ≤ c = leb-true _ _ p.0 in
+      let high : c ≤ 57 = leb-true _ _ p.1 in
+      let d : v ≡ c - 48 = omega (arith, e, low, high) in
+      (omega (arith, d, low, high), number_text v (omega (arith, d, low, high)) ∙ omega (arith, d, low, high))
+  | inr letter ↦
+      let p = both_true (leb 97 c) (leb c 102) letter in
+      let low : 97 ≤ c = leb-true _ _ p.0 in
+      let high : c ≤ 102 = leb-true _ _ p.1 in
+      let d : v ≡ c - 87 = omega (arith, e, low, high) in
+      (omega (arith, d, low, high), letter_text v (omega (arith, d, low, high)) (omega (arith, d, low, high)) ∙ omega (arith, d, low, high))
+]
+
+pub digit_within : (cs : List ℕ) (i : ℕ) → all_digits cs ≡ true → i < length cs → is_digit (get_or cs i 0) ≡ true
+digit_within [] i e lt = absurd (omega arith)
+digit_within (c ∷ cs) zero e lt = (both_true (is_digit c) (all_digits cs) e).0
+digit_within (c ∷ cs) (suc i) e lt = digit_within cs i (both_true (is_digit c) (all_digits cs) e).1 (omega arith)
+
+-- ---- what digits are the text of
+
+within_table : (k : ℕ) → is_digit (get_or lower_digits k 0) ≡ true → k < 16
+within_table k h = elim (cases_lt k 16) [
+  | inl lt ↦ lt
+  | inr past ↦
+      let zero_there : get_or lower_digits k 0 ≡ 0 = get_or_past lower_digits k 0 past in
+      let no : is_digit 0 ≡ true = subst (λ (c : ℕ). is_digit c ≡ true) zero_there h in
+      absurd cc
+]
+
+are_bytes_behind : (bs : List ℕ) → all_digits (encode_lower bs) ≡ true → are_bytes bs ≡ true
+unfolding encode_with
+are_bytes_behind [] h = refl
+are_bytes_behind (b ∷ bs) h =
+    let p = both_true (is_digit (get_or lower_digits (b / 16) 0)) (is_digit (get_or lower_digits (b % 16) 0) && all_digits (encode_lower bs)) h in
+    let q = both_true (is_digit (get_or lower_digits (b % 16) 0)) (all_digits (encode_lower bs)) p.1 in
+    let small = within_table (b / 16) p.0 in
+    true_both (ltb b 256) (are_bytes bs) (lt-ltb _ _ (omega (arith, small))) (are_bytes_behind bs q.1)
+
+pub pairs_some : (digits bs : List ℕ) → all_digits digits ≡ true → encode_lower bs ≡ digits → scalar_of pairs digits ≡ Some bs
+pairs_some digits bs all same = ap (scalar_of pairs) (sym same) ∙ scalar_again pairs bs (are_bytes_behind bs (ap all_digits same ∙ all))
+
+all_digits_text : (bs : List ℕ) → IsBytes bs → all_digits (encode_lower bs) ≡ true
+unfolding encode_with
+all_digits_text [] h = refl
+all_digits_text (b ∷ bs) h =
+    let fits : b < 256 = h 0 in
+    let high = digit_within lower_digits (b / 16) refl (omega arith) in
+    let low = digit_within lower_digits (b % 16) refl (omega arith) in
+    true_both (is_digit (get_or lower_digits (b / 16) 0)) (is_digit (get_or lower_digits (b % 16) 0) && all_digits (encode_lower bs)) high
+    (true_both (is_digit (get_or lower_digits (b % 16) 0)) (all_digits (encode_lower bs)) low (all_digits_text bs (λ i. h (suc i))))
+
+pub pairs_odd : (digits : List ℕ) → length digits % 2 ≢ 0 → scalar_of pairs digits ≡ None
+pairs_odd digits odd = sym (is_scalar pairs digits None (λ v fit t. let two = length-encode_with lower_digits v in let e = ap length t in odd (omega (arith, two, e))))
+
+pub pairs_other : (digits : List ℕ) → all_digits digits ≡ false → scalar_of pairs digits ≡ None
+pairs_other digits other = sym (is_scalar pairs digits None (λ v fit t. let all = all_digits_text v (bytes_fit v fit) in let e = ap all_digits t in cc))
+
+-- ---- loops over digits
+
+and_true : (b : Bool) → (b && true) ≡ b
+and_true true = refl
+and_true false = refl
+
+and_after : (a b c r : Bool) → r ≡ (b && c) → (a && r) ≡ ((a && b) && c)
+and_after true b c r e = e
+and_after false b c r e = refl
+
+all_digits_push : (cs : List ℕ) (c : ℕ) → all_digits (cs ++ c ∷ []) ≡ (all_digits cs && is_digit c)
+all_digits_push [] c = and_true (is_digit c)
+all_digits_push (d ∷ cs) c = and_after (is_digit d) (all_digits cs) (is_digit c) (all_digits (cs ++ c ∷ [])) (all_digits_push cs c)
+
+pub all_digits_more : (cs : List ℕ) (i : ℕ) → i < length cs → all_digits (take (i + 1) cs) ≡ (all_digits (take i cs) && is_digit (get_or cs i 0))
+all_digits_more cs i lt = ap all_digits (take_more cs i 0 lt) ∙ all_digits_push (take i cs) (get_or cs i 0)
+
+encode_push : (t xs : List ℕ) (b : ℕ) → encode_with t (xs ++ b ∷ []) ≡ encode_with t xs ++ get_or t (b / 16) 0 ∷ get_or t (b % 16) 0 ∷ []
+unfolding encode_with
+encode_push t [] b = refl
+encode_push t (x ∷ xs) b = ap (λ (rest : List ℕ). get_or t (x / 16) 0 ∷ get_or t (x % 16) 0 ∷ rest) (encode_push t xs b)
+
+-- one byte more is decoded
+pub decode_step : (digits out : List ℕ) (i b x y : ℕ) → i < length out → 2 * i + 1 < length digits → x < 16 → y < 16 → b ≡ 16 * x + y
+    → get_or lower_digits x 0 ≡ get_or digits (2 * i) 0 → get_or lower_digits y 0 ≡ get_or digits (2 * i + 1) 0
+    → encode_lower (take i out) ≡ take (2 * i) digits → encode_lower (take (i + 1) (slice_set out i b)) ≡ take (2 * (i + 1)) digits
+decode_step digits out i b x y lt fits high low e first second inv =
+    let quotient : b / 16 ≡ x = omega arith in
+    let rest : b % 16 ≡ y = omega arith in
+    let a : get_or lower_digits (b / 16) 0 ≡ get_or digits (2 * i) 0 = ap (λ (k : ℕ). get_or lower_digits k 0) quotient ∙ first in
+    let z : get_or lower_digits (b % 16) 0 ≡ get_or digits (2 * i + 1) 0 = ap (λ (k : ℕ). get_or lower_digits k 0) rest ∙ second in
+    let two : 2 * (i + 1) ≡ 2 * i + 1 + 1 = omega arith in
+    let one = take_more digits (2 * i) 0 (omega arith) in
+    let other = take_more digits (2 * i + 1) 0 (omega arith) in
+    ap encode_lower (take_more_set out i b lt) ∙ encode_push lower_digits (take i out) b
+    ∙ rw (inv, a, z, two, other, one) (sym (append_assoc (take (2 * i) digits) (get_or digits (2 * i) 0 ∷ []) (get_or digits (2 * i + 1) 0 ∷ [])))
+
+-- every byte is decoded
+pub decode_done : (digits out : List ℕ) (i : ℕ) → length out ≤ i → length digits ≡ 2 * length out
+    → encode_lower (take i out) ≡ take (2 * i) digits → encode_lower out ≡ digits
+decode_done digits out i h len inv = sym (ap encode_lower (take_all i out h)) ∙ inv ∙ take_all (2 * i) digits (omega arith)
 
 -- ---- behind an x
 

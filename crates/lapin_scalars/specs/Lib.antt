@@ -1,3 +1,4 @@
 pub mod Scalars
 pub mod Reading
 pub mod Numerals
+pub mod Digits

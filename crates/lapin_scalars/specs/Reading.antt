@@ -4,8 +4,6 @@ use Rattle.std.specs.Str.{bytes_eq}
 use Rattle.std.specs.Result.{result_unwrap_or}
 use Rattle.std.specs.Str.Parse.{digits_value}
 use Rattle.hex.specs.Hex.{decode_of}
-use Rattle.hex.specs.declared.error.FromHexError.{FromHexError}
-use Rattle.hex.specs.declared.error.FromHexError.TheVariants.{InvalidHexCharacter, OddLength, InvalidStringLength, OutOfMemory}
 use Rattle.lapin_scalars.specs.declared.fault.ReadError.{ReadError}
 use Rattle.lapin_scalars.specs.declared.fault.ReadError.TheVariants as errors
 use Rattle.lapin_scalars.specs.Scalars.{Scalar, ScalarValue, scalar_text, scalar_fits}
@@ -47,10 +45,3 @@ Fails errors.Bad read = read ≡ None
 abbrev pub GivesValue : {X Y : Type 0} → (X → Y) → Result X ReadError → Option Y → Type 0
 GivesValue view (Ok x) read = read ≡ Some (view x)
 GivesValue view (Err e) read = Fails e read
-
--- what stops decoding, as an error of reading
-abbrev pub hex_fault : FromHexError → ReadError
-hex_fault OutOfMemory = errors.Memory
-hex_fault OddLength = errors.Bad
-hex_fault InvalidStringLength = errors.Bad
-hex_fault (InvalidHexCharacter _ _) = errors.Bad

@@ -3,39 +3,27 @@
 ghost use Rattle.std.specs.Prelude.{◌≡◌, ◌∷◌, ℕ, List, true, IfSome, IfNone, IfOk};
 ghost use Rattle.lapin_scalars.specs.Scalars.{scalar_text, scalar_fits};
 ghost use Rattle.lapin_scalars.specs.Scalars.Scalar.{text as a_text, bytes as some_bytes, pairs as some_pairs};
-ghost use Rattle.lapin_scalars.specs.Reading.{GivesValue, hex_fault, scalar_of};
+ghost use Rattle.lapin_scalars.specs.Reading.{GivesValue, scalar_of};
 
 use crate::fault::ReadError;
+use crate::hexadecimal::{are_digits, decode};
 use crate::marks::behind;
-use hex::FromHexError;
 use lapin_values::{NoMemory, Payload, ShortString, ShortStringError};
 use std::alloc::Global;
-
-fn fault_of(error: FromHexError) -> ReadError
-    ensures { result ≡ hex_fault error }
-{
-    match error {
-        FromHexError::OutOfMemory => ReadError::Memory,
-        _ => ReadError::Bad,
-    }
-}
 
 /// The bytes that pairs of digits say.
 pub fn pairs_of(alloc: Global, digits: &[u8]) -> Result<Vec<u8>, ReadError>
     ensures { GivesValue (λ v. v.items) result (scalar_of some_pairs digits.now) }
 {
-    match hex::decode(alloc, digits) {
-        Ok(bytes) => {
-            // `decode` reads upper case too.
-            let lower = hex::encode(alloc, &bytes)?;
-            if lower.as_bytes() == digits {
-                Ok(bytes)
-            } else {
-                Err(ReadError::Bad)
-            }
-        }
-        Err(error) => Err(fault_of(error)),
+    if digits.len() % 2 != 0 {
+        return Err(ReadError::Bad);
     }
+    if !are_digits(digits) {
+        return Err(ReadError::Bad);
+    }
+    let mut bytes = vec![in alloc; 0; digits.len() / 2]?;
+    decode(digits, &mut bytes);
+    Ok(bytes)
 }
 
 /// The bytes that an x and pairs of digits say.

@@ -7,6 +7,7 @@
 pub mod bytes;
 pub mod fault;
 pub mod flags;
+mod hexadecimal;
 pub mod marks;
 pub mod numbers;
 pub mod signed;
@@ -19,6 +20,3 @@ pub use marks::behind;
 pub use numbers::{read_num, u8_of, u16_of, u32_of, u64_of};
 pub use signed::{i8_of, i16_of, i32_of, i64_of};
 pub use writing::{put_flag, put_hex, put_number, put_pairs, put_signed};
-
-#[cfg(test)]
-mod tests;

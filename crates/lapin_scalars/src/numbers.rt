@@ -1,7 +1,8 @@
 //! Numbers in decimal, without leading zeros, and with a sign only below 0.
 
-ghost use Rattle.std.specs.Prelude.{◌≡◌, ◌≢◌, ◌↔◌, ◌<◌, ◌≤◌, ◌^◌, ◌∷◌, ℕ, ℤ, List, true, length, decimal, IsTrue, IfSome, IfNone};
+ghost use Rattle.std.specs.Prelude.{◌≡◌, ◌≢◌, ◌↔◌, ◌+◌, ◌*◌, ◌<◌, ◌≤◌, ◌^◌, ◌∷◌, ℕ, ℤ, List, true, length, decimal, IsTrue, IfSome, IfNone};
 ghost use Rattle.std.specs.Fmt.{signed_decimal};
+ghost use Rattle.std.specs.Char.{digit_value};
 ghost use Rattle.lapin_scalars.specs.Numerals.{StartsPlainly};
 ghost use Rattle.lapin_scalars.specs.Scalars.{in_range};
 ghost use Rattle.lapin_scalars.specs.Scalars.Scalar.{number as number_of, signed as signed_of};
@@ -15,8 +16,20 @@ fn starts_plainly(piece: &[u8]) -> bool
     match piece {
         [] => false,
         [b'0'] => true,
-        [first, ..] => *first != b'0' && *first != b'+',
+        [first, ..] => *first != b'0',
     }
+}
+
+// The number with one digit more behind it.
+#[inline(always)]
+fn with_digit(number: u64, byte: u8) -> Option<u64>
+    ensures some { IfSome result (λ n. (digit_value byte < 10) × (n ≡ number * 10 + digit_value byte) × (n < 2 ^ 64)) }
+    ensures none { IfNone result (digit_value byte < 10 → 2 ^ 64 ≤ number * 10 + digit_value byte) }
+{
+    if byte < b'0' || b'9' < byte {
+        return None;
+    }
+    number.checked_mul(10)?.checked_add(u64::from(byte - b'0'))
 }
 
 /// The number that a decimal without sign and leading zeros says, where it has at most 64 bits.
@@ -27,13 +40,11 @@ pub fn read_num(piece: &[u8]) -> Option<u64>
     if !starts_plainly(piece) {
         return None;
     }
-    match str::from_utf8(piece) {
-        Ok(text) => match text.parse::<u64>() {
-            Ok(number) => Some(number),
-            Err(_) => None,
-        },
-        Err(_) => None,
+    let mut number = 0;
+    for byte in piece {
+        number = with_digit(number, *byte)?;
     }
+    Some(number)
 }
 
 /// The number of 64 bits that the bytes say.

@@ -6,15 +6,24 @@ ghost use Rattle.std.specs.Prelude.{◌≡◌, ◌++◌, ◌^◌, OnOk};
 ghost use Rattle.lapin_scalars.specs.Scalars.{scalar_text};
 ghost use Rattle.lapin_scalars.specs.Scalars.Scalar.{bytes as some_bytes, pairs as some_pairs, flag as a_flag, number as a_number, signed as a_signed};
 
+use crate::hexadecimal::encode;
 use itoa::Buffer;
 use std::alloc::{AllocError, Global};
 
 /// Adds the digits of the bytes.
-pub fn put_pairs(alloc: Global, out: &mut Vec<u8>, bytes: &[u8]) -> Result<(), AllocError>
+pub fn put_pairs(_alloc: Global, out: &mut Vec<u8>, bytes: &[u8]) -> Result<(), AllocError>
     ensures { OnOk result (out.new.items ≡ out.old.items ++ scalar_text some_pairs bytes.now) }
 {
-    let digits = hex::encode(alloc, bytes)?;
-    out.extend_from_slice(digits.as_bytes())
+    let start = out.len();
+    let Some(count) = bytes.len().checked_mul(2) else {
+        return Err(AllocError);
+    };
+    let Some(end) = start.checked_add(count) else {
+        return Err(AllocError);
+    };
+    out.resize(end, 0)?;
+    encode(bytes, &mut out[start..]);
+    Ok(())
 }
 
 /// Adds an x and the digits of the bytes: the text of bytes, and of a short text.
@@ -26,9 +35,14 @@ pub fn put_hex(alloc: Global, out: &mut Vec<u8>, bytes: &[u8]) -> Result<(), All
 }
 
 /// Adds a number in decimal.
+#[tactic(auto, using(std::proofs::lemmas::Fmt::decimal_digit))]
 pub fn put_number(out: &mut Vec<u8>, number: u64) -> Result<(), AllocError>
     ensures { OnOk result (out.new.items ≡ out.old.items ++ scalar_text (a_number (2 ^ 64)) number) }
 {
+    if number < 10 {
+        out.push(b'0' + number as u8)?;
+        return Ok(());
+    }
     let mut buffer = Buffer::new();
     out.extend_from_slice(buffer.format(number).as_bytes())
 }

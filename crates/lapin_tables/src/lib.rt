@@ -6,8 +6,6 @@
 
 mod by_channel;
 mod numbered;
-#[cfg(test)]
-mod tests;
 
 pub use by_channel::ByChannel;
 pub use numbered::Numbered;

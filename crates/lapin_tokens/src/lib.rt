@@ -24,6 +24,3 @@ pub use lapin_scalars::{ReadError, read_bytes, read_num, read_short};
 pub use pieces::put_tokens;
 pub use token::Token;
 pub use tokens::Tokens;
-
-#[cfg(test)]
-mod tests;

@@ -12,6 +12,3 @@ pub use payload::Payload;
 pub use properties::BasicProperties;
 pub use text::{LongString, ShortString, ShortStringError};
 pub use value::{AMQPValue, FieldArray, FieldTable};
-
-#[cfg(test)]
-mod tests;

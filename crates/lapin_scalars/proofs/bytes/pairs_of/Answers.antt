@@ -1,19 +1,19 @@
-use Rattle.std.proofs.Common.{sym, ◌∙◌}
-use Rattle.std.proofs.lemmas.Slice.Eq.{slice_eq-Decides}
-use Rattle.std.proofs.lemmas.Bool.Decides.{Decides-eqb}
-use Rattle.hex.proofs.HexLemmas.{decode_of-ok}
-use Rattle.lapin_scalars.proofs.HexLaws.{pairs_some, pairs_not_lower, hex_fails}
+use Rattle.std.proofs.Common.{◌≡◌, ℕ, arith, rules, sym, ◌∙◌, length, drop, true, false}
+use Rattle.std.proofs.lemmas.List.{take_at}
+use Rattle.lapin_scalars.proofs.HexLaws.{pairs_some, pairs_odd, pairs_other}
 use Rattle.lapin_scalars.proofs.bytes.pairs_of.Goals as goal
 
-pub returns-then-eq : goal.returns-then-eq
-returns-then-eq c =
-    let same = (slice_eq-Decides Decides-eqb c.as_bytes.result.now c.args.digits.now c.eq.result c.eq.ensures).0 c.if-eq.true in
-    pairs_some c.args.digits.now c.in-Ok.bytes.items (sym c.in_ok-lower-in-Ok.ensures ∙ sym c.as_bytes.ensures.value ∙ same) (decode_of-ok c.args.digits.now c.in-Ok.bytes.items c.in-Ok.ensures.ok).3
+pub returns-then-digits-ne0 : goal.returns-then-digits-ne0
+returns-then-digits-ne0 c = pairs_odd c.args.digits.now c.if-digits-ne0.true
 
-pub returns-else-eq : goal.returns-else-eq
-returns-else-eq c =
-    let not = (slice_eq-Decides Decides-eqb c.as_bytes.result.now c.args.digits.now c.eq.result c.eq.ensures).1 in
-    pairs_not_lower c.args.digits.now c.in-Ok.bytes.items c.in-Ok.ensures.ok (λ e. let yes = not (c.as_bytes.ensures.value ∙ c.in_ok-lower-in-Ok.ensures ∙ e) in cc)
+pub returns-then-not-are_digits : goal.returns-then-not-are_digits
+returns-then-not-are_digits c =
+    let not : c.are_digits.result ≡ false = search rules in
+    pairs_other c.args.digits.now (sym c.are_digits.ensures ∙ not)
 
-pub returns-in-Err : goal.returns-in-Err
-returns-in-Err c = rw c.fault_of.ensures (hex_fails c.in-Err.error c.args.digits.now c.in-Err.ensures.err)
+pub returns : goal.returns
+returns c =
+    let all : c.are_digits.result ≡ true = search rules in
+    let len : length c.decode.new.bytes ≡ c.in_ok-bytes.bytes.len = omega arith in
+    rw (take_at c.decode.new.bytes (drop (length c.decode.new.bytes) c.in_ok-bytes.bytes.items) c.in_ok-bytes.bytes.len len)
+    (pairs_some c.args.digits.now c.decode.new.bytes (sym c.are_digits.ensures ∙ all) c.decode.ensures)
