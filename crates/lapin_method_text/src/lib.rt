@@ -15,7 +15,7 @@ pub mod queue;
 pub mod rows;
 pub mod tx;
 
-pub use methods::{put_method, read_method};
+pub use methods::{put_method, read_method, read_named};
 
 #[cfg(test)]
 mod tests;
