@@ -3,8 +3,9 @@ use Rattle.std.proofs.Common.{◌≡◌, ℕ, List, [], ◌∷◌, ◌++◌, Opt
 use Rattle.std.specs.Prelude.{codes, ◌||◌, if◌then◌else◌}
 use Rattle.std.specs.Str.{bytes_eq}
 use Rattle.std.proofs.lemmas.Slice.Eq.{bytes_eq-Decides}
-use Rattle.lapin_types.specs.Types.{Call, Method, ExchangeKind, ChannelMethod, AccessMethod, ExchangeMethod, QueueMethod, BasicMethod, ConfirmMethod, TxMethod}
-use Rattle.lapin_types.specs.Types.call
+use Rattle.lapin_types.specs.Types.{Method, ChannelMethod, AccessMethod, ExchangeMethod, QueueMethod, BasicMethod, ConfirmMethod, TxMethod}
+use Rattle.lapin_types.specs.declared.call.Call.{Call}
+use Rattle.lapin_types.specs.declared.call.Call.TheVariants as call
 use Rattle.lapin_types.specs.Types.method
 use Rattle.lapin_types.specs.Types.channel as channel_method
 use Rattle.lapin_types.specs.Types.access as access_method
@@ -13,7 +14,8 @@ use Rattle.lapin_types.specs.Types.queue as queue_method
 use Rattle.lapin_types.specs.Types.basic as basic_method
 use Rattle.lapin_types.specs.Types.confirm as confirm_method
 use Rattle.lapin_types.specs.Types.tx as tx_method
-use Rattle.lapin_types.specs.Types.exchange_kind
+use Rattle.lapin_types.specs.declared.exchange_kind.ExchangeKind.{ExchangeKind}
+use Rattle.lapin_types.specs.declared.exchange_kind.ExchangeKind.TheVariants as exchange_kind
 use Rattle.lapin_types.specs.ExchangeKinds.{kind_text}
 use Rattle.lapin_tokens.specs.Fields.{tokens}
 use Rattle.lapin_tokens.specs.Reading.{◌>>=◌, fields_at}

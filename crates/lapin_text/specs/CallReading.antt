@@ -1,8 +1,9 @@
 -- Reading a call from left to right: its name and the fields of its method, and then the call that queues this method.
 use Rattle.std.specs.Prelude.{ℕ, List, [], ◌∷◌, codes, Option, Some, None, if◌then◌else◌}
 use Rattle.std.specs.Str.{bytes_eq}
-use Rattle.lapin_types.specs.Types.{Call, Method, ChannelMethod, AccessMethod, ExchangeMethod, QueueMethod, BasicMethod, ConfirmMethod, TxMethod}
-use Rattle.lapin_types.specs.Types.call
+use Rattle.lapin_types.specs.Types.{Method, ChannelMethod, AccessMethod, ExchangeMethod, QueueMethod, BasicMethod, ConfirmMethod, TxMethod}
+use Rattle.lapin_types.specs.declared.call.Call.{Call}
+use Rattle.lapin_types.specs.declared.call.Call.TheVariants as call
 use Rattle.lapin_types.specs.Types.method
 use Rattle.lapin_types.specs.Types.channel as channel_method
 use Rattle.lapin_types.specs.Types.access as access_method

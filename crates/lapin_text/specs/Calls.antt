@@ -2,8 +2,9 @@
 -- alone, and a publish is followed by its bytes and its properties.
 use Rattle.std.specs.Prelude.{◌≡◌, ℕ, Bool, false, ◌||◌, List, [], ◌∷◌, ◌++◌, codes, if◌then◌else◌}
 use Rattle.std.specs.Str.{bytes_eq}
-use Rattle.lapin_types.specs.Types.{Call, Method, ExchangeKind}
-use Rattle.lapin_types.specs.Types.call
+use Rattle.lapin_types.specs.Types.{Method}
+use Rattle.lapin_types.specs.declared.call.Call.{Call}
+use Rattle.lapin_types.specs.declared.call.Call.TheVariants as call
 use Rattle.lapin_types.specs.Types.method
 use Rattle.lapin_types.specs.Types.connection as connection_method
 use Rattle.lapin_types.specs.Types.channel as channel_method
@@ -13,7 +14,8 @@ use Rattle.lapin_types.specs.Types.queue as queue_method
 use Rattle.lapin_types.specs.Types.basic as basic_method
 use Rattle.lapin_types.specs.Types.confirm as confirm_method
 use Rattle.lapin_types.specs.Types.tx as tx_method
-use Rattle.lapin_types.specs.Types.exchange_kind
+use Rattle.lapin_types.specs.declared.exchange_kind.ExchangeKind.{ExchangeKind}
+use Rattle.lapin_types.specs.declared.exchange_kind.ExchangeKind.TheVariants as exchange_kind
 use Rattle.lapin_types.specs.ExchangeKinds.{kind_text}
 use Rattle.lapin_tokens.specs.Fields.{Field, tokens, AllFit, short_number}
 use Rattle.lapin_tokens.specs.Fields.Field.{text, bytes, props}

@@ -14,7 +14,7 @@ use crate::frames::put_frame;
 use lapin_tokens::{Token, put_tokens};
 use lapin_types::{
     Answer, BasicGetMessage, BasicReturnMessage, ChannelState, Confirmation, ConnectionState,
-    Error, Queue, Record,
+    Delivery, Error, Queue, Record,
 };
 use std::alloc::{AllocError, Global};
 
