@@ -15,7 +15,7 @@ mod run;
 mod sending;
 mod session;
 
-pub use channel::{Channel, Heard, Published, PublisherConfirm, Ticket};
+pub use channel::{Heard, Published, PublisherConfirm, Ticket};
 pub use laws::{a_step_goes_on, an_event_uses_one_number, own_close_waits_alone};
 pub use run::run_session;
 pub use session::Session;

@@ -18,8 +18,8 @@ use Rattle.lapin_method_text.specs.declared.kinds.AccessKind.{AccessKind}
 use Rattle.lapin_method_text.specs.declared.kinds.AccessKind.TheVariants as access_kind
 use Rattle.lapin_methods.specs.declared.access.AccessMethod.{AccessMethod}
 use Rattle.lapin_methods.specs.declared.access.AccessMethod.TheVariants as access_method
-use Rattle.lapin_method_text.specs.declared.kinds.ExchangeKind.{ExchangeKind}
-use Rattle.lapin_method_text.specs.declared.kinds.ExchangeKind.TheVariants as exchange_kind
+use Rattle.lapin_method_text.specs.declared.kinds.ExchangeMethodKind.{ExchangeMethodKind}
+use Rattle.lapin_method_text.specs.declared.kinds.ExchangeMethodKind.TheVariants as exchange_kind
 use Rattle.lapin_methods.specs.declared.exchange.ExchangeMethod.{ExchangeMethod}
 use Rattle.lapin_methods.specs.declared.exchange.ExchangeMethod.TheVariants as exchange_method
 use Rattle.lapin_method_text.specs.declared.kinds.QueueKind.{QueueKind}
@@ -134,10 +134,10 @@ access_again m rest h = rw ((access_laws m).spells, (access_rows (access_parts m
 
 -- ---- the class exchange
 
-abbrev exchange_table : Table ExchangeKind ExchangeMethod
+abbrev exchange_table : Table ExchangeMethodKind ExchangeMethod
 exchange_table = record { name = exchange_name; fields = exchange_fields; made = exchange_made; parts = exchange_parts; spelled = exchange_tokens; reading = exchange_at }
 
-exchange_rows : (k : ExchangeKind) → RowLaws exchange_table kind_at kind.Exchange k
+exchange_rows : (k : ExchangeMethodKind) → RowLaws exchange_table kind_at kind.Exchange k
 unfolding kind_at exchange_at
 exchange_rows exchange_kind.Declare = record { named = refl; plain = refl; reads = λ _. refl; parted = λ _. refl }
 exchange_rows exchange_kind.DeclareOk = record { named = refl; plain = refl; reads = λ _. refl; parted = λ _. refl }
@@ -158,7 +158,7 @@ exchange_laws exchange_method.BindOk = record { remade = refl; spells = refl }
 exchange_laws (exchange_method.Unbind destination source routing_key nowait arguments) = record { remade = refl; spells = refl }
 exchange_laws exchange_method.UnbindOk = record { remade = refl; spells = refl }
 
-exchange_found : (k : ExchangeKind) (rest : List (List ℕ)) (x : Method × List (List ℕ)) → of_kind (kind.Exchange k) rest ≡ Some x → IsMethod (kind.Exchange k) rest x
+exchange_found : (k : ExchangeMethodKind) (rest : List (List ℕ)) (x : Method × List (List ℕ)) → of_kind (kind.Exchange k) rest ≡ Some x → IsMethod (kind.Exchange k) rest x
 exchange_found k rest x e =
     let a = bind_some (exchange_at k rest) (λ y. Some (method.Exchange y.0, y.1)) x e in
     subst (λ (y : Method × List (List ℕ)). IsMethod (kind.Exchange k) rest y) (some_is (method.Exchange a.0.0, a.0.1) x a.2) (entry_found exchange_table kind_at kind.Exchange exchange_rows exchange_laws k rest a.0 a.1)

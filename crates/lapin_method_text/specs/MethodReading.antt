@@ -15,8 +15,8 @@ use Rattle.lapin_methods.specs.declared.channel.ChannelMethod.{ChannelMethod}
 use Rattle.lapin_method_text.specs.declared.kinds.AccessKind.{AccessKind}
 use Rattle.lapin_method_text.specs.declared.kinds.AccessKind.TheVariants as access_kind
 use Rattle.lapin_methods.specs.declared.access.AccessMethod.{AccessMethod}
-use Rattle.lapin_method_text.specs.declared.kinds.ExchangeKind.{ExchangeKind}
-use Rattle.lapin_method_text.specs.declared.kinds.ExchangeKind.TheVariants as exchange_kind
+use Rattle.lapin_method_text.specs.declared.kinds.ExchangeMethodKind.{ExchangeMethodKind}
+use Rattle.lapin_method_text.specs.declared.kinds.ExchangeMethodKind.TheVariants as exchange_kind
 use Rattle.lapin_methods.specs.declared.exchange.ExchangeMethod.{ExchangeMethod}
 use Rattle.lapin_method_text.specs.declared.kinds.QueueKind.{QueueKind}
 use Rattle.lapin_method_text.specs.declared.kinds.QueueKind.TheVariants as queue_kind
@@ -54,7 +54,7 @@ unfoldable pub access_at : AccessKind → List (List ℕ) → Option (AccessMeth
 access_at access_kind.Request pieces = fields_at (access_fields access_kind.Request) (access_made access_kind.Request) pieces
 access_at access_kind.RequestOk pieces = fields_at (access_fields access_kind.RequestOk) (access_made access_kind.RequestOk) pieces
 
-unfoldable pub exchange_at : ExchangeKind → List (List ℕ) → Option (ExchangeMethod × List (List ℕ))
+unfoldable pub exchange_at : ExchangeMethodKind → List (List ℕ) → Option (ExchangeMethod × List (List ℕ))
 exchange_at exchange_kind.Declare pieces = fields_at (exchange_fields exchange_kind.Declare) (exchange_made exchange_kind.Declare) pieces
 exchange_at exchange_kind.DeclareOk pieces = fields_at (exchange_fields exchange_kind.DeclareOk) (exchange_made exchange_kind.DeclareOk) pieces
 exchange_at exchange_kind.Delete pieces = fields_at (exchange_fields exchange_kind.Delete) (exchange_made exchange_kind.Delete) pieces

@@ -17,8 +17,8 @@ use Rattle.lapin_method_text.specs.declared.kinds.AccessKind.{AccessKind}
 use Rattle.lapin_method_text.specs.declared.kinds.AccessKind.TheVariants as access_kind
 use Rattle.lapin_methods.specs.declared.access.AccessMethod.{AccessMethod}
 use Rattle.lapin_methods.specs.declared.access.AccessMethod.TheVariants as access_method
-use Rattle.lapin_method_text.specs.declared.kinds.ExchangeKind.{ExchangeKind}
-use Rattle.lapin_method_text.specs.declared.kinds.ExchangeKind.TheVariants as exchange_kind
+use Rattle.lapin_method_text.specs.declared.kinds.ExchangeMethodKind.{ExchangeMethodKind}
+use Rattle.lapin_method_text.specs.declared.kinds.ExchangeMethodKind.TheVariants as exchange_kind
 use Rattle.lapin_methods.specs.declared.exchange.ExchangeMethod.{ExchangeMethod}
 use Rattle.lapin_methods.specs.declared.exchange.ExchangeMethod.TheVariants as exchange_method
 use Rattle.lapin_method_text.specs.declared.kinds.QueueKind.{QueueKind}
@@ -129,7 +129,7 @@ access_tokens access_method.RequestOk = codes "access.request-ok" ∷ []
 
 -- ---- exchange (AMQP 0-9-1, class 40, with RabbitMQ's bindings between exchanges)
 
-abbrev pub exchange_name : ExchangeKind → List ℕ
+abbrev pub exchange_name : ExchangeMethodKind → List ℕ
 exchange_name exchange_kind.Declare = codes "exchange.declare"
 exchange_name exchange_kind.DeclareOk = codes "exchange.declare-ok"
 exchange_name exchange_kind.Delete = codes "exchange.delete"
@@ -139,7 +139,7 @@ exchange_name exchange_kind.BindOk = codes "exchange.bind-ok"
 exchange_name exchange_kind.Unbind = codes "exchange.unbind"
 exchange_name exchange_kind.UnbindOk = codes "exchange.unbind-ok"
 
-abbrev pub exchange_fields : ExchangeKind → List Field
+abbrev pub exchange_fields : ExchangeMethodKind → List Field
 exchange_fields exchange_kind.Declare = text ∷ text ∷ flag ∷ flag ∷ flag ∷ flag ∷ flag ∷ table ∷ []
 exchange_fields exchange_kind.DeclareOk = []
 exchange_fields exchange_kind.Delete = text ∷ flag ∷ flag ∷ []
@@ -149,7 +149,7 @@ exchange_fields exchange_kind.BindOk = []
 exchange_fields exchange_kind.Unbind = text ∷ text ∷ text ∷ flag ∷ table ∷ []
 exchange_fields exchange_kind.UnbindOk = []
 
-abbrev pub exchange_made : (k : ExchangeKind) → Values (exchange_fields k) → ExchangeMethod
+abbrev pub exchange_made : (k : ExchangeMethodKind) → Values (exchange_fields k) → ExchangeMethod
 exchange_made exchange_kind.Declare v = exchange_method.Declare v.0 v.1.0 v.1.1.0 v.1.1.1.0 v.1.1.1.1.0 v.1.1.1.1.1.0 v.1.1.1.1.1.1.0 v.1.1.1.1.1.1.1.0
 exchange_made exchange_kind.DeclareOk v = exchange_method.DeclareOk
 exchange_made exchange_kind.Delete v = exchange_method.Delete v.0 v.1.0 v.1.1.0
@@ -159,7 +159,7 @@ exchange_made exchange_kind.BindOk v = exchange_method.BindOk
 exchange_made exchange_kind.Unbind v = exchange_method.Unbind v.0 v.1.0 v.1.1.0 v.1.1.1.0 v.1.1.1.1.0
 exchange_made exchange_kind.UnbindOk v = exchange_method.UnbindOk
 
-abbrev pub exchange_parts : ExchangeMethod → (k : ExchangeKind) × Values (exchange_fields k)
+abbrev pub exchange_parts : ExchangeMethod → (k : ExchangeMethodKind) × Values (exchange_fields k)
 exchange_parts (exchange_method.Declare exchange kind passive durable auto_delete internal nowait arguments) = (exchange_kind.Declare, (exchange, (kind, (passive, (durable, (auto_delete, (internal, (nowait, (arguments, tt)))))))))
 exchange_parts exchange_method.DeclareOk = (exchange_kind.DeclareOk, tt)
 exchange_parts (exchange_method.Delete exchange if_unused nowait) = (exchange_kind.Delete, (exchange, (if_unused, (nowait, tt))))

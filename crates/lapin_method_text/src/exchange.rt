@@ -8,7 +8,7 @@ ghost use Rattle.lapin_tokens.specs.TokenText.{onto};
 ghost use Rattle.lapin_method_text.specs.Methods.{exchange_tokens};
 ghost use Rattle.lapin_method_text.specs.MethodReading.{exchange_at};
 
-use crate::kinds::ExchangeKind;
+use crate::kinds::ExchangeMethodKind;
 use crate::rows::{put_row, read_row, token_of, value_at};
 use lapin_methods::ExchangeMethod;
 use lapin_tokens::{ReadError, Token, Tokens, flag, put_tokens, table, text};
@@ -16,7 +16,7 @@ use std::alloc::{AllocError, Global};
 
 macro_rules! exchange_table {
     ($row:ident, $($given:tt),*) => {
-        $row!($($given),*; ExchangeKind, ExchangeMethod;
+        $row!($($given),*; ExchangeMethodKind, ExchangeMethod;
             Declare b"exchange.declare" { exchange: text, kind: text, passive: flag, durable: flag,
                 auto_delete: flag, internal: flag, nowait: flag, arguments: table },
             DeclareOk b"exchange.declare-ok" {},
@@ -36,7 +36,7 @@ macro_rules! exchange_table {
 #[tactic(auto, unfolding(crate::specs::MethodReading::exchange_at))]
 pub fn read_exchange(
     alloc: Global,
-    kind: ExchangeKind,
+    kind: ExchangeMethodKind,
     tokens: &mut Tokens,
 ) -> Result<ExchangeMethod, ReadError>
     ensures { Gives result tokens.new (exchange_at kind tokens.old) }

@@ -33,7 +33,7 @@ pub enum AccessKind {
 
 /// The methods of the class exchange (AMQP 0-9-1, class 40, with RabbitMQ's bindings between exchanges).
 #[derive(Clone, Copy, Debug, PartialEq, Eq)]
-pub enum ExchangeKind {
+pub enum ExchangeMethodKind {
     Declare,
     DeclareOk,
     Delete,
@@ -106,7 +106,7 @@ pub enum MethodKind {
     Connection(ConnectionKind),
     Channel(ChannelKind),
     Access(AccessKind),
-    Exchange(ExchangeKind),
+    Exchange(ExchangeMethodKind),
     Queue(QueueKind),
     Basic(BasicKind),
     Confirm(ConfirmKind),
@@ -125,14 +125,14 @@ pub const KINDS: [MethodKind; 54] = [
     MethodKind::Channel(ChannelKind::CloseOk),
     MethodKind::Access(AccessKind::Request),
     MethodKind::Access(AccessKind::RequestOk),
-    MethodKind::Exchange(ExchangeKind::Declare),
-    MethodKind::Exchange(ExchangeKind::DeclareOk),
-    MethodKind::Exchange(ExchangeKind::Delete),
-    MethodKind::Exchange(ExchangeKind::DeleteOk),
-    MethodKind::Exchange(ExchangeKind::Bind),
-    MethodKind::Exchange(ExchangeKind::BindOk),
-    MethodKind::Exchange(ExchangeKind::Unbind),
-    MethodKind::Exchange(ExchangeKind::UnbindOk),
+    MethodKind::Exchange(ExchangeMethodKind::Declare),
+    MethodKind::Exchange(ExchangeMethodKind::DeclareOk),
+    MethodKind::Exchange(ExchangeMethodKind::Delete),
+    MethodKind::Exchange(ExchangeMethodKind::DeleteOk),
+    MethodKind::Exchange(ExchangeMethodKind::Bind),
+    MethodKind::Exchange(ExchangeMethodKind::BindOk),
+    MethodKind::Exchange(ExchangeMethodKind::Unbind),
+    MethodKind::Exchange(ExchangeMethodKind::UnbindOk),
     MethodKind::Queue(QueueKind::Declare),
     MethodKind::Queue(QueueKind::DeclareOk),
     MethodKind::Queue(QueueKind::Bind),
@@ -202,18 +202,18 @@ fn name_of_access(kind: AccessKind) -> &'static [u8]
     }
 }
 
-fn name_of_exchange(kind: ExchangeKind) -> &'static [u8]
+fn name_of_exchange(kind: ExchangeMethodKind) -> &'static [u8]
     ensures { result.now ≡ exchange_name kind }
 {
     match kind {
-        ExchangeKind::Declare => b"exchange.declare",
-        ExchangeKind::DeclareOk => b"exchange.declare-ok",
-        ExchangeKind::Delete => b"exchange.delete",
-        ExchangeKind::DeleteOk => b"exchange.delete-ok",
-        ExchangeKind::Bind => b"exchange.bind",
-        ExchangeKind::BindOk => b"exchange.bind-ok",
-        ExchangeKind::Unbind => b"exchange.unbind",
-        ExchangeKind::UnbindOk => b"exchange.unbind-ok",
+        ExchangeMethodKind::Declare => b"exchange.declare",
+        ExchangeMethodKind::DeclareOk => b"exchange.declare-ok",
+        ExchangeMethodKind::Delete => b"exchange.delete",
+        ExchangeMethodKind::DeleteOk => b"exchange.delete-ok",
+        ExchangeMethodKind::Bind => b"exchange.bind",
+        ExchangeMethodKind::BindOk => b"exchange.bind-ok",
+        ExchangeMethodKind::Unbind => b"exchange.unbind",
+        ExchangeMethodKind::UnbindOk => b"exchange.unbind-ok",
     }
 }
 

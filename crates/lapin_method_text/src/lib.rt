@@ -15,4 +15,4 @@ pub mod queue;
 pub mod rows;
 pub mod tx;
 
-pub use methods::{put_method, read_method};
+pub use methods::{put_method, read_method, read_named};

@@ -1,6 +1,6 @@
 //! Methods of all classes as text: the name, and then the fields by the table of the class.
 
-ghost use Rattle.std.specs.Prelude.{◌≡◌, OnOk};
+ghost use Rattle.std.specs.Prelude.{◌≡◌, ◌∷◌, OnOk};
 ghost use Rattle.lapin_tokens.specs.Reading.{Gives};
 ghost use Rattle.lapin_tokens.specs.TokenText.{onto};
 ghost use Rattle.lapin_method_text.specs.Methods.{method_tokens};
@@ -19,6 +19,28 @@ use lapin_methods::Method;
 use lapin_tokens::{ReadError, Tokens};
 use std::alloc::{AllocError, Global};
 
+/// The method of this name, whose fields are the next tokens.
+#[tactic(auto, unfolding(crate::specs::MethodReading::method_at))]
+pub fn read_named(alloc: Global, name: &[u8], tokens: &mut Tokens) -> Result<Method, ReadError>
+    ensures { Gives result tokens.new (method_at (name.now ∷ tokens.old)) }
+{
+    match kind_named(name) {
+        None => Err(ReadError::Bad),
+        Some(MethodKind::Connection(kind)) => Ok(Method::Connection(read_connection(
+            alloc, kind, tokens,
+        )?)),
+        Some(MethodKind::Channel(kind)) => Ok(Method::Channel(read_channel(alloc, kind, tokens)?)),
+        Some(MethodKind::Access(kind)) => Ok(Method::Access(read_access(alloc, kind, tokens)?)),
+        Some(MethodKind::Exchange(kind)) => Ok(Method::Exchange(read_exchange(
+            alloc, kind, tokens,
+        )?)),
+        Some(MethodKind::Queue(kind)) => Ok(Method::Queue(read_queue(alloc, kind, tokens)?)),
+        Some(MethodKind::Basic(kind)) => Ok(Method::Basic(read_basic(alloc, kind, tokens)?)),
+        Some(MethodKind::Confirm(kind)) => Ok(Method::Confirm(read_confirm(alloc, kind, tokens)?)),
+        Some(MethodKind::Tx(kind)) => Ok(Method::Tx(read_tx(alloc, kind, tokens)?)),
+    }
+}
+
 /// The method whose name and fields are the next tokens.
 #[tactic(auto, unfolding(crate::specs::MethodReading::method_at))]
 pub fn read_method(alloc: Global, tokens: &mut Tokens) -> Result<Method, ReadError>
@@ -26,25 +48,7 @@ pub fn read_method(alloc: Global, tokens: &mut Tokens) -> Result<Method, ReadErr
 {
     match tokens.next() {
         None => Err(ReadError::Bad),
-        Some(name) => match kind_named(name) {
-            None => Err(ReadError::Bad),
-            Some(MethodKind::Connection(kind)) => Ok(Method::Connection(read_connection(
-                alloc, kind, tokens,
-            )?)),
-            Some(MethodKind::Channel(kind)) => Ok(Method::Channel(read_channel(
-                alloc, kind, tokens,
-            )?)),
-            Some(MethodKind::Access(kind)) => Ok(Method::Access(read_access(alloc, kind, tokens)?)),
-            Some(MethodKind::Exchange(kind)) => Ok(Method::Exchange(read_exchange(
-                alloc, kind, tokens,
-            )?)),
-            Some(MethodKind::Queue(kind)) => Ok(Method::Queue(read_queue(alloc, kind, tokens)?)),
-            Some(MethodKind::Basic(kind)) => Ok(Method::Basic(read_basic(alloc, kind, tokens)?)),
-            Some(MethodKind::Confirm(kind)) => Ok(Method::Confirm(read_confirm(
-                alloc, kind, tokens,
-            )?)),
-            Some(MethodKind::Tx(kind)) => Ok(Method::Tx(read_tx(alloc, kind, tokens)?)),
-        },
+        Some(name) => read_named(alloc, name, tokens),
     }
 }
 

@@ -11,8 +11,7 @@ ghost use Rattle.lapin_text.specs.Records.{record_tokens, line_onto};
 ghost use Rattle.lapin_run.specs.Session.{Prints, PrintsRecords, PrintsEvents, PrintsFrom, bad_line_text};
 
 use lapin_machine::Session;
-use lapin_text::records::put_record;
-use lapin_text::{Lines, read_event, read_max};
+use lapin_text::{Lines, put_record, read_event, read_max};
 use lapin_types::{Error, Event, NoMemory, Record};
 use std::alloc::Global;
 

@@ -1,4 +1,4 @@
--- Frames, calls, events and lines: what was written is read, and what was read is spelled so.
+-- Frames, events and lines: what was written is read, and what was read is spelled so.
 use Rattle.std.proofs.Common.{◌≡◌, ℕ, ◌<◌, List, [], ◌∷◌, ◌++◌, length, Option, Some, None, refl, sym, ap, subst, ◌∙◌, eqb, arith}
 use Rattle.std.specs.Str.{bytes_eq}
 use Rattle.std.specs.List.{join_with_byte, slice_split}
@@ -7,16 +7,11 @@ use Rattle.std.proofs.lemmas.List.Splits.{join_with_byte-slice_split}
 use Rattle.std.proofs.lemmas.Slice.Eq.{bytes_eq-Decides}
 use Rattle.lapin_types.specs.Types.{Frame}
 use Rattle.lapin_types.specs.Types.frame
-use Rattle.lapin_types.specs.declared.call.Call.{Call}
-use Rattle.lapin_types.specs.declared.call.Call.TheVariants as call
 use Rattle.lapin_types.specs.declared.event.Event.{Event}
 use Rattle.lapin_types.specs.declared.event.Event.TheVariants as event
 use Rattle.lapin_text.specs.declared.words.TheConstants.{WORDS}
 use Rattle.lapin_text.specs.declared.words.Word.{Word}
 use Rattle.lapin_text.specs.declared.words.Word.TheVariants as word
-use Rattle.lapin_text.specs.declared.calls.TheConstants.{CALLS}
-use Rattle.lapin_text.specs.declared.calls.CallKind.{CallKind}
-use Rattle.lapin_text.specs.declared.calls.CallKind.TheVariants as kind
 use Rattle.lapin_tokens.specs.Fields.{Values, token, short_number, wide_number}
 use Rattle.lapin_tokens.specs.Fields.Field.{flag}
 use Rattle.lapin_tokens.specs.Reading.{◌>>=◌, field_at}
@@ -25,12 +20,13 @@ use Rattle.lapin_tokens.proofs.Plain.{AllPlain, split_join}
 use Rattle.lapin_tokens.proofs.PlainFields.{plain_token, plain_tokens}
 use Rattle.lapin_method_text.specs.Methods.{method_tokens}
 use Rattle.lapin_method_text.specs.MethodReading.{method_at}
-use Rattle.lapin_method_text.proofs.Entries.{Table, RowLaws, EntryLaws, entry_found, entry_again, plain_entry}
 use Rattle.lapin_method_text.proofs.MethodLaws.{plain_method, method_again, method_found}
 use Rattle.lapin_text.specs.Frames.{header_fields, body_fields, frame_tokens, FrameFits, frame_text}
-use Rattle.lapin_text.specs.Calls.{call_name, call_fields, call_made, call_parts, call_tokens, CallFits}
+use Rattle.lapin_text.specs.Calls.{call_tokens, CallFits}
 use Rattle.lapin_text.specs.Events.{event_tokens, HasLine, line_of}
-use Rattle.lapin_text.specs.LineReading.{word_at, word_text, frame_of_word, frame_at, call_kind_at, arguments_at, call_at, event_of_word, event_at, whole, frame_text_at, line_at}
+use Rattle.lapin_text.specs.CallReading.{call_at}
+use Rattle.lapin_text.proofs.CallLaws.{call_again, call_found, plain_call}
+use Rattle.lapin_text.specs.LineReading.{word_at, word_text, frame_of_word, frame_at, event_of_word, event_at, whole, frame_text_at, line_at}
 
 -- ---- words
 
@@ -48,6 +44,7 @@ word_again word.Next = refl
 word_again word.Recv = refl
 word_again word.Ticket = refl
 word_again word.Confirm = refl
+word_again word.AsideTicket = refl
 word_again word.State = refl
 word_again word.Lost = refl
 
@@ -93,49 +90,6 @@ frame_found (piece ∷ rest) x e =
     let f = of_word_found a.0 rest x a.2 in
     (ap (λ (p : List ℕ). p ∷ rest) (word_found piece a.0 a.1) ∙ f.0, f.1)
 
--- ---- calls
-
-call_kind_found : (piece : List ℕ) (k : CallKind) → call_kind_at piece ≡ Some k → piece ≡ call_name k
-unfolding call_kind_at
-call_kind_found piece k e = sym ((bytes_eq-Decides (call_name k) piece).0 (find_found (λ m. bytes_eq (call_name m) piece) CALLS k e))
-
-abbrev call_table : Table CallKind Call
-call_table = record { name = call_name; fields = call_fields; made = call_made; parts = call_parts; spelled = call_tokens; reading = arguments_at }
-
-abbrev the_kind : CallKind → CallKind
-the_kind k = k
-
-call_rows : (k : CallKind) → RowLaws call_table call_kind_at the_kind k
-unfolding call_kind_at arguments_at
-call_rows kind.OpenChannel = record { named = refl; plain = refl; reads = λ _. refl; parted = λ _. refl }
-call_rows kind.ChannelClose = record { named = refl; plain = refl; reads = λ _. refl; parted = λ _. refl }
-call_rows kind.ConnectionClose = record { named = refl; plain = refl; reads = λ _. refl; parted = λ _. refl }
-call_rows kind.ConfirmSelect = record { named = refl; plain = refl; reads = λ _. refl; parted = λ _. refl }
-call_rows kind.BasicPublish = record { named = refl; plain = refl; reads = λ _. refl; parted = λ _. refl }
-
-call_laws : (c : Call) → EntryLaws call_table c
-call_laws call.OpenChannel = record { remade = refl; spells = refl }
-call_laws (call.ChannelClose reply_code reply_text) = record { remade = refl; spells = refl }
-call_laws (call.ConnectionClose reply_code reply_text) = record { remade = refl; spells = refl }
-call_laws (call.ConfirmSelect options) = record { remade = refl; spells = refl }
-call_laws (call.BasicPublish exchange routing_key options payload properties) = record { remade = refl; spells = refl }
-
-call_again : (c : Call) (rest : List (List ℕ)) → CallFits c → call_at (call_tokens c ++ rest) ≡ Some (c, rest)
-unfolding call_at
-call_again c rest h = rw ((call_laws c).spells, (call_rows (call_parts c).0).named) (entry_again call_table call_kind_at the_kind call_rows call_laws c rest h)
-
--- the pieces are the tokens of a call that has a text, and others
-abbrev IsCall : List (List ℕ) → Call × List (List ℕ) → Type 0
-IsCall pieces x = (pieces ≡ call_tokens x.0 ++ x.1) × CallFits x.0
-
-call_found : (pieces : List (List ℕ)) (x : Call × List (List ℕ)) → call_at pieces ≡ Some x → IsCall pieces x
-unfolding call_at
-call_found [] x e = absurd cc
-call_found (piece ∷ rest) x e =
-    let a = bind_some (call_kind_at piece) (λ k. arguments_at k rest) x e in
-    let f = entry_found call_table call_kind_at the_kind call_rows call_laws a.0 rest x a.2 in
-    (ap (λ (p : List ℕ). p ∷ rest) (call_kind_found piece a.0 a.1) ∙ f.0, f.1)
-
 -- ---- events
 
 pub event_again : (e : Event) (rest : List (List ℕ)) → HasLine e → event_at (event_tokens e ++ rest) ≡ Some (e, rest)
@@ -145,6 +99,7 @@ event_again (event.Next flow) rest h = rw (word_again word.Next) (fields_again (
 event_again (event.Receive f) rest h = rw (word_again word.Recv, frame_again f rest h) refl
 event_again (event.PollTicket n) rest h = rw (word_again word.Ticket) (fields_again (wide_number ∷ []) (λ v. event.PollTicket v.0) (n, tt) rest (h, tt))
 event_again (event.PollConfirm n) rest h = rw (word_again word.Confirm) (fields_again (wide_number ∷ []) (λ v. event.PollConfirm v.0) (n, tt) rest (h, tt))
+event_again (event.AsideTicket n) rest h = rw (word_again word.AsideTicket) (fields_again (wide_number ∷ []) (λ v. event.AsideTicket v.0) (n, tt) rest (h, tt))
 event_again (event.State c) rest h = rw (word_again word.State) (fields_again (short_number ∷ []) (λ v. event.State v.0) (c, tt) rest (h, tt))
 event_again event.Lost rest h = rw (word_again word.Lost) refl
 
@@ -173,6 +128,9 @@ event_of_word_found word.Ticket rest x e =
 event_of_word_found word.Confirm rest x e =
     let r = fields_found (wide_number ∷ []) (λ v. event.PollConfirm v.0) rest x e in
     subst (λ (f : Event). IsEvent (word_text word.Confirm ∷ rest) (f, x.1)) (sym r.is) (ap (λ (t : List (List ℕ)). word_text word.Confirm ∷ t) r.spelled, r.fit.0)
+event_of_word_found word.AsideTicket rest x e =
+    let r = fields_found (wide_number ∷ []) (λ v. event.AsideTicket v.0) rest x e in
+    subst (λ (f : Event). IsEvent (word_text word.AsideTicket ∷ rest) (f, x.1)) (sym r.is) (ap (λ (t : List (List ℕ)). word_text word.AsideTicket ∷ t) r.spelled, r.fit.0)
 event_of_word_found word.State rest x e =
     let r = fields_found (short_number ∷ []) (λ v. event.State v.0) rest x e in
     subst (λ (f : Event). IsEvent (word_text word.State ∷ rest) (f, x.1)) (sym r.is) (ap (λ (t : List (List ℕ)). word_text word.State ∷ t) r.spelled, r.fit.0)
@@ -195,15 +153,13 @@ plain_frame (frame.Method c m) h = (refl, (plain_token short_number c h.0, plain
 plain_frame (frame.Header c header) h = (refl, plain_tokens header_fields (c, (header.class_id, (header.body_size, (header.properties, tt)))) h)
 plain_frame (frame.Body c bytes) h = (refl, plain_tokens body_fields (c, (bytes, tt)) h)
 
-plain_call : (c : Call) → CallFits c → AllPlain (call_tokens c)
-plain_call c h = plain_entry call_table call_kind_at the_kind call_rows call_laws c h
-
 pub plain_event : (e : Event) → HasLine e → AllPlain (event_tokens e)
 plain_event (event.Call c made) h = (refl, (plain_token short_number c h.0, plain_call made h.1))
 plain_event (event.Next flow) h = (refl, (plain_token flag flow h, tt))
 plain_event (event.Receive f) h = (refl, plain_frame f h)
 plain_event (event.PollTicket n) h = (refl, (plain_token wide_number n h, tt))
 plain_event (event.PollConfirm n) h = (refl, (plain_token wide_number n h, tt))
+plain_event (event.AsideTicket n) h = (refl, (plain_token wide_number n h, tt))
 plain_event (event.State c) h = (refl, (plain_token short_number c h, tt))
 plain_event event.Lost h = (refl, tt)
 
@@ -218,6 +174,7 @@ some_tokens (event.Next flow) = omega arith
 some_tokens (event.Receive f) = omega arith
 some_tokens (event.PollTicket n) = omega arith
 some_tokens (event.PollConfirm n) = omega arith
+some_tokens (event.AsideTicket n) = omega arith
 some_tokens (event.State c) = omega arith
 some_tokens event.Lost = omega arith
 

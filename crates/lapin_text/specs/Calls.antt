@@ -1,54 +1,98 @@
--- The text of calls: the name of the method that the call queues, and the call's arguments.
--- Here: the name, the kinds of the arguments, the call that arguments make, the arguments of a call, and its tokens.
-use Rattle.std.specs.Prelude.{ℕ, List, [], ◌∷◌, codes}
+-- The text of calls. A call's text is that of the method that it queues, but for three calls: a close has its code and its text
+-- alone, and a publish is followed by its bytes and its properties.
+use Rattle.std.specs.Prelude.{◌≡◌, ℕ, Bool, false, ◌||◌, List, [], ◌∷◌, ◌++◌, codes, if◌then◌else◌}
+use Rattle.std.specs.Str.{bytes_eq}
+use Rattle.lapin_types.specs.Types.{Method}
 use Rattle.lapin_types.specs.declared.call.Call.{Call}
 use Rattle.lapin_types.specs.declared.call.Call.TheVariants as call
-use Rattle.lapin_text.specs.declared.calls.CallKind.{CallKind}
-use Rattle.lapin_text.specs.declared.calls.CallKind.TheVariants as kind
-use Rattle.lapin_tokens.specs.Fields.{Field, Values, token, short_number}
-use Rattle.lapin_tokens.specs.Fields.Field.{text, bytes, props, flag}
-use Rattle.lapin_method_text.specs.Entries.{EntryFits}
+use Rattle.lapin_types.specs.Types.method
+use Rattle.lapin_types.specs.Types.connection as connection_method
+use Rattle.lapin_types.specs.Types.channel as channel_method
+use Rattle.lapin_types.specs.Types.access as access_method
+use Rattle.lapin_types.specs.Types.exchange as exchange_method
+use Rattle.lapin_types.specs.Types.queue as queue_method
+use Rattle.lapin_types.specs.Types.basic as basic_method
+use Rattle.lapin_types.specs.Types.confirm as confirm_method
+use Rattle.lapin_types.specs.Types.tx as tx_method
+use Rattle.lapin_types.specs.declared.exchange_kind.ExchangeKind.{ExchangeKind}
+use Rattle.lapin_types.specs.declared.exchange_kind.ExchangeKind.TheVariants as exchange_kind
+use Rattle.lapin_types.specs.ExchangeKinds.{kind_text}
+use Rattle.lapin_tokens.specs.Fields.{Field, tokens, AllFit, short_number}
+use Rattle.lapin_tokens.specs.Fields.Field.{text, bytes, props}
+use Rattle.lapin_method_text.specs.Methods.{method_tokens, MethodFits}
 
--- the name of the method that a call of this kind queues
-abbrev pub call_name : CallKind → List ℕ
-call_name kind.OpenChannel = codes "channel.open"
-call_name kind.ChannelClose = codes "channel.close"
-call_name kind.ConnectionClose = codes "connection.close"
-call_name kind.ConfirmSelect = codes "confirm.select"
-call_name kind.BasicPublish = codes "basic.publish"
+-- ---- kinds of exchanges
 
--- the kinds of a call's arguments, in the order of their tokens; a close has only its code and its text
-abbrev pub call_fields : CallKind → List Field
-call_fields kind.OpenChannel = []
-call_fields kind.ChannelClose = short_number ∷ text ∷ []
-call_fields kind.ConnectionClose = short_number ∷ text ∷ []
-call_fields kind.ConfirmSelect = flag ∷ []
-call_fields kind.BasicPublish = text ∷ text ∷ flag ∷ flag ∷ bytes ∷ props ∷ []
+-- one of the standard's four words for the kind of an exchange
+abbrev pub is_standard : List ℕ → Bool
+is_standard name = bytes_eq name (codes "direct") || bytes_eq name (codes "fanout") || bytes_eq name (codes "headers") || bytes_eq name (codes "topic")
 
--- the call that arguments make
-abbrev pub call_made : (k : CallKind) → Values (call_fields k) → Call
-call_made kind.OpenChannel v = call.OpenChannel
-call_made kind.ChannelClose v = call.ChannelClose v.0 v.1.0
-call_made kind.ConnectionClose v = call.ConnectionClose v.0 v.1.0
-call_made kind.ConfirmSelect v = call.ConfirmSelect (record { nowait = v.0 })
-call_made kind.BasicPublish v = call.BasicPublish v.0 v.1.0 (record { mandatory = v.1.1.0; immediate = v.1.1.1.0 }) v.1.1.1.1.0 v.1.1.1.1.1.0
+-- a kind that its text stands for: one of the four words stands for the named kind, so a custom kind with such a text has no line
+abbrev pub IsNamed : ExchangeKind → Type 0
+IsNamed (exchange_kind.Custom name) = is_standard name ≡ false
+IsNamed _ = Unit {0}
 
--- a call's kind and its arguments
-abbrev pub call_parts : Call → (k : CallKind) × Values (call_fields k)
-call_parts call.OpenChannel = (kind.OpenChannel, tt)
-call_parts (call.ChannelClose reply_code reply_text) = (kind.ChannelClose, (reply_code, (reply_text, tt)))
-call_parts (call.ConnectionClose reply_code reply_text) = (kind.ConnectionClose, (reply_code, (reply_text, tt)))
-call_parts (call.ConfirmSelect options) = (kind.ConfirmSelect, (options.nowait, tt))
-call_parts (call.BasicPublish exchange routing_key options payload properties) = (kind.BasicPublish, (exchange, (routing_key, (options.mandatory, (options.immediate, (payload, (properties, tt)))))))
+-- the kind that a text stands for
+abbrev pub kind_named : List ℕ → ExchangeKind
+kind_named name =
+    if bytes_eq name (codes "direct") then exchange_kind.Direct else
+    if bytes_eq name (codes "fanout") then exchange_kind.Fanout else
+    if bytes_eq name (codes "headers") then exchange_kind.Headers else
+    if bytes_eq name (codes "topic") then exchange_kind.Topic else
+    exchange_kind.Custom name
+
+-- ---- calls
+
+-- the method that a call queues: the one of its name, with the arguments as fields; a close names no class and no method
+abbrev pub method_of : Call → Method
+method_of call.OpenChannel = method.Channel channel_method.Open
+method_of (call.ConnectionClose reply_code reply_text) = method.Connection (connection_method.Close reply_code reply_text 0 0)
+method_of (call.ChannelClose reply_code reply_text) = method.Channel (channel_method.Close reply_code reply_text 0 0)
+method_of (call.ChannelFlow options) = method.Channel (channel_method.Flow options.active)
+method_of (call.AccessRequest realm options) = method.Access (access_method.Request realm options.exclusive options.passive options.active options.write options.read)
+method_of (call.ExchangeDeclare exchange kind options arguments) = method.Exchange (exchange_method.Declare exchange (kind_text kind) options.passive options.durable options.auto_delete options.internal options.nowait arguments)
+method_of (call.ExchangeDelete exchange options) = method.Exchange (exchange_method.Delete exchange options.if_unused options.nowait)
+method_of (call.ExchangeBind destination source routing_key options arguments) = method.Exchange (exchange_method.Bind destination source routing_key options.nowait arguments)
+method_of (call.ExchangeUnbind destination source routing_key options arguments) = method.Exchange (exchange_method.Unbind destination source routing_key options.nowait arguments)
+method_of (call.QueueDeclare queue options arguments) = method.Queue (queue_method.Declare queue options.passive options.durable options.exclusive options.auto_delete options.nowait arguments)
+method_of (call.QueueBind queue exchange routing_key options arguments) = method.Queue (queue_method.Bind queue exchange routing_key options.nowait arguments)
+method_of (call.QueuePurge queue options) = method.Queue (queue_method.Purge queue options.nowait)
+method_of (call.QueueDelete queue options) = method.Queue (queue_method.Delete queue options.if_unused options.if_empty options.nowait)
+method_of (call.QueueUnbind queue exchange routing_key arguments) = method.Queue (queue_method.Unbind queue exchange routing_key arguments)
+method_of (call.BasicQos prefetch_count options) = method.Basic (basic_method.Qos prefetch_count options.global)
+method_of (call.BasicPublish exchange routing_key options payload properties) = method.Basic (basic_method.Publish exchange routing_key options.mandatory options.immediate)
+method_of (call.BasicAck delivery_tag options) = method.Basic (basic_method.Ack delivery_tag options.multiple)
+method_of (call.BasicNack delivery_tag options) = method.Basic (basic_method.Nack delivery_tag options.multiple options.requeue)
+method_of (call.BasicReject delivery_tag options) = method.Basic (basic_method.Reject delivery_tag options.requeue)
+method_of (call.BasicRecoverAsync options) = method.Basic (basic_method.RecoverAsync options.requeue)
+method_of (call.BasicRecover options) = method.Basic (basic_method.Recover options.requeue)
+method_of (call.ConfirmSelect options) = method.Confirm (confirm_method.Select options.nowait)
+method_of call.TxSelect = method.Tx tx_method.Select
+method_of call.TxCommit = method.Tx tx_method.Commit
+method_of call.TxRollback = method.Tx tx_method.Rollback
+
+-- what the line of a close has: its code and its text
+abbrev pub close_fields : List Field
+close_fields = short_number ∷ text ∷ []
+
+-- what follows the method of a publish: its bytes and its properties
+abbrev pub content_fields : List Field
+content_fields = bytes ∷ props ∷ []
 
 -- a call's name and the tokens of its arguments
 abbrev pub call_tokens : Call → List (List ℕ)
-call_tokens call.OpenChannel = codes "channel.open" ∷ []
-call_tokens (call.ChannelClose reply_code reply_text) = codes "channel.close" ∷ token short_number reply_code ∷ token text reply_text ∷ []
-call_tokens (call.ConnectionClose reply_code reply_text) = codes "connection.close" ∷ token short_number reply_code ∷ token text reply_text ∷ []
-call_tokens (call.ConfirmSelect options) = codes "confirm.select" ∷ token flag options.nowait ∷ []
-call_tokens (call.BasicPublish exchange routing_key options payload properties) = codes "basic.publish" ∷ token text exchange ∷ token text routing_key ∷ token flag options.mandatory ∷ token flag options.immediate ∷ token bytes payload ∷ token props properties ∷ []
+call_tokens (call.ChannelClose reply_code reply_text) = codes "channel.close" ∷ tokens close_fields (reply_code, (reply_text, tt))
+call_tokens (call.ConnectionClose reply_code reply_text) = codes "connection.close" ∷ tokens close_fields (reply_code, (reply_text, tt))
+call_tokens (call.BasicPublish exchange routing_key options payload properties) =
+    method_tokens (method_of (call.BasicPublish exchange routing_key options payload properties)) ++ tokens content_fields (payload, (properties, tt))
+call_tokens c = method_tokens (method_of c)
 
--- the calls that have a text: each argument has a token
+-- the calls that have a text: each argument has a token, and the kind of an exchange is what its text stands for
 abbrev pub CallFits : Call → Type 0
-CallFits c = EntryFits call_fields (call_parts c)
+CallFits (call.ChannelClose reply_code reply_text) = AllFit close_fields (reply_code, (reply_text, tt))
+CallFits (call.ConnectionClose reply_code reply_text) = AllFit close_fields (reply_code, (reply_text, tt))
+CallFits (call.BasicPublish exchange routing_key options payload properties) =
+    MethodFits (method_of (call.BasicPublish exchange routing_key options payload properties)) × AllFit content_fields (payload, (properties, tt))
+CallFits (call.ExchangeDeclare exchange kind options arguments) =
+    MethodFits (method_of (call.ExchangeDeclare exchange kind options arguments)) × IsNamed kind
+CallFits c = MethodFits (method_of c)

@@ -8,23 +8,26 @@ use Rattle.lapin_tokens.specs.Fields.Field.{flag}
 use Rattle.lapin_text.specs.Frames.{frame_tokens, FrameFits}
 use Rattle.lapin_text.specs.Calls.{call_tokens, CallFits}
 
--- `call C NAME ARGS`, `next BOOL`, `recv FRAME`, `ticket N`, `confirm N`, `state C` or `lost`
+-- `call C NAME ARGS`, `next BOOL`, `recv FRAME`, `ticket N`, `confirm N`, `aside-ticket N`, `state C` or `lost`
 abbrev pub event_tokens : Event → List (List ℕ)
 event_tokens (event.Call channel call) = codes "call" ∷ token short_number channel ∷ call_tokens call
 event_tokens (event.Next flow) = codes "next" ∷ token flag flow ∷ []
 event_tokens (event.Receive frame) = codes "recv" ∷ frame_tokens frame
 event_tokens (event.PollTicket number) = codes "ticket" ∷ token wide_number number ∷ []
 event_tokens (event.PollConfirm number) = codes "confirm" ∷ token wide_number number ∷ []
+event_tokens (event.AsideTicket number) = codes "aside-ticket" ∷ token wide_number number ∷ []
 event_tokens (event.State channel) = codes "state" ∷ token short_number channel ∷ []
 event_tokens event.Lost = codes "lost" ∷ []
 
--- the events that have a line: their numbers are in range, their texts are short, their tables nest at most 8 levels
+-- the events that have a line: their numbers are in range, their texts are short, their tables nest at most 8 levels, and no kind of an
+-- exchange is a custom one with the text of a named kind
 abbrev pub HasLine : Event → Type 0
 HasLine (event.Call channel call) = (fits short_number channel ≡ true) × CallFits call
 HasLine (event.Next flow) = fits flag flow ≡ true
 HasLine (event.Receive frame) = FrameFits frame
 HasLine (event.PollTicket number) = fits wide_number number ≡ true
 HasLine (event.PollConfirm number) = fits wide_number number ≡ true
+HasLine (event.AsideTicket number) = fits wide_number number ≡ true
 HasLine (event.State channel) = fits short_number channel ≡ true
 HasLine event.Lost = Unit {0}
 

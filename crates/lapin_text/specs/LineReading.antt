@@ -1,15 +1,11 @@
--- Reading frames, calls, events and lines from left to right.
+-- Reading frames, events and lines from left to right.
 use Rattle.std.specs.Prelude.{ℕ, List, [], ◌∷◌, codes, Option, Some, None, ◌==◌}
 use Rattle.std.specs.Str.{bytes_eq}
 use Rattle.std.specs.List.{find, slice_split}
 use Rattle.lapin_types.specs.Types.{Frame}
 use Rattle.lapin_types.specs.Types.frame
-use Rattle.lapin_types.specs.declared.call.Call.{Call}
 use Rattle.lapin_types.specs.declared.event.Event.{Event}
 use Rattle.lapin_types.specs.declared.event.Event.TheVariants as event
-use Rattle.lapin_text.specs.declared.calls.CallKind.{CallKind}
-use Rattle.lapin_text.specs.declared.calls.CallKind.TheVariants as kind
-use Rattle.lapin_text.specs.declared.calls.TheConstants.{CALLS}
 use Rattle.lapin_text.specs.declared.words.Word.{Word}
 use Rattle.lapin_text.specs.declared.words.Word.TheVariants as word
 use Rattle.lapin_text.specs.declared.words.TheConstants.{WORDS}
@@ -18,7 +14,7 @@ use Rattle.lapin_tokens.specs.Fields.Field.{flag}
 use Rattle.lapin_tokens.specs.Reading.{◌>>=◌, field_at, fields_at}
 use Rattle.lapin_method_text.specs.MethodReading.{method_at}
 use Rattle.lapin_text.specs.Frames.{header_fields, body_fields}
-use Rattle.lapin_text.specs.Calls.{call_name, call_fields, call_made}
+use Rattle.lapin_text.specs.CallReading.{call_at}
 
 -- ---- the words that begin a frame or an event
 
@@ -32,6 +28,7 @@ word_text word.Next = codes "next"
 word_text word.Recv = codes "recv"
 word_text word.Ticket = codes "ticket"
 word_text word.Confirm = codes "confirm"
+word_text word.AsideTicket = codes "aside-ticket"
 word_text word.State = codes "state"
 word_text word.Lost = codes "lost"
 
@@ -53,22 +50,6 @@ unfoldable pub frame_at : List (List ℕ) → Option (Frame × List (List ℕ))
 frame_at [] = None
 frame_at (piece ∷ rest) = word_at piece >>= λ w. frame_of_word w rest
 
--- ---- calls
-
-unfoldable pub call_kind_at : List ℕ → Option CallKind
-call_kind_at piece = find (λ k. bytes_eq (call_name k) piece) CALLS
-
-unfoldable pub arguments_at : CallKind → List (List ℕ) → Option (Call × List (List ℕ))
-arguments_at kind.OpenChannel pieces = fields_at (call_fields kind.OpenChannel) (call_made kind.OpenChannel) pieces
-arguments_at kind.ChannelClose pieces = fields_at (call_fields kind.ChannelClose) (call_made kind.ChannelClose) pieces
-arguments_at kind.ConnectionClose pieces = fields_at (call_fields kind.ConnectionClose) (call_made kind.ConnectionClose) pieces
-arguments_at kind.ConfirmSelect pieces = fields_at (call_fields kind.ConfirmSelect) (call_made kind.ConfirmSelect) pieces
-arguments_at kind.BasicPublish pieces = fields_at (call_fields kind.BasicPublish) (call_made kind.BasicPublish) pieces
-
-unfoldable pub call_at : List (List ℕ) → Option (Call × List (List ℕ))
-call_at [] = None
-call_at (piece ∷ rest) = call_kind_at piece >>= λ k. arguments_at k rest
-
 -- ---- events
 
 -- the event that a word and the pieces behind it make, and the pieces that are left
@@ -81,6 +62,7 @@ event_of_word word.Next pieces = fields_at (flag ∷ []) (λ v. event.Next v.0) 
 event_of_word word.Recv pieces = frame_at pieces >>= λ f. Some (event.Receive f.0, f.1)
 event_of_word word.Ticket pieces = fields_at (wide_number ∷ []) (λ v. event.PollTicket v.0) pieces
 event_of_word word.Confirm pieces = fields_at (wide_number ∷ []) (λ v. event.PollConfirm v.0) pieces
+event_of_word word.AsideTicket pieces = fields_at (wide_number ∷ []) (λ v. event.AsideTicket v.0) pieces
 event_of_word word.State pieces = fields_at (short_number ∷ []) (λ v. event.State v.0) pieces
 event_of_word word.Lost pieces = Some (event.Lost, pieces)
 event_of_word _ pieces = None

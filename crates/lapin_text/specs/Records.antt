@@ -15,7 +15,8 @@ use Rattle.lapin_types.specs.declared.message.Delivery.{Delivery}
 use Rattle.lapin_types.specs.declared.message.BasicReturnMessage.{BasicReturnMessage}
 use Rattle.lapin_types.specs.declared.record.Record.{Record}
 use Rattle.lapin_types.specs.declared.record.Record.TheVariants as record_
-use Rattle.lapin_tokens.specs.Fields.{token, short_number, wide_number}
+use Rattle.lapin_types.specs.declared.message.BasicGetMessage.{BasicGetMessage}
+use Rattle.lapin_tokens.specs.Fields.{token, short_number, long_number, wide_number}
 use Rattle.lapin_tokens.specs.TokenText.{onto}
 use Rattle.lapin_tokens.specs.Fields.Field.{text, bytes, props, flag}
 use Rattle.lapin_text.specs.Frames.{frame_tokens}
@@ -62,10 +63,21 @@ abbrev pub held_tokens : Option BasicReturnMessage → List (List ℕ)
 held_tokens None = codes "-" ∷ []
 held_tokens (Some message) = message_tokens message
 
+-- the message of a get and how many messages are left, or a dash where there is none
+abbrev pub got_tokens : Option BasicGetMessage → List (List ℕ)
+got_tokens None = codes "-" ∷ []
+got_tokens (Some message) = delivery_tokens message.delivery ++ token long_number message.message_count ∷ []
+
 abbrev pub answer_tokens : Answer → List (List ℕ)
 answer_tokens answer.Done = codes "done" ∷ []
 answer_tokens (answer.Channel channel) = codes "channel" ∷ token short_number channel ∷ []
 answer_tokens (answer.Confirm number) = codes "confirm" ∷ token wide_number number ∷ []
+answer_tokens (answer.Consumer number) = codes "consumer" ∷ token wide_number number ∷ []
+answer_tokens (answer.Got message) = codes "got" ∷ got_tokens message
+answer_tokens (answer.Queue queue) = codes "queue" ∷ token text queue.name ∷ token long_number queue.message_count ∷ token long_number queue.consumer_count ∷ []
+answer_tokens (answer.Count count) = codes "count" ∷ token long_number count ∷ []
+answer_tokens (answer.Flow active) = codes "flow" ∷ token flag active ∷ []
+answer_tokens answer.Yes = codes "yes" ∷ []
 
 abbrev pub confirmation_tokens : Confirmation → List (List ℕ)
 confirmation_tokens (confirmation.Ack message) = codes "ack" ∷ held_tokens message
@@ -86,6 +98,7 @@ record_tokens (record_.Answer (Ok answer)) = codes "answer" ∷ answer_tokens an
 record_tokens (record_.Answer (Err error)) = codes "error" ∷ error_tokens error
 record_tokens (record_.Confirmed (Ok confirmation)) = codes "confirmed" ∷ confirmation_tokens confirmation
 record_tokens (record_.Confirmed (Err error)) = codes "error" ∷ error_tokens error
+record_tokens record_.Aside = codes "aside" ∷ []
 record_tokens (record_.State connection channel) = codes "state" ∷ connection_name connection ∷ state_name channel ∷ []
 record_tokens record_.Lost = codes "lost" ∷ []
 

@@ -1,121 +1,110 @@
-//! Calls as text: the name of the method that the call queues, and the call's arguments in their order.
+//! Calls as text: the name and the fields of the method that the call queues.
 //!
-//! A call is a row in each table of this file. What calls do stands in the session.
+//! A close has its code and its text alone, and a publish is followed by its bytes and its properties. Which call queues which
+//! method stands in `queued`; what calls do stands in the session.
 
 ghost use Rattle.std.specs.Prelude.{◌≡◌};
-ghost use Rattle.lapin_tokens.specs.Reading.{Gives};
-ghost use Rattle.lapin_text.specs.Calls.{call_name};
-ghost use Rattle.lapin_text.specs.LineReading.{call_kind_at, arguments_at, call_at};
+ghost use Rattle.lapin_types.specs.declared.call.Call.TheVariants as call;
+ghost use Rattle.lapin_tokens.specs.Reading.{Gives, fields_at};
+ghost use Rattle.lapin_text.specs.Calls.{close_fields, content_fields};
+ghost use Rattle.lapin_text.specs.CallReading.{call_with as call_with_lem, call_named as call_named_lem, call_at};
 
-use lapin_tokens::{ReadError, Tokens, flag, payload, properties, text, u16_at};
-use lapin_types::{BasicPublishOptions, Call, ConfirmSelectOptions};
+use crate::queued::call_of;
+use lapin_method_text::read_named;
+use lapin_tokens::{ReadError, Tokens, payload, properties, text, u16_at};
+use lapin_types::{BasicMethod, BasicPublishOptions, Call, Method, ShortString};
 use std::alloc::Global;
 
-/// The calls of a session.
-#[derive(Clone, Copy, Debug, PartialEq, Eq)]
-pub enum CallKind {
-    OpenChannel,
-    ChannelClose,
-    ConnectionClose,
-    ConfirmSelect,
-    BasicPublish,
+fn channel_close(alloc: Global, tokens: &mut Tokens) -> Result<Call, ReadError>
+    ensures { Gives result tokens.new (fields_at close_fields (λ v. call.ChannelClose v.0 v.1.0) tokens.old) }
+{
+    let reply_code = u16_at(tokens)?;
+    let reply_text = text(alloc, tokens)?;
+    Ok(Call::ChannelClose {
+        reply_code,
+        reply_text,
+    })
 }
 
-/// Each call once.
-pub const CALLS: [CallKind; 5] = [
-    CallKind::OpenChannel,
-    CallKind::ChannelClose,
-    CallKind::ConnectionClose,
-    CallKind::ConfirmSelect,
-    CallKind::BasicPublish,
-];
-
-fn name_of_call(kind: CallKind) -> &'static [u8]
-    ensures { result.now ≡ call_name kind }
+fn connection_close(alloc: Global, tokens: &mut Tokens) -> Result<Call, ReadError>
+    ensures { Gives result tokens.new (fields_at close_fields (λ v. call.ConnectionClose v.0 v.1.0) tokens.old) }
 {
-    match kind {
-        CallKind::OpenChannel => b"channel.open",
-        CallKind::ChannelClose => b"channel.close",
-        CallKind::ConnectionClose => b"connection.close",
-        CallKind::ConfirmSelect => b"confirm.select",
-        CallKind::BasicPublish => b"basic.publish",
-    }
+    let reply_code = u16_at(tokens)?;
+    let reply_text = text(alloc, tokens)?;
+    Ok(Call::ConnectionClose {
+        reply_code,
+        reply_text,
+    })
 }
 
-#[tactic(auto, unfolding(crate::specs::LineReading::call_kind_at))]
-fn call_named(name: &[u8]) -> Option<CallKind>
-    ensures { result ≡ call_kind_at name.now }
+fn publish(
+    alloc: Global,
+    exchange: ShortString,
+    routing_key: ShortString,
+    options: BasicPublishOptions,
+    tokens: &mut Tokens,
+) -> Result<Call, ReadError>
+    ensures { Gives result tokens.new (fields_at content_fields (λ v. call.BasicPublish exchange routing_key options v.0 v.1.0) tokens.old) }
 {
-    CALLS
-        .iter()
-        .copied()
-        .find(|kind| name_of_call(*kind) == name)
-}
-
-#[tactic(auto, unfolding(crate::specs::LineReading::arguments_at))]
-fn read_publish(alloc: Global, tokens: &mut Tokens) -> Result<Call, ReadError>
-    ensures { Gives result tokens.new (arguments_at CallKind.BasicPublish tokens.old) }
-{
-    let exchange = text(alloc, tokens)?;
-    let routing_key = text(alloc, tokens)?;
-    let mandatory = flag(tokens)?;
-    let immediate = flag(tokens)?;
     let payload = payload(alloc, tokens)?;
     let properties = properties(alloc, tokens)?;
     Ok(Call::BasicPublish {
         exchange,
         routing_key,
-        options: BasicPublishOptions {
-            mandatory,
-            immediate,
-        },
+        options,
         payload,
         properties,
     })
 }
 
-#[tactic(auto, unfolding(crate::specs::LineReading::arguments_at))]
-fn read_arguments(alloc: Global, kind: CallKind, tokens: &mut Tokens) -> Result<Call, ReadError>
-    ensures { Gives result tokens.new (arguments_at kind tokens.old) }
+// The call of a method that was read; what follows a publish is read too.
+fn call_with(alloc: Global, method: Method, tokens: &mut Tokens) -> Result<Call, ReadError>
+    ensures { Gives result tokens.new (call_with_lem method tokens.old) }
 {
-    match kind {
-        CallKind::OpenChannel => Ok(Call::OpenChannel),
-        CallKind::ChannelClose => {
-            let reply_code = u16_at(tokens)?;
-            let reply_text = text(alloc, tokens)?;
-            Ok(Call::ChannelClose {
-                reply_code,
-                reply_text,
-            })
+    match method {
+        Method::Basic(
+            BasicMethod::Publish {
+                exchange,
+                routing_key,
+                mandatory,
+                immediate,
+            },
+        ) => {
+            let options = BasicPublishOptions {
+                mandatory,
+                immediate,
+            };
+            publish(alloc, exchange, routing_key, options, tokens)
         }
-        CallKind::ConnectionClose => {
-            let reply_code = u16_at(tokens)?;
-            let reply_text = text(alloc, tokens)?;
-            Ok(Call::ConnectionClose {
-                reply_code,
-                reply_text,
-            })
-        }
-        CallKind::ConfirmSelect => {
-            let nowait = flag(tokens)?;
-            Ok(Call::ConfirmSelect {
-                options: ConfirmSelectOptions { nowait },
-            })
-        }
-        CallKind::BasicPublish => read_publish(alloc, tokens),
+        method => match call_of(method) {
+            Some(call) => Ok(call),
+            None => Err(ReadError::Bad),
+        },
+    }
+}
+
+// The call of this name, whose arguments are the next tokens.
+#[tactic(auto, unfolding(crate::specs::CallReading::call_named))]
+fn call_named(alloc: Global, name: &[u8], tokens: &mut Tokens) -> Result<Call, ReadError>
+    ensures { Gives result tokens.new (call_named_lem name.now tokens.old) }
+{
+    if name == b"channel.close".as_slice() {
+        channel_close(alloc, tokens)
+    } else if name == b"connection.close".as_slice() {
+        connection_close(alloc, tokens)
+    } else {
+        let method = read_named(alloc, name, tokens)?;
+        call_with(alloc, method, tokens)
     }
 }
 
 /// The call whose name and arguments are the next tokens.
-#[tactic(auto, unfolding(crate::specs::LineReading::call_at))]
+#[tactic(auto, unfolding(crate::specs::CallReading::call_at))]
 pub fn read_call(alloc: Global, tokens: &mut Tokens) -> Result<Call, ReadError>
     ensures { Gives result tokens.new (call_at tokens.old) }
 {
     match tokens.next() {
         None => Err(ReadError::Bad),
-        Some(name) => match call_named(name) {
-            Some(kind) => read_arguments(alloc, kind, tokens),
-            None => Err(ReadError::Bad),
-        },
+        Some(name) => call_named(alloc, name, tokens),
     }
 }

@@ -5,22 +5,22 @@
 //! stands here. The program's commands call this crate.
 #![tactic(auto)]
 
-pub mod calls;
-pub mod events;
-pub mod frames;
-pub mod laws;
-pub mod lines;
-pub mod parsing;
-pub mod printing;
-pub mod reading;
-pub mod records;
-pub mod words;
+mod calls;
+mod events;
+mod frames;
+mod laws;
+mod lines;
+mod parsing;
+mod printing;
+mod queued;
+mod reading;
+mod records;
+mod words;
 
 pub use lapin_tokens::{read_bytes, read_num, read_short};
+pub use laws::{one_line, one_reading, one_text, parsed_as_printed};
 pub use lines::Lines;
 pub use parsing::{Parsed, parse_events, read_max};
 pub use printing::{print_records, write_frame, write_record};
 pub use reading::{read_event, read_frame};
-
-#[cfg(test)]
-mod tests;
+pub use records::put_record;

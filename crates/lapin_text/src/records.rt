@@ -4,15 +4,17 @@
 //! Where memory runs out, the text may end within the record.
 
 ghost use Rattle.std.specs.Prelude.{◌≡◌, ◌++◌, ◌∷◌, [], OnOk, map};
+ghost use Rattle.lapin_types.specs.declared.answer.Answer.TheVariants as answer;
 ghost use Rattle.lapin_tokens.specs.Fields.{token, wide_number};
 ghost use Rattle.lapin_tokens.specs.TokenText.{onto, text_of};
 ghost use Rattle.lapin_text.specs.Frames.{frame_tokens};
-ghost use Rattle.lapin_text.specs.Records.{connection_name, state_name, error_tokens, message_tokens, held_tokens, answer_tokens, confirmation_tokens, record_tokens, line_onto};
+ghost use Rattle.lapin_text.specs.Records.{connection_name, state_name, error_tokens, delivery_tokens, message_tokens, held_tokens, got_tokens, answer_tokens, confirmation_tokens, record_tokens, line_onto};
 
 use crate::frames::put_frame;
 use lapin_tokens::{Token, put_tokens};
 use lapin_types::{
-    Answer, BasicReturnMessage, ChannelState, Confirmation, ConnectionState, Error, Record,
+    Answer, BasicGetMessage, BasicReturnMessage, ChannelState, Confirmation, ConnectionState,
+    Delivery, Error, Queue, Record,
 };
 use std::alloc::{AllocError, Global};
 
@@ -99,14 +101,9 @@ fn put_error(alloc: Global, out: &mut Vec<u8>, error: Error) -> Result<(), Alloc
     }
 }
 
-fn put_message(
-    alloc: Global,
-    out: &mut Vec<u8>,
-    message: &BasicReturnMessage,
-) -> Result<(), AllocError>
-    ensures { OnOk result (out.new.items ≡ onto out.old.items (message_tokens message.now)) }
+fn put_delivery(alloc: Global, out: &mut Vec<u8>, delivery: &Delivery) -> Result<(), AllocError>
+    ensures { OnOk result (out.new.items ≡ onto out.old.items (delivery_tokens delivery.now)) }
 {
-    let delivery = &message.delivery;
     put_tokens(
         alloc,
         out,
@@ -118,6 +115,22 @@ fn put_message(
             Token::Properties(&delivery.properties),
             Token::Hex(delivery.payload.as_bytes()),
             Token::Number(delivery.acker.number),
+        ],
+    )
+}
+
+fn put_message(
+    alloc: Global,
+    out: &mut Vec<u8>,
+    message: &BasicReturnMessage,
+) -> Result<(), AllocError>
+    ensures { OnOk result (out.new.items ≡ onto out.old.items (message_tokens message.now)) }
+{
+    put_delivery(alloc, out, &message.delivery)?;
+    put_tokens(
+        alloc,
+        out,
+        &[
             Token::Number(u64::from(message.reply_code)),
             Token::Text(&message.reply_text),
         ],
@@ -137,6 +150,41 @@ fn put_held(
     }
 }
 
+fn put_got(
+    alloc: Global,
+    out: &mut Vec<u8>,
+    message: &Option<BasicGetMessage>,
+) -> Result<(), AllocError>
+    ensures { OnOk result (out.new.items ≡ onto out.old.items (got_tokens message.now)) }
+{
+    match message {
+        Some(message) => {
+            put_delivery(alloc, out, &message.delivery)?;
+            put_tokens(
+                alloc,
+                out,
+                &[Token::Number(u64::from(message.message_count))],
+            )
+        }
+        None => put_tokens(alloc, out, &[Token::Word(b"-")]),
+    }
+}
+
+fn put_queue(alloc: Global, out: &mut Vec<u8>, queue: &Queue) -> Result<(), AllocError>
+    ensures { OnOk result (out.new.items ≡ onto out.old.items (answer_tokens (answer.Queue queue.now))) }
+{
+    put_tokens(
+        alloc,
+        out,
+        &[
+            Token::Word(b"queue"),
+            Token::Text(queue.name()),
+            Token::Number(u64::from(queue.message_count())),
+            Token::Number(u64::from(queue.consumer_count())),
+        ],
+    )
+}
+
 fn put_answer(alloc: Global, out: &mut Vec<u8>, answer: &Answer) -> Result<(), AllocError>
     ensures { OnOk result (out.new.items ≡ onto out.old.items (answer_tokens answer.now)) }
 {
@@ -152,6 +200,25 @@ fn put_answer(alloc: Global, out: &mut Vec<u8>, answer: &Answer) -> Result<(), A
             out,
             &[Token::Word(b"confirm"), Token::Number(*number)],
         ),
+        Answer::Consumer(number) => put_tokens(
+            alloc,
+            out,
+            &[Token::Word(b"consumer"), Token::Number(*number)],
+        ),
+        Answer::Got(message) => {
+            put_tokens(alloc, out, &[Token::Word(b"got")])?;
+            put_got(alloc, out, message)
+        }
+        Answer::Queue(queue) => put_queue(alloc, out, queue),
+        Answer::Count(count) => put_tokens(
+            alloc,
+            out,
+            &[Token::Word(b"count"), Token::Number(u64::from(*count))],
+        ),
+        Answer::Flow(active) => {
+            put_tokens(alloc, out, &[Token::Word(b"flow"), Token::Flag(*active)])
+        }
+        Answer::Yes => put_tokens(alloc, out, &[Token::Word(b"yes")]),
     }
 }
 
@@ -249,6 +316,7 @@ pub fn put_record(alloc: Global, out: &mut Vec<u8>, record: &Record) -> Result<(
         }
         Record::Answer(Err(error)) => put_error_line(alloc, out, b"error", *error),
         Record::Confirmed(Err(error)) => put_error_line(alloc, out, b"error", *error),
+        Record::Aside => out.extend_from_slice(b"aside"),
         Record::State(connection, channel) => {
             out.extend_from_slice(b"state")?;
             put_states(alloc, out, *connection, *channel)

@@ -16,12 +16,13 @@ pub enum Word {
     Recv,
     Ticket,
     Confirm,
+    AsideTicket,
     State,
     Lost,
 }
 
 /// Each word once.
-pub const WORDS: [Word; 10] = [
+pub const WORDS: [Word; 11] = [
     Word::Method,
     Word::Header,
     Word::Body,
@@ -30,6 +31,7 @@ pub const WORDS: [Word; 10] = [
     Word::Recv,
     Word::Ticket,
     Word::Confirm,
+    Word::AsideTicket,
     Word::State,
     Word::Lost,
 ];
@@ -46,6 +48,7 @@ fn text_of_word(word: Word) -> &'static [u8]
         Word::Recv => b"recv",
         Word::Ticket => b"ticket",
         Word::Confirm => b"confirm",
+        Word::AsideTicket => b"aside-ticket",
         Word::State => b"state",
         Word::Lost => b"lost",
     }

@@ -1,0 +1,198 @@
+//! A channel's calls of the class basic (AMQP 0-9-1, class 60, with RabbitMQ's nack).
+//!
+//! A line each over the session's calls. Nothing is kept here, and nothing is decided: which method a call queues and what its ticket
+//! is answered with stands in the table of calls.
+
+ghost use Rattle.std.specs.Prelude.{◌≡◌, OnOk, OnErr};
+ghost use Rattle.lapin_types.specs.declared.event.Event.TheVariants.{Call as CallEvent};
+ghost use Rattle.lapin_types.specs.declared.call.Call.TheVariants as call;
+ghost use Rattle.lapin_machine.specs.World.{told_by, next};
+ghost use Rattle.lapin_machine.specs.Told.{PublishTold, TicketTold};
+ghost use Rattle.lapin_machine.specs.Numbers.{CallCause};
+
+use crate::channel::Channel;
+use lapin_machine::{Published, Session, Ticket};
+use lapin_types::{
+    BasicAckOptions, BasicNackOptions, BasicProperties, BasicPublishOptions, BasicQosOptions,
+    BasicRecoverAsyncOptions, BasicRecoverOptions, BasicRejectOptions, Call, Error, Payload,
+    ShortString,
+};
+use std::alloc::Global;
+
+impl Channel {
+    /// Limits how many messages may be unacknowledged (AMQP 0-9-1, `basic.qos`, whose limit in bytes is 0: none). The
+    /// ticket is `Done` at the broker's `basic.qos-ok`.
+    ///
+    /// # Errors
+    /// `InvalidChannelState` where the channel is not open, `NumbersUsedUp` where the next ticket would pass the greatest
+    /// `u64`, `NoMemory`. Nothing changes then.
+    pub fn basic_qos(
+        &self,
+        alloc: Global,
+        session: &mut Session,
+        prefetch_count: u16,
+        options: BasicQosOptions,
+    ) -> Result<Ticket, Error>
+        ensures told { TicketTold result (told_by session.old (CallEvent self.now.id (call.BasicQos prefetch_count options))) }
+        ensures ok { OnOk result (session.new ≡ next session.old (CallEvent self.now.id (call.BasicQos prefetch_count options))) }
+        ensures err { OnErr result (session.new ≡ session.old) }
+        ensures cause { CallCause result self.now.id (call.BasicQos prefetch_count options) session.old.base }
+    {
+        let call = Call::BasicQos {
+            prefetch_count,
+            options,
+        };
+        session.call(alloc, self.id, call)
+    }
+
+    /// Publishes a message (AMQP 0-9-1, `basic.publish`). Its frames leave whole and in one piece, after all publishes
+    /// that were called before it. The payload may have any length. The ticket is answered with `Confirm` and the
+    /// confirm's number as the last frame leaves.
+    ///
+    /// # Errors
+    /// `InvalidChannelState` where the channel is not open, `NumbersUsedUp` where the next ticket or confirm would pass the
+    /// greatest `u64`, `NoMemory`. Nothing changes then.
+    pub fn basic_publish(
+        &self,
+        alloc: Global,
+        session: &mut Session,
+        exchange: ShortString,
+        routing_key: ShortString,
+        options: BasicPublishOptions,
+        payload: &[u8],
+        properties: BasicProperties,
+    ) -> Result<Published, Error>
+        ensures told { PublishTold result (told_by session.old (CallEvent self.now.id (call.BasicPublish exchange routing_key options payload.now properties))) }
+        ensures ok { OnOk result (session.new ≡ next session.old (CallEvent self.now.id (call.BasicPublish exchange routing_key options payload.now properties))) }
+        ensures err { OnErr result (session.new ≡ session.old) }
+        ensures cause { CallCause result self.now.id (call.BasicPublish exchange routing_key options payload.now properties) session.old.base }
+    {
+        let payload = Payload::new(alloc, payload)?;
+        session.basic_publish(
+            alloc,
+            self.id,
+            exchange,
+            routing_key,
+            options,
+            payload,
+            properties,
+        )
+    }
+
+    /// Acknowledges a delivery, with `multiple` all up to it, and all with tag 0 (AMQP 0-9-1, `basic.ack`). The ticket
+    /// is `Done` as the frame leaves, since the broker answers nothing.
+    ///
+    /// # Errors
+    /// `InvalidChannelState` where the channel is not open, `NumbersUsedUp` where the next ticket would pass the greatest
+    /// `u64`, `NoMemory`. Nothing changes then.
+    pub fn basic_ack(
+        &self,
+        alloc: Global,
+        session: &mut Session,
+        delivery_tag: u64,
+        options: BasicAckOptions,
+    ) -> Result<Ticket, Error>
+        ensures told { TicketTold result (told_by session.old (CallEvent self.now.id (call.BasicAck delivery_tag options))) }
+        ensures ok { OnOk result (session.new ≡ next session.old (CallEvent self.now.id (call.BasicAck delivery_tag options))) }
+        ensures err { OnErr result (session.new ≡ session.old) }
+        ensures cause { CallCause result self.now.id (call.BasicAck delivery_tag options) session.old.base }
+    {
+        let call = Call::BasicAck {
+            delivery_tag,
+            options,
+        };
+        session.call(alloc, self.id, call)
+    }
+
+    /// Gives a delivery back, with `multiple` all up to it, and all with tag 0 (RabbitMQ, `basic.nack`). The ticket is
+    /// `Done` as the frame leaves, since the broker answers nothing.
+    ///
+    /// # Errors
+    /// `InvalidChannelState` where the channel is not open, `NumbersUsedUp` where the next ticket would pass the greatest
+    /// `u64`, `NoMemory`. Nothing changes then.
+    pub fn basic_nack(
+        &self,
+        alloc: Global,
+        session: &mut Session,
+        delivery_tag: u64,
+        options: BasicNackOptions,
+    ) -> Result<Ticket, Error>
+        ensures told { TicketTold result (told_by session.old (CallEvent self.now.id (call.BasicNack delivery_tag options))) }
+        ensures ok { OnOk result (session.new ≡ next session.old (CallEvent self.now.id (call.BasicNack delivery_tag options))) }
+        ensures err { OnErr result (session.new ≡ session.old) }
+        ensures cause { CallCause result self.now.id (call.BasicNack delivery_tag options) session.old.base }
+    {
+        let call = Call::BasicNack {
+            delivery_tag,
+            options,
+        };
+        session.call(alloc, self.id, call)
+    }
+
+    /// Gives one delivery back (AMQP 0-9-1, `basic.reject`). The ticket is `Done` as the frame leaves, since the broker
+    /// answers nothing.
+    ///
+    /// # Errors
+    /// `InvalidChannelState` where the channel is not open, `NumbersUsedUp` where the next ticket would pass the greatest
+    /// `u64`, `NoMemory`. Nothing changes then.
+    pub fn basic_reject(
+        &self,
+        alloc: Global,
+        session: &mut Session,
+        delivery_tag: u64,
+        options: BasicRejectOptions,
+    ) -> Result<Ticket, Error>
+        ensures told { TicketTold result (told_by session.old (CallEvent self.now.id (call.BasicReject delivery_tag options))) }
+        ensures ok { OnOk result (session.new ≡ next session.old (CallEvent self.now.id (call.BasicReject delivery_tag options))) }
+        ensures err { OnErr result (session.new ≡ session.old) }
+        ensures cause { CallCause result self.now.id (call.BasicReject delivery_tag options) session.old.base }
+    {
+        let call = Call::BasicReject {
+            delivery_tag,
+            options,
+        };
+        session.call(alloc, self.id, call)
+    }
+
+    /// Asks for all unacknowledged messages again (AMQP 0-9-1, `basic.recover-async`). The ticket is `Done` as the
+    /// frame leaves, since the broker answers nothing.
+    ///
+    /// # Errors
+    /// `InvalidChannelState` where the channel is not open, `NumbersUsedUp` where the next ticket would pass the greatest
+    /// `u64`, `NoMemory`. Nothing changes then.
+    pub fn basic_recover_async(
+        &self,
+        alloc: Global,
+        session: &mut Session,
+        options: BasicRecoverAsyncOptions,
+    ) -> Result<Ticket, Error>
+        ensures told { TicketTold result (told_by session.old (CallEvent self.now.id (call.BasicRecoverAsync options))) }
+        ensures ok { OnOk result (session.new ≡ next session.old (CallEvent self.now.id (call.BasicRecoverAsync options))) }
+        ensures err { OnErr result (session.new ≡ session.old) }
+        ensures cause { CallCause result self.now.id (call.BasicRecoverAsync options) session.old.base }
+    {
+        let call = Call::BasicRecoverAsync { options };
+        session.call(alloc, self.id, call)
+    }
+
+    /// Asks for all unacknowledged messages again (AMQP 0-9-1, `basic.recover`). The ticket is `Done` at the broker's
+    /// `basic.recover-ok`.
+    ///
+    /// # Errors
+    /// `InvalidChannelState` where the channel is not open, `NumbersUsedUp` where the next ticket would pass the greatest
+    /// `u64`, `NoMemory`. Nothing changes then.
+    pub fn basic_recover(
+        &self,
+        alloc: Global,
+        session: &mut Session,
+        options: BasicRecoverOptions,
+    ) -> Result<Ticket, Error>
+        ensures told { TicketTold result (told_by session.old (CallEvent self.now.id (call.BasicRecover options))) }
+        ensures ok { OnOk result (session.new ≡ next session.old (CallEvent self.now.id (call.BasicRecover options))) }
+        ensures err { OnErr result (session.new ≡ session.old) }
+        ensures cause { CallCause result self.now.id (call.BasicRecover options) session.old.base }
+    {
+        let call = Call::BasicRecover { options };
+        session.call(alloc, self.id, call)
+    }
+}

@@ -1,0 +1,186 @@
+-- Calls: what was written is read, what was read is spelled so, and no token of a call has a space.
+use Rattle.std.proofs.Common.{◌≡◌, ℕ, List, [], ◌∷◌, ◌++◌, Option, Some, None, Bool, true, false, refl, sym, ap, subst, ◌∙◌}
+use Rattle.std.specs.Prelude.{codes, ◌||◌, if◌then◌else◌}
+use Rattle.std.specs.Str.{bytes_eq}
+use Rattle.std.proofs.lemmas.Slice.Eq.{bytes_eq-Decides}
+use Rattle.lapin_types.specs.Types.{Method, ChannelMethod, AccessMethod, ExchangeMethod, QueueMethod, BasicMethod, ConfirmMethod, TxMethod}
+use Rattle.lapin_types.specs.declared.call.Call.{Call}
+use Rattle.lapin_types.specs.declared.call.Call.TheVariants as call
+use Rattle.lapin_types.specs.Types.method
+use Rattle.lapin_types.specs.Types.channel as channel_method
+use Rattle.lapin_types.specs.Types.access as access_method
+use Rattle.lapin_types.specs.Types.exchange as exchange_method
+use Rattle.lapin_types.specs.Types.queue as queue_method
+use Rattle.lapin_types.specs.Types.basic as basic_method
+use Rattle.lapin_types.specs.Types.confirm as confirm_method
+use Rattle.lapin_types.specs.Types.tx as tx_method
+use Rattle.lapin_types.specs.declared.exchange_kind.ExchangeKind.{ExchangeKind}
+use Rattle.lapin_types.specs.declared.exchange_kind.ExchangeKind.TheVariants as exchange_kind
+use Rattle.lapin_types.specs.ExchangeKinds.{kind_text}
+use Rattle.lapin_tokens.specs.Fields.{tokens}
+use Rattle.lapin_tokens.specs.Reading.{◌>>=◌, fields_at}
+use Rattle.lapin_tokens.proofs.FieldLaws.{bind_some, some_is, fields_again, fields_found}
+use Rattle.lapin_tokens.proofs.Plain.{AllPlain, plain_append}
+use Rattle.lapin_tokens.proofs.PlainFields.{plain_tokens}
+use Rattle.lapin_method_text.specs.Methods.{method_tokens, MethodFits}
+use Rattle.lapin_method_text.specs.MethodReading.{method_at}
+use Rattle.lapin_method_text.proofs.MethodLaws.{plain_method, method_again, method_found}
+use Rattle.lapin_text.specs.Calls.{is_standard, IsNamed, kind_named, method_of, close_fields, content_fields, call_tokens, CallFits}
+use Rattle.lapin_text.specs.CallReading.{channel_call, access_call, exchange_call, queue_call, basic_call, confirm_call, tx_call, call_of, call_with, call_named, call_at}
+
+-- ---- kinds of exchanges
+
+-- the kind, by which of the four words the text is
+abbrev picked : (direct fanout headers topic : Bool) → List ℕ → ExchangeKind
+picked d f h t name =
+    if d then exchange_kind.Direct else if f then exchange_kind.Fanout else if h then exchange_kind.Headers else if t then exchange_kind.Topic else exchange_kind.Custom name
+
+custom_picked : (d f h t : Bool) (name : List ℕ) → (d || f || h || t) ≡ false → picked d f h t name ≡ exchange_kind.Custom name
+custom_picked false false false false name e = refl
+custom_picked _ _ _ _ name e = absurd cc
+
+kind_again : (k : ExchangeKind) → IsNamed k → kind_named (kind_text k) ≡ k
+kind_again (exchange_kind.Custom name) h = custom_picked (bytes_eq name (codes "direct")) (bytes_eq name (codes "fanout")) (bytes_eq name (codes "headers")) (bytes_eq name (codes "topic")) name h
+kind_again exchange_kind.Direct h = refl
+kind_again exchange_kind.Fanout h = refl
+kind_again exchange_kind.Headers h = refl
+kind_again exchange_kind.Topic h = refl
+
+-- the kind has this text, and it is what the text stands for
+abbrev IsKindOf : List ℕ → ExchangeKind → Type 0
+IsKindOf name k = (kind_text k ≡ name) × IsNamed k
+
+picked_found : (d f h t : Bool) (name : List ℕ) → (d ≡ true → name ≡ codes "direct") → (f ≡ true → name ≡ codes "fanout") → (h ≡ true → name ≡ codes "headers") → (t ≡ true → name ≡ codes "topic") → is_standard name ≡ (d || f || h || t) → IsKindOf name (picked d f h t name)
+picked_found true f h t name p q r s e = (sym (p refl), tt)
+picked_found false true h t name p q r s e = (sym (q refl), tt)
+picked_found false false true t name p q r s e = (sym (r refl), tt)
+picked_found false false false true name p q r s e = (sym (s refl), tt)
+picked_found false false false false name p q r s e = (refl, e)
+
+kind_found : (name : List ℕ) → IsKindOf name (kind_named name)
+kind_found name = picked_found (bytes_eq name (codes "direct")) (bytes_eq name (codes "fanout")) (bytes_eq name (codes "headers")) (bytes_eq name (codes "topic")) name (bytes_eq-Decides name (codes "direct")).0 (bytes_eq-Decides name (codes "fanout")).0 (bytes_eq-Decides name (codes "headers")).0 (bytes_eq-Decides name (codes "topic")).0 refl
+
+-- ---- what was written is read
+
+as_method : (c : Call) (rest : List (List ℕ)) → MethodFits (method_of c) → call_at (method_tokens (method_of c) ++ rest) ≡ (method_at (method_tokens (method_of c) ++ rest) >>= λ m. call_with m.0 m.1) → call_with (method_of c) rest ≡ Some (c, rest) → call_at (method_tokens (method_of c) ++ rest) ≡ Some (c, rest)
+as_method c rest h is made = is ∙ rw (method_again (method_of c) rest h) made
+
+pub call_again : (c : Call) (rest : List (List ℕ)) → CallFits c → call_at (call_tokens c ++ rest) ≡ Some (c, rest)
+unfolding call_at call_named
+call_again (call.ChannelClose reply_code reply_text) rest h = fields_again close_fields (λ v. call.ChannelClose v.0 v.1.0) (reply_code, (reply_text, tt)) rest h
+call_again (call.ConnectionClose reply_code reply_text) rest h = fields_again close_fields (λ v. call.ConnectionClose v.0 v.1.0) (reply_code, (reply_text, tt)) rest h
+call_again (call.BasicPublish exchange routing_key options payload properties) rest h =
+    let m : Method = method_of (call.BasicPublish exchange routing_key options payload properties) in
+    rw (method_again m (tokens content_fields (payload, (properties, tt)) ++ rest) h.0) (fields_again content_fields (λ v. call.BasicPublish exchange routing_key options v.0 v.1.0) (payload, (properties, tt)) rest h.1)
+call_again (call.ExchangeDeclare exchange kind options arguments) rest h = as_method (call.ExchangeDeclare exchange kind options arguments) rest h.0 refl (rw (kind_again kind h.1) refl)
+call_again c rest h = as_method c rest h refl refl
+
+-- ---- what was read is spelled so
+
+-- the method's text is the call's
+abbrev IsSpelled : Method → Call → Type 0
+IsSpelled m c = (method_tokens m ≡ call_tokens c) × CallFits c
+
+is_made : (m : Method) (made c : Call) → Some made ≡ Some c → IsSpelled m made → IsSpelled m c
+is_made m made c e p = subst (λ (y : Call). IsSpelled m y) (some_is made c e) p
+
+channel_found : (m : ChannelMethod) (c : Call) → channel_call m ≡ Some c → MethodFits (method.Channel m) → IsSpelled (method.Channel m) c
+channel_found channel_method.Open c e fit = is_made (method.Channel channel_method.Open) call.OpenChannel c e (refl, fit)
+channel_found (channel_method.Flow active) c e fit = is_made (method.Channel (channel_method.Flow active)) (call.ChannelFlow (record { active = active })) c e (refl, fit)
+channel_found _ c e fit = absurd cc
+
+access_found : (m : AccessMethod) (c : Call) → access_call m ≡ Some c → MethodFits (method.Access m) → IsSpelled (method.Access m) c
+access_found (access_method.Request realm exclusive passive active write read) c e fit = is_made (method.Access (access_method.Request realm exclusive passive active write read)) (call.AccessRequest realm (record { exclusive = exclusive; passive = passive; active = active; write = write; read = read })) c e (refl, fit)
+access_found _ c e fit = absurd cc
+
+exchange_found : (m : ExchangeMethod) (c : Call) → exchange_call m ≡ Some c → MethodFits (method.Exchange m) → IsSpelled (method.Exchange m) c
+exchange_found (exchange_method.Declare exchange kind passive durable auto_delete internal nowait arguments) c e fit =
+    let k = kind_found kind in
+    let is : method.Exchange (exchange_method.Declare exchange kind passive durable auto_delete internal nowait arguments) ≡ method.Exchange (exchange_method.Declare exchange (kind_text (kind_named kind)) passive durable auto_delete internal nowait arguments) =
+    ap (λ (name : List ℕ). method.Exchange (exchange_method.Declare exchange name passive durable auto_delete internal nowait arguments)) (sym k.0) in
+    is_made (method.Exchange (exchange_method.Declare exchange kind passive durable auto_delete internal nowait arguments)) (call.ExchangeDeclare exchange (kind_named kind) (record { passive = passive; durable = durable; auto_delete = auto_delete; internal = internal; nowait = nowait }) arguments) c e (ap method_tokens is, (subst MethodFits is fit, k.1))
+exchange_found (exchange_method.Delete exchange if_unused nowait) c e fit = is_made (method.Exchange (exchange_method.Delete exchange if_unused nowait)) (call.ExchangeDelete exchange (record { if_unused = if_unused; nowait = nowait })) c e (refl, fit)
+exchange_found (exchange_method.Bind destination source routing_key nowait arguments) c e fit = is_made (method.Exchange (exchange_method.Bind destination source routing_key nowait arguments)) (call.ExchangeBind destination source routing_key (record { nowait = nowait }) arguments) c e (refl, fit)
+exchange_found (exchange_method.Unbind destination source routing_key nowait arguments) c e fit = is_made (method.Exchange (exchange_method.Unbind destination source routing_key nowait arguments)) (call.ExchangeUnbind destination source routing_key (record { nowait = nowait }) arguments) c e (refl, fit)
+exchange_found _ c e fit = absurd cc
+
+queue_found : (m : QueueMethod) (c : Call) → queue_call m ≡ Some c → MethodFits (method.Queue m) → IsSpelled (method.Queue m) c
+queue_found (queue_method.Declare queue passive durable exclusive auto_delete nowait arguments) c e fit = is_made (method.Queue (queue_method.Declare queue passive durable exclusive auto_delete nowait arguments)) (call.QueueDeclare queue (record { passive = passive; durable = durable; exclusive = exclusive; auto_delete = auto_delete; nowait = nowait }) arguments) c e (refl, fit)
+queue_found (queue_method.Bind queue exchange routing_key nowait arguments) c e fit = is_made (method.Queue (queue_method.Bind queue exchange routing_key nowait arguments)) (call.QueueBind queue exchange routing_key (record { nowait = nowait }) arguments) c e (refl, fit)
+queue_found (queue_method.Purge queue nowait) c e fit = is_made (method.Queue (queue_method.Purge queue nowait)) (call.QueuePurge queue (record { nowait = nowait })) c e (refl, fit)
+queue_found (queue_method.Delete queue if_unused if_empty nowait) c e fit = is_made (method.Queue (queue_method.Delete queue if_unused if_empty nowait)) (call.QueueDelete queue (record { if_unused = if_unused; if_empty = if_empty; nowait = nowait })) c e (refl, fit)
+queue_found (queue_method.Unbind queue exchange routing_key arguments) c e fit = is_made (method.Queue (queue_method.Unbind queue exchange routing_key arguments)) (call.QueueUnbind queue exchange routing_key arguments) c e (refl, fit)
+queue_found _ c e fit = absurd cc
+
+basic_found : (m : BasicMethod) (c : Call) → basic_call m ≡ Some c → MethodFits (method.Basic m) → IsSpelled (method.Basic m) c
+basic_found (basic_method.Qos prefetch_count global) c e fit = is_made (method.Basic (basic_method.Qos prefetch_count global)) (call.BasicQos prefetch_count (record { global = global })) c e (refl, fit)
+basic_found (basic_method.Ack delivery_tag multiple) c e fit = is_made (method.Basic (basic_method.Ack delivery_tag multiple)) (call.BasicAck delivery_tag (record { multiple = multiple })) c e (refl, fit)
+basic_found (basic_method.Nack delivery_tag multiple requeue) c e fit = is_made (method.Basic (basic_method.Nack delivery_tag multiple requeue)) (call.BasicNack delivery_tag (record { multiple = multiple; requeue = requeue })) c e (refl, fit)
+basic_found (basic_method.Reject delivery_tag requeue) c e fit = is_made (method.Basic (basic_method.Reject delivery_tag requeue)) (call.BasicReject delivery_tag (record { requeue = requeue })) c e (refl, fit)
+basic_found (basic_method.RecoverAsync requeue) c e fit = is_made (method.Basic (basic_method.RecoverAsync requeue)) (call.BasicRecoverAsync (record { requeue = requeue })) c e (refl, fit)
+basic_found (basic_method.Recover requeue) c e fit = is_made (method.Basic (basic_method.Recover requeue)) (call.BasicRecover (record { requeue = requeue })) c e (refl, fit)
+basic_found _ c e fit = absurd cc
+
+confirm_found : (m : ConfirmMethod) (c : Call) → confirm_call m ≡ Some c → MethodFits (method.Confirm m) → IsSpelled (method.Confirm m) c
+confirm_found (confirm_method.Select nowait) c e fit = is_made (method.Confirm (confirm_method.Select nowait)) (call.ConfirmSelect (record { nowait = nowait })) c e (refl, fit)
+confirm_found _ c e fit = absurd cc
+
+tx_found : (m : TxMethod) (c : Call) → tx_call m ≡ Some c → MethodFits (method.Tx m) → IsSpelled (method.Tx m) c
+tx_found tx_method.Select c e fit = is_made (method.Tx tx_method.Select) call.TxSelect c e (refl, fit)
+tx_found tx_method.Commit c e fit = is_made (method.Tx tx_method.Commit) call.TxCommit c e (refl, fit)
+tx_found tx_method.Rollback c e fit = is_made (method.Tx tx_method.Rollback) call.TxRollback c e (refl, fit)
+tx_found _ c e fit = absurd cc
+
+call_of_found : (m : Method) (c : Call) → call_of m ≡ Some c → MethodFits m → IsSpelled m c
+call_of_found (method.Channel m) c e fit = channel_found m c e fit
+call_of_found (method.Access m) c e fit = access_found m c e fit
+call_of_found (method.Exchange m) c e fit = exchange_found m c e fit
+call_of_found (method.Queue m) c e fit = queue_found m c e fit
+call_of_found (method.Basic m) c e fit = basic_found m c e fit
+call_of_found (method.Confirm m) c e fit = confirm_found m c e fit
+call_of_found (method.Tx m) c e fit = tx_found m c e fit
+call_of_found _ c e fit = absurd cc
+
+-- the pieces are the tokens of a call that has a text, and others
+abbrev pub IsCall : List (List ℕ) → Call × List (List ℕ) → Type 0
+IsCall pieces x = (pieces ≡ call_tokens x.0 ++ x.1) × CallFits x.0
+
+with_found : (m : Method) (rest : List (List ℕ)) (x : Call × List (List ℕ)) → call_with m rest ≡ Some x → MethodFits m → IsCall (method_tokens m ++ rest) x
+with_found (method.Basic (basic_method.Publish exchange routing_key mandatory immediate)) rest x e fit =
+    let m : Method = method.Basic (basic_method.Publish exchange routing_key mandatory immediate) in
+    let r = fields_found content_fields (λ v. call.BasicPublish exchange routing_key (record { mandatory = mandatory; immediate = immediate }) v.0 v.1.0) rest x e in
+    subst (λ (c : Call). IsCall (method_tokens m ++ rest) (c, x.1)) (sym r.is) (ap (λ (t : List (List ℕ)). method_tokens m ++ t) r.spelled, (fit, r.fit))
+with_found m rest x e fit =
+    let a = bind_some (call_of m) (λ c. Some (c, rest)) x e in
+    let p = call_of_found m a.0 a.1 fit in
+    subst (λ (y : Call × List (List ℕ)). IsCall (method_tokens m ++ rest) y) (some_is (a.0, rest) x a.2) (ap (λ (t : List (List ℕ)). t ++ rest) p.0, p.1)
+
+-- by whether the name is that of one of the two closes
+named_found : (channel connection : Bool) (name : List ℕ) (rest : List (List ℕ)) (x : Call × List (List ℕ)) → (channel ≡ true → name ≡ codes "channel.close") → (connection ≡ true → name ≡ codes "connection.close") → (if channel then fields_at close_fields (λ v. call.ChannelClose v.0 v.1.0) rest else if connection then fields_at close_fields (λ v. call.ConnectionClose v.0 v.1.0) rest else (method_at (name ∷ rest) >>= λ m. call_with m.0 m.1)) ≡ Some x → IsCall (name ∷ rest) x
+named_found true connection name rest x p q e =
+    let r = fields_found close_fields (λ v. call.ChannelClose v.0 v.1.0) rest x e in
+    subst (λ (c : Call). IsCall (name ∷ rest) (c, x.1)) (sym r.is) (ap (λ (t : List (List ℕ)). name ∷ t) r.spelled ∙ ap (λ (n : List ℕ). n ∷ tokens close_fields r.vs ++ x.1) (p refl), r.fit)
+named_found false true name rest x p q e =
+    let r = fields_found close_fields (λ v. call.ConnectionClose v.0 v.1.0) rest x e in
+    subst (λ (c : Call). IsCall (name ∷ rest) (c, x.1)) (sym r.is) (ap (λ (t : List (List ℕ)). name ∷ t) r.spelled ∙ ap (λ (n : List ℕ). n ∷ tokens close_fields r.vs ++ x.1) (q refl), r.fit)
+named_found false false name rest x p q e =
+    let a = bind_some (method_at (name ∷ rest)) (λ m. call_with m.0 m.1) x e in
+    let f = method_found (name ∷ rest) a.0 a.1 in
+    let g = with_found a.0.0 a.0.1 x a.2 f.1 in
+    (f.0 ∙ g.0, g.1)
+
+pub call_found : (pieces : List (List ℕ)) (x : Call × List (List ℕ)) → call_at pieces ≡ Some x → IsCall pieces x
+unfolding call_at call_named
+call_found [] x e = absurd cc
+call_found (name ∷ rest) x e = named_found (bytes_eq name (codes "channel.close")) (bytes_eq name (codes "connection.close")) name rest x (bytes_eq-Decides name (codes "channel.close")).0 (bytes_eq-Decides name (codes "connection.close")).0 e
+
+-- ---- no token has a space
+
+pub plain_call : (c : Call) → CallFits c → AllPlain (call_tokens c)
+plain_call (call.ChannelClose reply_code reply_text) h = (refl, plain_tokens close_fields (reply_code, (reply_text, tt)) h)
+plain_call (call.ConnectionClose reply_code reply_text) h = (refl, plain_tokens close_fields (reply_code, (reply_text, tt)) h)
+plain_call (call.BasicPublish exchange routing_key options payload properties) h =
+    let m : Method = method_of (call.BasicPublish exchange routing_key options payload properties) in
+    plain_append (method_tokens m) (tokens content_fields (payload, (properties, tt))) (plain_method m h.0) (plain_tokens content_fields (payload, (properties, tt)) h.1)
+plain_call (call.ExchangeDeclare exchange kind options arguments) h = plain_method (method_of (call.ExchangeDeclare exchange kind options arguments)) h.0
+plain_call c h = plain_method (method_of c) h
