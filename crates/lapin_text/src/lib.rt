@@ -21,6 +21,3 @@ pub use lines::Lines;
 pub use parsing::{Parsed, parse_events, read_max};
 pub use printing::{print_records, write_frame, write_record};
 pub use reading::{read_event, read_frame};
-
-#[cfg(test)]
-mod tests;
