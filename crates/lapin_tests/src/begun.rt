@@ -4,6 +4,7 @@
 pub fn begun(name: &str) -> Option<&'static str> {
     match name {
         "opened" => Some(OPENED),
+        "two opened" => Some(TWO_OPENED),
         "selected" => Some(SELECTED),
         "crossed" => Some(CROSSED),
         "each state" => Some(EACH_STATE),
@@ -16,6 +17,16 @@ const OPENED: &str = "
 call 1 channel.open -> ticket 1
 next 1 -> frame method 1 channel.open
 recv method 1 channel.open-ok -> received
+";
+
+// Channels 1 and 2 are opened. Tickets 1 and 2 are those of the opens.
+const TWO_OPENED: &str = "
+call 1 channel.open -> ticket 1
+next 1 -> frame method 1 channel.open
+recv method 1 channel.open-ok -> received
+call 2 channel.open -> ticket 2
+next 1 -> frame method 2 channel.open
+recv method 2 channel.open-ok -> received
 ";
 
 // Channel 1 is opened and selected. Ticket 2 is that of the select.

@@ -1,12 +1,16 @@
 //! Runs the tables of histories.
 use crate::driver::{shows, shows_all};
-use crate::{broker_close, channel_close, confirms, connection_close, crossed, loss, session_close, unexpected};
+use crate::{
+    broker_close, channel_close, confirms, connection_close, crossed, examples, loss, session_close,
+    unexpected,
+};
 use std::alloc::{AllocError, Global};
 use std::test::Fail;
 
 #[test]
 fn histories_have_their_records(rt: HostRuntime) -> Result<(), Fail> {
     for table in [
+        examples::HISTORIES,
         confirms::HISTORIES,
         channel_close::HISTORIES,
         broker_close::HISTORIES,

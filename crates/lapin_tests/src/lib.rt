@@ -12,6 +12,8 @@ mod bodies;
 #[cfg(test)]
 mod broker_close;
 #[cfg(test)]
+mod calls;
+#[cfg(test)]
 mod channel_close;
 #[cfg(test)]
 mod confirms;
@@ -22,13 +24,19 @@ mod crossed;
 #[cfg(test)]
 mod driver;
 #[cfg(test)]
+mod examples;
+#[cfg(test)]
 mod faults;
+#[cfg(test)]
+mod flow;
 #[cfg(test)]
 mod histories;
 #[cfg(test)]
 mod lines;
 #[cfg(test)]
 mod loss;
+#[cfg(test)]
+mod methods_table;
 #[cfg(test)]
 mod session_close;
 #[cfg(test)]
