@@ -83,7 +83,10 @@ fn put_step(
             put(output, record)
         }
         None => {
-            assert!(rt; line.is_empty() || line.starts_with('#'), "{line} has no record");
+            assert!(rt;
+                line.is_empty() || line.starts_with('#'),
+                "{line} has no record"
+            );
             Ok(())
         }
     }

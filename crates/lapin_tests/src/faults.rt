@@ -1,9 +1,7 @@
 //! The program over sources and sinks that give and take in pieces, and fail, at each call; its limit; the standard streams.
 use crate::driver::words_of;
 use lapin_commands::{Status, run_in_memory, run_program};
-use lapin_io::{
-    MemorySink, MemorySource, Sink, Source, StdSink, StdSource, SureSink, SureSource,
-};
+use lapin_io::{MemorySink, MemorySource, Sink, Source, StdSink, StdSource, SureSink, SureSource};
 use std::alloc::{AllocError, Global};
 use std::test::Fail;
 
@@ -47,7 +45,11 @@ fn each_failing_write_leaves_a_prefix_of_the_text(rt: HostRuntime) -> Result<(),
         (1, Status::WriteFault, b"".as_slice()),
         (2, Status::WriteFault, b"noframe\n".as_slice()),
         (3, Status::WriteFault, b"noframe\nrefused ".as_slice()),
-        (4, Status::WriteFault, b"noframe\nrefused UnknownT".as_slice()),
+        (
+            4,
+            Status::WriteFault,
+            b"noframe\nrefused UnknownT".as_slice(),
+        ),
         (5, Status::Fine, OUTPUT),
     ] {
         let mut source = SureSource::new(INPUT.to_vec(alloc)?);
@@ -69,7 +71,13 @@ fn pieces_of_any_length_give_the_same(rt: HostRuntime) -> Result<(), Fail> {
         (INPUT, 2, 64, Status::Fine, OUTPUT),
         (INPUT, 64, 2, Status::Fine, OUTPUT),
         (INPUT, 64, 0, Status::WriteFault, b"".as_slice()),
-        (b"frame_max 4095\n".as_slice(), 64, 0, Status::WriteFault, b"".as_slice()),
+        (
+            b"frame_max 4095\n".as_slice(),
+            64,
+            0,
+            Status::WriteFault,
+            b"".as_slice(),
+        ),
     ] {
         let mut source = MemorySource::new(input.to_vec(alloc)?, most, Vec::new(alloc));
         let mut sink = MemorySink::new(alloc, room, Vec::new(alloc));
@@ -86,7 +94,11 @@ fn an_input_of_exactly_the_limit_is_run(rt: HostRuntime) -> Result<(), Fail> {
     let alloc = rt.alloc();
     let words = words_of(alloc, &["session"])?;
     for (end, wanted, output) in [
-        (b" []\n".as_slice(), Status::Fine, b"refused InvalidChannelState closed\n".as_slice()),
+        (
+            b" []\n".as_slice(),
+            Status::Fine,
+            b"refused InvalidChannelState closed\n".as_slice(),
+        ),
         (b" []\n\n".as_slice(), Status::InputTooLong, b"".as_slice()),
     ] {
         let mut input = b"frame_max 4096\ncall 10 basic.publish x x 0 0 x".to_vec(alloc)?;

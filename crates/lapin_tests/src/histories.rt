@@ -1,8 +1,8 @@
 //! Runs the tables of histories.
 use crate::driver::{shows, shows_all};
 use crate::{
-    broker_close, channel_close, confirms, connection_close, crossed, examples, loss, session_close,
-    unexpected,
+    broker_close, channel_close, confirms, connection_close, crossed, examples, loss,
+    session_close, unexpected,
 };
 use std::alloc::{AllocError, Global};
 use std::test::Fail;

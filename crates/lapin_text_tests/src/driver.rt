@@ -3,8 +3,8 @@
 use crate::pieces::PIECES;
 use lapin_method_text::{put_method, read_method};
 use lapin_scalars::{
-    flag_of, i8_of, i16_of, i32_of, i64_of, read_bytes, read_num, read_short, u8_of, u16_of, u32_of,
-    u64_of,
+    flag_of, i8_of, i16_of, i32_of, i64_of, read_bytes, read_num, read_short, u8_of, u16_of,
+    u32_of, u64_of,
 };
 use lapin_text::{read_event, read_frame, write_frame};
 use lapin_tokens::{Token, Tokens, properties_of, put_tokens, table_of};

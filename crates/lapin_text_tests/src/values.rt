@@ -29,7 +29,13 @@ fn tables_rise_and_replace(rt: HostRuntime) -> Result<(), Fail> {
         table.insert(alloc, key, AMQPValue::LongInt(number))?;
     }
     assert_eq!(rt; table.len(), 5);
-    for (place, key, number) in [(0, "", 4), (1, "B", 6), (2, "a", 2), (3, "ab", 3), (4, "b", 5)] {
+    for (place, key, number) in [
+        (0, "", 4),
+        (1, "B", 6),
+        (2, "a", 2),
+        (3, "ab", 3),
+        (4, "b", 5),
+    ] {
         let (at, value) = table.at(place).ok_or("a row too few")?;
         assert_eq!(rt; at.as_str(), key);
         assert!(rt; *value == AMQPValue::LongInt(number), "at {key}");
