@@ -90,12 +90,19 @@ fn event(alloc: Global, piece: &[u8]) -> Result<String, Fail> {
 
 // Whether what was written of a piece is the piece itself, behind a space or not.
 fn kept(alloc: Global, piece: &[u8], written: Option<Vec<u8>>) -> Result<String, Fail> {
-    let word = match written {
-        Some(text) if text.as_slice() == piece || text.get(1..) == Some(piece) => "kept",
-        Some(_) => "changed",
+    let word = match &written {
+        Some(text) => word_of(text.as_slice(), piece),
         None => "none",
     };
     Ok(String::from_str(alloc, word)?)
+}
+
+fn word_of(text: &[u8], piece: &[u8]) -> &'static str {
+    if text == piece || text.get(1..) == Some(piece) {
+        "kept"
+    } else {
+        "changed"
+    }
 }
 
 fn table(alloc: Global, piece: &[u8]) -> Result<Option<Vec<u8>>, Fail> {
