@@ -80,6 +80,7 @@ impl Publisher {
             message.now self.old.waiting.items self.new.waiting.items }
         ensures err { OnErr result (session.new ≡ session.old) }
         ensures window { OnErr result (self.new.waiting.items ≡ self.old.waiting.items) }
+        ensures stays { self.new ≡ record self.old { waiting = self.new.waiting } }
     {
         self.waiting.reserve(1)?;
         let kept = message.try_clone(alloc)?;
@@ -130,6 +131,7 @@ impl Publisher {
         ensures some { IfSome result (λ settled. IsSettled settled session.old session.new self.old.waiting.items self.new.waiting.items) }
         ensures none { IfNone result (IsPending session.old session.new self.old.waiting.items) }
         ensures window { IfNone result (self.new.waiting.items ≡ self.old.waiting.items) }
+        ensures stays { self.new ≡ record self.old { waiting = self.new.waiting } }
     {
         let outcome = match self.waiting.front()?.confirm.poll(session) {
             Ok(Poll::Pending) => return None,

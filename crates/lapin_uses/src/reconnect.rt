@@ -29,6 +29,8 @@ pub fn after_loss(
     ensures unsent { OnOk result (unsent.new.items ≡ unsent.old.items ++ kept_of (next session.old Lost) publisher.old.waiting.items) }
     ensures empty { OnOk result (publisher.new.waiting.items ≡ []) }
     ensures err { OnErr result (publisher.new.waiting.items ≡ publisher.old.waiting.items) }
+    ensures session { OnErr result (session.new ≡ session.old) }
+    ensures stays { publisher.new ≡ record publisher.old { waiting = publisher.new.waiting } }
 {
     unsent.reserve(publisher.waiting.len())?;
     session.lost(alloc)?;
