@@ -82,7 +82,7 @@ confirm 5 -> error ConnectionLost
 next 1 -> noframe
 ";
 
-/// Those whose calls are not all in the text format yet.
+/// Those that declare what they publish to.
 pub const TOPOLOGY: &str = "
 # examples/work-queue.txt
 call 1 channel.open -> ticket 1

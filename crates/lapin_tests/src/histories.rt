@@ -1,8 +1,8 @@
 //! Runs the tables of histories.
 use crate::driver::{shows, shows_all};
 use crate::{
-    broker_close, channel_close, confirms, connection_close, crossed, examples, loss,
-    session_close, unexpected,
+    broker_close, calls, channel_close, confirms, connection_close, crossed, examples, flow, loss,
+    methods_table, session_close, unexpected,
 };
 use std::alloc::{AllocError, Global};
 use std::test::Fail;
@@ -11,6 +11,10 @@ use std::test::Fail;
 fn histories_have_their_records(rt: HostRuntime) -> Result<(), Fail> {
     for table in [
         examples::HISTORIES,
+        examples::TOPOLOGY,
+        methods_table::HISTORIES,
+        calls::HISTORIES,
+        flow::HISTORIES,
         confirms::HISTORIES,
         channel_close::HISTORIES,
         broker_close::HISTORIES,
