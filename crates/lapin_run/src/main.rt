@@ -1,20 +1,9 @@
 //! The program: it makes the real source and sink, hands them with its words to the top call, and ends with the
-//! status's code. What it does is stated by `program::run_program`; here stands only what touches the process.
+//! status's code. What it does is stated by `run_program` of `lapin_commands`; here stands only what touches the process.
 #![tactic(auto)]
 
-mod in_memory;
-mod input;
-mod output;
-mod program;
-mod session;
-mod status;
-#[cfg(test)]
-mod tests;
-mod words;
-
+use lapin_commands::{Status, run_program};
 use lapin_io::{StdSink, StdSource};
-use program::run_program;
-use status::Status;
 use std::env;
 use std::io::ErrorKind;
 use std::process::ExitCode;

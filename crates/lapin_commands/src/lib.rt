@@ -1,0 +1,17 @@
+//! The top calls of the program as a library: what each command does with its words, a source and a sink.
+//!
+//! `run_program` tries the words, reads, runs and writes; each command has a file of its own beside it. What touches the
+//! process stands in the program, and what a line or a step says in the crates below.
+#![tactic(auto)]
+
+mod in_memory;
+mod input;
+mod output;
+mod program;
+mod session;
+mod status;
+mod words;
+
+pub use in_memory::run_in_memory;
+pub use program::run_program;
+pub use status::Status;

@@ -1,0 +1,147 @@
+//! The program over sources and sinks that give and take in pieces, and fail, at each call; its limit; the standard streams.
+use crate::driver::words_of;
+use lapin_commands::{Status, run_in_memory, run_program};
+use lapin_io::{MemorySink, MemorySource, Sink, Source, StdSink, StdSource, SureSink, SureSource};
+use std::alloc::{AllocError, Global};
+use std::test::Fail;
+
+const INPUT: &[u8] = b"frame_max 4096\nnext 1\nticket 9\n";
+
+const OUTPUT: &[u8] = b"noframe\nrefused UnknownTicket\n";
+
+// An input of this length, none of whose lines is in the format.
+fn input_of(alloc: Global, length: usize) -> Result<Vec<u8>, AllocError> {
+    vec![in alloc; b'x'; length]
+}
+
+// 31 bytes in pieces of 8, and the end, are 5 reads. Nothing is written where one of them fails.
+#[test]
+fn each_failing_read_ends_the_run(rt: HostRuntime) -> Result<(), Fail> {
+    let alloc = rt.alloc();
+    let words = words_of(alloc, &["session"])?;
+    for (call, wanted, output) in [
+        (1, Status::ReadFault, b"".as_slice()),
+        (2, Status::ReadFault, b"".as_slice()),
+        (3, Status::ReadFault, b"".as_slice()),
+        (4, Status::ReadFault, b"".as_slice()),
+        (5, Status::ReadFault, b"".as_slice()),
+        (6, Status::Fine, OUTPUT),
+    ] {
+        let mut source = MemorySource::new(INPUT.to_vec(alloc)?, 8, vec![in alloc; call]?);
+        let mut sink = SureSink::new(alloc);
+        let status = run_program(alloc, &words, &mut source, &mut sink);
+        assert_eq!(rt; status, wanted, "at call {call}");
+        assert_eq!(rt; sink.bytes(), output, "at call {call}");
+    }
+    Ok(())
+}
+
+// 30 bytes in pieces of 8 are 4 writes. A prefix is left where one of them fails.
+#[test]
+fn each_failing_write_leaves_a_prefix_of_the_text(rt: HostRuntime) -> Result<(), Fail> {
+    let alloc = rt.alloc();
+    let words = words_of(alloc, &["session"])?;
+    for (call, wanted, output) in [
+        (1, Status::WriteFault, b"".as_slice()),
+        (2, Status::WriteFault, b"noframe\n".as_slice()),
+        (3, Status::WriteFault, b"noframe\nrefused ".as_slice()),
+        (
+            4,
+            Status::WriteFault,
+            b"noframe\nrefused UnknownT".as_slice(),
+        ),
+        (5, Status::Fine, OUTPUT),
+    ] {
+        let mut source = SureSource::new(INPUT.to_vec(alloc)?);
+        let mut sink = MemorySink::new(alloc, 8, vec![in alloc; call]?);
+        let status = run_program(alloc, &words, &mut source, &mut sink);
+        assert_eq!(rt; status, wanted, "at call {call}");
+        assert_eq!(rt; sink.bytes(), output, "at call {call}");
+    }
+    Ok(())
+}
+
+// In pieces of one byte or more the output is the same. A sink that takes nothing is a fault, also behind a bad line.
+#[test]
+fn pieces_of_any_length_give_the_same(rt: HostRuntime) -> Result<(), Fail> {
+    let alloc = rt.alloc();
+    let words = words_of(alloc, &["session"])?;
+    for (input, most, room, wanted, output) in [
+        (INPUT, 1, 1, Status::Fine, OUTPUT),
+        (INPUT, 2, 64, Status::Fine, OUTPUT),
+        (INPUT, 64, 2, Status::Fine, OUTPUT),
+        (INPUT, 64, 0, Status::WriteFault, b"".as_slice()),
+        (
+            b"frame_max 4095\n".as_slice(),
+            64,
+            0,
+            Status::WriteFault,
+            b"".as_slice(),
+        ),
+    ] {
+        let mut source = MemorySource::new(input.to_vec(alloc)?, most, Vec::new(alloc));
+        let mut sink = MemorySink::new(alloc, room, Vec::new(alloc));
+        let status = run_program(alloc, &words, &mut source, &mut sink);
+        assert_eq!(rt; status, wanted, "at {most}, {room}");
+        assert_eq!(rt; sink.bytes(), output, "at {most}, {room}");
+    }
+    Ok(())
+}
+
+// 15 bytes of the first line, 31 before the digits, 4 behind them, and two digits for each of 8,388,583 bytes are 2^24.
+#[test]
+fn an_input_of_exactly_the_limit_is_run(rt: HostRuntime) -> Result<(), Fail> {
+    let alloc = rt.alloc();
+    let words = words_of(alloc, &["session"])?;
+    for (end, wanted, output) in [
+        (
+            b" []\n".as_slice(),
+            Status::Fine,
+            b"refused InvalidChannelState closed\n".as_slice(),
+        ),
+        (b" []\n\n".as_slice(), Status::InputTooLong, b"".as_slice()),
+    ] {
+        let mut input = b"frame_max 4096\ncall 10 basic.publish x x 0 0 x".to_vec(alloc)?;
+        input.extend_from_slice(&vec![in alloc; b'0'; 16_777_166]?)?;
+        input.extend_from_slice(end)?;
+        let (status, sink) = run_in_memory(alloc, &words, input);
+        assert_eq!(rt; status, wanted);
+        assert_eq!(rt; sink.bytes(), output);
+    }
+    Ok(())
+}
+
+// What comes behind the first byte past the limit is not asked for: 257 reads of 65,536 bytes give it, and the call that would
+// fail is not made. Without that byte the lines are looked at.
+#[test]
+fn an_input_past_the_limit_is_not_run(rt: HostRuntime) -> Result<(), Fail> {
+    let alloc = rt.alloc();
+    let words = words_of(alloc, &["session"])?;
+    for (length, wanted, output) in [
+        (16_777_216, Status::BadLine, b"badline 1\n".as_slice()),
+        (16_777_217, Status::InputTooLong, b"".as_slice()),
+        (16_777_300, Status::InputTooLong, b"".as_slice()),
+    ] {
+        let input = input_of(alloc, length)?;
+        let mut source = MemorySource::new(input, 1 << 20, vec![in alloc; 258]?);
+        let mut sink = SureSink::new(alloc);
+        let status = run_program(alloc, &words, &mut source, &mut sink);
+        assert_eq!(rt; status, wanted, "at {length}");
+        assert_eq!(rt; sink.bytes(), output, "at {length}");
+    }
+    Ok(())
+}
+
+// A test is run without input.
+#[test]
+fn standard_input_is_read(rt: HostRuntime) {
+    let mut source = StdSource::new(rt.stdin());
+    let mut room = [0u8; 4];
+    assert_eq!(rt; source.read(&mut room), Ok(0));
+}
+
+#[test]
+fn standard_output_is_written(rt: HostRuntime) {
+    let mut sink = StdSink::new(rt.stdout());
+    assert_eq!(rt; sink.write(b"out\n"), Ok(4));
+}

@@ -1,0 +1,95 @@
+//! Inputs by their lines: the first one, the last one, and the number of a bad one.
+use crate::driver::session;
+use lapin_commands::Status;
+use std::test::Fail;
+
+// What is printed for an input whose lines are in the format, and else up to its first bad line.
+const INPUTS: [(&str, Status, &str); 27] = [
+    ("frame_max 4096\n", Status::Fine, ""),
+    ("frame_max 4294967295\n", Status::Fine, ""),
+    ("frame_max 4096", Status::Fine, ""),
+    (
+        "frame_max 4096\nticket 1\nnext 1",
+        Status::Fine,
+        "refused UnknownTicket\nnoframe\n",
+    ),
+    ("", Status::BadLine, "badline 1\n"),
+    ("frame_max 4095\n", Status::BadLine, "badline 1\n"),
+    (
+        "frame_max 4294967296\nnext 1\n",
+        Status::BadLine,
+        "badline 1\n",
+    ),
+    ("frame_max 04096\nnext 1\n", Status::BadLine, "badline 1\n"),
+    ("frame_max +4096\nnext 1\n", Status::BadLine, "badline 1\n"),
+    ("frame_max  4096\nnext 1\n", Status::BadLine, "badline 1\n"),
+    ("frame_max 4096 \nnext 1\n", Status::BadLine, "badline 1\n"),
+    ("frame_max 4096\r\nnext 1\n", Status::BadLine, "badline 1\n"),
+    ("frame_max \nnext 1\n", Status::BadLine, "badline 1\n"),
+    ("frame_max\nnext 1\n", Status::BadLine, "badline 1\n"),
+    ("Frame_max 4096\nnext 1\n", Status::BadLine, "badline 1\n"),
+    ("\nframe_max 4096\nnext 1\n", Status::BadLine, "badline 1\n"),
+    (
+        "next 1\nframe_max 4096\nnext 1\n",
+        Status::BadLine,
+        "badline 1\n",
+    ),
+    (
+        "frame_max 4096\nnext 1\nnxt 1\nnext 1\n",
+        Status::BadLine,
+        "noframe\nbadline 3\n",
+    ),
+    (
+        "frame_max 4096\nnext 1\n\nnext 1\n",
+        Status::BadLine,
+        "noframe\nbadline 3\n",
+    ),
+    (
+        "frame_max 4096\nnext 1\nframe_max 4096\n",
+        Status::BadLine,
+        "noframe\nbadline 3\n",
+    ),
+    (
+        "frame_max 4096\nticket 1\nnext",
+        Status::BadLine,
+        "refused UnknownTicket\nbadline 3\n",
+    ),
+    ("frame_max 4096\nnext 1 \n", Status::BadLine, "badline 2\n"),
+    ("frame_max 4096\nnext  1\n", Status::BadLine, "badline 2\n"),
+    ("frame_max 4096\n next 1\n", Status::BadLine, "badline 2\n"),
+    ("frame_max 4096\nnext 2\n", Status::BadLine, "badline 2\n"),
+    (
+        "frame_max 4096\nticket 01\n",
+        Status::BadLine,
+        "badline 2\n",
+    ),
+    ("frame_max 4096\nnext 1\r\n", Status::BadLine, "badline 2\n"),
+];
+
+#[test]
+fn inputs_are_read_by_their_lines(rt: HostRuntime) -> Result<(), Fail> {
+    for (input, wanted, output) in INPUTS {
+        let (status, sink) = session(rt.alloc(), input)?;
+        assert_eq!(rt; status, wanted, "at {input:?}");
+        assert_eq!(rt; sink.bytes(), output.as_bytes(), "at {input:?}");
+    }
+    Ok(())
+}
+
+// Behind the first line and a thousand others the next has the number 1002.
+#[test]
+fn lines_are_counted_from_one(rt: HostRuntime) -> Result<(), Fail> {
+    let alloc = rt.alloc();
+    let mut input = String::from_str(alloc, "frame_max 4096\n")?;
+    let mut output = String::new(alloc);
+    for _ in 0..1_000 {
+        input.push_str("next 1\n")?;
+        output.push_str("noframe\n")?;
+    }
+    input.push_str("next 2\nnext 1\n")?;
+    output.push_str("badline 1002\n")?;
+    let (status, sink) = session(alloc, input.as_str())?;
+    assert_eq!(rt; status, Status::BadLine);
+    assert_eq!(rt; sink.bytes(), output.as_bytes());
+    Ok(())
+}

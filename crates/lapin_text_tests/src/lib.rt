@@ -1,0 +1,14 @@
+//! The tests of the text and of the values below it: tables of pieces with what is read of them, which one driver runs.
+//!
+//! Whole lines and their records stand in the tests of the program; here stand the parts of a line, at the edges of the
+//! grammar, and what the values do that no clause says. Nothing here is called by the program.
+#![tactic(auto)]
+
+#[cfg(test)]
+mod driver;
+#[cfg(test)]
+mod pieces;
+#[cfg(test)]
+mod records;
+#[cfg(test)]
+mod values;

@@ -1,0 +1,160 @@
+//! Pieces of lines, each with what is read of it, by the format's rules.
+
+pub const PIECES: &str = "
+num 0 -> 0
+num 10 -> 10
+num 18446744073709551615 -> 18446744073709551615
+num  -> none
+num 00 -> none
+num 01 -> none
+num +1 -> none
+num -0 -> none
+num 1  -> none
+num 18446744073709551616 -> none
+num 1a -> none
+
+u8 255 -> 255
+u8 256 -> none
+u16 65535 -> 65535
+u16 65536 -> none
+u32 4294967295 -> 4294967295
+u32 4294967296 -> none
+u64 7 -> 7
+u64 -7 -> none
+
+i8 -128 -> -128
+i8 -129 -> none
+i8 127 -> 127
+i8 128 -> none
+i16 -32768 -> -32768
+i16 32768 -> none
+i32 2147483647 -> 2147483647
+i32 -2147483649 -> none
+i64 -9223372036854775808 -> -9223372036854775808
+i64 9223372036854775808 -> none
+i64 -0 -> none
+i64 - -> none
+i64 --1 -> none
+i64 +1 -> none
+i64 -01 -> none
+
+flag 0 -> 0
+flag 1 -> 1
+flag 2 -> none
+flag 01 -> none
+
+bytes x -> []
+bytes x0aff -> [10, 255]
+bytes  -> none
+bytes 00 -> none
+bytes x0 -> none
+bytes xFF -> none
+bytes xfg -> none
+bytes X00 -> none
+
+short x -> 
+short x68c3bc -> hü
+short xff -> none
+short x6G -> none
+short 61 -> none
+
+table {} -> kept
+table {x61=I-1,x62=F{}} -> kept
+table {x=V,x61=A[],x6162=A[t0,t1,V]} -> kept
+table {x61=b-128,x62=B255,x63=s-32768,x64=u65535,x65=i4294967295} -> kept
+table {x61=l-1,x62=T0,x63=S00ff,x64=y} -> kept
+table {x61=A[A[F{x62=A[]}],F{x=I0,x00=I0}]} -> kept
+table {x=F{x=F{x=F{x=F{x=F{x=F{x=A[]}}}}}}} -> kept
+table {x=F{x=F{x=F{x=F{x=F{x=F{x=F{x=A[]}}}}}}}} -> none
+table  -> none
+table { -> none
+table {}} -> none
+table {,} -> none
+table {x61=V,} -> none
+table {x61=V,x61=V} -> none
+table {x62=V,x61=V} -> none
+table {x61=V,x=V} -> none
+table {61=V} -> none
+table {xff=V} -> none
+table {x61=I01} -> none
+table {x61=I-0} -> none
+table {x61=b-129} -> none
+table {x61=B256} -> none
+table {x61=t2} -> none
+table {x61=V0} -> none
+table {x61=S0A} -> none
+table {x61=A[V,]} -> none
+table {x61=z} -> none
+
+properties [] -> kept
+properties [content_type=x61,content_encoding=x62,headers={x63=V},delivery_mode=2] -> kept
+properties [priority=0,correlation_id=x64,reply_to=x65,expiration=x66] -> kept
+properties [message_id=x67,timestamp=18446744073709551615,kind=x68] -> kept
+properties [user_id=x69,app_id=x6a,cluster_id=x6b] -> kept
+properties [headers={}] -> kept
+properties  -> none
+properties [ -> none
+properties []] -> none
+properties [,] -> none
+properties [priority=1,] -> none
+properties [priority=256] -> none
+properties [priority=1,priority=1] -> none
+properties [priority=1,delivery_mode=1] -> none
+properties [type=x61] -> none
+properties [Priority=1] -> none
+properties [kind=61] -> none
+properties [headers=x61] -> none
+
+method basic.publish x x68656c6c6f 0 0 -> kept
+method basic.deliver x74 18446744073709551615 1 x x71 -> kept
+method basic.nack 3 0 1 -> kept
+method basic.get-empty -> kept
+method connection.close 320 x6279 10 50 -> kept
+method channel.flow 0 -> kept
+method access.request x2f 0 1 0 1 1 -> kept
+method confirm.select 0 -> kept
+method tx.rollback-ok -> kept
+method exchange.declare x6c x66 0 1 0 0 0 {} -> kept
+method exchange.unbind-ok -> kept
+method queue.declare x71 0 0 0 0 0 {x61=I-1,x62=F{}} -> kept
+method queue.declare-ok x71 5 4294967295 -> kept
+method  -> none
+method basic.Publish x x 0 0 -> none
+method basic.publish x x 0 -> none
+method basic.publish x  x 0 0 -> none
+method basic.ack 18446744073709551616 0 -> none
+method queue.purge-ok 07 -> none
+
+frame method 0 confirm.select-ok -> kept
+frame header 1 60 5000 [priority=42] -> kept
+frame body 65535 x00ff -> kept
+frame body 65536 x -> none
+frame body 1 x  -> none
+frame header 1 60 [] -> none
+frame method 1 -> none
+frame Body 1 x -> none
+frame  -> none
+
+event call 1 basic.publish x x68656c6c6f 1 0 x6869 [] -> read
+event call 0 channel.open -> read
+event call 65535 confirm.select 1 -> read
+event call 1 channel.close 65535 x676f6e65 -> read
+event call 0 connection.close 200 x -> read
+event recv method 1 channel.open-ok -> read
+event next 1 -> read
+event ticket 0 -> read
+event confirm 18446744073709551615 -> read
+event state 65535 -> read
+event lost -> read
+event  -> none
+event lost 1 -> none
+event state -> none
+event state 65536 -> none
+event call 0 connection.close 200 -> none
+event call 1 channel.close 65536 x -> none
+event call 1 channel.close 200 x 0 0 -> none
+event call 65536 channel.open -> none
+event call 1 basic.publish x x 0 0 x -> none
+event recv channel.open-ok -> none
+event Next 1 -> none
+";

@@ -1,0 +1,156 @@
+//! A publisher that keeps each message until its outcome is known, and has at most so many of them outstanding.
+ghost use Rattle.std.specs.Prelude.{◌≡◌, ◌≤◌, ◌↔◌, ◌++◌, ◌∷◌, [], length, IfOk, OnErr, IfSome, IfNone, IsTrue};
+ghost use Rattle.lapin_machine.specs.World.{told_by, next};
+ghost use Rattle.lapin_types.specs.declared.event.Event.TheVariants.{PollConfirm};
+ghost use Rattle.lapin_uses.specs.Publishing.{publishing, IsSent, IsAccepted, IsSettled, IsPending};
+
+use crate::outcomes::{Advice, advice_on};
+use lapin_session::{Channel, Published, PublisherConfirm, Session};
+use lapin_types::{
+    BasicProperties, BasicPublishOptions, Error, NoMemory, Payload, Poll, ShortString,
+};
+use std::alloc::Global;
+use std::collections::VecDeque;
+
+/// A message, with the id by which consumers know a second copy of it.
+#[derive(Drop)]
+pub struct Message {
+    pub id: ShortString,
+    pub payload: Payload,
+}
+
+impl Message {
+    /// An equal message, in memory of its own.
+    pub fn try_clone(&self, alloc: Global) -> Result<Message, NoMemory>
+        ensures { IfOk result (λ copy. copy ≡ self.now) }
+    {
+        Ok(Message {
+            id: self.id.try_clone(alloc)?,
+            payload: self.payload.try_clone(alloc)?,
+        })
+    }
+}
+
+/// A publish whose outcome isn't known yet.
+#[derive(Drop)]
+pub struct Waiting {
+    pub confirm: PublisherConfirm,
+    pub message: Message,
+}
+
+/// A message that came out of the window, with what to do about it.
+#[derive(Drop)]
+pub struct Settled {
+    pub message: Message,
+    pub advice: Advice,
+}
+
+/// A publisher to one queue, by the default exchange, on a channel that asked for confirms.
+#[derive(Drop)]
+pub struct Publisher {
+    pub channel: Channel,
+    /// The queue's name.
+    pub queue: ShortString,
+    /// How many publishes may be outstanding.
+    pub most: usize,
+    /// Those that are, oldest first.
+    pub waiting: VecDeque<Waiting>,
+}
+
+impl Publisher {
+    /// Whether the window is full: then an outcome has to come first.
+    pub fn is_full(&self) -> bool
+        ensures { IsTrue result ↔ self.now.most ≤ length self.now.waiting.items }
+    {
+        self.most <= self.waiting.len()
+    }
+
+    /// Publishes a message, persistently and under its id, and keeps a copy until its outcome is known. Its frames leave as
+    /// `next_frame` hands them out.
+    ///
+    /// # Errors
+    /// Those of `Channel::basic_publish`. Nothing is published then, and the window stays as it was.
+    pub fn publish(
+        &mut self,
+        alloc: Global,
+        session: &mut Session,
+        message: &Message,
+    ) -> Result<(), Error>
+        ensures ok { IsAccepted result session.old session.new (publishing self.old.channel.id self.old.queue message.now)
+            message.now self.old.waiting.items self.new.waiting.items }
+        ensures err { OnErr result (session.new ≡ session.old) }
+        ensures window { OnErr result (self.new.waiting.items ≡ self.old.waiting.items) }
+        ensures stays { self.new ≡ record self.old { waiting = self.new.waiting } }
+    {
+        self.waiting.reserve(1)?;
+        let kept = message.try_clone(alloc)?;
+        match self.send(alloc, session, message) {
+            Ok(confirm) => {
+                self.waiting.push_back_reserved(Waiting {
+                    confirm,
+                    message: kept,
+                });
+                Ok(())
+            }
+            Err(error) => {
+                drop(kept);
+                Err(error)
+            }
+        }
+    }
+
+    // Makes the call.
+    fn send(
+        &self,
+        alloc: Global,
+        session: &mut Session,
+        message: &Message,
+    ) -> Result<PublisherConfirm, Error>
+        ensures ok { IsSent result session.old session.new (publishing self.now.channel.id self.now.queue message.now) }
+        ensures err { OnErr result (session.new ≡ session.old) }
+    {
+        let exchange = default_exchange(alloc)?;
+        let queue = self.queue.try_clone(alloc)?;
+        let id = message.id.try_clone(alloc)?;
+        let options = BasicPublishOptions {
+            mandatory: false,
+            immediate: false,
+        };
+        let properties = BasicProperties::default()
+            .with_delivery_mode(2)
+            .with_message_id(id);
+        let payload = message.payload.as_bytes();
+        let Published { confirm, .. } = self.channel.basic_publish(
+            alloc, session, exchange, queue, options, payload, properties,
+        )?;
+        Ok(confirm)
+    }
+
+    /// The oldest publish, with what to do about it, once its outcome is known. None while it is pending, and where none waits.
+    pub fn settle(&mut self, session: &mut Session) -> Option<Settled>
+        ensures some { IfSome result (λ settled. IsSettled settled session.old session.new self.old.waiting.items self.new.waiting.items) }
+        ensures none { IfNone result (IsPending session.old session.new self.old.waiting.items) }
+        ensures window { IfNone result (self.new.waiting.items ≡ self.old.waiting.items) }
+        ensures stays { self.new ≡ record self.old { waiting = self.new.waiting } }
+    {
+        let outcome = match self.waiting.front()?.confirm.poll(session) {
+            Ok(Poll::Pending) => return None,
+            Ok(Poll::Ready(outcome)) => outcome,
+            Err(error) => Err(error),
+        };
+        let advice = advice_on(&outcome);
+        drop(outcome);
+        let Waiting { message, .. } = self.waiting.pop_front()?;
+        Some(Settled { message, advice })
+    }
+}
+
+// The name of the default exchange, which routes by the queue's name (AMQP 0-9-1, section 3.1.3.1).
+fn default_exchange(alloc: Global) -> Result<ShortString, NoMemory>
+    ensures { IfOk result (λ name. name ≡ []) }
+{
+    match ShortString::new(alloc, "") {
+        Ok(name) => Ok(name),
+        Err(_) => Err(NoMemory),
+    }
+}
