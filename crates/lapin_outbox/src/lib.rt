@@ -14,8 +14,6 @@ mod order;
 pub mod outbox;
 pub mod replies;
 mod requests;
-#[cfg(test)]
-mod tests;
 
 pub use dropped::Dropped;
 pub use lapin_types::{Left, Publish, Reply, ReplyKind, Request};
