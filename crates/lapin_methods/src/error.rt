@@ -42,11 +42,11 @@ pub enum Error {
         /// The last tag that was taken, 0 where none was.
         current: u64,
     },
-    /// The result was given before, or set aside.
-    #[error("the result was given before")]
+    /// The result of this ticket or confirm was given before, or it was set aside.
+    #[error("the result was given before or set aside")]
     AlreadyTaken,
-    /// No promise has this number.
-    #[error("no promise has this number")]
+    /// No ticket, confirm or consumer has this number.
+    #[error("no ticket, confirm or consumer has this number")]
     UnknownTicket,
 }
 

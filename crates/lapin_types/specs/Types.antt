@@ -10,6 +10,11 @@ pub use Rattle.lapin_types.specs.declared.answer.Answer.TheVariants as answer
 pub use Rattle.lapin_types.specs.declared.confirmation.Confirmation.{Confirmation}
 pub use Rattle.lapin_types.specs.declared.confirmation.Confirmation.TheVariants as confirmation
 pub use Rattle.lapin_types.specs.declared.acker.Acker.{Acker}
+pub use Rattle.lapin_types.specs.declared.acker_call.AckerCall.{AckerCall}
+pub use Rattle.lapin_types.specs.declared.acker_call.AckerCall.TheVariants as acker_call
+pub use Rattle.lapin_types.specs.declared.job.Job.{Job}
+pub use Rattle.lapin_types.specs.declared.job.JobKind.{JobKind}
+pub use Rattle.lapin_types.specs.declared.job.JobKind.TheVariants as job_kind
 pub use Rattle.lapin_types.specs.declared.message.Delivery.{Delivery}
 pub use Rattle.lapin_types.specs.declared.message.BasicGetMessage.{BasicGetMessage}
 pub use Rattle.lapin_types.specs.declared.message.BasicReturnMessage.{BasicReturnMessage}

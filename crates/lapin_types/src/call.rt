@@ -3,26 +3,27 @@
 ghost use Rattle.std.specs.Prelude.{◌≡◌, IfOk};
 ghost use Rattle.std.specs.Bool.{Decides};
 
+use crate::exchange_kind::ExchangeKind;
 use lapin_methods::{
-    BasicAckOptions, BasicPublishOptions, BasicQosOptions, ChannelFlowOptions,
-    ConfirmSelectOptions, ExchangeBindOptions, QueueDeclareOptions, QueueDeleteOptions,
+    AccessRequestOptions, BasicAckOptions, BasicNackOptions, BasicPublishOptions, BasicQosOptions,
+    BasicRecoverAsyncOptions, BasicRecoverOptions, BasicRejectOptions, ChannelFlowOptions,
+    ConfirmSelectOptions, ExchangeBindOptions, ExchangeDeclareOptions, ExchangeDeleteOptions,
+    ExchangeUnbindOptions, QueueBindOptions, QueueDeclareOptions, QueueDeleteOptions,
     QueuePurgeOptions,
 };
 use lapin_values::{BasicProperties, FieldTable, NoMemory, Payload, ShortString};
 use std::alloc::Global;
+
+mod basic;
+mod channel;
+mod exchange;
+mod queue;
 
 /// A call with its arguments. Its channel stands in the event.
 #[derive(Debug, Drop)]
 pub enum Call {
     /// Opens the channel (`channel.open`).
     OpenChannel,
-    /// Closes the channel (`channel.close`).
-    ChannelClose {
-        /// Why, by the standard's reply codes.
-        reply_code: u16,
-        /// Why, in words.
-        reply_text: ShortString,
-    },
     /// Closes the connection (`connection.close`), on channel 0.
     ConnectionClose {
         /// Why, by the standard's reply codes.
@@ -30,17 +31,44 @@ pub enum Call {
         /// Why, in words.
         reply_text: ShortString,
     },
-    /// Asks for publisher confirms (`confirm.select`).
-    ConfirmSelect {
-        /// The marks of the method.
-        options: ConfirmSelectOptions,
+    /// Closes the channel (`channel.close`).
+    ChannelClose {
+        /// Why, by the standard's reply codes.
+        reply_code: u16,
+        /// Why, in words.
+        reply_text: ShortString,
     },
     /// Asks the broker to go on or to pause (`channel.flow`).
     ChannelFlow {
         /// The marks of the method.
         options: ChannelFlowOptions,
     },
-    /// Binds an exchange to another (`exchange.bind`).
+    /// Asks for access to a realm (`access.request`).
+    AccessRequest {
+        /// The realm.
+        realm: ShortString,
+        /// The marks of the method.
+        options: AccessRequestOptions,
+    },
+    /// Declares an exchange (`exchange.declare`).
+    ExchangeDeclare {
+        /// Its name.
+        exchange: ShortString,
+        /// Its kind.
+        kind: ExchangeKind,
+        /// The marks of the method.
+        options: ExchangeDeclareOptions,
+        /// Further arguments.
+        arguments: FieldTable,
+    },
+    /// Deletes an exchange (`exchange.delete`).
+    ExchangeDelete {
+        /// Its name.
+        exchange: ShortString,
+        /// The marks of the method.
+        options: ExchangeDeleteOptions,
+    },
+    /// Binds an exchange to another one (`exchange.bind`).
     ExchangeBind {
         /// The exchange that gets the messages.
         destination: ShortString,
@@ -53,6 +81,19 @@ pub enum Call {
         /// Further arguments.
         arguments: FieldTable,
     },
+    /// Takes a binding between two exchanges away (`exchange.unbind`).
+    ExchangeUnbind {
+        /// The exchange that got the messages.
+        destination: ShortString,
+        /// The exchange that they came from.
+        source: ShortString,
+        /// The routing key.
+        routing_key: ShortString,
+        /// The marks of the method.
+        options: ExchangeUnbindOptions,
+        /// Further arguments.
+        arguments: FieldTable,
+    },
     /// Declares a queue (`queue.declare`).
     QueueDeclare {
         /// Its name; the broker names it where this is empty.
@@ -62,26 +103,18 @@ pub enum Call {
         /// Further arguments.
         arguments: FieldTable,
     },
-    /// Deletes a queue (`queue.delete`).
-    QueueDelete {
-        /// Its name.
+    /// Binds a queue to an exchange (`queue.bind`).
+    QueueBind {
+        /// The queue that gets the messages.
         queue: ShortString,
+        /// The exchange that they come from.
+        exchange: ShortString,
+        /// The routing key.
+        routing_key: ShortString,
         /// The marks of the method.
-        options: QueueDeleteOptions,
-    },
-    /// Asks for a limit of unacknowledged messages (`basic.qos`).
-    BasicQos {
-        /// How many may be unacknowledged.
-        prefetch_count: u16,
-        /// The marks of the method.
-        options: BasicQosOptions,
-    },
-    /// Acknowledges deliveries (`basic.ack`).
-    BasicAck {
-        /// The tag of the delivery.
-        delivery_tag: u64,
-        /// The marks of the method.
-        options: BasicAckOptions,
+        options: QueueBindOptions,
+        /// Further arguments.
+        arguments: FieldTable,
     },
     /// Drops the messages of a queue (`queue.purge`).
     QueuePurge {
@@ -90,10 +123,31 @@ pub enum Call {
         /// The marks of the method.
         options: QueuePurgeOptions,
     },
-    /// Begins transactions (`tx.select`).
-    TxSelect,
-    /// Commits a transaction (`tx.commit`).
-    TxCommit,
+    /// Deletes a queue (`queue.delete`).
+    QueueDelete {
+        /// Its name.
+        queue: ShortString,
+        /// The marks of the method.
+        options: QueueDeleteOptions,
+    },
+    /// Takes a queue's binding to an exchange away (`queue.unbind`).
+    QueueUnbind {
+        /// The queue that got the messages.
+        queue: ShortString,
+        /// The exchange that they came from.
+        exchange: ShortString,
+        /// The routing key.
+        routing_key: ShortString,
+        /// Further arguments.
+        arguments: FieldTable,
+    },
+    /// Asks for a limit of unacknowledged messages (`basic.qos`).
+    BasicQos {
+        /// How many may be unacknowledged.
+        prefetch_count: u16,
+        /// The marks of the method.
+        options: BasicQosOptions,
+    },
     /// Publishes a message (`basic.publish`).
     BasicPublish {
         /// The exchange to publish to, empty for the default one.
@@ -107,6 +161,48 @@ pub enum Call {
         /// The properties of the message.
         properties: BasicProperties,
     },
+    /// Acknowledges deliveries (`basic.ack`).
+    BasicAck {
+        /// The tag of the delivery; 0 with `multiple` stands for all.
+        delivery_tag: u64,
+        /// The marks of the method.
+        options: BasicAckOptions,
+    },
+    /// Gives deliveries back (RabbitMQ, `basic.nack`).
+    BasicNack {
+        /// The tag of the delivery; 0 with `multiple` stands for all.
+        delivery_tag: u64,
+        /// The marks of the method.
+        options: BasicNackOptions,
+    },
+    /// Gives one delivery back (`basic.reject`).
+    BasicReject {
+        /// The tag of the delivery.
+        delivery_tag: u64,
+        /// The marks of the method.
+        options: BasicRejectOptions,
+    },
+    /// Asks for unacknowledged messages again, without a reply (`basic.recover-async`).
+    BasicRecoverAsync {
+        /// The marks of the method.
+        options: BasicRecoverAsyncOptions,
+    },
+    /// Asks for unacknowledged messages again (`basic.recover`).
+    BasicRecover {
+        /// The marks of the method.
+        options: BasicRecoverOptions,
+    },
+    /// Asks for publisher confirms (RabbitMQ, `confirm.select`).
+    ConfirmSelect {
+        /// The marks of the method.
+        options: ConfirmSelectOptions,
+    },
+    /// Begins transactions (`tx.select`).
+    TxSelect,
+    /// Commits a transaction (`tx.commit`).
+    TxCommit,
+    /// Rolls a transaction back (`tx.rollback`).
+    TxRollback,
 }
 
 impl Call {
@@ -116,48 +212,77 @@ impl Call {
     {
         match self {
             Call::OpenChannel => Ok(Call::OpenChannel),
-            Call::ChannelClose {
-                reply_code,
-                reply_text,
-            } => Ok(Call::ChannelClose {
-                reply_code: *reply_code,
-                reply_text: reply_text.try_clone(alloc)?,
-            }),
             Call::ConnectionClose {
                 reply_code,
                 reply_text,
-            } => Ok(Call::ConnectionClose {
-                reply_code: *reply_code,
-                reply_text: reply_text.try_clone(alloc)?,
-            }),
-            Call::ConfirmSelect { options } => Ok(Call::ConfirmSelect { options: *options }),
+            } => channel::copied_connection_close(reply_code, reply_text, alloc),
+            Call::ChannelClose {
+                reply_code,
+                reply_text,
+            } => channel::copied_channel_close(reply_code, reply_text, alloc),
             Call::ChannelFlow { options } => Ok(Call::ChannelFlow { options: *options }),
+            Call::AccessRequest { realm, options } => channel::copied_access_request(
+                realm, options, alloc,
+            ),
+            Call::ExchangeDeclare {
+                exchange,
+                kind,
+                options,
+                arguments,
+            } => exchange::copied_exchange_declare(exchange, kind, options, arguments, alloc),
+            Call::ExchangeDelete { exchange, options } => exchange::copied_exchange_delete(
+                exchange, options, alloc,
+            ),
             Call::ExchangeBind {
                 destination,
                 source,
                 routing_key,
                 options,
                 arguments,
-            } => Ok(Call::ExchangeBind {
-                destination: destination.try_clone(alloc)?,
-                source: source.try_clone(alloc)?,
-                routing_key: routing_key.try_clone(alloc)?,
-                options: *options,
-                arguments: arguments.try_clone(alloc)?,
-            }),
+            } => exchange::copied_exchange_bind(
+                destination,
+                source,
+                routing_key,
+                options,
+                arguments,
+                alloc,
+            ),
+            Call::ExchangeUnbind {
+                destination,
+                source,
+                routing_key,
+                options,
+                arguments,
+            } => exchange::copied_exchange_unbind(
+                destination,
+                source,
+                routing_key,
+                options,
+                arguments,
+                alloc,
+            ),
             Call::QueueDeclare {
                 queue,
                 options,
                 arguments,
-            } => Ok(Call::QueueDeclare {
-                queue: queue.try_clone(alloc)?,
-                options: *options,
-                arguments: arguments.try_clone(alloc)?,
-            }),
-            Call::QueueDelete { queue, options } => Ok(Call::QueueDelete {
-                queue: queue.try_clone(alloc)?,
-                options: *options,
-            }),
+            } => queue::copied_queue_declare(queue, options, arguments, alloc),
+            Call::QueueBind {
+                queue,
+                exchange,
+                routing_key,
+                options,
+                arguments,
+            } => queue::copied_queue_bind(queue, exchange, routing_key, options, arguments, alloc),
+            Call::QueuePurge { queue, options } => queue::copied_queue_purge(queue, options, alloc),
+            Call::QueueDelete { queue, options } => queue::copied_queue_delete(
+                queue, options, alloc,
+            ),
+            Call::QueueUnbind {
+                queue,
+                exchange,
+                routing_key,
+                arguments,
+            } => queue::copied_queue_unbind(queue, exchange, routing_key, arguments, alloc),
             Call::BasicQos {
                 prefetch_count,
                 options,
@@ -165,6 +290,20 @@ impl Call {
                 prefetch_count: *prefetch_count,
                 options: *options,
             }),
+            Call::BasicPublish {
+                exchange,
+                routing_key,
+                options,
+                payload,
+                properties,
+            } => basic::copied_basic_publish(
+                exchange,
+                routing_key,
+                options,
+                payload,
+                properties,
+                alloc,
+            ),
             Call::BasicAck {
                 delivery_tag,
                 options,
@@ -172,25 +311,28 @@ impl Call {
                 delivery_tag: *delivery_tag,
                 options: *options,
             }),
-            Call::QueuePurge { queue, options } => Ok(Call::QueuePurge {
-                queue: queue.try_clone(alloc)?,
+            Call::BasicNack {
+                delivery_tag,
+                options,
+            } => Ok(Call::BasicNack {
+                delivery_tag: *delivery_tag,
                 options: *options,
             }),
+            Call::BasicReject {
+                delivery_tag,
+                options,
+            } => Ok(Call::BasicReject {
+                delivery_tag: *delivery_tag,
+                options: *options,
+            }),
+            Call::BasicRecoverAsync { options } => Ok(Call::BasicRecoverAsync {
+                options: *options,
+            }),
+            Call::BasicRecover { options } => Ok(Call::BasicRecover { options: *options }),
+            Call::ConfirmSelect { options } => Ok(Call::ConfirmSelect { options: *options }),
             Call::TxSelect => Ok(Call::TxSelect),
             Call::TxCommit => Ok(Call::TxCommit),
-            Call::BasicPublish {
-                exchange,
-                routing_key,
-                options,
-                payload,
-                properties,
-            } => Ok(Call::BasicPublish {
-                exchange: exchange.try_clone(alloc)?,
-                routing_key: routing_key.try_clone(alloc)?,
-                options: *options,
-                payload: payload.try_clone(alloc)?,
-                properties: properties.try_clone(alloc)?,
-            }),
+            Call::TxRollback => Ok(Call::TxRollback),
         }
     }
 
@@ -198,123 +340,113 @@ impl Call {
     pub fn same(&self, other: &Call) -> bool
         ensures { Decides result (self.now ≡ other.now) }
     {
-        match (self, other) {
-            (Call::OpenChannel, Call::OpenChannel) => true,
-            (
-                Call::ChannelClose {
-                    reply_code: a,
-                    reply_text: b,
-                },
-                Call::ChannelClose {
-                    reply_code,
-                    reply_text,
-                },
-            ) => a == reply_code && b == reply_text,
-            (
-                Call::ConnectionClose {
-                    reply_code: a,
-                    reply_text: b,
-                },
-                Call::ConnectionClose {
-                    reply_code,
-                    reply_text,
-                },
-            ) => a == reply_code && b == reply_text,
-            (Call::ConfirmSelect { options: a }, Call::ConfirmSelect { options: b }) => a == b,
-            (Call::ChannelFlow { options: a }, Call::ChannelFlow { options: b }) => a == b,
-            (
-                Call::ExchangeBind {
-                    destination: a,
-                    source: b,
-                    routing_key: c,
-                    options: d,
-                    arguments: e,
-                },
-                Call::ExchangeBind {
-                    destination,
-                    source,
-                    routing_key,
-                    options,
-                    arguments,
-                },
-            ) => {
-                a == destination
-                    && b == source
-                    && c == routing_key
-                    && d == options
-                    && e.same(arguments)
-            }
-            (
-                Call::QueueDeclare {
-                    queue: a,
-                    options: b,
-                    arguments: c,
-                },
-                Call::QueueDeclare {
-                    queue,
-                    options,
-                    arguments,
-                },
-            ) => a == queue && b == options && c.same(arguments),
-            (
-                Call::QueueDelete {
-                    queue: a,
-                    options: b,
-                },
-                Call::QueueDelete { queue, options },
-            ) => a == queue && b == options,
-            (
-                Call::BasicQos {
-                    prefetch_count: a,
-                    options: b,
-                },
-                Call::BasicQos {
-                    prefetch_count,
-                    options,
-                },
-            ) => a == prefetch_count && b == options,
-            (
-                Call::BasicAck {
-                    delivery_tag: a,
-                    options: b,
-                },
-                Call::BasicAck {
-                    delivery_tag,
-                    options,
-                },
-            ) => a == delivery_tag && b == options,
-            (
-                Call::QueuePurge {
-                    queue: a,
-                    options: b,
-                },
-                Call::QueuePurge { queue, options },
-            ) => a == queue && b == options,
-            (Call::TxSelect, Call::TxSelect) => true,
-            (Call::TxCommit, Call::TxCommit) => true,
-            (
-                Call::BasicPublish {
-                    exchange: a,
-                    routing_key: b,
-                    options: c,
-                    payload: d,
-                    properties: e,
-                },
-                Call::BasicPublish {
-                    exchange,
-                    routing_key,
-                    options,
-                    payload,
-                    properties,
-                },
-            ) => {
-                a == exchange
-                    && b == routing_key
-                    && c == options
-                    && d == payload
-                    && e.same(properties)
-            }
-            _ => false,
+        match self {
+            Call::OpenChannel => matches!(other, Call::OpenChannel),
+            Call::ConnectionClose {
+                reply_code,
+                reply_text,
+            } => channel::is_connection_close(other, reply_code, reply_text),
+            Call::ChannelClose {
+                reply_code,
+                reply_text,
+            } => channel::is_channel_close(other, reply_code, reply_text),
+            Call::ChannelFlow { options } => channel::is_channel_flow(other, options),
+            Call::AccessRequest { realm, options } => channel::is_access_request(
+                other, realm, options,
+            ),
+            Call::ExchangeDeclare {
+                exchange,
+                kind,
+                options,
+                arguments,
+            } => exchange::is_exchange_declare(other, exchange, kind, options, arguments),
+            Call::ExchangeDelete { exchange, options } => exchange::is_exchange_delete(
+                other, exchange, options,
+            ),
+            Call::ExchangeBind {
+                destination,
+                source,
+                routing_key,
+                options,
+                arguments,
+            } => exchange::is_exchange_bind(
+                other,
+                destination,
+                source,
+                routing_key,
+                options,
+                arguments,
+            ),
+            Call::ExchangeUnbind {
+                destination,
+                source,
+                routing_key,
+                options,
+                arguments,
+            } => exchange::is_exchange_unbind(
+                other,
+                destination,
+                source,
+                routing_key,
+                options,
+                arguments,
+            ),
+            Call::QueueDeclare {
+                queue,
+                options,
+                arguments,
+            } => queue::is_queue_declare(other, queue, options, arguments),
+            Call::QueueBind {
+                queue,
+                exchange,
+                routing_key,
+                options,
+                arguments,
+            } => queue::is_queue_bind(other, queue, exchange, routing_key, options, arguments),
+            Call::QueuePurge { queue, options } => queue::is_queue_purge(other, queue, options),
+            Call::QueueDelete { queue, options } => queue::is_queue_delete(other, queue, options),
+            Call::QueueUnbind {
+                queue,
+                exchange,
+                routing_key,
+                arguments,
+            } => queue::is_queue_unbind(other, queue, exchange, routing_key, arguments),
+            Call::BasicQos {
+                prefetch_count,
+                options,
+            } => basic::is_basic_qos(other, prefetch_count, options),
+            Call::BasicPublish {
+                exchange,
+                routing_key,
+                options,
+                payload,
+                properties,
+            } => basic::is_basic_publish(
+                other,
+                exchange,
+                routing_key,
+                options,
+                payload,
+                properties,
+            ),
+            Call::BasicAck {
+                delivery_tag,
+                options,
+            } => basic::is_basic_ack(other, delivery_tag, options),
+            Call::BasicNack {
+                delivery_tag,
+                options,
+            } => basic::is_basic_nack(other, delivery_tag, options),
+            Call::BasicReject {
+                delivery_tag,
+                options,
+            } => basic::is_basic_reject(other, delivery_tag, options),
+            Call::BasicRecoverAsync { options } => basic::is_basic_recover_async(other, options),
+            Call::BasicRecover { options } => basic::is_basic_recover(other, options),
+            Call::ConfirmSelect { options } => channel::is_confirm_select(other, options),
+            Call::TxSelect => matches!(other, Call::TxSelect),
+            Call::TxCommit => matches!(other, Call::TxCommit),
+            Call::TxRollback => matches!(other, Call::TxRollback),
         }
     }
 }

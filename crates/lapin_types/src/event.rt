@@ -2,6 +2,7 @@
 
 ghost use Rattle.std.specs.Prelude.{◌≡◌, IfOk};
 ghost use Rattle.std.specs.Bool.{Decides};
+ghost use Rattle.lapin_types.specs.declared.event.Event.TheVariants as event;
 
 use crate::call::Call;
 use lapin_methods::Frame;
@@ -21,6 +22,8 @@ pub enum Event {
     PollTicket(u64),
     /// The outcome of a publish is asked for, by its confirm number.
     PollConfirm(u64),
+    /// A ticket is set aside: nobody asks for its result any more.
+    AsideTicket(u64),
     /// The states of the connection and of a channel are asked for.
     State(u16),
     /// The connection was lost.
@@ -33,11 +36,12 @@ impl Event {
         ensures { IfOk result (λ copy. copy ≡ self.now) }
     {
         match self {
-            Event::Call(channel, call) => Ok(Event::Call(*channel, call.try_clone(alloc)?)),
+            Event::Call(channel, call) => copied_call(*channel, call, alloc),
             Event::Next(flow) => Ok(Event::Next(*flow)),
-            Event::Receive(frame) => Ok(Event::Receive(frame.try_clone(alloc)?)),
+            Event::Receive(frame) => copied_frame(frame, alloc),
             Event::PollTicket(number) => Ok(Event::PollTicket(*number)),
             Event::PollConfirm(number) => Ok(Event::PollConfirm(*number)),
+            Event::AsideTicket(number) => Ok(Event::AsideTicket(*number)),
             Event::State(channel) => Ok(Event::State(*channel)),
             Event::Lost => Ok(Event::Lost),
         }
@@ -53,9 +57,22 @@ impl Event {
             (Event::Receive(left), Event::Receive(right)) => left.same(right),
             (Event::PollTicket(left), Event::PollTicket(right)) => left == right,
             (Event::PollConfirm(left), Event::PollConfirm(right)) => left == right,
+            (Event::AsideTicket(left), Event::AsideTicket(right)) => left == right,
             (Event::State(left), Event::State(right)) => left == right,
             (Event::Lost, Event::Lost) => true,
             _ => false,
         }
     }
+}
+
+fn copied_call(channel: u16, call: &Call, alloc: Global) -> Result<Event, NoMemory>
+    ensures { IfOk result (λ copy. copy ≡ event.Call channel call.now) }
+{
+    Ok(Event::Call(channel, call.try_clone(alloc)?))
+}
+
+fn copied_frame(frame: &Frame, alloc: Global) -> Result<Event, NoMemory>
+    ensures { IfOk result (λ copy. copy ≡ event.Receive frame.now) }
+{
+    Ok(Event::Receive(frame.try_clone(alloc)?))
 }

@@ -82,9 +82,9 @@ pub struct Left {
     pub ticket: Option<u64>,
     /// The confirm number of the publish, on each of its frames.
     pub publish: Option<u64>,
-    /// Whether it is the method frame of a publish.
+    /// Whether it is the method frame: of a publish its first frame, of any other method its only one.
     pub first: bool,
-    /// Whether it is the last frame of a publish.
+    /// Whether it is the last frame: of a publish its header or its last body, of any other method its only one.
     pub last: bool,
     /// Whether it was handed out before and given back.
     pub again: bool,

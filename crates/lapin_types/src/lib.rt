@@ -5,11 +5,13 @@
 #![tactic(auto)]
 
 pub mod acker;
+pub mod acker_call;
 pub mod answer;
 pub mod call;
 pub mod confirmation;
 pub mod event;
 pub mod exchange_kind;
+pub mod job;
 pub mod laws;
 pub mod leaving;
 pub mod message;
@@ -20,15 +22,15 @@ pub mod reply_code;
 pub mod request;
 pub mod returned;
 pub mod run_error;
-#[cfg(test)]
-mod tests;
 
 pub use acker::Acker;
+pub use acker_call::AckerCall;
 pub use answer::Answer;
 pub use call::Call;
 pub use confirmation::Confirmation;
 pub use event::Event;
 pub use exchange_kind::ExchangeKind;
+pub use job::{Job, JobKind};
 pub use lapin_methods::{
     AccessMethod, AccessRequestOptions, BasicAckOptions, BasicCancelOptions, BasicConsumeOptions,
     BasicDeliverOptions, BasicGetOkOptions, BasicGetOptions, BasicMethod, BasicNackOptions,
@@ -44,7 +46,9 @@ pub use lapin_values::{
     ShortStringError,
 };
 pub use leaving::{Left, Publish};
-pub use message::{BasicGetMessage, BasicReturnMessage, Delivery, DeliveryResult};
+pub use message::{
+    BasicGetMessage, BasicReturnMessage, Delivery, DeliveryResult, copied_result, same_result,
+};
 pub use poll::Poll;
 pub use queue::Queue;
 pub use record::Record;

@@ -163,3 +163,26 @@ impl BasicReturnMessage {
             && self.reply_text == other.reply_text
     }
 }
+
+/// An equal result, in memory of its own.
+pub fn copied_result(given: &DeliveryResult, alloc: Global) -> Result<DeliveryResult, NoMemory>
+    ensures { IfOk result (λ copy. copy ≡ given.now) }
+{
+    match given {
+        Ok(Some(delivery)) => Ok(Ok(Some(delivery.try_clone(alloc)?))),
+        Ok(None) => Ok(Ok(None)),
+        Err(error) => Ok(Err(*error)),
+    }
+}
+
+/// Whether two results are equal in every field, number and use of their ackers too.
+pub fn same_result(left: &DeliveryResult, right: &DeliveryResult) -> bool
+    ensures { Decides result (left.now ≡ right.now) }
+{
+    match (left, right) {
+        (Ok(Some(left)), Ok(Some(right))) => left.same(right),
+        (Ok(None), Ok(None)) => true,
+        (Err(left), Err(right)) => left == right,
+        _ => false,
+    }
+}

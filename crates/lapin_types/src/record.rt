@@ -2,6 +2,7 @@
 
 ghost use Rattle.std.specs.Prelude.{◌≡◌, IfOk};
 ghost use Rattle.std.specs.Bool.{Decides};
+ghost use Rattle.lapin_types.specs.declared.record.Record.TheVariants as told;
 
 use crate::answer::Answer;
 use crate::confirmation::Confirmation;
@@ -37,6 +38,8 @@ pub enum Record {
     Answer(Result<Answer, Error>),
     /// The outcome of a publish.
     Confirmed(Result<Confirmation, Error>),
+    /// The ticket or the confirm is set aside.
+    Aside,
     /// The states of the connection and of a channel.
     State(ConnectionState, ChannelState),
     /// The connection is lost.
@@ -55,13 +58,14 @@ impl Record {
                 confirm: *confirm,
             }),
             Record::Refused(error) => Ok(Record::Refused(*error)),
-            Record::Frame(frame) => Ok(Record::Frame(frame.try_clone(alloc)?)),
+            Record::Frame(frame) => copied_frame(frame, alloc),
             Record::NoFrame => Ok(Record::NoFrame),
             Record::Received => Ok(Record::Received),
             Record::Passed => Ok(Record::Passed),
             Record::Pending => Ok(Record::Pending),
-            Record::Answer(answer) => Ok(Record::Answer(copied_answer(answer, alloc)?)),
-            Record::Confirmed(outcome) => Ok(Record::Confirmed(copied_outcome(outcome, alloc)?)),
+            Record::Answer(answer) => copied_answer(answer, alloc),
+            Record::Confirmed(outcome) => copied_outcome(outcome, alloc),
+            Record::Aside => Ok(Record::Aside),
             Record::State(connection, channel) => Ok(Record::State(*connection, *channel)),
             Record::Lost => Ok(Record::Lost),
         }
@@ -88,6 +92,7 @@ impl Record {
             (Record::Pending, Record::Pending) => true,
             (Record::Answer(left), Record::Answer(right)) => same_answer(left, right),
             (Record::Confirmed(left), Record::Confirmed(right)) => same_outcome(left, right),
+            (Record::Aside, Record::Aside) => true,
             (Record::State(a, b), Record::State(connection, channel)) => {
                 a == connection && b == channel
             }
@@ -97,15 +102,18 @@ impl Record {
     }
 }
 
-fn copied_answer(
-    answer: &Result<Answer, Error>,
-    alloc: Global,
-) -> Result<Result<Answer, Error>, NoMemory>
-    ensures { IfOk result (λ copy. copy ≡ answer.now) }
+fn copied_frame(frame: &Frame, alloc: Global) -> Result<Record, NoMemory>
+    ensures { IfOk result (λ copy. copy ≡ told.Frame frame.now) }
+{
+    Ok(Record::Frame(frame.try_clone(alloc)?))
+}
+
+fn copied_answer(answer: &Result<Answer, Error>, alloc: Global) -> Result<Record, NoMemory>
+    ensures { IfOk result (λ copy. copy ≡ told.Answer answer.now) }
 {
     match answer {
-        Ok(answer) => Ok(Ok(answer.try_clone(alloc)?)),
-        Err(error) => Ok(Err(*error)),
+        Ok(answer) => Ok(Record::Answer(Ok(answer.try_clone(alloc)?))),
+        Err(error) => Ok(Record::Answer(Err(*error))),
     }
 }
 
@@ -119,15 +127,12 @@ fn same_answer(left: &Result<Answer, Error>, right: &Result<Answer, Error>) -> b
     }
 }
 
-fn copied_outcome(
-    outcome: &Result<Confirmation, Error>,
-    alloc: Global,
-) -> Result<Result<Confirmation, Error>, NoMemory>
-    ensures { IfOk result (λ copy. copy ≡ outcome.now) }
+fn copied_outcome(outcome: &Result<Confirmation, Error>, alloc: Global) -> Result<Record, NoMemory>
+    ensures { IfOk result (λ copy. copy ≡ told.Confirmed outcome.now) }
 {
     match outcome {
-        Ok(outcome) => Ok(Ok(outcome.try_clone(alloc)?)),
-        Err(error) => Ok(Err(*error)),
+        Ok(outcome) => Ok(Record::Confirmed(Ok(outcome.try_clone(alloc)?))),
+        Err(error) => Ok(Record::Confirmed(Err(*error))),
     }
 }
 

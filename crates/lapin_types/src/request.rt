@@ -4,7 +4,8 @@
 ghost use Rattle.std.specs.Prelude.{◌≡◌};
 ghost use Rattle.lapin_types.specs.Requests.{kind_of};
 
-use lapin_methods::QueueDeclareOptions;
+use crate::exchange_kind::ExchangeKind;
+use lapin_methods::{BasicConsumeOptions, ExchangeDeclareOptions, QueueDeclareOptions};
 use lapin_values::{FieldTable, ShortString};
 
 /// The kind of a reply that is awaited.
@@ -14,43 +15,92 @@ pub enum ReplyKind {
     ConnectionCloseOk,
     /// `channel.open-ok`.
     ChannelOpenOk,
-    /// `channel.close-ok`.
-    ChannelCloseOk,
-    /// `confirm.select-ok`.
-    ConfirmSelectOk,
     /// `channel.flow-ok`.
     ChannelFlowOk,
+    /// `channel.close-ok`.
+    ChannelCloseOk,
+    /// `access.request-ok`.
+    AccessRequestOk,
+    /// `exchange.declare-ok`.
+    ExchangeDeclareOk,
+    /// `exchange.delete-ok`.
+    ExchangeDeleteOk,
     /// `exchange.bind-ok`.
     ExchangeBindOk,
+    /// `exchange.unbind-ok`.
+    ExchangeUnbindOk,
     /// `queue.declare-ok`.
     QueueDeclareOk,
-    /// `queue.delete-ok`.
-    QueueDeleteOk,
-    /// `basic.qos-ok`.
-    BasicQosOk,
-    /// `tx.select-ok`.
-    TxSelectOk,
+    /// `queue.bind-ok`.
+    QueueBindOk,
     /// `queue.purge-ok`.
     QueuePurgeOk,
+    /// `queue.delete-ok`.
+    QueueDeleteOk,
+    /// `queue.unbind-ok`.
+    QueueUnbindOk,
+    /// `basic.qos-ok`.
+    BasicQosOk,
+    /// `basic.consume-ok`.
+    BasicConsumeOk,
+    /// `basic.cancel-ok`.
+    BasicCancelOk,
+    /// `basic.get-ok`, or `basic.get-empty` in its place.
+    BasicGetOk,
+    /// `basic.recover-ok`.
+    BasicRecoverOk,
+    /// `confirm.select-ok`.
+    ConfirmSelectOk,
+    /// `tx.select-ok`.
+    TxSelectOk,
     /// `tx.commit-ok`.
     TxCommitOk,
+    /// `tx.rollback-ok`.
+    TxRollbackOk,
 }
 
-/// A reply that is awaited, with what its answer needs.
+/// A reply that is awaited, with what its answer and the record of declared names need.
 #[derive(Debug, Drop)]
 pub enum Reply {
     /// `connection.close-ok`.
     ConnectionCloseOk,
     /// `channel.open-ok`.
     ChannelOpenOk,
-    /// `channel.close-ok`.
-    ChannelCloseOk,
-    /// `confirm.select-ok`.
-    ConfirmSelectOk,
     /// `channel.flow-ok`.
     ChannelFlowOk,
+    /// `channel.close-ok`.
+    ChannelCloseOk,
+    /// `access.request-ok`.
+    AccessRequestOk,
+    /// `exchange.declare-ok`.
+    ExchangeDeclareOk {
+        /// The name of the exchange.
+        exchange: ShortString,
+        /// Its kind.
+        kind: ExchangeKind,
+        /// The marks of the declare.
+        options: ExchangeDeclareOptions,
+        /// Further arguments.
+        arguments: FieldTable,
+    },
+    /// `exchange.delete-ok`.
+    ExchangeDeleteOk {
+        /// The name of the exchange.
+        exchange: ShortString,
+    },
     /// `exchange.bind-ok`.
     ExchangeBindOk {
+        /// The exchange that gets the messages.
+        destination: ShortString,
+        /// The exchange that they come from.
+        source: ShortString,
+        /// The routing key.
+        routing_key: ShortString,
+        /// Further arguments.
+        arguments: FieldTable,
+    },
+    /// `exchange.unbind-ok`.
+    ExchangeUnbindOk {
         /// The exchange that gets the messages.
         destination: ShortString,
         /// The exchange that they come from.
@@ -67,19 +117,58 @@ pub enum Reply {
         /// Further arguments.
         arguments: FieldTable,
     },
+    /// `queue.bind-ok`.
+    QueueBindOk {
+        /// The queue that gets the messages.
+        queue: ShortString,
+        /// The exchange that the messages come from.
+        exchange: ShortString,
+        /// The routing key.
+        routing_key: ShortString,
+        /// Further arguments.
+        arguments: FieldTable,
+    },
+    /// `queue.purge-ok`.
+    QueuePurgeOk,
     /// `queue.delete-ok`.
     QueueDeleteOk {
         /// The name of the queue.
         queue: ShortString,
     },
+    /// `queue.unbind-ok`.
+    QueueUnbindOk {
+        /// The queue that gets the messages.
+        queue: ShortString,
+        /// The exchange that the messages come from.
+        exchange: ShortString,
+        /// The routing key.
+        routing_key: ShortString,
+        /// Further arguments.
+        arguments: FieldTable,
+    },
     /// `basic.qos-ok`.
     BasicQosOk,
+    /// `basic.consume-ok`.
+    BasicConsumeOk {
+        /// The name of the queue.
+        queue: ShortString,
+        /// The marks of the consume.
+        options: BasicConsumeOptions,
+    },
+    /// `basic.cancel-ok`.
+    BasicCancelOk,
+    /// `basic.get-ok`, or `basic.get-empty` in its place.
+    BasicGetOk,
+    /// `basic.recover-ok`.
+    BasicRecoverOk,
+    /// `confirm.select-ok`.
+    ConfirmSelectOk,
     /// `tx.select-ok`.
     TxSelectOk,
-    /// `queue.purge-ok`.
-    QueuePurgeOk,
     /// `tx.commit-ok`.
     TxCommitOk,
+    /// `tx.rollback-ok`.
+    TxRollbackOk,
 }
 
 impl Reply {
@@ -90,16 +179,27 @@ impl Reply {
         match self {
             Reply::ConnectionCloseOk => ReplyKind::ConnectionCloseOk,
             Reply::ChannelOpenOk => ReplyKind::ChannelOpenOk,
-            Reply::ChannelCloseOk => ReplyKind::ChannelCloseOk,
-            Reply::ConfirmSelectOk => ReplyKind::ConfirmSelectOk,
             Reply::ChannelFlowOk => ReplyKind::ChannelFlowOk,
+            Reply::ChannelCloseOk => ReplyKind::ChannelCloseOk,
+            Reply::AccessRequestOk => ReplyKind::AccessRequestOk,
+            Reply::ExchangeDeclareOk { .. } => ReplyKind::ExchangeDeclareOk,
+            Reply::ExchangeDeleteOk { .. } => ReplyKind::ExchangeDeleteOk,
             Reply::ExchangeBindOk { .. } => ReplyKind::ExchangeBindOk,
+            Reply::ExchangeUnbindOk { .. } => ReplyKind::ExchangeUnbindOk,
             Reply::QueueDeclareOk { .. } => ReplyKind::QueueDeclareOk,
-            Reply::QueueDeleteOk { .. } => ReplyKind::QueueDeleteOk,
-            Reply::BasicQosOk => ReplyKind::BasicQosOk,
-            Reply::TxSelectOk => ReplyKind::TxSelectOk,
+            Reply::QueueBindOk { .. } => ReplyKind::QueueBindOk,
             Reply::QueuePurgeOk => ReplyKind::QueuePurgeOk,
+            Reply::QueueDeleteOk { .. } => ReplyKind::QueueDeleteOk,
+            Reply::QueueUnbindOk { .. } => ReplyKind::QueueUnbindOk,
+            Reply::BasicQosOk => ReplyKind::BasicQosOk,
+            Reply::BasicConsumeOk { .. } => ReplyKind::BasicConsumeOk,
+            Reply::BasicCancelOk => ReplyKind::BasicCancelOk,
+            Reply::BasicGetOk => ReplyKind::BasicGetOk,
+            Reply::BasicRecoverOk => ReplyKind::BasicRecoverOk,
+            Reply::ConfirmSelectOk => ReplyKind::ConfirmSelectOk,
+            Reply::TxSelectOk => ReplyKind::TxSelectOk,
             Reply::TxCommitOk => ReplyKind::TxCommitOk,
+            Reply::TxRollbackOk => ReplyKind::TxRollbackOk,
         }
     }
 }

@@ -1,0 +1,133 @@
+//! The calls on messages: a copy of each, and whether a call is one of them with given arguments. What they do
+//! stands in the crates above.
+
+ghost use Rattle.std.specs.Prelude.{◌≡◌, IfOk};
+ghost use Rattle.std.specs.Bool.{Decides};
+ghost use Rattle.lapin_types.specs.declared.call.Call.TheVariants as variant;
+
+use crate::call::Call;
+use lapin_methods::{
+    BasicAckOptions, BasicNackOptions, BasicPublishOptions, BasicQosOptions,
+    BasicRecoverAsyncOptions, BasicRecoverOptions, BasicRejectOptions,
+};
+use lapin_values::{BasicProperties, NoMemory, Payload, ShortString};
+use std::alloc::Global;
+
+/// Whether a call is `Call::BasicQos` with these arguments.
+pub fn is_basic_qos(call: &Call, prefetch_count: &u16, options: &BasicQosOptions) -> bool
+    ensures { Decides result (call.now ≡ variant.BasicQos prefetch_count.now options.now) }
+{
+    match call {
+        Call::BasicQos {
+            prefetch_count: a,
+            options: b,
+        } => a == prefetch_count && b == options,
+        _ => false,
+    }
+}
+
+/// A copy of `Call::BasicPublish`.
+pub fn copied_basic_publish(
+    exchange: &ShortString,
+    routing_key: &ShortString,
+    options: &BasicPublishOptions,
+    payload: &Payload,
+    properties: &BasicProperties,
+    alloc: Global,
+) -> Result<Call, NoMemory>
+    ensures { IfOk result (λ copy. copy ≡ variant.BasicPublish exchange.now routing_key.now options.now payload.now properties.now) }
+{
+    Ok(Call::BasicPublish {
+        exchange: exchange.try_clone(alloc)?,
+        routing_key: routing_key.try_clone(alloc)?,
+        options: *options,
+        payload: payload.try_clone(alloc)?,
+        properties: properties.try_clone(alloc)?,
+    })
+}
+
+/// Whether a call is `Call::BasicPublish` with these arguments.
+pub fn is_basic_publish(
+    call: &Call,
+    exchange: &ShortString,
+    routing_key: &ShortString,
+    options: &BasicPublishOptions,
+    payload: &Payload,
+    properties: &BasicProperties,
+) -> bool
+    ensures { Decides result (call.now ≡ variant.BasicPublish exchange.now routing_key.now options.now payload.now properties.now) }
+{
+    match call {
+        Call::BasicPublish {
+            exchange: a,
+            routing_key: b,
+            options: c,
+            payload: d,
+            properties: e,
+        } => a == exchange
+            && b == routing_key
+            && c == options
+            && d == payload
+            && e.same(properties),
+        _ => false,
+    }
+}
+
+/// Whether a call is `Call::BasicAck` with these arguments.
+pub fn is_basic_ack(call: &Call, delivery_tag: &u64, options: &BasicAckOptions) -> bool
+    ensures { Decides result (call.now ≡ variant.BasicAck delivery_tag.now options.now) }
+{
+    match call {
+        Call::BasicAck {
+            delivery_tag: a,
+            options: b,
+        } => a == delivery_tag && b == options,
+        _ => false,
+    }
+}
+
+/// Whether a call is `Call::BasicNack` with these arguments.
+pub fn is_basic_nack(call: &Call, delivery_tag: &u64, options: &BasicNackOptions) -> bool
+    ensures { Decides result (call.now ≡ variant.BasicNack delivery_tag.now options.now) }
+{
+    match call {
+        Call::BasicNack {
+            delivery_tag: a,
+            options: b,
+        } => a == delivery_tag && b == options,
+        _ => false,
+    }
+}
+
+/// Whether a call is `Call::BasicReject` with these arguments.
+pub fn is_basic_reject(call: &Call, delivery_tag: &u64, options: &BasicRejectOptions) -> bool
+    ensures { Decides result (call.now ≡ variant.BasicReject delivery_tag.now options.now) }
+{
+    match call {
+        Call::BasicReject {
+            delivery_tag: a,
+            options: b,
+        } => a == delivery_tag && b == options,
+        _ => false,
+    }
+}
+
+/// Whether a call is `Call::BasicRecoverAsync` with these arguments.
+pub fn is_basic_recover_async(call: &Call, options: &BasicRecoverAsyncOptions) -> bool
+    ensures { Decides result (call.now ≡ variant.BasicRecoverAsync options.now) }
+{
+    match call {
+        Call::BasicRecoverAsync { options: a } => a == options,
+        _ => false,
+    }
+}
+
+/// Whether a call is `Call::BasicRecover` with these arguments.
+pub fn is_basic_recover(call: &Call, options: &BasicRecoverOptions) -> bool
+    ensures { Decides result (call.now ≡ variant.BasicRecover options.now) }
+{
+    match call {
+        Call::BasicRecover { options: a } => a == options,
+        _ => false,
+    }
+}
