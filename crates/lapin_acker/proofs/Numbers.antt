@@ -24,7 +24,7 @@ spent-at i p [] s at = cc
 spent-at i zero (t ∷ ss) s at =
     let same : t ≡ s = cc in
     let n : i + 0 + 1 ≡ suc i = omega arith in
-    let first : moved (mark.Spent (i + 0 + 1)) (suc i) t ≡ used s = elim (eqb_tells (i + 0 + 1) (suc i)) [ | inl on ↦ rw on.0 (ap used same) | inr off ↦ absurd (off.1 n) ] in
+    let first : moved (mark.Spent (i + 0 + 1)) (suc i) t ≡ used s = elim (eqb_tells (i + 0 + 1) (suc i)) [ inl on ↦ rw on.0 (ap used same) | inr off ↦ absurd (off.1 n) ] in
     let rest : map_numbered (suc i) (moved (mark.Spent (i + 0 + 1))) ss ≡ ss = kept (moved (mark.Spent (i + 0 + 1))) (suc i) ss (λ k u above. spent-other (i + 0 + 1) k u (λ e. absurd (omega arith))) in
     cc
 spent-at i (suc p) (t ∷ ss) s at =
@@ -38,9 +38,9 @@ spent-at i (suc p) (t ∷ ss) s at =
 pub spent-past : (k : ℕ) (ss : List Switch) (i : ℕ) → (k ≤ i) ⊎ (i + length ss < k) → map_numbered i (moved (mark.Spent k)) ss ≡ ss
 spent-past k [] i away = refl
 spent-past k (s ∷ ss) i away =
-    let apart : k ≢ suc i = λ e. elim away [ | inl low ↦ absurd (omega arith) | inr high ↦ absurd (omega arith) ] in
+    let apart : k ≢ suc i = λ e. elim away [ inl low ↦ absurd (omega arith) | inr high ↦ absurd (omega arith) ] in
     let first : moved (mark.Spent k) (suc i) s ≡ s = spent-other k (suc i) s apart in
-    let away2 : (k ≤ suc i) ⊎ (suc i + length ss < k) = elim away [ | inl low ↦ inl (omega arith) | inr high ↦ inr (omega arith) ] in
+    let away2 : (k ≤ suc i) ⊎ (suc i + length ss < k) = elim away [ inl low ↦ inl (omega arith) | inr high ↦ inr (omega arith) ] in
     let rest : map_numbered (suc i) (moved (mark.Spent k)) ss ≡ ss = spent-past k ss (suc i) away2 in
     cc
 

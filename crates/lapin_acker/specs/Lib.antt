@@ -1,3 +1,4 @@
 pub mod Marks
 pub mod Switches
 pub mod Readings
+pub mod Verdicts

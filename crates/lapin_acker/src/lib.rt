@@ -5,14 +5,12 @@
 #![tactic(auto)]
 
 mod delegate;
-mod fn_delegate;
 pub mod laws;
 mod switch;
 mod switches;
 mod verdict;
 
 pub use delegate::{BoxedDelegate, ConsumerDelegate, Delegates};
-pub use fn_delegate::FnDelegate;
 pub use switch::Switch;
 pub use switches::Switches;
 pub use verdict::Verdict;

@@ -335,9 +335,9 @@ places_pass q (y ∷ ys) =
     let rest : AllAt q (y ∷ ys) (map suc (places_at (λ _ x. q x) ys)) = later_at q y ys (places_at (λ _ x. q x) ys) (places_pass q ys) in
     tested (q y)
     (λ on. let P : Bool → Type 0 = λ b. AllAt q (y ∷ ys) (cond b (0 ∷ map suc (places_at (λ _ x. q x) ys)) (map suc (places_at (λ _ x. q x) ys))) in
-        subst P (sym on) (head_at q y ys (map suc (places_at (λ _ x. q x) ys)) on rest))
+    subst P (sym on) (head_at q y ys (map suc (places_at (λ _ x. q x) ys)) on rest))
     (λ off. let P : Bool → Type 0 = λ b. AllAt q (y ∷ ys) (cond b (0 ∷ map suc (places_at (λ _ x. q x) ys)) (map suc (places_at (λ _ x. q x) ys))) in
-        subst P (sym off) rest)
+    subst P (sym off) rest)
 
 pub place_on : (c i : ℕ) (places : List ℕ) (s : Seated) (seats : List Seated) → places_at (λ _ x. is_on c x) (consumers_of seats) ≡ places → i < length places → get_or places i 0 < length seats → s ≡ get_or seats (get_or places i 0) s → is_on c s.consumer ≡ true
 place_on c i places s seats e lt within is =
@@ -398,16 +398,16 @@ count_ended c e (x ∷ xs) =
     let long : length (map suc (places_at (λ _ x. is_on c x) xs)) ≡ length (places_at (λ _ x. is_on c x) xs) = length-map in
     tested (is_on c x)
     (λ on.
-      let was : x.registered ≡ true = both x.registered (x.channel == c) on in
-      let old : count_by is_registered_one (x ∷ xs) ≡ 1 + count_by is_registered_one xs = count-cons is_registered_one x xs ∙ rw was refl in
-      let new : count_by is_registered_one (ended e x ∷ map_at (moved (mark.Ended c e)) xs) ≡ count_by is_registered_one (map_at (moved (mark.Ended c e)) xs) = count-cons is_registered_one (ended e x) (map_at (moved (mark.Ended c e)) xs) in
-      let sum : count_by is_registered_one (ended e x ∷ map_at (moved (mark.Ended c e)) xs) + length (0 ∷ map suc (places_at (λ _ x. is_on c x) xs)) ≡ count_by is_registered_one (x ∷ xs) = omega arith in
-      rw (on, on) sum)
+    let was : x.registered ≡ true = both x.registered (x.channel == c) on in
+    let old : count_by is_registered_one (x ∷ xs) ≡ 1 + count_by is_registered_one xs = count-cons is_registered_one x xs ∙ rw was refl in
+    let new : count_by is_registered_one (ended e x ∷ map_at (moved (mark.Ended c e)) xs) ≡ count_by is_registered_one (map_at (moved (mark.Ended c e)) xs) = count-cons is_registered_one (ended e x) (map_at (moved (mark.Ended c e)) xs) in
+    let sum : count_by is_registered_one (ended e x ∷ map_at (moved (mark.Ended c e)) xs) + length (0 ∷ map suc (places_at (λ _ x. is_on c x) xs)) ≡ count_by is_registered_one (x ∷ xs) = omega arith in
+    rw (on, on) sum)
     (λ off.
-      let old : count_by is_registered_one (x ∷ xs) ≡ cond x.registered 1 0 + count_by is_registered_one xs = count-cons is_registered_one x xs in
-      let new : count_by is_registered_one (x ∷ map_at (moved (mark.Ended c e)) xs) ≡ cond x.registered 1 0 + count_by is_registered_one (map_at (moved (mark.Ended c e)) xs) = count-cons is_registered_one x (map_at (moved (mark.Ended c e)) xs) in
-      let sum : count_by is_registered_one (x ∷ map_at (moved (mark.Ended c e)) xs) + length (map suc (places_at (λ _ x. is_on c x) xs)) ≡ count_by is_registered_one (x ∷ xs) = omega arith in
-      rw (off, off) sum)
+    let old : count_by is_registered_one (x ∷ xs) ≡ cond x.registered 1 0 + count_by is_registered_one xs = count-cons is_registered_one x xs in
+    let new : count_by is_registered_one (x ∷ map_at (moved (mark.Ended c e)) xs) ≡ cond x.registered 1 0 + count_by is_registered_one (map_at (moved (mark.Ended c e)) xs) = count-cons is_registered_one x (map_at (moved (mark.Ended c e)) xs) in
+    let sum : count_by is_registered_one (x ∷ map_at (moved (mark.Ended c e)) xs) + length (map suc (places_at (λ _ x. is_on c x) xs)) ≡ count_by is_registered_one (x ∷ xs) = omega arith in
+    rw (off, off) sum)
   where
     both : (a b : Bool) → a && b ≡ true → a ≡ true
     both true b h = refl
@@ -492,7 +492,7 @@ count_le q [] = omega arith
 count_le q (x ∷ xs) =
     let rest : count_by q xs ≤ length xs = count_le q xs in
     let cons : count_by q (x ∷ xs) ≡ cond (q x) 1 0 + count_by q xs = count-cons q x xs in
-    let one : cond (q x) 1 0 ≤ 1 = elim (q x) as (λ b. cond b 1 0 ≤ 1) [ | true ↦ omega arith | false ↦ omega arith ] in
+    let one : cond (q x) 1 0 ≤ 1 = elim (q x) as (λ b. cond b 1 0 ≤ 1) [ true ↦ omega arith | false ↦ omega arith ] in
     omega arith
 
 pub counted_next : (n i m : ℕ) (s : Seated) (seats : List Seated) (all : ℕ) → i < length seats → s ≡ get_or seats i s → m ≡ n + cond s.consumer.registered 1 0 → n + count_by is_registered_one (consumers_of (drop i seats)) ≡ all → m + count_by is_registered_one (consumers_of (drop (i + 1) seats)) ≡ all

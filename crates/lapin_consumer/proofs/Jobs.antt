@@ -170,8 +170,8 @@ behind-arrived s ys tidy =
     tested (is_marked s.state)
     (λ on. behind-none (arrived s.state ys s.log) (waiting-arrived s.state ys s.log ∙ ap (λ b. cond b (waiting s.log) (waiting s.log ++ ys)) on ∙ tidy.none on))
     (λ off.
-      let P : Bool → Type 0 = λ b. Behind (s.log ++ map (λ y. cond b (MadeJob y) (Waiting y)) ys) in
-      subst P (sym off) (behind-waiting s.log ys tidy.behind))
+    let P : Bool → Type 0 = λ b. Behind (s.log ++ map (λ y. cond b (MadeJob y) (Waiting y)) ys) in
+    subst P (sym off) (behind-waiting s.log ys tidy.behind))
 
 none-arrived : (s : Story) (ys : List Handed) → Tidy s → is_marked s.state ≡ true → waiting (arrived s.state ys s.log) ≡ []
 none-arrived s ys tidy on = waiting-arrived s.state ys s.log ∙ ap (λ b. cond b (waiting s.log) (waiting s.log ++ ys)) on ∙ tidy.none on
@@ -260,8 +260,8 @@ next-one m p ss tidy =
     let one : MakesIn (option_map (told_at m p) (slice_get ss p)) (made (log_in (slice_get ss p)) ++ owed_by (suc p) (owed m p) (option_map seen (slice_get ss p))) = told-one m p (slice_get ss p) tidy in
     let at : slice_get (map_at (told_at m) ss) p ≡ option_map (told_at m p) (slice_get ss p) = get-map_at (told_at m) p ss in
     let jobs : delivered (suc p) (jobs_by m ss) ≡ owed_by (suc p) (owed m p) (option_map seen (slice_get ss p)) =
-          gather-own (suc p) p (owed m) (map seen ss) (λ k x apart. owed-other m (suc p) k x (λ e. apart (omega arith)))
-          ∙ ap (owed_by (suc p) (owed m p)) (get-map seen p ss) in
+    gather-own (suc p) p (owed m) (map seen ss) (λ k x apart. owed-other m (suc p) k x (λ e. apart (omega arith)))
+    ∙ ap (owed_by (suc p) (owed m p)) (get-map seen p ss) in
     record {
       made = ap made (log-next m p (map_at (told_at m) ss) ∙ ap log_in at) ∙ one.made ∙ ap (λ ys. made (log_in (slice_get ss p)) ++ ys) (sym jobs);
       tidy = next-tidy m p (map_at (told_at m) ss) (subst TidyIn (sym at) one.tidy);

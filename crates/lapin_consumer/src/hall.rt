@@ -13,8 +13,8 @@ ghost use Rattle.lapin_consumer.specs.Kept.{HasRoom, HasEnds};
 
 use crate::seat::Seat;
 use crate::serving::{
-    cancel_if_idle, end_all, finish, give_delegate, hand, make_all_end_rooms, make_end_rooms, make_room, poll,
-    start_cancels, void_all,
+    cancel_if_idle, end_all, finish, give_delegate, hand, make_all_end_rooms, make_end_rooms,
+    make_room, poll, start_cancels, void_all,
 };
 use lapin_acker::Switches;
 use lapin_types::{Delivery, DeliveryResult, Error, Job, NoMemory, ShortString};

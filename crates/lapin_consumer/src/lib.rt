@@ -14,7 +14,5 @@ mod serving;
 mod state;
 
 pub use consumers::Consumers;
+pub use lapin_acker::{BoxedDelegate, ConsumerDelegate, Delegates, Switch, Switches, Verdict};
 pub use state::ConsumerState;
-pub use lapin_acker::{
-    BoxedDelegate, ConsumerDelegate, Delegates, FnDelegate, Switch, Switches, Verdict,
-};

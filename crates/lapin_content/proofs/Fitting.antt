@@ -44,9 +44,9 @@ header-fits : (h : ContentHeader) (x : Content) → Fit x → Fit (with_header h
 header-fits h x fit =
     elim (lacks_header x.header) as (λ b. lacks_header x.header ≡ b → Fit (cond (b && (x.class_id == h.class_id)) (record x { header = Some h; over = has_all (Some h) x.bodies }) (given_up x))) [
       | true ↦ λ lacks. elim (x.class_id == h.class_id) as (λ b. Fit (cond b (record x { header = Some h; over = has_all (Some h) x.bodies }) (given_up x))) [
-          | true ↦ fit-header h x.header x.bodies fit lacks
-          | false ↦ fit
-        ]
+        | true ↦ fit-header h x.header x.bodies fit lacks
+        | false ↦ fit
+      ]
       | false ↦ λ lacks. fit
     ] refl
 

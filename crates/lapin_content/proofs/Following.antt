@@ -48,9 +48,9 @@ all-left n m z within =
     elim (eqb_tells (n + m) z) [
       | inl on ↦ let sum : n + m ≡ z = on.1 in let none : (z - n) - m ≡ 0 = omega arith in on.0 ∙ rw none refl
       | inr off ↦ elim (eqb_tells ((z - n) - m) 0) [
-          | inl none ↦ let zero_left : (z - n) - m ≡ 0 = none.1 in absurd (off.1 (omega arith))
-          | inr some ↦ off.0 ∙ sym some.0
-        ]
+        | inl none ↦ let zero_left : (z - n) - m ≡ 0 = none.1 in absurd (off.1 (omega arith))
+        | inr some ↦ off.0 ∙ sym some.0
+      ]
     ]
 
 abbrev pub content : ℕ → Start → Option ContentHeader → List (List ℕ) → Content
@@ -74,9 +74,9 @@ body-shown bytes k s (Some h) bodies es fit =
     let sum : nat_le (came bodies + length bytes) h.body_size ≡ true → came bodies + length bytes ≤ h.body_size = leb-true (came bodies + length bytes) h.body_size in
     shown-if (fits bytes (Some h) bodies) x (given_up (content k s (Some h) bodies)) es refl
     ∙ agree (nat_le (came bodies + length bytes) h.body_size) (nat_le (length bytes) (h.body_size - came bodies)) (came (bodies ++ bytes ∷ []) == h.body_size) ((h.body_size - came bodies) - length bytes == 0) (seen x) (grown_by bytes (seen (content k s (Some h) bodies))) es
-      (fits-left (came bodies) (length bytes) h.body_size fit)
-      (λ takes. ap (λ i. i == h.body_size) (came-push bodies bytes) ∙ all-left (came bodies) (length bytes) h.body_size (sum takes))
-      (λ takes. grown-is k s h.properties h.body_size bodies bytes (sum takes))
+    (fits-left (came bodies) (length bytes) h.body_size fit)
+    (λ takes. ap (λ i. i == h.body_size) (came-push bodies bytes) ∙ all-left (came bodies) (length bytes) h.body_size (sum takes))
+    (λ takes. grown-is k s h.properties h.body_size bodies bytes (sum takes))
 
 -- ---- a header
 
@@ -87,14 +87,14 @@ header-shown h k s None bodies es fit =
     let none : came bodies ≡ 0 = ap came fit in
     let left : h.body_size - came bodies ≡ h.body_size = omega arith in
     let zero_is : (0 == h.body_size) ≡ (h.body_size == 0) = elim (eqb_tells 0 h.body_size) [
-          | inl on ↦ let z : 0 ≡ h.body_size = on.1 in rw (← z) refl
-          | inr off ↦ elim (eqb_tells h.body_size 0) [ | inl on ↦ absurd (off.1 (sym on.1)) | inr other ↦ off.0 ∙ sym other.0 ]
-        ] in
+      | inl on ↦ let z : 0 ≡ h.body_size = on.1 in rw (← z) refl
+      | inr off ↦ elim (eqb_tells h.body_size 0) [ inl on ↦ absurd (off.1 (sym on.1)) | inr other ↦ off.0 ∙ sym other.0 ]
+    ] in
     shown-if (k == h.class_id) x (given_up (content k s None bodies)) es refl
     ∙ agree (k == h.class_id) (k == h.class_id) (came bodies == h.body_size) (h.body_size == 0) (seen x) (begun_with h (seen (content k s None bodies))) es
-      refl
-      (λ on. ap (λ i. i == h.body_size) none ∙ zero_is)
-      (λ on. ap (λ n. begun_as k s h.properties n (concat bodies)) left ∙ ap (λ (bs : List (List ℕ)). begun_as k s h.properties h.body_size (concat bs)) fit)
+    refl
+    (λ on. ap (λ i. i == h.body_size) none ∙ zero_is)
+    (λ on. ap (λ n. begun_as k s h.properties n (concat bodies)) left ∙ ap (λ (bs : List (List ℕ)). begun_as k s h.properties h.body_size (concat bs)) fit)
 
 -- ---- the front of a list
 
@@ -166,15 +166,15 @@ module _ (ms : List ContentMark) (all : Channels) (follows : Follows ms all) (c 
   front d f g none some =
       change d c g all none
       ∙ both (d == c) (expected_on c all) (g (expected_on c all)) (contents c ms) (on_front f (contents c ms))
-        (ap g (follows c) ∙ sym (waiting-front f g (contents c ms) (sym none) some (contents-fit c ms)))
-        (follows c)
+      (ap g (follows c) ∙ sym (waiting-front f g (contents c ms) (sym none) some (contents-fit c ms)))
+      (follows c)
 
   next : (m : ContentMark) → expected_on c (after_mark all m) ≡ waiting (next_contents c m (contents c ms))
   next (mark.Awaited d k s) =
       join d c (expected k s) all (at_channel d all) refl
       ∙ both (d == c) (expected_on c all) (expected_on c all ++ expected k s ∷ []) (contents c ms) (contents c ms ++ newcomer k s ∷ [])
-        (ap (λ es. es ++ expected k s ∷ []) (follows c) ∙ sym (waiting-push k s (contents c ms)))
-        (follows c)
+      (ap (λ es. es ++ expected k s ∷ []) (follows c) ∙ sym (waiting-push k s (contents c ms)))
+      (follows c)
   next (mark.Header d h) = front d (with_header h) (after_header h) refl (λ x es fit. header-shown h x.class_id x.start x.header x.bodies es fit)
   next (mark.Body d bytes) = front d (with_body bytes) (after_body bytes) refl (λ x es fit. body-shown bytes x.class_id x.start x.header x.bodies es fit)
   next (mark.Reset d) = front d given_up (drop 1) refl (λ x es fit. refl)

@@ -37,11 +37,14 @@ last-body bytes k s (Some h) bodies es w fit told =
     let fits : length bytes ≤ h.body_size - came bodies = leb-true (length bytes) (h.body_size - came bodies) was.0 in
     let none : (h.body_size - came bodies) - length bytes ≡ 0 = eqb-true ((h.body_size - came bodies) - length bytes) 0 was.1 in
     let long : length (concat bodies ++ bytes) ≡ came bodies + length bytes = length-append (concat bodies) bytes in
-    let size : length (concat bodies ++ bytes) ≡ h.body_size = omega arith in
-    (h, refl, record {
-      whole = sym was.2 ∙ ap (λ (bs : List ℕ). record { start = s; properties = h.properties; payload = bs }) (sym (concat-push bodies bytes));
-      size = ap (λ (m : Whole). length m.payload) (sym was.2) ∙ size;
-    })
+    let size : length (concat bodies ++ bytes) ≡ h.body_size = omega arith in (
+      h,
+      refl,
+      record {
+        whole = sym was.2 ∙ ap (λ (bs : List ℕ). record { start = s; properties = h.properties; payload = bs }) (sym (concat-push bodies bytes));
+        size = ap (λ (m : Whole). length m.payload) (sym was.2) ∙ size;
+      },
+    )
 
 pub by-body : (bytes : List ℕ) (xs : List Content) (w : Whole) → AllFit xs → heard_body bytes (waiting xs) ≡ Ok (Some w) → (x : Content) × (h : ContentHeader) × (front_of xs ≡ Some x) × (x.header ≡ Some h) × IsMessage x h (x.bodies ++ bytes ∷ []) w
 by-body bytes [] w all told = cc

@@ -9,7 +9,6 @@ mod begun;
 mod contents;
 mod entry;
 pub mod laws;
-
 mod queue;
 mod start;
 
