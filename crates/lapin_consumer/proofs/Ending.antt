@@ -393,25 +393,26 @@ pub count_ended : (c : ℕ) (e : Option Error) (xs : List Consumer) → count_by
 count_ended c e [] = refl
 count_ended c e (x ∷ xs) =
     let rest : count_by is_registered_one (map_at (moved (mark.Ended c e)) xs) + length (places_at (λ _ x. is_on c x) xs) ≡ count_by is_registered_one xs = count_ended c e xs in
-    let ys : List Consumer = map_at (moved (mark.Ended c e)) xs in
-    let ps : List ℕ = places_at (λ _ x. is_on c x) xs in
-    let long : length (map suc (places_at (λ _ x. is_on c x) xs)) ≡ length (places_at (λ _ x. is_on c x) xs) = length-map in
+    let long : length (map suc (places_at (λ _ x. is_on c x) xs)) ≡ length (places_at (λ _ x. is_on c x) xs) = mapped_length (places_at (λ _ x. is_on c x) xs) in
+    let old : count_by is_registered_one (x ∷ xs) ≡ cond x.registered 1 0 + count_by is_registered_one xs = count-cons is_registered_one x xs in
     tested (is_on c x)
     (λ on.
-    let was : x.registered ≡ true = both x.registered (x.channel == c) on in
-    let old : count_by is_registered_one (x ∷ xs) ≡ 1 + count_by is_registered_one xs = count-cons is_registered_one x xs ∙ rw was refl in
-    let new : count_by is_registered_one (ended e x ∷ map_at (moved (mark.Ended c e)) xs) ≡ count_by is_registered_one (map_at (moved (mark.Ended c e)) xs) = count-cons is_registered_one (ended e x) (map_at (moved (mark.Ended c e)) xs) in
-    let sum : count_by is_registered_one (ended e x ∷ map_at (moved (mark.Ended c e)) xs) + length (0 ∷ map suc (places_at (λ _ x. is_on c x) xs)) ≡ count_by is_registered_one (x ∷ xs) = omega arith in
-    rw (on, on) sum)
+      let was : cond x.registered 1 0 ≡ 1 = ap (λ b. cond b 1 0) (both x.registered (x.channel == c) on) in
+      let new : count_by is_registered_one (ended e x ∷ map_at (moved (mark.Ended c e)) xs) ≡ 0 + count_by is_registered_one (map_at (moved (mark.Ended c e)) xs) = count-cons is_registered_one (ended e x) (map_at (moved (mark.Ended c e)) xs) in
+      let sum : count_by is_registered_one (ended e x ∷ map_at (moved (mark.Ended c e)) xs) + suc (length (map suc (places_at (λ _ x. is_on c x) xs))) ≡ count_by is_registered_one (x ∷ xs) = omega arith in
+      ap (λ b. count_by is_registered_one (cond b (ended e x) x ∷ map_at (moved (mark.Ended c e)) xs) + length (cond b (0 ∷ map suc (places_at (λ _ x. is_on c x) xs)) (map suc (places_at (λ _ x. is_on c x) xs)))) on ∙ sum)
     (λ off.
-    let old : count_by is_registered_one (x ∷ xs) ≡ cond x.registered 1 0 + count_by is_registered_one xs = count-cons is_registered_one x xs in
-    let new : count_by is_registered_one (x ∷ map_at (moved (mark.Ended c e)) xs) ≡ cond x.registered 1 0 + count_by is_registered_one (map_at (moved (mark.Ended c e)) xs) = count-cons is_registered_one x (map_at (moved (mark.Ended c e)) xs) in
-    let sum : count_by is_registered_one (x ∷ map_at (moved (mark.Ended c e)) xs) + length (map suc (places_at (λ _ x. is_on c x) xs)) ≡ count_by is_registered_one (x ∷ xs) = omega arith in
-    rw (off, off) sum)
+      let new : count_by is_registered_one (x ∷ map_at (moved (mark.Ended c e)) xs) ≡ cond x.registered 1 0 + count_by is_registered_one (map_at (moved (mark.Ended c e)) xs) = count-cons is_registered_one x (map_at (moved (mark.Ended c e)) xs) in
+      let sum : count_by is_registered_one (x ∷ map_at (moved (mark.Ended c e)) xs) + length (map suc (places_at (λ _ x. is_on c x) xs)) ≡ count_by is_registered_one (x ∷ xs) = omega arith in
+      ap (λ b. count_by is_registered_one (cond b (ended e x) x ∷ map_at (moved (mark.Ended c e)) xs) + length (cond b (0 ∷ map suc (places_at (λ _ x. is_on c x) xs)) (map suc (places_at (λ _ x. is_on c x) xs)))) off ∙ sum)
   where
     both : (a b : Bool) → a && b ≡ true → a ≡ true
     both true b h = refl
     both false b h = h
+
+    mapped_length : (ps : List ℕ) → length (map suc ps) ≡ length ps
+    mapped_length [] = refl
+    mapped_length (p ∷ ps) = ap suc (mapped_length ps)
 
 -- the room of a hall, as its seats and jobs have it
 pub ends_fit : (seats : List Seated) (jobs : List Job) (spare : ℕ) (k : Kept) → record { roster = record { consumers = consumers_of seats; jobs = jobs }; rooms = map (λ s. s.spare) seats; spare = spare } ≡ k → HasEnds k → FitWhere is_registered_one seats × (2 * count_by is_registered_one (consumers_of seats) ≤ spare)

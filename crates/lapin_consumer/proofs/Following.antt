@@ -34,21 +34,21 @@ waiting-arrived s ys es = waiting-append es (map (arrived_one s) ys) ∙ elim (i
   | false ↦ ap (λ zs. waiting es ++ zs) (waiting_new ys)
 ]
 
-waiting-jobs : (es : List Entry) → waiting (map turned_job es) ≡ []
+pub waiting-jobs : (es : List Entry) → waiting (map turned_job es) ≡ []
 waiting-jobs [] = refl
 waiting-jobs (Waiting y ∷ es) = waiting-jobs es
 waiting-jobs (Given y ∷ es) = waiting-jobs es
 waiting-jobs (MadeJob y ∷ es) = waiting-jobs es
 waiting-jobs (Void y ∷ es) = waiting-jobs es
 
-waiting-void : (es : List Entry) → waiting (map turned_void es) ≡ []
+pub waiting-void : (es : List Entry) → waiting (map turned_void es) ≡ []
 waiting-void [] = refl
 waiting-void (Waiting y ∷ es) = waiting-void es
 waiting-void (Given y ∷ es) = waiting-void es
 waiting-void (MadeJob y ∷ es) = waiting-void es
 waiting-void (Void y ∷ es) = waiting-void es
 
-waiting-poll : (es : List Entry) → waiting (poll_first es) ≡ drop 1 (waiting es)
+pub waiting-poll : (es : List Entry) → waiting (poll_first es) ≡ drop 1 (waiting es)
 waiting-poll [] = refl
 waiting-poll (Waiting y ∷ es) = refl
 waiting-poll (Given y ∷ es) = waiting-poll es

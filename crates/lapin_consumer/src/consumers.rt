@@ -5,7 +5,8 @@
 ghost use Rattle.std.specs.Prelude.{◌≡◌, ◌+◌, ◌<◌, ◌^◌, ◌↔◌, ◌⊎◌, ◌≤◌, suc, Some, None, Ok, Err, OnOk, OnErr, IsOk, IfOk, IfErr, IfSome, IfNone, length, slice_get};
 ghost use Rattle.lapin_consumer.specs.Roster.{empty_roster, after_mark, is_registered, found, place_under, consumer_at, answered, let_go_answer};
 ghost use Rattle.lapin_consumer.specs.Marks as mark;
-ghost use Rattle.lapin_acker.specs.Switches.{voided};
+ghost use Rattle.lapin_acker.specs.Switches.{after_mark as after_acker_mark};
+ghost use Rattle.lapin_acker.specs.Marks as acker_mark;
 ghost use Rattle.lapin_consumer.specs.Ackers.{ackers_on};
 ghost use Rattle.lapin_consumer.specs.Kept.{HasRoom, HasEnds};
 ghost use Rattle.std.specs.Option.{option_copied, option_map};
@@ -194,7 +195,7 @@ impl Consumers {
     ) -> Result<(), NoMemory>
         ensures ok { OnOk result (self.new.roster ≡ after_mark self.old.roster (mark.Discarded channel)) }
         ensures err { OnErr result (self.new.roster ≡ self.old.roster) }
-        ensures void { OnOk result (switches.new.switches ≡ voided (ackers_on channel self.old.roster.consumers) switches.old.switches) }
+        ensures void { OnOk result (switches.new.switches ≡ after_acker_mark switches.old.switches (acker_mark.Voided (ackers_on channel self.old.roster.consumers))) }
         ensures same { OnErr result (switches.new.switches ≡ switches.old.switches) }
     {
         let Some(line) = self.lines.get(channel) else {
