@@ -10,6 +10,7 @@ pub mod Registering
 pub mod Following
 pub mod Polls
 pub mod Ending
+pub mod EndRooms
 pub mod Several
 pub mod Arrivals
 pub mod Jobs

@@ -216,7 +216,10 @@ impl Consumers {
     /// Starts to cancel the consumer that is registered under a tag: it has no delegate from now on. Nothing changes where there is
     /// none.
     pub fn start_cancel_one(&mut self, channel: u16, tag: &str)
-        ensures { self.new.roster ≡ after_mark self.old.roster (mark.CancelAsked channel tag.now) }
+        ensures change { self.new.roster ≡ after_mark self.old.roster (mark.CancelAsked channel tag.now) }
+
+        // The room that `reserve_item` made stays.
+        ensures room { (self.new.rooms ≡ self.old.rooms) × (self.new.spare ≡ self.old.spare) }
     {
         let found = self.find_place(channel, tag);
         self.hall.start_cancel(found);

@@ -113,7 +113,9 @@ impl Hall {
     /// The consumer at a place starts to be cancelled, if a place is named.
     pub(crate) fn start_cancel(&mut self, found: Option<usize>)
         requires { IfSome found (λ p. p < length self.old.roster.consumers) }
-        ensures { self.new.roster ≡ record self.old.roster { consumers = on_place_if canceling found self.old.roster.consumers } }
+        ensures change { self.new.roster ≡ record self.old.roster { consumers = on_place_if canceling found self.old.roster.consumers } }
+        ensures rooms { self.new.rooms ≡ self.old.rooms }
+        ensures spare { self.new.spare ≡ self.old.spare }
     {
         if let Some(place) = found {
             self.seats[place].start_cancel();

@@ -3,7 +3,8 @@ use Rattle.std.proofs.lemmas.List.{append-nil}
 use Rattle.lapin_consumer.specs.Words.{map_at, gather_at}
 use Rattle.lapin_consumer.specs.Marks as mark
 use Rattle.lapin_consumer.specs.Roster.{Consumer, moved, owed, offered, last_words}
-use Rattle.lapin_consumer.proofs.Ending.{consumers_of, left_now, left_none, next, next_within, next_room, step_left, step_consumers, step_jobs, step_room, done_consumers, done_jobs, fit_without}
+use Rattle.lapin_consumer.proofs.Ending.{consumers_of, left_now, left_none, next, next_within, next_room, step_left, step_consumers, step_jobs, step_room, done_consumers, done_jobs}
+use Rattle.lapin_consumer.proofs.EndRooms.{fit_without}
 use Rattle.lapin_consumer.specs.Kept.{is_registered_one}
 use Rattle.lapin_consumer.proofs.serving.end_all.Goals as goal
 

@@ -1,5 +1,6 @@
 use Rattle.std.proofs.Common.{◌<◌, ◌≤◌, length, arith}
-use Rattle.lapin_consumer.proofs.Ending.{same_seat, below_next, below_all}
+use Rattle.lapin_consumer.proofs.Ending.{same_seat}
+use Rattle.lapin_consumer.proofs.EndRooms.{below_next, below_all}
 use Rattle.lapin_consumer.proofs.Several.{same_length}
 use Rattle.lapin_consumer.proofs.serving.make_all_end_rooms.Goals as goal
 

@@ -1,5 +1,5 @@
 use Rattle.std.proofs.Common.{◌≡◌, map, length}
-use Rattle.lapin_consumer.proofs.Ending.{FitBelow}
+use Rattle.lapin_consumer.proofs.EndRooms.{FitBelow}
 use Rattle.lapin_consumer.proofs.serving.make_all_end_rooms.Given as goal
 
 abbrev pub invariant-loop-place : goal.invariant-loop-place

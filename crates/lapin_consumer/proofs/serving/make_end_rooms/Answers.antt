@@ -3,7 +3,8 @@ use Rattle.lapin_consumer.specs.Kept.{is_registered_one}
 use Rattle.std.proofs.Common.{◌≡◌, true, false, ◌<◌, ◌+◌, length, drop, get_or, sym, ap, ◌∙◌, arith, refl}
 use Rattle.lapin_consumer.specs.Words.{places_at}
 use Rattle.lapin_consumer.specs.Roster.{is_on}
-use Rattle.lapin_consumer.proofs.Ending.{place_seated, place_on, fit_kept, same_seat, fitted_first, fitted_next, fitted_all, drop_none, drop_next}
+use Rattle.lapin_consumer.proofs.Ending.{place_seated, same_seat, fitted_first, fitted_next, fitted_all, drop_none, drop_next}
+use Rattle.lapin_consumer.proofs.EndRooms.{place_on, fit_kept}
 use Rattle.lapin_consumer.proofs.serving.make_end_rooms.Goals as goal
 
 pub loop-place-init : goal.loop-place-init

@@ -2,7 +2,8 @@ use Rattle.std.proofs.Common.{◌≡◌, true, false, refl, sym, ap, ◌∙◌}
 use Rattle.lapin_consumer.specs.Words.{places_at}
 use Rattle.lapin_consumer.specs.Roster.{is_on}
 use Rattle.lapin_consumer.specs.Kept.{Kept}
-use Rattle.lapin_consumer.proofs.Ending.{consumers_of, ends_fit, ends_enough, ends_left, fit_on}
+use Rattle.lapin_consumer.proofs.Ending.{consumers_of}
+use Rattle.lapin_consumer.proofs.EndRooms.{ends_fit, ends_enough, ends_left, fit_on}
 use Rattle.lapin_consumer.proofs.hall.Hall.end.Goals as goal
 
 never : false ≡ true → ⊥

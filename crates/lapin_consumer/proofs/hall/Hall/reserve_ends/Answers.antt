@@ -1,5 +1,5 @@
 use Rattle.std.proofs.Common.{◌≡◌, sym, ap, ◌∙◌}
-use Rattle.lapin_consumer.proofs.Ending.{has_ends_now}
+use Rattle.lapin_consumer.proofs.EndRooms.{has_ends_now}
 use Rattle.lapin_consumer.proofs.hall.Hall.reserve_ends.Goals as goal
 
 pub returns-clause-room : goal.returns-clause-room
