@@ -101,14 +101,14 @@ count_ended c e (x ∷ xs) =
     let old : count_by is_registered_one (x ∷ xs) ≡ cond x.registered 1 0 + count_by is_registered_one xs = count-cons is_registered_one x xs in
     tested (is_on c x)
     (λ on.
-      let was : cond x.registered 1 0 ≡ 1 = ap (λ b. cond b 1 0) (both x.registered (x.channel == c) on) in
-      let new : count_by is_registered_one (ended e x ∷ map_at (moved (mark.Ended c e)) xs) ≡ 0 + count_by is_registered_one (map_at (moved (mark.Ended c e)) xs) = count-cons is_registered_one (ended e x) (map_at (moved (mark.Ended c e)) xs) in
-      let sum : count_by is_registered_one (ended e x ∷ map_at (moved (mark.Ended c e)) xs) + suc (length (map suc (places_at (λ _ x. is_on c x) xs))) ≡ count_by is_registered_one (x ∷ xs) = omega arith in
-      ap (λ b. count_by is_registered_one (cond b (ended e x) x ∷ map_at (moved (mark.Ended c e)) xs) + length (cond b (0 ∷ map suc (places_at (λ _ x. is_on c x) xs)) (map suc (places_at (λ _ x. is_on c x) xs)))) on ∙ sum)
+    let was : cond x.registered 1 0 ≡ 1 = ap (λ b. cond b 1 0) (both x.registered (x.channel == c) on) in
+    let new : count_by is_registered_one (ended e x ∷ map_at (moved (mark.Ended c e)) xs) ≡ 0 + count_by is_registered_one (map_at (moved (mark.Ended c e)) xs) = count-cons is_registered_one (ended e x) (map_at (moved (mark.Ended c e)) xs) in
+    let sum : count_by is_registered_one (ended e x ∷ map_at (moved (mark.Ended c e)) xs) + suc (length (map suc (places_at (λ _ x. is_on c x) xs))) ≡ count_by is_registered_one (x ∷ xs) = omega arith in
+    ap (λ b. count_by is_registered_one (cond b (ended e x) x ∷ map_at (moved (mark.Ended c e)) xs) + length (cond b (0 ∷ map suc (places_at (λ _ x. is_on c x) xs)) (map suc (places_at (λ _ x. is_on c x) xs)))) on ∙ sum)
     (λ off.
-      let new : count_by is_registered_one (x ∷ map_at (moved (mark.Ended c e)) xs) ≡ cond x.registered 1 0 + count_by is_registered_one (map_at (moved (mark.Ended c e)) xs) = count-cons is_registered_one x (map_at (moved (mark.Ended c e)) xs) in
-      let sum : count_by is_registered_one (x ∷ map_at (moved (mark.Ended c e)) xs) + length (map suc (places_at (λ _ x. is_on c x) xs)) ≡ count_by is_registered_one (x ∷ xs) = omega arith in
-      ap (λ b. count_by is_registered_one (cond b (ended e x) x ∷ map_at (moved (mark.Ended c e)) xs) + length (cond b (0 ∷ map suc (places_at (λ _ x. is_on c x) xs)) (map suc (places_at (λ _ x. is_on c x) xs)))) off ∙ sum)
+    let new : count_by is_registered_one (x ∷ map_at (moved (mark.Ended c e)) xs) ≡ cond x.registered 1 0 + count_by is_registered_one (map_at (moved (mark.Ended c e)) xs) = count-cons is_registered_one x (map_at (moved (mark.Ended c e)) xs) in
+    let sum : count_by is_registered_one (x ∷ map_at (moved (mark.Ended c e)) xs) + length (map suc (places_at (λ _ x. is_on c x) xs)) ≡ count_by is_registered_one (x ∷ xs) = omega arith in
+    ap (λ b. count_by is_registered_one (cond b (ended e x) x ∷ map_at (moved (mark.Ended c e)) xs) + length (cond b (0 ∷ map suc (places_at (λ _ x. is_on c x) xs)) (map suc (places_at (λ _ x. is_on c x) xs)))) off ∙ sum)
   where
     both : (a b : Bool) → a && b ≡ true → a ≡ true
     both true b h = refl

@@ -2,8 +2,8 @@
 //!
 //! Beside the seats stands an index of the registered consumers, so that a delivery or a cancel looks at its channel alone.
 
-ghost use Rattle.std.specs.Prelude.{◌≡◌, ◌+◌, ◌<◌, ◌^◌, ◌↔◌, ◌⊎◌, ◌≤◌, suc, Some, None, Ok, Err, OnOk, OnErr, IsOk, IfOk, IfErr, IfSome, IfNone, length, slice_get};
-ghost use Rattle.lapin_consumer.specs.Roster.{empty_roster, after_mark, is_registered, found, place_under, consumer_at, answered, let_go_answer};
+ghost use Rattle.std.specs.Prelude.{true, ◌≡◌, ◌+◌, ◌<◌, ◌^◌, ◌↔◌, ◌⊎◌, ◌≤◌, suc, Some, None, Ok, Err, OnOk, OnErr, IsOk, IfOk, IfErr, IfSome, IfNone, length, slice_get};
+ghost use Rattle.lapin_consumer.specs.Roster.{empty_roster, after_mark, is_registered, found, is_under_at, place_under, consumer_at, answered, let_go_answer};
 ghost use Rattle.lapin_consumer.specs.Marks as mark;
 ghost use Rattle.lapin_acker.specs.Switches.{after_mark as after_acker_mark};
 ghost use Rattle.lapin_acker.specs.Marks as acker_mark;
@@ -81,6 +81,7 @@ impl Consumers {
             return Err(Error::NumbersUsedUp);
         }
         let gone = self.find_place(channel, tag.as_str());
+        let at = self.rank(channel, tag.as_str());
         if make_line_room(&mut self.lines, alloc, channel).is_err() {
             return Err(Error::NoMemory);
         }
@@ -88,7 +89,7 @@ impl Consumers {
             return Err(Error::NoMemory);
         }
         self.hall.unregister(gone);
-        replace(&mut self.lines, channel, gone, place);
+        replace(&mut self.lines, channel, gone, place, at);
         Ok(place as u64 + 1)
     }
 
@@ -102,7 +103,45 @@ impl Consumers {
         }
     }
 
+    // The place of the consumer that is registered on a channel under a tag: the hint mostly is it.
     fn find_place(&self, channel: u16, tag: &str) -> Option<usize>
+        ensures place { result ≡ place_under channel tag.now self.now.roster.consumers }
+        ensures within { IfSome result (λ p. p < length self.now.roster.consumers) }
+    {
+        match self.find_hinted(channel, tag) {
+            Some(place) => Some(place),
+            None => self.find_among(channel, tag),
+        }
+    }
+
+    // The place that is hinted at, where its consumer is registered on the channel under the tag.
+    fn find_hinted(&self, channel: u16, tag: &str) -> Option<usize>
+        ensures { IfSome result (λ p. is_under_at channel tag.now p self.now.roster.consumers ≡ true) }
+    {
+        let place = self.hinted(channel, tag)?;
+        if self.hall.is_under(place, channel, tag) {
+            Some(place)
+        } else {
+            None
+        }
+    }
+
+    // Where to look first.
+    fn hinted(&self, channel: u16, tag: &str) -> Option<usize> {
+        let at = self.rank(channel, tag);
+        self.lines.get(channel)?.hints().get(at).copied()
+    }
+
+    // Where among the hints of a channel the first with this tag stands, or would stand.
+    fn rank(&self, channel: u16, tag: &str) -> usize {
+        match self.lines.get(channel) {
+            Some(line) => self.hall.rank(line.hints(), tag),
+            None => 0,
+        }
+    }
+
+    // The place of the consumer that is registered on a channel under a tag, by a look at each that is registered there.
+    fn find_among(&self, channel: u16, tag: &str) -> Option<usize>
         ensures place { result ≡ place_under channel tag.now self.now.roster.consumers }
         ensures within { IfSome result (λ p. p < length self.now.roster.consumers) }
     {

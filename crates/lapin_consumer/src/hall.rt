@@ -2,7 +2,7 @@
 //! `consumers` alone calls this file.
 
 ghost use Rattle.std.specs.Prelude.{◌≡◌, ℕ, ◌+◌, ◌-◌, ◌<◌, ◌^◌, ◌↔◌, ◌⊎◌, ◌≤◌, suc, ◌++◌, ◌∷◌, [], true, Some, None, Ok, Err, OnOk, OnErr, IsOk, IfOk, IfErr, IfSome, IfNone, length, slice_get};
-ghost use Rattle.lapin_consumer.specs.Roster.{empty_roster, after_mark, is_registered, consumer_at, answered, let_go_answer, is_tagged, newcomer, unregistered, canceling, finished, offered, last_words, is_on};
+ghost use Rattle.lapin_consumer.specs.Roster.{empty_roster, after_mark, is_registered, consumer_at, answered, let_go_answer, is_tagged, is_under_at, newcomer, unregistered, canceling, finished, offered, last_words, is_on};
 ghost use Rattle.lapin_consumer.specs.Words.{on_place, on_place_if, from_place, places_at};
 ghost use Rattle.std.specs.Option.{option_copied, option_map};
 ghost use Rattle.std.specs.List.{find};
@@ -304,6 +304,28 @@ impl Hall {
     {
         match self.seats.get(place) {
             Some(seat) => seat.has_tag(tag),
+            None => false,
+        }
+    }
+
+    /// Whether the consumer at a place is registered on the channel under the tag.
+    pub(crate) fn is_under(&self, place: usize, channel: u16, tag: &str) -> bool
+        ensures { result ≡ is_under_at channel tag.now place self.now.roster.consumers }
+    {
+        match self.seats.get(place) {
+            Some(seat) => seat.is_under(channel, tag),
+            None => false,
+        }
+    }
+
+    /// Among places in order of their consumers' tags, where the first with this tag stands, or would stand.
+    pub(crate) fn rank(&self, places: &[usize], tag: &str) -> usize {
+        places.partition_point(|place| self.is_before(*place, tag))
+    }
+
+    fn is_before(&self, place: usize, tag: &str) -> bool {
+        match self.seats.get(place) {
+            Some(seat) => seat.is_before(tag),
             None => false,
         }
     }

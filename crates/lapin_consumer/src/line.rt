@@ -1,4 +1,4 @@
-//! The registered consumers of one channel.
+//! The registered consumers of one channel, and where to look first for a tag.
 
 ghost use Rattle.std.specs.Prelude.{◌≡◌, ◌+◌, ◌<◌, ◌≤◌, ◌∷◌, [], ◌++◌, OnOk, IsOk, slice_get, IfSome, length, ◌==◌, ◌≢◌, ℕ, Some};
 ghost use Rattle.std.specs.List.{position};
@@ -10,10 +10,13 @@ use lapin_tables::ByChannel;
 use std::alloc::{AllocError, Global};
 use std::marker::Model;
 
-/// The places of a channel's registered consumers, rising.
+/// The places of a channel's registered consumers, rising. Contracts see them alone.
 #[derive(Drop)]
 pub(crate) struct Line {
     places: Vec<usize>,
+    // In order of their tags, the newest of equal ones first: the places of all that were registered since the line was cleared,
+    // but for those for which there was no memory. So who looks here first mostly need not look further.
+    hints: Vec<usize>,
 }
 
 impl Model for Line {
@@ -31,6 +34,21 @@ impl Line {
     {
         Line {
             places: Vec::new(alloc),
+            hints: Vec::new(alloc),
+        }
+    }
+
+    /// Where to look first: places in order of their consumers' tags.
+    pub(crate) fn hints(&self) -> &[usize] {
+        self.hints.as_slice()
+    }
+
+    // Adds a hint among the others, where there is memory.
+    fn hint(&mut self, at: usize, place: usize)
+        ensures { self.new ≡ self.old }
+    {
+        if at <= self.hints.len() {
+            let _ = self.hints.insert(at, place);
         }
     }
 
@@ -65,8 +83,8 @@ impl Line {
         }
     }
 
-    /// Takes a place out, if one is named, and adds another.
-    fn replace(&mut self, gone: Option<usize>, place: usize)
+    /// Takes a place out, if one is named, and adds another, which is hinted at there.
+    fn replace(&mut self, gone: Option<usize>, place: usize, at: usize)
         requires { 0 < self.old.spare }
         ensures { self.new.places ≡ without_place gone self.old.places ++ place ∷ [] }
     {
@@ -74,6 +92,7 @@ impl Line {
             self.remove(gone);
         }
         self.push_reserved(place);
+        self.hint(at, place);
     }
 
     fn position(&self, place: usize) -> Option<usize>
@@ -87,6 +106,7 @@ impl Line {
         ensures { self.new.places ≡ [] }
     {
         self.places.clear();
+        self.hints.clear();
     }
 }
 
@@ -108,8 +128,14 @@ pub(crate) fn make_line_room(
     line.reserve()
 }
 
-/// One consumer of a channel leaves its line, if any does, and another joins it.
-pub(crate) fn replace(lines: &mut ByChannel<Line>, channel: u16, gone: Option<usize>, place: usize)
+/// One consumer of a channel leaves its line, if any does, and another joins it, which is hinted at there.
+pub(crate) fn replace(
+    lines: &mut ByChannel<Line>,
+    channel: u16,
+    gone: Option<usize>,
+    place: usize,
+    at: usize,
+)
     requires { HasLineRoom (at_channel channel lines.old.entries) }
     ensures here { places_in (at_channel channel lines.new.entries) ≡ without_place gone (places_in (at_channel channel lines.old.entries)) ++ place ∷ [] }
     ensures others { (c : ℕ) → channel ≢ c → places_in (at_channel c lines.new.entries) ≡ places_in (at_channel c lines.old.entries) }
@@ -117,7 +143,7 @@ pub(crate) fn replace(lines: &mut ByChannel<Line>, channel: u16, gone: Option<us
     let Some(line) = lines.get_mut(channel) else {
         unreachable!()
     };
-    line.replace(gone, place);
+    line.replace(gone, place, at);
 }
 
 /// One consumer of a channel leaves its line.
