@@ -193,15 +193,15 @@ told_makes (mark.Completed k d) n s tidy = record {
   made = made-arrived s.state (Ok (Some d) ∷ []) s.log ∙ ap (λ ys. made s.log ++ ys) (sym (offered-own n (Ok (Some d) ∷ []) (seen s)));
   tidy = record { behind = behind-arrived s (Ok (Some d) ∷ []) tidy; none = none-arrived s (Ok (Some d) ∷ []) tidy };
 }
-told_makes (mark.CancelAsked c t) n s tidy = record { made = sym (append-nil (made s.log)); tidy = record { behind = tidy.behind; none = λ no. unmarked no } }
-told_makes (mark.CloseAsked c) n s tidy = record { made = sym (append-nil (made s.log)); tidy = record { behind = tidy.behind; none = λ no. unmarked no } }
+told_makes (mark.CancelAsked c t) n s tidy = record { made = sym (append-nil (made s.log)); tidy = record { behind = tidy.behind; none = λ h. unmarked h } }
+told_makes (mark.CloseAsked c) n s tidy = record { made = sym (append-nil (made s.log)); tidy = record { behind = tidy.behind; none = λ h. unmarked h } }
 told_makes (mark.Canceled c t) n s tidy = record {
   made = made-arrived s.state (last_words None) s.log ∙ ap (λ ys. made s.log ++ ys) (sym (offered-own n (last_words None) (seen s)));
-  tidy = record { behind = behind-arrived s (last_words None) tidy; none = λ no. unmarked no };
+  tidy = record { behind = behind-arrived s (last_words None) tidy; none = λ h. unmarked h };
 }
 told_makes (mark.Ended c e) n s tidy = record {
   made = made-arrived s.state (last_words e) s.log ∙ ap (λ ys. made s.log ++ ys) (sym (offered-own n (last_words e) (seen s)));
-  tidy = record { behind = behind-arrived s (last_words e) tidy; none = λ no. unmarked no };
+  tidy = record { behind = behind-arrived s (last_words e) tidy; none = λ h. unmarked h };
 }
 told_makes (mark.Discarded c) n s tidy = record {
   made = made-void s.log ∙ sym (append-nil (made s.log)) ∙ ap (λ ys. made s.log ++ ys) (sym (discards n n (is_marked s.state)));
@@ -215,7 +215,7 @@ told_makes (mark.Polled k) n s tidy = record {
   made = made-poll s.log ∙ sym (append-nil (made s.log));
   tidy = record { behind = behind-poll s.log tidy.behind; none = λ on. waiting-poll s.log ∙ ap (λ ys. drop 1 ys) (tidy.none on) };
 }
-told_makes (mark.LetGo k) n s tidy = record { made = sym (append-nil (made s.log)); tidy = record { behind = tidy.behind; none = λ no. unmarked no } }
+told_makes (mark.LetGo k) n s tidy = record { made = sym (append-nil (made s.log)); tidy = record { behind = tidy.behind; none = λ h. unmarked h } }
 told_makes mark.JobAsked n s tidy = same_makes s tidy
 
 -- ---- the story of one consumer through a history
