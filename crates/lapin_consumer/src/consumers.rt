@@ -2,8 +2,8 @@
 //!
 //! Beside the seats stands an index of the registered consumers, so that a delivery or a cancel looks at its channel alone.
 
-ghost use Rattle.std.specs.Prelude.{true, ◌≡◌, ◌+◌, ◌<◌, ◌^◌, ◌↔◌, ◌⊎◌, ◌≤◌, suc, Some, None, Ok, Err, OnOk, OnErr, IsOk, IfOk, IfErr, IfSome, IfNone, length, slice_get};
-ghost use Rattle.lapin_consumer.specs.Roster.{empty_roster, after_mark, is_registered, found, is_under_at, place_under, consumer_at, answered, let_go_answer};
+ghost use Rattle.std.specs.Prelude.{◌≡◌, ◌+◌, ◌<◌, ◌^◌, ◌↔◌, ◌⊎◌, ◌≤◌, suc, Some, None, Ok, Err, OnOk, OnErr, IsOk, IfOk, IfErr, IfSome, IfNone, length, slice_get};
+ghost use Rattle.lapin_consumer.specs.Roster.{empty_roster, after_mark, is_registered, found, place_under, consumer_at, answered, let_go_answer};
 ghost use Rattle.lapin_consumer.specs.Marks as mark;
 ghost use Rattle.lapin_acker.specs.Switches.{after_mark as after_acker_mark};
 ghost use Rattle.lapin_acker.specs.Marks as acker_mark;
@@ -116,14 +116,13 @@ impl Consumers {
 
     // The place that is hinted at, where its consumer is registered on the channel under the tag.
     fn find_hinted(&self, channel: u16, tag: &str) -> Option<usize>
-        ensures { IfSome result (λ p. is_under_at channel tag.now p self.now.roster.consumers ≡ true) }
+        ensures { IfSome result (λ p. Some p ≡ place_under channel tag.now self.now.roster.consumers) }
     {
         let place = self.hinted(channel, tag)?;
-        if self.hall.is_under(place, channel, tag) {
-            Some(place)
-        } else {
-            None
+        if !self.hall.is_under(place, channel, tag) {
+            return None;
         }
+        Some(place)
     }
 
     // Where to look first.
