@@ -1,0 +1,4 @@
+pub mod Marks
+pub mod Switches
+pub mod Readings
+pub mod Verdicts
