@@ -1,0 +1,9 @@
+//! Laws over runs: what holds after every list of events, each on a function that does nothing.
+//!
+//! A law here follows from the definitions of the crates below; nothing else lives here, and no code of a session. They are
+//! what a reader looks for in the rules without running them through.
+#![tactic(auto)]
+
+mod standing;
+
+pub use standing::a_session_stands;
