@@ -1,1 +1,9 @@
 pub mod Traces
+pub mod Parts
+pub mod Alive
+pub mod Closes
+pub mod Rows
+pub mod Cuts
+pub mod Moving
+pub mod Going
+pub mod Kept

@@ -4,6 +4,8 @@
 //! what a reader looks for in the rules without running them through.
 #![tactic(auto)]
 
+mod down;
 mod standing;
 
+pub use down::down_for_good;
 pub use standing::a_session_stands;
