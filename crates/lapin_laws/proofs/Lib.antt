@@ -7,3 +7,4 @@ pub mod Cuts
 pub mod Moving
 pub mod Going
 pub mod Kept
+pub mod Settled

@@ -6,6 +6,8 @@
 
 mod down;
 mod standing;
+mod waiting;
 
 pub use down::down_for_good;
 pub use standing::a_session_stands;
+pub use waiting::{closes_wait_until_they_leave, only_live_openings_wait};
