@@ -7,7 +7,7 @@ use Rattle.lapin_types.specs.declared.event.Event.TheVariants as event
 use Rattle.lapin_types.specs.declared.record.Record.{Record}
 use Rattle.lapin_types.specs.declared.leaving.Publish.{Publish}
 use Rattle.lapin_types.specs.declared.leaving.Left.{Left}
-use Rattle.lapin_types.specs.Types.{Frame, Method}
+use Rattle.lapin_types.specs.Types.{Frame}
 use Rattle.lapin_types.specs.Types.frame
 use Rattle.lapin_types.specs.Types.method
 use Rattle.lapin_types.specs.Types.connection

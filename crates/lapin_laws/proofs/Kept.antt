@@ -1,5 +1,5 @@
 -- A connection that is not open any more, and channels without a live opening.
-use Rattle.std.proofs.Common.{◌≡◌, ℕ, Bool, true, false, cond, List, [], ◌∷◌, refl, sym, ◌∙◌, ap, subst, drop, inl, inr, Option, Some, None, ◌&&◌}
+use Rattle.std.proofs.Common.{◌≡◌, ℕ, Bool, true, false, List, [], ◌∷◌, refl, sym, ◌∙◌, ap, subst, drop, inl, inr, Option, Some, None, ◌&&◌}
 use Rattle.std.proofs.lemmas.Bool.Decides.{eqb_tells}
 use Rattle.std.specs.List.{fold, list_any}
 use Rattle.lapin_tables.specs.ByChannel.{at_channel}
@@ -24,7 +24,7 @@ use Rattle.lapin_history.specs.Sight.{Sight}
 use Rattle.lapin_history.specs.Unexpected.{refused}
 use Rattle.lapin_history.specs.Flow.{may_begin}
 use Rattle.lapin_history.specs.Base.{Base, state_of, lists_of}
-use Rattle.lapin_history.specs.Asking.{is_allowed, after_call, after_asking}
+use Rattle.lapin_history.specs.Asking.{is_allowed, after_asking}
 use Rattle.lapin_history.specs.Hearing.{heard_record, after_heard}
 use Rattle.lapin_history.specs.Handing.{frame_record, handed, sent}
 use Rattle.lapin_history.specs.Events.{record_of, after_event, confirm_marks}
@@ -44,7 +44,7 @@ pub record Kept (n : ℕ) (b : Base) : Type 0 where
   pub sound : Sound n b
   pub shut : IsShut b
 
-kept-next : (n : ℕ) (w : World) (e : Event) → Kept n w.base → Kept n (next w e).base
+pub kept-next : (n : ℕ) (w : World) (e : Event) → Kept n w.base → Kept n (next w e).base
 kept-next n w e k = record { sound = (goes n w.base (sight_of w.book w.slots) e k.shut k.sound).sound; shut = shut-next w.base (sight_of w.book w.slots) e k.shut }
 
 kept_from : (n : ℕ) (w : World) (es : List Event) → Kept n w.base → Kept n (fold next w es).base
@@ -66,7 +66,7 @@ stays_down n es more = stays_from n (world_after n es) more (run_kept n es)
 
 -- ---- a loss
 
-is_link_lost : (l : Link) → is_lost l ≡ true → l ≡ link.Lost
+pub is_link_lost : (l : Link) → is_lost l ≡ true → l ≡ link.Lost
 is_link_lost link.Open h = cc
 is_link_lost (link.Closing s x) h = cc
 is_link_lost link.Closed h = cc

@@ -7,4 +7,9 @@ pub mod Cuts
 pub mod Moving
 pub mod Going
 pub mod Kept
+pub mod Losing
 pub mod Settled
+pub mod Parsing
+pub mod Given
+pub mod Queue
+pub mod Waits

@@ -1,5 +1,5 @@
 -- What every event but a frame request does to the lists that wait, to the openings and to the connection.
-use Rattle.std.proofs.Common.{◌≡◌, ℕ, ◌+◌, Bool, true, false, cond, not, ◌==◌, ◌||◌, ◌&&◌, List, [], ◌∷◌, ◌++◌, refl, sym, ◌∙◌, ap, subst, None, inl, inr}
+use Rattle.std.proofs.Common.{◌≡◌, ℕ, Bool, true, false, cond, not, ◌==◌, ◌||◌, ◌&&◌, List, [], ◌∷◌, ◌++◌, refl, sym, ◌∙◌, ap, subst, None, inl, inr}
 use Rattle.std.specs.List.{filter, list_any}
 use Rattle.std.proofs.lemmas.Bool.Decides.{eqb_tells}
 use Rattle.lapin_types.specs.declared.event.Event.{Event}
@@ -34,9 +34,9 @@ use Rattle.lapin_history.specs.Phases.{is_up, is_lost, is_live, channel_state}
 use Rattle.lapin_history.specs.Requests.{first_request}
 use Rattle.lapin_history.specs.Frames.{MethodEntry, RestEntry}
 use Rattle.lapin_history.specs.Drops.{is_off, is_rest_of, method_channel, publish_channel}
-use Rattle.lapin_history.specs.Ends.{live_channels, ends, ends_all, end_with, down}
+use Rattle.lapin_history.specs.Ends.{live_channels, ends_all, end_with, down}
 use Rattle.lapin_history.specs.Sight.{Sight}
-use Rattle.lapin_history.specs.Base.{Base, start, requests_of, state_of, phase_of, is_open, is_closed, is_opening, noted, lists_of, hears_on}
+use Rattle.lapin_history.specs.Base.{Base, start, requests_of, state_of, phase_of, is_open, is_opening, noted, lists_of, hears_on}
 use Rattle.lapin_history.specs.Opening.{opens}
 use Rattle.lapin_history.specs.ChannelClose.{after_broker_close, closing, close_marks, close_ok_end, after_close_ok, hears_close, hears_close_ok}
 use Rattle.lapin_history.specs.ConnectionClose.{unless_sent, has_sent, hears_down, after_connection_close}

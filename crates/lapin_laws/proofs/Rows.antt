@@ -1,5 +1,5 @@
 -- Which methods the table of calls queues.
-use Rattle.std.proofs.Common.{◌≡◌, ℕ, Bool, true, false, cond, refl}
+use Rattle.std.proofs.Common.{◌≡◌, ℕ, Bool, true, false, refl}
 use Rattle.lapin_types.specs.declared.answer.Answer.{Answer}
 use Rattle.lapin_types.specs.declared.call.Call.{Call}
 use Rattle.lapin_types.specs.declared.call.Call.TheVariants as call

@@ -5,7 +5,6 @@ use Rattle.std.specs.List.{fold}
 use Rattle.std.specs.Option.{option_map}
 use Rattle.std.proofs.lemmas.Bool.Decides.{eqb_tells}
 use Rattle.lapin_tables.specs.ByChannel.{at_channel, on_channel}
-use Rattle.lapin_types.specs.declared.answer.Answer.{Answer}
 use Rattle.lapin_types.specs.declared.event.Event.{Event}
 use Rattle.lapin_types.specs.declared.event.Event.TheVariants as event
 use Rattle.lapin_types.specs.declared.record.Record.{Record}
@@ -41,7 +40,6 @@ use Rattle.lapin_history.specs.Opening.{opens}
 use Rattle.lapin_history.specs.ChannelClose.{has_sent_close, kept_at, phases_sent, closing, after_close_ok, hears_close, hears_close_ok}
 use Rattle.lapin_history.specs.ConnectionClose.{link_sent, hears_down, after_connection_close}
 use Rattle.lapin_history.specs.Settlement.{settlement_record, session_close}
-use Rattle.lapin_history.specs.Flow.{after_flow}
 use Rattle.lapin_history.specs.Loss.{after_lost}
 use Rattle.lapin_history.specs.Reply.{hears, hears_reply}
 use Rattle.lapin_history.specs.Unexpected.{refused}

@@ -10,6 +10,7 @@ ghost use Rattle.lapin_history.specs.Requests.{without_kind};
 ghost use Rattle.lapin_tables.specs.ByChannel.{at_channel};
 ghost use Rattle.lapin_machine.specs.Tied.{is_live_on};
 ghost use Rattle.lapin_laws.specs.Closes.{closes_of, is_unsent};
+ghost use Rattle.lapin_laws.specs.Queue.{queued_in, waiting};
 ghost use Rattle.lapin_laws.specs.Runs.{world_after};
 
 /// While the connection is open, a channel that this side closes has one `channel.close` among the methods that wait, until it
@@ -25,4 +26,10 @@ pub fn only_live_openings_wait()
     ensures publishes { (frame_max : ℕ) (events : List AnEvent) (c : ℕ) → is_live_on (world_after frame_max events).base.link (at_channel c (world_after frame_max events).base.phases) ≡ false → unbegun c (world_after frame_max events).base.publishes ≡ [] }
     ensures rest { (frame_max : ℕ) (events : List AnEvent) (c : ℕ) → is_live_on (world_after frame_max events).base.link (at_channel c (world_after frame_max events).base.phases) ≡ false → is_rest_of c (world_after frame_max events).base.rest ≡ false }
     ensures requests { (frame_max : ℕ) (events : List AnEvent) (c : ℕ) → (c == 0) ≡ false → is_live_on (world_after frame_max events).base.link (at_channel c (world_after frame_max events).base.phases) ≡ false → without_kind reply_kind.ChannelCloseOk (requests_of c (world_after frame_max events).base) ≡ [] }
+{}
+
+/// The publishes that have not begun are those whose confirms are queued: the same numbers with the same channels, in order of
+/// call, and no others.
+pub fn waiting_publishes_are_queued()
+    ensures { (frame_max : ℕ) (events : List AnEvent) → queued_in (world_after frame_max events).book.cells ≡ waiting (world_after frame_max events).base.publishes }
 {}

@@ -1,5 +1,6 @@
 use Rattle.lapin_laws.specs.Runs.{world_after}
-use Rattle.lapin_laws.proofs.Kept.{run_sound, stays_down, stays_lost, no_rest, no_publishes, nothing, gives, gives_none, leaves}
+use Rattle.lapin_laws.proofs.Losing.{answered_after}
+use Rattle.lapin_laws.proofs.Kept.{run_kept, run_sound, stays_down, stays_lost, no_rest, no_publishes, nothing, gives, gives_none, leaves}
 use Rattle.lapin_laws.proofs.down.down_for_good.Goals as goal
 
 pub returns-clause-stays : goal.returns-clause-stays
@@ -25,3 +26,9 @@ returns-clause-none c = λ n es. gives_none n (world_after n es) (run_sound n es
 
 pub returns-clause-left : goal.returns-clause-left
 returns-clause-left c = λ n es. leaves n (world_after n es) (run_sound n es)
+
+pub returns-clause-phases : goal.returns-clause-phases
+returns-clause-phases c = λ n es. (run_kept n es).shut
+
+pub returns-clause-answered : goal.returns-clause-answered
+returns-clause-answered c = answered_after
