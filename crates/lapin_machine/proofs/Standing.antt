@@ -98,7 +98,7 @@ outputs_told p w (e ∷ es) r =
     let rest : outputs (next w e) es ≡ told_from (longer p e (record_after p e)) es = outputs_told (longer p e (record_after p e)) (next w e) es (subst R same (ready-next p w e r)) in
     cc
 
-past-push : (p : Past) (h : History) (e : Event) (r : Record) → past_on p (h ++ (e, r) ∷ []) ≡ longer (past_on p h) e r
+pub past-push : (p : Past) (h : History) (e : Event) (r : Record) → past_on p (h ++ (e, r) ∷ []) ≡ longer (past_on p h) e r
 past-push p [] e r = refl
 past-push p (x ∷ h) e r = past-push (longer p x.0 x.1) h e r
 

@@ -1,0 +1,15 @@
+pub mod Traces
+pub mod Parts
+pub mod Alive
+pub mod Closes
+pub mod Rows
+pub mod Cuts
+pub mod Moving
+pub mod Going
+pub mod Kept
+pub mod Losing
+pub mod Settled
+pub mod Parsing
+pub mod Given
+pub mod Queue
+pub mod Waits

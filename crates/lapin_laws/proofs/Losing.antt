@@ -1,0 +1,216 @@
+-- After a loss no ticket is open.
+use Rattle.std.proofs.Common.{◌≡◌, ℕ, zero, suc, Bool, true, false, cond, not, List, [], ◌∷◌, map, Option, Some, None, Result, Err, refl, sym, ◌∙◌, ap}
+use Rattle.std.specs.Prelude.{slice_set, slice_index_or}
+use Rattle.std.specs.List.{fold}
+use Rattle.lapin_tables.specs.Numbered.{under, with_under}
+use Rattle.lapin_types.specs.declared.answer.Answer.{Answer}
+use Rattle.lapin_types.specs.declared.event.Event.{Event}
+use Rattle.lapin_types.specs.declared.event.Event.TheVariants as event
+use Rattle.lapin_types.specs.declared.record.Record.{Record}
+use Rattle.lapin_types.specs.declared.record.Record.TheVariants as record_
+use Rattle.lapin_types.specs.declared.leaving.Left.{Left}
+use Rattle.lapin_types.specs.Types.{Error}
+use Rattle.lapin_types.specs.Types.error
+use Rattle.lapin_types.specs.Types.method
+use Rattle.lapin_types.specs.Types.channel
+use Rattle.lapin_history.specs.declared.calls.Asked.{Asked}
+use Rattle.lapin_history.specs.declared.calls.Asked.TheVariants as ask
+use Rattle.lapin_history.specs.declared.phases.Phase.{Phase}
+use Rattle.lapin_history.specs.declared.phases.Phase.TheVariants as phase
+use Rattle.lapin_history.specs.declared.phases.Link.{Link}
+use Rattle.lapin_history.specs.declared.phases.Link.TheVariants as link
+use Rattle.lapin_history.specs.declared.phases.Closer.TheVariants as closer
+use Rattle.lapin_history.specs.declared.broker_frames.Incoming.{Incoming}
+use Rattle.lapin_history.specs.declared.broker_frames.Incoming.TheVariants as incoming
+use Rattle.lapin_history.specs.TicketReadings.{TicketMark}
+use Rattle.lapin_history.specs.TicketReadings as ticket
+use Rattle.lapin_history.specs.Words.{with_channel}
+use Rattle.lapin_history.specs.Phases.{is_lost}
+use Rattle.lapin_history.specs.Calls.{asked}
+use Rattle.lapin_history.specs.Heard.{heard, frame_class, frame_method}
+use Rattle.lapin_history.specs.Leaving.{handed_of}
+use Rattle.lapin_history.specs.Base.{Base, state_of, phase_of, is_open, noted}
+use Rattle.lapin_history.specs.ChannelClose.{closing, after_close_ok}
+use Rattle.lapin_history.specs.ConnectionClose.{after_connection_close}
+use Rattle.lapin_history.specs.Settlement.{session_close}
+use Rattle.lapin_history.specs.Unexpected.{refused}
+use Rattle.lapin_history.specs.Flow.{may_begin}
+use Rattle.lapin_history.specs.Sight.{Sight}
+use Rattle.lapin_history.specs.Asking.{is_allowed, after_call, call_tickets}
+use Rattle.lapin_history.specs.Handing.{handed, sent}
+use Rattle.lapin_history.specs.Hearing.{after_received, after_failed, after_refused, after_heard, heard_record, heard_tickets}
+use Rattle.lapin_ticket.specs.declared.Slot.{Slot}
+use Rattle.lapin_ticket.specs.declared.Slot.TheVariants as slot
+use Rattle.lapin_ticket.specs.Desk.{answered_slot, after_mark, is_awaited}
+use Rattle.lapin_machine.specs.World.{World, new_world, next, sight_of}
+use Rattle.lapin_laws.specs.Runs.{world_after}
+use Rattle.lapin_laws.proofs.Moving.{Sound, allowed_up, start_sound, lost_not_up}
+use Rattle.lapin_laws.proofs.Going.{lost_sent}
+use Rattle.lapin_laws.proofs.Kept.{Kept, kept-next, no_rest, no_publishes, is_link_lost}
+
+abbrev NoneOpen : List (Option Slot) → Type 0
+NoneOpen slots = (t : ℕ) → is_awaited (under t slots) ≡ false
+
+-- ---- one mark
+
+not_awaited : (a : Result Answer Error) (o : Option Slot) → is_awaited (answered_slot a o) ≡ false
+not_awaited a None = refl
+not_awaited a (Some (slot.Open c l b)) = refl
+not_awaited a (Some (slot.Held x)) = refl
+
+failed_at : (a : Result Answer Error) (slots : List (Option Slot)) (j : ℕ) → is_awaited (slice_index_or (map (answered_slot a) slots) j None) ≡ false
+failed_at a [] j = refl
+failed_at a (x ∷ xs) zero = not_awaited a x
+failed_at a (x ∷ xs) (suc j) = failed_at a xs j
+
+all_failed : (e : Error) (slots : List (Option Slot)) → NoneOpen (after_mark slots (ticket.AllFailed e))
+all_failed e slots zero = refl
+all_failed e slots (suc t) = failed_at (Err e) slots t
+
+gone_at : (slots : List (Option Slot)) (i j : ℕ) → is_awaited (slice_index_or slots j None) ≡ false → is_awaited (slice_index_or (slice_set slots i None) j None) ≡ false
+gone_at [] i j h = refl
+gone_at (x ∷ xs) zero zero h = refl
+gone_at (x ∷ xs) zero (suc j) h = h
+gone_at (x ∷ xs) (suc i) zero h = h
+gone_at (x ∷ xs) (suc i) (suc j) h = gone_at xs i j h
+
+gone : (n : ℕ) (slots : List (Option Slot)) → NoneOpen slots → NoneOpen (with_under n None slots)
+gone zero slots h t = h t
+gone (suc n) slots h zero = refl
+gone (suc n) slots h (suc t) = gone_at slots n t (h (suc t))
+
+polled_none : (u : Bool) (n : ℕ) (m : TicketMark) (slots : List (Option Slot)) → after_mark slots m ≡ with_under n None slots → NoneOpen slots → NoneOpen (fold after_mark slots (cond u (m ∷ []) []))
+polled_none true n m slots e h = λ t. ap (λ s. is_awaited (under t s)) e ∙ gone n slots h t
+polled_none false n m slots e h = h
+
+-- ---- only a loss loses the connection
+
+abbrev NotLost : Base → Type 0
+NotLost b = is_lost b.link ≡ false
+
+either : (t : Bool) (x y : Base) → NotLost x → NotLost y → NotLost (cond t x y)
+either true x y h k = h
+either false x y h k = k
+
+called : (c : ℕ) (k : Asked) (b : Base) → b.link ≡ link.Open → NotLost (after_call c k b)
+called c ask.Open b e = rw e refl
+called c (ask.CloseChannel code text) b e = rw e refl
+called c (ask.CloseConnection code text) b e = refl
+called c (ask.Publish exchange key o payload properties) b e = rw e refl
+called c (ask.Method row) b e = rw e refl
+
+close_answered : (c : ℕ) (p : Phase) (b : Base) → NotLost b → NotLost (after_close_ok c p b)
+close_answered c phase.Closed b h = h
+close_answered c phase.Opening b h = h
+close_answered c (phase.Open paused) b h = h
+close_answered c (phase.Closing who x) b h = h
+close_answered c phase.Crossed b h = h
+
+connection_closed : (l : Link) (b : Base) → NotLost (after_connection_close l b)
+connection_closed link.Open b = refl
+connection_closed (link.Closing true x) b = refl
+connection_closed (link.Closing false x) b = refl
+connection_closed link.Closed b = refl
+connection_closed link.Lost b = refl
+
+received : (i : Incoming) (b : Base) → NotLost b → NotLost (after_received i b)
+received (incoming.Reply c k a) b h = h
+received (incoming.Settlement c z) b h = h
+received (incoming.Flow c active) b h = either (is_open (state_of c b)) (noted c (method.Channel (channel.FlowOk active)) (record b { phases = with_channel c (phase.Open (not active)) b.phases })) b h h
+received (incoming.ChannelClose c code) b h = h
+received (incoming.ChannelCloseOk c) b h = close_answered c (phase_of c b) b h
+received (incoming.ConnectionClose code) b h = connection_closed b.link b
+received incoming.ConnectionCloseOk b h = refl
+received incoming.Other b h = h
+
+failed : (i : Incoming) (b : Base) → NotLost b → NotLost (after_failed i b)
+failed (incoming.Settlement c z) b h = either (is_open (state_of c b)) (noted c (session_close z.kind) (closing c closer.Session b)) b h h
+failed (incoming.Reply c k a) b h = h
+failed (incoming.Flow c active) b h = h
+failed (incoming.ChannelClose c code) b h = h
+failed (incoming.ChannelCloseOk c) b h = h
+failed (incoming.ConnectionClose code) b h = h
+failed incoming.ConnectionCloseOk b h = h
+failed incoming.Other b h = h
+
+turned_away : (i : Incoming) (x : Error) (b : Base) → NotLost b → NotLost (after_refused i x b)
+turned_away i error.NoMemory b h = h
+turned_away i error.NumbersUsedUp b h = h
+turned_away i (error.InvalidChannelState s) b h = h
+turned_away i (error.ProtocolError code) b h = h
+turned_away i error.ConnectionLost b h = h
+turned_away i (error.UnexpectedFrame class number) b h = refl
+turned_away i (error.PreconditionFailed tag current) b h = failed i b h
+turned_away i error.AlreadyTaken b h = h
+turned_away i error.UnknownTicket b h = h
+
+heard_not_lost : (i : Incoming) (r : Record) (b : Base) → NotLost b → NotLost (after_heard i r b)
+heard_not_lost i (record_.Refused x) b h = turned_away i x b h
+heard_not_lost i record_.Received b h = received i b h
+heard_not_lost i (record_.Ticket n) b h = h
+heard_not_lost i (record_.Publish t n) b h = h
+heard_not_lost i (record_.Frame f) b h = h
+heard_not_lost i record_.NoFrame b h = h
+heard_not_lost i record_.Passed b h = h
+heard_not_lost i record_.Pending b h = h
+heard_not_lost i (record_.Answer a) b h = h
+heard_not_lost i (record_.Confirmed o) b h = h
+heard_not_lost i (record_.State x y) b h = h
+heard_not_lost i record_.Aside b h = h
+heard_not_lost i record_.Lost b h = h
+
+-- ---- every event
+
+-- once the connection is lost, no ticket is open
+abbrev Answered : Base → List (Option Slot) → Type 0
+Answered b slots = is_lost b.link ≡ true → NoneOpen slots
+
+call_answered : (c : ℕ) (k : Asked) (b : Base) (slots : List (Option Slot)) → Answered b slots → Answered (cond (is_allowed k (state_of c b)) (after_call c k b) b) (fold after_mark slots (cond (is_allowed k (state_of c b)) (call_tickets c k b) []))
+call_answered c k b slots h = elim (is_allowed k (state_of c b)) as (λ t. is_allowed k (state_of c b) ≡ t → Answered (cond t (after_call c k b) b) (fold after_mark slots (cond t (call_tickets c k b) []))) [
+  | true ↦ λ a l. let z : true ≡ false = sym l ∙ called c k b (allowed_up b.link k _ a) in absurd cc
+  | false ↦ λ a. h
+] refl
+
+passed : (i : Incoming) (see : Sight) (r : Record) (b : Base) → b.link ≡ link.Lost → heard_record b see r i ≡ record_.Passed
+passed i see r b e = rw e refl
+
+heard_answered : (i : Incoming) (see : Sight) (r : Record) (b : Base) (slots : List (Option Slot)) → Answered b slots → Answered (after_heard i (heard_record b see r i) b) (fold after_mark slots (heard_tickets i (heard_record b see r i) b))
+heard_answered i see r b slots h = elim (is_lost b.link) as (λ t. is_lost b.link ≡ t → Answered (after_heard i (heard_record b see r i) b) (fold after_mark slots (heard_tickets i (heard_record b see r i) b))) [
+  | true ↦ λ e _. let none : heard_record b see r i ≡ record_.Passed = passed i see r b (is_link_lost b.link e) in rw none (h e)
+  | false ↦ λ e l. let z : true ≡ false = sym l ∙ heard_not_lost i (heard_record b see r i) b e in absurd cc
+] refl
+
+lost_answered : (b : Base) (slots : List (Option Slot)) → Answered b slots → NoneOpen (fold after_mark slots (cond (is_lost b.link) [] (ticket.AllFailed error.ConnectionLost ∷ [])))
+lost_answered b slots h = elim (is_lost b.link) as (λ t. is_lost b.link ≡ t → NoneOpen (fold after_mark slots (cond t [] (ticket.AllFailed error.ConnectionLost ∷ [])))) [ true ↦ λ e. h e | false ↦ λ e. all_failed error.ConnectionLost slots ] refl
+
+handed_none : (n : ℕ) (flow : Bool) (w : World) → Sound n w.base → is_lost w.base.link ≡ true → handed flow w.base ≡ None
+handed_none n flow w s l =
+    let d = lost_not_up w.base.link l in
+    let rest : w.base.rest ≡ [] = no_rest n w s d in
+    let methods : w.base.methods ≡ [] = s.lost l in
+    let publishes : w.base.publishes ≡ [] = no_publishes n w s d in
+    rw (rest, methods, publishes) (elim (may_begin flow w.base) as (λ t. handed_of t [] [] [] ≡ None) [ true ↦ refl | false ↦ refl ])
+
+sent_back : (o : Option Left) (b : Base) → is_lost (sent o b).link ≡ true → is_lost b.link ≡ true
+sent_back None b l = l
+sent_back (Some x) b l = sym (lost_sent x.frame b.link) ∙ l
+
+answered-next : (n : ℕ) (w : World) (e : Event) → Sound n w.base → Answered w.base w.slots → Answered (next w e).base (next w e).slots
+answered-next n w (event.Call c k) s h = call_answered c (asked k) w.base w.slots h
+answered-next n w (event.Next flow) s h = λ l.
+    let was : is_lost w.base.link ≡ true = sent_back (handed flow w.base) _ l in
+    let none : handed flow w.base ≡ None = handed_none n flow w s was in
+    rw none (h was)
+answered-next n w (event.Receive f) s h = heard_answered (heard f) (sight_of w.book w.slots) (refused (frame_class f) (frame_method f)) w.base w.slots h
+answered-next n w (event.PollTicket m) s h = λ l. polled_none _ m (ticket.Collected m) w.slots refl (h l)
+answered-next n w (event.AsideTicket m) s h = λ l. polled_none _ m (ticket.SetAside m) w.slots refl (h l)
+answered-next n w (event.PollConfirm m) s h = h
+answered-next n w (event.State c) s h = h
+answered-next n w event.Lost s h = λ l. lost_answered w.base w.slots h
+
+answered_from : (n : ℕ) (w : World) (es : List Event) → Kept n w.base → Answered w.base w.slots → Answered (fold next w es).base (fold next w es).slots
+answered_from n w [] k h = h
+answered_from n w (e ∷ es) k h = answered_from n (next w e) es (kept-next n w e k) (answered-next n w e k.sound h)
+
+pub answered_after : (n : ℕ) (es : List Event) → Answered (world_after n es).base (world_after n es).slots
+answered_after n es = answered_from n (new_world n) es (record { sound = start_sound n; shut = λ _. refl }) (λ l. let z : false ≡ true = l in absurd cc)

@@ -1,0 +1,232 @@
+-- What waits in the publishes is what is queued in the confirms.
+use Rattle.std.proofs.Common.{◌≡◌, ℕ, ◌+◌, Bool, true, false, cond, not, List, [], ◌∷◌, ◌++◌, length, refl, sym, ◌∙◌, ap, Option, Some, None, Err}
+use Rattle.std.specs.List.{fold}
+use Rattle.lapin_tables.specs.Numbered.{under}
+use Rattle.lapin_types.specs.declared.event.Event.{Event}
+use Rattle.lapin_types.specs.declared.event.Event.TheVariants as event
+use Rattle.lapin_types.specs.declared.record.Record.{Record}
+use Rattle.lapin_types.specs.declared.record.Record.TheVariants as record_
+use Rattle.lapin_types.specs.declared.leaving.Publish.{Publish}
+use Rattle.lapin_types.specs.declared.leaving.Left.{Left}
+use Rattle.lapin_types.specs.Types.{Error}
+use Rattle.lapin_types.specs.Types.error
+use Rattle.lapin_types.specs.Types.method
+use Rattle.lapin_types.specs.Types.channel
+use Rattle.lapin_history.specs.declared.calls.Asked.{Asked}
+use Rattle.lapin_history.specs.declared.calls.Asked.TheVariants as ask
+use Rattle.lapin_history.specs.declared.phases.Phase.{Phase}
+use Rattle.lapin_history.specs.declared.phases.Phase.TheVariants as phase
+use Rattle.lapin_history.specs.declared.phases.Link.{Link}
+use Rattle.lapin_history.specs.declared.phases.Link.TheVariants as link
+use Rattle.lapin_history.specs.declared.phases.Closer.TheVariants as closer
+use Rattle.lapin_history.specs.declared.broker_frames.Incoming.{Incoming}
+use Rattle.lapin_history.specs.declared.broker_frames.Incoming.TheVariants as incoming
+use Rattle.lapin_history.specs.ConfirmMarks.{ConfirmMark}
+use Rattle.lapin_history.specs.ConfirmMarks as mark
+use Rattle.lapin_history.specs.Words.{with_channel}
+use Rattle.lapin_history.specs.Frames.{MethodEntry, RestEntry}
+use Rattle.lapin_history.specs.Leaving.{handed_of, left_of}
+use Rattle.lapin_history.specs.Phases.{is_up, is_lost}
+use Rattle.lapin_history.specs.Calls.{asked}
+use Rattle.lapin_history.specs.Heard.{heard}
+use Rattle.lapin_history.specs.Select.{is_select}
+use Rattle.lapin_history.specs.Ends.{ends_all, end_with, live_channels, down}
+use Rattle.lapin_history.specs.Base.{Base, state_of, phase_of, is_open, noted}
+use Rattle.lapin_history.specs.ChannelClose.{closing, close_marks, close_ok_end, after_close_ok}
+use Rattle.lapin_history.specs.ConnectionClose.{after_connection_close, after_connection_close_ok}
+use Rattle.lapin_history.specs.Settlement.{session_close}
+use Rattle.lapin_history.specs.Flow.{may_begin}
+use Rattle.lapin_history.specs.Loss.{after_lost, lost_marks}
+use Rattle.lapin_history.specs.Polls.{is_confirmed}
+use Rattle.lapin_history.specs.Asking.{is_allowed, after_call, after_asking, call_marks, asking_marks}
+use Rattle.lapin_history.specs.Handing.{sent, handed, left_marks}
+use Rattle.lapin_history.specs.Hearing.{after_received, received_marks, after_failed, failed_marks, after_refused, refused_marks, after_heard, heard_marks}
+use Rattle.lapin_history.specs.History.{History}
+use Rattle.lapin_confirm.specs.Answers.{answer_in, is_unknown}
+use Rattle.lapin_confirm.specs.Book.{Book, after_mark, is_queued, cell_with}
+use Rattle.lapin_confirm.specs.declared.cell.Cell.{Cell}
+use Rattle.lapin_confirm.specs.declared.cell.Cell.TheVariants as cell
+use Rattle.lapin_machine.specs.Stands.{Stands}
+use Rattle.lapin_machine.specs.World.{World, new_world, next, told_by, outcome_record}
+use Rattle.lapin_laws.specs.Runs.{world_after}
+use Rattle.lapin_laws.specs.Queue.{queued_in, waiting}
+use Rattle.lapin_laws.proofs.Alive.{AreAlive, none_alive}
+use Rattle.lapin_laws.proofs.Cuts.{live-in}
+use Rattle.lapin_laws.proofs.Moving.{lost_not_up, start_sound}
+use Rattle.lapin_laws.proofs.Queue.{still, out, joined, settled_queue, closed_queue, ended_queue, AreOn, ends_queue}
+use Rattle.lapin_laws.proofs.Traces.{stands_new, stands_next}
+use Rattle.lapin_laws.proofs.Kept.{Kept, kept-next}
+
+-- these confirms are queued for these publishes
+abbrev Waits : List Publish → Book → Type 0
+Waits ps k = queued_in k.cells ≡ waiting ps
+
+all_on : (l : Link) (ps : List (ℕ × Phase)) (qs : List Publish) → AreAlive l ps qs → AreOn (live_channels ps) qs
+all_on l ps [] a = tt
+all_on l ps (q ∷ qs) a = (live-in q.channel ps a.0.1, all_on l ps qs a.1)
+
+choose_waits : (t : Bool) (x y : Base) (ms ns : List ConfirmMark) (k : Book) → Waits x.publishes (fold after_mark k ms) → Waits y.publishes (fold after_mark k ns) → Waits (cond t x y).publishes (fold after_mark k (cond t ms ns))
+choose_waits true x y ms ns k h g = h
+choose_waits false x y ms ns k h g = g
+
+same_waits : (t : Bool) (x y : Base) (k : Book) → Waits x.publishes k → Waits y.publishes k → Waits (cond t x y).publishes k
+same_waits true x y k h g = h
+same_waits false x y k h g = g
+
+select_waits : (t : Bool) (m : ConfirmMark) (ps : List Publish) (k : Book) → (after_mark k m).cells ≡ k.cells → Waits ps k → Waits ps (fold after_mark k (cond t (m ∷ []) []))
+select_waits true m ps k e h = ap queued_in e ∙ h
+select_waits false m ps k e h = h
+
+module _ (b : Base) (k : Book) (alive : AreAlive b.link b.phases b.publishes) (count : b.published ≡ length k.cells) (h : Waits b.publishes k) where
+  falls : (x : Error) → Waits [] (fold after_mark k (ends_all x b))
+  falls x = ends_queue x (live_channels b.phases) b.publishes k (all_on b.link b.phases b.publishes alive) h
+
+  none : is_up b.link ≡ false → b.publishes ≡ []
+  none d = none_alive b.link b.phases b.publishes d alive
+
+  -- ---- calls
+
+  called : (c : ℕ) (a : Asked) → Waits (after_call c a b).publishes (fold after_mark k (call_marks c a b))
+  called c ask.Open = h
+  called c (ask.CloseChannel code text) = closed_queue c _ b.publishes k h
+  called c (ask.CloseConnection code text) = falls _
+  called c (ask.Publish exchange key o payload properties) = joined k.cells b.publishes _ (ap (λ n. n + 1) count) h
+  called c (ask.Method row) = select_waits (is_select row.method) (mark.SelectCalled c) b.publishes k refl h
+
+  asked_waits : (c : ℕ) (a : Asked) → Waits (after_asking c a b).publishes (fold after_mark k (asking_marks c a b))
+  asked_waits c a = choose_waits (is_allowed a (state_of c b)) (after_call c a b) b (call_marks c a b) [] k (called c a) h
+
+  -- ---- frames of the broker
+
+  closed_waits : (c : ℕ) (p : Phase) → Waits (after_close_ok c p b).publishes (fold after_mark k (end_with c (close_ok_end p)))
+  closed_waits c phase.Closed = h
+  closed_waits c phase.Opening = h
+  closed_waits c (phase.Open paused) = h
+  closed_waits c (phase.Closing who x) = ended_queue c _ b.publishes k h
+  closed_waits c phase.Crossed = h
+
+  -- of a connection that is not open nothing waits
+  still_none : (x : Error) → is_up b.link ≡ false → Waits b.publishes (fold after_mark k (ends_all x b))
+  still_none x d = falls x ∙ ap waiting (sym (none d))
+
+  close_waits : (code : ℕ) (l : Link) → b.link ≡ l → Waits (after_connection_close l b).publishes (fold after_mark k (ends_all (error.ProtocolError code) b))
+  close_waits code link.Open e = falls _
+  close_waits code (link.Closing true x) e = still_none _ (ap is_up e)
+  close_waits code (link.Closing false x) e = falls _
+  close_waits code link.Closed e = falls _
+  close_waits code link.Lost e = falls _
+
+  close_ok_waits : (l : Link) → b.link ≡ l → Waits (after_connection_close_ok b).publishes k
+  close_ok_waits link.Open e = rw e h
+  close_ok_waits (link.Closing true x) e = rw e h
+  close_ok_waits (link.Closing false x) e = let empty : b.publishes ≡ [] = none (ap is_up e) in rw e (h ∙ ap waiting empty)
+  close_ok_waits link.Closed e = rw e h
+  close_ok_waits link.Lost e = rw e h
+
+  received : (i : Incoming) → Waits (after_received i b).publishes (fold after_mark k (received_marks i b))
+  received (incoming.Reply c x a) = h
+  received (incoming.Settlement c z) = settled_queue c z k.cells ∙ h
+  received (incoming.Flow c active) = same_waits (is_open (state_of c b)) (noted c (method.Channel (channel.FlowOk active)) (record b { phases = with_channel c (phase.Open (not active)) b.phases })) b k h h
+  received (incoming.ChannelClose c code) = ended_queue c _ b.publishes k h
+  received (incoming.ChannelCloseOk c) = closed_waits c (phase_of c b)
+  received (incoming.ConnectionClose code) = close_waits code b.link refl
+  received incoming.ConnectionCloseOk = close_ok_waits b.link refl
+  received incoming.Other = h
+
+  failed : (i : Incoming) → Waits (after_failed i b).publishes (fold after_mark k (failed_marks i b))
+  failed (incoming.Settlement c z) = choose_waits (is_open (state_of c b)) (noted c (session_close z.kind) (closing c closer.Session b)) b (close_marks c closer.Session) [] k (closed_queue c _ b.publishes k h) h
+  failed (incoming.Reply c x a) = h
+  failed (incoming.Flow c active) = h
+  failed (incoming.ChannelClose c code) = h
+  failed (incoming.ChannelCloseOk c) = h
+  failed (incoming.ConnectionClose code) = h
+  failed incoming.ConnectionCloseOk = h
+  failed incoming.Other = h
+
+  refused : (i : Incoming) (x : Error) → Waits (after_refused i x b).publishes (fold after_mark k (refused_marks i x b))
+  refused i error.NoMemory = h
+  refused i error.NumbersUsedUp = h
+  refused i (error.InvalidChannelState s) = h
+  refused i (error.ProtocolError code) = h
+  refused i error.ConnectionLost = h
+  refused i (error.UnexpectedFrame class number) = falls _
+  refused i (error.PreconditionFailed tag current) = failed i
+  refused i error.AlreadyTaken = h
+  refused i error.UnknownTicket = h
+
+  heard_waits : (i : Incoming) (r : Record) → Waits (after_heard i r b).publishes (fold after_mark k (heard_marks i r b))
+  heard_waits i (record_.Refused x) = refused i x
+  heard_waits i record_.Received = received i
+  heard_waits i (record_.Ticket n) = h
+  heard_waits i (record_.Publish t n) = h
+  heard_waits i (record_.Frame f) = h
+  heard_waits i record_.NoFrame = h
+  heard_waits i record_.Passed = h
+  heard_waits i record_.Pending = h
+  heard_waits i (record_.Answer a) = h
+  heard_waits i (record_.Confirmed o) = h
+  heard_waits i (record_.State x y) = h
+  heard_waits i record_.Aside = h
+  heard_waits i record_.Lost = h
+
+  -- ---- a loss
+
+  lost_waits : Waits (after_lost b).publishes (fold after_mark k (lost_marks b))
+  lost_waits = elim (is_lost b.link) as (λ t. is_lost b.link ≡ t → Waits (cond t b (down link.Lost b)).publishes (fold after_mark k (lost_marks b))) [
+    | true ↦ λ e. still_none _ (lost_not_up b.link e)
+    | false ↦ λ e. falls _
+  ] refl
+
+-- ---- a frame request
+
+tagged_queued : (c : ℕ) (t : Option ℕ) → is_queued (Some (cell_with c t)) ≡ false
+tagged_queued c None = refl
+tagged_queued c (Some t) = refl
+
+sent_publishes : (o : Option Left) (b : Base) → (sent o b).publishes ≡ b.publishes
+sent_publishes None b = refl
+sent_publishes (Some l) b = refl
+
+left_waits : (n : ℕ) (t : Bool) (rest : List RestEntry) (methods : List MethodEntry) (publishes : List Publish) (k : Book) → Waits publishes k → Waits (left_of n t rest methods publishes).publishes (fold after_mark k (left_marks (handed_of t rest methods publishes)))
+left_waits n t (f ∷ fs) methods publishes k h = h
+left_waits n t [] (m ∷ ms) publishes k h = select_waits (is_select m.method) (mark.SelectLeft m.channel) publishes k refl h
+left_waits n true [] [] (p ∷ ps) k h = out p.confirm p.channel k.cells [] (waiting ps) _ (tagged_queued p.channel _) h
+left_waits n true [] [] [] k h = h
+left_waits n false [] [] publishes k h = h
+
+-- ---- a poll: a result is given of a publish that is queued no more
+
+known : (t : Bool) (o : Option Cell) → is_confirmed (outcome_record (cond t (Err error.UnknownTicket) (answer_in o))) ≡ true → is_queued o ≡ false
+known true o h = cc
+known false None h = refl
+known false (Some (cell.Queued d)) h = cc
+known false (Some (cell.Pending d t)) h = refl
+known false (Some (cell.Resolved x)) h = refl
+
+taken_waits : (t : Bool) (n : ℕ) (ps : List Publish) (k : Book) → (t ≡ true → is_queued (under n k.cells) ≡ false) → Waits ps k → Waits ps (fold after_mark k (cond t (mark.Taken n ∷ []) []))
+taken_waits true n ps k may h = still n k.cells None (may refl) refl ∙ h
+taken_waits false n ps k may h = h
+
+-- ---- every event
+
+waits-next : (n : ℕ) (w : World) (e : Event) → Kept n w.base → w.base.published ≡ length w.book.cells → Waits w.base.publishes w.book → Waits (next w e).base.publishes (next w e).book
+waits-next n w (event.Call c x) kept count h = asked_waits w.base w.book kept.sound.publishes count h c (asked x)
+waits-next n w (event.Next flow) kept count h =
+    let o : Option Left = handed flow w.base in
+    let left : Waits (left_of w.base.frame_max (may_begin flow w.base) w.base.rest w.base.methods w.base.publishes).publishes (fold after_mark w.book (left_marks o)) = left_waits w.base.frame_max (may_begin flow w.base) w.base.rest w.base.methods w.base.publishes w.book h in
+    left ∙ ap waiting (sym (sent_publishes o _))
+waits-next n w (event.Receive f) kept count h = heard_waits w.base w.book kept.sound.publishes count h (heard f) (told_by w (event.Receive f))
+waits-next n w (event.PollTicket m) kept count h = h
+waits-next n w (event.PollConfirm m) kept count h = taken_waits (is_confirmed (told_by w (event.PollConfirm m))) m w.base.publishes w.book (known (is_unknown m w.book) (under m w.book.cells)) h
+waits-next n w (event.AsideTicket m) kept count h = h
+waits-next n w (event.State c) kept count h = h
+waits-next n w event.Lost kept count h = lost_waits w.base w.book kept.sound.publishes count h
+
+waits_from : (n : ℕ) (h : History) (w : World) (es : List Event) → Stands n h w → Kept n w.base → Waits w.base.publishes w.book → Waits (fold next w es).base.publishes (fold next w es).book
+waits_from n h w [] stands kept q = q
+waits_from n h w (e ∷ es) stands kept q =
+    let count : w.base.published ≡ length w.book.cells = stands.confirms.published ∙ sym stands.confirms.book.count in
+    waits_from n (h ++ (e, told_by w e) ∷ []) (next w e) es (stands_next n h w e stands) (kept-next n w e kept) (waits-next n w e kept count q)
+
+pub waits_after : (n : ℕ) (es : List Event) → queued_in (world_after n es).book.cells ≡ waiting (world_after n es).base.publishes
+waits_after n es = waits_from n [] (new_world n) es (stands_new n) (record { sound = start_sound n; shut = λ _. refl }) refl
