@@ -1,0 +1,16 @@
+pub mod Places
+pub mod Single
+pub mod Indices
+pub mod Rooms
+pub mod Firsts
+pub mod Found
+pub mod Lines
+pub mod Leaving
+pub mod Registering
+pub mod Following
+pub mod Polls
+pub mod Ending
+pub mod EndRooms
+pub mod Several
+pub mod Arrivals
+pub mod Jobs

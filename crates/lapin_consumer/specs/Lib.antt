@@ -1,0 +1,9 @@
+pub mod Words
+pub mod Marks
+pub mod Roster
+pub mod Kept
+pub mod Indexed
+pub mod Codes
+pub mod Readings
+pub mod Follows
+pub mod Ackers

@@ -1,0 +1,342 @@
+//! The seats of all consumers and the jobs of their delegates. Who is registered under which tag is looked up elsewhere:
+//! `consumers` alone calls this file.
+
+ghost use Rattle.std.specs.Prelude.{◌≡◌, ℕ, ◌+◌, ◌-◌, ◌<◌, ◌^◌, ◌↔◌, ◌⊎◌, ◌≤◌, suc, ◌++◌, ◌∷◌, [], true, Some, None, Ok, Err, OnOk, OnErr, IsOk, IfOk, IfErr, IfSome, IfNone, length, slice_get};
+ghost use Rattle.lapin_consumer.specs.Roster.{empty_roster, after_mark, is_registered, consumer_at, answered, let_go_answer, is_tagged, is_under_at, newcomer, unregistered, canceling, finished, offered, last_words, is_on};
+ghost use Rattle.lapin_consumer.specs.Words.{on_place, on_place_if, from_place, places_at};
+ghost use Rattle.std.specs.Option.{option_copied, option_map};
+ghost use Rattle.std.specs.List.{find};
+ghost use Rattle.lapin_consumer.specs.Marks as mark;
+ghost use Rattle.lapin_acker.specs.Switches.{voided};
+ghost use Rattle.lapin_consumer.specs.Ackers.{ackers_on};
+ghost use Rattle.lapin_consumer.specs.Kept.{HasRoom, HasEnds};
+
+use crate::seat::Seat;
+use crate::serving::{
+    cancel_if_idle, end_all, finish, give_delegate, hand, make_all_end_rooms, make_end_rooms,
+    make_room, poll, start_cancels, void_all,
+};
+use lapin_acker::Switches;
+use lapin_types::{Delivery, DeliveryResult, Error, Job, NoMemory, ShortString};
+use std::alloc::Global;
+use std::collections::VecDeque;
+use std::marker::Model;
+
+/// The seats of all consumers, and the jobs. Contracts see a `Roster`, and the room beside it.
+#[derive(Drop)]
+pub(crate) struct Hall {
+    seats: Vec<Seat>,
+    jobs: VecDeque<Job>,
+}
+
+impl Model for Hall {
+    ghost use Rattle.std.specs.Prelude.{◌-◌, map};
+    ghost use Rattle.std.specs.VecDeque.{deque_len, deque_capacity};
+    ghost use Rattle.lapin_consumer.specs.Kept.{Kept};
+    ghost use Rattle.lapin_consumer.specs.Codes.{kept_code};
+
+    ghost Value = { Kept };
+
+    ghost coded = { kept_code };
+
+    ghost view = { λ a. record {
+      roster = record { consumers = map (λ s. s.consumer) a.seats.items; jobs = a.jobs.items };
+      rooms = map (λ s. s.spare) a.seats.items;
+      spare = deque_capacity a.jobs - deque_len a.jobs;
+    } };
+}
+
+impl Hall {
+    /// No consumer. It takes no memory yet.
+    pub(crate) fn new(alloc: Global) -> Hall
+        ensures { result.roster ≡ empty_roster }
+    {
+        Hall {
+            seats: Vec::new(alloc),
+            jobs: VecDeque::new(alloc),
+        }
+    }
+
+    /// The place of a consumer, if the number was given.
+    pub(crate) fn place(&self, consumer: u64) -> Option<usize>
+        ensures none { IfNone result (consumer_at consumer self.now.roster ≡ None) }
+        ensures some { IfSome result (λ p. (consumer ≡ suc p) × (p < length self.now.roster.consumers)) }
+    {
+        let place = consumer.checked_sub(1)?;
+        if place >= self.seats.len() as u64 {
+            return None;
+        }
+        Some(place as usize)
+    }
+
+    /// How many consumers there are.
+    pub(crate) fn count(&self) -> usize
+        ensures { result ≡ length self.now.roster.consumers }
+    {
+        self.seats.len()
+    }
+
+    /// The number of the consumer at a place.
+    pub(crate) fn number(&self, place: usize) -> u64
+        requires { place < length self.now.roster.consumers }
+        ensures { result ≡ suc place }
+    {
+        let _ = self.seats.len();
+        place as u64 + 1
+    }
+
+    /// Adds a consumer that was just registered.
+    pub(crate) fn add(
+        &mut self,
+        alloc: Global,
+        channel: u16,
+        tag: ShortString,
+        queue: ShortString,
+    ) -> Result<(), NoMemory>
+        ensures ok { OnOk result (self.new.roster ≡ record self.old.roster { consumers = self.old.roster.consumers ++ newcomer channel tag queue ∷ [] }) }
+        ensures err { OnErr result (self.new.roster ≡ self.old.roster) }
+    {
+        self.seats.push(Seat::new(alloc, channel, tag, queue))?;
+        Ok(())
+    }
+
+    /// The consumer at a place is no longer registered, if a place is named.
+    pub(crate) fn unregister(&mut self, gone: Option<usize>)
+        requires { IfSome gone (λ p. p < length self.old.roster.consumers) }
+        ensures { self.new.roster ≡ record self.old.roster { consumers = on_place_if unregistered gone self.old.roster.consumers } }
+    {
+        if let Some(place) = gone {
+            self.seats[place].unregister();
+        }
+    }
+
+    /// The consumer at a place starts to be cancelled, if a place is named.
+    pub(crate) fn start_cancel(&mut self, found: Option<usize>)
+        requires { IfSome found (λ p. p < length self.old.roster.consumers) }
+        ensures change { self.new.roster ≡ record self.old.roster { consumers = on_place_if canceling found self.old.roster.consumers } }
+        ensures rooms { self.new.rooms ≡ self.old.rooms }
+        ensures spare { self.new.spare ≡ self.old.spare }
+    {
+        if let Some(place) = found {
+            self.seats[place].start_cancel();
+        }
+    }
+
+    /// The consumer at a place gets its end, in the room that was made.
+    pub(crate) fn finish(&mut self, place: usize)
+        requires within { place < length self.old.roster.consumers }
+        requires room { HasRoom (suc place) self.old }
+        ensures consumers { self.new.roster.consumers ≡ on_place finished place self.old.roster.consumers }
+        ensures jobs { self.new.roster.jobs ≡ self.old.roster.jobs ++ from_place (offered (suc place) (last_words None)) place self.old.roster.consumers }
+    {
+        let number = self.number(place);
+        finish(number, &mut self.seats[place], &mut self.jobs);
+    }
+
+    /// The registered consumers of a channel get what is due to them as its opening ends. The places are theirs.
+    pub(crate) fn end(
+        &mut self,
+        channel: u16,
+        places: &[usize],
+        error: Option<Error>,
+    ) -> Result<(), NoMemory>
+        requires { places_at (λ _ x. is_on channel x) self.old.roster.consumers ≡ places.now }
+        ensures ok { OnOk result (self.new.roster ≡ after_mark self.old.roster (mark.Ended channel error)) }
+        ensures none { OnOk result (places_at (λ _ x. is_on channel x) self.new.roster.consumers ≡ []) }
+        ensures err { OnErr result (self.new.roster ≡ self.old.roster) }
+        ensures room { HasEnds self.old → IsOk result × HasEnds self.new }
+    {
+        make_end_rooms(channel, places, &mut self.seats, &mut self.jobs)?;
+        end_all(channel, places, &mut self.seats, &mut self.jobs, error);
+        Ok(())
+    }
+
+    /// Makes room for an error and an end of every registered consumer. The roster stays, also where there is no memory.
+    pub(crate) fn reserve_ends(&mut self) -> Result<(), NoMemory>
+        ensures room { OnOk result (HasEnds self.new) }
+        ensures same { self.new.roster ≡ self.old.roster }
+    {
+        make_all_end_rooms(&mut self.seats, &mut self.jobs)?;
+        Ok(())
+    }
+
+    /// The registered consumers of a channel start to be cancelled. The places are theirs.
+    pub(crate) fn start_cancels(&mut self, channel: u16, places: &[usize])
+        requires { places_at (λ _ x. is_on channel x) self.old.roster.consumers ≡ places.now }
+        ensures { self.new.roster ≡ after_mark self.old.roster (mark.CloseAsked channel) }
+    {
+        start_cancels(channel, places, &mut self.seats);
+    }
+
+    /// What the registered consumers of a channel were handed before is void. The places are theirs.
+    pub(crate) fn void(
+        &mut self,
+        channel: u16,
+        places: &[usize],
+        switches: &mut Switches,
+    ) -> Result<(), NoMemory>
+        requires { places_at (λ _ x. is_on channel x) self.old.roster.consumers ≡ places.now }
+        ensures ok { OnOk result (self.new.roster ≡ after_mark self.old.roster (mark.Discarded channel)) }
+        ensures err { OnErr result (self.new.roster ≡ self.old.roster) }
+        ensures void { OnOk result (switches.new.switches ≡ voided (ackers_on channel self.old.roster.consumers) switches.old.switches) }
+        ensures same { OnErr result (switches.new.switches ≡ switches.old.switches) }
+    {
+        self.jobs.reserve(places.len())?;
+        void_all(channel, places, &mut self.seats, &mut self.jobs, switches);
+        Ok(())
+    }
+
+    pub(crate) fn registered(&self, consumer: u64) -> bool
+        ensures { result ≡ is_registered consumer self.now.roster }
+    {
+        match self.place(consumer) {
+            Some(place) => self.seats[place].is_registered(),
+            None => false,
+        }
+    }
+
+    pub(crate) fn poll(&mut self, consumer: u64) -> Result<Option<DeliveryResult>, Error>
+        ensures answer { result ≡ answered (consumer_at consumer self.old.roster) }
+        ensures polled { self.new.roster ≡ after_mark self.old.roster (mark.Polled consumer) }
+    {
+        let Some(place) = self.place(consumer) else {
+            return Err(Error::UnknownTicket);
+        };
+        Ok(poll(&mut self.seats[place]))
+    }
+
+    pub(crate) fn next_job(&mut self) -> Option<Job>
+        ensures job { result ≡ slice_get self.old.roster.jobs 0 }
+        ensures rest { self.new.roster ≡ after_mark self.old.roster mark.JobAsked }
+    {
+        self.jobs.pop_front()
+    }
+
+    /// Makes room for the next thing that a consumer is handed. The roster stays, also where there is no memory.
+    pub(crate) fn reserve(&mut self, consumer: u64) -> Result<(), NoMemory>
+        ensures room { OnOk result (HasRoom consumer self.new) }
+        ensures same { self.new.roster ≡ self.old.roster }
+        ensures succeeds { HasRoom consumer self.old → IsOk result }
+    {
+        let Some(place) = self.place(consumer) else {
+            return Ok(());
+        };
+        make_room(&mut self.seats[place], &mut self.jobs, 1)?;
+        Ok(())
+    }
+
+    /// A delivery is whole: it goes to its consumer, in the room that was made.
+    pub(crate) fn deliver(&mut self, consumer: u64, delivery: Delivery)
+        requires registered { is_registered consumer self.old.roster ≡ true }
+        requires room { HasRoom consumer self.old }
+        ensures { self.new.roster ≡ after_mark self.old.roster (mark.Completed consumer delivery) }
+    {
+        let Some(place) = self.place(consumer) else {
+            unreachable!()
+        };
+        hand(
+            consumer,
+            &mut self.seats[place],
+            &mut self.jobs,
+            Ok(Some(delivery)),
+        );
+    }
+
+    /// A consumer is given a delegate: what is queued becomes jobs, in order.
+    pub(crate) fn delegate(&mut self, consumer: u64) -> Result<(), Error>
+        ensures unknown { (result ≡ Err Error.UnknownTicket) ↔ (consumer_at consumer self.old.roster ≡ None) }
+        ensures ok { OnOk result (self.new.roster ≡ after_mark self.old.roster (mark.Delegated consumer)) }
+        ensures err { OnErr result (self.new.roster ≡ self.old.roster) }
+        ensures cause { IfErr result (λ e. (e ≡ Error.UnknownTicket) ⊎ (e ≡ Error.NoMemory)) }
+    {
+        let Some(place) = self.place(consumer) else {
+            return Err(Error::UnknownTicket);
+        };
+        let count = self.seats[place].count();
+        if self.jobs.reserve(count).is_err() {
+            return Err(Error::NoMemory);
+        }
+        give_delegate(consumer, &mut self.seats[place], &mut self.jobs);
+        Ok(())
+    }
+
+    /// A consumer is let go of. Answers whether it has to be cancelled: it is then so.
+    pub(crate) fn let_go(&mut self, consumer: u64) -> Result<bool, Error>
+        ensures answer { result ≡ let_go_answer (consumer_at consumer self.old.roster) }
+        ensures change { self.new.roster ≡ after_mark self.old.roster (mark.LetGo consumer) }
+    {
+        let Some(place) = self.place(consumer) else {
+            return Err(Error::UnknownTicket);
+        };
+        Ok(cancel_if_idle(&mut self.seats[place]))
+    }
+
+    pub(crate) fn channel(&self, consumer: u64) -> Option<u16>
+        ensures { result ≡ option_map (λ x. x.channel) (consumer_at consumer self.now.roster) }
+    {
+        match self.place(consumer) {
+            Some(place) => Some(self.seats[place].channel()),
+            None => None,
+        }
+    }
+
+    pub(crate) fn tag(&self, consumer: u64) -> Option<&ShortString>
+        ensures { option_copied result ≡ option_map (λ x. x.tag) (consumer_at consumer self.now.roster) }
+    {
+        match self.place(consumer) {
+            Some(place) => Some(self.seats[place].tag()),
+            None => None,
+        }
+    }
+
+    pub(crate) fn queue(&self, consumer: u64) -> Option<&ShortString>
+        ensures { option_copied result ≡ option_map (λ x. x.queue) (consumer_at consumer self.now.roster) }
+    {
+        match self.place(consumer) {
+            Some(place) => Some(self.seats[place].queue()),
+            None => None,
+        }
+    }
+
+    /// Whether the consumer at a place has the tag.
+    pub(crate) fn has_tag(&self, place: usize, tag: &str) -> bool
+        ensures { result ≡ is_tagged tag.now place self.now.roster.consumers }
+    {
+        match self.seats.get(place) {
+            Some(seat) => seat.has_tag(tag),
+            None => false,
+        }
+    }
+
+    /// Whether the consumer at a place is registered on the channel under the tag.
+    pub(crate) fn is_under(&self, place: usize, channel: u16, tag: &str) -> bool
+        ensures { result ≡ is_under_at channel tag.now place self.now.roster.consumers }
+    {
+        match self.seats.get(place) {
+            Some(seat) => seat.is_under(channel, tag),
+            None => false,
+        }
+    }
+
+    /// Among places in order of their consumers' tags, where the first with this tag stands, or would stand.
+    pub(crate) fn rank(&self, places: &[usize], tag: &str) -> usize {
+        places.partition_point(|place| self.is_before(*place, tag))
+    }
+
+    fn is_before(&self, place: usize, tag: &str) -> bool {
+        match self.seats.get(place) {
+            Some(seat) => seat.is_before(tag),
+            None => false,
+        }
+    }
+
+    /// The first of the places whose consumer has the tag.
+    pub(crate) fn first_tagged(&self, places: &[usize], tag: &str) -> Option<usize>
+        ensures { result ≡ find (λ p. is_tagged tag.now p self.now.roster.consumers) places.now }
+    {
+        places
+            .iter()
+            .copied()
+            .find(|place| self.has_tag(*place, tag))
+    }
+}
