@@ -1,12 +1,13 @@
 -- The channel with requests and contents keeps its invariant.
-use Rattle.std.proofs.Common.{◌≡◌, ℕ, Bool, true, false, cond, ◌&&◌, List, [], ◌∷◌, ◌++◌, map, refl, sym, ◌∙◌, ap, ap₂, subst, append_assoc, append-nil, Option, Some, None}
-use Rattle.lapin_pairs.specs.Machine.{Up, UOther, Down, DOpenOk, DClose, DCloseOk, DOther, Sess, Closed, Opening, Opened, Closing, Crossed, Refused, Peer, Free, Asked, Open, Leaving, Stopping, StoppingOwes, StoppingAnswered, Broken, has_close, read, may_send, sent, state_after, is_broken, is_refused}
-use Rattle.lapin_pairs.specs.Channel.{Content, Idle, Begun, Left as Rest, UpF, FOpen, FClose, FCloseOk, FTell, FSelect, FAsk, FPublish, FHeader, FBody, DownF, BOpenOk, BClose, BCloseOk, BTell, BStart, BReply, BHeader, BBody, BSettle, kind_up, kind_down, Data, none_kept, publish_frames, reading_in, reading_after, World2, Step2, CallOpen2, CallClose2, CallSelect2, Next2, Read2, Deliver2, CallAsk2, Begin2, Send2, left_after, reads2, hands2, delivers2, sends2, happens2, run2, start2, erase, is_none}
-use Rattle.lapin_pairs.specs.Every.{One, Step1, Call1, Send1, Next1, Read1, Deliver1, Left, Drop, Push, has_any, left_one, called1, calls1, hands1, reads1, delivers1, happens1, start1}
-use Rattle.lapin_pairs.specs.Asking.{U2, Plain, SelectAsk, flat, flats, plains, S2, B2, K2, KOpen, KClose, KSelect, KBegin, call_at, call2, needs2, take2, left_at, left2, read_one, read_flat, reads2b, may2, gives2, asking, to2}
-use Rattle.lapin_pairs.proofs.Pairs.{Good, tight, reads, reads-append, broken-stays, may_star, sent_star, unbroken, whole, real, star, live, all_read, commutes, not_refused}
-use Rattle.lapin_pairs.proofs.Erase.{map-append, and_left, and_right}
-use Rattle.lapin_pairs.proofs.Data.{read_all, serves, off_sent, none_serving, read_still, after_some, still_on, Whole, whole_keeps, whole_run, whole_start, same_way, no_data_refused}
+use Rattle.std.proofs.Common.{◌≡◌, Bool, true, false, cond, ◌&&◌, List, [], ◌∷◌, ◌++◌, map, refl, sym, ◌∙◌, ap, ap₂, subst, append_assoc, append-nil, Option, Some, None}
+use Rattle.lapin_pairs.specs.Machine.{Down, DOpenOk, DClose, DCloseOk, Sess, Closed, Opening, Opened, Closing, Crossed, Refused, Peer, Asked, Open, Leaving, Stopping, StoppingOwes, StoppingAnswered, Broken, has_close, read, may_send, is_broken, is_refused}
+use Rattle.lapin_pairs.specs.Channel.{Content, Idle, Begun, Left as Rest, UpF, FOpen, FClose, FCloseOk, FSelect, DownF, BClose, BCloseOk, kind_up, kind_down, publish_frames, reading_in, reading_after, World2, Step2, CallOpen2, CallClose2, CallSelect2, Next2, Read2, Deliver2, CallAsk2, Begin2, Send2, left_after, hands2, delivers2, sends2, happens2, run2, erase, is_none}
+use Rattle.lapin_pairs.specs.Every.{One, Step1, Call1, Send1, Next1, Read1, Deliver1, has_any, left_one, called1, calls1, hands1, reads1, delivers1, happens1}
+use Rattle.lapin_pairs.specs.Asking.{U2, Plain, SelectAsk, flat, flats, plains, S2, B2, K2, KOpen, KClose, KSelect, KBegin, call_at, needs2, left_at, read_one, read_flat, reads2b, may2, gives2, asking, to2}
+use Rattle.lapin_pairs.proofs.Pairs.{tight, reads, reads-append, broken-stays, may_star, sent_star, unbroken, whole, real, star, live, all_read, commutes, not_refused}
+use Rattle.lapin_pairs.proofs.Erase.{map-append, and_left}
+use Rattle.lapin_pairs.proofs.Data.{read_all, serves, read_still, still_on}
+use Rattle.lapin_pairs.proofs.Whole.{off_sent, none_serving, after_some, Whole, whole_keeps, whole_run, whole_start, same_way, no_data_refused}
 use Rattle.lapin_pairs.proofs.Every.{Fact}
 
 pub flats-append : (us vs : List U2) → flats (us ++ vs) ≡ flats us ++ flats vs

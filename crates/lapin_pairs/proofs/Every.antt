@@ -1,9 +1,9 @@
 -- What each step of one channel keeps, every channel of a joined run keeps: for any machine of one channel and any such fact P.
 use Rattle.std.proofs.Common.{◌≡◌, ℕ, Bool, true, false, cond, ◌==◌, ◌&&◌, List, [], ◌∷◌, ◌++◌, map, refl, sym, ◌∙◌, ap, subst, append_assoc, append-nil, Option, Some, None, ◌⊎◌, inl, inr, eq-eqb}
 use Rattle.std.proofs.lemmas.Bool.Decides.{eqb_tells}
-use Rattle.lapin_pairs.specs.Machine.{Up, UOpen, UClose, UCloseOk, UOther, Down, DOpenOk, DClose, DCloseOk, DOther, Sess, Closed, Opening, Opened, Closing, Crossed, Refused, Peer, Free, Asked, Open, Leaving, Stopping, StoppingOwes, StoppingAnswered, Broken, World, has_close, read, may_send, sent, state_after, unsent_after, is_broken, is_refused}
-use Rattle.lapin_pairs.specs.Every.{put, Left, Drop, Push, Channel, One, Step1, Call1, Send1, Next1, Read1, Deliver1, has_any, left_one, called1, calls1, hands1, reads1, delivers1, happens1, start1, UpOn, OnU, CloseU, CloseOkU, DownOn, ToD, CloseD, CloseOkD, conn_u, conn_d, of_u, of_d, off_u, on_all, left_all, conn_left, All, StepA, CallA, SendA, HangUpA, NextA, ReadA, DeliverA, LoseA, called_a, calls_a, hangs_a, hands_a, sides_after, reads_a, received_a, delivers_a, may_a, sides_sent, sends_a, lost_a, happens_a, run_a, start_a, conn_a, chan_a}
-use Rattle.lapin_pairs.proofs.Pairs.{Good, all_read, keeps_close, keeps_next, keeps_read, keeps_deliver, keeps_send, not_refused, not_broken}
+use Rattle.lapin_pairs.specs.Machine.{Up, UCloseOk, DCloseOk, Sess, Closed, Opening, Opened, Closing, Crossed, Refused, Peer, Free, Asked, Open, Leaving, Stopping, StoppingOwes, StoppingAnswered, Broken, has_close, read, may_send, sent, state_after, unsent_after}
+use Rattle.lapin_pairs.specs.Every.{Left, Drop, Push, Channel, One, Step1, Call1, Send1, Next1, Read1, Deliver1, has_any, left_one, called1, calls1, hands1, reads1, delivers1, happens1, start1, UpOn, OnU, CloseU, CloseOkU, DownOn, ToD, CloseD, CloseOkD, conn_u, conn_d, of_u, of_d, off_u, on_all, left_all, conn_left, All, StepA, CallA, SendA, HangUpA, NextA, ReadA, DeliverA, LoseA, called_a, calls_a, hangs_a, hands_a, sides_after, reads_a, received_a, delivers_a, may_a, sides_sent, sends_a, happens_a, run_a, start_a, conn_a, chan_a}
+use Rattle.lapin_pairs.proofs.Pairs.{Good, all_read, keeps_close, keeps_next, keeps_read, keeps_deliver, keeps_send}
 use Rattle.lapin_pairs.proofs.Erase.{map-append}
 use Rattle.lapin_pairs.proofs.Others.{others, others-append, opened_others, swap, no_ok_opened, serving_back}
 

@@ -1,6 +1,8 @@
 pub mod Pairs
 pub mod Erase
 pub mod Data
+pub mod Whole
+pub mod Counted
 pub mod Tags
 pub mod Others
 pub mod Every

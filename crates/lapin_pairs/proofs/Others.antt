@@ -1,6 +1,6 @@
 -- The connection, to which every frame of a channel is one like any other.
 use Rattle.std.proofs.Common.{◌≡◌, Bool, true, false, List, [], ◌∷◌, ◌++◌, refl, ◌∙◌}
-use Rattle.lapin_pairs.specs.Machine.{Up, UOpen, UClose, UCloseOk, UOther, Down, DCloseOk, Sess, Opened, Peer, Free, Asked, Open, Leaving, Stopping, StoppingOwes, StoppingAnswered, Broken, World, read}
+use Rattle.lapin_pairs.specs.Machine.{Up, UOpen, UCloseOk, UOther, Down, DCloseOk, Opened, Peer, Free, Open, Stopping, StoppingOwes, World, read}
 use Rattle.lapin_pairs.proofs.Pairs.{Good, tight, reads, reads-append, shape_of, is_dead, accepts, not_dead, live}
 
 -- to the connection: frames of channels only

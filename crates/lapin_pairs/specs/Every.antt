@@ -1,6 +1,6 @@
 -- All channels of one connection, over any machine of one channel.
 use Rattle.std.specs.Prelude.{ℕ, ◌==◌, Bool, true, false, ◌&&◌, List, [], ◌∷◌, ◌++◌, map, if◌then◌else◌, Option, Some, None}
-use Rattle.lapin_pairs.specs.Machine.{Up, UOpen, UClose, UCloseOk, UOther, Down, DClose, DCloseOk, DOther, Sess, Closed, Opening, Opened, Closing, Crossed, Peer, Free, Open, World, has_close, read, may_send, sent, state_after}
+use Rattle.lapin_pairs.specs.Machine.{Up, UClose, UCloseOk, UOther, Down, DClose, DCloseOk, DOther, Sess, Closed, Opening, Opened, Closing, Peer, Free, Open, World, has_close, read, may_send, sent, state_after}
 
 -- the function with this at the channel
 abbrev pub put : {A : Type 0} → ℕ → A → (ℕ → A) → ℕ → A
