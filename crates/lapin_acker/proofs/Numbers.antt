@@ -1,5 +1,5 @@
 -- What a change of one acker does to the list.
-use Rattle.std.proofs.Common.{◌≡◌, ◌≢◌, ℕ, zero, suc, ◌+◌, ◌<◌, ◌≤◌, ◌==◌, Bool, true, false, cond, ◌||◌, List, [], ◌∷◌, ◌++◌, map, take, drop, length, Option, Some, None, refl, sym, ◌∙◌, ap, subst, arith, ◌-◌, slice_get, slice_set, get_or, ◌⊎◌, inl, inr, ne_eqb}
+use Rattle.std.proofs.Common.{◌≡◌, ◌≢◌, ℕ, zero, suc, ◌+◌, ◌<◌, ◌≤◌, ◌==◌, Bool, true, false, cond, ◌||◌, List, [], ◌∷◌, ◌++◌, map, take, drop, length, Some, refl, sym, ◌∙◌, ap, subst, arith, ◌-◌, slice_get, slice_set, get_or, ◌⊎◌, inl, inr, ne_eqb}
 use Rattle.std.proofs.lemmas.Bool.Decides.{eqb_tells}
 use Rattle.lapin_acker.specs.declared.switch.Switch.{Switch}
 use Rattle.lapin_acker.specs.declared.switch.Switch.TheVariants as switch
@@ -90,7 +90,7 @@ over-step f xs ys i d t lt len done is = ap (slice_set ys i) is ∙ map_over_mor
 
 -- ---- in the code's words
 
-at-get_or : (xs : List Switch) (p : ℕ) (s : Switch) → p < length xs → s ≡ get_or xs p s → slice_get xs p ≡ Some s
+pub at-get_or : (xs : List Switch) (p : ℕ) (s : Switch) → p < length xs → s ≡ get_or xs p s → slice_get xs p ≡ Some s
 at-get_or [] p s within is = absurd (omega arith)
 at-get_or (x ∷ xs) zero s within is = ap Some (sym is)
 at-get_or (x ∷ xs) (suc p) s within is = at-get_or xs p s (omega arith) is

@@ -2,3 +2,4 @@ pub mod Marks
 pub mod Switches
 pub mod Readings
 pub mod Verdicts
+pub mod Store

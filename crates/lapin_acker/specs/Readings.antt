@@ -1,5 +1,5 @@
 -- The ackers, read off the marks of a whole history.
-use Rattle.std.specs.Prelude.{◌≡◌, ℕ, suc, ◌==◌, ◌+◌, Bool, true, false, if◌then◌else◌, List, [], ◌∷◌}
+use Rattle.std.specs.Prelude.{◌≡◌, ℕ, suc, ◌==◌, ◌+◌, Bool, false, if◌then◌else◌, List, [], ◌∷◌}
 use Rattle.std.specs.List.{list_any}
 use Rattle.lapin_acker.specs.declared.switch.Switch.{Switch}
 use Rattle.lapin_acker.specs.declared.switch.Switch.TheVariants as switch

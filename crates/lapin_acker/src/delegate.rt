@@ -27,6 +27,37 @@ pub trait ConsumerDelegate: Send + Sync + Drop {
     fn drop_prefetched_messages(&self) {}
 }
 
+/// A function that answers for a delegate.
+pub type Handler = Box<dyn Fn(&DeliveryResult) -> Verdict + Send + Sync + Drop>;
+
+/// A delegate that answers by a function. It keeps the box, since what may be said of a function in a field is said of a box alone.
+#[derive(Drop)]
+pub struct FnDelegate {
+    /// It may be called on every delivery, end and error.
+    handler: Handler,
+    ghost callable: { Handler.IsAlwaysCallable handler },
+}
+
+impl FnDelegate {
+    /// The delegate that hands each delivery, end or error to the handler, and answers what it answers.
+    pub fn new(handler: Handler) -> FnDelegate
+        requires { Handler.IsAlwaysCallable handler }
+        ensures { result.handler ≡ handler }
+    {
+        FnDelegate { handler }
+    }
+}
+
+impl ConsumerDelegate for FnDelegate {
+    ghost use Rattle.std.specs.Fn.{FnReturnsAt};
+
+    ghost may = { λ d given verdict. FnReturnsAt Handler.Fn d.handler given verdict };
+
+    fn on_new_delivery(&self, delivery: &DeliveryResult) -> Verdict {
+        (self.handler)(delivery)
+    }
+}
+
 /// A delegate that is kept for its consumer.
 pub type BoxedDelegate = Box<dyn ConsumerDelegate + Send + Sync>;
 

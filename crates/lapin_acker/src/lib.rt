@@ -10,7 +10,7 @@ mod switch;
 mod switches;
 mod verdict;
 
-pub use delegate::{BoxedDelegate, ConsumerDelegate, Delegates};
+pub use delegate::{BoxedDelegate, ConsumerDelegate, Delegates, FnDelegate, Handler};
 pub use switch::Switch;
 pub use switches::Switches;
 pub use verdict::Verdict;

@@ -1,27 +1,49 @@
 //! The ackers of a session: each is used at most once, and not once its opening ended or what it acknowledges became void.
+//!
+//! What an end says of all ackers of its channel stands once, beside the ackers: each is seen with the last end of its channel. So an
+//! end costs the same whatever was given. Ackers at the front whose openings ended are let go, two as each further one is added, so
+//! that memory is held by the openings that live.
 
-ghost use Rattle.std.specs.Prelude.{◌≡◌, ◌+◌, ◌<◌, ◌^◌, ◌↔◌, ◌⊎◌, [], Err, OnOk, OnErr, IsOk, IfOk, IfErr, length, map};
-ghost use Rattle.lapin_acker.specs.Switches.{switch_at, usable_as, is_usable, is_over, after_mark, used as used_of, over_on as over_of};
+ghost use Rattle.std.specs.Prelude.{◌≡◌, ℕ, ◌+◌, ◌-◌, ◌<◌, ◌≤◌, ◌^◌, ◌↔◌, ◌⊎◌, ◌∷◌, ◌++◌, [], Err, Some, None, IsTrue, if◌then◌else◌, slice_get, MatchOption, OnOk, OnErr, IsOk, IfOk, IfErr, length, map, vec_len};
+ghost use Rattle.std.specs.VecDeque.{deque_len, deque_capacity};
+ghost use Rattle.lapin_acker.specs.Switches.{switch_at, usable_as, is_usable, is_over as is_over_of, after_mark, used as used_of, over_on as over_of};
 ghost use Rattle.lapin_acker.specs.Marks as mark;
+ghost use Rattle.lapin_acker.specs.Store.{end_of as end_of_lem, seen as seen_lem, shown, room_of};
+ghost use Rattle.lapin_acker.specs.declared.switch.Switch.TheVariants as switch;
 
 use crate::switch::Switch;
 use lapin_types::{Error, NoMemory};
-use std::alloc::Global;
+use std::alloc::{AllocError, Global};
+use std::collections::VecDeque;
 use std::marker::Model;
+
+/// How many channel numbers there are.
+const CHANNELS: usize = 65536;
 
 /// The ackers of a session, numbered from 1. Contracts see one switch a number, and the room beside them.
 #[derive(Drop)]
 pub struct Switches {
-    switches: Vec<Switch>,
+    // How many at the front were let go: the openings of all of them ended.
+    let_go: u64,
+    cells: VecDeque<Switch>,
+    // By channel: an acker of the channel with a number up to this one is over. It is made with the first acker, or room for one.
+    ends: Vec<u64>,
 }
 
 impl Model for Switches {
-    ghost use Rattle.std.specs.Prelude.{◌-◌, vec_len, vec_capacity};
+    ghost use Rattle.std.specs.Prelude.{◌≡◌, ℕ, ◌+◌, ◌-◌, ◌<◌, ◌≤◌, ◌^◌, vec_len};
+    ghost use Rattle.std.specs.VecDeque.{deque_len, deque_capacity};
     ghost use Rattle.lapin_acker.specs.Switches.{Board};
+    ghost use Rattle.lapin_acker.specs.Store.{end_of, shown, room_of};
 
     ghost Value = { Board };
 
-    ghost view = { λ a. record { switches = a.switches.items; spare = vec_capacity a.switches - vec_len a.switches } };
+    ghost view = { λ a. record {
+      switches = shown a.let_go a.ends.items a.cells.items;
+      spare = room_of (vec_len a.ends) (deque_capacity a.cells - deque_len a.cells);
+    } };
+
+    ghost invariant = { λ a. (a.let_go + deque_len a.cells < 2 ^ 64) × (0 < deque_len a.cells → vec_len a.ends ≡ 65536) × ((c : ℕ) → end_of c a.ends.items ≤ a.let_go + deque_len a.cells) };
 }
 
 impl Switches {
@@ -31,7 +53,9 @@ impl Switches {
         ensures succeeds { IsOk result }
     {
         Ok(Switches {
-            switches: Vec::new(alloc),
+            let_go: 0,
+            cells: VecDeque::new(alloc),
+            ends: Vec::new(alloc),
         })
     }
 
@@ -40,7 +64,7 @@ impl Switches {
         ensures room { OnOk result (0 < self.new.spare) }
         ensures same { self.new.switches ≡ self.old.switches }
     {
-        self.switches.reserve(1)?;
+        make_room(&mut self.let_go, &mut self.cells, &mut self.ends)?;
         Ok(())
     }
 
@@ -66,15 +90,14 @@ impl Switches {
         ensures succeeds { 0 < self.old.spare → length self.old.switches + 1 < 2 ^ 64 → IsOk result }
     {
         let _ = opening;
-        let count = self.switches.len() as u64;
+        let count = self.count();
         if count == u64::MAX {
             return Err(Error::NumbersUsedUp);
         }
-        if self.switches.reserve(1).is_err() {
+        if make_room(&mut self.let_go, &mut self.cells, &mut self.ends).is_err() {
             return Err(Error::NoMemory);
         }
-        self.switches
-            .push_reserved(Switch::Usable(channel, delivery_tag));
+        self.push(channel, delivery_tag);
         Ok(count + 1)
     }
 
@@ -97,7 +120,7 @@ impl Switches {
 
     /// Whether the number was given and its opening ended.
     pub fn ended(&self, number: u64) -> bool
-        ensures { result ≡ is_over (switch_at number self.now.switches) }
+        ensures { result ≡ is_over_of (switch_at number self.now.switches) }
     {
         matches!(self.get(number), Some(Switch::Over))
     }
@@ -116,14 +139,13 @@ impl Switches {
     pub fn void(&mut self, number: u64)
         ensures { self.new.switches ≡ after_mark self.old.switches (mark.Spent number) }
     {
-        let Some(place) = number.checked_sub(1) else {
+        let Some(place) = place_of(self.let_go, number) else {
             return;
         };
-        if place >= self.switches.len() as u64 {
+        if place >= self.cells.len() {
             return;
         }
-        let place = place as usize;
-        self.switches[place] = used(self.switches[place]);
+        self.cells[place] = used(self.cells[place]);
     }
 
     /// The opening of a channel ended: its ackers are over.
@@ -136,18 +158,56 @@ impl Switches {
     fn turn_over(&mut self, channel: u16)
         ensures { self.new.switches ≡ map (over_of channel) self.old.switches }
     {
-        over_all(channel, &mut self.switches);
+        let count = self.count();
+        if usize::from(channel) < self.ends.len() {
+            self.ends[usize::from(channel)] = count;
+        }
+    }
+
+    // How many ackers were given.
+    fn count(&self) -> u64
+        ensures { result ≡ length self.now.switches }
+    {
+        self.let_go + self.cells.len() as u64
+    }
+
+    // Adds an acker, in the room that was made.
+    fn push(&mut self, channel: u16, delivery_tag: u64)
+        requires room { 0 < self.old.spare }
+        requires fits { length self.old.switches + 1 < 2 ^ 64 }
+        ensures { self.new.switches ≡ self.old.switches ++ switch.Usable channel delivery_tag ∷ [] }
+    {
+        self.cells
+            .push_back_reserved(Switch::Usable(channel, delivery_tag));
     }
 
     fn get(&self, number: u64) -> Option<Switch>
         ensures { result ≡ switch_at number self.now.switches }
     {
-        let place = number.checked_sub(1)?;
-        if place >= self.switches.len() as u64 {
-            return None;
+        if number <= self.let_go {
+            return over_if(number > 0);
         }
-        self.switches.get(place as usize).copied()
+        let place = (number - self.let_go - 1) as usize;
+        match self.cells.get(place) {
+            Some(cell) => Some(seen(&self.ends, number, *cell)),
+            None => None,
+        }
     }
+}
+
+// The acker of a number that was let go; none has the number 0.
+fn over_if(given: bool) -> Option<Switch>
+    ensures { result ≡ (if given then Some Switch.Over else None) }
+{
+    if given { Some(Switch::Over) } else { None }
+}
+
+// The place of a number behind those that were let go.
+fn place_of(let_go: u64, number: u64) -> Option<usize>
+    ensures { MatchOption result (number ≤ let_go) (λ place. number ≡ let_go + place + 1) }
+{
+    let place = number.checked_sub(let_go)?.checked_sub(1)?;
+    Some(place as usize)
 }
 
 fn used(switch: Switch) -> Switch
@@ -159,19 +219,83 @@ fn used(switch: Switch) -> Switch
     }
 }
 
-fn over_on(channel: u16, switch: Switch) -> Switch
-    ensures { result ≡ over_of channel switch }
+// The last number that is over on a channel.
+fn end_of(ends: &[u64], channel: u16) -> u64
+    ensures { result ≡ end_of_lem channel ends.now }
 {
-    match switch {
-        Switch::Usable(of, _) | Switch::Used(of) if of == channel => Switch::Over,
+    match ends.get(usize::from(channel)) {
+        Some(end) => *end,
+        None => 0,
+    }
+}
+
+// The acker of a number as its cell and the ends tell it.
+fn seen(ends: &[u64], number: u64, cell: Switch) -> Switch
+    ensures { result ≡ seen_lem ends.now number cell }
+{
+    match cell {
+        Switch::Usable(channel, _) | Switch::Used(channel) if number <= end_of(ends, channel) => {
+            Switch::Over
+        }
         other => other,
     }
 }
 
-fn over_all(channel: u16, switches: &mut [Switch])
-    ensures { switches.new ≡ map (over_of channel) switches.old }
+// Lets the first go, where its opening ended.
+fn let_go_one(gone: &mut u64, cells: &mut VecDeque<Switch>, ends: &[u64])
+    requires { gone.old + deque_len cells.old < 2 ^ 64 }
+    ensures shown { shown gone.new ends.now cells.new.items ≡ shown gone.old ends.now cells.old.items }
+    ensures count { gone.new + deque_len cells.new ≡ gone.old + deque_len cells.old }
+    ensures fewer { deque_len cells.new ≤ deque_len cells.old }
+    ensures room { deque_capacity cells.old - deque_len cells.old ≤ deque_capacity cells.new - deque_len cells.new }
 {
-    for switch in switches.iter_mut() {
-        *switch = over_on(channel, *switch);
+    if is_first_over(*gone, cells, ends) {
+        let _ = cells.pop_front();
+        *gone += 1;
     }
+}
+
+fn is_first_over(gone: u64, cells: &VecDeque<Switch>, ends: &[u64]) -> bool
+    requires { gone + deque_len cells.now < 2 ^ 64 }
+    ensures over { IsTrue result → (s : _) → slice_get cells.now.items 0 ≡ Some s → seen_lem ends.now (gone + 1) s ≡ switch.Over }
+    ensures some { IsTrue result → 0 < deque_len cells.now }
+{
+    match cells.front() {
+        Some(cell) => matches!(seen(ends, gone + 1, *cell), Switch::Over),
+        None => false,
+    }
+}
+
+// Makes the table of ends, where it is not there.
+fn make_table(ends: &mut Vec<u64>) -> Result<(), AllocError>
+    ensures made { OnOk result (vec_len ends.new ≡ 65536) }
+    ensures kept { vec_len ends.old ≡ 65536 → IsOk result × (ends.new.items ≡ ends.old.items) }
+    ensures bound { (m : ℕ) → ((c : ℕ) → end_of_lem c ends.old.items ≤ m) → (c : ℕ) → end_of_lem c ends.new.items ≤ m }
+{
+    if ends.len() == CHANNELS {
+        return Ok(());
+    }
+    ends.clear();
+    ends.resize(CHANNELS, 0)
+}
+
+// Makes room for one more, and lets two go where their openings ended.
+fn make_room(
+    gone: &mut u64,
+    cells: &mut VecDeque<Switch>,
+    ends: &mut Vec<u64>,
+) -> Result<(), AllocError>
+    requires fits { gone.old + deque_len cells.old < 2 ^ 64 }
+    requires table { 0 < deque_len cells.old → vec_len ends.old ≡ 65536 }
+    ensures shown { shown gone.new ends.new.items cells.new.items ≡ shown gone.old ends.old.items cells.old.items }
+    ensures count { gone.new + deque_len cells.new ≡ gone.old + deque_len cells.old }
+    ensures table { 0 < deque_len cells.new → vec_len ends.new ≡ 65536 }
+    ensures bound { (m : ℕ) → ((c : ℕ) → end_of_lem c ends.old.items ≤ m) → (c : ℕ) → end_of_lem c ends.new.items ≤ m }
+    ensures room { OnOk result (0 < room_of (vec_len ends.new) (deque_capacity cells.new - deque_len cells.new)) }
+    ensures succeeds { 0 < room_of (vec_len ends.old) (deque_capacity cells.old - deque_len cells.old) → IsOk result }
+{
+    make_table(ends)?;
+    let_go_one(gone, cells, ends);
+    let_go_one(gone, cells, ends);
+    cells.reserve(1)
 }

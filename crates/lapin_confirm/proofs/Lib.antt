@@ -13,5 +13,9 @@ pub mod Closing
 pub mod Spans
 pub mod Places
 pub mod Trays
-pub mod Attaching
+pub mod Attachments
 pub mod Covered
+pub mod Roomy
+pub mod Asides
+pub mod Sweeping
+pub mod Reading

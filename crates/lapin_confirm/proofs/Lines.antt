@@ -1,26 +1,34 @@
 -- What callers see of the ledgers.
-use Rattle.std.proofs.Common.{◌≡◌, ℕ, ◌-◌, ◌<◌, true, false, List, [], ◌∷◌, ◌++◌, Option, Some, None, refl, sym, ◌∙◌, ap, arith}
+use Rattle.std.proofs.Common.{subst, cond, ◌≡◌, ℕ, true, false, List, [], ◌∷◌, ◌++◌, Option, Some, None, refl, sym, ◌∙◌, ap}
+use Rattle.std.specs.Prelude.{Result, Ok, Err, OnErr}
 use Rattle.std.specs.Option.{option_map, IsSome}
 use Rattle.std.proofs.lemmas.List.{map_push}
-use Rattle.lapin_history.specs.Words.{with_channel}
+use Rattle.lapin_history.specs.Words.{is_some, with_channel}
 use Rattle.lapin_tables.specs.ByChannel.{at_channel, on_channel}
-use Rattle.lapin_tables.proofs.Channels.{at-on_same, at-values, on-values, on-absent, on-known, on-same}
+use Rattle.lapin_tables.proofs.Channels.{at-values, on-values, on-absent, on-known, on-same}
+use Rattle.lapin_confirm.specs.declared.home.Home.{Home}
 use Rattle.lapin_confirm.specs.declared.ledger.Ledger.{Ledger}
 use Rattle.lapin_confirm.specs.Book.{Line, Book, fresh_line, next_line, tag_for, cell_with, lines_with, left}
-use Rattle.lapin_confirm.specs.Ties.{IsFresh, line_of, line_after, lines_of, room_of, rooms_of}
+use Rattle.lapin_history.specs.Letters.{Letters}
+use Rattle.lapin_confirm.specs.Post.{Post}
+use Rattle.lapin_confirm.specs.Ties.{IsFresh, line_of, line_after, lines_of}
 use Rattle.lapin_tables.specs.Numbered.{with_under}
-use Rattle.lapin_confirm.specs.Kept.{HasSome}
 use Rattle.lapin_confirm.specs.declared.cell.Cell.{Cell}
 
 pub line-at : (c : ℕ) (es : List (ℕ × Ledger)) (o : Option Ledger) → at_channel c es ≡ o → at_channel c (lines_of es) ≡ option_map line_of o
 line-at c es o is = at-values line_of c es ∙ ap (option_map line_of) is
 
-pub room-at : (c : ℕ) (es : List (ℕ × Ledger)) (o : Option Ledger) → at_channel c es ≡ o → at_channel c (rooms_of es) ≡ option_map room_of o
-room-at c es o is = at-values room_of c es ∙ ap (option_map room_of) is
-
 -- a channel without a ledger has no line
 pub no-line : (c : ℕ) (es : List (ℕ × Ledger)) → at_channel c es ≡ None → IsSome (at_channel c (lines_of es)) → ⊥
 no-line c es none has = let never : false ≡ true = rw (line-at c es None none) at has in cc
+
+-- and with a line it has one
+pub has-ledger : (c : ℕ) (es : List (ℕ × Ledger)) → IsSome (at_channel c (lines_of es)) → IsSome (at_channel c es)
+has-ledger c es has = by (at_channel c es) refl
+  where
+    by : (o : Option Ledger) → at_channel c es ≡ o → IsSome (at_channel c es)
+    by None none = absurd (no-line c es none has)
+    by (Some l) is = rw is refl
 
 -- and none to change
 pub lines-absent : (c : ℕ) (f : Line → Line) (es : List (ℕ × Ledger)) → at_channel c es ≡ None → on_channel c f (lines_of es) ≡ lines_of es
@@ -48,13 +56,28 @@ lines-again c l k es is line = rw (line-at c es (Some l) is) (on-values line_of 
 pub lines-new : (c : ℕ) (k : Ledger) (es : List (ℕ × Ledger)) → at_channel c es ≡ None → line_of k ≡ fresh_line → lines_of (es ++ (c, k) ∷ []) ≡ with_channel c fresh_line (lines_of es)
 lines-new c k es none line = rw (line-at c es None none) (map_push (λ (e : ℕ × Ledger). (e.0, line_of e.1)) es (c, k) ∙ ap (λ (n : Line). lines_of es ++ (c, n) ∷ []) line)
 
--- ---- books and rooms
+-- in either case
+pub lines-begun : (c : ℕ) (k : Ledger) (es : List (ℕ × Ledger)) → line_of k ≡ fresh_line → lines_of (with_channel c k es) ≡ with_channel c fresh_line (lines_of es)
+lines-begun c k es line = by (at_channel c es) refl
+  where
+    by : (o : Option Ledger) → at_channel c es ≡ o → lines_of (with_channel c k es) ≡ with_channel c fresh_line (lines_of es)
+    by None none = subst (λ b. lines_of (cond b (on_channel c (λ _. k) es) (es ++ (c, k) ∷ [])) ≡ with_channel c fresh_line (lines_of es)) (sym (ap is_some none)) (lines-new c k es none line)
+    by (Some l) is = subst (λ b. lines_of (cond b (on_channel c (λ _. k) es) (es ++ (c, k) ∷ [])) ≡ with_channel c fresh_line (lines_of es)) (sym (ap is_some is)) (lines-again c l k es is line)
+
+-- ---- books
 
 abbrev pub book : List (ℕ × Line) → List (Option Cell) → Book
 book ls cells = record { lines = ls; cells = cells }
 
 pub same-book : (ls ks : List (ℕ × Line)) (cells after : List (Option Cell)) → ls ≡ ks → cells ≡ after → book ls cells ≡ book ks after
 same-book ls ks cells after lines same = rw (lines, same) refl
+
+pub same-post : (b d : Book) (ts us : List (ℕ × Letters)) (hs ks : List (Option Home)) → b ≡ d → ts ≡ us → hs ≡ ks → ◌≡◌ {A = Post} (record { book = b; trays = ts; homes = hs }) (record { book = d; trays = us; homes = ks })
+same-post b d ts us hs ks same trays homes = rw (same, trays, homes) refl
+
+pub on-err : {T E : Type 0} (r : Result T E) (P : Type 0) → P → OnErr r P
+on-err (Ok x) P p = tt
+on-err (Err e) P p = p
 
 pub fresh-line : (l : Ledger) → IsFresh l → line_of l ≡ fresh_line
 fresh-line l fresh = rw (fresh.selected, fresh.tags, fresh.asked, fresh.limit) refl
@@ -66,17 +89,6 @@ same-line l k rest tags =
     let asked : k.asked ≡ l.asked = ap (λ (x : Ledger). x.asked) rest in
     let limit : k.limit ≡ l.limit = ap (λ (x : Ledger). x.limit) rest in
     rw (selected, tags, asked, limit) refl
-
-pub room-on : (c : ℕ) (l k : Ledger) (es : List (ℕ × Ledger)) → at_channel c es ≡ Some l → k.queued < k.tags.spare → HasSome (at_channel c (rooms_of (on_channel c (λ _. k) es)))
-room-on c l k es is room =
-    let there : at_channel c (on_channel c (λ _. k) es) ≡ Some k = at-on_same c (λ _. k) es ∙ ap (option_map (λ _. k)) is in
-    rw (room-at c (on_channel c (λ _. k) es) (Some k) there) (omega arith)
-
-pub room-none : (c : ℕ) (es : List (ℕ × Ledger)) → at_channel c es ≡ None → HasSome (at_channel c (rooms_of es))
-room-none c es none = rw (room-at c es None none) tt
-
-pub room-some : (c : ℕ) (l : Ledger) (es : List (ℕ × Ledger)) → at_channel c es ≡ Some l → HasSome (at_channel c (rooms_of es)) → l.queued < l.tags.spare
-room-some c l es is has = let more : 0 < l.tags.spare - l.queued = rw (room-at c es (Some l) is) at has in omega arith
 
 -- ---- a publish leaves
 

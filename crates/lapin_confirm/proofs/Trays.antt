@@ -1,7 +1,10 @@
 -- What callers see of the trays of returned messages, as one channel's changes.
-use Rattle.std.proofs.Common.{◌≡◌, ℕ, ◌==◌, cond, true, false, List, [], ◌∷◌, Option, Some, None, refl, sym, ◌∙◌, ap}
+use Rattle.std.proofs.Common.{◌≡◌, ℕ, ◌==◌, cond, true, false, List, [], ◌∷◌, ◌++◌, Option, Some, None, refl, sym, ◌∙◌, ap}
 use Rattle.std.specs.Option.{option_map, IsSome}
-use Rattle.lapin_history.specs.Letters.{Letters}
+use Rattle.std.proofs.lemmas.List.{map_push}
+use Rattle.lapin_history.specs.Letters.{Letters, no_letters, renewed}
+use Rattle.lapin_history.specs.Words.{with_channel}
+use Rattle.lapin_confirm.specs.Post.{letters_in}
 use Rattle.lapin_tables.specs.ByChannel.{at_channel, on_channel}
 use Rattle.lapin_tables.proofs.Channels.{at-values, on-values, on-absent, on-known, on-same}
 use Rattle.lapin_confirm.specs.Tray.{Tray}
@@ -37,3 +40,11 @@ on-still c f (e ∷ es) h =
       | true ↦ ap (λ y. (e.0, y) ∷ es) (h e.1)
       | false ↦ ap (λ ys. e ∷ ys) (on-still c f es h)
     ]
+
+-- a first tray
+pub trays-new : (c : ℕ) (t : Tray) (ts : List (ℕ × Tray)) → at_channel c ts ≡ None → t.letters ≡ no_letters → trays_of (ts ++ (c, t) ∷ []) ≡ with_channel c (renewed (letters_in (at_channel c (trays_of ts)))) (trays_of ts)
+trays-new c t ts none fresh = rw (tray-at c ts None none) (map_push (λ (e : ℕ × Tray). (e.0, e.1.letters)) ts (c, t) ∙ ap (λ (l : Letters). trays_of ts ++ (c, l) ∷ []) fresh)
+
+-- a tray that is renewed
+pub trays-again : (c : ℕ) (t k : Tray) (ts : List (ℕ × Tray)) → at_channel c ts ≡ Some t → k.letters ≡ renewed t.letters → trays_of (on_channel c (λ _. k) ts) ≡ with_channel c (renewed (letters_in (at_channel c (trays_of ts)))) (trays_of ts)
+trays-again c t k ts is letters = rw (tray-at c ts (Some t) is) (trays-on c (λ _. renewed t.letters) t k ts is letters)

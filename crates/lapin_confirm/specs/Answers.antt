@@ -1,9 +1,10 @@
--- What is answered to who asks for the result of a confirm.
+-- What is answered to who asks for the result of a confirm: `answer_at` without the returned message, `answer_with` with it.
 use Rattle.std.specs.Prelude.{ℕ, ◌==◌, nat_lt, Bool, ◌||◌, if◌then◌else◌, Option, Some, None, Result, Ok, Err, length}
 use Rattle.lapin_types.specs.declared.Error.{Error}
 use Rattle.lapin_types.specs.declared.Error.TheVariants as error
 use Rattle.lapin_types.specs.declared.confirmation.Confirmation.{Confirmation}
 use Rattle.lapin_types.specs.declared.confirmation.Confirmation.TheVariants as confirmation
+use Rattle.lapin_types.specs.declared.message.BasicReturnMessage.{BasicReturnMessage}
 use Rattle.lapin_history.specs.declared.marks.Outcome.{Outcome}
 use Rattle.lapin_history.specs.declared.marks.Outcome.TheVariants as outcome
 use Rattle.lapin_tables.specs.Numbered.{under}
@@ -31,3 +32,19 @@ is_unknown n b = n == 0 || nat_lt (length b.cells) n
 
 abbrev pub answer_at : ℕ → Book → Result (Option (Result Confirmation Error)) Error
 answer_at n b = if is_unknown n b then Err error.UnknownTicket else answer_in (under n b.cells)
+
+-- ---- with the message that the confirm took
+
+abbrev pub with_letter : Option BasicReturnMessage → Confirmation → Confirmation
+with_letter m (confirmation.Ack x) = confirmation.Ack m
+with_letter m (confirmation.Nack x) = confirmation.Nack m
+with_letter m confirmation.NotRequested = confirmation.NotRequested
+
+abbrev pub result_with : Option BasicReturnMessage → Result Confirmation Error → Result Confirmation Error
+result_with m (Ok c) = Ok (with_letter m c)
+result_with m (Err e) = Err e
+
+abbrev pub answer_with : Option BasicReturnMessage → Result (Option (Result Confirmation Error)) Error → Result (Option (Result Confirmation Error)) Error
+answer_with m (Ok None) = Ok None
+answer_with m (Ok (Some r)) = Ok (Some (result_with m r))
+answer_with m (Err e) = Err e

@@ -1,21 +1,21 @@
--- What contracts see of confirms: the book, and beside it the room.
-use Rattle.std.specs.Prelude.{ℕ, ◌<◌, List, Option, Some, None}
+-- What contracts see of confirms: what they hold, and beside it the room.
+use Rattle.std.specs.Prelude.{ℕ, ◌≤◌, Bool, if◌then◌else◌, List, Option, Some, None}
 use Rattle.lapin_tables.specs.ByChannel.{at_channel}
-use Rattle.lapin_history.specs.Letters.{Letters}
-use Rattle.lapin_confirm.specs.Book.{Book}
+use Rattle.lapin_confirm.specs.Post.{Post}
 
--- the book; the returned messages of each channel that had an opening; for how many more publishes there is room; and of them
--- on each channel
+-- the confirms with their returned messages; and of each channel whether there is room for its next publish or message
 pub record Kept : Type 0 where
-  pub book : Book
-  pub trays : List (ℕ × Letters)
-  pub spare : ℕ
-  pub rooms : List (ℕ × ℕ)
+  pub what : Post
+  pub spare : List (ℕ × Bool)
 
-abbrev pub HasSome : Option ℕ → Type 0
-HasSome None = Unit {0}
-HasSome (Some n) = 0 < n
+abbrev pub spare_in : Option Bool → ℕ
+spare_in None = 0
+spare_in (Some b) = if b then 1 else 0
 
--- one more publish of the channel has room, for itself and for its tag
-abbrev pub HasRoom : ℕ → Kept → Type 0
-HasRoom c k = (0 < k.spare) × HasSome (at_channel c k.rooms)
+-- for how many more publishes or messages of channel c there is room
+abbrev pub spare_on : ℕ → Kept → ℕ
+spare_on c k = spare_in (at_channel c k.spare)
+
+-- the room of every channel stays
+abbrev pub KeepsRoom : Kept → Kept → Type 0
+KeepsRoom old new = (c : ℕ) → spare_on c old ≤ spare_on c new

@@ -1,8 +1,10 @@
 pub mod Tray
 pub mod Book
 pub mod Answers
-pub mod Ties
-pub mod Kept
-pub mod Follows
 pub mod Post
-pub mod Stands
+pub mod Aside
+pub mod Drain
+pub mod Sweeps
+pub mod Kept
+pub mod Ties
+pub mod Follows

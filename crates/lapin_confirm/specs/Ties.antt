@@ -1,13 +1,15 @@
 -- How ledgers and cells hang together. No public clause cites this module.
-use Rattle.std.specs.Prelude.{◌≡◌, ℕ, ◌+◌, ◌-◌, ◌≤◌, false, List, [], Option, Some, None, length, map}
+use Rattle.std.specs.Prelude.{◌≡◌, ℕ, ◌+◌, ◌<◌, ◌≤◌, Bool, false, List, [], Option, Some, None, length, map, IsSome}
 use Rattle.std.specs.List.{count_by}
 use Rattle.lapin_tables.specs.ByChannel.{at_channel}
-use Rattle.lapin_tables.specs.Numbered.{under}
+use Rattle.lapin_tables.specs.Numbered.{Slots, under}
 use Rattle.lapin_confirm.specs.declared.cell.Cell.{Cell}
 use Rattle.lapin_confirm.specs.declared.cell.Cell.TheVariants as cell
+use Rattle.lapin_confirm.specs.declared.home.Home.{Home}
 use Rattle.lapin_confirm.specs.declared.ledger.Ledger.{Ledger}
 use Rattle.lapin_history.specs.Letters.{Letters}
-use Rattle.lapin_confirm.specs.Tray.{Tray}
+use Rattle.lapin_confirm.specs.Tray.{Tray, HasPlace}
+use Rattle.lapin_confirm.specs.Kept.{spare_in}
 use Rattle.lapin_confirm.specs.Book.{Line, next_line, is_queued_on, is_pending_on}
 
 -- what a caller sees of a ledger
@@ -19,15 +21,12 @@ abbrev pub line_after : Option ℕ → Line → Line
 line_after None l = l
 line_after (Some t) l = next_line l
 
--- for how many more publishes of the channel a tag has room
-abbrev pub room_of : Ledger → ℕ
-room_of l = l.tags.spare - l.queued
+-- the room for tags beyond the queued publishes stays
+abbrev pub KeepsTags : Ledger → Ledger → Type 0
+KeepsTags l k = l.tags.spare + k.queued ≤ k.tags.spare + l.queued
 
 abbrev pub lines_of : List (ℕ × Ledger) → List (ℕ × Line)
 lines_of es = map (λ e. (e.0, line_of e.1)) es
-
-abbrev pub rooms_of : List (ℕ × Ledger) → List (ℕ × ℕ)
-rooms_of es = map (λ e. (e.0, room_of e.1)) es
 
 abbrev pub trays_of : List (ℕ × Tray) → List (ℕ × Letters)
 trays_of ts = map (λ e. (e.0, e.1.letters)) ts
@@ -63,3 +62,49 @@ TiedAt c (Some l) cells = Tied c l cells
 -- every channel's ledger agrees with the cells
 abbrev pub AllTied : List (ℕ × Ledger) → List (Option Cell) → Type 0
 AllTied es cells = (c : ℕ) → TiedAt c (at_channel c es) cells
+
+-- ---- room
+
+-- how many channels have room for their next publish or message
+abbrev pub promised : List (ℕ × Bool) → ℕ
+promised rooms = count_by (λ r. r.1) rooms
+
+-- so many more tags of a channel have room, beyond those of its queued publishes
+abbrev pub TagFits : ℕ → Option Ledger → Type 0
+TagFits n None = Unit {0}
+TagFits n (Some l) = n + l.queued ≤ l.tags.spare
+
+-- one more message of a channel has room, where so much room is promised
+abbrev pub MessageFits : ℕ → Option Tray → Type 0
+MessageFits n None = Unit {0}
+MessageFits n (Some t) = 0 < n → HasPlace t
+
+abbrev pub TagsFit : List (ℕ × Bool) → List (ℕ × Ledger) → Type 0
+TagsFit rooms es = (c : ℕ) → TagFits (spare_in (at_channel c rooms)) (at_channel c es)
+
+abbrev pub MessagesFit : List (ℕ × Bool) → List (ℕ × Tray) → Type 0
+MessagesFit rooms ts = (c : ℕ) → MessageFits (spare_in (at_channel c rooms)) (at_channel c ts)
+
+-- what is promised has room: a cell for each channel, with its tag and the place of a message
+pub record HaveRoom (rooms : List (ℕ × Bool)) (es : List (ℕ × Ledger)) (ts : List (ℕ × Tray)) (spare : ℕ) : Type 0 where
+  pub cells : promised rooms ≤ spare
+  pub tags : TagsFit rooms es
+  pub messages : MessagesFit rooms ts
+
+-- channel c has room beside what is promised
+pub record HasMore (c : ℕ) (rooms : List (ℕ × Bool)) (es : List (ℕ × Ledger)) (ts : List (ℕ × Tray)) (spare : ℕ) : Type 0 where
+  pub known : IsSome (at_channel c rooms)
+  pub cells : promised rooms < spare
+  pub tags : TagFits 1 (at_channel c es)
+  pub messages : MessageFits 1 (at_channel c ts)
+
+-- each publish has a home, and what is promised has room for one
+pub record HomesKept (rooms : List (ℕ × Bool)) (cells : List (Option Cell)) (homes : Slots Home) : Type 0 where
+  pub count : length homes.slots ≡ length cells
+  pub room : promised rooms ≤ homes.spare
+
+-- ledgers and cells agree, and what is promised has room
+pub record AllKept (rooms : List (ℕ × Bool)) (es : List (ℕ × Ledger)) (ts : List (ℕ × Tray)) (cells : Slots Cell) (places : Slots Home) : Type 0 where
+  pub tied : AllTied es cells.slots
+  pub room : HaveRoom rooms es ts cells.spare
+  pub homes : HomesKept rooms cells.slots places

@@ -1,35 +1,42 @@
 //! The confirms of all channels: the public calls.
 //!
 //! Each call does one thing that may happen to a publish, and says what the book is then. What runs over the tags of a
-//! channel stands in `settling`.
+//! channel stands in `settling`; results, set-asides and drains stand in `results` and `draining`.
 
-ghost use Rattle.std.specs.Prelude.{◌≡◌, ℕ, ◌+◌, ◌<◌, ◌^◌, ◌↔◌, ◌⊎◌, true, false, not, Ok, Err, Some, None, OnOk, OnErr, IsOk, IfOk, IfErr, IsSome, length, if◌then◌else◌};
+ghost use Rattle.std.specs.Prelude.{◌∷◌, ◌++◌, [], ◌≡◌, ◌≢◌, ℕ, ◌+◌, ◌≤◌, ◌<◌, ◌^◌, ◌↔◌, ◌⊎◌, true, false, Ok, Err, Some, OnOk, OnErr, IsOk, IfOk, IfErr, IsSome, length, if◌then◌else◌};
 ghost use Rattle.std.specs.List.{list_any};
 ghost use Rattle.lapin_tables.specs.ByChannel.{at_channel, on_channel};
 ghost use Rattle.lapin_tables.specs.Numbered.{under, first_kept};
 ghost use Rattle.lapin_history.specs.ConfirmReadings.{covers, kind_outcome};
-ghost use Rattle.lapin_history.specs.Letters.{arrived_in, attached_to_all};
-ghost use Rattle.lapin_confirm.specs.Post.{covered_in};
-ghost use Rattle.lapin_confirm.specs.Book.{empty_book, begun, with_publish, select_left, select_called, limited, left, settled, single_of, multiple_of, rejected, ended, taken, tag_for, is_open_on, is_queued, is_resolved, is_unresolved, is_pending, pending_count, queued_count, last_on, selected_on, asked_on, limit_on, full_on, span_on, span_from};
-ghost use Rattle.lapin_confirm.specs.Answers.{answer_at, result_of as result_of_lem};
-ghost use Rattle.lapin_confirm.specs.Kept.{HasRoom};
+ghost use Rattle.lapin_history.specs.Letters.{arrived_in, attached_to_all, renewed};
+ghost use Rattle.lapin_history.specs.Words.{with_channel};
+ghost use Rattle.lapin_confirm.specs.Drain.{renewed_on};
+ghost use Rattle.lapin_confirm.specs.Post.{empty_post, new_home, letters_at, covered_in};
+ghost use Rattle.lapin_confirm.specs.Book.{begun, with_publish, select_left, select_called, limited, left, settled, single_of, multiple_of, rejected, ended, tag_for, is_open_on, is_queued, is_pending, pending_count, queued_count, last_on, selected_on, asked_on, limit_on, full_on, span_on, span_from};
+ghost use Rattle.lapin_confirm.specs.Kept.{spare_on, KeepsRoom};
 
+use crate::attaching::{attach_on, attach_one};
 use crate::cell::Cell;
+use crate::home::Home;
 use crate::ledger::Ledger;
-use crate::returned::{Returned, attach_on};
-use crate::settling::{end_opening, enqueue, leave, make_room, reject, settle_tag, settle_through};
+use crate::openings::{make_place, put_ledger, renew_tray};
+use crate::returned::{Returned, let_go};
+use crate::rooms::{give_up, is_promised, make_room, promise, use_room};
+use crate::settling::{end_opening, enqueue, leave, reject, settle_tag, settle_through};
 use lapin_history::{Outcome, SettleKind};
 use lapin_tables::{ByChannel, Numbered};
 use lapin_types::{BasicReturnMessage, Confirmation, Error, NoMemory};
 use std::alloc::Global;
 use std::marker::Model;
 
-/// The outcome of every confirm number, and the ledger of every channel. Contracts see a `Book`, and the room beside it.
+/// The outcome of every confirm number, and the ledger and the tray of every channel. Contracts see a `Post`, and the room beside it.
 #[derive(Drop)]
 pub struct Confirms {
-    ledgers: ByChannel<Ledger>,
-    cells: Numbered<Cell>,
-    trays: ByChannel<Returned>,
+    pub(crate) ledgers: ByChannel<Ledger>,
+    pub(crate) cells: Numbered<Cell>,
+    pub(crate) homes: Numbered<Home>,
+    pub(crate) trays: ByChannel<Returned>,
+    pub(crate) rooms: ByChannel<bool>,
 }
 
 impl Model for Confirms {
@@ -41,58 +48,80 @@ impl Model for Confirms {
 
     ghost coded = { Prim.hlevel (codes, message.the_row.coded) };
 
-    ghost use Rattle.lapin_confirm.specs.Ties.{lines_of, rooms_of, trays_of, AllTied};
+    ghost use Rattle.lapin_confirm.specs.Ties.{lines_of, trays_of, AllKept};
 
     ghost view = { λ a. record {
-      book = record { lines = lines_of a.ledgers.entries; cells = a.cells.slots };
-      trays = trays_of a.trays.entries;
-      spare = a.cells.spare;
-      rooms = rooms_of a.ledgers.entries;
+      what = record { book = record { lines = lines_of a.ledgers.entries; cells = a.cells.slots }; trays = trays_of a.trays.entries; homes = a.homes.slots };
+      spare = a.rooms.entries;
     } };
 
-    ghost invariant = { λ a. AllTied a.ledgers.entries a.cells.slots };
+    ghost invariant = { λ a. AllKept a.rooms.entries a.ledgers.entries a.trays.entries a.cells a.homes };
 }
 
 impl Confirms {
     /// No opening and no publish. It takes no memory yet, so it does not fail.
     pub fn new(alloc: Global) -> Result<Confirms, NoMemory>
-        ensures made { IfOk result (λ made. made.book ≡ empty_book) }
+        ensures made { IfOk result (λ made. made.what ≡ empty_post) }
         ensures succeeds { IsOk result }
     {
         Ok(Confirms {
             ledgers: ByChannel::new(alloc),
             cells: Numbered::new(alloc),
+            homes: Numbered::new(alloc),
             trays: ByChannel::new(alloc),
+            rooms: ByChannel::new(alloc),
         })
     }
 
-    /// Makes room for the next `add` on a channel, which then does not answer `NoMemory`.
+    /// Makes room for the next `add` or `arrived` on a channel, which then does not answer `NoMemory`. The room lasts until it
+    /// is used, whatever else is called before.
     pub fn reserve(&mut self, _alloc: Global, channel: u16) -> Result<(), NoMemory>
-        ensures room { OnOk result (HasRoom channel self.new) }
-        ensures same { self.new.book ≡ self.old.book }
-        ensures succeeds { HasRoom channel self.old → IsOk result }
+        ensures room { OnOk result (0 < spare_on channel self.new) }
+        ensures same { self.new.what ≡ self.old.what }
+        ensures spare { KeepsRoom self.old self.new }
+        ensures succeeds { 0 < spare_on channel self.old → IsOk result }
     {
-        let Some(ledger) = self.ledgers.get_mut(channel) else {
-            self.cells.reserve(1)?;
+        if is_promised(&self.rooms, channel) {
             return Ok(());
-        };
-        make_room(ledger, &mut self.cells)?;
+        }
+        if let Err(_) = make_room(
+            channel,
+            &mut self.rooms,
+            &mut self.cells,
+            &mut self.homes,
+            &mut self.ledgers,
+            &mut self.trays,
+        ) {
+            return Err(NoMemory);
+        }
+        promise(&mut self.rooms, channel);
         Ok(())
     }
 
-    /// A new opening of a channel begins: it is not selected, and no tag is taken. Nothing of an earlier one may be open.
-    /// Only the first one of a channel takes memory.
+    /// A new opening of a channel begins: it is not selected, and no tag is taken; no message waits, is kept or is unconfirmed.
+    /// Of confirms that were set aside nothing is kept any more. Nothing of an earlier opening may be open. Only the first one of a
+    /// channel takes memory, and one for which there is room.
     pub fn begin(&mut self, alloc: Global, channel: u16) -> Result<(), NoMemory>
-        requires { list_any (is_open_on channel) self.old.book.cells ≡ false }
-        ensures ok { OnOk result (self.new.book ≡ begun channel self.old.book) }
-        ensures err { OnErr result (self.new.book ≡ self.old.book) }
-        ensures succeeds { IsSome (at_channel channel self.old.book.lines) → IsOk result }
+        requires { list_any (is_open_on channel) self.old.what.book.cells ≡ false }
+        ensures ok { OnOk result (self.new.what.book ≡ begun channel (renewed_on channel self.old.what).book) }
+        ensures trays { OnOk result (self.new.what.trays ≡ with_channel channel (renewed (letters_at channel self.old.what)) self.old.what.trays) }
+        ensures homes { OnOk result (self.new.what.homes ≡ (renewed_on channel self.old.what).homes) }
+        ensures err { OnErr result (self.new.what ≡ self.old.what) }
+        ensures spare { self.new.spare ≡ self.old.spare }
+        ensures succeeds { IsSome (at_channel channel self.old.what.book.lines) → IsSome (at_channel channel self.old.what.trays) → spare_on channel self.old ≡ 0 → IsOk result }
     {
-        let Some(ledger) = self.ledgers.get_mut(channel) else {
-            self.ledgers.insert(channel, Ledger::new(alloc))?;
-            return Ok(());
-        };
-        *ledger = Ledger::new(alloc);
+        let promised = is_promised(&self.rooms, channel);
+        let ledger = Ledger::with_room(alloc, promised)?;
+        make_place(&mut self.ledgers, channel)?;
+        renew_tray(
+            &mut self.trays,
+            &mut self.cells,
+            &mut self.homes,
+            alloc,
+            channel,
+            promised,
+        )?;
+        put_ledger(&mut self.ledgers, channel, ledger);
         Ok(())
     }
 
@@ -100,14 +129,18 @@ impl Confirms {
     ///
     /// `NumbersUsedUp` comes exactly where the number would pass the greatest `u64`.
     pub fn add(&mut self, _alloc: Global, channel: u16) -> Result<u64, Error>
-        requires { IsSome (at_channel channel self.old.book.lines) }
-        ensures number { IfOk result (λ n. n ≡ length self.old.book.cells + 1) }
-        ensures ok { OnOk result (self.new.book ≡ with_publish channel self.old.book) }
-        ensures err { OnErr result (self.new.book ≡ self.old.book) }
-        ensures trays { self.new.trays ≡ self.old.trays }
+        requires { IsSome (at_channel channel self.old.what.book.lines) }
+        ensures number { IfOk result (λ n. n ≡ length self.old.what.book.cells + 1) }
+        ensures ok { OnOk result (self.new.what.book ≡ with_publish channel self.old.what.book) }
+        ensures trays { self.new.what.trays ≡ self.old.what.trays }
+        ensures homes { OnOk result (self.new.what.homes ≡ self.old.what.homes ++ Some (new_home channel) ∷ []) }
+        ensures err { OnErr result (self.new.what ≡ self.old.what) }
+        ensures spare { (c : ℕ) → c ≢ channel → spare_on c self.old ≤ spare_on c self.new }
+        ensures used { spare_on channel self.old ≤ spare_on channel self.new + 1 }
+        ensures unused { OnErr result (self.new.spare ≡ self.old.spare) }
         ensures cause { IfErr result (λ e. (e ≡ Error.NumbersUsedUp) ⊎ (e ≡ Error.NoMemory)) }
-        ensures used_up { (result ≡ Err Error.NumbersUsedUp) ↔ (length self.old.book.cells + 1 ≡ 2 ^ 64) }
-        ensures succeeds { HasRoom channel self.old → length self.old.book.cells + 1 < 2 ^ 64 → IsOk result }
+        ensures used_up { (result ≡ Err Error.NumbersUsedUp) ↔ (length self.old.what.book.cells + 1 ≡ 2 ^ 64) }
+        ensures succeeds { 0 < spare_on channel self.old → length self.old.what.book.cells + 1 < 2 ^ 64 → IsOk result }
     {
         if self.cells.next_number().is_none() {
             return Err(Error::NumbersUsedUp);
@@ -115,15 +148,28 @@ impl Confirms {
         let Some(ledger) = self.ledgers.get_mut(channel) else {
             unreachable!()
         };
-        if make_room(ledger, &mut self.cells).is_err() {
+        if let Err(_) = use_room(
+            channel,
+            &mut self.rooms,
+            &mut self.cells,
+            &mut self.homes,
+            ledger,
+        ) {
             return Err(Error::NoMemory);
         }
+        self.homes.push_reserved(Home {
+            channel,
+            aside: false,
+        });
         Ok(enqueue(channel, ledger, &mut self.cells))
     }
 
     /// A `confirm.select` frame of a channel leaves: the opening is selected from now on.
     pub fn select_left(&mut self, channel: u16)
-        ensures { self.new.book ≡ select_left channel self.old.book }
+        ensures book { self.new.what.book ≡ select_left channel self.old.what.book }
+        ensures trays { self.new.what.trays ≡ self.old.what.trays }
+        ensures homes { self.new.what.homes ≡ self.old.what.homes }
+        ensures spare { self.new.spare ≡ self.old.spare }
     {
         let Some(ledger) = self.ledgers.get_mut(channel) else {
             return;
@@ -133,7 +179,10 @@ impl Confirms {
 
     /// A `confirm.select` call is accepted on a channel with a live opening.
     pub fn select_called(&mut self, channel: u16)
-        ensures { self.new.book ≡ select_called channel self.old.book }
+        ensures book { self.new.what.book ≡ select_called channel self.old.what.book }
+        ensures trays { self.new.what.trays ≡ self.old.what.trays }
+        ensures homes { self.new.what.homes ≡ self.old.what.homes }
+        ensures spare { self.new.spare ≡ self.old.spare }
     {
         let Some(ledger) = self.ledgers.get_mut(channel) else {
             return;
@@ -143,7 +192,10 @@ impl Confirms {
 
     /// Sets the limit of pending tags of a channel with a live opening, 0 for none.
     pub fn set_limit(&mut self, channel: u16, limit: u64)
-        ensures { self.new.book ≡ limited channel limit self.old.book }
+        ensures book { self.new.what.book ≡ limited channel limit self.old.what.book }
+        ensures trays { self.new.what.trays ≡ self.old.what.trays }
+        ensures homes { self.new.what.homes ≡ self.old.what.homes }
+        ensures spare { self.new.spare ≡ self.old.spare }
     {
         let Some(ledger) = self.ledgers.get_mut(channel) else {
             return;
@@ -154,10 +206,12 @@ impl Confirms {
     /// The method frame of a publish leaves. Answers the tag that it takes: none where the opening isn't selected, and it is
     /// then resolved as not requested.
     pub fn register(&mut self, number: u64) -> Option<u64>
-        requires { is_queued (under number self.old.book.cells) ≡ true }
-        ensures tag { (c : ℕ) → under number self.old.book.cells ≡ Some (Cell.Queued c) → result ≡ tag_for (at_channel c self.old.book.lines) }
-        ensures left { (c : ℕ) → under number self.old.book.cells ≡ Some (Cell.Queued c) → self.new.book ≡ left c number self.old.book }
-        ensures trays { self.new.trays ≡ self.old.trays }
+        requires { is_queued (under number self.old.what.book.cells) ≡ true }
+        ensures tag { (c : ℕ) → under number self.old.what.book.cells ≡ Some (Cell.Queued c) → result ≡ tag_for (at_channel c self.old.what.book.lines) }
+        ensures left { (c : ℕ) → under number self.old.what.book.cells ≡ Some (Cell.Queued c) → self.new.what.book ≡ left c number self.old.what.book }
+        ensures trays { self.new.what.trays ≡ self.old.what.trays }
+        ensures homes { self.new.what.homes ≡ self.old.what.homes }
+        ensures spare { self.new.spare ≡ self.old.spare }
     {
         let channel = queued_channel(&self.cells, number);
         let Some(ledger) = self.ledgers.get_mut(channel) else {
@@ -166,39 +220,53 @@ impl Confirms {
         leave(channel, ledger, &mut self.cells, number)
     }
 
-    /// The broker settles one tag of a channel (AMQP 0-9-1, basic.ack; RabbitMQ, basic.nack).
+    /// The broker settles one tag of a channel (AMQP 0-9-1, basic.ack; RabbitMQ, basic.nack). Its confirm takes the oldest returned
+    /// message that waits, if one does.
     ///
     /// `PreconditionFailed` with the tag and the last one taken comes exactly where the tag isn't pending, and nothing changes.
     pub fn settle_one(&mut self, channel: u16, kind: SettleKind, tag: u64) -> Result<(), Error>
-        ensures answer { result ≡ (if is_pending channel tag self.old.book then Ok tt else Err (Error.PreconditionFailed tag (last_on channel self.old.book))) }
-        ensures settled { self.new.book ≡ settled channel (single_of kind tag) self.old.book }
-        ensures same { OnErr result (self.new.book ≡ self.old.book) }
+        ensures answer { result ≡ (if is_pending channel tag self.old.what.book then Ok tt else Err (Error.PreconditionFailed tag (last_on channel self.old.what.book))) }
+        ensures settled { self.new.what.book ≡ settled channel (single_of kind tag) self.old.what.book }
+        ensures trays { self.new.what.trays ≡ on_channel channel (attached_to_all (covered_in channel (covers (single_of kind tag)) self.old.what.book)) self.old.what.trays }
+        ensures homes { self.new.what.homes ≡ self.old.what.homes }
+        ensures same { OnErr result (self.new.what ≡ self.old.what) }
+        ensures spare { self.new.spare ≡ self.old.spare }
     {
         let Some(ledger) = self.ledgers.get_mut(channel) else {
             return Err(Error::PreconditionFailed { tag, current: 0 });
         };
         let current = ledger.tags.count();
+        attach_one(&mut self.trays, channel, &ledger.tags, tag);
         if !settle_tag(channel, ledger, &mut self.cells, tag, outcome_of(kind)) {
             return Err(Error::PreconditionFailed { tag, current });
         }
         Ok(())
     }
 
-    /// The broker settles every pending tag of a channel up to one, in rising order.
+    /// The broker settles every pending tag of a channel up to one, in rising order. Each of their confirms takes the oldest
+    /// returned message that then waits, if one does.
     pub fn settle_up_to(&mut self, channel: u16, kind: SettleKind, tag: u64)
         requires { 0 < tag }
-        ensures { self.new.book ≡ settled channel (multiple_of kind tag) self.old.book }
+        ensures book { self.new.what.book ≡ settled channel (multiple_of kind tag) self.old.what.book }
+        ensures trays { self.new.what.trays ≡ on_channel channel (attached_to_all (covered_in channel (covers (multiple_of kind tag)) self.old.what.book)) self.old.what.trays }
+        ensures homes { self.new.what.homes ≡ self.old.what.homes }
+        ensures spare { self.new.spare ≡ self.old.spare }
     {
         let Some(ledger) = self.ledgers.get_mut(channel) else {
             return;
         };
-        settle_through(channel, ledger, &mut self.cells, tag, outcome_of(kind));
+        let limit = lesser(tag, ledger.tags.count());
+        attach_on(&mut self.trays, channel, &ledger.tags, limit);
+        settle_through(channel, ledger, &mut self.cells, limit, outcome_of(kind));
     }
 
-    /// The broker settles every pending tag of a channel, in rising order: a multiple settlement with tag 0.
+    /// The broker settles every pending tag of a channel, in rising order: a multiple settlement with tag 0. Messages are
+    /// taken as by `settle_up_to`.
     pub fn settle_all(&mut self, channel: u16, kind: SettleKind)
-        ensures book { self.new.book ≡ settled channel (multiple_of kind 0) self.old.book }
-        ensures trays { self.new.trays ≡ on_channel channel (attached_to_all (covered_in channel (covers (multiple_of kind 0)) self.old.book)) self.old.trays }
+        ensures book { self.new.what.book ≡ settled channel (multiple_of kind 0) self.old.what.book }
+        ensures trays { self.new.what.trays ≡ on_channel channel (attached_to_all (covered_in channel (covers (multiple_of kind 0)) self.old.what.book)) self.old.what.trays }
+        ensures homes { self.new.what.homes ≡ self.old.what.homes }
+        ensures spare { self.new.spare ≡ self.old.spare }
     {
         let Some(ledger) = self.ledgers.get_mut(channel) else {
             return;
@@ -210,8 +278,11 @@ impl Confirms {
 
     /// A publish whose method frame has not left is resolved with an error.
     pub fn reject(&mut self, number: u64, error: Error)
-        requires { is_queued (under number self.old.book.cells) ≡ true }
-        ensures { self.new.book ≡ rejected number error self.old.book }
+        requires { is_queued (under number self.old.what.book.cells) ≡ true }
+        ensures book { self.new.what.book ≡ rejected number error self.old.what.book }
+        ensures trays { self.new.what.trays ≡ self.old.what.trays }
+        ensures homes { self.new.what.homes ≡ self.old.what.homes }
+        ensures spare { self.new.spare ≡ self.old.spare }
     {
         let channel = queued_channel(&self.cells, number);
         let Some(ledger) = self.ledgers.get_mut(channel) else {
@@ -225,7 +296,10 @@ impl Confirms {
     /// It costs what it resolves where the publishes that have not left were rejected before. Else it also walks the numbers
     /// from the last one down to the oldest of those publishes.
     pub fn end(&mut self, channel: u16, error: Error)
-        ensures { self.new.book ≡ ended channel error self.old.book }
+        ensures book { self.new.what.book ≡ ended channel error self.old.what.book }
+        ensures trays { self.new.what.trays ≡ self.old.what.trays }
+        ensures homes { self.new.what.homes ≡ self.old.what.homes }
+        ensures spare { self.new.spare ≡ self.old.spare }
     {
         let Some(ledger) = self.ledgers.get_mut(channel) else {
             return;
@@ -233,19 +307,9 @@ impl Confirms {
         end_opening(channel, ledger, &mut self.cells, error);
     }
 
-    /// Whether `take` has an answer other than none: false exactly while the confirm is unresolved.
-    pub fn ready(&self, number: u64) -> bool
-        ensures { result ≡ not (is_unresolved (under number self.now.book.cells)) }
-    {
-        !matches!(
-            self.cells.get(number),
-            Some(Cell::Queued(_) | Cell::Pending(_, _))
-        )
-    }
-
     /// The last tag that was taken on a channel, 0 where none was.
     pub fn current(&self, channel: u16) -> u64
-        ensures { result ≡ last_on channel self.now.book }
+        ensures { result ≡ last_on channel self.now.what.book }
     {
         match self.ledgers.get(channel) {
             Some(ledger) => ledger.tags.count(),
@@ -255,7 +319,7 @@ impl Confirms {
 
     /// How many tags are pending on a channel.
     pub fn pending(&self, channel: u16) -> usize
-        ensures { result ≡ pending_count channel self.now.book }
+        ensures { result ≡ pending_count channel self.now.what.book }
     {
         match self.ledgers.get(channel) {
             Some(ledger) => ledger.pending,
@@ -271,24 +335,29 @@ impl Confirms {
         channel: u16,
         message: BasicReturnMessage,
     ) -> Result<(), NoMemory>
-        requires { IsSome (at_channel channel self.old.trays) }
-        ensures ok { OnOk result (self.new.trays ≡ on_channel channel (arrived_in (selected_on channel self.old.book) message) self.old.trays) }
-        ensures err { OnErr result (self.new.trays ≡ self.old.trays) }
-        ensures book { self.new.book ≡ self.old.book }
+        ensures ok { OnOk result (self.new.what.trays ≡ on_channel channel (arrived_in (selected_on channel self.old.what.book) message) self.old.what.trays) }
+        ensures book { self.new.what.book ≡ self.old.what.book }
+        ensures homes { self.new.what.homes ≡ self.old.what.homes }
+        ensures err { OnErr result (self.new.what ≡ self.old.what) }
+        ensures spare { (c : ℕ) → c ≢ channel → spare_on c self.old ≤ spare_on c self.new }
+        ensures used { spare_on channel self.old ≤ spare_on channel self.new + 1 }
+        ensures succeeds { 0 < spare_on channel self.old → IsOk result }
     {
         let selected = self.selected(channel);
         let Some(tray) = self.trays.get_mut(channel) else {
-            unreachable!()
+            let_go(message);
+            return Ok(());
         };
         if let Err(_) = tray.receive(selected, message) {
             return Err(NoMemory);
         }
+        give_up(&mut self.rooms, channel);
         Ok(())
     }
 
     /// How many publishes of a channel were accepted and have not left.
     pub fn queued(&self, channel: u16) -> usize
-        ensures { result ≡ queued_count channel self.now.book }
+        ensures { result ≡ queued_count channel self.now.what.book }
     {
         match self.ledgers.get(channel) {
             Some(ledger) => ledger.queued,
@@ -298,7 +367,7 @@ impl Confirms {
 
     /// Whether the live opening of a channel accepted a `confirm.select` call.
     pub fn asked(&self, channel: u16) -> bool
-        ensures { result ≡ asked_on channel self.now.book }
+        ensures { result ≡ asked_on channel self.now.what.book }
     {
         match self.ledgers.get(channel) {
             Some(ledger) => ledger.asked,
@@ -308,7 +377,7 @@ impl Confirms {
 
     /// The limit of pending tags of a channel's live opening, 0 where there is none.
     pub fn limit(&self, channel: u16) -> u64
-        ensures { result ≡ limit_on channel self.now.book }
+        ensures { result ≡ limit_on channel self.now.what.book }
     {
         match self.ledgers.get(channel) {
             Some(ledger) => ledger.limit,
@@ -319,7 +388,7 @@ impl Confirms {
     /// Whether a channel is full: its live opening is selected, and its pending tags are at least as many as its limit, which
     /// is above 0.
     pub fn full(&self, channel: u16) -> bool
-        ensures { result ≡ full_on channel self.now.book }
+        ensures { result ≡ full_on channel self.now.what.book }
     {
         let limit = self.limit(channel);
         self.selected(channel) && 0 < limit && limit <= self.pending(channel) as u64
@@ -327,7 +396,7 @@ impl Confirms {
 
     /// The last tag taken of a channel less its least pending one, plus 1; 0 exactly where no tag is pending.
     pub fn span(&self, channel: u16) -> u64
-        ensures { result ≡ span_on channel self.now.book }
+        ensures { result ≡ span_on channel self.now.what.book }
     {
         match self.ledgers.get(channel) {
             Some(ledger) => span_of(&ledger.tags),
@@ -337,33 +406,11 @@ impl Confirms {
 
     /// Whether the opening of a channel is selected.
     pub fn selected(&self, channel: u16) -> bool
-        ensures { result ≡ selected_on channel self.now.book }
+        ensures { result ≡ selected_on channel self.now.what.book }
     {
         match self.ledgers.get(channel) {
             Some(ledger) => ledger.selected,
             None => false,
-        }
-    }
-
-    /// Gives the result of a publish, once: none exactly while it is unresolved.
-    ///
-    /// `UnknownTicket` comes exactly where the number was never given, `AlreadyTaken` exactly where the result was.
-    pub fn take(&mut self, number: u64) -> Result<Option<Result<Confirmation, Error>>, Error>
-        ensures answer { result ≡ answer_at number self.old.book }
-        ensures trays { self.new.trays ≡ self.old.trays }
-        ensures taken { self.new.book ≡ (if is_resolved (under number self.old.book.cells) then taken number self.old.book else self.old.book) }
-    {
-        if number == 0 || number > self.cells.count() {
-            return Err(Error::UnknownTicket);
-        }
-        match self.cells.get(number) {
-            None => Err(Error::AlreadyTaken),
-            Some(Cell::Resolved(outcome)) => {
-                let outcome = *outcome;
-                let _ = self.cells.take(number);
-                Ok(Some(result_of(outcome)))
-            }
-            Some(_) => Ok(None),
         }
     }
 }
@@ -378,6 +425,13 @@ fn queued_channel(cells: &Numbered<Cell>, number: u64) -> u16
         Some(Cell::Queued(channel)) => *channel,
         _ => unreachable!(),
     }
+}
+
+fn lesser(tag: u64, last: u64) -> u64
+    ensures most { (result ≤ tag) × (result ≤ last) }
+    ensures tag { result < last → result ≡ tag }
+{
+    if tag < last { tag } else { last }
 }
 
 fn span_of(tags: &Numbered<u64>) -> u64
@@ -395,16 +449,5 @@ fn outcome_of(kind: SettleKind) -> Outcome
     match kind {
         SettleKind::Ack => Outcome::Ack,
         SettleKind::Nack => Outcome::Nack,
-    }
-}
-
-fn result_of(outcome: Outcome) -> Result<Confirmation, Error>
-    ensures { result ≡ result_of_lem outcome }
-{
-    match outcome {
-        Outcome::NotRequested => Ok(Confirmation::NotRequested),
-        Outcome::Ack => Ok(Confirmation::Ack(None)),
-        Outcome::Nack => Ok(Confirmation::Nack(None)),
-        Outcome::Failed(error) => Err(error),
     }
 }

@@ -7,10 +7,14 @@ ghost use Rattle.lapin_history.specs.declared.marks.SettleKind.{SettleKind as AK
 ghost use Rattle.lapin_history.specs.declared.marks.Settlement.{Settlement as ASettlement};
 ghost use Rattle.lapin_history.specs.declared.marks.Outcome.{Outcome as AnOutcome};
 ghost use Rattle.lapin_history.specs.ConfirmMarks as mark;
-ghost use Rattle.lapin_history.specs.ConfirmReadings.{begins, leaves_on, is_selected, place, has_left, channel_of, tag_of, covers, outcome_at, is_open_outcome};
+ghost use Rattle.lapin_history.specs.ConfirmReadings.{begins, is_begun, is_taken, leaves_on, is_selected, place, has_left, channel_of, tag_of, covers, outcome_at, is_open_outcome, is_full};
 ghost use Rattle.lapin_tables.specs.Numbered.{under};
 ghost use Rattle.lapin_confirm.specs.declared.cell.Cell.TheVariants as cell;
-ghost use Rattle.lapin_confirm.specs.Book.{Book, empty_book, after_mark, settled, rejected, closed_here, ended, queued_count, is_pending, multiple_of};
+ghost use Rattle.lapin_confirm.specs.Book.{Book, empty_book, after_mark, settled, rejected, closed_here, ended, queued_count, is_pending, is_resolved, selected_on, multiple_of, full_on};
+ghost use Rattle.lapin_history.specs.ReturnReadings.{covered, is_waited, letters_of};
+ghost use Rattle.lapin_history.specs.Letters.{arrived_in, attached_to_all, taken_out, set_by, renewed};
+ghost use Rattle.lapin_types.specs.declared.message.BasicReturnMessage.{BasicReturnMessage as AMessage};
+ghost use Rattle.lapin_confirm.specs.Post.{waits_on, covered_in};
 ghost use Rattle.lapin_confirm.specs.Follows.{Follows, WasAdded, MayCome, Resolves};
 
 /// New confirms are what the history without a mark says.
@@ -87,4 +91,29 @@ pub fn multiple_covers()
 /// After a settlement exactly those tags are pending that were and that it does not cover.
 pub fn settlement_leaves()
     ensures { (c t : ℕ) (s : ASettlement) (b : Book) → is_pending c t (settled c s b) ≡ (is_pending c t b && not (covers s t)) }
+{}
+
+/// A book that is what the marks of a history say has something to wait for on a channel exactly where the history has.
+pub fn waits_as_read()
+    ensures { (c : ℕ) (ms : List AMark) (b : Book) → Follows ms b → is_begun c ms ≡ true → waits_on c b ≡ is_waited c ms }
+{}
+
+/// A channel is full in it exactly where the history says so.
+pub fn full_as_read()
+    ensures { (c : ℕ) (ms : List AMark) (b : Book) → Follows ms b → is_begun c ms ≡ true → full_on c b ≡ is_full c ms }
+{}
+
+/// And a settlement resolves in it the confirms that the history says, in the same order: in that order they take messages.
+pub fn covered_as_read()
+    ensures { (c : ℕ) (s : ASettlement) (ms : List AMark) (b : Book) → Follows ms b → is_begun c ms ≡ true → covered_in c (covers s) b ≡ covered c s ms }
+{}
+
+/// The lists of returned messages of a channel, mark by mark, in the words of a book that is what the history says: what each call
+/// does to a channel's tray is what the mark of that call does to the lists of the history.
+pub fn returned_as_read()
+    ensures begun { (c : ℕ) (ms : List AMark) → letters_of c (ms ++ mark.Begun c ∷ []) ≡ renewed (letters_of c ms) }
+    ensures arrived { (c : ℕ) (m : AMessage) (ms : List AMark) (b : Book) → Follows ms b → is_begun c ms ≡ true → letters_of c (ms ++ mark.Arrived c m ∷ []) ≡ arrived_in (selected_on c b) m (letters_of c ms) }
+    ensures settled { (c : ℕ) (s : ASettlement) (ms : List AMark) (b : Book) → Follows ms b → is_begun c ms ≡ true → letters_of c (ms ++ mark.Settled c s ∷ []) ≡ attached_to_all (covered_in c (covers s) b) (letters_of c ms) }
+    ensures taken { (n : ℕ) (ms : List AMark) → letters_of (channel_of n ms) (ms ++ mark.Taken n ∷ []) ≡ taken_out n (letters_of (channel_of n ms) ms) }
+    ensures set_aside { (n : ℕ) (ms : List AMark) (b : Book) → Follows ms b → WasAdded n ms → is_taken n ms ≡ false → letters_of (channel_of n ms) (ms ++ mark.SetAside n ∷ []) ≡ set_by n (is_resolved (under n b.cells)) (letters_of (channel_of n ms) ms) }
 {}

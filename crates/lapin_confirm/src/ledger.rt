@@ -3,11 +3,11 @@
 //! The tags stand in a window from the least pending one to the last taken. Room for the tag of every publish that is
 //! queued is made as the publish is added, so that a tag is taken without memory.
 
-ghost use Rattle.std.specs.Prelude.{◌≡◌, [], false};
+ghost use Rattle.std.specs.Prelude.{◌≡◌, ◌≤◌, false, IfOk, IsOk, if◌then◌else◌};
 ghost use Rattle.lapin_confirm.specs.Ties.{IsFresh};
 
 use lapin_tables::Numbered;
-use std::alloc::Global;
+use std::alloc::{AllocError, Global};
 
 /// What is kept of a channel's opening.
 #[derive(Drop)]
@@ -39,5 +39,17 @@ impl Ledger {
             queued: 0,
             pending: 0,
         }
+    }
+
+    /// The same, with room for the tag of a publish where that is promised.
+    pub fn with_room(alloc: Global, promised: bool) -> Result<Self, AllocError>
+        ensures made { IfOk result (λ ledger. IsFresh ledger × ((if promised then 1 else 0) ≤ ledger.tags.spare)) }
+        ensures succeeds { promised ≡ false → IsOk result }
+    {
+        let mut ledger = Ledger::new(alloc);
+        if promised {
+            ledger.tags.reserve(1)?;
+        }
+        Ok(ledger)
     }
 }

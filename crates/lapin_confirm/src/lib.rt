@@ -1,22 +1,35 @@
-//! Publisher confirms: the outcome of every confirm number, and the ledger of every channel.
+//! Publisher confirms: the outcome of every confirm number, the ledger of every channel, and the messages that came back.
 //!
-//! Here live delivery tags, settlements and what they make of the publishes that wait. Which frames leave, which states a
-//! channel is in and when a settlement is heard are the session's, which calls this crate. Contracts see a `Book`, and
-//! `machine_follows` says that a book that is changed by these calls is always what the history of its marks says.
+//! Here live delivery tags, settlements and what they make of the publishes that wait, and returned messages until they are given.
+//! Which frames leave, which states a channel is in and when a settlement is heard are the session's, which calls this crate.
+//! Contracts see a `Post`: a `Book`, the letters of each channel, and where each publish belongs; and beside it the room.
+//! `machine_follows` says that a book that is changed by these calls is always what the history of its marks says, as long as no
+//! confirm is set aside.
 #![tactic(auto)]
 
+mod attaching;
+mod bare;
 mod cell;
 mod confirms;
+mod draining;
+mod home;
 mod laws;
 mod ledger;
+mod letters;
+mod openings;
+mod results;
 mod returned;
+mod rooms;
 mod settling;
+mod sweep;
 
 pub use cell::Cell;
 pub use confirms::Confirms;
+pub use home::Home;
 pub use lapin_history::SettleKind;
 pub use laws::{
-    a_close_one_by_one, a_close_rejects_what_waits, an_end_leaves_nothing_open, end_takes_close,
-    end_takes_rejected, machine_follows, multiple_covers, nothing_follows, outcome_stays,
-    resolved_by_its_settlement, settlement_leaves, tag_stays, tags_count_up,
+    a_close_one_by_one, a_close_rejects_what_waits, an_end_leaves_nothing_open, covered_as_read,
+    end_takes_close, end_takes_rejected, full_as_read, machine_follows, multiple_covers,
+    nothing_follows, outcome_stays, resolved_by_its_settlement, returned_as_read,
+    settlement_leaves, tag_stays, tags_count_up, waits_as_read,
 };

@@ -3,17 +3,21 @@
 //! A message is moved from list to list, never copied. Where one waits for a settlement there is room for it to be attached to
 //! a confirm, so that a settlement takes no memory.
 
-ghost use Rattle.std.specs.Prelude.{◌≡◌, ℕ, ◌+◌, ◌<◌, ◌≤◌, ◌∷◌, ◌++◌, [], true, false, Some, None, OnOk, OnErr, IsOk, MatchOption, length, slice_get};
+ghost use Rattle.std.specs.Prelude.{List, ◌≡◌, ℕ, ◌+◌, ◌<◌, ◌≤◌, [], true, false, OnOk, OnErr, IsOk, IfOk, length, slice_get};
+ghost use Rattle.std.specs.Bool.{Decides};
 ghost use Rattle.std.specs.VecDeque.{deque_len, deque_capacity};
-ghost use Rattle.lapin_history.specs.Letters.{no_letters, arrived_in, attached_to, attached_to_all, message_at, without, without_all, letter_of, taken_out, set_by, renewed};
-ghost use Rattle.lapin_history.specs.ReturnReadings.{joined};
-ghost use Rattle.lapin_tables.specs.Numbered.{under};
-ghost use Rattle.lapin_tables.specs.ByChannel.{on_channel};
-ghost use Rattle.lapin_confirm.specs.Ties.{trays_of};
-ghost use Rattle.lapin_confirm.specs.Tray.{pending_through, place_in, is_of as is_of_lem, HasPlace};
+ghost use Rattle.lapin_history.specs.Letters.{no_letters, arrived_in, attached_to, message_at, without, without_all, letter_of, taken_out, set_by, renewed, drained_messages, drained_letters};
+ghost use Rattle.std.specs.List.{filter};
+ghost use Rattle.lapin_confirm.specs.Drain.{is_over, remaining, less_all};
+ghost use Rattle.lapin_confirm.specs.declared.ledger.Ledger.{Ledger as ALedger};
+ghost use Rattle.lapin_confirm.specs.Ties.{AllTied};
+ghost use Rattle.lapin_confirm.specs.Tray.{place_in, is_of as is_of_lem, HasPlace};
 
-use lapin_tables::{ByChannel, Numbered};
-use lapin_types::BasicReturnMessage;
+use crate::cell::Cell;
+use crate::home::Home;
+use crate::sweep::{Sweep, leave_one, pour, sweep_all};
+use lapin_tables::Numbered;
+use lapin_types::{BasicReturnMessage, NoMemory};
 use std::alloc::{AllocError, Global};
 use std::collections::VecDeque;
 use std::marker::Model;
@@ -61,10 +65,23 @@ impl Returned {
         }
     }
 
+    /// No message, with room for the first one where that is promised.
+    pub fn with_room(alloc: Global, promised: bool) -> Result<Returned, AllocError>
+        ensures made { IfOk result (λ tray. (tray.letters ≡ no_letters) × (promised ≡ true → HasPlace tray)) }
+        ensures succeeds { promised ≡ false → IsOk result }
+    {
+        let mut tray = Returned::new(alloc);
+        if promised {
+            tray.reserve()?;
+        }
+        Ok(tray)
+    }
+
     /// Makes room for the next `arrive`. The messages stay, also where there is no memory.
     pub fn reserve(&mut self) -> Result<(), AllocError>
         ensures room { OnOk result (HasPlace self.new) }
         ensures same { self.new.letters ≡ self.old.letters }
+        ensures place { HasPlace self.old → HasPlace self.new }
         ensures succeeds { HasPlace self.old → IsOk result }
     {
         self.waiting.reserve(1)?;
@@ -88,6 +105,7 @@ impl Returned {
     pub fn receive(&mut self, selected: bool, message: BasicReturnMessage) -> Result<(), AllocError>
         ensures ok { OnOk result (self.new.letters ≡ arrived_in selected message self.old.letters) }
         ensures err { OnErr result (self.new.letters ≡ self.old.letters) }
+        ensures place { OnErr result (HasPlace self.old → HasPlace self.new) }
         ensures succeeds { HasPlace self.old → IsOk result }
     {
         match self.reserve() {
@@ -100,6 +118,13 @@ impl Returned {
                 Err(error)
             }
         }
+    }
+
+    /// Whether no message waits for a settlement.
+    pub fn has_none_waiting(&self) -> bool
+        ensures { Decides result (self.now.letters.waiting ≡ []) }
+    {
+        self.waiting.is_empty()
     }
 
     /// The oldest waiting message, if there is one, is attached to a confirm.
@@ -122,15 +147,6 @@ impl Returned {
         taken_from(&mut self.attached, number)
     }
 
-    /// Makes room for the next `keep` and the next `lay`.
-    pub fn reserve_aside(&mut self) -> Result<(), AllocError>
-        ensures same { self.new.letters ≡ self.old.letters }
-        ensures place { HasPlace self.old → HasPlace self.new }
-    {
-        self.kept.reserve(1)?;
-        self.aside.reserve(1)
-    }
-
     /// The number of a confirm that was set aside unresolved joins those that stand aside.
     pub fn lay(&mut self, number: u64) -> Result<(), AllocError>
         ensures ok { OnOk result (self.new.letters ≡ set_by number false self.old.letters) }
@@ -142,11 +158,53 @@ impl Returned {
         Ok(())
     }
 
-    /// A new opening begins: nothing waits, is kept or stands aside. Messages of confirms that were not asked for yet stay.
-    pub fn renew(&mut self)
-        ensures letters { self.new.letters ≡ renewed self.old.letters }
+    /// A confirm is set aside: its message is kept where it is resolved, else its number stands aside.
+    pub fn put_by(&mut self, number: u64, resolved: bool) -> Result<(), AllocError>
+        ensures ok { OnOk result (self.new.letters ≡ set_by number resolved self.old.letters) }
+        ensures err { OnErr result (self.new.letters ≡ self.old.letters) }
+        ensures place { HasPlace self.old → HasPlace self.new }
     {
-        forget(&mut self.attached, &mut self.aside);
+        if resolved {
+            self.keep(number)
+        } else {
+            self.lay(number)
+        }
+    }
+
+    /// Gives the unconfirmed messages, the kept ones, and those of confirms that stand aside and are over; and beside them the
+    /// numbers of these confirms.
+    pub fn drain(
+        &mut self,
+        alloc: Global,
+        cells: &Numbered<Cell>,
+    ) -> Result<(Vec<BasicReturnMessage>, VecDeque<u64>), NoMemory>
+        ensures given { IfOk result (λ r. r.0.items ≡ drained_messages (is_over cells.now.slots) self.old.letters) }
+        ensures over { IfOk result (λ r. r.1.items ≡ filter (is_over cells.now.slots) self.old.letters.aside) }
+        ensures letters { OnOk result (self.new.letters ≡ drained_letters (is_over cells.now.slots) self.old.letters) }
+        ensures err { OnErr result (self.new.letters ≡ self.old.letters) }
+        ensures place { HasPlace self.old → HasPlace self.new }
+    {
+        let most = total(self.unconfirmed.len(), self.kept.len(), self.aside.len())?;
+        let mut sweep = Sweep::with_room(alloc, most, self.aside.len())?;
+        pour(&mut self.unconfirmed, &mut sweep.given);
+        pour(&mut self.kept, &mut sweep.given);
+        sweep_all(&mut self.aside, cells, &mut self.attached, &mut sweep);
+        let Sweep { left, over, given } = sweep;
+        self.aside = left;
+        Ok((given, over))
+    }
+
+    /// A new opening begins: nothing waits, is kept or stands aside. Messages of confirms that were not asked for yet stay.
+    /// Of those that stand aside and are resolved nothing is kept any more.
+    pub fn renew(&mut self, cells: &mut Numbered<Cell>, homes: &mut Numbered<Home>)
+        ensures letters { self.new.letters ≡ renewed self.old.letters }
+        ensures place { HasPlace self.old → HasPlace self.new }
+        ensures remains { remaining cells.new.slots homes.new.slots ≡ less_all self.old.letters.aside (remaining cells.old.slots homes.old.slots) }
+        ensures tied { (es : List (ℕ × ALedger)) → AllTied es cells.old.slots → AllTied es cells.new.slots }
+        ensures counts { (length cells.new.slots ≡ length cells.old.slots) × (length homes.new.slots ≡ length homes.old.slots) }
+        ensures kept { (cells.old.spare ≤ cells.new.spare) × (homes.old.spare ≤ homes.new.spare) }
+    {
+        forget(&mut self.attached, &mut self.aside, cells, homes);
         self.waiting.clear();
         self.unconfirmed.clear();
         self.kept.clear();
@@ -166,38 +224,8 @@ impl Returned {
     }
 }
 
-/// The oldest waiting messages are attached to the publishes that are pending with the tags up to one, in rising order of tag.
-pub fn attach_through(tray: &mut Returned, tags: &Numbered<u64>, limit: u64)
-    ensures { tray.new.letters ≡ attached_to_all (pending_through limit tags.now.slots) tray.old.letters }
-{
-    let mut tag = 0;
-    while tag < limit {
-        tag += 1;
-        attach_tag(tray, tags, tag);
-    }
-}
-
-/// The same on one of the channels.
-pub fn attach_on(trays: &mut ByChannel<Returned>, channel: u16, tags: &Numbered<u64>, limit: u64)
-    ensures { trays_of trays.new.entries ≡ on_channel channel (attached_to_all (pending_through limit tags.now.slots)) (trays_of trays.old.entries) }
-{
-    let Some(tray) = trays.get_mut(channel) else {
-        return;
-    };
-    attach_through(tray, tags, limit);
-}
-
-// The oldest waiting message is attached to the publish that is pending with a tag, if one is.
-pub fn attach_tag(tray: &mut Returned, tags: &Numbered<u64>, tag: u64)
-    ensures { tray.new.letters ≡ attached_to_all (joined (under tag tags.now.slots) []) tray.old.letters }
-{
-    if let Some(number) = tags.get(tag) {
-        tray.attach(*number);
-    }
-}
-
-// Takes out the message that a confirm took, if it took one. It walks those that were taken and not given.
-fn taken_from(
+/// Takes out the message that a confirm took, if it took one. It walks those that were taken and not given.
+pub fn taken_from(
     attached: &mut VecDeque<(u64, BasicReturnMessage)>,
     number: u64,
 ) -> Option<BasicReturnMessage>
@@ -214,20 +242,47 @@ fn taken_from(
     }
 }
 
-// Takes out the messages of these confirms.
-fn forget(attached: &mut VecDeque<(u64, BasicReturnMessage)>, numbers: &mut VecDeque<u64>)
+// Takes out the messages of these confirms. Of those that are resolved nothing is kept any more.
+fn forget(
+    attached: &mut VecDeque<(u64, BasicReturnMessage)>,
+    numbers: &mut VecDeque<u64>,
+    cells: &mut Numbered<Cell>,
+    homes: &mut Numbered<Home>,
+)
     ensures items { attached.new.items ≡ without_all numbers.old.items attached.old.items }
     ensures none { numbers.new.items ≡ [] }
     ensures room { (deque_len attached.new ≤ deque_len attached.old) × (deque_capacity attached.new ≡ deque_capacity attached.old) }
+    ensures remains { remaining cells.new.slots homes.new.slots ≡ less_all numbers.old.items (remaining cells.old.slots homes.old.slots) }
+    ensures tied { (es : List (ℕ × ALedger)) → AllTied es cells.old.slots → AllTied es cells.new.slots }
+    ensures counts { (length cells.new.slots ≡ length cells.old.slots) × (length homes.new.slots ≡ length homes.old.slots) }
+    ensures kept { (cells.old.spare ≤ cells.new.spare) × (homes.old.spare ≤ homes.new.spare) }
 {
     while let Some(number) = numbers.pop_front() {
         if let Some(message) = taken_from(attached, number) {
             let_go(message);
         }
+        leave_one(cells, homes, number);
     }
 }
 
-fn let_go(_message: BasicReturnMessage) {}
+/// Lets a message go.
+pub fn let_go(_message: BasicReturnMessage) {}
+
+/// Lets a message go, if there is one.
+pub fn let_go_any(_message: Option<BasicReturnMessage>) {}
+
+// How many these are together.
+fn total(first: usize, second: usize, third: usize) -> Result<usize, NoMemory>
+    ensures { IfOk result (λ n. n ≡ first + second + third) }
+{
+    let Some(two) = first.checked_add(second) else {
+        return Err(NoMemory);
+    };
+    match two.checked_add(third) {
+        Some(most) => Ok(most),
+        None => Err(NoMemory),
+    }
+}
 
 // The place of the message that a confirm took.
 fn place_of(number: u64, attached: &VecDeque<(u64, BasicReturnMessage)>) -> Option<usize>

@@ -3,34 +3,18 @@
 //! Each function keeps the ledger and the cells tied. A settlement looks up one place, or walks from the least pending tag:
 //! what is settled already costs nothing. An end walks the pending tags too, and the numbers only while a publish is queued.
 
-ghost use Rattle.std.specs.Prelude.{◌≡◌, ◌≢◌, ℕ, ◌+◌, ◌-◌, ◌<◌, ◌≤◌, ◌^◌, ◌==◌, nat_le, true, false, List, ◌∷◌, ◌++◌, [], Some, None, OnOk, OnErr, IsOk, length, map, is_some, if◌then◌else◌};
+ghost use Rattle.std.specs.Prelude.{◌≡◌, ◌≢◌, ℕ, ◌+◌, ◌<◌, ◌≤◌, ◌^◌, ◌==◌, nat_le, true, ◌∷◌, ◌++◌, [], Some, length, map, is_some, if◌then◌else◌};
 ghost use Rattle.std.specs.Option.{option_map};
 ghost use Rattle.std.specs.Bool.{Decides};
 ghost use Rattle.lapin_tables.specs.Numbered.{under, with_under};
-ghost use Rattle.lapin_confirm.specs.Book.{Line, tag_for, cell_with, settled_cell, ended_cell, ended_line, next_line};
-ghost use Rattle.lapin_confirm.specs.Ties.{Tied, line_of, room_of, line_after};
+ghost use Rattle.lapin_confirm.specs.Book.{tag_for, cell_with, settled_cell, ended_cell, ended_line};
+ghost use Rattle.lapin_confirm.specs.Ties.{Tied, KeepsTags, line_of, line_after};
 
 use crate::cell::Cell;
 use crate::ledger::Ledger;
 use lapin_history::Outcome;
 use lapin_tables::Numbered;
 use lapin_types::Error;
-use std::alloc::AllocError;
-
-/// Makes room for one more publish of the channel and for its tag.
-pub fn make_room(ledger: &mut Ledger, cells: &mut Numbered<Cell>) -> Result<(), AllocError>
-    requires { ledger.old.queued ≤ ledger.old.tags.spare }
-    ensures cells { cells.new.slots ≡ cells.old.slots }
-    ensures tags { ledger.new.tags.slots ≡ ledger.old.tags.slots }
-    ensures rest { ledger.new ≡ record ledger.old { tags = ledger.new.tags } }
-    ensures spare { OnOk result (0 < cells.new.spare) }
-    ensures room { OnOk result (ledger.new.queued < ledger.new.tags.spare) }
-    ensures kept { ledger.new.queued ≤ ledger.new.tags.spare }
-    ensures succeeds { 0 < cells.old.spare → ledger.old.queued < ledger.old.tags.spare → IsOk result }
-{
-    cells.reserve(1)?;
-    ledger.tags.reserve_beside(ledger.queued)
-}
 
 /// Adds a publish of the channel, in the room that was made.
 pub fn enqueue(channel: u16, ledger: &mut Ledger, cells: &mut Numbered<Cell>) -> u64
@@ -40,6 +24,7 @@ pub fn enqueue(channel: u16, ledger: &mut Ledger, cells: &mut Numbered<Cell>) ->
     requires numbers { length cells.old.slots + 1 < 2 ^ 64 }
     ensures number { result ≡ length cells.old.slots + 1 }
     ensures cells { cells.new.slots ≡ cells.old.slots ++ Some (Cell.Queued channel) ∷ [] }
+    ensures spare { cells.old.spare ≡ cells.new.spare + 1 }
     ensures tied { Tied channel ledger.new cells.new.slots }
     ensures line { line_of ledger.new ≡ line_of ledger.old }
 {
@@ -61,6 +46,8 @@ pub fn leave(
     ensures cells { cells.new.slots ≡ with_under number (Some (cell_with channel result)) cells.old.slots }
     ensures tied { Tied channel ledger.new cells.new.slots }
     ensures line { line_of ledger.new ≡ line_after result (line_of ledger.old) }
+    ensures spare { cells.old.spare ≤ cells.new.spare }
+    ensures room { KeepsTags ledger.old ledger.new }
 {
     let tag = take_tag(ledger, number);
     cells.set(number, cell_for(channel, tag));
@@ -75,6 +62,7 @@ fn take_tag(ledger: &mut Ledger, number: u64) -> Option<u64>
     ensures tag { result ≡ tag_for (Some (line_of ledger.old)) }
     ensures queued { ledger.new.queued + 1 ≡ ledger.old.queued }
     ensures room { ledger.new.queued ≤ ledger.new.tags.spare }
+    ensures kept { KeepsTags ledger.old ledger.new }
     ensures line { line_of ledger.new ≡ line_after result (line_of ledger.old) }
     ensures tags { ledger.new.tags.slots ≡ (if is_some result then ledger.old.tags.slots ++ Some number ∷ [] else ledger.old.tags.slots) }
     ensures pending { ledger.new.pending ≡ (if is_some result then ledger.old.pending + 1 else ledger.old.pending) }
@@ -110,6 +98,8 @@ pub fn settle_tag(
     ensures tied { Tied channel ledger.new cells.new.slots }
     ensures line { line_of ledger.new ≡ line_of ledger.old }
     ensures pending { result ≡ true → ledger.new.pending + 1 ≡ ledger.old.pending }
+    ensures spare { cells.old.spare ≤ cells.new.spare }
+    ensures room { KeepsTags ledger.old ledger.new }
 {
     let Some(number) = ledger.tags.take(tag) else {
         return false;
@@ -131,6 +121,8 @@ pub fn settle_through(
     ensures cells { cells.new.slots ≡ map (option_map (settled_cell channel (λ t. nat_le t limit) outcome)) cells.old.slots }
     ensures tied { Tied channel ledger.new cells.new.slots }
     ensures line { line_of ledger.new ≡ line_of ledger.old }
+    ensures spare { cells.old.spare ≤ cells.new.spare }
+    ensures room { KeepsTags ledger.old ledger.new }
 {
     while let Some(tag) = ledger.tags.first_number() {
         if tag > limit {
@@ -153,6 +145,8 @@ pub fn reject(
     ensures cells { cells.new.slots ≡ with_under number (Some (Cell.Resolved (Outcome.Failed error))) cells.old.slots }
     ensures tied { Tied channel ledger.new cells.new.slots }
     ensures line { line_of ledger.new ≡ line_of ledger.old }
+    ensures spare { cells.old.spare ≤ cells.new.spare }
+    ensures room { KeepsTags ledger.old ledger.new }
 {
     ledger.queued -= 1;
     cells.set(number, Cell::Resolved(Outcome::Failed(error)));
@@ -180,6 +174,8 @@ fn reject_if_queued(
     ensures queued { (n : ℕ) → under n cells.new.slots ≡ Some (Cell.Queued channel) → (n ≢ number) × (under n cells.old.slots ≡ Some (Cell.Queued channel)) }
     ensures tied { Tied channel ledger.new cells.new.slots }
     ensures line { line_of ledger.new ≡ line_of ledger.old }
+    ensures spare { cells.old.spare ≤ cells.new.spare }
+    ensures room { KeepsTags ledger.old ledger.new }
 {
     if !is_queued_on(channel, cells, number) {
         return;
@@ -194,6 +190,8 @@ fn reject_queued(channel: u16, ledger: &mut Ledger, cells: &mut Numbered<Cell>, 
     ensures none { ledger.new.queued ≡ 0 }
     ensures tied { Tied channel ledger.new cells.new.slots }
     ensures line { line_of ledger.new ≡ line_of ledger.old }
+    ensures spare { cells.old.spare ≤ cells.new.spare }
+    ensures room { KeepsTags ledger.old ledger.new }
 {
     let mut number = cells.count();
     while ledger.queued > 0 {
@@ -208,6 +206,8 @@ pub fn end_opening(channel: u16, ledger: &mut Ledger, cells: &mut Numbered<Cell>
     ensures cells { cells.new.slots ≡ map (option_map (ended_cell channel error)) cells.old.slots }
     ensures tied { Tied channel ledger.new cells.new.slots }
     ensures line { line_of ledger.new ≡ ended_line (line_of ledger.old) }
+    ensures spare { cells.old.spare ≤ cells.new.spare }
+    ensures room { KeepsTags ledger.old ledger.new }
 {
     reject_queued(channel, ledger, cells, error);
     let last = ledger.tags.count();

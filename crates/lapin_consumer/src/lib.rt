@@ -14,5 +14,7 @@ mod serving;
 mod state;
 
 pub use consumers::Consumers;
-pub use lapin_acker::{BoxedDelegate, ConsumerDelegate, Delegates, Switch, Switches, Verdict};
+pub use lapin_acker::{
+    BoxedDelegate, ConsumerDelegate, Delegates, FnDelegate, Handler, Switch, Switches, Verdict,
+};
 pub use state::ConsumerState;

@@ -10,7 +10,10 @@ use Rattle.lapin_history.specs.Requests.{requests_in, no_requests}
 use Rattle.lapin_history.specs.Drops.{unbegun, without_channel, without_publishes_of}
 use Rattle.lapin_history.proofs.ChannelLaws.{at-with}
 use Rattle.lapin_outbox.specs.declared.dropped.Dropped.{Dropped}
-use Rattle.lapin_outbox.specs.Drops.{told_publish, unbegun_of, entries_of, without_entry_of, without_unbegun}
+use Rattle.lapin_types.specs.declared.leaving.Left.{Left}
+use Rattle.lapin_outbox.specs.Drops.{told_publish, unbegun_of, entries_of, without_entry_of, without_unbegun, all_entries, without_entry}
+use Rattle.lapin_outbox.specs.Outgoing.{OutboxState, with_lists}
+use Rattle.lapin_outbox.specs.Returned.{is_returned_on, returned_off, channel_entries, outbox_entries, after_drop_channel, after_drop}
 use Rattle.lapin_outbox.specs.Open.{requests_at, without_oldest}
 use Rattle.lapin_outbox.proofs.Dropping.{channel-told, channel-others, channel-empty, unbegun-told, unbegun-others, unbegun-empty, no-first}
 
@@ -84,3 +87,23 @@ requests-smaller c all new r left told =
     let same : length (requests_at c new) ≡ length (drop 1 (requests_at c all)) = ap (λ rs. length rs) (ap (requests_at c) left ∙ requests-behind c all) in
     let less = length-first (requests_at c all) r told in
     omega arith
+
+-- ---- a frame that was given back
+
+-- where none of the channel was given back, a drop of the channel takes from the three lists
+pub off-left : (c : ℕ) (o : OutboxState) → is_returned_on c o.returned ≡ false → after_drop_channel c o ≡ with_lists (without_entry_of c o.lists) o
+off-left c o off = rw off refl
+
+pub off-told : (c : ℕ) (o : OutboxState) → is_returned_on c o.returned ≡ false → channel_entries c o ≡ entries_of c o.lists
+off-told c o off = rw off refl
+
+-- one that was let go is of no channel
+pub let-go : (c : ℕ) (r : Option Left) → is_returned_on c (returned_off c r) ≡ false
+let-go c r = elim (is_returned_on c r) as (λ b. is_returned_on c r ≡ b → is_returned_on c (if b then None else r) ≡ false) [ true ↦ λ on. refl | false ↦ λ off. off ] refl
+
+-- where none was given back, a drop takes from the three lists
+pub none-left : (o : OutboxState) → o.returned ≡ None → after_drop o ≡ with_lists (without_entry o.lists) o
+none-left o none = rw none refl
+
+pub none-told : (o : OutboxState) → o.returned ≡ None → outbox_entries o ≡ all_entries o.lists
+none-told o none = rw none refl

@@ -12,7 +12,7 @@ use Rattle.lapin_outbox.specs.declared.dropped.Dropped.{Dropped}
 use Rattle.lapin_outbox.specs.Drops.{told_publish}
 use Rattle.lapin_confirm.specs.declared.cell.Cell.{Cell}
 use Rattle.lapin_confirm.specs.declared.cell.Cell.TheVariants as cell
-use Rattle.lapin_confirm.specs.Book.{Book, is_queued, is_resolved, rejected, ended, ended_cell}
+use Rattle.lapin_confirm.specs.Book.{Book, is_queued, is_resolved, rejected, ended, ended_cell, closed_cell}
 use Rattle.lapin_desk.specs.Queued.{EachQueued, MayReject, rejected_told}
 
 -- ---- what stands under a number
@@ -205,6 +205,21 @@ ended-queued c e cells (p ∷ ps) h = elim (p.channel == c) as (λ b. (p.channel
     ended-queued c e cells ps h.2,
   )
 ] refl h
+
+-- a close of this side
+pub closed-queued : (c : ℕ) (e : Error) (cells : List (Option Cell)) (ps : List Publish) → EachQueued cells ps → EachQueued (map (option_map (closed_cell c e)) cells) (filter (is_off publish_channel c) ps)
+closed-queued c e cells [] h = tt
+closed-queued c e cells (p ∷ ps) h = elim (p.channel == c) as (λ b. (p.channel == c) ≡ b → EachQueued (map (option_map (closed_cell c e)) cells) (cond (not b) (p ∷ filter (is_off publish_channel c) ps) (filter (is_off publish_channel c) ps))) [
+  | true ↦ λ on. closed-queued c e cells ps h.2
+  | false ↦ λ off. (
+    under-map p.confirm (closed_cell c e) cells ∙ ap (option_map (closed_cell c e)) h.0 ∙ ap Some (closed-other p.channel off),
+    all-filter (λ r. p.confirm ≢ r.confirm) (is_off publish_channel c) ps h.1,
+    closed-queued c e cells ps h.2,
+  )
+] refl
+  where
+    closed-other : (d : ℕ) → (d == c) ≡ false → closed_cell c e (cell.Queued d) ≡ cell.Queued d
+    closed-other d off = rw off refl
 
 pub queued-ended : (c : ℕ) (e : Error) (ps stay : List Publish) (b after : Book) → stay ≡ filter (is_off publish_channel c) ps → after ≡ ended c e b → EachQueued b.cells stay → EachQueued after.cells stay
 queued-ended c e ps stay b after left ends q =

@@ -20,7 +20,10 @@ use Rattle.lapin_confirm.specs.Book.{Book, is_queued_on, is_open_on, is_resolved
 use Rattle.lapin_confirm.proofs.Lines.{same-book}
 use Rattle.lapin_confirm.proofs.Closing.{close-next}
 use Rattle.lapin_desk.specs.Queued.{EachQueued, AllWait, AreQueued, is_publish_of, rejected_told}
-use Rattle.lapin_desk.proofs.Queueing.{under-last, under-map, queued-kept, queued-push, queued-written, resolved_apart, still-queued, queued-ended, first-of}
+use Rattle.lapin_desk.proofs.Queueing.{under-last, under-map, queued-kept, queued-push, queued-written, resolved_apart, still-queued, queued-ended, closed-queued, first-of}
+
+is_eq : (k d : ℕ) → (k == d) ≡ true → k ≡ d
+is_eq k d h = elim (eqb_tells k d) [ inl same ↦ same.1 | inr other ↦ cc ]
 
 and_false : (b : Bool) → (b && false) ≡ false
 and_false true = refl
@@ -165,6 +168,26 @@ queue-ended c e ps stay b after left ends q = record {
   each = queued-ended c e ps stay b after left ends q.each;
   all = let P : Book → Type 0 = λ x. AllWait x.cells stay in subst P (sym ends) (waits-mapped (ended_cell c e) b.cells stay (λ d x. ended-back c d e x) q.all);
 }
+
+-- this side closes a channel, and its publishes are taken out
+pub queue-closed : (c : ℕ) (e : Error) (cells : List (Option Cell)) (ps : List Publish) → AreQueued cells ps → AreQueued (map (option_map (closed_cell c e)) cells) (filter (is_off publish_channel c) ps)
+queue-closed c e cells ps q = record {
+  each = closed-queued c e cells ps q.each;
+  all = λ d n h.
+      let was = still (under n cells) d (sym (ap (is_queued_on d) (under-map n (closed_cell c e) cells)) ∙ h) in
+      any-off c d n ps was.0 ∙ q.all d n was.1;
+}
+  where
+    still : (o : Option Cell) (d : ℕ) → is_queued_on d (option_map (closed_cell c e) o) ≡ true → (c ≢ d) × (is_queued_on d o ≡ true)
+    still None d h = cc
+    still (Some (cell.Queued k)) d h = elim (eqb_tells k c) [
+      | inl here ↦ let none : is_queued_on d (option_map (closed_cell c e) (Some (cell.Queued k))) ≡ false = rw here.0 refl in cc
+      | inr away ↦
+          let same : (k == d) ≡ true = rw away.0 at h in
+          ((λ x. away.1 (is_eq k d same ∙ sym x)), same)
+    ]
+    still (Some (cell.Pending k t)) d h = cc
+    still (Some (cell.Resolved x)) d h = cc
 
 -- nothing waits where nothing is open
 pub queue-none : (cells : List (Option Cell)) → ((c : ℕ) → list_any (is_open_on c) cells ≡ false) → AreQueued cells []

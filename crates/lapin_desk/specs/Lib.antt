@@ -1,3 +1,4 @@
 pub mod Rooms
 pub mod Queued
 pub mod Live
+pub mod Ended

@@ -3,9 +3,10 @@
 //! First all room is made, which may fail and changes nothing that a contract of the session sees; then the call is queued,
 //! which cannot fail.
 
-ghost use Rattle.std.specs.Prelude.{◌≡◌, ◌+◌, ◌^◌, ◌<◌, ◌++◌, ◌∷◌, [], Some, None, OnOk, length};
+ghost use Rattle.std.specs.Prelude.{◌≡◌, ◌+◌, ◌^◌, ◌<◌, Some, None, OnOk, length};
 ghost use Rattle.std.specs.List.{fold};
-ghost use Rattle.lapin_outbox.specs.Outgoing.{with_method};
+ghost use Rattle.lapin_outbox.specs.Outgoing.{with_method, with_lists};
+ghost use Rattle.lapin_outbox.specs.Poison.{poison_on};
 ghost use Rattle.lapin_history.specs.Base.{requests_with};
 ghost use Rattle.lapin_history.specs.TicketReadings as mark;
 ghost use Rattle.lapin_history.specs.Asking.{made_marks};
@@ -20,7 +21,7 @@ use lapin_ticket::Tickets;
 use lapin_types::{Answer, Error, Left, Method, NoMemory, Request};
 use std::alloc::Global;
 
-/// Frames that wait, open requests and tickets.
+/// Frames that wait, open requests and tickets. Nobody poisons the outbox of a desk: what is queued is queued.
 #[derive(Drop)]
 pub struct Desk {
     pub outbox: Outbox,
@@ -36,7 +37,7 @@ impl Desk {
     {
         self.outbox.reserve(alloc)?;
         self.replies.reserve(alloc, channel)?;
-        self.tickets.reserve()?;
+        self.tickets.reserve(alloc, channel)?;
         Ok(())
     }
 
@@ -45,10 +46,10 @@ impl Desk {
     pub fn queue(&mut self, alloc: Global, channel: u16, row: Row) -> u64
         requires room { HasRoom channel self.old }
         requires numbers { length self.old.tickets.slots + 1 < 2 ^ 64 }
+        requires unpoisoned { poison_on channel self.old.outbox.what ≡ None }
         ensures ticket { result ≡ length self.old.tickets.slots + 1 }
-        ensures lists { self.new.outbox.lists ≡ with_method (record { channel = channel; method = row.method; ticket = Some (length self.old.tickets.slots + 1) }) self.old.outbox.lists }
-        ensures frame_max { self.new.outbox.frame_max ≡ self.old.outbox.frame_max }
-        ensures requests { self.new.replies.waiting ≡ requests_with channel (length self.old.tickets.slots + 1) row.awaits self.old.replies.waiting }
+        ensures outbox { self.new.outbox.what ≡ with_lists (with_method (record { channel = channel; method = row.method; ticket = Some (length self.old.tickets.slots + 1) }) self.old.outbox.what.lists) self.old.outbox.what }
+        ensures requests { self.new.replies.what ≡ requests_with channel (length self.old.tickets.slots + 1) row.awaits self.old.replies.what }
         ensures slots { self.new.tickets.slots ≡ fold after_mark (after_mark self.old.tickets.slots (mark.Given channel row.at_leaving)) (made_marks (length self.old.tickets.slots + 1) row.made) }
     {
         let Row {
@@ -77,9 +78,9 @@ impl Desk {
 
     /// Queues a method that no call asked for, in the room that was made.
     pub fn note(&mut self, alloc: Global, channel: u16, method: Method)
-        requires { 0 < self.old.outbox.spare }
-        ensures lists { self.new.outbox.lists ≡ with_method (record { channel = channel; method = method; ticket = None }) self.old.outbox.lists }
-        ensures frame_max { self.new.outbox.frame_max ≡ self.old.outbox.frame_max }
+        requires room { 0 < self.old.outbox.spare }
+        requires unpoisoned { poison_on channel self.old.outbox.what ≡ None }
+        ensures outbox { self.new.outbox.what ≡ with_lists (with_method (record { channel = channel; method = method; ticket = None }) self.old.outbox.what.lists) self.old.outbox.what }
         ensures replies { self.new.replies ≡ self.old.replies }
         ensures tickets { self.new.tickets ≡ self.old.tickets }
     {
@@ -94,7 +95,7 @@ impl Desk {
         ensures slots { self.new.tickets.slots ≡ fold after_mark self.old.tickets.slots (resolved_with answer ticket) }
         ensures outbox { self.new.outbox ≡ self.old.outbox }
         ensures replies { self.new.replies ≡ self.old.replies }
-        ensures room { self.new.tickets.spare ≡ self.old.tickets.spare }
+        ensures room { self.new.tickets.ready ≡ self.old.tickets.ready }
     {
         match ticket {
             Some(ticket) => self.tickets.answer(ticket, answer),

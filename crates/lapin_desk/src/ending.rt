@@ -3,16 +3,20 @@
 //! Each is done whole, in the room that was made before, and takes no memory. The session calls these once it knows that a
 //! close or an end has come.
 
-ghost use Rattle.std.specs.Prelude.{◌≡◌, ◌≤◌};
+ghost use Rattle.std.specs.Prelude.{◌≡◌, ◌≤◌, false, None};
 ghost use Rattle.std.specs.List.{fold};
 ghost use Rattle.lapin_tables.specs.ByChannel.{on_channel};
 ghost use Rattle.lapin_history.specs.Requests.{no_requests};
 ghost use Rattle.lapin_history.specs.Drops.{no_lists, without_publishes_of, without_channel};
+ghost use Rattle.lapin_outbox.specs.Outgoing.{with_lists};
+ghost use Rattle.lapin_outbox.specs.Returned.{is_returned_on};
+ghost use Rattle.lapin_outbox.specs.Open.{KeepsRoom};
 ghost use Rattle.lapin_history.specs.Ends.{ends, live_channels};
 ghost use Rattle.lapin_history.specs.TicketReadings as mark;
 ghost use Rattle.lapin_ticket.specs.Desk as desk;
 ghost use Rattle.lapin_confirm.specs.Book as book;
 ghost use Rattle.lapin_desk.specs.Live.{live_at};
+ghost use Rattle.lapin_desk.specs.Ended.{ended_outbox, emptied_outbox, same_but_lists};
 ghost use Rattle.lapin_desk.specs.Queued.{AreQueued, MayReject, rejected_told};
 
 use crate::desk::Desk;
@@ -25,14 +29,13 @@ impl Desk {
     /// A close of this side: the publishes of a channel that have not begun are taken out, and their tickets and confirms fail
     /// with the error.
     pub fn reject_unbegun(&mut self, confirms: &mut Confirms, channel: u16, error: Error)
-        requires queued { AreQueued confirms.old.book.cells self.old.outbox.lists.publishes }
-        ensures lists { self.new.outbox.lists ≡ without_publishes_of channel self.old.outbox.lists }
+        requires queued { AreQueued confirms.old.what.book.cells self.old.outbox.what.lists.publishes }
+        ensures outbox { self.new.outbox.what ≡ with_lists (without_publishes_of channel self.old.outbox.what.lists) self.old.outbox.what }
         ensures slots { self.new.tickets.slots ≡ desk.after_mark self.old.tickets.slots (mark.ClosedHere channel error) }
-        ensures book { confirms.new.book ≡ book.closed_here channel error confirms.old.book }
-        ensures queued { AreQueued confirms.new.book.cells self.new.outbox.lists.publishes }
+        ensures book { confirms.new.what.book ≡ book.closed_here channel error confirms.old.what.book }
+        ensures queued { AreQueued confirms.new.what.book.cells self.new.outbox.what.lists.publishes }
         ensures requests { self.new.replies ≡ self.old.replies }
-        ensures frame_max { self.new.outbox.frame_max ≡ self.old.outbox.frame_max }
-        ensures room { (self.old.outbox.spare ≤ self.new.outbox.spare) × (self.new.tickets.spare ≡ self.old.tickets.spare) }
+        ensures room { (self.old.outbox.spare ≤ self.new.outbox.spare) × (self.new.tickets.ready ≡ self.old.tickets.ready) }
     {
         self.take_unbegun(confirms, channel, error);
         self.tickets.close(channel, error);
@@ -47,14 +50,13 @@ impl Desk {
         kept: Option<u64>,
         error: Error,
     )
-        requires queued { AreQueued confirms.old.book.cells self.old.outbox.lists.publishes }
-        ensures lists { self.new.outbox.lists ≡ without_channel channel self.old.outbox.lists }
-        ensures requests { self.new.replies.waiting ≡ on_channel channel no_requests self.old.replies.waiting }
+        requires queued { AreQueued confirms.old.what.book.cells self.old.outbox.what.lists.publishes }
+        ensures outbox { self.new.outbox.what ≡ ended_outbox channel self.old.outbox.what }
+        ensures requests { self.new.replies.what ≡ on_channel channel no_requests self.old.replies.what }
         ensures slots { self.new.tickets.slots ≡ desk.after_mark self.old.tickets.slots (mark.OpeningFailed channel kept error) }
-        ensures book { confirms.new.book ≡ book.ended channel error confirms.old.book }
-        ensures queued { AreQueued confirms.new.book.cells self.new.outbox.lists.publishes }
-        ensures frame_max { self.new.outbox.frame_max ≡ self.old.outbox.frame_max }
-        ensures room { (self.old.outbox.spare ≤ self.new.outbox.spare) × (self.new.replies.ready ≡ self.old.replies.ready) × (self.new.tickets.spare ≡ self.old.tickets.spare) }
+        ensures book { confirms.new.what.book ≡ book.ended channel error confirms.old.what.book }
+        ensures queued { AreQueued confirms.new.what.book.cells self.new.outbox.what.lists.publishes }
+        ensures room { (self.old.outbox.spare ≤ self.new.outbox.spare) × KeepsRoom self.old.replies self.new.replies × (self.new.tickets.ready ≡ self.old.tickets.ready) }
     {
         self.end_publishes(confirms, channel, error);
         self.drop_entries(channel);
@@ -71,13 +73,12 @@ impl Desk {
         replies: Replies,
         error: Error,
     )
-        requires queued { AreQueued confirms.old.book.cells self.old.outbox.lists.publishes }
-        ensures lists { self.new.outbox.lists ≡ no_lists }
+        requires queued { AreQueued confirms.old.what.book.cells self.old.outbox.what.lists.publishes }
+        ensures outbox { self.new.outbox.what ≡ emptied_outbox self.old.outbox.what }
         ensures requests { self.new.replies ≡ replies }
         ensures slots { self.new.tickets.slots ≡ desk.after_mark self.old.tickets.slots (mark.AllFailed error) }
-        ensures book { confirms.new.book ≡ fold book.after_mark confirms.old.book (ends error (live_channels phases.now.entries)) }
-        ensures frame_max { self.new.outbox.frame_max ≡ self.old.outbox.frame_max }
-        ensures room { (self.old.outbox.spare ≤ self.new.outbox.spare) × (self.new.tickets.spare ≡ self.old.tickets.spare) }
+        ensures book { confirms.new.what.book ≡ fold book.after_mark confirms.old.what.book (ends error (live_channels phases.now.entries)) }
+        ensures room { (self.old.outbox.spare ≤ self.new.outbox.spare) × (self.new.tickets.ready ≡ self.old.tickets.ready) }
     {
         self.end_live(confirms, phases, error);
         self.drop_waiting();
@@ -88,13 +89,12 @@ impl Desk {
     // The publishes of a channel that have not begun are taken out, and their confirms rejected. What a close of this side
     // makes of the confirms that are left is what it makes of all of them.
     fn take_unbegun(&mut self, confirms: &mut Confirms, channel: u16, error: Error)
-        requires queued { AreQueued confirms.old.book.cells self.old.outbox.lists.publishes }
-        ensures lists { self.new.outbox.lists ≡ without_publishes_of channel self.old.outbox.lists }
-        ensures book { book.closed_here channel error confirms.new.book ≡ book.closed_here channel error confirms.old.book }
-        ensures queued { AreQueued confirms.new.book.cells self.new.outbox.lists.publishes }
+        requires queued { AreQueued confirms.old.what.book.cells self.old.outbox.what.lists.publishes }
+        ensures outbox { self.new.outbox.what ≡ with_lists (without_publishes_of channel self.old.outbox.what.lists) self.old.outbox.what }
+        ensures book { book.closed_here channel error confirms.new.what.book ≡ book.closed_here channel error confirms.old.what.book }
+        ensures queued { AreQueued confirms.new.what.book.cells self.new.outbox.what.lists.publishes }
         ensures requests { self.new.replies ≡ self.old.replies }
         ensures tickets { self.new.tickets ≡ self.old.tickets }
-        ensures frame_max { self.new.outbox.frame_max ≡ self.old.outbox.frame_max }
         ensures room { self.old.outbox.spare ≤ self.new.outbox.spare }
     {
         while let Some(dropped) = self.outbox.drop_unbegun(channel) {
@@ -105,25 +105,35 @@ impl Desk {
     // The publishes of a channel end with its opening: those that have not begun are taken out, so that the end of the confirms
     // costs no more than it resolves.
     fn end_publishes(&mut self, confirms: &mut Confirms, channel: u16, error: Error)
-        requires queued { AreQueued confirms.old.book.cells self.old.outbox.lists.publishes }
-        ensures lists { self.new.outbox.lists ≡ without_publishes_of channel self.old.outbox.lists }
-        ensures book { confirms.new.book ≡ book.ended channel error confirms.old.book }
-        ensures queued { AreQueued confirms.new.book.cells self.new.outbox.lists.publishes }
+        requires queued { AreQueued confirms.old.what.book.cells self.old.outbox.what.lists.publishes }
+        ensures outbox { self.new.outbox.what ≡ with_lists (without_publishes_of channel self.old.outbox.what.lists) self.old.outbox.what }
+        ensures book { confirms.new.what.book ≡ book.ended channel error confirms.old.what.book }
+        ensures queued { AreQueued confirms.new.what.book.cells self.new.outbox.what.lists.publishes }
         ensures requests { self.new.replies ≡ self.old.replies }
         ensures tickets { self.new.tickets ≡ self.old.tickets }
-        ensures frame_max { self.new.outbox.frame_max ≡ self.old.outbox.frame_max }
         ensures room { self.old.outbox.spare ≤ self.new.outbox.spare }
     {
         self.take_unbegun(confirms, channel, error);
         confirms.end(channel, error);
     }
 
-    // Takes out every entry of a channel.
+    // Takes out every entry of a channel. A frame that was given back is let go first, and nothing is told of it: it has left.
     fn drop_entries(&mut self, channel: u16)
-        ensures lists { self.new.outbox.lists ≡ without_channel channel self.old.outbox.lists }
+        ensures outbox { self.new.outbox.what ≡ ended_outbox channel self.old.outbox.what }
         ensures requests { self.new.replies ≡ self.old.replies }
         ensures tickets { self.new.tickets ≡ self.old.tickets }
-        ensures frame_max { self.new.outbox.frame_max ≡ self.old.outbox.frame_max }
+        ensures room { self.old.outbox.spare ≤ self.new.outbox.spare }
+    {
+        self.outbox.let_go(channel);
+        self.drop_waiting_on(channel);
+    }
+
+    // Takes out every entry of a channel that waits in the three lists.
+    fn drop_waiting_on(&mut self, channel: u16)
+        requires { is_returned_on channel self.old.outbox.what.returned ≡ false }
+        ensures outbox { self.new.outbox.what ≡ with_lists (without_channel channel self.old.outbox.what.lists) self.old.outbox.what }
+        ensures requests { self.new.replies ≡ self.old.replies }
+        ensures tickets { self.new.tickets ≡ self.old.tickets }
         ensures room { self.old.outbox.spare ≤ self.new.outbox.spare }
     {
         while let Some(dropped) = self.outbox.drop_channel(channel) {
@@ -133,10 +143,10 @@ impl Desk {
 
     // Takes out every request of a channel.
     fn drop_requests(&mut self, channel: u16)
-        ensures requests { self.new.replies.waiting ≡ on_channel channel no_requests self.old.replies.waiting }
+        ensures requests { self.new.replies.what ≡ on_channel channel no_requests self.old.replies.what }
         ensures outbox { self.new.outbox ≡ self.old.outbox }
         ensures tickets { self.new.tickets ≡ self.old.tickets }
-        ensures room { self.new.replies.ready ≡ self.old.replies.ready }
+        ensures room { KeepsRoom self.old.replies self.new.replies }
     {
         while let Some(request) = self.replies.drain(channel) {
             drop(request);
@@ -145,10 +155,10 @@ impl Desk {
 
     // The publishes of every live opening end, in rising number of its channel. What else waits stays, for `end_all`.
     fn end_live(&mut self, confirms: &mut Confirms, phases: &Phases, error: Error)
-        requires queued { AreQueued confirms.old.book.cells self.old.outbox.lists.publishes }
-        ensures book { confirms.new.book ≡ fold book.after_mark confirms.old.book (ends error (live_channels phases.now.entries)) }
+        requires queued { AreQueued confirms.old.what.book.cells self.old.outbox.what.lists.publishes }
+        ensures book { confirms.new.what.book ≡ fold book.after_mark confirms.old.what.book (ends error (live_channels phases.now.entries)) }
+        ensures rest { same_but_lists self.new.outbox.what ≡ same_but_lists self.old.outbox.what }
         ensures tickets { self.new.tickets ≡ self.old.tickets }
-        ensures frame_max { self.new.outbox.frame_max ≡ self.old.outbox.frame_max }
         ensures room { self.old.outbox.spare ≤ self.new.outbox.spare }
     {
         let reach = phases.reach();
@@ -161,11 +171,11 @@ impl Desk {
 
     // The publishes of the opening of this channel end, if it has a live one.
     fn end_live_at(&mut self, confirms: &mut Confirms, phases: &Phases, number: usize, error: Error)
-        requires queued { AreQueued confirms.old.book.cells self.old.outbox.lists.publishes }
-        ensures book { confirms.new.book ≡ fold book.after_mark confirms.old.book (ends error (live_at number phases.now.entries)) }
-        ensures queued { AreQueued confirms.new.book.cells self.new.outbox.lists.publishes }
+        requires queued { AreQueued confirms.old.what.book.cells self.old.outbox.what.lists.publishes }
+        ensures book { confirms.new.what.book ≡ fold book.after_mark confirms.old.what.book (ends error (live_at number phases.now.entries)) }
+        ensures queued { AreQueued confirms.new.what.book.cells self.new.outbox.what.lists.publishes }
+        ensures rest { same_but_lists self.new.outbox.what ≡ same_but_lists self.old.outbox.what }
         ensures tickets { self.new.tickets ≡ self.old.tickets }
-        ensures frame_max { self.new.outbox.frame_max ≡ self.old.outbox.frame_max }
         ensures room { self.old.outbox.spare ≤ self.new.outbox.spare }
     {
         let Some(channel) = phases.live_at(number) else {
@@ -174,10 +184,21 @@ impl Desk {
         self.end_publishes(confirms, channel, error);
     }
 
-    /// Takes out all that waits. Its tickets stay open.
+    /// Takes out all that waits, and a frame that was given back. Its tickets stay open.
     pub fn drop_waiting(&mut self)
-        ensures lists { self.new.outbox.lists ≡ no_lists }
-        ensures frame_max { self.new.outbox.frame_max ≡ self.old.outbox.frame_max }
+        ensures outbox { self.new.outbox.what ≡ emptied_outbox self.old.outbox.what }
+        ensures replies { self.new.replies ≡ self.old.replies }
+        ensures tickets { self.new.tickets ≡ self.old.tickets }
+        ensures room { self.old.outbox.spare ≤ self.new.outbox.spare }
+    {
+        self.outbox.let_go_all();
+        self.drop_lists();
+    }
+
+    // Takes out all that waits in the three lists.
+    fn drop_lists(&mut self)
+        requires { self.old.outbox.what.returned ≡ None }
+        ensures outbox { self.new.outbox.what ≡ with_lists no_lists self.old.outbox.what }
         ensures replies { self.new.replies ≡ self.old.replies }
         ensures tickets { self.new.tickets ≡ self.old.tickets }
         ensures room { self.old.outbox.spare ≤ self.new.outbox.spare }
@@ -188,8 +209,8 @@ impl Desk {
 
 // Rejects the publish that a drop told of, if it told of one.
 fn reject(confirms: &mut Confirms, publish: Option<u64>, error: Error)
-    requires { MayReject publish confirms.old.book.cells }
-    ensures { confirms.new.book ≡ rejected_told error publish confirms.old.book }
+    requires { MayReject publish confirms.old.what.book.cells }
+    ensures { confirms.new.what.book ≡ rejected_told error publish confirms.old.what.book }
 {
     if let Some(number) = publish {
         confirms.reject(number, error);

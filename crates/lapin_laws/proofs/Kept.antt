@@ -30,7 +30,8 @@ use Rattle.lapin_history.specs.Handing.{frame_record, handed, sent}
 use Rattle.lapin_history.specs.Events.{record_of, after_event, confirm_marks}
 use Rattle.lapin_machine.specs.Stands.{IsShut}
 use Rattle.lapin_machine.specs.Tied.{is_live_on}
-use Rattle.lapin_machine.specs.World.{World, new_world, next, told_by, sight_of}
+use Rattle.lapin_machine.specs.World.{World, new_world, next, next_anew, told_by, sight_of}
+use Rattle.lapin_machine.proofs.Back.{next_keeps, told_none, next_none, still_none}
 use Rattle.lapin_machine.proofs.Shut.{shut-next}
 use Rattle.lapin_laws.specs.Runs.{world_after}
 use Rattle.lapin_laws.specs.Down.{first_method}
@@ -39,13 +40,21 @@ use Rattle.lapin_laws.proofs.Alive.{live_at, Alive, AreAlive, IsRestAlive, none_
 use Rattle.lapin_laws.proofs.Moving.{Sound, start_sound, lost_not_up, shut_refuses}
 use Rattle.lapin_laws.proofs.Going.{goes, lost_sent}
 
+-- no frame is given back in a run
+unreturned_from : (w : World) (es : List Event) → w.returned ≡ None → (fold next w es).returned ≡ None
+unreturned_from w [] h = h
+unreturned_from w (e ∷ es) h = unreturned_from (next w e) es (still_none w e h)
+
+pub unreturned_after : (n : ℕ) (es : List Event) → (world_after n es).returned ≡ None
+unreturned_after n es = unreturned_from (new_world n) es refl
+
 -- what every session keeps
 pub record Kept (n : ℕ) (b : Base) : Type 0 where
   pub sound : Sound n b
   pub shut : IsShut b
 
 pub kept-next : (n : ℕ) (w : World) (e : Event) → Kept n w.base → Kept n (next w e).base
-kept-next n w e k = record { sound = (goes n w.base (sight_of w.book w.slots) e k.shut k.sound).sound; shut = shut-next w.base (sight_of w.book w.slots) e k.shut }
+kept-next n w e k = next_keeps (λ v. Kept n v.base) w e (record { sound = (goes n w.base (sight_of w.book w.slots) e k.shut k.sound).sound; shut = shut-next w.base (sight_of w.book w.slots) e k.shut }) k
 
 kept_from : (n : ℕ) (w : World) (es : List Event) → Kept n w.base → Kept n (fold next w es).base
 kept_from n w [] k = k
@@ -59,7 +68,7 @@ run_sound n es = (run_kept n es).sound
 
 stays_from : (n : ℕ) (w : World) (es : List Event) → Kept n w.base → is_up w.base.link ≡ false → is_up (fold next w es).base.link ≡ false
 stays_from n w [] k d = d
-stays_from n w (e ∷ es) k d = let g = goes n w.base (sight_of w.book w.slots) e k.shut k.sound in stays_from n (next w e) es (kept-next n w e k) (g.down d)
+stays_from n w (e ∷ es) k d = let g = goes n w.base (sight_of w.book w.slots) e k.shut k.sound in stays_from n (next w e) es (kept-next n w e k) (next_keeps (λ v. is_up v.base.link ≡ false) w e (g.down d) d)
 
 pub stays_down : (n : ℕ) (es more : List Event) → is_up (world_after n es).base.link ≡ false → is_up (fold next (world_after n es) more).base.link ≡ false
 stays_down n es more = stays_from n (world_after n es) more (run_kept n es)
@@ -97,7 +106,7 @@ lost-next b see event.Lost h = rw h h
 
 pub stays_lost : (w : World) (es : List Event) → is_lost w.base.link ≡ true → is_lost (fold next w es).base.link ≡ true
 stays_lost w [] h = h
-stays_lost w (e ∷ es) h = stays_lost (next w e) es (lost-next w.base (sight_of w.book w.slots) e h)
+stays_lost w (e ∷ es) h = stays_lost (next w e) es (next_keeps (λ v. is_lost v.base.link ≡ true) w e (lost-next w.base (sight_of w.book w.slots) e h) h)
 
 -- ---- what waits, and what a frame request gives
 
@@ -125,14 +134,14 @@ module _ (n : ℕ) (w : World) (s : Sound n w.base) where
   pub nothing : is_lost w.base.link ≡ true → lists_of w.base ≡ no_lists
   nothing h = let d : is_up w.base.link ≡ false = lost_not_up w.base.link h in rw (no_rest d, s.lost h, no_publishes d) refl
 
-  pub gives : (flow : Bool) → is_up w.base.link ≡ false → told_by w (event.Next flow) ≡ first_method w.base.methods
-  gives flow d = given_by (may_begin flow w.base) w.base.rest w.base.methods w.base.publishes (no_rest d) (no_publishes d)
+  pub gives : w.returned ≡ None → (flow : Bool) → is_up w.base.link ≡ false → told_by w (event.Next flow) ≡ first_method w.base.methods
+  gives none flow d = told_none w (event.Next flow) none ∙ given_by (may_begin flow w.base) w.base.rest w.base.methods w.base.publishes (no_rest d) (no_publishes d)
 
-  pub gives_none : (flow : Bool) → is_lost w.base.link ≡ true → told_by w (event.Next flow) ≡ record_.NoFrame
-  gives_none flow h = gives flow (lost_not_up w.base.link h) ∙ ap first_method (s.lost h)
+  pub gives_none : w.returned ≡ None → (flow : Bool) → is_lost w.base.link ≡ true → told_by w (event.Next flow) ≡ record_.NoFrame
+  gives_none none flow h = gives none flow (lost_not_up w.base.link h) ∙ ap first_method (s.lost h)
 
-  pub leaves : (flow : Bool) → is_up w.base.link ≡ false → (next w (event.Next flow)).base.methods ≡ drop 1 w.base.methods
-  leaves flow d = sent_methods (handed flow w.base) _ ∙ left_by w.base.frame_max (may_begin flow w.base) w.base.rest w.base.methods w.base.publishes (no_rest d) (no_publishes d)
+  pub leaves : w.returned ≡ None → (flow : Bool) → is_up w.base.link ≡ false → (next w (event.Next flow)).base.methods ≡ drop 1 w.base.methods
+  leaves none flow d = ap (λ (v : World). v.base.methods) (next_none w (event.Next flow) none) ∙ sent_methods (handed flow w.base) _ ∙ left_by w.base.frame_max (may_begin flow w.base) w.base.rest w.base.methods w.base.publishes (no_rest d) (no_publishes d)
 
   -- ---- what waits has a live opening
 
@@ -171,4 +180,7 @@ ends_leave_none n es e c h =
     let w : World = world_after n es in
     let k : Kept n w.base = run_kept n es in
     let step = goes n w.base (sight_of w.book w.slots) e k.shut k.sound in
-    not_both (is_up (next w e).base.link) (live_at c (next w e).base.phases) (step.dead c h)
+    let none : w.returned ≡ None = unreturned_after n es in
+    let marked = ap (λ r. list_any (is_channel c) (ended_in (confirm_marks w.base e r))) (sym (told_none w e none)) ∙ h in
+    let P : World → Type 0 = λ v. is_live_on v.base.link (at_channel c v.base.phases) ≡ false in
+    subst P (sym (next_none w e none)) (not_both (is_up (next_anew w e).base.link) (live_at c (next_anew w e).base.phases) (step.dead c marked))

@@ -13,3 +13,6 @@ pub mod Parsing
 pub mod Given
 pub mod Queue
 pub mod Waits
+pub mod Opens
+pub mod Owing
+pub mod Debts

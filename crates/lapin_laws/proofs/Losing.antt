@@ -1,5 +1,5 @@
 -- After a loss no ticket is open.
-use Rattle.std.proofs.Common.{◌≡◌, ℕ, zero, suc, Bool, true, false, cond, not, List, [], ◌∷◌, map, Option, Some, None, Result, Err, refl, sym, ◌∙◌, ap}
+use Rattle.std.proofs.Common.{◌≡◌, ℕ, zero, suc, Bool, true, false, cond, not, List, [], ◌∷◌, map, Option, Some, None, Result, Err, refl, sym, subst, ◌∙◌, ap}
 use Rattle.std.specs.Prelude.{slice_set, slice_index_or}
 use Rattle.std.specs.List.{fold}
 use Rattle.lapin_tables.specs.Numbered.{under, with_under}
@@ -42,7 +42,8 @@ use Rattle.lapin_history.specs.Hearing.{after_received, after_failed, after_refu
 use Rattle.lapin_ticket.specs.declared.Slot.{Slot}
 use Rattle.lapin_ticket.specs.declared.Slot.TheVariants as slot
 use Rattle.lapin_ticket.specs.Desk.{answered_slot, after_mark, is_awaited}
-use Rattle.lapin_machine.specs.World.{World, new_world, next, sight_of}
+use Rattle.lapin_machine.specs.World.{World, new_world, next, sight_of, next_anew}
+use Rattle.lapin_machine.proofs.Back.{next_none, still_none}
 use Rattle.lapin_laws.specs.Runs.{world_after}
 use Rattle.lapin_laws.proofs.Moving.{Sound, allowed_up, start_sound, lost_not_up}
 use Rattle.lapin_laws.proofs.Going.{lost_sent}
@@ -195,22 +196,24 @@ sent_back : (o : Option Left) (b : Base) → is_lost (sent o b).link ≡ true �
 sent_back None b l = l
 sent_back (Some x) b l = sym (lost_sent x.frame b.link) ∙ l
 
-answered-next : (n : ℕ) (w : World) (e : Event) → Sound n w.base → Answered w.base w.slots → Answered (next w e).base (next w e).slots
-answered-next n w (event.Call c k) s h = call_answered c (asked k) w.base w.slots h
-answered-next n w (event.Next flow) s h = λ l.
+answered-anew : (n : ℕ) (w : World) (e : Event) → Sound n w.base → Answered w.base w.slots → Answered (next_anew w e).base (next_anew w e).slots
+answered-anew n w (event.Call c k) s h = call_answered c (asked k) w.base w.slots h
+answered-anew n w (event.Next flow) s h = λ l.
     let was : is_lost w.base.link ≡ true = sent_back (handed flow w.base) _ l in
     let none : handed flow w.base ≡ None = handed_none n flow w s was in
     rw none (h was)
-answered-next n w (event.Receive f) s h = heard_answered (heard f) (sight_of w.book w.slots) (refused (frame_class f) (frame_method f)) w.base w.slots h
-answered-next n w (event.PollTicket m) s h = λ l. polled_none _ m (ticket.Collected m) w.slots refl (h l)
-answered-next n w (event.AsideTicket m) s h = λ l. polled_none _ m (ticket.SetAside m) w.slots refl (h l)
-answered-next n w (event.PollConfirm m) s h = h
-answered-next n w (event.State c) s h = h
-answered-next n w event.Lost s h = λ l. lost_answered w.base w.slots h
+answered-anew n w (event.Receive f) s h = heard_answered (heard f) (sight_of w.book w.slots) (refused (frame_class f) (frame_method f)) w.base w.slots h
+answered-anew n w (event.PollTicket m) s h = λ l. polled_none _ m (ticket.Collected m) w.slots refl (h l)
+answered-anew n w (event.AsideTicket m) s h = λ l. polled_none _ m (ticket.SetAside m) w.slots refl (h l)
+answered-anew n w (event.PollConfirm m) s h = h
+answered-anew n w (event.State c) s h = h
+answered-anew n w event.Lost s h = λ l. lost_answered w.base w.slots h
 
-answered_from : (n : ℕ) (w : World) (es : List Event) → Kept n w.base → Answered w.base w.slots → Answered (fold next w es).base (fold next w es).slots
-answered_from n w [] k h = h
-answered_from n w (e ∷ es) k h = answered_from n (next w e) es (kept-next n w e k) (answered-next n w e k.sound h)
+answered_from : (n : ℕ) (w : World) (es : List Event) → Kept n w.base → w.returned ≡ None → Answered w.base w.slots → Answered (fold next w es).base (fold next w es).slots
+answered_from n w [] k none h = h
+answered_from n w (e ∷ es) k none h =
+    let P : World → Type 0 = λ v. Answered v.base v.slots in
+    answered_from n (next w e) es (kept-next n w e k) (still_none w e none) (subst P (sym (next_none w e none)) (answered-anew n w e k.sound h))
 
 pub answered_after : (n : ℕ) (es : List Event) → Answered (world_after n es).base (world_after n es).slots
-answered_after n es = answered_from n (new_world n) es (record { sound = start_sound n; shut = λ _. refl }) (λ l. let z : false ≡ true = l in absurd cc)
+answered_after n es = answered_from n (new_world n) es (record { sound = start_sound n; shut = λ _. refl }) refl (λ l. let z : false ≡ true = l in absurd cc)

@@ -50,6 +50,7 @@ use Rattle.lapin_history.specs.Events.{record_of, after_event}
 use Rattle.lapin_history.proofs.ChannelLaws.{at-on, at-with}
 use Rattle.lapin_machine.specs.Tied.{is_live_on}
 use Rattle.lapin_machine.specs.World.{World, new_world, next, sight_of}
+use Rattle.lapin_machine.proofs.Back.{next_keeps}
 use Rattle.lapin_laws.specs.Runs.{world_after}
 use Rattle.lapin_laws.proofs.Alive.{live_at, live-with}
 use Rattle.lapin_laws.proofs.Moving.{allowed_up, state_up, both, up_open, open_here, heard_is}
@@ -285,7 +286,7 @@ settled-next b see event.Lost h = lost_settled b h
 
 settled_from : (w : World) (es : List Event) → Settled w.base → Settled (fold next w es).base
 settled_from w [] h = h
-settled_from w (e ∷ es) h = settled_from (next w e) es (settled-next w.base (sight_of w.book w.slots) e h)
+settled_from w (e ∷ es) h = settled_from (next w e) es (next_keeps (λ v. Settled v.base) w e (settled-next w.base (sight_of w.book w.slots) e h) h)
 
 pub settled_after : (n : ℕ) (es : List Event) → Settled (world_after n es).base
 settled_after n es = settled_from (new_world n) es (λ c z dead. refl)

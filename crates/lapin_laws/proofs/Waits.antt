@@ -1,5 +1,5 @@
 -- What waits in the publishes is what is queued in the confirms.
-use Rattle.std.proofs.Common.{◌≡◌, ℕ, ◌+◌, Bool, true, false, cond, not, List, [], ◌∷◌, ◌++◌, length, refl, sym, ◌∙◌, ap, Option, Some, None, Err}
+use Rattle.std.proofs.Common.{◌≡◌, ℕ, ◌+◌, Bool, true, false, cond, not, List, [], ◌∷◌, ◌++◌, length, refl, sym, subst, ◌∙◌, ap, Option, Some, None, Err}
 use Rattle.std.specs.List.{fold}
 use Rattle.lapin_tables.specs.Numbered.{under}
 use Rattle.lapin_types.specs.declared.event.Event.{Event}
@@ -47,7 +47,8 @@ use Rattle.lapin_confirm.specs.Book.{Book, after_mark, is_queued, cell_with}
 use Rattle.lapin_confirm.specs.declared.cell.Cell.{Cell}
 use Rattle.lapin_confirm.specs.declared.cell.Cell.TheVariants as cell
 use Rattle.lapin_machine.specs.Stands.{Stands}
-use Rattle.lapin_machine.specs.World.{World, new_world, next, told_by, outcome_record}
+use Rattle.lapin_machine.specs.World.{World, new_world, next, told_by, outcome_record, next_anew, told_anew}
+use Rattle.lapin_machine.proofs.Back.{given_none, next_none, still_none as still_unreturned}
 use Rattle.lapin_laws.specs.Runs.{world_after}
 use Rattle.lapin_laws.specs.Queue.{queued_in, waiting}
 use Rattle.lapin_laws.proofs.Alive.{AreAlive, none_alive}
@@ -209,24 +210,25 @@ taken_waits false n ps k may h = h
 
 -- ---- every event
 
-waits-next : (n : ℕ) (w : World) (e : Event) → Kept n w.base → w.base.published ≡ length w.book.cells → Waits w.base.publishes w.book → Waits (next w e).base.publishes (next w e).book
-waits-next n w (event.Call c x) kept count h = asked_waits w.base w.book kept.sound.publishes count h c (asked x)
-waits-next n w (event.Next flow) kept count h =
+waits-anew : (n : ℕ) (w : World) (e : Event) → Kept n w.base → w.base.published ≡ length w.book.cells → Waits w.base.publishes w.book → Waits (next_anew w e).base.publishes (next_anew w e).book
+waits-anew n w (event.Call c x) kept count h = asked_waits w.base w.book kept.sound.publishes count h c (asked x)
+waits-anew n w (event.Next flow) kept count h =
     let o : Option Left = handed flow w.base in
     let left : Waits (left_of w.base.frame_max (may_begin flow w.base) w.base.rest w.base.methods w.base.publishes).publishes (fold after_mark w.book (left_marks o)) = left_waits w.base.frame_max (may_begin flow w.base) w.base.rest w.base.methods w.base.publishes w.book h in
     left ∙ ap waiting (sym (sent_publishes o _))
-waits-next n w (event.Receive f) kept count h = heard_waits w.base w.book kept.sound.publishes count h (heard f) (told_by w (event.Receive f))
-waits-next n w (event.PollTicket m) kept count h = h
-waits-next n w (event.PollConfirm m) kept count h = taken_waits (is_confirmed (told_by w (event.PollConfirm m))) m w.base.publishes w.book (known (is_unknown m w.book) (under m w.book.cells)) h
-waits-next n w (event.AsideTicket m) kept count h = h
-waits-next n w (event.State c) kept count h = h
-waits-next n w event.Lost kept count h = lost_waits w.base w.book kept.sound.publishes count h
+waits-anew n w (event.Receive f) kept count h = heard_waits w.base w.book kept.sound.publishes count h (heard f) (told_anew w (event.Receive f))
+waits-anew n w (event.PollTicket m) kept count h = h
+waits-anew n w (event.PollConfirm m) kept count h = taken_waits (is_confirmed (told_anew w (event.PollConfirm m))) m w.base.publishes w.book (known (is_unknown m w.book) (under m w.book.cells)) h
+waits-anew n w (event.AsideTicket m) kept count h = h
+waits-anew n w (event.State c) kept count h = h
+waits-anew n w event.Lost kept count h = lost_waits w.base w.book kept.sound.publishes count h
 
-waits_from : (n : ℕ) (h : History) (w : World) (es : List Event) → Stands n h w → Kept n w.base → Waits w.base.publishes w.book → Waits (fold next w es).base.publishes (fold next w es).book
-waits_from n h w [] stands kept q = q
-waits_from n h w (e ∷ es) stands kept q =
+waits_from : (n : ℕ) (h : History) (w : World) (es : List Event) → w.returned ≡ None → Stands n h w → Kept n w.base → Waits w.base.publishes w.book → Waits (fold next w es).base.publishes (fold next w es).book
+waits_from n h w [] none stands kept q = q
+waits_from n h w (e ∷ es) none stands kept q =
     let count : w.base.published ≡ length w.book.cells = stands.confirms.published ∙ sym stands.confirms.book.count in
-    waits_from n (h ++ (e, told_by w e) ∷ []) (next w e) es (stands_next n h w e stands) (kept-next n w e kept) (waits-next n w e kept count q)
+    let P : World → Type 0 = λ v. Waits v.base.publishes v.book in
+    waits_from n (h ++ (e, told_by w e) ∷ []) (next w e) es (still_unreturned w e none) (stands_next n h w e (given_none w.returned e none) stands) (kept-next n w e kept) (subst P (sym (next_none w e none)) (waits-anew n w e kept count q))
 
 pub waits_after : (n : ℕ) (es : List Event) → queued_in (world_after n es).book.cells ≡ waiting (world_after n es).base.publishes
-waits_after n es = waits_from n [] (new_world n) es (stands_new n) (record { sound = start_sound n; shut = λ _. refl }) refl
+waits_after n es = waits_from n [] (new_world n) es refl (stands_new n) (record { sound = start_sound n; shut = λ _. refl }) refl

@@ -3,17 +3,19 @@
 //! A law here follows from the definitions of the crates below; nothing else lives here, and no code of a session. They are
 //! what a reader looks for in the rules without running them through.
 //!
-//! Not stated here: that each open ticket is owed by something that waits, a frame or a request. That no ticket is left open is said
+//! Not stated here: that each open ticket which a leaving frame answers stands with that frame. That no ticket is left open is said
 //! where it ends: of an opening, of the connection (the laws of tickets), and of a loss (`down_for_good`).
 #![tactic(auto)]
 
 mod down;
 mod leaving;
+mod owed;
 mod standing;
 mod waiting;
 
 pub use down::down_for_good;
 pub use leaving::frames_are_unbroken;
+pub use owed::awaited_replies_are_requested;
 pub use standing::a_session_stands;
 pub use waiting::{
     closes_wait_until_they_leave, only_live_openings_wait, waiting_publishes_are_queued,

@@ -37,7 +37,8 @@ use Rattle.lapin_history.specs.Hearing.{after_heard, after_received, after_faile
 use Rattle.lapin_history.specs.ChannelClose.{after_close_ok}
 use Rattle.lapin_history.specs.Handing.{after_next, handed, sent}
 use Rattle.lapin_history.specs.ConnectionClose.{link_sent, has_sent}
-use Rattle.lapin_machine.specs.World.{World, next, new_world, sight_of}
+use Rattle.lapin_machine.specs.World.{World, next, next_anew, new_world, sight_of}
+use Rattle.lapin_machine.proofs.Back.{next_keeps}
 use Rattle.lapin_machine.specs.Alone.{is_connection_close, IsOneClose, IsCloseAlone, WaitsAlone, without_own_close}
 
 abbrev Alone : Base → Type 0
@@ -205,15 +206,18 @@ heard_alone (link.Closing s was) see f incoming.Other b e h = rw e h
 
 -- ---- every event
 
+alone-anew : (w : World) (e : Event) → Alone w.base → Alone (next_anew w e).base
+alone-anew w (event.Call c k) h = call_alone c (asked k) w.base h
+alone-anew w (event.Next flow) h = next_alone flow w.base.link w.base refl h
+alone-anew w (event.Receive f) h = heard_alone w.base.link (sight_of w.book w.slots) (refused (frame_class f) (frame_method f)) (heard f) w.base refl h
+alone-anew w (event.PollTicket n) h = h
+alone-anew w (event.PollConfirm n) h = h
+alone-anew w (event.AsideTicket n) h = h
+alone-anew w (event.State c) h = h
+alone-anew w event.Lost h = choose_alone (is_lost w.base.link) w.base _ h tt
+
 alone-next : (w : World) (e : Event) → Alone w.base → Alone (next w e).base
-alone-next w (event.Call c k) h = call_alone c (asked k) w.base h
-alone-next w (event.Next flow) h = next_alone flow w.base.link w.base refl h
-alone-next w (event.Receive f) h = heard_alone w.base.link (sight_of w.book w.slots) (refused (frame_class f) (frame_method f)) (heard f) w.base refl h
-alone-next w (event.PollTicket n) h = h
-alone-next w (event.PollConfirm n) h = h
-alone-next w (event.AsideTicket n) h = h
-alone-next w (event.State c) h = h
-alone-next w event.Lost h = choose_alone (is_lost w.base.link) w.base _ h tt
+alone-next w e h = next_keeps (λ v. Alone v.base) w e (alone-anew w e h) h
 
 alone-fold : (w : World) (es : List Event) → Alone w.base → Alone (fold next w es).base
 alone-fold w [] h = h

@@ -29,7 +29,8 @@ use Rattle.lapin_history.specs.ConnectionClose.{after_connection_close}
 use Rattle.lapin_history.specs.Loss.{after_lost}
 use Rattle.lapin_history.specs.Handing.{after_next, handed, sent}
 use Rattle.lapin_history.specs.History.{History, Past, longer, past_on, past}
-use Rattle.lapin_machine.specs.World.{World, next, told_by, IsLonger}
+use Rattle.lapin_machine.specs.World.{World, next, told_anew, IsLonger}
+use Rattle.lapin_machine.proofs.Back.{next_keeps}
 use Rattle.lapin_machine.specs.Stands.{Stands}
 use Rattle.lapin_machine.specs.Numbers.{HasNumbersFor, EventUsedUp, LacksNumber}
 
@@ -153,8 +154,8 @@ pub numbers-next : (n : ℕ) (w : World) (e : Event) → HasNumbersFor (suc n) w
 numbers-next n w e h =
     let tickets : w.base.tickets + suc n < 2 ^ 64 = h.tickets in
     let confirms : w.base.published + suc n < 2 ^ 64 = h.confirms in
-    let more : (next w e).base.tickets ≤ w.base.tickets + 1 = tickets-next w.base e (told_by w e) in
-    let also : (next w e).base.published ≤ w.base.published + 1 = published-next w.base e (told_by w e) in
+    let more : (next w e).base.tickets ≤ w.base.tickets + 1 = next_keeps (λ v. v.base.tickets ≤ w.base.tickets + 1) w e (tickets-next w.base e (told_anew w e)) (omega arith) in
+    let also : (next w e).base.published ≤ w.base.published + 1 = next_keeps (λ v. v.base.published ≤ w.base.published + 1) w e (published-next w.base e (told_anew w e)) (omega arith) in
     record { tickets = omega arith; confirms = omega arith }
 
 more : (n : ℕ) (w : World) → HasNumbersFor (suc n) w → w.base.tickets + 1 ≡ 2 ^ 64 → ⊥

@@ -1,18 +1,16 @@
 -- What ties a session's parts together holds after each change.
 use Rattle.std.proofs.Common.{◌≡◌, ◌≢◌, ℕ, zero, suc, ◌+◌, ◌<◌, ◌==◌, nat_lt, ltb-true, ltb-false, Bool, true, false, cond, ◌||◌, ◌&&◌, List, [], ◌∷◌, ◌++◌, map, length, Option, Some, None, refl, sym, ◌∙◌, ap, subst, arith, slice_set, get_or, inl, inr, ne_eqb, eq-eqb}
-use Rattle.std.specs.Prelude.{IsSome, IsOk, OnOk, Result, Ok, Err}
+use Rattle.std.specs.Prelude.{IsSome}
 use Rattle.std.specs.List.{list_any, fold}
 use Rattle.std.specs.Option.{option_map}
 use Rattle.std.proofs.lemmas.Bool.Decides.{eqb_tells}
 use Rattle.lapin_types.specs.declared.leaving.Publish.{Publish}
 use Rattle.lapin_types.specs.declared.leaving.Left.{Left}
-use Rattle.lapin_types.specs.Types.{ChannelState, Frame, Method, Error}
-use Rattle.lapin_types.specs.Types.channel_state as state
+use Rattle.lapin_types.specs.Types.{Frame, Method, Error}
 use Rattle.lapin_types.specs.Types.frame
 use Rattle.lapin_types.specs.Types.method
 use Rattle.lapin_types.specs.Types.connection
 use Rattle.lapin_types.specs.Types.channel
-use Rattle.lapin_types.specs.declared.request.ReplyKind.{ReplyKind}
 use Rattle.lapin_tables.specs.ByChannel.{at_channel, on_channel}
 use Rattle.lapin_tables.specs.Numbered.{under, with_under}
 use Rattle.lapin_history.specs.declared.marks.Settlement.{Settlement}
@@ -25,18 +23,14 @@ use Rattle.lapin_history.specs.declared.phases.Phase.TheVariants as phase
 use Rattle.lapin_history.specs.declared.phases.Link.{Link}
 use Rattle.lapin_history.specs.declared.phases.Link.TheVariants as link
 use Rattle.lapin_history.specs.Words.{is_some, with_channel}
-use Rattle.lapin_history.specs.Phases.{channel_state, is_live, is_up, phase_in}
+use Rattle.lapin_history.specs.Phases.{is_live, is_up, phase_in}
 use Rattle.lapin_history.specs.ChannelClose.{close_sent}
 use Rattle.lapin_history.specs.ConnectionClose.{link_close_sent}
 use Rattle.lapin_history.specs.ConfirmReadings.{covers, outcome_of}
 use Rattle.lapin_history.specs.Frames.{RestEntry, MethodEntry}
-use Rattle.lapin_history.specs.Leaving.{Lists, left_of, handed_of}
-use Rattle.lapin_history.specs.ChannelClose.{close_ok_end}
-use Rattle.lapin_history.specs.Base.{is_closed, is_open, is_opening, hears_on}
-use Rattle.lapin_history.specs.Opening.{opens, phases_with}
-use Rattle.lapin_history.specs.Reply.{hears}
-use Rattle.lapin_history.specs.ChannelClose.{hears_close, hears_close_ok, phases_sent}
-use Rattle.lapin_history.specs.ConnectionClose.{link_sent, unless_sent}
+use Rattle.lapin_history.specs.Leaving.{left_of, handed_of}
+use Rattle.lapin_history.specs.ChannelClose.{phases_sent}
+use Rattle.lapin_history.specs.ConnectionClose.{link_sent}
 use Rattle.lapin_history.specs.Select.{is_select, queued_marks, method_marks}
 use Rattle.lapin_history.specs.Handing.{left_marks}
 use Rattle.lapin_history.specs.Ends.{beyond, live_below, live_channels, ends}
@@ -50,8 +44,9 @@ use Rattle.lapin_confirm.proofs.Ended.{any-ended}
 use Rattle.lapin_desk.specs.Queued.{AreQueued}
 use Rattle.lapin_desk.proofs.Ends.{ends-join}
 use Rattle.lapin_desk.proofs.Waiting.{queue-push, queue-left, queue-settled, queue-taken, queue-none}
-use Rattle.lapin_machine.specs.Kept.{is_close_sent}
-use Rattle.lapin_machine.specs.Tied.{IsTied, is_live_on, CanRegister}
+use Rattle.lapin_outbox.specs.Outgoing.{OutboxState}
+use Rattle.lapin_outbox.specs.Poison.{poison_on}
+use Rattle.lapin_machine.specs.Tied.{IsTied, NotPoisoned, IsKept, is_live_on, CanRegister}
 
 -- ---- nothing opens on a channel that has no live opening
 
@@ -299,12 +294,12 @@ tied_called l c m phases ps b t = elim (is_select m) as (λ s. IsTied l phases p
   | false ↦ t
 ]
 
-tied_next : (frame_max : ℕ) (flow : Bool) (rest : List RestEntry) (methods : List MethodEntry) (ps : List Publish) (l : Link) (phases : List (ℕ × Phase)) (b : Book) → IsTied l phases ps b → IsTied l phases (left_of frame_max flow rest methods ps).publishes (fold after_mark b (left_marks (handed_of flow rest methods ps)))
-tied_next frame_max flow (f ∷ fs) methods ps l phases b t = t
-tied_next frame_max flow [] (m ∷ ms) ps l phases b t = tied_method l m.channel m.method phases ps b t
-tied_next frame_max true [] [] [] l phases b t = t
-tied_next frame_max true [] [] (p ∷ ps) l phases b t = tied_left l phases p ps b t
-tied_next frame_max false [] [] ps l phases b t = t
+pub tied_leaves : (frame_max : ℕ) (flow : Bool) (rest : List RestEntry) (methods : List MethodEntry) (ps : List Publish) (l : Link) (phases : List (ℕ × Phase)) (b : Book) → IsTied l phases ps b → IsTied l phases (left_of frame_max flow rest methods ps).publishes (fold after_mark b (left_marks (handed_of flow rest methods ps)))
+tied_leaves frame_max flow (f ∷ fs) methods ps l phases b t = t
+tied_leaves frame_max flow [] (m ∷ ms) ps l phases b t = tied_method l m.channel m.method phases ps b t
+tied_leaves frame_max true [] [] [] l phases b t = t
+tied_leaves frame_max true [] [] (p ∷ ps) l phases b t = tied_left l phases p ps b t
+tied_leaves frame_max false [] [] ps l phases b t = t
 
 -- a close of this side that left changes no opening
 some-mapped : {X : Type 0} (f : X → X) (o : Option X) → is_some (option_map f o) ≡ is_some o
@@ -365,7 +360,7 @@ tied_sent (frame.Body c bytes) l phases ps b t = t
 
 -- a frame leaves
 pub tied_handed : (frame_max : ℕ) (flow : Bool) (rest : List RestEntry) (methods : List MethodEntry) (ps : List Publish) (l : Link) (phases : List (ℕ × Phase)) (b : Book) (x : Left) → IsTied l phases ps b → IsTied (link_sent x.frame l) (phases_sent x.frame phases) (left_of frame_max flow rest methods ps).publishes (fold after_mark b (left_marks (handed_of flow rest methods ps)))
-tied_handed frame_max flow rest methods ps l phases b x t = tied_sent x.frame l phases _ _ (tied_next frame_max flow rest methods ps l phases b t)
+tied_handed frame_max flow rest methods ps l phases b x t = tied_sent x.frame l phases _ _ (tied_leaves frame_max flow rest methods ps l phases b t)
 
 -- the publish that leaves is queued
 pub can_register : (flow : Bool) (rest : List RestEntry) (methods : List MethodEntry) (ps : List Publish) (cells : List (Option Cell)) (l : Left) → handed_of flow rest methods ps ≡ Some l → AreQueued cells ps → CanRegister l cells
@@ -413,118 +408,13 @@ tied_by l k s r p q b d el es ep eb t =
     let B : Book → Type 0 = λ x. IsTied k r q x in
     subst L (sym el) (subst S (sym es) (subst P (sym ep) (subst B (sym eb) t)))
 
--- ---- a state tells of the phase
+-- ---- with the outbox
 
--- the state of a channel, by the connection and by where the channel stands
-abbrev state_at : Link → ℕ → Option Phase → ChannelState
-state_at l c o = cond (is_up l) (cond (c == 0) state.Base (channel_state (phase_in o))) state.Down
+pub kept_by : (l k : Link) (s r : List (ℕ × Phase)) (o q : OutboxState) (b d : Book) → l ≡ k → s ≡ r → o ≡ q → b ≡ d → IsTied k r q.lists.publishes d → NotPoisoned q → IsKept l s o b
+kept_by l k s r o q b d el es eo eb t clean =
+    let O : OutboxState → Type 0 = λ x. NotPoisoned x in
+    record { tied = tied_by l k s r o.lists.publishes q.lists.publishes b d el es (ap (λ (x : OutboxState). x.lists.publishes) eo) eb t; unpoisoned = subst O (sym eo) clean }
 
--- what a state says that only a channel above 0 of an open connection can have
-record Stood (l : Link) (o : Option Phase) (t : ChannelState → Bool) : Type 0 where
-  up : is_up l ≡ true
-  at : t (channel_state (phase_in o)) ≡ true
-
-stood : (l : Link) (c : ℕ) (o : Option Phase) (t : ChannelState → Bool) → t state.Base ≡ false → t state.Down ≡ false → t (state_at l c o) ≡ true → Stood l o t
-stood l c o t base down h =
-    elim (is_up l) as (λ u. is_up l ≡ u → t (cond u (cond (c == 0) state.Base (channel_state (phase_in o))) state.Down) ≡ true → Stood l o t) [
-      | true ↦ λ up h. elim (c == 0) as (λ z. t (cond z state.Base (channel_state (phase_in o))) ≡ true → Stood l o t) [ true ↦ λ h. cc | false ↦ λ h. record { up = up; at = h } ] h
-      | false ↦ λ up h. cc
-    ] refl h
-
--- such a channel was opened
-some_at : (o : Option Phase) (t : ChannelState → Bool) → t state.Closed ≡ false → t (channel_state (phase_in o)) ≡ true → is_some o ≡ true
-some_at None t closed h = cc
-some_at (Some p) t closed h = refl
-
-live_at : (o : Option Phase) (t : ChannelState → Bool) → t state.Closed ≡ false → t state.Crossed ≡ false → t (channel_state (phase_in o)) ≡ true → is_live (phase_in o) ≡ true
-live_at None t closed crossed h = cc
-live_at (Some phase.Closed) t closed crossed h = cc
-live_at (Some phase.Opening) t closed crossed h = refl
-live_at (Some (phase.Open paused)) t closed crossed h = refl
-live_at (Some (phase.Closing who sent)) t closed crossed h = refl
-live_at (Some phase.Crossed) t closed crossed h = cc
-
--- a channel in a state of a live opening
-pub record HasOpening (l : Link) (c : ℕ) (phases : List (ℕ × Phase)) : Type 0 where
-  pub up : is_up l ≡ true
-  pub some : is_some (at_channel c phases) ≡ true
-  pub live : is_live_on l (at_channel c phases) ≡ true
-
-has_opening : (l : Link) (c : ℕ) (phases : List (ℕ × Phase)) (t : ChannelState → Bool) → t state.Base ≡ false → t state.Down ≡ false → t state.Closed ≡ false → t state.Crossed ≡ false → t (state_at l c (at_channel c phases)) ≡ true → HasOpening l c phases
-has_opening l c phases t base down closed crossed h =
-    let s = stood l c (at_channel c phases) t base down h in
-    let live : is_live (phase_in (at_channel c phases)) ≡ true = live_at (at_channel c phases) t closed crossed s.at in
-    record { up = s.up; some = some_at (at_channel c phases) t closed s.at; live = rw s.up live }
-
-pub open_opening : (l : Link) (c : ℕ) (phases : List (ℕ × Phase)) → is_open (state_at l c (at_channel c phases)) ≡ true → HasOpening l c phases
-open_opening l c phases h = has_opening l c phases is_open refl refl refl refl h
-
-pub hears_opening : (l : Link) (c : ℕ) (phases : List (ℕ × Phase)) → hears_close (state_at l c (at_channel c phases)) ≡ true → HasOpening l c phases
-hears_opening l c phases h = has_opening l c phases hears_close refl refl refl refl h
-
--- a reply is heard on a channel with a live opening
-pub reply_opening : (l : Link) (c : ℕ) (k : ReplyKind) (phases : List (ℕ × Phase)) → hears k (state_at l c (at_channel c phases)) ≡ true → HasOpening l c phases
-reply_opening l c k phases h = elim (opens k) as (λ o. cond o (is_opening (state_at l c (at_channel c phases))) (hears_on (state_at l c (at_channel c phases))) ≡ true → HasOpening l c phases) [
-  | true ↦ λ h. has_opening l c phases is_opening refl refl refl refl h
-  | false ↦ λ h. has_opening l c phases hears_on refl refl refl refl h
-] h
-
-pub tied_replied : (l : Link) (c : ℕ) (k : ReplyKind) (phases : List (ℕ × Phase)) (ps : List Publish) (b : Book) → HasOpening l c phases → IsTied l phases ps b → IsTied l (phases_with c k phases) ps b
-tied_replied l c k phases ps b h t = elim (opens k) as (λ o. IsTied l (cond o (with_channel c (phase.Open false) phases) phases) ps b) [
-  | true ↦ tied_live l c (phase.Open false) phases ps b h.up refl h.some t
-  | false ↦ t
-]
-
--- a pause, or its end, leaves an open channel open
-pub tied_paused : (l : Link) (c : ℕ) (paused : Bool) (phases : List (ℕ × Phase)) (ps : List Publish) (b : Book) → HasOpening l c phases → IsTied l phases ps b → IsTied l (with_channel c (phase.Open paused) phases) ps b
-tied_paused l c paused phases ps b h t = tied_live l c (phase.Open paused) phases ps b h.up refl h.some t
-
--- close-ok is heard on a channel that was opened
-pub close_ok_some : (l : Link) (c : ℕ) (phases : List (ℕ × Phase)) → hears_close_ok (state_at l c (at_channel c phases)) ≡ true → (is_up l ≡ true) × (is_some (at_channel c phases) ≡ true)
-close_ok_some l c phases h = let s = stood l c (at_channel c phases) hears_close_ok refl refl h in (s.up, some_at (at_channel c phases) hears_close_ok refl s.at)
-
--- a closed channel has no live opening
-pub closed_over : (l : Link) (c : ℕ) (phases : List (ℕ × Phase)) → is_closed (state_at l c (at_channel c phases)) ≡ true → (is_up l ≡ true) × (is_live_on l (at_channel c phases) ≡ false)
-closed_over l c phases h =
-    let s = stood l c (at_channel c phases) is_closed refl refl h in
-    (s.up, rw s.up (over (at_channel c phases) s.at))
-  where
-    over : (o : Option Phase) → is_closed (channel_state (phase_in o)) ≡ true → is_live (phase_in o) ≡ false
-    over None h = refl
-    over (Some phase.Closed) h = refl
-    over (Some phase.Opening) h = cc
-    over (Some (phase.Open paused)) h = cc
-    over (Some (phase.Closing who sent)) h = cc
-    over (Some phase.Crossed) h = cc
-
--- an open channel has a line
-pub open_line : (l : Link) (c : ℕ) (phases : List (ℕ × Phase)) (ps : List Publish) (b : Book) → is_open (state_at l c (at_channel c phases)) ≡ true → IsTied l phases ps b → IsSome (at_channel c b.lines)
-open_line l c phases ps b h t = t.lines c (open_opening l c phases h).some
-
--- a channel whose opening a crossed close ended
-pub crossed_over : (l : Link) (c : ℕ) (phases : List (ℕ × Phase)) → close_ok_end (phase_in (at_channel c phases)) ≡ None → hears_close_ok (state_at l c (at_channel c phases)) ≡ true → is_live_on l (at_channel c phases) ≡ false
-crossed_over l c phases ended h = let s = stood l c (at_channel c phases) hears_close_ok refl refl h in rw s.up (over (at_channel c phases) ended s.at)
-  where
-    over : (o : Option Phase) → close_ok_end (phase_in o) ≡ None → hears_close_ok (channel_state (phase_in o)) ≡ true → is_live (phase_in o) ≡ false
-    over None e h = refl
-    over (Some phase.Closed) e h = refl
-    over (Some phase.Opening) e h = cc
-    over (Some (phase.Open paused)) e h = cc
-    over (Some (phase.Closing who sent)) e h = cc
-    over (Some phase.Crossed) e h = refl
-
--- while this side closes the connection it is not open
-pub sent_down : (l : Link) → is_close_sent l ≡ true → is_up l ≡ false
-sent_down link.Open h = cc
-sent_down (link.Closing sent heard) h = refl
-sent_down link.Closed h = refl
-sent_down link.Lost h = refl
-
-pub tied_unless : (t : Bool) (x : Lists) (l m : Link) (phases : List (ℕ × Phase)) (b : Book) → is_up l ≡ false → IsTied l phases x.publishes b → IsTied m phases (unless_sent t x).publishes b
-tied_unless true x l m phases b down t = tied_further l m phases x.publishes b down t
-tied_unless false x l m phases b down t = tied_dropped l m phases x.publishes b down t
-
--- what holds on Ok holds where the result is Ok
-pub ok_then : {T E : Type 0} (r : Result T E) (P : Type 0) → IsOk r → OnOk r P → P
-ok_then (Ok x) P h p = p
-ok_then (Err e) P h p = cc
+-- a push on an outbox that is not poisoned is no poisoned one
+pub clean : (c : ℕ) (o q : OutboxState) → o ≡ q → NotPoisoned q → poison_on c o ≡ None
+clean c o q same n = ap (poison_on c) same ∙ rw (n.0, n.1) refl

@@ -3,7 +3,12 @@ pub mod TicketStanding
 pub mod ConfirmStanding
 pub mod Standing
 pub mod Keeping
+pub mod Openings
+pub mod Back
+pub mod Ties
+pub mod Gone
 pub mod Channels
+pub mod Counts
 pub mod Worlds
 pub mod Counting
 pub mod Alone

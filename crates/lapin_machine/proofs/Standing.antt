@@ -1,6 +1,6 @@
 -- A session that stands for a history tells the records of that history.
-use Rattle.std.proofs.Common.{◌≡◌, ℕ, cond, List, [], ◌∷◌, ◌++◌, Option, Result, Ok, Err, refl, sym, ◌∙◌, ap, subst, arith}
-use Rattle.std.specs.Result.{IfOk, OnOk}
+use Rattle.std.proofs.Common.{◌≡◌, ℕ, cond, false, List, [], ◌∷◌, ◌++◌, Option, Some, None, Result, Ok, Err, refl, sym, ◌∙◌, ap, subst, arith}
+use Rattle.std.specs.Result.{IfOk, OnOk, OnErr}
 use Rattle.lapin_types.specs.declared.event.Event.{Event}
 use Rattle.lapin_types.specs.declared.event.Event.TheVariants as event
 use Rattle.lapin_types.specs.declared.record.Record.{Record}
@@ -24,7 +24,11 @@ use Rattle.lapin_confirm.specs.Book.{Book}
 use Rattle.lapin_confirm.specs.Follows as confirms
 use Rattle.lapin_ticket.specs.declared.Slot.{Slot}
 use Rattle.lapin_ticket.specs.Follows as tickets
-use Rattle.lapin_machine.specs.World.{World, next, told_by, outputs, new_world, sight_of}
+use Rattle.lapin_types.specs.declared.leaving.Left.{Left}
+use Rattle.lapin_outbox.specs.Returned.{is_retried}
+use Rattle.lapin_machine.specs.Returned.{given_back}
+use Rattle.lapin_machine.specs.World.{World, next, told_by, told_anew, told_or, next_anew, next_or, with_returned, outputs, new_world, sight_of}
+use Rattle.lapin_machine.proofs.Back.{told_step, next_step, given_none, still_none, still_unretried}
 use Rattle.lapin_machine.specs.Stands.{ConfirmsStand, TicketsStand, IsShut, Stands}
 use Rattle.lapin_machine.proofs.Sights.{selected_shown, last_shown, pending_shown, confirm_shown, ticket_shown, aside_shown}
 use Rattle.lapin_machine.proofs.Shut.{shut-next}
@@ -58,25 +62,25 @@ record_same b ms tms bk slots event.Lost h t = refl
 
 -- ---- one event
 
-record Ready (p : Past) (w : World) : Type 0 where
-  base : w.base ≡ p.base
-  shut : IsShut w.base
-  confirms : ConfirmsStand w.base p.confirms w.book
-  tickets : TicketsStand w.base p.tickets w.slots
+pub record Ready (p : Past) (w : World) : Type 0 where
+  pub base : w.base ≡ p.base
+  pub shut : IsShut w.base
+  pub confirms : ConfirmsStand w.base p.confirms w.book
+  pub tickets : TicketsStand w.base p.tickets w.slots
 
-told_same : (p : Past) (w : World) (e : Event) → Ready p w → told_by w e ≡ record_after p e
-told_same p w e r =
+told_same_anew : (p : Past) (w : World) (e : Event) → Ready p w → told_anew w e ≡ record_after p e
+told_same_anew p w e r =
     record_same w.base p.confirms p.tickets w.book w.slots e r.confirms.book r.tickets.kept
     ∙ ap (λ b. record_of b (history.sight_of p.confirms p.tickets) e) r.base
 
-ready-next : (p : Past) (w : World) (e : Event) → Ready p w → Ready (longer p e (told_by w e)) (next w e)
-ready-next p w e r =
-    let told : Record = told_by w e in
+ready-anew : (p : Past) (w : World) (e : Event) → Ready p w → Ready (longer p e (told_anew w e)) (next_anew w e)
+ready-anew p w e r =
+    let told : Record = told_anew w e in
     let same : told ≡ record_of w.base (history.sight_of p.confirms p.tickets) e = record_same w.base p.confirms p.tickets w.book w.slots e r.confirms.book r.tickets.kept in
     let confirms_stand = confirms-next w.base p.confirms p.tickets w.book e told same r.shut r.confirms in
     let tickets_stand = tickets-next w.base p.tickets w.slots e told r.tickets in
-    let D : Base → Type 0 = λ b. ConfirmsStand (after_event w.base e told) (p.confirms ++ confirm_marks b e told) (next w e).book in
-    let T : Base → Type 0 = λ b. TicketsStand (after_event w.base e told) (p.tickets ++ ticket_marks b e told) (next w e).slots in
+    let D : Base → Type 0 = λ b. ConfirmsStand (after_event w.base e told) (p.confirms ++ confirm_marks b e told) (next_anew w e).book in
+    let T : Base → Type 0 = λ b. TicketsStand (after_event w.base e told) (p.tickets ++ ticket_marks b e told) (next_anew w e).slots in
     record {
       base = ap (λ b. after_event b e told) r.base;
       shut = shut-next w.base (sight_of w.book w.slots) e r.shut;
@@ -84,18 +88,29 @@ ready-next p w e r =
       tickets = subst T r.base tickets_stand;
     }
 
+-- where no frame is handed out once more, the event is a step of the history
+pub told_same : (p : Past) (w : World) (e : Event) → given_back w.returned e ≡ None → Ready p w → told_by w e ≡ record_after p e
+told_same p w e step r = told_step w e step ∙ told_same_anew p w e r
+
+pub ready-next : (p : Past) (w : World) (e : Event) → given_back w.returned e ≡ None → Ready p w → Ready (longer p e (told_by w e)) (next w e)
+ready-next p w e step r =
+    let R : Record → Type 0 = λ x. Ready (longer p e x) (next_anew w e) in
+    let V : World → Type 0 = λ v. Ready (longer p e (told_by w e)) v in
+    subst V (sym (next_step w e step)) (subst R (sym (told_step w e step)) (ready-anew p w e r))
+
 -- ---- whole runs
 
 abbrev told_from : Past → List Event → List Record
 told_from p [] = []
 told_from p (e ∷ es) = record_after p e ∷ told_from (longer p e (record_after p e)) es
 
-outputs_told : (p : Past) (w : World) (es : List Event) → Ready p w → outputs w es ≡ told_from p es
-outputs_told p w [] r = refl
-outputs_told p w (e ∷ es) r =
-    let same : told_by w e ≡ record_after p e = told_same p w e r in
+outputs_told : (p : Past) (w : World) (es : List Event) → w.returned ≡ None → Ready p w → outputs w es ≡ told_from p es
+outputs_told p w [] none r = refl
+outputs_told p w (e ∷ es) none r =
+    let step : given_back w.returned e ≡ None = given_none w.returned e none in
+    let same : told_by w e ≡ record_after p e = told_same p w e step r in
     let R : Record → Type 0 = λ x. Ready (longer p e x) (next w e) in
-    let rest : outputs (next w e) es ≡ told_from (longer p e (record_after p e)) es = outputs_told (longer p e (record_after p e)) (next w e) es (subst R same (ready-next p w e r)) in
+    let rest : outputs (next w e) es ≡ told_from (longer p e (record_after p e)) es = outputs_told (longer p e (record_after p e)) (next w e) es (still_none w e none) (subst R same (ready-next p w e step r)) in
     cc
 
 pub past-push : (p : Past) (h : History) (e : Event) (r : Record) → past_on p (h ++ (e, r) ∷ []) ≡ longer (past_on p h) e r
@@ -106,7 +121,7 @@ run_told : (n : ℕ) (h : History) (es : List Event) → run_from n h es ≡ tol
 run_told n h [] = refl
 run_told n h (e ∷ es) = ap (λ rs. rec n h e ∷ rs) (run_told n (h ++ (e, rec n h e) ∷ []) es ∙ ap (λ p. told_from p es) (past-push _ h e (rec n h e)))
 
-new_ready : (n : ℕ) → Ready (past n []) (new_world n)
+pub new_ready : (n : ℕ) → Ready (past n []) (new_world n)
 new_ready n = record {
   base = refl;
   shut = λ _. refl;
@@ -120,23 +135,38 @@ new_ready n = record {
 
 -- a new session tells what the history determines
 pub outputs_run : (n : ℕ) (es : List Event) → outputs (new_world n) es ≡ run n es
-outputs_run n es = outputs_told (past n []) (new_world n) es (new_ready n) ∙ sym (run_told n [] es)
+outputs_run n es = outputs_told (past n []) (new_world n) es refl (new_ready n) ∙ sym (run_told n [] es)
 
 -- a session that stands for a history tells its record, and then stands for the longer history
-pub stands-next : (n : ℕ) (h : History) (w v : World) (e : Event) (r : Record) → Stands n h w → r ≡ told_by w e → v ≡ next w e → (r ≡ rec n h e) × Stands n (h ++ (e, r) ∷ []) v
-stands-next n h w v e r stands told_is next_is =
+pub stands-next : (n : ℕ) (h : History) (w v : World) (e : Event) (r : Record) → given_back w.returned e ≡ None → Stands n h w → r ≡ told_by w e → v ≡ next w e → (r ≡ rec n h e) × Stands n (h ++ (e, r) ∷ []) v
+stands-next n h w v e r step stands told_is next_is =
     let p : Past = past n h in
     let ready : Ready p w = record { base = stands.base; shut = stands.shut; confirms = stands.confirms; tickets = stands.tickets } in
     let long : past n (h ++ (e, r) ∷ []) ≡ longer p e r = past-push _ h e r in
     let R : Record → Type 0 = λ x. Ready (longer p e x) (next w e) in
     let V : World → Type 0 = λ x. Ready (longer p e r) x in
     let P : Past → Type 0 = λ x. Ready x v in
-    let after : Ready (past n (h ++ (e, r) ∷ [])) v = subst P (sym long) (subst V (sym next_is) (subst R (sym told_is) (ready-next p w e ready))) in
-    (told_is ∙ told_same p w e ready, record { base = after.base; shut = after.shut; confirms = after.confirms; tickets = after.tickets })
+    let after : Ready (past n (h ++ (e, r) ∷ [])) v = subst P (sym long) (subst V (sym next_is) (subst R (sym told_is) (ready-next p w e step ready))) in
+    (told_is ∙ told_same p w e step ready, record { base = after.base; shut = after.shut; confirms = after.confirms; tickets = after.tickets })
 
-pub stands_result : {E : Type 0} (res : Result Record E) (w v : World) (e : Event) → IfOk res (λ r. r ≡ told_by w e) → OnOk res (v ≡ next w e) → IfOk res (λ r. (n : ℕ) (h : History) → Stands n h w → (r ≡ rec n h e) × Stands n (h ++ (e, r) ∷ []) v)
-stands_result (Ok r) w v e told_is next_is = λ n h stands. stands-next n h w v e r stands told_is next_is
+-- a frame that is given back, or handed out once more, is no step of a history
+pub stands_back : (n : ℕ) (h : History) (w v : World) (r : Option Left) → v ≡ with_returned r w → Stands n h w → Stands n h v
+stands_back n h w v r is s = let P : World → Type 0 = λ x. Stands n h x in subst P (sym is) (record { base = s.base; shut = s.shut; confirms = s.confirms; tickets = s.tickets })
+
+pub stands_result : {E : Type 0} (res : Result Record E) (w v : World) (e : Event) → IfOk res (λ r. r ≡ told_by w e) → OnOk res (v ≡ next w e) → IfOk res (λ r. (n : ℕ) (h : History) → given_back w.returned e ≡ None → Stands n h w → (r ≡ rec n h e) × Stands n (h ++ (e, r) ∷ []) v)
+stands_result (Ok r) w v e told_is next_is = λ n h step stands. stands-next n h w v e r step stands told_is next_is
 stands_result (Err x) w v e told_is next_is = tt
+
+pub again_result : {E : Type 0} (res : Result Record E) (w v : World) (e : Event) → IfOk res (λ r. r ≡ told_by w e) → OnOk res (v ≡ next w e) → IfOk res (λ r. (l : Left) (n : ℕ) (h : History) → given_back w.returned e ≡ Some l → Stands n h w → (r ≡ record_.Frame l.frame) × Stands n h v)
+again_result (Ok r) w v e told_is next_is = λ l n h back stands. (
+  told_is ∙ ap (λ g. told_or g (told_anew w e)) back,
+  stands_back n h w v None (next_is ∙ ap (λ g. next_or g (next_anew w e) w) back) stands,
+)
+again_result (Err x) w v e told_is next_is = tt
+
+pub unretried_result : {E : Type 0} (res : Result Record E) (w v : World) (e : Event) → OnOk res (v ≡ next w e) → OnErr res (v ≡ w) → is_retried w.returned ≡ false → is_retried v.returned ≡ false
+unretried_result (Ok r) w v e next_is same h = still_unretried w v e next_is h
+unretried_result (Err x) w v e next_is same h = ap (λ (y : World). is_retried y.returned) same ∙ h
 
 -- a new session stands for the history in which nothing happened
 pub new_stands : (n : ℕ) (w : World) → w ≡ new_world n → Stands n [] w

@@ -8,6 +8,8 @@ use Rattle.lapin_history.specs.declared.phases.Link.{Link}
 use Rattle.lapin_history.specs.contracts.phases.Phase as phase_row
 use Rattle.lapin_history.specs.contracts.phases.Link as link_row
 use Rattle.lapin_types.specs.contracts.leaving.Publish as publish_row
+use Rattle.lapin_types.specs.declared.leaving.Left.{Left}
+use Rattle.lapin_types.specs.contracts.leaving.Left as left_row
 use Rattle.lapin_types.specs.contracts.request.Request as request_row
 use Rattle.lapin_confirm.specs.contracts.cell.Cell as cell_row
 use Rattle.lapin_ticket.specs.contracts.Slot as slot_row
@@ -49,8 +51,8 @@ base_code =
 abbrev pub world_code : Coded World
 world_code =
     code_by
-    (Base × (Book × List (Option Slot)))
-    (coded× base_code (coded× book_code (coded_list (coded_option slot_row.the_row.coded))))
-    (λ w. (w.base, (w.book, w.slots)))
-    (λ p. record { base = p.0; book = p.1.0; slots = p.1.1 })
+    (Base × (Book × (List (Option Slot) × Option Left)))
+    (coded× base_code (coded× book_code (coded× (coded_list (coded_option slot_row.the_row.coded)) (coded_option left_row.the_row.coded))))
+    (λ w. (w.base, (w.book, (w.slots, w.returned))))
+    (λ p. record { base = p.0; book = p.1.0; slots = p.1.1.0; returned = p.1.1.1 })
     (λ _. refl)

@@ -6,3 +6,4 @@ pub mod Stands
 pub mod Codes
 pub mod Kept
 pub mod Alone
+pub mod Returned

@@ -1,5 +1,5 @@
 -- What a session keeps true of its parts, and the room that a call uses.
-use Rattle.std.specs.Prelude.{◌≡◌, ℕ, ◌&&◌, Bool, true, false, List, [], Option, Some, IsSome}
+use Rattle.std.specs.Prelude.{◌≡◌, ℕ, ◌&&◌, Bool, true, false, List, [], Option, Some, None, IsSome}
 use Rattle.std.specs.List.{list_any}
 use Rattle.lapin_types.specs.declared.leaving.Publish.{Publish}
 use Rattle.lapin_types.specs.declared.leaving.Left.{Left}
@@ -11,6 +11,7 @@ use Rattle.lapin_history.specs.declared.phases.Phase.{Phase}
 use Rattle.lapin_history.specs.declared.phases.Link.{Link}
 use Rattle.lapin_history.specs.Drops.{frame_channel}
 use Rattle.lapin_history.specs.Phases.{is_live, is_up, phase_in}
+use Rattle.lapin_outbox.specs.Outgoing.{OutboxState}
 use Rattle.lapin_desk.specs.Queued.{AreQueued}
 use Rattle.lapin_confirm.specs.Book.{Book, is_open_on}
 use Rattle.lapin_confirm.specs.declared.cell.Cell.{Cell}
@@ -27,6 +28,15 @@ pub record IsTied (l : Link) (phases : List (ℕ × Phase)) (publishes : List Pu
   pub lines : (c : ℕ) → is_some (at_channel c phases) ≡ true → IsSome (at_channel c b.lines)
   pub done : (c : ℕ) → is_live_on l (at_channel c phases) ≡ false → list_any (is_open_on c) b.cells ≡ false
   pub down : is_up l ≡ false → phases ≡ []
+
+-- nobody poisons the outbox: what is queued is queued
+abbrev pub NotPoisoned : OutboxState → Type 0
+NotPoisoned o = (o.poison ≡ None) × (o.errors ≡ [])
+
+-- what a session keeps true of its parts
+pub record IsKept (l : Link) (phases : List (ℕ × Phase)) (o : OutboxState) (b : Book) : Type 0 where
+  pub tied : IsTied l phases o.lists.publishes b
+  pub unpoisoned : NotPoisoned o
 
 -- the publish whose method frame leaves is queued on the frame's channel
 abbrev pub MayRegister : Frame → Option ℕ → Bool → List (Option Cell) → Type 0

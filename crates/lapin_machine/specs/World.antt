@@ -27,15 +27,20 @@ use Rattle.lapin_confirm.specs.Book.{Book, empty_book, selected_on, last_on, is_
 use Rattle.lapin_confirm.specs.Book as book
 use Rattle.lapin_ticket.specs.declared.Slot.{Slot}
 use Rattle.lapin_ticket.specs.Desk as desk
+use Rattle.lapin_types.specs.declared.leaving.Left.{Left}
+use Rattle.lapin_machine.specs.Returned.{given_back}
+use Rattle.lapin_machine.specs.Returned as back
 
--- states, lists, requests and counters; the confirms; the tickets
+-- states, lists, requests and counters; the confirms; the tickets; and the frame that was given back, until it is handed out
+-- again
 pub record World : Type 0 where
   pub base : Base
   pub book : Book
   pub slots : List (Option Slot)
+  pub returned : Option Left
 
 abbrev pub new_world : ℕ → World
-new_world frame_max = record { base = start frame_max; book = empty_book; slots = [] }
+new_world frame_max = record { base = start frame_max; book = empty_book; slots = []; returned = None }
 
 -- ---- what polls meet
 
@@ -67,17 +72,38 @@ sight_of b slots = record {
   ticket_aside = λ n. aside_record (desk.laid n slots);
 }
 
--- the record of an event
-abbrev pub told_by : World → Event → Record
-told_by w e = record_of w.base (sight_of w.book w.slots) e
+-- the record of an event, where no frame is handed out once more
+abbrev pub told_anew : World → Event → Record
+told_anew w e = record_of w.base (sight_of w.book w.slots) e
 
--- what an event leaves
-abbrev pub next : World → Event → World
-next w e = record {
-  base = after_event w.base e (told_by w e);
-  book = fold book.after_mark w.book (confirm_marks w.base e (told_by w e));
-  slots = fold desk.after_mark w.slots (ticket_marks w.base e (told_by w e));
+-- the record of an event: a frame request gives the frame that was given back
+abbrev pub told_or : Option Left → Record → Record
+told_or None r = r
+told_or (Some l) r = record_.Frame l.frame
+
+abbrev pub told_by : World → Event → Record
+told_by w e = told_or (given_back w.returned e) (told_anew w e)
+
+-- what an event leaves, where no frame is handed out once more
+abbrev pub next_anew : World → Event → World
+next_anew w e = record {
+  base = after_event w.base e (told_anew w e);
+  book = fold book.after_mark w.book (confirm_marks w.base e (told_anew w e));
+  slots = fold desk.after_mark w.slots (ticket_marks w.base e (told_anew w e));
+  returned = back.after_event w.base e (told_anew w e) w.returned;
 }
+
+-- a session with this as the frame that was given back
+abbrev pub with_returned : Option Left → World → World
+with_returned r w = record { base = w.base; book = w.book; slots = w.slots; returned = r }
+
+-- what an event leaves: a frame that is handed out once more has left before, so nothing else changes
+abbrev pub next_or : Option Left → World → World → World
+next_or None new w = new
+next_or (Some l) new w = with_returned None w
+
+abbrev pub next : World → Event → World
+next w e = next_or (given_back w.returned e) (next_anew w e) w
 
 -- what a call leaves, that is allowed or refused by its channel's state
 abbrev pub asking : ℕ → Asked → World → World
@@ -85,14 +111,16 @@ asking c k w = record {
   base = after_asking c k w.base;
   book = fold book.after_mark w.book (asking_marks c k w.base);
   slots = fold desk.after_mark w.slots (asking_tickets c k w.base);
+  returned = back.after_asked c k w.base w.returned;
 }
 
--- what a frame request leaves, where t tells whether a publish may begin
+-- what a frame request leaves where no frame was given back, and t tells whether a publish may begin
 abbrev pub handing : Bool → World → World
 handing t w = record {
   base = after_handing t w.base;
   book = fold book.after_mark w.book (left_marks (handed_out t w.base));
   slots = fold desk.after_mark w.slots (left_tickets (handed_out t w.base));
+  returned = w.returned;
 }
 
 -- what a frame of the broker leaves that got this record
@@ -101,6 +129,7 @@ hearing i r w = record {
   base = after_heard i r w.base;
   book = fold book.after_mark w.book (heard_marks i r w.base);
   slots = fold desk.after_mark w.slots (heard_tickets i r w.base);
+  returned = back.after_heard i r w.base w.returned;
 }
 
 -- what a settlement on a channel that hears it is answered by

@@ -47,7 +47,7 @@ impl Session {
         }
         self.phases.reserve(channel)?;
         self.desk.reserve(alloc, channel)?;
-        self.confirms.begin(alloc, channel)?;
+        self.confirms.begin_bare(alloc, channel)?;
         self.phases.set(channel, Phase::Opening);
         let row = Row {
             method: Method::Channel(ChannelMethod::Open),
@@ -200,7 +200,7 @@ impl Session {
 
 // A call that queues this method was accepted: `confirm.select` asks for confirms.
 fn confirms_called(confirms: &mut Confirms, channel: u16, method: &Method)
-    ensures { confirms.new.book ≡ fold book.after_mark confirms.old.book (queued_marks channel method.now) }
+    ensures { confirms.new.what.book ≡ fold book.after_mark confirms.old.what.book (queued_marks channel method.now) }
 {
     if let Method::Confirm(ConfirmMethod::Select { .. }) = method {
         confirms.select_called(channel);

@@ -11,12 +11,14 @@ ghost use Rattle.lapin_types.specs.declared.call.Call.TheVariants.{ChannelClose,
 ghost use Rattle.lapin_history.specs.Words.{is_some, with_channel};
 ghost use Rattle.lapin_history.specs.Phases.{is_lost as is_lost_lem};
 ghost use Rattle.lapin_history.specs.ChannelClose.{failed_at_close as failed_at_close_lem};
-ghost use Rattle.lapin_history.specs.Drops.{no_lists, without_publishes_of};
+ghost use Rattle.lapin_history.specs.Drops.{without_publishes_of};
+ghost use Rattle.lapin_outbox.specs.Outgoing.{with_lists};
 ghost use Rattle.lapin_history.specs.Ends.{ends, live_channels};
 ghost use Rattle.lapin_history.specs.TicketReadings as mark;
 ghost use Rattle.lapin_confirm.specs.Book as book;
 ghost use Rattle.lapin_ticket.specs.Desk as answers;
 ghost use Rattle.lapin_desk.specs.Queued.{AreQueued};
+ghost use Rattle.lapin_desk.specs.Ended.{emptied_outbox};
 ghost use Rattle.lapin_machine.specs.World.{told_by, next};
 ghost use Rattle.lapin_machine.specs.Told.{TicketTold};
 ghost use Rattle.lapin_machine.specs.Numbers.{HasCause, CallCause};
@@ -204,16 +206,15 @@ pub(crate) fn begin_close(
     closer: Closer,
 )
     requires present { is_some (at_channel channel phases.old.entries) ≡ true }
-    requires queued { AreQueued confirms.old.book.cells desk.old.outbox.lists.publishes }
+    requires queued { AreQueued confirms.old.what.book.cells desk.old.outbox.what.lists.publishes }
     ensures phases { phases.new.entries ≡ with_channel channel (Phase.Closing closer false) phases.old.entries }
-    ensures lists { desk.new.outbox.lists ≡ without_publishes_of channel desk.old.outbox.lists }
+    ensures outbox { desk.new.outbox.what ≡ with_lists (without_publishes_of channel desk.old.outbox.what.lists) desk.old.outbox.what }
     ensures slots { desk.new.tickets.slots ≡ answers.after_mark desk.old.tickets.slots (mark.ClosedHere channel (failed_at_close_lem closer)) }
-    ensures book { confirms.new.book ≡ book.closed_here channel (failed_at_close_lem closer) confirms.old.book }
-    ensures queued { AreQueued confirms.new.book.cells desk.new.outbox.lists.publishes }
+    ensures book { confirms.new.what.book ≡ book.closed_here channel (failed_at_close_lem closer) confirms.old.what.book }
+    ensures queued { AreQueued confirms.new.what.book.cells desk.new.outbox.what.lists.publishes }
     ensures requests { desk.new.replies ≡ desk.old.replies }
-    ensures frame_max { desk.new.outbox.frame_max ≡ desk.old.outbox.frame_max }
-    ensures room { (desk.old.outbox.spare ≤ desk.new.outbox.spare) × (desk.new.tickets.spare ≡ desk.old.tickets.spare) }
-    ensures counts { (length desk.new.tickets.slots ≡ length desk.old.tickets.slots) × (length confirms.new.book.cells ≡ length confirms.old.book.cells) }
+    ensures room { (desk.old.outbox.spare ≤ desk.new.outbox.spare) × (desk.new.tickets.ready ≡ desk.old.tickets.ready) }
+    ensures counts { (length desk.new.tickets.slots ≡ length desk.old.tickets.slots) × (length confirms.new.what.book.cells ≡ length confirms.old.what.book.cells) }
 {
     desk.reject_unbegun(confirms, channel, failed_at_close(closer));
     phases.set(
@@ -236,16 +237,15 @@ pub(crate) fn go_down(
     to: Link,
     error: Error,
 )
-    requires queued { AreQueued confirms.old.book.cells desk.old.outbox.lists.publishes }
+    requires queued { AreQueued confirms.old.what.book.cells desk.old.outbox.what.lists.publishes }
     ensures link { link.new ≡ to }
     ensures phases { phases.new.entries ≡ [] }
-    ensures lists { desk.new.outbox.lists ≡ no_lists }
+    ensures outbox { desk.new.outbox.what ≡ emptied_outbox desk.old.outbox.what }
     ensures slots { desk.new.tickets.slots ≡ answers.after_mark desk.old.tickets.slots (mark.AllFailed error) }
-    ensures book { confirms.new.book ≡ fold book.after_mark confirms.old.book (ends error (live_channels phases.old.entries)) }
+    ensures book { confirms.new.what.book ≡ fold book.after_mark confirms.old.what.book (ends error (live_channels phases.old.entries)) }
     ensures requests { desk.new.replies ≡ replies }
-    ensures frame_max { desk.new.outbox.frame_max ≡ desk.old.outbox.frame_max }
-    ensures room { (desk.old.outbox.spare ≤ desk.new.outbox.spare) × (desk.new.tickets.spare ≡ desk.old.tickets.spare) }
-    ensures counts { (length desk.new.tickets.slots ≡ length desk.old.tickets.slots) × (length confirms.new.book.cells ≡ length confirms.old.book.cells) }
+    ensures room { (desk.old.outbox.spare ≤ desk.new.outbox.spare) × (desk.new.tickets.ready ≡ desk.old.tickets.ready) }
+    ensures counts { (length desk.new.tickets.slots ≡ length desk.old.tickets.slots) × (length confirms.new.what.book.cells ≡ length confirms.old.what.book.cells) }
 {
     desk.end_all(confirms, phases, replies, error);
     phases.clear();

@@ -32,7 +32,7 @@ impl Session {
         ensures told { confirm_record_lem result ≡ told_by self.old (event.PollConfirm number) }
         ensures ok { self.new ≡ next self.old (event.PollConfirm number) }
     {
-        match self.confirms.take(number) {
+        match self.confirms.take_bare(number) {
             Ok(Some(outcome)) => Ok(Poll::Ready(outcome)),
             Ok(None) => Ok(Poll::Pending),
             Err(error) => Err(error),
@@ -63,7 +63,7 @@ impl Session {
     pub fn confirm_ready(&self, number: u64) -> bool
         ensures { result ≡ not (is_pending_record (told_by self.now (event.PollConfirm number))) }
     {
-        self.confirms.ready(number)
+        self.confirms.ready_bare(number)
     }
 
     pub(crate) fn step_state(&self, channel: u16) -> Record

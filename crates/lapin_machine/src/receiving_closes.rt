@@ -2,7 +2,7 @@
 //!
 //! The session comes here once it knows that the frame is heard. What an end drops and resolves stands in `lapin_desk`.
 
-ghost use Rattle.std.specs.Prelude.{◌≡◌, true, false, Some, None};
+ghost use Rattle.std.specs.Prelude.{◌≡◌, ◌<◌, true, false, Some, None, if◌then◌else◌};
 ghost use Rattle.lapin_tables.specs.ByChannel.{on_channel};
 ghost use Rattle.lapin_types.specs.declared.record.Record.TheVariants.{Received};
 ghost use Rattle.lapin_history.specs.declared.broker_frames.Incoming.TheVariants.{ChannelClose as ChannelCloseFrame, ChannelCloseOk as ChannelCloseOkFrame, ConnectionClose as ConnectionCloseFrame, ConnectionCloseOk as ConnectionCloseOkFrame};
@@ -11,9 +11,10 @@ ghost use Rattle.lapin_history.specs.Phases.{is_up};
 ghost use Rattle.lapin_history.specs.ChannelClose.{has_sent_close as has_sent_close_lem};
 ghost use Rattle.lapin_history.specs.Base.{state_of, phase_of};
 ghost use Rattle.lapin_history.specs.ChannelClose.{hears_close as hears_close_lem, hears_close_ok as hears_close_ok_lem};
-ghost use Rattle.lapin_history.specs.ConnectionClose.{unless_sent, has_sent};
+ghost use Rattle.lapin_history.specs.ConnectionClose.{has_sent};
 ghost use Rattle.lapin_history.specs.ChannelClose.{close_ok_end as close_ok_end_lem};
-ghost use Rattle.lapin_outbox.specs.Open.{requests_at};
+ghost use Rattle.lapin_outbox.specs.Open.{requests_at, spare_on, KeepsRoom};
+ghost use Rattle.lapin_desk.specs.Ended.{emptied_outbox};
 ghost use Rattle.lapin_machine.specs.Kept.{kept_request, with_kept, is_close_sent as is_close_sent_lem};
 ghost use Rattle.lapin_machine.specs.World.{hearing};
 ghost use Rattle.lapin_machine.specs.Told.{HeardTold, WasHeard};
@@ -139,9 +140,9 @@ impl Session {
 
 // Where this side's close of a channel has left, its request is taken out, to be kept.
 fn kept_close(replies: &mut Replies, channel: u16, phase: Phase) -> Option<Request>
-    ensures close { result ≡ kept_request (has_sent_close_lem phase) (requests_at channel replies.old.waiting) }
-    ensures emptied { on_channel channel no_requests replies.new.waiting ≡ on_channel channel no_requests replies.old.waiting }
-    ensures ready { replies.new.ready ≡ replies.old.ready }
+    ensures close { result ≡ kept_request (has_sent_close_lem phase) (requests_at channel replies.old.what) }
+    ensures emptied { on_channel channel no_requests replies.new.what ≡ on_channel channel no_requests replies.old.what }
+    ensures room { KeepsRoom replies.old replies.new }
 {
     if !has_sent_close(phase) {
         return None;
@@ -151,8 +152,8 @@ fn kept_close(replies: &mut Replies, channel: u16, phase: Phase) -> Option<Reque
 
 // A request that is kept is open again, in the room that was made.
 fn keep(replies: &mut Replies, alloc: Global, channel: u16, close: Option<Request>)
-    requires { replies.old.ready ≡ Some channel }
-    ensures { replies.new.waiting ≡ with_kept channel close replies.old.waiting }
+    requires { 0 < spare_on channel replies.old }
+    ensures { replies.new.what ≡ with_kept channel close replies.old.what }
 {
     if let Some(request) = close {
         replies.expect(alloc, channel, request).unwrap();
@@ -161,17 +162,16 @@ fn keep(replies: &mut Replies, alloc: Global, channel: u16, close: Option<Reques
 
 // Takes out the oldest request of a kind, if there is one.
 fn take_request(replies: &mut Replies, channel: u16, kind: ReplyKind) -> Option<Request>
-    ensures taken { result ≡ first_request kind (requests_at channel replies.old.waiting) }
-    ensures waiting { replies.new.waiting ≡ on_channel channel (without_kind kind) replies.old.waiting }
-    ensures ready { replies.new.ready ≡ replies.old.ready }
+    ensures taken { result ≡ first_request kind (requests_at channel replies.old.what) }
+    ensures waiting { replies.new.what ≡ on_channel channel (without_kind kind) replies.old.what }
+    ensures room { KeepsRoom replies.old replies.new }
 {
     replies.take_first(channel, kind)
 }
 
 // A close of the connection that has not left is dropped; it is then all that waits.
 fn drop_unsent(link: Link, desk: &mut Desk)
-    ensures lists { desk.new.outbox.lists ≡ unless_sent (has_sent link) desk.old.outbox.lists }
-    ensures frame_max { desk.new.outbox.frame_max ≡ desk.old.outbox.frame_max }
+    ensures outbox { desk.new.outbox.what ≡ (if has_sent link then desk.old.outbox.what else emptied_outbox desk.old.outbox.what) }
     ensures requests { desk.new.replies ≡ desk.old.replies }
     ensures tickets { desk.new.tickets ≡ desk.old.tickets }
 {

@@ -1,6 +1,6 @@
 //! Frames that leave: what a frame request hands out, and what leaving does to confirms, tickets and closes.
 
-ghost use Rattle.std.specs.Prelude.{◌≡◌, ◌&&◌, Some, IfOk, OnOk, OnErr};
+ghost use Rattle.std.specs.Prelude.{◌≡◌, ◌&&◌, ℕ, true, false, Option, Some, None, IfOk, OnOk, OnErr};
 ghost use Rattle.std.specs.List.{fold, list_any};
 ghost use Rattle.lapin_types.specs.declared.event.Event.TheVariants as event;
 ghost use Rattle.lapin_history.specs.Handing.{handed, handed_out};
@@ -12,10 +12,14 @@ ghost use Rattle.lapin_history.specs.Handing.{left_marks, frame_marks};
 ghost use Rattle.lapin_confirm.specs.Book as book;
 ghost use Rattle.lapin_tables.specs.ByChannel.{on_channel};
 ghost use Rattle.lapin_history.specs.ChannelClose.{close_sent as close_sent_lem};
-ghost use Rattle.lapin_history.specs.Phases.{is_up};
+ghost use Rattle.lapin_history.specs.Phases.{is_up, is_lost};
+ghost use Rattle.lapin_history.specs.History.{History};
+ghost use Rattle.lapin_types.specs.declared.leaving.Left.{Left as ALeft};
+ghost use Rattle.lapin_outbox.specs.Returned.{is_retried, given};
+ghost use Rattle.lapin_machine.specs.Stands.{Stands};
 ghost use Rattle.lapin_history.specs.Base.{is_closing as is_closing_lem};
 ghost use Rattle.lapin_history.specs.Phases.{channel_state};
-ghost use Rattle.lapin_machine.specs.World.{told_by, next, handing};
+ghost use Rattle.lapin_machine.specs.World.{told_by, next, handing, with_returned};
 ghost use Rattle.lapin_machine.specs.Numbers.{HasCause, OnlyMemory};
 ghost use Rattle.lapin_machine.specs.Tied.{CanRegister};
 
@@ -29,24 +33,62 @@ use lapin_types::{
 use std::alloc::Global;
 
 impl Session {
-    /// Hands out the next frame: the first of what follows the begun publish, else the first method, else, where `flow` is
-    /// true, the method frame of the first publish. None exactly where none of these is there. A publish whose method frame
-    /// leaves after its channel's first `confirm.select` takes the next delivery tag (RabbitMQ, publisher confirms).
+    /// Hands out the next frame: the one that was given back, marked as handed out again; else the first of what follows the
+    /// begun publish, else the first method, else, where `flow` is true, the method frame of the first publish. None exactly
+    /// where none of these is there. A publish whose method frame leaves after its channel's first `confirm.select` takes the
+    /// next delivery tag (RabbitMQ, publisher confirms).
     ///
     /// # Errors
     /// `NoMemory` alone. Nothing changes then.
     pub fn next_frame(&mut self, alloc: Global, flow: bool) -> Result<Option<Left>, Error>
-        ensures told { IfOk result (λ left. left ≡ handed flow self.old.base) }
+        ensures told { IfOk result (λ left. left ≡ given self.old.returned (handed flow self.old.base)) }
         ensures ok { OnOk result (self.new ≡ next self.old (event.Next flow)) }
         ensures err { OnErr result (self.new ≡ self.old) }
         ensures cause { OnlyMemory result }
     {
+        if self.retrying() {
+            return self.hand_again(alloc);
+        }
         let may_begin = flow && !self.phases.is_any_paused();
         self.hand_out(alloc, may_begin)
     }
 
-    // Hands out the next frame, where it is known whether a publish may begin.
+    /// Gives the frame back that was handed out last: the next frame request hands it out once more. It counts as left, so no
+    /// tag is taken again and no ticket answered again; until then every other call answers as if it was not given back. Where
+    /// the opening of its channel ends before, or all that waits is dropped, the frame is gone. A caller gives back only the
+    /// frame that it was handed last, and not after the opening of its channel ended. It takes no memory.
+    pub fn retry(&mut self, left: Left)
+        requires retrying { is_retried self.old.returned ≡ false }
+        requires lost { is_lost self.old.base.link ≡ false }
+        ensures returned { self.new ≡ with_returned (Some left) self.old }
+
+        // The session stands for what it stood for.
+        ensures stands { (frame_max : ℕ) (h : History) → Stands frame_max h self.old → Stands frame_max h self.new }
+    {
+        self.desk.outbox.retry(left);
+    }
+
+    /// Whether a frame is given back that no frame request has handed out again and no end has taken away.
+    pub fn retrying(&self) -> bool
+        ensures { result ≡ is_retried self.now.returned }
+    {
+        self.desk.outbox.retrying()
+    }
+
+    // Hands out the frame that was given back once more. It has left before, so nothing goes by it.
+    fn hand_again(&mut self, alloc: Global) -> Result<Option<Left>, Error>
+        requires { is_retried self.old.returned ≡ true }
+        ensures told { IfOk result (λ left. left ≡ given self.old.returned None) }
+        ensures ok { OnOk result (self.new ≡ with_returned None self.old) }
+        ensures err { OnErr result (self.new ≡ self.old) }
+        ensures cause { OnlyMemory result }
+    {
+        Ok(self.desk.outbox.pop(alloc, false)?)
+    }
+
+    // Hands out the next frame, where none was given back and it is known whether a publish may begin.
     fn hand_out(&mut self, alloc: Global, may_begin: bool) -> Result<Option<Left>, Error>
+        requires { is_retried self.old.returned ≡ false }
         ensures told { IfOk result (λ left. left ≡ handed_out may_begin self.old.base) }
         ensures ok { OnOk result (self.new ≡ handing may_begin self.old) }
         ensures err { OnErr result (self.new ≡ self.old) }
@@ -85,8 +127,8 @@ fn frame_record(left: Option<Left>) -> Record
 
 // A frame leaves: the first `confirm.select` selects, the method frame of a publish takes a tag.
 fn confirms_left(confirms: &mut Confirms, left: &Left)
-    requires { CanRegister left.now confirms.old.book.cells }
-    ensures { confirms.new.book ≡ fold book.after_mark confirms.old.book (left_marks (Some left.now)) }
+    requires { CanRegister left.now confirms.old.what.book.cells }
+    ensures { confirms.new.what.book ≡ fold book.after_mark confirms.old.what.book (left_marks (Some left.now)) }
 {
     match (left.publish, left.first) {
         (None, _) => select_left(confirms, &left.frame),
@@ -98,7 +140,7 @@ fn confirms_left(confirms: &mut Confirms, left: &Left)
 }
 
 fn select_left(confirms: &mut Confirms, frame: &Frame)
-    ensures { confirms.new.book ≡ fold book.after_mark confirms.old.book (frame_marks frame.now) }
+    ensures { confirms.new.what.book ≡ fold book.after_mark confirms.old.what.book (frame_marks frame.now) }
 {
     if let Frame::Method(channel, Method::Confirm(ConfirmMethod::Select { .. })) = frame {
         confirms.select_left(*channel);

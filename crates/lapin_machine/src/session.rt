@@ -3,13 +3,17 @@
 //! What an event does stands in the files beside this one: calls, closes and the loss, frames that leave, frames of the broker,
 //! polls.
 
-ghost use Rattle.std.specs.Prelude.{◌≡◌, ◌≤◌, ◌++◌, ◌∷◌, [], List, ℕ, None, IfOk, OnOk, OnErr};
+ghost use Rattle.std.specs.Prelude.{◌≡◌, ◌≤◌, ◌++◌, ◌∷◌, [], List, ℕ, false, None, Some, IfOk, OnOk, OnErr};
 ghost use Rattle.lapin_types.specs.declared.event.Event.TheVariants as event;
+ghost use Rattle.lapin_types.specs.declared.leaving.Left.{Left as ALeft};
+ghost use Rattle.lapin_types.specs.declared.record.Record.TheVariants as record_;
 ghost use Rattle.lapin_history.specs.Base.{lists_of, state_of, phase_of, is_open as is_open_lem, is_closed as is_closed_lem, is_base as is_base_lem};
 ghost use Rattle.lapin_history.specs.Phases.{connection_state as connection_state_lem};
 ghost use Rattle.lapin_history.specs.History.{History, rec};
 ghost use Rattle.lapin_machine.specs.World.{told_by, next, new_world};
 ghost use Rattle.lapin_machine.specs.Numbers.{HasCause};
+ghost use Rattle.lapin_outbox.specs.Returned.{is_retried};
+ghost use Rattle.lapin_machine.specs.Returned.{given_back};
 ghost use Rattle.lapin_machine.specs.Stands.{Stands};
 
 use lapin_confirm::Confirms;
@@ -41,25 +45,26 @@ impl Model for Session {
 
     ghost coded = { world_code };
 
-    ghost use Rattle.lapin_machine.specs.Tied.{IsTied};
+    ghost use Rattle.lapin_machine.specs.Tied.{IsKept};
 
     ghost view = { λ a. record {
       base = record {
-        frame_max = a.desk.outbox.frame_max;
+        frame_max = a.desk.outbox.what.frame_max;
         link = a.link;
         phases = a.phases.entries;
-        rest = a.desk.outbox.lists.rest;
-        methods = a.desk.outbox.lists.methods;
-        publishes = a.desk.outbox.lists.publishes;
-        requests = a.desk.replies.waiting;
+        rest = a.desk.outbox.what.lists.rest;
+        methods = a.desk.outbox.what.lists.methods;
+        publishes = a.desk.outbox.what.lists.publishes;
+        requests = a.desk.replies.what;
         tickets = length a.desk.tickets.slots;
-        published = length a.confirms.book.cells;
+        published = length a.confirms.what.book.cells;
       };
-      book = a.confirms.book;
+      book = a.confirms.what.book;
       slots = a.desk.tickets.slots;
+      returned = a.desk.outbox.what.returned;
     } };
 
-    ghost invariant = { λ a. IsTied a.link a.phases.entries a.desk.outbox.lists.publishes a.confirms.book };
+    ghost invariant = { λ a. IsKept a.link a.phases.entries a.desk.outbox.what a.confirms.what.book };
 }
 
 impl Session {
@@ -107,24 +112,26 @@ impl Session {
         self.link.state()
     }
 
-    /// The frames that wait to leave.
+    /// The frames that wait to leave, and beside them the frame that was given back. Nobody poisons it.
     pub fn outbox(&self) -> &Outbox
-        ensures lists { result.now.lists ≡ lists_of self.now.base }
-        ensures frame_max { result.now.frame_max ≡ self.now.base.frame_max }
+        ensures lists { result.now.what.lists ≡ lists_of self.now.base }
+        ensures frame_max { result.now.what.frame_max ≡ self.now.base.frame_max }
+        ensures returned { result.now.what.returned ≡ self.now.returned }
+        ensures poison { (result.now.what.poison ≡ None) × (result.now.what.errors ≡ []) }
     {
         &self.desk.outbox
     }
 
     /// The open requests of each channel.
     pub fn replies(&self) -> &Replies
-        ensures { result.now.waiting ≡ self.now.base.requests }
+        ensures { result.now.what ≡ self.now.base.requests }
     {
         &self.desk.replies
     }
 
     /// The publishes that were accepted, each until its outcome was given.
     pub fn confirms(&self) -> &Confirms
-        ensures { result.now.book ≡ self.now.book }
+        ensures { result.now.what.book ≡ self.now.book }
     {
         &self.confirms
     }
@@ -147,9 +154,15 @@ impl Session {
         ensures err { OnErr result (self.new ≡ self.old) }
         ensures cause { HasCause result event self.old.base }
 
-        // In the words of a history: its record, and the session then stands for the longer one.
-        ensures stands { IfOk result (λ r. (frame_max : ℕ) (h : History) → Stands frame_max h self.old →
+        // In the words of a history: its record, and the session then stands for the longer one; but a frame request that gives
+        // the frame that was given back is no step of the history.
+        ensures stands { IfOk result (λ r. (frame_max : ℕ) (h : History) → given_back self.old.returned event ≡ None → Stands frame_max h self.old →
             (r ≡ rec frame_max h event) × Stands frame_max (h ++ (event, r) ∷ []) self.new) }
+        ensures again { IfOk result (λ r. (left : ALeft) (frame_max : ℕ) (h : History) → given_back self.old.returned event ≡ Some left → Stands frame_max h self.old →
+            (r ≡ record_.Frame left.frame) × Stands frame_max h self.new) }
+
+        // No step gives a frame back.
+        ensures retrying { is_retried self.old.returned ≡ false → is_retried self.new.returned ≡ false }
     {
         self.step_machine(alloc, event)
     }

@@ -1,3 +1,4 @@
 pub mod Entries
 pub mod Methods
 pub mod MethodReading
+pub mod Slots

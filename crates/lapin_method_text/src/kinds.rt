@@ -2,9 +2,13 @@
 //!
 //! Here stands which name is which method's. The fields stand in a file a class; what methods do stands in the crates above.
 
-ghost use Rattle.std.specs.Prelude.{◌≡◌};
+ghost use Rattle.std.specs.Prelude.{◌≡◌, ◌≤◌, length};
+ghost use Rattle.std.specs.List.{slice_get};
 ghost use Rattle.lapin_method_text.specs.MethodReading.{kind_at};
+ghost use Rattle.lapin_method_text.specs.Slots.{slot, candidate as candidate_lem};
 ghost use Rattle.lapin_method_text.specs.Methods.{method_name, connection_name, channel_name, access_name, exchange_name, queue_name, basic_name, confirm_name, tx_name};
+
+use lapin_tokens::is_word;
 
 /// The methods of the class connection (AMQP 0-9-1, class 10).
 #[derive(Clone, Copy, Debug, PartialEq, Eq)]
@@ -297,10 +301,61 @@ pub fn name_of(kind: MethodKind) -> &'static [u8]
     }
 }
 
+/// Where the method stands in `KINDS` whose name has the slot; 54, behind the last, where none has. A slot is made of a name's
+/// length and of three of its bytes, with factors for which no two names share one: for another name they may have to change.
+pub const PLACES: [u8; 128] = [
+    54, 54, 3, 54, 20, 54, 4, 54, 54, 54, 54, 25, 48, 54, 9, 54, 54, 54, 54, 54, 54, 54, 54, 54,
+    54, 54, 54, 22, 17, 54, 54, 30, 54, 54, 12, 54, 54, 0, 47, 38, 54, 11, 18, 54, 54, 54, 54, 21,
+    54, 16, 43, 32, 54, 54, 40, 52, 5, 49, 54, 54, 54, 54, 2, 35, 54, 54, 50, 34, 54, 7, 54, 54,
+    54, 36, 39, 54, 54, 54, 54, 14, 54, 27, 54, 53, 54, 54, 13, 24, 54, 54, 33, 54, 45, 29, 19, 54,
+    54, 54, 42, 31, 54, 8, 26, 23, 54, 54, 54, 44, 54, 54, 54, 41, 54, 54, 6, 51, 54, 10, 28, 54,
+    1, 46, 15, 54, 54, 54, 37, 54,
+];
+
+// The slot of a name.
+fn slot_of(name: &[u8]) -> usize
+    requires long { 5 ≤ length name.now }
+    requires short { length name.now ≤ 19 }
+    ensures { result ≡ slot name.now }
+{
+    let ends = name[3] as usize + name[name.len() - 1] as usize;
+    (17 * name.len() + 8 * ends + 31 * (name[name.len() - 5] as usize)) % 128
+}
+
+// The kind that stands at a place.
+fn kind_in(kinds: &[MethodKind], place: usize) -> Option<MethodKind>
+    ensures { result ≡ slice_get kinds.now place }
+{
+    if place < kinds.len() {
+        Some(kinds[place])
+    } else {
+        None
+    }
+}
+
+// The only method that may have this name.
+#[tactic(auto, unfolding(crate::specs::Slots::candidate))]
+fn candidate(name: &[u8]) -> Option<MethodKind>
+    ensures { result ≡ candidate_lem name.now }
+{
+    if name.len() < 5 || 19 < name.len() {
+        return None;
+    }
+    kind_in(&KINDS, PLACES[slot_of(name)] as usize)
+}
+
 /// The method of which the bytes are the name.
-#[tactic(auto, unfolding(crate::specs::MethodReading::kind_at))]
 pub fn kind_named(name: &[u8]) -> Option<MethodKind>
     ensures { result ≡ kind_at name.now }
 {
-    KINDS.iter().copied().find(|kind| name_of(*kind) == name)
+    match candidate(name) {
+        Some(kind) => {
+            if is_word(name_of(kind), name) {
+                Some(kind)
+            } else {
+                None
+            }
+        }
+        None => None,
+    }
 }

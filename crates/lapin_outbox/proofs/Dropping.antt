@@ -11,7 +11,7 @@ use Rattle.lapin_history.specs.Drops.{frame_channel, no_lists, is_on, method_cha
 use Rattle.lapin_history.specs.Leaving.{Lists}
 use Rattle.lapin_types.specs.declared.leaving.Publish.{Publish}
 use Rattle.lapin_outbox.specs.declared.dropped.Dropped.{Dropped}
-use Rattle.lapin_outbox.specs.declared.outbox.Waiting.{Waiting}
+use Rattle.lapin_outbox.specs.declared.queues.Waiting.{Waiting}
 use Rattle.lapin_outbox.specs.Begun.{following, frames_left}
 use Rattle.lapin_outbox.specs.Outgoing.{has_entries}
 use Rattle.lapin_outbox.specs.Drops.{AreOn, told_rest, told_rest_of, told_method, told_publish, unbegun_of, entries_of, all_entries, without_unbegun, without_entry_of, without_entry}

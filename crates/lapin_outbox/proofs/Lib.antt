@@ -1,8 +1,10 @@
 pub mod Pieces
 pub mod Cuts
 pub mod Waiting
-pub mod Firsts
+pub mod Rooms
 pub mod Chains
 pub mod Lines
 pub mod Dropping
 pub mod DropTickets
+pub mod Poison
+pub mod Returned

@@ -7,11 +7,15 @@ use Rattle.lapin_types.specs.declared.leaving.Publish.{Publish}
 use Rattle.lapin_methods.specs.contracts.frame.Frame as frame_row
 use Rattle.lapin_methods.specs.contracts.method.Method as method_row
 use Rattle.lapin_types.specs.contracts.leaving.Publish as publish_row
+use Rattle.lapin_types.specs.Types.{Error}
+use Rattle.lapin_types.specs.declared.leaving.Left.{Left}
+use Rattle.lapin_types.specs.contracts.leaving.Left as left_row
+use Rattle.lapin_methods.specs.contracts.error.Error as error_row
 use Rattle.lapin_types.specs.declared.request.Request.{Request}
 use Rattle.lapin_types.specs.contracts.request.Request as request_row
 use Rattle.lapin_history.specs.Frames.{MethodEntry, RestEntry}
 use Rattle.lapin_history.specs.Leaving.{Lists}
-use Rattle.lapin_outbox.specs.Outgoing.{Outgoing}
+use Rattle.lapin_outbox.specs.Outgoing.{InQueues, OutboxState, Outgoing}
 use Rattle.lapin_outbox.specs.Open.{OpenOnChannel, OpenRequests}
 
 -- a frame of the begun publish
@@ -44,14 +48,34 @@ lists_code =
     (λ p. record { rest = p.0; methods = p.1.0; publishes = p.1.1 })
     (λ _. refl)
 
+-- the three lists with their room
+abbrev pub queues_code : Coded InQueues
+queues_code =
+    code_by
+    (Lists × ℕ)
+    (coded× lists_code coded_ℕ)
+    (λ q. (q.lists, q.spare))
+    (λ p. record { lists = p.0; spare = p.1 })
+    (λ _. refl)
+
+-- what an outbox holds
+abbrev pub state_code : Coded OutboxState
+state_code =
+    code_by
+    (ℕ × (Lists × (Option Left × (Option Error × List (ℕ × Option Error)))))
+    (coded× coded_ℕ (coded× lists_code (coded× (coded_option left_row.the_row.coded) (coded× (coded_option error_row.the_row.coded) (coded_list (coded× coded_ℕ (coded_option error_row.the_row.coded)))))))
+    (λ o. (o.frame_max, (o.lists, (o.returned, (o.poison, o.errors)))))
+    (λ p. record { frame_max = p.0; lists = p.1.0; returned = p.1.1.0; poison = p.1.1.1.0; errors = p.1.1.1.1 })
+    (λ _. refl)
+
 -- the outbox
 abbrev pub outgoing_code : Coded Outgoing
 outgoing_code =
     code_by
-    (ℕ × (Lists × ℕ))
-    (coded× coded_ℕ (coded× lists_code coded_ℕ))
-    (λ o. (o.frame_max, (o.lists, o.spare)))
-    (λ p. record { frame_max = p.0; lists = p.1.0; spare = p.1.1 })
+    (OutboxState × ℕ)
+    (coded× state_code coded_ℕ)
+    (λ o. (o.what, o.spare))
+    (λ p. record { what = p.0; spare = p.1 })
     (λ _. refl)
 
 -- the open requests of a channel
@@ -68,8 +92,8 @@ open_code =
 abbrev pub requests_code : Coded OpenRequests
 requests_code =
     code_by
-    (List (ℕ × List Request) × Option ℕ)
-    (coded× (coded_list (coded× coded_ℕ (coded_list request_row.the_row.coded))) (coded_option coded_ℕ))
-    (λ o. (o.waiting, o.ready))
-    (λ p. record { waiting = p.0; ready = p.1 })
+    (List (ℕ × List Request) × List (ℕ × ℕ))
+    (coded× (coded_list (coded× coded_ℕ (coded_list request_row.the_row.coded))) (coded_list (coded× coded_ℕ coded_ℕ)))
+    (λ o. (o.what, o.spare))
+    (λ p. record { what = p.0; spare = p.1 })
     (λ _. refl)

@@ -1,7 +1,7 @@
 -- How the outbox's own entries are seen.
 use Rattle.std.specs.Prelude.{List, [], Option, Some, None}
 use Rattle.lapin_history.specs.Frames.{MethodEntry, RestEntry}
-use Rattle.lapin_outbox.specs.declared.outbox.Waiting.{Waiting}
+use Rattle.lapin_outbox.specs.declared.queues.Waiting.{Waiting}
 
 -- a method that waits, with its ticket, if it has one
 abbrev pub entry_of : Waiting → MethodEntry

@@ -4,8 +4,11 @@ pub mod Codes
 pub mod Cut
 pub mod Drops
 pub mod Entries
+pub mod KindNumbers
 pub mod Line
 pub mod Links
 pub mod Open
 pub mod Order
 pub mod Outgoing
+pub mod Poison
+pub mod Returned

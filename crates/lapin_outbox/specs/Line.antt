@@ -13,6 +13,6 @@ kept [] = []
 kept (None ∷ os) = kept os
 kept (Some x ∷ os) = x ∷ kept os
 
--- the channel of the entry under each number, where f tells an entry's channel
-abbrev pub channels_by : {X : Type 0} → (X → ℕ) → List (Option X) → List (Option ℕ)
-channels_by f os = map (option_map f) os
+-- the key of the entry under each number, where f tells an entry's key
+abbrev pub keys_by : {X : Type 0} → (X → ℕ) → List (Option X) → List (Option ℕ)
+keys_by f os = map (option_map f) os

@@ -1,14 +1,42 @@
 -- What a contract sees of the outbox.
-use Rattle.std.specs.Prelude.{ℕ, Bool, ◌&&◌, not, [], ◌∷◌, ◌++◌}
+use Rattle.std.specs.Prelude.{ℕ, Bool, ◌&&◌, not, List, [], ◌∷◌, ◌++◌, Option, None}
+use Rattle.lapin_types.specs.Types.{Error}
+use Rattle.lapin_types.specs.declared.leaving.Left.{Left}
 use Rattle.lapin_types.specs.declared.leaving.Publish.{Publish}
 use Rattle.lapin_history.specs.Frames.{MethodEntry, is_empty}
 use Rattle.lapin_history.specs.Leaving.{Lists}
+use Rattle.lapin_history.specs.Drops.{no_lists}
 
--- the greatest size of a frame, the three lists, and for how many more entries there is room
-pub record Outgoing : Type 0 where
-  pub frame_max : ℕ
+-- the three lists, and for how many more entries there is room
+pub record InQueues : Type 0 where
   pub lists : Lists
   pub spare : ℕ
+
+-- what an outbox holds
+pub record OutboxState : Type 0 where
+  -- the greatest size of a frame
+  pub frame_max : ℕ
+  -- what waits to leave
+  pub lists : Lists
+  -- the frame that was given back, if it waits to be handed out again
+  pub returned : Option Left
+  -- the poison of the outbox, if it is poisoned
+  pub poison : Option Error
+  -- by channel that ever was poisoned: its poison, if it still is
+  pub errors : List (ℕ × Option Error)
+
+-- what an outbox holds, and for how many more entries there is room
+pub record Outgoing : Type 0 where
+  pub what : OutboxState
+  pub spare : ℕ
+
+-- an outbox in which nothing waits, and which isn't poisoned
+abbrev pub empty : ℕ → OutboxState
+empty frame_max = record { frame_max = frame_max; lists = no_lists; returned = None; poison = None; errors = [] }
+
+-- an outbox with these lists in place of its own
+abbrev pub with_lists : Lists → OutboxState → OutboxState
+with_lists l o = record { frame_max = o.frame_max; lists = l; returned = o.returned; poison = o.poison; errors = o.errors }
 
 -- a method joins the back of the methods
 abbrev pub with_method : MethodEntry → Lists → Lists

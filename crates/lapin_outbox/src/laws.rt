@@ -1,18 +1,25 @@
-//! Laws of the frames of a publish and of drops, as public functions with an empty body.
+//! Laws of the frames of a publish, of drops, of frames that are given back and of poison, as public functions with an
+//! empty body.
 //!
 //! The contracts of the outbox speak of a publish's frames by a definition that cuts its payload step by step. Here it is
 //! proved that this definition says what the standard says. The contracts speak of one drop; here it is proved what drops tell
-//! and leave that are repeated until there is nothing to drop. Nothing runs here.
+//! and leave that are repeated until there is nothing to drop, what `retry` and `pop` do together, and which push meets which
+//! poison. Nothing runs here.
 
-ghost use Rattle.std.specs.Prelude.{◌≡◌, ◌<◌, [], ◌∷◌, ℕ, List, None, map, drop, slice_get};
+ghost use Rattle.std.specs.Prelude.{◌≡◌, ◌≢◌, ◌<◌, [], ◌∷◌, ℕ, Bool, true, false, List, Option, Some, None, IsSome, map, drop, slice_get};
 ghost use Rattle.lapin_types.specs.Types.frame;
-ghost use Rattle.lapin_history.specs.Frames.{contents, content_header, cut, room_for_body};
-ghost use Rattle.lapin_history.specs.Leaving.{Lists};
+ghost use Rattle.lapin_types.specs.Types.{Error as ErrorEntry};
+ghost use Rattle.lapin_types.specs.declared.leaving.Publish.{Publish as PublishEntry};
+ghost use Rattle.lapin_history.specs.Frames.{MethodEntry, contents, content_header, cut, room_for_body};
+ghost use Rattle.lapin_history.specs.Leaving.{Lists, handed_of, left_lists};
 ghost use Rattle.lapin_outbox.specs.Cut.{IsCut, body_payloads};
 ghost use Rattle.lapin_history.specs.Drops.{no_lists, without_channel, without_publishes_of};
 ghost use Rattle.lapin_outbox.specs.Drops.{entries_of, without_entry_of, unbegun_of, without_unbegun, all_entries, without_entry};
+ghost use Rattle.lapin_outbox.specs.Outgoing.{OutboxState, with_lists};
+ghost use Rattle.lapin_outbox.specs.Returned.{with_returned, is_retried, again, popped, after_pop, is_returned_on, returned_off, channel_entries, outbox_entries, after_drop_channel, after_drop, is_pending};
+ghost use Rattle.lapin_outbox.specs.Poison.{poison_on, error_at, method_pushed, publish_pushed, channel_poisoned, channel_cleared};
 
-use lapin_types::{Payload, Publish};
+use lapin_types::{Error, Left, Payload, Publish};
 
 /// Behind its method a publish has its header and then bodies alone, on its channel. Joined they are its payload, each has
 /// 1 to `frame_max - 8` bytes, and each but the last has `frame_max - 8` (AMQP 0-9-1, sections 4.2.3 and 4.2.6). An empty
@@ -50,4 +57,44 @@ pub fn drops_empty_the_unbegun(channel: u16)
 pub fn drops_empty_the_outbox()
     ensures told { (l : Lists) → all_entries (without_entry l) ≡ drop 1 (all_entries l) }
     ensures end { (l : Lists) → slice_get (all_entries l) 0 ≡ None → l ≡ no_lists }
+{}
+
+/// A frame that is given back is handed out by the next request, marked so, and counts as left already: that request leaves
+/// the outbox as it was before the frame was given back, and the frame is not given again.
+pub fn a_frame_given_back_is_given_once(left: &Left)
+    ensures given { (flow : Bool) (o : OutboxState) → popped flow (with_returned (Some left.now) o) ≡ Some (again left.now) }
+    ensures counted { (flow : Bool) (o : OutboxState) → o.returned ≡ None → after_pop flow (with_returned (Some left.now) o) ≡ o }
+    ensures once { (flow : Bool) (o : OutboxState) → is_retried (after_pop flow o).returned ≡ false }
+{}
+
+/// Where no frame was given back, a request gives and leaves what the three lists say.
+pub fn a_request_goes_by_the_lists()
+    ensures told { (flow : Bool) (o : OutboxState) → o.returned ≡ None → popped flow o ≡ handed_of flow o.lists.rest o.lists.methods o.lists.publishes }
+    ensures left { (flow : Bool) (o : OutboxState) → o.returned ≡ None → after_pop flow o ≡ with_lists (left_lists o.frame_max flow o.lists) o }
+{}
+
+/// Drops of a channel tell of the frame that was given back first, and then of the channel's entries; drops over all channels
+/// likewise. A frame of another channel stays. One that is let go is told of by none.
+pub fn drops_tell_of_a_frame_given_back(channel: u16)
+    ensures channel { (o : OutboxState) → channel_entries channel (after_drop_channel channel o) ≡ drop 1 (channel_entries channel o) }
+    ensures all { (o : OutboxState) → outbox_entries (after_drop o) ≡ drop 1 (outbox_entries o) }
+    ensures end { (o : OutboxState) → slice_get (outbox_entries o) 0 ≡ None → is_pending o ≡ false }
+    ensures others { (o : OutboxState) → is_returned_on channel o.returned ≡ false → (after_drop_channel channel o).returned ≡ o.returned }
+    ensures gone { (o : OutboxState) → is_returned_on channel (returned_off channel o.returned) ≡ false }
+{}
+
+/// A push that meets poison queues nothing, and changes nothing at all.
+pub fn a_poisoned_push_queues_nothing()
+    ensures method { (m : MethodEntry) (o : OutboxState) → IsSome (poison_on m.channel o) → method_pushed m o ≡ o }
+    ensures publish { (p : PublishEntry) (o : OutboxState) → IsSome (poison_on p.channel o) → publish_pushed p o ≡ o }
+{}
+
+/// A channel's poison comes before the outbox's, which each other channel meets. Poison that was set stands on its channel alone,
+/// and once it is cleared the channel meets the outbox's.
+pub fn poison_of_a_channel_comes_first(channel: u16, error: Error)
+    ensures first { (e : ErrorEntry) (o : OutboxState) → error_at channel o.errors ≡ Some e → poison_on channel o ≡ Some e }
+    ensures next { (o : OutboxState) → error_at channel o.errors ≡ None → poison_on channel o ≡ o.poison }
+    ensures set { (o : OutboxState) → poison_on channel (channel_poisoned channel error o) ≡ Some error }
+    ensures cleared { (o : OutboxState) → poison_on channel (channel_cleared channel o) ≡ o.poison }
+    ensures others { (c : ℕ) (o : OutboxState) → c ≢ channel → (poison_on c (channel_poisoned channel error o) ≡ poison_on c o) × (poison_on c (channel_cleared channel o) ≡ poison_on c o) }
 {}

@@ -1,8 +1,9 @@
 //! The order in which frames leave, and the open requests of each channel.
 //!
-//! Here live the three lists of frames that wait (what follows a begun publish, methods, publishes), the drops that take out
-//! what will not leave, and the requests that wait for their replies. Neither knows of the state of a channel, of a tag or of a
-//! ticket's answer: the session decides what is queued, dropped and expected, and calls these two parts for their order alone.
+//! Here live the three lists of frames that wait (what follows a begun publish, methods, publishes), the frame that was given
+//! back, the poison that pushes meet, the drops that take out what will not leave, and the requests that wait for their replies.
+//! Neither part knows of the state of a channel, of a tag or of a ticket's answer: the session decides what is queued, given
+//! back, dropped and expected, and calls these two parts for their order alone.
 #![tactic(auto)]
 
 mod begun;
@@ -12,6 +13,7 @@ pub mod laws;
 mod line;
 mod order;
 pub mod outbox;
+mod queues;
 pub mod replies;
 mod requests;
 

@@ -1,10 +1,12 @@
-//! Entries in order of joining, from which the first of a channel can be taken as well as the first of all.
+//! Entries in order of joining, from which the first of a key can be taken as well as the first of all.
 //!
-//! The outbox keeps its methods in one line and its publishes in another. What an entry is, and when it leaves, is the
-//! outbox's, which alone calls this file.
+//! The outbox keeps its methods in one line and its publishes in another, by their channels; the open requests of a channel
+//! stand in a line by their kinds. What an entry is, and when it is taken, is `queues` and `requests`, which alone call this
+//! file.
 
 ghost use Rattle.std.specs.Prelude.{◌≡◌, ℕ, ◌+◌, ◌<◌, ◌≤◌, ◌++◌, ◌∷◌, [], IsOk, OnOk, OnErr, drop, slice_get};
 ghost use Rattle.std.specs.List.{find};
+ghost use Rattle.std.specs.Option.{option_copied};
 ghost use Rattle.lapin_history.specs.Frames.{is_empty};
 ghost use Rattle.lapin_history.specs.Words.{without_first};
 ghost use Rattle.lapin_history.specs.Drops.{is_on};
@@ -15,35 +17,35 @@ use lapin_types::NoMemory;
 use std::alloc::Global;
 use std::marker::Model;
 
-/// What waits to leave on a channel.
-pub(crate) trait OnChannel: Drop {
-    ghost channel_of: { Self → ℕ };
+/// What stands in a line: an entry with a number by which it is found.
+pub(crate) trait Keyed: Drop {
+    ghost key_of: { Self → ℕ };
 
-    /// Its channel.
-    fn channel(&self) -> u16
-        ensures { result ≡ channel_of self.now };
+    /// Its key.
+    fn key(&self) -> u16
+        ensures { result ≡ key_of self.now };
 }
 
 /// Entries in order of joining. A contract sees their list, and for how many more there is room.
 #[derive(Drop)]
-pub(crate) struct Line<T: OnChannel> {
+pub(crate) struct Line<T: Keyed> {
     // Under the numbers of `order`.
     entries: Numbered<T>,
     order: Order,
 }
 
-impl<T: OnChannel> Model for Line<T> {
+impl<T: Keyed> Model for Line<T> {
     ghost use Rattle.std.specs.Prelude.{◌≡◌, min};
-    ghost use Rattle.lapin_outbox.specs.Line.{InLine, kept, channels_by};
+    ghost use Rattle.lapin_outbox.specs.Line.{InLine, kept, keys_by};
 
     ghost Value = { InLine T };
 
     ghost view = { λ l. record { entries = kept l.entries.slots; spare = min l.entries.spare l.order.spare } };
 
-    ghost invariant = { λ l. channels_by T.channel_of l.entries.slots ≡ l.order.channels };
+    ghost invariant = { λ l. keys_by T.key_of l.entries.slots ≡ l.order.keys };
 }
 
-impl<T: OnChannel> Line<T> {
+impl<T: Keyed> Line<T> {
     /// No entry. It takes no memory yet.
     pub(crate) fn new(alloc: Global) -> Line<T>
         ensures { result.entries ≡ [] }
@@ -76,7 +78,7 @@ impl<T: OnChannel> Line<T> {
     {
         self.entries.reserve(1)?;
         self.order.reserve()?;
-        self.order.push_reserved(entry.channel());
+        self.order.push_reserved(entry.key());
         self.entries.push_reserved(entry);
         Ok(())
     }
@@ -96,17 +98,25 @@ impl<T: OnChannel> Line<T> {
     {
         let number = self.entries.first_number()?;
         let entry = self.entries.take(number)?;
-        let _ = self.order.take_first(entry.channel());
+        let _ = self.order.take_first(entry.key());
         Some(entry)
     }
 
-    /// Takes out the first entry of a channel; `None` exactly where there is none. The others keep their order.
-    pub(crate) fn pop_of(&mut self, channel: u16) -> Option<T>
-        ensures taken { result ≡ find (is_on T.channel_of channel) self.old.entries }
-        ensures others { self.new.entries ≡ without_first (is_on T.channel_of channel) self.old.entries }
+    /// The first entry of a key; `None` exactly where there is none.
+    pub(crate) fn first_of(&self, key: u16) -> Option<&T>
+        ensures { option_copied result ≡ find (is_on T.key_of key) self.now.entries }
+    {
+        let number = self.order.first(key)?;
+        self.entries.get(number)
+    }
+
+    /// Takes out the first entry of a key; `None` exactly where there is none. The others keep their order.
+    pub(crate) fn pop_of(&mut self, key: u16) -> Option<T>
+        ensures taken { result ≡ find (is_on T.key_of key) self.old.entries }
+        ensures others { self.new.entries ≡ without_first (is_on T.key_of key) self.old.entries }
         ensures kept { self.old.spare ≤ self.new.spare }
     {
-        let number = self.order.take_first(channel)?;
+        let number = self.order.take_first(key)?;
         self.entries.take(number)
     }
 }

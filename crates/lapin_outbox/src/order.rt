@@ -1,6 +1,6 @@
-//! Numbers in order of joining, each of a channel, from which the first of a channel is found at once.
+//! Numbers in order of joining, each of a key, from which the first of a key is found at once.
 //!
-//! Under each number stands how far behind it the next number of its channel is, and by channel stand its first number and its
+//! Under each number stands how far behind it the next number of its key is, and by key stand its first number and its
 //! last, so that nothing is searched. What waits under a number is the line's, which alone calls this file.
 
 ghost use Rattle.std.specs.Prelude.{◌≡◌, ◌+◌, ◌^◌, ◌<◌, ◌≤◌, ◌++◌, ◌∷◌, [], Some, length, IsOk, OnOk};
@@ -12,21 +12,21 @@ use std::alloc::Global;
 use std::collections::HashMap;
 use std::marker::Model;
 
-/// A number that waits: its channel, and how far behind it the next number of that channel stands, 0 where there is none.
+/// A number that waits: its key, and how far behind it the next number of that key stands, 0 where there is none.
 #[derive(Clone, Copy)]
 pub(crate) struct Link {
-    channel: u16,
+    key: u16,
     next: u64,
 }
 
-/// The first number of a channel and its last.
+/// The first number of a key and its last.
 #[derive(Clone, Copy)]
 pub(crate) struct Ends {
     first: u64,
     last: u64,
 }
 
-/// Numbers from 1 in order of joining. A contract sees the channel under each number, `None` where it was taken.
+/// Numbers from 1 in order of joining. A contract sees the key under each number, `None` where it was taken.
 #[derive(Drop)]
 pub(crate) struct Order {
     links: Numbered<Link>,
@@ -37,12 +37,12 @@ impl Model for Order {
     ghost use Rattle.std.specs.Prelude.{◌≡◌, ℕ, ◌-◌, ◌^◌, min, length, nat_eq};
     ghost use Rattle.std.specs.HashMap.{get, spare};
     ghost use Rattle.lapin_outbox.specs.Order.{InOrder};
-    ghost use Rattle.lapin_outbox.specs.Links.{ends_of, AreLinked, channels_of};
+    ghost use Rattle.lapin_outbox.specs.Links.{ends_of, AreLinked, keys_of};
 
     ghost Value = { InOrder };
 
     ghost view = { λ o. record {
-      channels = channels_of o.links.slots;
+      keys = keys_of o.links.slots;
       spare = min (min o.links.spare (spare o.ends)) (2 ^ 64 - 1 - length o.links.slots);
     } };
 
@@ -52,7 +52,7 @@ impl Model for Order {
 impl Order {
     /// No number is given yet. It takes no memory.
     pub(crate) fn new(alloc: Global) -> Order
-        ensures { result.channels ≡ [] }
+        ensures { result.keys ≡ [] }
     {
         Order {
             links: Numbered::new(alloc),
@@ -60,11 +60,11 @@ impl Order {
         }
     }
 
-    /// Makes room for the next `push_reserved`, of whatever channel. The numbers stay.
+    /// Makes room for the next `push_reserved`, of whatever key. The numbers stay.
     pub(crate) fn reserve(&mut self) -> Result<(), NoMemory>
         ensures room { OnOk result (0 < self.new.spare) }
-        ensures numbers { OnOk result (length self.new.channels + 1 < 2 ^ 64) }
-        ensures same { self.new.channels ≡ self.old.channels }
+        ensures numbers { OnOk result (length self.new.keys + 1 < 2 ^ 64) }
+        ensures same { self.new.keys ≡ self.old.keys }
         ensures kept { self.old.spare ≤ self.new.spare }
         ensures succeeds { 0 < self.old.spare → IsOk result }
     {
@@ -76,19 +76,19 @@ impl Order {
         Ok(())
     }
 
-    /// Gives the next number to an entry of a channel, in the room that was made.
-    pub(crate) fn push_reserved(&mut self, channel: u16)
+    /// Gives the next number to an entry of a key, in the room that was made.
+    pub(crate) fn push_reserved(&mut self, key: u16)
         requires { 0 < self.old.spare }
-        ensures channels { self.new.channels ≡ self.old.channels ++ Some channel ∷ [] }
+        ensures keys { self.new.keys ≡ self.old.keys ++ Some key ∷ [] }
         ensures used { self.old.spare ≤ self.new.spare + 1 }
     {
-        let number = self.links.push_reserved(Link { channel, next: 0 });
-        let Some(ends) = self.ends.get_mut(&channel) else {
+        let number = self.links.push_reserved(Link { key, next: 0 });
+        let Some(ends) = self.ends.get_mut(&key) else {
             let only = Ends {
                 first: number,
                 last: number,
             };
-            let _ = self.ends.insert(channel, only);
+            let _ = self.ends.insert(key, only);
             return;
         };
         let Ends { first, last } = *ends;
@@ -97,21 +97,28 @@ impl Order {
             last: number,
         };
         let next = number - last;
-        self.links.set(last, Link { channel, next });
+        self.links.set(last, Link { key, next });
     }
 
-    /// Takes the first number of a channel; `None` exactly where it has none.
-    pub(crate) fn take_first(&mut self, channel: u16) -> Option<u64>
-        ensures number { result ≡ first_on channel self.old.channels }
-        ensures channels { self.new.channels ≡ without_number (first_on channel self.old.channels) self.old.channels }
+    /// The first number of a key; `None` exactly where it has none.
+    pub(crate) fn first(&self, key: u16) -> Option<u64>
+        ensures { result ≡ first_on key self.now.keys }
+    {
+        Some(self.ends.get(&key)?.first)
+    }
+
+    /// Takes the first number of a key; `None` exactly where it has none.
+    pub(crate) fn take_first(&mut self, key: u16) -> Option<u64>
+        ensures number { result ≡ first_on key self.old.keys }
+        ensures keys { self.new.keys ≡ without_number (first_on key self.old.keys) self.old.keys }
         ensures kept { self.old.spare ≤ self.new.spare }
     {
-        let Ends { first, last } = *self.ends.get(&channel)?;
+        let Ends { first, last } = *self.ends.get(&key)?;
         let next = self.links.get(first)?.next;
         let _ = self.links.take(first);
         if next == 0 {
-            let _ = self.ends.remove(&channel);
-        } else if let Some(ends) = self.ends.get_mut(&channel) {
+            let _ = self.ends.remove(&key);
+        } else if let Some(ends) = self.ends.get_mut(&key) {
             *ends = Ends {
                 first: first + next,
                 last,

@@ -1,21 +1,22 @@
 //! The outbox: in which order frames leave.
 //!
-//! Three lists wait here: what follows the method of the begun publish, methods in order of queueing, and publishes that
-//! have not begun in order of call over all channels. A frame request takes from the first of them that has anything; a
-//! publish begins only where the flow of content is on. A drop takes out what will not leave, an entry at a time. The session
-//! calls the outbox, and no other part does.
+//! A frame that was given back goes first; then the three lists that `queues` keeps. Poison stands here too: what a push answers
+//! while the outbox or its channel is poisoned. The session calls the outbox, and no other part does. Why a frame is given back,
+//! and why something is poisoned, is not known here.
 
-ghost use Rattle.std.specs.Prelude.{◌≡◌, ℕ, true, ◌+◌, ◌<◌, ◌≤◌, ◌++◌, ◌∷◌, [], IsOk, IfOk, OnOk, OnErr, slice_get, is_some, if◌then◌else◌};
-ghost use Rattle.lapin_history.specs.Leaving.{handed_of, left_lists};
-ghost use Rattle.lapin_outbox.specs.Outgoing.{with_method, with_publish, has_entries};
-ghost use Rattle.lapin_history.specs.Drops.{no_lists, is_rest_of};
-ghost use Rattle.lapin_outbox.specs.Entries.{rest_in};
-ghost use Rattle.lapin_outbox.specs.Drops.{AreOn, told_rest, told_rest_of, told_publish, unbegun_of, without_unbegun, entries_of, without_entry_of, all_entries, without_entry};
+ghost use Rattle.std.specs.Prelude.{◌≡◌, ℕ, true, false, ◌+◌, ◌<◌, ◌≤◌, ◌++◌, ◌∷◌, [], Some, None, IsOk, IsSome, IfOk, OnOk, OnErr, slice_get, is_some, if◌then◌else◌};
+ghost use Rattle.lapin_history.specs.Words.{with_channel};
+ghost use Rattle.lapin_history.specs.Drops.{is_rest_of, frame_channel as frame_channel_lem};
+ghost use Rattle.lapin_tables.specs.ByChannel.{on_channel};
+ghost use Rattle.lapin_outbox.specs.Outgoing.{empty};
+ghost use Rattle.lapin_outbox.specs.Poison.{error_at, poison_on, push_told, method_pushed, publish_pushed, with_poison, channel_poisoned, channel_cleared};
+ghost use Rattle.lapin_outbox.specs.Returned.{with_returned, is_retried, is_pending, again as again_lem, popped, after_pop, is_returned_on, returned_off, channel_entries, outbox_entries, after_drop_unbegun, after_drop_channel, after_drop};
+ghost use Rattle.lapin_outbox.specs.Drops.{AreOn, unbegun_of};
 
-use crate::begun::Begun;
 use crate::dropped::Dropped;
-use crate::line::{Line, OnChannel};
-use lapin_types::{Frame, Left, Method, NoMemory, Publish};
+use crate::queues::Queues;
+use lapin_tables::ByChannel;
+use lapin_types::{Error, Frame, Left, Method, NoMemory, Publish};
 use std::alloc::Global;
 use std::marker::Model;
 
@@ -24,78 +25,24 @@ use std::marker::Model;
 pub enum Pushed {
     /// It stands at the back of its list.
     Queued,
+    /// The channel or the outbox is poisoned with this error, the channel's first. Nothing was queued.
+    Poisoned(Error),
 }
 
-// A method that waits, with its ticket, if it has one.
-#[derive(Drop)]
-struct Waiting {
-    channel: u16,
-    method: Method,
-    ticket: Option<u64>,
-}
-
-impl Waiting {
-    ghost use Rattle.lapin_history.specs.Frames.{left_method};
-    ghost use Rattle.lapin_outbox.specs.Entries.{entry_of};
-    ghost use Rattle.lapin_outbox.specs.Drops.{told_method};
-
-    // As it leaves: the first and the last frame of its entry.
-    fn leave(self) -> Left
-        ensures { result ≡ left_method (entry_of self) }
-    {
-        let Waiting {
-            channel,
-            method,
-            ticket,
-        } = self;
-        Left {
-            frame: Frame::Method(channel, method),
-            ticket,
-            publish: None,
-            first: true,
-            last: true,
-            again: false,
-        }
-    }
-
-    // What a drop tells of it.
-    fn dropped(self) -> Dropped
-        ensures { result ≡ told_method (entry_of self) }
-    {
-        Dropped {
-            ticket: self.ticket,
-            publish: None,
-        }
-    }
-}
-
-impl OnChannel for Waiting {
-    ghost channel_of = { λ w. w.channel };
-
-    fn channel(&self) -> u16 {
-        self.channel
-    }
-}
-
-impl OnChannel for Publish {
-    ghost channel_of = { λ p. p.channel };
-
-    fn channel(&self) -> u16 {
-        self.channel
-    }
-}
-
-/// The frames that wait to leave. A contract sees the three lists, the largest frame and the room for further entries.
+/// The frames that wait to leave. A contract sees what the outbox holds, and for how many more entries there is room.
 #[derive(Drop)]
 pub struct Outbox {
     frame_max: u32,
-    begun: Option<Begun>,
-    methods: Line<Waiting>,
-    publishes: Line<Publish>,
+    queues: Queues,
+    // The frame that was given back, until it is handed out again.
+    returned: Option<Left>,
+    poison: Option<Error>,
+    // By channel that ever was poisoned.
+    errors: ByChannel<Option<Error>>,
 }
 
 impl Model for Outbox {
-    ghost use Rattle.std.specs.Prelude.{◌≤◌, map, min};
+    ghost use Rattle.std.specs.Prelude.{◌≤◌};
     ghost use Rattle.lapin_outbox.specs.Outgoing.{Outgoing};
     ghost use Rattle.lapin_outbox.specs.Codes.{outgoing_code};
 
@@ -103,35 +50,42 @@ impl Model for Outbox {
 
     ghost coded = { outgoing_code };
 
-    ghost use Rattle.lapin_outbox.specs.Entries.{entry_of, rest_in};
-
     ghost view = { λ o. record {
-      frame_max = o.frame_max;
-      lists = record { rest = rest_in o.begun; methods = map entry_of o.methods.entries; publishes = o.publishes.entries };
-      spare = min o.methods.spare o.publishes.spare;
+      what = record {
+        frame_max = o.frame_max;
+        lists = o.queues.lists;
+        returned = o.returned;
+        poison = o.poison;
+        errors = o.errors.entries;
+      };
+      spare = o.queues.spare;
     } };
 
     ghost invariant = { λ o. 4096 ≤ o.frame_max };
 }
 
 impl Outbox {
-    ghost use Rattle.lapin_history.specs.Frames.{is_empty};
-
-    /// An empty outbox for frames of at most `frame_max` bytes (AMQP 0-9-1, section 4.2.3: at least 4096).
+    /// An empty outbox for frames of at most `frame_max` bytes (AMQP 0-9-1, section 4.2.3: at least 4096). It takes no memory
+    /// yet, so it does not fail.
     pub fn new(alloc: Global, frame_max: u32) -> Result<Outbox, NoMemory>
         requires { 4096 ≤ frame_max }
-        ensures { IfOk result (λ outbox. (outbox.frame_max ≡ frame_max) × (outbox.lists ≡ no_lists)) }
+        ensures made { IfOk result (λ outbox. outbox.what ≡ empty frame_max) }
+        ensures succeeds { IsOk result }
     {
         Ok(Outbox {
             frame_max,
-            begun: None,
-            methods: Line::new(alloc),
-            publishes: Line::new(alloc),
+            queues: Queues::new(alloc),
+            returned: None,
+            poison: None,
+            errors: ByChannel::new(alloc),
         })
     }
 
-    /// Queues a method of a channel behind all methods, with the ticket of its call, if it has one. Where there is no memory
-    /// nothing is queued.
+    // ---- pushes
+
+    /// Queues a method of a channel behind all methods, with the ticket of its call, if it has one. Where the channel or the
+    /// outbox is poisoned nothing is queued, and the answer is the channel's error, else the outbox's. Where there is no memory
+    /// nothing is queued either.
     pub fn push_method(
         &mut self,
         _alloc: Global,
@@ -139,177 +93,280 @@ impl Outbox {
         method: Method,
         ticket: Option<u64>,
     ) -> Result<Pushed, NoMemory>
-        ensures told { IfOk result (λ pushed. pushed ≡ Pushed.Queued) }
-        ensures ok { OnOk result (self.new.lists ≡ with_method (record { channel = channel; method = method; ticket = ticket }) self.old.lists) }
-        ensures err { OnErr result (self.new.lists ≡ self.old.lists) }
-        ensures frame_max { self.new.frame_max ≡ self.old.frame_max }
+        ensures told { IfOk result (λ pushed. pushed ≡ push_told (poison_on channel self.old.what)) }
+        ensures ok { OnOk result (self.new.what ≡ method_pushed (record { channel = channel; method = method; ticket = ticket }) self.old.what) }
+        ensures err { OnErr result (self.new.what ≡ self.old.what) }
+        ensures poisoned { IsSome (poison_on channel self.old.what) → IsOk result }
 
         // In the room that `reserve` made it does not fail, and it uses up no more than one place.
         ensures room { 0 < self.old.spare → IsOk result }
-        ensures used { 0 < self.old.spare → self.old.spare ≤ self.new.spare + 1 }
+        ensures used { self.old.spare ≤ self.new.spare + 1 }
     {
-        self.methods.push(Waiting {
-            channel,
-            method,
-            ticket,
-        })?;
+        if let Some(error) = self.poisoned(channel) {
+            drop(method);
+            return Ok(Pushed::Poisoned(error));
+        }
+        self.queues.push_method(channel, method, ticket)?;
         Ok(Pushed::Queued)
     }
 
-    /// Queues a publish behind all publishes. Where there is no memory nothing is queued.
+    /// Queues a publish behind all publishes. Where its channel or the outbox is poisoned nothing is queued, and the answer is
+    /// the channel's error, else the outbox's. Where there is no memory nothing is queued either.
     pub fn push_publish(&mut self, _alloc: Global, publish: Publish) -> Result<Pushed, NoMemory>
-        ensures told { IfOk result (λ pushed. pushed ≡ Pushed.Queued) }
-        ensures ok { OnOk result (self.new.lists ≡ with_publish publish self.old.lists) }
-        ensures err { OnErr result (self.new.lists ≡ self.old.lists) }
-        ensures frame_max { self.new.frame_max ≡ self.old.frame_max }
+        ensures told { IfOk result (λ pushed. pushed ≡ push_told (poison_on publish.channel self.old.what)) }
+        ensures ok { OnOk result (self.new.what ≡ publish_pushed publish self.old.what) }
+        ensures err { OnErr result (self.new.what ≡ self.old.what) }
+        ensures poisoned { IsSome (poison_on publish.channel self.old.what) → IsOk result }
 
         // In the room that `reserve` made it does not fail, and it uses up no more than one place.
         ensures room { 0 < self.old.spare → IsOk result }
-        ensures used { 0 < self.old.spare → self.old.spare ≤ self.new.spare + 1 }
+        ensures used { self.old.spare ≤ self.new.spare + 1 }
     {
-        self.publishes.push(publish)?;
+        if let Some(error) = self.poisoned(publish.channel) {
+            drop(publish);
+            return Ok(Pushed::Poisoned(error));
+        }
+        self.queues.push_publish(publish)?;
         Ok(Pushed::Queued)
     }
 
-    /// Makes room for the next `push_method` or `push_publish`. Nothing else changes.
+    /// Makes room for the next `push_method` or `push_publish`. Nothing else changes. The room lasts until a push uses it.
     pub fn reserve(&mut self, _alloc: Global) -> Result<(), NoMemory>
         ensures room { OnOk result (0 < self.new.spare) }
-        ensures same { self.new.lists ≡ self.old.lists }
-        ensures frame_max { self.new.frame_max ≡ self.old.frame_max }
+        ensures same { self.new.what ≡ self.old.what }
+        ensures kept { self.old.spare ≤ self.new.spare }
+        ensures succeeds { 0 < self.old.spare → IsOk result }
     {
-        self.methods.reserve()?;
-        self.publishes.reserve()?;
-        Ok(())
+        self.queues.reserve()
     }
 
-    /// Whether anything waits.
+    // ---- frames that leave
+
+    /// Whether anything waits: a frame that was given back, or an entry of the three lists.
     pub fn has_pending(&self) -> bool
-        ensures { result ≡ has_entries self.now.lists }
+        ensures { result ≡ is_pending self.now.what }
     {
-        !self.rest_is_empty() || !self.methods.is_empty() || !self.publishes.is_empty()
+        self.retrying() || self.queues.has_entries()
     }
 
-    /// Hands out the next frame: the first of what follows the begun publish, else the first method, else, where `flow` is
-    /// true, the method frame of the first publish, whose header and bodies follow; else none. Where there is no memory the
-    /// lists stay.
+    /// Hands out the frame that was given back, marked so; else the first of what follows the begun publish, else the first
+    /// method, else, where `flow` is true, the method frame of the first publish, whose header and bodies follow; else none.
+    /// Where there is no memory all stays.
     pub fn pop(&mut self, alloc: Global, flow: bool) -> Result<Option<Left>, NoMemory>
-        ensures told { IfOk result (λ left. left ≡ handed_of flow self.old.lists.rest self.old.lists.methods self.old.lists.publishes) }
-        ensures ok { OnOk result (self.new.lists ≡ left_lists self.old.frame_max flow self.old.lists) }
-        ensures err { OnErr result (self.new.lists ≡ self.old.lists) }
-        ensures frame_max { self.new.frame_max ≡ self.old.frame_max }
+        ensures told { IfOk result (λ left. left ≡ popped flow self.old.what) }
+        ensures ok { OnOk result (self.new.what ≡ after_pop flow self.old.what) }
+        ensures err { OnErr result (self.new.what ≡ self.old.what) }
+        ensures room { self.old.spare ≤ self.new.spare }
     {
-        if let Some(begun) = &mut self.begun {
-            if let Some(left) = begun.next(alloc)? {
-                return Ok(Some(left));
-            }
+        if let Some(left) = self.returned.take() {
+            return Ok(Some(retried(left)));
         }
-        if let Some(waiting) = self.methods.pop() {
-            return Ok(Some(waiting.leave()));
-        }
-        if !flow {
-            return Ok(None);
-        }
-        let Some(publish) = self.publishes.pop() else {
-            return Ok(None);
-        };
-        let (left, begun) = Begun::new(publish, self.frame_max);
-        drop(self.begun.replace(begun));
-        Ok(Some(left))
+        self.queues.pop(alloc, self.frame_max, flow)
+    }
+
+    /// Gives a frame back: the next `pop` hands it out once more, unless a drop takes it out before. It counts as left already,
+    /// so the three lists stay. A caller gives back only the frame that it was handed last, and not after its channel's entries
+    /// were dropped.
+    pub fn retry(&mut self, left: Left)
+        requires { is_retried self.old.what.returned ≡ false }
+        ensures what { self.new.what ≡ with_returned (Some left) self.old.what }
+        ensures room { self.new.spare ≡ self.old.spare }
+    {
+        self.returned = Some(left);
+    }
+
+    /// Whether a frame is given back that `pop` has not handed out again and no drop has taken out.
+    pub fn retrying(&self) -> bool
+        ensures { result ≡ is_retried self.now.what.returned }
+    {
+        self.returned.is_some()
+    }
+
+    // ---- drops
+
+    /// Takes out the frame that was given back, where it is of this channel. Nothing is told of it, since its entry has left.
+    pub fn let_go(&mut self, channel: u16)
+        ensures what { self.new.what ≡ with_returned (returned_off channel self.old.what.returned) self.old.what }
+        ensures room { self.new.spare ≡ self.old.spare }
+    {
+        drop(take_on(&mut self.returned, channel));
+    }
+
+    /// Takes out the frame that was given back, of whatever channel. Nothing is told of it, since its entry has left.
+    pub fn let_go_all(&mut self)
+        ensures what { self.new.what ≡ with_returned None self.old.what }
+        ensures room { self.new.spare ≡ self.old.spare }
+    {
+        drop(self.returned.take());
     }
 
     /// Takes out the first publish of a channel that has not begun; `None` exactly where there is none.
     pub fn drop_unbegun(&mut self, channel: u16) -> Option<Dropped>
-        ensures told { result ≡ slice_get (unbegun_of channel self.old.lists) 0 }
-        ensures lists { self.new.lists ≡ without_unbegun channel self.old.lists }
-        ensures frame_max { self.new.frame_max ≡ self.old.frame_max }
+        ensures told { result ≡ slice_get (unbegun_of channel self.old.what.lists) 0 }
+        ensures what { self.new.what ≡ after_drop_unbegun channel self.old.what }
         ensures room { self.old.spare ≤ self.new.spare }
     {
-        let unbegun = self.publishes.pop_of(channel)?;
-        Some(dropped_publish(unbegun))
+        self.queues.drop_unbegun(channel)
     }
 
-    /// Takes out the first entry of a channel: the begun publish whole, else a method, else a publish; `None` exactly where
-    /// there is none.
+    /// Takes out the first entry of a channel: the frame that was given back, else the begun publish whole, else a method, else
+    /// a publish; `None` exactly where there is none.
     pub fn drop_channel(&mut self, channel: u16) -> Option<Dropped>
-        ensures told { result ≡ slice_get (entries_of channel self.old.lists) 0 }
-        ensures lists { self.new.lists ≡ without_entry_of channel self.old.lists }
-        ensures frame_max { self.new.frame_max ≡ self.old.frame_max }
+        ensures told { result ≡ slice_get (channel_entries channel self.old.what) 0 }
+        ensures what { self.new.what ≡ after_drop_channel channel self.old.what }
         ensures room { self.old.spare ≤ self.new.spare }
     {
-        if let Some(dropped) = drop_begun_of(&mut self.begun, channel) {
-            return Some(dropped);
+        match take_on(&mut self.returned, channel) {
+            Some(left) => Some(dropped_left(left)),
+            None => self.queues.drop_channel(channel),
         }
-        if let Some(waiting) = self.methods.pop_of(channel) {
-            return Some(waiting.dropped());
-        }
-        let publish = self.publishes.pop_of(channel)?;
-        Some(dropped_publish(publish))
     }
 
-    /// Takes out the first entry over all channels: the begun publish whole, else a method, else a publish; `None` exactly
-    /// where nothing waits.
+    /// Takes out the first entry over all channels: the frame that was given back, else the begun publish whole, else a method,
+    /// else a publish; `None` exactly where nothing waits.
     pub fn drop_all(&mut self) -> Option<Dropped>
-        ensures told { result ≡ slice_get (all_entries self.old.lists) 0 }
-        ensures pending { is_some result ≡ has_entries self.old.lists }
-        ensures lists { self.new.lists ≡ without_entry self.old.lists }
-        ensures frame_max { self.new.frame_max ≡ self.old.frame_max }
+        ensures told { result ≡ slice_get (outbox_entries self.old.what) 0 }
+        ensures pending { is_some result ≡ is_pending self.old.what }
+        ensures what { self.new.what ≡ after_drop self.old.what }
         ensures room { self.old.spare ≤ self.new.spare }
     {
-        if let Some(dropped) = drop_begun(&mut self.begun) {
-            return Some(dropped);
+        match self.returned.take() {
+            Some(left) => Some(dropped_left(left)),
+            None => self.queues.drop_all(),
         }
-        if let Some(method) = self.methods.pop() {
-            return Some(method.dropped());
+    }
+
+    // ---- poison
+
+    /// Poisons the outbox: from now on a push on a channel without poison of its own answers this error.
+    pub fn poison(&mut self, error: Error)
+        ensures what { self.new.what ≡ with_poison (Some error) self.old.what }
+        ensures room { self.new.spare ≡ self.old.spare }
+    {
+        self.poison = Some(error);
+    }
+
+    /// Takes the outbox's poison away. Poison of channels stays.
+    pub fn drop_poison(&mut self)
+        ensures what { self.new.what ≡ with_poison None self.old.what }
+        ensures room { self.new.spare ≡ self.old.spare }
+    {
+        self.poison = None;
+    }
+
+    /// Poisons a channel: from now on a push on it answers this error. Where there is no memory nothing changes.
+    pub fn poison_channel(
+        &mut self,
+        _alloc: Global,
+        channel: u16,
+        error: Error,
+    ) -> Result<(), NoMemory>
+        ensures ok { OnOk result (self.new.what ≡ channel_poisoned channel error self.old.what) }
+        ensures err { OnErr result (self.new.what ≡ self.old.what) }
+        ensures room { self.new.spare ≡ self.old.spare }
+    {
+        set_error(&mut self.errors, channel, error)
+    }
+
+    /// Takes a channel's poison away, if it has one. The outbox's stays.
+    pub fn drop_channel_poison(&mut self, channel: u16)
+        ensures what { self.new.what ≡ channel_cleared channel self.old.what }
+        ensures room { self.new.spare ≡ self.old.spare }
+    {
+        clear_error(&mut self.errors, channel);
+    }
+
+    /// The error that a push on this channel meets: the channel's, else the outbox's; `None` where neither is poisoned.
+    pub fn poisoned(&self, channel: u16) -> Option<Error>
+        ensures { result ≡ poison_on channel self.now.what }
+    {
+        self.error_of(channel).or(self.poison)
+    }
+
+    // The poison of a channel alone.
+    fn error_of(&self, channel: u16) -> Option<Error>
+        ensures { result ≡ error_at channel self.now.what.errors }
+    {
+        match self.errors.get(channel) {
+            Some(error) => *error,
+            None => None,
         }
-        let publish = self.publishes.pop()?;
-        Some(dropped_publish(publish))
     }
 
     /// A law, and nothing runs: all that waits of the begun publish is on one channel, so a drop of that channel leaves no
     /// frame of it.
     pub fn begun_publish_is_on_one_channel(&self)
-        ensures { (c : ℕ) → is_rest_of c self.now.lists.rest ≡ true → AreOn c self.now.lists.rest }
+        ensures { (c : ℕ) → is_rest_of c self.now.what.lists.rest ≡ true → AreOn c self.now.what.lists.rest }
     {
-        if let Some(begun) = &self.begun {
-            begun.frames_are_on_one_channel();
-        }
-    }
-
-    // Whether the begun publish has left whole, or there is none.
-    fn rest_is_empty(&self) -> bool
-        ensures { result ≡ is_empty self.now.lists.rest }
-    {
-        match &self.begun {
-            Some(begun) => begun.is_empty(),
-            None => true,
-        }
+        self.queues.begun_publish_is_on_one_channel();
     }
 }
 
-// Takes out what follows the begun publish, whole.
-fn drop_begun(begun: &mut Option<Begun>) -> Option<Dropped>
-    ensures told { result ≡ slice_get (told_rest (rest_in begun.old)) 0 }
-    ensures left { rest_in begun.new ≡ [] }
+// A frame as it is handed out once more.
+fn retried(left: Left) -> Left
+    ensures { result ≡ again_lem left }
 {
-    begun.take()?.dropped()
+    Left {
+        frame: left.frame,
+        ticket: left.ticket,
+        publish: left.publish,
+        first: left.first,
+        last: left.last,
+        again: true,
+    }
 }
 
-// Takes out what follows the begun publish, whole, where it is of this channel.
-fn drop_begun_of(begun: &mut Option<Begun>, channel: u16) -> Option<Dropped>
-    ensures told { result ≡ slice_get (told_rest_of channel (rest_in begun.old)) 0 }
-    ensures left { rest_in begun.new ≡ (if is_rest_of channel (rest_in begun.old) then [] else rest_in begun.old) }
+// Takes out the frame that was given back, where it is of this channel.
+fn take_on(returned: &mut Option<Left>, channel: u16) -> Option<Left>
+    ensures told { result ≡ (if is_returned_on channel returned.old then returned.old else None) }
+    ensures stays { returned.new ≡ returned_off channel returned.old }
 {
-    match begun {
-        Some(publish) if publish.is_of(channel) => drop_begun(begun),
+    match returned {
+        Some(left) if frame_channel(&left.frame) == channel => returned.take(),
         _ => None,
     }
 }
 
-fn dropped_publish(publish: Publish) -> Dropped
-    ensures { result ≡ told_publish publish }
+// What a drop tells of a frame that was given back.
+fn dropped_left(left: Left) -> Dropped
+    ensures { result ≡ record { ticket = left.ticket; publish = left.publish } }
 {
     Dropped {
-        ticket: Some(publish.ticket),
-        publish: Some(publish.confirm),
+        ticket: left.ticket,
+        publish: left.publish,
+    }
+}
+
+fn frame_channel(frame: &Frame) -> u16
+    ensures { result ≡ frame_channel_lem frame.now }
+{
+    match frame {
+        Frame::Method(channel, _) | Frame::Header(channel, _) | Frame::Body(channel, _) => *channel,
+    }
+}
+
+// A channel is poisoned.
+fn set_error(
+    errors: &mut ByChannel<Option<Error>>,
+    channel: u16,
+    error: Error,
+) -> Result<(), NoMemory>
+    ensures ok { OnOk result (errors.new.entries ≡ with_channel channel (Some error) errors.old.entries) }
+    ensures err { OnErr result (errors.new.entries ≡ errors.old.entries) }
+{
+    if let Some(place) = errors.get_mut(channel) {
+        *place = Some(error);
+        return Ok(());
+    }
+    errors.insert(channel, Some(error))?;
+    Ok(())
+}
+
+// A channel is poisoned no more.
+fn clear_error(errors: &mut ByChannel<Option<Error>>, channel: u16)
+    ensures { errors.new.entries ≡ on_channel channel (λ _. None) errors.old.entries }
+{
+    if let Some(place) = errors.get_mut(channel) {
+        *place = None;
     }
 }

@@ -1,27 +1,28 @@
 //! The open requests of one channel, oldest first.
 //!
-//! The table of all channels, and which request a reply takes where, live in `replies`, which alone calls this file.
+//! They stand in a line by the numbers of their kinds, so that the oldest of a kind is found at once, however many requests of
+//! other kinds are open. The table of all channels, and which request a reply takes where, live in `replies`, which alone calls
+//! this file.
 
-ghost use Rattle.std.specs.Prelude.{◌≡◌, ◌<◌, ◌≤◌, ◌++◌, ◌∷◌, [], OnOk, IfNone, drop, slice_get};
+ghost use Rattle.std.specs.Prelude.{◌≡◌, ◌+◌, ◌<◌, ◌≤◌, ◌++◌, ◌∷◌, [], IsOk, OnOk, IfNone, drop, slice_get};
 ghost use Rattle.std.specs.Option.{option_copied};
-ghost use Rattle.std.specs.List.{position};
+ghost use Rattle.lapin_types.specs.Requests.{kind_of};
 ghost use Rattle.lapin_history.specs.Words.{without_first};
 ghost use Rattle.lapin_history.specs.Requests.{is_kind, first_request};
+ghost use Rattle.lapin_outbox.specs.KindNumbers.{kind_number};
 
+use crate::line::{Keyed, Line};
 use lapin_types::{NoMemory, ReplyKind, Request};
 use std::alloc::Global;
-use std::collections::VecDeque;
 use std::marker::Model;
 
 /// The open requests of a channel. A contract sees their list, and for how many more there is room.
 #[derive(Drop)]
 pub(crate) struct Requests {
-    queue: VecDeque<Request>,
+    line: Line<Request>,
 }
 
 impl Model for Requests {
-    ghost use Rattle.std.specs.Prelude.{◌-◌};
-    ghost use Rattle.std.specs.VecDeque.{deque_len, deque_capacity};
     ghost use Rattle.lapin_outbox.specs.Open.{OpenOnChannel};
     ghost use Rattle.lapin_outbox.specs.Codes.{open_code};
 
@@ -29,7 +30,15 @@ impl Model for Requests {
 
     ghost coded = { open_code };
 
-    ghost view = { λ r. record { open_requests = r.queue.items; spare = deque_capacity r.queue - deque_len r.queue } };
+    ghost view = { λ r. record { open_requests = r.line.entries; spare = r.line.spare } };
+}
+
+impl Keyed for Request {
+    ghost key_of = { λ r. kind_number (kind_of r.reply) };
+
+    fn key(&self) -> u16 {
+        number_of(self.reply.kind())
+    }
 }
 
 impl Requests {
@@ -38,7 +47,7 @@ impl Requests {
         ensures { result.open_requests ≡ [] }
     {
         Requests {
-            queue: VecDeque::new(alloc),
+            line: Line::new(alloc),
         }
     }
 
@@ -47,24 +56,25 @@ impl Requests {
         ensures room { OnOk result (0 < self.new.spare) }
         ensures same { self.new.open_requests ≡ self.old.open_requests }
         ensures kept { self.old.spare ≤ self.new.spare }
+        ensures succeeds { 0 < self.old.spare → IsOk result }
     {
-        self.queue.reserve(1)?;
-        Ok(())
+        self.line.reserve()
     }
 
     /// Adds a request behind the others, in the room that was made.
     pub(crate) fn push_reserved(&mut self, request: Request)
         requires { 0 < self.old.spare }
-        ensures { self.new.open_requests ≡ self.old.open_requests ++ request ∷ [] }
+        ensures others { self.new.open_requests ≡ self.old.open_requests ++ request ∷ [] }
+        ensures used { self.old.spare ≤ self.new.spare + 1 }
     {
-        self.queue.push_back_reserved(request);
+        self.line.push(request).unwrap();
     }
 
     /// The oldest request of a kind.
     pub(crate) fn first(&self, kind: ReplyKind) -> Option<&Request>
         ensures { option_copied result ≡ first_request kind self.now.open_requests }
     {
-        self.queue.iter().find(|request| is_of_kind(request, kind))
+        self.line.first_of(number_of(kind))
     }
 
     /// Takes out the oldest request of a kind. The others keep their order.
@@ -74,8 +84,7 @@ impl Requests {
         ensures none { IfNone result (self.new.open_requests ≡ self.old.open_requests) }
         ensures kept { self.old.spare ≤ self.new.spare }
     {
-        let place = self.place(kind)?;
-        self.queue.remove(place)
+        self.line.pop_of(number_of(kind))
     }
 
     /// Takes out the oldest request.
@@ -85,21 +94,13 @@ impl Requests {
         ensures none { IfNone result (self.new.open_requests ≡ self.old.open_requests) }
         ensures kept { self.old.spare ≤ self.new.spare }
     {
-        self.queue.pop_front()
-    }
-
-    // Where the oldest request of a kind stands.
-    fn place(&self, kind: ReplyKind) -> Option<usize>
-        ensures { result ≡ position (is_kind kind) self.now.open_requests }
-    {
-        self.queue
-            .iter()
-            .position(|request| is_of_kind(request, kind))
+        self.line.pop()
     }
 }
 
-fn is_of_kind(request: &Request, kind: ReplyKind) -> bool
-    ensures { result ≡ is_kind kind request.now }
+// The number of a kind.
+fn number_of(kind: ReplyKind) -> u16
+    ensures { result ≡ kind_number kind }
 {
-    request.reply.kind() == kind
+    kind as u16
 }

@@ -134,6 +134,22 @@ impl<T> ByChannel<T> {
         Ok(())
     }
 
+    /// Makes room for the `insert_reserved` of a channel beside so many that are promised theirs. The entries stay, also where
+    /// there is no memory.
+    pub fn reserve_beside(&mut self, channel: u16, promised: usize) -> Result<(), AllocError>
+        requires { promised ≤ self.old.spare }
+        ensures room { OnOk result ((promised < self.new.spare) × (channel < self.new.reach)) }
+        ensures same { self.new.entries ≡ self.old.entries }
+        ensures kept { (self.old.spare ≤ self.new.spare) × (self.old.reach ≤ self.new.reach) }
+    {
+        self.entries.reserve(promised + 1)?;
+        let reach = usize::from(channel) + 1;
+        if self.places.len() < reach {
+            self.places.resize(reach, None)?;
+        }
+        Ok(())
+    }
+
     /// Gives a channel that has no value its first one, in the room that `reserve` made.
     pub fn insert_reserved(&mut self, channel: u16, value: T)
         requires room { HasRoom channel self.old }

@@ -11,7 +11,7 @@ ghost use Rattle.lapin_text.specs.CallReading.{call_with as call_with_lem, call_
 
 use crate::queued::call_of;
 use lapin_method_text::read_named;
-use lapin_tokens::{ReadError, Tokens, payload, properties, text, u16_at};
+use lapin_tokens::{ReadError, Tokens, is_word, payload, properties, text, u16_at};
 use lapin_types::{BasicMethod, BasicPublishOptions, Call, Method, ShortString};
 use std::alloc::Global;
 
@@ -88,13 +88,15 @@ fn call_with(alloc: Global, method: Method, tokens: &mut Tokens) -> Result<Call,
 fn call_named(alloc: Global, name: &[u8], tokens: &mut Tokens) -> Result<Call, ReadError>
     ensures { Gives result tokens.new (call_named_lem name.now tokens.old) }
 {
-    if name == b"channel.close".as_slice() {
+    if is_word(name, b"channel.close") {
         channel_close(alloc, tokens)
-    } else if name == b"connection.close".as_slice() {
+    } else if is_word(name, b"connection.close") {
         connection_close(alloc, tokens)
     } else {
-        let method = read_named(alloc, name, tokens)?;
-        call_with(alloc, method, tokens)
+        match read_named(alloc, name, tokens) {
+            Ok(method) => call_with(alloc, method, tokens),
+            Err(error) => Err(error),
+        }
     }
 }
 

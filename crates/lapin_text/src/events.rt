@@ -24,11 +24,16 @@ pub fn read_event_tokens(alloc: Global, tokens: &mut Tokens) -> Result<Event, Re
         Some(piece) => match word_named(piece) {
             Some(Word::Call) => {
                 let channel = u16_at(tokens)?;
-                let call = read_call(alloc, tokens)?;
-                Ok(Event::Call(channel, call))
+                match read_call(alloc, tokens) {
+                    Ok(call) => Ok(Event::Call(channel, call)),
+                    Err(error) => Err(error),
+                }
             }
             Some(Word::Next) => Ok(Event::Next(flag(tokens)?)),
-            Some(Word::Recv) => Ok(Event::Receive(read_frame_tokens(alloc, tokens)?)),
+            Some(Word::Recv) => match read_frame_tokens(alloc, tokens) {
+                Ok(frame) => Ok(Event::Receive(frame)),
+                Err(error) => Err(error),
+            },
             Some(Word::Ticket) => Ok(Event::PollTicket(u64_at(tokens)?)),
             Some(Word::Confirm) => Ok(Event::PollConfirm(u64_at(tokens)?)),
             Some(Word::AsideTicket) => Ok(Event::AsideTicket(u64_at(tokens)?)),

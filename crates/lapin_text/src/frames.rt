@@ -2,7 +2,9 @@
 //!
 //! Here stand the tokens of frames. Whole texts of frames are read in `reading` and written in `printing`.
 
-ghost use Rattle.std.specs.Prelude.{◌≡◌, OnOk};
+ghost use Rattle.std.specs.Prelude.{◌≡◌, ◌∷◌, [], OnOk};
+ghost use Rattle.lapin_tokens.specs.Fields.{token, short_number, wide_number};
+ghost use Rattle.lapin_tokens.specs.Fields.Field.{props};
 ghost use Rattle.lapin_tokens.specs.Reading.{Gives};
 ghost use Rattle.lapin_tokens.specs.TokenText.{onto};
 ghost use Rattle.lapin_text.specs.Frames.{frame_tokens};
@@ -10,7 +12,9 @@ ghost use Rattle.lapin_text.specs.LineReading.{frame_at};
 
 use crate::words::{Word, word_named};
 use lapin_method_text::{put_method, read_method};
-use lapin_tokens::{ReadError, Token, Tokens, payload, properties, put_tokens, u16_at, u64_at};
+use lapin_tokens::{
+    ReadError, Token, Tokens, payload, properties, put_count, put_tokens, put_word, u16_at, u64_at,
+};
 use lapin_types::{ContentHeader, Frame};
 use std::alloc::{AllocError, Global};
 
@@ -24,8 +28,10 @@ pub fn read_frame_tokens(alloc: Global, tokens: &mut Tokens) -> Result<Frame, Re
         Some(piece) => match word_named(piece) {
             Some(Word::Method) => {
                 let channel = u16_at(tokens)?;
-                let method = read_method(alloc, tokens)?;
-                Ok(Frame::Method(channel, method))
+                match read_method(alloc, tokens) {
+                    Ok(method) => Ok(Frame::Method(channel, method)),
+                    Err(error) => Err(error),
+                }
             }
             Some(Word::Header) => {
                 let channel = u16_at(tokens)?;
@@ -49,38 +55,33 @@ pub fn read_frame_tokens(alloc: Global, tokens: &mut Tokens) -> Result<Frame, Re
     }
 }
 
+fn put_content(alloc: Global, out: &mut Vec<u8>, header: &ContentHeader) -> Result<(), AllocError>
+    ensures { OnOk result (out.new.items ≡ onto out.old.items (token short_number header.now.class_id ∷ token wide_number header.now.body_size ∷ token props header.now.properties ∷ [])) }
+{
+    put_count(out, u64::from(header.class_id))?;
+    put_count(out, header.body_size)?;
+    put_tokens(alloc, out, &[Token::Properties(&header.properties)])
+}
+
 /// Adds the frame's tokens, each behind a space. Where memory runs out, the text may end within the frame.
 pub fn put_frame(alloc: Global, out: &mut Vec<u8>, frame: &Frame) -> Result<(), AllocError>
     ensures { OnOk result (out.new.items ≡ onto out.old.items (frame_tokens frame.now)) }
 {
     match frame {
         Frame::Method(channel, method) => {
-            put_tokens(
-                alloc,
-                out,
-                &[Token::Word(b"method"), Token::Number(u64::from(*channel))],
-            )?;
+            put_word(out, b"method")?;
+            put_count(out, u64::from(*channel))?;
             put_method(alloc, out, method)
         }
-        Frame::Header(channel, header) => put_tokens(
-            alloc,
-            out,
-            &[
-                Token::Word(b"header"),
-                Token::Number(u64::from(*channel)),
-                Token::Number(u64::from(header.class_id)),
-                Token::Number(header.body_size),
-                Token::Properties(&header.properties),
-            ],
-        ),
-        Frame::Body(channel, payload) => put_tokens(
-            alloc,
-            out,
-            &[
-                Token::Word(b"body"),
-                Token::Number(u64::from(*channel)),
-                Token::Hex(payload.as_bytes()),
-            ],
-        ),
+        Frame::Header(channel, header) => {
+            put_word(out, b"header")?;
+            put_count(out, u64::from(*channel))?;
+            put_content(alloc, out, header)
+        }
+        Frame::Body(channel, payload) => {
+            put_word(out, b"body")?;
+            put_count(out, u64::from(*channel))?;
+            put_tokens(alloc, out, &[Token::Hex(payload.as_bytes())])
+        }
     }
 }

@@ -3,15 +3,16 @@
 //! A record is an arm here and a row in the definitions. Whole lines and texts of records are written in `printing`.
 //! Where memory runs out, the text may end within the record.
 
-ghost use Rattle.std.specs.Prelude.{◌≡◌, ◌++◌, ◌∷◌, [], OnOk, map};
+ghost use Rattle.std.specs.Prelude.{◌≡◌, ◌++◌, ◌∷◌, [], OnOk};
 ghost use Rattle.lapin_types.specs.declared.answer.Answer.TheVariants as answer;
+ghost use Rattle.lapin_types.specs.declared.record.Record.TheVariants as told;
 ghost use Rattle.lapin_tokens.specs.Fields.{token, wide_number};
-ghost use Rattle.lapin_tokens.specs.TokenText.{onto, text_of};
+ghost use Rattle.lapin_tokens.specs.TokenText.{onto};
 ghost use Rattle.lapin_text.specs.Frames.{frame_tokens};
 ghost use Rattle.lapin_text.specs.Records.{connection_name, state_name, error_tokens, delivery_tokens, message_tokens, held_tokens, got_tokens, answer_tokens, confirmation_tokens, record_tokens, line_onto};
 
 use crate::frames::put_frame;
-use lapin_tokens::{Token, put_tokens};
+use lapin_tokens::{Token, put_count, put_tokens, put_word};
 use lapin_types::{
     Answer, BasicGetMessage, BasicReturnMessage, ChannelState, Confirmation, ConnectionState,
     Delivery, Error, Queue, Record,
@@ -52,15 +53,17 @@ fn put_pair(
 ) -> Result<(), AllocError>
     ensures { OnOk result (out.new.items ≡ onto out.old.items (name.now ∷ token wide_number first ∷ token wide_number second ∷ [])) }
 {
-    put_tokens(
-        alloc,
-        out,
-        &[
-            Token::Word(name),
-            Token::Number(first),
-            Token::Number(second),
-        ],
-    )
+    put_word(out, name)?;
+    put_count(out, first)?;
+    put_count(out, second)
+}
+
+// A word and a number.
+fn put_number(out: &mut Vec<u8>, name: &[u8], number: u64) -> Result<(), AllocError>
+    ensures { OnOk result (out.new.items ≡ onto out.old.items (name.now ∷ token wide_number number ∷ [])) }
+{
+    put_word(out, name)?;
+    put_count(out, number)
 }
 
 fn put_error(alloc: Global, out: &mut Vec<u8>, error: Error) -> Result<(), AllocError>
@@ -146,7 +149,7 @@ fn put_held(
 {
     match message {
         Some(message) => put_message(alloc, out, message),
-        None => put_tokens(alloc, out, &[Token::Word(b"-")]),
+        None => put_word(out, b"-"),
     }
 }
 
@@ -195,11 +198,7 @@ fn put_answer(alloc: Global, out: &mut Vec<u8>, answer: &Answer) -> Result<(), A
             out,
             &[Token::Word(b"channel"), Token::Number(u64::from(*channel))],
         ),
-        Answer::Confirm(number) => put_tokens(
-            alloc,
-            out,
-            &[Token::Word(b"confirm"), Token::Number(*number)],
-        ),
+        Answer::Confirm(number) => put_number(out, b"confirm", *number),
         Answer::Consumer(number) => put_tokens(
             alloc,
             out,
@@ -231,28 +230,23 @@ fn put_confirmation(
 {
     match confirmation {
         Confirmation::Ack(message) => {
-            put_tokens(alloc, out, &[Token::Word(b"ack")])?;
+            put_word(out, b"ack")?;
             put_held(alloc, out, message)
         }
         Confirmation::Nack(message) => {
-            put_tokens(alloc, out, &[Token::Word(b"nack")])?;
+            put_word(out, b"nack")?;
             put_held(alloc, out, message)
         }
         Confirmation::NotRequested => put_tokens(alloc, out, &[Token::Word(b"notrequested")]),
     }
 }
 
-// A line: a word, and tokens each behind a space.
-fn put_line(
-    alloc: Global,
-    out: &mut Vec<u8>,
-    word: &[u8],
-    tokens: &[Token],
-) -> Result<(), AllocError>
-    ensures { OnOk result (out.new.items ≡ onto (out.old.items ++ word.now) (map text_of tokens.now)) }
+fn put_published(out: &mut Vec<u8>, ticket: u64, confirm: u64) -> Result<(), AllocError>
+    ensures { OnOk result (out.new.items ≡ line_onto out.old.items (record_tokens (told.Publish ticket confirm))) }
 {
-    out.extend_from_slice(word)?;
-    put_tokens(alloc, out, tokens)
+    out.extend_from_slice(b"publish")?;
+    put_count(out, ticket)?;
+    put_count(out, confirm)
 }
 
 fn put_error_line(
@@ -290,13 +284,11 @@ pub fn put_record(alloc: Global, out: &mut Vec<u8>, record: &Record) -> Result<(
     ensures { OnOk result (out.new.items ≡ line_onto out.old.items (record_tokens «record».now)) }
 {
     match record {
-        Record::Ticket(number) => put_line(alloc, out, b"ticket", &[Token::Number(*number)]),
-        Record::Publish { ticket, confirm } => put_line(
-            alloc,
-            out,
-            b"publish",
-            &[Token::Number(*ticket), Token::Number(*confirm)],
-        ),
+        Record::Ticket(number) => {
+            out.extend_from_slice(b"ticket")?;
+            put_count(out, *number)
+        }
+        Record::Publish { ticket, confirm } => put_published(out, *ticket, *confirm),
         Record::Refused(error) => put_error_line(alloc, out, b"refused", *error),
         Record::Frame(frame) => {
             out.extend_from_slice(b"frame")?;

@@ -5,6 +5,8 @@
 ghost use Rattle.std.specs.Prelude.{◌≡◌};
 ghost use Rattle.lapin_text.specs.LineReading.{word_at, word_text};
 
+use lapin_tokens::is_word;
+
 /// The words that begin a frame or an event.
 #[derive(Clone, Copy, Debug, PartialEq, Eq)]
 pub enum Word {
@@ -62,5 +64,5 @@ pub fn word_named(piece: &[u8]) -> Option<Word>
     WORDS
         .iter()
         .copied()
-        .find(|word| text_of_word(*word) == piece)
+        .find(|word| is_word(text_of_word(*word), piece))
 }

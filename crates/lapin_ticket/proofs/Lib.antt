@@ -2,4 +2,5 @@ pub mod Failing
 pub mod Following
 pub mod Ending
 pub mod Walking
+pub mod Listing
 pub mod Once

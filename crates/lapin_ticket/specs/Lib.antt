@@ -1,2 +1,4 @@
 pub mod Desk
 pub mod Follows
+pub mod Given
+pub mod Room

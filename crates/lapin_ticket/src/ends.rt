@@ -1,91 +1,180 @@
-//! What a close of a channel, and the end of its opening, make of the channel's tickets.
+//! What a close of a channel, the end of its opening, and the end of the connection make of tickets.
 //!
-//! Each walks from the last number to the first one that is kept, and fails what it finds open. When a close or an end comes is
-//! the session's.
+//! A close and an end of a channel look at the tickets that were given there since its oldest open one, and at no other
+//! channel's. When a close or an end comes is the session's.
 
-ghost use Rattle.std.specs.Prelude.{◌≡◌, ◌≢◌, ℕ, true, false, map};
+ghost use Rattle.std.specs.Prelude.{◌≡◌, ◌≢◌, ℕ, true, false, map, slice_get, Some};
 ghost use Rattle.lapin_tables.specs.Numbered.{under};
 ghost use Rattle.lapin_history.specs.TicketReadings.{is_publish as is_publish_lem, is_kept as is_kept_lem};
 ghost use Rattle.lapin_history.specs.TicketReadings as mark;
 ghost use Rattle.lapin_ticket.specs.Desk.{after_mark, rejects, is_open_on as is_open_on_lem, closed_slot, failed};
+ghost use Rattle.lapin_ticket.specs.Given.{AreListed, numbers_on, starts_closed as starts_closed_lem};
 
-use crate::{Slot, Tickets};
+use crate::given::Given;
+use crate::{Slot, Tickets, slots};
 use lapin_history::AtLeaving;
+use lapin_tables::Numbered;
 use lapin_types::Error;
 
 impl Tickets {
     /// This side closes a channel: the open ticket of each of its publishes that has not begun fails with the error.
     pub fn close(&mut self, channel: u16, error: Error)
         ensures slots { self.new.slots ≡ after_mark self.old.slots (mark.ClosedHere channel error) }
-        ensures room { self.new.spare ≡ self.old.spare }
+        ensures room { self.new.ready ≡ self.old.ready }
     {
-        let Some(first) = self.slots.first_number() else {
-            return;
-        };
-        let mut number = self.slots.count();
-        while number >= first {
-            self.reject(number, channel, error);
-            number -= 1;
-        }
+        close(&mut self.slots, &self.given, channel, error);
     }
 
     /// The opening of a channel ends: each open ticket that was given there fails with the error, but for the one that is kept.
     pub fn end(&mut self, channel: u16, kept: Option<u64>, error: Error)
         ensures slots { self.new.slots ≡ after_mark self.old.slots (mark.OpeningFailed channel kept error) }
-        ensures room { self.new.spare ≡ self.old.spare }
+        ensures room { self.new.ready ≡ self.old.ready }
     {
-        let Some(first) = self.slots.first_number() else {
-            return;
-        };
-        let mut number = self.slots.count();
-        while number >= first {
-            self.fail(number, channel, kept, error);
-            number -= 1;
-        }
+        end(&mut self.slots, &self.given, channel, kept, error);
+        let_go(&self.slots, &mut self.given, channel);
     }
 
-    // A ticket fails, where it is open and of a publish of the channel that has not begun.
-    fn reject(&mut self, number: u64, channel: u16, error: Error)
-        ensures same { map (closed_slot channel error) self.new.slots ≡ map (closed_slot channel error) self.old.slots }
-        ensures left { (n : ℕ) → rejects channel (under n self.new.slots) ≡ true → (n ≢ number) × (rejects channel (under n self.old.slots) ≡ true) }
-        ensures room { self.new.spare ≡ self.old.spare }
+    /// Resolves every open ticket with the error. One that has an answer keeps it. It walks from the last number to the
+    /// first one that is kept.
+    pub fn fail_all(&mut self, error: Error)
+        ensures slots { self.new.slots ≡ after_mark self.old.slots (mark.AllFailed error) }
+        ensures room { self.new.ready ≡ self.old.ready }
     {
-        if self.is_unbegun(number, channel) {
-            self.answer(number, Err(error));
-        }
+        fail_all(&mut self.slots, error);
     }
+}
 
-    // A ticket fails, where it is open, of the channel and not the one that is kept.
-    fn fail(&mut self, number: u64, channel: u16, kept: Option<u64>, error: Error)
-        ensures same { failed channel kept error self.new.slots ≡ failed channel kept error self.old.slots }
-        ensures left { (n : ℕ) → is_open_on_lem channel (under n self.new.slots) ≡ true → is_kept_lem n kept ≡ false → (n ≢ number) × (is_open_on_lem channel (under n self.old.slots) ≡ true) }
-        ensures room { self.new.spare ≡ self.old.spare }
-    {
-        if self.is_open_on(number, channel) && !is_kept(number, kept) {
-            self.answer(number, Err(error));
-        }
+fn fail_all(slots: &mut Numbered<Slot>, error: Error)
+    ensures slots { slots.new.slots ≡ after_mark slots.old.slots (mark.AllFailed error) }
+    ensures room { slots.new.spare ≡ slots.old.spare }
+{
+    let Some(first) = slots.first_number() else {
+        return;
+    };
+    let mut number = slots.count();
+    while number >= first {
+        slots::answer(slots, number, Err(error));
+        number -= 1;
     }
+}
 
-    // Whether a ticket is open, and of a publish of the channel that has not begun.
-    fn is_unbegun(&self, number: u64, channel: u16) -> bool
-        ensures { result ≡ rejects channel (under number self.now.slots) }
-    {
-        match self.slots.get(number) {
-            Some(Slot::Open(on, at_leaving, begun)) => {
-                channel == *on && is_publish(*at_leaving) && !*begun
-            }
-            _ => false,
-        }
+fn close(slots: &mut Numbered<Slot>, given: &Given, channel: u16, error: Error)
+    requires { AreListed slots.old.slots given.now.channels }
+    ensures slots { slots.new.slots ≡ after_mark slots.old.slots (mark.ClosedHere channel error) }
+    ensures room { slots.new.spare ≡ slots.old.spare }
+{
+    let count = given.count(channel);
+    let mut place = 0;
+    while place < count {
+        reject_at(slots, given, place, channel, error);
+        place += 1;
     }
+}
 
-    // Whether a ticket is open and was given on the channel.
-    fn is_open_on(&self, number: u64, channel: u16) -> bool
-        ensures { result ≡ is_open_on_lem channel (under number self.now.slots) }
-    {
-        match self.slots.get(number) {
-            Some(Slot::Open(on, _, _)) => channel == *on,
-            _ => false,
+fn end(slots: &mut Numbered<Slot>, given: &Given, channel: u16, kept: Option<u64>, error: Error)
+    requires { AreListed slots.old.slots given.now.channels }
+    ensures slots { slots.new.slots ≡ after_mark slots.old.slots (mark.OpeningFailed channel kept error) }
+    ensures room { slots.new.spare ≡ slots.old.spare }
+{
+    let count = given.count(channel);
+    let mut place = 0;
+    while place < count {
+        fail_at(slots, given, place, channel, kept, error);
+        place += 1;
+    }
+}
+
+// Lets go the first numbers of a channel whose tickets are no longer open.
+pub(crate) fn let_go(slots: &Numbered<Slot>, given: &mut Given, channel: u16)
+    requires { AreListed slots.now.slots given.old.channels }
+    ensures listed { AreListed slots.now.slots given.new.channels }
+    ensures ready { given.new.ready ≡ given.old.ready }
+{
+    while starts_closed(slots, given, channel) {
+        given.drop_first(channel);
+    }
+}
+
+// Whether the ticket of the channel's first number is no longer open.
+fn starts_closed(slots: &Numbered<Slot>, given: &Given, channel: u16) -> bool
+    ensures { result ≡ starts_closed_lem channel slots.now.slots (numbers_on channel given.now.channels) }
+{
+    match given.at(channel, 0) {
+        Some(number) => !is_open_on(slots, number, channel),
+        None => false,
+    }
+}
+
+// The ticket at a place fails, where it is open and of a publish of the channel that has not begun.
+fn reject_at(slots: &mut Numbered<Slot>, given: &Given, place: usize, channel: u16, error: Error)
+    ensures same { map (closed_slot channel error) slots.new.slots ≡ map (closed_slot channel error) slots.old.slots }
+    ensures left { (n : ℕ) → rejects channel (under n slots.new.slots) ≡ true → (slice_get (numbers_on channel given.now.channels) place ≢ Some n) × (rejects channel (under n slots.old.slots) ≡ true) }
+    ensures room { slots.new.spare ≡ slots.old.spare }
+{
+    if let Some(number) = given.at(channel, place) {
+        reject(slots, number, channel, error);
+    }
+}
+
+// The ticket at a place fails, where it is open, of the channel and not the one that is kept.
+fn fail_at(
+    slots: &mut Numbered<Slot>,
+    given: &Given,
+    place: usize,
+    channel: u16,
+    kept: Option<u64>,
+    error: Error,
+)
+    ensures same { failed channel kept error slots.new.slots ≡ failed channel kept error slots.old.slots }
+    ensures left { (n : ℕ) → is_open_on_lem channel (under n slots.new.slots) ≡ true → is_kept_lem n kept ≡ false → (slice_get (numbers_on channel given.now.channels) place ≢ Some n) × (is_open_on_lem channel (under n slots.old.slots) ≡ true) }
+    ensures room { slots.new.spare ≡ slots.old.spare }
+{
+    if let Some(number) = given.at(channel, place) {
+        fail(slots, number, channel, kept, error);
+    }
+}
+
+// A ticket fails, where it is open and of a publish of the channel that has not begun.
+fn reject(slots: &mut Numbered<Slot>, number: u64, channel: u16, error: Error)
+    ensures same { map (closed_slot channel error) slots.new.slots ≡ map (closed_slot channel error) slots.old.slots }
+    ensures left { (n : ℕ) → rejects channel (under n slots.new.slots) ≡ true → (n ≢ number) × (rejects channel (under n slots.old.slots) ≡ true) }
+    ensures room { slots.new.spare ≡ slots.old.spare }
+{
+    if is_unbegun(slots, number, channel) {
+        slots::answer(slots, number, Err(error));
+    }
+}
+
+// A ticket fails, where it is open, of the channel and not the one that is kept.
+fn fail(slots: &mut Numbered<Slot>, number: u64, channel: u16, kept: Option<u64>, error: Error)
+    ensures same { failed channel kept error slots.new.slots ≡ failed channel kept error slots.old.slots }
+    ensures left { (n : ℕ) → is_open_on_lem channel (under n slots.new.slots) ≡ true → is_kept_lem n kept ≡ false → (n ≢ number) × (is_open_on_lem channel (under n slots.old.slots) ≡ true) }
+    ensures room { slots.new.spare ≡ slots.old.spare }
+{
+    if is_open_on(slots, number, channel) && !is_kept(number, kept) {
+        slots::answer(slots, number, Err(error));
+    }
+}
+
+// Whether a ticket is open, and of a publish of the channel that has not begun.
+fn is_unbegun(slots: &Numbered<Slot>, number: u64, channel: u16) -> bool
+    ensures { result ≡ rejects channel (under number slots.now.slots) }
+{
+    match slots.get(number) {
+        Some(Slot::Open(on, at_leaving, begun)) => {
+            channel == *on && is_publish(*at_leaving) && !*begun
         }
+        _ => false,
+    }
+}
+
+// Whether a ticket is open and was given on the channel.
+fn is_open_on(slots: &Numbered<Slot>, number: u64, channel: u16) -> bool
+    ensures { result ≡ is_open_on_lem channel (under number slots.now.slots) }
+{
+    match slots.get(number) {
+        Some(Slot::Open(on, _, _)) => channel == *on,
+        _ => false,
     }
 }
 

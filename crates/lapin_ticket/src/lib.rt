@@ -4,7 +4,9 @@
 #![tactic(auto)]
 
 mod ends;
+mod given;
 pub mod laws;
+mod slots;
 
 ghost use Rattle.std.specs.Prelude.{◌≡◌, ℕ, ◌+◌, ◌^◌, ◌<◌, ◌++◌, ◌∷◌, true, false, List, [], length, map, not, is_ok, OnOk, MatchOption, Option, Some, None, Err, if◌then◌else◌};
 ghost use Rattle.lapin_tables.specs.Numbered.{under};
@@ -16,6 +18,8 @@ ghost use Rattle.lapin_ticket.specs.declared.Slot.TheVariants as slot;
 ghost use Rattle.lapin_ticket.specs.Desk.{after_mark, polled, polled_slot, after_poll, laid, laid_slot, rejects, held_or, is_awaited, is_open_on, failed, failed_slot, closed_slot};
 ghost use Rattle.lapin_ticket.specs.Follows.{Follows, WasGiven};
 
+use crate::ends::let_go;
+use crate::given::Given;
 use lapin_history::AtLeaving;
 use lapin_tables::Numbered;
 use lapin_types::{Answer, Error, NoMemory};
@@ -32,22 +36,26 @@ pub enum Slot {
     Held(Result<Answer, Error>),
 }
 
-/// The tickets of a session, numbered from 1. Contracts see one slot per ticket, `None` where its answer was given.
+/// The tickets of a session, numbered from 1. Contracts see one slot per ticket, `None` where its answer was given, and the
+/// channel for whose next ticket there is room.
 #[derive(Drop)]
 pub struct Tickets {
     slots: Numbered<Slot>,
+    given: Given,
 }
 
 impl Model for Tickets {
-    ghost use Rattle.lapin_tables.specs.Numbered.{Slots, slots_code};
-    ghost use Rattle.lapin_ticket.specs.declared.Slot.{Slot};
-    ghost use Rattle.lapin_ticket.specs.contracts.Slot as slot_row;
+    ghost use Rattle.std.specs.Prelude.{◌<◌};
+    ghost use Rattle.lapin_ticket.specs.Given.{AreListed};
+    ghost use Rattle.lapin_ticket.specs.Room.{Issued, issued_code, HasSlot};
 
-    ghost Value = { Slots Slot };
+    ghost Value = { Issued };
 
-    ghost coded = { slots_code slot_row.the_row.coded };
+    ghost coded = { issued_code };
 
-    ghost view = { λ a. a.slots };
+    ghost view = { λ a. record { slots = a.slots.slots; ready = a.given.ready } };
+
+    ghost invariant = { λ a. AreListed a.slots.slots a.given.channels × HasSlot a.given.ready a.slots.spare };
 }
 
 impl Tickets {
@@ -57,6 +65,7 @@ impl Tickets {
     {
         Tickets {
             slots: Numbered::new(alloc),
+            given: Given::new(alloc),
         }
     }
 
@@ -74,72 +83,52 @@ impl Tickets {
         self.slots.next_number()
     }
 
-    /// Makes room for the next `give`. The tickets stay, also where there is no memory.
-    pub fn reserve(&mut self) -> Result<(), NoMemory>
-        ensures room { OnOk result (0 < self.new.spare) }
+    /// Makes room for the next `give` on a channel. The tickets stay, also where there is no memory.
+    pub fn reserve(&mut self, alloc: Global, channel: u16) -> Result<(), NoMemory>
+        ensures room { OnOk result (self.new.ready ≡ Some channel) }
         ensures same { self.new.slots ≡ self.old.slots }
     {
         self.slots.reserve(1)?;
-        Ok(())
+        self.given.reserve(alloc, channel)
     }
 
-    /// Gives the next ticket to a call on a channel, in the room that `reserve` made.
+    /// Gives the next ticket to a call on a channel, in the room that `reserve` made for the channel. It takes no memory.
     pub fn give(&mut self, channel: u16, at_leaving: AtLeaving) -> u64
-        requires room { 0 < self.old.spare }
+        requires room { self.old.ready ≡ Some channel }
         requires numbers { length self.old.slots + 1 < 2 ^ 64 }
         ensures number { result ≡ length self.old.slots + 1 }
         ensures slots { self.new.slots ≡ after_mark self.old.slots (mark.Given channel at_leaving) }
     {
-        self.slots
-            .push_reserved(Slot::Open(channel, at_leaving, false))
+        let_go(&self.slots, &mut self.given, channel);
+        let number = self
+            .slots
+            .push_reserved(Slot::Open(channel, at_leaving, false));
+        self.given.push(channel, number);
+        number
     }
 
     /// The method frame of the ticket's publish leaves.
     pub fn begin(&mut self, number: u64)
         ensures slots { self.new.slots ≡ after_mark self.old.slots (mark.Begun number) }
-        ensures room { self.new.spare ≡ self.old.spare }
+        ensures room { self.new.ready ≡ self.old.ready }
     {
-        if let Some(Slot::Open(channel, at_leaving, _)) = self.slots.get(number) {
-            let begun = Slot::Open(*channel, *at_leaving, true);
-            self.slots.set(number, begun);
-        }
+        slots::begin(&mut self.slots, number);
     }
 
     /// The last frame of the ticket's call leaves, which may answer it.
     pub fn leave(&mut self, number: u64)
         ensures slots { self.new.slots ≡ after_mark self.old.slots (mark.LastLeft number) }
-        ensures room { self.new.spare ≡ self.old.spare }
+        ensures room { self.new.ready ≡ self.old.ready }
     {
-        if let Some(Slot::Open(channel, at_leaving, begun)) = self.slots.get(number) {
-            let left = left(*channel, *at_leaving, *begun);
-            self.slots.set(number, left);
-        }
+        slots::leave(&mut self.slots, number);
     }
 
     /// Resolves a ticket. One that has an answer keeps it, and one whose answer was given drops this one.
     pub fn answer(&mut self, number: u64, answer: Result<Answer, Error>)
         ensures slots { self.new.slots ≡ after_mark self.old.slots (mark.Answered number answer) }
-        ensures room { self.new.spare ≡ self.old.spare }
+        ensures room { self.new.ready ≡ self.old.ready }
     {
-        if let Some(Slot::Open(..)) = self.slots.get(number) {
-            self.slots.set(number, Slot::Held(answer));
-        }
-    }
-
-    /// Resolves every open ticket with the error. One that has an answer keeps it. It walks from the last number to the
-    /// first one that is kept.
-    pub fn fail_all(&mut self, error: Error)
-        ensures slots { self.new.slots ≡ after_mark self.old.slots (mark.AllFailed error) }
-        ensures room { self.new.spare ≡ self.old.spare }
-    {
-        let Some(first) = self.slots.first_number() else {
-            return;
-        };
-        let mut number = self.slots.count();
-        while number >= first {
-            self.answer(number, Err(error));
-            number -= 1;
-        }
+        slots::answer(&mut self.slots, number, answer);
     }
 
     /// Whether `take` would not say that the answer is still awaited.
@@ -194,17 +183,6 @@ impl Tickets {
         }
         let _ = self.slots.take(number);
         Ok(())
-    }
-}
-
-// What is kept of an open ticket as its last frame leaves.
-fn left(channel: u16, at_leaving: AtLeaving, begun: bool) -> Slot
-    ensures { result ≡ held_or (slot.Open channel at_leaving begun) (answer_at at_leaving) }
-{
-    match at_leaving {
-        AtLeaving::Nothing => Slot::Open(channel, at_leaving, begun),
-        AtLeaving::Done => Slot::Held(Ok(Answer::Done)),
-        AtLeaving::Confirm(number) => Slot::Held(Ok(Answer::Confirm(number))),
     }
 }
 

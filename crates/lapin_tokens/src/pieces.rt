@@ -1,6 +1,7 @@
 //! Tokens at the end of a line, each behind a space.
 
 ghost use Rattle.std.specs.Prelude.{◌≡◌, ◌++◌, ◌∷◌, OnOk, map};
+ghost use Rattle.lapin_tokens.specs.Fields.{token as token_of, wide_number};
 ghost use Rattle.lapin_tokens.specs.TokenText.{text_of, onto};
 
 use crate::property_writing::put_properties;
@@ -28,6 +29,22 @@ fn put_token(alloc: Global, out: &mut Vec<u8>, token: &Token) -> Result<(), Allo
 {
     out.push(b' ')?;
     put_text(alloc, out, token)
+}
+
+/// Adds a word behind a space. A line of few tokens is written sooner so than from a list of them.
+pub fn put_word(out: &mut Vec<u8>, word: &[u8]) -> Result<(), AllocError>
+    ensures { OnOk result (out.new.items ≡ out.old.items ++ 32 ∷ word.now) }
+{
+    out.push(b' ')?;
+    out.extend_from_slice(word)
+}
+
+/// Adds a number behind a space.
+pub fn put_count(out: &mut Vec<u8>, number: u64) -> Result<(), AllocError>
+    ensures { OnOk result (out.new.items ≡ out.old.items ++ 32 ∷ token_of wide_number number) }
+{
+    out.push(b' ')?;
+    put_number(out, number)
 }
 
 /// Adds each of the tokens behind a space. Where memory runs out, the text may end within them: build a line

@@ -2,14 +2,45 @@
 
 ghost use Rattle.std.specs.Prelude.{◌≡◌, ◌==◌, ◌∷◌, ℕ, List, [], IfNone, IfSome, position, if◌then◌else◌};
 ghost use Rattle.std.specs.List.{slice_split};
+ghost use Rattle.std.specs.Str.{bytes_eq};
 
 use memchr::memchr;
 use std::marker::Model;
 
+/// Most pieces are shorter. So far a loop finds a space sooner than a search of many bytes at once.
+const NEAR: usize = 16;
+
+/// Whether a piece is the word. Words are short: a loop compares them sooner than a comparison of many bytes at once.
+pub fn is_word(piece: &[u8], word: &[u8]) -> bool
+    ensures { result ≡ bytes_eq piece.now word.now }
+{
+    if piece.len() != word.len() {
+        return false;
+    }
+    let mut place = 0;
+    while place < piece.len() {
+        if piece[place] != word[place] {
+            return false;
+        }
+        place += 1;
+    }
+    true
+}
+
 fn first_space(line: &[u8]) -> Option<usize>
     ensures { result ≡ position (λ b. b == 32) line.now }
 {
-    memchr(b' ', line)
+    let mut place = 0;
+    while place < NEAR && place < line.len() {
+        if line[place] == b' ' {
+            return Some(place);
+        }
+        place += 1;
+    }
+    match memchr(b' ', &line[place..]) {
+        Some(more) => Some(place + more),
+        None => None,
+    }
 }
 
 /// The piece before the first space, and what stands after that space.

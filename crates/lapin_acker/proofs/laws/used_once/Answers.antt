@@ -1,4 +1,4 @@
-use Rattle.std.proofs.Common.{◌≡◌, true, refl}
+use Rattle.std.proofs.Common.{refl}
 use Rattle.std.proofs.lemmas.Bool.{eq-eqb}
 use Rattle.lapin_acker.specs.Marks as mark
 use Rattle.lapin_acker.proofs.Following.{used-for-good}

@@ -1,6 +1,9 @@
-use Rattle.std.proofs.Common.{◌≡◌, ◌≤◌, length}
+use Rattle.std.proofs.Common.{◌≡◌, ◌≤◌, ℕ, List, length}
 use Rattle.std.specs.VecDeque.{deque_len, deque_capacity}
 use Rattle.lapin_history.specs.Letters.{without_all}
+use Rattle.lapin_confirm.specs.declared.ledger.Ledger.{Ledger}
+use Rattle.lapin_confirm.specs.Drain.{remaining, less_all}
+use Rattle.lapin_confirm.specs.Ties.{AllTied}
 use Rattle.lapin_confirm.proofs.returned.forget.Given as goal
 
 abbrev pub invariant-loop-number : goal.invariant-loop-number
@@ -8,6 +11,12 @@ invariant-loop-number l = record {
   same : without_all l.numbers.items l.attached.items ≡ without_all l.initial.numbers.items l.initial.attached.items;
   len : deque_len l.attached ≤ deque_len l.initial.attached;
   capacity : deque_capacity l.attached ≡ deque_capacity l.initial.attached;
+  remains : less_all l.numbers.items (remaining l.cells.slots l.homes.slots) ≡ less_all l.initial.numbers.items (remaining l.initial.cells.slots l.initial.homes.slots);
+  tied : (es : List (ℕ × Ledger)) → AllTied es l.initial.cells.slots → AllTied es l.cells.slots;
+  cells : length l.cells.slots ≡ length l.initial.cells.slots;
+  homes : length l.homes.slots ≡ length l.initial.homes.slots;
+  spare : l.initial.cells.spare ≤ l.cells.spare;
+  room : l.initial.homes.spare ≤ l.homes.spare;
 }
 
 abbrev pub decreases-loop-number : goal.decreases-loop-number

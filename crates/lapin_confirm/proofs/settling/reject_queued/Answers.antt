@@ -9,6 +9,8 @@ loop-ledger-init c = record {
   tied = c.requires;
   same = refl;
   line = refl;
+  spare = omega arith;
+  room = omega arith;
   below = λ n there. let le = given n (cell.Queued c.args.channel) c.args.cells.now.slots there in omega (arith, le, c.count-number.ensures);
 }
 
@@ -25,6 +27,8 @@ loop-ledger-preserved c = record {
   tied = c.reject_if_queued.ensures.tied;
   same = c.reject_if_queued.ensures.same ∙ c.loop-ledger.invariant.same;
   line = c.reject_if_queued.ensures.line ∙ c.loop-ledger.invariant.line;
+  spare = omega (arith, c.reject_if_queued.ensures.spare, c.loop-ledger.invariant.spare);
+  room = omega (arith, c.reject_if_queued.ensures.room, c.loop-ledger.invariant.room);
   below = λ n there.
       let was = c.reject_if_queued.ensures.queued n there in
       let apart : n ≢ c.loop-ledger.number = was.0 in

@@ -1,6 +1,6 @@
 use Rattle.lapin_laws.specs.Runs.{world_after}
 use Rattle.lapin_laws.proofs.Losing.{answered_after}
-use Rattle.lapin_laws.proofs.Kept.{run_kept, run_sound, stays_down, stays_lost, no_rest, no_publishes, nothing, gives, gives_none, leaves}
+use Rattle.lapin_laws.proofs.Kept.{run_kept, run_sound, unreturned_after, stays_down, stays_lost, no_rest, no_publishes, nothing, gives, gives_none, leaves}
 use Rattle.lapin_laws.proofs.down.down_for_good.Goals as goal
 
 pub returns-clause-stays : goal.returns-clause-stays
@@ -19,13 +19,13 @@ pub returns-clause-lost : goal.returns-clause-lost
 returns-clause-lost c = λ n es. nothing n (world_after n es) (run_sound n es)
 
 pub returns-clause-given : goal.returns-clause-given
-returns-clause-given c = λ n es. gives n (world_after n es) (run_sound n es)
+returns-clause-given c = λ n es. gives n (world_after n es) (run_sound n es) (unreturned_after n es)
 
 pub returns-clause-none : goal.returns-clause-none
-returns-clause-none c = λ n es. gives_none n (world_after n es) (run_sound n es)
+returns-clause-none c = λ n es. gives_none n (world_after n es) (run_sound n es) (unreturned_after n es)
 
 pub returns-clause-left : goal.returns-clause-left
-returns-clause-left c = λ n es. leaves n (world_after n es) (run_sound n es)
+returns-clause-left c = λ n es. leaves n (world_after n es) (run_sound n es) (unreturned_after n es)
 
 pub returns-clause-phases : goal.returns-clause-phases
 returns-clause-phases c = λ n es. (run_kept n es).shut

@@ -1,9 +1,9 @@
 use Rattle.lapin_history.specs.Ends.{live_channels}
-use Rattle.lapin_machine.proofs.Worlds.{failed_counted, ends_counted}
+use Rattle.lapin_machine.proofs.Counts.{failed_counted, ends_counted}
 use Rattle.lapin_machine.proofs.closing.go_down.Goals as goal
 
 pub returns-clause-counts : goal.returns-clause-counts
 returns-clause-counts c = (
   failed_counted c.args.error c.args.desk.now.tickets.slots _ c.end_all.ensures.slots,
-  ends_counted c.args.error (live_channels c.args.phases.now.entries) c.args.confirms.now.book _ c.end_all.ensures.book,
+  ends_counted c.args.error (live_channels c.args.phases.now.entries) c.args.confirms.now.what.book _ c.end_all.ensures.book,
 )

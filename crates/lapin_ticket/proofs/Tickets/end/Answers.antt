@@ -1,46 +1,9 @@
-use Rattle.std.proofs.Common.{◌≢◌, ◌≤◌, ◌∙◌, sym, refl, arith}
+use Rattle.std.proofs.Common.{List, Option, sym, ◌∙◌, ap}
 use Rattle.lapin_tables.specs.Numbered.{under}
-use Rattle.lapin_tables.proofs.SlotLaws.{given, first-least, first-none}
-use Rattle.lapin_ticket.proofs.Failing.{first-positive}
-use Rattle.lapin_ticket.proofs.Ending.{end-done}
-use Rattle.lapin_ticket.proofs.Walking.{open_some, all-pass}
+use Rattle.lapin_ticket.specs.declared.Slot.{Slot}
+use Rattle.lapin_ticket.specs.Desk.{is_open_on}
+use Rattle.lapin_ticket.proofs.Listing.{open-failed}
 use Rattle.lapin_ticket.proofs.Tickets.end.Goals as goal
 
-pub returns-in_default-clause-slots : goal.returns-in_default-clause-slots
-returns-in_default-clause-slots c =
-    sym (end-done c.args.channel c.args.kept c.args.error c.args.self.now.slots (λ n h.
-    let there = open_some c.args.channel (under n c.args.self.now.slots) h in
-    absurd (first-none n there.0 c.args.self.now.slots (rw c.self.view_is at (sym c.in_default.ensures)) there.1)))
-
-pub loop-number-init : goal.loop-number-init
-loop-number-init c = record {
-  same = refl;
-  spare = refl;
-  left = λ n h _.
-      let there = open_some c.args.channel (under n c.args.self.now.slots) h in
-      let least : c.in-Some.first ≤ n = first-least n c.in-Some.first there.0 c.args.self.now.slots (rw c.self.view_is at (sym c.in-Some.ensures)) there.1 in
-      let last = given n there.0 c.args.self.now.slots there.1 in
-      (least, omega (arith, last, rw c.self.view_is at c.count-number.ensures));
-}
-
-pub overflow_sub-number : goal.overflow_sub-number
-overflow_sub-number c = let one : 1 ≤ c.in-Some.first = first-positive c.in-Some.first c.args.self.now.slots (rw c.self.view_is at (sym c.in-Some.ensures)) in omega arith
-
-pub loop-number-smaller : goal.loop-number-smaller
-loop-number-smaller c = let one : 1 ≤ c.in-Some.first = first-positive c.in-Some.first c.args.self.now.slots (rw c.self.view_is at (sym c.in-Some.ensures)) in omega arith
-
-pub loop-number-preserved : goal.loop-number-preserved
-loop-number-preserved c = record {
-  same = c.fail.ensures.same ∙ c.loop-number.invariant.same;
-  spare = c.fail.ensures.room ∙ c.loop-number.invariant.spare;
-  left = λ n h other.
-      let was = c.fail.ensures.left n h other in
-      let apart : n ≢ c.loop-number.number = was.0 in
-      let within = c.loop-number.invariant.left n was.1 other in
-      (within.0, omega (arith, within.1));
-}
-
-pub returns-clause-slots : goal.returns-clause-slots
-returns-clause-slots c =
-    sym (end-done c.args.channel c.args.kept c.args.error c.loop-number.self.slots (λ n h. all-pass _ (λ other. let within = c.loop-number.invariant.left n h other in omega (arith, within.0, within.1))))
-    ∙ c.loop-number.invariant.same
+pub let_go-requires : goal.let_go-requires
+let_go-requires c = λ d n h. c.self.invariant.0 d n (open-failed d c.args.channel n c.args.kept c.args.error c.self.inside.slots.slots (sym (ap (λ (xs : List (Option Slot)). is_open_on d (under n xs)) c.end.ensures.slots) ∙ h))

@@ -1,6 +1,18 @@
-use Rattle.std.proofs.Common.{eqb}
-use Rattle.lapin_tokens.proofs.FirstPlace.{first_is_position}
+use Rattle.std.proofs.Common.{eqb, ap, sym, ◌∙◌, subst}
+use Rattle.std.proofs.lemmas.List.{take_rest}
+use Rattle.memchr.specs.Find.{IsFirstByte}
+use Rattle.lapin_tokens.proofs.FirstPlace.{moved, first_here, first_behind}
 use Rattle.lapin_tokens.proofs.tokens.first_space.Goals as goal
 
-pub returns : goal.returns
-returns c = first_is_position (λ b. eqb b 32) c.args.line.now c.memchr.result c.memchr.ensures
+pub returns-then-line-place-eq32 : goal.returns-then-line-place-eq32
+returns-then-line-place-eq32 c = first_here (λ b. eqb b 32) c.args.line.now c.loop-place.place c.if-place-line.true c.loop-place.invariant.before (ap (λ b. eqb b 32) c.if-line-place-eq32.true)
+
+pub returns-in-Some : goal.returns-in-Some
+returns-in-Some c =
+    let rest = take_rest c.args.line.now c.loop-place.place in
+    ap (moved c.loop-place.place) (sym c.in-Some.is) ∙ first_behind (λ b. eqb b 32) c.args.line.now c.loop-place.place c.memchr.result c.loop-place.invariant.within c.loop-place.invariant.before (subst (λ l. IsFirstByte (λ b. eqb b 32) l c.memchr.result) rest c.memchr.ensures)
+
+pub returns-in-None : goal.returns-in-None
+returns-in-None c =
+    let rest = take_rest c.args.line.now c.loop-place.place in
+    ap (moved c.loop-place.place) (sym c.in-None.is) ∙ first_behind (λ b. eqb b 32) c.args.line.now c.loop-place.place c.memchr.result c.loop-place.invariant.within c.loop-place.invariant.before (subst (λ l. IsFirstByte (λ b. eqb b 32) l c.memchr.result) rest c.memchr.ensures)

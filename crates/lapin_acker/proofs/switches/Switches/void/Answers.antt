@@ -1,15 +1,23 @@
-use Rattle.std.proofs.Common.{ap, ◌∙◌, ◌<◌, ◌+◌, length, arith, inl, inr}
+use Rattle.std.proofs.Common.{◌<◌, length, slice_set, ap, ◌∙◌, arith, inr}
 use Rattle.lapin_acker.specs.Switches.{Board}
-use Rattle.lapin_acker.proofs.Numbers.{one-spent, none-spent}
+use Rattle.lapin_acker.specs.Store.{shown}
+use Rattle.lapin_acker.proofs.Numbers.{none-spent, at-get_or}
+use Rattle.lapin_acker.proofs.Store.{length-shown, spent-gone, spent-cell}
 use Rattle.lapin_acker.proofs.switches.Switches.void.Goals as goal
+
+pub returns-in_default : goal.returns-in_default
+returns-in_default c = rw (← c.self.view_is) (spent-gone c.args.number c.self.inside.let_go c.self.inside.ends.items c.self.inside.cells.items c.in_default.ensures)
 
 pub returns-then-place-len : goal.returns-then-place-len
 returns-then-place-len c =
+    let whole = length-shown c.self.inside.let_go c.self.inside.ends.items c.self.inside.cells.items in
     let view = ap (λ (b : Board). length b.switches) c.self.view_is in
-    none-spent c.args.number c.args.self.now (inr (omega (arith, view, c.in-Some.ensures.0, c.in-Some.ensures.1, c.len.ensures, c.self.inside.switches.ok.0, c.if-place-len.true)))
+    none-spent c.args.number c.args.self.now (inr (omega (arith, whole, view, c.in-Some.ensures, c.len.ensures, c.if-place-len.true)))
 
 pub returns : goal.returns
-returns c = one-spent c.args.number c.in-Some.place c.index.result.now c.used.result c.args.self.now c.self.inside.switches.items (ap (λ (b : Board). b.switches) c.self.view_is) c.in-Some.ensures.0 c.in-Some.ensures.1 (omega (arith, c.len.ensures, c.self.inside.switches.ok.0, c.if-place-len.false)) c.index.ensures c.used.ensures
-
-pub returns-in_default : goal.returns-in_default
-returns-in_default c = none-spent c.args.number c.args.self.now (inl (omega (arith, c.in_default.ensures)))
+returns c =
+    let within : c.in-Some.place < length c.self.inside.cells.items = omega (arith, c.len.ensures, c.if-place-len.false) in
+    rw (← c.self.view_is)
+    (ap (λ t. shown c.self.inside.let_go c.self.inside.ends.items (slice_set c.self.inside.cells.items c.in-Some.place t)) c.used.ensures
+    ∙ spent-cell c.args.number c.self.inside.let_go c.in-Some.place c.self.inside.ends.items c.self.inside.cells.items c.index.result.now c.in-Some.ensures
+    (at-get_or c.self.inside.cells.items c.in-Some.place c.index.result.now within c.index.ensures))

@@ -1,46 +1,60 @@
-use Rattle.std.proofs.Common.{◌∙◌, List, ◌∷◌, [], ◌++◌, Option, Some, sym, ap}
+use Rattle.std.proofs.Common.{◌+◌, ℕ, ◌≡◌, length, ◌∙◌, List, ◌∷◌, [], ◌++◌, Option, Some, refl, sym, ap, subst, arith}
+use Rattle.std.proofs.lemmas.List.{length_push}
 use Rattle.lapin_tables.specs.ByChannel.{at_channel}
 use Rattle.lapin_confirm.specs.declared.cell.Cell.{Cell}
 use Rattle.lapin_confirm.specs.declared.cell.Cell.TheVariants as cell
-use Rattle.lapin_confirm.specs.Kept.{HasSome}
-use Rattle.lapin_confirm.specs.Ties.{rooms_of}
-use Rattle.lapin_confirm.proofs.Lines.{no-line, lines-same, same-line, same-book, room-some}
+use Rattle.lapin_confirm.specs.Kept.{spare_in}
+use Rattle.lapin_confirm.specs.Ties.{TagFits}
+use Rattle.lapin_confirm.proofs.Lines.{no-line, lines-same, same-line, same-book, same-post}
 use Rattle.lapin_confirm.proofs.Whole.{tied-of, all-on, tied-roomier, tied_at-joined}
+use Rattle.lapin_confirm.proofs.Roomy.{room-used}
 use Rattle.lapin_confirm.proofs.confirms.Confirms.add.Goals as goal
+
+pushed : {X Y : Type 0} (xs : List X) (ys : List Y) (x : X) (y : Y) (us : List X) (vs : List Y) → length xs ≡ length ys → us ≡ xs ++ x ∷ [] → vs ≡ ys ++ y ∷ [] → length us ≡ length vs
+pushed xs ys x y us vs same left right = ap length left ∙ length_push xs x ∙ ap (λ (n : ℕ). n + 1) same ∙ sym (ap length right ∙ length_push ys y)
 
 pub unreachable-requires : goal.unreachable-requires
 unreachable-requires c = no-line c.args.channel c.self.inside.ledgers.entries (sym c.in_default.ensures.value) (rw (← c.self.view_is) at c.requires)
 
+pub use_room-requires-clause-tags : goal.use_room-requires-clause-tags
+use_room-requires-clause-tags c = subst (TagFits (spare_in (at_channel c.args.channel c.self.inside.rooms.entries))) (sym c.in-Some.ensures.value) (c.self.invariant.room.tags c.args.channel)
+
 pub invariant_of-self : goal.invariant_of-self
 invariant_of-self c =
     let is = sym c.in-Some.ensures.value in
-    let tied = tied-of c.args.channel c.in-Some.ledger.now c.self.inside.ledgers.entries c.self.inside.cells.slots is c.self.invariant in
-    all-on c.args.channel c.in-Some.ledger.now c.make_room.new.ledger c.self.inside.ledgers.entries c.self.inside.cells.slots c.make_room.new.cells.slots is c.self.invariant
-    (tied-roomier c.args.channel c.in-Some.ledger.now c.make_room.new.ledger c.self.inside.cells.slots c.make_room.new.cells.slots tied c.make_room.ensures.rest c.make_room.ensures.tags c.make_room.ensures.kept c.make_room.ensures.cells)
-    (λ d o other tied. rw c.make_room.ensures.cells tied)
-
-pub returns-then-is_err-clause-err : goal.returns-then-is_err-clause-err
-returns-then-is_err-clause-err c =
-    rw (← c.self.view_is)
-    (same-book _ _ _ _ (lines-same c.args.channel c.in-Some.ledger.now c.make_room.new.ledger c.self.inside.ledgers.entries (sym c.in-Some.ensures.value) (same-line c.in-Some.ledger.now c.make_room.new.ledger c.make_room.ensures.rest c.make_room.ensures.tags)) c.make_room.ensures.cells)
-
-pub returns-then-is_err-clause-succeeds : goal.returns-then-is_err-clause-succeeds
-returns-then-is_err-clause-succeeds c = λ has fits.
-    let spare = rw (← c.self.view_is) at has.0 in
-    let room : HasSome (at_channel c.args.channel (rooms_of c.self.inside.ledgers.entries)) = rw (← c.self.view_is) at has.1 in
-    let made = c.make_room.ensures.succeeds spare (room-some c.args.channel c.in-Some.ledger.now c.self.inside.ledgers.entries (sym c.in-Some.ensures.value) room) in
-    sym c.if-is_err.ensures.negation ∙ made
+    let tied = tied-of c.args.channel c.in-Some.ledger.now c.self.inside.ledgers.entries c.self.inside.cells.slots is c.self.invariant.tied in
+    record {
+      tied =
+          all-on c.args.channel c.in-Some.ledger.now c.use_room.new.ledger c.self.inside.ledgers.entries c.self.inside.cells.slots c.use_room.new.cells.slots is c.self.invariant.tied
+          (tied-roomier c.args.channel c.in-Some.ledger.now c.use_room.new.ledger c.self.inside.cells.slots c.use_room.new.cells.slots tied c.use_room.ensures.rest c.use_room.ensures.tags c.use_room.ensures.kept c.use_room.ensures.cells)
+          (λ d o other tied. rw c.use_room.ensures.cells tied);
+      room = room-used c.args.channel c.in-Some.ledger.now c.use_room.new.ledger c.self.inside.rooms.entries c.use_room.new.rooms.entries c.self.inside.ledgers.entries c.self.inside.trays.entries c.self.inside.cells.spare _ is c.self.invariant.room c.use_room.ensures.others c.use_room.ensures.used c.use_room.ensures.fits.0 c.use_room.ensures.kept;
+      homes = record { count = ap length c.use_room.ensures.homes ∙ c.self.invariant.homes.count ∙ sym (ap length c.use_room.ensures.cells); room = c.use_room.ensures.fits.1 };
+    }
 
 pub invariant_of-self-2 : goal.invariant_of-self-2
 invariant_of-self-2 c =
-    all-on c.args.channel c.in-Some.ledger.now c.enqueue.new.ledger c.self.inside.ledgers.entries c.self.inside.cells.slots c.enqueue.new.cells.slots (sym c.in-Some.ensures.value) c.self.invariant
-    c.enqueue.ensures.tied
-    (λ d o other tied. rw (c.enqueue.ensures.cells, c.make_room.ensures.cells) (tied_at-joined c.args.channel d o c.self.inside.cells.slots other tied))
+    let is = sym c.in-Some.ensures.value in
+    record {
+      tied =
+          all-on c.args.channel c.in-Some.ledger.now c.enqueue.new.ledger c.self.inside.ledgers.entries c.self.inside.cells.slots c.enqueue.new.cells.slots is c.self.invariant.tied
+          c.enqueue.ensures.tied
+          (λ d o other tied. rw (c.enqueue.ensures.cells, c.use_room.ensures.cells) (tied_at-joined c.args.channel d o c.self.inside.cells.slots other tied));
+      room = room-used c.args.channel c.in-Some.ledger.now c.enqueue.new.ledger c.self.inside.rooms.entries c.use_room.new.rooms.entries c.self.inside.ledgers.entries c.self.inside.trays.entries c.self.inside.cells.spare _ is c.self.invariant.room c.use_room.ensures.others c.use_room.ensures.used (omega (arith, c.in_default-use_room.ensures.spare, c.enqueue.ensures.spare)) c.enqueue.ensures.tied.room;
+      homes = record { count = pushed c.use_room.new.homes.slots c.use_room.new.cells.slots _ _ c.push_reserved.new.self.slots c.enqueue.new.cells.slots (ap length c.use_room.ensures.homes ∙ c.self.invariant.homes.count ∙ sym (ap length c.use_room.ensures.cells)) c.push_reserved.ensures.slots c.enqueue.ensures.cells; room = omega (arith, c.in_default-use_room.ensures.home, c.push_reserved.ensures.spare) };
+    }
+
+pub returns-in-Err-clause-err : goal.returns-in-Err-clause-err
+returns-in-Err-clause-err c =
+    rw (← c.self.view_is)
+    (same-post _ _ _ _ _ _
+    (same-book _ _ _ _ (lines-same c.args.channel c.in-Some.ledger.now c.use_room.new.ledger c.self.inside.ledgers.entries (sym c.in-Some.ensures.value) (same-line c.in-Some.ledger.now c.use_room.new.ledger c.use_room.ensures.rest c.use_room.ensures.tags)) c.use_room.ensures.cells)
+    refl c.use_room.ensures.homes)
 
 pub returns-clause-ok : goal.returns-clause-ok
 returns-clause-ok c =
     rw (← c.self.view_is)
     (same-book _ _ _ _
     (lines-same c.args.channel c.in-Some.ledger.now c.enqueue.new.ledger c.self.inside.ledgers.entries (sym c.in-Some.ensures.value)
-    (c.enqueue.ensures.line ∙ same-line c.in-Some.ledger.now c.make_room.new.ledger c.make_room.ensures.rest c.make_room.ensures.tags))
-    (c.enqueue.ensures.cells ∙ ap (λ (xs : List (Option Cell)). xs ++ Some (cell.Queued c.args.channel) ∷ []) c.make_room.ensures.cells))
+    (c.enqueue.ensures.line ∙ same-line c.in-Some.ledger.now c.use_room.new.ledger c.use_room.ensures.rest c.use_room.ensures.tags))
+    (c.enqueue.ensures.cells ∙ ap (λ (xs : List (Option Cell)). xs ++ Some (cell.Queued c.args.channel) ∷ []) c.use_room.ensures.cells))

@@ -1,18 +1,26 @@
+use Rattle.std.proofs.Common.{length, ap, ◌∙◌}
+use Rattle.std.proofs.lemmas.List.{length-map}
 use Rattle.std.proofs.Common.{sym}
 use Rattle.lapin_confirm.specs.Book.{ended_line}
 use Rattle.lapin_confirm.proofs.Lines.{lines-absent, lines-on, same-book}
+use Rattle.lapin_confirm.proofs.Roomy.{same-homes, room-kept}
 use Rattle.lapin_confirm.proofs.Whole.{untouched-of, all-on, tied_at-ended}
 use Rattle.lapin_confirm.proofs.Ended.{ended-untouched}
 use Rattle.lapin_confirm.proofs.confirms.Confirms.end.Goals as goal
 
-pub returns-in_default : goal.returns-in_default
-returns-in_default c = rw (← c.self.view_is) (same-book _ _ _ _ (sym (lines-absent c.args.channel ended_line c.self.inside.ledgers.entries (sym c.in_default.ensures.value))) (sym (ended-untouched c.args.channel c.args.error c.self.inside.cells.slots (untouched-of c.args.channel c.self.inside.ledgers.entries c.self.inside.cells.slots (sym c.in_default.ensures.value) c.self.invariant))))
+pub returns-in_default-clause-book : goal.returns-in_default-clause-book
+returns-in_default-clause-book c = rw (← c.self.view_is) (same-book _ _ _ _ (sym (lines-absent c.args.channel ended_line c.self.inside.ledgers.entries (sym c.in_default.ensures.value))) (sym (ended-untouched c.args.channel c.args.error c.self.inside.cells.slots (untouched-of c.args.channel c.self.inside.ledgers.entries c.self.inside.cells.slots (sym c.in_default.ensures.value) c.self.invariant.tied))))
 
 pub invariant_of-self-2 : goal.invariant_of-self-2
 invariant_of-self-2 c =
-    all-on c.args.channel c.in-Some.ledger.now c.end_opening.new.ledger c.self.inside.ledgers.entries c.self.inside.cells.slots c.end_opening.new.cells.slots (sym c.in-Some.ensures.value) c.self.invariant
-    c.end_opening.ensures.tied
-    (λ d o other tied. rw c.end_opening.ensures.cells (tied_at-ended c.args.channel d c.args.error o c.self.inside.cells.slots other tied))
+    record {
+      tied =
+          all-on c.args.channel c.in-Some.ledger.now c.end_opening.new.ledger c.self.inside.ledgers.entries c.self.inside.cells.slots c.end_opening.new.cells.slots (sym c.in-Some.ensures.value) c.self.invariant.tied
+          c.end_opening.ensures.tied
+          (λ d o other tied. rw c.end_opening.ensures.cells (tied_at-ended c.args.channel d c.args.error o c.self.inside.cells.slots other tied));
+      room = room-kept c.args.channel c.in-Some.ledger.now c.end_opening.new.ledger c.self.inside.rooms.entries c.self.inside.ledgers.entries c.self.inside.trays.entries c.self.inside.cells.spare _ (sym c.in-Some.ensures.value) c.self.invariant.room c.end_opening.ensures.room c.end_opening.ensures.spare;
+      homes = same-homes _ _ c.end_opening.new.cells.slots _ c.self.invariant.homes (ap length c.end_opening.ensures.cells ∙ length-map c.self.inside.cells.slots _);
+    }
 
-pub returns : goal.returns
-returns c = rw (← c.self.view_is) (same-book _ _ _ _ (lines-on c.args.channel ended_line c.in-Some.ledger.now c.end_opening.new.ledger c.self.inside.ledgers.entries (sym c.in-Some.ensures.value) c.end_opening.ensures.line) c.end_opening.ensures.cells)
+pub returns-clause-book : goal.returns-clause-book
+returns-clause-book c = rw (← c.self.view_is) (same-book _ _ _ _ (lines-on c.args.channel ended_line c.in-Some.ledger.now c.end_opening.new.ledger c.self.inside.ledgers.entries (sym c.in-Some.ensures.value) c.end_opening.ensures.line) c.end_opening.ensures.cells)

@@ -1,3 +1,5 @@
+use Rattle.std.proofs.Common.{length, ap, ◌∙◌}
+use Rattle.lapin_tables.proofs.SlotLaws.{length-with}
 use Rattle.std.proofs.Common.{◌≡◌, ◌∙◌, ℕ, sym, subst, Some, Option, ne_eqb}
 use Rattle.lapin_confirm.specs.declared.cell.Cell.TheVariants as cell
 use Rattle.lapin_confirm.specs.declared.cell.Cell.{Cell}
@@ -6,6 +8,7 @@ use Rattle.lapin_confirm.specs.Book.{tag_for, cell_with, left}
 use Rattle.lapin_confirm.specs.Ties.{lines_of}
 use Rattle.lapin_confirm.proofs.Lines.{book, tag-there, left-book}
 use Rattle.lapin_confirm.proofs.Tying.{tied_at-other, left-closed}
+use Rattle.lapin_confirm.proofs.Roomy.{same-homes, room-kept}
 use Rattle.lapin_confirm.proofs.Whole.{all-on}
 use Rattle.lapin_confirm.proofs.confirms.Confirms.register.Goals as goal
 
@@ -14,11 +17,16 @@ same_channel c d o this that = let both : Some (cell.Queued c) ≡ Some (cell.Qu
 
 pub invariant_of-self : goal.invariant_of-self
 invariant_of-self c =
-    all-on c.queued_channel-channel.result c.in-Some.ledger.now c.leave.new.ledger c.self.inside.ledgers.entries c.self.inside.cells.slots c.leave.new.cells.slots (sym c.in-Some.ensures.value) c.self.invariant
-    c.leave.ensures.tied
-    (λ d o other tied. rw c.leave.ensures.cells
-    (tied_at-other d c.args.number (cell.Queued c.queued_channel-channel.result) (Some (cell_with c.queued_channel-channel.result c.leave.result)) o c.self.inside.cells.slots
-    c.queued_channel-channel.ensures.queued (ne_eqb c.queued_channel-channel.result d other) (left-closed c.queued_channel-channel.result d c.leave.result other) tied))
+    record {
+      tied =
+          all-on c.queued_channel-channel.result c.in-Some.ledger.now c.leave.new.ledger c.self.inside.ledgers.entries c.self.inside.cells.slots c.leave.new.cells.slots (sym c.in-Some.ensures.value) c.self.invariant.tied
+          c.leave.ensures.tied
+          (λ d o other tied. rw c.leave.ensures.cells
+          (tied_at-other d c.args.number (cell.Queued c.queued_channel-channel.result) (Some (cell_with c.queued_channel-channel.result c.leave.result)) o c.self.inside.cells.slots
+          c.queued_channel-channel.ensures.queued (ne_eqb c.queued_channel-channel.result d other) (left-closed c.queued_channel-channel.result d c.leave.result other) tied));
+      room = room-kept c.queued_channel-channel.result c.in-Some.ledger.now c.leave.new.ledger c.self.inside.rooms.entries c.self.inside.ledgers.entries c.self.inside.trays.entries c.self.inside.cells.spare _ (sym c.in-Some.ensures.value) c.self.invariant.room c.leave.ensures.room c.leave.ensures.spare;
+      homes = same-homes _ _ c.leave.new.cells.slots _ c.self.invariant.homes (ap length c.leave.ensures.cells ∙ length-with c.args.number _ c.self.inside.cells.slots);
+    }
 
 pub returns-clause-tag : goal.returns-clause-tag
 returns-clause-tag c = λ d there.

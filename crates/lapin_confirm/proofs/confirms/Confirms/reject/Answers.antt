@@ -1,18 +1,26 @@
+use Rattle.std.proofs.Common.{length, ap, ◌∙◌}
+use Rattle.lapin_tables.proofs.SlotLaws.{length-with}
 use Rattle.std.proofs.Common.{Some, sym, refl, ne_eqb}
 use Rattle.lapin_history.specs.declared.marks.Outcome.TheVariants as outcome
 use Rattle.lapin_confirm.specs.declared.cell.Cell.TheVariants as cell
 use Rattle.lapin_confirm.proofs.Lines.{lines-same, same-book}
 use Rattle.lapin_confirm.proofs.Tying.{tied_at-other}
+use Rattle.lapin_confirm.proofs.Roomy.{same-homes, room-kept}
 use Rattle.lapin_confirm.proofs.Whole.{all-on}
 use Rattle.lapin_confirm.proofs.confirms.Confirms.reject.Goals as goal
 
 pub invariant_of-self : goal.invariant_of-self
 invariant_of-self c =
-    all-on c.queued_channel-channel.result c.in-Some.ledger.now c.reject.new.ledger c.self.inside.ledgers.entries c.self.inside.cells.slots c.reject.new.cells.slots (sym c.in-Some.ensures.value) c.self.invariant
-    c.reject.ensures.tied
-    (λ d o other tied. rw c.reject.ensures.cells
-    (tied_at-other d c.args.number (cell.Queued c.queued_channel-channel.result) (Some (cell.Resolved (outcome.Failed c.args.error))) o c.self.inside.cells.slots
-    c.queued_channel-channel.ensures.queued (ne_eqb c.queued_channel-channel.result d other) refl tied))
+    record {
+      tied =
+          all-on c.queued_channel-channel.result c.in-Some.ledger.now c.reject.new.ledger c.self.inside.ledgers.entries c.self.inside.cells.slots c.reject.new.cells.slots (sym c.in-Some.ensures.value) c.self.invariant.tied
+          c.reject.ensures.tied
+          (λ d o other tied. rw c.reject.ensures.cells
+          (tied_at-other d c.args.number (cell.Queued c.queued_channel-channel.result) (Some (cell.Resolved (outcome.Failed c.args.error))) o c.self.inside.cells.slots
+          c.queued_channel-channel.ensures.queued (ne_eqb c.queued_channel-channel.result d other) refl tied));
+      room = room-kept c.queued_channel-channel.result c.in-Some.ledger.now c.reject.new.ledger c.self.inside.rooms.entries c.self.inside.ledgers.entries c.self.inside.trays.entries c.self.inside.cells.spare _ (sym c.in-Some.ensures.value) c.self.invariant.room c.reject.ensures.room c.reject.ensures.spare;
+      homes = same-homes _ _ c.reject.new.cells.slots _ c.self.invariant.homes (ap length c.reject.ensures.cells ∙ length-with c.args.number _ c.self.inside.cells.slots);
+    }
 
-pub returns : goal.returns
-returns c = rw (← c.self.view_is) (same-book _ _ _ _ (lines-same c.queued_channel-channel.result c.in-Some.ledger.now c.reject.new.ledger c.self.inside.ledgers.entries (sym c.in-Some.ensures.value) c.reject.ensures.line) c.reject.ensures.cells)
+pub returns-clause-book : goal.returns-clause-book
+returns-clause-book c = rw (← c.self.view_is) (same-book _ _ _ _ (lines-same c.queued_channel-channel.result c.in-Some.ledger.now c.reject.new.ledger c.self.inside.ledgers.entries (sym c.in-Some.ensures.value) c.reject.ensures.line) c.reject.ensures.cells)

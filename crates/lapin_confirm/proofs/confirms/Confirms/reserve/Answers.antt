@@ -1,46 +1,28 @@
-use Rattle.std.proofs.Common.{◌≡◌, sym, true, false}
-use Rattle.lapin_confirm.specs.Kept.{HasSome}
-use Rattle.lapin_tables.specs.ByChannel.{at_channel}
-use Rattle.lapin_confirm.specs.Ties.{rooms_of}
-use Rattle.lapin_confirm.proofs.Lines.{lines-same, same-line, same-book, room-on, room-none, room-some}
-use Rattle.lapin_confirm.proofs.Whole.{tied-of, all-on, tied-roomier}
+use Rattle.std.proofs.Common.{◌∙◌, sym, ap, length}
+use Rattle.std.proofs.Common.{arith}
+use Rattle.lapin_confirm.proofs.Lines.{same-book, same-post}
+use Rattle.lapin_confirm.proofs.Roomy.{promise-fits, room-more, promise-one, promise-keeps}
 use Rattle.lapin_confirm.proofs.confirms.Confirms.reserve.Goals as goal
-
-pub returns-in_default-clause-room : goal.returns-in_default-clause-room
-returns-in_default-clause-room c = (c.in_ok-reserve.ensures.room, room-none c.args.channel c.self.inside.ledgers.entries (sym c.in_default.ensures.value))
-
-pub invariant_of-self-in_err-make_room : goal.invariant_of-self-in_err-make_room
-invariant_of-self-in_err-make_room c =
-    let is = sym c.in-Some.ensures.value in
-    let tied = tied-of c.args.channel c.in-Some.ledger.now c.self.inside.ledgers.entries c.self.inside.cells.slots is c.self.invariant in
-    all-on c.args.channel c.in-Some.ledger.now c.make_room.new.ledger c.self.inside.ledgers.entries c.self.inside.cells.slots c.make_room.new.cells.slots is c.self.invariant
-    (tied-roomier c.args.channel c.in-Some.ledger.now c.make_room.new.ledger c.self.inside.cells.slots c.make_room.new.cells.slots tied c.make_room.ensures.rest c.make_room.ensures.tags c.make_room.ensures.kept c.make_room.ensures.cells)
-    (λ d o other tied. rw c.make_room.ensures.cells tied)
-
-pub returns-in_err-make_room-clause-same : goal.returns-in_err-make_room-clause-same
-returns-in_err-make_room-clause-same c =
-    rw (← c.self.view_is)
-    (same-book _ _ _ _ (lines-same c.args.channel c.in-Some.ledger.now c.make_room.new.ledger c.self.inside.ledgers.entries (sym c.in-Some.ensures.value) (same-line c.in-Some.ledger.now c.make_room.new.ledger c.make_room.ensures.rest c.make_room.ensures.tags)) c.make_room.ensures.cells)
-
-pub returns-in_err-make_room-clause-succeeds : goal.returns-in_err-make_room-clause-succeeds
-returns-in_err-make_room-clause-succeeds c = λ has.
-    let spare = rw (← c.self.view_is) at has.0 in
-    let room : HasSome (at_channel c.args.channel (rooms_of c.self.inside.ledgers.entries)) = rw (← c.self.view_is) at has.1 in
-    let no : false ≡ true = c.in_err-make_room.ensures.succeeds spare (room-some c.args.channel c.in-Some.ledger.now c.self.inside.ledgers.entries (sym c.in-Some.ensures.value) room) in
-    cc
 
 pub invariant_of-self-2 : goal.invariant_of-self-2
 invariant_of-self-2 c =
-    let is = sym c.in-Some.ensures.value in
-    let tied = tied-of c.args.channel c.in-Some.ledger.now c.self.inside.ledgers.entries c.self.inside.cells.slots is c.self.invariant in
-    all-on c.args.channel c.in-Some.ledger.now c.make_room.new.ledger c.self.inside.ledgers.entries c.self.inside.cells.slots c.make_room.new.cells.slots is c.self.invariant
-    (tied-roomier c.args.channel c.in-Some.ledger.now c.make_room.new.ledger c.self.inside.cells.slots c.make_room.new.cells.slots tied c.make_room.ensures.rest c.make_room.ensures.tags c.make_room.ensures.kept c.make_room.ensures.cells)
-    (λ d o other tied. rw c.make_room.ensures.cells tied)
+    record {
+      tied = c.make_room.ensures.tied;
+      room = rw c.promise.ensures (room-more c.args.channel c.make_room.new.rooms.entries c.make_room.new.ledgers.entries c.make_room.new.trays.entries c.make_room.new.cells.spare c.make_room.ensures.room c.in_default.ensures.more);
+      homes = record { count = ap length c.make_room.ensures.homes ∙ c.self.invariant.homes.count ∙ sym (ap length c.make_room.ensures.cells); room = rw c.promise.ensures (promise-fits c.args.channel c.make_room.new.rooms.entries c.make_room.new.homes.spare c.in_default.ensures.more.known c.in_default.ensures.home) };
+    }
 
 pub returns-clause-room : goal.returns-clause-room
-returns-clause-room c = (c.in_ok-make_room.ensures.spare, room-on c.args.channel c.in-Some.ledger.now c.make_room.new.ledger c.self.inside.ledgers.entries (sym c.in-Some.ensures.value) c.in_ok-make_room.ensures.room)
+returns-clause-room c = rw c.promise.ensures (omega (arith, promise-one c.args.channel c.make_room.new.rooms.entries c.in_default.ensures.more.known))
 
 pub returns-clause-same : goal.returns-clause-same
-returns-clause-same c =
-    rw (← c.self.view_is)
-    (same-book _ _ _ _ (lines-same c.args.channel c.in-Some.ledger.now c.make_room.new.ledger c.self.inside.ledgers.entries (sym c.in-Some.ensures.value) (same-line c.in-Some.ledger.now c.make_room.new.ledger c.make_room.ensures.rest c.make_room.ensures.tags)) c.make_room.ensures.cells)
+returns-clause-same c = rw (← c.self.view_is) (same-post _ _ _ _ _ _ (same-book _ _ _ _ c.make_room.ensures.lines c.make_room.ensures.cells) c.make_room.ensures.trays c.make_room.ensures.homes)
+
+pub returns-in-Err-clause-same : goal.returns-in-Err-clause-same
+returns-in-Err-clause-same c = rw (← c.self.view_is) (same-post _ _ _ _ _ _ (same-book _ _ _ _ c.make_room.ensures.lines c.make_room.ensures.cells) c.make_room.ensures.trays c.make_room.ensures.homes)
+
+pub returns-clause-spare : goal.returns-clause-spare
+returns-clause-spare c = λ d. rw (← c.self.view_is, c.promise.ensures) (omega (arith, promise-keeps c.args.channel d c.make_room.new.rooms.entries c.in_default.ensures.more.known, c.make_room.ensures.rooms d))
+
+pub returns-in-Err-clause-spare : goal.returns-in-Err-clause-spare
+returns-in-Err-clause-spare c = λ d. rw (← c.self.view_is) (omega (arith, c.make_room.ensures.rooms d))

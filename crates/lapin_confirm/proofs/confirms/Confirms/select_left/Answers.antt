@@ -1,18 +1,24 @@
-use Rattle.std.proofs.Common.{sym, refl}
+use Rattle.std.proofs.Common.{true, arith, sym, refl}
 use Rattle.lapin_confirm.specs.Book.{selected_line}
 use Rattle.lapin_confirm.proofs.Lines.{lines-absent, lines-on, same-book}
+use Rattle.lapin_confirm.proofs.Roomy.{room-kept, keeps-same}
 use Rattle.lapin_confirm.proofs.Whole.{tied-of, all-on, tied-room}
 use Rattle.lapin_confirm.proofs.confirms.Confirms.select_left.Goals as goal
 
-pub returns-in_default : goal.returns-in_default
-returns-in_default c = rw (← c.self.view_is) (same-book _ _ _ _ (sym (lines-absent c.args.channel selected_line c.self.inside.ledgers.entries (sym c.in_default.ensures.value))) refl)
+pub returns-in_default-clause-book : goal.returns-in_default-clause-book
+returns-in_default-clause-book c = rw (← c.self.view_is) (same-book _ _ _ _ (sym (lines-absent c.args.channel selected_line c.self.inside.ledgers.entries (sym c.in_default.ensures.value))) refl)
 
 pub invariant_of-self-2 : goal.invariant_of-self-2
 invariant_of-self-2 c =
-    let tied = tied-of c.args.channel c.in-Some.ledger.now c.self.inside.ledgers.entries c.self.inside.cells.slots (sym c.in-Some.ensures.value) c.self.invariant in
-    all-on c.args.channel c.in-Some.ledger.now _ c.self.inside.ledgers.entries c.self.inside.cells.slots c.self.inside.cells.slots (sym c.in-Some.ensures.value) c.self.invariant
-    (tied-room c.args.channel c.in-Some.ledger.now _ c.self.inside.cells.slots tied refl refl refl tied.room)
-    (λ d o other tied. tied)
+    let tied = tied-of c.args.channel c.in-Some.ledger.now c.self.inside.ledgers.entries c.self.inside.cells.slots (sym c.in-Some.ensures.value) c.self.invariant.tied in
+    record {
+      tied =
+          all-on c.args.channel c.in-Some.ledger.now _ c.self.inside.ledgers.entries c.self.inside.cells.slots c.self.inside.cells.slots (sym c.in-Some.ensures.value) c.self.invariant.tied
+          (tied-room c.args.channel c.in-Some.ledger.now _ c.self.inside.cells.slots tied refl refl refl tied.room)
+          (λ d o other tied. tied);
+      room = room-kept c.args.channel c.in-Some.ledger.now (record c.in-Some.ledger.now { selected = true }) c.self.inside.rooms.entries c.self.inside.ledgers.entries c.self.inside.trays.entries c.self.inside.cells.spare _ (sym c.in-Some.ensures.value) c.self.invariant.room (keeps-same c.in-Some.ledger.now (record c.in-Some.ledger.now { selected = true }) refl refl) (omega arith);
+      homes = c.self.invariant.homes;
+    }
 
-pub returns : goal.returns
-returns c = rw (← c.self.view_is) (same-book _ _ _ _ (lines-on c.args.channel selected_line c.in-Some.ledger.now _ c.self.inside.ledgers.entries (sym c.in-Some.ensures.value) refl) refl)
+pub returns-clause-book : goal.returns-clause-book
+returns-clause-book c = rw (← c.self.view_is) (same-book _ _ _ _ (lines-on c.args.channel selected_line c.in-Some.ledger.now _ c.self.inside.ledgers.entries (sym c.in-Some.ensures.value) refl) refl)

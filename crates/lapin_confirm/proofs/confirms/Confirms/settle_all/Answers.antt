@@ -1,3 +1,5 @@
+use Rattle.std.proofs.Common.{length, ap, ◌∙◌}
+use Rattle.std.proofs.lemmas.List.{length-map}
 use Rattle.std.proofs.Common.{◌≡◌, ℕ, List, [], Some, None, ap, ◌≤◌, ◌∙◌, nat_le, length, sym, refl, arith}
 use Rattle.std.proofs.lemmas.Bool.{le-leb}
 use Rattle.lapin_tables.proofs.SlotLaws.{given}
@@ -12,19 +14,27 @@ use Rattle.lapin_confirm.specs.Ties.{lines_of, trays_of}
 use Rattle.lapin_confirm.proofs.Covered.{covered-all}
 use Rattle.lapin_confirm.proofs.Trays.{on-still}
 use Rattle.lapin_confirm.proofs.Lines.{line-at, lines-same, same-book}
+use Rattle.lapin_confirm.proofs.Roomy.{same-homes, room-kept}
 use Rattle.lapin_confirm.proofs.Whole.{tied-of, untouched-of, all-settled}
 use Rattle.lapin_confirm.proofs.Settled.{settled-same, settled-untouched}
 use Rattle.lapin_confirm.proofs.confirms.Confirms.settle_all.Goals as goal
 
 pub returns-in_default-clause-book : goal.returns-in_default-clause-book
-returns-in_default-clause-book c = rw (← c.self.view_is) (same-book _ _ _ _ refl (sym (settled-untouched c.args.channel _ _ c.self.inside.cells.slots (untouched-of c.args.channel c.self.inside.ledgers.entries c.self.inside.cells.slots (sym c.in_default.ensures.value) c.self.invariant))))
+returns-in_default-clause-book c = rw (← c.self.view_is) (same-book _ _ _ _ refl (sym (settled-untouched c.args.channel _ _ c.self.inside.cells.slots (untouched-of c.args.channel c.self.inside.ledgers.entries c.self.inside.cells.slots (sym c.in_default.ensures.value) c.self.invariant.tied))))
 
 pub invariant_of-self-2 : goal.invariant_of-self-2
-invariant_of-self-2 c = all-settled c.args.channel _ _ c.in-Some.ledger.now c.settle_through.new.ledger c.self.inside.ledgers.entries c.self.inside.cells.slots c.settle_through.new.cells.slots (sym c.in-Some.ensures.value) c.self.invariant c.settle_through.ensures.tied c.settle_through.ensures.cells
+invariant_of-self-2 c =
+    let is = sym c.in-Some.ensures.value in
+    let room = room-kept c.args.channel c.in-Some.ledger.now c.settle_through.new.ledger c.self.inside.rooms.entries c.self.inside.ledgers.entries c.self.inside.trays.entries c.self.inside.cells.spare c.settle_through.new.cells.spare is c.self.invariant.room c.settle_through.ensures.room c.settle_through.ensures.spare in
+    record {
+      tied = all-settled c.args.channel _ _ c.in-Some.ledger.now c.settle_through.new.ledger c.self.inside.ledgers.entries c.self.inside.cells.slots c.settle_through.new.cells.slots is c.self.invariant.tied c.settle_through.ensures.tied c.settle_through.ensures.cells;
+      room = record { cells = room.cells; tags = room.tags; messages = c.attach_on.ensures.room c.self.inside.rooms.entries c.self.invariant.room.messages };
+      homes = same-homes _ _ c.settle_through.new.cells.slots _ c.self.invariant.homes (ap length c.settle_through.ensures.cells ∙ length-map c.self.inside.cells.slots _);
+    }
 
 pub returns-clause-book : goal.returns-clause-book
 returns-clause-book c =
-    let tied = tied-of c.args.channel c.in-Some.ledger.now c.self.inside.ledgers.entries c.self.inside.cells.slots (sym c.in-Some.ensures.value) c.self.invariant in
+    let tied = tied-of c.args.channel c.in-Some.ledger.now c.self.inside.ledgers.entries c.self.inside.cells.slots (sym c.in-Some.ensures.value) c.self.invariant.tied in
     rw (← c.self.view_is)
     (same-book _ _ _ _
     (lines-same c.args.channel c.in-Some.ledger.now c.settle_through.new.ledger c.self.inside.ledgers.entries (sym c.in-Some.ensures.value) c.settle_through.ensures.line)
@@ -40,9 +50,9 @@ returns-in_default-clause-trays c =
 pub returns-clause-trays : goal.returns-clause-trays
 returns-clause-trays c =
     let is = sym c.in-Some.ensures.value in
-    let tied = tied-of c.args.channel c.in-Some.ledger.now c.self.inside.ledgers.entries c.self.inside.cells.slots is c.self.invariant in
+    let tied = tied-of c.args.channel c.in-Some.ledger.now c.self.inside.ledgers.entries c.self.inside.cells.slots is c.self.invariant.tied in
     rw (← c.self.view_is)
-    (c.attach_on.ensures ∙ ap (λ (ns : List ℕ). on_channel c.args.channel (attached_to_all ns) (trays_of c.self.inside.trays.entries))
+    (c.attach_on.ensures.letters ∙ ap (λ (ns : List ℕ). on_channel c.args.channel (attached_to_all ns) (trays_of c.self.inside.trays.entries))
     (covered-all c.args.channel c.args.kind c.in-Some.ledger.now c.self.inside.cells.slots (range_with_len 1 c.count-last.result) tied
     ∙ ap (λ (n : ℕ). taking (covers (multiple_of c.args.kind 0)) (λ t. number_from c.args.channel t 1 c.self.inside.cells.slots) (range_with_len 1 n))
     (c.count-last.ensures ∙ ap last_in (sym (line-at c.args.channel c.self.inside.ledgers.entries (Some c.in-Some.ledger.now) is)))))

@@ -1,8 +1,16 @@
-use Rattle.std.proofs.Common.{◌≡◌, ◌∙◌, true, false, sym, refl, Option, Some, None}
+use Rattle.std.proofs.Common.{length, ap, ◌∙◌}
+use Rattle.std.proofs.lemmas.List.{length-map}
+use Rattle.std.proofs.Common.{ap, [], List, ℕ, ◌≡◌, ◌∙◌, true, false, sym, refl, Option, Some, None}
 use Rattle.std.specs.List.{list_any}
 use Rattle.std.specs.Prelude.{is_some}
-use Rattle.lapin_confirm.specs.Book.{is_pending_as}
-use Rattle.lapin_confirm.proofs.Lines.{line-at, lines-same, same-book}
+use Rattle.lapin_confirm.specs.Book.{is_pending_as, last_in}
+use Rattle.lapin_tables.specs.ByChannel.{at_channel, on_channel}
+use Rattle.lapin_history.specs.Letters.{attached_to_all}
+use Rattle.lapin_confirm.specs.Ties.{lines_of, trays_of}
+use Rattle.lapin_confirm.proofs.Covered.{covered-one}
+use Rattle.lapin_confirm.proofs.Trays.{on-still}
+use Rattle.lapin_confirm.proofs.Lines.{line-at, lines-same, same-book, same-post}
+use Rattle.lapin_confirm.proofs.Roomy.{same-homes, room-kept, with-messages}
 use Rattle.lapin_confirm.proofs.Whole.{tied-of, untouched-of, all-settled}
 use Rattle.lapin_confirm.proofs.Settled.{settled-untouched, settled-none, pending-tells, pending-untouched}
 use Rattle.lapin_confirm.proofs.confirms.Confirms.settle_one.Goals as goal
@@ -14,19 +22,25 @@ not_there (Some x) h = cc
 pub returns-in_default-clause-answer : goal.returns-in_default-clause-answer
 returns-in_default-clause-answer c =
     let none = sym c.in_default.ensures.value in
-    let untouched = untouched-of c.args.channel c.self.inside.ledgers.entries c.self.inside.cells.slots none c.self.invariant in
+    let untouched = untouched-of c.args.channel c.self.inside.ledgers.entries c.self.inside.cells.slots none c.self.invariant.tied in
     rw (← c.self.view_is, pending-untouched c.args.channel c.args.tag c.self.inside.cells.slots untouched, line-at c.args.channel c.self.inside.ledgers.entries None none) refl
 
 pub returns-in_default-clause-settled : goal.returns-in_default-clause-settled
-returns-in_default-clause-settled c = rw (← c.self.view_is) (same-book _ _ _ _ refl (sym (settled-untouched c.args.channel _ _ c.self.inside.cells.slots (untouched-of c.args.channel c.self.inside.ledgers.entries c.self.inside.cells.slots (sym c.in_default.ensures.value) c.self.invariant))))
+returns-in_default-clause-settled c = rw (← c.self.view_is) (same-book _ _ _ _ refl (sym (settled-untouched c.args.channel _ _ c.self.inside.cells.slots (untouched-of c.args.channel c.self.inside.ledgers.entries c.self.inside.cells.slots (sym c.in_default.ensures.value) c.self.invariant.tied))))
 
 pub invariant_of-self-then-not-settle_tag : goal.invariant_of-self-then-not-settle_tag
-invariant_of-self-then-not-settle_tag c = all-settled c.args.channel _ _ c.in-Some.ledger.now c.settle_tag.new.ledger c.self.inside.ledgers.entries c.self.inside.cells.slots c.settle_tag.new.cells.slots (sym c.in-Some.ensures.value) c.self.invariant c.settle_tag.ensures.tied c.settle_tag.ensures.cells
+invariant_of-self-then-not-settle_tag c =
+    record {
+      tied =
+          all-settled c.args.channel _ _ c.in-Some.ledger.now c.settle_tag.new.ledger c.self.inside.ledgers.entries c.self.inside.cells.slots c.settle_tag.new.cells.slots (sym c.in-Some.ensures.value) c.self.invariant.tied c.settle_tag.ensures.tied c.settle_tag.ensures.cells;
+      room = with-messages _ _ _ c.attach_one.new.trays.entries _ (room-kept c.args.channel c.in-Some.ledger.now c.settle_tag.new.ledger c.self.inside.rooms.entries c.self.inside.ledgers.entries c.self.inside.trays.entries c.self.inside.cells.spare _ (sym c.in-Some.ensures.value) c.self.invariant.room c.settle_tag.ensures.room c.settle_tag.ensures.spare) (c.attach_one.ensures.room c.self.inside.rooms.entries c.self.invariant.room.messages);
+      homes = same-homes _ _ c.settle_tag.new.cells.slots _ c.self.invariant.homes (ap length c.settle_tag.ensures.cells ∙ length-map c.self.inside.cells.slots _);
+    }
 
 pub returns-then-not-settle_tag-clause-answer : goal.returns-then-not-settle_tag-clause-answer
 returns-then-not-settle_tag-clause-answer c =
     let is = sym c.in-Some.ensures.value in
-    let tied = tied-of c.args.channel c.in-Some.ledger.now c.self.inside.ledgers.entries c.self.inside.cells.slots is c.self.invariant in
+    let tied = tied-of c.args.channel c.in-Some.ledger.now c.self.inside.ledgers.entries c.self.inside.cells.slots is c.self.invariant.tied in
     let pending : list_any (is_pending_as c.args.channel c.args.tag) c.self.inside.cells.slots ≡ false = pending-tells c.args.channel c.args.tag c.in-Some.ledger.now c.self.inside.cells.slots tied ∙ sym c.if-not-settle_tag.ensures.found in
     rw (← c.self.view_is, pending, line-at c.args.channel c.self.inside.ledgers.entries (Some c.in-Some.ledger.now) is, c.count-current.ensures) refl
 
@@ -40,18 +54,25 @@ returns-then-not-settle_tag-clause-settled c =
 pub returns-then-not-settle_tag-clause-same : goal.returns-then-not-settle_tag-clause-same
 returns-then-not-settle_tag-clause-same c =
     let is = sym c.in-Some.ensures.value in
-    let tied = tied-of c.args.channel c.in-Some.ledger.now c.self.inside.ledgers.entries c.self.inside.cells.slots is c.self.invariant in
+    let tied = tied-of c.args.channel c.in-Some.ledger.now c.self.inside.ledgers.entries c.self.inside.cells.slots is c.self.invariant.tied in
     rw (← c.self.view_is)
-    (same-book _ _ _ _
+    (same-post _ _ _ _ _ _ (same-book _ _ _ _
     (lines-same c.args.channel c.in-Some.ledger.now c.settle_tag.new.ledger c.self.inside.ledgers.entries is c.settle_tag.ensures.line)
     (c.settle_tag.ensures.cells ∙ settled-none c.args.channel c.args.tag c.outcome_of.result c.in-Some.ledger.now c.self.inside.cells.slots tied (not_there _ c.if-not-settle_tag.ensures.found)))
+    (c.attach_one.ensures.letters ∙ rw (not_there _ c.if-not-settle_tag.ensures.found) (on-still c.args.channel (attached_to_all []) (trays_of c.self.inside.trays.entries) (λ l. refl))) refl)
 
 pub invariant_of-self-2 : goal.invariant_of-self-2
-invariant_of-self-2 c = all-settled c.args.channel _ _ c.in-Some.ledger.now c.settle_tag.new.ledger c.self.inside.ledgers.entries c.self.inside.cells.slots c.settle_tag.new.cells.slots (sym c.in-Some.ensures.value) c.self.invariant c.settle_tag.ensures.tied c.settle_tag.ensures.cells
+invariant_of-self-2 c =
+    record {
+      tied =
+          all-settled c.args.channel _ _ c.in-Some.ledger.now c.settle_tag.new.ledger c.self.inside.ledgers.entries c.self.inside.cells.slots c.settle_tag.new.cells.slots (sym c.in-Some.ensures.value) c.self.invariant.tied c.settle_tag.ensures.tied c.settle_tag.ensures.cells;
+      room = with-messages _ _ _ c.attach_one.new.trays.entries _ (room-kept c.args.channel c.in-Some.ledger.now c.settle_tag.new.ledger c.self.inside.rooms.entries c.self.inside.ledgers.entries c.self.inside.trays.entries c.self.inside.cells.spare _ (sym c.in-Some.ensures.value) c.self.invariant.room c.settle_tag.ensures.room c.settle_tag.ensures.spare) (c.attach_one.ensures.room c.self.inside.rooms.entries c.self.invariant.room.messages);
+      homes = same-homes _ _ c.settle_tag.new.cells.slots _ c.self.invariant.homes (ap length c.settle_tag.ensures.cells ∙ length-map c.self.inside.cells.slots _);
+    }
 
 pub returns-clause-answer : goal.returns-clause-answer
 returns-clause-answer c =
-    let tied = tied-of c.args.channel c.in-Some.ledger.now c.self.inside.ledgers.entries c.self.inside.cells.slots (sym c.in-Some.ensures.value) c.self.invariant in
+    let tied = tied-of c.args.channel c.in-Some.ledger.now c.self.inside.ledgers.entries c.self.inside.cells.slots (sym c.in-Some.ensures.value) c.self.invariant.tied in
     let pending : list_any (is_pending_as c.args.channel c.args.tag) c.self.inside.cells.slots ≡ true = pending-tells c.args.channel c.args.tag c.in-Some.ledger.now c.self.inside.cells.slots tied ∙ sym c.if-not-settle_tag.ensures.found in
     rw (← c.self.view_is, pending) refl
 
@@ -61,3 +82,22 @@ returns-clause-settled c =
     (same-book _ _ _ _
     (lines-same c.args.channel c.in-Some.ledger.now c.settle_tag.new.ledger c.self.inside.ledgers.entries (sym c.in-Some.ensures.value) c.settle_tag.ensures.line)
     (c.settle_tag.ensures.cells ∙ rw c.outcome_of.ensures refl))
+
+pub returns-in_default-clause-trays : goal.returns-in_default-clause-trays
+returns-in_default-clause-trays c =
+    let none : last_in (at_channel c.args.channel (lines_of c.self.inside.ledgers.entries)) ≡ 0 = ap last_in (line-at c.args.channel c.self.inside.ledgers.entries None (sym c.in_default.ensures.value)) in
+    rw (← c.self.view_is) (rw none (sym (on-still c.args.channel (attached_to_all []) (trays_of c.self.inside.trays.entries) (λ l. refl))))
+
+pub returns-then-not-settle_tag-clause-trays : goal.returns-then-not-settle_tag-clause-trays
+returns-then-not-settle_tag-clause-trays c =
+    let is = sym c.in-Some.ensures.value in
+    let tied = tied-of c.args.channel c.in-Some.ledger.now c.self.inside.ledgers.entries c.self.inside.cells.slots is c.self.invariant.tied in
+    rw (← c.self.view_is, line-at c.args.channel c.self.inside.ledgers.entries (Some c.in-Some.ledger.now) is)
+    (c.attach_one.ensures.letters ∙ ap (λ (ns : List ℕ). on_channel c.args.channel (attached_to_all ns) (trays_of c.self.inside.trays.entries)) (covered-one c.args.channel c.args.kind c.args.tag c.in-Some.ledger.now c.self.inside.cells.slots tied))
+
+pub returns-clause-trays : goal.returns-clause-trays
+returns-clause-trays c =
+    let is = sym c.in-Some.ensures.value in
+    let tied = tied-of c.args.channel c.in-Some.ledger.now c.self.inside.ledgers.entries c.self.inside.cells.slots is c.self.invariant.tied in
+    rw (← c.self.view_is, line-at c.args.channel c.self.inside.ledgers.entries (Some c.in-Some.ledger.now) is)
+    (c.attach_one.ensures.letters ∙ ap (λ (ns : List ℕ). on_channel c.args.channel (attached_to_all ns) (trays_of c.self.inside.trays.entries)) (covered-one c.args.channel c.args.kind c.args.tag c.in-Some.ledger.now c.self.inside.cells.slots tied))

@@ -1,20 +1,53 @@
-use Rattle.std.proofs.Common.{◌≡◌, ◌∙◌, ◌==◌, nat_le, false, sym, refl, arith, ne_eqb}
+use Rattle.std.proofs.Common.{length, ap, ◌∙◌}
+use Rattle.std.proofs.lemmas.List.{length-map}
+use Rattle.std.proofs.Common.{◌≡◌, ◌∙◌, nat_le, sym, refl, arith}
 use Rattle.lapin_history.specs.ConfirmReadings.{kind_outcome}
-use Rattle.lapin_confirm.proofs.Lines.{lines-same, same-book}
-use Rattle.lapin_confirm.proofs.Whole.{untouched-of, all-settled}
+use Rattle.std.proofs.Common.{List, ℕ, [], Some, None, ap, ◌≤◌, length}
+use Rattle.lapin_tables.specs.ByChannel.{at_channel, on_channel}
+use Rattle.lapin_tables.proofs.SlotLaws.{given}
+use Rattle.lapin_history.specs.Letters.{attached_to_all}
+use Rattle.lapin_confirm.specs.Book.{last_in}
+use Rattle.lapin_confirm.specs.Ties.{lines_of, trays_of}
+use Rattle.lapin_confirm.proofs.Covered.{covers-up_to, covered-up_to}
+use Rattle.lapin_confirm.proofs.Trays.{on-still}
+use Rattle.lapin_confirm.proofs.Lines.{line-at, lines-same, same-book}
+use Rattle.lapin_confirm.proofs.Roomy.{same-homes, room-kept, with-messages}
+use Rattle.lapin_confirm.proofs.Whole.{tied-of, untouched-of, all-settled}
 use Rattle.lapin_confirm.proofs.Settled.{settled-same, settled-untouched}
 use Rattle.lapin_confirm.proofs.confirms.Confirms.settle_up_to.Goals as goal
 
-pub returns-in_default : goal.returns-in_default
-returns-in_default c = rw (← c.self.view_is) (same-book _ _ _ _ refl (sym (settled-untouched c.args.channel _ _ c.self.inside.cells.slots (untouched-of c.args.channel c.self.inside.ledgers.entries c.self.inside.cells.slots (sym c.in_default.ensures.value) c.self.invariant))))
+pub returns-in_default-clause-book : goal.returns-in_default-clause-book
+returns-in_default-clause-book c = rw (← c.self.view_is) (same-book _ _ _ _ refl (sym (settled-untouched c.args.channel _ _ c.self.inside.cells.slots (untouched-of c.args.channel c.self.inside.ledgers.entries c.self.inside.cells.slots (sym c.in_default.ensures.value) c.self.invariant.tied))))
 
 pub invariant_of-self-2 : goal.invariant_of-self-2
-invariant_of-self-2 c = all-settled c.args.channel _ _ c.in-Some.ledger.now c.settle_through.new.ledger c.self.inside.ledgers.entries c.self.inside.cells.slots c.settle_through.new.cells.slots (sym c.in-Some.ensures.value) c.self.invariant c.settle_through.ensures.tied c.settle_through.ensures.cells
+invariant_of-self-2 c =
+    record {
+      tied =
+          all-settled c.args.channel _ _ c.in-Some.ledger.now c.settle_through.new.ledger c.self.inside.ledgers.entries c.self.inside.cells.slots c.settle_through.new.cells.slots (sym c.in-Some.ensures.value) c.self.invariant.tied c.settle_through.ensures.tied c.settle_through.ensures.cells;
+      room = with-messages _ _ _ c.attach_on.new.trays.entries _ (room-kept c.args.channel c.in-Some.ledger.now c.settle_through.new.ledger c.self.inside.rooms.entries c.self.inside.ledgers.entries c.self.inside.trays.entries c.self.inside.cells.spare _ (sym c.in-Some.ensures.value) c.self.invariant.room c.settle_through.ensures.room c.settle_through.ensures.spare) (c.attach_on.ensures.room c.self.inside.rooms.entries c.self.invariant.room.messages);
+      homes = same-homes _ _ c.settle_through.new.cells.slots _ c.self.invariant.homes (ap length c.settle_through.ensures.cells ∙ length-map c.self.inside.cells.slots _);
+    }
 
-pub returns : goal.returns
-returns c =
-    let above : (c.args.tag == 0) ≡ false = ne_eqb c.args.tag 0 (λ none. absurd (omega arith)) in
+pub returns-in_default-clause-trays : goal.returns-in_default-clause-trays
+returns-in_default-clause-trays c =
+    let none : last_in (at_channel c.args.channel (lines_of c.self.inside.ledgers.entries)) ≡ 0 = ap last_in (line-at c.args.channel c.self.inside.ledgers.entries None (sym c.in_default.ensures.value)) in
+    rw (← c.self.view_is) (rw none (sym (on-still c.args.channel (attached_to_all []) (trays_of c.self.inside.trays.entries) (λ l. refl))))
+
+pub returns-clause-book : goal.returns-clause-book
+returns-clause-book c =
+    let tied = tied-of c.args.channel c.in-Some.ledger.now c.self.inside.ledgers.entries c.self.inside.cells.slots (sym c.in-Some.ensures.value) c.self.invariant.tied in
     rw (← c.self.view_is)
     (same-book _ _ _ _
     (lines-same c.args.channel c.in-Some.ledger.now c.settle_through.new.ledger c.self.inside.ledgers.entries (sym c.in-Some.ensures.value) c.settle_through.ensures.line)
-    (c.settle_through.ensures.cells ∙ rw c.outcome_of.ensures (settled-same c.args.channel (λ t. nat_le t c.args.tag) _ (kind_outcome c.args.kind) c.self.inside.cells.slots (λ n t there. rw above refl))))
+    (c.settle_through.ensures.cells ∙ rw c.outcome_of.ensures (settled-same c.args.channel (λ t. nat_le t c.lesser-limit.result) _ (kind_outcome c.args.kind) c.self.inside.cells.slots (λ n t there.
+    covers-up_to c.args.kind c.args.tag c.lesser-limit.result c.count.result t c.requires c.lesser-limit.ensures.most.0 c.lesser-limit.ensures.tag
+    (let last : t ≤ length c.in-Some.ledger.now.tags.slots = given t n c.in-Some.ledger.now.tags.slots (tied.named n t there) in omega (arith, c.count.ensures))))))
+
+pub returns-clause-trays : goal.returns-clause-trays
+returns-clause-trays c =
+    let is = sym c.in-Some.ensures.value in
+    let tied = tied-of c.args.channel c.in-Some.ledger.now c.self.inside.ledgers.entries c.self.inside.cells.slots is c.self.invariant.tied in
+    rw (← c.self.view_is, line-at c.args.channel c.self.inside.ledgers.entries (Some c.in-Some.ledger.now) is)
+    (c.attach_on.ensures.letters ∙ ap (λ (ns : List ℕ). on_channel c.args.channel (attached_to_all ns) (trays_of c.self.inside.trays.entries))
+    (covered-up_to c.args.channel c.args.kind c.args.tag c.lesser-limit.result c.in-Some.ledger.now c.self.inside.cells.slots tied c.requires c.lesser-limit.ensures.most.0
+    (omega (arith, c.lesser-limit.ensures.most.1, c.count.ensures)) (λ less. c.lesser-limit.ensures.tag (omega (arith, c.count.ensures)))))

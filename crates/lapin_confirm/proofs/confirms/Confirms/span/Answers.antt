@@ -7,7 +7,7 @@ use Rattle.lapin_confirm.proofs.confirms.Confirms.span.Goals as goal
 
 pub returns-in-Some : goal.returns-in-Some
 returns-in-Some c =
-    let tied = tied-of c.args.channel _ c.self.inside.ledgers.entries c.self.inside.cells.slots (sym c.in-Some.ensures) c.self.invariant in
+    let tied = tied-of c.args.channel _ c.self.inside.ledgers.entries c.self.inside.cells.slots (sym c.in-Some.ensures) c.self.invariant.tied in
     rw (← c.self.view_is)
     (c.span_of.ensures
     ∙ ap (span_from _) (least-tied c.args.channel _ c.self.inside.cells.slots tied)
@@ -15,5 +15,5 @@ returns-in-Some c =
 
 pub returns-in-None : goal.returns-in-None
 returns-in-None c =
-    let none = untouched-of c.args.channel c.self.inside.ledgers.entries c.self.inside.cells.slots (sym c.in-None.ensures) c.self.invariant in
+    let none = untouched-of c.args.channel c.self.inside.ledgers.entries c.self.inside.cells.slots (sym c.in-None.ensures) c.self.invariant.tied in
     rw (← c.self.view_is) (ap (span_from _) (sym (least-untouched c.args.channel c.self.inside.cells.slots none)))

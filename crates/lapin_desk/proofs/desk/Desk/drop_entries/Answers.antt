@@ -1,20 +1,12 @@
-use Rattle.std.proofs.Common.{sym, ◌∙◌, ap, arith}
+use Rattle.std.proofs.Common.{◌∙◌, ap}
 use Rattle.lapin_history.specs.Drops.{without_channel}
-use Rattle.lapin_outbox.proofs.Dropping.{channel-others}
-use Rattle.lapin_desk.proofs.Dropped.{entries-smaller, entries-end}
+use Rattle.lapin_outbox.specs.Outgoing.{OutboxState, with_lists}
+use Rattle.lapin_outbox.specs.Returned.{is_returned_on}
+use Rattle.lapin_desk.proofs.Dropped.{let-go}
 use Rattle.lapin_desk.proofs.desk.Desk.drop_entries.Goals as goal
 
-pub loop-dropped-smaller : goal.loop-dropped-smaller
-loop-dropped-smaller c = entries-smaller c.args.channel c.loop-dropped.self.outbox.lists _ c.in-Some.dropped c.drop_channel.ensures.lists c.in-Some.ensures.told
+pub drop_waiting_on-requires : goal.drop_waiting_on-requires
+drop_waiting_on-requires c = ap (λ (o : OutboxState). is_returned_on c.args.channel o.returned) c.let_go.ensures.what ∙ let-go c.args.channel c.args.self.now.outbox.what.returned
 
-pub loop-dropped-preserved : goal.loop-dropped-preserved
-loop-dropped-preserved c = record {
-  lists = ap (without_channel c.args.channel) c.drop_channel.ensures.lists ∙ channel-others c.args.channel c.loop-dropped.self.outbox.lists ∙ c.loop-dropped.invariant.lists;
-  requests = c.loop-dropped.invariant.requests;
-  tickets = c.loop-dropped.invariant.tickets;
-  frame_max = c.drop_channel.ensures.frame_max ∙ c.loop-dropped.invariant.frame_max;
-  outbox_room = omega arith;
-}
-
-pub returns-clause-lists : goal.returns-clause-lists
-returns-clause-lists c = c.drop_channel.ensures.lists ∙ entries-end c.args.channel c.loop-dropped.self.outbox.lists (sym c.in_default.ensures.told) ∙ c.loop-dropped.invariant.lists
+pub returns-clause-outbox : goal.returns-clause-outbox
+returns-clause-outbox c = c.drop_waiting_on.ensures.outbox ∙ ap (λ (o : OutboxState). with_lists (without_channel c.args.channel o.lists) o) c.let_go.ensures.what

@@ -1,16 +1,16 @@
 use Rattle.std.proofs.Common.{◌≡◌, length}
 use Rattle.lapin_tables.specs.ByChannel.{on_channel}
 use Rattle.lapin_history.specs.Requests.{no_requests}
-use Rattle.lapin_outbox.specs.Open.{requests_at}
+use Rattle.lapin_outbox.specs.Open.{requests_at, KeepsRoom}
 use Rattle.lapin_desk.proofs.desk.Desk.drop_requests.Given as goal
 
 abbrev pub invariant-loop-request : goal.invariant-loop-request
 invariant-loop-request l = record {
-  requests : on_channel l.channel no_requests l.self.replies.waiting ≡ on_channel l.channel no_requests l.initial.self.replies.waiting;
+  requests : on_channel l.channel no_requests l.self.replies.what ≡ on_channel l.channel no_requests l.initial.self.replies.what;
   outbox : l.self.outbox ≡ l.initial.self.outbox;
   tickets : l.self.tickets ≡ l.initial.self.tickets;
-  ready : l.self.replies.ready ≡ l.initial.self.replies.ready;
+  room : KeepsRoom l.initial.self.replies l.self.replies;
 }
 
 abbrev pub decreases-loop-request : goal.decreases-loop-request
-decreases-loop-request l = length (requests_at l.channel l.self.replies.waiting)
+decreases-loop-request l = length (requests_at l.channel l.self.replies.what)

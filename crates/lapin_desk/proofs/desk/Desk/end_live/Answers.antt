@@ -8,10 +8,10 @@ use Rattle.lapin_desk.proofs.desk.Desk.end_live.Goals as goal
 pub loop-number-preserved : goal.loop-number-preserved
 loop-number-preserved c = record {
   within = omega arith;
-  book = ends-next c.args.error c.loop-number.number c.args.phases.now.entries c.args.confirms.now.book c.loop-number.confirms.book _ c.loop-number.invariant.book c.end_live_at.ensures.book;
+  book = ends-next c.args.error c.loop-number.number c.args.phases.now.entries c.args.confirms.now.what.book c.loop-number.confirms.what.book _ c.loop-number.invariant.book c.end_live_at.ensures.book;
   queued = c.end_live_at.ensures.queued;
   tickets = c.end_live_at.ensures.tickets ∙ c.loop-number.invariant.tickets;
-  frame_max = c.end_live_at.ensures.frame_max ∙ c.loop-number.invariant.frame_max;
+  rest = c.end_live_at.ensures.rest ∙ c.loop-number.invariant.rest;
   outbox_room = omega arith;
 }
 
@@ -19,5 +19,5 @@ pub returns-clause-book : goal.returns-clause-book
 returns-clause-book c =
     let last : c.loop-number.number ≡ c.reach-reach.result = omega arith in
     c.loop-number.invariant.book
-    ∙ ap (λ n. fold book.after_mark c.args.confirms.now.book (ends c.args.error (live_below n c.args.phases.now.entries))) last
-    ∙ ap (λ cs. fold book.after_mark c.args.confirms.now.book (ends c.args.error cs)) c.reach-reach.ensures
+    ∙ ap (λ n. fold book.after_mark c.args.confirms.now.what.book (ends c.args.error (live_below n c.args.phases.now.entries))) last
+    ∙ ap (λ cs. fold book.after_mark c.args.confirms.now.what.book (ends c.args.error cs)) c.reach-reach.ensures

@@ -3,15 +3,16 @@ use Rattle.std.specs.List.{fold}
 use Rattle.lapin_history.specs.Ends.{ends, live_below}
 use Rattle.lapin_confirm.specs.Book as book
 use Rattle.lapin_desk.specs.Queued.{AreQueued}
+use Rattle.lapin_desk.specs.Ended.{same_but_lists}
 use Rattle.lapin_desk.proofs.desk.Desk.end_live.Given as goal
 
 abbrev pub invariant-loop-number : goal.invariant-loop-number
 invariant-loop-number l = record {
   within : l.number ≤ l.reach;
-  book : l.confirms.book ≡ fold book.after_mark l.initial.confirms.book (ends l.error (live_below l.number l.phases.entries));
-  queued : AreQueued l.confirms.book.cells l.self.outbox.lists.publishes;
+  book : l.confirms.what.book ≡ fold book.after_mark l.initial.confirms.what.book (ends l.error (live_below l.number l.phases.entries));
+  queued : AreQueued l.confirms.what.book.cells l.self.outbox.what.lists.publishes;
   tickets : l.self.tickets ≡ l.initial.self.tickets;
-  frame_max : l.self.outbox.frame_max ≡ l.initial.self.outbox.frame_max;
+  rest : same_but_lists l.self.outbox.what ≡ same_but_lists l.initial.self.outbox.what;
   outbox_room : l.initial.self.outbox.spare ≤ l.self.outbox.spare;
 }
 

@@ -1,5 +1,5 @@
 use Rattle.std.proofs.Common.{sym, ◌∙◌, ap}
-use Rattle.lapin_history.specs.Leaving.{Lists}
+use Rattle.lapin_outbox.specs.Outgoing.{OutboxState}
 use Rattle.lapin_confirm.specs.Book as book
 use Rattle.lapin_confirm.proofs.Closing.{end-close}
 use Rattle.lapin_desk.proofs.Waiting.{queue-ended}
@@ -7,10 +7,10 @@ use Rattle.lapin_desk.proofs.desk.Desk.end_publishes.Goals as goal
 
 pub returns-clause-book : goal.returns-clause-book
 returns-clause-book c =
-    c.end.ensures
-    ∙ sym (end-close c.args.channel c.args.error c.take_unbegun.new.confirms.book)
+    c.end.ensures.book
+    ∙ sym (end-close c.args.channel c.args.error c.take_unbegun.new.confirms.what.book)
     ∙ ap (book.ended c.args.channel c.args.error) c.take_unbegun.ensures.book
-    ∙ end-close c.args.channel c.args.error c.args.confirms.now.book
+    ∙ end-close c.args.channel c.args.error c.args.confirms.now.what.book
 
 pub returns-clause-queued : goal.returns-clause-queued
-returns-clause-queued c = queue-ended c.args.channel c.args.error c.args.self.now.outbox.lists.publishes _ c.take_unbegun.new.confirms.book _ (ap (λ (l : Lists). l.publishes) c.take_unbegun.ensures.lists) c.end.ensures c.take_unbegun.ensures.queued
+returns-clause-queued c = queue-ended c.args.channel c.args.error c.args.self.now.outbox.what.lists.publishes _ c.take_unbegun.new.confirms.what.book _ (ap (λ (o : OutboxState). o.lists.publishes) c.take_unbegun.ensures.outbox) c.end.ensures.book c.take_unbegun.ensures.queued

@@ -1,20 +1,20 @@
 use Rattle.std.proofs.Common.{◌≡◌, ◌≤◌, length}
 use Rattle.lapin_history.specs.Drops.{without_publishes_of}
 use Rattle.lapin_outbox.specs.Drops.{unbegun_of}
+use Rattle.lapin_outbox.specs.Outgoing.{with_lists}
 use Rattle.lapin_confirm.specs.Book.{closed_here}
 use Rattle.lapin_desk.specs.Queued.{AreQueued}
 use Rattle.lapin_desk.proofs.desk.Desk.take_unbegun.Given as goal
 
 abbrev pub invariant-loop-dropped : goal.invariant-loop-dropped
 invariant-loop-dropped l = record {
-  lists : without_publishes_of l.channel l.self.outbox.lists ≡ without_publishes_of l.channel l.initial.self.outbox.lists;
-  book : closed_here l.channel l.error l.confirms.book ≡ closed_here l.channel l.error l.initial.confirms.book;
-  queued : AreQueued l.confirms.book.cells l.self.outbox.lists.publishes;
+  outbox : with_lists (without_publishes_of l.channel l.self.outbox.what.lists) l.self.outbox.what ≡ with_lists (without_publishes_of l.channel l.initial.self.outbox.what.lists) l.initial.self.outbox.what;
+  book : closed_here l.channel l.error l.confirms.what.book ≡ closed_here l.channel l.error l.initial.confirms.what.book;
+  queued : AreQueued l.confirms.what.book.cells l.self.outbox.what.lists.publishes;
   requests : l.self.replies ≡ l.initial.self.replies;
   tickets : l.self.tickets ≡ l.initial.self.tickets;
-  frame_max : l.self.outbox.frame_max ≡ l.initial.self.outbox.frame_max;
   outbox_room : l.initial.self.outbox.spare ≤ l.self.outbox.spare;
 }
 
 abbrev pub decreases-loop-dropped : goal.decreases-loop-dropped
-decreases-loop-dropped l = length (unbegun_of l.channel l.self.outbox.lists)
+decreases-loop-dropped l = length (unbegun_of l.channel l.self.outbox.what.lists)

@@ -5,44 +5,46 @@ use Rattle.lapin_types.specs.declared.request.Reply.TheVariants as reply
 use Rattle.lapin_types.specs.Types.method
 use Rattle.lapin_types.specs.Types.channel
 use Rattle.lapin_history.specs.declared.phases.Closer.TheVariants as closer
-use Rattle.lapin_history.specs.Leaving.{Lists}
-use Rattle.lapin_history.specs.Drops.{without_publishes_of}
+use Rattle.lapin_history.specs.Frames.{MethodEntry}
 use Rattle.lapin_history.specs.ChannelClose.{failed_at_close}
 use Rattle.lapin_history.specs.TicketReadings as mark
 use Rattle.lapin_history.specs.Base.{is_open, state_of, requests_with}
 use Rattle.lapin_outbox.specs.Open.{OpenRequests}
-use Rattle.lapin_outbox.specs.Outgoing.{with_method}
+use Rattle.lapin_outbox.specs.Outgoing.{OutboxState}
 use Rattle.lapin_ticket.specs.declared.Slot.{Slot}
 use Rattle.lapin_ticket.specs.Desk.{after_mark}
-use Rattle.lapin_confirm.specs.Book.{Book}
+use Rattle.lapin_confirm.specs.Book.{Book, closed_here}
 use Rattle.lapin_desk.specs.Queued.{AreQueued}
 use Rattle.lapin_machine.specs.World.{World, next}
-use Rattle.lapin_machine.proofs.Keeping.{tied_closing, tied_by, open_opening}
-use Rattle.lapin_machine.proofs.Worlds.{seen_is, channel_close_seen}
+use Rattle.lapin_machine.proofs.Keeping.{tied_closing, kept_by}
+use Rattle.lapin_machine.proofs.Openings.{open_opening}
+use Rattle.lapin_machine.proofs.Worlds.{with_entry, without_unbegun, channel_close_seen}
 use Rattle.lapin_machine.proofs.session.Session.channel_close.Goals as goal
 
 pub invariant_of-self-2 : goal.invariant_of-self-2
 invariant_of-self-2 c =
     let open_ = ap (λ (w : World). is_open (state_of c.args.channel w.base)) c.self.view_is ∙ sym (ap is_open c.channel_state-state.ensures) ∙ sym c.is_open.ensures ∙ c.if-not-is_open.false in
     let here = open_opening c.self.inside.link c.args.channel c.self.inside.phases.entries open_ in
-    let Q : Book → Type 0 = λ k. AreQueued k.cells c.begin_close.new.desk.outbox.lists.publishes in
-    tied_by _ _ _ _ _ _ _ _ refl c.begin_close.ensures.phases (ap (λ (l : Lists). l.publishes) c.queue-number.ensures.lists) c.begin_close.ensures.book
-    (tied_closing c.self.inside.link c.args.channel closer.Application (failed_at_close closer.Application) c.self.inside.phases.entries _ _ c.self.inside.confirms.book here.up here.some
-    (subst Q c.begin_close.ensures.book c.begin_close.ensures.queued) c.self.invariant)
+    let entry : MethodEntry = record { channel = c.args.channel; method = method.Channel (channel.Close c.args.reply_code c.args.reply_text 0 0); ticket = Some (length c.begin_close.new.desk.tickets.slots + 1) } in
+    let taken = c.begin_close.ensures.outbox ∙ ap (without_unbegun c.args.channel) c.reserve.ensures.same.outbox in
+    let Q : Book → Type 0 = λ k. AreQueued k.cells c.begin_close.new.desk.outbox.what.lists.publishes in
+    let R : OutboxState → Type 0 = λ o. AreQueued (closed_here c.args.channel (failed_at_close closer.Application) c.self.inside.confirms.what.book).cells o.lists.publishes in
+    kept_by _ _ _ _ _ _ _ _ refl c.begin_close.ensures.phases (c.queue-number.ensures.outbox ∙ ap (with_entry entry) taken) c.begin_close.ensures.book
+    (tied_closing c.self.inside.link c.args.channel closer.Application (failed_at_close closer.Application) c.self.inside.phases.entries _ _ c.self.inside.confirms.what.book here.up here.some
+    (subst R taken (subst Q c.begin_close.ensures.book c.begin_close.ensures.queued)) c.self.invariant.tied)
+    c.self.invariant.unpoisoned
 
 pub returns-clause-ok : goal.returns-clause-ok
 returns-clause-ok c =
     let open_ = ap (λ (w : World). is_open (state_of c.args.channel w.base)) c.self.view_is ∙ sym (ap is_open c.channel_state-state.ensures) ∙ sym c.is_open.ensures ∙ c.if-not-is_open.false in
-    let lists = c.reserve.ensures.same.lists in
     let number : ℕ = length c.begin_close.new.desk.tickets.slots + 1 in
-    seen_is _ _ _ _ _ _ _ _ _ _ _ _ _ _ (c.queue-number.ensures.frame_max ∙ c.begin_close.ensures.frame_max ∙ c.reserve.ensures.same.frame_max) refl refl refl refl refl refl
-    ∙ channel_close_seen c.self.inside.desk.outbox.frame_max c.self.inside.link c.self.inside.phases.entries c.self.inside.desk.outbox.lists c.self.inside.desk.replies.waiting c.self.inside.desk.tickets.slots c.self.inside.confirms.book c.args.channel c.args.reply_code c.args.reply_text _ _ _ c.begin_close.new.desk.tickets.slots _ _
+    let entry : MethodEntry = record { channel = c.args.channel; method = method.Channel (channel.Close c.args.reply_code c.args.reply_text 0 0); ticket = Some number } in
+    channel_close_seen c.self.inside.link c.self.inside.phases.entries c.self.inside.desk.outbox.what c.self.inside.desk.replies.what c.self.inside.desk.tickets.slots c.self.inside.confirms.what.book c.args.channel c.args.reply_code c.args.reply_text _ _ _ c.begin_close.new.desk.tickets.slots _ _
     open_
     c.begin_close.ensures.phases
     (c.begin_close.ensures.slots ∙ ap (λ (y : List (Option Slot)). after_mark y (mark.ClosedHere c.args.channel (failed_at_close closer.Application))) c.reserve.ensures.same.slots)
-    (c.queue-number.ensures.lists
-    ∙ ap (with_method (record { channel = c.args.channel; method = method.Channel (channel.Close c.args.reply_code c.args.reply_text 0 0); ticket = Some number })) (c.begin_close.ensures.lists ∙ ap (without_publishes_of c.args.channel) lists))
-    (c.queue-number.ensures.requests ∙ ap (requests_with c.args.channel number (Some reply.ChannelCloseOk)) (ap (λ (r : OpenRequests). r.waiting) c.begin_close.ensures.requests ∙ c.reserve.ensures.same.requests))
+    (c.queue-number.ensures.outbox ∙ ap (with_entry entry) (c.begin_close.ensures.outbox ∙ ap (without_unbegun c.args.channel) c.reserve.ensures.same.outbox))
+    (c.queue-number.ensures.requests ∙ ap (requests_with c.args.channel number (Some reply.ChannelCloseOk)) (ap (λ (r : OpenRequests). r.what) c.begin_close.ensures.requests ∙ c.reserve.ensures.same.requests))
     c.queue-number.ensures.slots
     c.begin_close.ensures.book
     ∙ ap (λ (w : World). next w (event.Call c.args.channel (call.ChannelClose c.args.reply_code c.args.reply_text))) c.self.view_is

@@ -4,38 +4,38 @@ use Rattle.lapin_types.specs.declared.event.Event.TheVariants as event
 use Rattle.lapin_types.specs.declared.request.Reply.TheVariants as reply
 use Rattle.lapin_types.specs.Types.method
 use Rattle.lapin_types.specs.Types.connection
-use Rattle.lapin_history.specs.Leaving.{Lists}
+use Rattle.lapin_history.specs.Frames.{MethodEntry}
 use Rattle.lapin_history.specs.ConnectionClose.{failed_at_connection_close}
 use Rattle.lapin_history.specs.Base.{is_base, state_of, requests_with}
 use Rattle.lapin_history.specs.TicketReadings as mark
 use Rattle.lapin_ticket.specs.declared.Slot.{Slot}
 use Rattle.lapin_ticket.specs.Desk.{after_mark}
 use Rattle.lapin_outbox.specs.Open.{OpenRequests}
-use Rattle.lapin_outbox.specs.Outgoing.{with_method}
+use Rattle.lapin_desk.specs.Ended.{emptied_outbox}
 use Rattle.lapin_machine.specs.World.{World, next}
-use Rattle.lapin_machine.proofs.Keeping.{tied_down, tied_by}
-use Rattle.lapin_machine.proofs.Worlds.{seen_is, connection_close_seen}
+use Rattle.lapin_machine.proofs.Keeping.{tied_down, kept_by}
+use Rattle.lapin_machine.proofs.Worlds.{with_entry, connection_close_seen}
 use Rattle.lapin_machine.proofs.session.Session.close_connection.Goals as goal
 
 pub invariant_of-self-2 : goal.invariant_of-self-2
 invariant_of-self-2 c =
-    tied_by _ _ _ _ _ _ _ _ refl c.go_down.ensures.phases
-    (ap (λ (l : Lists). l.publishes) c.queue-number.ensures.lists ∙ ap (λ (l : Lists). l.publishes) c.go_down.ensures.lists) c.go_down.ensures.book
-    (tied_down c.self.inside.link c.go_down.new.link failed_at_connection_close _ _ _ c.self.invariant)
+    let entry : MethodEntry = record { channel = c.args.channel; method = method.Connection (connection.Close c.args.reply_code c.args.reply_text 0 0); ticket = Some (length c.go_down.new.desk.tickets.slots + 1) } in
+    let outbox = c.queue-number.ensures.outbox ∙ ap (with_entry entry) (c.go_down.ensures.outbox ∙ ap emptied_outbox c.reserve-2.ensures.same.outbox) in
+    kept_by _ _ _ _ _ _ _ _ refl c.go_down.ensures.phases outbox c.go_down.ensures.book
+    (tied_down c.self.inside.link c.go_down.new.link failed_at_connection_close _ _ _ c.self.invariant.tied) c.self.invariant.unpoisoned
 
 pub returns-clause-ok : goal.returns-clause-ok
 returns-clause-ok c =
     let base_ = ap (λ (w : World). is_base (state_of c.args.channel w.base)) c.self.view_is ∙ sym (ap is_base c.channel_state-state.ensures) ∙ sym c.is_base.ensures ∙ c.if-not-is_base.false in
     let number : ℕ = length c.go_down.new.desk.tickets.slots + 1 in
-    seen_is _ _ _ _ _ _ _ _ _ _ _ _ _ _ (c.queue-number.ensures.frame_max ∙ c.go_down.ensures.frame_max ∙ c.reserve-2.ensures.same.frame_max) refl refl refl refl refl refl
-    ∙ connection_close_seen c.self.inside.desk.outbox.frame_max c.self.inside.link c.self.inside.phases.entries c.self.inside.desk.outbox.lists c.self.inside.desk.replies.waiting c.self.inside.desk.tickets.slots c.self.inside.confirms.book c.args.channel c.args.reply_code c.args.reply_text _ _ _ _ c.go_down.new.desk.tickets.slots _ _
+    let entry : MethodEntry = record { channel = c.args.channel; method = method.Connection (connection.Close c.args.reply_code c.args.reply_text 0 0); ticket = Some number } in
+    connection_close_seen c.self.inside.link c.self.inside.phases.entries c.self.inside.desk.outbox.what c.self.inside.desk.replies.what c.self.inside.desk.tickets.slots c.self.inside.confirms.what.book c.args.channel c.args.reply_code c.args.reply_text _ _ _ _ c.go_down.new.desk.tickets.slots _ _
     base_
     c.go_down.ensures.link
     c.go_down.ensures.phases
     (c.go_down.ensures.slots ∙ ap (λ (y : List (Option Slot)). after_mark y (mark.AllFailed failed_at_connection_close)) c.reserve-2.ensures.same.slots)
-    (c.queue-number.ensures.lists
-    ∙ ap (with_method (record { channel = c.args.channel; method = method.Connection (connection.Close c.args.reply_code c.args.reply_text 0 0); ticket = Some number })) c.go_down.ensures.lists)
-    (c.queue-number.ensures.requests ∙ ap (requests_with c.args.channel number (Some reply.ConnectionCloseOk)) (ap (λ (r : OpenRequests). r.waiting) c.go_down.ensures.requests ∙ c.reserve.ensures.same ∙ ap (λ (r : OpenRequests). r.waiting) c.in_ok-replies.ensures))
+    (c.queue-number.ensures.outbox ∙ ap (with_entry entry) (c.go_down.ensures.outbox ∙ ap emptied_outbox c.reserve-2.ensures.same.outbox))
+    (c.queue-number.ensures.requests ∙ ap (requests_with c.args.channel number (Some reply.ConnectionCloseOk)) (ap (λ (r : OpenRequests). r.what) c.go_down.ensures.requests ∙ c.reserve.ensures.same ∙ c.in_ok-replies.ensures.made))
     c.queue-number.ensures.slots
     c.go_down.ensures.book
     ∙ ap (λ (w : World). next w (event.Call c.args.channel (call.ConnectionClose c.args.reply_code c.args.reply_text))) c.self.view_is

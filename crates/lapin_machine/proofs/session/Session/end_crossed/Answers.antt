@@ -4,7 +4,8 @@ use Rattle.lapin_history.specs.ChannelClose.{hears_close_ok}
 use Rattle.lapin_history.specs.Base.{state_of, phase_of}
 use Rattle.lapin_outbox.specs.Outgoing.{Outgoing}
 use Rattle.lapin_machine.specs.World.{World}
-use Rattle.lapin_machine.proofs.Keeping.{tied_closed, tied_by, close_ok_some, crossed_over}
+use Rattle.lapin_machine.proofs.Keeping.{tied_closed, kept_by}
+use Rattle.lapin_machine.proofs.Openings.{close_ok_some, crossed_over}
 use Rattle.lapin_machine.proofs.session.Session.end_crossed.Goals as goal
 
 pub invariant_of-self : goal.invariant_of-self
@@ -12,5 +13,6 @@ invariant_of-self c =
     let heard = ap (λ (w : World). hears_close_ok (state_of c.args.channel w.base)) c.self.view_is ∙ c.requires.heard in
     let over = ap (λ (w : World). close_ok_end (phase_of c.args.channel w.base)) c.self.view_is ∙ c.requires.end in
     let here = close_ok_some c.self.inside.link c.args.channel c.self.inside.phases.entries heard in
-    tied_by _ _ _ _ _ _ _ _ refl c.set.ensures (ap (λ (o : Outgoing). o.lists.publishes) c.resolve.ensures.outbox) refl
-    (tied_closed c.self.inside.link c.args.channel c.self.inside.phases.entries _ _ here.0 (crossed_over c.self.inside.link c.args.channel c.self.inside.phases.entries over heard) here.1 c.self.invariant)
+    kept_by _ _ _ _ _ _ _ _ refl c.set.ensures (ap (λ (o : Outgoing). o.what) c.resolve.ensures.outbox) refl
+    (tied_closed c.self.inside.link c.args.channel c.self.inside.phases.entries _ _ here.0 (crossed_over c.self.inside.link c.args.channel c.self.inside.phases.entries over heard) here.1 c.self.invariant.tied)
+    c.self.invariant.unpoisoned

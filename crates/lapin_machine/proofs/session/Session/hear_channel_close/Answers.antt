@@ -5,12 +5,11 @@ use Rattle.lapin_types.specs.Types.error
 use Rattle.lapin_types.specs.Types.method
 use Rattle.lapin_types.specs.Types.channel
 use Rattle.lapin_tables.specs.ByChannel.{at_channel, on_channel}
-use Rattle.lapin_tables.specs.Numbered.{Slots}
+use Rattle.lapin_ticket.specs.Room.{Issued}
 use Rattle.lapin_history.specs.declared.phases.Phase.{Phase}
 use Rattle.lapin_history.specs.declared.broker_frames.Incoming.TheVariants as incoming
 use Rattle.lapin_history.specs.Words.{with_channel}
-use Rattle.lapin_history.specs.Leaving.{Lists}
-use Rattle.lapin_history.specs.Drops.{without_channel}
+use Rattle.lapin_history.specs.Frames.{MethodEntry}
 use Rattle.lapin_history.specs.Phases.{phase_in}
 use Rattle.lapin_history.specs.ChannelClose.{after_broker_close, has_sent_close}
 use Rattle.lapin_history.specs.Requests.{no_requests, ticket_of}
@@ -18,45 +17,48 @@ use Rattle.lapin_history.specs.TicketReadings as mark
 use Rattle.lapin_history.specs.ChannelClose.{hears_close}
 use Rattle.lapin_history.specs.Base.{state_of, phase_of}
 use Rattle.lapin_outbox.specs.Open.{OpenRequests, requests_at}
-use Rattle.lapin_outbox.specs.Outgoing.{with_method}
-use Rattle.lapin_ticket.specs.declared.Slot.{Slot}
+use Rattle.lapin_outbox.specs.Outgoing.{OutboxState}
 use Rattle.lapin_ticket.specs.Desk.{after_mark}
-use Rattle.lapin_confirm.specs.Book.{Book}
+use Rattle.lapin_confirm.specs.Book.{Book, ended}
 use Rattle.lapin_desk.specs.Queued.{AreQueued}
+use Rattle.lapin_desk.specs.Ended.{ended_outbox}
 use Rattle.lapin_machine.specs.Kept.{kept_request, with_kept}
 use Rattle.lapin_machine.specs.World.{World, hearing}
-use Rattle.lapin_machine.proofs.Keeping.{tied_ended, tied_by, hears_opening}
-use Rattle.lapin_machine.proofs.Worlds.{seen_is, channel_close_heard}
+use Rattle.lapin_machine.proofs.Keeping.{tied_ended, kept_by}
+use Rattle.lapin_machine.proofs.Openings.{hears_opening}
+use Rattle.lapin_machine.proofs.Worlds.{with_entry, channel_close_heard}
 use Rattle.lapin_machine.proofs.session.Session.hear_channel_close.Goals as goal
 
 pub invariant_of-self-2 : goal.invariant_of-self-2
 invariant_of-self-2 c =
     let heard = ap (λ (w : World). hears_close (state_of c.args.channel w.base)) c.self.view_is ∙ c.requires in
     let here = hears_opening c.self.inside.link c.args.channel c.self.inside.phases.entries heard in
-    let Q : Book → Type 0 = λ k. AreQueued k.cells c.end_opening.new.self.outbox.lists.publishes in
-    tied_by _ _ _ _ _ _ _ _ refl c.set.ensures
-    (ap (λ (l : Lists). l.publishes) c.note.ensures.lists)
-    c.end_opening.ensures.book
-    (tied_ended c.self.inside.link c.args.channel c.after_broker_close.result (error.ProtocolError c.args.code) c.self.inside.phases.entries _ _ c.self.inside.confirms.book here.up here.some (subst Q c.end_opening.ensures.book c.end_opening.ensures.queued) c.self.invariant)
+    let entry : MethodEntry = record { channel = c.args.channel; method = method.Channel channel.CloseOk; ticket = None } in
+    let taken = c.end_opening.ensures.outbox ∙ ap (ended_outbox c.args.channel) c.reserve.ensures.same in
+    let Q : Book → Type 0 = λ k. AreQueued k.cells c.end_opening.new.self.outbox.what.lists.publishes in
+    let R : OutboxState → Type 0 = λ o. AreQueued (ended c.args.channel (error.ProtocolError c.args.code) c.self.inside.confirms.what.book).cells o.lists.publishes in
+    kept_by _ _ _ _ _ _ _ _ refl c.set.ensures (c.note.ensures.outbox ∙ ap (with_entry entry) taken) c.end_opening.ensures.book
+    (tied_ended c.self.inside.link c.args.channel c.after_broker_close.result (error.ProtocolError c.args.code) c.self.inside.phases.entries _ _ c.self.inside.confirms.what.book here.up here.some (subst R taken (subst Q c.end_opening.ensures.book c.end_opening.ensures.queued)) c.self.invariant.tied)
+    c.self.invariant.unpoisoned
 
 pub returns-clause-ok : goal.returns-clause-ok
 returns-clause-ok c =
     let old : Phase = phase_in (at_channel c.args.channel c.self.inside.phases.entries) in
     let stood : c.phase-phase.result ≡ old = c.phase-phase.ensures ∙ sym (ap (λ (w : World). phase_of c.args.channel w.base) c.self.view_is) in
-    let close : c.kept_close-close.result ≡ kept_request (has_sent_close old) (requests_at c.args.channel c.self.inside.desk.replies.waiting) =
+    let close : c.kept_close-close.result ≡ kept_request (has_sent_close old) (requests_at c.args.channel c.self.inside.desk.replies.what) =
     c.kept_close-close.ensures.close
-    ∙ ap (λ (q : Phase). kept_request (has_sent_close q) (requests_at c.args.channel c.reserve-2.new.self.waiting)) stood
+    ∙ ap (λ (q : Phase). kept_request (has_sent_close q) (requests_at c.args.channel c.reserve-2.new.self.what)) stood
     ∙ ap (λ (rs : List (ℕ × List Request)). kept_request (has_sent_close old) (requests_at c.args.channel rs)) c.reserve-2.ensures.same in
-    let left : c.end_opening.new.self.replies.waiting ≡ on_channel c.args.channel no_requests c.self.inside.desk.replies.waiting =
+    let left : c.end_opening.new.self.replies.what ≡ on_channel c.args.channel no_requests c.self.inside.desk.replies.what =
     c.end_opening.ensures.requests ∙ c.kept_close-close.ensures.emptied ∙ ap (on_channel c.args.channel no_requests) c.reserve-2.ensures.same in
-    seen_is _ _ _ _ _ _ _ _ _ _ _ _ _ _ (c.note.ensures.frame_max ∙ c.end_opening.ensures.frame_max ∙ c.reserve.ensures.frame_max) refl refl refl refl refl refl
-    ∙ channel_close_heard c.self.inside.desk.outbox.frame_max c.self.inside.link c.self.inside.phases.entries c.self.inside.desk.outbox.lists c.self.inside.desk.replies.waiting c.self.inside.desk.tickets.slots c.self.inside.confirms.book c.args.channel c.args.code _ _ _ _ _
+    let entry : MethodEntry = record { channel = c.args.channel; method = method.Channel channel.CloseOk; ticket = None } in
+    channel_close_heard c.self.inside.link c.self.inside.phases.entries c.self.inside.desk.outbox.what c.self.inside.desk.replies.what c.self.inside.desk.tickets.slots c.self.inside.confirms.what.book c.args.channel c.args.code _ _ _ _ _
     (c.set.ensures ∙ ap (λ (q : Phase). with_channel c.args.channel q c.self.inside.phases.entries) (c.after_broker_close.ensures ∙ ap after_broker_close stood))
-    (c.note.ensures.lists ∙ ap (with_method (record { channel = c.args.channel; method = method.Channel channel.CloseOk; ticket = None })) (c.end_opening.ensures.lists ∙ ap (without_channel c.args.channel) c.reserve.ensures.same))
-    (ap (λ (r : OpenRequests). r.waiting) c.note.ensures.replies ∙ c.keep.ensures
-    ∙ ap (λ (o : Option Request). with_kept c.args.channel o c.end_opening.new.self.replies.waiting) close
-    ∙ ap (with_kept c.args.channel (kept_request (has_sent_close old) (requests_at c.args.channel c.self.inside.desk.replies.waiting))) left)
-    (ap (λ (t : Slots Slot). t.slots) c.note.ensures.tickets ∙ c.end_opening.ensures.slots
+    (c.note.ensures.outbox ∙ ap (with_entry entry) (c.end_opening.ensures.outbox ∙ ap (ended_outbox c.args.channel) c.reserve.ensures.same))
+    (ap (λ (r : OpenRequests). r.what) c.note.ensures.replies ∙ c.keep.ensures
+    ∙ ap (λ (o : Option Request). with_kept c.args.channel o c.end_opening.new.self.replies.what) close
+    ∙ ap (with_kept c.args.channel (kept_request (has_sent_close old) (requests_at c.args.channel c.self.inside.desk.replies.what))) left)
+    (ap (λ (t : Issued). t.slots) c.note.ensures.tickets ∙ c.end_opening.ensures.slots
     ∙ ap (λ (k : Option ℕ). after_mark c.self.inside.desk.tickets.slots (mark.OpeningFailed c.args.channel k (error.ProtocolError c.args.code))) (c.ticket_of-kept.ensures ∙ ap ticket_of close))
     c.end_opening.ensures.book
     ∙ ap (λ (w : World). hearing (incoming.ChannelClose c.args.channel c.args.code) record_.Received w) c.self.view_is

@@ -1,14 +1,19 @@
-use Rattle.std.proofs.Common.{◌∙◌, refl, sym, ap, not}
-use Rattle.lapin_history.specs.Leaving.{Lists}
+use Rattle.std.proofs.Common.{◌∙◌, refl, sym, ap, not, None}
+use Rattle.lapin_types.specs.Types.method
+use Rattle.lapin_types.specs.Types.channel
+use Rattle.lapin_history.specs.Frames.{MethodEntry}
 use Rattle.lapin_history.specs.Base.{is_open, state_of}
 use Rattle.lapin_machine.specs.World.{World}
-use Rattle.lapin_machine.proofs.Keeping.{tied_paused, tied_by, open_opening}
+use Rattle.lapin_machine.proofs.Keeping.{kept_by}
+use Rattle.lapin_machine.proofs.Openings.{tied_paused, open_opening}
+use Rattle.lapin_machine.proofs.Worlds.{with_entry}
 use Rattle.lapin_machine.proofs.session.Session.hear_flow.Goals as goal
 
 pub invariant_of-self-2 : goal.invariant_of-self-2
 invariant_of-self-2 c =
     let open_ = ap (λ (w : World). is_open (state_of c.args.channel w.base)) c.self.view_is ∙ sym (ap is_open c.channel_state.ensures) ∙ sym c.is_open.ensures ∙ c.if-not-is_open.false in
     let here = open_opening c.self.inside.link c.args.channel c.self.inside.phases.entries open_ in
-    tied_by _ _ _ _ _ _ _ _ refl c.set.ensures
-    (ap (λ (l : Lists). l.publishes) (c.note.ensures.lists) ∙ ap (λ (l : Lists). l.publishes) c.reserve.ensures.same) refl
-    (tied_paused c.self.inside.link c.args.channel (not c.args.active) c.self.inside.phases.entries _ _ here c.self.invariant)
+    let entry : MethodEntry = record { channel = c.args.channel; method = method.Channel (channel.FlowOk c.args.active); ticket = None } in
+    kept_by _ _ _ _ _ _ _ _ refl c.set.ensures (c.note.ensures.outbox ∙ ap (with_entry entry) c.reserve.ensures.same) refl
+    (tied_paused c.self.inside.link c.args.channel (not c.args.active) c.self.inside.phases.entries _ _ here c.self.invariant.tied)
+    c.self.invariant.unpoisoned

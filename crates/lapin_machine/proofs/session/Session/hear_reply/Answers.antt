@@ -3,10 +3,11 @@ use Rattle.lapin_history.specs.Reply.{hears}
 use Rattle.lapin_history.specs.Base.{state_of}
 use Rattle.lapin_outbox.specs.Outgoing.{Outgoing}
 use Rattle.lapin_machine.specs.World.{World}
-use Rattle.lapin_machine.proofs.Keeping.{tied_replied, tied_by, reply_opening}
+use Rattle.lapin_machine.proofs.Keeping.{kept_by}
+use Rattle.lapin_machine.proofs.Openings.{tied_replied, reply_opening}
 use Rattle.lapin_machine.proofs.session.Session.hear_reply.Goals as goal
 
 pub invariant_of-self-2 : goal.invariant_of-self-2
 invariant_of-self-2 c =
     let heard = ap (λ (w : World). hears c.args.kind (state_of c.args.channel w.base)) c.self.view_is ∙ sym (ap (hears c.args.kind) c.channel_state.ensures) ∙ sym c.hears.ensures ∙ c.if-not-hears.false in
-    tied_by _ _ _ _ _ _ _ _ refl c.phase_replied.ensures (ap (λ (o : Outgoing). o.lists.publishes) c.resolve.ensures.outbox) refl (tied_replied c.self.inside.link c.args.channel c.args.kind _ _ _ (reply_opening c.self.inside.link c.args.channel c.args.kind c.self.inside.phases.entries heard) c.self.invariant)
+    kept_by _ _ _ _ _ _ _ _ refl c.phase_replied.ensures (ap (λ (o : Outgoing). o.what) c.resolve.ensures.outbox) refl (tied_replied c.self.inside.link c.args.channel c.args.kind _ _ _ (reply_opening c.self.inside.link c.args.channel c.args.kind c.self.inside.phases.entries heard) c.self.invariant.tied) c.self.invariant.unpoisoned

@@ -1,36 +1,33 @@
 use Rattle.std.proofs.Common.{◌≡◌, ◌∙◌, ℕ, ◌+◌, refl, sym, ap, length, List, Option, Some}
 use Rattle.std.specs.List.{fold}
 use Rattle.lapin_history.specs.declared.calls.Asked.TheVariants as ask
-use Rattle.lapin_history.specs.Leaving.{Lists}
+use Rattle.lapin_history.specs.Frames.{MethodEntry}
 use Rattle.lapin_history.specs.TicketReadings as mark
 use Rattle.lapin_history.specs.Asking.{made_marks}
 use Rattle.lapin_history.specs.Base.{is_open, state_of, requests_with}
-use Rattle.lapin_outbox.specs.Outgoing.{with_method}
 use Rattle.lapin_ticket.specs.declared.Slot.{Slot}
 use Rattle.lapin_ticket.specs.Desk.{after_mark}
 use Rattle.lapin_machine.specs.World.{World, asking}
-use Rattle.lapin_machine.proofs.Keeping.{tied_called, tied_by}
-use Rattle.lapin_machine.proofs.Worlds.{seen_is, row_seen}
+use Rattle.lapin_machine.proofs.Keeping.{tied_called, kept_by}
+use Rattle.lapin_machine.proofs.Worlds.{with_entry, row_seen}
 use Rattle.lapin_machine.proofs.session.Session.queue_row.Goals as goal
 
 pub invariant_of-self-2 : goal.invariant_of-self-2
 invariant_of-self-2 c =
-    tied_by _ _ _ _ _ _ _ _ refl refl
-    (ap (λ (l : Lists). l.publishes) c.queue-number.ensures.lists ∙ ap (λ (l : Lists). l.publishes) c.reserve.ensures.same.lists)
-    c.confirms_called.ensures
-    (tied_called c.self.inside.link c.args.channel c.args.row.method _ _ _ c.self.invariant)
+    let entry : MethodEntry = record { channel = c.args.channel; method = c.args.row.method; ticket = Some (length c.reserve.new.self.tickets.slots + 1) } in
+    kept_by _ _ _ _ _ _ _ _ refl refl (c.queue-number.ensures.outbox ∙ ap (with_entry entry) c.reserve.ensures.same.outbox) c.confirms_called.ensures
+    (tied_called c.self.inside.link c.args.channel c.args.row.method _ _ _ c.self.invariant.tied) c.self.invariant.unpoisoned
 
 pub returns-clause-ok : goal.returns-clause-ok
 returns-clause-ok c =
     let open_ = ap (λ (w : World). is_open (state_of c.args.channel w.base)) c.self.view_is ∙ sym (ap is_open c.channel_state-state.ensures) ∙ sym c.is_open.ensures ∙ c.if-not-is_open.false in
-    let given : ℕ → Lists → Lists = λ n. with_method (record { channel = c.args.channel; method = c.args.row.method; ticket = Some (n + 1) }) in
+    let entry : ℕ → MethodEntry = λ n. record { channel = c.args.channel; method = c.args.row.method; ticket = Some (n + 1) } in
     let count : length c.reserve.new.self.tickets.slots ≡ length c.self.inside.desk.tickets.slots = ap length c.reserve.ensures.same.slots in
-    seen_is _ _ _ _ _ _ _ _ _ _ _ _ _ _ (c.queue-number.ensures.frame_max ∙ c.reserve.ensures.same.frame_max) refl refl refl refl refl refl
-    ∙ row_seen c.self.inside.desk.outbox.frame_max c.self.inside.link c.self.inside.phases.entries c.self.inside.desk.outbox.lists c.self.inside.desk.replies.waiting c.self.inside.desk.tickets.slots c.self.inside.confirms.book c.args.channel c.args.row _ _ _ _
+    row_seen c.self.inside.link c.self.inside.phases.entries c.self.inside.desk.outbox.what c.self.inside.desk.replies.what c.self.inside.desk.tickets.slots c.self.inside.confirms.what.book c.args.channel c.args.row _ _ _ _
     open_
-    (c.queue-number.ensures.lists ∙ ap (λ n. given n c.reserve.new.self.outbox.lists) count ∙ ap (given (length c.self.inside.desk.tickets.slots)) c.reserve.ensures.same.lists)
+    (c.queue-number.ensures.outbox ∙ ap (λ n. with_entry (entry n) c.reserve.new.self.outbox.what) count ∙ ap (with_entry (entry (length c.self.inside.desk.tickets.slots))) c.reserve.ensures.same.outbox)
     (c.queue-number.ensures.requests
-    ∙ ap (λ n. requests_with c.args.channel (n + 1) c.args.row.awaits c.reserve.new.self.replies.waiting) count
+    ∙ ap (λ n. requests_with c.args.channel (n + 1) c.args.row.awaits c.reserve.new.self.replies.what) count
     ∙ ap (requests_with c.args.channel (length c.self.inside.desk.tickets.slots + 1) c.args.row.awaits) c.reserve.ensures.same.requests)
     (c.queue-number.ensures.slots ∙ ap (λ (y : List (Option Slot)). fold after_mark (after_mark y (mark.Given c.args.channel c.args.row.at_leaving)) (made_marks (length y + 1) c.args.row.made)) c.reserve.ensures.same.slots)
     c.confirms_called.ensures

@@ -5,15 +5,16 @@ use Rattle.lapin_types.specs.Types.{Error}
 use Rattle.lapin_types.specs.Types.error
 use Rattle.lapin_history.specs.declared.marks.SettleKind.{SettleKind}
 use Rattle.lapin_history.specs.declared.broker_frames.Incoming.TheVariants.{Settlement as SettlementFrame}
+use Rattle.lapin_confirm.specs.Post.{Post}
 use Rattle.lapin_confirm.specs.Book.{Book, single_of, selected_on, last_on, is_pending}
 use Rattle.lapin_machine.specs.World.{World, hearing, settlement_told}
 use Rattle.lapin_machine.specs.Told.{WasHeard}
 use Rattle.lapin_machine.specs.contracts.session.Session as session_view
-use Rattle.lapin_machine.proofs.Keeping.{tied_settled, tied_by}
+use Rattle.lapin_machine.proofs.Keeping.{tied_settled, kept_by}
 use Rattle.lapin_machine.proofs.session.Session.settle_single.Goals as goal
 
 pub invariant_of-self : goal.invariant_of-self
-invariant_of-self c = tied_by _ _ _ _ _ _ _ _ refl refl refl c.settle_one.ensures.settled (tied_settled c.self.inside.link c.args.channel (single_of c.args.kind c.args.tag) _ _ _ c.self.invariant)
+invariant_of-self c = kept_by _ _ _ _ _ _ _ _ refl refl refl c.settle_one.ensures.settled (tied_settled c.self.inside.link c.args.channel (single_of c.args.kind c.args.tag) _ _ _ c.self.invariant.tied) c.self.invariant.unpoisoned
 
 -- the world with another book
 abbrev with_book : World → Book → World
@@ -31,6 +32,7 @@ with_book w b = record {
   };
   book = b;
   slots = w.slots;
+  returned = w.returned;
 }
 
 -- two errors of one answer are the same
@@ -67,4 +69,4 @@ pub returns-in_ok-close_unless_closing-in-Err-clause-ok :
 returns-in_ok-close_unless_closing-in-Err-clause-ok c =
     let seen = λ (w : World). selected_on c.args.channel w.book in
     let Heard : World → Type 0 = λ w. WasHeard (Err c.in-Err.error) (c.close_unless_closing.new.self ≡ hearing (SettlementFrame c.args.channel (single_of c.args.kind c.args.tag)) (settlement_told c.args.channel (single_of c.args.kind c.args.tag) w) w) (c.close_unless_closing.new.self ≡ w) in
-    subst Heard c.self.view_is (heard_refused c.settle_one.result c.close_unless_closing.new.self _ _ c.args.channel c.args.tag c.args.kind c.in-Err.error (ap (with_book (session_view.the_view c.self.inside)) c.in-Err.ensures.same) (ap seen c.self.view_is ∙ c.requires) c.in-Err.is c.settle_one.ensures.answer c.in_ok-close_unless_closing-in-Err.ensures.ok)
+    subst Heard c.self.view_is (heard_refused c.settle_one.result c.close_unless_closing.new.self _ _ c.args.channel c.args.tag c.args.kind c.in-Err.error (ap (λ (p : Post). with_book (session_view.the_view c.self.inside) p.book) c.in-Err.ensures.same) (ap seen c.self.view_is ∙ c.requires) c.in-Err.is c.settle_one.ensures.answer c.in_ok-close_unless_closing-in-Err.ensures.ok)

@@ -1,8 +1,8 @@
 -- The number of the first entry tells which entry is taken, and what stays.
 use Rattle.std.proofs.Common.{List, drop, sym, ◌∙◌, ap, slice_get}
-use Rattle.lapin_outbox.specs.Line.{InLine, kept, channels_by}
+use Rattle.lapin_outbox.specs.Line.{InLine, kept, keys_by}
 use Rattle.lapin_outbox.specs.Order.{first_on}
-use Rattle.lapin_outbox.proofs.Lines.{first-entry, first-left, first-channel, kept-none, channels-left}
+use Rattle.lapin_outbox.proofs.Lines.{first-entry, first-left, first-key, kept-none, keys-left}
 use Rattle.lapin_outbox.proofs.line.Line.pop.Goals as goal
 
 pub returns-in_err-number-clause-taken : goal.returns-in_err-number-clause-taken
@@ -30,8 +30,8 @@ pub invariant_of-self-2 : goal.invariant_of-self-2
 invariant_of-self-2 g c =
     let number = sym c.first_number.ensures ∙ c.in_ok-number.was in
     let there = sym c.take.ensures.value ∙ c.in_ok-entry.was in
-    let first = ap (first_on c.channel.result) (sym c.self.invariant) ∙ ap (λ n. first_on n (channels_by g.T.OnChannel.channel_of c.self.inside.entries.slots)) c.channel.ensures ∙ first-channel g.T.OnChannel.channel_of _ _ c.self.inside.entries.slots number there in
-    channels-left g.T.OnChannel.channel_of _ c.self.inside.entries.slots _ c.self.inside.order.channels _ _ c.self.invariant c.take.ensures.slots first c.take_first.ensures.channels
+    let first = ap (first_on c.key.result) (sym c.self.invariant) ∙ ap (λ n. first_on n (keys_by g.T.Keyed.key_of c.self.inside.entries.slots)) c.key.ensures ∙ first-key g.T.Keyed.key_of _ _ c.self.inside.entries.slots number there in
+    keys-left g.T.Keyed.key_of _ c.self.inside.entries.slots _ c.self.inside.order.keys _ _ c.self.invariant c.take.ensures.slots first c.take_first.ensures.keys
 
 pub returns-clause-taken : goal.returns-clause-taken
 returns-clause-taken g c =

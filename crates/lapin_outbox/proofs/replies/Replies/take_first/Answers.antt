@@ -2,7 +2,8 @@ use Rattle.std.proofs.Common.{sym, ◌∙◌, ap}
 use Rattle.std.specs.Option.{option_copied_mut}
 use Rattle.lapin_history.specs.Words.{without_first}
 use Rattle.lapin_history.specs.Requests.{first_request, is_kind}
-use Rattle.lapin_outbox.proofs.Waiting.{waiting-is, requests-found, requests-absent, written, kept, still-ready, on-some, if-none}
+use Rattle.lapin_outbox.proofs.Waiting.{waiting-is, requests-found, requests-absent, written, kept, on-some, if-none}
+use Rattle.lapin_outbox.proofs.Rooms.{room-kept}
 use Rattle.lapin_outbox.proofs.replies.Replies.take_first.Goals as goal
 
 pub returns-in_err-get_mut-clause-taken : goal.returns-in_err-get_mut-clause-taken
@@ -12,8 +13,13 @@ returns-in_err-get_mut-clause-taken c =
 
 pub invariant_of-self-2 : goal.invariant_of-self-2
 invariant_of-self-2 c =
+    let aside = c.self.invariant in
+    record { each = aside.each; room = aside.room }
+
+pub returns-clause-kept : goal.returns-clause-kept
+returns-clause-kept c =
     let at = sym c.get_mut.ensures.value ∙ ap option_copied_mut c.in_ok-get_mut.was in
-    (c.self.invariant.0, still-ready _ _ _ _ c.self.inside.channels _ at c.take_first.ensures.kept c.self.invariant.1)
+    room-kept _ _ _ _ _ _ c.self.view_is at c.take_first.ensures.kept
 
 pub returns-clause-taken : goal.returns-clause-taken
 returns-clause-taken c =

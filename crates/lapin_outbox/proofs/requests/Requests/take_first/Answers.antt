@@ -1,24 +1,27 @@
--- The place of the oldest request of a kind tells which request is taken, and what stays.
-use Rattle.std.proofs.Common.{length, sym, ◌∙◌, ap}
+-- Where no request of the kind is open, none is taken.
+use Rattle.std.proofs.Common.{◌≡◌, ℕ, Bool, List, Option, Some, None, IfNone, sym, ◌∙◌, ap}
+use Rattle.std.specs.List.{find}
+use Rattle.lapin_types.specs.Requests.{kind_of}
+use Rattle.lapin_history.specs.Drops.{is_on}
+use Rattle.lapin_outbox.specs.KindNumbers.{kind_number}
+use Rattle.lapin_history.specs.Words.{without_first}
 use Rattle.lapin_history.specs.Requests.{is_kind}
+use Rattle.lapin_types.specs.declared.request.Request.{Request}
 use Rattle.lapin_outbox.specs.Open.{OpenOnChannel}
-use Rattle.lapin_outbox.proofs.Firsts.{taken-at, left-at, find-nowhere, without-nowhere}
+use Rattle.lapin_outbox.proofs.Dropping.{none-without}
 use Rattle.lapin_outbox.proofs.requests.Requests.take_first.Goals as goal
 
-pub returns-in_err-place-clause-taken : goal.returns-in_err-place-clause-taken
-returns-in_err-place-clause-taken c = c.from_residual.ensures ∙ sym (find-nowhere (is_kind c.args.kind) _ (sym c.place.ensures ∙ c.in_err-place.was))
-
-pub returns-in_err-place-clause-others : goal.returns-in_err-place-clause-others
-returns-in_err-place-clause-others c = without-nowhere (is_kind c.args.kind) _ (sym c.place.ensures ∙ c.in_err-place.was)
-
-pub returns-clause-taken : goal.returns-clause-taken
-returns-clause-taken c =
-    let place = sym c.place.ensures ∙ c.in_ok-place.was in
+pub returns-clause-none : goal.returns-clause-none
+returns-clause-none c =
     let view = ap (λ (o : OpenOnChannel). o.open_requests) c.self.view_is in
-    taken-at (is_kind c.args.kind) _ _ _ _ place (c.self.inside.queue.ok.0 ∙ ap length view) c.remove.ensures.variant.1 (rw (← view) c.remove.ensures.value)
+    let xs = c.self.inside.line.entries in
+    stays (is_kind c.args.kind) _ _ _
+    (c.pop_of.ensures.taken ∙ ap (λ n. find (is_on key n) xs) c.number_of.ensures ∙ ap (find (is_kind c.args.kind)) view)
+    (c.pop_of.ensures.others ∙ ap (λ n. without_first (is_on key n) xs) c.number_of.ensures ∙ ap (without_first (is_kind c.args.kind)) view)
+  where
+    key : Request → ℕ
+    key r = kind_number (kind_of r.reply)
 
-pub returns-clause-others : goal.returns-clause-others
-returns-clause-others c =
-    let place = sym c.place.ensures ∙ c.in_ok-place.was in
-    let view = ap (λ (o : OpenOnChannel). o.open_requests) c.self.view_is in
-    left-at (is_kind c.args.kind) _ _ _ _ _ place (c.self.inside.queue.ok.0 ∙ ap length view) c.remove.ensures.variant.1 (rw (← view) c.remove.ensures.items)
+    stays : (p : Request → Bool) (old new : List Request) (o : Option Request) → o ≡ find p old → new ≡ without_first p old → IfNone o (new ≡ old)
+    stays p old new (Some r) taken others = tt
+    stays p old new None taken others = others ∙ none-without p old (sym taken)

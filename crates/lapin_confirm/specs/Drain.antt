@@ -1,0 +1,70 @@
+-- The returned messages of a channel are given: which ones, and what is kept no more.
+use Rattle.std.specs.Prelude.{ℕ, Bool, if◌then◌else◌, List, [], ◌∷◌, ◌++◌, Option, None}
+use Rattle.std.specs.List.{filter}
+use Rattle.lapin_types.specs.declared.message.BasicReturnMessage.{BasicReturnMessage}
+use Rattle.lapin_history.specs.Letters.{opt_list, message_at, without, drained_messages, drained_letters}
+use Rattle.lapin_tables.specs.ByChannel.{on_channel}
+use Rattle.lapin_tables.specs.Numbered.{under, with_under}
+use Rattle.lapin_confirm.specs.declared.cell.Cell.{Cell}
+use Rattle.lapin_confirm.specs.declared.home.Home.{Home}
+use Rattle.lapin_confirm.specs.Book.{is_resolved}
+use Rattle.lapin_confirm.specs.Post.{Post, letters_at}
+
+-- the outcome of confirm n is there
+abbrev pub is_over : List (Option Cell) → ℕ → Bool
+is_over cells n = is_resolved (under n cells)
+
+-- the messages that a drain of channel c gives
+abbrev pub drained_on : ℕ → Post → List BasicReturnMessage
+drained_on c p = drained_messages (is_over p.book.cells) (letters_at c p)
+
+-- ---- what is kept of confirms
+
+pub record Remains : Type 0 where
+  pub cells : List (Option Cell)
+  pub homes : List (Option Home)
+
+abbrev pub remaining : List (Option Cell) → List (Option Home) → Remains
+remaining cells homes = record { cells = cells; homes = homes }
+
+-- of confirm n nothing is kept any more, if it is resolved
+abbrev pub less_one : ℕ → Remains → Remains
+less_one n r = if is_over r.cells n then record { cells = with_under n None r.cells; homes = with_under n None r.homes } else r
+
+abbrev pub less_all : List ℕ → Remains → Remains
+less_all [] r = r
+less_all (n ∷ ns) r = less_all ns (less_one n r)
+
+-- the confirms of channel c that were set aside and are resolved by now
+abbrev pub over_aside : ℕ → Post → List ℕ
+over_aside c p = filter (is_over p.book.cells) (letters_at c p).aside
+
+abbrev pub with_remains : Remains → Post → Post
+with_remains r p = record { book = record { lines = p.book.lines; cells = r.cells }; trays = p.trays; homes = r.homes }
+
+-- after a drain of channel c
+abbrev pub drained : ℕ → Post → Post
+drained c p = record (with_remains (less_all (over_aside c p) (remaining p.book.cells p.homes)) p) { trays = on_channel c (drained_letters (is_over p.book.cells)) p.trays }
+
+-- as an opening of channel c begins: of those that stand aside nothing is kept, if they are resolved
+abbrev pub renewed_on : ℕ → Post → Post
+renewed_on c p = with_remains (less_all (letters_at c p).aside (remaining p.book.cells p.homes)) p
+
+-- ---- one confirm after another of those that stand aside
+
+-- those that go on to stand aside; those that are over; the messages that are given; and the messages that confirms took
+pub record Swept : Type 0 where
+  pub left : List ℕ
+  pub over : List ℕ
+  pub given : List BasicReturnMessage
+  pub attached : List (ℕ × BasicReturnMessage)
+
+abbrev pub sweep_one : (ℕ → Bool) → ℕ → Swept → Swept
+sweep_one done n s =
+    if done n
+    then record { left = s.left; over = s.over ++ n ∷ []; given = s.given ++ opt_list (message_at n s.attached); attached = without n s.attached }
+    else record s { left = s.left ++ n ∷ [] }
+
+abbrev pub sweep_all : (ℕ → Bool) → List ℕ → Swept → Swept
+sweep_all done [] s = s
+sweep_all done (n ∷ ns) s = sweep_all done ns (sweep_one done n s)

@@ -1,0 +1,50 @@
+//! A drain: the returned messages of a channel are given, and nothing is kept of confirms that were set aside and are over.
+
+ghost use Rattle.std.specs.Prelude.{◌≡◌, ℕ, ◌≤◌, List, length, OnOk, OnErr, IfOk};
+ghost use Rattle.lapin_confirm.specs.declared.ledger.Ledger.{Ledger as ALedger};
+ghost use Rattle.lapin_confirm.specs.Drain.{drained_on, drained, remaining, less_all};
+ghost use Rattle.lapin_confirm.specs.Ties.{AllTied};
+
+use crate::cell::Cell;
+use crate::confirms::Confirms;
+use crate::home::Home;
+use crate::sweep::leave_one;
+use lapin_tables::Numbered;
+use lapin_types::{NoMemory, ReturnedList};
+use std::alloc::Global;
+use std::collections::VecDeque;
+
+impl Confirms {
+    /// Gives the returned messages of a channel, each once: those of openings that were not selected, then those that were kept,
+    /// then those of confirms that were set aside and are resolved by now, in the order of setting aside. Messages that wait for
+    /// a settlement stay, as do the confirms that are unresolved. Where there is no memory nothing changes.
+    pub fn drain(&mut self, alloc: Global, channel: u16) -> Result<ReturnedList, NoMemory>
+        ensures given { IfOk result (λ list. list ≡ drained_on channel self.old.what) }
+        ensures ok { OnOk result (self.new.what ≡ drained channel self.old.what) }
+        ensures err { OnErr result (self.new.what ≡ self.old.what) }
+        ensures spare { self.new.spare ≡ self.old.spare }
+    {
+        let Some(tray) = self.trays.get_mut(channel) else {
+            return Ok(ReturnedList::new(Vec::new(alloc)));
+        };
+        match tray.drain(alloc, &self.cells) {
+            Err(_) => Err(NoMemory),
+            Ok((messages, mut over)) => {
+                leave_all(&mut self.cells, &mut self.homes, &mut over);
+                Ok(ReturnedList::new(messages))
+            }
+        }
+    }
+}
+
+// Of these confirms nothing is kept any more, if they are resolved.
+fn leave_all(cells: &mut Numbered<Cell>, homes: &mut Numbered<Home>, over: &mut VecDeque<u64>)
+    ensures remains { remaining cells.new.slots homes.new.slots ≡ less_all over.old.items (remaining cells.old.slots homes.old.slots) }
+    ensures tied { (es : List (ℕ × ALedger)) → AllTied es cells.old.slots → AllTied es cells.new.slots }
+    ensures counts { (length cells.new.slots ≡ length cells.old.slots) × (length homes.new.slots ≡ length homes.old.slots) }
+    ensures spare { (cells.old.spare ≤ cells.new.spare) × (homes.old.spare ≤ homes.new.spare) }
+{
+    while let Some(number) = over.pop_front() {
+        leave_one(cells, homes, number);
+    }
+}

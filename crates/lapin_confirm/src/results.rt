@@ -1,0 +1,107 @@
+//! Results: each is given once, with the returned message that its confirm took; or its confirm is set aside.
+
+ghost use Rattle.std.specs.Prelude.{◌≡◌, ◌⊎◌, not, Err, OnOk, OnErr, if◌then◌else◌};
+ghost use Rattle.lapin_confirm.specs.Book.{taken};
+ghost use Rattle.lapin_confirm.specs.Post.{given};
+ghost use Rattle.lapin_confirm.specs.Aside.{is_waiting, is_giving, taken_answer, set_answer, put_aside};
+ghost use Rattle.lapin_confirm.specs.Answers.{result_with, result_of as result_of_lem};
+
+use crate::cell::Cell;
+use crate::confirms::Confirms;
+use crate::letters::{is_aside, mark_aside, put_by, take_message};
+use crate::returned::let_go_any;
+use crate::sweep::is_over;
+use lapin_history::Outcome;
+use lapin_types::{BasicReturnMessage, Confirmation, Error};
+use std::alloc::Global;
+
+impl Confirms {
+    /// Whether `take` has an answer other than none: false exactly while the confirm is unresolved and not set aside.
+    pub fn ready(&self, number: u64) -> bool
+        ensures { result ≡ not (is_waiting number self.now.what) }
+    {
+        is_aside(&self.homes, number)
+            || !matches!(
+                self.cells.get(number),
+                Some(Cell::Queued(_) | Cell::Pending(_, _))
+            )
+    }
+
+    /// Gives the result of a publish, once, with the returned message that it took: none exactly while it is unresolved and not
+    /// set aside.
+    ///
+    /// `UnknownTicket` comes exactly where the number was never given, `AlreadyTaken` exactly where the result was or the confirm
+    /// was set aside.
+    pub fn take(&mut self, number: u64) -> Result<Option<Result<Confirmation, Error>>, Error>
+        ensures answer { result ≡ taken_answer number self.old.what }
+        ensures what { self.new.what ≡ (if is_giving number self.old.what then given number self.old.what else self.old.what) }
+        ensures taken { self.new.what.book ≡ (if is_giving number self.old.what then taken number self.old.what.book else self.old.what.book) }
+        ensures spare { self.new.spare ≡ self.old.spare }
+    {
+        if is_aside(&self.homes, number) {
+            return Err(Error::AlreadyTaken);
+        }
+        if number == 0 || number > self.cells.count() {
+            return Err(Error::UnknownTicket);
+        }
+        match self.cells.get(number) {
+            None => Err(Error::AlreadyTaken),
+            Some(Cell::Resolved(outcome)) => {
+                let outcome = *outcome;
+                let _ = self.cells.take(number);
+                let message = take_message(&mut self.homes, &mut self.trays, number);
+                Ok(Some(result_of(outcome, message)))
+            }
+            Some(_) => Ok(None),
+        }
+    }
+
+    /// Sets a confirm aside: its result is asked for no more. Where it is resolved its message is kept, else its number stands
+    /// aside.
+    ///
+    /// It is refused as `take` is. Where there is no memory nothing changes.
+    pub fn set_aside(&mut self, _alloc: Global, number: u64) -> Result<(), Error>
+        ensures answer { (result ≡ Err Error.NoMemory) ⊎ (result ≡ set_answer number self.old.what) }
+        ensures ok { OnOk result (self.new.what ≡ put_aside number self.old.what) }
+        ensures err { OnErr result (self.new.what ≡ self.old.what) }
+        ensures spare { self.new.spare ≡ self.old.spare }
+    {
+        if is_aside(&self.homes, number) {
+            return Err(Error::AlreadyTaken);
+        }
+        if number == 0 || number > self.cells.count() {
+            return Err(Error::UnknownTicket);
+        }
+        if self.cells.get(number).is_none() {
+            return Err(Error::AlreadyTaken);
+        }
+        let resolved = is_over(&self.cells, number);
+        if let Err(_) = put_by(&self.homes, &mut self.trays, number, resolved) {
+            return Err(Error::NoMemory);
+        }
+        if resolved {
+            let _ = self.cells.take(number);
+            let _ = self.homes.take(number);
+            return Ok(());
+        }
+        mark_aside(&mut self.homes, number);
+        Ok(())
+    }
+}
+
+fn result_of(outcome: Outcome, message: Option<BasicReturnMessage>) -> Result<Confirmation, Error>
+    ensures { result ≡ result_with message (result_of_lem outcome) }
+{
+    match outcome {
+        Outcome::Ack => Ok(Confirmation::Ack(message)),
+        Outcome::Nack => Ok(Confirmation::Nack(message)),
+        Outcome::NotRequested => {
+            let_go_any(message);
+            Ok(Confirmation::NotRequested)
+        }
+        Outcome::Failed(error) => {
+            let_go_any(message);
+            Err(error)
+        }
+    }
+}

@@ -1,0 +1,10 @@
+use Rattle.std.proofs.Common.{◌+◌, ◌<◌, ◌^◌, length}
+use Rattle.lapin_joint.specs.Joint.{by_machine, reports}
+use Rattle.lapin_joint.specs.Kept.{IsLonger}
+use Rattle.lapin_joint.proofs.run.run_steps.Given as goal
+
+abbrev pub invariant-loop-step : goal.invariant-loop-step
+invariant-loop-step l = record {
+  longer : IsLonger l.fn.report.items l.report.items (reports by_machine l.fn.steps.items l.fn.run.joint) (reports by_machine l.step-iterator.rest.items l.run.joint);
+  numbers : l.run.steps + length l.step-iterator.rest.items < 2 ^ 64;
+}

@@ -1,0 +1,130 @@
+-- A joined run: a session and a free broker, with a link each way. What a step does, and what it reports.
+--
+-- The link up holds each frame with the numbers of its call, which no frame carries, so that a law can say whose a frame is.
+use Rattle.std.specs.Prelude.{ℕ, Bool, true, false, if◌then◌else◌, List, [], ◌∷◌, ◌++◌, Option, Some, None}
+use Rattle.lapin_types.specs.declared.event.Event.{Event}
+use Rattle.lapin_types.specs.declared.event.Event.TheVariants as event
+use Rattle.lapin_types.specs.declared.record.Record.{Record}
+use Rattle.lapin_types.specs.declared.leaving.Left.{Left}
+use Rattle.lapin_types.specs.Types.{Frame}
+use Rattle.lapin_history.specs.Base.{Base}
+use Rattle.lapin_history.specs.Handing.{handed}
+use Rattle.lapin_history.specs.History.{History, past, rec}
+use Rattle.lapin_machine.specs.World.{World, told_by}
+use Rattle.lapin_machine.specs.World as world
+use Rattle.lapin_broker.specs.States.{Broker, new_broker, after_loss}
+use Rattle.lapin_broker.specs.Reads.{read}
+use Rattle.lapin_broker.specs.Sends.{may, send}
+use Rattle.lapin_joint.specs.declared.step.Step.{Step}
+use Rattle.lapin_joint.specs.declared.step.Step.TheVariants as step
+use Rattle.lapin_joint.specs.declared.step.Reported.{Reported}
+use Rattle.lapin_joint.specs.declared.step.Reported.TheVariants as reported
+
+-- ---- How a session goes on: the record of an event, what the event leaves, and the session's states and lists.
+
+pub record Way (S : Type 0) : Type 0 where
+  pub told : S → Event → Record
+  pub next : S → Event → S
+  pub base : S → Base
+
+-- as its history determines it: the record is the history's, and the history grows by the event with its record
+abbrev pub by_history : ℕ → Way History
+by_history frame_max = record { told = λ h e. rec frame_max h e; next = λ h e. h ++ (e, rec frame_max h e) ∷ []; base = λ h. (past frame_max h).base }
+
+-- as the machine does it
+abbrev pub by_machine : Way World
+by_machine = record { told = λ w e. told_by w e; next = λ w e. world.next w e; base = λ w. w.base }
+
+-- ---- The two sides and the frames on the way between them, oldest first.
+
+pub record Joint (S : Type 0) : Type 0 where
+  pub session : S
+  pub broker : Broker
+  pub up : List Left
+  pub down : List Frame
+
+-- a session, a new broker and two empty links
+abbrev pub new_joint : {S : Type 0} → S → ℕ → Joint S
+new_joint s frame_max = record { session = s; broker = new_broker frame_max; up = []; down = [] }
+
+-- ---- What a step does.
+
+-- a broker's frame and a loss are no events of the client alone
+abbrev pub is_lawful : Event → Bool
+is_lawful (event.Receive f) = false
+is_lawful event.Lost = false
+is_lawful _ = true
+
+abbrev pub left_alone : Option Left → List Left
+left_alone None = []
+left_alone (Some l) = l ∷ []
+
+-- the frame that an event hands out
+abbrev pub handed_by : {S : Type 0} → Way S → Event → S → List Left
+handed_by m (event.Next flow) s = left_alone (handed flow (m.base s))
+handed_by m _ s = []
+
+-- an event is a step of the session; a frame that the session hands out goes to the back of the link up
+abbrev pub client : {S : Type 0} → Way S → Event → Joint S → Joint S
+client m e j = record { session = m.next j.session e; broker = j.broker; up = j.up ++ handed_by m e j.session; down = j.down }
+
+-- the broker reads the front of the link up
+abbrev pub read_first : {S : Type 0} → List Left → Joint S → Joint S
+read_first [] j = j
+read_first (l ∷ ls) j = record { session = j.session; broker = read j.broker l.frame; up = ls; down = j.down }
+
+-- the broker sends a frame, which goes to the back of the link down
+abbrev pub send_down : {S : Type 0} → Frame → Joint S → Joint S
+send_down f j = record { session = j.session; broker = send j.broker f; up = j.up; down = j.down ++ f ∷ [] }
+
+-- the session receives the front of the link down
+abbrev pub deliver_first : {S : Type 0} → Way S → List Frame → Joint S → Joint S
+deliver_first m [] j = j
+deliver_first m (f ∷ fs) j = record { session = m.next j.session (event.Receive f); broker = j.broker; up = j.up; down = fs }
+
+-- both links are emptied, the session is lost and the broker silent
+abbrev pub lose : {S : Type 0} → Way S → Joint S → Joint S
+lose m j = record { session = m.next j.session event.Lost; broker = after_loss j.broker; up = []; down = [] }
+
+-- a step that isn't lawful, or that finds its link empty, changes nothing
+abbrev pub after : {S : Type 0} → Way S → Step → Joint S → Joint S
+after m (step.Client e) j = if is_lawful e then client m e j else j
+after m step.Read j = read_first j.up j
+after m (step.Send f) j = if may j.broker f then send_down f j else j
+after m step.Deliver j = deliver_first m j.down j
+after m step.Lose j = lose m j
+
+-- ---- What it reports.
+
+abbrev pub read_report : List Left → Reported
+read_report [] = reported.Nothing
+read_report (l ∷ ls) = reported.Read
+
+abbrev pub deliver_report : {S : Type 0} → Way S → List Frame → S → Reported
+deliver_report m [] s = reported.Nothing
+deliver_report m (f ∷ fs) s = reported.Delivered (m.told s (event.Receive f))
+
+abbrev pub report : {S : Type 0} → Way S → Step → Joint S → Reported
+report m (step.Client e) j = if is_lawful e then reported.Client (m.told j.session e) else reported.NotLawful
+report m step.Read j = read_report j.up
+report m (step.Send f) j = if may j.broker f then reported.Sent else reported.NotLawful
+report m step.Deliver j = deliver_report m j.down j.session
+report m step.Lose j = reported.Lost
+
+-- ---- Whole runs.
+
+abbrev pub reports : {S : Type 0} → Way S → List Step → Joint S → List Reported
+reports m [] j = []
+reports m (s ∷ ss) j = report m s j ∷ reports m ss (after m s j)
+
+abbrev pub run : {S : Type 0} → Way S → List Step → Joint S → Joint S
+run m [] j = j
+run m (s ∷ ss) j = run m ss (after m s j)
+
+-- where a list of steps leads from a session to which nothing happened
+abbrev pub joined_to : ℕ → List Step → Joint History
+joined_to frame_max steps = run (by_history frame_max) steps (new_joint [] frame_max)
+
+-- The reports of a new session, by its history, a new broker and two empty links.
+abbrev pub joined : ℕ → List Step → List Reported
+joined frame_max steps = reports (by_history frame_max) steps (new_joint [] frame_max)

@@ -1,0 +1,4 @@
+pub mod Codes
+pub mod Joint
+pub mod Kept
+pub mod Order

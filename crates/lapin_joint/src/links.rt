@@ -1,0 +1,215 @@
+//! One session, one broker and the two links between them: a method for each kind of step.
+
+ghost use Rattle.std.specs.Prelude.{◌≡◌, ◌≤◌, ◌++◌, ◌∷◌, [], None, true, IfOk, OnOk};
+ghost use Rattle.lapin_types.specs.declared.event.Event.TheVariants as event;
+ghost use Rattle.lapin_types.specs.declared.record.Record.TheVariants as record_;
+ghost use Rattle.lapin_machine.specs.World.{told_by, next, new_world};
+ghost use Rattle.lapin_machine.specs.Numbers.{HasNumbersFor};
+ghost use Rattle.lapin_broker.specs.Sends.{may};
+ghost use Rattle.lapin_joint.specs.Joint.{by_machine, new_joint, client as client_lem, read_first, send_down, deliver_first, lose as lose_lem, read_report, deliver_report, report, after};
+ghost use Rattle.lapin_joint.specs.declared.step.Step.TheVariants as step;
+ghost use Rattle.lapin_joint.specs.declared.step.Reported.TheVariants as reported;
+
+use crate::step::Reported;
+use lapin_broker::Broker;
+use lapin_machine::Session;
+use lapin_types::{Error, Event, Frame, Left, NoMemory, Record};
+use std::alloc::Global;
+use std::collections::VecDeque;
+use std::marker::Model;
+
+/// A session and a broker with two links between them, which keep order.
+#[derive(Drop)]
+pub(crate) struct Links {
+    pub(crate) session: Session,
+    pub(crate) broker: Broker,
+    // Frames that the session handed out and the broker hasn't read.
+    up: VecDeque<Left>,
+    // Frames that the broker sent and the session hasn't received.
+    down: VecDeque<Frame>,
+}
+
+impl Model for Links {
+    ghost use Rattle.lapin_machine.specs.World.{World};
+    ghost use Rattle.lapin_joint.specs.Joint.{Joint};
+    ghost use Rattle.lapin_joint.specs.Codes.{joint_code};
+
+    ghost Value = { Joint World };
+
+    ghost coded = { joint_code };
+
+    ghost view = { λ a. record {
+      session = a.session;
+      broker = a.broker;
+      up = a.up.items;
+      down = a.down.items;
+    } };
+}
+
+impl Links {
+    pub(crate) fn new(alloc: Global, frame_max: u32) -> Result<Links, NoMemory>
+        requires { 4096 ≤ frame_max }
+        ensures { IfOk result (λ links. links ≡ new_joint (new_world frame_max) frame_max) }
+    {
+        Ok(Links {
+            session: Session::new(alloc, frame_max)?,
+            broker: Broker::new(alloc, frame_max)?,
+            up: VecDeque::new(alloc),
+            down: VecDeque::new(alloc),
+        })
+    }
+
+    /// An event of the client.
+    pub(crate) fn client(&mut self, alloc: Global, event: Event) -> Result<Reported, NoMemory>
+        requires numbers { HasNumbersFor 1 self.old.session }
+        requires unreturned { self.old.session.returned ≡ None }
+        ensures told { IfOk result (λ r. r ≡ report by_machine (step.Client event) self.old) }
+        ensures ok { OnOk result (self.new ≡ after by_machine (step.Client event) self.old) }
+    {
+        match event {
+            Event::Next(flow) => self.next_frame(alloc, flow),
+            Event::Receive(frame) => {
+                drop(frame);
+                Ok(Reported::NotLawful)
+            }
+            Event::Lost => Ok(Reported::NotLawful),
+            Event::Call(channel, call) => self.event(alloc, Event::Call(channel, call)),
+            Event::PollTicket(number) => self.event(alloc, Event::PollTicket(number)),
+            Event::PollConfirm(number) => self.event(alloc, Event::PollConfirm(number)),
+            Event::AsideTicket(number) => self.event(alloc, Event::AsideTicket(number)),
+            Event::State(channel) => self.event(alloc, Event::State(channel)),
+        }
+    }
+
+    // An event that hands no frame out.
+    fn event(&mut self, alloc: Global, event: Event) -> Result<Reported, NoMemory>
+        requires { HasNumbersFor 1 self.old.session }
+        ensures told { IfOk result (λ r. r ≡ reported.Client (told_by self.old.session event)) }
+        ensures ok { OnOk result (self.new ≡ record self.old { session = next self.old.session event }) }
+    {
+        match self.session.step(alloc, event) {
+            Ok(record) => Ok(Reported::Client(record)),
+            Err(Error::NoMemory) => Err(NoMemory),
+            Err(_) => unreachable!(),
+        }
+    }
+
+    // A frame request: the frame goes to the back of the link up.
+    fn next_frame(&mut self, alloc: Global, flow: bool) -> Result<Reported, NoMemory>
+        requires { self.old.session.returned ≡ None }
+        ensures told { IfOk result (λ r. r ≡ reported.Client (told_by self.old.session (event.Next flow))) }
+        ensures ok { OnOk result (self.new ≡ client_lem by_machine (event.Next flow) self.old) }
+    {
+        match self.session.next_frame(alloc, flow) {
+            Ok(Some(left)) => self.hand_up(alloc, left),
+            Ok(None) => Ok(Reported::Client(Record::NoFrame)),
+            Err(_) => Err(NoMemory),
+        }
+    }
+
+    // Puts a frame at the back of the link up; its record holds a copy.
+    fn hand_up(&mut self, alloc: Global, left: Left) -> Result<Reported, NoMemory>
+        ensures told { IfOk result (λ r. r ≡ reported.Client (record_.Frame left.frame)) }
+        ensures ok { OnOk result (self.new ≡ record self.old { up = self.old.up ++ left ∷ [] }) }
+    {
+        if self.up.reserve(1).is_err() {
+            drop(left);
+            return Err(NoMemory);
+        }
+        match left.frame.try_clone(alloc) {
+            Ok(frame) => {
+                self.up.push_back_reserved(left);
+                Ok(Reported::Client(Record::Frame(frame)))
+            }
+            Err(error) => {
+                drop(left);
+                Err(error)
+            }
+        }
+    }
+
+    /// The broker reads the front of the link up.
+    pub(crate) fn read(&mut self, alloc: Global) -> Result<Reported, NoMemory>
+        ensures told { IfOk result (λ r. r ≡ read_report self.old.up) }
+        ensures ok { OnOk result (self.new ≡ read_first self.old.up self.old) }
+    {
+        match self.up.pop_front() {
+            Some(left) => {
+                let read = self.broker.read(alloc, &left.frame);
+                drop(left);
+                read?;
+                Ok(Reported::Read)
+            }
+            None => Ok(Reported::Nothing),
+        }
+    }
+
+    /// A frame that the broker is to send.
+    pub(crate) fn try_send(&mut self, alloc: Global, frame: Frame) -> Result<Reported, NoMemory>
+        ensures told { IfOk result (λ r. r ≡ report by_machine (step.Send frame) self.old) }
+        ensures ok { OnOk result (self.new ≡ after by_machine (step.Send frame) self.old) }
+    {
+        if !self.broker.may_send(&frame) {
+            drop(frame);
+            return Ok(Reported::NotLawful);
+        }
+        self.send(alloc, frame)
+    }
+
+    // The broker sends a frame that it may send.
+    fn send(&mut self, alloc: Global, frame: Frame) -> Result<Reported, NoMemory>
+        requires { may self.old.broker frame ≡ true }
+        ensures told { IfOk result (λ r. r ≡ reported.Sent) }
+        ensures ok { OnOk result (self.new ≡ send_down frame self.old) }
+    {
+        if self.down.reserve(1).is_err() {
+            drop(frame);
+            return Err(NoMemory);
+        }
+        if self.broker.send(alloc, &frame).is_err() {
+            drop(frame);
+            return Err(NoMemory);
+        }
+        self.down.push_back_reserved(frame);
+        Ok(Reported::Sent)
+    }
+
+    /// The session receives the front of the link down.
+    pub(crate) fn deliver(&mut self, alloc: Global) -> Result<Reported, NoMemory>
+        ensures told { IfOk result (λ r. r ≡ deliver_report by_machine self.old.down self.old.session) }
+        ensures ok { OnOk result (self.new ≡ deliver_first by_machine self.old.down self.old) }
+    {
+        match self.down.pop_front() {
+            Some(frame) => self.receive(alloc, frame),
+            None => Ok(Reported::Nothing),
+        }
+    }
+
+    // The session receives a frame.
+    fn receive(&mut self, alloc: Global, frame: Frame) -> Result<Reported, NoMemory>
+        ensures told { IfOk result (λ r. r ≡ reported.Delivered (told_by self.old.session (event.Receive frame))) }
+        ensures ok { OnOk result (self.new ≡ record self.old { session = next self.old.session (event.Receive frame) }) }
+    {
+        match self.session.step(alloc, Event::Receive(frame)) {
+            Ok(record) => Ok(Reported::Delivered(record)),
+            Err(Error::NoMemory) => Err(NoMemory),
+            Err(_) => unreachable!(),
+        }
+    }
+
+    /// Both links are lost.
+    pub(crate) fn lose(&mut self, alloc: Global) -> Result<Reported, NoMemory>
+        ensures told { IfOk result (λ r. r ≡ reported.Lost) }
+        ensures ok { OnOk result (self.new ≡ lose_lem by_machine self.old) }
+    {
+        match self.session.step(alloc, Event::Lost) {
+            Ok(record) => drop(record),
+            Err(Error::NoMemory) => return Err(NoMemory),
+            Err(_) => unreachable!(),
+        }
+        self.broker.lose();
+        self.up.clear();
+        self.down.clear();
+        Ok(Reported::Lost)
+    }
+}

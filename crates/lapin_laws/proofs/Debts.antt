@@ -1,0 +1,283 @@
+-- Each open ticket that awaits a reply has its request, after every list of events.
+use Rattle.std.proofs.Common.{◌≡◌, ℕ, zero, suc, ◌+◌, Bool, true, false, cond, not, List, [], ◌∷◌, ◌++◌, length, Option, Some, None, Ok, refl, sym, subst, ◌∙◌, ap, inl, inr}
+use Rattle.std.specs.List.{fold}
+use Rattle.lapin_tables.specs.ByChannel.{on_channel}
+use Rattle.lapin_tables.specs.Numbered.{under, with_under}
+use Rattle.lapin_types.specs.declared.event.Event.{Event}
+use Rattle.lapin_types.specs.declared.event.Event.TheVariants as event
+use Rattle.lapin_types.specs.declared.record.Record.{Record}
+use Rattle.lapin_types.specs.declared.record.Record.TheVariants as record_
+use Rattle.lapin_types.specs.declared.call.Call.{Call}
+use Rattle.lapin_types.specs.declared.call.Call.TheVariants as call
+use Rattle.lapin_types.specs.declared.answer.Answer.{Answer}
+use Rattle.lapin_types.specs.declared.answer.Answer.TheVariants as answer
+use Rattle.lapin_types.specs.declared.leaving.Left.{Left}
+use Rattle.lapin_types.specs.declared.request.Reply.{Reply}
+use Rattle.lapin_types.specs.declared.request.Reply.TheVariants as reply
+use Rattle.lapin_types.specs.declared.request.ReplyKind.TheVariants as reply_kind
+use Rattle.lapin_types.specs.Types.{Error, Method}
+use Rattle.lapin_types.specs.Types.error
+use Rattle.lapin_types.specs.Types.method
+use Rattle.lapin_types.specs.Types.channel
+use Rattle.lapin_history.specs.declared.marks.AtLeaving.{AtLeaving}
+use Rattle.lapin_history.specs.declared.marks.AtLeaving.TheVariants as leaving
+use Rattle.lapin_history.specs.declared.calls.Asked.{Asked}
+use Rattle.lapin_history.specs.declared.phases.Phase.{Phase}
+use Rattle.lapin_history.specs.declared.phases.Phase.TheVariants as phase
+use Rattle.lapin_history.specs.declared.phases.Link.{Link}
+use Rattle.lapin_history.specs.declared.phases.Link.TheVariants as link
+use Rattle.lapin_history.specs.declared.phases.Closer.TheVariants as closer
+use Rattle.lapin_history.specs.declared.broker_frames.Incoming.{Incoming}
+use Rattle.lapin_history.specs.declared.broker_frames.Incoming.TheVariants as incoming
+use Rattle.lapin_history.specs.TicketReadings.{TicketMark}
+use Rattle.lapin_history.specs.TicketReadings as ticket
+use Rattle.lapin_history.specs.Words.{with_channel}
+use Rattle.lapin_history.specs.Phases.{is_lost}
+use Rattle.lapin_history.specs.Calls.{asked, unless_nowait}
+use Rattle.lapin_history.specs.Heard.{heard}
+use Rattle.lapin_history.specs.Requests.{first_request, close_alone, no_requests, without_kind, is_kind, resolved_with}
+use Rattle.lapin_history.specs.Ends.{down, end_tickets}
+use Rattle.lapin_history.specs.Base.{Base, state_of, phase_of, requests_of, is_open, requests_with, noted}
+use Rattle.lapin_history.specs.ChannelClose.{has_sent_close, closing, close_tickets, close_ticket, close_ok_end, after_close_ok, failed_at_close, failed_at_close_ok}
+use Rattle.lapin_history.specs.ConnectionClose.{after_connection_close, connection_close_tickets}
+use Rattle.lapin_history.specs.Settlement.{session_close}
+use Rattle.lapin_history.specs.Polls.{is_answer, is_aside}
+use Rattle.lapin_history.specs.Asking.{is_allowed, after_call, made_marks, call_tickets}
+use Rattle.lapin_history.specs.Handing.{sent, handed, left_tickets, begun_ticket, last_ticket}
+use Rattle.lapin_history.specs.Hearing.{after_received, received_tickets, after_failed, failed_tickets, after_refused, refused_tickets, after_heard, heard_tickets}
+use Rattle.lapin_history.specs.History.{History}
+use Rattle.lapin_ticket.specs.declared.Slot.{Slot}
+use Rattle.lapin_ticket.specs.declared.Slot.TheVariants as slot
+use Rattle.lapin_ticket.specs.Desk.{after_mark}
+use Rattle.lapin_machine.specs.Stands.{Stands}
+use Rattle.lapin_machine.specs.World.{World, new_world, next, next_anew, told_by, told_anew}
+use Rattle.lapin_machine.proofs.Back.{given_none, next_none, still_none}
+use Rattle.lapin_laws.specs.Runs.{world_after}
+use Rattle.lapin_laws.specs.Owed.{IsIn, request_tickets, IsRequested}
+use Rattle.lapin_laws.proofs.Traces.{stands_new, stands_next}
+use Rattle.lapin_laws.proofs.Opens.{IsOpen, open_resolved, open_begun, open_left, open_closed, open_gone}
+use Rattle.lapin_laws.proofs.Owing.{Table, Owed, in_alone, Fewer, same, asks, gives, makes, answers, answers_on, ends_one, falls}
+
+abbrev Owes : Base → List (Option Slot) → Type 0
+Owes b slots = Owed b.requests slots
+
+module _ (slots : List (Option Slot)) where
+  closed_fewer : (d : ℕ) (e : Error) → Fewer slots (after_mark slots (ticket.ClosedHere d e))
+  closed_fewer d e n c a g x = (g, (open_closed c a g n slots d e x).0)
+
+  gone_fewer : (m : ℕ) → Fewer slots (with_under m None slots)
+  gone_fewer m n c a g x = (g, open_gone c a g n slots m x)
+
+  begun_fewer : (m : ℕ) → Fewer slots (after_mark slots (ticket.Begun m))
+  begun_fewer m n c a g x = elim (open_begun c a g n slots m x) [ inl y ↦ (g, y.1) | inr y ↦ y.2 ]
+
+  left_fewer : (m : ℕ) → Fewer slots (after_mark slots (ticket.LastLeft m))
+  left_fewer m n c a g x = (g, (open_left c a g n slots m x).0)
+
+  answered_fewer : (o : Option ℕ) → Fewer slots (fold after_mark slots (resolved_with (Ok answer.Done) o))
+  answered_fewer o n c a g x = (g, (open_resolved c a g n slots (Ok answer.Done) o x).1)
+
+-- ---- calls
+
+abbrev CallOwes : ℕ → Asked → Type 0
+CallOwes c k = (b : Base) (slots : List (Option Slot)) → b.tickets ≡ length slots → Owes b slots → Owes (after_call c k b) (fold after_mark slots (call_tickets c k b))
+
+-- a line of the table of calls: the reply that it awaits, the answer that it makes, and that of its leaving
+abbrev RowOwes : ℕ → Option Reply → Option Answer → AtLeaving → Type 0
+RowOwes c r made at = (b : Base) (slots : List (Option Slot)) → b.tickets ≡ length slots → Owes b slots → Owed (requests_with c (b.tickets + 1) r b.requests) (fold after_mark slots (ticket.Given c at ∷ made_marks (b.tickets + 1) made))
+
+awaits : (c : ℕ) (r : Reply) → RowOwes c (Some r) None leaving.Nothing
+awaits c r b slots n h = asks b.requests slots b.tickets c n h r
+
+at_once : (c : ℕ) (a : Answer) → RowOwes c None (Some a) leaving.Nothing
+at_once c a b slots n h = makes b.requests slots b.tickets c n h leaving.Nothing (Ok a)
+
+leaves : (c : ℕ) → RowOwes c None None leaving.Done
+leaves c b slots n h = gives b.requests slots b.tickets c n h leaving.Done (λ e. cc)
+
+nowait : (c : ℕ) (m : Method) (t : Bool) (r : Reply) (a : Answer) → CallOwes c (unless_nowait m t r a)
+nowait c m true r a = at_once c a
+nowait c m false r a = awaits c r
+
+length-all : (e : Error) (slots : List (Option Slot)) → length (after_mark slots (ticket.AllFailed e)) ≡ length slots
+length-all e [] = refl
+length-all e (x ∷ xs) = ap suc (length-all e xs)
+
+length-closed : (c : ℕ) (e : Error) (slots : List (Option Slot)) → length (after_mark slots (ticket.ClosedHere c e)) ≡ length slots
+length-closed c e [] = refl
+length-closed c e (x ∷ xs) = ap suc (length-closed c e xs)
+
+call_owes : (c : ℕ) (k : Call) → CallOwes c (asked k)
+call_owes c call.OpenChannel = λ b slots n h. asks b.requests slots b.tickets c n h reply.ChannelOpenOk
+call_owes c (call.ChannelClose code text) = λ b slots n h.
+    let e : Error = failed_at_close closer.Application in
+    asks b.requests (after_mark slots (ticket.ClosedHere c e)) b.tickets c (n ∙ sym (length-closed c e slots)) (same b.requests slots _ (closed_fewer slots c e) h) reply.ChannelCloseOk
+call_owes c (call.ConnectionClose code text) = λ b slots n h. asks [] (after_mark slots (ticket.AllFailed _)) b.tickets c (n ∙ sym (length-all _ slots)) (falls _ [] slots) reply.ConnectionCloseOk
+call_owes c (call.BasicPublish exchange key o payload properties) = λ b slots n h. gives b.requests slots b.tickets c n h (leaving.Confirm (b.published + 1)) (λ e. cc)
+call_owes c (call.ChannelFlow o) = awaits c _
+call_owes c (call.AccessRequest realm o) = awaits c _
+call_owes c (call.ExchangeDeclare name kind o more) = nowait c _ o.nowait _ _
+call_owes c (call.ExchangeDelete name o) = nowait c _ o.nowait _ _
+call_owes c (call.ExchangeBind to from key o more) = nowait c _ o.nowait _ _
+call_owes c (call.ExchangeUnbind to from key o more) = nowait c _ o.nowait _ _
+call_owes c (call.QueueDeclare name o more) = nowait c _ o.nowait _ _
+call_owes c (call.QueueBind name from key o more) = nowait c _ o.nowait _ _
+call_owes c (call.QueuePurge name o) = nowait c _ o.nowait _ _
+call_owes c (call.QueueDelete name o) = nowait c _ o.nowait _ _
+call_owes c (call.QueueUnbind name from key more) = awaits c _
+call_owes c (call.BasicQos most o) = awaits c _
+call_owes c (call.BasicAck tag o) = leaves c
+call_owes c (call.BasicNack tag o) = leaves c
+call_owes c (call.BasicReject tag o) = leaves c
+call_owes c (call.BasicRecoverAsync o) = leaves c
+call_owes c (call.BasicRecover o) = awaits c _
+call_owes c (call.ConfirmSelect o) = nowait c _ o.nowait _ _
+call_owes c call.TxSelect = awaits c _
+call_owes c call.TxCommit = awaits c _
+call_owes c call.TxRollback = awaits c _
+
+choose : (t : Bool) (x y : Base) (ms ns : List TicketMark) (slots : List (Option Slot)) → Owes x (fold after_mark slots ms) → Owes y (fold after_mark slots ns) → Owes (cond t x y) (fold after_mark slots (cond t ms ns))
+choose true x y ms ns slots h k = h
+choose false x y ms ns slots h k = k
+
+-- ---- close-ok of a channel
+
+joined : (ms ns : List TicketMark) (slots : List (Option Slot)) → fold after_mark slots (ms ++ ns) ≡ fold after_mark (fold after_mark slots ms) ns
+joined [] ns slots = refl
+joined (m ∷ ms) ns slots = joined ms ns (after_mark slots m)
+
+-- the requests of the channel go, after the close's ticket was answered
+all_go : (c : ℕ) (o : Option ℕ) (x : Error) (b : Base) (slots : List (Option Slot)) → Owes b slots → Owed (on_channel c no_requests b.requests) (after_mark (fold after_mark slots (resolved_with (Ok answer.Done) o)) (ticket.OpeningFailed c None x))
+all_go c o x b slots h = ends_one c None x no_requests b.requests _ refl (λ n e. absurd cc) (same b.requests slots _ (answered_fewer slots o) h)
+
+one_goes : (c : ℕ) (b : Base) (slots : List (Option Slot)) → Owes b slots → Owed (on_channel c (without_kind reply_kind.ChannelCloseOk) b.requests) (fold after_mark slots (resolved_with (Ok answer.Done) (close_ticket c b) ++ []))
+one_goes c b slots h = subst (Owed (on_channel c (without_kind reply_kind.ChannelCloseOk) b.requests)) (sym (joined (resolved_with (Ok answer.Done) (close_ticket c b)) [] slots)) (answers_on c (is_kind reply_kind.ChannelCloseOk) (Ok answer.Done) b.requests slots h)
+
+close_ok_owes : (c : ℕ) (p : Phase) (b : Base) (slots : List (Option Slot)) → Owes b slots → Owes (after_close_ok c p b) (fold after_mark slots (resolved_with (Ok answer.Done) (close_ticket c b) ++ end_tickets c (close_ok_end p)))
+close_ok_owes c (phase.Closing who s) b slots h = subst (Owed (on_channel c no_requests b.requests)) (sym (joined (resolved_with (Ok answer.Done) (close_ticket c b)) (ticket.OpeningFailed c None (failed_at_close_ok who) ∷ []) slots)) (all_go c (close_ticket c b) (failed_at_close_ok who) b slots h)
+close_ok_owes c phase.Closed b slots h = one_goes c b slots h
+close_ok_owes c phase.Opening b slots h = one_goes c b slots h
+close_ok_owes c (phase.Open paused) b slots h = one_goes c b slots h
+close_ok_owes c phase.Crossed b slots h = one_goes c b slots h
+
+-- ---- frames of the broker
+
+module _ (b : Base) (slots : List (Option Slot)) (h : Owes b slots) where
+  kept_none : (s : Bool) → cond s (close_alone []) (no_requests []) ≡ []
+  kept_none true = refl
+  kept_none false = refl
+
+  kept_has : (s : Bool) (c n : ℕ) → cond s (close_ticket c b) None ≡ Some n → IsIn (Some n) (request_tickets (cond s (close_alone (requests_of c b)) (no_requests (requests_of c b))))
+  kept_has true c n e = in_alone n (first_request reply_kind.ChannelCloseOk (requests_of c b)) (sym e)
+  kept_has false c n e = absurd cc
+
+  closes : (c : ℕ) (s : Bool) (e : Error) → Owed (on_channel c (λ rs. cond s (close_alone rs) (no_requests rs)) b.requests) (after_mark slots (ticket.OpeningFailed c (cond s (close_ticket c b) None) e))
+  closes c s e = ends_one c (cond s (close_ticket c b) None) e (λ rs. cond s (close_alone rs) (no_requests rs)) b.requests slots (kept_none s) (kept_has s c) h
+
+  failed_owes : (i : Incoming) → Owes (after_failed i b) (fold after_mark slots (failed_tickets i b))
+  failed_owes (incoming.Settlement c z) = choose (is_open (state_of c b)) (noted c (session_close z.kind) (closing c closer.Session b)) b (close_tickets c closer.Session) [] slots (same b.requests slots _ (closed_fewer slots c _) h) h
+  failed_owes (incoming.Reply c k a) = h
+  failed_owes (incoming.Flow c active) = h
+  failed_owes (incoming.ChannelClose c code) = h
+  failed_owes (incoming.ChannelCloseOk c) = h
+  failed_owes (incoming.ConnectionClose code) = h
+  failed_owes incoming.ConnectionCloseOk = h
+  failed_owes incoming.Other = h
+
+  refused_owes : (i : Incoming) (x : Error) → Owes (after_refused i x b) (fold after_mark slots (refused_tickets i x b))
+  refused_owes i error.NoMemory = h
+  refused_owes i error.NumbersUsedUp = h
+  refused_owes i (error.InvalidChannelState s) = h
+  refused_owes i (error.ProtocolError code) = h
+  refused_owes i error.ConnectionLost = h
+  refused_owes i (error.UnexpectedFrame class number) = falls _ [] slots
+  refused_owes i (error.PreconditionFailed tag current) = failed_owes i
+  refused_owes i error.AlreadyTaken = h
+  refused_owes i error.UnknownTicket = h
+
+  connection_owes : (code : ℕ) (l : Link) → Owes (after_connection_close l b) (fold after_mark slots (connection_close_tickets l code))
+  connection_owes code link.Open = falls _ [] slots
+  connection_owes code (link.Closing true x) = h
+  connection_owes code (link.Closing false x) = falls _ [] slots
+  connection_owes code link.Closed = falls _ [] slots
+  connection_owes code link.Lost = falls _ [] slots
+
+  lost_owes : (t : Bool) → Owes (cond t b (down link.Lost b)) (fold after_mark slots (cond t [] (ticket.AllFailed error.ConnectionLost ∷ [])))
+  lost_owes true = h
+  lost_owes false = falls _ [] slots
+
+  flow_owes : (t : Bool) (x : Base) → x.requests ≡ b.requests → Owes (cond t x b) slots
+  flow_owes true x e = subst (λ rs. Owed rs slots) (sym e) h
+  flow_owes false x e = h
+
+  received_owes : (i : Incoming) → Owes (after_received i b) (fold after_mark slots (received_tickets i b))
+  received_owes (incoming.Reply c k a) = answers c (is_kind k) (Ok a) b.requests slots h
+  received_owes (incoming.Settlement c z) = h
+  received_owes (incoming.Flow c active) = flow_owes (is_open (state_of c b)) (noted c (method.Channel (channel.FlowOk active)) (record b { phases = with_channel c (phase.Open (not active)) b.phases })) refl
+  received_owes (incoming.ChannelClose c code) = closes c (has_sent_close (phase_of c b)) _
+  received_owes (incoming.ChannelCloseOk c) = close_ok_owes c (phase_of c b) b slots h
+  received_owes (incoming.ConnectionClose code) = connection_owes code b.link
+  received_owes incoming.ConnectionCloseOk = answers_on 0 (is_kind reply_kind.ConnectionCloseOk) (Ok answer.Done) b.requests slots h
+  received_owes incoming.Other = h
+
+  heard_owes : (i : Incoming) (r : Record) → Owes (after_heard i r b) (fold after_mark slots (heard_tickets i r b))
+  heard_owes i (record_.Refused x) = refused_owes i x
+  heard_owes i record_.Received = received_owes i
+  heard_owes i (record_.Ticket n) = h
+  heard_owes i (record_.Publish t n) = h
+  heard_owes i (record_.Frame f) = h
+  heard_owes i record_.NoFrame = h
+  heard_owes i record_.Passed = h
+  heard_owes i record_.Pending = h
+  heard_owes i (record_.Answer a) = h
+  heard_owes i (record_.Confirmed o) = h
+  heard_owes i (record_.State x y) = h
+  heard_owes i record_.Aside = h
+  heard_owes i record_.Lost = h
+
+-- ---- a frame leaves, or a ticket is let go
+
+begun_owes : (rs : Table) (slots : List (Option Slot)) (first : Bool) (t p : Option ℕ) → Owed rs slots → Owed rs (fold after_mark slots (begun_ticket first t p))
+begun_owes rs slots true (Some t) (Some n) h = same rs slots _ (begun_fewer slots t) h
+begun_owes rs slots true (Some t) None h = h
+begun_owes rs slots true None p h = h
+begun_owes rs slots false t p h = h
+
+last_owes : (rs : Table) (slots : List (Option Slot)) (last : Bool) (t : Option ℕ) → Owed rs slots → Owed rs (fold after_mark slots (last_ticket last t))
+last_owes rs slots true (Some t) h = same rs slots _ (left_fewer slots t) h
+last_owes rs slots true None h = h
+last_owes rs slots false t h = h
+
+left_owes : (o : Option Left) (b : Base) (slots : List (Option Slot)) → Owes b slots → Owes (sent o b) (fold after_mark slots (left_tickets o))
+left_owes None b slots h = h
+left_owes (Some l) b slots h = subst (Owed b.requests) (sym (joined (begun_ticket l.first l.ticket l.publish) (last_ticket l.last l.ticket) slots)) (last_owes b.requests _ l.last l.ticket (begun_owes b.requests slots l.first l.ticket l.publish h))
+
+gone_owes : (t : Bool) (n : ℕ) (m : TicketMark) (rs : Table) (slots : List (Option Slot)) → after_mark slots m ≡ with_under n None slots → Owed rs slots → Owed rs (fold after_mark slots (cond t (m ∷ []) []))
+gone_owes true n m rs slots e h = subst (Owed rs) (sym e) (same rs slots _ (gone_fewer slots n) h)
+gone_owes false n m rs slots e h = h
+
+-- ---- every event
+
+owes-anew : (w : World) (e : Event) → w.base.tickets ≡ length w.slots → Owes w.base w.slots → Owes (next_anew w e).base (next_anew w e).slots
+owes-anew w (event.Call c k) n h = choose (is_allowed (asked k) (state_of c w.base)) (after_call c (asked k) w.base) w.base (call_tickets c (asked k) w.base) [] w.slots (call_owes c k w.base w.slots n h) h
+owes-anew w (event.Next flow) n h = left_owes (handed flow w.base) _ w.slots h
+owes-anew w (event.Receive f) n h = heard_owes w.base w.slots h (heard f) (told_anew w (event.Receive f))
+owes-anew w (event.PollTicket m) n h = gone_owes (is_answer (told_anew w (event.PollTicket m))) m (ticket.Collected m) w.base.requests w.slots refl h
+owes-anew w (event.PollConfirm m) n h = h
+owes-anew w (event.AsideTicket m) n h = gone_owes (is_aside (told_anew w (event.AsideTicket m))) m (ticket.SetAside m) w.base.requests w.slots refl h
+owes-anew w (event.State c) n h = h
+owes-anew w event.Lost n h = lost_owes w.base w.slots h (is_lost w.base.link)
+
+owes_from : (n : ℕ) (h : History) (w : World) (es : List Event) → w.returned ≡ None → Stands n h w → Owes w.base w.slots → Owes (fold next w es).base (fold next w es).slots
+owes_from n h w [] none stands o = o
+owes_from n h w (e ∷ es) none stands o =
+    let count : w.base.tickets ≡ length w.slots = stands.tickets.given ∙ sym stands.tickets.kept.count in
+    let P : World → Type 0 = λ v. Owes v.base v.slots in
+    owes_from n (h ++ (e, told_by w e) ∷ []) (next w e) es (still_none w e none) (stands_next n h w e (given_none w.returned e none) stands) (subst P (sym (next_none w e none)) (owes-anew w e count o))
+
+none_given : (n : ℕ) (c : ℕ) (g : Bool) → IsOpen n [] c leaving.Nothing g → ⊥
+none_given zero c g x = cc
+none_given (suc n) c g x = cc
+
+pub owed_after : (n : ℕ) (es : List Event) (t c : ℕ) (g : Bool) → under t (world_after n es).slots ≡ Some (slot.Open c leaving.Nothing g) → IsRequested t c (world_after n es).base
+owed_after n es = owes_from n [] (new_world n) es refl (stands_new n) (λ t c g x. absurd (none_given t c g x))

@@ -1,0 +1,297 @@
+//! The three lists of frames that wait.
+//!
+//! What follows the method of the begun publish, methods in order of queueing, and publishes that have not begun in order of
+//! call over all channels. A frame request takes from the first of them that has anything; a publish begins only where the flow
+//! of content is on. A drop takes out what will not leave, an entry at a time. Neither a frame that was given back nor poison is
+//! known here: the outbox, which alone calls this file, looks at them first.
+
+ghost use Rattle.std.specs.Prelude.{◌≡◌, ℕ, true, ◌+◌, ◌<◌, ◌≤◌, ◌++◌, ◌∷◌, [], IsOk, IfOk, OnOk, OnErr, slice_get, is_some, if◌then◌else◌};
+ghost use Rattle.lapin_history.specs.Leaving.{handed_of, left_lists};
+ghost use Rattle.lapin_outbox.specs.Outgoing.{with_method, with_publish, has_entries as has_entries_lem};
+ghost use Rattle.lapin_history.specs.Drops.{no_lists, is_rest_of};
+ghost use Rattle.lapin_outbox.specs.Entries.{rest_in};
+ghost use Rattle.lapin_outbox.specs.Drops.{AreOn, told_rest, told_rest_of, told_publish, unbegun_of, without_unbegun, entries_of, without_entry_of, all_entries, without_entry};
+
+use crate::begun::Begun;
+use crate::dropped::Dropped;
+use crate::line::{Keyed, Line};
+use lapin_types::{Frame, Left, Method, NoMemory, Publish};
+use std::alloc::Global;
+use std::marker::Model;
+
+// A method that waits, with its ticket, if it has one.
+#[derive(Drop)]
+struct Waiting {
+    channel: u16,
+    method: Method,
+    ticket: Option<u64>,
+}
+
+impl Waiting {
+    ghost use Rattle.lapin_history.specs.Frames.{left_method};
+    ghost use Rattle.lapin_outbox.specs.Entries.{entry_of};
+    ghost use Rattle.lapin_outbox.specs.Drops.{told_method};
+
+    // As it leaves: the first and the last frame of its entry.
+    fn leave(self) -> Left
+        ensures { result ≡ left_method (entry_of self) }
+    {
+        let Waiting {
+            channel,
+            method,
+            ticket,
+        } = self;
+        Left {
+            frame: Frame::Method(channel, method),
+            ticket,
+            publish: None,
+            first: true,
+            last: true,
+            again: false,
+        }
+    }
+
+    // What a drop tells of it.
+    fn dropped(self) -> Dropped
+        ensures { result ≡ told_method (entry_of self) }
+    {
+        Dropped {
+            ticket: self.ticket,
+            publish: None,
+        }
+    }
+}
+
+impl Keyed for Waiting {
+    ghost key_of = { λ w. w.channel };
+
+    fn key(&self) -> u16 {
+        self.channel
+    }
+}
+
+impl Keyed for Publish {
+    ghost key_of = { λ p. p.channel };
+
+    fn key(&self) -> u16 {
+        self.channel
+    }
+}
+
+/// The three lists. A contract sees them, and for how many more entries there is room.
+#[derive(Drop)]
+pub(crate) struct Queues {
+    begun: Option<Begun>,
+    methods: Line<Waiting>,
+    publishes: Line<Publish>,
+}
+
+impl Model for Queues {
+    ghost use Rattle.std.specs.Prelude.{map, min};
+    ghost use Rattle.lapin_outbox.specs.Outgoing.{InQueues};
+    ghost use Rattle.lapin_outbox.specs.Codes.{queues_code};
+
+    ghost Value = { InQueues };
+
+    ghost coded = { queues_code };
+
+    ghost use Rattle.lapin_outbox.specs.Entries.{entry_of, rest_in};
+
+    ghost view = { λ q. record {
+      lists = record { rest = rest_in q.begun; methods = map entry_of q.methods.entries; publishes = q.publishes.entries };
+      spare = min q.methods.spare q.publishes.spare;
+    } };
+}
+
+impl Queues {
+    ghost use Rattle.lapin_history.specs.Frames.{is_empty};
+
+    /// Nothing waits. It takes no memory yet.
+    pub(crate) fn new(alloc: Global) -> Queues
+        ensures { result.lists ≡ no_lists }
+    {
+        Queues {
+            begun: None,
+            methods: Line::new(alloc),
+            publishes: Line::new(alloc),
+        }
+    }
+
+    /// Adds a method of a channel behind all methods, with the ticket of its call, if it has one. Where there is no memory
+    /// nothing is added.
+    pub(crate) fn push_method(
+        &mut self,
+        channel: u16,
+        method: Method,
+        ticket: Option<u64>,
+    ) -> Result<(), NoMemory>
+        ensures ok { OnOk result (self.new.lists ≡ with_method (record { channel = channel; method = method; ticket = ticket }) self.old.lists) }
+        ensures err { OnErr result (self.new.lists ≡ self.old.lists) }
+
+        // In the room that `reserve` made it does not fail, and it uses up no more than one place.
+        ensures room { 0 < self.old.spare → IsOk result }
+        ensures used { self.old.spare ≤ self.new.spare + 1 }
+    {
+        self.methods.push(Waiting {
+            channel,
+            method,
+            ticket,
+        })
+    }
+
+    /// Adds a publish behind all publishes. Where there is no memory nothing is added.
+    pub(crate) fn push_publish(&mut self, publish: Publish) -> Result<(), NoMemory>
+        ensures ok { OnOk result (self.new.lists ≡ with_publish publish self.old.lists) }
+        ensures err { OnErr result (self.new.lists ≡ self.old.lists) }
+
+        // In the room that `reserve` made it does not fail, and it uses up no more than one place.
+        ensures room { 0 < self.old.spare → IsOk result }
+        ensures used { self.old.spare ≤ self.new.spare + 1 }
+    {
+        self.publishes.push(publish)
+    }
+
+    /// Makes room for the next push. The lists stay.
+    pub(crate) fn reserve(&mut self) -> Result<(), NoMemory>
+        ensures room { OnOk result (0 < self.new.spare) }
+        ensures same { self.new.lists ≡ self.old.lists }
+        ensures kept { self.old.spare ≤ self.new.spare }
+        ensures succeeds { 0 < self.old.spare → IsOk result }
+    {
+        self.methods.reserve()?;
+        self.publishes.reserve()
+    }
+
+    /// Whether anything waits.
+    pub(crate) fn has_entries(&self) -> bool
+        ensures { result ≡ has_entries_lem self.now.lists }
+    {
+        !self.rest_is_empty() || !self.methods.is_empty() || !self.publishes.is_empty()
+    }
+
+    /// Hands out the next frame: the first of what follows the begun publish, else the first method, else, where `flow` is
+    /// true, the method frame of the first publish, whose header and bodies follow; else none. Where there is no memory the
+    /// lists stay.
+    pub(crate) fn pop(
+        &mut self,
+        alloc: Global,
+        frame_max: u32,
+        flow: bool,
+    ) -> Result<Option<Left>, NoMemory>
+        requires { 8 < frame_max }
+        ensures told { IfOk result (λ left. left ≡ handed_of flow self.old.lists.rest self.old.lists.methods self.old.lists.publishes) }
+        ensures ok { OnOk result (self.new.lists ≡ left_lists frame_max flow self.old.lists) }
+        ensures err { OnErr result (self.new.lists ≡ self.old.lists) }
+        ensures room { self.old.spare ≤ self.new.spare }
+    {
+        if let Some(begun) = &mut self.begun {
+            if let Some(left) = begun.next(alloc)? {
+                return Ok(Some(left));
+            }
+        }
+        if let Some(waiting) = self.methods.pop() {
+            return Ok(Some(waiting.leave()));
+        }
+        if !flow {
+            return Ok(None);
+        }
+        let Some(publish) = self.publishes.pop() else {
+            return Ok(None);
+        };
+        let (left, begun) = Begun::new(publish, frame_max);
+        drop(self.begun.replace(begun));
+        Ok(Some(left))
+    }
+
+    /// Takes out the first publish of a channel that has not begun; `None` exactly where there is none.
+    pub(crate) fn drop_unbegun(&mut self, channel: u16) -> Option<Dropped>
+        ensures told { result ≡ slice_get (unbegun_of channel self.old.lists) 0 }
+        ensures lists { self.new.lists ≡ without_unbegun channel self.old.lists }
+        ensures room { self.old.spare ≤ self.new.spare }
+    {
+        let unbegun = self.publishes.pop_of(channel)?;
+        Some(dropped_publish(unbegun))
+    }
+
+    /// Takes out the first entry of a channel: the begun publish whole, else a method, else a publish; `None` exactly where
+    /// there is none.
+    pub(crate) fn drop_channel(&mut self, channel: u16) -> Option<Dropped>
+        ensures told { result ≡ slice_get (entries_of channel self.old.lists) 0 }
+        ensures lists { self.new.lists ≡ without_entry_of channel self.old.lists }
+        ensures room { self.old.spare ≤ self.new.spare }
+    {
+        if let Some(dropped) = drop_begun_of(&mut self.begun, channel) {
+            return Some(dropped);
+        }
+        if let Some(waiting) = self.methods.pop_of(channel) {
+            return Some(waiting.dropped());
+        }
+        let publish = self.publishes.pop_of(channel)?;
+        Some(dropped_publish(publish))
+    }
+
+    /// Takes out the first entry over all channels: the begun publish whole, else a method, else a publish; `None` exactly
+    /// where nothing waits.
+    pub(crate) fn drop_all(&mut self) -> Option<Dropped>
+        ensures told { result ≡ slice_get (all_entries self.old.lists) 0 }
+        ensures pending { is_some result ≡ has_entries_lem self.old.lists }
+        ensures lists { self.new.lists ≡ without_entry self.old.lists }
+        ensures room { self.old.spare ≤ self.new.spare }
+    {
+        if let Some(dropped) = drop_begun(&mut self.begun) {
+            return Some(dropped);
+        }
+        if let Some(method) = self.methods.pop() {
+            return Some(method.dropped());
+        }
+        let publish = self.publishes.pop()?;
+        Some(dropped_publish(publish))
+    }
+
+    /// A law, and nothing runs: all that waits of the begun publish is on one channel.
+    pub(crate) fn begun_publish_is_on_one_channel(&self)
+        ensures { (c : ℕ) → is_rest_of c self.now.lists.rest ≡ true → AreOn c self.now.lists.rest }
+    {
+        if let Some(begun) = &self.begun {
+            begun.frames_are_on_one_channel();
+        }
+    }
+
+    // Whether the begun publish has left whole, or there is none.
+    fn rest_is_empty(&self) -> bool
+        ensures { result ≡ is_empty self.now.lists.rest }
+    {
+        match &self.begun {
+            Some(begun) => begun.is_empty(),
+            None => true,
+        }
+    }
+}
+
+// Takes out what follows the begun publish, whole.
+fn drop_begun(begun: &mut Option<Begun>) -> Option<Dropped>
+    ensures told { result ≡ slice_get (told_rest (rest_in begun.old)) 0 }
+    ensures left { rest_in begun.new ≡ [] }
+{
+    begun.take()?.dropped()
+}
+
+// Takes out what follows the begun publish, whole, where it is of this channel.
+fn drop_begun_of(begun: &mut Option<Begun>, channel: u16) -> Option<Dropped>
+    ensures told { result ≡ slice_get (told_rest_of channel (rest_in begun.old)) 0 }
+    ensures left { rest_in begun.new ≡ (if is_rest_of channel (rest_in begun.old) then [] else rest_in begun.old) }
+{
+    match begun {
+        Some(publish) if publish.is_of(channel) => drop_begun(begun),
+        _ => None,
+    }
+}
+
+fn dropped_publish(publish: Publish) -> Dropped
+    ensures { result ≡ told_publish publish }
+{
+    Dropped {
+        ticket: Some(publish.ticket),
+        publish: Some(publish.confirm),
+    }
+}
