@@ -112,8 +112,8 @@ numbers_first m n w new few =
 pub numbers_one : (lines rest : List (List ℕ)) (l : List ℕ) (w : World) → HasNumbersFor (length lines) w → lines ≡ l ∷ rest → HasNumbersFor 1 w
 numbers_one lines rest l w h is =
     let some : length lines ≡ suc (length rest) = ap length is in
-    let tickets : w.base.tickets + length lines < 2 ^ 64 = h.tickets in
-    let confirms : w.base.published + length lines < 2 ^ 64 = h.confirms in
+    let tickets : w.wire.tickets + length lines < 2 ^ 64 = h.tickets in
+    let confirms : w.wire.published + length lines < 2 ^ 64 = h.confirms in
     record { tickets = omega arith; confirms = omega arith }
 
 pub numbers_rest : (lines rest : List (List ℕ)) (l : List ℕ) (w v : World) (e : Event) → HasNumbersFor (length lines) w → lines ≡ l ∷ rest → v ≡ next w e → HasNumbersFor (length rest) v

@@ -16,7 +16,7 @@ use Rattle.lapin_confirm.specs.Follows.{Follows}
 -- the history without a mark
 pub nothing : Follows [] empty_book
 nothing = record {
-  lines = λ c. refl;
+  ledgers = λ c. refl;
   count = refl;
   cells = λ k lt. absurd (omega arith);
   fresh = λ k le. (refl, refl);

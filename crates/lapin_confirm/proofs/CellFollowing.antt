@@ -12,8 +12,8 @@ use Rattle.lapin_history.proofs.ConfirmLaws.{settled-push, rejected-push, accept
 use Rattle.lapin_confirm.specs.declared.cell.Cell.{Cell}
 use Rattle.lapin_confirm.specs.declared.cell.Cell.TheVariants as cell
 use Rattle.lapin_confirm.specs.Book.{tag_for, cell_with, settled_cell, closed_cell, ended_cell}
-use Rattle.lapin_confirm.specs.Follows.{line_in, open_cell, cell_in, left_cell, pending_cell, queued_cell}
-use Rattle.lapin_confirm.proofs.LineFollowing.{tag-push}
+use Rattle.lapin_confirm.specs.Follows.{ledger_in, open_cell, cell_in, left_cell, pending_cell, queued_cell}
+use Rattle.lapin_confirm.proofs.LedgerFollowing.{tag-push}
 
 -- what a mark of something else does to a publish's cell
 abbrev pub stood : ConfirmMark → Option Cell → Option Cell
@@ -107,7 +107,7 @@ queued_facts c k ms =
     ] refl
 
 -- a publish leaves
-pub cell-left : (c k : ℕ) (ms : List ConfirmMark) → k < added ms → cell_in (suc k) ms ≡ Some (cell.Queued c) → cell_in (suc k) (ms ++ mark.Left c (suc k) ∷ []) ≡ Some (cell_with c (tag_for (line_in c ms)))
+pub cell-left : (c k : ℕ) (ms : List ConfirmMark) → k < added ms → cell_in (suc k) ms ≡ Some (cell.Queued c) → cell_in (suc k) (ms ++ mark.Left c (suc k) ∷ []) ≡ Some (cell_with c (tag_for (ledger_in c ms)))
 cell-left c k ms known is =
     let facts : IsQueued c (suc k) ms = queued_facts c (suc k) ms is in
     let here : (suc k == suc k) ≡ true = eq-eqb (suc k) (suc k) refl in

@@ -10,7 +10,7 @@ use Rattle.lapin_tables.proofs.SlotLaws.{count-with, counted, map-kept}
 use Rattle.lapin_confirm.specs.declared.cell.Cell.{Cell}
 use Rattle.lapin_confirm.specs.declared.cell.Cell.TheVariants as cell
 use Rattle.lapin_confirm.specs.Book.{Book, is_queued_on, queued_count, closed_cell, closed_here, rejected, ended_cell, ended}
-use Rattle.lapin_confirm.proofs.Lines.{same-book}
+use Rattle.lapin_confirm.proofs.Ledgers.{same-book}
 use Rattle.lapin_confirm.proofs.Ended.{map-with}
 
 pub close-next : (c n : ℕ) (e : Error) (b : Book) → under n b.cells ≡ Some (cell.Queued c) → closed_here c e (rejected n e b) ≡ closed_here c e b

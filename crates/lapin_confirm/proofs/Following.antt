@@ -20,7 +20,7 @@ use Rattle.lapin_confirm.specs.declared.cell.Cell.{Cell}
 use Rattle.lapin_confirm.specs.declared.cell.Cell.TheVariants as cell
 use Rattle.lapin_confirm.specs.Book.{Book, tag_for, cell_with, settled_cell, closed_cell, ended_cell, after_mark}
 use Rattle.lapin_confirm.specs.Follows.{Follows, WasAdded, MayCome, cell_in}
-use Rattle.lapin_confirm.proofs.LineFollowing.{line-follows}
+use Rattle.lapin_confirm.proofs.LedgerFollowing.{ledger-follows}
 use Rattle.lapin_confirm.proofs.CellFollowing.{stood, left-push, taken-push, cell-step, IsQueued, queued_facts, cell-left, cell-added}
 
 get-push_old : {X : Type 0} (xs : List X) (k : ℕ) (y : X) → k < length xs → slice_get (xs ++ y ∷ []) k ≡ slice_get xs k
@@ -72,10 +72,10 @@ cells-follow ms b (mark.Added c) f may k lt =
 cells-follow ms b (mark.Left c n) f may k lt =
     let below : k < added ms = rw (added-push ms (mark.Left c n)) at lt in
     let Q : ℕ → Type 0 = λ i. cell_in i ms ≡ Some (cell.Queued c) in
-    write_cell ms b (mark.Left c n) f n k (Some (cell_with c (tag_for (at_channel c b.lines)))) may.0.0 below
+    write_cell ms b (mark.Left c n) f n k (Some (cell_with c (tag_for (at_channel c b.ledgers)))) may.0.0 below
     (λ e.
-    let P : ℕ → Type 0 = λ i. cell_in (suc k) (ms ++ mark.Left c i ∷ []) ≡ Some (cell_with c (tag_for (at_channel c b.lines))) in
-    subst P (sym e) (cell-left c k ms below (subst Q e may.1) ∙ ap (λ o. Some (cell_with c (tag_for o))) (sym (f.lines c))))
+    let P : ℕ → Type 0 = λ i. cell_in (suc k) (ms ++ mark.Left c i ∷ []) ≡ Some (cell_with c (tag_for (at_channel c b.ledgers))) in
+    subst P (sym e) (cell-left c k ms below (subst Q e may.1) ∙ ap (λ o. Some (cell_with c (tag_for o))) (sym (f.ledgers c))))
     (λ apart. (ne_eqb n (suc k) apart, refl, refl))
 cells-follow ms b (mark.Settled c s) f may k lt = mapped_cells ms b (mark.Settled c s) (settled_cell c (covers s) (outcome_of s)) f k (rw (added-push ms (mark.Settled c s)) at lt) refl refl refl
 cells-follow ms b (mark.ClosedHere c e) f may k lt = mapped_cells ms b (mark.ClosedHere c e) (closed_cell c e) f k (rw (added-push ms (mark.ClosedHere c e)) at lt) refl refl refl
@@ -191,7 +191,7 @@ given-follow ms b m f may k lt taken =
 -- a book that follows a history follows it one mark further
 pub follows-push : (ms : List ConfirmMark) (b : Book) (m : ConfirmMark) → Follows ms b → MayCome ms m → Follows (ms ++ m ∷ []) (after_mark b m)
 follows-push ms b m f may = record {
-  lines = line-follows ms b m f.lines;
+  ledgers = ledger-follows ms b m f.ledgers;
   count = count-follows ms b m f;
   cells = cells-follow ms b m f may;
   fresh = fresh-follow ms b m f may;

@@ -1,8 +1,8 @@
-pub mod Lines
+pub mod Ledgers
 pub mod Tying
 pub mod Whole
 pub mod Settled
-pub mod LineFollowing
+pub mod LedgerFollowing
 pub mod CellFollowing
 pub mod Following
 pub mod Books

@@ -165,12 +165,12 @@ number-reads c u ms b f =
 
 pub waits-read : (c : ℕ) (ms : List ConfirmMark) (b : Book) → Follows ms b → is_begun c ms ≡ true → waits_on c b ≡ is_waited c ms
 waits-read c ms b f begun =
-    let asked : asked_on c b ≡ is_asked c ms = ap asked_in (f.lines c) ∙ rw begun refl in
+    let asked : asked_on c b ≡ is_asked c ms = ap asked_in (f.ledgers c) ∙ rw begun refl in
     rw (asked, queued-reads c ms b f, pending-reads c ms b f) refl
 
 pub covered-read : (c : ℕ) (s : Settlement) (ms : List ConfirmMark) (b : Book) → Follows ms b → is_begun c ms ≡ true → covered_in c (covers s) b ≡ covered c s ms
 covered-read c s ms b f begun =
-    let last : last_on c b ≡ place c ms = ap last_in (f.lines c) ∙ rw begun refl in
+    let last : last_on c b ≡ place c ms = ap last_in (f.ledgers c) ∙ rw begun refl in
     ap (λ (n : ℕ). taking (covers s) (λ t. number_from c t 1 b.cells) (range_with_len 1 n)) last
     ∙ taking-same (covers s) (covers s) (λ t. number_from c t 1 b.cells) (pending_with c ms) (range_with_len 1 (place c ms)) (λ t. refl) (λ t. number-reads c t ms b f)
 
@@ -178,7 +178,7 @@ covered-read c s ms b f begun =
 
 pub arrived-read : (c : ℕ) (m : BasicReturnMessage) (ms : List ConfirmMark) (b : Book) → Follows ms b → is_begun c ms ≡ true → letters_of c (ms ++ mark.Arrived c m ∷ []) ≡ arrived_in (selected_on c b) m (letters_of c ms)
 arrived-read c m ms b f begun =
-    let selected : selected_on c b ≡ is_selected c ms = ap selected_in (f.lines c) ∙ rw begun refl in
+    let selected : selected_on c b ≡ is_selected c ms = ap selected_in (f.ledgers c) ∙ rw begun refl in
     letters-push c ms (mark.Arrived c m) ∙ rw (eq-eqb c c refl) (ap (λ (s : Bool). arrived_in s m (letters_of c ms)) (sym selected))
 
 pub settled-read : (c : ℕ) (s : Settlement) (ms : List ConfirmMark) (b : Book) → Follows ms b → is_begun c ms ≡ true → letters_of c (ms ++ mark.Settled c s ∷ []) ≡ attached_to_all (covered_in c (covers s) b) (letters_of c ms)
@@ -229,6 +229,6 @@ set_aside-read n ms b f known kept = letters-push (channel_of n ms) ms (mark.Set
 
 pub full-read : (c : ℕ) (ms : List ConfirmMark) (b : Book) → Follows ms b → is_begun c ms ≡ true → full_on c b ≡ is_full c ms
 full-read c ms b f begun =
-    let selected : selected_on c b ≡ is_selected c ms = ap selected_in (f.lines c) ∙ rw begun refl in
-    let limit : limit_on c b ≡ limit_of c ms = ap limit_in (f.lines c) ∙ rw begun refl in
+    let selected : selected_on c b ≡ is_selected c ms = ap selected_in (f.ledgers c) ∙ rw begun refl in
+    let limit : limit_on c b ≡ limit_of c ms = ap limit_in (f.ledgers c) ∙ rw begun refl in
     rw (selected, limit, pending-reads c ms b f) refl

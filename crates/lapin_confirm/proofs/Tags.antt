@@ -12,7 +12,7 @@ use Rattle.lapin_history.specs.ConfirmReadings.{begins, selects, leaves, leaves_
 use Rattle.lapin_history.proofs.ListLaws.{after-push, through-push, since-push, since_none}
 use Rattle.lapin_history.proofs.ConfirmLaws.{settled-push, accepted-push}
 use Rattle.lapin_confirm.specs.Follows.{WasAdded, MayCome, Resolves}
-use Rattle.lapin_confirm.proofs.LineFollowing.{place-push, tag-push}
+use Rattle.lapin_confirm.proofs.LedgerFollowing.{place-push, tag-push}
 use Rattle.lapin_confirm.proofs.CellFollowing.{left-push, IsQueued, queued_facts}
 
 -- an opening that is selected has begun

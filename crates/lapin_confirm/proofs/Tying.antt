@@ -13,7 +13,7 @@ use Rattle.lapin_confirm.specs.declared.cell.Cell.{Cell}
 use Rattle.lapin_confirm.specs.declared.cell.Cell.TheVariants as cell
 use Rattle.lapin_confirm.specs.declared.ledger.Ledger.{Ledger}
 use Rattle.lapin_confirm.specs.Book.{is_queued_on, is_pending_on, is_open_on, tag_for, cell_with}
-use Rattle.lapin_confirm.specs.Ties.{Tied, Untouched, TiedAt, line_of}
+use Rattle.lapin_confirm.specs.Ties.{Tied, Untouched, TiedAt, ledger_state}
 
 -- ---- a cell that is not open on a channel
 
@@ -189,7 +189,7 @@ tied-settled c n u x l k cells tied named tags queued pending room =
 
 -- ---- as a publish leaves
 
-pub tied-left : (c n : ℕ) (t : Option ℕ) (l k : Ledger) (cells : List (Option Cell)) → Tied c l cells → under n cells ≡ Some (cell.Queued c) → t ≡ tag_for (Some (line_of l)) → k.tags.slots ≡ cond (is_some t) (l.tags.slots ++ Some n ∷ []) l.tags.slots → k.queued + 1 ≡ l.queued → k.pending ≡ cond (is_some t) (l.pending + 1) l.pending → k.queued ≤ k.tags.spare → Tied c k (with_under n (Some (cell_with c t)) cells)
+pub tied-left : (c n : ℕ) (t : Option ℕ) (l k : Ledger) (cells : List (Option Cell)) → Tied c l cells → under n cells ≡ Some (cell.Queued c) → t ≡ tag_for (Some (ledger_state l)) → k.tags.slots ≡ cond (is_some t) (l.tags.slots ++ Some n ∷ []) l.tags.slots → k.queued + 1 ≡ l.queued → k.pending ≡ cond (is_some t) (l.pending + 1) l.pending → k.queued ≤ k.tags.spare → Tied c k (with_under n (Some (cell_with c t)) cells)
 tied-left c n None l k cells tied was tag tags queued pending room = tied-untagged c n outcome.NotRequested l k cells tied was tags queued pending room
 tied-left c n (Some u) l k cells tied was tag tags queued pending room =
     let P : ℕ → Type 0 = λ v. Tied c k (with_under n (Some (cell.Pending c v)) cells) in

@@ -18,45 +18,45 @@ use Rattle.lapin_confirm.specs.declared.cell.Cell.TheVariants as cell
 
 -- what a caller sees of a channel's opening: whether a `confirm.select` frame has left, the last tag that was taken, 0 if
 -- none; and while it is live, whether a `confirm.select` call was accepted, and the limit of its pending tags, 0 for none
-pub record Line : Type 0 where
+pub record LedgerState : Type 0 where
   pub selected : Bool
   pub last : ℕ
   pub asked : Bool
   pub limit : ℕ
 
--- the line of each channel that had an opening, and a cell per confirm number, none where its result was given
+-- the ledger of each channel that had an opening, and a cell per confirm number, none where its result was given
 pub record Book : Type 0 where
-  pub lines : List (ℕ × Line)
+  pub ledgers : List (ℕ × LedgerState)
   pub cells : List (Option Cell)
 
 abbrev pub empty_book : Book
-empty_book = record { lines = []; cells = [] }
+empty_book = record { ledgers = []; cells = [] }
 
 -- ---- openings and tags
 
 -- a new opening is not selected and has taken no tag
-abbrev pub fresh_line : Line
-fresh_line = record { selected = false; last = 0; asked = false; limit = 0 }
+abbrev pub fresh_ledger : LedgerState
+fresh_ledger = record { selected = false; last = 0; asked = false; limit = 0 }
 
-abbrev pub selected_line : Line → Line
-selected_line l = record l { selected = true }
+abbrev pub selected_ledger : LedgerState → LedgerState
+selected_ledger l = record l { selected = true }
 
-abbrev pub asked_line : Line → Line
-asked_line l = record l { asked = true }
+abbrev pub asked_ledger : LedgerState → LedgerState
+asked_ledger l = record l { asked = true }
 
-abbrev pub limited_line : ℕ → Line → Line
-limited_line n l = record l { limit = n }
+abbrev pub limited_ledger : ℕ → LedgerState → LedgerState
+limited_ledger n l = record l { limit = n }
 
 -- the opening ends
-abbrev pub ended_line : Line → Line
-ended_line l = record l { asked = false; limit = 0 }
+abbrev pub ended_ledger : LedgerState → LedgerState
+ended_ledger l = record l { asked = false; limit = 0 }
 
-abbrev pub next_line : Line → Line
-next_line l = record l { last = l.last + 1 }
+abbrev pub next_ledger : LedgerState → LedgerState
+next_ledger l = record l { last = l.last + 1 }
 
 -- the tag that the next publish of the channel takes as its method frame leaves: none before the selection, then counted
 -- from 1 (RabbitMQ publisher confirms)
-abbrev pub tag_for : Option Line → Option ℕ
+abbrev pub tag_for : Option LedgerState → Option ℕ
 tag_for None = None
 tag_for (Some l) = if l.selected then Some (l.last + 1) else None
 
@@ -65,9 +65,9 @@ abbrev pub cell_with : ℕ → Option ℕ → Cell
 cell_with c None = cell.Resolved outcome.NotRequested
 cell_with c (Some t) = cell.Pending c t
 
-abbrev pub lines_with : ℕ → Option ℕ → List (ℕ × Line) → List (ℕ × Line)
-lines_with c None ls = ls
-lines_with c (Some t) ls = on_channel c next_line ls
+abbrev pub ledgers_with : ℕ → Option ℕ → List (ℕ × LedgerState) → List (ℕ × LedgerState)
+ledgers_with c None ls = ls
+ledgers_with c (Some t) ls = on_channel c next_ledger ls
 
 -- ---- settlements
 
@@ -151,37 +151,37 @@ pending_count c b = count_by (is_pending_on c) b.cells
 abbrev pub queued_count : ℕ → Book → ℕ
 queued_count c b = count_by (is_queued_on c) b.cells
 
-abbrev pub last_in : Option Line → ℕ
+abbrev pub last_in : Option LedgerState → ℕ
 last_in None = 0
 last_in (Some l) = l.last
 
 -- the last tag that was taken on channel c, 0 if none
 abbrev pub last_on : ℕ → Book → ℕ
-last_on c b = last_in (at_channel c b.lines)
+last_on c b = last_in (at_channel c b.ledgers)
 
-abbrev pub selected_in : Option Line → Bool
+abbrev pub selected_in : Option LedgerState → Bool
 selected_in None = false
 selected_in (Some l) = l.selected
 
 -- the channel's opening is selected
 abbrev pub selected_on : ℕ → Book → Bool
-selected_on c b = selected_in (at_channel c b.lines)
+selected_on c b = selected_in (at_channel c b.ledgers)
 
-abbrev pub asked_in : Option Line → Bool
+abbrev pub asked_in : Option LedgerState → Bool
 asked_in None = false
 asked_in (Some l) = l.asked
 
 -- the channel's live opening accepted a `confirm.select` call
 abbrev pub asked_on : ℕ → Book → Bool
-asked_on c b = asked_in (at_channel c b.lines)
+asked_on c b = asked_in (at_channel c b.ledgers)
 
-abbrev pub limit_in : Option Line → ℕ
+abbrev pub limit_in : Option LedgerState → ℕ
 limit_in None = 0
 limit_in (Some l) = l.limit
 
 -- the limit of the channel's live opening
 abbrev pub limit_on : ℕ → Book → ℕ
-limit_on c b = limit_in (at_channel c b.lines)
+limit_on c b = limit_in (at_channel c b.ledgers)
 
 -- the channel is full: selected, with a limit that its pending tags have reached
 abbrev pub full_on : ℕ → Book → Bool
@@ -212,42 +212,42 @@ span_on c b = span_from (last_on c b) (least_in c b.cells)
 -- ---- what happens to a book. A publish is named by its confirm number, from 1.
 
 abbrev pub begun : ℕ → Book → Book
-begun c b = record { lines = with_channel c fresh_line b.lines; cells = b.cells }
+begun c b = record { ledgers = with_channel c fresh_ledger b.ledgers; cells = b.cells }
 
 abbrev pub with_publish : ℕ → Book → Book
-with_publish c b = record { lines = b.lines; cells = b.cells ++ Some (cell.Queued c) ∷ [] }
+with_publish c b = record { ledgers = b.ledgers; cells = b.cells ++ Some (cell.Queued c) ∷ [] }
 
 abbrev pub select_left : ℕ → Book → Book
-select_left c b = record { lines = on_channel c selected_line b.lines; cells = b.cells }
+select_left c b = record { ledgers = on_channel c selected_ledger b.ledgers; cells = b.cells }
 
 abbrev pub select_called : ℕ → Book → Book
-select_called c b = record { lines = on_channel c asked_line b.lines; cells = b.cells }
+select_called c b = record { ledgers = on_channel c asked_ledger b.ledgers; cells = b.cells }
 
 abbrev pub limited : ℕ → ℕ → Book → Book
-limited c n b = record { lines = on_channel c (limited_line n) b.lines; cells = b.cells }
+limited c n b = record { ledgers = on_channel c (limited_ledger n) b.ledgers; cells = b.cells }
 
 abbrev pub left : ℕ → ℕ → Book → Book
 left c n b = record {
-  lines = lines_with c (tag_for (at_channel c b.lines)) b.lines;
-  cells = with_under n (Some (cell_with c (tag_for (at_channel c b.lines)))) b.cells;
+  ledgers = ledgers_with c (tag_for (at_channel c b.ledgers)) b.ledgers;
+  cells = with_under n (Some (cell_with c (tag_for (at_channel c b.ledgers)))) b.cells;
 }
 
 abbrev pub settled : ℕ → Settlement → Book → Book
-settled c s b = record { lines = b.lines; cells = map (option_map (settled_cell c (covers s) (outcome_of s))) b.cells }
+settled c s b = record { ledgers = b.ledgers; cells = map (option_map (settled_cell c (covers s) (outcome_of s))) b.cells }
 
 -- every publish of the channel that has not left is rejected
 abbrev pub closed_here : ℕ → Error → Book → Book
-closed_here c e b = record { lines = b.lines; cells = map (option_map (closed_cell c e)) b.cells }
+closed_here c e b = record { ledgers = b.ledgers; cells = map (option_map (closed_cell c e)) b.cells }
 
 -- one of them: no mark of a history is this alone, but `closed_here` is these one after another
 abbrev pub rejected : ℕ → Error → Book → Book
-rejected n e b = record { lines = b.lines; cells = with_under n (Some (cell.Resolved (outcome.Failed e))) b.cells }
+rejected n e b = record { ledgers = b.ledgers; cells = with_under n (Some (cell.Resolved (outcome.Failed e))) b.cells }
 
 abbrev pub ended : ℕ → Error → Book → Book
-ended c e b = record { lines = on_channel c ended_line b.lines; cells = map (option_map (ended_cell c e)) b.cells }
+ended c e b = record { ledgers = on_channel c ended_ledger b.ledgers; cells = map (option_map (ended_cell c e)) b.cells }
 
 abbrev pub taken : ℕ → Book → Book
-taken n b = record { lines = b.lines; cells = with_under n None b.cells }
+taken n b = record { ledgers = b.ledgers; cells = with_under n None b.cells }
 
 -- The book after a mark. What only returned messages have to do with changes nothing here.
 abbrev pub after_mark : Book → ConfirmMark → Book

@@ -40,7 +40,7 @@ abbrev pub over_aside : ℕ → Post → List ℕ
 over_aside c p = filter (is_over p.book.cells) (letters_at c p).aside
 
 abbrev pub with_remains : Remains → Post → Post
-with_remains r p = record { book = record { lines = p.book.lines; cells = r.cells }; trays = p.trays; homes = r.homes }
+with_remains r p = record { book = record { ledgers = p.book.ledgers; cells = r.cells }; trays = p.trays; homes = r.homes }
 
 -- after a drain of channel c
 abbrev pub drained : ℕ → Post → Post

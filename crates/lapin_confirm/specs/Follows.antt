@@ -9,11 +9,11 @@ use Rattle.lapin_history.specs.ConfirmReadings.{leaves, is_begun, is_selected, p
 use Rattle.lapin_tables.specs.ByChannel.{at_channel}
 use Rattle.lapin_confirm.specs.declared.cell.Cell.{Cell}
 use Rattle.lapin_confirm.specs.declared.cell.Cell.TheVariants as cell
-use Rattle.lapin_confirm.specs.Book.{Line, Book}
+use Rattle.lapin_confirm.specs.Book.{LedgerState, Book}
 
--- a channel's line by the readings
-abbrev pub line_in : ℕ → List ConfirmMark → Option Line
-line_in c ms = if is_begun c ms then Some (record { selected = is_selected c ms; last = place c ms; asked = is_asked c ms; limit = limit_of c ms }) else None
+-- a channel's ledger by the readings
+abbrev pub ledger_in : ℕ → List ConfirmMark → Option LedgerState
+ledger_in c ms = if is_begun c ms then Some (record { selected = is_selected c ms; last = place c ms; asked = is_asked c ms; limit = limit_of c ms }) else None
 
 abbrev pub pending_cell : ℕ → ℕ → Option Outcome → Cell
 pending_cell c t None = cell.Pending c t
@@ -40,7 +40,7 @@ abbrev pub cell_in : ℕ → List ConfirmMark → Option Cell
 cell_in n ms = if is_taken n ms then None else Some (open_cell n ms)
 
 pub record Follows (ms : List ConfirmMark) (b : Book) : Type 0 where
-  pub lines : (c : ℕ) → at_channel c b.lines ≡ line_in c ms
+  pub ledgers : (c : ℕ) → at_channel c b.ledgers ≡ ledger_in c ms
   pub count : length b.cells ≡ added ms
   pub cells : (k : ℕ) → k < added ms → slice_get b.cells k ≡ Some (cell_in (suc k) ms)
   -- what was never accepted never left and was never given

@@ -10,23 +10,23 @@ use Rattle.lapin_confirm.specs.declared.ledger.Ledger.{Ledger}
 use Rattle.lapin_history.specs.Letters.{Letters}
 use Rattle.lapin_confirm.specs.Tray.{Tray, HasPlace}
 use Rattle.lapin_confirm.specs.Kept.{spare_in}
-use Rattle.lapin_confirm.specs.Book.{Line, next_line, is_queued_on, is_pending_on}
+use Rattle.lapin_confirm.specs.Book.{LedgerState, next_ledger, is_queued_on, is_pending_on}
 
 -- what a caller sees of a ledger
-abbrev pub line_of : Ledger → Line
-line_of l = record { selected = l.selected; last = length l.tags.slots; asked = l.asked; limit = l.limit }
+abbrev pub ledger_state : Ledger → LedgerState
+ledger_state l = record { selected = l.selected; last = length l.tags.slots; asked = l.asked; limit = l.limit }
 
--- the line as a publish leaves that takes this tag, or none
-abbrev pub line_after : Option ℕ → Line → Line
-line_after None l = l
-line_after (Some t) l = next_line l
+-- the ledger as a publish leaves that takes this tag, or none
+abbrev pub ledger_after : Option ℕ → LedgerState → LedgerState
+ledger_after None l = l
+ledger_after (Some t) l = next_ledger l
 
 -- the room for tags beyond the queued publishes stays
 abbrev pub KeepsTags : Ledger → Ledger → Type 0
 KeepsTags l k = l.tags.spare + k.queued ≤ k.tags.spare + l.queued
 
-abbrev pub lines_of : List (ℕ × Ledger) → List (ℕ × Line)
-lines_of es = map (λ e. (e.0, line_of e.1)) es
+abbrev pub ledger_states : List (ℕ × Ledger) → List (ℕ × LedgerState)
+ledger_states es = map (λ e. (e.0, ledger_state e.1)) es
 
 abbrev pub trays_of : List (ℕ × Tray) → List (ℕ × Letters)
 trays_of ts = map (λ e. (e.0, e.1.letters)) ts

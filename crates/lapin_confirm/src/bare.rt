@@ -1,6 +1,6 @@
-//! The calls of a session that hears no returned message and sets no confirm aside.
+//! The calls of a session that receives no returned message and sets no confirm aside.
 //!
-//! They speak of the book alone, and leave trays and homes out. A session that hears messages calls `begin`, `take` and `ready`
+//! They speak of the book alone, and leave trays and homes out. A session that receives messages calls `begin`, `take` and `ready`
 //! in their place, and then this file goes.
 
 ghost use Rattle.std.specs.Prelude.{◌≡◌, ℕ, Bool, List, false, not, if◌then◌else◌, OnOk, OnErr};

@@ -48,10 +48,10 @@ impl Model for Confirms {
 
     ghost coded = { Prim.hlevel (codes, message.the_row.coded) };
 
-    ghost use Rattle.lapin_confirm.specs.Ties.{lines_of, trays_of, AllKept};
+    ghost use Rattle.lapin_confirm.specs.Ties.{ledger_states, trays_of, AllKept};
 
     ghost view = { λ a. record {
-      what = record { book = record { lines = lines_of a.ledgers.entries; cells = a.cells.slots }; trays = trays_of a.trays.entries; homes = a.homes.slots };
+      what = record { book = record { ledgers = ledger_states a.ledgers.entries; cells = a.cells.slots }; trays = trays_of a.trays.entries; homes = a.homes.slots };
       spare = a.rooms.entries;
     } };
 
@@ -108,7 +108,7 @@ impl Confirms {
         ensures homes { OnOk result (self.new.what.homes ≡ (renewed_on channel self.old.what).homes) }
         ensures err { OnErr result (self.new.what ≡ self.old.what) }
         ensures spare { self.new.spare ≡ self.old.spare }
-        ensures succeeds { IsSome (at_channel channel self.old.what.book.lines) → IsSome (at_channel channel self.old.what.trays) → spare_on channel self.old ≡ 0 → IsOk result }
+        ensures succeeds { IsSome (at_channel channel self.old.what.book.ledgers) → IsSome (at_channel channel self.old.what.trays) → spare_on channel self.old ≡ 0 → IsOk result }
     {
         let promised = is_promised(&self.rooms, channel);
         let ledger = Ledger::with_room(alloc, promised)?;
@@ -129,7 +129,7 @@ impl Confirms {
     ///
     /// `NumbersUsedUp` comes exactly where the number would pass the greatest `u64`.
     pub fn add(&mut self, _alloc: Global, channel: u16) -> Result<u64, Error>
-        requires { IsSome (at_channel channel self.old.what.book.lines) }
+        requires { IsSome (at_channel channel self.old.what.book.ledgers) }
         ensures number { IfOk result (λ n. n ≡ length self.old.what.book.cells + 1) }
         ensures ok { OnOk result (self.new.what.book ≡ with_publish channel self.old.what.book) }
         ensures trays { self.new.what.trays ≡ self.old.what.trays }
@@ -207,7 +207,7 @@ impl Confirms {
     /// then resolved as not requested.
     pub fn register(&mut self, number: u64) -> Option<u64>
         requires { is_queued (under number self.old.what.book.cells) ≡ true }
-        ensures tag { (c : ℕ) → under number self.old.what.book.cells ≡ Some (Cell.Queued c) → result ≡ tag_for (at_channel c self.old.what.book.lines) }
+        ensures tag { (c : ℕ) → under number self.old.what.book.cells ≡ Some (Cell.Queued c) → result ≡ tag_for (at_channel c self.old.what.book.ledgers) }
         ensures left { (c : ℕ) → under number self.old.what.book.cells ≡ Some (Cell.Queued c) → self.new.what.book ≡ left c number self.old.what.book }
         ensures trays { self.new.what.trays ≡ self.old.what.trays }
         ensures homes { self.new.what.homes ≡ self.old.what.homes }

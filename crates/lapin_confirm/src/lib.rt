@@ -1,7 +1,7 @@
 //! Publisher confirms: the outcome of every confirm number, the ledger of every channel, and the messages that came back.
 //!
 //! Here live delivery tags, settlements and what they make of the publishes that wait, and returned messages until they are given.
-//! Which frames leave, which states a channel is in and when a settlement is heard are the session's, which calls this crate.
+//! Which frames leave, which states a channel is in and when a settlement is received are the session's, which calls this crate.
 //! Contracts see a `Post`: a `Book`, the letters of each channel, and where each publish belongs; and beside it the room.
 //! `machine_follows` says that a book that is changed by these calls is always what the history of its marks says, as long as no
 //! confirm is set aside.

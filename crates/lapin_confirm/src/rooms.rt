@@ -6,7 +6,7 @@ ghost use Rattle.std.specs.Prelude.{◌≡◌, ◌≢◌, ℕ, ◌+◌, ◌<◌,
 ghost use Rattle.lapin_tables.specs.ByChannel.{at_channel, on_channel};
 ghost use Rattle.lapin_confirm.specs.declared.cell.Cell.{Cell as ACell};
 ghost use Rattle.lapin_confirm.specs.Kept.{spare_in};
-ghost use Rattle.lapin_confirm.specs.Ties.{lines_of, trays_of, promised, AllTied, TagFits, TagsFit, MessageFits, MessagesFit, HaveRoom, HasMore};
+ghost use Rattle.lapin_confirm.specs.Ties.{ledger_states, trays_of, promised, AllTied, TagFits, TagsFit, MessageFits, MessagesFit, HaveRoom, HasMore};
 
 use crate::cell::Cell;
 use crate::home::Home;
@@ -56,7 +56,7 @@ pub fn make_room(
     requires room { HaveRoom rooms.old.entries ledgers.old.entries trays.old.entries cells.old.spare }
     requires homes { promised rooms.old.entries ≤ homes.old.spare }
     ensures cells { cells.new.slots ≡ cells.old.slots }
-    ensures lines { lines_of ledgers.new.entries ≡ lines_of ledgers.old.entries }
+    ensures ledgers { ledger_states ledgers.new.entries ≡ ledger_states ledgers.old.entries }
     ensures trays { trays_of trays.new.entries ≡ trays_of trays.old.entries }
     ensures rooms { (c : ℕ) → spare_in (at_channel c rooms.new.entries) ≡ spare_in (at_channel c rooms.old.entries) }
     ensures tied { AllTied ledgers.new.entries cells.new.slots }
@@ -90,7 +90,7 @@ fn note(channel: u16, rooms: &mut ByChannel<bool>) -> Result<(), AllocError>
 // The next publish of the channel has room for its tag, beside those that are queued.
 fn make_room_for_tag(channel: u16, ledgers: &mut ByChannel<Ledger>) -> Result<(), AllocError>
     requires { TagFits 0 (at_channel channel ledgers.old.entries) }
-    ensures lines { lines_of ledgers.new.entries ≡ lines_of ledgers.old.entries }
+    ensures ledgers { ledger_states ledgers.new.entries ≡ ledger_states ledgers.old.entries }
     ensures tied { (cells : List (Option ACell)) → AllTied ledgers.old.entries cells → AllTied ledgers.new.entries cells }
     ensures tags { (rooms : List (ℕ × Bool)) → TagsFit rooms ledgers.old.entries → TagsFit rooms ledgers.new.entries }
     ensures more { OnOk result (TagFits 1 (at_channel channel ledgers.new.entries)) }

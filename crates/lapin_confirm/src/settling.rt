@@ -7,8 +7,8 @@ ghost use Rattle.std.specs.Prelude.{◌≡◌, ◌≢◌, ℕ, ◌+◌, ◌<◌,
 ghost use Rattle.std.specs.Option.{option_map};
 ghost use Rattle.std.specs.Bool.{Decides};
 ghost use Rattle.lapin_tables.specs.Numbered.{under, with_under};
-ghost use Rattle.lapin_confirm.specs.Book.{tag_for, cell_with, settled_cell, ended_cell, ended_line};
-ghost use Rattle.lapin_confirm.specs.Ties.{Tied, KeepsTags, line_of, line_after};
+ghost use Rattle.lapin_confirm.specs.Book.{tag_for, cell_with, settled_cell, ended_cell, ended_ledger};
+ghost use Rattle.lapin_confirm.specs.Ties.{Tied, KeepsTags, ledger_state, ledger_after};
 
 use crate::cell::Cell;
 use crate::ledger::Ledger;
@@ -26,7 +26,7 @@ pub fn enqueue(channel: u16, ledger: &mut Ledger, cells: &mut Numbered<Cell>) ->
     ensures cells { cells.new.slots ≡ cells.old.slots ++ Some (Cell.Queued channel) ∷ [] }
     ensures spare { cells.old.spare ≡ cells.new.spare + 1 }
     ensures tied { Tied channel ledger.new cells.new.slots }
-    ensures line { line_of ledger.new ≡ line_of ledger.old }
+    ensures ledger { ledger_state ledger.new ≡ ledger_state ledger.old }
 {
     ledger.queued += 1;
     cells.push_reserved(Cell::Queued(channel))
@@ -42,10 +42,10 @@ pub fn leave(
     requires tied { Tied channel ledger.old cells.old.slots }
     requires queued { under number cells.old.slots ≡ Some (Cell.Queued channel) }
     requires fits { length cells.old.slots < 2 ^ 64 }
-    ensures tag { result ≡ tag_for (Some (line_of ledger.old)) }
+    ensures tag { result ≡ tag_for (Some (ledger_state ledger.old)) }
     ensures cells { cells.new.slots ≡ with_under number (Some (cell_with channel result)) cells.old.slots }
     ensures tied { Tied channel ledger.new cells.new.slots }
-    ensures line { line_of ledger.new ≡ line_after result (line_of ledger.old) }
+    ensures ledger { ledger_state ledger.new ≡ ledger_after result (ledger_state ledger.old) }
     ensures spare { cells.old.spare ≤ cells.new.spare }
     ensures room { KeepsTags ledger.old ledger.new }
 {
@@ -59,11 +59,11 @@ fn take_tag(ledger: &mut Ledger, number: u64) -> Option<u64>
     requires room { ledger.old.queued ≤ ledger.old.tags.spare }
     requires numbers { length ledger.old.tags.slots + 1 < 2 ^ 64 }
     requires pending { ledger.old.pending + 1 < 2 ^ 64 }
-    ensures tag { result ≡ tag_for (Some (line_of ledger.old)) }
+    ensures tag { result ≡ tag_for (Some (ledger_state ledger.old)) }
     ensures queued { ledger.new.queued + 1 ≡ ledger.old.queued }
     ensures room { ledger.new.queued ≤ ledger.new.tags.spare }
     ensures kept { KeepsTags ledger.old ledger.new }
-    ensures line { line_of ledger.new ≡ line_after result (line_of ledger.old) }
+    ensures ledger { ledger_state ledger.new ≡ ledger_after result (ledger_state ledger.old) }
     ensures tags { ledger.new.tags.slots ≡ (if is_some result then ledger.old.tags.slots ++ Some number ∷ [] else ledger.old.tags.slots) }
     ensures pending { ledger.new.pending ≡ (if is_some result then ledger.old.pending + 1 else ledger.old.pending) }
 {
@@ -96,7 +96,7 @@ pub fn settle_tag(
     ensures found { result ≡ is_some (under tag ledger.old.tags.slots) }
     ensures cells { cells.new.slots ≡ map (option_map (settled_cell channel (λ t. tag == t) outcome)) cells.old.slots }
     ensures tied { Tied channel ledger.new cells.new.slots }
-    ensures line { line_of ledger.new ≡ line_of ledger.old }
+    ensures ledger { ledger_state ledger.new ≡ ledger_state ledger.old }
     ensures pending { result ≡ true → ledger.new.pending + 1 ≡ ledger.old.pending }
     ensures spare { cells.old.spare ≤ cells.new.spare }
     ensures room { KeepsTags ledger.old ledger.new }
@@ -120,7 +120,7 @@ pub fn settle_through(
     requires { Tied channel ledger.old cells.old.slots }
     ensures cells { cells.new.slots ≡ map (option_map (settled_cell channel (λ t. nat_le t limit) outcome)) cells.old.slots }
     ensures tied { Tied channel ledger.new cells.new.slots }
-    ensures line { line_of ledger.new ≡ line_of ledger.old }
+    ensures ledger { ledger_state ledger.new ≡ ledger_state ledger.old }
     ensures spare { cells.old.spare ≤ cells.new.spare }
     ensures room { KeepsTags ledger.old ledger.new }
 {
@@ -144,7 +144,7 @@ pub fn reject(
     requires queued { under number cells.old.slots ≡ Some (Cell.Queued channel) }
     ensures cells { cells.new.slots ≡ with_under number (Some (Cell.Resolved (Outcome.Failed error))) cells.old.slots }
     ensures tied { Tied channel ledger.new cells.new.slots }
-    ensures line { line_of ledger.new ≡ line_of ledger.old }
+    ensures ledger { ledger_state ledger.new ≡ ledger_state ledger.old }
     ensures spare { cells.old.spare ≤ cells.new.spare }
     ensures room { KeepsTags ledger.old ledger.new }
 {
@@ -173,7 +173,7 @@ fn reject_if_queued(
     ensures same { map (option_map (ended_cell channel error)) cells.new.slots ≡ map (option_map (ended_cell channel error)) cells.old.slots }
     ensures queued { (n : ℕ) → under n cells.new.slots ≡ Some (Cell.Queued channel) → (n ≢ number) × (under n cells.old.slots ≡ Some (Cell.Queued channel)) }
     ensures tied { Tied channel ledger.new cells.new.slots }
-    ensures line { line_of ledger.new ≡ line_of ledger.old }
+    ensures ledger { ledger_state ledger.new ≡ ledger_state ledger.old }
     ensures spare { cells.old.spare ≤ cells.new.spare }
     ensures room { KeepsTags ledger.old ledger.new }
 {
@@ -189,7 +189,7 @@ fn reject_queued(channel: u16, ledger: &mut Ledger, cells: &mut Numbered<Cell>, 
     ensures same { map (option_map (ended_cell channel error)) cells.new.slots ≡ map (option_map (ended_cell channel error)) cells.old.slots }
     ensures none { ledger.new.queued ≡ 0 }
     ensures tied { Tied channel ledger.new cells.new.slots }
-    ensures line { line_of ledger.new ≡ line_of ledger.old }
+    ensures ledger { ledger_state ledger.new ≡ ledger_state ledger.old }
     ensures spare { cells.old.spare ≤ cells.new.spare }
     ensures room { KeepsTags ledger.old ledger.new }
 {
@@ -205,7 +205,7 @@ pub fn end_opening(channel: u16, ledger: &mut Ledger, cells: &mut Numbered<Cell>
     requires { Tied channel ledger.old cells.old.slots }
     ensures cells { cells.new.slots ≡ map (option_map (ended_cell channel error)) cells.old.slots }
     ensures tied { Tied channel ledger.new cells.new.slots }
-    ensures line { line_of ledger.new ≡ ended_line (line_of ledger.old) }
+    ensures ledger { ledger_state ledger.new ≡ ended_ledger (ledger_state ledger.old) }
     ensures spare { cells.old.spare ≤ cells.new.spare }
     ensures room { KeepsTags ledger.old ledger.new }
 {

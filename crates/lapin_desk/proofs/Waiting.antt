@@ -17,7 +17,7 @@ use Rattle.lapin_outbox.specs.Drops.{told_publish}
 use Rattle.lapin_confirm.specs.declared.cell.Cell.{Cell}
 use Rattle.lapin_confirm.specs.declared.cell.Cell.TheVariants as cell
 use Rattle.lapin_confirm.specs.Book.{Book, is_queued_on, is_open_on, is_resolved, settled_cell, closed_cell, ended_cell, closed_here, ended, rejected}
-use Rattle.lapin_confirm.proofs.Lines.{same-book}
+use Rattle.lapin_confirm.proofs.Ledgers.{same-book}
 use Rattle.lapin_confirm.proofs.Closing.{close-next}
 use Rattle.lapin_desk.specs.Queued.{EachQueued, AllWait, AreQueued, is_publish_of, rejected_told}
 use Rattle.lapin_desk.proofs.Queueing.{under-last, under-map, queued-kept, queued-push, queued-written, resolved_apart, still-queued, queued-ended, closed-queued, first-of}

@@ -7,12 +7,12 @@ ghost use Rattle.std.specs.Prelude.{◌≡◌, ◌+◌, ◌^◌, ◌<◌, Some, 
 ghost use Rattle.std.specs.List.{fold};
 ghost use Rattle.lapin_outbox.specs.Outgoing.{with_method, with_lists};
 ghost use Rattle.lapin_outbox.specs.Poison.{poison_on};
-ghost use Rattle.lapin_history.specs.Base.{requests_with};
+ghost use Rattle.lapin_history.specs.Wire.{requests_with};
 ghost use Rattle.lapin_history.specs.TicketReadings as mark;
 ghost use Rattle.lapin_history.specs.Asking.{made_marks};
 ghost use Rattle.lapin_history.specs.Requests.{resolved_with};
 ghost use Rattle.lapin_history.specs.Handing.{left_tickets, begun_ticket, last_ticket};
-ghost use Rattle.lapin_ticket.specs.Desk.{after_mark};
+ghost use Rattle.lapin_ticket.specs.Slots.{after_mark};
 ghost use Rattle.lapin_desk.specs.Rooms.{HasRoom, SameDesk};
 
 use lapin_history::Row;
@@ -77,7 +77,7 @@ impl Desk {
     }
 
     /// Queues a method that no call asked for, in the room that was made.
-    pub fn note(&mut self, alloc: Global, channel: u16, method: Method)
+    pub fn queue_own(&mut self, alloc: Global, channel: u16, method: Method)
         requires room { 0 < self.old.outbox.spare }
         requires unpoisoned { poison_on channel self.old.outbox.what ≡ None }
         ensures outbox { self.new.outbox.what ≡ with_lists (with_method (record { channel = channel; method = method; ticket = None }) self.old.outbox.what.lists) self.old.outbox.what }

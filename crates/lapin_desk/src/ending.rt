@@ -13,7 +13,7 @@ ghost use Rattle.lapin_outbox.specs.Returned.{is_returned_on};
 ghost use Rattle.lapin_outbox.specs.Open.{KeepsRoom};
 ghost use Rattle.lapin_history.specs.Ends.{ends, live_channels};
 ghost use Rattle.lapin_history.specs.TicketReadings as mark;
-ghost use Rattle.lapin_ticket.specs.Desk as desk;
+ghost use Rattle.lapin_ticket.specs.Slots as desk;
 ghost use Rattle.lapin_confirm.specs.Book as book;
 ghost use Rattle.lapin_desk.specs.Live.{live_at};
 ghost use Rattle.lapin_desk.specs.Ended.{ended_outbox, emptied_outbox, same_but_lists};
@@ -47,13 +47,13 @@ impl Desk {
         &mut self,
         confirms: &mut Confirms,
         channel: u16,
-        kept: Option<u64>,
+        spared: Option<u64>,
         error: Error,
     )
         requires queued { AreQueued confirms.old.what.book.cells self.old.outbox.what.lists.publishes }
         ensures outbox { self.new.outbox.what ≡ ended_outbox channel self.old.outbox.what }
         ensures requests { self.new.replies.what ≡ on_channel channel no_requests self.old.replies.what }
-        ensures slots { self.new.tickets.slots ≡ desk.after_mark self.old.tickets.slots (mark.OpeningFailed channel kept error) }
+        ensures slots { self.new.tickets.slots ≡ desk.after_mark self.old.tickets.slots (mark.OpeningFailed channel spared error) }
         ensures book { confirms.new.what.book ≡ book.ended channel error confirms.old.what.book }
         ensures queued { AreQueued confirms.new.what.book.cells self.new.outbox.what.lists.publishes }
         ensures room { (self.old.outbox.spare ≤ self.new.outbox.spare) × KeepsRoom self.old.replies self.new.replies × (self.new.tickets.ready ≡ self.old.tickets.ready) }
@@ -61,7 +61,7 @@ impl Desk {
         self.end_publishes(confirms, channel, error);
         self.drop_entries(channel);
         self.drop_requests(channel);
-        self.tickets.end(channel, kept, error);
+        self.tickets.end(channel, spared, error);
     }
 
     /// The connection leaves the open state, or is lost: every live opening ends, nothing waits any more, and every open ticket

@@ -4,13 +4,13 @@ use Rattle.std.proofs.lemmas.Bool.{cases_lt}
 use Rattle.std.proofs.Math.Nat.{le-max_left, le-max_right}
 use Rattle.lapin_types.specs.Types.{Error}
 use Rattle.lapin_tables.specs.ByChannel.{at_channel}
-use Rattle.lapin_history.specs.declared.phases.Phase.{Phase}
+use Rattle.lapin_history.specs.declared.phases.ChannelPhase.{ChannelPhase}
 use Rattle.lapin_history.specs.ConfirmMarks as mark
 use Rattle.lapin_history.specs.Phases.{is_live, phase_in}
 use Rattle.lapin_history.specs.Ends.{beyond, live_below, live_channels, ends}
 
 -- no channel stands above the greatest one
-pub beyond-none : (n : ℕ) (all : List (ℕ × Phase)) → beyond all ≤ n → at_channel n all ≡ None
+pub beyond-none : (n : ℕ) (all : List (ℕ × ChannelPhase)) → beyond all ≤ n → at_channel n all ≡ None
 beyond-none n [] h = refl
 beyond-none n (x ∷ xs) h =
     let here : suc x.0 ≤ max (suc x.0) (beyond xs) = le-max_left (suc x.0) (beyond xs) in
@@ -19,7 +19,7 @@ beyond-none n (x ∷ xs) h =
     rw other (beyond-none n xs (omega (arith, rest, h)))
 
 -- where no channel stands from a number on, none is live from it on
-live-stop : (n r : ℕ) (all : List (ℕ × Phase)) → r ≤ n → ((c : ℕ) → r ≤ c → at_channel c all ≡ None) → live_below n all ≡ live_below r all
+live-stop : (n r : ℕ) (all : List (ℕ × ChannelPhase)) → r ≤ n → ((c : ℕ) → r ≤ c → at_channel c all ≡ None) → live_below n all ≡ live_below r all
 live-stop zero r all within none = let same : 0 ≡ r = omega arith in ap (λ k. live_below k all) same
 live-stop (suc n) r all within none =
     elim (cases_lt r (suc n)) [
@@ -30,14 +30,14 @@ live-stop (suc n) r all within none =
     ]
 
 -- a walk up to such a number meets each live opening
-pub live-all : (r : ℕ) (all : List (ℕ × Phase)) → ((c : ℕ) → r ≤ c → at_channel c all ≡ None) → live_below r all ≡ live_channels all
+pub live-all : (r : ℕ) (all : List (ℕ × ChannelPhase)) → ((c : ℕ) → r ≤ c → at_channel c all ≡ None) → live_below r all ≡ live_channels all
 live-all r all none =
     elim (cases_lt r (beyond all)) [
       | inl less ↦ sym (live-stop (beyond all) r all (omega arith) none)
       | inr more ↦ live-stop r (beyond all) all (omega arith) (λ c h. beyond-none c all h)
     ]
 
-pub live-next : (n : ℕ) (all : List (ℕ × Phase)) → live_below (n + 1) all ≡ live_below n all ++ cond (is_live (phase_in (at_channel n all))) (n ∷ []) []
+pub live-next : (n : ℕ) (all : List (ℕ × ChannelPhase)) → live_below (n + 1) all ≡ live_below n all ++ cond (is_live (phase_in (at_channel n all))) (n ∷ []) []
 live-next n all = let one : n + 1 ≡ suc n = omega arith in ap (λ k. live_below k all) one
 
 -- ends of more channels

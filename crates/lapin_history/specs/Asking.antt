@@ -14,7 +14,7 @@ use Rattle.lapin_history.specs.ConfirmMarks.{ConfirmMark}
 use Rattle.lapin_history.specs.ConfirmMarks as mark
 use Rattle.lapin_history.specs.TicketReadings.{TicketMark}
 use Rattle.lapin_history.specs.TicketReadings as ticket
-use Rattle.lapin_history.specs.Base.{Base, state_of, is_closed, is_base, is_open, queued}
+use Rattle.lapin_history.specs.Wire.{Wire, state_of, is_closed, is_base, is_open, queued}
 use Rattle.lapin_history.specs.Opening.{after_open_call, open_marks}
 use Rattle.lapin_history.specs.ChannelClose.{after_close_call, close_marks, close_tickets}
 use Rattle.lapin_history.specs.ConnectionClose.{after_connection_close_call, connection_close_call_marks, connection_close_call_tickets}
@@ -30,12 +30,12 @@ is_allowed _ s = is_open s
 -- ---- its record
 
 -- an accepted call is answered by the next ticket number, a publish also by the next confirm number
-abbrev pub accepted_record : Asked → Base → Record
+abbrev pub accepted_record : Asked → Wire → Record
 accepted_record (ask.Publish exchange key o payload properties) b = record_.Publish (b.tickets + 1) (b.published + 1)
 accepted_record _ b = record_.Ticket (b.tickets + 1)
 
 -- one that is not allowed is refused with the state of its channel
-abbrev pub call_record : ℕ → Asked → Base → Record
+abbrev pub call_record : ℕ → Asked → Wire → Record
 call_record c k b =
     if is_allowed k (state_of c b)
     then accepted_record k b
@@ -44,7 +44,7 @@ call_record c k b =
 -- ---- what it leaves
 
 -- an accepted call queues its method, a publish joins the publishes
-abbrev pub after_call : ℕ → Asked → Base → Base
+abbrev pub after_call : ℕ → Asked → Wire → Wire
 after_call c ask.Open b = after_open_call c b
 after_call c (ask.CloseChannel code text) b = after_close_call c code text b
 after_call c (ask.CloseConnection code text) b = after_connection_close_call c code text b
@@ -65,19 +65,19 @@ after_call c (ask.Publish exchange key o payload properties) b = record b {
 }
 
 -- one that is not allowed changes nothing
-abbrev pub after_asking : ℕ → Asked → Base → Base
+abbrev pub after_asking : ℕ → Asked → Wire → Wire
 after_asking c k b = if is_allowed k (state_of c b) then after_call c k b else b
 
 -- ---- confirms
 
-abbrev pub call_marks : ℕ → Asked → Base → List ConfirmMark
+abbrev pub call_marks : ℕ → Asked → Wire → List ConfirmMark
 call_marks c ask.Open b = open_marks c
 call_marks c (ask.CloseChannel code text) b = close_marks c closer.Application
 call_marks c (ask.CloseConnection code text) b = connection_close_call_marks b
 call_marks c (ask.Publish exchange key o payload properties) b = mark.Added c ∷ []
 call_marks c (ask.Method row) b = queued_marks c row.method
 
-abbrev pub asking_marks : ℕ → Asked → Base → List ConfirmMark
+abbrev pub asking_marks : ℕ → Asked → Wire → List ConfirmMark
 asking_marks c k b = if is_allowed k (state_of c b) then call_marks c k b else []
 
 -- ---- tickets
@@ -89,7 +89,7 @@ closing_tickets c (ask.CloseConnection code text) = connection_close_call_ticket
 closing_tickets c _ = []
 
 -- the answer that the leaving of its last frame gives: of a publish, its confirm's number
-abbrev pub leaving_answer : Asked → Base → AtLeaving
+abbrev pub leaving_answer : Asked → Wire → AtLeaving
 leaving_answer (ask.Publish exchange key o payload properties) b = leaving.Confirm (b.published + 1)
 leaving_answer (ask.Method row) b = row.at_leaving
 leaving_answer _ b = leaving.Nothing
@@ -104,8 +104,8 @@ made_marks n None = []
 made_marks n (Some a) = ticket.Answered n (Ok a) ∷ []
 
 -- the next ticket is given, and answered where the call makes its answer itself
-abbrev pub call_tickets : ℕ → Asked → Base → List TicketMark
+abbrev pub call_tickets : ℕ → Asked → Wire → List TicketMark
 call_tickets c k b = closing_tickets c k ++ (ticket.Given c (leaving_answer k b) ∷ made_marks (b.tickets + 1) (made_answer k))
 
-abbrev pub asking_tickets : ℕ → Asked → Base → List TicketMark
+abbrev pub asking_tickets : ℕ → Asked → Wire → List TicketMark
 asking_tickets c k b = if is_allowed k (state_of c b) then call_tickets c k b else []

@@ -13,8 +13,8 @@ use Rattle.lapin_types.specs.declared.request.Reply.TheVariants as reply
 use Rattle.lapin_types.specs.declared.request.ReplyKind.TheVariants as reply_kind
 use Rattle.lapin_history.specs.declared.phases.Closer.{Closer}
 use Rattle.lapin_history.specs.declared.phases.Closer.TheVariants as closer
-use Rattle.lapin_history.specs.declared.phases.Phase.{Phase}
-use Rattle.lapin_history.specs.declared.phases.Phase.TheVariants as phase
+use Rattle.lapin_history.specs.declared.phases.ChannelPhase.{ChannelPhase}
+use Rattle.lapin_history.specs.declared.phases.ChannelPhase.TheVariants as phase
 use Rattle.lapin_history.specs.ConfirmMarks.{ConfirmMark}
 use Rattle.lapin_history.specs.ConfirmMarks as mark
 use Rattle.lapin_history.specs.TicketReadings.{TicketMark}
@@ -22,7 +22,7 @@ use Rattle.lapin_history.specs.TicketReadings as ticket
 use Rattle.lapin_history.specs.Words.{with_channel}
 use Rattle.lapin_history.specs.Drops.{without_publishes_of}
 use Rattle.lapin_history.specs.Requests.{first_request, without_kind, close_alone, no_requests, ticket_of, resolved_with}
-use Rattle.lapin_history.specs.Base.{Base, lists_of, with_lists, phase_of, requests_of, is_opening, is_closing, is_crossed, hears_on, queued, noted}
+use Rattle.lapin_history.specs.Wire.{Wire, lists_of, with_lists, phase_of, requests_of, is_opening, is_closing, is_crossed, receives_on, queued, noted}
 use Rattle.lapin_history.specs.Ends.{ended, end_with, end_tickets}
 
 -- ---- this side closes
@@ -33,7 +33,7 @@ failed_at_close closer.Application = error.InvalidChannelState state.Closing
 failed_at_close closer.Session = error.ProtocolError 406
 
 -- the channel is closing, and its publishes that have not begun will not leave; what was begun or queued earlier still does
-abbrev pub closing : ℕ → Closer → Base → Base
+abbrev pub closing : ℕ → Closer → Wire → Wire
 closing c who b = record (with_lists (without_publishes_of c (lists_of b)) b) { phases = with_channel c (phase.Closing who false) b.phases }
 
 abbrev pub close_marks : ℕ → Closer → List ConfirmMark
@@ -49,60 +49,60 @@ abbrev pub own_close : ℕ → List ℕ → Method
 own_close code text = method.Channel (channel.Close code text 0 0)
 
 -- what it rejects is taken out before it is queued
-abbrev pub after_close_call : ℕ → ℕ → List ℕ → Base → Base
+abbrev pub after_close_call : ℕ → ℕ → List ℕ → Wire → Wire
 after_close_call c code text b = queued c (own_close code text) (Some reply.ChannelCloseOk) (closing c closer.Application b)
 
 -- ---- this side's `channel.close` leaves
 
-abbrev pub close_sent : Phase → Phase
+abbrev pub close_sent : ChannelPhase → ChannelPhase
 close_sent (phase.Closing who sent) = phase.Closing who true
 close_sent p = p
 
-abbrev pub phases_sent : Frame → List (ℕ × Phase) → List (ℕ × Phase)
+abbrev pub phases_sent : Frame → List (ℕ × ChannelPhase) → List (ℕ × ChannelPhase)
 phases_sent (frame.Method c (method.Channel (channel.Close code text class number))) all = on_channel c close_sent all
 phases_sent _ all = all
 
 -- a close of this side has left, and is not answered yet
-abbrev pub has_sent_close : Phase → Bool
+abbrev pub has_sent_close : ChannelPhase → Bool
 has_sent_close (phase.Closing who sent) = sent
 has_sent_close _ = false
 
 -- the ticket of a close of this side that awaits its reply
-abbrev pub close_ticket : ℕ → Base → Option ℕ
+abbrev pub close_ticket : ℕ → Wire → Option ℕ
 close_ticket c b = ticket_of (first_request reply_kind.ChannelCloseOk (requests_of c b))
 
--- ---- the broker's `channel.close`: it is heard on a channel with a live opening, which ends
+-- ---- the broker's `channel.close`: it is received on a channel with a live opening, which ends
 
-abbrev pub hears_close : ChannelState → Bool
-hears_close s = is_opening s || hears_on s
+abbrev pub receives_close : ChannelState → Bool
+receives_close s = is_opening s || receives_on s
 
 -- The channel is closed. Where this side's close has left the two crossed: the broker's close-ok is still to come, and the
 -- request of this side's close stays open for it.
-abbrev pub after_broker_close : Phase → Phase
+abbrev pub after_broker_close : ChannelPhase → ChannelPhase
 after_broker_close (phase.Closing who true) = phase.Crossed
 after_broker_close p = phase.Closed
 
-abbrev pub kept_at : Phase → List Request → List Request
+abbrev pub kept_at : ChannelPhase → List Request → List Request
 kept_at p rs = if has_sent_close p then close_alone rs else no_requests rs
 
 -- it is answered by close-ok
-abbrev pub after_channel_close : ℕ → Phase → Base → Base
+abbrev pub after_channel_close : ℕ → ChannelPhase → Wire → Wire
 after_channel_close c p b = noted c (method.Channel channel.CloseOk) (ended c (after_broker_close p) (kept_at p) b)
 
 abbrev pub broker_close_marks : ℕ → ℕ → List ConfirmMark
 broker_close_marks c code = mark.Ended c (error.ProtocolError code) ∷ []
 
 -- what the opening leaves unresolved fails; where the two crossed, the ticket of this side's close stays open
-abbrev pub kept_ticket : ℕ → Phase → Base → Option ℕ
+abbrev pub kept_ticket : ℕ → ChannelPhase → Wire → Option ℕ
 kept_ticket c p b = if has_sent_close p then close_ticket c b else None
 
-abbrev pub broker_close_tickets : ℕ → ℕ → Base → List TicketMark
+abbrev pub broker_close_tickets : ℕ → ℕ → Wire → List TicketMark
 broker_close_tickets c code b = ticket.OpeningFailed c (kept_ticket c (phase_of c b) b) (error.ProtocolError code) ∷ []
 
--- ---- the broker's `channel.close-ok`: it is heard where a close of this side is under way
+-- ---- the broker's `channel.close-ok`: it is received where a close of this side is under way
 
-abbrev pub hears_close_ok : ChannelState → Bool
-hears_close_ok s = is_closing s || is_crossed s
+abbrev pub receives_close_ok : ChannelState → Bool
+receives_close_ok s = is_closing s || is_crossed s
 
 -- what is unresolved fails with this
 abbrev pub failed_at_close_ok : Closer → Error
@@ -110,18 +110,18 @@ failed_at_close_ok closer.Application = error.InvalidChannelState state.Closed
 failed_at_close_ok closer.Session = error.ProtocolError 406
 
 -- the end of the opening; a crossed close ended it before
-abbrev pub close_ok_end : Phase → Option Error
+abbrev pub close_ok_end : ChannelPhase → Option Error
 close_ok_end (phase.Closing who sent) = Some (failed_at_close_ok who)
 close_ok_end _ = None
 
 -- the channel is closed; the opening ends where a crossed close did not end it before
-abbrev pub after_close_ok : ℕ → Phase → Base → Base
+abbrev pub after_close_ok : ℕ → ChannelPhase → Wire → Wire
 after_close_ok c (phase.Closing who sent) b = ended c phase.Closed no_requests b
 after_close_ok c p b = record b { phases = with_channel c phase.Closed b.phases; requests = on_channel c (without_kind reply_kind.ChannelCloseOk) b.requests }
 
-abbrev pub close_ok_marks : ℕ → Base → List ConfirmMark
+abbrev pub close_ok_marks : ℕ → Wire → List ConfirmMark
 close_ok_marks c b = end_with c (close_ok_end (phase_of c b))
 
 -- this side's close is done, also where it has not left; then what else the opening leaves unresolved fails
-abbrev pub close_ok_tickets : ℕ → Base → List TicketMark
+abbrev pub close_ok_tickets : ℕ → Wire → List TicketMark
 close_ok_tickets c b = resolved_with (Ok answer.Done) (close_ticket c b) ++ end_tickets c (close_ok_end (phase_of c b))

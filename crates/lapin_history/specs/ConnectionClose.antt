@@ -10,8 +10,8 @@ use Rattle.lapin_types.specs.declared.answer.Answer.TheVariants as answer
 use Rattle.lapin_types.specs.Types.channel_state as state
 use Rattle.lapin_types.specs.declared.request.Reply.TheVariants as reply
 use Rattle.lapin_types.specs.declared.request.ReplyKind.TheVariants as reply_kind
-use Rattle.lapin_history.specs.declared.phases.Link.{Link}
-use Rattle.lapin_history.specs.declared.phases.Link.TheVariants as link
+use Rattle.lapin_history.specs.declared.phases.ConnectionPhase.{ConnectionPhase}
+use Rattle.lapin_history.specs.declared.phases.ConnectionPhase.TheVariants as link
 use Rattle.lapin_history.specs.declared.broker_frames.Incoming.{Incoming}
 use Rattle.lapin_history.specs.declared.broker_frames.Incoming.TheVariants as incoming
 use Rattle.lapin_history.specs.ConfirmMarks.{ConfirmMark}
@@ -20,7 +20,7 @@ use Rattle.lapin_history.specs.TicketReadings as ticket
 use Rattle.lapin_history.specs.Leaving.{Lists}
 use Rattle.lapin_history.specs.Drops.{no_lists}
 use Rattle.lapin_history.specs.Requests.{first_request, without_kind, ticket_of, resolved_with}
-use Rattle.lapin_history.specs.Base.{Base, lists_of, with_lists, requests_of, queued, noted}
+use Rattle.lapin_history.specs.Wire.{Wire, lists_of, with_lists, requests_of, queued, noted}
 use Rattle.lapin_history.specs.Ends.{down, ends_all}
 
 -- ---- the call `connection.close`: every opening ends
@@ -34,10 +34,10 @@ abbrev pub own_connection_close : ℕ → List ℕ → Method
 own_connection_close code text = method.Connection (connection.Close code text 0 0)
 
 -- all that waits is dropped before it is queued
-abbrev pub after_connection_close_call : ℕ → ℕ → List ℕ → Base → Base
+abbrev pub after_connection_close_call : ℕ → ℕ → List ℕ → Wire → Wire
 after_connection_close_call c code text b = queued c (own_connection_close code text) (Some reply.ConnectionCloseOk) (down (link.Closing false false) b)
 
-abbrev pub connection_close_call_marks : Base → List ConfirmMark
+abbrev pub connection_close_call_marks : Wire → List ConfirmMark
 connection_close_call_marks b = ends_all failed_at_connection_close b
 
 abbrev pub connection_close_call_tickets : List TicketMark
@@ -45,36 +45,36 @@ connection_close_call_tickets = ticket.AllFailed failed_at_connection_close ∷ 
 
 -- ---- this side's `connection.close` leaves
 
-abbrev pub link_close_sent : Link → Link
-link_close_sent (link.Closing sent heard) = link.Closing true heard
+abbrev pub link_close_sent : ConnectionPhase → ConnectionPhase
+link_close_sent (link.Closing sent received) = link.Closing true received
 link_close_sent l = l
 
-abbrev pub link_sent : Frame → Link → Link
+abbrev pub link_sent : Frame → ConnectionPhase → ConnectionPhase
 link_sent (frame.Method c (method.Connection (connection.Close code text class number))) l = link_close_sent l
 link_sent _ l = l
 
--- ---- what is heard once the connection is not open: while this side closes it, `connection.close-ok`, and the first
+-- ---- what is received once the connection is not open: while this side closes it, `connection.close-ok`, and the first
 -- `connection.close`
 
-abbrev pub hears_down : Link → Incoming → Bool
-hears_down (link.Closing sent heard) incoming.ConnectionCloseOk = true
-hears_down (link.Closing sent heard) (incoming.ConnectionClose code) = not heard
-hears_down _ _ = false
+abbrev pub receives_down : ConnectionPhase → Incoming → Bool
+receives_down (link.Closing sent received) incoming.ConnectionCloseOk = true
+receives_down (link.Closing sent received) (incoming.ConnectionClose code) = not received
+receives_down _ _ = false
 
 -- ---- the broker's `connection.close`: every opening ends
 
 -- It is answered by close-ok. Where this side's close has left the connection is still closing. Else it is closed, and this
 -- side's close, if it was called, is dropped with all that waits.
-abbrev pub after_connection_close : Link → Base → Base
-after_connection_close (link.Closing true heard) b = noted 0 (method.Connection connection.CloseOk) (record b { link = link.Closing true true })
+abbrev pub after_connection_close : ConnectionPhase → Wire → Wire
+after_connection_close (link.Closing true received) b = noted 0 (method.Connection connection.CloseOk) (record b { link = link.Closing true true })
 after_connection_close l b = noted 0 (method.Connection connection.CloseOk) (down link.Closed b)
 
-abbrev pub connection_close_marks : ℕ → Base → List ConfirmMark
+abbrev pub connection_close_marks : ℕ → Wire → List ConfirmMark
 connection_close_marks code b = ends_all (error.ProtocolError code) b
 
 -- every open ticket fails, but where this side's close has left: its ticket, the only open one, awaits the broker's close-ok
-abbrev pub connection_close_tickets : Link → ℕ → List TicketMark
-connection_close_tickets (link.Closing true heard) code = []
+abbrev pub connection_close_tickets : ConnectionPhase → ℕ → List TicketMark
+connection_close_tickets (link.Closing true received) code = []
 connection_close_tickets l code = ticket.AllFailed (error.ProtocolError code) ∷ []
 
 -- ---- the broker's `connection.close-ok`: the connection is closed
@@ -83,13 +83,13 @@ connection_close_tickets l code = ticket.AllFailed (error.ProtocolError code) �
 abbrev pub unless_sent : Bool → Lists → Lists
 unless_sent sent l = if sent then l else no_lists
 
-abbrev pub has_sent : Link → Bool
-has_sent (link.Closing sent heard) = sent
+abbrev pub has_sent : ConnectionPhase → Bool
+has_sent (link.Closing sent received) = sent
 has_sent _ = true
 
-abbrev pub after_connection_close_ok : Base → Base
+abbrev pub after_connection_close_ok : Wire → Wire
 after_connection_close_ok b = record (with_lists (unless_sent (has_sent b.link) (lists_of b)) b) { link = link.Closed; requests = on_channel 0 (without_kind reply_kind.ConnectionCloseOk) b.requests }
 
 -- this side's close is done
-abbrev pub connection_close_ok_tickets : Base → List TicketMark
+abbrev pub connection_close_ok_tickets : Wire → List TicketMark
 connection_close_ok_tickets b = resolved_with (Ok answer.Done) (ticket_of (first_request reply_kind.ConnectionCloseOk (requests_of 0 b)))

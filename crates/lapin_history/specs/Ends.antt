@@ -4,8 +4,8 @@ use Rattle.std.specs.Prelude.{ℕ, zero, suc, max, if◌then◌else◌, List, []
 use Rattle.lapin_tables.specs.ByChannel.{at_channel, on_channel}
 use Rattle.lapin_types.specs.declared.request.Request.{Request}
 use Rattle.lapin_types.specs.Types.{Error}
-use Rattle.lapin_history.specs.declared.phases.Phase.{Phase}
-use Rattle.lapin_history.specs.declared.phases.Link.{Link}
+use Rattle.lapin_history.specs.declared.phases.ChannelPhase.{ChannelPhase}
+use Rattle.lapin_history.specs.declared.phases.ConnectionPhase.{ConnectionPhase}
 use Rattle.lapin_history.specs.ConfirmMarks.{ConfirmMark}
 use Rattle.lapin_history.specs.ConfirmMarks as mark
 use Rattle.lapin_history.specs.TicketReadings.{TicketMark}
@@ -13,35 +13,35 @@ use Rattle.lapin_history.specs.TicketReadings as ticket
 use Rattle.lapin_history.specs.Words.{with_channel}
 use Rattle.lapin_history.specs.Drops.{no_lists, without_channel}
 use Rattle.lapin_history.specs.Phases.{is_live, phase_in}
-use Rattle.lapin_history.specs.Base.{Base, lists_of, with_lists}
+use Rattle.lapin_history.specs.Wire.{Wire, lists_of, with_lists}
 
 -- ---- what an end leaves
 
 -- The opening of a channel ends: nothing of the channel leaves any more, and none of its requests stays open but those that are
 -- kept.
-abbrev pub ended : ℕ → Phase → (List Request → List Request) → Base → Base
+abbrev pub ended : ℕ → ChannelPhase → (List Request → List Request) → Wire → Wire
 ended c p kept b = record (with_lists (without_channel c (lists_of b)) b) {
   phases = with_channel c p b.phases;
   requests = on_channel c kept b.requests;
 }
 
 -- The connection leaves the open state, or is lost: no opening is live, nothing waits any more, and no request is open.
-abbrev pub down : Link → Base → Base
+abbrev pub down : ConnectionPhase → Wire → Wire
 down l b = record (with_lists no_lists b) { link = l; phases = []; requests = [] }
 
 -- ---- confirms
 
 -- one above the greatest number of a channel that was opened
-abbrev pub beyond : List (ℕ × Phase) → ℕ
+abbrev pub beyond : List (ℕ × ChannelPhase) → ℕ
 beyond [] = 0
 beyond (x ∷ xs) = max (suc x.0) (beyond xs)
 
 -- the channels below n that have a live opening, in rising number
-abbrev pub live_below : ℕ → List (ℕ × Phase) → List ℕ
+abbrev pub live_below : ℕ → List (ℕ × ChannelPhase) → List ℕ
 live_below zero all = []
 live_below (suc c) all = live_below c all ++ (if is_live (phase_in (at_channel c all)) then c ∷ [] else [])
 
-abbrev pub live_channels : List (ℕ × Phase) → List ℕ
+abbrev pub live_channels : List (ℕ × ChannelPhase) → List ℕ
 live_channels all = live_below (beyond all) all
 
 -- the openings of these channels end, one after another
@@ -50,7 +50,7 @@ ends e [] = []
 ends e (c ∷ cs) = mark.Ended c e ∷ ends e cs
 
 -- each live opening ends, in rising number of its channel; once the connection is not open none is live
-abbrev pub ends_all : Error → Base → List ConfirmMark
+abbrev pub ends_all : Error → Wire → List ConfirmMark
 ends_all e b = ends e (live_channels b.phases)
 
 -- the opening ends, if there is an error with which it does

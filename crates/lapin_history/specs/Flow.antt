@@ -3,23 +3,23 @@ use Rattle.std.specs.Prelude.{ℕ, Bool, not, ◌&&◌, if◌then◌else◌}
 use Rattle.std.specs.List.{list_any}
 use Rattle.lapin_types.specs.Types.method
 use Rattle.lapin_types.specs.Types.channel
-use Rattle.lapin_history.specs.declared.phases.Phase.{Phase}
-use Rattle.lapin_history.specs.declared.phases.Phase.TheVariants as phase
+use Rattle.lapin_history.specs.declared.phases.ChannelPhase.{ChannelPhase}
+use Rattle.lapin_history.specs.declared.phases.ChannelPhase.TheVariants as phase
 use Rattle.lapin_history.specs.Words.{with_channel}
 use Rattle.lapin_history.specs.Phases.{is_paused}
-use Rattle.lapin_history.specs.Base.{Base, state_of, is_open, noted}
+use Rattle.lapin_history.specs.Wire.{Wire, state_of, is_open, noted}
 
 -- The broker pauses an open channel, or ends its pause, and is answered by flow-ok with the same mark. On a channel that this side
 -- is closing a pause has nothing left to hold, so it changes nothing and is not answered.
-abbrev pub after_flow : ℕ → Bool → Base → Base
+abbrev pub after_flow : ℕ → Bool → Wire → Wire
 after_flow c active b =
     if is_open (state_of c b)
     then noted c (method.Channel (channel.FlowOk active)) (record b { phases = with_channel c (phase.Open (not active)) b.phases })
     else b
 
 -- a publish may begin where the request's flow is true and no open channel is paused
-abbrev pub is_paused_on : ℕ × Phase → Bool
+abbrev pub is_paused_on : ℕ × ChannelPhase → Bool
 is_paused_on x = is_paused x.1
 
-abbrev pub may_begin : Bool → Base → Bool
+abbrev pub may_begin : Bool → Wire → Bool
 may_begin flow b = flow && not (list_any is_paused_on b.phases)

@@ -11,17 +11,17 @@ use Rattle.lapin_history.specs.TicketReadings.{TicketMark}
 use Rattle.lapin_history.specs.TicketReadings as ticket
 use Rattle.lapin_history.specs.Drops.{frame_channel}
 use Rattle.lapin_history.specs.Leaving.{handed_of, left_lists}
-use Rattle.lapin_history.specs.Base.{Base, lists_of, with_lists}
+use Rattle.lapin_history.specs.Wire.{Wire, lists_of, with_lists}
 use Rattle.lapin_history.specs.ChannelClose.{phases_sent}
 use Rattle.lapin_history.specs.ConnectionClose.{link_sent}
 use Rattle.lapin_history.specs.Flow.{may_begin}
 use Rattle.lapin_history.specs.Select.{method_marks}
 
 -- what leaves, where t tells whether a publish may begin
-abbrev pub handed_out : Bool → Base → Option Left
+abbrev pub handed_out : Bool → Wire → Option Left
 handed_out t b = handed_of t b.rest b.methods b.publishes
 
-abbrev pub handed : Bool → Base → Option Left
+abbrev pub handed : Bool → Wire → Option Left
 handed flow b = handed_out (may_begin flow b) b
 
 abbrev pub frame_record : Option Left → Record
@@ -31,14 +31,14 @@ frame_record (Some l) = record_.Frame l.frame
 -- ---- what it leaves
 
 -- a close of this side is known to have left
-abbrev pub sent : Option Left → Base → Base
+abbrev pub sent : Option Left → Wire → Wire
 sent None b = b
 sent (Some l) b = record b { link = link_sent l.frame b.link; phases = phases_sent l.frame b.phases }
 
-abbrev pub after_handing : Bool → Base → Base
+abbrev pub after_handing : Bool → Wire → Wire
 after_handing t b = sent (handed_out t b) (with_lists (left_lists b.frame_max t (lists_of b)) b)
 
-abbrev pub after_next : Bool → Base → Base
+abbrev pub after_next : Bool → Wire → Wire
 after_next flow b = after_handing (may_begin flow b) b
 
 -- ---- confirms: a method leaves, a publish begins, or a frame behind its method leaves

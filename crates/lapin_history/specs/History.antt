@@ -10,8 +10,8 @@ use Rattle.lapin_history.specs.ConfirmMarks.{ConfirmMark}
 use Rattle.lapin_history.specs.declared.marks.Outcome.{Outcome}
 use Rattle.lapin_history.specs.ConfirmReadings.{is_selected, place, is_pending, added, is_taken, outcome_at}
 use Rattle.lapin_history.specs.TicketReadings.{TicketMark, given, is_collected, answer_of}
-use Rattle.lapin_history.specs.Sight.{Sight}
-use Rattle.lapin_history.specs.Base.{Base, start}
+use Rattle.lapin_history.specs.Readings.{Readings}
+use Rattle.lapin_history.specs.Wire.{Wire, start}
 use Rattle.lapin_history.specs.Polls.{confirmed}
 use Rattle.lapin_history.specs.Events.{record_of, after_event, confirm_marks, ticket_marks}
 
@@ -21,15 +21,15 @@ History = List (Event × Record)
 
 -- what a history comes to: states and lists, and all that happened to confirms and to tickets
 pub record Past : Type 0 where
-  pub base : Base
+  pub wire : Wire
   pub confirms : List ConfirmMark
   pub tickets : List TicketMark
 
 abbrev pub longer : Past → Event → Record → Past
 longer p e r = record {
-  base = after_event p.base e r;
-  confirms = p.confirms ++ confirm_marks p.base e r;
-  tickets = p.tickets ++ ticket_marks p.base e r;
+  wire = after_event p.wire e r;
+  confirms = p.confirms ++ confirm_marks p.wire e r;
+  tickets = p.tickets ++ ticket_marks p.wire e r;
 }
 
 abbrev pub past_on : Past → History → Past
@@ -37,7 +37,7 @@ past_on p [] = p
 past_on p (x ∷ h) = past_on (longer p x.0 x.1) h
 
 abbrev pub past : ℕ → History → Past
-past frame_max h = past_on (record { base = start frame_max; confirms = []; tickets = [] }) h
+past frame_max h = past_on (record { wire = start frame_max; confirms = []; tickets = [] }) h
 
 -- what a poll of a confirm's number gives: the outcome once
 abbrev pub polled_outcome : Option Outcome → Record
@@ -75,8 +75,8 @@ ticket_aside ms n =
     else record_.Refused error.UnknownTicket
 
 -- what the marks show
-abbrev pub sight_of : List ConfirmMark → List TicketMark → Sight
-sight_of confirms tickets = record {
+abbrev pub readings_of : List ConfirmMark → List TicketMark → Readings
+readings_of confirms tickets = record {
   selected = λ c. is_selected c confirms;
   last = λ c. place c confirms;
   pending = λ c t. is_pending c t confirms;
@@ -86,7 +86,7 @@ sight_of confirms tickets = record {
 }
 
 abbrev pub record_after : Past → Event → Record
-record_after p e = record_of p.base (sight_of p.confirms p.tickets) e
+record_after p e = record_of p.wire (readings_of p.confirms p.tickets) e
 
 -- the record that a history determines for the next event
 abbrev pub rec : ℕ → History → Event → Record

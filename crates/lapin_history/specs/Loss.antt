@@ -1,22 +1,22 @@
 -- The loss of the connection: it ends everything, once.
 use Rattle.std.specs.Prelude.{if◌then◌else◌, List, [], ◌∷◌}
 use Rattle.lapin_types.specs.Types.error
-use Rattle.lapin_history.specs.declared.phases.Link.TheVariants as link
+use Rattle.lapin_history.specs.declared.phases.ConnectionPhase.TheVariants as link
 use Rattle.lapin_history.specs.ConfirmMarks.{ConfirmMark}
 use Rattle.lapin_history.specs.TicketReadings.{TicketMark}
 use Rattle.lapin_history.specs.TicketReadings as ticket
 use Rattle.lapin_history.specs.Phases.{is_lost}
-use Rattle.lapin_history.specs.Base.{Base}
+use Rattle.lapin_history.specs.Wire.{Wire}
 use Rattle.lapin_history.specs.Ends.{down, ends_all}
 
 -- a second loss changes nothing
-abbrev pub after_lost : Base → Base
+abbrev pub after_lost : Wire → Wire
 after_lost b = if is_lost b.link then b else down link.Lost b
 
 -- every live opening ends, if there is one yet
-abbrev pub lost_marks : Base → List ConfirmMark
+abbrev pub lost_marks : Wire → List ConfirmMark
 lost_marks b = ends_all error.ConnectionLost b
 
 -- every open ticket fails
-abbrev pub lost_tickets : Base → List TicketMark
+abbrev pub lost_tickets : Wire → List TicketMark
 lost_tickets b = if is_lost b.link then [] else ticket.AllFailed error.ConnectionLost ∷ []

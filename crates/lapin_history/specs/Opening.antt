@@ -5,27 +5,27 @@ use Rattle.lapin_types.specs.Types.method
 use Rattle.lapin_types.specs.Types.channel
 use Rattle.lapin_types.specs.declared.request.Reply.TheVariants as reply
 use Rattle.lapin_types.specs.declared.request.ReplyKind.TheVariants as reply_kind
-use Rattle.lapin_history.specs.declared.phases.Phase.{Phase}
-use Rattle.lapin_history.specs.declared.phases.Phase.TheVariants as phase
+use Rattle.lapin_history.specs.declared.phases.ChannelPhase.{ChannelPhase}
+use Rattle.lapin_history.specs.declared.phases.ChannelPhase.TheVariants as phase
 use Rattle.lapin_history.specs.ConfirmMarks.{ConfirmMark}
 use Rattle.lapin_history.specs.ConfirmMarks as mark
 use Rattle.lapin_history.specs.Words.{with_channel}
-use Rattle.lapin_history.specs.Base.{Base, queued}
+use Rattle.lapin_history.specs.Wire.{Wire, queued}
 
 -- ---- the call: an opening begins on a closed channel
 
-abbrev pub after_open_call : ℕ → Base → Base
+abbrev pub after_open_call : ℕ → Wire → Wire
 after_open_call c b = record (queued c (method.Channel channel.Open) (Some reply.ChannelOpenOk) b) { phases = with_channel c phase.Opening b.phases }
 
 abbrev pub open_marks : ℕ → List ConfirmMark
 open_marks c = mark.Begun c ∷ []
 
--- ---- the broker's `channel.open-ok`: of all replies it alone is heard on an opening channel, and opens it
+-- ---- the broker's `channel.open-ok`: of all replies it alone is received on an opening channel, and opens it
 
 abbrev pub opens : ReplyKind → Bool
 opens reply_kind.ChannelOpenOk = true
 opens _ = false
 
 -- a new opening is not paused
-abbrev pub phases_with : ℕ → ReplyKind → List (ℕ × Phase) → List (ℕ × Phase)
+abbrev pub phases_with : ℕ → ReplyKind → List (ℕ × ChannelPhase) → List (ℕ × ChannelPhase)
 phases_with c k all = if opens k then with_channel c (phase.Open false) all else all

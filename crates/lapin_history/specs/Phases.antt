@@ -3,46 +3,46 @@ use Rattle.std.specs.Prelude.{Bool, true, false, Option, Some, None}
 use Rattle.lapin_types.specs.Types.{ChannelState, ConnectionState}
 use Rattle.lapin_types.specs.Types.channel_state as state
 use Rattle.lapin_types.specs.Types.connection_state as link_state
-use Rattle.lapin_history.specs.declared.phases.Phase.{Phase}
-use Rattle.lapin_history.specs.declared.phases.Phase.TheVariants as phase
-use Rattle.lapin_history.specs.declared.phases.Link.{Link}
-use Rattle.lapin_history.specs.declared.phases.Link.TheVariants as link
+use Rattle.lapin_history.specs.declared.phases.ChannelPhase.{ChannelPhase}
+use Rattle.lapin_history.specs.declared.phases.ChannelPhase.TheVariants as phase
+use Rattle.lapin_history.specs.declared.phases.ConnectionPhase.{ConnectionPhase}
+use Rattle.lapin_history.specs.declared.phases.ConnectionPhase.TheVariants as link
 
 -- a channel's state while the connection is open
-abbrev pub channel_state : Phase → ChannelState
+abbrev pub channel_state : ChannelPhase → ChannelState
 channel_state phase.Closed = state.Closed
 channel_state phase.Opening = state.Opening
 channel_state (phase.Open paused) = state.Open
 channel_state (phase.Closing closer sent) = state.Closing
 channel_state phase.Crossed = state.Crossed
 
-abbrev pub connection_state : Link → ConnectionState
+abbrev pub connection_state : ConnectionPhase → ConnectionState
 connection_state link.Open = link_state.Open
-connection_state (link.Closing sent heard) = link_state.Closing
+connection_state (link.Closing sent received) = link_state.Closing
 connection_state link.Closed = link_state.Closed
 connection_state link.Lost = link_state.Lost
 
 -- an opening is live from its call until it ends
-abbrev pub is_live : Phase → Bool
+abbrev pub is_live : ChannelPhase → Bool
 is_live phase.Opening = true
 is_live (phase.Open paused) = true
 is_live (phase.Closing closer sent) = true
 is_live _ = false
 
 -- the broker's last `channel.flow` paused the open channel
-abbrev pub is_paused : Phase → Bool
+abbrev pub is_paused : ChannelPhase → Bool
 is_paused (phase.Open paused) = paused
 is_paused _ = false
 
-abbrev pub is_up : Link → Bool
+abbrev pub is_up : ConnectionPhase → Bool
 is_up link.Open = true
 is_up _ = false
 
-abbrev pub is_lost : Link → Bool
+abbrev pub is_lost : ConnectionPhase → Bool
 is_lost link.Lost = true
 is_lost _ = false
 
 -- a channel is closed until it is opened
-abbrev pub phase_in : Option Phase → Phase
+abbrev pub phase_in : Option ChannelPhase → ChannelPhase
 phase_in None = phase.Closed
 phase_in (Some p) = p

@@ -35,17 +35,17 @@ covered c s ms = taking (covers s) (pending_with c ms) (range_with_len 1 (place 
 
 -- what a mark does to the lists of channel c, after the marks before it
 abbrev pub letters_step : ℕ → List ConfirmMark → ConfirmMark → Letters → Letters
-letters_step c seen (mark.Begun d) l = if d == c then renewed l else l
-letters_step c seen (mark.Settled d s) l = if d == c then attached_to_all (covered c s seen) l else l
-letters_step c seen (mark.Arrived d m) l = if d == c then arrived_in (is_selected c seen) m l else l
-letters_step c seen (mark.Taken n) l = if channel_of n seen == c then taken_out n l else l
-letters_step c seen (mark.SetAside n) l = if channel_of n seen == c then set_by n (is_done seen n) l else l
-letters_step c seen (mark.Drained d) l = if d == c then drained_letters (is_done seen) l else l
-letters_step c seen _ l = l
+letters_step c before (mark.Begun d) l = if d == c then renewed l else l
+letters_step c before (mark.Settled d s) l = if d == c then attached_to_all (covered c s before) l else l
+letters_step c before (mark.Arrived d m) l = if d == c then arrived_in (is_selected c before) m l else l
+letters_step c before (mark.Taken n) l = if channel_of n before == c then taken_out n l else l
+letters_step c before (mark.SetAside n) l = if channel_of n before == c then set_by n (is_done before n) l else l
+letters_step c before (mark.Drained d) l = if d == c then drained_letters (is_done before) l else l
+letters_step c before _ l = l
 
 abbrev pub letters_from : ℕ → List ConfirmMark → Letters → List ConfirmMark → Letters
-letters_from c seen l [] = l
-letters_from c seen l (m ∷ ms) = letters_from c (seen ++ m ∷ []) (letters_step c seen m l) ms
+letters_from c before l [] = l
+letters_from c before l (m ∷ ms) = letters_from c (before ++ m ∷ []) (letters_step c before m l) ms
 
 -- the four lists of channel c, and the messages that its confirms took
 abbrev pub letters_of : ℕ → List ConfirmMark → Letters
@@ -69,15 +69,15 @@ is_waited c ms = is_asked c ms && (nat_lt 0 (queued_count c ms) || nat_lt 0 (pen
 -- Of publish n nothing is kept from this mark on: its result was given; it was set aside resolved; or it had been set aside, is
 -- resolved, and its channel is drained or begins a new opening.
 abbrev pub goes : ℕ → List ConfirmMark → ConfirmMark → Bool
-goes n seen (mark.Taken j) = j == n
-goes n seen (mark.SetAside j) = j == n && is_done seen n
-goes n seen (mark.Drained c) = channel_of n seen == c && (is_aside n seen && is_done seen n)
-goes n seen (mark.Begun c) = channel_of n seen == c && (is_aside n seen && is_done seen n)
-goes n seen _ = false
+goes n before (mark.Taken j) = j == n
+goes n before (mark.SetAside j) = j == n && is_done before n
+goes n before (mark.Drained c) = channel_of n before == c && (is_aside n before && is_done before n)
+goes n before (mark.Begun c) = channel_of n before == c && (is_aside n before && is_done before n)
+goes n before _ = false
 
 abbrev pub goes_from : ℕ → List ConfirmMark → List ConfirmMark → Bool
-goes_from n seen [] = false
-goes_from n seen (m ∷ ms) = goes n seen m || goes_from n (seen ++ m ∷ []) ms
+goes_from n before [] = false
+goes_from n before (m ∷ ms) = goes n before m || goes_from n (before ++ m ∷ []) ms
 
 abbrev pub is_gone : ℕ → List ConfirmMark → Bool
 is_gone n ms = goes_from n [] ms

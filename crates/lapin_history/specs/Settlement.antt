@@ -1,4 +1,4 @@
--- A settlement of the broker, `basic.ack` or `basic.nack` (RabbitMQ publisher confirms). It is heard on an open channel, and still
+-- A settlement of the broker, `basic.ack` or `basic.nack` (RabbitMQ publisher confirms). It is received on an open channel, and still
 -- on one that this side is closing.
 use Rattle.std.specs.Prelude.{ℕ, codes, ◌||◌, if◌then◌else◌, List, [], ◌∷◌}
 use Rattle.lapin_types.specs.declared.record.Record.{Record}
@@ -14,18 +14,18 @@ use Rattle.lapin_history.specs.declared.phases.Closer.TheVariants as closer
 use Rattle.lapin_history.specs.ConfirmMarks.{ConfirmMark}
 use Rattle.lapin_history.specs.ConfirmMarks as mark
 use Rattle.lapin_history.specs.TicketReadings.{TicketMark}
-use Rattle.lapin_history.specs.Sight.{Sight}
-use Rattle.lapin_history.specs.Base.{Base, state_of, is_open, noted}
+use Rattle.lapin_history.specs.Readings.{Readings}
+use Rattle.lapin_history.specs.Wire.{Wire, state_of, is_open, noted}
 use Rattle.lapin_history.specs.ChannelClose.{closing, close_marks, close_tickets}
 
 -- It is passed over where the opening is not selected. A single one of a tag that is not pending is refused with the tag and the
 -- last tag taken.
-abbrev pub settlement_record : Sight → ℕ → Settlement → Record
-settlement_record see c s =
-    if see.selected c
-    then (if s.multiple || see.pending c s.tag
+abbrev pub settlement_record : Readings → ℕ → Settlement → Record
+settlement_record readings c s =
+    if readings.selected c
+    then (if s.multiple || readings.pending c s.tag
     then record_.Received
-    else record_.Refused (error.PreconditionFailed s.tag (see.last c)))
+    else record_.Refused (error.PreconditionFailed s.tag (readings.last c)))
     else record_.Passed
 
 -- one that is received settles what it covers
@@ -42,11 +42,11 @@ settle_method settle.Nack = 120
 abbrev pub session_close : SettleKind → Method
 session_close kind = method.Channel (channel.Close 406 (codes "PRECONDITION_FAILED") 60 (settle_method kind))
 
-abbrev pub after_failed_on : ℕ → Settlement → Base → Base
+abbrev pub after_failed_on : ℕ → Settlement → Wire → Wire
 after_failed_on c s b = if is_open (state_of c b) then noted c (session_close s.kind) (closing c closer.Session b) else b
 
-abbrev pub failed_marks_on : ℕ → Base → List ConfirmMark
+abbrev pub failed_marks_on : ℕ → Wire → List ConfirmMark
 failed_marks_on c b = if is_open (state_of c b) then close_marks c closer.Session else []
 
-abbrev pub failed_tickets_on : ℕ → Base → List TicketMark
+abbrev pub failed_tickets_on : ℕ → Wire → List TicketMark
 failed_tickets_on c b = if is_open (state_of c b) then close_tickets c closer.Session else []

@@ -22,7 +22,7 @@ pub data TicketMark : Type 0 where
   -- this side closes the channel's opening: its publishes that have not begun are rejected with this error
   ClosedHere : (channel : ℕ) (error : Error) → TicketMark
   -- the channel's opening ended with this error; one ticket, of a close of this side, may be kept
-  OpeningFailed : (channel : ℕ) (kept : Option ℕ) (error : Error) → TicketMark
+  OpeningFailed : (channel : ℕ) (spared : Option ℕ) (error : Error) → TicketMark
   -- the connection's close or loss resolved every open ticket with this error
   AllFailed : (error : Error) → TicketMark
   -- the answer of the ticket was given
@@ -72,16 +72,16 @@ abbrev pub begins : ℕ → TicketMark → Bool
 begins n (Begun j) = j == n
 begins n _ = false
 
-abbrev pub is_kept : ℕ → Option ℕ → Bool
-is_kept n None = false
-is_kept n (Some k) = k == n
+abbrev pub is_spared : ℕ → Option ℕ → Bool
+is_spared n None = false
+is_spared n (Some k) = k == n
 
 -- What a mark says to ticket n of channel c, with the answer that its leaving gives and whether its publish has begun.
 abbrev pub answer_by : ℕ → ℕ → AtLeaving → Bool → TicketMark → Option (Result Answer Error)
 answer_by n c l b (LastLeft j) = if j == n then option_map Ok (answer_at l) else None
 answer_by n c l b (Answered j a) = if j == n then Some a else None
 answer_by n c l b (ClosedHere d e) = if d == c && (is_publish l && not b) then Some (Err e) else None
-answer_by n c l b (OpeningFailed d kept e) = if d == c && not (is_kept n kept) then Some (Err e) else None
+answer_by n c l b (OpeningFailed d spared e) = if d == c && not (is_spared n spared) then Some (Err e) else None
 answer_by n c l b (AllFailed e) = Some (Err e)
 answer_by n c l b _ = None
 

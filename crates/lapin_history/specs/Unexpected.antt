@@ -1,4 +1,4 @@
--- A frame of the broker that is not heard closes the connection, and every opening ends (AMQP 0-9-1, reply code 505).
+-- A frame of the broker that is not received closes the connection, and every opening ends (AMQP 0-9-1, reply code 505).
 use Rattle.std.specs.Prelude.{ℕ, codes, false, List, [], ◌∷◌}
 use Rattle.lapin_types.specs.declared.record.Record.{Record}
 use Rattle.lapin_types.specs.Types.{Method, Error}
@@ -6,11 +6,11 @@ use Rattle.lapin_types.specs.declared.record.Record.TheVariants as record_
 use Rattle.lapin_types.specs.Types.method
 use Rattle.lapin_types.specs.Types.connection
 use Rattle.lapin_types.specs.Types.error
-use Rattle.lapin_history.specs.declared.phases.Link.TheVariants as link
+use Rattle.lapin_history.specs.declared.phases.ConnectionPhase.TheVariants as link
 use Rattle.lapin_history.specs.ConfirmMarks.{ConfirmMark}
 use Rattle.lapin_history.specs.TicketReadings.{TicketMark}
 use Rattle.lapin_history.specs.TicketReadings as ticket
-use Rattle.lapin_history.specs.Base.{Base, noted}
+use Rattle.lapin_history.specs.Wire.{Wire, noted}
 use Rattle.lapin_history.specs.Ends.{down, ends_all}
 
 -- it is refused with its class and method
@@ -26,10 +26,10 @@ abbrev pub unexpected_close : ℕ → ℕ → Method
 unexpected_close class number = method.Connection (connection.Close 505 (codes "UNEXPECTED_FRAME") class number)
 
 -- all that waits is dropped before it is queued
-abbrev pub after_unexpected : ℕ → ℕ → Base → Base
+abbrev pub after_unexpected : ℕ → ℕ → Wire → Wire
 after_unexpected class number b = noted 0 (unexpected_close class number) (down (link.Closing false false) b)
 
-abbrev pub unexpected_marks : Base → List ConfirmMark
+abbrev pub unexpected_marks : Wire → List ConfirmMark
 unexpected_marks b = ends_all failed_at_unexpected b
 
 abbrev pub unexpected_tickets : List TicketMark

@@ -3,19 +3,19 @@
 //! Here a frame is sorted, once for all methods; what a channel does with it is the session's.
 
 ghost use Rattle.std.specs.Prelude.{◌≡◌};
-ghost use Rattle.lapin_history.specs.Heard.{heard, heard_method, on_connection as on_connection_lem, frame_class, frame_method};
+ghost use Rattle.lapin_history.specs.Incoming.{incoming_of, incoming_method, on_connection as on_connection_lem, frame_class, frame_method};
 ghost use Rattle.lapin_types.specs.Types.method as method_;
 ghost use Rattle.lapin_history.specs.Requests.{is_kind as is_kind_lem};
 ghost use Rattle.lapin_history.specs.declared.broker_frames.Incoming.TheVariants as incoming;
 ghost use Rattle.lapin_types.specs.declared.answer.Answer.TheVariants as answer;
-ghost use Rattle.lapin_history.specs.Base.{hears_on as hears_on_lem};
+ghost use Rattle.lapin_history.specs.Wire.{receives_on as receives_on_lem};
 ghost use Rattle.lapin_history.specs.Opening.{opens as opens_lem};
-ghost use Rattle.lapin_history.specs.Reply.{hears as hears_lem};
-ghost use Rattle.lapin_history.specs.ChannelClose.{hears_close as hears_close_lem, hears_close_ok as hears_close_ok_lem};
-ghost use Rattle.lapin_history.specs.ConnectionClose.{hears_down as hears_down_lem};
+ghost use Rattle.lapin_history.specs.Reply.{receives as receives_lem};
+ghost use Rattle.lapin_history.specs.ChannelClose.{receives_close as receives_close_lem, receives_close_ok as receives_close_ok_lem};
+ghost use Rattle.lapin_history.specs.ConnectionClose.{receives_down as receives_down_lem};
 
 use crate::marks::{SettleKind, Settlement};
-use crate::phases::Link;
+use crate::phases::ConnectionPhase;
 use lapin_types::{
     AccessMethod, Answer, BasicMethod, ChannelMethod, ChannelState, ConfirmMethod,
     ConnectionMethod, ExchangeMethod, Frame, Method, Queue, QueueMethod, ReplyKind, Request,
@@ -39,13 +39,13 @@ pub enum Incoming {
     ConnectionClose(u16),
     /// The broker answers a close of the connection.
     ConnectionCloseOk,
-    /// A frame that is heard in no state.
+    /// A frame that is received in no state.
     Other,
 }
 
 /// Sorts a frame of the broker.
 pub fn sort_frame(frame: Frame) -> Incoming
-    ensures { result ≡ heard frame }
+    ensures { result ≡ incoming_of frame }
 {
     match frame {
         Frame::Method(channel, method) => sort_method(channel, method),
@@ -54,7 +54,7 @@ pub fn sort_frame(frame: Frame) -> Incoming
 }
 
 fn sort_method(channel: u16, method: Method) -> Incoming
-    ensures { result ≡ heard_method channel method }
+    ensures { result ≡ incoming_method channel method }
 {
     match method {
         Method::Connection(method) => sort_connection(channel, method),
@@ -72,7 +72,7 @@ fn sort_method(channel: u16, method: Method) -> Incoming
 }
 
 fn sort_connection(channel: u16, method: ConnectionMethod) -> Incoming
-    ensures { result ≡ heard_method channel (method_.Connection method) }
+    ensures { result ≡ incoming_method channel (method_.Connection method) }
 {
     match method {
         ConnectionMethod::Close { reply_code, .. } => {
@@ -83,7 +83,7 @@ fn sort_connection(channel: u16, method: ConnectionMethod) -> Incoming
 }
 
 fn sort_channel(channel: u16, method: ChannelMethod) -> Incoming
-    ensures { result ≡ heard_method channel (method_.Channel method) }
+    ensures { result ≡ incoming_method channel (method_.Channel method) }
 {
     match method {
         ChannelMethod::OpenOk => {
@@ -100,7 +100,7 @@ fn sort_channel(channel: u16, method: ChannelMethod) -> Incoming
 }
 
 fn sort_exchange(channel: u16, method: ExchangeMethod) -> Incoming
-    ensures { result ≡ heard_method channel (method_.Exchange method) }
+    ensures { result ≡ incoming_method channel (method_.Exchange method) }
 {
     match method {
         ExchangeMethod::DeclareOk => done(channel, ReplyKind::ExchangeDeclareOk),
@@ -112,7 +112,7 @@ fn sort_exchange(channel: u16, method: ExchangeMethod) -> Incoming
 }
 
 fn sort_queue(channel: u16, method: QueueMethod) -> Incoming
-    ensures { result ≡ heard_method channel (method_.Queue method) }
+    ensures { result ≡ incoming_method channel (method_.Queue method) }
 {
     match method {
         QueueMethod::DeclareOk {
@@ -140,7 +140,7 @@ fn sort_queue(channel: u16, method: QueueMethod) -> Incoming
 }
 
 fn sort_basic(channel: u16, method: BasicMethod) -> Incoming
-    ensures { result ≡ heard_method channel (method_.Basic method) }
+    ensures { result ≡ incoming_method channel (method_.Basic method) }
 {
     match method {
         BasicMethod::QosOk => done(channel, ReplyKind::BasicQosOk),
@@ -179,7 +179,7 @@ fn done(channel: u16, kind: ReplyKind) -> Incoming
     Incoming::Reply(channel, kind, Answer::Done)
 }
 
-// Closes of the connection are heard on its own channel alone.
+// Closes of the connection are received on its own channel alone.
 fn on_connection(channel: u16, incoming: Incoming) -> Incoming
     ensures { result ≡ on_connection_lem channel incoming }
 {
@@ -218,16 +218,16 @@ pub fn is_kind(kind: ReplyKind, request: &Request) -> bool
     request.reply.kind() == kind
 }
 
-/// Whether settlements and replies are heard in a state: on an open channel, and still on one that this side is closing.
-pub fn hears_on(state: ChannelState) -> bool
-    ensures { result ≡ hears_on_lem state }
+/// Whether settlements and replies are received in a state: on an open channel, and still on one that this side is closing.
+pub fn receives_on(state: ChannelState) -> bool
+    ensures { result ≡ receives_on_lem state }
 {
     matches!(state, ChannelState::Open | ChannelState::Closing)
 }
 
-/// Whether `channel.close` is heard in a state.
-pub fn hears_close(state: ChannelState) -> bool
-    ensures { result ≡ hears_close_lem state }
+/// Whether `channel.close` is received in a state.
+pub fn receives_close(state: ChannelState) -> bool
+    ensures { result ≡ receives_close_lem state }
 {
     matches!(
         state,
@@ -235,21 +235,21 @@ pub fn hears_close(state: ChannelState) -> bool
     )
 }
 
-/// Whether `channel.close-ok` is heard in a state.
-pub fn hears_close_ok(state: ChannelState) -> bool
-    ensures { result ≡ hears_close_ok_lem state }
+/// Whether `channel.close-ok` is received in a state.
+pub fn receives_close_ok(state: ChannelState) -> bool
+    ensures { result ≡ receives_close_ok_lem state }
 {
     matches!(state, ChannelState::Closing | ChannelState::Crossed)
 }
 
-/// Whether a frame is heard though the connection is not open: while this side closes it, `connection.close-ok` and the first
+/// Whether a frame is received though the connection is not open: while this side closes it, `connection.close-ok` and the first
 /// `connection.close`.
-pub fn hears_down(link: Link, incoming: &Incoming) -> bool
-    ensures { result ≡ hears_down_lem link incoming.now }
+pub fn receives_down(link: ConnectionPhase, incoming: &Incoming) -> bool
+    ensures { result ≡ receives_down_lem link incoming.now }
 {
     match (link, incoming) {
-        (Link::Closing { .. }, Incoming::ConnectionCloseOk) => true,
-        (Link::Closing { heard, .. }, Incoming::ConnectionClose(_)) => !heard,
+        (ConnectionPhase::Closing { .. }, Incoming::ConnectionCloseOk) => true,
+        (ConnectionPhase::Closing { received, .. }, Incoming::ConnectionClose(_)) => !received,
         _ => false,
     }
 }
@@ -261,14 +261,14 @@ pub fn opens(kind: ReplyKind) -> bool
     matches!(kind, ReplyKind::ChannelOpenOk)
 }
 
-/// Whether a reply of this kind is heard in a state: `channel.open-ok` on an opening channel, every other one where replies are
-/// heard.
-pub fn hears(kind: ReplyKind, state: ChannelState) -> bool
-    ensures { result ≡ hears_lem kind state }
+/// Whether a reply of this kind is received in a state: `channel.open-ok` on an opening channel, every other one where replies are
+/// received.
+pub fn receives(kind: ReplyKind, state: ChannelState) -> bool
+    ensures { result ≡ receives_lem kind state }
 {
     if opens(kind) {
         matches!(state, ChannelState::Opening)
     } else {
-        hears_on(state)
+        receives_on(state)
     }
 }

@@ -10,7 +10,7 @@ ghost use Rattle.lapin_history.specs.Settlement.{settle_method as settle_method_
 ghost use Rattle.lapin_history.specs.Unexpected.{unexpected_close as unexpected_close_lem};
 
 use crate::marks::SettleKind;
-use crate::phases::{Closer, Link, Phase};
+use crate::phases::{ChannelPhase, Closer, ConnectionPhase};
 use lapin_types::{
     ChannelMethod, ChannelState, ConnectionMethod, Error, Method, NoMemory, ShortString,
 };
@@ -37,48 +37,51 @@ pub fn failed_at_close_ok(closer: Closer) -> Error
 }
 
 /// The error with which `channel.close-ok` ends an opening; `None` where a crossed close ended it before.
-pub fn close_ok_end(phase: Phase) -> Option<Error>
+pub fn close_ok_end(phase: ChannelPhase) -> Option<Error>
     ensures { result ≡ close_ok_end_lem phase }
 {
     match phase {
-        Phase::Closing { closer, .. } => Some(failed_at_close_ok(closer)),
+        ChannelPhase::Closing { closer, .. } => Some(failed_at_close_ok(closer)),
         _ => None,
     }
 }
 
 /// Where a channel stands once the broker's `channel.close` came.
-pub fn after_broker_close(phase: Phase) -> Phase
+pub fn after_broker_close(phase: ChannelPhase) -> ChannelPhase
     ensures { result ≡ after_broker_close_lem phase }
 {
     match phase {
-        Phase::Closing { sent: true, .. } => Phase::Crossed,
-        _ => Phase::Closed,
+        ChannelPhase::Closing { sent: true, .. } => ChannelPhase::Crossed,
+        _ => ChannelPhase::Closed,
     }
 }
 
 /// Whether a channel is closing and this side's `channel.close` has left.
-pub fn has_sent_close(phase: Phase) -> bool
+pub fn has_sent_close(phase: ChannelPhase) -> bool
     ensures { result ≡ has_sent_close_lem phase }
 {
-    matches!(phase, Phase::Closing { sent: true, .. })
+    matches!(phase, ChannelPhase::Closing { sent: true, .. })
 }
 
 /// Where a channel stands once this side's `channel.close` left.
-pub fn close_sent(phase: Phase) -> Phase
+pub fn close_sent(phase: ChannelPhase) -> ChannelPhase
     ensures { result ≡ close_sent_lem phase }
 {
     match phase {
-        Phase::Closing { closer, .. } => Phase::Closing { closer, sent: true },
+        ChannelPhase::Closing { closer, .. } => ChannelPhase::Closing { closer, sent: true },
         phase => phase,
     }
 }
 
 /// Where the connection stands once this side's `connection.close` left.
-pub fn link_close_sent(link: Link) -> Link
+pub fn link_close_sent(link: ConnectionPhase) -> ConnectionPhase
     ensures { result ≡ link_close_sent_lem link }
 {
     match link {
-        Link::Closing { heard, .. } => Link::Closing { sent: true, heard },
+        ConnectionPhase::Closing { received, .. } => ConnectionPhase::Closing {
+            sent: true,
+            received,
+        },
         link => link,
     }
 }
@@ -98,7 +101,7 @@ pub fn session_close(alloc: Global, kind: SettleKind) -> Result<Method, NoMemory
     }))
 }
 
-/// The close of the connection on which a frame of this class and method was not heard.
+/// The close of the connection on which a frame of this class and method was not received.
 pub fn unexpected_close(alloc: Global, class: u16, number: u16) -> Result<Method, NoMemory>
     ensures { IfOk result (λ m. m ≡ unexpected_close_lem class number) }
 {

@@ -13,8 +13,8 @@ pub mod marks;
 pub mod phases;
 
 pub use broker_frames::{
-    Incoming, class_of, hears, hears_close, hears_close_ok, hears_down, hears_on, is_kind,
-    method_of, opens, sort_frame,
+    Incoming, class_of, is_kind, method_of, opens, receives, receives_close, receives_close_ok,
+    receives_down, receives_on, sort_frame,
 };
 pub use calls::{Asked, Row, is_allowed, is_select, sort_call};
 pub use closes::{
@@ -22,4 +22,4 @@ pub use closes::{
     session_close, unexpected_close,
 };
 pub use marks::{AtLeaving, Outcome, SettleKind, Settlement};
-pub use phases::{Closer, Link, Phase};
+pub use phases::{ChannelPhase, Closer, ConnectionPhase};

@@ -19,7 +19,7 @@ pub enum Closer {
 
 /// Where a channel above 0 stands while the connection is open.
 #[derive(Clone, Copy, Debug, PartialEq, Eq)]
-pub enum Phase {
+pub enum ChannelPhase {
     /// Not open.
     Closed,
     /// `channel.open` was called, and `channel.open-ok` is awaited.
@@ -42,7 +42,7 @@ pub enum Phase {
 
 /// Where the connection stands.
 #[derive(Clone, Copy, Debug, PartialEq, Eq)]
-pub enum Link {
+pub enum ConnectionPhase {
     /// In use.
     Open,
     /// A close of this side is under way.
@@ -50,7 +50,7 @@ pub enum Link {
         /// Whether this side's `connection.close` has left.
         sent: bool,
         /// Whether the broker's first `connection.close` came since.
-        heard: bool,
+        received: bool,
     },
     /// Closed by both sides.
     Closed,
@@ -58,14 +58,14 @@ pub enum Link {
     Lost,
 }
 
-impl Phase {
+impl ChannelPhase {
     /// Whether the channel has a live opening: it was opened and has not ended.
     pub fn is_live(self) -> bool
         ensures { result ≡ is_live_lem self }
     {
         matches!(
             self,
-            Phase::Opening | Phase::Open { .. } | Phase::Closing { .. }
+            ChannelPhase::Opening | ChannelPhase::Open { .. } | ChannelPhase::Closing { .. }
         )
     }
 
@@ -73,7 +73,7 @@ impl Phase {
     pub fn is_paused(self) -> bool
         ensures { result ≡ is_paused_lem self }
     {
-        matches!(self, Phase::Open { paused: true })
+        matches!(self, ChannelPhase::Open { paused: true })
     }
 
     /// The channel's state, as a caller sees it while the connection is open.
@@ -81,21 +81,21 @@ impl Phase {
         ensures { result ≡ channel_state self }
     {
         match self {
-            Phase::Closed => ChannelState::Closed,
-            Phase::Opening => ChannelState::Opening,
-            Phase::Open { .. } => ChannelState::Open,
-            Phase::Closing { .. } => ChannelState::Closing,
-            Phase::Crossed => ChannelState::Crossed,
+            ChannelPhase::Closed => ChannelState::Closed,
+            ChannelPhase::Opening => ChannelState::Opening,
+            ChannelPhase::Open { .. } => ChannelState::Open,
+            ChannelPhase::Closing { .. } => ChannelState::Closing,
+            ChannelPhase::Crossed => ChannelState::Crossed,
         }
     }
 }
 
-impl Link {
+impl ConnectionPhase {
     /// Whether the connection is open.
     pub fn is_up(self) -> bool
         ensures { result ≡ is_up_lem self }
     {
-        matches!(self, Link::Open)
+        matches!(self, ConnectionPhase::Open)
     }
 
     /// The connection's state, as a caller sees it.
@@ -103,10 +103,10 @@ impl Link {
         ensures { result ≡ connection_state self }
     {
         match self {
-            Link::Open => ConnectionState::Open,
-            Link::Closing { .. } => ConnectionState::Closing,
-            Link::Closed => ConnectionState::Closed,
-            Link::Lost => ConnectionState::Lost,
+            ConnectionPhase::Open => ConnectionState::Open,
+            ConnectionPhase::Closing { .. } => ConnectionState::Closing,
+            ConnectionPhase::Closed => ConnectionState::Closed,
+            ConnectionPhase::Lost => ConnectionState::Lost,
         }
     }
 }

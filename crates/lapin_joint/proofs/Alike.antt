@@ -5,7 +5,7 @@ use Rattle.lapin_types.specs.declared.event.Event.TheVariants as event
 use Rattle.lapin_types.specs.declared.record.Record.{Record}
 use Rattle.lapin_types.specs.declared.leaving.Left.{Left}
 use Rattle.lapin_types.specs.Types.{Frame}
-use Rattle.lapin_history.specs.Base.{Base}
+use Rattle.lapin_history.specs.Wire.{Wire}
 use Rattle.lapin_history.specs.Handing.{handed}
 use Rattle.lapin_history.specs.History.{History, past, rec}
 use Rattle.lapin_machine.specs.World.{World, told_by, new_world}
@@ -37,7 +37,7 @@ stands_on n h w e none s =
     (stands-next n h w (world.next w e) e (rec n h e) (given_none w.returned e none) s (sym (told_same n h w e none s)) refl).1
 
 handed_same : (n : ℕ) (h : History) (w : World) (e : Event) → Stands n h w → handed_by by_machine e w ≡ handed_by (by_history n) e h
-handed_same n h w (event.Next flow) s = ap (λ (b : Base). left_alone (handed flow b)) s.base
+handed_same n h w (event.Next flow) s = ap (λ (b : Wire). left_alone (handed flow b)) s.wire
 handed_same n h w _ s = refl
 
 -- ---- no step gives a frame back

@@ -71,8 +71,8 @@ new_stands n k is =
 
 pub fewer : (n m : ℕ) (w : World) → HasNumbersFor n w → m ≤ n → HasNumbersFor m w
 fewer n m w h le =
-    let t : w.base.tickets + n < 2 ^ 64 = h.tickets in
-    let p : w.base.published + n < 2 ^ 64 = h.confirms in
+    let t : w.wire.tickets + n < 2 ^ 64 = h.tickets in
+    let p : w.wire.published + n < 2 ^ 64 = h.confirms in
     record { tickets = omega arith; confirms = omega arith }
 
 chosen_numbers : (n : ℕ) (b : Bool) (j k : Joint World) → HasNumbersFor n j.session → HasNumbersFor n k.session → HasNumbersFor n (cond b j k).session

@@ -7,7 +7,7 @@ use Rattle.lapin_types.specs.declared.event.Event.TheVariants as event
 use Rattle.lapin_types.specs.declared.record.Record.{Record}
 use Rattle.lapin_types.specs.declared.leaving.Left.{Left}
 use Rattle.lapin_types.specs.Types.{Frame}
-use Rattle.lapin_history.specs.Base.{Base}
+use Rattle.lapin_history.specs.Wire.{Wire}
 use Rattle.lapin_history.specs.Handing.{handed}
 use Rattle.lapin_history.specs.History.{History, past, rec}
 use Rattle.lapin_machine.specs.World.{World, told_by}
@@ -25,15 +25,15 @@ use Rattle.lapin_joint.specs.declared.step.Reported.TheVariants as reported
 pub record Way (S : Type 0) : Type 0 where
   pub told : S → Event → Record
   pub next : S → Event → S
-  pub base : S → Base
+  pub wire : S → Wire
 
 -- as its history determines it: the record is the history's, and the history grows by the event with its record
 abbrev pub by_history : ℕ → Way History
-by_history frame_max = record { told = λ h e. rec frame_max h e; next = λ h e. h ++ (e, rec frame_max h e) ∷ []; base = λ h. (past frame_max h).base }
+by_history frame_max = record { told = λ h e. rec frame_max h e; next = λ h e. h ++ (e, rec frame_max h e) ∷ []; wire = λ h. (past frame_max h).wire }
 
 -- as the machine does it
 abbrev pub by_machine : Way World
-by_machine = record { told = λ w e. told_by w e; next = λ w e. world.next w e; base = λ w. w.base }
+by_machine = record { told = λ w e. told_by w e; next = λ w e. world.next w e; wire = λ w. w.wire }
 
 -- ---- The two sides and the frames on the way between them, oldest first.
 
@@ -61,7 +61,7 @@ left_alone (Some l) = l ∷ []
 
 -- the frame that an event hands out
 abbrev pub handed_by : {S : Type 0} → Way S → Event → S → List Left
-handed_by m (event.Next flow) s = left_alone (handed flow (m.base s))
+handed_by m (event.Next flow) s = left_alone (handed flow (m.wire s))
 handed_by m _ s = []
 
 -- an event is a step of the session; a frame that the session hands out goes to the back of the link up

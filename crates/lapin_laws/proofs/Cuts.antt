@@ -8,7 +8,7 @@ use Rattle.std.proofs.Math.Bool.{or-true}
 use Rattle.lapin_tables.specs.ByChannel.{at_channel}
 use Rattle.lapin_types.specs.Types.{Frame, Error}
 use Rattle.lapin_types.specs.declared.leaving.Publish.{Publish}
-use Rattle.lapin_history.specs.declared.phases.Phase.{Phase}
+use Rattle.lapin_history.specs.declared.phases.ChannelPhase.{ChannelPhase}
 use Rattle.lapin_history.specs.Phases.{is_live, phase_in}
 use Rattle.lapin_history.specs.Frames.{RestEntry}
 use Rattle.lapin_history.specs.Drops.{frame_channel, is_rest_of}
@@ -62,7 +62,7 @@ pub ended-ends : (e : Error) (cs : List ℕ) → ended_in (ends e cs) ≡ cs
 ended-ends e [] = refl
 ended-ends e (c ∷ cs) = ap (λ ds. c ∷ ds) (ended-ends e cs)
 
-live-below : (n c : ℕ) (all : List (ℕ × Phase)) → c < n → live_at c all ≡ true → list_any (is_channel c) (live_below n all) ≡ true
+live-below : (n c : ℕ) (all : List (ℕ × ChannelPhase)) → c < n → live_at c all ≡ true → list_any (is_channel c) (live_below n all) ≡ true
 live-below zero c all lt h = absurd (omega arith)
 live-below (suc n) c all lt h =
     list_any-append (is_channel c) (live_below n all) (cond (live_at n all) (n ∷ []) []) ∙
@@ -77,7 +77,7 @@ live-below (suc n) c all lt h =
     ]
 
 -- each channel with a live opening is among them
-pub live-in : (c : ℕ) (all : List (ℕ × Phase)) → live_at c all ≡ true → list_any (is_channel c) (live_channels all) ≡ true
+pub live-in : (c : ℕ) (all : List (ℕ × ChannelPhase)) → live_at c all ≡ true → list_any (is_channel c) (live_channels all) ≡ true
 live-in c all h = elim (cases_lt c (beyond all)) [
   | inl less ↦ live-below (beyond all) c all less h
   | inr more ↦

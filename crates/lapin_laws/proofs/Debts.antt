@@ -22,10 +22,10 @@ use Rattle.lapin_types.specs.Types.channel
 use Rattle.lapin_history.specs.declared.marks.AtLeaving.{AtLeaving}
 use Rattle.lapin_history.specs.declared.marks.AtLeaving.TheVariants as leaving
 use Rattle.lapin_history.specs.declared.calls.Asked.{Asked}
-use Rattle.lapin_history.specs.declared.phases.Phase.{Phase}
-use Rattle.lapin_history.specs.declared.phases.Phase.TheVariants as phase
-use Rattle.lapin_history.specs.declared.phases.Link.{Link}
-use Rattle.lapin_history.specs.declared.phases.Link.TheVariants as link
+use Rattle.lapin_history.specs.declared.phases.ChannelPhase.{ChannelPhase}
+use Rattle.lapin_history.specs.declared.phases.ChannelPhase.TheVariants as phase
+use Rattle.lapin_history.specs.declared.phases.ConnectionPhase.{ConnectionPhase}
+use Rattle.lapin_history.specs.declared.phases.ConnectionPhase.TheVariants as link
 use Rattle.lapin_history.specs.declared.phases.Closer.TheVariants as closer
 use Rattle.lapin_history.specs.declared.broker_frames.Incoming.{Incoming}
 use Rattle.lapin_history.specs.declared.broker_frames.Incoming.TheVariants as incoming
@@ -34,21 +34,21 @@ use Rattle.lapin_history.specs.TicketReadings as ticket
 use Rattle.lapin_history.specs.Words.{with_channel}
 use Rattle.lapin_history.specs.Phases.{is_lost}
 use Rattle.lapin_history.specs.Calls.{asked, unless_nowait}
-use Rattle.lapin_history.specs.Heard.{heard}
+use Rattle.lapin_history.specs.Incoming.{incoming_of}
 use Rattle.lapin_history.specs.Requests.{first_request, close_alone, no_requests, without_kind, is_kind, resolved_with}
 use Rattle.lapin_history.specs.Ends.{down, end_tickets}
-use Rattle.lapin_history.specs.Base.{Base, state_of, phase_of, requests_of, is_open, requests_with, noted}
+use Rattle.lapin_history.specs.Wire.{Wire, state_of, phase_of, requests_of, is_open, requests_with, noted}
 use Rattle.lapin_history.specs.ChannelClose.{has_sent_close, closing, close_tickets, close_ticket, close_ok_end, after_close_ok, failed_at_close, failed_at_close_ok}
 use Rattle.lapin_history.specs.ConnectionClose.{after_connection_close, connection_close_tickets}
 use Rattle.lapin_history.specs.Settlement.{session_close}
 use Rattle.lapin_history.specs.Polls.{is_answer, is_aside}
 use Rattle.lapin_history.specs.Asking.{is_allowed, after_call, made_marks, call_tickets}
 use Rattle.lapin_history.specs.Handing.{sent, handed, left_tickets, begun_ticket, last_ticket}
-use Rattle.lapin_history.specs.Hearing.{after_received, received_tickets, after_failed, failed_tickets, after_refused, refused_tickets, after_heard, heard_tickets}
+use Rattle.lapin_history.specs.Receiving.{after_received, received_tickets, after_failed, failed_tickets, after_refused, refused_tickets, after_incoming, incoming_tickets}
 use Rattle.lapin_history.specs.History.{History}
 use Rattle.lapin_ticket.specs.declared.Slot.{Slot}
 use Rattle.lapin_ticket.specs.declared.Slot.TheVariants as slot
-use Rattle.lapin_ticket.specs.Desk.{after_mark}
+use Rattle.lapin_ticket.specs.Slots.{after_mark}
 use Rattle.lapin_machine.specs.Stands.{Stands}
 use Rattle.lapin_machine.specs.World.{World, new_world, next, next_anew, told_by, told_anew}
 use Rattle.lapin_machine.proofs.Back.{given_none, next_none, still_none}
@@ -58,7 +58,7 @@ use Rattle.lapin_laws.proofs.Traces.{stands_new, stands_next}
 use Rattle.lapin_laws.proofs.Opens.{IsOpen, open_resolved, open_begun, open_left, open_closed, open_gone}
 use Rattle.lapin_laws.proofs.Owing.{Table, Owed, in_alone, Fewer, same, asks, gives, makes, answers, answers_on, ends_one, falls}
 
-abbrev Owes : Base → List (Option Slot) → Type 0
+abbrev Owes : Wire → List (Option Slot) → Type 0
 Owes b slots = Owed b.requests slots
 
 module _ (slots : List (Option Slot)) where
@@ -80,11 +80,11 @@ module _ (slots : List (Option Slot)) where
 -- ---- calls
 
 abbrev CallOwes : ℕ → Asked → Type 0
-CallOwes c k = (b : Base) (slots : List (Option Slot)) → b.tickets ≡ length slots → Owes b slots → Owes (after_call c k b) (fold after_mark slots (call_tickets c k b))
+CallOwes c k = (b : Wire) (slots : List (Option Slot)) → b.tickets ≡ length slots → Owes b slots → Owes (after_call c k b) (fold after_mark slots (call_tickets c k b))
 
 -- a line of the table of calls: the reply that it awaits, the answer that it makes, and that of its leaving
 abbrev RowOwes : ℕ → Option Reply → Option Answer → AtLeaving → Type 0
-RowOwes c r made at = (b : Base) (slots : List (Option Slot)) → b.tickets ≡ length slots → Owes b slots → Owed (requests_with c (b.tickets + 1) r b.requests) (fold after_mark slots (ticket.Given c at ∷ made_marks (b.tickets + 1) made))
+RowOwes c r made at = (b : Wire) (slots : List (Option Slot)) → b.tickets ≡ length slots → Owes b slots → Owed (requests_with c (b.tickets + 1) r b.requests) (fold after_mark slots (ticket.Given c at ∷ made_marks (b.tickets + 1) made))
 
 awaits : (c : ℕ) (r : Reply) → RowOwes c (Some r) None leaving.Nothing
 awaits c r b slots n h = asks b.requests slots b.tickets c n h r
@@ -136,7 +136,7 @@ call_owes c call.TxSelect = awaits c _
 call_owes c call.TxCommit = awaits c _
 call_owes c call.TxRollback = awaits c _
 
-choose : (t : Bool) (x y : Base) (ms ns : List TicketMark) (slots : List (Option Slot)) → Owes x (fold after_mark slots ms) → Owes y (fold after_mark slots ns) → Owes (cond t x y) (fold after_mark slots (cond t ms ns))
+choose : (t : Bool) (x y : Wire) (ms ns : List TicketMark) (slots : List (Option Slot)) → Owes x (fold after_mark slots ms) → Owes y (fold after_mark slots ns) → Owes (cond t x y) (fold after_mark slots (cond t ms ns))
 choose true x y ms ns slots h k = h
 choose false x y ms ns slots h k = k
 
@@ -147,13 +147,13 @@ joined [] ns slots = refl
 joined (m ∷ ms) ns slots = joined ms ns (after_mark slots m)
 
 -- the requests of the channel go, after the close's ticket was answered
-all_go : (c : ℕ) (o : Option ℕ) (x : Error) (b : Base) (slots : List (Option Slot)) → Owes b slots → Owed (on_channel c no_requests b.requests) (after_mark (fold after_mark slots (resolved_with (Ok answer.Done) o)) (ticket.OpeningFailed c None x))
+all_go : (c : ℕ) (o : Option ℕ) (x : Error) (b : Wire) (slots : List (Option Slot)) → Owes b slots → Owed (on_channel c no_requests b.requests) (after_mark (fold after_mark slots (resolved_with (Ok answer.Done) o)) (ticket.OpeningFailed c None x))
 all_go c o x b slots h = ends_one c None x no_requests b.requests _ refl (λ n e. absurd cc) (same b.requests slots _ (answered_fewer slots o) h)
 
-one_goes : (c : ℕ) (b : Base) (slots : List (Option Slot)) → Owes b slots → Owed (on_channel c (without_kind reply_kind.ChannelCloseOk) b.requests) (fold after_mark slots (resolved_with (Ok answer.Done) (close_ticket c b) ++ []))
+one_goes : (c : ℕ) (b : Wire) (slots : List (Option Slot)) → Owes b slots → Owed (on_channel c (without_kind reply_kind.ChannelCloseOk) b.requests) (fold after_mark slots (resolved_with (Ok answer.Done) (close_ticket c b) ++ []))
 one_goes c b slots h = subst (Owed (on_channel c (without_kind reply_kind.ChannelCloseOk) b.requests)) (sym (joined (resolved_with (Ok answer.Done) (close_ticket c b)) [] slots)) (answers_on c (is_kind reply_kind.ChannelCloseOk) (Ok answer.Done) b.requests slots h)
 
-close_ok_owes : (c : ℕ) (p : Phase) (b : Base) (slots : List (Option Slot)) → Owes b slots → Owes (after_close_ok c p b) (fold after_mark slots (resolved_with (Ok answer.Done) (close_ticket c b) ++ end_tickets c (close_ok_end p)))
+close_ok_owes : (c : ℕ) (p : ChannelPhase) (b : Wire) (slots : List (Option Slot)) → Owes b slots → Owes (after_close_ok c p b) (fold after_mark slots (resolved_with (Ok answer.Done) (close_ticket c b) ++ end_tickets c (close_ok_end p)))
 close_ok_owes c (phase.Closing who s) b slots h = subst (Owed (on_channel c no_requests b.requests)) (sym (joined (resolved_with (Ok answer.Done) (close_ticket c b)) (ticket.OpeningFailed c None (failed_at_close_ok who) ∷ []) slots)) (all_go c (close_ticket c b) (failed_at_close_ok who) b slots h)
 close_ok_owes c phase.Closed b slots h = one_goes c b slots h
 close_ok_owes c phase.Opening b slots h = one_goes c b slots h
@@ -162,7 +162,7 @@ close_ok_owes c phase.Crossed b slots h = one_goes c b slots h
 
 -- ---- frames of the broker
 
-module _ (b : Base) (slots : List (Option Slot)) (h : Owes b slots) where
+module _ (b : Wire) (slots : List (Option Slot)) (h : Owes b slots) where
   kept_none : (s : Bool) → cond s (close_alone []) (no_requests []) ≡ []
   kept_none true = refl
   kept_none false = refl
@@ -195,7 +195,7 @@ module _ (b : Base) (slots : List (Option Slot)) (h : Owes b slots) where
   refused_owes i error.AlreadyTaken = h
   refused_owes i error.UnknownTicket = h
 
-  connection_owes : (code : ℕ) (l : Link) → Owes (after_connection_close l b) (fold after_mark slots (connection_close_tickets l code))
+  connection_owes : (code : ℕ) (l : ConnectionPhase) → Owes (after_connection_close l b) (fold after_mark slots (connection_close_tickets l code))
   connection_owes code link.Open = falls _ [] slots
   connection_owes code (link.Closing true x) = h
   connection_owes code (link.Closing false x) = falls _ [] slots
@@ -206,7 +206,7 @@ module _ (b : Base) (slots : List (Option Slot)) (h : Owes b slots) where
   lost_owes true = h
   lost_owes false = falls _ [] slots
 
-  flow_owes : (t : Bool) (x : Base) → x.requests ≡ b.requests → Owes (cond t x b) slots
+  flow_owes : (t : Bool) (x : Wire) → x.requests ≡ b.requests → Owes (cond t x b) slots
   flow_owes true x e = subst (λ rs. Owed rs slots) (sym e) h
   flow_owes false x e = h
 
@@ -220,20 +220,20 @@ module _ (b : Base) (slots : List (Option Slot)) (h : Owes b slots) where
   received_owes incoming.ConnectionCloseOk = answers_on 0 (is_kind reply_kind.ConnectionCloseOk) (Ok answer.Done) b.requests slots h
   received_owes incoming.Other = h
 
-  heard_owes : (i : Incoming) (r : Record) → Owes (after_heard i r b) (fold after_mark slots (heard_tickets i r b))
-  heard_owes i (record_.Refused x) = refused_owes i x
-  heard_owes i record_.Received = received_owes i
-  heard_owes i (record_.Ticket n) = h
-  heard_owes i (record_.Publish t n) = h
-  heard_owes i (record_.Frame f) = h
-  heard_owes i record_.NoFrame = h
-  heard_owes i record_.Passed = h
-  heard_owes i record_.Pending = h
-  heard_owes i (record_.Answer a) = h
-  heard_owes i (record_.Confirmed o) = h
-  heard_owes i (record_.State x y) = h
-  heard_owes i record_.Aside = h
-  heard_owes i record_.Lost = h
+  incoming_owes : (i : Incoming) (r : Record) → Owes (after_incoming i r b) (fold after_mark slots (incoming_tickets i r b))
+  incoming_owes i (record_.Refused x) = refused_owes i x
+  incoming_owes i record_.Received = received_owes i
+  incoming_owes i (record_.Ticket n) = h
+  incoming_owes i (record_.Publish t n) = h
+  incoming_owes i (record_.Frame f) = h
+  incoming_owes i record_.NoFrame = h
+  incoming_owes i record_.Passed = h
+  incoming_owes i record_.Pending = h
+  incoming_owes i (record_.Answer a) = h
+  incoming_owes i (record_.Confirmed o) = h
+  incoming_owes i (record_.State x y) = h
+  incoming_owes i record_.Aside = h
+  incoming_owes i record_.Lost = h
 
 -- ---- a frame leaves, or a ticket is let go
 
@@ -248,7 +248,7 @@ last_owes rs slots true (Some t) h = same rs slots _ (left_fewer slots t) h
 last_owes rs slots true None h = h
 last_owes rs slots false t h = h
 
-left_owes : (o : Option Left) (b : Base) (slots : List (Option Slot)) → Owes b slots → Owes (sent o b) (fold after_mark slots (left_tickets o))
+left_owes : (o : Option Left) (b : Wire) (slots : List (Option Slot)) → Owes b slots → Owes (sent o b) (fold after_mark slots (left_tickets o))
 left_owes None b slots h = h
 left_owes (Some l) b slots h = subst (Owed b.requests) (sym (joined (begun_ticket l.first l.ticket l.publish) (last_ticket l.last l.ticket) slots)) (last_owes b.requests _ l.last l.ticket (begun_owes b.requests slots l.first l.ticket l.publish h))
 
@@ -258,26 +258,26 @@ gone_owes false n m rs slots e h = h
 
 -- ---- every event
 
-owes-anew : (w : World) (e : Event) → w.base.tickets ≡ length w.slots → Owes w.base w.slots → Owes (next_anew w e).base (next_anew w e).slots
-owes-anew w (event.Call c k) n h = choose (is_allowed (asked k) (state_of c w.base)) (after_call c (asked k) w.base) w.base (call_tickets c (asked k) w.base) [] w.slots (call_owes c k w.base w.slots n h) h
-owes-anew w (event.Next flow) n h = left_owes (handed flow w.base) _ w.slots h
-owes-anew w (event.Receive f) n h = heard_owes w.base w.slots h (heard f) (told_anew w (event.Receive f))
-owes-anew w (event.PollTicket m) n h = gone_owes (is_answer (told_anew w (event.PollTicket m))) m (ticket.Collected m) w.base.requests w.slots refl h
+owes-anew : (w : World) (e : Event) → w.wire.tickets ≡ length w.slots → Owes w.wire w.slots → Owes (next_anew w e).wire (next_anew w e).slots
+owes-anew w (event.Call c k) n h = choose (is_allowed (asked k) (state_of c w.wire)) (after_call c (asked k) w.wire) w.wire (call_tickets c (asked k) w.wire) [] w.slots (call_owes c k w.wire w.slots n h) h
+owes-anew w (event.Next flow) n h = left_owes (handed flow w.wire) _ w.slots h
+owes-anew w (event.Receive f) n h = incoming_owes w.wire w.slots h (incoming_of f) (told_anew w (event.Receive f))
+owes-anew w (event.PollTicket m) n h = gone_owes (is_answer (told_anew w (event.PollTicket m))) m (ticket.Collected m) w.wire.requests w.slots refl h
 owes-anew w (event.PollConfirm m) n h = h
-owes-anew w (event.AsideTicket m) n h = gone_owes (is_aside (told_anew w (event.AsideTicket m))) m (ticket.SetAside m) w.base.requests w.slots refl h
+owes-anew w (event.AsideTicket m) n h = gone_owes (is_aside (told_anew w (event.AsideTicket m))) m (ticket.SetAside m) w.wire.requests w.slots refl h
 owes-anew w (event.State c) n h = h
-owes-anew w event.Lost n h = lost_owes w.base w.slots h (is_lost w.base.link)
+owes-anew w event.Lost n h = lost_owes w.wire w.slots h (is_lost w.wire.link)
 
-owes_from : (n : ℕ) (h : History) (w : World) (es : List Event) → w.returned ≡ None → Stands n h w → Owes w.base w.slots → Owes (fold next w es).base (fold next w es).slots
+owes_from : (n : ℕ) (h : History) (w : World) (es : List Event) → w.returned ≡ None → Stands n h w → Owes w.wire w.slots → Owes (fold next w es).wire (fold next w es).slots
 owes_from n h w [] none stands o = o
 owes_from n h w (e ∷ es) none stands o =
-    let count : w.base.tickets ≡ length w.slots = stands.tickets.given ∙ sym stands.tickets.kept.count in
-    let P : World → Type 0 = λ v. Owes v.base v.slots in
+    let count : w.wire.tickets ≡ length w.slots = stands.tickets.given ∙ sym stands.tickets.kept.count in
+    let P : World → Type 0 = λ v. Owes v.wire v.slots in
     owes_from n (h ++ (e, told_by w e) ∷ []) (next w e) es (still_none w e none) (stands_next n h w e (given_none w.returned e none) stands) (subst P (sym (next_none w e none)) (owes-anew w e count o))
 
 none_given : (n : ℕ) (c : ℕ) (g : Bool) → IsOpen n [] c leaving.Nothing g → ⊥
 none_given zero c g x = cc
 none_given (suc n) c g x = cc
 
-pub owed_after : (n : ℕ) (es : List Event) (t c : ℕ) (g : Bool) → under t (world_after n es).slots ≡ Some (slot.Open c leaving.Nothing g) → IsRequested t c (world_after n es).base
+pub owed_after : (n : ℕ) (es : List Event) (t c : ℕ) (g : Bool) → under t (world_after n es).slots ≡ Some (slot.Open c leaving.Nothing g) → IsRequested t c (world_after n es).wire
 owed_after n es = owes_from n [] (new_world n) es refl (stands_new n) (λ t c g x. absurd (none_given t c g x))

@@ -19,18 +19,18 @@ use Rattle.lapin_history.specs.TicketReadings.{TicketMark, is_collected, answer_
 use Rattle.lapin_history.specs.ConfirmReadings.{is_taken, outcome_at}
 use Rattle.lapin_history.specs.Calls.{asked}
 use Rattle.lapin_history.specs.Phases.{is_up}
-use Rattle.lapin_history.specs.Heard.{heard, frame_class, frame_method}
-use Rattle.lapin_history.specs.Sight.{Sight}
-use Rattle.lapin_history.specs.Base.{Base, state_of, hears_on}
-use Rattle.lapin_history.specs.ChannelClose.{hears_close, hears_close_ok}
-use Rattle.lapin_history.specs.ConnectionClose.{hears_down}
-use Rattle.lapin_history.specs.Reply.{hears_reply}
+use Rattle.lapin_history.specs.Incoming.{incoming_of, frame_class, frame_method}
+use Rattle.lapin_history.specs.Readings.{Readings}
+use Rattle.lapin_history.specs.Wire.{Wire, state_of, receives_on}
+use Rattle.lapin_history.specs.ChannelClose.{receives_close, receives_close_ok}
+use Rattle.lapin_history.specs.ConnectionClose.{receives_down}
+use Rattle.lapin_history.specs.Reply.{receives_reply}
 use Rattle.lapin_history.specs.Unexpected.{refused}
 use Rattle.lapin_history.specs.Polls.{confirmed}
 use Rattle.lapin_history.specs.Asking.{is_allowed, accepted_record, call_record}
-use Rattle.lapin_history.specs.Hearing.{heard_up, heard_record}
+use Rattle.lapin_history.specs.Receiving.{incoming_up, incoming_record}
 use Rattle.lapin_history.specs.Events.{confirm_marks, record_of}
-use Rattle.lapin_history.specs.History.{History, Past, longer, past, rec, run_from, run, polled_outcome, was_added, confirm_poll, polled_answer, was_given, ticket_poll, ticket_aside, sight_of}
+use Rattle.lapin_history.specs.History.{History, Past, longer, past, rec, run_from, run, polled_outcome, was_added, confirm_poll, polled_answer, was_given, ticket_poll, ticket_aside, readings_of}
 use Rattle.lapin_machine.proofs.Standing.{past-push}
 use Rattle.lapin_laws.specs.Outgoing.{Point, Called, Requested, Ended, called_by, given_by, requested_by, ended_in, points_on, points, given_in, frames_in}
 
@@ -43,22 +43,22 @@ either : (t : Bool) (x y : Record) → IsNoFrame x → IsNoFrame y → IsNoFrame
 either true x y h k = h
 either false x y h k = k
 
-accepted_none : (k : Asked) (b : Base) → IsNoFrame (accepted_record k b)
+accepted_none : (k : Asked) (b : Wire) → IsNoFrame (accepted_record k b)
 accepted_none ask.Open b = refl
 accepted_none (ask.CloseChannel code text) b = refl
 accepted_none (ask.CloseConnection code text) b = refl
 accepted_none (ask.Publish exchange key o payload properties) b = refl
 accepted_none (ask.Method row) b = refl
 
-heard_none : (b : Base) (see : Sight) (class number : ℕ) (i : Incoming) → IsNoFrame (heard_up b see (refused class number) i)
-heard_none b see class number (incoming.Reply c k a) = either (hears_reply c k b) record_.Received (refused class number) refl refl
-heard_none b see class number (incoming.Settlement c s) = either (hears_on (state_of c b)) _ (refused class number) (either (see.selected c) _ record_.Passed (either (s.multiple || see.pending c s.tag) record_.Received _ refl refl) refl) refl
-heard_none b see class number (incoming.Flow c active) = either (hears_on (state_of c b)) record_.Received (refused class number) refl refl
-heard_none b see class number (incoming.ChannelClose c code) = either (hears_close (state_of c b)) record_.Received (refused class number) refl refl
-heard_none b see class number (incoming.ChannelCloseOk c) = either (hears_close_ok (state_of c b)) record_.Received (refused class number) refl refl
-heard_none b see class number (incoming.ConnectionClose code) = refl
-heard_none b see class number incoming.ConnectionCloseOk = refl
-heard_none b see class number incoming.Other = refl
+incoming_none : (b : Wire) (readings : Readings) (class number : ℕ) (i : Incoming) → IsNoFrame (incoming_up b readings (refused class number) i)
+incoming_none b readings class number (incoming.Reply c k a) = either (receives_reply c k b) record_.Received (refused class number) refl refl
+incoming_none b readings class number (incoming.Settlement c s) = either (receives_on (state_of c b)) _ (refused class number) (either (readings.selected c) _ record_.Passed (either (s.multiple || readings.pending c s.tag) record_.Received _ refl refl) refl) refl
+incoming_none b readings class number (incoming.Flow c active) = either (receives_on (state_of c b)) record_.Received (refused class number) refl refl
+incoming_none b readings class number (incoming.ChannelClose c code) = either (receives_close (state_of c b)) record_.Received (refused class number) refl refl
+incoming_none b readings class number (incoming.ChannelCloseOk c) = either (receives_close_ok (state_of c b)) record_.Received (refused class number) refl refl
+incoming_none b readings class number (incoming.ConnectionClose code) = refl
+incoming_none b readings class number incoming.ConnectionCloseOk = refl
+incoming_none b readings class number incoming.Other = refl
 
 confirmed_none : (o : Outcome) → IsNoFrame (confirmed o)
 confirmed_none outcome.NotRequested = refl
@@ -100,12 +100,12 @@ given_next : (o : Option Frame) (ps : List Point) (fs : List Frame) → given_in
 given_next None ps fs h = h
 given_next (Some f) ps fs h = ap (λ gs. f ∷ gs) h
 
-given_requested : (b : Base) (ms : List ConfirmMark) (ts : List TicketMark) (e : Event) (ps : List Point) (rs : List Record) → given_in ps ≡ frames_in rs → given_in (requested_by e (record_of b (sight_of ms ts) e) ++ ps) ≡ frames_in (record_of b (sight_of ms ts) e ∷ rs)
+given_requested : (b : Wire) (ms : List ConfirmMark) (ts : List TicketMark) (e : Event) (ps : List Point) (rs : List Record) → given_in ps ≡ frames_in rs → given_in (requested_by e (record_of b (readings_of ms ts) e) ++ ps) ≡ frames_in (record_of b (readings_of ms ts) e ∷ rs)
 given_requested b ms ts (event.Call c k) ps rs h = quiet (call_record c (asked k) b) ps rs (either (is_allowed (asked k) (state_of c b)) (accepted_record (asked k) b) _ (accepted_none (asked k) b) refl) h
-given_requested b ms ts (event.Next flow) ps rs h = given_next (given_by (record_of b (sight_of ms ts) (event.Next flow))) ps (frames_in rs) h
+given_requested b ms ts (event.Next flow) ps rs h = given_next (given_by (record_of b (readings_of ms ts) (event.Next flow))) ps (frames_in rs) h
 given_requested b ms ts (event.Receive f) ps rs h =
     let no : Record = refused (frame_class f) (frame_method f) in
-    quiet (heard_record b (sight_of ms ts) no (heard f)) ps rs (either (is_up b.link) _ _ (heard_none b (sight_of ms ts) (frame_class f) (frame_method f) (heard f)) (either (hears_down b.link (heard f)) record_.Received record_.Passed refl refl)) h
+    quiet (incoming_record b (readings_of ms ts) no (incoming_of f)) ps rs (either (is_up b.link) _ _ (incoming_none b (readings_of ms ts) (frame_class f) (frame_method f) (incoming_of f)) (either (receives_down b.link (incoming_of f)) record_.Received record_.Passed refl refl)) h
 given_requested b ms ts (event.PollTicket n) ps rs h = quiet (ticket_poll ts n) ps rs (ticket_none ts n) h
 given_requested b ms ts (event.PollConfirm n) ps rs h = quiet (confirm_poll ms n) ps rs (confirm_none ms n) h
 given_requested b ms ts (event.AsideTicket n) ps rs h = quiet (ticket_aside ts n) ps rs (aside_none ts n) h
@@ -121,8 +121,8 @@ given-run n h (e ∷ es) =
     let more : History = zip es (run_from n h' es) in
     let ps : List Point = points_on (longer before e r) more in
     let rest : given_in ps ≡ frames_in (run_from n h' es) = subst (λ q. given_in (points_on q more) ≡ frames_in (run_from n h' es)) (past-push _ h e r) (given-run n h' es) in
-    given-ends (ended_in (confirm_marks before.base e r)) (map Called (called_by e r) ++ (requested_by e r ++ ps))
-    ∙ (given-calls (called_by e r) (requested_by e r ++ ps) ∙ given_requested before.base before.confirms before.tickets e ps (run_from n h' es) rest)
+    given-ends (ended_in (confirm_marks before.wire e r)) (map Called (called_by e r) ++ (requested_by e r ++ ps))
+    ∙ (given-calls (called_by e r) (requested_by e r ++ ps) ∙ given_requested before.wire before.confirms before.tickets e ps (run_from n h' es) rest)
 
 pub given_are : (n : ℕ) (es : List Event) → given_in (points n (zip es (run n es))) ≡ frames_in (run n es)
 given_are n es = given-run n [] es

@@ -13,16 +13,16 @@ use Rattle.lapin_types.specs.Types.method
 use Rattle.lapin_types.specs.Types.connection
 use Rattle.lapin_types.specs.Types.channel
 use Rattle.lapin_history.specs.ConfirmMarks as mark
-use Rattle.lapin_history.specs.declared.phases.Phase.{Phase}
-use Rattle.lapin_history.specs.declared.phases.Link.{Link}
-use Rattle.lapin_history.specs.declared.phases.Link.TheVariants as link
+use Rattle.lapin_history.specs.declared.phases.ChannelPhase.{ChannelPhase}
+use Rattle.lapin_history.specs.declared.phases.ConnectionPhase.{ConnectionPhase}
+use Rattle.lapin_history.specs.declared.phases.ConnectionPhase.TheVariants as link
 use Rattle.lapin_history.specs.Phases.{is_up, is_lost}
 use Rattle.lapin_history.specs.ConnectionClose.{link_close_sent, link_sent}
 use Rattle.lapin_history.specs.ChannelClose.{close_sent, phases_sent}
 use Rattle.lapin_history.specs.Select.{is_select}
 use Rattle.lapin_history.specs.Frames.{left_rest, left_method, left_publish, MethodEntry, RestEntry, rest_of, behind, contents, content_header, bodies, cut, room_for_body, publish_method}
-use Rattle.lapin_history.specs.Sight.{Sight}
-use Rattle.lapin_history.specs.Base.{Base}
+use Rattle.lapin_history.specs.Readings.{Readings}
+use Rattle.lapin_history.specs.Wire.{Wire}
 use Rattle.lapin_history.specs.Flow.{may_begin}
 use Rattle.lapin_history.specs.Handing.{frame_record, after_handing, after_next, handed, handed_out, frame_marks, entry_marks, left_marks}
 use Rattle.lapin_history.specs.Events.{record_of, after_event, confirm_marks}
@@ -34,14 +34,14 @@ use Rattle.lapin_laws.proofs.Alive.{live_at, live-sent, Alive, Grows, AreAlive, 
 use Rattle.lapin_laws.proofs.Closes.{AreMarked, marks_sent}
 use Rattle.lapin_laws.proofs.Parts.{IsPart, Behind, part-first}
 use Rattle.lapin_laws.proofs.Cuts.{frames_of, cut_at, parses-ends, parses-calls}
-use Rattle.lapin_laws.proofs.Moving.{ArePlain, Sound, Moves, call_event, heard_event, lost_event, ticket_event, aside_event, confirm_event, state_event}
+use Rattle.lapin_laws.proofs.Moving.{ArePlain, Sound, Moves, call_event, incoming_event, lost_event, ticket_event, aside_event, confirm_event, state_event}
 
 -- ---- a frame that leaves
 
-abbrev Moved : Frame → List (ℕ × Phase) → Type 0
+abbrev Moved : Frame → List (ℕ × ChannelPhase) → Type 0
 Moved f ps = (phases_sent f ps ≡ ps) ⊎ ((c : ℕ) × (phases_sent f ps ≡ on_channel c close_sent ps))
 
-phases_move : (f : Frame) (ps : List (ℕ × Phase)) → Moved f ps
+phases_move : (f : Frame) (ps : List (ℕ × ChannelPhase)) → Moved f ps
 phases_move (frame.Method c (method.Channel (channel.Close code text class number))) ps = inr (c, refl)
 phases_move (frame.Method c (method.Channel _)) ps = inl refl
 phases_move (frame.Method c (method.Connection m)) ps = inl refl
@@ -54,12 +54,12 @@ phases_move (frame.Method c (method.Tx m)) ps = inl refl
 phases_move (frame.Header c h) ps = inl refl
 phases_move (frame.Body c bytes) ps = inl refl
 
-quiet_phases : (f : Frame) (ps : List (ℕ × Phase)) → is_method f ≡ false → phases_sent f ps ≡ ps
+quiet_phases : (f : Frame) (ps : List (ℕ × ChannelPhase)) → is_method f ≡ false → phases_sent f ps ≡ ps
 quiet_phases (frame.Method c m) ps h = cc
 quiet_phases (frame.Header c h) ps e = refl
 quiet_phases (frame.Body c bytes) ps e = refl
 
-link_move : (f : Frame) (l : Link) → (link_sent f l ≡ l) ⊎ (link_sent f l ≡ link_close_sent l)
+link_move : (f : Frame) (l : ConnectionPhase) → (link_sent f l ≡ l) ⊎ (link_sent f l ≡ link_close_sent l)
 link_move (frame.Method c (method.Connection (connection.Close code text class number))) l = inr refl
 link_move (frame.Method c (method.Connection connection.CloseOk)) l = inl refl
 link_move (frame.Method c (method.Channel m)) l = inl refl
@@ -72,28 +72,28 @@ link_move (frame.Method c (method.Tx m)) l = inl refl
 link_move (frame.Header c h) l = inl refl
 link_move (frame.Body c bytes) l = inl refl
 
-up_close : (l : Link) → is_up (link_close_sent l) ≡ is_up l
+up_close : (l : ConnectionPhase) → is_up (link_close_sent l) ≡ is_up l
 up_close link.Open = refl
 up_close (link.Closing s h) = refl
 up_close link.Closed = refl
 up_close link.Lost = refl
 
-lost_close : (l : Link) → is_lost (link_close_sent l) ≡ is_lost l
+lost_close : (l : ConnectionPhase) → is_lost (link_close_sent l) ≡ is_lost l
 lost_close link.Open = refl
 lost_close (link.Closing s h) = refl
 lost_close link.Closed = refl
 lost_close link.Lost = refl
 
-pub up_sent : (f : Frame) (l : Link) → is_up (link_sent f l) ≡ is_up l
+pub up_sent : (f : Frame) (l : ConnectionPhase) → is_up (link_sent f l) ≡ is_up l
 up_sent f l = elim (link_move f l) [ inl e ↦ ap is_up e | inr e ↦ ap is_up e ∙ up_close l ]
 
-pub lost_sent : (f : Frame) (l : Link) → is_lost (link_sent f l) ≡ is_lost l
+pub lost_sent : (f : Frame) (l : ConnectionPhase) → is_lost (link_sent f l) ≡ is_lost l
 lost_sent f l = elim (link_move f l) [ inl e ↦ ap is_lost e | inr e ↦ ap is_lost e ∙ lost_close l ]
 
-pub live_sent : (f : Frame) (ps : List (ℕ × Phase)) (c : ℕ) → live_at c (phases_sent f ps) ≡ live_at c ps
+pub live_sent : (f : Frame) (ps : List (ℕ × ChannelPhase)) (c : ℕ) → live_at c (phases_sent f ps) ≡ live_at c ps
 live_sent f ps c = elim (phases_move f ps) [ inl e ↦ ap (live_at c) e | inr e ↦ ap (live_at c) e.1 ∙ live-sent e.0 c ps ]
 
-grows_sent : (f : Frame) (l : Link) (ps : List (ℕ × Phase)) → Grows l ps (link_sent f l) (phases_sent f ps)
+grows_sent : (f : Frame) (l : ConnectionPhase) (ps : List (ℕ × ChannelPhase)) → Grows l ps (link_sent f l) (phases_sent f ps)
 grows_sent f l ps c a = (up_sent f l ∙ a.0, live_sent f ps c ∙ a.1)
 
 -- ---- what a publish's frames are
@@ -110,7 +110,7 @@ begun_behind : (p : Publish) (f : Frame) (fs : List Frame) → IsBegun (behind p
 begun_behind p f [] = refl
 begun_behind p f (g ∷ gs) = (refl, begun_behind p g gs)
 
-rest_alive : (n : ℕ) (p : Publish) (l : Link) (ps : List (ℕ × Phase)) → Alive l ps p.channel → IsRestAlive l ps (rest_of n p)
+rest_alive : (n : ℕ) (p : Publish) (l : ConnectionPhase) (ps : List (ℕ × ChannelPhase)) → Alive l ps p.channel → IsRestAlive l ps (rest_of n p)
 rest_alive n p l ps a = (a, refl, bodies_on p (cut (room_for_body n) p.payload), begun_behind p (content_header p) (bodies n p.channel p.payload))
 
 are_contents : (n : ℕ) (p : Publish) → 8 < n → AreContents n p (frames_of (rest_of n p))
@@ -123,13 +123,13 @@ are_contents n p h = record {
 -- ---- a frame request
 
 -- what an event leaves, and how what it adds to the points is parsed
-pub record Goes (n : ℕ) (b b' : Base) (cs : List ℕ) (added : List Point) : Type 0 where
+pub record Goes (n : ℕ) (b b' : Wire) (cs : List ℕ) (added : List Point) : Type 0 where
   pub sound : Sound n b'
   pub parses : 8 < n → (more : List Point) (calls : List Publish) → IsPart b.publishes calls → ((later : List Publish) → IsPart b'.publishes later → Parses n more (frames_of b'.rest) later) → Parses n (added ++ more) (frames_of b.rest) calls
   pub down : is_up b.link ≡ false → is_up b'.link ≡ false
   pub dead : (c : ℕ) → list_any (is_channel c) cs ≡ true → Alive b'.link b'.phases c → ⊥
 
-sent_sound : (n : ℕ) (b : Base) (f : Frame) (rest : List RestEntry) (methods : List MethodEntry) → ArePlain methods → IsRestAlive b.link b.phases rest → (is_lost b.link ≡ true → methods ≡ []) → (is_up b.link ≡ true → AreMarked (phases_sent f b.phases) methods) → Sound n b → Sound n (record b { link = link_sent f b.link; phases = phases_sent f b.phases; rest = rest; methods = methods })
+sent_sound : (n : ℕ) (b : Wire) (f : Frame) (rest : List RestEntry) (methods : List MethodEntry) → ArePlain methods → IsRestAlive b.link b.phases rest → (is_lost b.link ≡ true → methods ≡ []) → (is_up b.link ≡ true → AreMarked (phases_sent f b.phases) methods) → Sound n b → Sound n (record b { link = link_sent f b.link; phases = phases_sent f b.phases; rest = rest; methods = methods })
 sent_sound n b f rest methods plain alive lost marks s = record {
   max = s.max;
   plain = plain;
@@ -139,22 +139,22 @@ sent_sound n b f rest methods plain alive lost marks s = record {
   closes = λ u. marks (sym (up_sent f b.link) ∙ u);
 }
 
-abbrev NextGoes : ℕ → Bool → Base → Type 0
+abbrev NextGoes : ℕ → Bool → Wire → Type 0
 NextGoes n t b = Goes n b (after_handing t b) [] (Requested (given_by (frame_record (handed_out t b))) ∷ [])
 
-next_rest : (t : Bool) (b : Base) (f : RestEntry) (fs : List RestEntry) → b.rest ≡ f ∷ fs → after_handing t b ≡ record b { link = link_sent f.frame b.link; phases = phases_sent f.frame b.phases; rest = fs }
+next_rest : (t : Bool) (b : Wire) (f : RestEntry) (fs : List RestEntry) → b.rest ≡ f ∷ fs → after_handing t b ≡ record b { link = link_sent f.frame b.link; phases = phases_sent f.frame b.phases; rest = fs }
 next_rest t b f fs r = rw r refl
 
-next_method : (t : Bool) (b : Base) (m : MethodEntry) (ms : List MethodEntry) → b.rest ≡ [] → b.methods ≡ m ∷ ms → after_handing t b ≡ record b { link = link_sent (frame.Method m.channel m.method) b.link; phases = phases_sent (frame.Method m.channel m.method) b.phases; rest = []; methods = ms }
+next_method : (t : Bool) (b : Wire) (m : MethodEntry) (ms : List MethodEntry) → b.rest ≡ [] → b.methods ≡ m ∷ ms → after_handing t b ≡ record b { link = link_sent (frame.Method m.channel m.method) b.link; phases = phases_sent (frame.Method m.channel m.method) b.phases; rest = []; methods = ms }
 next_method t b m ms r e = rw (r, e) refl
 
-next_publish : (b : Base) (p : Publish) (ps : List Publish) → b.rest ≡ [] → b.methods ≡ [] → b.publishes ≡ p ∷ ps → after_handing true b ≡ record b { rest = rest_of b.frame_max p; methods = []; publishes = ps }
+next_publish : (b : Wire) (p : Publish) (ps : List Publish) → b.rest ≡ [] → b.methods ≡ [] → b.publishes ≡ p ∷ ps → after_handing true b ≡ record b { rest = rest_of b.frame_max p; methods = []; publishes = ps }
 next_publish b p ps r m q = rw (r, m, q) refl
 
-same_lists : (b : Base) (ps : List Publish) → b.rest ≡ [] → b.methods ≡ [] → b.publishes ≡ ps → record b { rest = []; methods = []; publishes = ps } ≡ b
+same_lists : (b : Wire) (ps : List Publish) → b.rest ≡ [] → b.methods ≡ [] → b.publishes ≡ ps → record b { rest = []; methods = []; publishes = ps } ≡ b
 same_lists b ps r m q = λ i. record b { rest = sym r i; methods = sym m i; publishes = sym q i }
 
-next_none : (t : Bool) (b : Base) (ps : List Publish) → b.rest ≡ [] → b.methods ≡ [] → b.publishes ≡ ps → handed_out t (record b { rest = []; methods = []; publishes = ps }) ≡ None → after_handing t b ≡ b
+next_none : (t : Bool) (b : Wire) (ps : List Publish) → b.rest ≡ [] → b.methods ≡ [] → b.publishes ≡ ps → handed_out t (record b { rest = []; methods = []; publishes = ps }) ≡ None → after_handing t b ≡ b
 next_none true b [] r m q n = rw (r, m, q) refl ∙ same_lists b [] r m q
 next_none true b (p ∷ ps) r m q n = cc
 next_none false b ps r m q n = rw (r, m, q) refl ∙ same_lists b ps r m q
@@ -163,26 +163,26 @@ next_none false b ps r m q n = rw (r, m, q) refl ∙ same_lists b ps r m q
 abbrev ParsesOn : ℕ → List Frame → List Frame → List Publish → List Publish → Option Frame → Type 0
 ParsesOn n fs gs ps qs o = (more : List Point) (calls : List Publish) → IsPart ps calls → ((later : List Publish) → IsPart qs later → Parses n more gs later) → Parses n (Requested o ∷ more) fs calls
 
-parsed : (n : ℕ) (t : Bool) (b b' : Base) (rest : List RestEntry) (publishes : List Publish) (o : Option Left) → b.rest ≡ rest → b.publishes ≡ publishes → handed_out t b ≡ o → after_handing t b ≡ b'
+parsed : (n : ℕ) (t : Bool) (b b' : Wire) (rest : List RestEntry) (publishes : List Publish) (o : Option Left) → b.rest ≡ rest → b.publishes ≡ publishes → handed_out t b ≡ o → after_handing t b ≡ b'
     → ParsesOn n (frames_of rest) (frames_of b'.rest) publishes b'.publishes (given_by (frame_record o))
     → ParsesOn n (frames_of b.rest) (frames_of (after_handing t b).rest) b.publishes (after_handing t b).publishes (given_by (frame_record (handed_out t b)))
 parsed n t b b' rest publishes o r p h is x =
-    let D : List RestEntry → List Publish → Option Left → Base → Type 0 = λ rs ps l d. ParsesOn n (frames_of rs) (frames_of d.rest) ps d.publishes (given_by (frame_record l)) in
+    let D : List RestEntry → List Publish → Option Left → Wire → Type 0 = λ rs ps l d. ParsesOn n (frames_of rs) (frames_of d.rest) ps d.publishes (given_by (frame_record l)) in
     let x1 : D b.rest publishes o b' = subst (λ rs. D rs publishes o b') (sym r) x in
     let x2 : D b.rest b.publishes o b' = subst (λ ps. D b.rest ps o b') (sym p) x1 in
     let x3 : D b.rest b.publishes (handed_out t b) b' = subst (λ l. D b.rest b.publishes l b') (sym h) x2 in
     subst (λ d. D b.rest b.publishes (handed_out t b) d) (sym is) x3
 
-handed_rest : (t : Bool) (b : Base) (f : RestEntry) (fs : List RestEntry) → b.rest ≡ f ∷ fs → handed_out t b ≡ Some (left_rest f)
+handed_rest : (t : Bool) (b : Wire) (f : RestEntry) (fs : List RestEntry) → b.rest ≡ f ∷ fs → handed_out t b ≡ Some (left_rest f)
 handed_rest t b f fs r = rw r refl
 
-handed_method : (t : Bool) (b : Base) (m : MethodEntry) (ms : List MethodEntry) → b.rest ≡ [] → b.methods ≡ m ∷ ms → handed_out t b ≡ Some (left_method m)
+handed_method : (t : Bool) (b : Wire) (m : MethodEntry) (ms : List MethodEntry) → b.rest ≡ [] → b.methods ≡ m ∷ ms → handed_out t b ≡ Some (left_method m)
 handed_method t b m ms r e = rw (r, e) refl
 
-handed_publish : (b : Base) (p : Publish) (ps : List Publish) → b.rest ≡ [] → b.methods ≡ [] → b.publishes ≡ p ∷ ps → handed_out true b ≡ Some (left_publish p)
+handed_publish : (b : Wire) (p : Publish) (ps : List Publish) → b.rest ≡ [] → b.methods ≡ [] → b.publishes ≡ p ∷ ps → handed_out true b ≡ Some (left_publish p)
 handed_publish b p ps r m q = rw (r, m, q) refl
 
-handed_none : (t : Bool) (b : Base) (ps : List Publish) → b.rest ≡ [] → b.methods ≡ [] → b.publishes ≡ ps → handed_out t (record b { rest = []; methods = []; publishes = ps }) ≡ None → handed_out t b ≡ None
+handed_none : (t : Bool) (b : Wire) (ps : List Publish) → b.rest ≡ [] → b.methods ≡ [] → b.publishes ≡ ps → handed_out t (record b { rest = []; methods = []; publishes = ps }) ≡ None → handed_out t b ≡ None
 handed_none t b ps r m q h = rw (r, m, q) h
 
 begins : (n : ℕ) (p : Publish) (ps : List Publish) → 8 < n → ParsesOn n [] (frames_of (rest_of n p)) (p ∷ ps) ps (Some (frame.Method p.channel (publish_method p)))
@@ -190,7 +190,7 @@ begins n p ps h more calls part then =
     let at : Behind p ps calls = part-first p ps calls part in
     inr (frames_of (rest_of n p), at.later, record { publish = p; passed = at.passed; called = at.all; method = refl; contents = are_contents n p h }, then at.later at.part)
 
-module _ (n : ℕ) (t : Bool) (b : Base) (s : Sound n b) where
+module _ (n : ℕ) (t : Bool) (b : Wire) (s : Sound n b) where
   goes_rest : (f : RestEntry) (fs : List RestEntry) → b.rest ≡ f ∷ fs → NextGoes n t b
   goes_rest f fs r =
       let alive : IsRestAlive b.link b.phases (f ∷ fs) = subst (IsRestAlive b.link b.phases) r s.rest in
@@ -236,7 +236,7 @@ module _ (n : ℕ) (t : Bool) (b : Base) (s : Sound n b) where
         dead = λ d x a. let z : false ≡ true = x in cc;
       }
 
-next_by : (n : ℕ) (t : Bool) (b : Base) (rest : List RestEntry) (methods : List MethodEntry) (publishes : List Publish) → Sound n b → b.rest ≡ rest → b.methods ≡ methods → b.publishes ≡ publishes → NextGoes n t b
+next_by : (n : ℕ) (t : Bool) (b : Wire) (rest : List RestEntry) (methods : List MethodEntry) (publishes : List Publish) → Sound n b → b.rest ≡ rest → b.methods ≡ methods → b.publishes ≡ publishes → NextGoes n t b
 next_by n t b (f ∷ fs) ms ps s r m q = goes_rest n t b s f fs r
 next_by n t b [] (x ∷ ms) ps s r m q = goes_method n t b s x ms r m
 next_by n true b [] [] (p ∷ ps) s r m q = goes_publish n true b s p ps refl r m q
@@ -245,10 +245,10 @@ next_by n false b [] [] ps s r m q = goes_none n false b s ps r m q refl
 
 -- ---- every event
 
-abbrev pub added_by : Base → Event → Record → List Point
+abbrev pub added_by : Wire → Event → Record → List Point
 added_by b e r = map Ended (ended_in (confirm_marks b e r)) ++ (map Called (called_by e r) ++ requested_by e r)
 
-moves_go : (n : ℕ) (b b' : Base) (cs : List ℕ) (qs : List Publish) → Moves n b b' cs qs → Goes n b b' cs (map Ended cs ++ (map Called qs ++ []))
+moves_go : (n : ℕ) (b b' : Wire) (cs : List ℕ) (qs : List Publish) → Moves n b b' cs qs → Goes n b b' cs (map Ended cs ++ (map Called qs ++ []))
 moves_go n b b' cs qs m =
     let same : (more : List Point) → (map Ended cs ++ (map Called qs ++ [])) ++ more ≡ map Ended cs ++ (map Called qs ++ more) = λ more. append_assoc (map Ended cs) (map Called qs ++ []) more ∙ ap (λ ys. map Ended cs ++ (ys ++ more)) (append-nil (map Called qs)) in
     record {
@@ -280,12 +280,12 @@ left_quiet : (o : Option Left) → ended_in (left_marks o) ≡ []
 left_quiet None = refl
 left_quiet (Some l) = entry_quiet l.frame l.publish l.first
 
-pub goes : (n : ℕ) (b : Base) (see : Sight) (e : Event) → IsShut b → Sound n b → Goes n b (after_event b e (record_of b see e)) (ended_in (confirm_marks b e (record_of b see e))) (added_by b e (record_of b see e))
-goes n b see (event.Call c x) shut s = moves_go n b _ _ _ (call_event n b see c x s)
-goes n b see (event.Next flow) shut s = subst (λ cs. Goes n b (after_next flow b) cs (map Ended cs ++ (Requested (given_by (frame_record (handed flow b))) ∷ []))) (sym (left_quiet (handed flow b))) (next_by n (may_begin flow b) b b.rest b.methods b.publishes s refl refl refl)
-goes n b see (event.Receive f) shut s = moves_go n b _ _ _ (heard_event n b see f shut s)
-goes n b see (event.PollTicket m) shut s = moves_go n b _ _ _ (ticket_event n b see m s)
-goes n b see (event.PollConfirm m) shut s = moves_go n b _ _ _ (confirm_event n b see m s)
-goes n b see (event.AsideTicket m) shut s = moves_go n b _ _ _ (aside_event n b see m s)
-goes n b see (event.State c) shut s = moves_go n b _ _ _ (state_event n b see c s)
-goes n b see event.Lost shut s = moves_go n b _ _ _ (lost_event n b see shut s)
+pub goes : (n : ℕ) (b : Wire) (readings : Readings) (e : Event) → IsShut b → Sound n b → Goes n b (after_event b e (record_of b readings e)) (ended_in (confirm_marks b e (record_of b readings e))) (added_by b e (record_of b readings e))
+goes n b readings (event.Call c x) shut s = moves_go n b _ _ _ (call_event n b readings c x s)
+goes n b readings (event.Next flow) shut s = subst (λ cs. Goes n b (after_next flow b) cs (map Ended cs ++ (Requested (given_by (frame_record (handed flow b))) ∷ []))) (sym (left_quiet (handed flow b))) (next_by n (may_begin flow b) b b.rest b.methods b.publishes s refl refl refl)
+goes n b readings (event.Receive f) shut s = moves_go n b _ _ _ (incoming_event n b readings f shut s)
+goes n b readings (event.PollTicket m) shut s = moves_go n b _ _ _ (ticket_event n b readings m s)
+goes n b readings (event.PollConfirm m) shut s = moves_go n b _ _ _ (confirm_event n b readings m s)
+goes n b readings (event.AsideTicket m) shut s = moves_go n b _ _ _ (aside_event n b readings m s)
+goes n b readings (event.State c) shut s = moves_go n b _ _ _ (state_event n b readings c s)
+goes n b readings event.Lost shut s = moves_go n b _ _ _ (lost_event n b readings shut s)

@@ -15,10 +15,10 @@ use Rattle.lapin_types.specs.Types.method
 use Rattle.lapin_types.specs.Types.channel
 use Rattle.lapin_history.specs.declared.calls.Asked.{Asked}
 use Rattle.lapin_history.specs.declared.calls.Asked.TheVariants as ask
-use Rattle.lapin_history.specs.declared.phases.Phase.{Phase}
-use Rattle.lapin_history.specs.declared.phases.Phase.TheVariants as phase
-use Rattle.lapin_history.specs.declared.phases.Link.{Link}
-use Rattle.lapin_history.specs.declared.phases.Link.TheVariants as link
+use Rattle.lapin_history.specs.declared.phases.ChannelPhase.{ChannelPhase}
+use Rattle.lapin_history.specs.declared.phases.ChannelPhase.TheVariants as phase
+use Rattle.lapin_history.specs.declared.phases.ConnectionPhase.{ConnectionPhase}
+use Rattle.lapin_history.specs.declared.phases.ConnectionPhase.TheVariants as link
 use Rattle.lapin_history.specs.declared.phases.Closer.TheVariants as closer
 use Rattle.lapin_history.specs.declared.broker_frames.Incoming.{Incoming}
 use Rattle.lapin_history.specs.declared.broker_frames.Incoming.TheVariants as incoming
@@ -27,22 +27,22 @@ use Rattle.lapin_history.specs.TicketReadings as ticket
 use Rattle.lapin_history.specs.Words.{with_channel}
 use Rattle.lapin_history.specs.Phases.{is_lost}
 use Rattle.lapin_history.specs.Calls.{asked}
-use Rattle.lapin_history.specs.Heard.{heard, frame_class, frame_method}
+use Rattle.lapin_history.specs.Incoming.{incoming_of, frame_class, frame_method}
 use Rattle.lapin_history.specs.Leaving.{handed_of}
-use Rattle.lapin_history.specs.Base.{Base, state_of, phase_of, is_open, noted}
+use Rattle.lapin_history.specs.Wire.{Wire, state_of, phase_of, is_open, noted}
 use Rattle.lapin_history.specs.ChannelClose.{closing, after_close_ok}
 use Rattle.lapin_history.specs.ConnectionClose.{after_connection_close}
 use Rattle.lapin_history.specs.Settlement.{session_close}
 use Rattle.lapin_history.specs.Unexpected.{refused}
 use Rattle.lapin_history.specs.Flow.{may_begin}
-use Rattle.lapin_history.specs.Sight.{Sight}
+use Rattle.lapin_history.specs.Readings.{Readings}
 use Rattle.lapin_history.specs.Asking.{is_allowed, after_call, call_tickets}
 use Rattle.lapin_history.specs.Handing.{handed, sent}
-use Rattle.lapin_history.specs.Hearing.{after_received, after_failed, after_refused, after_heard, heard_record, heard_tickets}
+use Rattle.lapin_history.specs.Receiving.{after_received, after_failed, after_refused, after_incoming, incoming_record, incoming_tickets}
 use Rattle.lapin_ticket.specs.declared.Slot.{Slot}
 use Rattle.lapin_ticket.specs.declared.Slot.TheVariants as slot
-use Rattle.lapin_ticket.specs.Desk.{answered_slot, after_mark, is_awaited}
-use Rattle.lapin_machine.specs.World.{World, new_world, next, sight_of, next_anew}
+use Rattle.lapin_ticket.specs.Slots.{answered_slot, after_mark, is_awaited}
+use Rattle.lapin_machine.specs.World.{World, new_world, next, readings_of, next_anew}
 use Rattle.lapin_machine.proofs.Back.{next_none, still_none}
 use Rattle.lapin_laws.specs.Runs.{world_after}
 use Rattle.lapin_laws.proofs.Moving.{Sound, allowed_up, start_sound, lost_not_up}
@@ -86,35 +86,35 @@ polled_none false n m slots e h = h
 
 -- ---- only a loss loses the connection
 
-abbrev NotLost : Base → Type 0
+abbrev NotLost : Wire → Type 0
 NotLost b = is_lost b.link ≡ false
 
-either : (t : Bool) (x y : Base) → NotLost x → NotLost y → NotLost (cond t x y)
+either : (t : Bool) (x y : Wire) → NotLost x → NotLost y → NotLost (cond t x y)
 either true x y h k = h
 either false x y h k = k
 
-called : (c : ℕ) (k : Asked) (b : Base) → b.link ≡ link.Open → NotLost (after_call c k b)
+called : (c : ℕ) (k : Asked) (b : Wire) → b.link ≡ link.Open → NotLost (after_call c k b)
 called c ask.Open b e = rw e refl
 called c (ask.CloseChannel code text) b e = rw e refl
 called c (ask.CloseConnection code text) b e = refl
 called c (ask.Publish exchange key o payload properties) b e = rw e refl
 called c (ask.Method row) b e = rw e refl
 
-close_answered : (c : ℕ) (p : Phase) (b : Base) → NotLost b → NotLost (after_close_ok c p b)
+close_answered : (c : ℕ) (p : ChannelPhase) (b : Wire) → NotLost b → NotLost (after_close_ok c p b)
 close_answered c phase.Closed b h = h
 close_answered c phase.Opening b h = h
 close_answered c (phase.Open paused) b h = h
 close_answered c (phase.Closing who x) b h = h
 close_answered c phase.Crossed b h = h
 
-connection_closed : (l : Link) (b : Base) → NotLost (after_connection_close l b)
+connection_closed : (l : ConnectionPhase) (b : Wire) → NotLost (after_connection_close l b)
 connection_closed link.Open b = refl
 connection_closed (link.Closing true x) b = refl
 connection_closed (link.Closing false x) b = refl
 connection_closed link.Closed b = refl
 connection_closed link.Lost b = refl
 
-received : (i : Incoming) (b : Base) → NotLost b → NotLost (after_received i b)
+received : (i : Incoming) (b : Wire) → NotLost b → NotLost (after_received i b)
 received (incoming.Reply c k a) b h = h
 received (incoming.Settlement c z) b h = h
 received (incoming.Flow c active) b h = either (is_open (state_of c b)) (noted c (method.Channel (channel.FlowOk active)) (record b { phases = with_channel c (phase.Open (not active)) b.phases })) b h h
@@ -124,7 +124,7 @@ received (incoming.ConnectionClose code) b h = connection_closed b.link b
 received incoming.ConnectionCloseOk b h = refl
 received incoming.Other b h = h
 
-failed : (i : Incoming) (b : Base) → NotLost b → NotLost (after_failed i b)
+failed : (i : Incoming) (b : Wire) → NotLost b → NotLost (after_failed i b)
 failed (incoming.Settlement c z) b h = either (is_open (state_of c b)) (noted c (session_close z.kind) (closing c closer.Session b)) b h h
 failed (incoming.Reply c k a) b h = h
 failed (incoming.Flow c active) b h = h
@@ -134,7 +134,7 @@ failed (incoming.ConnectionClose code) b h = h
 failed incoming.ConnectionCloseOk b h = h
 failed incoming.Other b h = h
 
-turned_away : (i : Incoming) (x : Error) (b : Base) → NotLost b → NotLost (after_refused i x b)
+turned_away : (i : Incoming) (x : Error) (b : Wire) → NotLost b → NotLost (after_refused i x b)
 turned_away i error.NoMemory b h = h
 turned_away i error.NumbersUsedUp b h = h
 turned_away i (error.InvalidChannelState s) b h = h
@@ -145,75 +145,75 @@ turned_away i (error.PreconditionFailed tag current) b h = failed i b h
 turned_away i error.AlreadyTaken b h = h
 turned_away i error.UnknownTicket b h = h
 
-heard_not_lost : (i : Incoming) (r : Record) (b : Base) → NotLost b → NotLost (after_heard i r b)
-heard_not_lost i (record_.Refused x) b h = turned_away i x b h
-heard_not_lost i record_.Received b h = received i b h
-heard_not_lost i (record_.Ticket n) b h = h
-heard_not_lost i (record_.Publish t n) b h = h
-heard_not_lost i (record_.Frame f) b h = h
-heard_not_lost i record_.NoFrame b h = h
-heard_not_lost i record_.Passed b h = h
-heard_not_lost i record_.Pending b h = h
-heard_not_lost i (record_.Answer a) b h = h
-heard_not_lost i (record_.Confirmed o) b h = h
-heard_not_lost i (record_.State x y) b h = h
-heard_not_lost i record_.Aside b h = h
-heard_not_lost i record_.Lost b h = h
+incoming_not_lost : (i : Incoming) (r : Record) (b : Wire) → NotLost b → NotLost (after_incoming i r b)
+incoming_not_lost i (record_.Refused x) b h = turned_away i x b h
+incoming_not_lost i record_.Received b h = received i b h
+incoming_not_lost i (record_.Ticket n) b h = h
+incoming_not_lost i (record_.Publish t n) b h = h
+incoming_not_lost i (record_.Frame f) b h = h
+incoming_not_lost i record_.NoFrame b h = h
+incoming_not_lost i record_.Passed b h = h
+incoming_not_lost i record_.Pending b h = h
+incoming_not_lost i (record_.Answer a) b h = h
+incoming_not_lost i (record_.Confirmed o) b h = h
+incoming_not_lost i (record_.State x y) b h = h
+incoming_not_lost i record_.Aside b h = h
+incoming_not_lost i record_.Lost b h = h
 
 -- ---- every event
 
 -- once the connection is lost, no ticket is open
-abbrev Answered : Base → List (Option Slot) → Type 0
+abbrev Answered : Wire → List (Option Slot) → Type 0
 Answered b slots = is_lost b.link ≡ true → NoneOpen slots
 
-call_answered : (c : ℕ) (k : Asked) (b : Base) (slots : List (Option Slot)) → Answered b slots → Answered (cond (is_allowed k (state_of c b)) (after_call c k b) b) (fold after_mark slots (cond (is_allowed k (state_of c b)) (call_tickets c k b) []))
+call_answered : (c : ℕ) (k : Asked) (b : Wire) (slots : List (Option Slot)) → Answered b slots → Answered (cond (is_allowed k (state_of c b)) (after_call c k b) b) (fold after_mark slots (cond (is_allowed k (state_of c b)) (call_tickets c k b) []))
 call_answered c k b slots h = elim (is_allowed k (state_of c b)) as (λ t. is_allowed k (state_of c b) ≡ t → Answered (cond t (after_call c k b) b) (fold after_mark slots (cond t (call_tickets c k b) []))) [
   | true ↦ λ a l. let z : true ≡ false = sym l ∙ called c k b (allowed_up b.link k _ a) in absurd cc
   | false ↦ λ a. h
 ] refl
 
-passed : (i : Incoming) (see : Sight) (r : Record) (b : Base) → b.link ≡ link.Lost → heard_record b see r i ≡ record_.Passed
-passed i see r b e = rw e refl
+passed : (i : Incoming) (readings : Readings) (r : Record) (b : Wire) → b.link ≡ link.Lost → incoming_record b readings r i ≡ record_.Passed
+passed i readings r b e = rw e refl
 
-heard_answered : (i : Incoming) (see : Sight) (r : Record) (b : Base) (slots : List (Option Slot)) → Answered b slots → Answered (after_heard i (heard_record b see r i) b) (fold after_mark slots (heard_tickets i (heard_record b see r i) b))
-heard_answered i see r b slots h = elim (is_lost b.link) as (λ t. is_lost b.link ≡ t → Answered (after_heard i (heard_record b see r i) b) (fold after_mark slots (heard_tickets i (heard_record b see r i) b))) [
-  | true ↦ λ e _. let none : heard_record b see r i ≡ record_.Passed = passed i see r b (is_link_lost b.link e) in rw none (h e)
-  | false ↦ λ e l. let z : true ≡ false = sym l ∙ heard_not_lost i (heard_record b see r i) b e in absurd cc
+incoming_answered : (i : Incoming) (readings : Readings) (r : Record) (b : Wire) (slots : List (Option Slot)) → Answered b slots → Answered (after_incoming i (incoming_record b readings r i) b) (fold after_mark slots (incoming_tickets i (incoming_record b readings r i) b))
+incoming_answered i readings r b slots h = elim (is_lost b.link) as (λ t. is_lost b.link ≡ t → Answered (after_incoming i (incoming_record b readings r i) b) (fold after_mark slots (incoming_tickets i (incoming_record b readings r i) b))) [
+  | true ↦ λ e _. let none : incoming_record b readings r i ≡ record_.Passed = passed i readings r b (is_link_lost b.link e) in rw none (h e)
+  | false ↦ λ e l. let z : true ≡ false = sym l ∙ incoming_not_lost i (incoming_record b readings r i) b e in absurd cc
 ] refl
 
-lost_answered : (b : Base) (slots : List (Option Slot)) → Answered b slots → NoneOpen (fold after_mark slots (cond (is_lost b.link) [] (ticket.AllFailed error.ConnectionLost ∷ [])))
+lost_answered : (b : Wire) (slots : List (Option Slot)) → Answered b slots → NoneOpen (fold after_mark slots (cond (is_lost b.link) [] (ticket.AllFailed error.ConnectionLost ∷ [])))
 lost_answered b slots h = elim (is_lost b.link) as (λ t. is_lost b.link ≡ t → NoneOpen (fold after_mark slots (cond t [] (ticket.AllFailed error.ConnectionLost ∷ [])))) [ true ↦ λ e. h e | false ↦ λ e. all_failed error.ConnectionLost slots ] refl
 
-handed_none : (n : ℕ) (flow : Bool) (w : World) → Sound n w.base → is_lost w.base.link ≡ true → handed flow w.base ≡ None
+handed_none : (n : ℕ) (flow : Bool) (w : World) → Sound n w.wire → is_lost w.wire.link ≡ true → handed flow w.wire ≡ None
 handed_none n flow w s l =
-    let d = lost_not_up w.base.link l in
-    let rest : w.base.rest ≡ [] = no_rest n w s d in
-    let methods : w.base.methods ≡ [] = s.lost l in
-    let publishes : w.base.publishes ≡ [] = no_publishes n w s d in
-    rw (rest, methods, publishes) (elim (may_begin flow w.base) as (λ t. handed_of t [] [] [] ≡ None) [ true ↦ refl | false ↦ refl ])
+    let d = lost_not_up w.wire.link l in
+    let rest : w.wire.rest ≡ [] = no_rest n w s d in
+    let methods : w.wire.methods ≡ [] = s.lost l in
+    let publishes : w.wire.publishes ≡ [] = no_publishes n w s d in
+    rw (rest, methods, publishes) (elim (may_begin flow w.wire) as (λ t. handed_of t [] [] [] ≡ None) [ true ↦ refl | false ↦ refl ])
 
-sent_back : (o : Option Left) (b : Base) → is_lost (sent o b).link ≡ true → is_lost b.link ≡ true
+sent_back : (o : Option Left) (b : Wire) → is_lost (sent o b).link ≡ true → is_lost b.link ≡ true
 sent_back None b l = l
 sent_back (Some x) b l = sym (lost_sent x.frame b.link) ∙ l
 
-answered-anew : (n : ℕ) (w : World) (e : Event) → Sound n w.base → Answered w.base w.slots → Answered (next_anew w e).base (next_anew w e).slots
-answered-anew n w (event.Call c k) s h = call_answered c (asked k) w.base w.slots h
+answered-anew : (n : ℕ) (w : World) (e : Event) → Sound n w.wire → Answered w.wire w.slots → Answered (next_anew w e).wire (next_anew w e).slots
+answered-anew n w (event.Call c k) s h = call_answered c (asked k) w.wire w.slots h
 answered-anew n w (event.Next flow) s h = λ l.
-    let was : is_lost w.base.link ≡ true = sent_back (handed flow w.base) _ l in
-    let none : handed flow w.base ≡ None = handed_none n flow w s was in
+    let was : is_lost w.wire.link ≡ true = sent_back (handed flow w.wire) _ l in
+    let none : handed flow w.wire ≡ None = handed_none n flow w s was in
     rw none (h was)
-answered-anew n w (event.Receive f) s h = heard_answered (heard f) (sight_of w.book w.slots) (refused (frame_class f) (frame_method f)) w.base w.slots h
+answered-anew n w (event.Receive f) s h = incoming_answered (incoming_of f) (readings_of w.book w.slots) (refused (frame_class f) (frame_method f)) w.wire w.slots h
 answered-anew n w (event.PollTicket m) s h = λ l. polled_none _ m (ticket.Collected m) w.slots refl (h l)
 answered-anew n w (event.AsideTicket m) s h = λ l. polled_none _ m (ticket.SetAside m) w.slots refl (h l)
 answered-anew n w (event.PollConfirm m) s h = h
 answered-anew n w (event.State c) s h = h
-answered-anew n w event.Lost s h = λ l. lost_answered w.base w.slots h
+answered-anew n w event.Lost s h = λ l. lost_answered w.wire w.slots h
 
-answered_from : (n : ℕ) (w : World) (es : List Event) → Kept n w.base → w.returned ≡ None → Answered w.base w.slots → Answered (fold next w es).base (fold next w es).slots
+answered_from : (n : ℕ) (w : World) (es : List Event) → Kept n w.wire → w.returned ≡ None → Answered w.wire w.slots → Answered (fold next w es).wire (fold next w es).slots
 answered_from n w [] k none h = h
 answered_from n w (e ∷ es) k none h =
-    let P : World → Type 0 = λ v. Answered v.base v.slots in
+    let P : World → Type 0 = λ v. Answered v.wire v.slots in
     answered_from n (next w e) es (kept-next n w e k) (still_none w e none) (subst P (sym (next_none w e none)) (answered-anew n w e k.sound h))
 
-pub answered_after : (n : ℕ) (es : List Event) → Answered (world_after n es).base (world_after n es).slots
+pub answered_after : (n : ℕ) (es : List Event) → Answered (world_after n es).wire (world_after n es).slots
 answered_after n es = answered_from n (new_world n) es (record { sound = start_sound n; shut = λ _. refl }) refl (λ l. let z : false ≡ true = l in absurd cc)

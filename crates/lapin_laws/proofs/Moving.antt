@@ -19,37 +19,37 @@ use Rattle.lapin_types.specs.Types.channel
 use Rattle.lapin_history.specs.declared.calls.Asked.{Asked}
 use Rattle.lapin_history.specs.declared.calls.Asked.TheVariants as ask
 use Rattle.lapin_history.specs.declared.marks.Settlement.{Settlement}
-use Rattle.lapin_history.specs.declared.phases.Phase.{Phase}
-use Rattle.lapin_history.specs.declared.phases.Phase.TheVariants as phase
-use Rattle.lapin_history.specs.declared.phases.Link.{Link}
-use Rattle.lapin_history.specs.declared.phases.Link.TheVariants as link
+use Rattle.lapin_history.specs.declared.phases.ChannelPhase.{ChannelPhase}
+use Rattle.lapin_history.specs.declared.phases.ChannelPhase.TheVariants as phase
+use Rattle.lapin_history.specs.declared.phases.ConnectionPhase.{ConnectionPhase}
+use Rattle.lapin_history.specs.declared.phases.ConnectionPhase.TheVariants as link
 use Rattle.lapin_history.specs.declared.phases.Closer.TheVariants as closer
 use Rattle.lapin_history.specs.declared.phases.Closer.{Closer}
 use Rattle.lapin_history.specs.declared.broker_frames.Incoming.{Incoming}
 use Rattle.lapin_history.specs.declared.broker_frames.Incoming.TheVariants as incoming
 use Rattle.lapin_history.specs.ConfirmMarks as mark
 use Rattle.lapin_history.specs.Words.{is_some, with_channel}
-use Rattle.lapin_history.specs.Heard.{heard, frame_class, frame_method}
+use Rattle.lapin_history.specs.Incoming.{incoming_of, frame_class, frame_method}
 use Rattle.lapin_history.specs.Phases.{is_up, is_lost, is_live, channel_state}
 use Rattle.lapin_history.specs.Requests.{first_request}
 use Rattle.lapin_history.specs.Frames.{MethodEntry, RestEntry}
 use Rattle.lapin_history.specs.Drops.{is_off, is_rest_of, method_channel, publish_channel}
 use Rattle.lapin_history.specs.Ends.{live_channels, ends_all, end_with, down}
-use Rattle.lapin_history.specs.Sight.{Sight}
-use Rattle.lapin_history.specs.Base.{Base, start, requests_of, state_of, phase_of, is_open, is_opening, noted, lists_of, hears_on}
+use Rattle.lapin_history.specs.Readings.{Readings}
+use Rattle.lapin_history.specs.Wire.{Wire, start, requests_of, state_of, phase_of, is_open, is_opening, noted, lists_of, receives_on}
 use Rattle.lapin_history.specs.Opening.{opens}
-use Rattle.lapin_history.specs.ChannelClose.{after_broker_close, closing, close_marks, close_ok_end, after_close_ok, hears_close, hears_close_ok}
-use Rattle.lapin_history.specs.ConnectionClose.{unless_sent, has_sent, hears_down, after_connection_close}
+use Rattle.lapin_history.specs.ChannelClose.{after_broker_close, closing, close_marks, close_ok_end, after_close_ok, receives_close, receives_close_ok}
+use Rattle.lapin_history.specs.ConnectionClose.{unless_sent, has_sent, receives_down, after_connection_close}
 use Rattle.lapin_history.specs.Settlement.{settlement_record, session_close}
 use Rattle.lapin_history.specs.Select.{is_select}
-use Rattle.lapin_history.specs.Reply.{hears, hears_reply}
+use Rattle.lapin_history.specs.Reply.{receives, receives_reply}
 use Rattle.lapin_history.specs.Flow.{after_flow}
 use Rattle.lapin_history.specs.Polls.{is_confirmed}
 use Rattle.lapin_history.specs.Unexpected.{refused}
 use Rattle.lapin_history.specs.Loss.{after_lost}
 use Rattle.lapin_history.specs.Calls.{asked}
 use Rattle.lapin_history.specs.Asking.{is_allowed, accepted_record, call_record, after_call, after_asking, call_marks, asking_marks}
-use Rattle.lapin_history.specs.Hearing.{when, heard_up, heard_record, after_heard, heard_marks}
+use Rattle.lapin_history.specs.Receiving.{when, incoming_up, incoming_record, after_incoming, incoming_marks}
 use Rattle.lapin_history.specs.Events.{record_of, after_event, confirm_marks}
 use Rattle.lapin_machine.specs.Stands.{IsShut}
 use Rattle.lapin_laws.specs.Closes.{is_channel_close, is_unsent}
@@ -76,7 +76,7 @@ plain-filter : (f : MethodEntry → Bool) (ms : List MethodEntry) → ArePlain m
 plain-filter f [] h = tt
 plain-filter f (m ∷ ms) h = elim (f m) as (λ b. ArePlain (cond b (m ∷ filter f ms) (filter f ms))) [ true ↦ (h.0, plain-filter f ms h.1) | false ↦ plain-filter f ms h.1 ]
 
-pub record Sound (n : ℕ) (b : Base) : Type 0 where
+pub record Sound (n : ℕ) (b : Wire) : Type 0 where
   pub max : b.frame_max ≡ n
   pub plain : ArePlain b.methods
   pub publishes : AreAlive b.link b.phases b.publishes
@@ -91,13 +91,13 @@ shut_refuses (ask.CloseConnection code text) = refl
 shut_refuses (ask.Publish exchange key o payload properties) = refl
 shut_refuses (ask.Method row) = refl
 
-pub lost_not_up : (l : Link) → is_lost l ≡ true → is_up l ≡ false
+pub lost_not_up : (l : ConnectionPhase) → is_lost l ≡ true → is_up l ≡ false
 lost_not_up link.Open h = cc
 lost_not_up (link.Closing s x) h = refl
 lost_not_up link.Closed h = refl
 lost_not_up link.Lost h = refl
 
-broker_over : (p : Phase) → is_live (after_broker_close p) ≡ false
+broker_over : (p : ChannelPhase) → is_live (after_broker_close p) ≡ false
 broker_over phase.Closed = refl
 broker_over phase.Opening = refl
 broker_over (phase.Open paused) = refl
@@ -105,28 +105,28 @@ broker_over (phase.Closing who true) = refl
 broker_over (phase.Closing who false) = refl
 broker_over phase.Crossed = refl
 
-over_at : (c d : ℕ) (p : Phase) (ps : List (ℕ × Phase)) → is_live p ≡ false → ((c == d) || false) ≡ true → live_at d (with_channel c p ps) ≡ true → ⊥
+over_at : (c d : ℕ) (p : ChannelPhase) (ps : List (ℕ × ChannelPhase)) → is_live p ≡ false → ((c == d) || false) ≡ true → live_at d (with_channel c p ps) ≡ true → ⊥
 over_at c d p ps over h live = elim (eqb_tells c d) [
   | inl y ↦ let here : live_at d (with_channel c p ps) ≡ is_live p = live-with c d p ps ∙ rw y.0 refl in let z : true ≡ false = sym live ∙ (here ∙ over) in cc
   | inr n ↦ let z : false ≡ true = rw n.0 at h in cc
 ]
 
 -- an event leaves b' of b, ends the openings of these channels, and accepts these publishes
-pub record Moves (n : ℕ) (b b' : Base) (cs : List ℕ) (qs : List Publish) : Type 0 where
+pub record Moves (n : ℕ) (b b' : Wire) (cs : List ℕ) (qs : List Publish) : Type 0 where
   pub sound : Sound n b'
   pub part : (calls : List Publish) → IsPart b.publishes calls → IsPart b'.publishes (calls ++ qs)
   pub cut : frames_of b'.rest ≡ cut_at cs (frames_of b.rest)
   pub down : is_up b.link ≡ false → is_up b'.link ≡ false
   pub dead : (c : ℕ) → list_any (is_channel c) cs ≡ true → Alive b'.link b'.phases c → ⊥
 
-same : (n : ℕ) (b : Base) → Sound n b → Moves n b b [] []
+same : (n : ℕ) (b : Wire) → Sound n b → Moves n b b [] []
 same n b s = record { sound = s; part = λ calls p. part-same b.publishes calls p; cut = refl; down = λ d. d; dead = λ d h a. let z : false ≡ true = h in cc }
 
-up_not_lost : (l : Link) → l ≡ link.Open → is_lost l ≡ true → ⊥
+up_not_lost : (l : ConnectionPhase) → l ≡ link.Open → is_lost l ≡ true → ⊥
 up_not_lost l e h = let x : is_lost link.Open ≡ true = rw e at h in cc
 
 -- nothing ends, and the connection stays open
-keeps : (n : ℕ) (b b' : Base) → b.link ≡ link.Open → b'.link ≡ b.link → b'.frame_max ≡ b.frame_max → b'.publishes ≡ b.publishes → b'.rest ≡ b.rest → (ArePlain b.methods → ArePlain b'.methods) → Grows b.link b.phases b'.link b'.phases → (AreMarked b.phases b.methods → AreMarked b'.phases b'.methods) → Sound n b → Moves n b b' [] []
+keeps : (n : ℕ) (b b' : Wire) → b.link ≡ link.Open → b'.link ≡ b.link → b'.frame_max ≡ b.frame_max → b'.publishes ≡ b.publishes → b'.rest ≡ b.rest → (ArePlain b.methods → ArePlain b'.methods) → Grows b.link b.phases b'.link b'.phases → (AreMarked b.phases b.methods → AreMarked b'.phases b'.methods) → Sound n b → Moves n b b' [] []
 keeps n b b' e l m p r plain g marks s = record {
   sound = record {
     max = m ∙ s.max;
@@ -142,11 +142,11 @@ keeps n b b' e l m p r plain g marks s = record {
   dead = λ d h a. let z : false ≡ true = h in cc;
 }
 
-same_grows : (l : Link) (ps : List (ℕ × Phase)) → Grows l ps l ps
+same_grows : (l : ConnectionPhase) (ps : List (ℕ × ChannelPhase)) → Grows l ps l ps
 same_grows l ps c a = a
 
 -- this side closes a channel
-closes : (n c : ℕ) (who : Closer) (b b' : Base) → b.link ≡ link.Open → b'.link ≡ b.link → b'.frame_max ≡ b.frame_max → b'.publishes ≡ filter (is_off publish_channel c) b.publishes → b'.rest ≡ b.rest → b'.phases ≡ with_channel c (phase.Closing who false) b.phases → (ArePlain b.methods → ArePlain b'.methods) → (m : MethodEntry) → b'.methods ≡ b.methods ++ m ∷ [] → m.channel ≡ c → is_channel_close m.method ≡ true → is_unsent (phase_of c b) ≡ false → Sound n b → Moves n b b' [] []
+closes : (n c : ℕ) (who : Closer) (b b' : Wire) → b.link ≡ link.Open → b'.link ≡ b.link → b'.frame_max ≡ b.frame_max → b'.publishes ≡ filter (is_off publish_channel c) b.publishes → b'.rest ≡ b.rest → b'.phases ≡ with_channel c (phase.Closing who false) b.phases → (ArePlain b.methods → ArePlain b'.methods) → (m : MethodEntry) → b'.methods ≡ b.methods ++ m ∷ [] → m.channel ≡ c → is_channel_close m.method ≡ true → is_unsent (phase_of c b) ≡ false → Sound n b → Moves n b b' [] []
 closes n c who b b' e l m p r ph plain entry ms on is unsent s =
     let g : Grows b.link b.phases b'.link b'.phases = rw (l, ph) (grows-with c (phase.Closing who false) b.link b.phases refl) in
     record {
@@ -165,7 +165,7 @@ closes n c who b b' e l m p r ph plain entry ms on is unsent s =
     }
 
 -- an opening ends
-ends_one : (n c : ℕ) (p : Phase) (b b' : Base) → b.link ≡ link.Open → b'.link ≡ b.link → b'.frame_max ≡ b.frame_max → b'.publishes ≡ filter (is_off publish_channel c) b.publishes → b'.rest ≡ cond (is_rest_of c b.rest) [] b.rest → b'.phases ≡ with_channel c p b.phases → (ArePlain b.methods → ArePlain b'.methods) → (AreMarked b.phases b.methods → AreMarked b'.phases b'.methods) → is_live p ≡ false → Sound n b → Moves n b b' (c ∷ []) []
+ends_one : (n c : ℕ) (p : ChannelPhase) (b b' : Wire) → b.link ≡ link.Open → b'.link ≡ b.link → b'.frame_max ≡ b.frame_max → b'.publishes ≡ filter (is_off publish_channel c) b.publishes → b'.rest ≡ cond (is_rest_of c b.rest) [] b.rest → b'.phases ≡ with_channel c p b.phases → (ArePlain b.methods → ArePlain b'.methods) → (AreMarked b.phases b.methods → AreMarked b'.phases b'.methods) → is_live p ≡ false → Sound n b → Moves n b b' (c ∷ []) []
 ends_one n c p b b' e l m q r ph plain marks over s = record {
   sound = record {
     max = m ∙ s.max;
@@ -182,11 +182,11 @@ ends_one n c p b b' e l m q r ph plain marks over s = record {
 }
 
 -- the connection leaves the open state, or is lost
-cut_down : (b : Base) (rest : List RestEntry) → IsRestAlive b.link b.phases rest → [] ≡ cut_at (live_channels b.phases) (frames_of rest)
+cut_down : (b : Wire) (rest : List RestEntry) → IsRestAlive b.link b.phases rest → [] ≡ cut_at (live_channels b.phases) (frames_of rest)
 cut_down b [] h = sym (cut-nil (live_channels b.phases))
 cut_down b (f ∷ fs) h = sym (cut-all f.frame (frames_of fs) (live_channels b.phases) (live-in _ b.phases h.0.1))
 
-falls : (n : ℕ) (x : Error) (b b' : Base) → is_up b'.link ≡ false → b'.frame_max ≡ b.frame_max → b'.publishes ≡ [] → b'.rest ≡ [] → ArePlain b'.methods → (is_lost b'.link ≡ true → b'.methods ≡ []) → Sound n b → Moves n b b' (ended_in (ends_all x b)) []
+falls : (n : ℕ) (x : Error) (b b' : Wire) → is_up b'.link ≡ false → b'.frame_max ≡ b.frame_max → b'.publishes ≡ [] → b'.rest ≡ [] → ArePlain b'.methods → (is_lost b'.link ≡ true → b'.methods ≡ []) → Sound n b → Moves n b b' (ended_in (ends_all x b)) []
 falls n x b b' d m p r plain lost s = record {
   sound = record {
     max = m ∙ s.max;
@@ -203,7 +203,7 @@ falls n x b b' d m p r plain lost s = record {
 }
 
 -- the connection is closing already
-sinks : (n : ℕ) (b b' : Base) → is_up b.link ≡ false → is_up b'.link ≡ false → is_lost b'.link ≡ false → b'.frame_max ≡ b.frame_max → (b.publishes ≡ [] → b'.publishes ≡ []) → (b.rest ≡ [] → b'.rest ≡ []) → (ArePlain b.methods → ArePlain b'.methods) → Sound n b → Moves n b b' [] []
+sinks : (n : ℕ) (b b' : Wire) → is_up b.link ≡ false → is_up b'.link ≡ false → is_lost b'.link ≡ false → b'.frame_max ≡ b.frame_max → (b.publishes ≡ [] → b'.publishes ≡ []) → (b.rest ≡ [] → b'.rest ≡ []) → (ArePlain b.methods → ArePlain b'.methods) → Sound n b → Moves n b b' [] []
 sinks n b b' d d' live m p r plain s =
     let was : b.rest ≡ [] = none_begun b.link b.phases b.rest d s.rest in
     let none : b'.rest ≡ [] = r was in
@@ -219,7 +219,7 @@ sinks n b b' d d' live m p r plain s =
 
 -- ---- calls
 
-pub open_here : (t : Bool) (p : Phase) → is_open (cond t state.Base (channel_state p)) ≡ true → is_live p ≡ true
+pub open_here : (t : Bool) (p : ChannelPhase) → is_open (cond t state.Base (channel_state p)) ≡ true → is_live p ≡ true
 open_here true p h = absurd cc
 open_here false phase.Closed h = absurd cc
 open_here false phase.Opening h = absurd cc
@@ -227,16 +227,16 @@ open_here false (phase.Open paused) h = refl
 open_here false (phase.Closing who sent) h = absurd cc
 open_here false phase.Crossed h = absurd cc
 
-pub allowed_up : (l : Link) (k : Asked) (s : ChannelState) → is_allowed k (cond (is_up l) s state.Down) ≡ true → l ≡ link.Open
+pub allowed_up : (l : ConnectionPhase) (k : Asked) (s : ChannelState) → is_allowed k (cond (is_up l) s state.Down) ≡ true → l ≡ link.Open
 allowed_up link.Open k s h = refl
 allowed_up (link.Closing x y) k s h = let x = shut_refuses k in cc
 allowed_up link.Closed k s h = let x = shut_refuses k in cc
 allowed_up link.Lost k s h = let x = shut_refuses k in cc
 
-pub state_up : (c : ℕ) (b : Base) → b.link ≡ link.Open → state_of c b ≡ cond (c == 0) state.Base (channel_state (phase_of c b))
+pub state_up : (c : ℕ) (b : Wire) → b.link ≡ link.Open → state_of c b ≡ cond (c == 0) state.Base (channel_state (phase_of c b))
 state_up c b e = rw e refl
 
-joins : (n : ℕ) (b b' : Base) (q : Publish) → b.link ≡ link.Open → b'.link ≡ b.link → b'.frame_max ≡ b.frame_max → b'.publishes ≡ b.publishes ++ q ∷ [] → b'.rest ≡ b.rest → b'.methods ≡ b.methods → b'.phases ≡ b.phases → live_at q.channel b.phases ≡ true → Sound n b → Moves n b b' [] (q ∷ [])
+joins : (n : ℕ) (b b' : Wire) (q : Publish) → b.link ≡ link.Open → b'.link ≡ b.link → b'.frame_max ≡ b.frame_max → b'.publishes ≡ b.publishes ++ q ∷ [] → b'.rest ≡ b.rest → b'.methods ≡ b.methods → b'.phases ≡ b.phases → live_at q.channel b.phases ≡ true → Sound n b → Moves n b b' [] (q ∷ [])
 joins n b b' q e l m p r ms ph live s = record {
   sound = record {
     max = m ∙ s.max;
@@ -256,10 +256,10 @@ queued_quiet : (t : Bool) (c : ℕ) → ended_in (cond t (mark.SelectCalled c �
 queued_quiet true c = refl
 queued_quiet false c = refl
 
-abbrev CallMoves : ℕ → ℕ → Asked → Base → Type 0
+abbrev CallMoves : ℕ → ℕ → Asked → Wire → Type 0
 CallMoves n c k b = Moves n b (after_call c k b) (ended_in (call_marks c k b)) (published_by c k (accepted_record k b))
 
-call_up : (n c : ℕ) (k : Asked) (b : Base) → b.link ≡ link.Open → is_allowed k (cond (c == 0) state.Base (channel_state (phase_of c b))) ≡ true → IsPlainRow c k → Sound n b → CallMoves n c k b
+call_up : (n c : ℕ) (k : Asked) (b : Wire) → b.link ≡ link.Open → is_allowed k (cond (c == 0) state.Base (channel_state (phase_of c b))) ≡ true → IsPlainRow c k → Sound n b → CallMoves n c k b
 call_up n c ask.Open b e a plain s = keeps n b _ e refl refl refl refl (plain-push b.methods _ refl) (grows-with c phase.Opening b.link b.phases refl) (λ h. marks_noted _ b.methods _ refl (marks_moved c phase.Opening b.phases b.methods (closed_unsent (c == 0) (phase_of c b) a) refl h)) s
 call_up n c (ask.CloseChannel code text) b e a plain s = closes n c closer.Application b _ e refl refl refl refl refl (plain-push b.methods _ refl) _ refl refl refl (open_unsent (c == 0) (phase_of c b) a) s
 call_up n c (ask.CloseConnection code text) b e a plain s = falls n _ b _ refl refl refl refl (refl, tt) (λ h. cc) s
@@ -275,7 +275,7 @@ refused_none c (ask.CloseConnection code text) x = refl
 refused_none c (ask.Publish exchange key o payload properties) x = refl
 refused_none c (ask.Method row) x = refl
 
-call_moves : (n c : ℕ) (k : Asked) (b : Base) → IsPlainRow c k → Sound n b → Moves n b (after_asking c k b) (ended_in (asking_marks c k b)) (published_by c k (call_record c k b))
+call_moves : (n c : ℕ) (k : Asked) (b : Wire) → IsPlainRow c k → Sound n b → Moves n b (after_asking c k b) (ended_in (asking_marks c k b)) (published_by c k (call_record c k b))
 call_moves n c k b plain s = elim (is_allowed k (state_of c b)) as (λ t. is_allowed k (state_of c b) ≡ t → Moves n b (cond t (after_call c k b) b) (ended_in (cond t (call_marks c k b) [])) (published_by c k (cond t (accepted_record k b) (record_.Refused (error.InvalidChannelState (state_of c b)))))) [
   | true ↦ λ a. let e = allowed_up b.link k (cond (c == 0) state.Base (channel_state (phase_of c b))) a in call_up n c k b e (rw e at a) plain s
   | false ↦ λ a. subst (Moves n b b []) (sym (refused_none c k (error.InvalidChannelState (state_of c b)))) (same n b s)
@@ -283,125 +283,125 @@ call_moves n c k b plain s = elim (is_allowed k (state_of c b)) as (λ t. is_all
 
 -- ---- frames of the broker
 
-abbrev Hears : ℕ → Base → Incoming → Record → Type 0
-Hears n b i r = Moves n b (after_heard i r b) (ended_in (heard_marks i r b)) []
+abbrev Hears : ℕ → Wire → Incoming → Record → Type 0
+Hears n b i r = Moves n b (after_incoming i r b) (ended_in (incoming_marks i r b)) []
 
 pub both : (x y : Bool) → (x && y) ≡ true → x ≡ true
 both true y h = refl
 both false y h = cc
 
-pub up_open : (l : Link) → is_up l ≡ true → l ≡ link.Open
+pub up_open : (l : ConnectionPhase) → is_up l ≡ true → l ≡ link.Open
 up_open link.Open h = refl
 up_open (link.Closing s x) h = cc
 up_open link.Closed h = cc
 up_open link.Lost h = cc
 
 -- where no channel stands open, no opening ends
-no_ends : (x : Error) (b : Base) → b.phases ≡ [] → [] ≡ ended_in (ends_all x b)
+no_ends : (x : Error) (b : Wire) → b.phases ≡ [] → [] ≡ ended_in (ends_all x b)
 no_ends x b none = rw none refl
 
 module _ (class number : ℕ) where
   abbrev no : Record
   no = refused class number
 
-  unheard : (n : ℕ) (b : Base) (i : Incoming) → Sound n b → Hears n b i no
-  unheard n b i s = falls n _ b _ refl refl refl refl (refl, tt) (λ h. cc) s
+  unreceived : (n : ℕ) (b : Wire) (i : Incoming) → Sound n b → Hears n b i no
+  unreceived n b i s = falls n _ b _ refl refl refl refl (refl, tt) (λ h. cc) s
 
-  grows_opened : (c : ℕ) (t : Bool) (l : Link) (ps : List (ℕ × Phase)) → Grows l ps l (cond t (with_channel c (phase.Open false) ps) ps)
+  grows_opened : (c : ℕ) (t : Bool) (l : ConnectionPhase) (ps : List (ℕ × ChannelPhase)) → Grows l ps l (cond t (with_channel c (phase.Open false) ps) ps)
   grows_opened c true l ps = grows-with c (phase.Open false) l ps refl
   grows_opened c false l ps = same_grows l ps
 
-  marks_opened : (c : ℕ) (t : Bool) (b : Base) → cond t (is_opening (cond (c == 0) state.Base (channel_state (phase_of c b)))) (hears_on (cond (c == 0) state.Base (channel_state (phase_of c b)))) ≡ true → AreMarked b.phases b.methods → AreMarked (cond t (with_channel c (phase.Open false) b.phases) b.phases) b.methods
+  marks_opened : (c : ℕ) (t : Bool) (b : Wire) → cond t (is_opening (cond (c == 0) state.Base (channel_state (phase_of c b)))) (receives_on (cond (c == 0) state.Base (channel_state (phase_of c b)))) ≡ true → AreMarked b.phases b.methods → AreMarked (cond t (with_channel c (phase.Open false) b.phases) b.phases) b.methods
   marks_opened c true b a h = marks_moved c (phase.Open false) b.phases b.methods (opening_unsent (c == 0) (phase_of c b) a) refl h
   marks_opened c false b a h = h
 
-  reply_hears : (n c : ℕ) (k : ReplyKind) (a : Answer) (b : Base) → b.link ≡ link.Open → Sound n b → Hears n b (incoming.Reply c k a) (when (hears_reply c k b) no)
-  reply_hears n c k a b e s = elim (hears_reply c k b) as (λ t. hears_reply c k b ≡ t → Hears n b (incoming.Reply c k a) (when t no)) [
-    | true ↦ λ h. keeps n b _ e refl refl refl refl (λ x. x) (grows_opened c (opens k) b.link b.phases) (marks_opened c (opens k) b (rw (state_up c b e) at (both (hears k (state_of c b)) (is_some (first_request k (requests_of c b))) h))) s
-    | false ↦ λ h. unheard n b (incoming.Reply c k a) s
+  reply_receives : (n c : ℕ) (k : ReplyKind) (a : Answer) (b : Wire) → b.link ≡ link.Open → Sound n b → Hears n b (incoming.Reply c k a) (when (receives_reply c k b) no)
+  reply_receives n c k a b e s = elim (receives_reply c k b) as (λ t. receives_reply c k b ≡ t → Hears n b (incoming.Reply c k a) (when t no)) [
+    | true ↦ λ h. keeps n b _ e refl refl refl refl (λ x. x) (grows_opened c (opens k) b.link b.phases) (marks_opened c (opens k) b (rw (state_up c b e) at (both (receives k (state_of c b)) (is_some (first_request k (requests_of c b))) h))) s
+    | false ↦ λ h. unreceived n b (incoming.Reply c k a) s
   ] refl
 
-  flow_moves : (n c : ℕ) (active : Bool) (b : Base) → b.link ≡ link.Open → Sound n b → Moves n b (after_flow c active b) [] []
+  flow_moves : (n c : ℕ) (active : Bool) (b : Wire) → b.link ≡ link.Open → Sound n b → Moves n b (after_flow c active b) [] []
   flow_moves n c active b e s =
-      let to : Base = noted c (method.Channel (channel.FlowOk active)) (record b { phases = with_channel c (phase.Open (not active)) b.phases }) in
+      let to : Wire = noted c (method.Channel (channel.FlowOk active)) (record b { phases = with_channel c (phase.Open (not active)) b.phases }) in
       elim (is_open (state_of c b)) as (λ t. is_open (state_of c b) ≡ t → Moves n b (cond t to b) [] []) [
         | true ↦ λ a. keeps n b _ e refl refl refl refl (plain-push b.methods _ refl) (grows-with c (phase.Open (not active)) b.link b.phases refl) (λ h. marks_noted _ b.methods _ refl (marks_moved c (phase.Open (not active)) b.phases b.methods (open_unsent (c == 0) (phase_of c b) (rw (state_up c b e) at a)) refl h)) s
         | false ↦ λ a. same n b s
       ] refl
 
-  flow_hears : (n c : ℕ) (active : Bool) (b : Base) → b.link ≡ link.Open → Sound n b → Hears n b (incoming.Flow c active) (when (hears_on (state_of c b)) no)
-  flow_hears n c active b e s = elim (hears_on (state_of c b)) as (λ t. Hears n b (incoming.Flow c active) (when t no)) [
+  flow_receives : (n c : ℕ) (active : Bool) (b : Wire) → b.link ≡ link.Open → Sound n b → Hears n b (incoming.Flow c active) (when (receives_on (state_of c b)) no)
+  flow_receives n c active b e s = elim (receives_on (state_of c b)) as (λ t. Hears n b (incoming.Flow c active) (when t no)) [
     | true ↦ flow_moves n c active b e s
-    | false ↦ unheard n b (incoming.Flow c active) s
+    | false ↦ unreceived n b (incoming.Flow c active) s
   ]
 
-  close_hears : (n c code : ℕ) (b : Base) → b.link ≡ link.Open → Sound n b → Hears n b (incoming.ChannelClose c code) (when (hears_close (state_of c b)) no)
-  close_hears n c code b e s = elim (hears_close (state_of c b)) as (λ t. Hears n b (incoming.ChannelClose c code) (when t no)) [
+  close_receives : (n c code : ℕ) (b : Wire) → b.link ≡ link.Open → Sound n b → Hears n b (incoming.ChannelClose c code) (when (receives_close (state_of c b)) no)
+  close_receives n c code b e s = elim (receives_close (state_of c b)) as (λ t. Hears n b (incoming.ChannelClose c code) (when t no)) [
     | true ↦ ends_one n c _ b _ e refl refl refl refl refl (λ h. plain-push _ _ refl (plain-filter (is_off method_channel c) b.methods h)) (λ h. marks_noted _ (filter (is_off method_channel c) b.methods) (record { channel = c; method = method.Channel channel.CloseOk; ticket = None }) refl (marks_ended c _ b.phases b.methods (broker_unsent (phase_of c b)) h)) (broker_over (phase_of c b)) s
-    | false ↦ unheard n b (incoming.ChannelClose c code) s
+    | false ↦ unreceived n b (incoming.ChannelClose c code) s
   ]
 
-  answered : (n c : ℕ) (p : Phase) (b : Base) → phase_of c b ≡ p → hears_close_ok (cond (c == 0) state.Base (channel_state p)) ≡ true → b.link ≡ link.Open → Sound n b → Moves n b (after_close_ok c p b) (ended_in (end_with c (close_ok_end p))) []
-  answered n c phase.Closed b q a e s = absurd (not_heard (c == 0) a)
+  answered : (n c : ℕ) (p : ChannelPhase) (b : Wire) → phase_of c b ≡ p → receives_close_ok (cond (c == 0) state.Base (channel_state p)) ≡ true → b.link ≡ link.Open → Sound n b → Moves n b (after_close_ok c p b) (ended_in (end_with c (close_ok_end p))) []
+  answered n c phase.Closed b q a e s = absurd (not_incoming (c == 0) a)
     where
-      not_heard : (t : Bool) → hears_close_ok (cond t state.Base state.Closed) ≡ true → ⊥
-      not_heard true h = cc
-      not_heard false h = cc
-  answered n c phase.Opening b q a e s = absurd (not_heard (c == 0) a)
+      not_incoming : (t : Bool) → receives_close_ok (cond t state.Base state.Closed) ≡ true → ⊥
+      not_incoming true h = cc
+      not_incoming false h = cc
+  answered n c phase.Opening b q a e s = absurd (not_incoming (c == 0) a)
     where
-      not_heard : (t : Bool) → hears_close_ok (cond t state.Base state.Opening) ≡ true → ⊥
-      not_heard true h = cc
-      not_heard false h = cc
-  answered n c (phase.Open paused) b q a e s = absurd (not_heard (c == 0) a)
+      not_incoming : (t : Bool) → receives_close_ok (cond t state.Base state.Opening) ≡ true → ⊥
+      not_incoming true h = cc
+      not_incoming false h = cc
+  answered n c (phase.Open paused) b q a e s = absurd (not_incoming (c == 0) a)
     where
-      not_heard : (t : Bool) → hears_close_ok (cond t state.Base state.Open) ≡ true → ⊥
-      not_heard true h = cc
-      not_heard false h = cc
+      not_incoming : (t : Bool) → receives_close_ok (cond t state.Base state.Open) ≡ true → ⊥
+      not_incoming true h = cc
+      not_incoming false h = cc
   answered n c (phase.Closing who sent) b q a e s = ends_one n c phase.Closed b _ e refl refl refl refl refl (plain-filter (is_off method_channel c) b.methods) (marks_ended c phase.Closed b.phases b.methods refl) refl s
   answered n c phase.Crossed b q a e s = keeps n b _ e refl refl refl refl (λ h. h) (grows-dead c phase.Closed b.link b.phases (ap is_live q)) (marks_moved c phase.Closed b.phases b.methods (ap is_unsent q) refl) s
 
-  close_ok_hears : (n c : ℕ) (b : Base) → b.link ≡ link.Open → Sound n b → Hears n b (incoming.ChannelCloseOk c) (when (hears_close_ok (state_of c b)) no)
-  close_ok_hears n c b e s = elim (hears_close_ok (state_of c b)) as (λ t. hears_close_ok (state_of c b) ≡ t → Hears n b (incoming.ChannelCloseOk c) (when t no)) [
+  close_ok_receives : (n c : ℕ) (b : Wire) → b.link ≡ link.Open → Sound n b → Hears n b (incoming.ChannelCloseOk c) (when (receives_close_ok (state_of c b)) no)
+  close_ok_receives n c b e s = elim (receives_close_ok (state_of c b)) as (λ t. receives_close_ok (state_of c b) ≡ t → Hears n b (incoming.ChannelCloseOk c) (when t no)) [
     | true ↦ λ a. answered n c (phase_of c b) b refl (rw (state_up c b e) at a) e s
-    | false ↦ λ a. unheard n b (incoming.ChannelCloseOk c) s
+    | false ↦ λ a. unreceived n b (incoming.ChannelCloseOk c) s
   ] refl
 
-  failed_hears : (n c tag current : ℕ) (z : Settlement) (b : Base) → b.link ≡ link.Open → Sound n b → Hears n b (incoming.Settlement c z) (record_.Refused (error.PreconditionFailed tag current))
-  failed_hears n c tag current z b e s = elim (is_open (state_of c b)) as (λ t. is_open (state_of c b) ≡ t → Moves n b (cond t (noted c (session_close z.kind) (closing c closer.Session b)) b) (ended_in (cond t (close_marks c closer.Session) [])) []) [
+  failed_receives : (n c tag current : ℕ) (z : Settlement) (b : Wire) → b.link ≡ link.Open → Sound n b → Hears n b (incoming.Settlement c z) (record_.Refused (error.PreconditionFailed tag current))
+  failed_receives n c tag current z b e s = elim (is_open (state_of c b)) as (λ t. is_open (state_of c b) ≡ t → Moves n b (cond t (noted c (session_close z.kind) (closing c closer.Session b)) b) (ended_in (cond t (close_marks c closer.Session) [])) []) [
     | true ↦ λ a. closes n c closer.Session b _ e refl refl refl refl refl (plain-push b.methods _ refl) _ refl refl refl (open_unsent (c == 0) (phase_of c b) (rw (state_up c b e) at a)) s
     | false ↦ λ a. same n b s
   ] refl
 
-  settlement_hears : (n c : ℕ) (z : Settlement) (see : Sight) (b : Base) → b.link ≡ link.Open → Sound n b → Hears n b (incoming.Settlement c z) (cond (hears_on (state_of c b)) (settlement_record see c z) no)
-  settlement_hears n c z see b e s = elim (hears_on (state_of c b)) as (λ t. Hears n b (incoming.Settlement c z) (cond t (settlement_record see c z) no)) [
-    | true ↦ elim (see.selected c) as (λ t. Hears n b (incoming.Settlement c z) (cond t (cond (z.multiple || see.pending c z.tag) record_.Received (record_.Refused (error.PreconditionFailed z.tag (see.last c)))) record_.Passed)) [
-      | true ↦ elim (z.multiple || see.pending c z.tag) as (λ t. Hears n b (incoming.Settlement c z) (cond t record_.Received (record_.Refused (error.PreconditionFailed z.tag (see.last c))))) [
+  settlement_receives : (n c : ℕ) (z : Settlement) (readings : Readings) (b : Wire) → b.link ≡ link.Open → Sound n b → Hears n b (incoming.Settlement c z) (cond (receives_on (state_of c b)) (settlement_record readings c z) no)
+  settlement_receives n c z readings b e s = elim (receives_on (state_of c b)) as (λ t. Hears n b (incoming.Settlement c z) (cond t (settlement_record readings c z) no)) [
+    | true ↦ elim (readings.selected c) as (λ t. Hears n b (incoming.Settlement c z) (cond t (cond (z.multiple || readings.pending c z.tag) record_.Received (record_.Refused (error.PreconditionFailed z.tag (readings.last c)))) record_.Passed)) [
+      | true ↦ elim (z.multiple || readings.pending c z.tag) as (λ t. Hears n b (incoming.Settlement c z) (cond t record_.Received (record_.Refused (error.PreconditionFailed z.tag (readings.last c))))) [
         | true ↦ same n b s
-        | false ↦ failed_hears n c z.tag (see.last c) z b e s
+        | false ↦ failed_receives n c z.tag (readings.last c) z b e s
       ]
       | false ↦ same n b s
     ]
-    | false ↦ unheard n b (incoming.Settlement c z) s
+    | false ↦ unreceived n b (incoming.Settlement c z) s
   ]
 
-  up_hears : (n : ℕ) (b : Base) (see : Sight) (i : Incoming) → b.link ≡ link.Open → Sound n b → Hears n b i (heard_up b see no i)
-  up_hears n b see (incoming.Reply c k a) e s = reply_hears n c k a b e s
-  up_hears n b see (incoming.Settlement c z) e s = settlement_hears n c z see b e s
-  up_hears n b see (incoming.Flow c active) e s = flow_hears n c active b e s
-  up_hears n b see (incoming.ChannelClose c code) e s = close_hears n c code b e s
-  up_hears n b see (incoming.ChannelCloseOk c) e s = close_ok_hears n c b e s
-  up_hears n b see (incoming.ConnectionClose code) e s = subst (λ l. Moves n b (after_connection_close l b) (ended_in (ends_all (error.ProtocolError code) b)) []) (sym e) (falls n (error.ProtocolError code) b _ refl refl refl refl (refl, tt) (λ h. cc) s)
-  up_hears n b see incoming.ConnectionCloseOk e s = unheard n b incoming.ConnectionCloseOk s
-  up_hears n b see incoming.Other e s = unheard n b incoming.Other s
+  up_receives : (n : ℕ) (b : Wire) (readings : Readings) (i : Incoming) → b.link ≡ link.Open → Sound n b → Hears n b i (incoming_up b readings no i)
+  up_receives n b readings (incoming.Reply c k a) e s = reply_receives n c k a b e s
+  up_receives n b readings (incoming.Settlement c z) e s = settlement_receives n c z readings b e s
+  up_receives n b readings (incoming.Flow c active) e s = flow_receives n c active b e s
+  up_receives n b readings (incoming.ChannelClose c code) e s = close_receives n c code b e s
+  up_receives n b readings (incoming.ChannelCloseOk c) e s = close_ok_receives n c b e s
+  up_receives n b readings (incoming.ConnectionClose code) e s = subst (λ l. Moves n b (after_connection_close l b) (ended_in (ends_all (error.ProtocolError code) b)) []) (sym e) (falls n (error.ProtocolError code) b _ refl refl refl refl (refl, tt) (λ h. cc) s)
+  up_receives n b readings incoming.ConnectionCloseOk e s = unreceived n b incoming.ConnectionCloseOk s
+  up_receives n b readings incoming.Other e s = unreceived n b incoming.Other s
 
-  pub heard_is : (b : Base) (see : Sight) (i : Incoming) (l : Link) → b.link ≡ l → heard_record b see no i ≡ cond (is_up l) (heard_up b see no i) (cond (hears_down l i) record_.Received record_.Passed)
-  heard_is b see i l e = ap (λ l. cond (is_up l) (heard_up b see no i) (cond (hears_down l i) record_.Received record_.Passed)) e
+  pub incoming_is : (b : Wire) (readings : Readings) (i : Incoming) (l : ConnectionPhase) → b.link ≡ l → incoming_record b readings no i ≡ cond (is_up l) (incoming_up b readings no i) (cond (receives_down l i) record_.Received record_.Passed)
+  incoming_is b readings i l e = ap (λ l. cond (is_up l) (incoming_up b readings no i) (cond (receives_down l i) record_.Received record_.Passed)) e
 
-  down_hears : (n : ℕ) (l : Link) (b : Base) (i : Incoming) → b.link ≡ l → is_up l ≡ false → b.phases ≡ [] → Sound n b → Hears n b i (cond (hears_down l i) record_.Received record_.Passed)
-  down_hears n link.Open b i e d none s = absurd cc
-  down_hears n link.Closed b i e d none s = same n b s
-  down_hears n link.Lost b i e d none s = same n b s
-  down_hears n (link.Closing x was) b incoming.ConnectionCloseOk e d none s = sinks n b _ (rw e refl) refl refl refl (unsent_publishes (has_sent b.link)) (unsent_rest (has_sent b.link)) (unsent_plain (has_sent b.link)) s
+  down_receives : (n : ℕ) (l : ConnectionPhase) (b : Wire) (i : Incoming) → b.link ≡ l → is_up l ≡ false → b.phases ≡ [] → Sound n b → Hears n b i (cond (receives_down l i) record_.Received record_.Passed)
+  down_receives n link.Open b i e d none s = absurd cc
+  down_receives n link.Closed b i e d none s = same n b s
+  down_receives n link.Lost b i e d none s = same n b s
+  down_receives n (link.Closing x was) b incoming.ConnectionCloseOk e d none s = sinks n b _ (rw e refl) refl refl refl (unsent_publishes (has_sent b.link)) (unsent_rest (has_sent b.link)) (unsent_plain (has_sent b.link)) s
     where
       unsent_publishes : (t : Bool) → b.publishes ≡ [] → (unless_sent t (lists_of b)).publishes ≡ []
       unsent_publishes true h = h
@@ -414,30 +414,30 @@ module _ (class number : ℕ) where
       unsent_plain : (t : Bool) → ArePlain b.methods → ArePlain (unless_sent t (lists_of b)).methods
       unsent_plain true h = h
       unsent_plain false h = tt
-  down_hears n (link.Closing x true) b (incoming.ConnectionClose code) e d none s = same n b s
-  down_hears n (link.Closing true false) b (incoming.ConnectionClose code) e d none s =
+  down_receives n (link.Closing x true) b (incoming.ConnectionClose code) e d none s = same n b s
+  down_receives n (link.Closing true false) b (incoming.ConnectionClose code) e d none s =
       let shut : is_up b.link ≡ false = rw e refl in
-      let D : Link → List ℕ → Type 0 = λ l cs. Moves n b (after_connection_close l b) cs [] in
+      let D : ConnectionPhase → List ℕ → Type 0 = λ l cs. Moves n b (after_connection_close l b) cs [] in
       subst (D b.link) (no_ends (error.ProtocolError code) b none) (subst (λ l. D l []) (sym e) (sinks n b _ shut refl refl refl (λ h. h) (λ h. h) (plain-push b.methods _ refl) s))
-  down_hears n (link.Closing false false) b (incoming.ConnectionClose code) e d none s =
-      let D : Link → List ℕ → Type 0 = λ l cs. Moves n b (after_connection_close l b) cs [] in
+  down_receives n (link.Closing false false) b (incoming.ConnectionClose code) e d none s =
+      let D : ConnectionPhase → List ℕ → Type 0 = λ l cs. Moves n b (after_connection_close l b) cs [] in
       subst (λ l. D l (ended_in (ends_all (error.ProtocolError code) b))) (sym e) (falls n (error.ProtocolError code) b _ refl refl refl refl (refl, tt) (λ h. cc) s)
-  down_hears n (link.Closing x was) b (incoming.Reply c k a) e d none s = same n b s
-  down_hears n (link.Closing x was) b (incoming.Settlement c z) e d none s = same n b s
-  down_hears n (link.Closing x was) b (incoming.Flow c active) e d none s = same n b s
-  down_hears n (link.Closing x was) b (incoming.ChannelClose c code) e d none s = same n b s
-  down_hears n (link.Closing x was) b (incoming.ChannelCloseOk c) e d none s = same n b s
-  down_hears n (link.Closing x was) b incoming.Other e d none s = same n b s
+  down_receives n (link.Closing x was) b (incoming.Reply c k a) e d none s = same n b s
+  down_receives n (link.Closing x was) b (incoming.Settlement c z) e d none s = same n b s
+  down_receives n (link.Closing x was) b (incoming.Flow c active) e d none s = same n b s
+  down_receives n (link.Closing x was) b (incoming.ChannelClose c code) e d none s = same n b s
+  down_receives n (link.Closing x was) b (incoming.ChannelCloseOk c) e d none s = same n b s
+  down_receives n (link.Closing x was) b incoming.Other e d none s = same n b s
 
-  heard_moves : (n : ℕ) (l : Link) (b : Base) (see : Sight) (i : Incoming) → b.link ≡ l → IsShut b → Sound n b → Hears n b i (heard_record b see no i)
-  heard_moves n l b see i e shut s = subst (Hears n b i) (sym (heard_is b see i l e)) (elim (is_up l) as (λ t. is_up l ≡ t → Hears n b i (cond t (heard_up b see no i) (cond (hears_down l i) record_.Received record_.Passed))) [
-    | true ↦ λ u. up_hears n b see i (e ∙ up_open l u) s
-    | false ↦ λ u. down_hears n l b i e u (shut (ap is_up e ∙ u)) s
+  incoming_moves : (n : ℕ) (l : ConnectionPhase) (b : Wire) (readings : Readings) (i : Incoming) → b.link ≡ l → IsShut b → Sound n b → Hears n b i (incoming_record b readings no i)
+  incoming_moves n l b readings i e shut s = subst (Hears n b i) (sym (incoming_is b readings i l e)) (elim (is_up l) as (λ t. is_up l ≡ t → Hears n b i (cond t (incoming_up b readings no i) (cond (receives_down l i) record_.Received record_.Passed))) [
+    | true ↦ λ u. up_receives n b readings i (e ∙ up_open l u) s
+    | false ↦ λ u. down_receives n l b i e u (shut (ap is_up e ∙ u)) s
   ] refl)
 
 -- ---- every event but a frame request
 
-lost_moves : (n : ℕ) (b : Base) → IsShut b → Sound n b → Moves n b (after_lost b) (ended_in (ends_all error.ConnectionLost b)) []
+lost_moves : (n : ℕ) (b : Wire) → IsShut b → Sound n b → Moves n b (after_lost b) (ended_in (ends_all error.ConnectionLost b)) []
 lost_moves n b shut s = elim (is_lost b.link) as (λ t. is_lost b.link ≡ t → Moves n b (cond t b (down link.Lost b)) (ended_in (ends_all error.ConnectionLost b)) []) [
   | true ↦ λ h. subst (λ cs. Moves n b b cs []) (no_ends error.ConnectionLost b (shut (lost_not_up b.link h))) (same n b s)
   | false ↦ λ h. falls n error.ConnectionLost b _ refl refl refl refl tt (λ x. refl) s
@@ -447,29 +447,29 @@ taken_quiet : (t : Bool) (m : ℕ) → ended_in (cond t (mark.Taken m ∷ []) []
 taken_quiet true m = refl
 taken_quiet false m = refl
 
-abbrev pub MovesBy : ℕ → Base → Sight → Event → Type 0
-MovesBy n b see e = Moves n b (after_event b e (record_of b see e)) (ended_in (confirm_marks b e (record_of b see e))) (called_by e (record_of b see e))
+abbrev pub MovesBy : ℕ → Wire → Readings → Event → Type 0
+MovesBy n b readings e = Moves n b (after_event b e (record_of b readings e)) (ended_in (confirm_marks b e (record_of b readings e))) (called_by e (record_of b readings e))
 
-pub call_event : (n : ℕ) (b : Base) (see : Sight) (c : ℕ) (k : Call) → Sound n b → MovesBy n b see (event.Call c k)
-call_event n b see c k s = call_moves n c (asked k) b (row_plain c k) s
+pub call_event : (n : ℕ) (b : Wire) (readings : Readings) (c : ℕ) (k : Call) → Sound n b → MovesBy n b readings (event.Call c k)
+call_event n b readings c k s = call_moves n c (asked k) b (row_plain c k) s
 
-pub heard_event : (n : ℕ) (b : Base) (see : Sight) (f : Frame) → IsShut b → Sound n b → MovesBy n b see (event.Receive f)
-heard_event n b see f shut s = heard_moves (frame_class f) (frame_method f) n b.link b see (heard f) refl shut s
+pub incoming_event : (n : ℕ) (b : Wire) (readings : Readings) (f : Frame) → IsShut b → Sound n b → MovesBy n b readings (event.Receive f)
+incoming_event n b readings f shut s = incoming_moves (frame_class f) (frame_method f) n b.link b readings (incoming_of f) refl shut s
 
-pub lost_event : (n : ℕ) (b : Base) (see : Sight) → IsShut b → Sound n b → MovesBy n b see event.Lost
-lost_event n b see shut s = lost_moves n b shut s
+pub lost_event : (n : ℕ) (b : Wire) (readings : Readings) → IsShut b → Sound n b → MovesBy n b readings event.Lost
+lost_event n b readings shut s = lost_moves n b shut s
 
-pub ticket_event : (n : ℕ) (b : Base) (see : Sight) (k : ℕ) → Sound n b → MovesBy n b see (event.PollTicket k)
-ticket_event n b see k s = same n b s
+pub ticket_event : (n : ℕ) (b : Wire) (readings : Readings) (k : ℕ) → Sound n b → MovesBy n b readings (event.PollTicket k)
+ticket_event n b readings k s = same n b s
 
-pub aside_event : (n : ℕ) (b : Base) (see : Sight) (k : ℕ) → Sound n b → MovesBy n b see (event.AsideTicket k)
-aside_event n b see k s = same n b s
+pub aside_event : (n : ℕ) (b : Wire) (readings : Readings) (k : ℕ) → Sound n b → MovesBy n b readings (event.AsideTicket k)
+aside_event n b readings k s = same n b s
 
-pub confirm_event : (n : ℕ) (b : Base) (see : Sight) (m : ℕ) → Sound n b → MovesBy n b see (event.PollConfirm m)
-confirm_event n b see m s = subst (λ cs. Moves n b b cs []) (sym (taken_quiet (is_confirmed (see.confirm m)) m)) (same n b s)
+pub confirm_event : (n : ℕ) (b : Wire) (readings : Readings) (m : ℕ) → Sound n b → MovesBy n b readings (event.PollConfirm m)
+confirm_event n b readings m s = subst (λ cs. Moves n b b cs []) (sym (taken_quiet (is_confirmed (readings.confirm m)) m)) (same n b s)
 
-pub state_event : (n : ℕ) (b : Base) (see : Sight) (c : ℕ) → Sound n b → MovesBy n b see (event.State c)
-state_event n b see c s = same n b s
+pub state_event : (n : ℕ) (b : Wire) (readings : Readings) (c : ℕ) → Sound n b → MovesBy n b readings (event.State c)
+state_event n b readings c s = same n b s
 
 pub start_sound : (n : ℕ) → Sound n (start n)
 start_sound n = record { max = refl; plain = tt; publishes = tt; rest = tt; lost = λ h. cc; closes = λ u c. refl }

@@ -13,7 +13,7 @@ use Rattle.lapin_history.specs.TicketReadings as ticket
 use Rattle.lapin_history.specs.Requests.{resolved_with}
 use Rattle.lapin_ticket.specs.declared.Slot.{Slot}
 use Rattle.lapin_ticket.specs.declared.Slot.TheVariants as slot
-use Rattle.lapin_ticket.specs.Desk.{answered_slot, begun_slot, left_slot, closed_slot, failed_slot, failed, rejects, is_open_on, after_mark}
+use Rattle.lapin_ticket.specs.Slots.{answered_slot, begun_slot, left_slot, closed_slot, failed_slot, failed, rejects, is_open_on, after_mark}
 
 -- the ticket is open, as one of this channel, with this answer at its leaving, and begun or not
 abbrev pub IsOpen : ℕ → List (Option Slot) → ℕ → AtLeaving → Bool → Type 0

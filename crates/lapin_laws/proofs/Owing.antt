@@ -17,7 +17,7 @@ use Rattle.lapin_history.specs.TicketReadings as ticket
 use Rattle.lapin_history.specs.Words.{without_first, with_channel}
 use Rattle.lapin_history.specs.Requests.{requests_in, ticket_of, with_request, resolved_with, request_alone}
 use Rattle.lapin_ticket.specs.declared.Slot.{Slot}
-use Rattle.lapin_ticket.specs.Desk.{after_mark}
+use Rattle.lapin_ticket.specs.Slots.{after_mark}
 use Rattle.lapin_laws.specs.Owed.{IsIn, request_tickets}
 use Rattle.lapin_laws.proofs.Settled.{requests-away, on-here, on-away}
 use Rattle.lapin_laws.proofs.Opens.{IsOpen, open_answered, open_resolved, open_failed, open_none}

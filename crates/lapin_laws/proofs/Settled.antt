@@ -21,39 +21,39 @@ use Rattle.lapin_types.specs.Types.channel_state as state
 use Rattle.lapin_history.specs.declared.calls.Asked.{Asked}
 use Rattle.lapin_history.specs.declared.calls.Asked.TheVariants as ask
 use Rattle.lapin_history.specs.declared.marks.Settlement.{Settlement}
-use Rattle.lapin_history.specs.declared.phases.Phase.{Phase}
-use Rattle.lapin_history.specs.declared.phases.Phase.TheVariants as phase
-use Rattle.lapin_history.specs.declared.phases.Link.{Link}
-use Rattle.lapin_history.specs.declared.phases.Link.TheVariants as link
+use Rattle.lapin_history.specs.declared.phases.ChannelPhase.{ChannelPhase}
+use Rattle.lapin_history.specs.declared.phases.ChannelPhase.TheVariants as phase
+use Rattle.lapin_history.specs.declared.phases.ConnectionPhase.{ConnectionPhase}
+use Rattle.lapin_history.specs.declared.phases.ConnectionPhase.TheVariants as link
 use Rattle.lapin_history.specs.declared.phases.Closer.TheVariants as closer
 use Rattle.lapin_history.specs.declared.broker_frames.Incoming.{Incoming}
 use Rattle.lapin_history.specs.declared.broker_frames.Incoming.TheVariants as incoming
 use Rattle.lapin_history.specs.Calls.{asked}
-use Rattle.lapin_history.specs.Heard.{heard, frame_class, frame_method}
+use Rattle.lapin_history.specs.Incoming.{incoming_of, frame_class, frame_method}
 use Rattle.lapin_history.specs.Words.{is_some, without_first, with_channel}
 use Rattle.lapin_history.specs.Phases.{is_up, is_lost, is_live, channel_state}
 use Rattle.lapin_history.specs.Requests.{requests_in, is_kind, first_request, without_kind, no_requests, close_alone, request_alone, without_request}
-use Rattle.lapin_history.specs.Sight.{Sight}
+use Rattle.lapin_history.specs.Readings.{Readings}
 use Rattle.lapin_history.specs.Ends.{down}
-use Rattle.lapin_history.specs.Base.{Base, requests_of, state_of, phase_of, is_open, is_opening, is_base, requests_with, noted, hears_on}
+use Rattle.lapin_history.specs.Wire.{Wire, requests_of, state_of, phase_of, is_open, is_opening, is_base, requests_with, noted, receives_on}
 use Rattle.lapin_history.specs.Opening.{opens}
-use Rattle.lapin_history.specs.ChannelClose.{has_sent_close, kept_at, phases_sent, closing, after_close_ok, hears_close, hears_close_ok}
-use Rattle.lapin_history.specs.ConnectionClose.{link_sent, hears_down, after_connection_close}
+use Rattle.lapin_history.specs.ChannelClose.{has_sent_close, kept_at, phases_sent, closing, after_close_ok, receives_close, receives_close_ok}
+use Rattle.lapin_history.specs.ConnectionClose.{link_sent, receives_down, after_connection_close}
 use Rattle.lapin_history.specs.Settlement.{settlement_record, session_close}
 use Rattle.lapin_history.specs.Loss.{after_lost}
-use Rattle.lapin_history.specs.Reply.{hears, hears_reply}
+use Rattle.lapin_history.specs.Reply.{receives, receives_reply}
 use Rattle.lapin_history.specs.Unexpected.{refused}
 use Rattle.lapin_history.specs.Asking.{is_allowed, after_call, after_asking}
-use Rattle.lapin_history.specs.Hearing.{when, heard_up, heard_record, after_heard}
+use Rattle.lapin_history.specs.Receiving.{when, incoming_up, incoming_record, after_incoming}
 use Rattle.lapin_history.specs.Handing.{sent, handed}
 use Rattle.lapin_history.specs.Events.{record_of, after_event}
 use Rattle.lapin_history.proofs.ChannelLaws.{at-on, at-with}
 use Rattle.lapin_machine.specs.Tied.{is_live_on}
-use Rattle.lapin_machine.specs.World.{World, new_world, next, sight_of}
+use Rattle.lapin_machine.specs.World.{World, new_world, next, readings_of}
 use Rattle.lapin_machine.proofs.Back.{next_keeps}
 use Rattle.lapin_laws.specs.Runs.{world_after}
 use Rattle.lapin_laws.proofs.Alive.{live_at, live-with}
-use Rattle.lapin_laws.proofs.Moving.{allowed_up, state_up, both, up_open, open_here, heard_is}
+use Rattle.lapin_laws.proofs.Moving.{allowed_up, state_up, both, up_open, open_here, incoming_is}
 use Rattle.lapin_laws.proofs.Going.{up_sent, live_sent}
 
 -- ---- the requests of each channel after a write
@@ -71,10 +71,10 @@ on-away c d f rs n = ap requests_in (at-on c d f rs) ∙ (let off : (c == d) ≡
 abbrev unclosing : ℕ → List (ℕ × List Request) → List Request
 unclosing c rs = without_kind reply_kind.ChannelCloseOk (requests_in (at_channel c rs))
 
-abbrev SettledBy : Link → List (ℕ × Phase) → List (ℕ × List Request) → Type 0
+abbrev SettledBy : ConnectionPhase → List (ℕ × ChannelPhase) → List (ℕ × List Request) → Type 0
 SettledBy l ps rs = (c : ℕ) → (c == 0) ≡ false → is_live_on l (at_channel c ps) ≡ false → unclosing c rs ≡ []
 
-abbrev pub Settled : Base → Type 0
+abbrev pub Settled : Wire → Type 0
 Settled b = SettledBy b.link b.phases b.requests
 
 abbrev Others : ℕ → List (ℕ × List Request) → List (ℕ × List Request) → Type 0
@@ -84,7 +84,7 @@ kept_left : (rs ss : List (ℕ × List Request)) (d : ℕ) → requests_in (at_c
 kept_left rs ss d e h = ap (without_kind reply_kind.ChannelCloseOk) e ∙ h
 
 -- the channel's phase moves to a live one
-to_live : (c : ℕ) (p : Phase) (l : Link) (ps : List (ℕ × Phase)) (rs ss : List (ℕ × List Request)) → l ≡ link.Open → is_live p ≡ true → Others c rs ss → SettledBy l ps rs → SettledBy l (with_channel c p ps) ss
+to_live : (c : ℕ) (p : ChannelPhase) (l : ConnectionPhase) (ps : List (ℕ × ChannelPhase)) (rs ss : List (ℕ × List Request)) → l ≡ link.Open → is_live p ≡ true → Others c rs ss → SettledBy l ps rs → SettledBy l (with_channel c p ps) ss
 to_live c p l ps rs ss e live others h d z dead = elim (eqb_tells c d) [
   | inl y ↦
       let here : is_live_on l (at_channel d (with_channel c p ps)) ≡ true = ap (λ t. is_up l && t) (live-with c d p ps) ∙ rw (y.0, e, live) refl in
@@ -95,7 +95,7 @@ to_live c p l ps rs ss e live others h d z dead = elim (eqb_tells c d) [
 ]
 
 -- or to another, and its requests with it
-to_dead : (c : ℕ) (p : Phase) (l : Link) (ps : List (ℕ × Phase)) (rs ss : List (ℕ × List Request)) → ((c == 0) ≡ false → unclosing c ss ≡ []) → Others c rs ss → SettledBy l ps rs → SettledBy l (with_channel c p ps) ss
+to_dead : (c : ℕ) (p : ChannelPhase) (l : ConnectionPhase) (ps : List (ℕ × ChannelPhase)) (rs ss : List (ℕ × List Request)) → ((c == 0) ≡ false → unclosing c ss ≡ []) → Others c rs ss → SettledBy l ps rs → SettledBy l (with_channel c p ps) ss
 to_dead c p l ps rs ss none others h d z dead = elim (eqb_tells c d) [
   | inl y ↦ subst (λ k. (k == 0) ≡ false → unclosing k ss ≡ []) y.1 none z
   | inr n ↦
@@ -104,7 +104,7 @@ to_dead c p l ps rs ss none others h d z dead = elim (eqb_tells c d) [
 ]
 
 -- the requests of a channel with a live opening
-of_live : (c : ℕ) (l : Link) (ps : List (ℕ × Phase)) (rs ss : List (ℕ × List Request)) → l ≡ link.Open → live_at c ps ≡ true → Others c rs ss → SettledBy l ps rs → SettledBy l ps ss
+of_live : (c : ℕ) (l : ConnectionPhase) (ps : List (ℕ × ChannelPhase)) (rs ss : List (ℕ × List Request)) → l ≡ link.Open → live_at c ps ≡ true → Others c rs ss → SettledBy l ps rs → SettledBy l ps ss
 of_live c l ps rs ss e live others h d z dead = elim (eqb_tells c d) [
   | inl y ↦
       let there : live_at d ps ≡ true = subst (λ k. live_at k ps ≡ true) y.1 live in
@@ -115,15 +115,15 @@ of_live c l ps rs ss e live others h d z dead = elim (eqb_tells c d) [
 
 -- ---- states
 
-hears_live : (t : Bool) (p : Phase) → hears_on (cond t state.Base (channel_state p)) ≡ true → is_live p ≡ true
-hears_live true p h = absurd cc
-hears_live false phase.Closed h = absurd cc
-hears_live false phase.Opening h = absurd cc
-hears_live false (phase.Open paused) h = refl
-hears_live false (phase.Closing who sent) h = refl
-hears_live false phase.Crossed h = absurd cc
+receives_live : (t : Bool) (p : ChannelPhase) → receives_on (cond t state.Base (channel_state p)) ≡ true → is_live p ≡ true
+receives_live true p h = absurd cc
+receives_live false phase.Closed h = absurd cc
+receives_live false phase.Opening h = absurd cc
+receives_live false (phase.Open paused) h = refl
+receives_live false (phase.Closing who sent) h = refl
+receives_live false phase.Crossed h = absurd cc
 
-base_here : (t : Bool) (p : Phase) → is_base (cond t state.Base (channel_state p)) ≡ true → t ≡ true
+base_here : (t : Bool) (p : ChannelPhase) → is_base (cond t state.Base (channel_state p)) ≡ true → t ≡ true
 base_here true p h = refl
 base_here false phase.Closed h = cc
 base_here false phase.Opening h = cc
@@ -137,7 +137,7 @@ awaits_away : (c k : ℕ) (o : Option Reply) (rs : List (ℕ × List Request)) �
 awaits_away c k None rs d n = refl
 awaits_away c k (Some r) rs d n = requests-away c d _ rs n
 
-call_up : (c : ℕ) (k : Asked) (b : Base) → b.link ≡ link.Open → is_allowed k (cond (c == 0) state.Base (channel_state (phase_of c b))) ≡ true → Settled b → Settled (after_call c k b)
+call_up : (c : ℕ) (k : Asked) (b : Wire) → b.link ≡ link.Open → is_allowed k (cond (c == 0) state.Base (channel_state (phase_of c b))) ≡ true → Settled b → Settled (after_call c k b)
 call_up c ask.Open b e a h = to_live c phase.Opening b.link b.phases b.requests _ e refl (λ d n. requests-away c d _ b.requests n) h
 call_up c (ask.CloseChannel code text) b e a h = to_live c (phase.Closing closer.Application false) b.link b.phases b.requests _ e refl (λ d n. requests-away c d _ b.requests n) h
 call_up c (ask.CloseConnection code text) b e a h = λ d z dead.
@@ -147,7 +147,7 @@ call_up c (ask.CloseConnection code text) b e a h = λ d z dead.
 call_up c (ask.Publish exchange key o payload properties) b e a h = h
 call_up c (ask.Method row) b e a h = of_live c b.link b.phases b.requests _ e (open_here (c == 0) (phase_of c b) a) (awaits_away c (b.tickets + 1) row.awaits b.requests) h
 
-call_settled : (c : ℕ) (k : Asked) (b : Base) → Settled b → Settled (after_asking c k b)
+call_settled : (c : ℕ) (k : Asked) (b : Wire) → Settled b → Settled (after_asking c k b)
 call_settled c k b h = elim (is_allowed k (state_of c b)) as (λ t. is_allowed k (state_of c b) ≡ t → Settled (cond t (after_call c k b) b)) [
   | true ↦ λ a. let e = allowed_up b.link k (cond (c == 0) state.Base (channel_state (phase_of c b))) a in call_up c k b e (rw e at a) h
   | false ↦ λ a. h
@@ -155,7 +155,7 @@ call_settled c k b h = elim (is_allowed k (state_of c b)) as (λ t. is_allowed k
 
 -- ---- frames that leave
 
-sent_settled : (o : Option Left) (b : Base) → Settled b → Settled (sent o b)
+sent_settled : (o : Option Left) (b : Wire) → Settled b → Settled (sent o b)
 sent_settled None b h = h
 sent_settled (Some x) b h = λ c z dead.
     let same : is_live_on (link_sent x.frame b.link) (at_channel c (phases_sent x.frame b.phases)) ≡ is_live_on b.link (at_channel c b.phases) = ap (λ t. t && live_at c (phases_sent x.frame b.phases)) (up_sent x.frame b.link) ∙ ap (λ t. is_up b.link && t) (live_sent x.frame b.phases c) in
@@ -163,130 +163,130 @@ sent_settled (Some x) b h = λ c z dead.
 
 -- ---- frames of the broker
 
-abbrev Hears : Base → Incoming → Record → Type 0
-Hears b i r = Settled b → Settled (after_heard i r b)
+abbrev Hears : Wire → Incoming → Record → Type 0
+Hears b i r = Settled b → Settled (after_incoming i r b)
 
-unheard : (class number : ℕ) (b : Base) (i : Incoming) → Hears b i (refused class number)
-unheard class number b i h = λ c z dead. refl
+unreceived : (class number : ℕ) (b : Wire) (i : Incoming) → Hears b i (refused class number)
+unreceived class number b i h = λ c z dead. refl
 
 find_kind : (f : Request → Bool) (rs : List Request) → without_first f (request_alone (find f rs)) ≡ []
 find_kind f [] = refl
 find_kind f (r ∷ rs) = elim (f r) as (λ t. f r ≡ t → without_first f (request_alone (cond t (Some r) (find f rs))) ≡ []) [ true ↦ λ e. rw e refl | false ↦ λ e. find_kind f rs ] refl
 
-kept_at_left : (p : Phase) (rs : List Request) → without_kind reply_kind.ChannelCloseOk (kept_at p rs) ≡ []
+kept_at_left : (p : ChannelPhase) (rs : List Request) → without_kind reply_kind.ChannelCloseOk (kept_at p rs) ≡ []
 kept_at_left p rs = elim (has_sent_close p) as (λ t. without_kind reply_kind.ChannelCloseOk (cond t (close_alone rs) (no_requests rs)) ≡ []) [ true ↦ find_kind (is_kind reply_kind.ChannelCloseOk) rs | false ↦ refl ]
 
-kept_at_none : (p : Phase) → kept_at p [] ≡ []
+kept_at_none : (p : ChannelPhase) → kept_at p [] ≡ []
 kept_at_none p = elim (has_sent_close p) as (λ t. cond t (close_alone []) (no_requests []) ≡ []) [ true ↦ refl | false ↦ refl ]
 
-reply_taken : (t : Bool) (c : ℕ) (k : ReplyKind) (b : Base) → b.link ≡ link.Open → cond t (is_opening (cond (c == 0) state.Base (channel_state (phase_of c b)))) (hears_on (cond (c == 0) state.Base (channel_state (phase_of c b)))) ≡ true → Settled b → SettledBy b.link (cond t (with_channel c (phase.Open false) b.phases) b.phases) (without_request c k b.requests)
+reply_taken : (t : Bool) (c : ℕ) (k : ReplyKind) (b : Wire) → b.link ≡ link.Open → cond t (is_opening (cond (c == 0) state.Base (channel_state (phase_of c b)))) (receives_on (cond (c == 0) state.Base (channel_state (phase_of c b)))) ≡ true → Settled b → SettledBy b.link (cond t (with_channel c (phase.Open false) b.phases) b.phases) (without_request c k b.requests)
 reply_taken true c k b e a h = to_live c (phase.Open false) b.link b.phases b.requests _ e refl (λ d n. requests-away c d _ b.requests n) h
-reply_taken false c k b e a h = of_live c b.link b.phases b.requests _ e (hears_live (c == 0) (phase_of c b) a) (λ d n. requests-away c d _ b.requests n) h
+reply_taken false c k b e a h = of_live c b.link b.phases b.requests _ e (receives_live (c == 0) (phase_of c b) a) (λ d n. requests-away c d _ b.requests n) h
 
-flow_hears : (c : ℕ) (active : Bool) (b : Base) → b.link ≡ link.Open → Hears b (incoming.Flow c active) record_.Received
-flow_hears c active b e h =
-    let to : Base = noted c (method.Channel (channel.FlowOk active)) (record b { phases = with_channel c (phase.Open (not active)) b.phases }) in
+flow_receives : (c : ℕ) (active : Bool) (b : Wire) → b.link ≡ link.Open → Hears b (incoming.Flow c active) record_.Received
+flow_receives c active b e h =
+    let to : Wire = noted c (method.Channel (channel.FlowOk active)) (record b { phases = with_channel c (phase.Open (not active)) b.phases }) in
     elim (is_open (state_of c b)) as (λ u. Settled (cond u to b)) [
       | true ↦ to_live c (phase.Open (not active)) b.link b.phases b.requests b.requests e refl (λ d n. refl) h
       | false ↦ h
     ]
 
-close_hears : (c code : ℕ) (b : Base) → Hears b (incoming.ChannelClose c code) record_.Received
-close_hears c code b h = to_dead c _ b.link b.phases b.requests _ (λ z. ap (without_kind reply_kind.ChannelCloseOk) (on-here c (kept_at (phase_of c b)) b.requests (kept_at_none (phase_of c b))) ∙ kept_at_left (phase_of c b) (requests_of c b)) (λ d n. on-away c d (kept_at (phase_of c b)) b.requests n) h
+close_receives : (c code : ℕ) (b : Wire) → Hears b (incoming.ChannelClose c code) record_.Received
+close_receives c code b h = to_dead c _ b.link b.phases b.requests _ (λ z. ap (without_kind reply_kind.ChannelCloseOk) (on-here c (kept_at (phase_of c b)) b.requests (kept_at_none (phase_of c b))) ∙ kept_at_left (phase_of c b) (requests_of c b)) (λ d n. on-away c d (kept_at (phase_of c b)) b.requests n) h
 
-crossed_answered : (c : ℕ) (b : Base) → live_at c b.phases ≡ false → Settled b → SettledBy b.link (with_channel c phase.Closed b.phases) (on_channel c (without_kind reply_kind.ChannelCloseOk) b.requests)
+crossed_answered : (c : ℕ) (b : Wire) → live_at c b.phases ≡ false → Settled b → SettledBy b.link (with_channel c phase.Closed b.phases) (on_channel c (without_kind reply_kind.ChannelCloseOk) b.requests)
 crossed_answered c b dead h = to_dead c phase.Closed b.link b.phases b.requests _ (λ z.
     let shut : is_live_on b.link (at_channel c b.phases) ≡ false = rw dead (elim (is_up b.link) as (λ t. (t && false) ≡ false) [ true ↦ refl | false ↦ refl ]) in
     ap (without_kind reply_kind.ChannelCloseOk) (on-here c (without_kind reply_kind.ChannelCloseOk) b.requests refl ∙ h c z shut)) (λ d n. on-away c d (without_kind reply_kind.ChannelCloseOk) b.requests n) h
 
-answered : (c : ℕ) (p : Phase) (b : Base) → phase_of c b ≡ p → hears_close_ok (cond (c == 0) state.Base (channel_state p)) ≡ true → Settled b → Settled (after_close_ok c p b)
+answered : (c : ℕ) (p : ChannelPhase) (b : Wire) → phase_of c b ≡ p → receives_close_ok (cond (c == 0) state.Base (channel_state p)) ≡ true → Settled b → Settled (after_close_ok c p b)
 answered c (phase.Closing who s) b q a h = to_dead c phase.Closed b.link b.phases b.requests _ (λ z. ap (without_kind reply_kind.ChannelCloseOk) (on-here c no_requests b.requests refl)) (λ d n. on-away c d no_requests b.requests n) h
 answered c phase.Crossed b q a h = crossed_answered c b (ap is_live q) h
 answered c phase.Closed b q a h = crossed_answered c b (ap is_live q) h
-answered c phase.Opening b q a h = absurd (elim (c == 0) as (λ t. hears_close_ok (cond t state.Base state.Opening) ≡ true → ⊥) [ true ↦ λ x. cc | false ↦ λ x. cc ] a)
-answered c (phase.Open paused) b q a h = absurd (elim (c == 0) as (λ t. hears_close_ok (cond t state.Base state.Open) ≡ true → ⊥) [ true ↦ λ x. cc | false ↦ λ x. cc ] a)
+answered c phase.Opening b q a h = absurd (elim (c == 0) as (λ t. receives_close_ok (cond t state.Base state.Opening) ≡ true → ⊥) [ true ↦ λ x. cc | false ↦ λ x. cc ] a)
+answered c (phase.Open paused) b q a h = absurd (elim (c == 0) as (λ t. receives_close_ok (cond t state.Base state.Open) ≡ true → ⊥) [ true ↦ λ x. cc | false ↦ λ x. cc ] a)
 
-failed_hears : (c tag current : ℕ) (z : Settlement) (b : Base) → b.link ≡ link.Open → Hears b (incoming.Settlement c z) (record_.Refused (error.PreconditionFailed tag current))
-failed_hears c tag current z b e h = elim (is_open (state_of c b)) as (λ u. Settled (cond u (noted c (session_close z.kind) (closing c closer.Session b)) b)) [
+failed_receives : (c tag current : ℕ) (z : Settlement) (b : Wire) → b.link ≡ link.Open → Hears b (incoming.Settlement c z) (record_.Refused (error.PreconditionFailed tag current))
+failed_receives c tag current z b e h = elim (is_open (state_of c b)) as (λ u. Settled (cond u (noted c (session_close z.kind) (closing c closer.Session b)) b)) [
   | true ↦ to_live c (phase.Closing closer.Session false) b.link b.phases b.requests b.requests e refl (λ d n. refl) h
   | false ↦ h
 ]
 
 -- a connection that is not open has no live opening before or behind
-sinks : (b : Base) (l : Link) (rs : List (ℕ × List Request)) → is_up b.link ≡ false → Others 0 b.requests rs → Settled b → SettledBy l b.phases rs
+sinks : (b : Wire) (l : ConnectionPhase) (rs : List (ℕ × List Request)) → is_up b.link ≡ false → Others 0 b.requests rs → Settled b → SettledBy l b.phases rs
 sinks b l rs shut others h c z dead =
     let apart : 0 ≢ c = λ x. let y : (c == 0) ≡ true = eq-eqb c 0 (sym x) in let w : true ≡ false = sym y ∙ z in cc in
     kept_left b.requests rs c (others c apart) (h c z (rw shut refl))
 
-down_hears : (l : Link) (b : Base) (i : Incoming) → b.link ≡ l → is_up l ≡ false → Hears b i (cond (hears_down l i) record_.Received record_.Passed)
-down_hears link.Open b i e d = absurd cc
-down_hears link.Closed b i e d = λ h. h
-down_hears link.Lost b i e d = λ h. h
-down_hears (link.Closing x was) b incoming.ConnectionCloseOk e d = sinks b link.Closed _ (rw e refl) (λ c n. on-away 0 c (without_kind reply_kind.ConnectionCloseOk) b.requests n)
-down_hears (link.Closing x true) b (incoming.ConnectionClose code) e d = λ h. h
-down_hears (link.Closing true false) b (incoming.ConnectionClose code) e d = subst (λ l. Settled b → Settled (after_connection_close l b)) (sym e) (sinks b (link.Closing true true) b.requests (rw e refl) (λ c n. refl))
-down_hears (link.Closing false false) b (incoming.ConnectionClose code) e d = subst (λ l. Settled b → Settled (after_connection_close l b)) (sym e) (λ h c z dead. refl)
-down_hears (link.Closing x was) b (incoming.Reply c k a) e d = λ h. h
-down_hears (link.Closing x was) b (incoming.Settlement c z) e d = λ h. h
-down_hears (link.Closing x was) b (incoming.Flow c active) e d = λ h. h
-down_hears (link.Closing x was) b (incoming.ChannelClose c code) e d = λ h. h
-down_hears (link.Closing x was) b (incoming.ChannelCloseOk c) e d = λ h. h
-down_hears (link.Closing x was) b incoming.Other e d = λ h. h
+down_receives : (l : ConnectionPhase) (b : Wire) (i : Incoming) → b.link ≡ l → is_up l ≡ false → Hears b i (cond (receives_down l i) record_.Received record_.Passed)
+down_receives link.Open b i e d = absurd cc
+down_receives link.Closed b i e d = λ h. h
+down_receives link.Lost b i e d = λ h. h
+down_receives (link.Closing x was) b incoming.ConnectionCloseOk e d = sinks b link.Closed _ (rw e refl) (λ c n. on-away 0 c (without_kind reply_kind.ConnectionCloseOk) b.requests n)
+down_receives (link.Closing x true) b (incoming.ConnectionClose code) e d = λ h. h
+down_receives (link.Closing true false) b (incoming.ConnectionClose code) e d = subst (λ l. Settled b → Settled (after_connection_close l b)) (sym e) (sinks b (link.Closing true true) b.requests (rw e refl) (λ c n. refl))
+down_receives (link.Closing false false) b (incoming.ConnectionClose code) e d = subst (λ l. Settled b → Settled (after_connection_close l b)) (sym e) (λ h c z dead. refl)
+down_receives (link.Closing x was) b (incoming.Reply c k a) e d = λ h. h
+down_receives (link.Closing x was) b (incoming.Settlement c z) e d = λ h. h
+down_receives (link.Closing x was) b (incoming.Flow c active) e d = λ h. h
+down_receives (link.Closing x was) b (incoming.ChannelClose c code) e d = λ h. h
+down_receives (link.Closing x was) b (incoming.ChannelCloseOk c) e d = λ h. h
+down_receives (link.Closing x was) b incoming.Other e d = λ h. h
 
 module _ (class number : ℕ) where
   abbrev no : Record
   no = refused class number
 
-  settlement_hears : (c : ℕ) (z : Settlement) (see : Sight) (b : Base) → b.link ≡ link.Open → Hears b (incoming.Settlement c z) (cond (hears_on (state_of c b)) (settlement_record see c z) no)
-  settlement_hears c z see b e = elim (hears_on (state_of c b)) as (λ t. Hears b (incoming.Settlement c z) (cond t (settlement_record see c z) no)) [
-    | true ↦ elim (see.selected c) as (λ t. Hears b (incoming.Settlement c z) (cond t (cond (z.multiple || see.pending c z.tag) record_.Received (record_.Refused (error.PreconditionFailed z.tag (see.last c)))) record_.Passed)) [
-      | true ↦ elim (z.multiple || see.pending c z.tag) as (λ t. Hears b (incoming.Settlement c z) (cond t record_.Received (record_.Refused (error.PreconditionFailed z.tag (see.last c))))) [
+  settlement_receives : (c : ℕ) (z : Settlement) (readings : Readings) (b : Wire) → b.link ≡ link.Open → Hears b (incoming.Settlement c z) (cond (receives_on (state_of c b)) (settlement_record readings c z) no)
+  settlement_receives c z readings b e = elim (receives_on (state_of c b)) as (λ t. Hears b (incoming.Settlement c z) (cond t (settlement_record readings c z) no)) [
+    | true ↦ elim (readings.selected c) as (λ t. Hears b (incoming.Settlement c z) (cond t (cond (z.multiple || readings.pending c z.tag) record_.Received (record_.Refused (error.PreconditionFailed z.tag (readings.last c)))) record_.Passed)) [
+      | true ↦ elim (z.multiple || readings.pending c z.tag) as (λ t. Hears b (incoming.Settlement c z) (cond t record_.Received (record_.Refused (error.PreconditionFailed z.tag (readings.last c))))) [
         | true ↦ λ h. h
-        | false ↦ failed_hears c z.tag (see.last c) z b e
+        | false ↦ failed_receives c z.tag (readings.last c) z b e
       ]
       | false ↦ λ h. h
     ]
-    | false ↦ unheard class number b (incoming.Settlement c z)
+    | false ↦ unreceived class number b (incoming.Settlement c z)
   ]
 
-  when_hears : (u : Bool) (b : Base) (i : Incoming) → (u ≡ true → Hears b i record_.Received) → Hears b i (when u no)
-  when_hears true b i h = h refl
-  when_hears false b i h = unheard class number b i
+  when_receives : (u : Bool) (b : Wire) (i : Incoming) → (u ≡ true → Hears b i record_.Received) → Hears b i (when u no)
+  when_receives true b i h = h refl
+  when_receives false b i h = unreceived class number b i
 
-  up_hears : (b : Base) (see : Sight) (i : Incoming) → b.link ≡ link.Open → Hears b i (heard_up b see no i)
-  up_hears b see (incoming.Reply c k a) e = when_hears (hears_reply c k b) b (incoming.Reply c k a) (λ h. reply_taken (opens k) c k b e (rw (state_up c b e) at (both (hears k (state_of c b)) (is_some (first_request k (requests_of c b))) h)))
-  up_hears b see (incoming.Settlement c z) e = settlement_hears c z see b e
-  up_hears b see (incoming.Flow c active) e = when_hears (hears_on (state_of c b)) b (incoming.Flow c active) (λ a. flow_hears c active b e)
-  up_hears b see (incoming.ChannelClose c code) e = when_hears (hears_close (state_of c b)) b (incoming.ChannelClose c code) (λ a. close_hears c code b)
-  up_hears b see (incoming.ChannelCloseOk c) e = when_hears (hears_close_ok (state_of c b)) b (incoming.ChannelCloseOk c) (λ a. answered c (phase_of c b) b refl (rw (state_up c b e) at a))
-  up_hears b see (incoming.ConnectionClose code) e = subst (λ l. Settled b → Settled (after_connection_close l b)) (sym e) (λ h c z dead. refl)
-  up_hears b see incoming.ConnectionCloseOk e = unheard class number b incoming.ConnectionCloseOk
-  up_hears b see incoming.Other e = unheard class number b incoming.Other
+  up_receives : (b : Wire) (readings : Readings) (i : Incoming) → b.link ≡ link.Open → Hears b i (incoming_up b readings no i)
+  up_receives b readings (incoming.Reply c k a) e = when_receives (receives_reply c k b) b (incoming.Reply c k a) (λ h. reply_taken (opens k) c k b e (rw (state_up c b e) at (both (receives k (state_of c b)) (is_some (first_request k (requests_of c b))) h)))
+  up_receives b readings (incoming.Settlement c z) e = settlement_receives c z readings b e
+  up_receives b readings (incoming.Flow c active) e = when_receives (receives_on (state_of c b)) b (incoming.Flow c active) (λ a. flow_receives c active b e)
+  up_receives b readings (incoming.ChannelClose c code) e = when_receives (receives_close (state_of c b)) b (incoming.ChannelClose c code) (λ a. close_receives c code b)
+  up_receives b readings (incoming.ChannelCloseOk c) e = when_receives (receives_close_ok (state_of c b)) b (incoming.ChannelCloseOk c) (λ a. answered c (phase_of c b) b refl (rw (state_up c b e) at a))
+  up_receives b readings (incoming.ConnectionClose code) e = subst (λ l. Settled b → Settled (after_connection_close l b)) (sym e) (λ h c z dead. refl)
+  up_receives b readings incoming.ConnectionCloseOk e = unreceived class number b incoming.ConnectionCloseOk
+  up_receives b readings incoming.Other e = unreceived class number b incoming.Other
 
-  heard_settled : (l : Link) (b : Base) (see : Sight) (i : Incoming) → b.link ≡ l → Hears b i (heard_record b see no i)
-  heard_settled l b see i e = subst (Hears b i) (sym (heard_is class number b see i l e)) (elim (is_up l) as (λ t. is_up l ≡ t → Hears b i (cond t (heard_up b see no i) (cond (hears_down l i) record_.Received record_.Passed))) [
-    | true ↦ λ u. up_hears b see i (e ∙ up_open l u)
-    | false ↦ λ u. down_hears l b i e u
+  incoming_settled : (l : ConnectionPhase) (b : Wire) (readings : Readings) (i : Incoming) → b.link ≡ l → Hears b i (incoming_record b readings no i)
+  incoming_settled l b readings i e = subst (Hears b i) (sym (incoming_is class number b readings i l e)) (elim (is_up l) as (λ t. is_up l ≡ t → Hears b i (cond t (incoming_up b readings no i) (cond (receives_down l i) record_.Received record_.Passed))) [
+    | true ↦ λ u. up_receives b readings i (e ∙ up_open l u)
+    | false ↦ λ u. down_receives l b i e u
   ] refl)
 
 -- ---- every event
 
-lost_settled : (b : Base) → Settled b → Settled (after_lost b)
+lost_settled : (b : Wire) → Settled b → Settled (after_lost b)
 lost_settled b h = elim (is_lost b.link) as (λ t. Settled (cond t b (down link.Lost b))) [ true ↦ h | false ↦ λ c z dead. refl ]
 
-settled-next : (b : Base) (see : Sight) (e : Event) → Settled b → Settled (after_event b e (record_of b see e))
-settled-next b see (event.Call c k) h = call_settled c (asked k) b h
-settled-next b see (event.Next flow) h = sent_settled (handed flow b) _ h
-settled-next b see (event.Receive f) h = heard_settled (frame_class f) (frame_method f) b.link b see (heard f) refl h
-settled-next b see (event.PollTicket k) h = h
-settled-next b see (event.PollConfirm k) h = h
-settled-next b see (event.AsideTicket k) h = h
-settled-next b see (event.State c) h = h
-settled-next b see event.Lost h = lost_settled b h
+settled-next : (b : Wire) (readings : Readings) (e : Event) → Settled b → Settled (after_event b e (record_of b readings e))
+settled-next b readings (event.Call c k) h = call_settled c (asked k) b h
+settled-next b readings (event.Next flow) h = sent_settled (handed flow b) _ h
+settled-next b readings (event.Receive f) h = incoming_settled (frame_class f) (frame_method f) b.link b readings (incoming_of f) refl h
+settled-next b readings (event.PollTicket k) h = h
+settled-next b readings (event.PollConfirm k) h = h
+settled-next b readings (event.AsideTicket k) h = h
+settled-next b readings (event.State c) h = h
+settled-next b readings event.Lost h = lost_settled b h
 
-settled_from : (w : World) (es : List Event) → Settled w.base → Settled (fold next w es).base
+settled_from : (w : World) (es : List Event) → Settled w.wire → Settled (fold next w es).wire
 settled_from w [] h = h
-settled_from w (e ∷ es) h = settled_from (next w e) es (next_keeps (λ v. Settled v.base) w e (settled-next w.base (sight_of w.book w.slots) e h) h)
+settled_from w (e ∷ es) h = settled_from (next w e) es (next_keeps (λ v. Settled v.wire) w e (settled-next w.wire (readings_of w.book w.slots) e h) h)
 
-pub settled_after : (n : ℕ) (es : List Event) → Settled (world_after n es).base
+pub settled_after : (n : ℕ) (es : List Event) → Settled (world_after n es).wire
 settled_after n es = settled_from (new_world n) es (λ c z dead. refl)

@@ -14,10 +14,10 @@ use Rattle.lapin_types.specs.Types.method
 use Rattle.lapin_types.specs.Types.channel
 use Rattle.lapin_history.specs.declared.calls.Asked.{Asked}
 use Rattle.lapin_history.specs.declared.calls.Asked.TheVariants as ask
-use Rattle.lapin_history.specs.declared.phases.Phase.{Phase}
-use Rattle.lapin_history.specs.declared.phases.Phase.TheVariants as phase
-use Rattle.lapin_history.specs.declared.phases.Link.{Link}
-use Rattle.lapin_history.specs.declared.phases.Link.TheVariants as link
+use Rattle.lapin_history.specs.declared.phases.ChannelPhase.{ChannelPhase}
+use Rattle.lapin_history.specs.declared.phases.ChannelPhase.TheVariants as phase
+use Rattle.lapin_history.specs.declared.phases.ConnectionPhase.{ConnectionPhase}
+use Rattle.lapin_history.specs.declared.phases.ConnectionPhase.TheVariants as link
 use Rattle.lapin_history.specs.declared.phases.Closer.TheVariants as closer
 use Rattle.lapin_history.specs.declared.broker_frames.Incoming.{Incoming}
 use Rattle.lapin_history.specs.declared.broker_frames.Incoming.TheVariants as incoming
@@ -28,10 +28,10 @@ use Rattle.lapin_history.specs.Frames.{MethodEntry, RestEntry}
 use Rattle.lapin_history.specs.Leaving.{handed_of, left_of}
 use Rattle.lapin_history.specs.Phases.{is_up, is_lost}
 use Rattle.lapin_history.specs.Calls.{asked}
-use Rattle.lapin_history.specs.Heard.{heard}
+use Rattle.lapin_history.specs.Incoming.{incoming_of}
 use Rattle.lapin_history.specs.Select.{is_select}
 use Rattle.lapin_history.specs.Ends.{ends_all, end_with, live_channels, down}
-use Rattle.lapin_history.specs.Base.{Base, state_of, phase_of, is_open, noted}
+use Rattle.lapin_history.specs.Wire.{Wire, state_of, phase_of, is_open, noted}
 use Rattle.lapin_history.specs.ChannelClose.{closing, close_marks, close_ok_end, after_close_ok}
 use Rattle.lapin_history.specs.ConnectionClose.{after_connection_close, after_connection_close_ok}
 use Rattle.lapin_history.specs.Settlement.{session_close}
@@ -40,7 +40,7 @@ use Rattle.lapin_history.specs.Loss.{after_lost, lost_marks}
 use Rattle.lapin_history.specs.Polls.{is_confirmed}
 use Rattle.lapin_history.specs.Asking.{is_allowed, after_call, after_asking, call_marks, asking_marks}
 use Rattle.lapin_history.specs.Handing.{sent, handed, left_marks}
-use Rattle.lapin_history.specs.Hearing.{after_received, received_marks, after_failed, failed_marks, after_refused, refused_marks, after_heard, heard_marks}
+use Rattle.lapin_history.specs.Receiving.{after_received, received_marks, after_failed, failed_marks, after_refused, refused_marks, after_incoming, incoming_marks}
 use Rattle.lapin_history.specs.History.{History}
 use Rattle.lapin_confirm.specs.Answers.{answer_in, is_unknown}
 use Rattle.lapin_confirm.specs.Book.{Book, after_mark, is_queued, cell_with}
@@ -62,15 +62,15 @@ use Rattle.lapin_laws.proofs.Kept.{Kept, kept-next}
 abbrev Waits : List Publish → Book → Type 0
 Waits ps k = queued_in k.cells ≡ waiting ps
 
-all_on : (l : Link) (ps : List (ℕ × Phase)) (qs : List Publish) → AreAlive l ps qs → AreOn (live_channels ps) qs
+all_on : (l : ConnectionPhase) (ps : List (ℕ × ChannelPhase)) (qs : List Publish) → AreAlive l ps qs → AreOn (live_channels ps) qs
 all_on l ps [] a = tt
 all_on l ps (q ∷ qs) a = (live-in q.channel ps a.0.1, all_on l ps qs a.1)
 
-choose_waits : (t : Bool) (x y : Base) (ms ns : List ConfirmMark) (k : Book) → Waits x.publishes (fold after_mark k ms) → Waits y.publishes (fold after_mark k ns) → Waits (cond t x y).publishes (fold after_mark k (cond t ms ns))
+choose_waits : (t : Bool) (x y : Wire) (ms ns : List ConfirmMark) (k : Book) → Waits x.publishes (fold after_mark k ms) → Waits y.publishes (fold after_mark k ns) → Waits (cond t x y).publishes (fold after_mark k (cond t ms ns))
 choose_waits true x y ms ns k h g = h
 choose_waits false x y ms ns k h g = g
 
-same_waits : (t : Bool) (x y : Base) (k : Book) → Waits x.publishes k → Waits y.publishes k → Waits (cond t x y).publishes k
+same_waits : (t : Bool) (x y : Wire) (k : Book) → Waits x.publishes k → Waits y.publishes k → Waits (cond t x y).publishes k
 same_waits true x y k h g = h
 same_waits false x y k h g = g
 
@@ -78,7 +78,7 @@ select_waits : (t : Bool) (m : ConfirmMark) (ps : List Publish) (k : Book) → (
 select_waits true m ps k e h = ap queued_in e ∙ h
 select_waits false m ps k e h = h
 
-module _ (b : Base) (k : Book) (alive : AreAlive b.link b.phases b.publishes) (count : b.published ≡ length k.cells) (h : Waits b.publishes k) where
+module _ (b : Wire) (k : Book) (alive : AreAlive b.link b.phases b.publishes) (count : b.published ≡ length k.cells) (h : Waits b.publishes k) where
   falls : (x : Error) → Waits [] (fold after_mark k (ends_all x b))
   falls x = ends_queue x (live_channels b.phases) b.publishes k (all_on b.link b.phases b.publishes alive) h
 
@@ -99,7 +99,7 @@ module _ (b : Base) (k : Book) (alive : AreAlive b.link b.phases b.publishes) (c
 
   -- ---- frames of the broker
 
-  closed_waits : (c : ℕ) (p : Phase) → Waits (after_close_ok c p b).publishes (fold after_mark k (end_with c (close_ok_end p)))
+  closed_waits : (c : ℕ) (p : ChannelPhase) → Waits (after_close_ok c p b).publishes (fold after_mark k (end_with c (close_ok_end p)))
   closed_waits c phase.Closed = h
   closed_waits c phase.Opening = h
   closed_waits c (phase.Open paused) = h
@@ -110,14 +110,14 @@ module _ (b : Base) (k : Book) (alive : AreAlive b.link b.phases b.publishes) (c
   still_none : (x : Error) → is_up b.link ≡ false → Waits b.publishes (fold after_mark k (ends_all x b))
   still_none x d = falls x ∙ ap waiting (sym (none d))
 
-  close_waits : (code : ℕ) (l : Link) → b.link ≡ l → Waits (after_connection_close l b).publishes (fold after_mark k (ends_all (error.ProtocolError code) b))
+  close_waits : (code : ℕ) (l : ConnectionPhase) → b.link ≡ l → Waits (after_connection_close l b).publishes (fold after_mark k (ends_all (error.ProtocolError code) b))
   close_waits code link.Open e = falls _
   close_waits code (link.Closing true x) e = still_none _ (ap is_up e)
   close_waits code (link.Closing false x) e = falls _
   close_waits code link.Closed e = falls _
   close_waits code link.Lost e = falls _
 
-  close_ok_waits : (l : Link) → b.link ≡ l → Waits (after_connection_close_ok b).publishes k
+  close_ok_waits : (l : ConnectionPhase) → b.link ≡ l → Waits (after_connection_close_ok b).publishes k
   close_ok_waits link.Open e = rw e h
   close_ok_waits (link.Closing true x) e = rw e h
   close_ok_waits (link.Closing false x) e = let empty : b.publishes ≡ [] = none (ap is_up e) in rw e (h ∙ ap waiting empty)
@@ -155,20 +155,20 @@ module _ (b : Base) (k : Book) (alive : AreAlive b.link b.phases b.publishes) (c
   refused i error.AlreadyTaken = h
   refused i error.UnknownTicket = h
 
-  heard_waits : (i : Incoming) (r : Record) → Waits (after_heard i r b).publishes (fold after_mark k (heard_marks i r b))
-  heard_waits i (record_.Refused x) = refused i x
-  heard_waits i record_.Received = received i
-  heard_waits i (record_.Ticket n) = h
-  heard_waits i (record_.Publish t n) = h
-  heard_waits i (record_.Frame f) = h
-  heard_waits i record_.NoFrame = h
-  heard_waits i record_.Passed = h
-  heard_waits i record_.Pending = h
-  heard_waits i (record_.Answer a) = h
-  heard_waits i (record_.Confirmed o) = h
-  heard_waits i (record_.State x y) = h
-  heard_waits i record_.Aside = h
-  heard_waits i record_.Lost = h
+  incoming_waits : (i : Incoming) (r : Record) → Waits (after_incoming i r b).publishes (fold after_mark k (incoming_marks i r b))
+  incoming_waits i (record_.Refused x) = refused i x
+  incoming_waits i record_.Received = received i
+  incoming_waits i (record_.Ticket n) = h
+  incoming_waits i (record_.Publish t n) = h
+  incoming_waits i (record_.Frame f) = h
+  incoming_waits i record_.NoFrame = h
+  incoming_waits i record_.Passed = h
+  incoming_waits i record_.Pending = h
+  incoming_waits i (record_.Answer a) = h
+  incoming_waits i (record_.Confirmed o) = h
+  incoming_waits i (record_.State x y) = h
+  incoming_waits i record_.Aside = h
+  incoming_waits i record_.Lost = h
 
   -- ---- a loss
 
@@ -184,7 +184,7 @@ tagged_queued : (c : ℕ) (t : Option ℕ) → is_queued (Some (cell_with c t)) 
 tagged_queued c None = refl
 tagged_queued c (Some t) = refl
 
-sent_publishes : (o : Option Left) (b : Base) → (sent o b).publishes ≡ b.publishes
+sent_publishes : (o : Option Left) (b : Wire) → (sent o b).publishes ≡ b.publishes
 sent_publishes None b = refl
 sent_publishes (Some l) b = refl
 
@@ -210,25 +210,25 @@ taken_waits false n ps k may h = h
 
 -- ---- every event
 
-waits-anew : (n : ℕ) (w : World) (e : Event) → Kept n w.base → w.base.published ≡ length w.book.cells → Waits w.base.publishes w.book → Waits (next_anew w e).base.publishes (next_anew w e).book
-waits-anew n w (event.Call c x) kept count h = asked_waits w.base w.book kept.sound.publishes count h c (asked x)
+waits-anew : (n : ℕ) (w : World) (e : Event) → Kept n w.wire → w.wire.published ≡ length w.book.cells → Waits w.wire.publishes w.book → Waits (next_anew w e).wire.publishes (next_anew w e).book
+waits-anew n w (event.Call c x) kept count h = asked_waits w.wire w.book kept.sound.publishes count h c (asked x)
 waits-anew n w (event.Next flow) kept count h =
-    let o : Option Left = handed flow w.base in
-    let left : Waits (left_of w.base.frame_max (may_begin flow w.base) w.base.rest w.base.methods w.base.publishes).publishes (fold after_mark w.book (left_marks o)) = left_waits w.base.frame_max (may_begin flow w.base) w.base.rest w.base.methods w.base.publishes w.book h in
+    let o : Option Left = handed flow w.wire in
+    let left : Waits (left_of w.wire.frame_max (may_begin flow w.wire) w.wire.rest w.wire.methods w.wire.publishes).publishes (fold after_mark w.book (left_marks o)) = left_waits w.wire.frame_max (may_begin flow w.wire) w.wire.rest w.wire.methods w.wire.publishes w.book h in
     left ∙ ap waiting (sym (sent_publishes o _))
-waits-anew n w (event.Receive f) kept count h = heard_waits w.base w.book kept.sound.publishes count h (heard f) (told_anew w (event.Receive f))
+waits-anew n w (event.Receive f) kept count h = incoming_waits w.wire w.book kept.sound.publishes count h (incoming_of f) (told_anew w (event.Receive f))
 waits-anew n w (event.PollTicket m) kept count h = h
-waits-anew n w (event.PollConfirm m) kept count h = taken_waits (is_confirmed (told_anew w (event.PollConfirm m))) m w.base.publishes w.book (known (is_unknown m w.book) (under m w.book.cells)) h
+waits-anew n w (event.PollConfirm m) kept count h = taken_waits (is_confirmed (told_anew w (event.PollConfirm m))) m w.wire.publishes w.book (known (is_unknown m w.book) (under m w.book.cells)) h
 waits-anew n w (event.AsideTicket m) kept count h = h
 waits-anew n w (event.State c) kept count h = h
-waits-anew n w event.Lost kept count h = lost_waits w.base w.book kept.sound.publishes count h
+waits-anew n w event.Lost kept count h = lost_waits w.wire w.book kept.sound.publishes count h
 
-waits_from : (n : ℕ) (h : History) (w : World) (es : List Event) → w.returned ≡ None → Stands n h w → Kept n w.base → Waits w.base.publishes w.book → Waits (fold next w es).base.publishes (fold next w es).book
+waits_from : (n : ℕ) (h : History) (w : World) (es : List Event) → w.returned ≡ None → Stands n h w → Kept n w.wire → Waits w.wire.publishes w.book → Waits (fold next w es).wire.publishes (fold next w es).book
 waits_from n h w [] none stands kept q = q
 waits_from n h w (e ∷ es) none stands kept q =
-    let count : w.base.published ≡ length w.book.cells = stands.confirms.published ∙ sym stands.confirms.book.count in
-    let P : World → Type 0 = λ v. Waits v.base.publishes v.book in
+    let count : w.wire.published ≡ length w.book.cells = stands.confirms.published ∙ sym stands.confirms.book.count in
+    let P : World → Type 0 = λ v. Waits v.wire.publishes v.book in
     waits_from n (h ++ (e, told_by w e) ∷ []) (next w e) es (still_unreturned w e none) (stands_next n h w e (given_none w.returned e none) stands) (kept-next n w e kept) (subst P (sym (next_none w e none)) (waits-anew n w e kept count q))
 
-pub waits_after : (n : ℕ) (es : List Event) → queued_in (world_after n es).book.cells ≡ waiting (world_after n es).base.publishes
+pub waits_after : (n : ℕ) (es : List Event) → queued_in (world_after n es).book.cells ≡ waiting (world_after n es).wire.publishes
 waits_after n es = waits_from n [] (new_world n) es refl (stands_new n) (record { sound = start_sound n; shut = λ _. refl }) refl

@@ -71,7 +71,7 @@ is_channel c d = d == c
 
 abbrev pub points_on : Past → History → List Point
 points_on p [] = []
-points_on p (x ∷ h) = map Ended (ended_in (confirm_marks p.base x.0 x.1)) ++ (map Called (called_by x.0 x.1) ++ (requested_by x.0 x.1 ++ points_on (longer p x.0 x.1) h))
+points_on p (x ∷ h) = map Ended (ended_in (confirm_marks p.wire x.0 x.1)) ++ (map Called (called_by x.0 x.1) ++ (requested_by x.0 x.1 ++ points_on (longer p x.0 x.1) h))
 
 -- the points of a history
 abbrev pub points : ℕ → History → List Point

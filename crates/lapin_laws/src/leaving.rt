@@ -20,6 +20,6 @@ ghost use Rattle.lapin_laws.specs.Unbroken.{Unbroken};
 /// channel's opening, the channel has no live one behind it (`ended`), so none of its publishes goes on.
 pub fn frames_are_unbroken()
     ensures frames { (frame_max : ℕ) (events : List AnEvent) → given_in (points frame_max (zip events (run frame_max events))) ≡ frames_in (run frame_max events) }
-    ensures ended { (frame_max : ℕ) (events : List AnEvent) (e : AnEvent) (c : ℕ) → list_any (is_channel c) (ended_in (confirm_marks (world_after frame_max events).base e (told_by (world_after frame_max events) e))) ≡ true → is_live_on (next (world_after frame_max events) e).base.link (at_channel c (next (world_after frame_max events) e).base.phases) ≡ false }
+    ensures ended { (frame_max : ℕ) (events : List AnEvent) (e : AnEvent) (c : ℕ) → list_any (is_channel c) (ended_in (confirm_marks (world_after frame_max events).wire e (told_by (world_after frame_max events) e))) ≡ true → is_live_on (next (world_after frame_max events) e).wire.link (at_channel c (next (world_after frame_max events) e).wire.phases) ≡ false }
     ensures unbroken { (frame_max : ℕ) (events : List AnEvent) → 8 < frame_max → Unbroken frame_max (points frame_max (zip events (run frame_max events))) }
 {}

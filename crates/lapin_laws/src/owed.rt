@@ -11,5 +11,5 @@ ghost use Rattle.lapin_laws.specs.Runs.{world_after};
 /// An open ticket that no leaving frame answers stands with an open request of its channel: who waits for it waits for a reply that
 /// the broker owes, or for the end of the opening.
 pub fn awaited_replies_are_requested()
-    ensures { (frame_max : ℕ) (events : List AnEvent) (n c : ℕ) (begun : Bool) → under n (world_after frame_max events).slots ≡ Some (slot.Open c leaving.Nothing begun) → IsRequested n c (world_after frame_max events).base }
+    ensures { (frame_max : ℕ) (events : List AnEvent) (n c : ℕ) (begun : Bool) → under n (world_after frame_max events).slots ≡ Some (slot.Open c leaving.Nothing begun) → IsRequested n c (world_after frame_max events).wire }
 {}

@@ -17,40 +17,40 @@ use Rattle.lapin_types.specs.Types.method
 use Rattle.lapin_types.specs.Types.connection
 use Rattle.lapin_history.specs.declared.broker_frames.Incoming.{Incoming}
 use Rattle.lapin_history.specs.declared.broker_frames.Incoming.TheVariants as incoming
-use Rattle.lapin_history.specs.declared.phases.Phase.{Phase}
-use Rattle.lapin_history.specs.declared.phases.Phase.TheVariants as phase
-use Rattle.lapin_history.specs.declared.phases.Link.{Link}
-use Rattle.lapin_history.specs.declared.phases.Link.TheVariants as link
-use Rattle.lapin_history.specs.Heard.{heard, frame_class, frame_method}
+use Rattle.lapin_history.specs.declared.phases.ChannelPhase.{ChannelPhase}
+use Rattle.lapin_history.specs.declared.phases.ChannelPhase.TheVariants as phase
+use Rattle.lapin_history.specs.declared.phases.ConnectionPhase.{ConnectionPhase}
+use Rattle.lapin_history.specs.declared.phases.ConnectionPhase.TheVariants as link
+use Rattle.lapin_history.specs.Incoming.{incoming_of, frame_class, frame_method}
 use Rattle.lapin_history.specs.Phases.{is_lost}
 use Rattle.lapin_history.specs.ConnectionClose.{link_close_sent}
 use Rattle.lapin_history.specs.Frames.{MethodEntry, RestEntry}
 use Rattle.lapin_history.specs.Leaving.{Lists, handed_of}
 use Rattle.lapin_history.specs.Drops.{no_lists}
-use Rattle.lapin_history.specs.Sight.{Sight}
+use Rattle.lapin_history.specs.Readings.{Readings}
 use Rattle.lapin_history.specs.Unexpected.{refused}
-use Rattle.lapin_history.specs.Hearing.{heard_record}
-use Rattle.lapin_history.specs.Base.{Base, state_of, phase_of, is_open, lists_of}
+use Rattle.lapin_history.specs.Receiving.{incoming_record}
+use Rattle.lapin_history.specs.Wire.{Wire, state_of, phase_of, is_open, lists_of}
 use Rattle.lapin_history.specs.Asking.{is_allowed, after_call}
 use Rattle.lapin_history.specs.Flow.{may_begin}
-use Rattle.lapin_history.specs.Hearing.{after_heard, after_received, after_failed, after_refused}
+use Rattle.lapin_history.specs.Receiving.{after_incoming, after_received, after_failed, after_refused}
 use Rattle.lapin_history.specs.ChannelClose.{after_close_ok}
 use Rattle.lapin_history.specs.Handing.{after_next, handed, sent}
 use Rattle.lapin_history.specs.ConnectionClose.{link_sent, has_sent}
-use Rattle.lapin_machine.specs.World.{World, next, next_anew, new_world, sight_of}
+use Rattle.lapin_machine.specs.World.{World, next, next_anew, new_world, readings_of}
 use Rattle.lapin_machine.proofs.Back.{next_keeps}
 use Rattle.lapin_machine.specs.Alone.{is_connection_close, IsOneClose, IsCloseAlone, WaitsAlone, without_own_close}
 
-abbrev Alone : Base → Type 0
+abbrev Alone : Wire → Type 0
 Alone b = WaitsAlone b.link (lists_of b)
 
-choose_alone : (t : Bool) (x y : Base) → Alone x → Alone y → Alone (cond t x y)
+choose_alone : (t : Bool) (x y : Wire) → Alone x → Alone y → Alone (cond t x y)
 choose_alone true x y h k = h
 choose_alone false x y h k = k
 
 -- ---- calls
 
-call_up : (c : ℕ) (k : Asked) (b : Base) → b.link ≡ link.Open → Alone (after_call c k b)
+call_up : (c : ℕ) (k : Asked) (b : Wire) → b.link ≡ link.Open → Alone (after_call c k b)
 call_up c ask.Open b e = rw e tt
 call_up c (ask.CloseChannel code text) b e = rw e tt
 call_up c (ask.CloseConnection code text) b e = record { close = refl; rest = refl; publishes = refl }
@@ -58,10 +58,10 @@ call_up c (ask.Method row) b e = rw e tt
 call_up c (ask.Publish exchange key o payload properties) b e = rw e tt
 
 -- no call is allowed once the connection is not open
-call_down : (c : ℕ) (k : Asked) (b : Base) → is_allowed k (state_of c b) ≡ false → Alone b → Alone (cond (is_allowed k (state_of c b)) (after_call c k b) b)
+call_down : (c : ℕ) (k : Asked) (b : Wire) → is_allowed k (state_of c b) ≡ false → Alone b → Alone (cond (is_allowed k (state_of c b)) (after_call c k b) b)
 call_down c k b e h = rw e h
 
-pub down_refuses : (l : Link) (c : ℕ) (k : Asked) (b : Base) → b.link ≡ l → (l ≡ link.Open) ⊎ (is_allowed k (state_of c b) ≡ false)
+pub down_refuses : (l : ConnectionPhase) (c : ℕ) (k : Asked) (b : Wire) → b.link ≡ l → (l ≡ link.Open) ⊎ (is_allowed k (state_of c b) ≡ false)
 down_refuses link.Open c k b e = inl refl
 down_refuses (link.Closing s h) c ask.Open b e = inr (rw e refl)
 down_refuses (link.Closing s h) c (ask.CloseChannel code text) b e = inr (rw e refl)
@@ -79,7 +79,7 @@ down_refuses link.Lost c (ask.CloseConnection code text) b e = inr (rw e refl)
 down_refuses link.Lost c (ask.Method row) b e = inr (rw e refl)
 down_refuses link.Lost c (ask.Publish exchange key o payload properties) b e = inr (rw e refl)
 
-call_alone : (c : ℕ) (k : Asked) (b : Base) → Alone b → Alone (cond (is_allowed k (state_of c b)) (after_call c k b) b)
+call_alone : (c : ℕ) (k : Asked) (b : Wire) → Alone b → Alone (cond (is_allowed k (state_of c b)) (after_call c k b) b)
 call_alone c k b h = elim (down_refuses b.link c k b refl) [
   | inl up ↦ choose_alone (is_allowed k (state_of c b)) (after_call c k b) b (call_up c k b up) h
   | inr shut ↦ call_down c k b shut h
@@ -88,7 +88,7 @@ call_alone c k b h = elim (down_refuses b.link c k b refl) [
 -- ---- frames that leave
 
 -- a connection's close that leaves, and any other frame
-link_moves : (f : Frame) (l : Link) → (link_sent f l ≡ l) ⊎ (link_sent f l ≡ link_close_sent l)
+link_moves : (f : Frame) (l : ConnectionPhase) → (link_sent f l ≡ l) ⊎ (link_sent f l ≡ link_close_sent l)
 link_moves (frame.Method c (method.Connection (connection.Close code text class number))) l = inr refl
 link_moves (frame.Method c (method.Connection connection.CloseOk)) l = inl refl
 link_moves (frame.Method c (method.Channel m)) l = inl refl
@@ -102,7 +102,7 @@ link_moves (frame.Header c h) l = inl refl
 link_moves (frame.Body c bytes) l = inl refl
 
 -- whatever leaves, a link that shows nothing goes on so
-sent_quiet : (o : Option Left) (l : Link) (b : Base) → b.link ≡ l → ((ls : Lists) → WaitsAlone l ls) → ((ls : Lists) → WaitsAlone (link_close_sent l) ls) → Alone (sent o b)
+sent_quiet : (o : Option Left) (l : ConnectionPhase) (b : Wire) → b.link ≡ l → ((ls : Lists) → WaitsAlone l ls) → ((ls : Lists) → WaitsAlone (link_close_sent l) ls) → Alone (sent o b)
 sent_quiet None l b e h k = rw e (h (lists_of b))
 sent_quiet (Some x) l b e h k = rw e (elim (link_moves x.frame l) [
   | inl same ↦ rw same (h (lists_of b))
@@ -110,12 +110,12 @@ sent_quiet (Some x) l b e h k = rw e (elim (link_moves x.frame l) [
 ])
 
 -- the close that waits alone is what leaves
-sent_close : (heard flow : Bool) (d : Base) (rest : List RestEntry) (methods : List MethodEntry) (publishes : List Publish) → d.link ≡ link.Closing false heard → rest ≡ [] → IsOneClose methods → Alone (sent (handed_of flow rest methods publishes) d)
-sent_close heard flow d rest [] publishes e none c = absurd c
-sent_close heard flow d rest (m ∷ m' ∷ ms) publishes e none c = absurd c
-sent_close heard flow d rest (m ∷ []) publishes e none c = rw none (rw e (moved m.channel m.method c))
+sent_close : (received flow : Bool) (d : Wire) (rest : List RestEntry) (methods : List MethodEntry) (publishes : List Publish) → d.link ≡ link.Closing false received → rest ≡ [] → IsOneClose methods → Alone (sent (handed_of flow rest methods publishes) d)
+sent_close received flow d rest [] publishes e none c = absurd c
+sent_close received flow d rest (m ∷ m' ∷ ms) publishes e none c = absurd c
+sent_close received flow d rest (m ∷ []) publishes e none c = rw none (rw e (moved m.channel m.method c))
   where
-    moved : (channel : ℕ) (x : Method) → is_connection_close x ≡ true → WaitsAlone (link_sent (frame.Method channel x) (link.Closing false heard)) (lists_of d)
+    moved : (channel : ℕ) (x : Method) → is_connection_close x ≡ true → WaitsAlone (link_sent (frame.Method channel x) (link.Closing false received)) (lists_of d)
     moved channel (method.Connection (connection.Close code text class number)) t = tt
     moved channel (method.Connection connection.CloseOk) t = cc
     moved channel (method.Channel x) t = cc
@@ -126,23 +126,23 @@ sent_close heard flow d rest (m ∷ []) publishes e none c = rw none (rw e (move
     moved channel (method.Confirm x) t = cc
     moved channel (method.Tx x) t = cc
 
-next_alone : (flow : Bool) (l : Link) (b : Base) → b.link ≡ l → WaitsAlone l (lists_of b) → Alone (after_next flow b)
+next_alone : (flow : Bool) (l : ConnectionPhase) (b : Wire) → b.link ≡ l → WaitsAlone l (lists_of b) → Alone (after_next flow b)
 next_alone flow link.Open b e h = sent_quiet (handed flow b) link.Open _ e (λ ls. tt) (λ ls. tt)
-next_alone flow (link.Closing true heard) b e h = sent_quiet (handed flow b) (link.Closing true heard) _ e (λ ls. tt) (λ ls. tt)
-next_alone flow (link.Closing false heard) b e h = sent_close heard (may_begin flow b) _ b.rest b.methods b.publishes e h.rest h.close
+next_alone flow (link.Closing true received) b e h = sent_quiet (handed flow b) (link.Closing true received) _ e (λ ls. tt) (λ ls. tt)
+next_alone flow (link.Closing false received) b e h = sent_close received (may_begin flow b) _ b.rest b.methods b.publishes e h.rest h.close
 next_alone flow link.Closed b e h = sent_quiet (handed flow b) link.Closed _ e (λ ls. tt) (λ ls. tt)
 next_alone flow link.Lost b e h = sent_quiet (handed flow b) link.Lost _ e (λ ls. tt) (λ ls. tt)
 
 -- ---- frames of the broker
 
-close_ok_alone : (c : ℕ) (p : Phase) (b : Base) → b.link ≡ link.Open → Alone (after_close_ok c p b)
+close_ok_alone : (c : ℕ) (p : ChannelPhase) (b : Wire) → b.link ≡ link.Open → Alone (after_close_ok c p b)
 close_ok_alone c phase.Closed b e = rw e tt
 close_ok_alone c phase.Opening b e = rw e tt
 close_ok_alone c (phase.Open paused) b e = rw e tt
 close_ok_alone c (phase.Closing who sent) b e = rw e tt
 close_ok_alone c phase.Crossed b e = rw e tt
 
-received_alone : (i : Incoming) (b : Base) → b.link ≡ link.Open → Alone (after_received i b)
+received_alone : (i : Incoming) (b : Wire) → b.link ≡ link.Open → Alone (after_received i b)
 received_alone (incoming.Reply c k a) b e = rw e tt
 received_alone (incoming.Settlement c s) b e = rw e tt
 received_alone (incoming.ChannelClose c code) b e = rw e tt
@@ -152,7 +152,7 @@ received_alone incoming.ConnectionCloseOk b e = tt
 received_alone (incoming.Flow c active) b e = choose_alone (is_open (state_of c b)) _ b (rw e tt) (rw e tt)
 received_alone incoming.Other b e = rw e tt
 
-failed_alone : (i : Incoming) (b : Base) → b.link ≡ link.Open → Alone (after_failed i b)
+failed_alone : (i : Incoming) (b : Wire) → b.link ≡ link.Open → Alone (after_failed i b)
 failed_alone (incoming.Settlement c s) b e = choose_alone (is_open (state_of c b)) _ b (rw e tt) (rw e tt)
 failed_alone (incoming.Reply c k a) b e = rw e tt
 failed_alone (incoming.ChannelClose c code) b e = rw e tt
@@ -162,7 +162,7 @@ failed_alone incoming.ConnectionCloseOk b e = rw e tt
 failed_alone (incoming.Flow c active) b e = rw e tt
 failed_alone incoming.Other b e = rw e tt
 
-refused_alone : (i : Incoming) (x : Error) (b : Base) → b.link ≡ link.Open → Alone (after_refused i x b)
+refused_alone : (i : Incoming) (x : Error) (b : Wire) → b.link ≡ link.Open → Alone (after_refused i x b)
 refused_alone i error.NoMemory b e = rw e tt
 refused_alone i error.NumbersUsedUp b e = rw e tt
 refused_alone i (error.InvalidChannelState s) b e = rw e tt
@@ -173,7 +173,7 @@ refused_alone i (error.PreconditionFailed tag current) b e = failed_alone i b e
 refused_alone i error.AlreadyTaken b e = rw e tt
 refused_alone i error.UnknownTicket b e = rw e tt
 
-up_alone : (i : Incoming) (r : Record) (b : Base) → b.link ≡ link.Open → Alone (after_heard i r b)
+up_alone : (i : Incoming) (r : Record) (b : Wire) → b.link ≡ link.Open → Alone (after_incoming i r b)
 up_alone i (record_.Refused x) b e = refused_alone i x b e
 up_alone i record_.Received b e = received_alone i b e
 up_alone i (record_.Ticket n) b e = rw e tt
@@ -188,42 +188,42 @@ up_alone i (record_.State x y) b e = rw e tt
 up_alone i record_.Aside b e = rw e tt
 up_alone i record_.Lost b e = rw e tt
 
--- of the two frames that are heard while this side closes, each takes the close out that has not left
-heard_alone : (l : Link) (see : Sight) (f : Record) (i : Incoming) (b : Base) → b.link ≡ l → WaitsAlone l (lists_of b) → Alone (after_heard i (heard_record b see f i) b)
-heard_alone link.Open see f i b e h = up_alone i (heard_record b see f i) b e
-heard_alone link.Closed see f i b e h = rw e h
-heard_alone link.Lost see f i b e h = rw e h
-heard_alone (link.Closing s was) see f incoming.ConnectionCloseOk b e h = rw e tt
-heard_alone (link.Closing s true) see f (incoming.ConnectionClose code) b e h = rw e h
-heard_alone (link.Closing true false) see f (incoming.ConnectionClose code) b e h = rw e tt
-heard_alone (link.Closing false false) see f (incoming.ConnectionClose code) b e h = rw e tt
-heard_alone (link.Closing s was) see f (incoming.Reply c k a) b e h = rw e h
-heard_alone (link.Closing s was) see f (incoming.Settlement c x) b e h = rw e h
-heard_alone (link.Closing s was) see f (incoming.ChannelClose c code) b e h = rw e h
-heard_alone (link.Closing s was) see f (incoming.ChannelCloseOk c) b e h = rw e h
-heard_alone (link.Closing s was) see f (incoming.Flow c active) b e h = rw e h
-heard_alone (link.Closing s was) see f incoming.Other b e h = rw e h
+-- of the two frames that are received while this side closes, each takes the close out that has not left
+incoming_alone : (l : ConnectionPhase) (readings : Readings) (f : Record) (i : Incoming) (b : Wire) → b.link ≡ l → WaitsAlone l (lists_of b) → Alone (after_incoming i (incoming_record b readings f i) b)
+incoming_alone link.Open readings f i b e h = up_alone i (incoming_record b readings f i) b e
+incoming_alone link.Closed readings f i b e h = rw e h
+incoming_alone link.Lost readings f i b e h = rw e h
+incoming_alone (link.Closing s was) readings f incoming.ConnectionCloseOk b e h = rw e tt
+incoming_alone (link.Closing s true) readings f (incoming.ConnectionClose code) b e h = rw e h
+incoming_alone (link.Closing true false) readings f (incoming.ConnectionClose code) b e h = rw e tt
+incoming_alone (link.Closing false false) readings f (incoming.ConnectionClose code) b e h = rw e tt
+incoming_alone (link.Closing s was) readings f (incoming.Reply c k a) b e h = rw e h
+incoming_alone (link.Closing s was) readings f (incoming.Settlement c x) b e h = rw e h
+incoming_alone (link.Closing s was) readings f (incoming.ChannelClose c code) b e h = rw e h
+incoming_alone (link.Closing s was) readings f (incoming.ChannelCloseOk c) b e h = rw e h
+incoming_alone (link.Closing s was) readings f (incoming.Flow c active) b e h = rw e h
+incoming_alone (link.Closing s was) readings f incoming.Other b e h = rw e h
 
 -- ---- every event
 
-alone-anew : (w : World) (e : Event) → Alone w.base → Alone (next_anew w e).base
-alone-anew w (event.Call c k) h = call_alone c (asked k) w.base h
-alone-anew w (event.Next flow) h = next_alone flow w.base.link w.base refl h
-alone-anew w (event.Receive f) h = heard_alone w.base.link (sight_of w.book w.slots) (refused (frame_class f) (frame_method f)) (heard f) w.base refl h
+alone-anew : (w : World) (e : Event) → Alone w.wire → Alone (next_anew w e).wire
+alone-anew w (event.Call c k) h = call_alone c (asked k) w.wire h
+alone-anew w (event.Next flow) h = next_alone flow w.wire.link w.wire refl h
+alone-anew w (event.Receive f) h = incoming_alone w.wire.link (readings_of w.book w.slots) (refused (frame_class f) (frame_method f)) (incoming_of f) w.wire refl h
 alone-anew w (event.PollTicket n) h = h
 alone-anew w (event.PollConfirm n) h = h
 alone-anew w (event.AsideTicket n) h = h
 alone-anew w (event.State c) h = h
-alone-anew w event.Lost h = choose_alone (is_lost w.base.link) w.base _ h tt
+alone-anew w event.Lost h = choose_alone (is_lost w.wire.link) w.wire _ h tt
 
-alone-next : (w : World) (e : Event) → Alone w.base → Alone (next w e).base
-alone-next w e h = next_keeps (λ v. Alone v.base) w e (alone-anew w e h) h
+alone-next : (w : World) (e : Event) → Alone w.wire → Alone (next w e).wire
+alone-next w e h = next_keeps (λ v. Alone v.wire) w e (alone-anew w e h) h
 
-alone-fold : (w : World) (es : List Event) → Alone w.base → Alone (fold next w es).base
+alone-fold : (w : World) (es : List Event) → Alone w.wire → Alone (fold next w es).wire
 alone-fold w [] h = h
 alone-fold w (e ∷ es) h = alone-fold (next w e) es (alone-next w e h)
 
-pub waits_alone : (frame_max : ℕ) (es : List Event) → Alone (fold next (new_world frame_max) es).base
+pub waits_alone : (frame_max : ℕ) (es : List Event) → Alone (fold next (new_world frame_max) es).wire
 waits_alone frame_max es = alone-fold (new_world frame_max) es tt
 
 -- ---- to drop what waits alone
@@ -236,9 +236,9 @@ one_dropped l h = dropped l.rest l.methods l.publishes h.rest h.close h.publishe
     dropped rest (m ∷ m' ∷ ms) publishes r c p = absurd c
     dropped rest (m ∷ []) publishes r c p = rw r (rw p (rw c refl))
 
-pub own_close_dropped : (l : Link) (ls : Lists) → WaitsAlone l ls → has_sent l ≡ false → without_own_close ls ≡ no_lists
+pub own_close_dropped : (l : ConnectionPhase) (ls : Lists) → WaitsAlone l ls → has_sent l ≡ false → without_own_close ls ≡ no_lists
 own_close_dropped link.Open ls h s = cc
-own_close_dropped (link.Closing true heard) ls h s = cc
-own_close_dropped (link.Closing false heard) ls h s = one_dropped ls h
+own_close_dropped (link.Closing true received) ls h s = cc
+own_close_dropped (link.Closing false received) ls h s = one_dropped ls h
 own_close_dropped link.Closed ls h s = cc
 own_close_dropped link.Lost ls h s = cc

@@ -12,13 +12,13 @@ use Rattle.lapin_history.specs.declared.broker_frames.Incoming.{Incoming}
 use Rattle.lapin_history.specs.declared.broker_frames.Incoming.TheVariants as incoming
 use Rattle.lapin_history.specs.declared.calls.Asked.{Asked}
 use Rattle.lapin_history.specs.declared.calls.Asked.TheVariants as ask
-use Rattle.lapin_history.specs.declared.phases.Link.{Link}
-use Rattle.lapin_history.specs.declared.phases.Link.TheVariants as link
+use Rattle.lapin_history.specs.declared.phases.ConnectionPhase.{ConnectionPhase}
+use Rattle.lapin_history.specs.declared.phases.ConnectionPhase.TheVariants as link
 use Rattle.lapin_history.specs.Calls.{asked}
-use Rattle.lapin_history.specs.Heard.{heard}
+use Rattle.lapin_history.specs.Incoming.{incoming_of}
 use Rattle.lapin_history.specs.Phases.{is_lost}
 use Rattle.lapin_history.specs.Leaving.{handed_of, left_lists}
-use Rattle.lapin_history.specs.Base.{Base, state_of, phase_of}
+use Rattle.lapin_history.specs.Wire.{Wire, state_of, phase_of}
 use Rattle.lapin_history.specs.Asking.{is_allowed}
 use Rattle.lapin_history.specs.Handing.{frame_record}
 use Rattle.lapin_history.specs.ChannelClose.{close_ok_end}
@@ -26,7 +26,7 @@ use Rattle.lapin_history.specs.ConnectionClose.{has_sent}
 use Rattle.lapin_outbox.specs.Outgoing.{OutboxState, with_lists}
 use Rattle.lapin_outbox.specs.Returned.{is_retried, given, popped, after_pop}
 use Rattle.lapin_outbox.specs.Returned as outbox
-use Rattle.lapin_machine.specs.Returned.{given_back, after_asked, unless_crossed, unless_closing, after_received, after_refused, after_heard, after_event}
+use Rattle.lapin_machine.specs.Returned.{given_back, after_asked, unless_crossed, unless_closing, after_received, after_refused, after_incoming, after_event}
 use Rattle.lapin_machine.specs.World.{World, told_anew, told_or, told_by, next_anew, next_or, next, with_returned}
 
 -- ---- what a frame request gives and leaves
@@ -76,7 +76,7 @@ choose_none : (t : Bool) → ◌≡◌ {A = Option Left} (cond t None None) None
 choose_none true = refl
 choose_none false = refl
 
-asked_none : (c : ℕ) (k : Asked) (b : Base) → after_asked c k b None ≡ None
+asked_none : (c : ℕ) (k : Asked) (b : Wire) → after_asked c k b None ≡ None
 asked_none c ask.Open b = refl
 asked_none c (ask.CloseChannel code text) b = refl
 asked_none c (ask.CloseConnection code text) b = choose_none (is_allowed (ask.CloseConnection code text) (state_of c b))
@@ -87,14 +87,14 @@ crossed_none : (c : ℕ) (e : Option Error) → unless_crossed c e None ≡ None
 crossed_none c None = refl
 crossed_none c (Some e) = refl
 
-closing_none : (l : Link) → unless_closing l None ≡ None
+closing_none : (l : ConnectionPhase) → unless_closing l None ≡ None
 closing_none link.Open = refl
-closing_none (link.Closing true heard) = refl
-closing_none (link.Closing false heard) = refl
+closing_none (link.Closing true received) = refl
+closing_none (link.Closing false received) = refl
 closing_none link.Closed = refl
 closing_none link.Lost = refl
 
-received_none : (i : Incoming) (b : Base) → after_received i b None ≡ None
+received_none : (i : Incoming) (b : Wire) → after_received i b None ≡ None
 received_none (incoming.Reply c k a) b = refl
 received_none (incoming.Settlement c s) b = refl
 received_none (incoming.Flow c active) b = refl
@@ -115,25 +115,25 @@ refused_none (error.PreconditionFailed tag current) = refl
 refused_none error.AlreadyTaken = refl
 refused_none error.UnknownTicket = refl
 
-heard_none : (i : Incoming) (r : Record) (b : Base) → after_heard i r b None ≡ None
-heard_none i (record_.Refused e) b = refused_none e
-heard_none i record_.Received b = received_none i b
-heard_none i (record_.Ticket n) b = refl
-heard_none i (record_.Publish t n) b = refl
-heard_none i (record_.Frame f) b = refl
-heard_none i record_.NoFrame b = refl
-heard_none i record_.Passed b = refl
-heard_none i record_.Pending b = refl
-heard_none i (record_.Answer a) b = refl
-heard_none i (record_.Confirmed o) b = refl
-heard_none i (record_.State x y) b = refl
-heard_none i record_.Aside b = refl
-heard_none i record_.Lost b = refl
+incoming_none : (i : Incoming) (r : Record) (b : Wire) → after_incoming i r b None ≡ None
+incoming_none i (record_.Refused e) b = refused_none e
+incoming_none i record_.Received b = received_none i b
+incoming_none i (record_.Ticket n) b = refl
+incoming_none i (record_.Publish t n) b = refl
+incoming_none i (record_.Frame f) b = refl
+incoming_none i record_.NoFrame b = refl
+incoming_none i record_.Passed b = refl
+incoming_none i record_.Pending b = refl
+incoming_none i (record_.Answer a) b = refl
+incoming_none i (record_.Confirmed o) b = refl
+incoming_none i (record_.State x y) b = refl
+incoming_none i record_.Aside b = refl
+incoming_none i record_.Lost b = refl
 
-event_none : (b : Base) (e : Event) (r : Record) → after_event b e r None ≡ None
+event_none : (b : Wire) (e : Event) (r : Record) → after_event b e r None ≡ None
 event_none b (event.Call c k) r = asked_none c (asked k) b
 event_none b (event.Next flow) r = refl
-event_none b (event.Receive f) r = heard_none (heard f) r b
+event_none b (event.Receive f) r = incoming_none (incoming_of f) r b
 event_none b (event.PollTicket n) r = refl
 event_none b (event.PollConfirm n) r = refl
 event_none b (event.AsideTicket n) r = refl
@@ -166,8 +166,8 @@ next_none w e h = next_step w e (given_none w.returned e h)
 pub still_none : (w : World) (e : Event) → w.returned ≡ None → (next w e).returned ≡ None
 still_none w e h =
     ap (λ (v : World). v.returned) (next_none w e h)
-    ∙ ap (λ r. after_event w.base e (told_anew w e) r) h
-    ∙ event_none w.base e (told_anew w e)
+    ∙ ap (λ r. after_event w.wire e (told_anew w e) r) h
+    ∙ event_none w.wire e (told_anew w e)
 
 pub still_unretried : (w v : World) (e : Event) → v ≡ next w e → is_retried w.returned ≡ false → is_retried v.returned ≡ false
 still_unretried w v e is h = ap (λ (x : World). is_retried x.returned) is ∙ ap is_retried (still_none w e (none_is w.returned h))

@@ -5,12 +5,12 @@ use Rattle.std.specs.Option.{option_map}
 use Rattle.lapin_types.specs.declared.request.Request.{Request}
 use Rattle.lapin_types.specs.declared.request.ReplyKind.{ReplyKind}
 use Rattle.lapin_tables.specs.ByChannel.{at_channel, on_channel}
-use Rattle.lapin_history.specs.declared.phases.Phase.{Phase}
-use Rattle.lapin_history.specs.declared.phases.Phase.TheVariants as phase
+use Rattle.lapin_history.specs.declared.phases.ChannelPhase.{ChannelPhase}
+use Rattle.lapin_history.specs.declared.phases.ChannelPhase.TheVariants as phase
 use Rattle.lapin_history.specs.Words.{with_channel}
 use Rattle.lapin_history.specs.Phases.{channel_state, phase_in}
 use Rattle.lapin_history.specs.ChannelClose.{close_sent}
-use Rattle.lapin_history.specs.Base.{is_closing}
+use Rattle.lapin_history.specs.Wire.{is_closing}
 use Rattle.lapin_tables.proofs.Channels.{at-on_same}
 use Rattle.lapin_history.specs.Requests.{requests_in, is_kind, first_request, without_kind, without_request}
 use Rattle.lapin_outbox.specs.Open.{requests_at}
@@ -81,11 +81,11 @@ requests_left c k rs = ap requests_in (at-on_same c (without_kind k) rs) ∙ eli
 
 -- ---- a close of a channel is known to have left
 
-pub closing_there : {X : Type 0} (o : Option Phase) → is_closing (channel_state (phase_in o)) ≡ true → o ≡ None → X
+pub closing_there : {X : Type 0} (o : Option ChannelPhase) → is_closing (channel_state (phase_in o)) ≡ true → o ≡ None → X
 closing_there None h e = cc
 closing_there (Some p) h e = cc
 
-still : (p : Phase) → is_closing (channel_state p) ≡ false → close_sent p ≡ p
+still : (p : ChannelPhase) → is_closing (channel_state p) ≡ false → close_sent p ≡ p
 still phase.Closed h = refl
 still phase.Opening h = refl
 still (phase.Open paused) h = refl
@@ -93,21 +93,21 @@ still (phase.Closing who sent) h = cc
 still phase.Crossed h = refl
 
 -- a channel that is closing is put where its close has left
-pub closing_left : (c : ℕ) (q r : Phase) (all : List (ℕ × Phase)) → q ≡ phase_in (at_channel c all) → is_closing (channel_state q) ≡ true → r ≡ close_sent q → with_channel c r all ≡ on_channel c close_sent all
+pub closing_left : (c : ℕ) (q r : ChannelPhase) (all : List (ℕ × ChannelPhase)) → q ≡ phase_in (at_channel c all) → is_closing (channel_state q) ≡ true → r ≡ close_sent q → with_channel c r all ≡ on_channel c close_sent all
 closing_left c q r all is closing left = at (at_channel c all) refl
   where
-    at : (o : Option Phase) → at_channel c all ≡ o → with_channel c r all ≡ on_channel c close_sent all
-    at None e = closing_there None (ap (λ (p : Phase). is_closing (channel_state p)) (sym (is ∙ ap phase_in e)) ∙ closing) refl
+    at : (o : Option ChannelPhase) → at_channel c all ≡ o → with_channel c r all ≡ on_channel c close_sent all
+    at None e = closing_there None (ap (λ (p : ChannelPhase). is_closing (channel_state p)) (sym (is ∙ ap phase_in e)) ∙ closing) refl
     at (Some p) e =
         let same : r ≡ close_sent p = left ∙ ap close_sent (is ∙ ap phase_in e) in
-        rw e (ap (λ (v : Phase). on_channel c (λ _. v) all) same ∙ on_value c close_sent p all e)
+        rw e (ap (λ (v : ChannelPhase). on_channel c (λ _. v) all) same ∙ on_value c close_sent p all e)
 
 -- another stays where it is
-pub others_left : (c : ℕ) (q : Phase) (all : List (ℕ × Phase)) → q ≡ phase_in (at_channel c all) → is_closing (channel_state q) ≡ false → all ≡ on_channel c close_sent all
+pub others_left : (c : ℕ) (q : ChannelPhase) (all : List (ℕ × ChannelPhase)) → q ≡ phase_in (at_channel c all) → is_closing (channel_state q) ≡ false → all ≡ on_channel c close_sent all
 others_left c q all is away = at (at_channel c all) refl
   where
-    at : (o : Option Phase) → at_channel c all ≡ o → all ≡ on_channel c close_sent all
+    at : (o : Option ChannelPhase) → at_channel c all ≡ o → all ≡ on_channel c close_sent all
     at None e = sym (on_absent c close_sent all e)
     at (Some p) e =
-        let stays : is_closing (channel_state p) ≡ false = ap (λ (v : Phase). is_closing (channel_state v)) (sym (is ∙ ap phase_in e)) ∙ away in
+        let stays : is_closing (channel_state p) ≡ false = ap (λ (v : ChannelPhase). is_closing (channel_state v)) (sym (is ∙ ap phase_in e)) ∙ away in
         sym (on_same c close_sent (λ v. v) p all e (still p stays) ∙ on_itself c all)

@@ -12,18 +12,18 @@ use Rattle.lapin_types.specs.Types.{Error}
 use Rattle.lapin_types.specs.Types.error
 use Rattle.lapin_history.specs.declared.broker_frames.Incoming.{Incoming}
 use Rattle.lapin_history.specs.declared.broker_frames.Incoming.TheVariants as incoming
-use Rattle.lapin_history.specs.Heard.{heard}
-use Rattle.lapin_history.specs.declared.phases.Phase.{Phase}
-use Rattle.lapin_history.specs.declared.phases.Phase.TheVariants as phase
-use Rattle.lapin_history.specs.declared.phases.Link.{Link}
-use Rattle.lapin_history.specs.declared.phases.Link.TheVariants as link
+use Rattle.lapin_history.specs.Incoming.{incoming_of}
+use Rattle.lapin_history.specs.declared.phases.ChannelPhase.{ChannelPhase}
+use Rattle.lapin_history.specs.declared.phases.ChannelPhase.TheVariants as phase
+use Rattle.lapin_history.specs.declared.phases.ConnectionPhase.{ConnectionPhase}
+use Rattle.lapin_history.specs.declared.phases.ConnectionPhase.TheVariants as link
 use Rattle.lapin_history.specs.Phases.{is_lost}
 use Rattle.lapin_history.specs.Leaving.{left_lists}
-use Rattle.lapin_history.specs.Base.{Base, state_of, phase_of, is_open, with_lists, lists_of}
+use Rattle.lapin_history.specs.Wire.{Wire, state_of, phase_of, is_open, with_lists, lists_of}
 use Rattle.lapin_history.specs.Asking.{is_allowed, after_call}
 use Rattle.lapin_history.specs.Flow.{may_begin}
 use Rattle.lapin_history.specs.Events.{after_event}
-use Rattle.lapin_history.specs.Hearing.{after_heard, after_received, after_failed, after_refused}
+use Rattle.lapin_history.specs.Receiving.{after_incoming, after_received, after_failed, after_refused}
 use Rattle.lapin_history.specs.ChannelClose.{after_close_ok}
 use Rattle.lapin_history.specs.ConnectionClose.{after_connection_close}
 use Rattle.lapin_history.specs.Loss.{after_lost}
@@ -34,18 +34,18 @@ use Rattle.lapin_machine.proofs.Back.{next_keeps}
 use Rattle.lapin_machine.specs.Stands.{Stands}
 use Rattle.lapin_machine.specs.Numbers.{HasNumbersFor, EventUsedUp, LacksNumber}
 
-choose_le : (t : Bool) (x y : Base) (n : ℕ) (f : Base → ℕ) → f x ≤ n → f y ≤ n → f (cond t x y) ≤ n
+choose_le : (t : Bool) (x y : Wire) (n : ℕ) (f : Wire → ℕ) → f x ≤ n → f y ≤ n → f (cond t x y) ≤ n
 choose_le true x y n f h k = h
 choose_le false x y n f h k = k
 
-tickets_call : (c : ℕ) (k : Asked) (b : Base) → (after_call c k b).tickets ≤ b.tickets + 1
+tickets_call : (c : ℕ) (k : Asked) (b : Wire) → (after_call c k b).tickets ≤ b.tickets + 1
 tickets_call c ask.Open b = omega arith
 tickets_call c (ask.CloseChannel code text) b = omega arith
 tickets_call c (ask.CloseConnection code text) b = omega arith
 tickets_call c (ask.Method row) b = omega arith
 tickets_call c (ask.Publish exchange key o payload properties) b = omega arith
 
-published_call : (c : ℕ) (k : Asked) (b : Base) → (after_call c k b).published ≤ b.published + 1
+published_call : (c : ℕ) (k : Asked) (b : Wire) → (after_call c k b).published ≤ b.published + 1
 published_call c ask.Open b = omega arith
 published_call c (ask.CloseChannel code text) b = omega arith
 published_call c (ask.CloseConnection code text) b = omega arith
@@ -53,28 +53,28 @@ published_call c (ask.Method row) b = omega arith
 published_call c (ask.Publish exchange key o payload properties) b = omega arith
 
 -- a frame of the broker and a loss change no counter
-abbrev SameCounts : Base → Base → Type 0
+abbrev SameCounts : Wire → Wire → Type 0
 SameCounts d b = (d.tickets ≡ b.tickets) × (d.published ≡ b.published)
 
-choose_counts : (t : Bool) (x y b : Base) → SameCounts x b → SameCounts y b → SameCounts (cond t x y) b
+choose_counts : (t : Bool) (x y b : Wire) → SameCounts x b → SameCounts y b → SameCounts (cond t x y) b
 choose_counts true x y b h k = h
 choose_counts false x y b h k = k
 
-close_ok_counts : (c : ℕ) (p : Phase) (b : Base) → SameCounts (after_close_ok c p b) b
+close_ok_counts : (c : ℕ) (p : ChannelPhase) (b : Wire) → SameCounts (after_close_ok c p b) b
 close_ok_counts c phase.Closed b = (refl, refl)
 close_ok_counts c phase.Opening b = (refl, refl)
 close_ok_counts c (phase.Open paused) b = (refl, refl)
 close_ok_counts c (phase.Closing who sent) b = (refl, refl)
 close_ok_counts c phase.Crossed b = (refl, refl)
 
-connection_close_counts : (l : Link) (b : Base) → SameCounts (after_connection_close l b) b
+connection_close_counts : (l : ConnectionPhase) (b : Wire) → SameCounts (after_connection_close l b) b
 connection_close_counts link.Open b = (refl, refl)
-connection_close_counts (link.Closing true heard) b = (refl, refl)
-connection_close_counts (link.Closing false heard) b = (refl, refl)
+connection_close_counts (link.Closing true received) b = (refl, refl)
+connection_close_counts (link.Closing false received) b = (refl, refl)
 connection_close_counts link.Closed b = (refl, refl)
 connection_close_counts link.Lost b = (refl, refl)
 
-received_counts : (i : Incoming) (b : Base) → SameCounts (after_received i b) b
+received_counts : (i : Incoming) (b : Wire) → SameCounts (after_received i b) b
 received_counts (incoming.Reply c k a) b = (refl, refl)
 received_counts (incoming.Settlement c s) b = (refl, refl)
 received_counts (incoming.ChannelClose c code) b = (refl, refl)
@@ -84,7 +84,7 @@ received_counts incoming.ConnectionCloseOk b = (refl, refl)
 received_counts (incoming.Flow c active) b = choose_counts (is_open (state_of c b)) _ b b (refl, refl) (refl, refl)
 received_counts incoming.Other b = (refl, refl)
 
-failed_counts : (i : Incoming) (b : Base) → SameCounts (after_failed i b) b
+failed_counts : (i : Incoming) (b : Wire) → SameCounts (after_failed i b) b
 failed_counts (incoming.Settlement c s) b = choose_counts (is_open (state_of c b)) _ b b (refl, refl) (refl, refl)
 failed_counts (incoming.Reply c k a) b = (refl, refl)
 failed_counts (incoming.ChannelClose c code) b = (refl, refl)
@@ -94,7 +94,7 @@ failed_counts incoming.ConnectionCloseOk b = (refl, refl)
 failed_counts (incoming.Flow c active) b = (refl, refl)
 failed_counts incoming.Other b = (refl, refl)
 
-refused_counts : (i : Incoming) (e : Error) (b : Base) → SameCounts (after_refused i e b) b
+refused_counts : (i : Incoming) (e : Error) (b : Wire) → SameCounts (after_refused i e b) b
 refused_counts i error.NoMemory b = (refl, refl)
 refused_counts i error.NumbersUsedUp b = (refl, refl)
 refused_counts i (error.InvalidChannelState s) b = (refl, refl)
@@ -105,45 +105,45 @@ refused_counts i (error.PreconditionFailed tag current) b = failed_counts i b
 refused_counts i error.AlreadyTaken b = (refl, refl)
 refused_counts i error.UnknownTicket b = (refl, refl)
 
-pub heard_counts : (i : Incoming) (r : Record) (b : Base) → SameCounts (after_heard i r b) b
-heard_counts i (record_.Refused e) b = refused_counts i e b
-heard_counts i record_.Received b = received_counts i b
-heard_counts i (record_.Ticket n) b = (refl, refl)
-heard_counts i (record_.Publish t n) b = (refl, refl)
-heard_counts i (record_.Frame f) b = (refl, refl)
-heard_counts i record_.NoFrame b = (refl, refl)
-heard_counts i record_.Passed b = (refl, refl)
-heard_counts i record_.Pending b = (refl, refl)
-heard_counts i (record_.Answer a) b = (refl, refl)
-heard_counts i (record_.Confirmed o) b = (refl, refl)
-heard_counts i (record_.State x y) b = (refl, refl)
-heard_counts i record_.Aside b = (refl, refl)
-heard_counts i record_.Lost b = (refl, refl)
+pub incoming_counts : (i : Incoming) (r : Record) (b : Wire) → SameCounts (after_incoming i r b) b
+incoming_counts i (record_.Refused e) b = refused_counts i e b
+incoming_counts i record_.Received b = received_counts i b
+incoming_counts i (record_.Ticket n) b = (refl, refl)
+incoming_counts i (record_.Publish t n) b = (refl, refl)
+incoming_counts i (record_.Frame f) b = (refl, refl)
+incoming_counts i record_.NoFrame b = (refl, refl)
+incoming_counts i record_.Passed b = (refl, refl)
+incoming_counts i record_.Pending b = (refl, refl)
+incoming_counts i (record_.Answer a) b = (refl, refl)
+incoming_counts i (record_.Confirmed o) b = (refl, refl)
+incoming_counts i (record_.State x y) b = (refl, refl)
+incoming_counts i record_.Aside b = (refl, refl)
+incoming_counts i record_.Lost b = (refl, refl)
 
-pub lost_counts : (b : Base) → SameCounts (after_lost b) b
+pub lost_counts : (b : Wire) → SameCounts (after_lost b) b
 lost_counts b = choose_counts (is_lost b.link) b _ b (refl, refl) (refl, refl)
 
-pub next_counts : (flow : Bool) (b : Base) → SameCounts (after_next flow b) b
+pub next_counts : (flow : Bool) (b : Wire) → SameCounts (after_next flow b) b
 next_counts flow b = at (handed flow b)
   where
     at : (o : Option Left) → SameCounts (sent o (with_lists (left_lists b.frame_max (may_begin flow b) (lists_of b)) b)) b
     at None = (refl, refl)
     at (Some l) = (refl, refl)
 
-tickets-next : (b : Base) (e : Event) (r : Record) → (after_event b e r).tickets ≤ b.tickets + 1
+tickets-next : (b : Wire) (e : Event) (r : Record) → (after_event b e r).tickets ≤ b.tickets + 1
 tickets-next b (event.Call c k) r = choose_le (is_allowed (asked k) (state_of c b)) (after_call c (asked k) b) b (b.tickets + 1) (λ x. x.tickets) (tickets_call c (asked k) b) (omega arith)
 tickets-next b (event.Next flow) r = let same : (after_next flow b).tickets ≡ b.tickets = (next_counts flow b).0 in omega arith
-tickets-next b (event.Receive f) r = let same : (after_heard (heard f) r b).tickets ≡ b.tickets = (heard_counts (heard f) r b).0 in omega arith
+tickets-next b (event.Receive f) r = let same : (after_incoming (incoming_of f) r b).tickets ≡ b.tickets = (incoming_counts (incoming_of f) r b).0 in omega arith
 tickets-next b (event.PollTicket n) r = omega arith
 tickets-next b (event.PollConfirm n) r = omega arith
 tickets-next b (event.AsideTicket n) r = omega arith
 tickets-next b (event.State c) r = omega arith
 tickets-next b event.Lost r = let same : (after_lost b).tickets ≡ b.tickets = (lost_counts b).0 in omega arith
 
-published-next : (b : Base) (e : Event) (r : Record) → (after_event b e r).published ≤ b.published + 1
+published-next : (b : Wire) (e : Event) (r : Record) → (after_event b e r).published ≤ b.published + 1
 published-next b (event.Call c k) r = choose_le (is_allowed (asked k) (state_of c b)) (after_call c (asked k) b) b (b.published + 1) (λ x. x.published) (published_call c (asked k) b) (omega arith)
 published-next b (event.Next flow) r = let same : (after_next flow b).published ≡ b.published = (next_counts flow b).1 in omega arith
-published-next b (event.Receive f) r = let same : (after_heard (heard f) r b).published ≡ b.published = (heard_counts (heard f) r b).1 in omega arith
+published-next b (event.Receive f) r = let same : (after_incoming (incoming_of f) r b).published ≡ b.published = (incoming_counts (incoming_of f) r b).1 in omega arith
 published-next b (event.PollTicket n) r = omega arith
 published-next b (event.PollConfirm n) r = omega arith
 published-next b (event.AsideTicket n) r = omega arith
@@ -152,28 +152,28 @@ published-next b event.Lost r = let same : (after_lost b).published ≡ b.publis
 
 pub numbers-next : (n : ℕ) (w : World) (e : Event) → HasNumbersFor (suc n) w → HasNumbersFor n (next w e)
 numbers-next n w e h =
-    let tickets : w.base.tickets + suc n < 2 ^ 64 = h.tickets in
-    let confirms : w.base.published + suc n < 2 ^ 64 = h.confirms in
-    let more : (next w e).base.tickets ≤ w.base.tickets + 1 = next_keeps (λ v. v.base.tickets ≤ w.base.tickets + 1) w e (tickets-next w.base e (told_anew w e)) (omega arith) in
-    let also : (next w e).base.published ≤ w.base.published + 1 = next_keeps (λ v. v.base.published ≤ w.base.published + 1) w e (published-next w.base e (told_anew w e)) (omega arith) in
+    let tickets : w.wire.tickets + suc n < 2 ^ 64 = h.tickets in
+    let confirms : w.wire.published + suc n < 2 ^ 64 = h.confirms in
+    let more : (next w e).wire.tickets ≤ w.wire.tickets + 1 = next_keeps (λ v. v.wire.tickets ≤ w.wire.tickets + 1) w e (tickets-next w.wire e (told_anew w e)) (omega arith) in
+    let also : (next w e).wire.published ≤ w.wire.published + 1 = next_keeps (λ v. v.wire.published ≤ w.wire.published + 1) w e (published-next w.wire e (told_anew w e)) (omega arith) in
     record { tickets = omega arith; confirms = omega arith }
 
-more : (n : ℕ) (w : World) → HasNumbersFor (suc n) w → w.base.tickets + 1 ≡ 2 ^ 64 → ⊥
-more n w h full = let t : w.base.tickets + suc n < 2 ^ 64 = h.tickets in omega arith
+more : (n : ℕ) (w : World) → HasNumbersFor (suc n) w → w.wire.tickets + 1 ≡ 2 ^ 64 → ⊥
+more n w h full = let t : w.wire.tickets + suc n < 2 ^ 64 = h.tickets in omega arith
 
 -- a call lacks no number where each counter has a further one
-no_lack : (n : ℕ) (w : World) (k : Asked) → HasNumbersFor (suc n) w → LacksNumber k w.base → ⊥
+no_lack : (n : ℕ) (w : World) (k : Asked) → HasNumbersFor (suc n) w → LacksNumber k w.wire → ⊥
 no_lack n w ask.Open h full = more n w h full
 no_lack n w (ask.CloseChannel code text) h full = more n w h full
 no_lack n w (ask.CloseConnection code text) h full = more n w h full
 no_lack n w (ask.Method row) h full = more n w h full
 no_lack n w (ask.Publish exchange key o payload properties) h full = elim full [
   | inl tickets ↦ more n w h tickets
-  | inr confirms ↦ (let p : w.base.published + suc n < 2 ^ 64 = h.confirms in let e : w.base.published + 1 ≡ 2 ^ 64 = confirms in omega arith)
+  | inr confirms ↦ (let p : w.wire.published + suc n < 2 ^ 64 = h.confirms in let e : w.wire.published + 1 ≡ 2 ^ 64 = confirms in omega arith)
 ]
 
 -- a counter that has a further number isn't used up
-pub has_number : (n : ℕ) (w : World) (e : Event) → HasNumbersFor (suc n) w → EventUsedUp e w.base → ⊥
+pub has_number : (n : ℕ) (w : World) (e : Event) → HasNumbersFor (suc n) w → EventUsedUp e w.wire → ⊥
 has_number n w (event.Call c k) h u = no_lack n w (asked k) h u.1
 has_number n w (event.Next flow) h u = absurd u
 has_number n w (event.Receive f) h u = absurd u
@@ -193,18 +193,18 @@ longer-push old new records rest ends r h e = record {
 
 -- ---- no counter is above the number of events
 
-within_on : (p : Past) (h : History) → ((past_on p h).base.tickets ≤ p.base.tickets + length h) × ((past_on p h).base.published ≤ p.base.published + length h)
+within_on : (p : Past) (h : History) → ((past_on p h).wire.tickets ≤ p.wire.tickets + length h) × ((past_on p h).wire.published ≤ p.wire.published + length h)
 within_on p [] = (omega arith, omega arith)
 within_on p (x ∷ h) =
     let rest = within_on (longer p x.0 x.1) h in
-    let one : (longer p x.0 x.1).base.tickets ≤ p.base.tickets + 1 = tickets-next p.base x.0 x.1 in
-    let also : (longer p x.0 x.1).base.published ≤ p.base.published + 1 = published-next p.base x.0 x.1 in
+    let one : (longer p x.0 x.1).wire.tickets ≤ p.wire.tickets + 1 = tickets-next p.wire x.0 x.1 in
+    let also : (longer p x.0 x.1).wire.published ≤ p.wire.published + 1 = published-next p.wire x.0 x.1 in
     (omega (arith, rest.0, one), omega (arith, rest.1, also))
 
 -- a session that stands for a history has used at most one number of each counter an event
 pub standing_numbers : (n m : ℕ) (h : History) (w : World) → Stands n h w → length h + m < 2 ^ 64 → HasNumbersFor m w
 standing_numbers n m h w s few =
     let within = within_on (past n []) h in
-    let t : w.base.tickets ≡ (past n h).base.tickets = ap (λ b. b.tickets) s.base in
-    let p : w.base.published ≡ (past n h).base.published = ap (λ b. b.published) s.base in
+    let t : w.wire.tickets ≡ (past n h).wire.tickets = ap (λ b. b.tickets) s.wire in
+    let p : w.wire.published ≡ (past n h).wire.published = ap (λ b. b.published) s.wire in
     record { tickets = omega (arith, within.0, t); confirms = omega (arith, within.1, p) }

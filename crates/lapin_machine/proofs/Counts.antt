@@ -17,7 +17,7 @@ use Rattle.lapin_history.specs.Requests.{resolved_with}
 use Rattle.lapin_history.specs.Asking.{made_marks}
 use Rattle.lapin_history.specs.Handing.{begun_ticket, last_ticket, left_tickets, frame_marks, entry_marks, left_marks}
 use Rattle.lapin_ticket.specs.declared.Slot.{Slot}
-use Rattle.lapin_ticket.specs.Desk.{after_mark, answered_slot, begun_slot, left_slot, closed_slot, failed_slot}
+use Rattle.lapin_ticket.specs.Slots.{after_mark, answered_slot, begun_slot, left_slot, closed_slot, failed_slot}
 use Rattle.lapin_confirm.specs.Book.{Book, closed_here, ended}
 use Rattle.lapin_confirm.specs.Book as book
 

@@ -18,47 +18,47 @@ use Rattle.lapin_history.specs.declared.broker_frames.Incoming.{Incoming}
 use Rattle.lapin_history.specs.declared.broker_frames.Incoming.TheVariants as incoming
 use Rattle.lapin_history.specs.declared.marks.Settlement.{Settlement}
 use Rattle.lapin_history.specs.declared.phases.Closer.TheVariants as closer
-use Rattle.lapin_history.specs.declared.phases.Link.{Link}
-use Rattle.lapin_history.specs.declared.phases.Link.TheVariants as link
-use Rattle.lapin_history.specs.declared.phases.Phase.{Phase}
-use Rattle.lapin_history.specs.declared.phases.Phase.TheVariants as phase
-use Rattle.lapin_history.specs.Sight.{Sight}
+use Rattle.lapin_history.specs.declared.phases.ConnectionPhase.{ConnectionPhase}
+use Rattle.lapin_history.specs.declared.phases.ConnectionPhase.TheVariants as link
+use Rattle.lapin_history.specs.declared.phases.ChannelPhase.{ChannelPhase}
+use Rattle.lapin_history.specs.declared.phases.ChannelPhase.TheVariants as phase
+use Rattle.lapin_history.specs.Readings.{Readings}
 use Rattle.lapin_history.specs.Calls.{asked}
-use Rattle.lapin_history.specs.Heard.{heard, frame_class, frame_method}
+use Rattle.lapin_history.specs.Incoming.{incoming_of, frame_class, frame_method}
 use Rattle.lapin_history.specs.Phases.{is_up, is_lost}
 use Rattle.lapin_history.specs.Polls.{is_confirmed}
 use Rattle.lapin_history.specs.Select.{is_select}
 use Rattle.lapin_history.specs.Words.{with_channel}
-use Rattle.lapin_history.specs.Base.{Base, state_of, phase_of, is_open, is_base, hears_on, noted}
+use Rattle.lapin_history.specs.Wire.{Wire, state_of, phase_of, is_open, is_base, receives_on, noted}
 use Rattle.lapin_history.specs.Asking.{is_allowed, after_call, call_marks}
 use Rattle.lapin_history.specs.Ends.{ends, live_channels, end_with}
-use Rattle.lapin_history.specs.Reply.{hears_reply}
-use Rattle.lapin_history.specs.ChannelClose.{closing, failed_at_close, hears_close, hears_close_ok, close_ok_end, after_close_ok}
+use Rattle.lapin_history.specs.Reply.{receives_reply}
+use Rattle.lapin_history.specs.ChannelClose.{closing, failed_at_close, receives_close, receives_close_ok, close_ok_end, after_close_ok}
 use Rattle.lapin_history.specs.Unexpected.{refused}
 use Rattle.lapin_history.specs.Settlement.{settlement_record, session_close}
-use Rattle.lapin_history.specs.Hearing.{heard_up, heard_record, after_heard, heard_marks}
+use Rattle.lapin_history.specs.Receiving.{incoming_up, incoming_record, after_incoming, incoming_marks}
 use Rattle.lapin_history.specs.Handing.{left_marks, handed}
 use Rattle.lapin_history.specs.Loss.{after_lost, lost_marks}
 use Rattle.lapin_history.specs.Events.{confirm_marks}
 use Rattle.lapin_machine.specs.Returned.{given_back, is_emptied, without_ended, after_ends}
 use Rattle.lapin_machine.specs.Returned as back
 use Rattle.lapin_machine.specs.Stands.{IsShut}
-use Rattle.lapin_machine.specs.World.{World, next, next_anew, next_or, told_by, told_anew, sight_of}
+use Rattle.lapin_machine.specs.World.{World, next, next_anew, next_or, told_by, told_anew, readings_of}
 use Rattle.lapin_machine.proofs.Back.{told_step, next_step}
 
 -- a connection that stays where it is drops nothing
-stays : (l : Link) → is_emptied l l ≡ false
+stays : (l : ConnectionPhase) → is_emptied l l ≡ false
 stays link.Open = refl
-stays (link.Closing true heard) = refl
-stays (link.Closing false heard) = refl
+stays (link.Closing true received) = refl
+stays (link.Closing false received) = refl
 stays link.Closed = refl
 stays link.Lost = refl
 
 -- an event that drops nothing and ends no opening
-quiet : (l : Link) (r : Option Left) → r ≡ after_ends l l [] r
+quiet : (l : ConnectionPhase) (r : Option Left) → r ≡ after_ends l l [] r
 quiet l r = rw (stays l) refl
 
-quiet_marks : (l : Link) (ms : List ConfirmMark) (r : Option Left) → without_ended ms r ≡ r → r ≡ after_ends l l ms r
+quiet_marks : (l : ConnectionPhase) (ms : List ConfirmMark) (r : Option Left) → without_ended ms r ≡ r → r ≡ after_ends l l ms r
 quiet_marks l ms r h = rw (stays l) (sym h)
 
 none_ended : (ms : List ConfirmMark) → without_ended ms None ≡ None
@@ -77,7 +77,7 @@ none_ended (mark.SetAside n ∷ ms) = none_ended ms
 none_ended (mark.Arrived c m ∷ ms) = none_ended ms
 none_ended (mark.Drained c ∷ ms) = none_ended ms
 
-none_goes : (old new : Link) (ms : List ConfirmMark) → None ≡ after_ends old new ms None
+none_goes : (old new : ConnectionPhase) (ms : List ConfirmMark) → None ≡ after_ends old new ms None
 none_goes old new ms = elim (is_emptied old new) as (λ t. None ≡ cond t None (without_ended ms None)) [ true ↦ refl | false ↦ sym (none_ended ms) ]
 
 -- ---- calls
@@ -86,13 +86,13 @@ select_quiet : (s : Bool) (m : ConfirmMark) (r : Option Left) → without_ended 
 select_quiet true m r h = h
 select_quiet false m r h = refl
 
-base_up : (l : Link) (s : ChannelState) → is_base (cond (is_up l) s state.Down) ≡ true → l ≡ link.Open
+base_up : (l : ConnectionPhase) (s : ChannelState) → is_base (cond (is_up l) s state.Down) ≡ true → l ≡ link.Open
 base_up link.Open s h = refl
-base_up (link.Closing sent heard) s h = cc
+base_up (link.Closing sent received) s h = cc
 base_up link.Closed s h = cc
 base_up link.Lost s h = cc
 
-called : (c : ℕ) (a : Asked) (b : Base) (r : Option Left) (t : Bool) → is_allowed a (state_of c b) ≡ t → back.after_asked c a b r ≡ after_ends b.link (cond t (after_call c a b) b).link (cond t (call_marks c a b) []) r
+called : (c : ℕ) (a : Asked) (b : Wire) (r : Option Left) (t : Bool) → is_allowed a (state_of c b) ≡ t → back.after_asked c a b r ≡ after_ends b.link (cond t (after_call c a b) b).link (cond t (call_marks c a b) []) r
 called c ask.Open b r true h = quiet_marks b.link (mark.Begun c ∷ []) r refl
 called c ask.Open b r false h = quiet b.link r
 called c (ask.CloseChannel code text) b r true h = quiet_marks b.link (mark.ClosedHere c (failed_at_close closer.Application) ∷ []) r refl
@@ -106,83 +106,83 @@ called c (ask.Publish exchange key o payload properties) b r false h = quiet b.l
 
 -- ---- frames of the broker
 
-abbrev G : Incoming → Record → Base → Option Left → Type 0
-G i x b r = back.after_heard i x b r ≡ after_ends b.link (after_heard i x b).link (heard_marks i x b) r
+abbrev G : Incoming → Record → Wire → Option Left → Type 0
+G i x b r = back.after_incoming i x b r ≡ after_ends b.link (after_incoming i x b).link (incoming_marks i x b) r
 
-choose_goes : (t : Bool) (i : Incoming) (x y : Record) (b : Base) (r : Option Left) → G i x b r → G i y b r → G i (cond t x y) b r
+choose_goes : (t : Bool) (i : Incoming) (x y : Record) (b : Wire) (r : Option Left) → G i x b r → G i y b r → G i (cond t x y) b r
 choose_goes true i x y b r h k = h
 choose_goes false i x y b r h k = k
 
-unheard_goes : (i : Incoming) (class number : ℕ) (b : Base) (r : Option Left) → b.link ≡ link.Open → G i (refused class number) b r
+unheard_goes : (i : Incoming) (class number : ℕ) (b : Wire) (r : Option Left) → b.link ≡ link.Open → G i (refused class number) b r
 unheard_goes i class number b r e = rw e refl
 
-choose_link : (t : Bool) (x y : Base) (l : Link) → x.link ≡ l → y.link ≡ l → (cond t x y).link ≡ l
+choose_link : (t : Bool) (x y : Wire) (l : ConnectionPhase) → x.link ≡ l → y.link ≡ l → (cond t x y).link ≡ l
 choose_link true x y l h k = h
 choose_link false x y l h k = k
 
-failed_goes : (c : ℕ) (s : Settlement) (tag current : ℕ) (b : Base) (r : Option Left) → G (incoming.Settlement c s) (record_.Refused (error.PreconditionFailed tag current)) b r
+failed_goes : (c : ℕ) (s : Settlement) (tag current : ℕ) (b : Wire) (r : Option Left) → G (incoming.Settlement c s) (record_.Refused (error.PreconditionFailed tag current)) b r
 failed_goes c s tag current b r = elim (is_open (state_of c b)) as (λ t. r ≡ after_ends b.link (cond t (noted c (session_close s.kind) (closing c closer.Session b)) b).link (cond t (mark.ClosedHere c (failed_at_close closer.Session) ∷ []) []) r) [
   | true ↦ quiet_marks b.link (mark.ClosedHere c (failed_at_close closer.Session) ∷ []) r refl
   | false ↦ quiet b.link r
 ]
 
-flow_goes : (c : ℕ) (active : Bool) (b : Base) (r : Option Left) → G (incoming.Flow c active) record_.Received b r
+flow_goes : (c : ℕ) (active : Bool) (b : Wire) (r : Option Left) → G (incoming.Flow c active) record_.Received b r
 flow_goes c active b r = elim (is_open (state_of c b)) as (λ t. r ≡ after_ends b.link (cond t (noted c (method.Channel (channel.FlowOk active)) (record b { phases = with_channel c (phase.Open (not active)) b.phases })) b).link [] r) [ true ↦ quiet b.link r | false ↦ quiet b.link r ]
 
-close_ok_goes : (c : ℕ) (p : Phase) (b : Base) (r : Option Left) → back.unless_crossed c (close_ok_end p) r ≡ after_ends b.link (after_close_ok c p b).link (end_with c (close_ok_end p)) r
+close_ok_goes : (c : ℕ) (p : ChannelPhase) (b : Wire) (r : Option Left) → back.unless_crossed c (close_ok_end p) r ≡ after_ends b.link (after_close_ok c p b).link (end_with c (close_ok_end p)) r
 close_ok_goes c (phase.Closing who sent) b r = rw (stays b.link) refl
 close_ok_goes c phase.Closed b r = quiet b.link r
 close_ok_goes c phase.Opening b r = quiet b.link r
 close_ok_goes c (phase.Open paused) b r = quiet b.link r
 close_ok_goes c phase.Crossed b r = quiet b.link r
 
-open_goes : (see : Sight) (class number : ℕ) (i : Incoming) (b : Base) (r : Option Left) → b.link ≡ link.Open → G i (heard_up b see (refused class number) i) b r
-open_goes see class number (incoming.Reply c q a) b r e = choose_goes (hears_reply c q b) (incoming.Reply c q a) record_.Received (refused class number) b r (quiet b.link r) (unheard_goes (incoming.Reply c q a) class number b r e)
-open_goes see class number (incoming.Settlement c s) b r e =
-    choose_goes (hears_on (state_of c b)) (incoming.Settlement c s) (settlement_record see c s) (refused class number) b r
-    (choose_goes (see.selected c) (incoming.Settlement c s) (cond (s.multiple || see.pending c s.tag) record_.Received (record_.Refused (error.PreconditionFailed s.tag (see.last c)))) record_.Passed b r
-    (choose_goes (s.multiple || see.pending c s.tag) (incoming.Settlement c s) record_.Received (record_.Refused (error.PreconditionFailed s.tag (see.last c))) b r
+open_goes : (readings : Readings) (class number : ℕ) (i : Incoming) (b : Wire) (r : Option Left) → b.link ≡ link.Open → G i (incoming_up b readings (refused class number) i) b r
+open_goes readings class number (incoming.Reply c q a) b r e = choose_goes (receives_reply c q b) (incoming.Reply c q a) record_.Received (refused class number) b r (quiet b.link r) (unheard_goes (incoming.Reply c q a) class number b r e)
+open_goes readings class number (incoming.Settlement c s) b r e =
+    choose_goes (receives_on (state_of c b)) (incoming.Settlement c s) (settlement_record readings c s) (refused class number) b r
+    (choose_goes (readings.selected c) (incoming.Settlement c s) (cond (s.multiple || readings.pending c s.tag) record_.Received (record_.Refused (error.PreconditionFailed s.tag (readings.last c)))) record_.Passed b r
+    (choose_goes (s.multiple || readings.pending c s.tag) (incoming.Settlement c s) record_.Received (record_.Refused (error.PreconditionFailed s.tag (readings.last c))) b r
     (quiet_marks b.link (mark.Settled c s ∷ []) r refl)
-    (failed_goes c s s.tag (see.last c) b r))
+    (failed_goes c s s.tag (readings.last c) b r))
     (quiet b.link r))
     (unheard_goes (incoming.Settlement c s) class number b r e)
-open_goes see class number (incoming.Flow c active) b r e = choose_goes (hears_on (state_of c b)) (incoming.Flow c active) record_.Received (refused class number) b r (flow_goes c active b r) (unheard_goes (incoming.Flow c active) class number b r e)
-open_goes see class number (incoming.ChannelClose c code) b r e = choose_goes (hears_close (state_of c b)) (incoming.ChannelClose c code) record_.Received (refused class number) b r (rw (stays b.link) refl) (unheard_goes (incoming.ChannelClose c code) class number b r e)
-open_goes see class number (incoming.ChannelCloseOk c) b r e = choose_goes (hears_close_ok (state_of c b)) (incoming.ChannelCloseOk c) record_.Received (refused class number) b r (close_ok_goes c (phase_of c b) b r) (unheard_goes (incoming.ChannelCloseOk c) class number b r e)
-open_goes see class number (incoming.ConnectionClose code) b r e = rw e refl
-open_goes see class number incoming.ConnectionCloseOk b r e = unheard_goes incoming.ConnectionCloseOk class number b r e
-open_goes see class number incoming.Other b r e = unheard_goes incoming.Other class number b r e
+open_goes readings class number (incoming.Flow c active) b r e = choose_goes (receives_on (state_of c b)) (incoming.Flow c active) record_.Received (refused class number) b r (flow_goes c active b r) (unheard_goes (incoming.Flow c active) class number b r e)
+open_goes readings class number (incoming.ChannelClose c code) b r e = choose_goes (receives_close (state_of c b)) (incoming.ChannelClose c code) record_.Received (refused class number) b r (rw (stays b.link) refl) (unheard_goes (incoming.ChannelClose c code) class number b r e)
+open_goes readings class number (incoming.ChannelCloseOk c) b r e = choose_goes (receives_close_ok (state_of c b)) (incoming.ChannelCloseOk c) record_.Received (refused class number) b r (close_ok_goes c (phase_of c b) b r) (unheard_goes (incoming.ChannelCloseOk c) class number b r e)
+open_goes readings class number (incoming.ConnectionClose code) b r e = rw e refl
+open_goes readings class number incoming.ConnectionCloseOk b r e = unheard_goes incoming.ConnectionCloseOk class number b r e
+open_goes readings class number incoming.Other b r e = unheard_goes incoming.Other class number b r e
 
 -- once it is not open there is no opening to end
-no_ends : (e : Error) (b : Base) (r : Option Left) → b.phases ≡ [] → without_ended (ends e (live_channels b.phases)) r ≡ r
+no_ends : (e : Error) (b : Wire) (r : Option Left) → b.phases ≡ [] → without_ended (ends e (live_channels b.phases)) r ≡ r
 no_ends e b r none = ap (λ ps. without_ended (ends e (live_channels ps)) r) none
 
-closing_goes : (s was : Bool) (see : Sight) (x : Record) (i : Incoming) (b : Base) (r : Option Left) → b.link ≡ link.Closing s was → IsShut b → G i (heard_record b see x i) b r
-closing_goes true was see x incoming.ConnectionCloseOk b r e shut = rw e refl
-closing_goes false was see x incoming.ConnectionCloseOk b r e shut = rw e refl
-closing_goes s true see x (incoming.ConnectionClose code) b r e shut = rw e (quiet (link.Closing s true) r)
-closing_goes true false see x (incoming.ConnectionClose code) b r e shut = rw e (sym (no_ends (error.ProtocolError code) b r (shut (ap is_up e))))
-closing_goes false false see x (incoming.ConnectionClose code) b r e shut = rw e refl
-closing_goes s was see x (incoming.Reply c q a) b r e shut = rw e (quiet (link.Closing s was) r)
-closing_goes s was see x (incoming.Settlement c y) b r e shut = rw e (quiet (link.Closing s was) r)
-closing_goes s was see x (incoming.ChannelClose c code) b r e shut = rw e (quiet (link.Closing s was) r)
-closing_goes s was see x (incoming.ChannelCloseOk c) b r e shut = rw e (quiet (link.Closing s was) r)
-closing_goes s was see x (incoming.Flow c active) b r e shut = rw e (quiet (link.Closing s was) r)
-closing_goes s was see x incoming.Other b r e shut = rw e (quiet (link.Closing s was) r)
+closing_goes : (s was : Bool) (readings : Readings) (x : Record) (i : Incoming) (b : Wire) (r : Option Left) → b.link ≡ link.Closing s was → IsShut b → G i (incoming_record b readings x i) b r
+closing_goes true was readings x incoming.ConnectionCloseOk b r e shut = rw e refl
+closing_goes false was readings x incoming.ConnectionCloseOk b r e shut = rw e refl
+closing_goes s true readings x (incoming.ConnectionClose code) b r e shut = rw e (quiet (link.Closing s true) r)
+closing_goes true false readings x (incoming.ConnectionClose code) b r e shut = rw e (sym (no_ends (error.ProtocolError code) b r (shut (ap is_up e))))
+closing_goes false false readings x (incoming.ConnectionClose code) b r e shut = rw e refl
+closing_goes s was readings x (incoming.Reply c q a) b r e shut = rw e (quiet (link.Closing s was) r)
+closing_goes s was readings x (incoming.Settlement c y) b r e shut = rw e (quiet (link.Closing s was) r)
+closing_goes s was readings x (incoming.ChannelClose c code) b r e shut = rw e (quiet (link.Closing s was) r)
+closing_goes s was readings x (incoming.ChannelCloseOk c) b r e shut = rw e (quiet (link.Closing s was) r)
+closing_goes s was readings x (incoming.Flow c active) b r e shut = rw e (quiet (link.Closing s was) r)
+closing_goes s was readings x incoming.Other b r e shut = rw e (quiet (link.Closing s was) r)
 
-heard_goes : (l : Link) (see : Sight) (class number : ℕ) (i : Incoming) (b : Base) (r : Option Left) → b.link ≡ l → IsShut b → G i (heard_record b see (refused class number) i) b r
-heard_goes link.Open see class number i b r e shut =
+incoming_goes : (l : ConnectionPhase) (readings : Readings) (class number : ℕ) (i : Incoming) (b : Wire) (r : Option Left) → b.link ≡ l → IsShut b → G i (incoming_record b readings (refused class number) i) b r
+incoming_goes link.Open readings class number i b r e shut =
     let up : is_up b.link ≡ true = ap is_up e in
-    let same : heard_record b see (refused class number) i ≡ heard_up b see (refused class number) i = rw up refl in
+    let same : incoming_record b readings (refused class number) i ≡ incoming_up b readings (refused class number) i = rw up refl in
     let P : Record → Type 0 = λ x. G i x b r in
-    subst P (sym same) (open_goes see class number i b r e)
-heard_goes (link.Closing s was) see class number i b r e shut = closing_goes s was see (refused class number) i b r e shut
-heard_goes link.Closed see class number i b r e shut = rw e refl
-heard_goes link.Lost see class number i b r e shut = rw e refl
+    subst P (sym same) (open_goes readings class number i b r e)
+incoming_goes (link.Closing s was) readings class number i b r e shut = closing_goes s was readings (refused class number) i b r e shut
+incoming_goes link.Closed readings class number i b r e shut = rw e refl
+incoming_goes link.Lost readings class number i b r e shut = rw e refl
 
 -- ---- the loss
 
-lost_goes : (l : Link) (b : Base) (r : Option Left) → b.link ≡ l → IsShut b → cond (is_lost b.link) r None ≡ after_ends b.link (after_lost b).link (lost_marks b) r
+lost_goes : (l : ConnectionPhase) (b : Wire) (r : Option Left) → b.link ≡ l → IsShut b → cond (is_lost b.link) r None ≡ after_ends b.link (after_lost b).link (lost_marks b) r
 lost_goes link.Open b r e shut = rw e refl
 lost_goes (link.Closing s was) b r e shut = rw e refl
 lost_goes link.Closed b r e shut = rw e refl
@@ -190,43 +190,43 @@ lost_goes link.Lost b r e shut = rw e (sym (no_ends error.ConnectionLost b r (sh
 
 -- ---- every event
 
-goes_anew : (w : World) (e : Event) → given_back w.returned e ≡ None → IsShut w.base → (next_anew w e).returned ≡ after_ends w.base.link (next_anew w e).base.link (confirm_marks w.base e (told_anew w e)) w.returned
-goes_anew w (event.Call c k) step shut = called c (asked k) w.base w.returned (is_allowed (asked k) (state_of c w.base)) refl
+goes_anew : (w : World) (e : Event) → given_back w.returned e ≡ None → IsShut w.wire → (next_anew w e).returned ≡ after_ends w.wire.link (next_anew w e).wire.link (confirm_marks w.wire e (told_anew w e)) w.returned
+goes_anew w (event.Call c k) step shut = called c (asked k) w.wire w.returned (is_allowed (asked k) (state_of c w.wire)) refl
 goes_anew w (event.Next flow) step shut =
-    let L : Link = (next_anew w (event.Next flow)).base.link in
-    let P : Option Left → Type 0 = λ r. r ≡ after_ends w.base.link L (left_marks (handed flow w.base)) r in
-    subst P (sym step) (none_goes w.base.link L (left_marks (handed flow w.base)))
-goes_anew w (event.Receive f) step shut = heard_goes w.base.link (sight_of w.book w.slots) (frame_class f) (frame_method f) (heard f) w.base w.returned refl shut
-goes_anew w (event.PollTicket n) step shut = quiet w.base.link w.returned
-goes_anew w (event.PollConfirm n) step shut = quiet_marks w.base.link (confirm_marks w.base (event.PollConfirm n) (told_anew w (event.PollConfirm n))) w.returned (select_quiet (is_confirmed (told_anew w (event.PollConfirm n))) (mark.Taken n) w.returned refl)
-goes_anew w (event.AsideTicket n) step shut = quiet w.base.link w.returned
-goes_anew w (event.State c) step shut = quiet w.base.link w.returned
-goes_anew w event.Lost step shut = lost_goes w.base.link w.base w.returned refl shut
+    let L : ConnectionPhase = (next_anew w (event.Next flow)).wire.link in
+    let P : Option Left → Type 0 = λ r. r ≡ after_ends w.wire.link L (left_marks (handed flow w.wire)) r in
+    subst P (sym step) (none_goes w.wire.link L (left_marks (handed flow w.wire)))
+goes_anew w (event.Receive f) step shut = incoming_goes w.wire.link (readings_of w.book w.slots) (frame_class f) (frame_method f) (incoming_of f) w.wire w.returned refl shut
+goes_anew w (event.PollTicket n) step shut = quiet w.wire.link w.returned
+goes_anew w (event.PollConfirm n) step shut = quiet_marks w.wire.link (confirm_marks w.wire (event.PollConfirm n) (told_anew w (event.PollConfirm n))) w.returned (select_quiet (is_confirmed (told_anew w (event.PollConfirm n))) (mark.Taken n) w.returned refl)
+goes_anew w (event.AsideTicket n) step shut = quiet w.wire.link w.returned
+goes_anew w (event.State c) step shut = quiet w.wire.link w.returned
+goes_anew w event.Lost step shut = lost_goes w.wire.link w.wire w.returned refl shut
 
-pub goes_with_ends : (w : World) (e : Event) → given_back w.returned e ≡ None → IsShut w.base → (next w e).returned ≡ after_ends w.base.link (next w e).base.link (confirm_marks w.base e (told_by w e)) w.returned
+pub goes_with_ends : (w : World) (e : Event) → given_back w.returned e ≡ None → IsShut w.wire → (next w e).returned ≡ after_ends w.wire.link (next w e).wire.link (confirm_marks w.wire e (told_by w e)) w.returned
 goes_with_ends w e step shut =
-    let P : World → Type 0 = λ v. v.returned ≡ after_ends w.base.link v.base.link (confirm_marks w.base e (told_by w e)) w.returned in
-    let Q : Record → Type 0 = λ x. (next_anew w e).returned ≡ after_ends w.base.link (next_anew w e).base.link (confirm_marks w.base e x) w.returned in
+    let P : World → Type 0 = λ v. v.returned ≡ after_ends w.wire.link v.wire.link (confirm_marks w.wire e (told_by w e)) w.returned in
+    let Q : Record → Type 0 = λ x. (next_anew w e).returned ≡ after_ends w.wire.link (next_anew w e).wire.link (confirm_marks w.wire e x) w.returned in
     subst P (sym (next_step w e step)) (subst Q (sym (told_step w e step)) (goes_anew w e step shut))
 
 -- ---- after a loss
 
-lost_down : (l : Link) → is_lost l ≡ true → is_up l ≡ false
+lost_down : (l : ConnectionPhase) → is_lost l ≡ true → is_up l ≡ false
 lost_down link.Open h = cc
-lost_down (link.Closing sent heard) h = cc
+lost_down (link.Closing sent received) h = cc
 lost_down link.Closed h = cc
 lost_down link.Lost h = refl
 
-lost_empties : (old new : Link) (ms : List ConfirmMark) (r : Option Left) → (is_lost old ≡ true → r ≡ None) → is_lost new ≡ true → after_ends old new ms r ≡ None
+lost_empties : (old new : ConnectionPhase) (ms : List ConfirmMark) (r : Option Left) → (is_lost old ≡ true → r ≡ None) → is_lost new ≡ true → after_ends old new ms r ≡ None
 lost_empties link.Open new ms r silent h = rw (lost_down new h) refl
-lost_empties (link.Closing sent heard) new ms r silent h = rw h refl
+lost_empties (link.Closing sent received) new ms r silent h = rw h refl
 lost_empties link.Closed new ms r silent h = rw h refl
 lost_empties link.Lost new ms r silent h = ap (after_ends link.Lost new ms) (silent refl) ∙ sym (none_goes link.Lost new ms)
 
 -- where none is given back after a loss, none is after any event
-pub lost_none : (w : World) (e : Event) → IsShut w.base → (is_lost w.base.link ≡ true → w.returned ≡ None) → is_lost (next w e).base.link ≡ true → (next w e).returned ≡ None
+pub lost_none : (w : World) (e : Event) → IsShut w.wire → (is_lost w.wire.link ≡ true → w.returned ≡ None) → is_lost (next w e).wire.link ≡ true → (next w e).returned ≡ None
 lost_none w e shut silent h = at (given_back w.returned e) refl
   where
     at : (o : Option Left) → given_back w.returned e ≡ o → (next w e).returned ≡ None
-    at None step = goes_with_ends w e step shut ∙ lost_empties w.base.link (next w e).base.link (confirm_marks w.base e (told_by w e)) w.returned silent h
+    at None step = goes_with_ends w e step shut ∙ lost_empties w.wire.link (next w e).wire.link (confirm_marks w.wire e (told_by w e)) w.returned silent h
     at (Some l) again = ap (λ g. (next_or g (next_anew w e) w).returned) again

@@ -18,10 +18,10 @@ use Rattle.lapin_history.specs.declared.marks.Outcome.{Outcome}
 use Rattle.lapin_history.specs.declared.marks.Outcome.TheVariants as outcome
 use Rattle.lapin_history.specs.ConfirmMarks as mark
 use Rattle.lapin_history.specs.declared.phases.Closer.{Closer}
-use Rattle.lapin_history.specs.declared.phases.Phase.{Phase}
-use Rattle.lapin_history.specs.declared.phases.Phase.TheVariants as phase
-use Rattle.lapin_history.specs.declared.phases.Link.{Link}
-use Rattle.lapin_history.specs.declared.phases.Link.TheVariants as link
+use Rattle.lapin_history.specs.declared.phases.ChannelPhase.{ChannelPhase}
+use Rattle.lapin_history.specs.declared.phases.ChannelPhase.TheVariants as phase
+use Rattle.lapin_history.specs.declared.phases.ConnectionPhase.{ConnectionPhase}
+use Rattle.lapin_history.specs.declared.phases.ConnectionPhase.TheVariants as link
 use Rattle.lapin_history.specs.Words.{is_some, with_channel}
 use Rattle.lapin_history.specs.Phases.{is_live, is_up, phase_in}
 use Rattle.lapin_history.specs.ChannelClose.{close_sent}
@@ -39,7 +39,7 @@ use Rattle.lapin_history.proofs.ChannelLaws.{at-on, at-with}
 use Rattle.lapin_history.proofs.ListLaws.{any-push}
 use Rattle.lapin_confirm.specs.declared.cell.Cell.{Cell}
 use Rattle.lapin_confirm.specs.declared.cell.Cell.TheVariants as cell
-use Rattle.lapin_confirm.specs.Book.{Book, Line, empty_book, fresh_line, selected_line, asked_line, next_line, ended_line, tag_for, lines_with, cell_with, settled_cell, closed_cell, is_queued_on, is_open_on, is_resolved, begun, with_publish, select_left, left, settled, closed_here, ended, taken, after_mark}
+use Rattle.lapin_confirm.specs.Book.{Book, LedgerState, empty_book, fresh_ledger, selected_ledger, asked_ledger, next_ledger, ended_ledger, tag_for, ledgers_with, cell_with, settled_cell, closed_cell, is_queued_on, is_open_on, is_resolved, begun, with_publish, select_left, left, settled, closed_here, ended, taken, after_mark}
 use Rattle.lapin_confirm.proofs.Ended.{any-ended}
 use Rattle.lapin_desk.specs.Queued.{AreQueued}
 use Rattle.lapin_desk.proofs.Ends.{ends-join}
@@ -102,7 +102,7 @@ ends_none c e [] b h = h
 ends_none c e (d ∷ cs) b h = ends_none c e cs (ended d e b) (ended_none c d e b h)
 
 -- a channel of a live opening has nothing unresolved once all those below a greater number ended
-ends_below : (c n : ℕ) (e : Error) (xs : List (ℕ × Phase)) (b : Book) → c < n → is_live (phase_in (at_channel c xs)) ≡ true → list_any (is_open_on c) (fold after_mark b (ends e (live_below n xs))).cells ≡ false
+ends_below : (c n : ℕ) (e : Error) (xs : List (ℕ × ChannelPhase)) (b : Book) → c < n → is_live (phase_in (at_channel c xs)) ≡ true → list_any (is_open_on c) (fold after_mark b (ends e (live_below n xs))).cells ≡ false
 ends_below c zero e xs b lt live = absurd (omega arith)
 ends_below c (suc k) e xs b lt live =
     let B : Book = fold after_mark b (ends e (live_below k xs)) in
@@ -120,7 +120,7 @@ ends_below c (suc k) e xs b lt live =
     ])
 
 -- and once all ended
-ends_live : (c : ℕ) (e : Error) (xs : List (ℕ × Phase)) (b : Book) → is_live (phase_in (at_channel c xs)) ≡ true → list_any (is_open_on c) (fold after_mark b (ends e (live_channels xs))).cells ≡ false
+ends_live : (c : ℕ) (e : Error) (xs : List (ℕ × ChannelPhase)) (b : Book) → is_live (phase_in (at_channel c xs)) ≡ true → list_any (is_open_on c) (fold after_mark b (ends e (live_channels xs))).cells ≡ false
 ends_live c e xs b live = elim (nat_lt c (beyond xs)) as (λ t. nat_lt c (beyond xs) ≡ t → list_any (is_open_on c) (fold after_mark b (ends e (live_channels xs))).cells ≡ false) [
   | true ↦ λ within. ends_below c (beyond xs) e xs b (ltb-true c (beyond xs) within) live
   | false ↦ λ past.
@@ -144,20 +144,20 @@ some_on {X} c d f es h = rw (at-on c d f es) (elim (c == d) as (λ b. IsSome (co
 -- ---- a channel is put where an open or a close leads it
 
 -- where a channel without a live opening has nothing unresolved
-abbrev Done : Link → List (ℕ × Phase) → List (Option Cell) → Type 0
+abbrev Done : ConnectionPhase → List (ℕ × ChannelPhase) → List (Option Cell) → Type 0
 Done l phases cells = (c : ℕ) → is_live_on l (at_channel c phases) ≡ false → list_any (is_open_on c) cells ≡ false
 
-abbrev Lined : List (ℕ × Phase) → List (ℕ × Line) → Type 0
-Lined phases lines = (c : ℕ) → is_some (at_channel c phases) ≡ true → IsSome (at_channel c lines)
+abbrev Lined : List (ℕ × ChannelPhase) → List (ℕ × LedgerState) → Type 0
+Lined phases ledgers = (c : ℕ) → is_some (at_channel c phases) ≡ true → IsSome (at_channel c ledgers)
 
-lined-put : (c : ℕ) (p : Phase) (phases : List (ℕ × Phase)) (lines : List (ℕ × Line)) → IsSome (at_channel c lines) → Lined phases lines → Lined (with_channel c p phases) lines
-lined-put c p phases lines here has = λ d h.
+lined-put : (c : ℕ) (p : ChannelPhase) (phases : List (ℕ × ChannelPhase)) (ledgers : List (ℕ × LedgerState)) → IsSome (at_channel c ledgers) → Lined phases ledgers → Lined (with_channel c p phases) ledgers
+lined-put c p phases ledgers here has = λ d h.
     elim (eqb_tells c d) [
-      | inl same ↦ let P : ℕ → Type 0 = λ k. IsSome (at_channel k lines) in subst P same.1 here
+      | inl same ↦ let P : ℕ → Type 0 = λ k. IsSome (at_channel k ledgers) in subst P same.1 here
       | inr other ↦ has d (rw (at-with c d p phases, other.0) at h)
     ]
 
-done-put : (l : Link) (c : ℕ) (p : Phase) (phases : List (ℕ × Phase)) (cells : List (Option Cell)) → (is_live_on l (Some p) ≡ false → list_any (is_open_on c) cells ≡ false) → Done l phases cells → Done l (with_channel c p phases) cells
+done-put : (l : ConnectionPhase) (c : ℕ) (p : ChannelPhase) (phases : List (ℕ × ChannelPhase)) (cells : List (Option Cell)) → (is_live_on l (Some p) ≡ false → list_any (is_open_on c) cells ≡ false) → Done l phases cells → Done l (with_channel c p phases) cells
 done-put l c p phases cells here done = λ d h.
     elim (eqb_tells c d) [
       | inl same ↦
@@ -167,93 +167,93 @@ done-put l c p phases cells here done = λ d h.
       | inr other ↦ done d (rw (at-with c d p phases, other.0) at h)
     ]
 
-live_up : (l : Link) (p : Phase) → is_up l ≡ true → is_live p ≡ true → is_live_on l (Some p) ≡ true
+live_up : (l : ConnectionPhase) (p : ChannelPhase) → is_up l ≡ true → is_live p ≡ true → is_live_on l (Some p) ≡ true
 live_up l p up live = rw up live
 
 -- a new session
 pub tied_new : IsTied link.Open [] [] empty_book
-tied_new = record { queued = queue-none [] (λ c. refl); lines = λ c h. cc; done = λ c h. refl; down = λ h. cc }
+tied_new = record { queued = queue-none [] (λ c. refl); ledgers = λ c h. cc; done = λ c h. refl; down = λ h. cc }
 
 -- a channel is opened
-pub tied_open : (l : Link) (c : ℕ) (phases : List (ℕ × Phase)) (ps : List Publish) (b : Book) → is_up l ≡ true → IsTied l phases ps b → IsTied l (with_channel c phase.Opening phases) ps (begun c b)
+pub tied_open : (l : ConnectionPhase) (c : ℕ) (phases : List (ℕ × ChannelPhase)) (ps : List Publish) (b : Book) → is_up l ≡ true → IsTied l phases ps b → IsTied l (with_channel c phase.Opening phases) ps (begun c b)
 tied_open l c phases ps b up t =
-    let here : IsSome (at_channel c (with_channel c fresh_line b.lines)) = let same : (c == c) ≡ true = eq-eqb c c refl in rw (at-with c c fresh_line b.lines, same) refl in
+    let here : IsSome (at_channel c (with_channel c fresh_ledger b.ledgers)) = let same : (c == c) ≡ true = eq-eqb c c refl in rw (at-with c c fresh_ledger b.ledgers, same) refl in
     record {
       queued = t.queued;
-      lines = lined-put c phase.Opening phases (with_channel c fresh_line b.lines) here (λ d h. some_with c d fresh_line b.lines (t.lines d h));
+      ledgers = lined-put c phase.Opening phases (with_channel c fresh_ledger b.ledgers) here (λ d h. some_with c d fresh_ledger b.ledgers (t.ledgers d h));
       done = done-put l c phase.Opening phases b.cells (λ gone. let live : is_live_on l (Some phase.Opening) ≡ true = live_up l phase.Opening up refl in cc) t.done;
       down = λ h. cc;
     }
 
 -- an opening goes on
-pub tied_live : (l : Link) (c : ℕ) (p : Phase) (phases : List (ℕ × Phase)) (ps : List Publish) (b : Book) → is_up l ≡ true → is_live p ≡ true → is_some (at_channel c phases) ≡ true → IsTied l phases ps b → IsTied l (with_channel c p phases) ps b
+pub tied_live : (l : ConnectionPhase) (c : ℕ) (p : ChannelPhase) (phases : List (ℕ × ChannelPhase)) (ps : List Publish) (b : Book) → is_up l ≡ true → is_live p ≡ true → is_some (at_channel c phases) ≡ true → IsTied l phases ps b → IsTied l (with_channel c p phases) ps b
 tied_live l c p phases ps b up live some t = record {
   queued = t.queued;
-  lines = lined-put c p phases b.lines (t.lines c some) t.lines;
+  ledgers = lined-put c p phases b.ledgers (t.ledgers c some) t.ledgers;
   done = done-put l c p phases b.cells (λ gone. let is : is_live_on l (Some p) ≡ true = live_up l p up live in cc) t.done;
   down = λ h. cc;
 }
 
 -- this side closes a channel
-pub tied_closing : (l : Link) (c : ℕ) (who : Closer) (e : Error) (phases : List (ℕ × Phase)) (ps new : List Publish) (b : Book) → is_up l ≡ true → is_some (at_channel c phases) ≡ true
+pub tied_closing : (l : ConnectionPhase) (c : ℕ) (who : Closer) (e : Error) (phases : List (ℕ × ChannelPhase)) (ps new : List Publish) (b : Book) → is_up l ≡ true → is_some (at_channel c phases) ≡ true
     → AreQueued (closed_here c e b).cells new → IsTied l phases ps b → IsTied l (with_channel c (phase.Closing who false) phases) new (closed_here c e b)
 tied_closing l c who e phases ps new b up some q t =
     tied_live l c (phase.Closing who false) phases new (closed_here c e b) up refl some
-    (record { queued = q; lines = t.lines; done = λ d h. any-mapped (is_open_on d) (option_map (closed_cell c e)) b.cells (closed-closed d c e) (t.done d h); down = t.down })
+    (record { queued = q; ledgers = t.ledgers; done = λ d h. any-mapped (is_open_on d) (option_map (closed_cell c e)) b.cells (closed-closed d c e) (t.done d h); down = t.down })
 
 -- an opening ends
-pub tied_ended : (l : Link) (c : ℕ) (p : Phase) (e : Error) (phases : List (ℕ × Phase)) (ps new : List Publish) (b : Book) → is_up l ≡ true → is_some (at_channel c phases) ≡ true
+pub tied_ended : (l : ConnectionPhase) (c : ℕ) (p : ChannelPhase) (e : Error) (phases : List (ℕ × ChannelPhase)) (ps new : List Publish) (b : Book) → is_up l ≡ true → is_some (at_channel c phases) ≡ true
     → AreQueued (ended c e b).cells new → IsTied l phases ps b → IsTied l (with_channel c p phases) new (ended c e b)
 tied_ended l c p e phases ps new b up some q t = record {
   queued = q;
-  lines = lined-put c p phases (on_channel c ended_line b.lines) (some_on c c ended_line b.lines (t.lines c some)) (λ d h. some_on c d ended_line b.lines (t.lines d h));
+  ledgers = lined-put c p phases (on_channel c ended_ledger b.ledgers) (some_on c c ended_ledger b.ledgers (t.ledgers c some)) (λ d h. some_on c d ended_ledger b.ledgers (t.ledgers d h));
   done = done-put l c p phases (ended c e b).cells (λ gone. ended_here c e b) (λ d h. ended_none d c e b (t.done d h));
   down = λ h. cc;
 }
 
 -- a channel whose opening has ended is closed
-pub tied_closed : (l : Link) (c : ℕ) (phases : List (ℕ × Phase)) (ps : List Publish) (b : Book) → is_up l ≡ true → is_live_on l (at_channel c phases) ≡ false → is_some (at_channel c phases) ≡ true → IsTied l phases ps b → IsTied l (with_channel c phase.Closed phases) ps b
+pub tied_closed : (l : ConnectionPhase) (c : ℕ) (phases : List (ℕ × ChannelPhase)) (ps : List Publish) (b : Book) → is_up l ≡ true → is_live_on l (at_channel c phases) ≡ false → is_some (at_channel c phases) ≡ true → IsTied l phases ps b → IsTied l (with_channel c phase.Closed phases) ps b
 tied_closed l c phases ps b up over some t = record {
   queued = t.queued;
-  lines = lined-put c phase.Closed phases b.lines (t.lines c some) t.lines;
+  ledgers = lined-put c phase.Closed phases b.ledgers (t.ledgers c some) t.ledgers;
   done = done-put l c phase.Closed phases b.cells (λ gone. t.done c over) t.done;
   down = λ h. cc;
 }
 
 -- once the connection is not open what waits may be dropped
-pub tied_dropped : (l m : Link) (phases : List (ℕ × Phase)) (ps : List Publish) (b : Book) → is_up l ≡ false → IsTied l phases ps b → IsTied m phases [] b
+pub tied_dropped : (l m : ConnectionPhase) (phases : List (ℕ × ChannelPhase)) (ps : List Publish) (b : Book) → is_up l ≡ false → IsTied l phases ps b → IsTied m phases [] b
 tied_dropped l m phases ps b down t =
     let done : (c : ℕ) → list_any (is_open_on c) b.cells ≡ false = λ c. t.done c (rw down refl) in
-    record { queued = queue-none b.cells done; lines = t.lines; done = λ c h. done c; down = λ h. t.down down }
+    record { queued = queue-none b.cells done; ledgers = t.ledgers; done = λ c h. done c; down = λ h. t.down down }
 
 -- the connection is not open any more
-pub tied_down : (l m : Link) (e : Error) (phases : List (ℕ × Phase)) (ps : List Publish) (b : Book) → IsTied l phases ps b → IsTied m [] [] (fold after_mark b (ends e (live_channels phases)))
+pub tied_down : (l m : ConnectionPhase) (e : Error) (phases : List (ℕ × ChannelPhase)) (ps : List Publish) (b : Book) → IsTied l phases ps b → IsTied m [] [] (fold after_mark b (ends e (live_channels phases)))
 tied_down l m e phases ps b t =
     let done : (c : ℕ) → list_any (is_open_on c) (fold after_mark b (ends e (live_channels phases))).cells ≡ false = λ c.
     elim (is_live (phase_in (at_channel c phases))) as (λ v. is_live (phase_in (at_channel c phases)) ≡ v → list_any (is_open_on c) (fold after_mark b (ends e (live_channels phases))).cells ≡ false) [
       | true ↦ λ live. ends_live c e phases b live
       | false ↦ λ over. ends_none c e (live_channels phases) b (t.done c (ap (λ v. is_up l && v) over ∙ and_false (is_up l)))
     ] refl in
-    record { queued = queue-none (fold after_mark b (ends e (live_channels phases))).cells done; lines = λ c h. cc; done = λ c h. done c; down = λ h. refl }
+    record { queued = queue-none (fold after_mark b (ends e (live_channels phases))).cells done; ledgers = λ c h. cc; done = λ c h. done c; down = λ h. refl }
   where
     and_false : (x : Bool) → (x && false) ≡ false
     and_false true = refl
     and_false false = refl
 
 -- once the connection is not open it may close further
-pub tied_further : (l m : Link) (phases : List (ℕ × Phase)) (ps : List Publish) (b : Book) → is_up l ≡ false → IsTied l phases ps b → IsTied m phases ps b
-tied_further l m phases ps b down t = record { queued = t.queued; lines = t.lines; done = λ c h. t.done c (rw down refl); down = λ h. t.down down }
+pub tied_further : (l m : ConnectionPhase) (phases : List (ℕ × ChannelPhase)) (ps : List Publish) (b : Book) → is_up l ≡ false → IsTied l phases ps b → IsTied m phases ps b
+tied_further l m phases ps b down t = record { queued = t.queued; ledgers = t.ledgers; done = λ c h. t.done c (rw down refl); down = λ h. t.down down }
 
 -- ---- publishes, settlements and polls
 
 -- a channel with a live opening is another than one without
-not_over : (l : Link) (c d : ℕ) (phases : List (ℕ × Phase)) → is_live_on l (at_channel c phases) ≡ true → is_live_on l (at_channel d phases) ≡ false → c ≢ d
+not_over : (l : ConnectionPhase) (c d : ℕ) (phases : List (ℕ × ChannelPhase)) → is_live_on l (at_channel c phases) ≡ true → is_live_on l (at_channel d phases) ≡ false → c ≢ d
 not_over l c d phases live over e = let P : ℕ → Type 0 = λ k. is_live_on l (at_channel k phases) ≡ false in let here : is_live_on l (at_channel c phases) ≡ false = subst P (sym e) over in cc
 
-pub tied_publish : (l : Link) (c : ℕ) (phases : List (ℕ × Phase)) (ps : List Publish) (b : Book) (p : Publish) → is_live_on l (at_channel c phases) ≡ true → p.confirm ≡ length b.cells + 1 → p.channel ≡ c → IsTied l phases ps b → IsTied l phases (ps ++ p ∷ []) (with_publish c b)
+pub tied_publish : (l : ConnectionPhase) (c : ℕ) (phases : List (ℕ × ChannelPhase)) (ps : List Publish) (b : Book) (p : Publish) → is_live_on l (at_channel c phases) ≡ true → p.confirm ≡ length b.cells + 1 → p.channel ≡ c → IsTied l phases ps b → IsTied l phases (ps ++ p ∷ []) (with_publish c b)
 tied_publish l c phases ps b p is at on t = record {
   queued = queue-push c b.cells ps p at on t.queued;
-  lines = t.lines;
+  ledgers = t.ledgers;
   done = λ d h.
       let ne : c ≢ d = not_over l c d phases is h in
       let away : (c == d) ≡ false = ne_eqb c d ne in
@@ -265,11 +265,11 @@ left_closed : (c d n : ℕ) (t : Option ℕ) (cells : List (Option Cell)) → un
 left_closed c d n None cells is h = refl
 left_closed c d n (Some t) cells is h = let was : is_open_on d (under n cells) ≡ false = closed-under d n cells h in rw is at was
 
-tied_left : (l : Link) (phases : List (ℕ × Phase)) (p : Publish) (ps : List Publish) (b : Book) → IsTied l phases (p ∷ ps) b → IsTied l phases ps (left p.channel p.confirm b)
+tied_left : (l : ConnectionPhase) (phases : List (ℕ × ChannelPhase)) (p : Publish) (ps : List Publish) (b : Book) → IsTied l phases (p ∷ ps) b → IsTied l phases ps (left p.channel p.confirm b)
 tied_left l phases p ps b t = record {
-  queued = queue-left (Some (cell_with p.channel (tag_for (at_channel p.channel b.lines)))) b.cells p ps (has-left p.channel (tag_for (at_channel p.channel b.lines))) t.queued;
-  lines = λ d h. lines-left (tag_for (at_channel p.channel b.lines)) d (t.lines d h);
-  done = λ d h. any-under d p.confirm _ b.cells (t.done d h) (left_closed p.channel d p.confirm (tag_for (at_channel p.channel b.lines)) b.cells t.queued.each.0 (t.done d h));
+  queued = queue-left (Some (cell_with p.channel (tag_for (at_channel p.channel b.ledgers)))) b.cells p ps (has-left p.channel (tag_for (at_channel p.channel b.ledgers))) t.queued;
+  ledgers = λ d h. ledgers-left (tag_for (at_channel p.channel b.ledgers)) d (t.ledgers d h);
+  done = λ d h. any-under d p.confirm _ b.cells (t.done d h) (left_closed p.channel d p.confirm (tag_for (at_channel p.channel b.ledgers)) b.cells t.queued.each.0 (t.done d h));
   down = t.down;
 }
   where
@@ -277,24 +277,24 @@ tied_left l phases p ps b t = record {
     has-left c None d = refl
     has-left c (Some x) d = refl
 
-    lines-left : (o : Option ℕ) (d : ℕ) → IsSome (at_channel d b.lines) → IsSome (at_channel d (lines_with p.channel o b.lines))
-    lines-left None d h = h
-    lines-left (Some x) d h = some_on p.channel d next_line b.lines h
+    ledgers-left : (o : Option ℕ) (d : ℕ) → IsSome (at_channel d b.ledgers) → IsSome (at_channel d (ledgers_with p.channel o b.ledgers))
+    ledgers-left None d h = h
+    ledgers-left (Some x) d h = some_on p.channel d next_ledger b.ledgers h
 
-tied_select : (l : Link) (c : ℕ) (phases : List (ℕ × Phase)) (ps : List Publish) (b : Book) → IsTied l phases ps b → IsTied l phases ps (select_left c b)
-tied_select l c phases ps b t = record { queued = t.queued; lines = λ d h. some_on c d selected_line b.lines (t.lines d h); done = t.done; down = t.down }
+tied_select : (l : ConnectionPhase) (c : ℕ) (phases : List (ℕ × ChannelPhase)) (ps : List Publish) (b : Book) → IsTied l phases ps b → IsTied l phases ps (select_left c b)
+tied_select l c phases ps b t = record { queued = t.queued; ledgers = λ d h. some_on c d selected_ledger b.ledgers (t.ledgers d h); done = t.done; down = t.down }
 
-tied_method : (l : Link) (c : ℕ) (m : Method) (phases : List (ℕ × Phase)) (ps : List Publish) (b : Book) → IsTied l phases ps b → IsTied l phases ps (fold after_mark b (method_marks c m))
+tied_method : (l : ConnectionPhase) (c : ℕ) (m : Method) (phases : List (ℕ × ChannelPhase)) (ps : List Publish) (b : Book) → IsTied l phases ps b → IsTied l phases ps (fold after_mark b (method_marks c m))
 tied_method l c m phases ps b t = elim (is_select m) as (λ s. IsTied l phases ps (fold after_mark b (cond s (mark.SelectLeft c ∷ []) []))) [ true ↦ tied_select l c phases ps b t | false ↦ t ]
 
 -- a `confirm.select` is called
-pub tied_called : (l : Link) (c : ℕ) (m : Method) (phases : List (ℕ × Phase)) (ps : List Publish) (b : Book) → IsTied l phases ps b → IsTied l phases ps (fold after_mark b (queued_marks c m))
+pub tied_called : (l : ConnectionPhase) (c : ℕ) (m : Method) (phases : List (ℕ × ChannelPhase)) (ps : List Publish) (b : Book) → IsTied l phases ps b → IsTied l phases ps (fold after_mark b (queued_marks c m))
 tied_called l c m phases ps b t = elim (is_select m) as (λ s. IsTied l phases ps (fold after_mark b (cond s (mark.SelectCalled c ∷ []) []))) [
-  | true ↦ record { queued = t.queued; lines = λ d h. some_on c d asked_line b.lines (t.lines d h); done = t.done; down = t.down }
+  | true ↦ record { queued = t.queued; ledgers = λ d h. some_on c d asked_ledger b.ledgers (t.ledgers d h); done = t.done; down = t.down }
   | false ↦ t
 ]
 
-pub tied_leaves : (frame_max : ℕ) (flow : Bool) (rest : List RestEntry) (methods : List MethodEntry) (ps : List Publish) (l : Link) (phases : List (ℕ × Phase)) (b : Book) → IsTied l phases ps b → IsTied l phases (left_of frame_max flow rest methods ps).publishes (fold after_mark b (left_marks (handed_of flow rest methods ps)))
+pub tied_leaves : (frame_max : ℕ) (flow : Bool) (rest : List RestEntry) (methods : List MethodEntry) (ps : List Publish) (l : ConnectionPhase) (phases : List (ℕ × ChannelPhase)) (b : Book) → IsTied l phases ps b → IsTied l phases (left_of frame_max flow rest methods ps).publishes (fold after_mark b (left_marks (handed_of flow rest methods ps)))
 tied_leaves frame_max flow (f ∷ fs) methods ps l phases b t = t
 tied_leaves frame_max flow [] (m ∷ ms) ps l phases b t = tied_method l m.channel m.method phases ps b t
 tied_leaves frame_max true [] [] [] l phases b t = t
@@ -306,7 +306,7 @@ some-mapped : {X : Type 0} (f : X → X) (o : Option X) → is_some (option_map 
 some-mapped f None = refl
 some-mapped f (Some x) = refl
 
-live-mapped : (o : Option Phase) → is_live (phase_in (option_map close_sent o)) ≡ is_live (phase_in o)
+live-mapped : (o : Option ChannelPhase) → is_live (phase_in (option_map close_sent o)) ≡ is_live (phase_in o)
 live-mapped None = refl
 live-mapped (Some phase.Closed) = refl
 live-mapped (Some phase.Opening) = refl
@@ -318,7 +318,7 @@ choose_same : {X : Type 0} (b : Bool) (x y : X) → x ≡ y → cond b x y ≡ y
 choose_same true x y e = e
 choose_same false x y e = refl
 
-tied_close_left : (l : Link) (c : ℕ) (phases : List (ℕ × Phase)) (ps : List Publish) (b : Book) → IsTied l phases ps b → IsTied l (on_channel c close_sent phases) ps b
+tied_close_left : (l : ConnectionPhase) (c : ℕ) (phases : List (ℕ × ChannelPhase)) (ps : List Publish) (b : Book) → IsTied l phases ps b → IsTied l (on_channel c close_sent phases) ps b
 tied_close_left l c phases ps b t =
     let some : (d : ℕ) → is_some (at_channel d (on_channel c close_sent phases)) ≡ is_some (at_channel d phases) = λ d.
     rw (at-on c d close_sent phases) (elim (c == d) as (λ b. is_some (cond b (option_map close_sent (at_channel d phases)) (at_channel d phases)) ≡ is_some (at_channel d phases)) [ true ↦ some-mapped close_sent (at_channel d phases) | false ↦ refl ]) in
@@ -326,21 +326,21 @@ tied_close_left l c phases ps b t =
     rw (at-on c d close_sent phases) (elim (c == d) as (λ b. is_live (phase_in (cond b (option_map close_sent (at_channel d phases)) (at_channel d phases))) ≡ is_live (phase_in (at_channel d phases))) [ true ↦ live-mapped (at_channel d phases) | false ↦ refl ]) in
     record {
       queued = t.queued;
-      lines = λ d h. t.lines d (sym (some d) ∙ h);
+      ledgers = λ d h. t.ledgers d (sym (some d) ∙ h);
       done = λ d h. t.done d (ap (λ x. is_up l && x) (sym (live d)) ∙ h);
       down = λ h. ap (on_channel c close_sent) (t.down h);
     }
 
-up_sent : (l : Link) → is_up (link_close_sent l) ≡ is_up l
+up_sent : (l : ConnectionPhase) → is_up (link_close_sent l) ≡ is_up l
 up_sent link.Open = refl
-up_sent (link.Closing sent heard) = refl
+up_sent (link.Closing sent received) = refl
 up_sent link.Closed = refl
 up_sent link.Lost = refl
 
-tied_link_left : (l : Link) (phases : List (ℕ × Phase)) (ps : List Publish) (b : Book) → IsTied l phases ps b → IsTied (link_close_sent l) phases ps b
-tied_link_left l phases ps b t = record { queued = t.queued; lines = t.lines; done = λ c h. t.done c (ap (λ x. x && is_live (phase_in (at_channel c phases))) (sym (up_sent l)) ∙ h); down = λ h. t.down (sym (up_sent l) ∙ h) }
+tied_link_left : (l : ConnectionPhase) (phases : List (ℕ × ChannelPhase)) (ps : List Publish) (b : Book) → IsTied l phases ps b → IsTied (link_close_sent l) phases ps b
+tied_link_left l phases ps b t = record { queued = t.queued; ledgers = t.ledgers; done = λ c h. t.done c (ap (λ x. x && is_live (phase_in (at_channel c phases))) (sym (up_sent l)) ∙ h); down = λ h. t.down (sym (up_sent l) ∙ h) }
 
-pub tied_sent : (f : Frame) (l : Link) (phases : List (ℕ × Phase)) (ps : List Publish) (b : Book) → IsTied l phases ps b → IsTied (link_sent f l) (phases_sent f phases) ps b
+pub tied_sent : (f : Frame) (l : ConnectionPhase) (phases : List (ℕ × ChannelPhase)) (ps : List Publish) (b : Book) → IsTied l phases ps b → IsTied (link_sent f l) (phases_sent f phases) ps b
 tied_sent (frame.Method c (method.Connection (connection.Close code text class number))) l phases ps b t = tied_link_left l phases ps b t
 tied_sent (frame.Method c (method.Connection connection.CloseOk)) l phases ps b t = t
 tied_sent (frame.Method c (method.Channel (channel.Close code text class number))) l phases ps b t = tied_close_left l c phases ps b t
@@ -359,7 +359,7 @@ tied_sent (frame.Header c h) l phases ps b t = t
 tied_sent (frame.Body c bytes) l phases ps b t = t
 
 -- a frame leaves
-pub tied_handed : (frame_max : ℕ) (flow : Bool) (rest : List RestEntry) (methods : List MethodEntry) (ps : List Publish) (l : Link) (phases : List (ℕ × Phase)) (b : Book) (x : Left) → IsTied l phases ps b → IsTied (link_sent x.frame l) (phases_sent x.frame phases) (left_of frame_max flow rest methods ps).publishes (fold after_mark b (left_marks (handed_of flow rest methods ps)))
+pub tied_handed : (frame_max : ℕ) (flow : Bool) (rest : List RestEntry) (methods : List MethodEntry) (ps : List Publish) (l : ConnectionPhase) (phases : List (ℕ × ChannelPhase)) (b : Book) (x : Left) → IsTied l phases ps b → IsTied (link_sent x.frame l) (phases_sent x.frame phases) (left_of frame_max flow rest methods ps).publishes (fold after_mark b (left_marks (handed_of flow rest methods ps)))
 tied_handed frame_max flow rest methods ps l phases b x t = tied_sent x.frame l phases _ _ (tied_leaves frame_max flow rest methods ps l phases b t)
 
 -- the publish that leaves is queued
@@ -377,40 +377,40 @@ can_register flow rest methods ps cells l e q = let P : Option Left → Type 0 =
     at true [] [] (p ∷ ps) q = q.each.0
     at false [] [] ps q = tt
 
-pub tied_settled : (l : Link) (c : ℕ) (s : Settlement) (phases : List (ℕ × Phase)) (ps : List Publish) (b : Book) → IsTied l phases ps b → IsTied l phases ps (settled c s b)
+pub tied_settled : (l : ConnectionPhase) (c : ℕ) (s : Settlement) (phases : List (ℕ × ChannelPhase)) (ps : List Publish) (b : Book) → IsTied l phases ps b → IsTied l phases ps (settled c s b)
 tied_settled l c s phases ps b t = record {
   queued = queue-settled c (covers s) (outcome_of s) b.cells ps t.queued;
-  lines = t.lines;
+  ledgers = t.ledgers;
   done = λ d h. any-mapped (is_open_on d) (option_map (settled_cell c (covers s) (outcome_of s))) b.cells (settled-closed d c (covers s) (outcome_of s)) (t.done d h);
   down = t.down;
 }
 
-pub tied_taken : (n : ℕ) (l : Link) (phases : List (ℕ × Phase)) (ps : List Publish) (b : Book) → is_resolved (under n b.cells) ≡ true → IsTied l phases ps b → IsTied l phases ps (taken n b)
+pub tied_taken : (n : ℕ) (l : ConnectionPhase) (phases : List (ℕ × ChannelPhase)) (ps : List Publish) (b : Book) → is_resolved (under n b.cells) ≡ true → IsTied l phases ps b → IsTied l phases ps (taken n b)
 tied_taken n l phases ps b h t = record {
   queued = queue-taken n b.cells ps h t.queued;
-  lines = t.lines;
+  ledgers = t.ledgers;
   done = λ d over. any-under d n None b.cells (t.done d over) refl;
   down = t.down;
 }
 
 -- a poll gives the result only where it is there
-pub tied_poll : (n : ℕ) (l : Link) (phases : List (ℕ × Phase)) (ps : List Publish) (b : Book) → IsTied l phases ps b → IsTied l phases ps (cond (is_resolved (under n b.cells)) (taken n b) b)
+pub tied_poll : (n : ℕ) (l : ConnectionPhase) (phases : List (ℕ × ChannelPhase)) (ps : List Publish) (b : Book) → IsTied l phases ps b → IsTied l phases ps (cond (is_resolved (under n b.cells)) (taken n b) b)
 tied_poll n l phases ps b t =
     elim (is_resolved (under n b.cells)) as (λ r. is_resolved (under n b.cells) ≡ r → IsTied l phases ps (cond r (taken n b) b))
     [ true ↦ λ h. tied_taken n l phases ps b h t | false ↦ λ h. t ] refl
 
 -- the same values
-pub tied_by : (l k : Link) (s r : List (ℕ × Phase)) (p q : List Publish) (b d : Book) → l ≡ k → s ≡ r → p ≡ q → b ≡ d → IsTied k r q d → IsTied l s p b
+pub tied_by : (l k : ConnectionPhase) (s r : List (ℕ × ChannelPhase)) (p q : List Publish) (b d : Book) → l ≡ k → s ≡ r → p ≡ q → b ≡ d → IsTied k r q d → IsTied l s p b
 tied_by l k s r p q b d el es ep eb t =
-    let L : Link → Type 0 = λ x. IsTied x s p b in
-    let S : List (ℕ × Phase) → Type 0 = λ x. IsTied k x p b in
+    let L : ConnectionPhase → Type 0 = λ x. IsTied x s p b in
+    let S : List (ℕ × ChannelPhase) → Type 0 = λ x. IsTied k x p b in
     let P : List Publish → Type 0 = λ x. IsTied k r x b in
     let B : Book → Type 0 = λ x. IsTied k r q x in
     subst L (sym el) (subst S (sym es) (subst P (sym ep) (subst B (sym eb) t)))
 
 -- ---- with the outbox
 
-pub kept_by : (l k : Link) (s r : List (ℕ × Phase)) (o q : OutboxState) (b d : Book) → l ≡ k → s ≡ r → o ≡ q → b ≡ d → IsTied k r q.lists.publishes d → NotPoisoned q → IsKept l s o b
+pub kept_by : (l k : ConnectionPhase) (s r : List (ℕ × ChannelPhase)) (o q : OutboxState) (b d : Book) → l ≡ k → s ≡ r → o ≡ q → b ≡ d → IsTied k r q.lists.publishes d → NotPoisoned q → IsKept l s o b
 kept_by l k s r o q b d el es eo eb t clean =
     let O : OutboxState → Type 0 = λ x. NotPoisoned x in
     record { tied = tied_by l k s r o.lists.publishes q.lists.publishes b d el es (ap (λ (x : OutboxState). x.lists.publishes) eo) eb t; unpoisoned = subst O (sym eo) clean }

@@ -1,4 +1,4 @@
-pub mod Sights
+pub mod Readings
 pub mod TicketStanding
 pub mod ConfirmStanding
 pub mod Standing

@@ -6,17 +6,17 @@ use Rattle.lapin_types.specs.Types.{ChannelState}
 use Rattle.lapin_types.specs.Types.channel_state as state
 use Rattle.lapin_types.specs.declared.request.ReplyKind.{ReplyKind}
 use Rattle.lapin_tables.specs.ByChannel.{at_channel}
-use Rattle.lapin_history.specs.declared.phases.Phase.{Phase}
-use Rattle.lapin_history.specs.declared.phases.Phase.TheVariants as phase
-use Rattle.lapin_history.specs.declared.phases.Link.{Link}
-use Rattle.lapin_history.specs.declared.phases.Link.TheVariants as link
+use Rattle.lapin_history.specs.declared.phases.ChannelPhase.{ChannelPhase}
+use Rattle.lapin_history.specs.declared.phases.ChannelPhase.TheVariants as phase
+use Rattle.lapin_history.specs.declared.phases.ConnectionPhase.{ConnectionPhase}
+use Rattle.lapin_history.specs.declared.phases.ConnectionPhase.TheVariants as link
 use Rattle.lapin_history.specs.Words.{is_some, with_channel}
 use Rattle.lapin_history.specs.Phases.{channel_state, is_live, is_up, phase_in}
 use Rattle.lapin_history.specs.ChannelClose.{close_ok_end}
-use Rattle.lapin_history.specs.Base.{is_closed, is_open, is_opening, hears_on}
+use Rattle.lapin_history.specs.Wire.{is_closed, is_open, is_opening, receives_on}
 use Rattle.lapin_history.specs.Opening.{opens, phases_with}
-use Rattle.lapin_history.specs.Reply.{hears}
-use Rattle.lapin_history.specs.ChannelClose.{hears_close, hears_close_ok}
+use Rattle.lapin_history.specs.Reply.{receives}
+use Rattle.lapin_history.specs.ChannelClose.{receives_close, receives_close_ok}
 use Rattle.lapin_confirm.specs.Book.{Book, ended}
 use Rattle.lapin_machine.specs.Kept.{is_close_sent}
 use Rattle.lapin_outbox.specs.Outgoing.{OutboxState}
@@ -25,15 +25,15 @@ use Rattle.lapin_machine.specs.Tied.{IsTied, NotPoisoned, is_live_on}
 use Rattle.lapin_machine.proofs.Keeping.{tied_live, tied_further, tied_dropped}
 
 -- the state of a channel, by the connection and by where the channel stands
-abbrev state_at : Link → ℕ → Option Phase → ChannelState
+abbrev state_at : ConnectionPhase → ℕ → Option ChannelPhase → ChannelState
 state_at l c o = cond (is_up l) (cond (c == 0) state.Base (channel_state (phase_in o))) state.Down
 
 -- what a state says that only a channel above 0 of an open connection can have
-record Stood (l : Link) (o : Option Phase) (t : ChannelState → Bool) : Type 0 where
+record Stood (l : ConnectionPhase) (o : Option ChannelPhase) (t : ChannelState → Bool) : Type 0 where
   up : is_up l ≡ true
   at : t (channel_state (phase_in o)) ≡ true
 
-stood : (l : Link) (c : ℕ) (o : Option Phase) (t : ChannelState → Bool) → t state.Base ≡ false → t state.Down ≡ false → t (state_at l c o) ≡ true → Stood l o t
+stood : (l : ConnectionPhase) (c : ℕ) (o : Option ChannelPhase) (t : ChannelState → Bool) → t state.Base ≡ false → t state.Down ≡ false → t (state_at l c o) ≡ true → Stood l o t
 stood l c o t base down h =
     elim (is_up l) as (λ u. is_up l ≡ u → t (cond u (cond (c == 0) state.Base (channel_state (phase_in o))) state.Down) ≡ true → Stood l o t) [
       | true ↦ λ up h. elim (c == 0) as (λ z. t (cond z state.Base (channel_state (phase_in o))) ≡ true → Stood l o t) [ true ↦ λ h. cc | false ↦ λ h. record { up = up; at = h } ] h
@@ -41,11 +41,11 @@ stood l c o t base down h =
     ] refl h
 
 -- such a channel was opened
-some_at : (o : Option Phase) (t : ChannelState → Bool) → t state.Closed ≡ false → t (channel_state (phase_in o)) ≡ true → is_some o ≡ true
+some_at : (o : Option ChannelPhase) (t : ChannelState → Bool) → t state.Closed ≡ false → t (channel_state (phase_in o)) ≡ true → is_some o ≡ true
 some_at None t closed h = cc
 some_at (Some p) t closed h = refl
 
-live_at : (o : Option Phase) (t : ChannelState → Bool) → t state.Closed ≡ false → t state.Crossed ≡ false → t (channel_state (phase_in o)) ≡ true → is_live (phase_in o) ≡ true
+live_at : (o : Option ChannelPhase) (t : ChannelState → Bool) → t state.Closed ≡ false → t state.Crossed ≡ false → t (channel_state (phase_in o)) ≡ true → is_live (phase_in o) ≡ true
 live_at None t closed crossed h = cc
 live_at (Some phase.Closed) t closed crossed h = cc
 live_at (Some phase.Opening) t closed crossed h = refl
@@ -54,51 +54,51 @@ live_at (Some (phase.Closing who sent)) t closed crossed h = refl
 live_at (Some phase.Crossed) t closed crossed h = cc
 
 -- a channel in a state of a live opening
-pub record HasOpening (l : Link) (c : ℕ) (phases : List (ℕ × Phase)) : Type 0 where
+pub record HasOpening (l : ConnectionPhase) (c : ℕ) (phases : List (ℕ × ChannelPhase)) : Type 0 where
   pub up : is_up l ≡ true
   pub some : is_some (at_channel c phases) ≡ true
   pub live : is_live_on l (at_channel c phases) ≡ true
 
-has_opening : (l : Link) (c : ℕ) (phases : List (ℕ × Phase)) (t : ChannelState → Bool) → t state.Base ≡ false → t state.Down ≡ false → t state.Closed ≡ false → t state.Crossed ≡ false → t (state_at l c (at_channel c phases)) ≡ true → HasOpening l c phases
+has_opening : (l : ConnectionPhase) (c : ℕ) (phases : List (ℕ × ChannelPhase)) (t : ChannelState → Bool) → t state.Base ≡ false → t state.Down ≡ false → t state.Closed ≡ false → t state.Crossed ≡ false → t (state_at l c (at_channel c phases)) ≡ true → HasOpening l c phases
 has_opening l c phases t base down closed crossed h =
     let s = stood l c (at_channel c phases) t base down h in
     let live : is_live (phase_in (at_channel c phases)) ≡ true = live_at (at_channel c phases) t closed crossed s.at in
     record { up = s.up; some = some_at (at_channel c phases) t closed s.at; live = rw s.up live }
 
-pub open_opening : (l : Link) (c : ℕ) (phases : List (ℕ × Phase)) → is_open (state_at l c (at_channel c phases)) ≡ true → HasOpening l c phases
+pub open_opening : (l : ConnectionPhase) (c : ℕ) (phases : List (ℕ × ChannelPhase)) → is_open (state_at l c (at_channel c phases)) ≡ true → HasOpening l c phases
 open_opening l c phases h = has_opening l c phases is_open refl refl refl refl h
 
-pub hears_opening : (l : Link) (c : ℕ) (phases : List (ℕ × Phase)) → hears_close (state_at l c (at_channel c phases)) ≡ true → HasOpening l c phases
-hears_opening l c phases h = has_opening l c phases hears_close refl refl refl refl h
+pub receives_opening : (l : ConnectionPhase) (c : ℕ) (phases : List (ℕ × ChannelPhase)) → receives_close (state_at l c (at_channel c phases)) ≡ true → HasOpening l c phases
+receives_opening l c phases h = has_opening l c phases receives_close refl refl refl refl h
 
--- a reply is heard on a channel with a live opening
-pub reply_opening : (l : Link) (c : ℕ) (k : ReplyKind) (phases : List (ℕ × Phase)) → hears k (state_at l c (at_channel c phases)) ≡ true → HasOpening l c phases
-reply_opening l c k phases h = elim (opens k) as (λ o. cond o (is_opening (state_at l c (at_channel c phases))) (hears_on (state_at l c (at_channel c phases))) ≡ true → HasOpening l c phases) [
+-- a reply is received on a channel with a live opening
+pub reply_opening : (l : ConnectionPhase) (c : ℕ) (k : ReplyKind) (phases : List (ℕ × ChannelPhase)) → receives k (state_at l c (at_channel c phases)) ≡ true → HasOpening l c phases
+reply_opening l c k phases h = elim (opens k) as (λ o. cond o (is_opening (state_at l c (at_channel c phases))) (receives_on (state_at l c (at_channel c phases))) ≡ true → HasOpening l c phases) [
   | true ↦ λ h. has_opening l c phases is_opening refl refl refl refl h
-  | false ↦ λ h. has_opening l c phases hears_on refl refl refl refl h
+  | false ↦ λ h. has_opening l c phases receives_on refl refl refl refl h
 ] h
 
-pub tied_replied : (l : Link) (c : ℕ) (k : ReplyKind) (phases : List (ℕ × Phase)) (ps : List Publish) (b : Book) → HasOpening l c phases → IsTied l phases ps b → IsTied l (phases_with c k phases) ps b
+pub tied_replied : (l : ConnectionPhase) (c : ℕ) (k : ReplyKind) (phases : List (ℕ × ChannelPhase)) (ps : List Publish) (b : Book) → HasOpening l c phases → IsTied l phases ps b → IsTied l (phases_with c k phases) ps b
 tied_replied l c k phases ps b h t = elim (opens k) as (λ o. IsTied l (cond o (with_channel c (phase.Open false) phases) phases) ps b) [
   | true ↦ tied_live l c (phase.Open false) phases ps b h.up refl h.some t
   | false ↦ t
 ]
 
 -- a pause, or its end, leaves an open channel open
-pub tied_paused : (l : Link) (c : ℕ) (paused : Bool) (phases : List (ℕ × Phase)) (ps : List Publish) (b : Book) → HasOpening l c phases → IsTied l phases ps b → IsTied l (with_channel c (phase.Open paused) phases) ps b
+pub tied_paused : (l : ConnectionPhase) (c : ℕ) (paused : Bool) (phases : List (ℕ × ChannelPhase)) (ps : List Publish) (b : Book) → HasOpening l c phases → IsTied l phases ps b → IsTied l (with_channel c (phase.Open paused) phases) ps b
 tied_paused l c paused phases ps b h t = tied_live l c (phase.Open paused) phases ps b h.up refl h.some t
 
--- close-ok is heard on a channel that was opened
-pub close_ok_some : (l : Link) (c : ℕ) (phases : List (ℕ × Phase)) → hears_close_ok (state_at l c (at_channel c phases)) ≡ true → (is_up l ≡ true) × (is_some (at_channel c phases) ≡ true)
-close_ok_some l c phases h = let s = stood l c (at_channel c phases) hears_close_ok refl refl h in (s.up, some_at (at_channel c phases) hears_close_ok refl s.at)
+-- close-ok is received on a channel that was opened
+pub close_ok_some : (l : ConnectionPhase) (c : ℕ) (phases : List (ℕ × ChannelPhase)) → receives_close_ok (state_at l c (at_channel c phases)) ≡ true → (is_up l ≡ true) × (is_some (at_channel c phases) ≡ true)
+close_ok_some l c phases h = let s = stood l c (at_channel c phases) receives_close_ok refl refl h in (s.up, some_at (at_channel c phases) receives_close_ok refl s.at)
 
 -- a closed channel has no live opening
-pub closed_over : (l : Link) (c : ℕ) (phases : List (ℕ × Phase)) → is_closed (state_at l c (at_channel c phases)) ≡ true → (is_up l ≡ true) × (is_live_on l (at_channel c phases) ≡ false)
+pub closed_over : (l : ConnectionPhase) (c : ℕ) (phases : List (ℕ × ChannelPhase)) → is_closed (state_at l c (at_channel c phases)) ≡ true → (is_up l ≡ true) × (is_live_on l (at_channel c phases) ≡ false)
 closed_over l c phases h =
     let s = stood l c (at_channel c phases) is_closed refl refl h in
     (s.up, rw s.up (over (at_channel c phases) s.at))
   where
-    over : (o : Option Phase) → is_closed (channel_state (phase_in o)) ≡ true → is_live (phase_in o) ≡ false
+    over : (o : Option ChannelPhase) → is_closed (channel_state (phase_in o)) ≡ true → is_live (phase_in o) ≡ false
     over None h = refl
     over (Some phase.Closed) h = refl
     over (Some phase.Opening) h = cc
@@ -107,14 +107,14 @@ closed_over l c phases h =
     over (Some phase.Crossed) h = cc
 
 -- an open channel has a line
-pub open_line : (l : Link) (c : ℕ) (phases : List (ℕ × Phase)) (ps : List Publish) (b : Book) → is_open (state_at l c (at_channel c phases)) ≡ true → IsTied l phases ps b → IsSome (at_channel c b.lines)
-open_line l c phases ps b h t = t.lines c (open_opening l c phases h).some
+pub open_ledger : (l : ConnectionPhase) (c : ℕ) (phases : List (ℕ × ChannelPhase)) (ps : List Publish) (b : Book) → is_open (state_at l c (at_channel c phases)) ≡ true → IsTied l phases ps b → IsSome (at_channel c b.ledgers)
+open_ledger l c phases ps b h t = t.ledgers c (open_opening l c phases h).some
 
 -- a channel whose opening a crossed close ended
-pub crossed_over : (l : Link) (c : ℕ) (phases : List (ℕ × Phase)) → close_ok_end (phase_in (at_channel c phases)) ≡ None → hears_close_ok (state_at l c (at_channel c phases)) ≡ true → is_live_on l (at_channel c phases) ≡ false
-crossed_over l c phases ended h = let s = stood l c (at_channel c phases) hears_close_ok refl refl h in rw s.up (over (at_channel c phases) ended s.at)
+pub crossed_over : (l : ConnectionPhase) (c : ℕ) (phases : List (ℕ × ChannelPhase)) → close_ok_end (phase_in (at_channel c phases)) ≡ None → receives_close_ok (state_at l c (at_channel c phases)) ≡ true → is_live_on l (at_channel c phases) ≡ false
+crossed_over l c phases ended h = let s = stood l c (at_channel c phases) receives_close_ok refl refl h in rw s.up (over (at_channel c phases) ended s.at)
   where
-    over : (o : Option Phase) → close_ok_end (phase_in o) ≡ None → hears_close_ok (channel_state (phase_in o)) ≡ true → is_live (phase_in o) ≡ false
+    over : (o : Option ChannelPhase) → close_ok_end (phase_in o) ≡ None → receives_close_ok (channel_state (phase_in o)) ≡ true → is_live (phase_in o) ≡ false
     over None e h = refl
     over (Some phase.Closed) e h = refl
     over (Some phase.Opening) e h = cc
@@ -123,13 +123,13 @@ crossed_over l c phases ended h = let s = stood l c (at_channel c phases) hears_
     over (Some phase.Crossed) e h = refl
 
 -- while this side closes the connection it is not open
-pub sent_down : (l : Link) → is_close_sent l ≡ true → is_up l ≡ false
+pub sent_down : (l : ConnectionPhase) → is_close_sent l ≡ true → is_up l ≡ false
 sent_down link.Open h = cc
-sent_down (link.Closing sent heard) h = refl
+sent_down (link.Closing sent received) h = refl
 sent_down link.Closed h = refl
 sent_down link.Lost h = refl
 
-pub tied_unsent : (t : Bool) (o : OutboxState) (l m : Link) (phases : List (ℕ × Phase)) (b : Book) → is_up l ≡ false → IsTied l phases o.lists.publishes b → IsTied m phases (cond t o (emptied_outbox o)).lists.publishes b
+pub tied_unsent : (t : Bool) (o : OutboxState) (l m : ConnectionPhase) (phases : List (ℕ × ChannelPhase)) (b : Book) → is_up l ≡ false → IsTied l phases o.lists.publishes b → IsTied m phases (cond t o (emptied_outbox o)).lists.publishes b
 tied_unsent true o l m phases b down t = tied_further l m phases o.lists.publishes b down t
 tied_unsent false o l m phases b down t = tied_dropped l m phases o.lists.publishes b down t
 

@@ -16,14 +16,14 @@ use Rattle.lapin_types.specs.Types.connection
 use Rattle.lapin_types.specs.Types.channel
 use Rattle.lapin_history.specs.declared.broker_frames.Incoming.{Incoming}
 use Rattle.lapin_history.specs.declared.broker_frames.Incoming.TheVariants as incoming
-use Rattle.lapin_history.specs.declared.phases.Phase.{Phase}
-use Rattle.lapin_history.specs.declared.phases.Phase.TheVariants as phase
-use Rattle.lapin_history.specs.declared.phases.Link.{Link}
-use Rattle.lapin_history.specs.declared.phases.Link.TheVariants as link
-use Rattle.lapin_history.specs.Heard.{heard, frame_class, frame_method}
+use Rattle.lapin_history.specs.declared.phases.ChannelPhase.{ChannelPhase}
+use Rattle.lapin_history.specs.declared.phases.ChannelPhase.TheVariants as phase
+use Rattle.lapin_history.specs.declared.phases.ConnectionPhase.{ConnectionPhase}
+use Rattle.lapin_history.specs.declared.phases.ConnectionPhase.TheVariants as link
+use Rattle.lapin_history.specs.Incoming.{incoming_of, frame_class, frame_method}
 use Rattle.lapin_history.specs.Phases.{is_up, is_lost}
 use Rattle.lapin_history.specs.ConnectionClose.{link_close_sent, link_sent, after_connection_close}
-use Rattle.lapin_history.specs.Sight.{Sight}
+use Rattle.lapin_history.specs.Readings.{Readings}
 use Rattle.lapin_history.specs.Unexpected.{refused}
 use Rattle.lapin_history.specs.declared.marks.Settlement.{Settlement}
 use Rattle.lapin_history.specs.Settlement.{settlement_record, session_close, after_failed_on}
@@ -32,34 +32,34 @@ use Rattle.lapin_history.specs.Words.{with_channel}
 use Rattle.lapin_history.specs.Leaving.{left_lists}
 use Rattle.lapin_history.specs.Ends.{down}
 use Rattle.lapin_history.specs.Flow.{may_begin, after_flow}
-use Rattle.lapin_history.specs.Reply.{hears_reply, after_reply}
-use Rattle.lapin_history.specs.Base.{Base, state_of, phase_of, is_open, hears_on, noted, lists_of, with_lists}
+use Rattle.lapin_history.specs.Reply.{receives_reply, after_reply}
+use Rattle.lapin_history.specs.Wire.{Wire, state_of, phase_of, is_open, receives_on, noted, lists_of, with_lists}
 use Rattle.lapin_history.specs.Asking.{is_allowed, after_call}
-use Rattle.lapin_history.specs.Hearing.{heard_up, heard_record, after_heard}
-use Rattle.lapin_history.specs.ChannelClose.{hears_close, hears_close_ok, phases_sent, closing, after_channel_close, after_close_ok}
+use Rattle.lapin_history.specs.Receiving.{incoming_up, incoming_record, after_incoming}
+use Rattle.lapin_history.specs.ChannelClose.{receives_close, receives_close_ok, phases_sent, closing, after_channel_close, after_close_ok}
 use Rattle.lapin_history.specs.Handing.{handed, sent}
 use Rattle.lapin_history.specs.Events.{record_of, after_event}
 use Rattle.lapin_machine.specs.Stands.{IsShut}
 use Rattle.lapin_machine.proofs.Alone.{down_refuses}
 
 -- the connection is open, or no channel stands open
-up_shut : (d : Base) → d.link ≡ link.Open → IsShut d
+up_shut : (d : Wire) → d.link ≡ link.Open → IsShut d
 up_shut d e h = let up : is_up d.link ≡ true = ap is_up e in cc
 
-choose_shut : (t : Bool) (x y : Base) → IsShut x → IsShut y → IsShut (cond t x y)
+choose_shut : (t : Bool) (x y : Wire) → IsShut x → IsShut y → IsShut (cond t x y)
 choose_shut true x y h k = h
 choose_shut false x y h k = k
 
 -- ---- calls
 
-call_up : (c : ℕ) (k : Asked) (b : Base) → b.link ≡ link.Open → IsShut (after_call c k b)
+call_up : (c : ℕ) (k : Asked) (b : Wire) → b.link ≡ link.Open → IsShut (after_call c k b)
 call_up c ask.Open b e = up_shut (after_call c ask.Open b) e
 call_up c (ask.CloseChannel code text) b e = up_shut (after_call c (ask.CloseChannel code text) b) e
 call_up c (ask.CloseConnection code text) b e = λ _. refl
 call_up c (ask.Method row) b e = up_shut (after_call c (ask.Method row) b) e
 call_up c (ask.Publish exchange key o payload properties) b e = up_shut (after_call c (ask.Publish exchange key o payload properties) b) e
 
-call_shut : (c : ℕ) (k : Asked) (b : Base) → IsShut b → IsShut (cond (is_allowed k (state_of c b)) (after_call c k b) b)
+call_shut : (c : ℕ) (k : Asked) (b : Wire) → IsShut b → IsShut (cond (is_allowed k (state_of c b)) (after_call c k b) b)
 call_shut c k b h = elim (down_refuses b.link c k b refl) [
   | inl up ↦ choose_shut (is_allowed k (state_of c b)) (after_call c k b) b (call_up c k b up) h
   | inr shut ↦ rw shut h
@@ -67,13 +67,13 @@ call_shut c k b h = elim (down_refuses b.link c k b refl) [
 
 -- ---- frames that leave
 
-close_left : (l : Link) → is_up (link_close_sent l) ≡ is_up l
+close_left : (l : ConnectionPhase) → is_up (link_close_sent l) ≡ is_up l
 close_left link.Open = refl
-close_left (link.Closing sent heard) = refl
+close_left (link.Closing sent received) = refl
 close_left link.Closed = refl
 close_left link.Lost = refl
 
-frame_left : (f : Frame) (l : Link) → is_up (link_sent f l) ≡ is_up l
+frame_left : (f : Frame) (l : ConnectionPhase) → is_up (link_sent f l) ≡ is_up l
 frame_left (frame.Method c (method.Connection (connection.Close code text class number))) l = close_left l
 frame_left _ l = refl
 
@@ -81,79 +81,79 @@ none_left : (f : Frame) → phases_sent f [] ≡ []
 none_left (frame.Method c (method.Channel (channel.Close code text class number))) = refl
 none_left _ = refl
 
-sent_shut : (o : Option Left) (b : Base) → IsShut b → IsShut (sent o b)
+sent_shut : (o : Option Left) (b : Wire) → IsShut b → IsShut (sent o b)
 sent_shut None b h = h
 sent_shut (Some x) b h = λ d. ap (phases_sent x.frame) (h (sym (frame_left x.frame b.link) ∙ d)) ∙ none_left x.frame
 
 -- ---- frames of the broker
 
-close_ok_up : (c : ℕ) (p : Phase) (b : Base) → b.link ≡ link.Open → IsShut (after_close_ok c p b)
+close_ok_up : (c : ℕ) (p : ChannelPhase) (b : Wire) → b.link ≡ link.Open → IsShut (after_close_ok c p b)
 close_ok_up c phase.Closed b e = up_shut (after_close_ok c phase.Closed b) e
 close_ok_up c phase.Opening b e = up_shut (after_close_ok c phase.Opening b) e
 close_ok_up c (phase.Open paused) b e = up_shut (after_close_ok c (phase.Open paused) b) e
 close_ok_up c (phase.Closing who sent) b e = up_shut (after_close_ok c (phase.Closing who sent) b) e
 close_ok_up c phase.Crossed b e = up_shut (after_close_ok c phase.Crossed b) e
 
-connection_close_shut : (l : Link) (b : Base) → IsShut b → b.link ≡ l → IsShut (after_connection_close l b)
+connection_close_shut : (l : ConnectionPhase) (b : Wire) → IsShut b → b.link ≡ l → IsShut (after_connection_close l b)
 connection_close_shut link.Open b h e = λ _. refl
-connection_close_shut (link.Closing true heard) b h e = λ _. h (ap is_up e)
-connection_close_shut (link.Closing false heard) b h e = λ _. refl
+connection_close_shut (link.Closing true received) b h e = λ _. h (ap is_up e)
+connection_close_shut (link.Closing false received) b h e = λ _. refl
 connection_close_shut link.Closed b h e = λ _. refl
 connection_close_shut link.Lost b h e = λ _. refl
 
-choose_record : (t : Bool) (i : Incoming) (x y : Record) (b : Base) → IsShut (after_heard i x b) → IsShut (after_heard i y b) → IsShut (after_heard i (cond t x y) b)
+choose_record : (t : Bool) (i : Incoming) (x y : Record) (b : Wire) → IsShut (after_incoming i x b) → IsShut (after_incoming i y b) → IsShut (after_incoming i (cond t x y) b)
 choose_record true i x y b h k = h
 choose_record false i x y b h k = k
 
-failed_up : (c : ℕ) (s : Settlement) (b : Base) → b.link ≡ link.Open → IsShut b → IsShut (after_failed_on c s b)
-failed_up c s b e h = let d : Base = noted c (session_close s.kind) (closing c closer.Session b) in choose_shut (is_open (state_of c b)) d b (up_shut d e) h
+failed_up : (c : ℕ) (s : Settlement) (b : Wire) → b.link ≡ link.Open → IsShut b → IsShut (after_failed_on c s b)
+failed_up c s b e h = let d : Wire = noted c (session_close s.kind) (closing c closer.Session b) in choose_shut (is_open (state_of c b)) d b (up_shut d e) h
 
-flow_up : (c : ℕ) (active : Bool) (b : Base) → b.link ≡ link.Open → IsShut b → IsShut (after_flow c active b)
-flow_up c active b e h = let d : Base = noted c (method.Channel (channel.FlowOk active)) (record b { phases = with_channel c (phase.Open (not active)) b.phases }) in choose_shut (is_open (state_of c b)) d b (up_shut d e) h
+flow_up : (c : ℕ) (active : Bool) (b : Wire) → b.link ≡ link.Open → IsShut b → IsShut (after_flow c active b)
+flow_up c active b e h = let d : Wire = noted c (method.Channel (channel.FlowOk active)) (record b { phases = with_channel c (phase.Open (not active)) b.phases }) in choose_shut (is_open (state_of c b)) d b (up_shut d e) h
 
 -- while the connection is open
-heard_open : (see : Sight) (class number : ℕ) (i : Incoming) (b : Base) → b.link ≡ link.Open → IsShut b → IsShut (after_heard i (heard_up b see (refused class number) i) b)
-heard_open see class number (incoming.Reply c k a) b e h = choose_record (hears_reply c k b) (incoming.Reply c k a) record_.Received (refused class number) b (up_shut (after_reply c k b) e) (λ _. refl)
-heard_open see class number (incoming.Settlement c s) b e h =
-    choose_record (hears_on (state_of c b)) (incoming.Settlement c s) (settlement_record see c s) (refused class number) b
-    (choose_record (see.selected c) (incoming.Settlement c s) (cond (s.multiple || see.pending c s.tag) record_.Received (record_.Refused (error.PreconditionFailed s.tag (see.last c)))) record_.Passed b
-    (choose_record (s.multiple || see.pending c s.tag) (incoming.Settlement c s) record_.Received (record_.Refused (error.PreconditionFailed s.tag (see.last c))) b h (failed_up c s b e h))
+incoming_open : (readings : Readings) (class number : ℕ) (i : Incoming) (b : Wire) → b.link ≡ link.Open → IsShut b → IsShut (after_incoming i (incoming_up b readings (refused class number) i) b)
+incoming_open readings class number (incoming.Reply c k a) b e h = choose_record (receives_reply c k b) (incoming.Reply c k a) record_.Received (refused class number) b (up_shut (after_reply c k b) e) (λ _. refl)
+incoming_open readings class number (incoming.Settlement c s) b e h =
+    choose_record (receives_on (state_of c b)) (incoming.Settlement c s) (settlement_record readings c s) (refused class number) b
+    (choose_record (readings.selected c) (incoming.Settlement c s) (cond (s.multiple || readings.pending c s.tag) record_.Received (record_.Refused (error.PreconditionFailed s.tag (readings.last c)))) record_.Passed b
+    (choose_record (s.multiple || readings.pending c s.tag) (incoming.Settlement c s) record_.Received (record_.Refused (error.PreconditionFailed s.tag (readings.last c))) b h (failed_up c s b e h))
     h)
     (λ _. refl)
-heard_open see class number (incoming.Flow c active) b e h = choose_record (hears_on (state_of c b)) (incoming.Flow c active) record_.Received (refused class number) b (flow_up c active b e h) (λ _. refl)
-heard_open see class number (incoming.ChannelClose c code) b e h = choose_record (hears_close (state_of c b)) (incoming.ChannelClose c code) record_.Received (refused class number) b (up_shut (after_channel_close c (phase_of c b) b) e) (λ _. refl)
-heard_open see class number (incoming.ChannelCloseOk c) b e h = choose_record (hears_close_ok (state_of c b)) (incoming.ChannelCloseOk c) record_.Received (refused class number) b (close_ok_up c (phase_of c b) b e) (λ _. refl)
-heard_open see class number (incoming.ConnectionClose code) b e h = connection_close_shut b.link b h refl
-heard_open see class number incoming.ConnectionCloseOk b e h = λ _. refl
-heard_open see class number incoming.Other b e h = λ _. refl
+incoming_open readings class number (incoming.Flow c active) b e h = choose_record (receives_on (state_of c b)) (incoming.Flow c active) record_.Received (refused class number) b (flow_up c active b e h) (λ _. refl)
+incoming_open readings class number (incoming.ChannelClose c code) b e h = choose_record (receives_close (state_of c b)) (incoming.ChannelClose c code) record_.Received (refused class number) b (up_shut (after_channel_close c (phase_of c b) b) e) (λ _. refl)
+incoming_open readings class number (incoming.ChannelCloseOk c) b e h = choose_record (receives_close_ok (state_of c b)) (incoming.ChannelCloseOk c) record_.Received (refused class number) b (close_ok_up c (phase_of c b) b e) (λ _. refl)
+incoming_open readings class number (incoming.ConnectionClose code) b e h = connection_close_shut b.link b h refl
+incoming_open readings class number incoming.ConnectionCloseOk b e h = λ _. refl
+incoming_open readings class number incoming.Other b e h = λ _. refl
 
-heard_shut : (l : Link) (see : Sight) (class number : ℕ) (i : Incoming) (b : Base) → b.link ≡ l → IsShut b → IsShut (after_heard i (heard_record b see (refused class number) i) b)
-heard_shut link.Open see class number i b e h =
+incoming_shut : (l : ConnectionPhase) (readings : Readings) (class number : ℕ) (i : Incoming) (b : Wire) → b.link ≡ l → IsShut b → IsShut (after_incoming i (incoming_record b readings (refused class number) i) b)
+incoming_shut link.Open readings class number i b e h =
     let up : is_up b.link ≡ true = ap is_up e in
-    let same : heard_record b see (refused class number) i ≡ heard_up b see (refused class number) i = rw up refl in
-    let P : Record → Type 0 = λ r. IsShut (after_heard i r b) in
-    subst P (sym same) (heard_open see class number i b e h)
-heard_shut link.Closed see class number i b e h = let none : b.phases ≡ [] = h (ap is_up e) in rw e (λ _. none)
-heard_shut link.Lost see class number i b e h = let none : b.phases ≡ [] = h (ap is_up e) in rw e (λ _. none)
-heard_shut (link.Closing s was) see class number incoming.ConnectionCloseOk b e h = let none : b.phases ≡ [] = h (ap is_up e) in rw e (λ _. none)
-heard_shut (link.Closing s true) see class number (incoming.ConnectionClose code) b e h = let none : b.phases ≡ [] = h (ap is_up e) in rw e (λ _. none)
-heard_shut (link.Closing true false) see class number (incoming.ConnectionClose code) b e h = let none : b.phases ≡ [] = h (ap is_up e) in rw e (λ _. none)
-heard_shut (link.Closing false false) see class number (incoming.ConnectionClose code) b e h = rw e (λ _. refl)
-heard_shut (link.Closing s was) see class number (incoming.Reply c k a) b e h = let none : b.phases ≡ [] = h (ap is_up e) in rw e (λ _. none)
-heard_shut (link.Closing s was) see class number (incoming.Settlement c x) b e h = let none : b.phases ≡ [] = h (ap is_up e) in rw e (λ _. none)
-heard_shut (link.Closing s was) see class number (incoming.ChannelClose c code) b e h = let none : b.phases ≡ [] = h (ap is_up e) in rw e (λ _. none)
-heard_shut (link.Closing s was) see class number (incoming.ChannelCloseOk c) b e h = let none : b.phases ≡ [] = h (ap is_up e) in rw e (λ _. none)
-heard_shut (link.Closing s was) see class number (incoming.Flow c active) b e h = let none : b.phases ≡ [] = h (ap is_up e) in rw e (λ _. none)
-heard_shut (link.Closing s was) see class number incoming.Other b e h = let none : b.phases ≡ [] = h (ap is_up e) in rw e (λ _. none)
+    let same : incoming_record b readings (refused class number) i ≡ incoming_up b readings (refused class number) i = rw up refl in
+    let P : Record → Type 0 = λ r. IsShut (after_incoming i r b) in
+    subst P (sym same) (incoming_open readings class number i b e h)
+incoming_shut link.Closed readings class number i b e h = let none : b.phases ≡ [] = h (ap is_up e) in rw e (λ _. none)
+incoming_shut link.Lost readings class number i b e h = let none : b.phases ≡ [] = h (ap is_up e) in rw e (λ _. none)
+incoming_shut (link.Closing s was) readings class number incoming.ConnectionCloseOk b e h = let none : b.phases ≡ [] = h (ap is_up e) in rw e (λ _. none)
+incoming_shut (link.Closing s true) readings class number (incoming.ConnectionClose code) b e h = let none : b.phases ≡ [] = h (ap is_up e) in rw e (λ _. none)
+incoming_shut (link.Closing true false) readings class number (incoming.ConnectionClose code) b e h = let none : b.phases ≡ [] = h (ap is_up e) in rw e (λ _. none)
+incoming_shut (link.Closing false false) readings class number (incoming.ConnectionClose code) b e h = rw e (λ _. refl)
+incoming_shut (link.Closing s was) readings class number (incoming.Reply c k a) b e h = let none : b.phases ≡ [] = h (ap is_up e) in rw e (λ _. none)
+incoming_shut (link.Closing s was) readings class number (incoming.Settlement c x) b e h = let none : b.phases ≡ [] = h (ap is_up e) in rw e (λ _. none)
+incoming_shut (link.Closing s was) readings class number (incoming.ChannelClose c code) b e h = let none : b.phases ≡ [] = h (ap is_up e) in rw e (λ _. none)
+incoming_shut (link.Closing s was) readings class number (incoming.ChannelCloseOk c) b e h = let none : b.phases ≡ [] = h (ap is_up e) in rw e (λ _. none)
+incoming_shut (link.Closing s was) readings class number (incoming.Flow c active) b e h = let none : b.phases ≡ [] = h (ap is_up e) in rw e (λ _. none)
+incoming_shut (link.Closing s was) readings class number incoming.Other b e h = let none : b.phases ≡ [] = h (ap is_up e) in rw e (λ _. none)
 
 -- ---- every event
 
-pub shut-next : (b : Base) (see : Sight) (e : Event) → IsShut b → IsShut (after_event b e (record_of b see e))
-shut-next b see (event.Call c k) h = call_shut c (asked k) b h
-shut-next b see (event.Next flow) h = sent_shut (handed flow b) (with_lists (left_lists b.frame_max (may_begin flow b) (lists_of b)) b) h
-shut-next b see (event.Receive f) h = heard_shut b.link see (frame_class f) (frame_method f) (heard f) b refl h
-shut-next b see (event.PollTicket n) h = h
-shut-next b see (event.PollConfirm n) h = h
-shut-next b see (event.AsideTicket n) h = h
-shut-next b see (event.State c) h = h
-shut-next b see event.Lost h = choose_shut (is_lost b.link) b (down link.Lost b) h (λ _. refl)
+pub shut-next : (b : Wire) (readings : Readings) (e : Event) → IsShut b → IsShut (after_event b e (record_of b readings e))
+shut-next b readings (event.Call c k) h = call_shut c (asked k) b h
+shut-next b readings (event.Next flow) h = sent_shut (handed flow b) (with_lists (left_lists b.frame_max (may_begin flow b) (lists_of b)) b) h
+shut-next b readings (event.Receive f) h = incoming_shut b.link readings (frame_class f) (frame_method f) (incoming_of f) b refl h
+shut-next b readings (event.PollTicket n) h = h
+shut-next b readings (event.PollConfirm n) h = h
+shut-next b readings (event.AsideTicket n) h = h
+shut-next b readings (event.State c) h = h
+shut-next b readings event.Lost h = choose_shut (is_lost b.link) b (down link.Lost b) h (λ _. refl)

@@ -14,17 +14,17 @@ use Rattle.lapin_types.specs.Types.{Error}
 use Rattle.lapin_types.specs.Types.error
 use Rattle.lapin_history.specs.declared.broker_frames.Incoming.{Incoming}
 use Rattle.lapin_history.specs.declared.broker_frames.Incoming.TheVariants as incoming
-use Rattle.lapin_history.specs.declared.phases.Link.{Link}
-use Rattle.lapin_history.specs.declared.phases.Link.TheVariants as link
+use Rattle.lapin_history.specs.declared.phases.ConnectionPhase.{ConnectionPhase}
+use Rattle.lapin_history.specs.declared.phases.ConnectionPhase.TheVariants as link
 use Rattle.lapin_history.specs.Phases.{is_lost}
 use Rattle.lapin_history.specs.declared.phases.Closer.TheVariants as closer
 use Rattle.lapin_history.specs.ChannelClose.{failed_at_close, close_ok_end}
 use Rattle.lapin_history.specs.TicketReadings.{TicketMark, Given, ClosedHere, AllFailed, Collected, SetAside, gives, given}
-use Rattle.lapin_history.specs.Heard.{heard}
-use Rattle.lapin_history.specs.Base.{Base, state_of, phase_of, is_open}
+use Rattle.lapin_history.specs.Incoming.{incoming_of}
+use Rattle.lapin_history.specs.Wire.{Wire, state_of, phase_of, is_open}
 use Rattle.lapin_history.specs.Asking.{is_allowed, after_call}
 use Rattle.lapin_history.specs.Events.{after_event}
-use Rattle.lapin_history.specs.Hearing.{after_heard}
+use Rattle.lapin_history.specs.Receiving.{after_incoming}
 use Rattle.lapin_history.specs.Handing.{handed}
 use Rattle.lapin_history.specs.declared.marks.AtLeaving.{AtLeaving}
 use Rattle.lapin_history.specs.Events.{ticket_marks}
@@ -34,15 +34,15 @@ use Rattle.lapin_history.specs.Handing.{begun_ticket, last_ticket, left_tickets}
 use Rattle.lapin_history.specs.Requests.{resolved_with}
 use Rattle.lapin_history.specs.Ends.{end_tickets}
 use Rattle.lapin_history.specs.ConnectionClose.{connection_close_tickets}
-use Rattle.lapin_history.specs.Hearing.{received_tickets, failed_tickets, refused_tickets, heard_tickets}
+use Rattle.lapin_history.specs.Receiving.{received_tickets, failed_tickets, refused_tickets, incoming_tickets}
 use Rattle.lapin_history.specs.Polls.{is_answer, is_aside}
 use Rattle.lapin_history.proofs.TicketLaws.{given-push}
 use Rattle.lapin_ticket.specs.declared.Slot.{Slot}
-use Rattle.lapin_ticket.specs.Desk.{after_mark}
+use Rattle.lapin_ticket.specs.Slots.{after_mark}
 use Rattle.lapin_ticket.specs.Follows.{Follows}
 use Rattle.lapin_ticket.proofs.Following.{follows-push}
 use Rattle.lapin_machine.specs.Stands.{TicketsStand}
-use Rattle.lapin_machine.proofs.Counting.{heard_counts, next_counts}
+use Rattle.lapin_machine.proofs.Counting.{incoming_counts, next_counts}
 
 -- tickets follow, whatever marks come
 follows_fold : (ms new : List TicketMark) (slots : List (Option Slot)) → Follows ms slots → Follows (ms ++ new) (fold after_mark slots new)
@@ -102,14 +102,14 @@ end_none : (c : ℕ) (e : Option Error) → gives_none (end_tickets c e)
 end_none c None = tt
 end_none c (Some e) = (refl, tt)
 
-connection_close_none : (l : Link) (code : ℕ) → gives_none (connection_close_tickets l code)
+connection_close_none : (l : ConnectionPhase) (code : ℕ) → gives_none (connection_close_tickets l code)
 connection_close_none link.Open code = (refl, tt)
-connection_close_none (link.Closing true heard) code = tt
-connection_close_none (link.Closing false heard) code = (refl, tt)
+connection_close_none (link.Closing true received) code = tt
+connection_close_none (link.Closing false received) code = (refl, tt)
 connection_close_none link.Closed code = (refl, tt)
 connection_close_none link.Lost code = (refl, tt)
 
-received_none : (i : Incoming) (b : Base) → gives_none (received_tickets i b)
+received_none : (i : Incoming) (b : Wire) → gives_none (received_tickets i b)
 received_none (incoming.Reply c k a) b = resolved_none _ _
 received_none (incoming.Settlement c s) b = tt
 received_none (incoming.ChannelClose c code) b = (refl, tt)
@@ -119,7 +119,7 @@ received_none incoming.ConnectionCloseOk b = resolved_none _ _
 received_none (incoming.Flow c active) b = tt
 received_none incoming.Other b = tt
 
-failed_none : (i : Incoming) (b : Base) → gives_none (failed_tickets i b)
+failed_none : (i : Incoming) (b : Wire) → gives_none (failed_tickets i b)
 failed_none (incoming.Settlement c s) b = choose_none (is_open (state_of c b)) (ClosedHere c (failed_at_close closer.Session) ∷ []) [] (refl, tt) tt
 failed_none (incoming.Reply c k a) b = tt
 failed_none (incoming.ChannelClose c code) b = tt
@@ -129,7 +129,7 @@ failed_none incoming.ConnectionCloseOk b = tt
 failed_none (incoming.Flow c active) b = tt
 failed_none incoming.Other b = tt
 
-refused_none : (i : Incoming) (e : Error) (b : Base) → gives_none (refused_tickets i e b)
+refused_none : (i : Incoming) (e : Error) (b : Wire) → gives_none (refused_tickets i e b)
 refused_none i (error.UnexpectedFrame class number) b = (refl, tt)
 refused_none i (error.PreconditionFailed tag current) b = failed_none i b
 refused_none i error.NoMemory b = tt
@@ -140,26 +140,26 @@ refused_none i error.ConnectionLost b = tt
 refused_none i error.AlreadyTaken b = tt
 refused_none i error.UnknownTicket b = tt
 
-heard_none : (i : Incoming) (r : Record) (b : Base) → gives_none (heard_tickets i r b)
-heard_none i (record_.Refused e) b = refused_none i e b
-heard_none i record_.Received b = received_none i b
-heard_none i (record_.Ticket n) b = tt
-heard_none i (record_.Publish t n) b = tt
-heard_none i (record_.Frame f) b = tt
-heard_none i record_.NoFrame b = tt
-heard_none i record_.Passed b = tt
-heard_none i record_.Pending b = tt
-heard_none i (record_.Answer a) b = tt
-heard_none i (record_.Confirmed o) b = tt
-heard_none i (record_.State x y) b = tt
-heard_none i record_.Aside b = tt
-heard_none i record_.Lost b = tt
+incoming_none : (i : Incoming) (r : Record) (b : Wire) → gives_none (incoming_tickets i r b)
+incoming_none i (record_.Refused e) b = refused_none i e b
+incoming_none i record_.Received b = received_none i b
+incoming_none i (record_.Ticket n) b = tt
+incoming_none i (record_.Publish t n) b = tt
+incoming_none i (record_.Frame f) b = tt
+incoming_none i record_.NoFrame b = tt
+incoming_none i record_.Passed b = tt
+incoming_none i record_.Pending b = tt
+incoming_none i (record_.Answer a) b = tt
+incoming_none i (record_.Confirmed o) b = tt
+incoming_none i (record_.State x y) b = tt
+incoming_none i record_.Aside b = tt
+incoming_none i record_.Lost b = tt
 
 -- an event that gives no ticket
-stand_quiet : (b d : Base) (ms new : List TicketMark) (slots : List (Option Slot)) → TicketsStand b ms slots → gives_none new → d.tickets ≡ b.tickets → TicketsStand d (ms ++ new) (fold after_mark slots new)
+stand_quiet : (b d : Wire) (ms new : List TicketMark) (slots : List (Option Slot)) → TicketsStand b ms slots → gives_none new → d.tickets ≡ b.tickets → TicketsStand d (ms ++ new) (fold after_mark slots new)
 stand_quiet b d ms new slots s h e = record { kept = follows_fold ms new slots s.kept; given = e ∙ s.given ∙ sym (given-none ms new h) }
 
-call_tickets_more : (c : ℕ) (k : Asked) (b : Base) → (after_call c k b).tickets ≡ b.tickets + 1
+call_tickets_more : (c : ℕ) (k : Asked) (b : Wire) → (after_call c k b).tickets ≡ b.tickets + 1
 call_tickets_more c ask.Open b = refl
 call_tickets_more c (ask.CloseChannel code text) b = refl
 call_tickets_more c (ask.CloseConnection code text) b = refl
@@ -175,25 +175,25 @@ given-one c l ms before made h k =
     ∙ given-push (ms ++ before) (Given c l)
     ∙ ap (λ n. n + 1) (given-none ms before h)
 
-stand_call : (c : ℕ) (k : Asked) (b : Base) (ms : List TicketMark) (slots : List (Option Slot)) → TicketsStand b ms slots → TicketsStand (after_call c k b) (ms ++ call_tickets c k b) (fold after_mark slots (call_tickets c k b))
+stand_call : (c : ℕ) (k : Asked) (b : Wire) (ms : List TicketMark) (slots : List (Option Slot)) → TicketsStand b ms slots → TicketsStand (after_call c k b) (ms ++ call_tickets c k b) (fold after_mark slots (call_tickets c k b))
 stand_call c k b ms slots s =
     let all : given (ms ++ call_tickets c k b) ≡ given ms + 1 = given-one c (leaving_answer k b) ms (closing_tickets c k) (made_marks (b.tickets + 1) (made_answer k)) (call_none c k) (made_none (b.tickets + 1) (made_answer k)) in
     record { kept = follows_fold ms (call_tickets c k b) slots s.kept; given = call_tickets_more c k b ∙ ap (λ n. n + 1) s.given ∙ sym all }
 
-choose_call : (t : Bool) (x b : Base) (ms new : List TicketMark) (slots : List (Option Slot)) → TicketsStand x (ms ++ new) (fold after_mark slots new) → TicketsStand b ms slots → TicketsStand (cond t x b) (ms ++ cond t new []) (fold after_mark slots (cond t new []))
+choose_call : (t : Bool) (x b : Wire) (ms new : List TicketMark) (slots : List (Option Slot)) → TicketsStand x (ms ++ new) (fold after_mark slots new) → TicketsStand b ms slots → TicketsStand (cond t x b) (ms ++ cond t new []) (fold after_mark slots (cond t new []))
 choose_call true x b ms new slots h s = h
 choose_call false x b ms new slots h s = stand_quiet b b ms [] slots s tt refl
 
-stand_lost : (l : Link) (b d : Base) (ms : List TicketMark) (slots : List (Option Slot)) (e : Error) → d.tickets ≡ b.tickets → TicketsStand b ms slots → TicketsStand (cond (is_lost l) b d) (ms ++ cond (is_lost l) [] (AllFailed e ∷ [])) (fold after_mark slots (cond (is_lost l) [] (AllFailed e ∷ [])))
+stand_lost : (l : ConnectionPhase) (b d : Wire) (ms : List TicketMark) (slots : List (Option Slot)) (e : Error) → d.tickets ≡ b.tickets → TicketsStand b ms slots → TicketsStand (cond (is_lost l) b d) (ms ++ cond (is_lost l) [] (AllFailed e ∷ [])) (fold after_mark slots (cond (is_lost l) [] (AllFailed e ∷ [])))
 stand_lost link.Open b d ms slots e same s = stand_quiet b d ms (AllFailed e ∷ []) slots s (refl, tt) same
-stand_lost (link.Closing sent heard) b d ms slots e same s = stand_quiet b d ms (AllFailed e ∷ []) slots s (refl, tt) same
+stand_lost (link.Closing sent received) b d ms slots e same s = stand_quiet b d ms (AllFailed e ∷ []) slots s (refl, tt) same
 stand_lost link.Closed b d ms slots e same s = stand_quiet b d ms (AllFailed e ∷ []) slots s (refl, tt) same
 stand_lost link.Lost b d ms slots e same s = stand_quiet b b ms [] slots s tt refl
 
-pub tickets-next : (b : Base) (ms : List TicketMark) (slots : List (Option Slot)) (e : Event) (r : Record) → TicketsStand b ms slots → TicketsStand (after_event b e r) (ms ++ ticket_marks b e r) (fold after_mark slots (ticket_marks b e r))
+pub tickets-next : (b : Wire) (ms : List TicketMark) (slots : List (Option Slot)) (e : Event) (r : Record) → TicketsStand b ms slots → TicketsStand (after_event b e r) (ms ++ ticket_marks b e r) (fold after_mark slots (ticket_marks b e r))
 tickets-next b ms slots (event.Call c k) r s = choose_call (is_allowed (asked k) (state_of c b)) (after_call c (asked k) b) b ms (call_tickets c (asked k) b) slots (stand_call c (asked k) b ms slots s) s
 tickets-next b ms slots (event.Next flow) r s = stand_quiet b (after_event b (event.Next flow) r) ms (left_tickets (handed flow b)) slots s (left_none (handed flow b)) (next_counts flow b).0
-tickets-next b ms slots (event.Receive f) r s = stand_quiet b (after_heard (heard f) r b) ms (heard_tickets (heard f) r b) slots s (heard_none (heard f) r b) (heard_counts (heard f) r b).0
+tickets-next b ms slots (event.Receive f) r s = stand_quiet b (after_incoming (incoming_of f) r b) ms (incoming_tickets (incoming_of f) r b) slots s (incoming_none (incoming_of f) r b) (incoming_counts (incoming_of f) r b).0
 tickets-next b ms slots (event.PollTicket n) r s = stand_quiet b b ms (cond (is_answer r) (Collected n ∷ []) []) slots s (choose_none (is_answer r) (Collected n ∷ []) [] (refl, tt) tt) refl
 tickets-next b ms slots (event.AsideTicket n) r s = stand_quiet b b ms (cond (is_aside r) (SetAside n ∷ []) []) slots s (choose_none (is_aside r) (SetAside n ∷ []) [] (refl, tt) tt) refl
 tickets-next b ms slots (event.PollConfirm n) r s = stand_quiet b b ms [] slots s tt refl

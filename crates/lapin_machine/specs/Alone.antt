@@ -5,8 +5,8 @@ use Rattle.std.specs.List.{filter}
 use Rattle.lapin_types.specs.Types.{Method}
 use Rattle.lapin_types.specs.Types.method
 use Rattle.lapin_types.specs.Types.connection
-use Rattle.lapin_history.specs.declared.phases.Link.{Link}
-use Rattle.lapin_history.specs.declared.phases.Link.TheVariants as link
+use Rattle.lapin_history.specs.declared.phases.ConnectionPhase.{ConnectionPhase}
+use Rattle.lapin_history.specs.declared.phases.ConnectionPhase.TheVariants as link
 use Rattle.lapin_history.specs.Frames.{MethodEntry}
 use Rattle.lapin_history.specs.Leaving.{Lists}
 
@@ -28,8 +28,8 @@ pub record IsCloseAlone (l : Lists) : Type 0 where
   pub publishes : l.publishes ≡ []
 
 -- where this side's close has not left, it waits alone
-abbrev pub WaitsAlone : Link → Lists → Type 0
-WaitsAlone (link.Closing false heard) l = IsCloseAlone l
+abbrev pub WaitsAlone : ConnectionPhase → Lists → Type 0
+WaitsAlone (link.Closing false received) l = IsCloseAlone l
 WaitsAlone _ l = Unit {0}
 
 -- what waits without this side's `connection.close`

@@ -3,10 +3,10 @@ use Rattle.std.specs.Prelude.{ℕ, Bool, List, Option, refl}
 use Rattle.std.specs.Coded.{Coded, code_by, coded×, coded_ℕ, coded_bool, coded_list, coded_option}
 use Rattle.lapin_types.specs.declared.leaving.Publish.{Publish}
 use Rattle.lapin_types.specs.declared.request.Request.{Request}
-use Rattle.lapin_history.specs.declared.phases.Phase.{Phase}
-use Rattle.lapin_history.specs.declared.phases.Link.{Link}
-use Rattle.lapin_history.specs.contracts.phases.Phase as phase_row
-use Rattle.lapin_history.specs.contracts.phases.Link as link_row
+use Rattle.lapin_history.specs.declared.phases.ChannelPhase.{ChannelPhase}
+use Rattle.lapin_history.specs.declared.phases.ConnectionPhase.{ConnectionPhase}
+use Rattle.lapin_history.specs.contracts.phases.ChannelPhase as phase_row
+use Rattle.lapin_history.specs.contracts.phases.ConnectionPhase as link_row
 use Rattle.lapin_types.specs.contracts.leaving.Publish as publish_row
 use Rattle.lapin_types.specs.declared.leaving.Left.{Left}
 use Rattle.lapin_types.specs.contracts.leaving.Left as left_row
@@ -14,15 +14,15 @@ use Rattle.lapin_types.specs.contracts.request.Request as request_row
 use Rattle.lapin_confirm.specs.contracts.cell.Cell as cell_row
 use Rattle.lapin_ticket.specs.contracts.Slot as slot_row
 use Rattle.lapin_history.specs.Frames.{MethodEntry, RestEntry}
-use Rattle.lapin_history.specs.Base.{Base}
+use Rattle.lapin_history.specs.Wire.{Wire}
 use Rattle.lapin_outbox.specs.Codes.{rest_entry_code, method_entry_code}
 use Rattle.lapin_confirm.specs.declared.cell.Cell.{Cell}
-use Rattle.lapin_confirm.specs.Book.{Line, Book}
+use Rattle.lapin_confirm.specs.Book.{LedgerState, Book}
 use Rattle.lapin_ticket.specs.declared.Slot.{Slot}
 use Rattle.lapin_machine.specs.World.{World}
 
-abbrev pub line_code : Coded Line
-line_code =
+abbrev pub ledger_code : Coded LedgerState
+ledger_code =
     code_by
     (Bool × (ℕ × (Bool × ℕ)))
     (coded× coded_bool (coded× coded_ℕ (coded× coded_bool coded_ℕ)))
@@ -33,16 +33,16 @@ line_code =
 abbrev pub book_code : Coded Book
 book_code =
     code_by
-    (List (ℕ × Line) × List (Option Cell))
-    (coded× (coded_list (coded× coded_ℕ line_code)) (coded_list (coded_option cell_row.the_row.coded)))
-    (λ b. (b.lines, b.cells))
-    (λ p. record { lines = p.0; cells = p.1 })
+    (List (ℕ × LedgerState) × List (Option Cell))
+    (coded× (coded_list (coded× coded_ℕ ledger_code)) (coded_list (coded_option cell_row.the_row.coded)))
+    (λ b. (b.ledgers, b.cells))
+    (λ p. record { ledgers = p.0; cells = p.1 })
     (λ _. refl)
 
-abbrev pub base_code : Coded Base
+abbrev pub base_code : Coded Wire
 base_code =
     code_by
-    (ℕ × (Link × (List (ℕ × Phase) × (List RestEntry × (List MethodEntry × (List Publish × (List (ℕ × List Request) × (ℕ × ℕ))))))))
+    (ℕ × (ConnectionPhase × (List (ℕ × ChannelPhase) × (List RestEntry × (List MethodEntry × (List Publish × (List (ℕ × List Request) × (ℕ × ℕ))))))))
     (coded× coded_ℕ (coded× link_row.the_row.coded (coded× (coded_list (coded× coded_ℕ phase_row.the_row.coded)) (coded× (coded_list rest_entry_code) (coded× (coded_list method_entry_code) (coded× (coded_list publish_row.the_row.coded) (coded× (coded_list (coded× coded_ℕ (coded_list request_row.the_row.coded))) (coded× coded_ℕ coded_ℕ))))))))
     (λ b. (b.frame_max, (b.link, (b.phases, (b.rest, (b.methods, (b.publishes, (b.requests, (b.tickets, b.published)))))))))
     (λ p. record { frame_max = p.0; link = p.1.0; phases = p.1.1.0; rest = p.1.1.1.0; methods = p.1.1.1.1.0; publishes = p.1.1.1.1.1.0; requests = p.1.1.1.1.1.1.0; tickets = p.1.1.1.1.1.1.1.0; published = p.1.1.1.1.1.1.1.1 })
@@ -51,8 +51,8 @@ base_code =
 abbrev pub world_code : Coded World
 world_code =
     code_by
-    (Base × (Book × (List (Option Slot) × Option Left)))
+    (Wire × (Book × (List (Option Slot) × Option Left)))
     (coded× base_code (coded× book_code (coded× (coded_list (coded_option slot_row.the_row.coded)) (coded_option left_row.the_row.coded))))
-    (λ w. (w.base, (w.book, (w.slots, w.returned))))
-    (λ p. record { base = p.0; book = p.1.0; slots = p.1.1.0; returned = p.1.1.1 })
+    (λ w. (w.wire, (w.book, (w.slots, w.returned))))
+    (λ p. record { wire = p.0; book = p.1.0; slots = p.1.1.0; returned = p.1.1.1 })
     (λ _. refl)

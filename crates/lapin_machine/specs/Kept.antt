@@ -2,8 +2,8 @@
 use Rattle.std.specs.Prelude.{ℕ, Bool, false, if◌then◌else◌, List, Option, Some, None}
 use Rattle.lapin_types.specs.declared.request.Request.{Request}
 use Rattle.lapin_types.specs.declared.request.ReplyKind.TheVariants as reply_kind
-use Rattle.lapin_history.specs.declared.phases.Link.{Link}
-use Rattle.lapin_history.specs.declared.phases.Link.TheVariants as link
+use Rattle.lapin_history.specs.declared.phases.ConnectionPhase.{ConnectionPhase}
+use Rattle.lapin_history.specs.declared.phases.ConnectionPhase.TheVariants as link
 use Rattle.lapin_history.specs.Requests.{first_request, with_request}
 
 -- where closes of a channel crossed, the request of this side's close
@@ -16,6 +16,6 @@ with_kept c None all = all
 with_kept c (Some r) all = with_request c r all
 
 -- whether this side is closing the connection and its close has left
-abbrev pub is_close_sent : Link → Bool
-is_close_sent (link.Closing sent heard) = sent
+abbrev pub is_close_sent : ConnectionPhase → Bool
+is_close_sent (link.Closing sent received) = sent
 is_close_sent _ = false

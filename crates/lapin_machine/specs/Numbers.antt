@@ -8,45 +8,45 @@ use Rattle.lapin_types.specs.declared.event.Event.{Event}
 use Rattle.lapin_types.specs.declared.event.Event.TheVariants as event
 use Rattle.lapin_types.specs.Types.{Error}
 use Rattle.lapin_types.specs.Types.error
-use Rattle.lapin_history.specs.Base.{Base, state_of}
+use Rattle.lapin_history.specs.Wire.{Wire, state_of}
 use Rattle.lapin_history.specs.Asking.{is_allowed}
 use Rattle.lapin_machine.specs.World.{World}
 
 -- each counter has n further numbers
 pub record HasNumbersFor (n : ℕ) (w : World) : Type 0 where
-  pub tickets : w.base.tickets + n < 2 ^ 64
-  pub confirms : w.base.published + n < 2 ^ 64
+  pub tickets : w.wire.tickets + n < 2 ^ 64
+  pub confirms : w.wire.published + n < 2 ^ 64
 
 -- the next ticket would pass the greatest u64
-abbrev pub NoTicket : Base → Type 0
+abbrev pub NoTicket : Wire → Type 0
 NoTicket b = b.tickets + 1 ≡ 2 ^ 64
 
-abbrev pub NoConfirm : Base → Type 0
+abbrev pub NoConfirm : Wire → Type 0
 NoConfirm b = b.published + 1 ≡ 2 ^ 64
 
 -- a number that the call needs would pass the greatest u64
-abbrev pub LacksNumber : Asked → Base → Type 0
+abbrev pub LacksNumber : Asked → Wire → Type 0
 LacksNumber (ask.Publish exchange key o payload properties) b = NoTicket b ⊎ NoConfirm b
 LacksNumber _ b = NoTicket b
 
 -- numbers are used up exactly where an allowed call lacks one
-abbrev pub UsedUp : ℕ → Asked → Base → Type 0
+abbrev pub UsedUp : ℕ → Asked → Wire → Type 0
 UsedUp c k b = (is_allowed k (state_of c b) ≡ true) × LacksNumber k b
 
-abbrev pub EventUsedUp : Event → Base → Type 0
+abbrev pub EventUsedUp : Event → Wire → Type 0
 EventUsedUp (event.Call c k) b = UsedUp c (asked k) b
 EventUsedUp _ b = ⊥
 
 -- an error of a call: want of memory is free, numbers are used up only where the call lacks one, and it is refused by its state
 -- only where it isn't allowed
-abbrev pub AskCause : {T : Type 0} → Result T Error → ℕ → Asked → Base → Type 0
+abbrev pub AskCause : {T : Type 0} → Result T Error → ℕ → Asked → Wire → Type 0
 AskCause (Ok x) c k b = Unit {0}
 AskCause (Err error.NoMemory) c k b = Unit {0}
 AskCause (Err error.NumbersUsedUp) c k b = UsedUp c k b
 AskCause (Err (error.InvalidChannelState s)) c k b = (is_allowed k (state_of c b) ≡ false) × (s ≡ state_of c b)
 AskCause (Err _) c k b = ⊥
 
-abbrev pub CallCause : {T : Type 0} → Result T Error → ℕ → Call → Base → Type 0
+abbrev pub CallCause : {T : Type 0} → Result T Error → ℕ → Call → Wire → Type 0
 CallCause r c k b = AskCause r c (asked k) b
 
 -- want of memory is the only error
@@ -61,7 +61,7 @@ HasNumbers (Err error.NumbersUsedUp) = ⊥
 HasNumbers _ = Unit {0}
 
 -- an error of a step: want of memory is free, and numbers are used up only where a call lacks one
-abbrev pub HasCause : {T : Type 0} → Result T Error → Event → Base → Type 0
+abbrev pub HasCause : {T : Type 0} → Result T Error → Event → Wire → Type 0
 HasCause (Ok x) e b = Unit {0}
 HasCause (Err error.NoMemory) e b = Unit {0}
 HasCause (Err error.NumbersUsedUp) e b = EventUsedUp e b

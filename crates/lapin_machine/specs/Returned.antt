@@ -13,14 +13,14 @@ use Rattle.lapin_history.specs.declared.calls.Asked.{Asked}
 use Rattle.lapin_history.specs.declared.calls.Asked.TheVariants as ask
 use Rattle.lapin_history.specs.declared.broker_frames.Incoming.{Incoming}
 use Rattle.lapin_history.specs.declared.broker_frames.Incoming.TheVariants as incoming
-use Rattle.lapin_history.specs.declared.phases.Link.{Link}
-use Rattle.lapin_history.specs.declared.phases.Link.TheVariants as link
+use Rattle.lapin_history.specs.declared.phases.ConnectionPhase.{ConnectionPhase}
+use Rattle.lapin_history.specs.declared.phases.ConnectionPhase.TheVariants as link
 use Rattle.lapin_history.specs.Calls.{asked}
-use Rattle.lapin_history.specs.Heard.{heard}
+use Rattle.lapin_history.specs.Incoming.{incoming_of}
 use Rattle.lapin_history.specs.ConfirmMarks.{ConfirmMark}
 use Rattle.lapin_history.specs.ConfirmMarks as mark
 use Rattle.lapin_history.specs.Phases.{is_up, is_lost}
-use Rattle.lapin_history.specs.Base.{Base, state_of, phase_of}
+use Rattle.lapin_history.specs.Wire.{Wire, state_of, phase_of}
 use Rattle.lapin_history.specs.Asking.{is_allowed}
 use Rattle.lapin_history.specs.ChannelClose.{close_ok_end}
 use Rattle.lapin_history.specs.ConnectionClose.{has_sent}
@@ -32,14 +32,14 @@ given_back r (event.Next flow) = r
 given_back r _ = None
 
 -- the connection is closed
-abbrev pub is_shut : Link → Bool
+abbrev pub is_shut : ConnectionPhase → Bool
 is_shut link.Closed = true
 is_shut _ = false
 
 -- ---- which frame stays given back
 
 -- an accepted `connection.close` drops all that waits
-abbrev pub after_asked : ℕ → Asked → Base → Option Left → Option Left
+abbrev pub after_asked : ℕ → Asked → Wire → Option Left → Option Left
 after_asked c (ask.CloseConnection code text) b r = if is_allowed (ask.CloseConnection code text) (state_of c b) then None else r
 after_asked c _ b r = r
 
@@ -49,32 +49,32 @@ unless_crossed c None r = r
 unless_crossed c (Some e) r = returned_off c r
 
 -- the broker's `connection.close` drops all that waits, but where this side's close has left
-abbrev pub unless_closing : Link → Option Left → Option Left
-unless_closing (link.Closing true heard) r = r
+abbrev pub unless_closing : ConnectionPhase → Option Left → Option Left
+unless_closing (link.Closing true received) r = r
 unless_closing l r = None
 
 -- a frame that is received: the broker's closes, and its answers to closes of this side
-abbrev pub after_received : Incoming → Base → Option Left → Option Left
+abbrev pub after_received : Incoming → Wire → Option Left → Option Left
 after_received (incoming.ChannelClose c code) b r = returned_off c r
 after_received (incoming.ChannelCloseOk c) b r = unless_crossed c (close_ok_end (phase_of c b)) r
 after_received (incoming.ConnectionClose code) b r = unless_closing b.link r
 after_received incoming.ConnectionCloseOk b r = if has_sent b.link then r else None
 after_received _ b r = r
 
--- one that is not heard closes the connection, and a refused settlement its channel, whose opening lives on
+-- one that is not received closes the connection, and a refused settlement its channel, whose opening lives on
 abbrev pub after_refused : Error → Option Left → Option Left
 after_refused (error.UnexpectedFrame class number) r = None
 after_refused _ r = r
 
-abbrev pub after_heard : Incoming → Record → Base → Option Left → Option Left
-after_heard i (record_.Refused e) b r = after_refused e r
-after_heard i record_.Received b r = after_received i b r
-after_heard i _ b r = r
+abbrev pub after_incoming : Incoming → Record → Wire → Option Left → Option Left
+after_incoming i (record_.Refused e) b r = after_refused e r
+after_incoming i record_.Received b r = after_received i b r
+after_incoming i _ b r = r
 
 -- a loss drops all that waits
-abbrev pub after_event : Base → Event → Record → Option Left → Option Left
+abbrev pub after_event : Wire → Event → Record → Option Left → Option Left
 after_event b (event.Call c k) told r = after_asked c (asked k) b r
-after_event b (event.Receive f) told r = after_heard (heard f) told b r
+after_event b (event.Receive f) told r = after_incoming (incoming_of f) told b r
 after_event b event.Lost told r = if is_lost b.link then r else None
 after_event b _ told r = r
 
@@ -82,9 +82,9 @@ after_event b _ told r = r
 
 -- the connection moves on and all that waits is dropped: it leaves its open state, or is lost, or is closed while a close of this
 -- side has not left
-abbrev pub is_emptied : Link → Link → Bool
+abbrev pub is_emptied : ConnectionPhase → ConnectionPhase → Bool
 is_emptied link.Open l = not (is_up l)
-is_emptied (link.Closing sent heard) l = is_lost l || (not sent && is_shut l)
+is_emptied (link.Closing sent received) l = is_lost l || (not sent && is_shut l)
 is_emptied link.Closed l = is_lost l
 is_emptied link.Lost l = false
 
@@ -95,5 +95,5 @@ without_ended (mark.Ended c e ∷ ms) r = without_ended ms (returned_off c r)
 without_ended (m ∷ ms) r = without_ended ms r
 
 -- which frame stays given back, by where the connection stood and stands, and by the ends of openings
-abbrev pub after_ends : Link → Link → List ConfirmMark → Option Left → Option Left
+abbrev pub after_ends : ConnectionPhase → ConnectionPhase → List ConfirmMark → Option Left → Option Left
 after_ends old new ms r = if is_emptied old new then None else without_ended ms r

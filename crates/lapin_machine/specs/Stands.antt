@@ -7,7 +7,7 @@ use Rattle.lapin_history.specs.ConfirmMarks as mark
 use Rattle.lapin_history.specs.ConfirmReadings.{added}
 use Rattle.lapin_history.specs.TicketReadings.{TicketMark, given}
 use Rattle.lapin_history.specs.Phases.{is_up}
-use Rattle.lapin_history.specs.Base.{Base}
+use Rattle.lapin_history.specs.Wire.{Wire}
 use Rattle.lapin_history.specs.History.{History, past}
 use Rattle.lapin_confirm.specs.Book.{Book}
 use Rattle.lapin_confirm.specs.Follows.{MayCome}
@@ -22,24 +22,24 @@ AreFresh ms [] = Unit {0}
 AreFresh ms (p ∷ ps) = MayCome ms (mark.Left p.channel p.confirm) × AllByRecursion (λ q. p.confirm ≢ q.confirm) ps × AreFresh ms ps
 
 -- the confirms are what the marks say
-pub record ConfirmsStand (b : Base) (ms : List ConfirmMark) (bk : Book) : Type 0 where
+pub record ConfirmsStand (b : Wire) (ms : List ConfirmMark) (bk : Book) : Type 0 where
   pub book : confirms.Follows ms bk
   pub published : b.published ≡ added ms
   pub queue : AreFresh ms b.publishes
 
 -- the tickets are what the marks say
-pub record TicketsStand (b : Base) (ms : List TicketMark) (slots : List (Option Slot)) : Type 0 where
+pub record TicketsStand (b : Wire) (ms : List TicketMark) (slots : List (Option Slot)) : Type 0 where
   pub kept : tickets.Follows ms slots
   pub given : b.tickets ≡ given ms
 
 -- no channel stands open once the connection does not
-abbrev pub IsShut : Base → Type 0
+abbrev pub IsShut : Wire → Type 0
 IsShut b = is_up b.link ≡ false → b.phases ≡ []
 
 -- The session stands for the history: it has its states, lists, requests and counters; its tags, outcomes and answers are those
 -- that the history's marks say.
 pub record Stands (frame_max : ℕ) (h : History) (w : World) : Type 0 where
-  pub base : w.base ≡ (past frame_max h).base
-  pub shut : IsShut w.base
-  pub confirms : ConfirmsStand w.base (past frame_max h).confirms w.book
-  pub tickets : TicketsStand w.base (past frame_max h).tickets w.slots
+  pub wire : w.wire ≡ (past frame_max h).wire
+  pub shut : IsShut w.wire
+  pub confirms : ConfirmsStand w.wire (past frame_max h).confirms w.book
+  pub tickets : TicketsStand w.wire (past frame_max h).tickets w.slots

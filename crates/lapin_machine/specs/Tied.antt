@@ -7,8 +7,8 @@ use Rattle.lapin_types.specs.Types.{Frame}
 use Rattle.lapin_tables.specs.ByChannel.{at_channel}
 use Rattle.lapin_tables.specs.Numbered.{under}
 use Rattle.lapin_history.specs.Words.{is_some}
-use Rattle.lapin_history.specs.declared.phases.Phase.{Phase}
-use Rattle.lapin_history.specs.declared.phases.Link.{Link}
+use Rattle.lapin_history.specs.declared.phases.ChannelPhase.{ChannelPhase}
+use Rattle.lapin_history.specs.declared.phases.ConnectionPhase.{ConnectionPhase}
 use Rattle.lapin_history.specs.Drops.{frame_channel}
 use Rattle.lapin_history.specs.Phases.{is_live, is_up, phase_in}
 use Rattle.lapin_outbox.specs.Outgoing.{OutboxState}
@@ -18,14 +18,14 @@ use Rattle.lapin_confirm.specs.declared.cell.Cell.{Cell}
 use Rattle.lapin_confirm.specs.declared.cell.Cell.TheVariants as cell
 
 -- whether a channel has a live opening: none has once the connection is not open
-abbrev pub is_live_on : Link → Option Phase → Bool
+abbrev pub is_live_on : ConnectionPhase → Option ChannelPhase → Bool
 is_live_on l p = is_up l && is_live (phase_in p)
 
 -- States, waiting publishes and confirms hang together: a publish that waits is queued, a channel that was ever opened has a
 -- line, a channel without a live opening has nothing unresolved, and no channel stands open once the connection does not.
-pub record IsTied (l : Link) (phases : List (ℕ × Phase)) (publishes : List Publish) (b : Book) : Type 0 where
+pub record IsTied (l : ConnectionPhase) (phases : List (ℕ × ChannelPhase)) (publishes : List Publish) (b : Book) : Type 0 where
   pub queued : AreQueued b.cells publishes
-  pub lines : (c : ℕ) → is_some (at_channel c phases) ≡ true → IsSome (at_channel c b.lines)
+  pub ledgers : (c : ℕ) → is_some (at_channel c phases) ≡ true → IsSome (at_channel c b.ledgers)
   pub done : (c : ℕ) → is_live_on l (at_channel c phases) ≡ false → list_any (is_open_on c) b.cells ≡ false
   pub down : is_up l ≡ false → phases ≡ []
 
@@ -34,7 +34,7 @@ abbrev pub NotPoisoned : OutboxState → Type 0
 NotPoisoned o = (o.poison ≡ None) × (o.errors ≡ [])
 
 -- what a session keeps true of its parts
-pub record IsKept (l : Link) (phases : List (ℕ × Phase)) (o : OutboxState) (b : Book) : Type 0 where
+pub record IsKept (l : ConnectionPhase) (phases : List (ℕ × ChannelPhase)) (o : OutboxState) (b : Book) : Type 0 where
   pub tied : IsTied l phases o.lists.publishes b
   pub unpoisoned : NotPoisoned o
 

@@ -35,7 +35,7 @@ HeardTold (Ok heard.Received) r = r ≡ record_.Received
 HeardTold (Ok heard.Passed) r = r ≡ record_.Passed
 HeardTold (Err e) r = IsRefusal e r
 
--- p where the frame was heard, passed over or refused, q where it was not taken for want of memory or numbers
+-- p where the frame was received, passed over or refused, q where it was not taken for want of memory or numbers
 abbrev pub WasHeard : Result Heard Error → Type 0 → Type 0 → Type 0
 WasHeard (Err error.NoMemory) p q = q
 WasHeard (Err error.NumbersUsedUp) p q = q

@@ -10,23 +10,23 @@ use Rattle.lapin_types.specs.declared.confirmation.Confirmation.{Confirmation}
 use Rattle.lapin_history.specs.declared.marks.Settlement.{Settlement}
 use Rattle.lapin_history.specs.declared.calls.Asked.{Asked}
 use Rattle.lapin_history.specs.declared.broker_frames.Incoming.{Incoming}
-use Rattle.lapin_history.specs.Base.{Base, start}
+use Rattle.lapin_history.specs.Wire.{Wire, start}
 use Rattle.lapin_history.specs.Handing.{handed_out, after_handing}
 use Rattle.lapin_history.specs.Events.{after_event}
 use Rattle.lapin_history.specs.Asking.{after_asking}
-use Rattle.lapin_history.specs.Hearing.{after_heard}
+use Rattle.lapin_history.specs.Receiving.{after_incoming}
 use Rattle.lapin_history.specs.Events.{confirm_marks, ticket_marks}
 use Rattle.lapin_history.specs.Asking.{asking_marks, asking_tickets}
 use Rattle.lapin_history.specs.Handing.{left_marks, left_tickets}
-use Rattle.lapin_history.specs.Hearing.{heard_marks, heard_tickets}
-use Rattle.lapin_history.specs.Sight.{Sight}
+use Rattle.lapin_history.specs.Receiving.{incoming_marks, incoming_tickets}
+use Rattle.lapin_history.specs.Readings.{Readings}
 use Rattle.lapin_history.specs.Events.{record_of}
 use Rattle.lapin_history.specs.Settlement.{settlement_record}
 use Rattle.lapin_confirm.specs.Answers.{answer_at}
 use Rattle.lapin_confirm.specs.Book.{Book, empty_book, selected_on, last_on, is_pending}
 use Rattle.lapin_confirm.specs.Book as book
 use Rattle.lapin_ticket.specs.declared.Slot.{Slot}
-use Rattle.lapin_ticket.specs.Desk as desk
+use Rattle.lapin_ticket.specs.Slots as desk
 use Rattle.lapin_types.specs.declared.leaving.Left.{Left}
 use Rattle.lapin_machine.specs.Returned.{given_back}
 use Rattle.lapin_machine.specs.Returned as back
@@ -34,13 +34,13 @@ use Rattle.lapin_machine.specs.Returned as back
 -- states, lists, requests and counters; the confirms; the tickets; and the frame that was given back, until it is handed out
 -- again
 pub record World : Type 0 where
-  pub base : Base
+  pub wire : Wire
   pub book : Book
   pub slots : List (Option Slot)
   pub returned : Option Left
 
 abbrev pub new_world : ℕ → World
-new_world frame_max = record { base = start frame_max; book = empty_book; slots = []; returned = None }
+new_world frame_max = record { wire = start frame_max; book = empty_book; slots = []; returned = None }
 
 -- ---- what polls meet
 
@@ -62,8 +62,8 @@ aside_record (Ok x) = record_.Aside
 aside_record (Err e) = record_.Refused e
 
 -- what is seen of confirms and tickets
-abbrev pub sight_of : Book → List (Option Slot) → Sight
-sight_of b slots = record {
+abbrev pub readings_of : Book → List (Option Slot) → Readings
+readings_of b slots = record {
   selected = λ c. selected_on c b;
   last = λ c. last_on c b;
   pending = λ c t. is_pending c t b;
@@ -74,7 +74,7 @@ sight_of b slots = record {
 
 -- the record of an event, where no frame is handed out once more
 abbrev pub told_anew : World → Event → Record
-told_anew w e = record_of w.base (sight_of w.book w.slots) e
+told_anew w e = record_of w.wire (readings_of w.book w.slots) e
 
 -- the record of an event: a frame request gives the frame that was given back
 abbrev pub told_or : Option Left → Record → Record
@@ -87,15 +87,15 @@ told_by w e = told_or (given_back w.returned e) (told_anew w e)
 -- what an event leaves, where no frame is handed out once more
 abbrev pub next_anew : World → Event → World
 next_anew w e = record {
-  base = after_event w.base e (told_anew w e);
-  book = fold book.after_mark w.book (confirm_marks w.base e (told_anew w e));
-  slots = fold desk.after_mark w.slots (ticket_marks w.base e (told_anew w e));
-  returned = back.after_event w.base e (told_anew w e) w.returned;
+  wire = after_event w.wire e (told_anew w e);
+  book = fold book.after_mark w.book (confirm_marks w.wire e (told_anew w e));
+  slots = fold desk.after_mark w.slots (ticket_marks w.wire e (told_anew w e));
+  returned = back.after_event w.wire e (told_anew w e) w.returned;
 }
 
 -- a session with this as the frame that was given back
 abbrev pub with_returned : Option Left → World → World
-with_returned r w = record { base = w.base; book = w.book; slots = w.slots; returned = r }
+with_returned r w = record { wire = w.wire; book = w.book; slots = w.slots; returned = r }
 
 -- what an event leaves: a frame that is handed out once more has left before, so nothing else changes
 abbrev pub next_or : Option Left → World → World → World
@@ -108,33 +108,33 @@ next w e = next_or (given_back w.returned e) (next_anew w e) w
 -- what a call leaves, that is allowed or refused by its channel's state
 abbrev pub asking : ℕ → Asked → World → World
 asking c k w = record {
-  base = after_asking c k w.base;
-  book = fold book.after_mark w.book (asking_marks c k w.base);
-  slots = fold desk.after_mark w.slots (asking_tickets c k w.base);
-  returned = back.after_asked c k w.base w.returned;
+  wire = after_asking c k w.wire;
+  book = fold book.after_mark w.book (asking_marks c k w.wire);
+  slots = fold desk.after_mark w.slots (asking_tickets c k w.wire);
+  returned = back.after_asked c k w.wire w.returned;
 }
 
 -- what a frame request leaves where no frame was given back, and t tells whether a publish may begin
 abbrev pub handing : Bool → World → World
 handing t w = record {
-  base = after_handing t w.base;
-  book = fold book.after_mark w.book (left_marks (handed_out t w.base));
-  slots = fold desk.after_mark w.slots (left_tickets (handed_out t w.base));
+  wire = after_handing t w.wire;
+  book = fold book.after_mark w.book (left_marks (handed_out t w.wire));
+  slots = fold desk.after_mark w.slots (left_tickets (handed_out t w.wire));
   returned = w.returned;
 }
 
 -- what a frame of the broker leaves that got this record
-abbrev pub hearing : Incoming → Record → World → World
-hearing i r w = record {
-  base = after_heard i r w.base;
-  book = fold book.after_mark w.book (heard_marks i r w.base);
-  slots = fold desk.after_mark w.slots (heard_tickets i r w.base);
-  returned = back.after_heard i r w.base w.returned;
+abbrev pub receiving : Incoming → Record → World → World
+receiving i r w = record {
+  wire = after_incoming i r w.wire;
+  book = fold book.after_mark w.book (incoming_marks i r w.wire);
+  slots = fold desk.after_mark w.slots (incoming_tickets i r w.wire);
+  returned = back.after_incoming i r w.wire w.returned;
 }
 
--- what a settlement on a channel that hears it is answered by
+-- what a settlement on a channel that receives it is answered by
 abbrev pub settlement_told : ℕ → Settlement → World → Record
-settlement_told c s w = settlement_record (sight_of w.book w.slots) c s
+settlement_told c s w = settlement_record (readings_of w.book w.slots) c s
 
 -- the records of a list of events
 abbrev pub outputs : World → List Event → List Record

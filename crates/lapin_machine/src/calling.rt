@@ -18,7 +18,7 @@ ghost use Rattle.lapin_machine.specs.Numbers.{HasCause, CallCause, AskCause};
 use crate::channel::{Published, PublisherConfirm, Ticket};
 use crate::session::{Session, is_closed, is_open};
 use lapin_confirm::Confirms;
-use lapin_history::{Asked, AtLeaving, Phase, Row, sort_call};
+use lapin_history::{Asked, AtLeaving, ChannelPhase, Row, sort_call};
 use lapin_types::{
     BasicProperties, BasicPublishOptions, Call, ChannelMethod, ConfirmMethod, Error, Method,
     Payload, Publish, Record, Reply, ShortString,
@@ -36,7 +36,7 @@ impl Session {
         ensures told { TicketTold result (told_by self.old (CallEvent channel OpenChannel)) }
         ensures ok { OnOk result (self.new ≡ next self.old (CallEvent channel OpenChannel)) }
         ensures err { OnErr result (self.new ≡ self.old) }
-        ensures cause { CallCause result channel OpenChannel self.old.base }
+        ensures cause { CallCause result channel OpenChannel self.old.wire }
     {
         let state = self.channel_state(channel);
         if !is_closed(state) {
@@ -48,7 +48,7 @@ impl Session {
         self.phases.reserve(channel)?;
         self.desk.reserve(alloc, channel)?;
         self.confirms.begin_bare(alloc, channel)?;
-        self.phases.set(channel, Phase::Opening);
+        self.phases.set(channel, ChannelPhase::Opening);
         let row = Row {
             method: Method::Channel(ChannelMethod::Open),
             awaits: Some(Reply::ChannelOpenOk),
@@ -69,7 +69,7 @@ impl Session {
         ensures told { TicketTold result (told_by self.old (CallEvent channel call)) }
         ensures ok { OnOk result (self.new ≡ next self.old (CallEvent channel call)) }
         ensures err { OnErr result (self.new ≡ self.old) }
-        ensures cause { CallCause result channel call self.old.base }
+        ensures cause { CallCause result channel call self.old.wire }
     {
         let asked = sort_call(alloc, call)?;
         self.ask(alloc, channel, asked)
@@ -78,10 +78,10 @@ impl Session {
     // A sorted call that is no publish.
     fn ask(&mut self, alloc: Global, channel: u16, asked: Asked) -> Result<Ticket, Error>
         requires { publishes asked ≡ false }
-        ensures told { TicketTold result (call_record channel asked self.old.base) }
+        ensures told { TicketTold result (call_record channel asked self.old.wire) }
         ensures ok { OnOk result (self.new ≡ asking channel asked self.old) }
         ensures err { OnErr result (self.new ≡ self.old) }
-        ensures cause { AskCause result channel asked self.old.base }
+        ensures cause { AskCause result channel asked self.old.wire }
     {
         match asked {
             Asked::Open => self.open_channel(alloc, channel),
@@ -99,10 +99,10 @@ impl Session {
     // A call that is its line of the table. What is let go is let go by `drop`: so the ways by which a line can be let go, one
     // for each of its methods and replies, are no ways through this function.
     fn queue_row(&mut self, alloc: Global, channel: u16, row: Row) -> Result<Ticket, Error>
-        ensures told { TicketTold result (call_record channel (ask.Method row) self.old.base) }
+        ensures told { TicketTold result (call_record channel (ask.Method row) self.old.wire) }
         ensures ok { OnOk result (self.new ≡ asking channel (ask.Method row) self.old) }
         ensures err { OnErr result (self.new ≡ self.old) }
-        ensures cause { AskCause result channel (ask.Method row) self.old.base }
+        ensures cause { AskCause result channel (ask.Method row) self.old.wire }
     {
         let state = self.channel_state(channel);
         if !is_open(state) {
@@ -136,7 +136,7 @@ impl Session {
         ensures told { PublishTold result (told_by self.old (CallEvent channel (BasicPublish exchange routing_key options payload properties))) }
         ensures ok { OnOk result (self.new ≡ next self.old (CallEvent channel (BasicPublish exchange routing_key options payload properties))) }
         ensures err { OnErr result (self.new ≡ self.old) }
-        ensures cause { CallCause result channel (BasicPublish exchange routing_key options payload properties) self.old.base }
+        ensures cause { CallCause result channel (BasicPublish exchange routing_key options payload properties) self.old.wire }
     {
         let state = self.channel_state(channel);
         if !is_open(state) {
@@ -174,7 +174,7 @@ impl Session {
         ensures told { IfOk result (λ r. r ≡ told_by self.old (CallEvent channel call)) }
         ensures ok { OnOk result (self.new ≡ next self.old (CallEvent channel call)) }
         ensures err { OnErr result (self.new ≡ self.old) }
-        ensures cause { HasCause result (CallEvent channel call) self.old.base }
+        ensures cause { HasCause result (CallEvent channel call) self.old.wire }
     {
         let asked = sort_call(alloc, call)?;
         match asked {

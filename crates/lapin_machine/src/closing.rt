@@ -16,7 +16,7 @@ ghost use Rattle.lapin_outbox.specs.Outgoing.{with_lists};
 ghost use Rattle.lapin_history.specs.Ends.{ends, live_channels};
 ghost use Rattle.lapin_history.specs.TicketReadings as mark;
 ghost use Rattle.lapin_confirm.specs.Book as book;
-ghost use Rattle.lapin_ticket.specs.Desk as answers;
+ghost use Rattle.lapin_ticket.specs.Slots as answers;
 ghost use Rattle.lapin_desk.specs.Queued.{AreQueued};
 ghost use Rattle.lapin_desk.specs.Ended.{emptied_outbox};
 ghost use Rattle.lapin_machine.specs.World.{told_by, next};
@@ -27,7 +27,7 @@ use crate::channel::Ticket;
 use crate::session::{Session, is_base, is_open};
 use lapin_confirm::Confirms;
 use lapin_desk::Desk;
-use lapin_history::{AtLeaving, Closer, Link, Phase, Row, failed_at_close};
+use lapin_history::{AtLeaving, ChannelPhase, Closer, ConnectionPhase, Row, failed_at_close};
 use lapin_outbox::Replies;
 use lapin_phases::Phases;
 use lapin_types::{
@@ -48,7 +48,7 @@ impl Session {
         ensures told { TicketTold result (told_by self.old (CallEvent channel (ChannelClose reply_code reply_text))) }
         ensures ok { OnOk result (self.new ≡ next self.old (CallEvent channel (ChannelClose reply_code reply_text))) }
         ensures err { OnErr result (self.new ≡ self.old) }
-        ensures cause { CallCause result channel (ChannelClose reply_code reply_text) self.old.base }
+        ensures cause { CallCause result channel (ChannelClose reply_code reply_text) self.old.wire }
     {
         let state = self.channel_state(channel);
         if !is_open(state) {
@@ -96,7 +96,7 @@ impl Session {
         ensures told { TicketTold result (told_by self.old (CallEvent 0 (ConnectionClose reply_code reply_text))) }
         ensures ok { OnOk result (self.new ≡ next self.old (CallEvent 0 (ConnectionClose reply_code reply_text))) }
         ensures err { OnErr result (self.new ≡ self.old) }
-        ensures cause { CallCause result 0 (ConnectionClose reply_code reply_text) self.old.base }
+        ensures cause { CallCause result 0 (ConnectionClose reply_code reply_text) self.old.wire }
     {
         self.close_connection(alloc, 0, reply_code, reply_text)
     }
@@ -112,7 +112,7 @@ impl Session {
         ensures told { TicketTold result (told_by self.old (CallEvent channel (ConnectionClose reply_code reply_text))) }
         ensures ok { OnOk result (self.new ≡ next self.old (CallEvent channel (ConnectionClose reply_code reply_text))) }
         ensures err { OnErr result (self.new ≡ self.old) }
-        ensures cause { CallCause result channel (ConnectionClose reply_code reply_text) self.old.base }
+        ensures cause { CallCause result channel (ConnectionClose reply_code reply_text) self.old.wire }
     {
         let state = self.channel_state(channel);
         if !is_base(state) {
@@ -124,9 +124,9 @@ impl Session {
         let mut replies = Replies::new(alloc)?;
         replies.reserve(alloc, channel)?;
         self.desk.reserve(alloc, channel)?;
-        let to = Link::Closing {
+        let to = ConnectionPhase::Closing {
             sent: false,
-            heard: false,
+            received: false,
         };
         let error = Error::InvalidChannelState(ChannelState::Down);
         go_down(
@@ -172,7 +172,7 @@ impl Session {
             &mut self.desk,
             &mut self.confirms,
             replies,
-            Link::Lost,
+            ConnectionPhase::Lost,
             Error::ConnectionLost,
         );
         Ok(())
@@ -182,7 +182,7 @@ impl Session {
         ensures told { IfOk result (λ r. r ≡ told_by self.old LostEvent) }
         ensures ok { OnOk result (self.new ≡ next self.old LostEvent) }
         ensures err { OnErr result (self.new ≡ self.old) }
-        ensures cause { HasCause result LostEvent self.old.base }
+        ensures cause { HasCause result LostEvent self.old.wire }
     {
         match self.lost(alloc) {
             Ok(()) => Ok(Record::Lost),
@@ -191,10 +191,10 @@ impl Session {
     }
 }
 
-fn is_lost(link: Link) -> bool
+fn is_lost(link: ConnectionPhase) -> bool
     ensures { result ≡ is_lost_lem link }
 {
-    matches!(link, Link::Lost)
+    matches!(link, ConnectionPhase::Lost)
 }
 
 // This side closes a channel: publishes that have not begun are rejected.
@@ -207,7 +207,7 @@ pub(crate) fn begin_close(
 )
     requires present { is_some (at_channel channel phases.old.entries) ≡ true }
     requires queued { AreQueued confirms.old.what.book.cells desk.old.outbox.what.lists.publishes }
-    ensures phases { phases.new.entries ≡ with_channel channel (Phase.Closing closer false) phases.old.entries }
+    ensures phases { phases.new.entries ≡ with_channel channel (ChannelPhase.Closing closer false) phases.old.entries }
     ensures outbox { desk.new.outbox.what ≡ with_lists (without_publishes_of channel desk.old.outbox.what.lists) desk.old.outbox.what }
     ensures slots { desk.new.tickets.slots ≡ answers.after_mark desk.old.tickets.slots (mark.ClosedHere channel (failed_at_close_lem closer)) }
     ensures book { confirms.new.what.book ≡ book.closed_here channel (failed_at_close_lem closer) confirms.old.what.book }
@@ -219,7 +219,7 @@ pub(crate) fn begin_close(
     desk.reject_unbegun(confirms, channel, failed_at_close(closer));
     phases.set(
         channel,
-        Phase::Closing {
+        ChannelPhase::Closing {
             closer,
             sent: false,
         },
@@ -229,12 +229,12 @@ pub(crate) fn begin_close(
 // The connection leaves the open state, or is lost: every live opening ends and no channel stands open, nothing waits any more,
 // and every open ticket fails.
 pub(crate) fn go_down(
-    link: &mut Link,
+    link: &mut ConnectionPhase,
     phases: &mut Phases,
     desk: &mut Desk,
     confirms: &mut Confirms,
     replies: Replies,
-    to: Link,
+    to: ConnectionPhase,
     error: Error,
 )
     requires queued { AreQueued confirms.old.what.book.cells desk.old.outbox.what.lists.publishes }

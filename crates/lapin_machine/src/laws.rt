@@ -4,7 +4,7 @@ ghost use Rattle.std.specs.Prelude.{◌≡◌, ℕ, ◌+◌, ◌<◌, ◌^◌, t
 ghost use Rattle.std.specs.List.{list_any, fold};
 ghost use Rattle.lapin_tables.specs.ByChannel.{at_channel};
 ghost use Rattle.lapin_types.specs.declared.event.Event.{Event as AnEvent};
-ghost use Rattle.lapin_history.specs.Base.{lists_of};
+ghost use Rattle.lapin_history.specs.Wire.{lists_of};
 ghost use Rattle.lapin_history.specs.ConnectionClose.{has_sent};
 ghost use Rattle.lapin_history.specs.Drops.{no_lists};
 ghost use Rattle.lapin_confirm.specs.Book.{is_open_on};
@@ -25,8 +25,8 @@ use crate::session::Session;
 /// where the broker's close or close-ok comes first, to drop the own close is to drop all that waits (`dropped`), which is how
 /// the definitions say it.
 pub fn own_close_waits_alone()
-    ensures alone { (frame_max : ℕ) (events : List AnEvent) → WaitsAlone (fold next (new_world frame_max) events).base.link (lists_of (fold next (new_world frame_max) events).base) }
-    ensures dropped { (frame_max : ℕ) (events : List AnEvent) → has_sent (fold next (new_world frame_max) events).base.link ≡ false → without_own_close (lists_of (fold next (new_world frame_max) events).base) ≡ no_lists }
+    ensures alone { (frame_max : ℕ) (events : List AnEvent) → WaitsAlone (fold next (new_world frame_max) events).wire.link (lists_of (fold next (new_world frame_max) events).wire) }
+    ensures dropped { (frame_max : ℕ) (events : List AnEvent) → has_sent (fold next (new_world frame_max) events).wire.link ≡ false → without_own_close (lists_of (fold next (new_world frame_max) events).wire) ≡ no_lists }
 {}
 
 /// What a session tells of an event, and what the event leaves, are what the history says, one event after another: so a call
@@ -49,9 +49,9 @@ pub fn a_frame_given_back_waits()
 /// channel ends, or where the connection moves on and all that waits is dropped. A session that stands for a history has no
 /// phase of a channel once its connection is not open (the premise `IsShut`). So after a loss no frame is given back (`lost`).
 pub fn a_frame_given_back_goes_with_its_channel()
-    ensures lost { (w : World) (e : AnEvent) → IsShut w.base → (is_lost w.base.link ≡ true → w.returned ≡ None) → is_lost (next w e).base.link ≡ true → (next w e).returned ≡ None }
-    ensures gone { (w : World) (e : AnEvent) → given_back w.returned e ≡ None → IsShut w.base →
-        (next w e).returned ≡ after_ends w.base.link (next w e).base.link (confirm_marks w.base e (told_by w e)) w.returned }
+    ensures lost { (w : World) (e : AnEvent) → IsShut w.wire → (is_lost w.wire.link ≡ true → w.returned ≡ None) → is_lost (next w e).wire.link ≡ true → (next w e).returned ≡ None }
+    ensures gone { (w : World) (e : AnEvent) → given_back w.returned e ≡ None → IsShut w.wire →
+        (next w e).returned ≡ after_ends w.wire.link (next w e).wire.link (confirm_marks w.wire e (told_by w e)) w.returned }
 {}
 
 /// No counter is above the number of events: a session that stands for a history has numbers for as many further events as are
@@ -64,7 +64,7 @@ impl Session {
     /// No confirm is lost: on a channel without a live opening, and on every channel once the connection is not open, each
     /// publish that was accepted has its outcome.
     pub fn no_confirm_is_lost(&self)
-        ensures { (c : ℕ) → is_live_on self.now.base.link (at_channel c self.now.base.phases) ≡ false → list_any (is_open_on c) self.now.book.cells ≡ false }
+        ensures { (c : ℕ) → is_live_on self.now.wire.link (at_channel c self.now.wire.phases) ≡ false → list_any (is_open_on c) self.now.book.cells ≡ false }
     {
         let _link = self.link;
     }

@@ -1,4 +1,4 @@
-//! Frames of the broker: replies and settlements. Closes stand in `receiving_closes`. A frame that is not heard closes the
+//! Frames of the broker: replies and settlements. Closes stand in `receiving_closes`. A frame that is not received closes the
 //! connection with its class and method.
 
 ghost use Rattle.std.specs.Prelude.{◌≡◌, ℕ, true, false, IfOk, OnOk, OnErr, if◌then◌else◌};
@@ -12,12 +12,12 @@ ghost use Rattle.lapin_history.specs.declared.broker_frames.Incoming.TheVariants
 ghost use Rattle.lapin_history.specs.Words.{is_some};
 ghost use Rattle.lapin_history.specs.Phases.{is_up};
 ghost use Rattle.lapin_history.specs.Unexpected.{refused};
-ghost use Rattle.lapin_history.specs.Hearing.{heard_up};
-ghost use Rattle.lapin_history.specs.Base.{state_of, hears_on as hears_on_lem};
-ghost use Rattle.lapin_history.specs.Reply.{hears_reply};
-ghost use Rattle.lapin_history.specs.ConnectionClose.{hears_down as hears_down_lem};
+ghost use Rattle.lapin_history.specs.Receiving.{incoming_up};
+ghost use Rattle.lapin_history.specs.Wire.{state_of, receives_on as receives_on_lem};
+ghost use Rattle.lapin_history.specs.Reply.{receives_reply};
+ghost use Rattle.lapin_history.specs.ConnectionClose.{receives_down as receives_down_lem};
 ghost use Rattle.lapin_history.specs.Opening.{phases_with};
-ghost use Rattle.lapin_machine.specs.World.{told_by, next, hearing, sight_of, settlement_told};
+ghost use Rattle.lapin_machine.specs.World.{told_by, next, receiving, readings_of, settlement_told};
 ghost use Rattle.lapin_machine.specs.Told.{HeardTold, WasHeard};
 ghost use Rattle.lapin_machine.specs.Numbers.{HasCause, HasNumbers};
 
@@ -25,9 +25,9 @@ use crate::channel::Heard;
 use crate::closing::{begin_close, go_down};
 use crate::session::{Session, is_open};
 use lapin_history::{
-    Closer, Incoming, Link, Phase, SettleKind, Settlement, class_of, hears, hears_close,
-    hears_close_ok, hears_down, hears_on, method_of, opens, session_close, sort_frame,
-    unexpected_close,
+    ChannelPhase, Closer, ConnectionPhase, Incoming, SettleKind, Settlement, class_of, method_of,
+    opens, receives, receives_close, receives_close_ok, receives_down, receives_on, session_close,
+    sort_frame, unexpected_close,
 };
 use lapin_outbox::Replies;
 use lapin_phases::Phases;
@@ -37,14 +37,14 @@ use std::alloc::Global;
 impl Session {
     /// Takes a frame of the broker.
     ///
-    /// While the connection is open: a reply is heard in its state and takes the oldest request of its kind on its channel; a
-    /// settlement is heard on an open or closing channel, and passed over where the channel asked for no confirms; a close is
-    /// heard on a channel with a live opening, its answer where this side's close is under way, and a close of the connection
+    /// While the connection is open: a reply is received in its state and takes the oldest request of its kind on its channel; a
+    /// settlement is received on an open or closing channel, and passed over where the channel asked for no confirms; a close is
+    /// received on a channel with a live opening, its answer where this side's close is under way, and a close of the connection
     /// always. Once the connection is not open every frame is passed over, but for two while this side closes it: the answer,
     /// and the broker's first close.
     ///
     /// # Errors
-    /// `UnexpectedFrame` with the class and method of a frame that is not heard (0 and 0 of a body, the class and 0 of a
+    /// `UnexpectedFrame` with the class and method of a frame that is not received (0 and 0 of a body, the class and 0 of a
     /// header): the connection is then closed with the reply code 505, and every opening ends. `PreconditionFailed` where a
     /// single settlement names a tag that is not pending, with that tag and the last tag taken: an open channel is then closed
     /// with the reply code 406. `NoMemory`: nothing changes then.
@@ -71,86 +71,86 @@ impl Session {
         number: u16,
         incoming: Incoming,
     ) -> Result<Heard, Error>
-        requires { is_up self.old.base.link ≡ true }
-        ensures told { HeardTold result (heard_up self.old.base (sight_of self.old.book self.old.slots) (refused class number) incoming) }
-        ensures ok { WasHeard result (self.new ≡ hearing incoming (heard_up self.old.base (sight_of self.old.book self.old.slots) (refused class number) incoming) self.old) (self.new ≡ self.old) }
+        requires { is_up self.old.wire.link ≡ true }
+        ensures told { HeardTold result (incoming_up self.old.wire (readings_of self.old.book self.old.slots) (refused class number) incoming) }
+        ensures ok { WasHeard result (self.new ≡ receiving incoming (incoming_up self.old.wire (readings_of self.old.book self.old.slots) (refused class number) incoming) self.old) (self.new ≡ self.old) }
         ensures numbers { HasNumbers result }
     {
         match incoming {
             Incoming::Reply(channel, kind, answer) => {
-                if self.hear_reply(channel, kind, answer) {
+                if self.receive_reply(channel, kind, answer) {
                     Ok(Heard::Received)
                 } else {
                     self.refuse(alloc, class, number)
                 }
             }
             Incoming::Settlement(channel, settlement) => {
-                if hears_on(self.channel_state(channel)) {
-                    self.hear_settlement(alloc, channel, settlement)
+                if receives_on(self.channel_state(channel)) {
+                    self.receive_settlement(alloc, channel, settlement)
                 } else {
                     self.refuse(alloc, class, number)
                 }
             }
             Incoming::Flow(channel, active) => {
-                if hears_on(self.channel_state(channel)) {
-                    self.hear_flow(alloc, channel, active)
+                if receives_on(self.channel_state(channel)) {
+                    self.receive_flow(alloc, channel, active)
                 } else {
                     self.refuse(alloc, class, number)
                 }
             }
             Incoming::ChannelClose(channel, code) => {
-                if hears_close(self.channel_state(channel)) {
-                    self.hear_channel_close(alloc, channel, code)
+                if receives_close(self.channel_state(channel)) {
+                    self.receive_channel_close(alloc, channel, code)
                 } else {
                     self.refuse(alloc, class, number)
                 }
             }
             Incoming::ChannelCloseOk(channel) => {
-                if hears_close_ok(self.channel_state(channel)) {
-                    self.hear_channel_close_ok(channel);
+                if receives_close_ok(self.channel_state(channel)) {
+                    self.receive_channel_close_ok(channel);
                     Ok(Heard::Received)
                 } else {
                     self.refuse(alloc, class, number)
                 }
             }
-            Incoming::ConnectionClose(code) => self.hear_connection_close(alloc, code),
+            Incoming::ConnectionClose(code) => self.receive_connection_close(alloc, code),
             Incoming::ConnectionCloseOk | Incoming::Other => self.refuse(alloc, class, number),
         }
     }
 
     // A frame that comes once the connection is not open.
     fn receive_down(&mut self, alloc: Global, incoming: Incoming) -> Result<Heard, Error>
-        ensures told { HeardTold result (if hears_down_lem self.old.base.link incoming then Received else Passed) }
-        ensures ok { WasHeard result (self.new ≡ hearing incoming (if hears_down_lem self.old.base.link incoming then Received else Passed) self.old) (self.new ≡ self.old) }
+        ensures told { HeardTold result (if receives_down_lem self.old.wire.link incoming then Received else Passed) }
+        ensures ok { WasHeard result (self.new ≡ receiving incoming (if receives_down_lem self.old.wire.link incoming then Received else Passed) self.old) (self.new ≡ self.old) }
         ensures numbers { HasNumbers result }
     {
-        if !hears_down(self.link, &incoming) {
+        if !receives_down(self.link, &incoming) {
             drop(incoming);
             return Ok(Heard::Passed);
         }
         match incoming {
-            Incoming::ConnectionClose(code) => self.hear_connection_close(alloc, code),
+            Incoming::ConnectionClose(code) => self.receive_connection_close(alloc, code),
             other => {
                 drop(other);
-                self.hear_connection_close_ok();
+                self.receive_connection_close_ok();
                 Ok(Heard::Received)
             }
         }
     }
 
-    // A frame that is not heard: the connection is closed, and every opening ends.
+    // A frame that is not received: the connection is closed, and every opening ends.
     fn refuse(&mut self, alloc: Global, class: u16, number: u16) -> Result<Heard, Error>
-        requires { is_up self.old.base.link ≡ true }
+        requires { is_up self.old.wire.link ≡ true }
         ensures told { HeardTold result (refused class number) }
-        ensures ok { WasHeard result ((i : AnIncoming) → self.new ≡ hearing i (refused class number) self.old) (self.new ≡ self.old) }
+        ensures ok { WasHeard result ((i : AnIncoming) → self.new ≡ receiving i (refused class number) self.old) (self.new ≡ self.old) }
         ensures numbers { HasNumbers result }
     {
         let method = unexpected_close(alloc, class, number)?;
         let replies = Replies::new(alloc)?;
         self.desk.outbox.reserve(alloc)?;
-        let to = Link::Closing {
+        let to = ConnectionPhase::Closing {
             sent: false,
-            heard: false,
+            received: false,
         };
         let error = Error::ProtocolError(505);
         go_down(
@@ -162,20 +162,20 @@ impl Session {
             to,
             error,
         );
-        self.desk.note(alloc, 0, method);
+        self.desk.queue_own(alloc, 0, method);
         Err(Error::UnexpectedFrame {
             class,
             method: number,
         })
     }
 
-    // A reply, if it is heard, opens its channel where it is `channel.open-ok` and resolves the ticket of its request.
-    fn hear_reply(&mut self, channel: u16, kind: ReplyKind, answer: Answer) -> bool
-        ensures told { result ≡ hears_reply channel kind self.old.base }
-        ensures ok { result ≡ true → self.new ≡ hearing (ReplyFrame channel kind answer) Received self.old }
+    // A reply, if it is received, opens its channel where it is `channel.open-ok` and resolves the ticket of its request.
+    fn receive_reply(&mut self, channel: u16, kind: ReplyKind, answer: Answer) -> bool
+        ensures told { result ≡ receives_reply channel kind self.old.wire }
+        ensures ok { result ≡ true → self.new ≡ receiving (ReplyFrame channel kind answer) Received self.old }
         ensures same { result ≡ false → self.new ≡ self.old }
     {
-        if !hears(kind, self.channel_state(channel)) {
+        if !receives(kind, self.channel_state(channel)) {
             drop(answer);
             return false;
         }
@@ -188,32 +188,33 @@ impl Session {
         true
     }
 
-    // A flow on a channel that hears it: an open channel is paused or goes on, and the broker is answered.
-    fn hear_flow(&mut self, alloc: Global, channel: u16, active: bool) -> Result<Heard, Error>
+    // A flow on a channel that receives it: an open channel is paused or goes on, and the broker is answered.
+    fn receive_flow(&mut self, alloc: Global, channel: u16, active: bool) -> Result<Heard, Error>
         ensures told { HeardTold result Received }
-        ensures ok { WasHeard result (self.new ≡ hearing (FlowFrame channel active) Received self.old) (self.new ≡ self.old) }
+        ensures ok { WasHeard result (self.new ≡ receiving (FlowFrame channel active) Received self.old) (self.new ≡ self.old) }
         ensures numbers { HasNumbers result }
     {
         if !is_open(self.channel_state(channel)) {
             return Ok(Heard::Received);
         }
         self.desk.outbox.reserve(alloc)?;
-        self.phases.set(channel, Phase::Open { paused: !active });
+        self.phases
+            .set(channel, ChannelPhase::Open { paused: !active });
         let method = Method::Channel(ChannelMethod::FlowOk { active });
-        self.desk.note(alloc, channel, method);
+        self.desk.queue_own(alloc, channel, method);
         Ok(Heard::Received)
     }
 
-    // A settlement on a channel that hears it.
-    fn hear_settlement(
+    // A settlement on a channel that receives it.
+    fn receive_settlement(
         &mut self,
         alloc: Global,
         channel: u16,
         settlement: Settlement,
     ) -> Result<Heard, Error>
-        requires { hears_on_lem (state_of channel self.old.base) ≡ true }
+        requires { receives_on_lem (state_of channel self.old.wire) ≡ true }
         ensures told { HeardTold result (settlement_told channel settlement self.old) }
-        ensures ok { WasHeard result (self.new ≡ hearing (SettlementFrame channel settlement) (settlement_told channel settlement self.old) self.old) (self.new ≡ self.old) }
+        ensures ok { WasHeard result (self.new ≡ receiving (SettlementFrame channel settlement) (settlement_told channel settlement self.old) self.old) (self.new ≡ self.old) }
         ensures numbers { HasNumbers result }
     {
         if !self.confirms.selected(channel) {
@@ -228,7 +229,7 @@ impl Session {
 
     // A settlement of many tags: of every tag up to its own, or with tag 0 of every tag.
     fn settle_many(&mut self, channel: u16, kind: SettleKind, tag: u64)
-        ensures { self.new ≡ hearing (SettlementFrame channel (multiple_of kind tag)) Received self.old }
+        ensures { self.new ≡ receiving (SettlementFrame channel (multiple_of kind tag)) Received self.old }
     {
         if tag == 0 {
             self.confirms.settle_all(channel, kind);
@@ -247,7 +248,7 @@ impl Session {
     ) -> Result<Heard, Error>
         requires { selected_on channel self.old.book ≡ true }
         ensures told { HeardTold result (settlement_told channel (single_of kind tag) self.old) }
-        ensures ok { WasHeard result (self.new ≡ hearing (SettlementFrame channel (single_of kind tag)) (settlement_told channel (single_of kind tag) self.old) self.old) (self.new ≡ self.old) }
+        ensures ok { WasHeard result (self.new ≡ receiving (SettlementFrame channel (single_of kind tag)) (settlement_told channel (single_of kind tag) self.old) self.old) (self.new ≡ self.old) }
         ensures numbers { HasNumbers result }
     {
         match self.confirms.settle_one(channel, kind, tag) {
@@ -266,7 +267,7 @@ impl Session {
         channel: u16,
         kind: SettleKind,
     ) -> Result<(), NoMemory>
-        ensures ok { OnOk result ((tag current : ℕ) → self.new ≡ hearing (SettlementFrame channel (single_of kind tag)) (Refused (error.PreconditionFailed tag current)) self.old) }
+        ensures ok { OnOk result ((tag current : ℕ) → self.new ≡ receiving (SettlementFrame channel (single_of kind tag)) (Refused (error.PreconditionFailed tag current)) self.old) }
         ensures err { OnErr result (self.new ≡ self.old) }
     {
         if !is_open(self.channel_state(channel)) {
@@ -281,7 +282,7 @@ impl Session {
             channel,
             Closer::Session,
         );
-        self.desk.note(alloc, channel, method);
+        self.desk.queue_own(alloc, channel, method);
         Ok(())
     }
 
@@ -289,7 +290,7 @@ impl Session {
         ensures told { IfOk result (λ r. r ≡ told_by self.old (event.Receive frame)) }
         ensures ok { OnOk result (self.new ≡ next self.old (event.Receive frame)) }
         ensures err { OnErr result (self.new ≡ self.old) }
-        ensures cause { HasCause result (event.Receive frame) self.old.base }
+        ensures cause { HasCause result (event.Receive frame) self.old.wire }
     {
         match self.receive(alloc, frame) {
             Ok(Heard::Received) => Ok(Record::Received),
@@ -306,6 +307,6 @@ fn phase_replied(phases: &mut Phases, channel: u16, kind: ReplyKind)
     ensures { phases.new.entries ≡ phases_with channel kind phases.old.entries }
 {
     if opens(kind) {
-        phases.set(channel, Phase::Open { paused: false });
+        phases.set(channel, ChannelPhase::Open { paused: false });
     }
 }

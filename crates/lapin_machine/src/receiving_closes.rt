@@ -1,6 +1,6 @@
 //! Closes of the broker and its answers to closes of this side, on a channel and on the connection.
 //!
-//! The session comes here once it knows that the frame is heard. What an end drops and resolves stands in `lapin_desk`.
+//! The session comes here once it knows that the frame is received. What an end drops and resolves stands in `lapin_desk`.
 
 ghost use Rattle.std.specs.Prelude.{◌≡◌, ◌<◌, true, false, Some, None, if◌then◌else◌};
 ghost use Rattle.lapin_tables.specs.ByChannel.{on_channel};
@@ -9,14 +9,14 @@ ghost use Rattle.lapin_history.specs.declared.broker_frames.Incoming.TheVariants
 ghost use Rattle.lapin_history.specs.Requests.{first_request, without_kind, no_requests, ticket_of as ticket_of_lem};
 ghost use Rattle.lapin_history.specs.Phases.{is_up};
 ghost use Rattle.lapin_history.specs.ChannelClose.{has_sent_close as has_sent_close_lem};
-ghost use Rattle.lapin_history.specs.Base.{state_of, phase_of};
-ghost use Rattle.lapin_history.specs.ChannelClose.{hears_close as hears_close_lem, hears_close_ok as hears_close_ok_lem};
+ghost use Rattle.lapin_history.specs.Wire.{state_of, phase_of};
+ghost use Rattle.lapin_history.specs.ChannelClose.{receives_close as receives_close_lem, receives_close_ok as receives_close_ok_lem};
 ghost use Rattle.lapin_history.specs.ConnectionClose.{has_sent};
 ghost use Rattle.lapin_history.specs.ChannelClose.{close_ok_end as close_ok_end_lem};
 ghost use Rattle.lapin_outbox.specs.Open.{requests_at, spare_on, KeepsRoom};
 ghost use Rattle.lapin_desk.specs.Ended.{emptied_outbox};
 ghost use Rattle.lapin_machine.specs.Kept.{kept_request, with_kept, is_close_sent as is_close_sent_lem};
-ghost use Rattle.lapin_machine.specs.World.{hearing};
+ghost use Rattle.lapin_machine.specs.World.{receiving};
 ghost use Rattle.lapin_machine.specs.Told.{HeardTold, WasHeard};
 ghost use Rattle.lapin_machine.specs.Numbers.{HasNumbers};
 
@@ -24,22 +24,24 @@ use crate::channel::Heard;
 use crate::closing::go_down;
 use crate::session::Session;
 use lapin_desk::Desk;
-use lapin_history::{Link, Phase, after_broker_close, close_ok_end, has_sent_close};
+use lapin_history::{
+    ChannelPhase, ConnectionPhase, after_broker_close, close_ok_end, has_sent_close,
+};
 use lapin_outbox::Replies;
 use lapin_types::{Answer, ChannelMethod, ConnectionMethod, Error, Method, ReplyKind, Request};
 use std::alloc::Global;
 
 impl Session {
     // The broker closes a channel: its opening ends, and close-ok is queued. Where this side's close has left the two crossed.
-    pub(crate) fn hear_channel_close(
+    pub(crate) fn receive_channel_close(
         &mut self,
         alloc: Global,
         channel: u16,
         code: u16,
     ) -> Result<Heard, Error>
-        requires { hears_close_lem (state_of channel self.old.base) ≡ true }
+        requires { receives_close_lem (state_of channel self.old.wire) ≡ true }
         ensures told { HeardTold result Received }
-        ensures ok { WasHeard result (self.new ≡ hearing (ChannelCloseFrame channel code) Received self.old) (self.new ≡ self.old) }
+        ensures ok { WasHeard result (self.new ≡ receiving (ChannelCloseFrame channel code) Received self.old) (self.new ≡ self.old) }
         ensures numbers { HasNumbers result }
     {
         let phase = self.phase(channel);
@@ -53,14 +55,14 @@ impl Session {
         self.phases.set(channel, after_broker_close(phase));
         keep(&mut self.desk.replies, alloc, channel, close);
         self.desk
-            .note(alloc, channel, Method::Channel(ChannelMethod::CloseOk));
+            .queue_own(alloc, channel, Method::Channel(ChannelMethod::CloseOk));
         Ok(Heard::Received)
     }
 
     // The broker answers a close of a channel: the channel is closed and the close done.
-    pub(crate) fn hear_channel_close_ok(&mut self, channel: u16)
-        requires { hears_close_ok_lem (state_of channel self.old.base) ≡ true }
-        ensures { self.new ≡ hearing (ChannelCloseOkFrame channel) Received self.old }
+    pub(crate) fn receive_channel_close_ok(&mut self, channel: u16)
+        requires { receives_close_ok_lem (state_of channel self.old.wire) ≡ true }
+        ensures { self.new ≡ receiving (ChannelCloseOkFrame channel) Received self.old }
     {
         match close_ok_end(self.phase(channel)) {
             Some(error) => self.end_closing(channel, error),
@@ -71,43 +73,47 @@ impl Session {
     // The opening of a channel that this side closes ends with the answer. The close is done first, also where it has not left:
     // the end drops it then.
     fn end_closing(&mut self, channel: u16, error: Error)
-        requires heard { hears_close_ok_lem (state_of channel self.old.base) ≡ true }
-        requires end { close_ok_end_lem (phase_of channel self.old.base) ≡ Some error }
-        ensures { self.new ≡ hearing (ChannelCloseOkFrame channel) Received self.old }
+        requires received { receives_close_ok_lem (state_of channel self.old.wire) ≡ true }
+        requires end { close_ok_end_lem (phase_of channel self.old.wire) ≡ Some error }
+        ensures { self.new ≡ receiving (ChannelCloseOkFrame channel) Received self.old }
     {
         let close = take_request(&mut self.desk.replies, channel, ReplyKind::ChannelCloseOk);
         self.desk.resolve(into_ticket(close), Ok(Answer::Done));
         self.desk
             .end_opening(&mut self.confirms, channel, None, error);
-        self.phases.set(channel, Phase::Closed);
+        self.phases.set(channel, ChannelPhase::Closed);
     }
 
     // A crossed close ended the opening before.
     fn end_crossed(&mut self, channel: u16)
-        requires heard { hears_close_ok_lem (state_of channel self.old.base) ≡ true }
-        requires end { close_ok_end_lem (phase_of channel self.old.base) ≡ None }
-        ensures { self.new ≡ hearing (ChannelCloseOkFrame channel) Received self.old }
+        requires received { receives_close_ok_lem (state_of channel self.old.wire) ≡ true }
+        requires end { close_ok_end_lem (phase_of channel self.old.wire) ≡ None }
+        ensures { self.new ≡ receiving (ChannelCloseOkFrame channel) Received self.old }
     {
         let close = take_request(&mut self.desk.replies, channel, ReplyKind::ChannelCloseOk);
-        self.phases.set(channel, Phase::Closed);
+        self.phases.set(channel, ChannelPhase::Closed);
         self.desk.resolve(into_ticket(close), Ok(Answer::Done));
     }
 
     // The broker closes the connection, which is open, or which this side is closing: close-ok is queued. Where this side's close
     // has left the connection is still closing; else it is closed.
-    pub(crate) fn hear_connection_close(&mut self, alloc: Global, code: u16) -> Result<Heard, Error>
+    pub(crate) fn receive_connection_close(
+        &mut self,
+        alloc: Global,
+        code: u16,
+    ) -> Result<Heard, Error>
         ensures told { HeardTold result Received }
-        ensures ok { WasHeard result (self.new ≡ hearing (ConnectionCloseFrame code) Received self.old) (self.new ≡ self.old) }
+        ensures ok { WasHeard result (self.new ≡ receiving (ConnectionCloseFrame code) Received self.old) (self.new ≡ self.old) }
         ensures numbers { HasNumbers result }
     {
         self.desk.outbox.reserve(alloc)?;
         if is_close_sent(self.link) {
-            self.link = Link::Closing {
+            self.link = ConnectionPhase::Closing {
                 sent: true,
-                heard: true,
+                received: true,
             };
             self.desk
-                .note(alloc, 0, Method::Connection(ConnectionMethod::CloseOk));
+                .queue_own(alloc, 0, Method::Connection(ConnectionMethod::CloseOk));
             return Ok(Heard::Received);
         }
         let replies = Replies::new(alloc)?;
@@ -117,29 +123,29 @@ impl Session {
             &mut self.desk,
             &mut self.confirms,
             replies,
-            Link::Closed,
+            ConnectionPhase::Closed,
             Error::ProtocolError(code),
         );
         self.desk
-            .note(alloc, 0, Method::Connection(ConnectionMethod::CloseOk));
+            .queue_own(alloc, 0, Method::Connection(ConnectionMethod::CloseOk));
         Ok(Heard::Received)
     }
 
     // The broker answers this side's close of the connection: it is closed and the close done. A close that has not left is
     // dropped.
-    pub(crate) fn hear_connection_close_ok(&mut self)
-        requires { is_up self.old.base.link ≡ false }
-        ensures { self.new ≡ hearing ConnectionCloseOkFrame Received self.old }
+    pub(crate) fn receive_connection_close_ok(&mut self)
+        requires { is_up self.old.wire.link ≡ false }
+        ensures { self.new ≡ receiving ConnectionCloseOkFrame Received self.old }
     {
         let close = take_request(&mut self.desk.replies, 0, ReplyKind::ConnectionCloseOk);
         drop_unsent(self.link, &mut self.desk);
-        self.link = Link::Closed;
+        self.link = ConnectionPhase::Closed;
         self.desk.resolve(into_ticket(close), Ok(Answer::Done));
     }
 }
 
 // Where this side's close of a channel has left, its request is taken out, to be kept.
-fn kept_close(replies: &mut Replies, channel: u16, phase: Phase) -> Option<Request>
+fn kept_close(replies: &mut Replies, channel: u16, phase: ChannelPhase) -> Option<Request>
     ensures close { result ≡ kept_request (has_sent_close_lem phase) (requests_at channel replies.old.what) }
     ensures emptied { on_channel channel no_requests replies.new.what ≡ on_channel channel no_requests replies.old.what }
     ensures room { KeepsRoom replies.old replies.new }
@@ -170,21 +176,21 @@ fn take_request(replies: &mut Replies, channel: u16, kind: ReplyKind) -> Option<
 }
 
 // A close of the connection that has not left is dropped; it is then all that waits.
-fn drop_unsent(link: Link, desk: &mut Desk)
+fn drop_unsent(link: ConnectionPhase, desk: &mut Desk)
     ensures outbox { desk.new.outbox.what ≡ (if has_sent link then desk.old.outbox.what else emptied_outbox desk.old.outbox.what) }
     ensures requests { desk.new.replies ≡ desk.old.replies }
     ensures tickets { desk.new.tickets ≡ desk.old.tickets }
 {
-    if let Link::Closing { sent: false, .. } = link {
+    if let ConnectionPhase::Closing { sent: false, .. } = link {
         desk.drop_waiting();
     }
 }
 
 // Whether this side is closing the connection and its close has left.
-fn is_close_sent(link: Link) -> bool
+fn is_close_sent(link: ConnectionPhase) -> bool
     ensures { result ≡ is_close_sent_lem link }
 {
-    matches!(link, Link::Closing { sent: true, .. })
+    matches!(link, ConnectionPhase::Closing { sent: true, .. })
 }
 
 // The ticket of a request, if there is a request and somebody holds its ticket.

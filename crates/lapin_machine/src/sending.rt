@@ -17,7 +17,7 @@ ghost use Rattle.lapin_history.specs.History.{History};
 ghost use Rattle.lapin_types.specs.declared.leaving.Left.{Left as ALeft};
 ghost use Rattle.lapin_outbox.specs.Returned.{is_retried, given};
 ghost use Rattle.lapin_machine.specs.Stands.{Stands};
-ghost use Rattle.lapin_history.specs.Base.{is_closing as is_closing_lem};
+ghost use Rattle.lapin_history.specs.Wire.{is_closing as is_closing_lem};
 ghost use Rattle.lapin_history.specs.Phases.{channel_state};
 ghost use Rattle.lapin_machine.specs.World.{told_by, next, handing, with_returned};
 ghost use Rattle.lapin_machine.specs.Numbers.{HasCause, OnlyMemory};
@@ -25,7 +25,7 @@ ghost use Rattle.lapin_machine.specs.Tied.{CanRegister};
 
 use crate::session::Session;
 use lapin_confirm::Confirms;
-use lapin_history::{Link, Phase, close_sent, link_close_sent};
+use lapin_history::{ChannelPhase, ConnectionPhase, close_sent, link_close_sent};
 use lapin_phases::Phases;
 use lapin_types::{
     ChannelMethod, ConfirmMethod, ConnectionMethod, Error, Frame, Left, Method, Record,
@@ -41,7 +41,7 @@ impl Session {
     /// # Errors
     /// `NoMemory` alone. Nothing changes then.
     pub fn next_frame(&mut self, alloc: Global, flow: bool) -> Result<Option<Left>, Error>
-        ensures told { IfOk result (λ left. left ≡ given self.old.returned (handed flow self.old.base)) }
+        ensures told { IfOk result (λ left. left ≡ given self.old.returned (handed flow self.old.wire)) }
         ensures ok { OnOk result (self.new ≡ next self.old (event.Next flow)) }
         ensures err { OnErr result (self.new ≡ self.old) }
         ensures cause { OnlyMemory result }
@@ -59,7 +59,7 @@ impl Session {
     /// frame that it was handed last, and not after the opening of its channel ended. It takes no memory.
     pub fn retry(&mut self, left: Left)
         requires retrying { is_retried self.old.returned ≡ false }
-        requires lost { is_lost self.old.base.link ≡ false }
+        requires lost { is_lost self.old.wire.link ≡ false }
         ensures returned { self.new ≡ with_returned (Some left) self.old }
 
         // The session stands for what it stood for.
@@ -89,7 +89,7 @@ impl Session {
     // Hands out the next frame, where none was given back and it is known whether a publish may begin.
     fn hand_out(&mut self, alloc: Global, may_begin: bool) -> Result<Option<Left>, Error>
         requires { is_retried self.old.returned ≡ false }
-        ensures told { IfOk result (λ left. left ≡ handed_out may_begin self.old.base) }
+        ensures told { IfOk result (λ left. left ≡ handed_out may_begin self.old.wire) }
         ensures ok { OnOk result (self.new ≡ handing may_begin self.old) }
         ensures err { OnErr result (self.new ≡ self.old) }
         ensures cause { OnlyMemory result }
@@ -110,7 +110,7 @@ impl Session {
         ensures told { IfOk result (λ r. r ≡ told_by self.old (event.Next flow)) }
         ensures ok { OnOk result (self.new ≡ next self.old (event.Next flow)) }
         ensures err { OnErr result (self.new ≡ self.old) }
-        ensures cause { HasCause result (event.Next flow) self.old.base }
+        ensures cause { HasCause result (event.Next flow) self.old.wire }
     {
         Ok(frame_record(self.next_frame(alloc, flow)?))
     }
@@ -148,7 +148,7 @@ fn select_left(confirms: &mut Confirms, frame: &Frame)
 }
 
 // A close of the connection is known to have left.
-fn link_left(link: &mut Link, frame: &Frame)
+fn link_left(link: &mut ConnectionPhase, frame: &Frame)
     ensures { link.new ≡ link_sent frame.now link.old }
 {
     if let Frame::Method(_, Method::Connection(ConnectionMethod::Close { .. })) = frame {
@@ -175,8 +175,8 @@ fn phase_left(phases: &mut Phases, channel: u16)
 }
 
 // Whether this side is closing the channel.
-fn is_closing(phase: Phase) -> bool
+fn is_closing(phase: ChannelPhase) -> bool
     ensures { result ≡ is_closing_lem (channel_state phase) }
 {
-    matches!(phase, Phase::Closing { .. })
+    matches!(phase, ChannelPhase::Closing { .. })
 }

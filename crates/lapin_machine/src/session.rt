@@ -7,7 +7,7 @@ ghost use Rattle.std.specs.Prelude.{◌≡◌, ◌≤◌, ◌++◌, ◌∷◌, [
 ghost use Rattle.lapin_types.specs.declared.event.Event.TheVariants as event;
 ghost use Rattle.lapin_types.specs.declared.leaving.Left.{Left as ALeft};
 ghost use Rattle.lapin_types.specs.declared.record.Record.TheVariants as record_;
-ghost use Rattle.lapin_history.specs.Base.{lists_of, state_of, phase_of, is_open as is_open_lem, is_closed as is_closed_lem, is_base as is_base_lem};
+ghost use Rattle.lapin_history.specs.Wire.{lists_of, state_of, phase_of, is_open as is_open_lem, is_closed as is_closed_lem, is_base as is_base_lem};
 ghost use Rattle.lapin_history.specs.Phases.{connection_state as connection_state_lem};
 ghost use Rattle.lapin_history.specs.History.{History, rec};
 ghost use Rattle.lapin_machine.specs.World.{told_by, next, new_world};
@@ -18,7 +18,7 @@ ghost use Rattle.lapin_machine.specs.Stands.{Stands};
 
 use lapin_confirm::Confirms;
 use lapin_desk::Desk;
-use lapin_history::{Link, Phase};
+use lapin_history::{ChannelPhase, ConnectionPhase};
 use lapin_outbox::{Outbox, Replies};
 use lapin_phases::Phases;
 use lapin_ticket::Tickets;
@@ -30,7 +30,7 @@ use std::marker::Model;
 /// its channels stand, lists, requests and counters, the confirms and the tickets.
 #[derive(Drop)]
 pub struct Session {
-    pub(crate) link: Link,
+    pub(crate) link: ConnectionPhase,
     pub(crate) phases: Phases,
     pub(crate) desk: Desk,
     pub(crate) confirms: Confirms,
@@ -48,7 +48,7 @@ impl Model for Session {
     ghost use Rattle.lapin_machine.specs.Tied.{IsKept};
 
     ghost view = { λ a. record {
-      base = record {
+      wire = record {
         frame_max = a.desk.outbox.what.frame_max;
         link = a.link;
         phases = a.phases.entries;
@@ -81,7 +81,7 @@ impl Session {
         ensures stands { IfOk result (λ session. Stands frame_max [] session) }
     {
         Ok(Session {
-            link: Link::Open,
+            link: ConnectionPhase::Open,
             phases: Phases::new(alloc),
             desk: Desk {
                 outbox: Outbox::new(alloc, frame_max)?,
@@ -94,7 +94,7 @@ impl Session {
 
     /// The state of a channel. Channel 0 is the connection's own; every channel is down while the connection is not open.
     pub fn channel_state(&self, channel: u16) -> ChannelState
-        ensures { result ≡ state_of channel self.now.base }
+        ensures { result ≡ state_of channel self.now.wire }
     {
         if !self.link.is_up() {
             return ChannelState::Down;
@@ -107,15 +107,15 @@ impl Session {
 
     /// The state of the connection.
     pub fn connection_state(&self) -> ConnectionState
-        ensures { result ≡ connection_state_lem self.now.base.link }
+        ensures { result ≡ connection_state_lem self.now.wire.link }
     {
         self.link.state()
     }
 
     /// The frames that wait to leave, and beside them the frame that was given back. Nobody poisons it.
     pub fn outbox(&self) -> &Outbox
-        ensures lists { result.now.what.lists ≡ lists_of self.now.base }
-        ensures frame_max { result.now.what.frame_max ≡ self.now.base.frame_max }
+        ensures lists { result.now.what.lists ≡ lists_of self.now.wire }
+        ensures frame_max { result.now.what.frame_max ≡ self.now.wire.frame_max }
         ensures returned { result.now.what.returned ≡ self.now.returned }
         ensures poison { (result.now.what.poison ≡ None) × (result.now.what.errors ≡ []) }
     {
@@ -124,7 +124,7 @@ impl Session {
 
     /// The open requests of each channel.
     pub fn replies(&self) -> &Replies
-        ensures { result.now.what ≡ self.now.base.requests }
+        ensures { result.now.what ≡ self.now.wire.requests }
     {
         &self.desk.replies
     }
@@ -137,8 +137,8 @@ impl Session {
     }
 
     // Where a channel stands while the connection is open.
-    pub(crate) fn phase(&self, channel: u16) -> Phase
-        ensures { result ≡ phase_of channel self.now.base }
+    pub(crate) fn phase(&self, channel: u16) -> ChannelPhase
+        ensures { result ≡ phase_of channel self.now.wire }
     {
         self.phases.get(channel)
     }
@@ -152,7 +152,7 @@ impl Session {
         ensures told { IfOk result (λ r. r ≡ told_by self.old event) }
         ensures ok { OnOk result (self.new ≡ next self.old event) }
         ensures err { OnErr result (self.new ≡ self.old) }
-        ensures cause { HasCause result event self.old.base }
+        ensures cause { HasCause result event self.old.wire }
 
         // In the words of a history: its record, and the session then stands for the longer one; but a frame request that gives
         // the frame that was given back is no step of the history.
@@ -171,7 +171,7 @@ impl Session {
         ensures told { IfOk result (λ r. r ≡ told_by self.old event) }
         ensures ok { OnOk result (self.new ≡ next self.old event) }
         ensures err { OnErr result (self.new ≡ self.old) }
-        ensures cause { HasCause result event self.old.base }
+        ensures cause { HasCause result event self.old.wire }
     {
         match event {
             Event::Call(channel, call) => self.step_call(alloc, channel, call),

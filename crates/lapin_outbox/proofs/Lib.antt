@@ -3,7 +3,7 @@ pub mod Cuts
 pub mod Waiting
 pub mod Rooms
 pub mod Chains
-pub mod Lines
+pub mod ChannelQueues
 pub mod Dropping
 pub mod DropTickets
 pub mod Poison

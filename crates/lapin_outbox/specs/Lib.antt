@@ -5,7 +5,7 @@ pub mod Cut
 pub mod Drops
 pub mod Entries
 pub mod KindNumbers
-pub mod Line
+pub mod ChannelQueue
 pub mod Links
 pub mod Open
 pub mod Order

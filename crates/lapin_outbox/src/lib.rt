@@ -8,9 +8,9 @@
 
 mod begun;
 mod bodies;
+mod channel_queue;
 mod dropped;
 pub mod laws;
-mod line;
 mod order;
 pub mod outbox;
 mod queues;

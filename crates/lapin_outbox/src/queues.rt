@@ -13,8 +13,8 @@ ghost use Rattle.lapin_outbox.specs.Entries.{rest_in};
 ghost use Rattle.lapin_outbox.specs.Drops.{AreOn, told_rest, told_rest_of, told_publish, unbegun_of, without_unbegun, entries_of, without_entry_of, all_entries, without_entry};
 
 use crate::begun::Begun;
+use crate::channel_queue::{ChannelQueue, Keyed};
 use crate::dropped::Dropped;
-use crate::line::{Keyed, Line};
 use lapin_types::{Frame, Left, Method, NoMemory, Publish};
 use std::alloc::Global;
 use std::marker::Model;
@@ -82,8 +82,8 @@ impl Keyed for Publish {
 #[derive(Drop)]
 pub(crate) struct Queues {
     begun: Option<Begun>,
-    methods: Line<Waiting>,
-    publishes: Line<Publish>,
+    methods: ChannelQueue<Waiting>,
+    publishes: ChannelQueue<Publish>,
 }
 
 impl Model for Queues {
@@ -112,8 +112,8 @@ impl Queues {
     {
         Queues {
             begun: None,
-            methods: Line::new(alloc),
-            publishes: Line::new(alloc),
+            methods: ChannelQueue::new(alloc),
+            publishes: ChannelQueue::new(alloc),
         }
     }
 

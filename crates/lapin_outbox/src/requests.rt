@@ -11,7 +11,7 @@ ghost use Rattle.lapin_history.specs.Words.{without_first};
 ghost use Rattle.lapin_history.specs.Requests.{is_kind, first_request};
 ghost use Rattle.lapin_outbox.specs.KindNumbers.{kind_number};
 
-use crate::line::{Keyed, Line};
+use crate::channel_queue::{ChannelQueue, Keyed};
 use lapin_types::{NoMemory, ReplyKind, Request};
 use std::alloc::Global;
 use std::marker::Model;
@@ -19,7 +19,7 @@ use std::marker::Model;
 /// The open requests of a channel. A contract sees their list, and for how many more there is room.
 #[derive(Drop)]
 pub(crate) struct Requests {
-    line: Line<Request>,
+    channel_queue: ChannelQueue<Request>,
 }
 
 impl Model for Requests {
@@ -30,7 +30,7 @@ impl Model for Requests {
 
     ghost coded = { open_code };
 
-    ghost view = { λ r. record { open_requests = r.line.entries; spare = r.line.spare } };
+    ghost view = { λ r. record { open_requests = r.channel_queue.entries; spare = r.channel_queue.spare } };
 }
 
 impl Keyed for Request {
@@ -47,7 +47,7 @@ impl Requests {
         ensures { result.open_requests ≡ [] }
     {
         Requests {
-            line: Line::new(alloc),
+            channel_queue: ChannelQueue::new(alloc),
         }
     }
 
@@ -58,7 +58,7 @@ impl Requests {
         ensures kept { self.old.spare ≤ self.new.spare }
         ensures succeeds { 0 < self.old.spare → IsOk result }
     {
-        self.line.reserve()
+        self.channel_queue.reserve()
     }
 
     /// Adds a request behind the others, in the room that was made.
@@ -67,14 +67,14 @@ impl Requests {
         ensures others { self.new.open_requests ≡ self.old.open_requests ++ request ∷ [] }
         ensures used { self.old.spare ≤ self.new.spare + 1 }
     {
-        self.line.push(request).unwrap();
+        self.channel_queue.push(request).unwrap();
     }
 
     /// The oldest request of a kind.
     pub(crate) fn first(&self, kind: ReplyKind) -> Option<&Request>
         ensures { option_copied result ≡ first_request kind self.now.open_requests }
     {
-        self.line.first_of(number_of(kind))
+        self.channel_queue.first_of(number_of(kind))
     }
 
     /// Takes out the oldest request of a kind. The others keep their order.
@@ -84,7 +84,7 @@ impl Requests {
         ensures none { IfNone result (self.new.open_requests ≡ self.old.open_requests) }
         ensures kept { self.old.spare ≤ self.new.spare }
     {
-        self.line.pop_of(number_of(kind))
+        self.channel_queue.pop_of(number_of(kind))
     }
 
     /// Takes out the oldest request.
@@ -94,7 +94,7 @@ impl Requests {
         ensures none { IfNone result (self.new.open_requests ≡ self.old.open_requests) }
         ensures kept { self.old.spare ≤ self.new.spare }
     {
-        self.line.pop()
+        self.channel_queue.pop()
     }
 }
 

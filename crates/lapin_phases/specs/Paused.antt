@@ -1,8 +1,8 @@
 -- How many channels are open and paused.
 use Rattle.std.specs.Prelude.{ℕ, suc, if◌then◌else◌, List, [], ◌∷◌}
-use Rattle.lapin_history.specs.declared.phases.Phase.{Phase}
+use Rattle.lapin_history.specs.declared.phases.ChannelPhase.{ChannelPhase}
 use Rattle.lapin_history.specs.Flow.{is_paused_on}
 
-abbrev pub paused_among : List (ℕ × Phase) → ℕ
+abbrev pub paused_among : List (ℕ × ChannelPhase) → ℕ
 paused_among [] = 0
 paused_among (e ∷ es) = if is_paused_on e then suc (paused_among es) else paused_among es

@@ -11,7 +11,7 @@ ghost use Rattle.lapin_history.specs.Phases.{phase_in, is_live};
 ghost use Rattle.lapin_history.specs.Ends.{live_below, live_channels};
 ghost use Rattle.lapin_history.specs.Flow.{is_paused_on};
 
-use lapin_history::Phase;
+use lapin_history::ChannelPhase;
 use lapin_tables::ByChannel;
 use std::alloc::{AllocError, Global};
 use std::marker::Model;
@@ -19,18 +19,18 @@ use std::marker::Model;
 /// Where each channel stands that was ever opened. Contracts see the table alone.
 #[derive(Drop)]
 pub struct Phases {
-    table: ByChannel<Phase>,
+    table: ByChannel<ChannelPhase>,
     paused: usize,
 }
 
 impl Model for Phases {
     ghost use Rattle.std.specs.Prelude.{◌≡◌};
     ghost use Rattle.lapin_tables.specs.ByChannel.{Table, table_code};
-    ghost use Rattle.lapin_history.specs.declared.phases.Phase.{Phase};
-    ghost use Rattle.lapin_history.specs.contracts.phases.Phase as phase_row;
+    ghost use Rattle.lapin_history.specs.declared.phases.ChannelPhase.{ChannelPhase};
+    ghost use Rattle.lapin_history.specs.contracts.phases.ChannelPhase as phase_row;
     ghost use Rattle.lapin_phases.specs.Paused.{paused_among};
 
-    ghost Value = { Table Phase };
+    ghost Value = { Table ChannelPhase };
 
     ghost coded = { table_code phase_row.the_row.coded };
 
@@ -51,12 +51,12 @@ impl Phases {
     }
 
     /// Where a channel stands.
-    pub fn get(&self, channel: u16) -> Phase
+    pub fn get(&self, channel: u16) -> ChannelPhase
         ensures { result ≡ phase_in (at_channel channel self.now.entries) }
     {
         match self.table.get(channel) {
             Some(phase) => *phase,
-            None => Phase::Closed,
+            None => ChannelPhase::Closed,
         }
     }
 
@@ -101,7 +101,7 @@ impl Phases {
     }
 
     /// Puts a channel where an open, a close or a flow leads it.
-    pub fn set(&mut self, channel: u16, phase: Phase)
+    pub fn set(&mut self, channel: u16, phase: ChannelPhase)
         requires { at_channel channel self.old.entries ≡ None → HasRoom channel self.old }
         ensures { self.new.entries ≡ with_channel channel phase self.old.entries }
     {
@@ -126,7 +126,7 @@ fn recounted(count: usize, was: bool, is: bool, held: usize) -> usize
     }
 }
 
-fn put(phases: &mut ByChannel<Phase>, channel: u16, phase: Phase)
+fn put(phases: &mut ByChannel<ChannelPhase>, channel: u16, phase: ChannelPhase)
     requires { at_channel channel phases.old.entries ≡ None → HasRoom channel phases.old }
     ensures { phases.new.entries ≡ with_channel channel phase phases.old.entries }
 {

@@ -32,7 +32,7 @@ impl Channel {
         ensures told { TicketTold result (told_by session.old (CallEvent self.now.id (call.AccessRequest realm options))) }
         ensures ok { OnOk result (session.new ≡ next session.old (CallEvent self.now.id (call.AccessRequest realm options))) }
         ensures err { OnErr result (session.new ≡ session.old) }
-        ensures cause { CallCause result self.now.id (call.AccessRequest realm options) session.old.base }
+        ensures cause { CallCause result self.now.id (call.AccessRequest realm options) session.old.wire }
     {
         let call = Call::AccessRequest { realm, options };
         session.call(alloc, self.id, call)

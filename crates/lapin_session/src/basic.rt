@@ -36,7 +36,7 @@ impl Channel {
         ensures told { TicketTold result (told_by session.old (CallEvent self.now.id (call.BasicQos prefetch_count options))) }
         ensures ok { OnOk result (session.new ≡ next session.old (CallEvent self.now.id (call.BasicQos prefetch_count options))) }
         ensures err { OnErr result (session.new ≡ session.old) }
-        ensures cause { CallCause result self.now.id (call.BasicQos prefetch_count options) session.old.base }
+        ensures cause { CallCause result self.now.id (call.BasicQos prefetch_count options) session.old.wire }
     {
         let call = Call::BasicQos {
             prefetch_count,
@@ -65,7 +65,7 @@ impl Channel {
         ensures told { PublishTold result (told_by session.old (CallEvent self.now.id (call.BasicPublish exchange routing_key options payload.now properties))) }
         ensures ok { OnOk result (session.new ≡ next session.old (CallEvent self.now.id (call.BasicPublish exchange routing_key options payload.now properties))) }
         ensures err { OnErr result (session.new ≡ session.old) }
-        ensures cause { CallCause result self.now.id (call.BasicPublish exchange routing_key options payload.now properties) session.old.base }
+        ensures cause { CallCause result self.now.id (call.BasicPublish exchange routing_key options payload.now properties) session.old.wire }
     {
         let payload = Payload::new(alloc, payload)?;
         session.basic_publish(
@@ -95,7 +95,7 @@ impl Channel {
         ensures told { TicketTold result (told_by session.old (CallEvent self.now.id (call.BasicAck delivery_tag options))) }
         ensures ok { OnOk result (session.new ≡ next session.old (CallEvent self.now.id (call.BasicAck delivery_tag options))) }
         ensures err { OnErr result (session.new ≡ session.old) }
-        ensures cause { CallCause result self.now.id (call.BasicAck delivery_tag options) session.old.base }
+        ensures cause { CallCause result self.now.id (call.BasicAck delivery_tag options) session.old.wire }
     {
         let call = Call::BasicAck {
             delivery_tag,
@@ -120,7 +120,7 @@ impl Channel {
         ensures told { TicketTold result (told_by session.old (CallEvent self.now.id (call.BasicNack delivery_tag options))) }
         ensures ok { OnOk result (session.new ≡ next session.old (CallEvent self.now.id (call.BasicNack delivery_tag options))) }
         ensures err { OnErr result (session.new ≡ session.old) }
-        ensures cause { CallCause result self.now.id (call.BasicNack delivery_tag options) session.old.base }
+        ensures cause { CallCause result self.now.id (call.BasicNack delivery_tag options) session.old.wire }
     {
         let call = Call::BasicNack {
             delivery_tag,
@@ -145,7 +145,7 @@ impl Channel {
         ensures told { TicketTold result (told_by session.old (CallEvent self.now.id (call.BasicReject delivery_tag options))) }
         ensures ok { OnOk result (session.new ≡ next session.old (CallEvent self.now.id (call.BasicReject delivery_tag options))) }
         ensures err { OnErr result (session.new ≡ session.old) }
-        ensures cause { CallCause result self.now.id (call.BasicReject delivery_tag options) session.old.base }
+        ensures cause { CallCause result self.now.id (call.BasicReject delivery_tag options) session.old.wire }
     {
         let call = Call::BasicReject {
             delivery_tag,
@@ -169,7 +169,7 @@ impl Channel {
         ensures told { TicketTold result (told_by session.old (CallEvent self.now.id (call.BasicRecoverAsync options))) }
         ensures ok { OnOk result (session.new ≡ next session.old (CallEvent self.now.id (call.BasicRecoverAsync options))) }
         ensures err { OnErr result (session.new ≡ session.old) }
-        ensures cause { CallCause result self.now.id (call.BasicRecoverAsync options) session.old.base }
+        ensures cause { CallCause result self.now.id (call.BasicRecoverAsync options) session.old.wire }
     {
         let call = Call::BasicRecoverAsync { options };
         session.call(alloc, self.id, call)
@@ -190,7 +190,7 @@ impl Channel {
         ensures told { TicketTold result (told_by session.old (CallEvent self.now.id (call.BasicRecover options))) }
         ensures ok { OnOk result (session.new ≡ next session.old (CallEvent self.now.id (call.BasicRecover options))) }
         ensures err { OnErr result (session.new ≡ session.old) }
-        ensures cause { CallCause result self.now.id (call.BasicRecover options) session.old.base }
+        ensures cause { CallCause result self.now.id (call.BasicRecover options) session.old.wire }
     {
         let call = Call::BasicRecover { options };
         session.call(alloc, self.id, call)

@@ -39,7 +39,7 @@ impl Channel {
         ensures told { TicketTold result (told_by session.old (CallEvent self.now.id (call.ChannelClose reply_code reply_text))) }
         ensures ok { OnOk result (session.new ≡ next session.old (CallEvent self.now.id (call.ChannelClose reply_code reply_text))) }
         ensures err { OnErr result (session.new ≡ session.old) }
-        ensures cause { CallCause result self.now.id (call.ChannelClose reply_code reply_text) session.old.base }
+        ensures cause { CallCause result self.now.id (call.ChannelClose reply_code reply_text) session.old.wire }
     {
         let call = Call::ChannelClose {
             reply_code,
@@ -63,7 +63,7 @@ impl Channel {
         ensures told { TicketTold result (told_by session.old (CallEvent self.now.id (call.ChannelFlow options))) }
         ensures ok { OnOk result (session.new ≡ next session.old (CallEvent self.now.id (call.ChannelFlow options))) }
         ensures err { OnErr result (session.new ≡ session.old) }
-        ensures cause { CallCause result self.now.id (call.ChannelFlow options) session.old.base }
+        ensures cause { CallCause result self.now.id (call.ChannelFlow options) session.old.wire }
     {
         let call = Call::ChannelFlow { options };
         session.call(alloc, self.id, call)

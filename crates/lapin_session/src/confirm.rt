@@ -32,7 +32,7 @@ impl Channel {
         ensures told { TicketTold result (told_by session.old (CallEvent self.now.id (call.ConfirmSelect options))) }
         ensures ok { OnOk result (session.new ≡ next session.old (CallEvent self.now.id (call.ConfirmSelect options))) }
         ensures err { OnErr result (session.new ≡ session.old) }
-        ensures cause { CallCause result self.now.id (call.ConfirmSelect options) session.old.base }
+        ensures cause { CallCause result self.now.id (call.ConfirmSelect options) session.old.wire }
     {
         let call = Call::ConfirmSelect { options };
         session.call(alloc, self.id, call)

@@ -37,7 +37,7 @@ impl Channel {
         ensures told { TicketTold result (told_by session.old (CallEvent self.now.id (call.ExchangeDeclare exchange kind options arguments))) }
         ensures ok { OnOk result (session.new ≡ next session.old (CallEvent self.now.id (call.ExchangeDeclare exchange kind options arguments))) }
         ensures err { OnErr result (session.new ≡ session.old) }
-        ensures cause { CallCause result self.now.id (call.ExchangeDeclare exchange kind options arguments) session.old.base }
+        ensures cause { CallCause result self.now.id (call.ExchangeDeclare exchange kind options arguments) session.old.wire }
     {
         let call = Call::ExchangeDeclare {
             exchange,
@@ -64,7 +64,7 @@ impl Channel {
         ensures told { TicketTold result (told_by session.old (CallEvent self.now.id (call.ExchangeDelete exchange options))) }
         ensures ok { OnOk result (session.new ≡ next session.old (CallEvent self.now.id (call.ExchangeDelete exchange options))) }
         ensures err { OnErr result (session.new ≡ session.old) }
-        ensures cause { CallCause result self.now.id (call.ExchangeDelete exchange options) session.old.base }
+        ensures cause { CallCause result self.now.id (call.ExchangeDelete exchange options) session.old.wire }
     {
         let call = Call::ExchangeDelete { exchange, options };
         session.call(alloc, self.id, call)
@@ -89,7 +89,7 @@ impl Channel {
         ensures told { TicketTold result (told_by session.old (CallEvent self.now.id (call.ExchangeBind destination source routing_key options arguments))) }
         ensures ok { OnOk result (session.new ≡ next session.old (CallEvent self.now.id (call.ExchangeBind destination source routing_key options arguments))) }
         ensures err { OnErr result (session.new ≡ session.old) }
-        ensures cause { CallCause result self.now.id (call.ExchangeBind destination source routing_key options arguments) session.old.base }
+        ensures cause { CallCause result self.now.id (call.ExchangeBind destination source routing_key options arguments) session.old.wire }
     {
         let call = Call::ExchangeBind {
             destination,
@@ -120,7 +120,7 @@ impl Channel {
         ensures told { TicketTold result (told_by session.old (CallEvent self.now.id (call.ExchangeUnbind destination source routing_key options arguments))) }
         ensures ok { OnOk result (session.new ≡ next session.old (CallEvent self.now.id (call.ExchangeUnbind destination source routing_key options arguments))) }
         ensures err { OnErr result (session.new ≡ session.old) }
-        ensures cause { CallCause result self.now.id (call.ExchangeUnbind destination source routing_key options arguments) session.old.base }
+        ensures cause { CallCause result self.now.id (call.ExchangeUnbind destination source routing_key options arguments) session.old.wire }
     {
         let call = Call::ExchangeUnbind {
             destination,

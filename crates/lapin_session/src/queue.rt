@@ -37,7 +37,7 @@ impl Channel {
         ensures told { TicketTold result (told_by session.old (CallEvent self.now.id (call.QueueDeclare queue options arguments))) }
         ensures ok { OnOk result (session.new ≡ next session.old (CallEvent self.now.id (call.QueueDeclare queue options arguments))) }
         ensures err { OnErr result (session.new ≡ session.old) }
-        ensures cause { CallCause result self.now.id (call.QueueDeclare queue options arguments) session.old.base }
+        ensures cause { CallCause result self.now.id (call.QueueDeclare queue options arguments) session.old.wire }
     {
         let call = Call::QueueDeclare {
             queue,
@@ -66,7 +66,7 @@ impl Channel {
         ensures told { TicketTold result (told_by session.old (CallEvent self.now.id (call.QueueBind queue exchange routing_key options arguments))) }
         ensures ok { OnOk result (session.new ≡ next session.old (CallEvent self.now.id (call.QueueBind queue exchange routing_key options arguments))) }
         ensures err { OnErr result (session.new ≡ session.old) }
-        ensures cause { CallCause result self.now.id (call.QueueBind queue exchange routing_key options arguments) session.old.base }
+        ensures cause { CallCause result self.now.id (call.QueueBind queue exchange routing_key options arguments) session.old.wire }
     {
         let call = Call::QueueBind {
             queue,
@@ -94,7 +94,7 @@ impl Channel {
         ensures told { TicketTold result (told_by session.old (CallEvent self.now.id (call.QueuePurge queue options))) }
         ensures ok { OnOk result (session.new ≡ next session.old (CallEvent self.now.id (call.QueuePurge queue options))) }
         ensures err { OnErr result (session.new ≡ session.old) }
-        ensures cause { CallCause result self.now.id (call.QueuePurge queue options) session.old.base }
+        ensures cause { CallCause result self.now.id (call.QueuePurge queue options) session.old.wire }
     {
         let call = Call::QueuePurge { queue, options };
         session.call(alloc, self.id, call)
@@ -116,7 +116,7 @@ impl Channel {
         ensures told { TicketTold result (told_by session.old (CallEvent self.now.id (call.QueueDelete queue options))) }
         ensures ok { OnOk result (session.new ≡ next session.old (CallEvent self.now.id (call.QueueDelete queue options))) }
         ensures err { OnErr result (session.new ≡ session.old) }
-        ensures cause { CallCause result self.now.id (call.QueueDelete queue options) session.old.base }
+        ensures cause { CallCause result self.now.id (call.QueueDelete queue options) session.old.wire }
     {
         let call = Call::QueueDelete { queue, options };
         session.call(alloc, self.id, call)
@@ -140,7 +140,7 @@ impl Channel {
         ensures told { TicketTold result (told_by session.old (CallEvent self.now.id (call.QueueUnbind queue exchange routing_key arguments))) }
         ensures ok { OnOk result (session.new ≡ next session.old (CallEvent self.now.id (call.QueueUnbind queue exchange routing_key arguments))) }
         ensures err { OnErr result (session.new ≡ session.old) }
-        ensures cause { CallCause result self.now.id (call.QueueUnbind queue exchange routing_key arguments) session.old.base }
+        ensures cause { CallCause result self.now.id (call.QueueUnbind queue exchange routing_key arguments) session.old.wire }
     {
         let call = Call::QueueUnbind {
             queue,

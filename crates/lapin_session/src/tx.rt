@@ -26,7 +26,7 @@ impl Channel {
         ensures told { TicketTold result (told_by session.old (CallEvent self.now.id call.TxSelect)) }
         ensures ok { OnOk result (session.new ≡ next session.old (CallEvent self.now.id call.TxSelect)) }
         ensures err { OnErr result (session.new ≡ session.old) }
-        ensures cause { CallCause result self.now.id call.TxSelect session.old.base }
+        ensures cause { CallCause result self.now.id call.TxSelect session.old.wire }
     {
         let call = Call::TxSelect;
         session.call(alloc, self.id, call)
@@ -41,7 +41,7 @@ impl Channel {
         ensures told { TicketTold result (told_by session.old (CallEvent self.now.id call.TxCommit)) }
         ensures ok { OnOk result (session.new ≡ next session.old (CallEvent self.now.id call.TxCommit)) }
         ensures err { OnErr result (session.new ≡ session.old) }
-        ensures cause { CallCause result self.now.id call.TxCommit session.old.base }
+        ensures cause { CallCause result self.now.id call.TxCommit session.old.wire }
     {
         let call = Call::TxCommit;
         session.call(alloc, self.id, call)
@@ -56,7 +56,7 @@ impl Channel {
         ensures told { TicketTold result (told_by session.old (CallEvent self.now.id call.TxRollback)) }
         ensures ok { OnOk result (session.new ≡ next session.old (CallEvent self.now.id call.TxRollback)) }
         ensures err { OnErr result (session.new ≡ session.old) }
-        ensures cause { CallCause result self.now.id call.TxRollback session.old.base }
+        ensures cause { CallCause result self.now.id call.TxRollback session.old.wire }
     {
         let call = Call::TxRollback;
         session.call(alloc, self.id, call)

@@ -5,12 +5,12 @@ use Rattle.lapin_types.specs.declared.Error.{Error}
 use Rattle.lapin_types.specs.declared.answer.Answer.{Answer}
 use Rattle.lapin_tables.specs.Numbered.{under, with_under}
 use Rattle.lapin_tables.proofs.SlotLaws.{under-other}
-use Rattle.lapin_history.specs.TicketReadings.{TicketMark, given, channel_of, leaving_of, life, begins, answer_of, first_answer, is_publish, is_kept, is_awaited as is_unanswered}
+use Rattle.lapin_history.specs.TicketReadings.{TicketMark, given, channel_of, leaving_of, life, begins, answer_of, first_answer, is_publish, is_spared, is_awaited as is_unanswered}
 use Rattle.lapin_history.specs.TicketReadings as mark
 use Rattle.lapin_history.proofs.TicketLaws.{answer-push, nth-push, life-push}
 use Rattle.lapin_ticket.specs.declared.Slot.{Slot}
 use Rattle.lapin_ticket.specs.declared.Slot.TheVariants as slot
-use Rattle.lapin_ticket.specs.Desk.{answered_slot, failed_slot, closed_slot, failed, rejects, is_open_on, after_mark}
+use Rattle.lapin_ticket.specs.Slots.{answered_slot, failed_slot, closed_slot, failed, rejects, is_open_on, after_mark}
 use Rattle.lapin_ticket.specs.Follows.{WasGiven}
 
 -- a map of the slots, after one slot was answered as the map would
@@ -37,10 +37,10 @@ closed-same c e (Some (slot.Open d l b)) h = rw h refl
 closed-same c e None h = refl
 closed-same c e (Some (slot.Held a)) h = refl
 
-unkept : (k n : ℕ) → is_kept n (Some k) ≡ false → k ≢ n
+unkept : (k n : ℕ) → is_spared n (Some k) ≡ false → k ≢ n
 unkept k n h same = let yes : (k == n) ≡ true = eq-eqb k n same in cc
 
-pub end-next : (n c : ℕ) (kept : Option ℕ) (e : Error) (xs : List (Option Slot)) → is_open_on c (under n xs) ≡ true → is_kept n kept ≡ false → failed c kept e (after_mark xs (mark.Answered n (Err e))) ≡ failed c kept e xs
+pub end-next : (n c : ℕ) (spared : Option ℕ) (e : Error) (xs : List (Option Slot)) → is_open_on c (under n xs) ≡ true → is_spared n spared ≡ false → failed c spared e (after_mark xs (mark.Answered n (Err e))) ≡ failed c spared e xs
 end-next n c None e xs open_ other = map-answered (failed_slot c e) n (Err e) xs (failed-same c e (under n xs) open_)
 end-next n c (Some k) e xs open_ other =
     ap (λ ys. with_under k (under k (with_under n (answered_slot (Err e) (under n xs)) xs)) ys) (map-answered (failed_slot c e) n (Err e) xs (failed-same c e (under n xs) open_))
@@ -62,10 +62,10 @@ failed-still c e (Some (slot.Open d l b)) h = rw h refl
 failed-still c e None h = refl
 failed-still c e (Some (slot.Held a)) h = refl
 
-closed-on : (c n : ℕ) (kept : Option ℕ) (xs : List (Option Slot)) → ((n : ℕ) → is_open_on c (under n xs) ≡ true → is_kept n kept ≡ true) → is_kept n kept ≡ false → is_open_on c (under n xs) ≡ false
-closed-on c n kept xs none other =
+closed-on : (c n : ℕ) (spared : Option ℕ) (xs : List (Option Slot)) → ((n : ℕ) → is_open_on c (under n xs) ≡ true → is_spared n spared ≡ true) → is_spared n spared ≡ false → is_open_on c (under n xs) ≡ false
+closed-on c n spared xs none other =
     elim (is_open_on c (under n xs)) as (λ b. is_open_on c (under n xs) ≡ b → b ≡ false) [
-      | true ↦ λ h. let yes : is_kept n kept ≡ true = none n h in cc
+      | true ↦ λ h. let yes : is_spared n spared ≡ true = none n h in cc
       | false ↦ λ h. refl
     ] refl
 
@@ -79,7 +79,7 @@ put-back f (suc (suc k)) (o ∷ xs) h =
     let rest : with_under (suc k) (under (suc k) xs) (map f xs) ≡ xs = put-back f (suc k) xs (λ j apart. h (suc j) (λ e. apart (omega arith))) in
     ap (λ p. p ∷ with_under (suc k) (under (suc k) xs) (map f xs)) first ∙ ap (λ ys. o ∷ ys) rest
 
-pub end-done : (c : ℕ) (kept : Option ℕ) (e : Error) (xs : List (Option Slot)) → ((n : ℕ) → is_open_on c (under n xs) ≡ true → is_kept n kept ≡ true) → failed c kept e xs ≡ xs
+pub end-done : (c : ℕ) (spared : Option ℕ) (e : Error) (xs : List (Option Slot)) → ((n : ℕ) → is_open_on c (under n xs) ≡ true → is_spared n spared ≡ true) → failed c spared e xs ≡ xs
 end-done c None e xs none = map-stays (failed_slot c e) xs (λ k. failed-still c e (under (suc k) xs) (closed-on c (suc k) None xs none refl))
 end-done c (Some k) e xs none = put-back (failed_slot c e) k xs (λ j apart. failed-still c e (under (suc j) xs) (closed-on c (suc j) (Some k) xs none (ne_eqb k (suc j) apart)))
 
@@ -89,15 +89,15 @@ there_or : (o : Option (Result Answer Error)) (x : Result Answer Error) → is_u
 there_or None x = refl
 there_or (Some y) x = refl
 
-own-ended : (k : ℕ) (kept : Option ℕ) (e : Error) (ms : List TicketMark) → k < given ms → is_kept (suc k) kept ≡ false → is_unanswered (answer_of (suc k) (ms ++ mark.OpeningFailed (channel_of (suc k) ms) kept e ∷ [])) ≡ false
-own-ended k kept e ms known other =
-    let m : TicketMark = mark.OpeningFailed (channel_of (suc k) ms) kept e in
+own-ended : (k : ℕ) (spared : Option ℕ) (e : Error) (ms : List TicketMark) → k < given ms → is_spared (suc k) spared ≡ false → is_unanswered (answer_of (suc k) (ms ++ mark.OpeningFailed (channel_of (suc k) ms) spared e ∷ [])) ≡ false
+own-ended k spared e ms known other =
+    let m : TicketMark = mark.OpeningFailed (channel_of (suc k) ms) spared e in
     rw (nth-push k ms m known, life-push k ms m known, answer-push (suc k) (channel_of (suc k) ms) (leaving_of (suc k) ms) false (life (suc k) ms) m, eq-eqb (channel_of (suc k) ms) (channel_of (suc k) ms) refl, other)
     (there_or (first_answer (suc k) (channel_of (suc k) ms) (leaving_of (suc k) ms) false (life (suc k) ms)) (Err e))
 
-pub ended-answered : (n c : ℕ) (kept : Option ℕ) (e : Error) (ms : List TicketMark) → WasGiven n ms → channel_of n ms ≡ c → is_kept n kept ≡ false → is_unanswered (answer_of n (ms ++ mark.OpeningFailed c kept e ∷ [])) ≡ false
-ended-answered zero c kept e ms known own other = let none : 1 ≤ 0 = known.0 in absurd (omega arith)
-ended-answered (suc k) c kept e ms known own other =
-    let P : ℕ → Type 0 = λ d. is_unanswered (answer_of (suc k) (ms ++ mark.OpeningFailed d kept e ∷ [])) ≡ false in
+pub ended-answered : (n c : ℕ) (spared : Option ℕ) (e : Error) (ms : List TicketMark) → WasGiven n ms → channel_of n ms ≡ c → is_spared n spared ≡ false → is_unanswered (answer_of n (ms ++ mark.OpeningFailed c spared e ∷ [])) ≡ false
+ended-answered zero c spared e ms known own other = let none : 1 ≤ 0 = known.0 in absurd (omega arith)
+ended-answered (suc k) c spared e ms known own other =
+    let P : ℕ → Type 0 = λ d. is_unanswered (answer_of (suc k) (ms ++ mark.OpeningFailed d spared e ∷ [])) ≡ false in
     let last : suc k ≤ given ms = known.1 in
-    subst P own (own-ended k kept e ms (omega arith) other)
+    subst P own (own-ended k spared e ms (omega arith) other)

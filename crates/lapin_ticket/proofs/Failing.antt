@@ -8,7 +8,7 @@ use Rattle.lapin_tables.specs.Numbered.{under, with_under, first_kept}
 use Rattle.lapin_tables.proofs.SlotLaws.{first-there, under-other}
 use Rattle.lapin_ticket.specs.declared.Slot.{Slot}
 use Rattle.lapin_ticket.specs.declared.Slot.TheVariants as slot
-use Rattle.lapin_ticket.specs.Desk.{answered_slot, is_awaited}
+use Rattle.lapin_ticket.specs.Slots.{answered_slot, is_awaited}
 
 answered-twice : (a : Result Answer Error) (o : Option Slot) → answered_slot a (answered_slot a o) ≡ answered_slot a o
 answered-twice a None = refl

@@ -11,13 +11,13 @@ use Rattle.lapin_tables.specs.Numbered.{under, with_under}
 use Rattle.lapin_tables.proofs.Lists.{get-set_same, get-set_other}
 use Rattle.lapin_tables.proofs.SlotLaws.{length-with}
 use Rattle.lapin_history.specs.declared.marks.AtLeaving.{AtLeaving}
-use Rattle.lapin_history.specs.TicketReadings.{TicketMark, gives, given, channel_of, leaving_of, channel_in, leaving_in, life, begins, is_publish, is_kept, answer_at, answer_by, first_answer, closes}
+use Rattle.lapin_history.specs.TicketReadings.{TicketMark, gives, given, channel_of, leaving_of, channel_in, leaving_in, life, begins, is_publish, is_spared, answer_at, answer_by, first_answer, closes}
 use Rattle.lapin_history.specs.TicketReadings as mark
 use Rattle.lapin_history.proofs.ListLaws.{any-push}
 use Rattle.lapin_history.proofs.TicketLaws.{given-push, answer-push, nth-push, life-push, nth_new, life_new}
 use Rattle.lapin_ticket.specs.declared.Slot.{Slot}
 use Rattle.lapin_ticket.specs.declared.Slot.TheVariants as slot
-use Rattle.lapin_ticket.specs.Desk.{after_mark, answered_slot, begun_slot, left_slot, held_or, closed_slot, failed_slot, failed}
+use Rattle.lapin_ticket.specs.Slots.{after_mark, answered_slot, begun_slot, left_slot, held_or, closed_slot, failed_slot, failed}
 use Rattle.lapin_ticket.specs.Follows.{Follows, held, slot_in, slot_of}
 
 get-push_old : {X : Type 0} (xs : List X) (k : ℕ) (y : X) → k < length xs → slice_get (xs ++ y ∷ []) k ≡ slice_get xs k
@@ -42,7 +42,7 @@ slot_after n (mark.Begun j) o = cond (j == n) (begun_slot o) o
 slot_after n (mark.LastLeft j) o = cond (j == n) (left_slot o) o
 slot_after n (mark.Answered j a) o = cond (j == n) (answered_slot a o) o
 slot_after n (mark.ClosedHere c e) o = closed_slot c e o
-slot_after n (mark.OpeningFailed c kept e) o = cond (is_kept n kept) o (failed_slot c e o)
+slot_after n (mark.OpeningFailed c spared e) o = cond (is_spared n spared) o (failed_slot c e o)
 slot_after n (mark.AllFailed e) o = answered_slot (Err e) o
 slot_after n (mark.Collected j) o = cond (j == n) None o
 slot_after n (mark.SetAside j) o = cond (j == n) None o
@@ -59,7 +59,7 @@ gone_stays n (mark.Begun j) = same_or (j == n) None
 gone_stays n (mark.LastLeft j) = same_or (j == n) None
 gone_stays n (mark.Answered j a) = same_or (j == n) None
 gone_stays n (mark.ClosedHere c e) = refl
-gone_stays n (mark.OpeningFailed c kept e) = same_or (is_kept n kept) None
+gone_stays n (mark.OpeningFailed c spared e) = same_or (is_spared n spared) None
 gone_stays n (mark.AllFailed e) = refl
 gone_stays n (mark.Collected j) = same_or (j == n) None
 gone_stays n (mark.SetAside j) = same_or (j == n) None
@@ -71,7 +71,7 @@ held_stays n c l b x (mark.Begun j) = same_or (j == n) (Some (slot.Held x))
 held_stays n c l b x (mark.LastLeft j) = same_or (j == n) (Some (slot.Held x))
 held_stays n c l b x (mark.Answered j a) = same_or (j == n) (Some (slot.Held x))
 held_stays n c l b x (mark.ClosedHere d e) = refl
-held_stays n c l b x (mark.OpeningFailed d kept e) = same_or (is_kept n kept) (Some (slot.Held x))
+held_stays n c l b x (mark.OpeningFailed d spared e) = same_or (is_spared n spared) (Some (slot.Held x))
 held_stays n c l b x (mark.AllFailed e) = refl
 held_stays n c l b x (mark.Collected j) = refl
 held_stays n c l b x (mark.SetAside j) = refl
@@ -96,11 +96,11 @@ open_moves n c l true (mark.Answered j a) = elim (j == n) as (λ x. Some (held c
 open_moves n c l false (mark.Answered j a) = elim (j == n) as (λ x. Some (held c l false (cond x (Some a) None)) ≡ cond x (Some (slot.Held a)) (Some (slot.Open c l false))) [ true ↦ refl | false ↦ refl ]
 open_moves n c l true (mark.ClosedHere d e) = elim (d == c && (is_publish l && false)) as (λ x. Some (held c l true (cond x (Some (Err e)) None)) ≡ cond x (Some (slot.Held (Err e))) (Some (slot.Open c l true))) [ true ↦ refl | false ↦ refl ]
 open_moves n c l false (mark.ClosedHere d e) = elim (d == c && (is_publish l && true)) as (λ x. Some (held c l false (cond x (Some (Err e)) None)) ≡ cond x (Some (slot.Held (Err e))) (Some (slot.Open c l false))) [ true ↦ refl | false ↦ refl ]
-open_moves n c l true (mark.OpeningFailed d kept e) = elim (is_kept n kept) as (λ k. Some (held c l true (cond (d == c && not k) (Some (Err e)) None)) ≡ cond k (Some (slot.Open c l true)) (cond (d == c) (Some (slot.Held (Err e))) (Some (slot.Open c l true)))) [
+open_moves n c l true (mark.OpeningFailed d spared e) = elim (is_spared n spared) as (λ k. Some (held c l true (cond (d == c && not k) (Some (Err e)) None)) ≡ cond k (Some (slot.Open c l true)) (cond (d == c) (Some (slot.Held (Err e))) (Some (slot.Open c l true)))) [
   | true ↦ elim (d == c) as (λ x. Some (held c l true (cond (x && false) (Some (Err e)) None)) ≡ Some (slot.Open c l true)) [ true ↦ refl | false ↦ refl ]
   | false ↦ elim (d == c) as (λ x. Some (held c l true (cond (x && true) (Some (Err e)) None)) ≡ cond x (Some (slot.Held (Err e))) (Some (slot.Open c l true))) [ true ↦ refl | false ↦ refl ]
 ]
-open_moves n c l false (mark.OpeningFailed d kept e) = elim (is_kept n kept) as (λ k. Some (held c l false (cond (d == c && not k) (Some (Err e)) None)) ≡ cond k (Some (slot.Open c l false)) (cond (d == c) (Some (slot.Held (Err e))) (Some (slot.Open c l false)))) [
+open_moves n c l false (mark.OpeningFailed d spared e) = elim (is_spared n spared) as (λ k. Some (held c l false (cond (d == c && not k) (Some (Err e)) None)) ≡ cond k (Some (slot.Open c l false)) (cond (d == c) (Some (slot.Held (Err e))) (Some (slot.Open c l false)))) [
   | true ↦ elim (d == c) as (λ x. Some (held c l false (cond (x && false) (Some (Err e)) None)) ≡ Some (slot.Open c l false)) [ true ↦ refl | false ↦ refl ]
   | false ↦ elim (d == c) as (λ x. Some (held c l false (cond (x && true) (Some (Err e)) None)) ≡ cond x (Some (slot.Held (Err e))) (Some (slot.Open c l false))) [ true ↦ refl | false ↦ refl ]
 ]
@@ -160,7 +160,7 @@ put_back (suc j) k xs ys o p lt is then =
           get-set_other ys j k (under (suc j) xs) other.1 ∙ then ∙ rw away refl
     ]
 
-failed_get : (k d : ℕ) (kept : Option ℕ) (e : Error) (xs : List (Option Slot)) (o : Option Slot) → k < length xs → slice_get xs k ≡ Some o → slice_get (failed d kept e xs) k ≡ Some (cond (is_kept (suc k) kept) o (failed_slot d e o))
+failed_get : (k d : ℕ) (spared : Option ℕ) (e : Error) (xs : List (Option Slot)) (o : Option Slot) → k < length xs → slice_get xs k ≡ Some o → slice_get (failed d spared e xs) k ≡ Some (cond (is_spared (suc k) spared) o (failed_slot d e o))
 failed_get k d None e xs o lt is = get-map (failed_slot d e) xs k o is
 failed_get k d (Some j) e xs o lt is = let long : length (map (failed_slot d e) xs) ≡ length xs = length-map xs (failed_slot d e) in put_back j k xs (map (failed_slot d e) xs) o (failed_slot d e o) (omega arith) is (get-map (failed_slot d e) xs k o is)
 
@@ -171,7 +171,7 @@ moved-slot ms xs (mark.Begun j) f none k old = let count : length xs ≡ given m
 moved-slot ms xs (mark.LastLeft j) f none k old = let count : length xs ≡ given ms = f.count in under_write j k left_slot xs (slot_of (suc k) ms) (omega arith) (f.slot k old)
 moved-slot ms xs (mark.Answered j a) f none k old = let count : length xs ≡ given ms = f.count in under_write j k (answered_slot a) xs (slot_of (suc k) ms) (omega arith) (f.slot k old)
 moved-slot ms xs (mark.ClosedHere c e) f none k old = get-map (closed_slot c e) xs k (slot_of (suc k) ms) (f.slot k old)
-moved-slot ms xs (mark.OpeningFailed c kept e) f none k old = let count : length xs ≡ given ms = f.count in failed_get k c kept e xs (slot_of (suc k) ms) (omega arith) (f.slot k old)
+moved-slot ms xs (mark.OpeningFailed c spared e) f none k old = let count : length xs ≡ given ms = f.count in failed_get k c spared e xs (slot_of (suc k) ms) (omega arith) (f.slot k old)
 moved-slot ms xs (mark.AllFailed e) f none k old = get-map (answered_slot (Err e)) xs k (slot_of (suc k) ms) (f.slot k old)
 moved-slot ms xs (mark.Collected j) f none k old = let count : length xs ≡ given ms = f.count in under_write j k (λ _. None) xs (slot_of (suc k) ms) (omega arith) (f.slot k old)
 moved-slot ms xs (mark.SetAside j) f none k old = let count : length xs ≡ given ms = f.count in under_write j k (λ _. None) xs (slot_of (suc k) ms) (omega arith) (f.slot k old)
@@ -195,12 +195,12 @@ slots-follow ms xs (mark.Begun j) f k lt = quiet-slot ms xs (mark.Begun j) f ref
 slots-follow ms xs (mark.LastLeft j) f k lt = quiet-slot ms xs (mark.LastLeft j) f refl k lt
 slots-follow ms xs (mark.Answered j a) f k lt = quiet-slot ms xs (mark.Answered j a) f refl k lt
 slots-follow ms xs (mark.ClosedHere c e) f k lt = quiet-slot ms xs (mark.ClosedHere c e) f refl k lt
-slots-follow ms xs (mark.OpeningFailed c kept e) f k lt = quiet-slot ms xs (mark.OpeningFailed c kept e) f refl k lt
+slots-follow ms xs (mark.OpeningFailed c spared e) f k lt = quiet-slot ms xs (mark.OpeningFailed c spared e) f refl k lt
 slots-follow ms xs (mark.AllFailed e) f k lt = quiet-slot ms xs (mark.AllFailed e) f refl k lt
 slots-follow ms xs (mark.Collected j) f k lt = quiet-slot ms xs (mark.Collected j) f refl k lt
 slots-follow ms xs (mark.SetAside j) f k lt = quiet-slot ms xs (mark.SetAside j) f refl k lt
 
-length-failed : (c : ℕ) (kept : Option ℕ) (e : Error) (xs : List (Option Slot)) → length (failed c kept e xs) ≡ length xs
+length-failed : (c : ℕ) (spared : Option ℕ) (e : Error) (xs : List (Option Slot)) → length (failed c spared e xs) ≡ length xs
 length-failed c None e xs = length-map xs (failed_slot c e)
 length-failed c (Some j) e xs = length-with j (under j xs) (map (failed_slot c e) xs) ∙ length-map xs (failed_slot c e)
 
@@ -210,7 +210,7 @@ count-follows ms xs (mark.Begun j) e = length-with j _ xs ∙ e ∙ sym (given-p
 count-follows ms xs (mark.LastLeft j) e = length-with j _ xs ∙ e ∙ sym (given-push ms (mark.LastLeft j))
 count-follows ms xs (mark.Answered j a) e = length-with j _ xs ∙ e ∙ sym (given-push ms (mark.Answered j a))
 count-follows ms xs (mark.ClosedHere c x) e = length-map xs (closed_slot c x) ∙ e ∙ sym (given-push ms (mark.ClosedHere c x))
-count-follows ms xs (mark.OpeningFailed c kept x) e = length-failed c kept x xs ∙ e ∙ sym (given-push ms (mark.OpeningFailed c kept x))
+count-follows ms xs (mark.OpeningFailed c spared x) e = length-failed c spared x xs ∙ e ∙ sym (given-push ms (mark.OpeningFailed c spared x))
 count-follows ms xs (mark.AllFailed x) e = length-map xs (answered_slot (Err x)) ∙ e ∙ sym (given-push ms (mark.AllFailed x))
 count-follows ms xs (mark.Collected j) e = length-with j None xs ∙ e ∙ sym (given-push ms (mark.Collected j))
 count-follows ms xs (mark.SetAside j) e = length-with j None xs ∙ e ∙ sym (given-push ms (mark.SetAside j))

@@ -12,7 +12,7 @@ use Rattle.lapin_history.specs.TicketReadings.{is_publish, answer_at}
 use Rattle.lapin_history.proofs.ChannelLaws.{at-on}
 use Rattle.lapin_ticket.specs.declared.Slot.{Slot}
 use Rattle.lapin_ticket.specs.declared.Slot.TheVariants as slot
-use Rattle.lapin_ticket.specs.Desk.{begun_slot, left_slot, held_or, rejects, is_open_on, failed_slot, failed}
+use Rattle.lapin_ticket.specs.Slots.{begun_slot, left_slot, held_or, rejects, is_open_on, failed_slot, failed}
 use Rattle.lapin_ticket.specs.Given.{GivenOnChannel, numbers_in, numbers_on, HasRoomIn, IsReady, Stands, AreListed, starts_closed}
 
 -- ---- a write of one channel's numbers
@@ -35,8 +35,8 @@ module _ (c d : ℕ) (q : GivenOnChannel) (es : List (ℕ × GivenOnChannel)) wh
   ]
 
 -- a channel whose numbers stay
-pub numbers-kept : (c d : ℕ) (q old : GivenOnChannel) (es : List (ℕ × GivenOnChannel)) → at_channel c es ≡ Some old → q.numbers ≡ old.numbers → numbers_on d (on_channel c (λ _. q) es) ≡ numbers_on d es
-numbers-kept c d q old es at same =
+pub numbers-spared : (c d : ℕ) (q old : GivenOnChannel) (es : List (ℕ × GivenOnChannel)) → at_channel c es ≡ Some old → q.numbers ≡ old.numbers → numbers_on d (on_channel c (λ _. q) es) ≡ numbers_on d es
+numbers-spared c d q old es at same =
     numbers-written c d q es old at
     ∙ elim (eqb_tells c d) [
       | inl here ↦ let P : ℕ → Type 0 = λ k. at_channel k es ≡ Some old in let there : at_channel d es ≡ Some old = subst P here.1 at in rw (here.0, there) same
@@ -77,9 +77,9 @@ pub room-added : (c : ℕ) (q : GivenOnChannel) (es : List (ℕ × GivenOnChanne
 room-added c q es at room = let same : (c == c) ≡ true = eq-eqb c c refl in rw (at-push c c q es, same, at) room
 
 -- room stays where a channel has no less than before
-pub room-kept : (ready : Option ℕ) (c : ℕ) (q old : GivenOnChannel) (es : List (ℕ × GivenOnChannel)) → at_channel c es ≡ Some old → old.spare ≤ q.spare → IsReady ready es → IsReady ready (on_channel c (λ _. q) es)
-room-kept None c q old es at more ready = tt
-room-kept (Some d) c q old es at more ready = elim (eqb_tells c d) [
+pub room-spared : (ready : Option ℕ) (c : ℕ) (q old : GivenOnChannel) (es : List (ℕ × GivenOnChannel)) → at_channel c es ≡ Some old → old.spare ≤ q.spare → IsReady ready es → IsReady ready (on_channel c (λ _. q) es)
+room-spared None c q old es at more ready = tt
+room-spared (Some d) c q old es at more ready = elim (eqb_tells c d) [
   | inl same ↦
       let P : ℕ → Type 0 = λ k. HasRoomIn (at_channel k es) in
       let here : HasRoomIn (at_channel c es) = subst P (sym same.1) ready in
@@ -102,12 +102,12 @@ get-within (m ∷ ns) zero n h = omega arith
 get-within (m ∷ ns) (suc k) n h = let rest : k < length ns = get-within ns k n h in omega arith
 
 pub stands-push : (n m : ℕ) (ns : List ℕ) → Stands n ns → Stands n (ns ++ m ∷ [])
-stands-push n m ns s = (s.0, kept ns s.0 s.1)
+stands-push n m ns s = (s.0, spared ns s.0 s.1)
   where
-    kept : (ns : List ℕ) (k : ℕ) → slice_get ns k ≡ Some n → slice_get (ns ++ m ∷ []) k ≡ Some n
-    kept [] k h = cc
-    kept (x ∷ ns) zero h = h
-    kept (x ∷ ns) (suc k) h = kept ns k h
+    spared : (ns : List ℕ) (k : ℕ) → slice_get ns k ≡ Some n → slice_get (ns ++ m ∷ []) k ≡ Some n
+    spared [] k h = cc
+    spared (x ∷ ns) zero h = h
+    spared (x ∷ ns) (suc k) h = spared ns k h
 
 pub stands-last : (n : ℕ) (ns : List ℕ) → Stands n (ns ++ n ∷ [])
 stands-last n [] = (0, refl)
@@ -177,17 +177,17 @@ listed-drop c slots old new closed is listed = λ d n h.
 
 -- ---- marks of one ticket
 
-kept-open : (c : ℕ) (f : Option Slot → Option Slot) → ((o : Option Slot) → is_open_on c (f o) ≡ true → is_open_on c o ≡ true) → (j n : ℕ) (xs : List (Option Slot)) → is_open_on c (under n (with_under j (f (under j xs)) xs)) ≡ true → is_open_on c (under n xs) ≡ true
-kept-open c f back zero n xs h = h
-kept-open c f back (suc k) zero xs h = h
-kept-open c f back (suc k) (suc n) [] h = h
-kept-open c f back (suc zero) (suc zero) (o ∷ xs) h = back o h
-kept-open c f back (suc zero) (suc (suc n)) (o ∷ xs) h = h
-kept-open c f back (suc (suc k)) (suc zero) (o ∷ xs) h = h
-kept-open c f back (suc (suc k)) (suc (suc n)) (o ∷ xs) h = kept-open c f back (suc k) (suc n) xs h
+spared-open : (c : ℕ) (f : Option Slot → Option Slot) → ((o : Option Slot) → is_open_on c (f o) ≡ true → is_open_on c o ≡ true) → (j n : ℕ) (xs : List (Option Slot)) → is_open_on c (under n (with_under j (f (under j xs)) xs)) ≡ true → is_open_on c (under n xs) ≡ true
+spared-open c f back zero n xs h = h
+spared-open c f back (suc k) zero xs h = h
+spared-open c f back (suc k) (suc n) [] h = h
+spared-open c f back (suc zero) (suc zero) (o ∷ xs) h = back o h
+spared-open c f back (suc zero) (suc (suc n)) (o ∷ xs) h = h
+spared-open c f back (suc (suc k)) (suc zero) (o ∷ xs) h = h
+spared-open c f back (suc (suc k)) (suc (suc n)) (o ∷ xs) h = spared-open c f back (suc k) (suc n) xs h
 
 pub open-begun : (c j n : ℕ) (xs : List (Option Slot)) → is_open_on c (under n (with_under j (begun_slot (under j xs)) xs)) ≡ true → is_open_on c (under n xs) ≡ true
-open-begun c j n xs h = kept-open c begun_slot back j n xs h
+open-begun c j n xs h = spared-open c begun_slot back j n xs h
   where
     back : (o : Option Slot) → is_open_on c (begun_slot o) ≡ true → is_open_on c o ≡ true
     back None h = h
@@ -195,7 +195,7 @@ open-begun c j n xs h = kept-open c begun_slot back j n xs h
     back (Some (slot.Held a)) h = h
 
 pub open-left : (c j n : ℕ) (xs : List (Option Slot)) → is_open_on c (under n (with_under j (left_slot (under j xs)) xs)) ≡ true → is_open_on c (under n xs) ≡ true
-open-left c j n xs h = kept-open c left_slot back j n xs h
+open-left c j n xs h = spared-open c left_slot back j n xs h
   where
     back : (o : Option Slot) → is_open_on c (left_slot o) ≡ true → is_open_on c o ≡ true
     back None h = h
@@ -225,8 +225,8 @@ module _ (d : ℕ) (f : Option Slot → Option Slot) (back : (o : Option Slot) �
   open-but (suc (suc k)) (suc zero) (o ∷ xs) h = back o h
   open-but (suc (suc k)) (suc (suc n)) (o ∷ xs) h = open-but (suc k) (suc n) xs h
 
-pub open-failed : (d c n : ℕ) (kept : Option ℕ) (e : Error) (xs : List (Option Slot)) → is_open_on d (under n (failed c kept e xs)) ≡ true → is_open_on d (under n xs) ≡ true
-open-failed d c n kept e xs h = at kept h
+pub open-failed : (d c n : ℕ) (spared : Option ℕ) (e : Error) (xs : List (Option Slot)) → is_open_on d (under n (failed c spared e xs)) ≡ true → is_open_on d (under n xs) ≡ true
+open-failed d c n spared e xs h = at spared h
   where
     back : (o : Option Slot) → is_open_on d (failed_slot c e o) ≡ true → is_open_on d o ≡ true
     back None h = h

@@ -7,7 +7,7 @@ use Rattle.lapin_tables.specs.Numbered.{under, with_under}
 use Rattle.lapin_tables.proofs.SlotLaws.{under-other}
 use Rattle.lapin_ticket.specs.declared.Slot.{Slot}
 use Rattle.lapin_ticket.specs.declared.Slot.TheVariants as slot
-use Rattle.lapin_ticket.specs.Desk.{answered_slot, rejects, is_open_on}
+use Rattle.lapin_ticket.specs.Slots.{answered_slot, rejects, is_open_on}
 
 pub rejected_some : (c : ℕ) (o : Option Slot) → rejects c o ≡ true → (s : Slot) × (o ≡ Some s)
 rejected_some c None h = cc

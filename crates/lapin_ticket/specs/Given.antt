@@ -4,7 +4,7 @@ use Rattle.std.specs.Coded.{Coded, code_by, coded×, coded_ℕ, coded_list, code
 use Rattle.lapin_tables.specs.ByChannel.{at_channel}
 use Rattle.lapin_tables.specs.Numbered.{under}
 use Rattle.lapin_ticket.specs.declared.Slot.{Slot}
-use Rattle.lapin_ticket.specs.Desk.{is_open_on}
+use Rattle.lapin_ticket.specs.Slots.{is_open_on}
 
 -- the numbers of one channel, the oldest first, and for how many more there is room
 pub record GivenOnChannel : Type 0 where

@@ -1,4 +1,4 @@
-pub mod Desk
+pub mod Slots
 pub mod Follows
 pub mod Given
 pub mod Room

@@ -5,9 +5,9 @@
 
 ghost use Rattle.std.specs.Prelude.{◌≡◌, ◌≢◌, ℕ, true, false, map, slice_get, Some};
 ghost use Rattle.lapin_tables.specs.Numbered.{under};
-ghost use Rattle.lapin_history.specs.TicketReadings.{is_publish as is_publish_lem, is_kept as is_kept_lem};
+ghost use Rattle.lapin_history.specs.TicketReadings.{is_publish as is_publish_lem, is_spared as is_spared_lem};
 ghost use Rattle.lapin_history.specs.TicketReadings as mark;
-ghost use Rattle.lapin_ticket.specs.Desk.{after_mark, rejects, is_open_on as is_open_on_lem, closed_slot, failed};
+ghost use Rattle.lapin_ticket.specs.Slots.{after_mark, rejects, is_open_on as is_open_on_lem, closed_slot, failed};
 ghost use Rattle.lapin_ticket.specs.Given.{AreListed, numbers_on, starts_closed as starts_closed_lem};
 
 use crate::given::Given;
@@ -26,11 +26,11 @@ impl Tickets {
     }
 
     /// The opening of a channel ends: each open ticket that was given there fails with the error, but for the one that is kept.
-    pub fn end(&mut self, channel: u16, kept: Option<u64>, error: Error)
-        ensures slots { self.new.slots ≡ after_mark self.old.slots (mark.OpeningFailed channel kept error) }
+    pub fn end(&mut self, channel: u16, spared: Option<u64>, error: Error)
+        ensures slots { self.new.slots ≡ after_mark self.old.slots (mark.OpeningFailed channel spared error) }
         ensures room { self.new.ready ≡ self.old.ready }
     {
-        end(&mut self.slots, &self.given, channel, kept, error);
+        end(&mut self.slots, &self.given, channel, spared, error);
         let_go(&self.slots, &mut self.given, channel);
     }
 
@@ -71,15 +71,15 @@ fn close(slots: &mut Numbered<Slot>, given: &Given, channel: u16, error: Error)
     }
 }
 
-fn end(slots: &mut Numbered<Slot>, given: &Given, channel: u16, kept: Option<u64>, error: Error)
+fn end(slots: &mut Numbered<Slot>, given: &Given, channel: u16, spared: Option<u64>, error: Error)
     requires { AreListed slots.old.slots given.now.channels }
-    ensures slots { slots.new.slots ≡ after_mark slots.old.slots (mark.OpeningFailed channel kept error) }
+    ensures slots { slots.new.slots ≡ after_mark slots.old.slots (mark.OpeningFailed channel spared error) }
     ensures room { slots.new.spare ≡ slots.old.spare }
 {
     let count = given.count(channel);
     let mut place = 0;
     while place < count {
-        fail_at(slots, given, place, channel, kept, error);
+        fail_at(slots, given, place, channel, spared, error);
         place += 1;
     }
 }
@@ -122,15 +122,15 @@ fn fail_at(
     given: &Given,
     place: usize,
     channel: u16,
-    kept: Option<u64>,
+    spared: Option<u64>,
     error: Error,
 )
-    ensures same { failed channel kept error slots.new.slots ≡ failed channel kept error slots.old.slots }
-    ensures left { (n : ℕ) → is_open_on_lem channel (under n slots.new.slots) ≡ true → is_kept_lem n kept ≡ false → (slice_get (numbers_on channel given.now.channels) place ≢ Some n) × (is_open_on_lem channel (under n slots.old.slots) ≡ true) }
+    ensures same { failed channel spared error slots.new.slots ≡ failed channel spared error slots.old.slots }
+    ensures left { (n : ℕ) → is_open_on_lem channel (under n slots.new.slots) ≡ true → is_spared_lem n spared ≡ false → (slice_get (numbers_on channel given.now.channels) place ≢ Some n) × (is_open_on_lem channel (under n slots.old.slots) ≡ true) }
     ensures room { slots.new.spare ≡ slots.old.spare }
 {
     if let Some(number) = given.at(channel, place) {
-        fail(slots, number, channel, kept, error);
+        fail(slots, number, channel, spared, error);
     }
 }
 
@@ -146,12 +146,12 @@ fn reject(slots: &mut Numbered<Slot>, number: u64, channel: u16, error: Error)
 }
 
 // A ticket fails, where it is open, of the channel and not the one that is kept.
-fn fail(slots: &mut Numbered<Slot>, number: u64, channel: u16, kept: Option<u64>, error: Error)
-    ensures same { failed channel kept error slots.new.slots ≡ failed channel kept error slots.old.slots }
-    ensures left { (n : ℕ) → is_open_on_lem channel (under n slots.new.slots) ≡ true → is_kept_lem n kept ≡ false → (n ≢ number) × (is_open_on_lem channel (under n slots.old.slots) ≡ true) }
+fn fail(slots: &mut Numbered<Slot>, number: u64, channel: u16, spared: Option<u64>, error: Error)
+    ensures same { failed channel spared error slots.new.slots ≡ failed channel spared error slots.old.slots }
+    ensures left { (n : ℕ) → is_open_on_lem channel (under n slots.new.slots) ≡ true → is_spared_lem n spared ≡ false → (n ≢ number) × (is_open_on_lem channel (under n slots.old.slots) ≡ true) }
     ensures room { slots.new.spare ≡ slots.old.spare }
 {
-    if is_open_on(slots, number, channel) && !is_kept(number, kept) {
+    if is_open_on(slots, number, channel) && !is_spared(number, spared) {
         slots::answer(slots, number, Err(error));
     }
 }
@@ -185,11 +185,11 @@ fn is_publish(at_leaving: AtLeaving) -> bool
     matches!(at_leaving, AtLeaving::Confirm(_))
 }
 
-fn is_kept(number: u64, kept: Option<u64>) -> bool
-    ensures { result ≡ is_kept_lem number kept }
+fn is_spared(number: u64, spared: Option<u64>) -> bool
+    ensures { result ≡ is_spared_lem number spared }
 {
-    match kept {
-        Some(kept) => kept == number,
+    match spared {
+        Some(spared) => spared == number,
         None => false,
     }
 }

@@ -43,7 +43,7 @@ impl Numbers {
     fn reserve(&mut self) -> Result<(), NoMemory>
         ensures room { OnOk result (0 < self.new.spare) }
         ensures same { self.new.numbers ≡ self.old.numbers }
-        ensures kept { self.old.spare ≤ self.new.spare }
+        ensures spared { self.old.spare ≤ self.new.spare }
     {
         self.queue.reserve(1)?;
         Ok(())
@@ -58,7 +58,7 @@ impl Numbers {
 
     fn drop_first(&mut self)
         ensures numbers { self.new.numbers ≡ drop 1 self.old.numbers }
-        ensures kept { self.old.spare ≤ self.new.spare }
+        ensures spared { self.old.spare ≤ self.new.spare }
     {
         let _ = self.queue.pop_front();
     }

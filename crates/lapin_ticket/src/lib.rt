@@ -10,12 +10,12 @@ mod slots;
 
 ghost use Rattle.std.specs.Prelude.{◌≡◌, ℕ, ◌+◌, ◌^◌, ◌<◌, ◌++◌, ◌∷◌, true, false, List, [], length, map, not, is_ok, OnOk, MatchOption, Option, Some, None, Err, if◌then◌else◌};
 ghost use Rattle.lapin_tables.specs.Numbered.{under};
-ghost use Rattle.lapin_history.specs.TicketReadings.{TicketMark, answer_at, channel_of, answer_of, is_kept, is_awaited as is_unanswered};
+ghost use Rattle.lapin_history.specs.TicketReadings.{TicketMark, answer_at, channel_of, answer_of, is_spared, is_awaited as is_unanswered};
 ghost use Rattle.lapin_history.specs.TicketReadings as mark;
 ghost use Rattle.lapin_types.specs.declared.Error.{Error as AnError};
 ghost use Rattle.lapin_ticket.specs.declared.Slot.{Slot as ASlot};
 ghost use Rattle.lapin_ticket.specs.declared.Slot.TheVariants as slot;
-ghost use Rattle.lapin_ticket.specs.Desk.{after_mark, polled, polled_slot, after_poll, laid, laid_slot, rejects, held_or, is_awaited, is_open_on, failed, failed_slot, closed_slot};
+ghost use Rattle.lapin_ticket.specs.Slots.{after_mark, polled, polled_slot, after_poll, laid, laid_slot, rejects, held_or, is_awaited, is_open_on, failed, failed_slot, closed_slot};
 ghost use Rattle.lapin_ticket.specs.Follows.{Follows, WasGiven};
 
 use crate::ends::let_go;
@@ -194,14 +194,14 @@ pub fn follows_history()
 /// No ticket of an ended opening is open: the end of a channel's opening answers every ticket that was given there, but for the
 /// one that it keeps.
 pub fn an_end_leaves_no_ticket_open()
-    ensures { (n c : ℕ) (kept : Option ℕ) (e : AnError) (ms : List TicketMark) → WasGiven n ms → channel_of n ms ≡ c → is_kept n kept ≡ false → is_unanswered (answer_of n (ms ++ mark.OpeningFailed c kept e ∷ [])) ≡ false }
+    ensures { (n c : ℕ) (spared : Option ℕ) (e : AnError) (ms : List TicketMark) → WasGiven n ms → channel_of n ms ≡ c → is_spared n spared ≡ false → is_unanswered (answer_of n (ms ++ mark.OpeningFailed c spared e ∷ [])) ≡ false }
 {}
 
 /// An end of an opening is its open tickets, failed one after another, in any order: a failure leaves what the end then comes
 /// to, and where no open ticket of the channel is left but the one that is kept, the end is done. So is a close of this side.
 pub fn an_end_one_by_one()
-    ensures next { (n c : ℕ) (kept : Option ℕ) (e : AnError) (slots : List (Option ASlot)) → is_open_on c (under n slots) ≡ true → is_kept n kept ≡ false → failed c kept e (after_mark slots (mark.Answered n (Err e))) ≡ failed c kept e slots }
-    ensures done { (c : ℕ) (kept : Option ℕ) (e : AnError) (slots : List (Option ASlot)) → ((n : ℕ) → is_open_on c (under n slots) ≡ true → is_kept n kept ≡ true) → failed c kept e slots ≡ slots }
+    ensures next { (n c : ℕ) (spared : Option ℕ) (e : AnError) (slots : List (Option ASlot)) → is_open_on c (under n slots) ≡ true → is_spared n spared ≡ false → failed c spared e (after_mark slots (mark.Answered n (Err e))) ≡ failed c spared e slots }
+    ensures done { (c : ℕ) (spared : Option ℕ) (e : AnError) (slots : List (Option ASlot)) → ((n : ℕ) → is_open_on c (under n slots) ≡ true → is_spared n spared ≡ true) → failed c spared e slots ≡ slots }
     ensures closing { (n c : ℕ) (e : AnError) (slots : List (Option ASlot)) → rejects c (under n slots) ≡ true → map (closed_slot c e) (after_mark slots (mark.Answered n (Err e))) ≡ map (closed_slot c e) slots }
     ensures closed { (c : ℕ) (e : AnError) (slots : List (Option ASlot)) → ((n : ℕ) → rejects c (under n slots) ≡ false) → map (closed_slot c e) slots ≡ slots }
 {}

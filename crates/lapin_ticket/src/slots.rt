@@ -6,7 +6,7 @@ ghost use Rattle.std.specs.Prelude.{◌≡◌};
 ghost use Rattle.lapin_history.specs.TicketReadings.{answer_at};
 ghost use Rattle.lapin_history.specs.TicketReadings as mark;
 ghost use Rattle.lapin_ticket.specs.declared.Slot.TheVariants as slot;
-ghost use Rattle.lapin_ticket.specs.Desk.{after_mark, held_or};
+ghost use Rattle.lapin_ticket.specs.Slots.{after_mark, held_or};
 
 use crate::Slot;
 use lapin_history::AtLeaving;

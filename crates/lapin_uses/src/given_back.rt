@@ -10,7 +10,7 @@ use lapin_types::{ConnectionState, Left};
 /// Gives the frame back that was handed out last, and says whether it did: not where the connection is lost, nor where a frame
 /// was given back that is not handed out again yet. The frame is gone then.
 pub fn give_back(session: &mut Session, left: Left) -> bool
-    ensures told { result ≡ not (is_lost_lem session.old.base.link || is_retried session.old.returned) }
+    ensures told { result ≡ not (is_lost_lem session.old.wire.link || is_retried session.old.returned) }
     ensures session { session.new ≡ (if result then with_returned (Some left) session.old else session.old) }
 {
     if is_lost(session) || session.retrying() {
@@ -22,7 +22,7 @@ pub fn give_back(session: &mut Session, left: Left) -> bool
 }
 
 fn is_lost(session: &Session) -> bool
-    ensures { result ≡ is_lost_lem session.now.base.link }
+    ensures { result ≡ is_lost_lem session.now.wire.link }
 {
     matches!(session.connection_state(), ConnectionState::Lost)
 }

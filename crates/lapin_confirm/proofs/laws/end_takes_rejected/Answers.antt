@@ -1,4 +1,4 @@
-use Rattle.lapin_confirm.proofs.Lines.{same-book}
+use Rattle.lapin_confirm.proofs.Ledgers.{same-book}
 use Rattle.lapin_confirm.proofs.Ended.{ended-rejected}
 use Rattle.std.proofs.Common.{refl}
 use Rattle.lapin_confirm.proofs.laws.end_takes_rejected.Goals as goal

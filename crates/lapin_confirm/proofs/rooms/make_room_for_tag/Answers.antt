@@ -1,10 +1,10 @@
 use Rattle.std.proofs.Common.{sym, refl, arith}
-use Rattle.lapin_confirm.proofs.Lines.{lines-same, same-line}
+use Rattle.lapin_confirm.proofs.Ledgers.{ledgers-same, same-ledger}
 use Rattle.lapin_confirm.proofs.Roomy.{grown-tied, grown-tags, tag-there}
 use Rattle.lapin_confirm.proofs.rooms.make_room_for_tag.Goals as goal
 
-pub returns-in_err-reserve_beside-clause-lines : goal.returns-in_err-reserve_beside-clause-lines
-returns-in_err-reserve_beside-clause-lines c = lines-same c.args.channel c.in-Some.ledger.now (record c.in-Some.ledger.now { tags = c.reserve_beside.new.self }) c.args.ledgers.now.entries (sym c.in-Some.ensures.value) (same-line c.in-Some.ledger.now (record c.in-Some.ledger.now { tags = c.reserve_beside.new.self }) refl c.in_err-reserve_beside.ensures.same)
+pub returns-in_err-reserve_beside-clause-ledgers : goal.returns-in_err-reserve_beside-clause-ledgers
+returns-in_err-reserve_beside-clause-ledgers c = ledgers-same c.args.channel c.in-Some.ledger.now (record c.in-Some.ledger.now { tags = c.reserve_beside.new.self }) c.args.ledgers.now.entries (sym c.in-Some.ensures.value) (same-ledger c.in-Some.ledger.now (record c.in-Some.ledger.now { tags = c.reserve_beside.new.self }) refl c.in_err-reserve_beside.ensures.same)
 
 pub returns-in_err-reserve_beside-clause-tied : goal.returns-in_err-reserve_beside-clause-tied
 returns-in_err-reserve_beside-clause-tied c = λ cells all. grown-tied c.args.channel c.in-Some.ledger.now _ c.args.ledgers.now.entries cells (sym c.in-Some.ensures.value) refl c.in_err-reserve_beside.ensures.same c.in_err-reserve_beside.ensures.kept all
@@ -12,8 +12,8 @@ returns-in_err-reserve_beside-clause-tied c = λ cells all. grown-tied c.args.ch
 pub returns-in_err-reserve_beside-clause-tags : goal.returns-in_err-reserve_beside-clause-tags
 returns-in_err-reserve_beside-clause-tags c = λ rooms fit. grown-tags c.args.channel c.in-Some.ledger.now _ rooms c.args.ledgers.now.entries (sym c.in-Some.ensures.value) refl c.in_err-reserve_beside.ensures.kept fit
 
-pub returns-clause-lines : goal.returns-clause-lines
-returns-clause-lines c = lines-same c.args.channel c.in-Some.ledger.now (record c.in-Some.ledger.now { tags = c.reserve_beside.new.self }) c.args.ledgers.now.entries (sym c.in-Some.ensures.value) (same-line c.in-Some.ledger.now (record c.in-Some.ledger.now { tags = c.reserve_beside.new.self }) refl c.in_ok-reserve_beside.ensures.same)
+pub returns-clause-ledgers : goal.returns-clause-ledgers
+returns-clause-ledgers c = ledgers-same c.args.channel c.in-Some.ledger.now (record c.in-Some.ledger.now { tags = c.reserve_beside.new.self }) c.args.ledgers.now.entries (sym c.in-Some.ensures.value) (same-ledger c.in-Some.ledger.now (record c.in-Some.ledger.now { tags = c.reserve_beside.new.self }) refl c.in_ok-reserve_beside.ensures.same)
 
 pub returns-clause-tied : goal.returns-clause-tied
 returns-clause-tied c = λ cells all. grown-tied c.args.channel c.in-Some.ledger.now _ c.args.ledgers.now.entries cells (sym c.in-Some.ensures.value) refl c.in_ok-reserve_beside.ensures.same c.in_ok-reserve_beside.ensures.kept all

@@ -1,7 +1,7 @@
 use Rattle.std.proofs.Common.{ap, refl, ◌≤◌, ◌∙◌, nat_le, length, arith}
 use Rattle.std.proofs.lemmas.Bool.{le-leb}
 use Rattle.lapin_tables.proofs.SlotLaws.{given}
-use Rattle.lapin_confirm.specs.Book.{Line, ended_line}
+use Rattle.lapin_confirm.specs.Book.{LedgerState, ended_ledger}
 use Rattle.lapin_confirm.proofs.Ended.{ended-settled}
 use Rattle.lapin_confirm.proofs.Whole.{tied-room}
 use Rattle.lapin_confirm.proofs.settling.end_opening.Goals as goal
@@ -18,5 +18,5 @@ returns-clause-cells c =
 pub returns-clause-tied : goal.returns-clause-tied
 returns-clause-tied c = tied-room c.args.channel c.settle_through.new.ledger _ c.settle_through.new.cells.slots c.settle_through.ensures.tied refl refl refl c.settle_through.ensures.tied.room
 
-pub returns-clause-line : goal.returns-clause-line
-returns-clause-line c = ap (λ (l : Line). ended_line l) (c.settle_through.ensures.line ∙ c.reject_queued.ensures.line)
+pub returns-clause-ledger : goal.returns-clause-ledger
+returns-clause-ledger c = ap (λ (l : LedgerState). ended_ledger l) (c.settle_through.ensures.ledger ∙ c.reject_queued.ensures.ledger)

@@ -8,7 +8,7 @@ pub loop-ledger-init : goal.loop-ledger-init
 loop-ledger-init c = record {
   tied = c.requires;
   same = refl;
-  line = refl;
+  ledger = refl;
   spare = omega arith;
   room = omega arith;
   below = λ n there. let le = given n (cell.Queued c.args.channel) c.args.cells.now.slots there in omega (arith, le, c.count-number.ensures);
@@ -26,7 +26,7 @@ pub loop-ledger-preserved : goal.loop-ledger-preserved
 loop-ledger-preserved c = record {
   tied = c.reject_if_queued.ensures.tied;
   same = c.reject_if_queued.ensures.same ∙ c.loop-ledger.invariant.same;
-  line = c.reject_if_queued.ensures.line ∙ c.loop-ledger.invariant.line;
+  ledger = c.reject_if_queued.ensures.ledger ∙ c.loop-ledger.invariant.ledger;
   spare = omega (arith, c.reject_if_queued.ensures.spare, c.loop-ledger.invariant.spare);
   room = omega (arith, c.reject_if_queued.ensures.room, c.loop-ledger.invariant.room);
   below = λ n there.

@@ -13,7 +13,7 @@ pub loop-tag-preserved : goal.loop-tag-preserved
 loop-tag-preserved c = record {
   tied = c.settle_tag.ensures.tied;
   same = rw c.settle_tag.ensures.cells (settled-after c.args.channel c.in-Some.tag (λ t. nat_le t c.args.limit) c.args.outcome c.loop-tag.cells.slots (le-leb c.in-Some.tag c.args.limit (omega arith))) ∙ c.loop-tag.invariant.same;
-  line = c.settle_tag.ensures.line ∙ c.loop-tag.invariant.line;
+  ledger = c.settle_tag.ensures.ledger ∙ c.loop-tag.invariant.ledger;
   spare = omega (arith, c.settle_tag.ensures.spare, c.loop-tag.invariant.spare);
   room = omega (arith, c.settle_tag.ensures.room, c.loop-tag.invariant.room);
 }

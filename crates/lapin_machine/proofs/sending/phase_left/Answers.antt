@@ -1,13 +1,13 @@
 use Rattle.std.proofs.Common.{◌∙◌, sym, ap}
 use Rattle.lapin_tables.specs.ByChannel.{at_channel}
 use Rattle.lapin_history.specs.Phases.{channel_state}
-use Rattle.lapin_history.specs.Base.{is_closing}
-use Rattle.lapin_history.specs.declared.phases.Phase.{Phase}
+use Rattle.lapin_history.specs.Wire.{is_closing}
+use Rattle.lapin_history.specs.declared.phases.ChannelPhase.{ChannelPhase}
 use Rattle.lapin_machine.proofs.Channels.{closing_there, closing_left, others_left}
 use Rattle.lapin_machine.proofs.sending.phase_left.Goals as goal
 
 pub set-requires : goal.set-requires
-set-requires c = closing_there (at_channel c.args.channel c.args.phases.now.entries) (ap (λ (p : Phase). is_closing (channel_state p)) (sym c.get-phase.ensures) ∙ sym c.is_closing.ensures ∙ c.if-is_closing.true)
+set-requires c = closing_there (at_channel c.args.channel c.args.phases.now.entries) (ap (λ (p : ChannelPhase). is_closing (channel_state p)) (sym c.get-phase.ensures) ∙ sym c.is_closing.ensures ∙ c.if-is_closing.true)
 
 pub returns-then-is_closing : goal.returns-then-is_closing
 returns-then-is_closing c = c.set.ensures ∙ closing_left c.args.channel c.get-phase.result _ c.args.phases.now.entries c.get-phase.ensures (sym c.is_closing.ensures ∙ c.if-is_closing.true) c.close_sent.ensures

@@ -1,7 +1,7 @@
 use Rattle.std.proofs.Common.{ℕ, List, Option, sym, ◌∙◌, ap, subst}
 use Rattle.lapin_tables.specs.Numbered.{under}
 use Rattle.lapin_ticket.specs.declared.Slot.{Slot}
-use Rattle.lapin_ticket.specs.Desk.{is_open_on}
+use Rattle.lapin_ticket.specs.Slots.{is_open_on}
 use Rattle.lapin_ticket.specs.Room.{HasSlot}
 use Rattle.lapin_ticket.proofs.Listing.{open-left}
 use Rattle.lapin_ticket.proofs.Tickets.leave.Goals as goal

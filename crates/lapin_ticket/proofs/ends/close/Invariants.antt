@@ -1,6 +1,6 @@
 use Rattle.std.proofs.Common.{◌≡◌, ℕ, ◌≤◌, ◌-◌, true, map, Some, slice_get}
 use Rattle.lapin_tables.specs.Numbered.{under}
-use Rattle.lapin_ticket.specs.Desk.{rejects, closed_slot}
+use Rattle.lapin_ticket.specs.Slots.{rejects, closed_slot}
 use Rattle.lapin_ticket.specs.Given.{numbers_on}
 use Rattle.lapin_ticket.proofs.ends.close.Given as goal
 

@@ -31,7 +31,7 @@ loop-place-preserved c = record {
 
 pub returns-clause-slots : goal.returns-clause-slots
 returns-clause-slots c =
-    sym (end-done c.args.channel c.args.kept c.args.error c.loop-place.slots.slots (λ n h. all-pass _ (λ other.
+    sym (end-done c.args.channel c.args.spared c.args.error c.loop-place.slots.slots (λ n h. all-pass _ (λ other.
     let there = c.loop-place.invariant.left n h other in
     let within : there.0 < length (numbers_on c.args.channel c.args.given.now.channels) = get-within (numbers_on c.args.channel c.args.given.now.channels) there.0 n there.2 in
     omega (arith, there.1, c.count-count.ensures))))

@@ -1,7 +1,7 @@
 use Rattle.std.proofs.Common.{◌≡◌, ℕ, ◌≤◌, true, Some, Err, map}
 use Rattle.lapin_tables.specs.Numbered.{under}
 use Rattle.lapin_ticket.specs.declared.Slot.{Slot}
-use Rattle.lapin_ticket.specs.Desk.{answered_slot, is_awaited}
+use Rattle.lapin_ticket.specs.Slots.{answered_slot, is_awaited}
 use Rattle.lapin_ticket.proofs.ends.fail_all.Given as goal
 
 abbrev pub invariant-loop-number : goal.invariant-loop-number

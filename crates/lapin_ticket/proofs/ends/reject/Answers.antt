@@ -1,5 +1,5 @@
 use Rattle.std.proofs.Common.{sym, ◌∙◌, ap, map}
-use Rattle.lapin_ticket.specs.Desk.{closed_slot}
+use Rattle.lapin_ticket.specs.Slots.{closed_slot}
 use Rattle.lapin_ticket.proofs.Ending.{close-next}
 use Rattle.lapin_ticket.proofs.ends.reject.Goals as goal
 

@@ -5,7 +5,7 @@ use Rattle.lapin_confirm.specs.declared.cell.Cell.{Cell}
 use Rattle.lapin_confirm.specs.declared.cell.Cell.TheVariants as cell
 use Rattle.lapin_confirm.specs.Kept.{spare_in}
 use Rattle.lapin_confirm.specs.Ties.{TagFits}
-use Rattle.lapin_confirm.proofs.Lines.{no-line, lines-same, same-line, same-book, same-post}
+use Rattle.lapin_confirm.proofs.Ledgers.{no-ledger, ledgers-same, same-ledger, same-book, same-post}
 use Rattle.lapin_confirm.proofs.Whole.{tied-of, all-on, tied-roomier, tied_at-joined}
 use Rattle.lapin_confirm.proofs.Roomy.{room-used}
 use Rattle.lapin_confirm.proofs.confirms.Confirms.add.Goals as goal
@@ -14,7 +14,7 @@ pushed : {X Y : Type 0} (xs : List X) (ys : List Y) (x : X) (y : Y) (us : List X
 pushed xs ys x y us vs same left right = ap length left ∙ length_push xs x ∙ ap (λ (n : ℕ). n + 1) same ∙ sym (ap length right ∙ length_push ys y)
 
 pub unreachable-requires : goal.unreachable-requires
-unreachable-requires c = no-line c.args.channel c.self.inside.ledgers.entries (sym c.in_default.ensures.value) (rw (← c.self.view_is) at c.requires)
+unreachable-requires c = no-ledger c.args.channel c.self.inside.ledgers.entries (sym c.in_default.ensures.value) (rw (← c.self.view_is) at c.requires)
 
 pub use_room-requires-clause-tags : goal.use_room-requires-clause-tags
 use_room-requires-clause-tags c = subst (TagFits (spare_in (at_channel c.args.channel c.self.inside.rooms.entries))) (sym c.in-Some.ensures.value) (c.self.invariant.room.tags c.args.channel)
@@ -48,13 +48,13 @@ pub returns-in-Err-clause-err : goal.returns-in-Err-clause-err
 returns-in-Err-clause-err c =
     rw (← c.self.view_is)
     (same-post _ _ _ _ _ _
-    (same-book _ _ _ _ (lines-same c.args.channel c.in-Some.ledger.now c.use_room.new.ledger c.self.inside.ledgers.entries (sym c.in-Some.ensures.value) (same-line c.in-Some.ledger.now c.use_room.new.ledger c.use_room.ensures.rest c.use_room.ensures.tags)) c.use_room.ensures.cells)
+    (same-book _ _ _ _ (ledgers-same c.args.channel c.in-Some.ledger.now c.use_room.new.ledger c.self.inside.ledgers.entries (sym c.in-Some.ensures.value) (same-ledger c.in-Some.ledger.now c.use_room.new.ledger c.use_room.ensures.rest c.use_room.ensures.tags)) c.use_room.ensures.cells)
     refl c.use_room.ensures.homes)
 
 pub returns-clause-ok : goal.returns-clause-ok
 returns-clause-ok c =
     rw (← c.self.view_is)
     (same-book _ _ _ _
-    (lines-same c.args.channel c.in-Some.ledger.now c.enqueue.new.ledger c.self.inside.ledgers.entries (sym c.in-Some.ensures.value)
-    (c.enqueue.ensures.line ∙ same-line c.in-Some.ledger.now c.use_room.new.ledger c.use_room.ensures.rest c.use_room.ensures.tags))
+    (ledgers-same c.args.channel c.in-Some.ledger.now c.enqueue.new.ledger c.self.inside.ledgers.entries (sym c.in-Some.ensures.value)
+    (c.enqueue.ensures.ledger ∙ same-ledger c.in-Some.ledger.now c.use_room.new.ledger c.use_room.ensures.rest c.use_room.ensures.tags))
     (c.enqueue.ensures.cells ∙ ap (λ (xs : List (Option Cell)). xs ++ Some (cell.Queued c.args.channel) ∷ []) c.use_room.ensures.cells))

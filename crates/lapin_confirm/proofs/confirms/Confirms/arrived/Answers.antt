@@ -4,7 +4,7 @@ use Rattle.lapin_tables.specs.ByChannel.{on_channel}
 use Rattle.lapin_tables.proofs.Channels.{at-on_other}
 use Rattle.lapin_confirm.specs.Kept.{spare_in}
 use Rattle.lapin_confirm.specs.Ties.{trays_of}
-use Rattle.lapin_confirm.proofs.Lines.{same-post}
+use Rattle.lapin_confirm.proofs.Ledgers.{same-post}
 use Rattle.lapin_confirm.proofs.Trays.{trays-absent, trays-on, trays-same}
 use Rattle.lapin_confirm.proofs.Roomy.{given-fits, messages-kept, room-received}
 use Rattle.lapin_confirm.proofs.confirms.Confirms.arrived.Goals as goal

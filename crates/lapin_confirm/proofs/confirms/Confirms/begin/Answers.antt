@@ -6,7 +6,7 @@ use Rattle.lapin_confirm.specs.Post.{letters_in}
 use Rattle.lapin_confirm.specs.Drain.{Remains, remaining}
 use Rattle.lapin_confirm.specs.Ties.{trays_of, promised}
 use Rattle.lapin_confirm.proofs.Asides.{none-open}
-use Rattle.lapin_confirm.proofs.Lines.{has-ledger, lines-begun, fresh-line, same-book, same-post, on-err}
+use Rattle.lapin_confirm.proofs.Ledgers.{has-ledger, ledgers-begun, fresh-ledger, same-book, same-post, on-err}
 use Rattle.lapin_confirm.proofs.Whole.{tied-fresh}
 use Rattle.lapin_confirm.proofs.Roomy.{all-begun, room-begun}
 use Rattle.lapin_confirm.proofs.confirms.Confirms.begin.Goals as goal
@@ -36,7 +36,7 @@ invariant_of-self-2 c =
 pub returns-clause-ok : goal.returns-clause-ok
 returns-clause-ok c =
     rw (← c.self.view_is, c.put_ledger.ensures, c.make_place.ensures.same)
-    (same-book _ _ _ _ (lines-begun c.args.channel c.in_ok-ledger.ledger c.self.inside.ledgers.entries (fresh-line c.in_ok-ledger.ledger c.in_ok-ledger.ensures.made.0)) (ap (λ (r : Remains). r.cells) c.in_ok-renew_tray.ensures.remains))
+    (same-book _ _ _ _ (ledgers-begun c.args.channel c.in_ok-ledger.ledger c.self.inside.ledgers.entries (fresh-ledger c.in_ok-ledger.ledger c.in_ok-ledger.ensures.made.0)) (ap (λ (r : Remains). r.cells) c.in_ok-renew_tray.ensures.remains))
 
 pub returns-clause-homes : goal.returns-clause-homes
 returns-clause-homes c = rw (← c.self.view_is) (ap (λ (r : Remains). r.homes) c.in_ok-renew_tray.ensures.remains)

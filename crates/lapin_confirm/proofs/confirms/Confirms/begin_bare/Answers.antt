@@ -1,7 +1,7 @@
 use Rattle.std.proofs.Common.{◌≡◌, refl, true, false}
 use Rattle.std.specs.List.{list_any}
 use Rattle.lapin_confirm.specs.Book.{is_open_on}
-use Rattle.lapin_confirm.proofs.Lines.{has-ledger, lines-begun, fresh-line, same-book}
+use Rattle.lapin_confirm.proofs.Ledgers.{has-ledger, ledgers-begun, fresh-ledger, same-book}
 use Rattle.lapin_confirm.proofs.Whole.{tied-fresh}
 use Rattle.lapin_confirm.proofs.Roomy.{all-begun, room-begun}
 use Rattle.lapin_confirm.proofs.confirms.Confirms.begin_bare.Goals as goal
@@ -24,4 +24,4 @@ invariant_of-self-2 c =
 pub returns-clause-ok : goal.returns-clause-ok
 returns-clause-ok c =
     rw (← c.self.view_is, c.put_ledger.ensures, c.make_place.ensures.same)
-    (same-book _ _ _ _ (lines-begun c.args.channel c.in_ok-ledger.ledger c.self.inside.ledgers.entries (fresh-line c.in_ok-ledger.ledger c.in_ok-ledger.ensures.made.0)) refl)
+    (same-book _ _ _ _ (ledgers-begun c.args.channel c.in_ok-ledger.ledger c.self.inside.ledgers.entries (fresh-ledger c.in_ok-ledger.ledger c.in_ok-ledger.ensures.made.0)) refl)

@@ -2,7 +2,7 @@ use Rattle.std.proofs.Common.{◌∙◌, ◌≤◌, ℕ, List, Some, None, refl,
 use Rattle.lapin_history.specs.Letters.{drained_letters}
 use Rattle.lapin_confirm.specs.Drain.{Remains, is_over, remaining, less_all}
 use Rattle.lapin_confirm.specs.Ties.{promised}
-use Rattle.lapin_confirm.proofs.Lines.{same-book, same-post}
+use Rattle.lapin_confirm.proofs.Ledgers.{same-book, same-post}
 use Rattle.lapin_confirm.proofs.Trays.{tray-at, trays-on, trays-same, trays-absent}
 use Rattle.lapin_confirm.proofs.Roomy.{messages-kept}
 use Rattle.lapin_confirm.proofs.confirms.Confirms.drain.Goals as goal

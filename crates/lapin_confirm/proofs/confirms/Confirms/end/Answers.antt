@@ -1,15 +1,15 @@
 use Rattle.std.proofs.Common.{length, ap, ◌∙◌}
 use Rattle.std.proofs.lemmas.List.{length-map}
 use Rattle.std.proofs.Common.{sym}
-use Rattle.lapin_confirm.specs.Book.{ended_line}
-use Rattle.lapin_confirm.proofs.Lines.{lines-absent, lines-on, same-book}
+use Rattle.lapin_confirm.specs.Book.{ended_ledger}
+use Rattle.lapin_confirm.proofs.Ledgers.{ledgers-absent, ledgers-on, same-book}
 use Rattle.lapin_confirm.proofs.Roomy.{same-homes, room-kept}
 use Rattle.lapin_confirm.proofs.Whole.{untouched-of, all-on, tied_at-ended}
 use Rattle.lapin_confirm.proofs.Ended.{ended-untouched}
 use Rattle.lapin_confirm.proofs.confirms.Confirms.end.Goals as goal
 
 pub returns-in_default-clause-book : goal.returns-in_default-clause-book
-returns-in_default-clause-book c = rw (← c.self.view_is) (same-book _ _ _ _ (sym (lines-absent c.args.channel ended_line c.self.inside.ledgers.entries (sym c.in_default.ensures.value))) (sym (ended-untouched c.args.channel c.args.error c.self.inside.cells.slots (untouched-of c.args.channel c.self.inside.ledgers.entries c.self.inside.cells.slots (sym c.in_default.ensures.value) c.self.invariant.tied))))
+returns-in_default-clause-book c = rw (← c.self.view_is) (same-book _ _ _ _ (sym (ledgers-absent c.args.channel ended_ledger c.self.inside.ledgers.entries (sym c.in_default.ensures.value))) (sym (ended-untouched c.args.channel c.args.error c.self.inside.cells.slots (untouched-of c.args.channel c.self.inside.ledgers.entries c.self.inside.cells.slots (sym c.in_default.ensures.value) c.self.invariant.tied))))
 
 pub invariant_of-self-2 : goal.invariant_of-self-2
 invariant_of-self-2 c =
@@ -23,4 +23,4 @@ invariant_of-self-2 c =
     }
 
 pub returns-clause-book : goal.returns-clause-book
-returns-clause-book c = rw (← c.self.view_is) (same-book _ _ _ _ (lines-on c.args.channel ended_line c.in-Some.ledger.now c.end_opening.new.ledger c.self.inside.ledgers.entries (sym c.in-Some.ensures.value) c.end_opening.ensures.line) c.end_opening.ensures.cells)
+returns-clause-book c = rw (← c.self.view_is) (same-book _ _ _ _ (ledgers-on c.args.channel ended_ledger c.in-Some.ledger.now c.end_opening.new.ledger c.self.inside.ledgers.entries (sym c.in-Some.ensures.value) c.end_opening.ensures.ledger) c.end_opening.ensures.cells)

@@ -1,12 +1,12 @@
 use Rattle.std.proofs.Common.{arith, sym, refl}
-use Rattle.lapin_confirm.specs.Book.{limited_line}
-use Rattle.lapin_confirm.proofs.Lines.{lines-absent, lines-on, same-book}
+use Rattle.lapin_confirm.specs.Book.{limited_ledger}
+use Rattle.lapin_confirm.proofs.Ledgers.{ledgers-absent, ledgers-on, same-book}
 use Rattle.lapin_confirm.proofs.Roomy.{room-kept, keeps-same}
 use Rattle.lapin_confirm.proofs.Whole.{tied-of, all-on, tied-room}
 use Rattle.lapin_confirm.proofs.confirms.Confirms.set_limit.Goals as goal
 
 pub returns-in_default-clause-book : goal.returns-in_default-clause-book
-returns-in_default-clause-book c = rw (← c.self.view_is) (same-book _ _ _ _ (sym (lines-absent c.args.channel (limited_line c.args.limit) c.self.inside.ledgers.entries (sym c.in_default.ensures.value))) refl)
+returns-in_default-clause-book c = rw (← c.self.view_is) (same-book _ _ _ _ (sym (ledgers-absent c.args.channel (limited_ledger c.args.limit) c.self.inside.ledgers.entries (sym c.in_default.ensures.value))) refl)
 
 pub invariant_of-self-2 : goal.invariant_of-self-2
 invariant_of-self-2 c =
@@ -21,4 +21,4 @@ invariant_of-self-2 c =
     }
 
 pub returns-clause-book : goal.returns-clause-book
-returns-clause-book c = rw (← c.self.view_is) (same-book _ _ _ _ (lines-on c.args.channel (limited_line c.args.limit) c.in-Some.ledger.now _ c.self.inside.ledgers.entries (sym c.in-Some.ensures.value) refl) refl)
+returns-clause-book c = rw (← c.self.view_is) (same-book _ _ _ _ (ledgers-on c.args.channel (limited_ledger c.args.limit) c.in-Some.ledger.now _ c.self.inside.ledgers.entries (sym c.in-Some.ensures.value) refl) refl)

@@ -7,10 +7,10 @@ use Rattle.lapin_tables.specs.ByChannel.{at_channel, on_channel}
 use Rattle.lapin_tables.proofs.SlotLaws.{given}
 use Rattle.lapin_history.specs.Letters.{attached_to_all}
 use Rattle.lapin_confirm.specs.Book.{last_in}
-use Rattle.lapin_confirm.specs.Ties.{lines_of, trays_of}
+use Rattle.lapin_confirm.specs.Ties.{ledger_states, trays_of}
 use Rattle.lapin_confirm.proofs.Covered.{covers-up_to, covered-up_to}
 use Rattle.lapin_confirm.proofs.Trays.{on-still}
-use Rattle.lapin_confirm.proofs.Lines.{line-at, lines-same, same-book}
+use Rattle.lapin_confirm.proofs.Ledgers.{ledger-at, ledgers-same, same-book}
 use Rattle.lapin_confirm.proofs.Roomy.{same-homes, room-kept, with-messages}
 use Rattle.lapin_confirm.proofs.Whole.{tied-of, untouched-of, all-settled}
 use Rattle.lapin_confirm.proofs.Settled.{settled-same, settled-untouched}
@@ -30,7 +30,7 @@ invariant_of-self-2 c =
 
 pub returns-in_default-clause-trays : goal.returns-in_default-clause-trays
 returns-in_default-clause-trays c =
-    let none : last_in (at_channel c.args.channel (lines_of c.self.inside.ledgers.entries)) ≡ 0 = ap last_in (line-at c.args.channel c.self.inside.ledgers.entries None (sym c.in_default.ensures.value)) in
+    let none : last_in (at_channel c.args.channel (ledger_states c.self.inside.ledgers.entries)) ≡ 0 = ap last_in (ledger-at c.args.channel c.self.inside.ledgers.entries None (sym c.in_default.ensures.value)) in
     rw (← c.self.view_is) (rw none (sym (on-still c.args.channel (attached_to_all []) (trays_of c.self.inside.trays.entries) (λ l. refl))))
 
 pub returns-clause-book : goal.returns-clause-book
@@ -38,7 +38,7 @@ returns-clause-book c =
     let tied = tied-of c.args.channel c.in-Some.ledger.now c.self.inside.ledgers.entries c.self.inside.cells.slots (sym c.in-Some.ensures.value) c.self.invariant.tied in
     rw (← c.self.view_is)
     (same-book _ _ _ _
-    (lines-same c.args.channel c.in-Some.ledger.now c.settle_through.new.ledger c.self.inside.ledgers.entries (sym c.in-Some.ensures.value) c.settle_through.ensures.line)
+    (ledgers-same c.args.channel c.in-Some.ledger.now c.settle_through.new.ledger c.self.inside.ledgers.entries (sym c.in-Some.ensures.value) c.settle_through.ensures.ledger)
     (c.settle_through.ensures.cells ∙ rw c.outcome_of.ensures (settled-same c.args.channel (λ t. nat_le t c.lesser-limit.result) _ (kind_outcome c.args.kind) c.self.inside.cells.slots (λ n t there.
     covers-up_to c.args.kind c.args.tag c.lesser-limit.result c.count.result t c.requires c.lesser-limit.ensures.most.0 c.lesser-limit.ensures.tag
     (let last : t ≤ length c.in-Some.ledger.now.tags.slots = given t n c.in-Some.ledger.now.tags.slots (tied.named n t there) in omega (arith, c.count.ensures))))))
@@ -47,7 +47,7 @@ pub returns-clause-trays : goal.returns-clause-trays
 returns-clause-trays c =
     let is = sym c.in-Some.ensures.value in
     let tied = tied-of c.args.channel c.in-Some.ledger.now c.self.inside.ledgers.entries c.self.inside.cells.slots is c.self.invariant.tied in
-    rw (← c.self.view_is, line-at c.args.channel c.self.inside.ledgers.entries (Some c.in-Some.ledger.now) is)
+    rw (← c.self.view_is, ledger-at c.args.channel c.self.inside.ledgers.entries (Some c.in-Some.ledger.now) is)
     (c.attach_on.ensures.letters ∙ ap (λ (ns : List ℕ). on_channel c.args.channel (attached_to_all ns) (trays_of c.self.inside.trays.entries))
     (covered-up_to c.args.channel c.args.kind c.args.tag c.lesser-limit.result c.in-Some.ledger.now c.self.inside.cells.slots tied c.requires c.lesser-limit.ensures.most.0
     (omega (arith, c.lesser-limit.ensures.most.1, c.count.ensures)) (λ less. c.lesser-limit.ensures.tag (omega (arith, c.count.ensures)))))

@@ -2,7 +2,7 @@ use Rattle.std.proofs.Common.{◌∙◌, ap, None}
 use Rattle.lapin_history.specs.TicketReadings as mark
 use Rattle.lapin_outbox.specs.Returned.{with_returned}
 use Rattle.lapin_ticket.specs.Room.{Issued}
-use Rattle.lapin_ticket.specs.Desk as desk
+use Rattle.lapin_ticket.specs.Slots as desk
 use Rattle.lapin_desk.proofs.desk.Desk.end_all.Goals as goal
 
 pub returns-clause-outbox : goal.returns-clause-outbox

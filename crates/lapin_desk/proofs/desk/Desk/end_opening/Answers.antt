@@ -5,7 +5,7 @@ use Rattle.lapin_outbox.specs.Outgoing.{Outgoing, OutboxState, with_lists}
 use Rattle.lapin_outbox.specs.Returned.{with_returned, returned_off}
 use Rattle.lapin_outbox.proofs.DropTickets.{publishes-before}
 use Rattle.lapin_ticket.specs.Room.{Issued}
-use Rattle.lapin_ticket.specs.Desk.{after_mark}
+use Rattle.lapin_ticket.specs.Slots.{after_mark}
 use Rattle.lapin_desk.specs.Ended.{ended_outbox}
 use Rattle.lapin_desk.proofs.Waiting.{queue-same}
 use Rattle.lapin_desk.proofs.desk.Desk.end_opening.Goals as goal
@@ -21,7 +21,7 @@ returns-clause-outbox c =
 pub returns-clause-slots : goal.returns-clause-slots
 returns-clause-slots c =
     c.end.ensures.slots
-    ∙ ap (λ (s : Issued). after_mark s.slots (mark.OpeningFailed c.args.channel c.args.kept c.args.error)) (c.drop_requests.ensures.tickets ∙ c.drop_entries.ensures.tickets ∙ c.end_publishes.ensures.tickets)
+    ∙ ap (λ (s : Issued). after_mark s.slots (mark.OpeningFailed c.args.channel c.args.spared c.args.error)) (c.drop_requests.ensures.tickets ∙ c.drop_entries.ensures.tickets ∙ c.end_publishes.ensures.tickets)
 
 pub returns-clause-queued : goal.returns-clause-queued
 returns-clause-queued c =

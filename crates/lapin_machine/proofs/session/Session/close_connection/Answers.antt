@@ -6,10 +6,10 @@ use Rattle.lapin_types.specs.Types.method
 use Rattle.lapin_types.specs.Types.connection
 use Rattle.lapin_history.specs.Frames.{MethodEntry}
 use Rattle.lapin_history.specs.ConnectionClose.{failed_at_connection_close}
-use Rattle.lapin_history.specs.Base.{is_base, state_of, requests_with}
+use Rattle.lapin_history.specs.Wire.{is_base, state_of, requests_with}
 use Rattle.lapin_history.specs.TicketReadings as mark
 use Rattle.lapin_ticket.specs.declared.Slot.{Slot}
-use Rattle.lapin_ticket.specs.Desk.{after_mark}
+use Rattle.lapin_ticket.specs.Slots.{after_mark}
 use Rattle.lapin_outbox.specs.Open.{OpenRequests}
 use Rattle.lapin_desk.specs.Ended.{emptied_outbox}
 use Rattle.lapin_machine.specs.World.{World, next}
@@ -26,7 +26,7 @@ invariant_of-self-2 c =
 
 pub returns-clause-ok : goal.returns-clause-ok
 returns-clause-ok c =
-    let base_ = ap (λ (w : World). is_base (state_of c.args.channel w.base)) c.self.view_is ∙ sym (ap is_base c.channel_state-state.ensures) ∙ sym c.is_base.ensures ∙ c.if-not-is_base.false in
+    let base_ = ap (λ (w : World). is_base (state_of c.args.channel w.wire)) c.self.view_is ∙ sym (ap is_base c.channel_state-state.ensures) ∙ sym c.is_base.ensures ∙ c.if-not-is_base.false in
     let number : ℕ = length c.go_down.new.desk.tickets.slots + 1 in
     let entry : MethodEntry = record { channel = c.args.channel; method = method.Connection (connection.Close c.args.reply_code c.args.reply_text 0 0); ticket = Some number } in
     connection_close_seen c.self.inside.link c.self.inside.phases.entries c.self.inside.desk.outbox.what c.self.inside.desk.replies.what c.self.inside.desk.tickets.slots c.self.inside.confirms.what.book c.args.channel c.args.reply_code c.args.reply_text _ _ _ _ c.go_down.new.desk.tickets.slots _ _

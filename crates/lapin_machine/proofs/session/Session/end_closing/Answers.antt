@@ -4,22 +4,22 @@ use Rattle.lapin_types.specs.declared.answer.Answer.TheVariants as answer
 use Rattle.lapin_types.specs.declared.record.Record.TheVariants as record_
 use Rattle.lapin_types.specs.declared.request.ReplyKind.TheVariants as reply_kind
 use Rattle.lapin_tables.specs.ByChannel.{on_channel}
-use Rattle.lapin_history.specs.declared.phases.Phase.TheVariants as phase
+use Rattle.lapin_history.specs.declared.phases.ChannelPhase.TheVariants as phase
 use Rattle.lapin_history.specs.declared.broker_frames.Incoming.TheVariants as incoming
 use Rattle.lapin_history.specs.Requests.{without_kind, no_requests, ticket_of}
 use Rattle.lapin_history.specs.ChannelClose.{close_ok_end}
 use Rattle.lapin_history.specs.TicketReadings as mark
 use Rattle.lapin_history.specs.Requests.{resolved_with}
-use Rattle.lapin_history.specs.ChannelClose.{hears_close_ok}
-use Rattle.lapin_history.specs.Base.{state_of, phase_of}
+use Rattle.lapin_history.specs.ChannelClose.{receives_close_ok}
+use Rattle.lapin_history.specs.Wire.{state_of, phase_of}
 use Rattle.lapin_outbox.specs.Open.{OpenRequests}
 use Rattle.lapin_outbox.specs.Outgoing.{Outgoing, OutboxState}
 use Rattle.lapin_ticket.specs.declared.Slot.{Slot}
-use Rattle.lapin_ticket.specs.Desk.{after_mark}
+use Rattle.lapin_ticket.specs.Slots.{after_mark}
 use Rattle.lapin_confirm.specs.Book.{Book, ended}
 use Rattle.lapin_desk.specs.Queued.{AreQueued}
 use Rattle.lapin_desk.specs.Ended.{ended_outbox}
-use Rattle.lapin_machine.specs.World.{World, hearing}
+use Rattle.lapin_machine.specs.World.{World, receiving}
 use Rattle.lapin_machine.proofs.Channels.{on_twice}
 use Rattle.lapin_machine.proofs.Keeping.{tied_ended, kept_by}
 use Rattle.lapin_machine.proofs.Openings.{close_ok_some}
@@ -28,8 +28,8 @@ use Rattle.lapin_machine.proofs.session.Session.end_closing.Goals as goal
 
 pub invariant_of-self : goal.invariant_of-self
 invariant_of-self c =
-    let heard = ap (λ (w : World). hears_close_ok (state_of c.args.channel w.base)) c.self.view_is ∙ c.requires.heard in
-    let here = close_ok_some c.self.inside.link c.args.channel c.self.inside.phases.entries heard in
+    let received = ap (λ (w : World). receives_close_ok (state_of c.args.channel w.wire)) c.self.view_is ∙ c.requires.received in
+    let here = close_ok_some c.self.inside.link c.args.channel c.self.inside.phases.entries received in
     let outbox = c.end_opening.ensures.outbox ∙ ap (λ (o : Outgoing). ended_outbox c.args.channel o.what) c.resolve.ensures.outbox in
     let Q : Book → Type 0 = λ k. AreQueued k.cells c.end_opening.new.self.outbox.what.lists.publishes in
     let R : OutboxState → Type 0 = λ o. AreQueued (ended c.args.channel c.args.error c.self.inside.confirms.what.book).cells o.lists.publishes in
@@ -41,7 +41,7 @@ pub returns : goal.returns
 returns c =
     let waiting = ap (λ (r : OpenRequests). r.what) c.resolve.ensures.replies ∙ c.take_request-close.ensures.waiting in
     closing_answered c.self.inside.link c.self.inside.phases.entries c.self.inside.desk.outbox.what c.self.inside.desk.replies.what c.self.inside.desk.tickets.slots c.self.inside.confirms.what.book c.args.channel c.args.error _ _ _ _ _
-    (ap (λ (w : World). close_ok_end (phase_of c.args.channel w.base)) c.self.view_is ∙ c.requires.end)
+    (ap (λ (w : World). close_ok_end (phase_of c.args.channel w.wire)) c.self.view_is ∙ c.requires.end)
     c.set.ensures
     (c.end_opening.ensures.outbox ∙ ap (λ (o : Outgoing). ended_outbox c.args.channel o.what) c.resolve.ensures.outbox)
     (c.end_opening.ensures.requests ∙ ap (on_channel c.args.channel no_requests) waiting ∙ on_twice c.args.channel (without_kind reply_kind.ChannelCloseOk) no_requests c.self.inside.desk.replies.what)
@@ -49,4 +49,4 @@ returns c =
     ∙ ap (λ (y : List (Option Slot)). after_mark y (mark.OpeningFailed c.args.channel None c.args.error))
     (c.resolve.ensures.slots ∙ ap (λ (t : Option ℕ). fold after_mark c.self.inside.desk.tickets.slots (resolved_with (Ok answer.Done) t)) (c.into_ticket.ensures ∙ ap ticket_of c.take_request-close.ensures.taken)))
     c.end_opening.ensures.book
-    ∙ ap (λ (w : World). hearing (incoming.ChannelCloseOk c.args.channel) record_.Received w) c.self.view_is
+    ∙ ap (λ (w : World). receiving (incoming.ChannelCloseOk c.args.channel) record_.Received w) c.self.view_is

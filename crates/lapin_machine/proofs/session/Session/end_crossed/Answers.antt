@@ -1,7 +1,7 @@
 use Rattle.std.proofs.Common.{◌∙◌, refl, ap}
 use Rattle.lapin_history.specs.ChannelClose.{close_ok_end}
-use Rattle.lapin_history.specs.ChannelClose.{hears_close_ok}
-use Rattle.lapin_history.specs.Base.{state_of, phase_of}
+use Rattle.lapin_history.specs.ChannelClose.{receives_close_ok}
+use Rattle.lapin_history.specs.Wire.{state_of, phase_of}
 use Rattle.lapin_outbox.specs.Outgoing.{Outgoing}
 use Rattle.lapin_machine.specs.World.{World}
 use Rattle.lapin_machine.proofs.Keeping.{tied_closed, kept_by}
@@ -10,9 +10,9 @@ use Rattle.lapin_machine.proofs.session.Session.end_crossed.Goals as goal
 
 pub invariant_of-self : goal.invariant_of-self
 invariant_of-self c =
-    let heard = ap (λ (w : World). hears_close_ok (state_of c.args.channel w.base)) c.self.view_is ∙ c.requires.heard in
-    let over = ap (λ (w : World). close_ok_end (phase_of c.args.channel w.base)) c.self.view_is ∙ c.requires.end in
-    let here = close_ok_some c.self.inside.link c.args.channel c.self.inside.phases.entries heard in
+    let received = ap (λ (w : World). receives_close_ok (state_of c.args.channel w.wire)) c.self.view_is ∙ c.requires.received in
+    let over = ap (λ (w : World). close_ok_end (phase_of c.args.channel w.wire)) c.self.view_is ∙ c.requires.end in
+    let here = close_ok_some c.self.inside.link c.args.channel c.self.inside.phases.entries received in
     kept_by _ _ _ _ _ _ _ _ refl c.set.ensures (ap (λ (o : Outgoing). o.what) c.resolve.ensures.outbox) refl
-    (tied_closed c.self.inside.link c.args.channel c.self.inside.phases.entries _ _ here.0 (crossed_over c.self.inside.link c.args.channel c.self.inside.phases.entries over heard) here.1 c.self.invariant.tied)
+    (tied_closed c.self.inside.link c.args.channel c.self.inside.phases.entries _ _ here.0 (crossed_over c.self.inside.link c.args.channel c.self.inside.phases.entries over received) here.1 c.self.invariant.tied)
     c.self.invariant.unpoisoned

@@ -4,9 +4,9 @@ use Rattle.lapin_history.specs.declared.calls.Asked.TheVariants as ask
 use Rattle.lapin_history.specs.Frames.{MethodEntry}
 use Rattle.lapin_history.specs.TicketReadings as mark
 use Rattle.lapin_history.specs.Asking.{made_marks}
-use Rattle.lapin_history.specs.Base.{is_open, state_of, requests_with}
+use Rattle.lapin_history.specs.Wire.{is_open, state_of, requests_with}
 use Rattle.lapin_ticket.specs.declared.Slot.{Slot}
-use Rattle.lapin_ticket.specs.Desk.{after_mark}
+use Rattle.lapin_ticket.specs.Slots.{after_mark}
 use Rattle.lapin_machine.specs.World.{World, asking}
 use Rattle.lapin_machine.proofs.Keeping.{tied_called, kept_by}
 use Rattle.lapin_machine.proofs.Worlds.{with_entry, row_seen}
@@ -20,7 +20,7 @@ invariant_of-self-2 c =
 
 pub returns-clause-ok : goal.returns-clause-ok
 returns-clause-ok c =
-    let open_ = ap (λ (w : World). is_open (state_of c.args.channel w.base)) c.self.view_is ∙ sym (ap is_open c.channel_state-state.ensures) ∙ sym c.is_open.ensures ∙ c.if-not-is_open.false in
+    let open_ = ap (λ (w : World). is_open (state_of c.args.channel w.wire)) c.self.view_is ∙ sym (ap is_open c.channel_state-state.ensures) ∙ sym c.is_open.ensures ∙ c.if-not-is_open.false in
     let entry : ℕ → MethodEntry = λ n. record { channel = c.args.channel; method = c.args.row.method; ticket = Some (n + 1) } in
     let count : length c.reserve.new.self.tickets.slots ≡ length c.self.inside.desk.tickets.slots = ap length c.reserve.ensures.same.slots in
     row_seen c.self.inside.link c.self.inside.phases.entries c.self.inside.desk.outbox.what c.self.inside.desk.replies.what c.self.inside.desk.tickets.slots c.self.inside.confirms.what.book c.args.channel c.args.row _ _ _ _

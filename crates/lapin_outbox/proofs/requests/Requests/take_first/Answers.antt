@@ -14,7 +14,7 @@ use Rattle.lapin_outbox.proofs.requests.Requests.take_first.Goals as goal
 pub returns-clause-none : goal.returns-clause-none
 returns-clause-none c =
     let view = ap (λ (o : OpenOnChannel). o.open_requests) c.self.view_is in
-    let xs = c.self.inside.line.entries in
+    let xs = c.self.inside.channel_queue.entries in
     stays (is_kind c.args.kind) _ _ _
     (c.pop_of.ensures.taken ∙ ap (λ n. find (is_on key n) xs) c.number_of.ensures ∙ ap (find (is_kind c.args.kind)) view)
     (c.pop_of.ensures.others ∙ ap (λ n. without_first (is_on key n) xs) c.number_of.ensures ∙ ap (without_first (is_kind c.args.kind)) view)

@@ -1,13 +1,13 @@
 use Rattle.std.proofs.Common.{ℕ, List, drop, sym, ◌∙◌, ap, cond, ◌==◌}
 use Rattle.std.specs.Option.{option_copied_mut}
 use Rattle.lapin_ticket.specs.Given.{GivenNumbers, numbers_on}
-use Rattle.lapin_ticket.proofs.Listing.{numbers-by, none-dropped, room-kept}
+use Rattle.lapin_ticket.proofs.Listing.{numbers-by, none-dropped, room-spared}
 use Rattle.lapin_ticket.proofs.given.Given.drop_first.Goals as goal
 
 pub invariant_of-self-2 : goal.invariant_of-self-2
 invariant_of-self-2 c =
     let at = sym c.get_mut.ensures.value ∙ ap option_copied_mut c.in-Some.is in
-    room-kept c.self.inside.ready c.args.channel _ _ _ at c.drop_first.ensures.kept c.self.invariant
+    room-spared c.self.inside.ready c.args.channel _ _ _ at c.drop_first.ensures.spared c.self.invariant
 
 pub returns-clause-numbers : goal.returns-clause-numbers
 returns-clause-numbers c = λ d.

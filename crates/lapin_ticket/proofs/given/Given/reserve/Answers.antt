@@ -1,13 +1,13 @@
 use Rattle.std.proofs.Common.{sym, ◌∙◌, ap}
 use Rattle.std.specs.Option.{option_copied_mut}
 use Rattle.lapin_ticket.specs.Given.{numbers_on}
-use Rattle.lapin_ticket.proofs.Listing.{numbers-kept, numbers-empty, room-found, room-added}
+use Rattle.lapin_ticket.proofs.Listing.{numbers-spared, numbers-empty, room-found, room-added}
 use Rattle.lapin_ticket.proofs.given.Given.reserve.Goals as goal
 
 pub returns-in_err-reserve-clause-same : goal.returns-in_err-reserve-clause-same
 returns-in_err-reserve-clause-same c = λ d.
     let at = sym c.get_mut.ensures.value ∙ ap option_copied_mut c.in-Some.is in
-    numbers-kept c.args.channel d _ _ _ at c.reserve.ensures.same ∙ ap (λ g. numbers_on d g.channels) c.self.view_is
+    numbers-spared c.args.channel d _ _ _ at c.reserve.ensures.same ∙ ap (λ g. numbers_on d g.channels) c.self.view_is
 
 pub invariant_of-self-in-Some : goal.invariant_of-self-in-Some
 invariant_of-self-in-Some c =
@@ -17,7 +17,7 @@ invariant_of-self-in-Some c =
 pub returns-in-Some-clause-same : goal.returns-in-Some-clause-same
 returns-in-Some-clause-same c = λ d.
     let at = sym c.get_mut.ensures.value ∙ ap option_copied_mut c.in-Some.is in
-    numbers-kept c.args.channel d _ _ _ at c.reserve.ensures.same ∙ ap (λ g. numbers_on d g.channels) c.self.view_is
+    numbers-spared c.args.channel d _ _ _ at c.reserve.ensures.same ∙ ap (λ g. numbers_on d g.channels) c.self.view_is
 
 pub invariant_of-self-2 : goal.invariant_of-self-2
 invariant_of-self-2 c =

@@ -1,0 +1,72 @@
+-- The table of the broker's frames: what each frame is to its channel. A line a method; a reply makes its answer from its own data.
+use Rattle.std.specs.Prelude.{ℕ, ◌==◌, Bool, if◌then◌else◌}
+use Rattle.lapin_methods.specs.Numbers.{class_number, method_number}
+use Rattle.lapin_types.specs.Types.{Frame, Method}
+use Rattle.lapin_types.specs.Types.frame
+use Rattle.lapin_types.specs.Types.method
+use Rattle.lapin_types.specs.Types.connection
+use Rattle.lapin_types.specs.Types.channel
+use Rattle.lapin_types.specs.Types.access
+use Rattle.lapin_types.specs.Types.basic
+use Rattle.lapin_types.specs.Types.confirm
+use Rattle.lapin_types.specs.Types.exchange
+use Rattle.lapin_types.specs.Types.queue
+use Rattle.lapin_types.specs.Types.tx
+use Rattle.lapin_types.specs.declared.answer.Answer.TheVariants as answer
+use Rattle.lapin_types.specs.declared.request.ReplyKind.TheVariants as reply_kind
+use Rattle.lapin_history.specs.declared.marks.SettleKind.{SettleKind}
+use Rattle.lapin_history.specs.declared.marks.SettleKind.TheVariants as settle
+use Rattle.lapin_history.specs.declared.marks.Settlement.{Settlement}
+use Rattle.lapin_history.specs.declared.broker_frames.Incoming.{Incoming}
+use Rattle.lapin_history.specs.declared.broker_frames.Incoming.TheVariants as incoming
+
+-- the class and method of a frame: a header has its class and method 0, a body has 0 and 0
+abbrev pub frame_class : Frame → ℕ
+frame_class (frame.Method c m) = class_number m
+frame_class (frame.Header c h) = h.class_id
+frame_class (frame.Body c bytes) = 0
+
+abbrev pub frame_method : Frame → ℕ
+frame_method (frame.Method c m) = method_number m
+frame_method (frame.Header c h) = 0
+frame_method (frame.Body c bytes) = 0
+
+abbrev pub settlement : SettleKind → ℕ → Bool → Settlement
+settlement kind tag multiple = record { kind = kind; tag = tag; multiple = multiple }
+
+-- closes of the connection are received on its own channel alone
+abbrev pub on_connection : ℕ → Incoming → Incoming
+on_connection c i = if c == 0 then i else incoming.Other
+
+-- Replies with the answers that they make, settlements, flow and closes; every other method is none of these.
+abbrev pub incoming_method : ℕ → Method → Incoming
+incoming_method c (method.Connection (connection.Close code text class number)) = on_connection c (incoming.ConnectionClose code)
+incoming_method c (method.Connection connection.CloseOk) = on_connection c incoming.ConnectionCloseOk
+incoming_method c (method.Channel channel.OpenOk) = incoming.Reply c reply_kind.ChannelOpenOk (answer.Channel c)
+incoming_method c (method.Channel (channel.Flow active)) = incoming.Flow c active
+incoming_method c (method.Channel (channel.FlowOk active)) = incoming.Reply c reply_kind.ChannelFlowOk (answer.Flow active)
+incoming_method c (method.Channel (channel.Close code text class number)) = incoming.ChannelClose c code
+incoming_method c (method.Channel channel.CloseOk) = incoming.ChannelCloseOk c
+incoming_method c (method.Access access.RequestOk) = incoming.Reply c reply_kind.AccessRequestOk answer.Done
+incoming_method c (method.Exchange exchange.DeclareOk) = incoming.Reply c reply_kind.ExchangeDeclareOk answer.Done
+incoming_method c (method.Exchange exchange.DeleteOk) = incoming.Reply c reply_kind.ExchangeDeleteOk answer.Done
+incoming_method c (method.Exchange exchange.BindOk) = incoming.Reply c reply_kind.ExchangeBindOk answer.Done
+incoming_method c (method.Exchange exchange.UnbindOk) = incoming.Reply c reply_kind.ExchangeUnbindOk answer.Done
+incoming_method c (method.Queue (queue.DeclareOk name messages consumers)) = incoming.Reply c reply_kind.QueueDeclareOk (answer.Queue (record { name = name; message_count = messages; consumer_count = consumers }))
+incoming_method c (method.Queue queue.BindOk) = incoming.Reply c reply_kind.QueueBindOk answer.Done
+incoming_method c (method.Queue (queue.PurgeOk messages)) = incoming.Reply c reply_kind.QueuePurgeOk (answer.Count messages)
+incoming_method c (method.Queue (queue.DeleteOk messages)) = incoming.Reply c reply_kind.QueueDeleteOk (answer.Count messages)
+incoming_method c (method.Queue queue.UnbindOk) = incoming.Reply c reply_kind.QueueUnbindOk answer.Done
+incoming_method c (method.Basic basic.QosOk) = incoming.Reply c reply_kind.BasicQosOk answer.Done
+incoming_method c (method.Basic (basic.Ack tag multiple)) = incoming.Settlement c (settlement settle.Ack tag multiple)
+incoming_method c (method.Basic (basic.Nack tag multiple requeue)) = incoming.Settlement c (settlement settle.Nack tag multiple)
+incoming_method c (method.Basic basic.RecoverOk) = incoming.Reply c reply_kind.BasicRecoverOk answer.Done
+incoming_method c (method.Confirm confirm.SelectOk) = incoming.Reply c reply_kind.ConfirmSelectOk answer.Done
+incoming_method c (method.Tx tx.SelectOk) = incoming.Reply c reply_kind.TxSelectOk answer.Done
+incoming_method c (method.Tx tx.CommitOk) = incoming.Reply c reply_kind.TxCommitOk answer.Done
+incoming_method c (method.Tx tx.RollbackOk) = incoming.Reply c reply_kind.TxRollbackOk answer.Done
+incoming_method c _ = incoming.Other
+
+abbrev pub incoming_of : Frame → Incoming
+incoming_of (frame.Method c m) = incoming_method c m
+incoming_of _ = incoming.Other

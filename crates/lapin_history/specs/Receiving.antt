@@ -1,0 +1,113 @@
+-- A frame of the broker: when it is received, its record, what it leaves, and its marks. All of this goes by what the frame is to its
+-- channel.
+use Rattle.std.specs.Prelude.{Bool, if◌then◌else◌, List, []}
+use Rattle.lapin_types.specs.declared.record.Record.{Record}
+use Rattle.lapin_types.specs.Types.{Error}
+use Rattle.lapin_types.specs.declared.record.Record.TheVariants as record_
+use Rattle.lapin_types.specs.Types.error
+use Rattle.lapin_history.specs.declared.broker_frames.Incoming.{Incoming}
+use Rattle.lapin_history.specs.declared.broker_frames.Incoming.TheVariants as incoming
+use Rattle.lapin_history.specs.ConfirmMarks.{ConfirmMark}
+use Rattle.lapin_history.specs.TicketReadings.{TicketMark}
+use Rattle.lapin_history.specs.Phases.{is_up}
+use Rattle.lapin_history.specs.Readings.{Readings}
+use Rattle.lapin_history.specs.Wire.{Wire, state_of, phase_of, receives_on}
+use Rattle.lapin_history.specs.ChannelClose.{receives_close, receives_close_ok, after_channel_close, after_close_ok, broker_close_marks, close_ok_marks, broker_close_tickets, close_ok_tickets}
+use Rattle.lapin_history.specs.ConnectionClose.{receives_down, after_connection_close, after_connection_close_ok, connection_close_marks, connection_close_tickets, connection_close_ok_tickets}
+use Rattle.lapin_history.specs.Unexpected.{after_unexpected, unexpected_marks, unexpected_tickets}
+use Rattle.lapin_history.specs.Settlement.{settlement_record, settlement_marks, after_failed_on, failed_marks_on, failed_tickets_on}
+use Rattle.lapin_history.specs.Reply.{receives_reply, after_reply, reply_tickets}
+use Rattle.lapin_history.specs.Flow.{after_flow}
+
+-- ---- its record: received, passed over, or refused, where r is the refusal
+
+abbrev pub when : Bool → Record → Record
+when b r = if b then record_.Received else r
+
+-- while the connection is open
+abbrev pub incoming_up : Wire → Readings → Record → Incoming → Record
+incoming_up b readings r (incoming.Reply c k a) = when (receives_reply c k b) r
+incoming_up b readings r (incoming.Settlement c s) = if receives_on (state_of c b) then settlement_record readings c s else r
+incoming_up b readings r (incoming.Flow c active) = when (receives_on (state_of c b)) r
+incoming_up b readings r (incoming.ChannelClose c code) = when (receives_close (state_of c b)) r
+incoming_up b readings r (incoming.ChannelCloseOk c) = when (receives_close_ok (state_of c b)) r
+incoming_up b readings r (incoming.ConnectionClose code) = record_.Received
+incoming_up b readings r incoming.ConnectionCloseOk = r
+incoming_up b readings r incoming.Other = r
+
+-- once it is not, a frame is passed over, but for two while it is closing
+abbrev pub incoming_record : Wire → Readings → Record → Incoming → Record
+incoming_record b readings r i = if is_up b.link then incoming_up b readings r i else (if receives_down b.link i then record_.Received else record_.Passed)
+
+-- ---- what it leaves, by its record; one that is passed over changes nothing
+
+abbrev pub after_received : Incoming → Wire → Wire
+after_received (incoming.Reply c k a) b = after_reply c k b
+after_received (incoming.Flow c active) b = after_flow c active b
+after_received (incoming.Settlement c s) b = b
+after_received (incoming.ChannelClose c code) b = after_channel_close c (phase_of c b) b
+after_received (incoming.ChannelCloseOk c) b = after_close_ok c (phase_of c b) b
+after_received (incoming.ConnectionClose code) b = after_connection_close b.link b
+after_received incoming.ConnectionCloseOk b = after_connection_close_ok b
+after_received incoming.Other b = b
+
+abbrev pub after_failed : Incoming → Wire → Wire
+after_failed (incoming.Settlement c s) b = after_failed_on c s b
+after_failed _ b = b
+
+abbrev pub after_refused : Incoming → Error → Wire → Wire
+after_refused i (error.UnexpectedFrame class number) b = after_unexpected class number b
+after_refused i (error.PreconditionFailed tag current) b = after_failed i b
+after_refused i _ b = b
+
+abbrev pub after_incoming : Incoming → Record → Wire → Wire
+after_incoming i (record_.Refused e) b = after_refused i e b
+after_incoming i record_.Received b = after_received i b
+after_incoming i _ b = b
+
+-- ---- confirms
+
+abbrev pub received_marks : Incoming → Wire → List ConfirmMark
+received_marks (incoming.Settlement c s) b = settlement_marks c s
+received_marks (incoming.ChannelClose c code) b = broker_close_marks c code
+received_marks (incoming.ChannelCloseOk c) b = close_ok_marks c b
+received_marks (incoming.ConnectionClose code) b = connection_close_marks code b
+received_marks _ b = []
+
+abbrev pub failed_marks : Incoming → Wire → List ConfirmMark
+failed_marks (incoming.Settlement c s) b = failed_marks_on c b
+failed_marks _ b = []
+
+abbrev pub refused_marks : Incoming → Error → Wire → List ConfirmMark
+refused_marks i (error.UnexpectedFrame class number) b = unexpected_marks b
+refused_marks i (error.PreconditionFailed tag current) b = failed_marks i b
+refused_marks i _ b = []
+
+abbrev pub incoming_marks : Incoming → Record → Wire → List ConfirmMark
+incoming_marks i (record_.Refused e) b = refused_marks i e b
+incoming_marks i record_.Received b = received_marks i b
+incoming_marks i _ b = []
+
+-- ---- tickets
+
+abbrev pub received_tickets : Incoming → Wire → List TicketMark
+received_tickets (incoming.Reply c k a) b = reply_tickets c k a b
+received_tickets (incoming.ChannelClose c code) b = broker_close_tickets c code b
+received_tickets (incoming.ChannelCloseOk c) b = close_ok_tickets c b
+received_tickets (incoming.ConnectionClose code) b = connection_close_tickets b.link code
+received_tickets incoming.ConnectionCloseOk b = connection_close_ok_tickets b
+received_tickets _ b = []
+
+abbrev pub failed_tickets : Incoming → Wire → List TicketMark
+failed_tickets (incoming.Settlement c s) b = failed_tickets_on c b
+failed_tickets _ b = []
+
+abbrev pub refused_tickets : Incoming → Error → Wire → List TicketMark
+refused_tickets i (error.UnexpectedFrame class number) b = unexpected_tickets
+refused_tickets i (error.PreconditionFailed tag current) b = failed_tickets i b
+refused_tickets i _ b = []
+
+abbrev pub incoming_tickets : Incoming → Record → Wire → List TicketMark
+incoming_tickets i (record_.Refused e) b = refused_tickets i e b
+incoming_tickets i record_.Received b = received_tickets i b
+incoming_tickets i _ b = []

@@ -1,0 +1,64 @@
+use Rattle.std.proofs.Common.{◌≡◌, ◌∙◌, ℕ, refl, sym, ap, subst, List, Option, None}
+use Rattle.lapin_types.specs.declared.record.Record.TheVariants as record_
+use Rattle.lapin_types.specs.declared.request.Request.{Request}
+use Rattle.lapin_types.specs.Types.error
+use Rattle.lapin_types.specs.Types.method
+use Rattle.lapin_types.specs.Types.channel
+use Rattle.lapin_tables.specs.ByChannel.{at_channel, on_channel}
+use Rattle.lapin_ticket.specs.Room.{Issued}
+use Rattle.lapin_history.specs.declared.phases.ChannelPhase.{ChannelPhase}
+use Rattle.lapin_history.specs.declared.broker_frames.Incoming.TheVariants as incoming
+use Rattle.lapin_history.specs.Words.{with_channel}
+use Rattle.lapin_history.specs.Frames.{MethodEntry}
+use Rattle.lapin_history.specs.Phases.{phase_in}
+use Rattle.lapin_history.specs.ChannelClose.{after_broker_close, has_sent_close}
+use Rattle.lapin_history.specs.Requests.{no_requests, ticket_of}
+use Rattle.lapin_history.specs.TicketReadings as mark
+use Rattle.lapin_history.specs.ChannelClose.{receives_close}
+use Rattle.lapin_history.specs.Wire.{state_of, phase_of}
+use Rattle.lapin_outbox.specs.Open.{OpenRequests, requests_at}
+use Rattle.lapin_outbox.specs.Outgoing.{OutboxState}
+use Rattle.lapin_ticket.specs.Slots.{after_mark}
+use Rattle.lapin_confirm.specs.Book.{Book, ended}
+use Rattle.lapin_desk.specs.Queued.{AreQueued}
+use Rattle.lapin_desk.specs.Ended.{ended_outbox}
+use Rattle.lapin_machine.specs.Kept.{kept_request, with_kept}
+use Rattle.lapin_machine.specs.World.{World, receiving}
+use Rattle.lapin_machine.proofs.Keeping.{tied_ended, kept_by}
+use Rattle.lapin_machine.proofs.Openings.{receives_opening}
+use Rattle.lapin_machine.proofs.Worlds.{with_entry, channel_close_incoming}
+use Rattle.lapin_machine.proofs.session.Session.receive_channel_close.Goals as goal
+
+pub invariant_of-self-2 : goal.invariant_of-self-2
+invariant_of-self-2 c =
+    let received = ap (λ (w : World). receives_close (state_of c.args.channel w.wire)) c.self.view_is ∙ c.requires in
+    let here = receives_opening c.self.inside.link c.args.channel c.self.inside.phases.entries received in
+    let entry : MethodEntry = record { channel = c.args.channel; method = method.Channel channel.CloseOk; ticket = None } in
+    let taken = c.end_opening.ensures.outbox ∙ ap (ended_outbox c.args.channel) c.reserve.ensures.same in
+    let Q : Book → Type 0 = λ k. AreQueued k.cells c.end_opening.new.self.outbox.what.lists.publishes in
+    let R : OutboxState → Type 0 = λ o. AreQueued (ended c.args.channel (error.ProtocolError c.args.code) c.self.inside.confirms.what.book).cells o.lists.publishes in
+    kept_by _ _ _ _ _ _ _ _ refl c.set.ensures (c.queue_own.ensures.outbox ∙ ap (with_entry entry) taken) c.end_opening.ensures.book
+    (tied_ended c.self.inside.link c.args.channel c.after_broker_close.result (error.ProtocolError c.args.code) c.self.inside.phases.entries _ _ c.self.inside.confirms.what.book here.up here.some (subst R taken (subst Q c.end_opening.ensures.book c.end_opening.ensures.queued)) c.self.invariant.tied)
+    c.self.invariant.unpoisoned
+
+pub returns-clause-ok : goal.returns-clause-ok
+returns-clause-ok c =
+    let old : ChannelPhase = phase_in (at_channel c.args.channel c.self.inside.phases.entries) in
+    let stood : c.phase-phase.result ≡ old = c.phase-phase.ensures ∙ sym (ap (λ (w : World). phase_of c.args.channel w.wire) c.self.view_is) in
+    let close : c.kept_close-close.result ≡ kept_request (has_sent_close old) (requests_at c.args.channel c.self.inside.desk.replies.what) =
+    c.kept_close-close.ensures.close
+    ∙ ap (λ (q : ChannelPhase). kept_request (has_sent_close q) (requests_at c.args.channel c.reserve-2.new.self.what)) stood
+    ∙ ap (λ (rs : List (ℕ × List Request)). kept_request (has_sent_close old) (requests_at c.args.channel rs)) c.reserve-2.ensures.same in
+    let left : c.end_opening.new.self.replies.what ≡ on_channel c.args.channel no_requests c.self.inside.desk.replies.what =
+    c.end_opening.ensures.requests ∙ c.kept_close-close.ensures.emptied ∙ ap (on_channel c.args.channel no_requests) c.reserve-2.ensures.same in
+    let entry : MethodEntry = record { channel = c.args.channel; method = method.Channel channel.CloseOk; ticket = None } in
+    channel_close_incoming c.self.inside.link c.self.inside.phases.entries c.self.inside.desk.outbox.what c.self.inside.desk.replies.what c.self.inside.desk.tickets.slots c.self.inside.confirms.what.book c.args.channel c.args.code _ _ _ _ _
+    (c.set.ensures ∙ ap (λ (q : ChannelPhase). with_channel c.args.channel q c.self.inside.phases.entries) (c.after_broker_close.ensures ∙ ap after_broker_close stood))
+    (c.queue_own.ensures.outbox ∙ ap (with_entry entry) (c.end_opening.ensures.outbox ∙ ap (ended_outbox c.args.channel) c.reserve.ensures.same))
+    (ap (λ (r : OpenRequests). r.what) c.queue_own.ensures.replies ∙ c.keep.ensures
+    ∙ ap (λ (o : Option Request). with_kept c.args.channel o c.end_opening.new.self.replies.what) close
+    ∙ ap (with_kept c.args.channel (kept_request (has_sent_close old) (requests_at c.args.channel c.self.inside.desk.replies.what))) left)
+    (ap (λ (t : Issued). t.slots) c.queue_own.ensures.tickets ∙ c.end_opening.ensures.slots
+    ∙ ap (λ (k : Option ℕ). after_mark c.self.inside.desk.tickets.slots (mark.OpeningFailed c.args.channel k (error.ProtocolError c.args.code))) (c.ticket_of-kept.ensures ∙ ap ticket_of close))
+    c.end_opening.ensures.book
+    ∙ ap (λ (w : World). receiving (incoming.ChannelClose c.args.channel c.args.code) record_.Received w) c.self.view_is

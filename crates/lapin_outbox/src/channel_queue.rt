@@ -1,0 +1,122 @@
+//! Entries in order of joining, from which the first of a key can be taken as well as the first of all.
+//!
+//! The outbox keeps its methods in one line and its publishes in another, by their channels; the open requests of a channel
+//! stand in a line by their kinds. What an entry is, and when it is taken, is `queues` and `requests`, which alone call this
+//! file.
+
+ghost use Rattle.std.specs.Prelude.{◌≡◌, ℕ, ◌+◌, ◌<◌, ◌≤◌, ◌++◌, ◌∷◌, [], IsOk, OnOk, OnErr, drop, slice_get};
+ghost use Rattle.std.specs.List.{find};
+ghost use Rattle.std.specs.Option.{option_copied};
+ghost use Rattle.lapin_history.specs.Frames.{is_empty};
+ghost use Rattle.lapin_history.specs.Words.{without_first};
+ghost use Rattle.lapin_history.specs.Drops.{is_on};
+
+use crate::order::Order;
+use lapin_tables::Numbered;
+use lapin_types::NoMemory;
+use std::alloc::Global;
+use std::marker::Model;
+
+/// What stands in a line: an entry with a number by which it is found.
+pub(crate) trait Keyed: Drop {
+    ghost key_of: { Self → ℕ };
+
+    /// Its key.
+    fn key(&self) -> u16
+        ensures { result ≡ key_of self.now };
+}
+
+/// Entries in order of joining. A contract sees their list, and for how many more there is room.
+#[derive(Drop)]
+pub(crate) struct ChannelQueue<T: Keyed> {
+    // Under the numbers of `order`.
+    entries: Numbered<T>,
+    order: Order,
+}
+
+impl<T: Keyed> Model for ChannelQueue<T> {
+    ghost use Rattle.std.specs.Prelude.{◌≡◌, min};
+    ghost use Rattle.lapin_outbox.specs.ChannelQueue.{InQueue, kept, keys_by};
+
+    ghost Value = { InQueue T };
+
+    ghost view = { λ l. record { entries = kept l.entries.slots; spare = min l.entries.spare l.order.spare } };
+
+    ghost invariant = { λ l. keys_by T.key_of l.entries.slots ≡ l.order.keys };
+}
+
+impl<T: Keyed> ChannelQueue<T> {
+    /// No entry. It takes no memory yet.
+    pub(crate) fn new(alloc: Global) -> ChannelQueue<T>
+        ensures { result.entries ≡ [] }
+    {
+        ChannelQueue {
+            entries: Numbered::new(alloc),
+            order: Order::new(alloc),
+        }
+    }
+
+    /// Makes room for the next `push`. The entries stay.
+    pub(crate) fn reserve(&mut self) -> Result<(), NoMemory>
+        ensures room { OnOk result (0 < self.new.spare) }
+        ensures same { self.new.entries ≡ self.old.entries }
+        ensures kept { self.old.spare ≤ self.new.spare }
+        ensures succeeds { 0 < self.old.spare → IsOk result }
+    {
+        self.entries.reserve(1)?;
+        self.order.reserve()
+    }
+
+    /// Adds an entry behind the others. Where there is no memory nothing is added.
+    pub(crate) fn push(&mut self, entry: T) -> Result<(), NoMemory>
+        ensures ok { OnOk result (self.new.entries ≡ self.old.entries ++ entry ∷ []) }
+        ensures err { OnErr result (self.new.entries ≡ self.old.entries) }
+
+        // In the room that `reserve` made it does not fail, and it uses up no more than one place.
+        ensures room { 0 < self.old.spare → IsOk result }
+        ensures used { self.old.spare ≤ self.new.spare + 1 }
+    {
+        self.entries.reserve(1)?;
+        self.order.reserve()?;
+        self.order.push_reserved(entry.key());
+        self.entries.push_reserved(entry);
+        Ok(())
+    }
+
+    /// Whether there is no entry.
+    pub(crate) fn is_empty(&self) -> bool
+        ensures { result ≡ is_empty self.now.entries }
+    {
+        self.entries.first_number().is_none()
+    }
+
+    /// Takes out the first entry; `None` exactly where there is none.
+    pub(crate) fn pop(&mut self) -> Option<T>
+        ensures taken { result ≡ slice_get self.old.entries 0 }
+        ensures others { self.new.entries ≡ drop 1 self.old.entries }
+        ensures kept { self.old.spare ≤ self.new.spare }
+    {
+        let number = self.entries.first_number()?;
+        let entry = self.entries.take(number)?;
+        let _ = self.order.take_first(entry.key());
+        Some(entry)
+    }
+
+    /// The first entry of a key; `None` exactly where there is none.
+    pub(crate) fn first_of(&self, key: u16) -> Option<&T>
+        ensures { option_copied result ≡ find (is_on T.key_of key) self.now.entries }
+    {
+        let number = self.order.first(key)?;
+        self.entries.get(number)
+    }
+
+    /// Takes out the first entry of a key; `None` exactly where there is none. The others keep their order.
+    pub(crate) fn pop_of(&mut self, key: u16) -> Option<T>
+        ensures taken { result ≡ find (is_on T.key_of key) self.old.entries }
+        ensures others { self.new.entries ≡ without_first (is_on T.key_of key) self.old.entries }
+        ensures kept { self.old.spare ≤ self.new.spare }
+    {
+        let number = self.order.take_first(key)?;
+        self.entries.take(number)
+    }
+}
