@@ -1,0 +1,33 @@
+-- How the values of this crate are stored as tuples of their fields, by which a proof tells two of them apart. No clause cites
+-- this.
+use Rattle.std.specs.Prelude.{ℕ, List, refl}
+use Rattle.std.specs.Coded.{Coded, code_by, coded×, coded_ℕ, coded_list}
+use Rattle.lapin_machine.specs.World.{World}
+use Rattle.lapin_machine.specs.Codes.{world_code}
+use Rattle.lapin_shared.specs.declared.entry.Entry.{Entry}
+use Rattle.lapin_shared.specs.declared.entry.Told.{Told}
+use Rattle.lapin_shared.specs.contracts.entry.Entry as entry_row
+use Rattle.lapin_shared.specs.contracts.entry.Told as told_row
+use Rattle.lapin_shared.specs.Kept.{Kept}
+use Rattle.lapin_shared.specs.Grown.{Seen}
+
+abbrev pub entries_code : Coded (List Entry)
+entries_code = coded_list entry_row.the_row.coded
+
+abbrev pub kept_code : Coded Kept
+kept_code =
+    code_by
+    (ℕ × (List Entry × World))
+    (coded× coded_ℕ (coded× entries_code world_code))
+    (λ k. (k.frame_max, (k.entries, k.world)))
+    (λ p. record { frame_max = p.0; entries = p.1.0; world = p.1.1 })
+    (λ _. refl)
+
+abbrev pub seen_code : Coded Seen
+seen_code =
+    code_by
+    (ℕ × List Told)
+    (coded× coded_ℕ (coded_list told_row.the_row.coded))
+    (λ s. (s.number, s.log))
+    (λ p. record { number = p.0; log = p.1 })
+    (λ _. refl)

@@ -1,0 +1,23 @@
+-- When a stored history is one that a session could have told.
+use Rattle.std.specs.Prelude.{◌≡◌, ℕ, List, map}
+use Rattle.lapin_types.specs.declared.event.Event.{Event}
+use Rattle.lapin_types.specs.declared.record.Record.{Record}
+use Rattle.lapin_history.specs.History.{History, run}
+use Rattle.lapin_shared.specs.declared.entry.Entry.{Entry}
+
+abbrev pub told_in : Entry → Event × Record
+told_in x = (x.event, x.answer)
+
+-- the events with their records
+abbrev pub history_of : List Entry → History
+history_of es = map told_in es
+
+abbrev pub event_of : Entry → Event
+event_of x = x.event
+
+abbrev pub answer_of : Entry → Record
+answer_of x = x.answer
+
+-- Its answers, in order, are those of a session that begins new and meets its events.
+abbrev pub IsLawful : ℕ → List Entry → Type 0
+IsLawful frame_max es = map answer_of es ≡ run frame_max (map event_of es)

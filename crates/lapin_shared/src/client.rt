@@ -1,0 +1,195 @@
+ghost use Rattle.std.specs.Prelude.{◌≡◌, ℕ, ◌+◌, ◌-◌, ◌<◌, ◌≤◌, [], ◌∷◌, ◌++◌, length, IfOk, OnOk, OnErr, IfErr, true, All, ◌↔◌};
+ghost use Rattle.std.specs.List.{sum_by};
+ghost use Rattle.std.specs.Sync.Mutex.{mutex_guard_value};
+ghost use Rattle.lapin_shared.specs.Lawful.{IsLawful};
+ghost use Rattle.lapin_shared.specs.Checked.{IsAt, AllAt};
+ghost use Rattle.lapin_shared.specs.Grown.{AreFresh, Rise};
+ghost use Rattle.lapin_shared.specs.Finished.{IsOut};
+
+use crate::caller::{Caller, Shared};
+use crate::entry::Entry;
+use crate::history::{History, are_at, copied};
+use crate::locked::{Crew, Locked};
+use lapin_types::NoMemory;
+use std::alloc::Global;
+use std::marker::Model;
+use std::sync::ledger::{Blank, Share};
+use std::sync::{Arc, Condvar, Mutex, MutexGuard, Wait};
+
+#[derive(Clone, Copy, Debug, PartialEq, Eq)]
+pub enum FinishError {
+    NoMemory,
+    StillOut { made: u64, given: u64 },
+}
+
+/// The session that its callers share.
+#[derive(Drop)]
+pub struct Client<L: Crew> {
+    shared: Arc<Shared<L>, Global>,
+    frame_max: u32,
+    made: u64,
+}
+
+impl<L: Crew> Model for Client<L> {
+    ghost use Rattle.std.specs.Prelude.{◌≡◌, ◌<◌, ℕ};
+    ghost use Rattle.lapin_shared.specs.Grown.{Made};
+
+    ghost Value = { Made };
+
+    ghost view = { λ a. record { frame_max = a.frame_max; made = a.made } };
+
+    ghost invariant = { λ a. (a.made ≡ L.parts) × (0 < a.made) };
+}
+
+impl<L: Crew> Client<L> {
+    pub fn made(&self) -> u64
+        ensures { result ≡ self.now.made }
+    {
+        self.made
+    }
+
+    pub fn frame_max(&self) -> u32
+        ensures { result ≡ self.now.frame_max }
+    {
+        self.frame_max
+    }
+
+    /// A client over a new session, and its callers.
+    #[tactic(auto, using(crate::proofs::Rising::fresh_snoc))]
+    pub fn new(
+        alloc: Global,
+        frame_max: u32,
+        callers: usize,
+        blank: Blank,
+    ) -> Result<(Client<L>, Vec<Caller<L>>), NoMemory>
+        requires frame_max { 4096 ≤ frame_max }
+        requires some { 1 ≤ callers }
+        requires name { blank.name ≡ L.name }
+        requires parts { (blank.parts ≡ callers) × (blank.parts ≡ L.parts) }
+        ensures client { IfOk result (λ r. (r.0.frame_max ≡ frame_max) × (r.0.made ≡ callers)) }
+        ensures count { IfOk result (λ r. length r.1.items ≡ callers) }
+        ensures fresh { IfOk result (λ r. AreFresh 1 r.1.items) }
+    {
+        let (book, mut rest) = blank.open::<L>();
+        let shared = Shared {
+            lock: Mutex::new(Locked::new(alloc, frame_max, book)?),
+            moved: Condvar::new(),
+        };
+        let shared = Arc::new(alloc, shared)?;
+        let mut all = Vec::new(alloc);
+        for i in 0..callers {
+            let share = rest.split_off(1, 0);
+            all.push(Caller::new(alloc, Arc::try_clone(&shared)?, i as u64 + 1, share))?;
+        }
+        let client = Client {
+            shared,
+            frame_max,
+            made: callers as u64,
+        };
+        Ok((client, all))
+    }
+
+    /// Takes all callers back, and gives a copy of the history.
+    pub fn finish<R: Wait>(
+        &self,
+        rt: &R,
+        alloc: Global,
+        callers: &mut Vec<Caller<L>>,
+    ) -> Result<History, FinishError>
+        ensures lawful { IfOk result (λ h. IsLawful self.now.frame_max h) }
+        ensures count { IfOk result (λ h. length h ≡ sum_by (λ c. length c.log) callers.old.items) }
+        ensures stand { IfOk result (λ h. All (λ c. AllAt h c) callers.old.items) }
+        ensures rise { OnOk result (All (λ c. Rise 0 c.log) callers.old.items) }
+        ensures emptied { OnOk result (callers.new.items ≡ []) }
+        ensures err { OnErr result (callers.new.items ≡ callers.old.items) }
+        ensures out { IsOut self.now.made (length callers.old.items) result }
+    {
+        let given = callers.len() as u64;
+        if given < self.made {
+            return Err(FinishError::StillOut {
+                made: self.made,
+                given,
+            });
+        }
+        let mut guard = lock_checked(rt, &self.shared, self.frame_max, callers.as_slice());
+        close(alloc, &mut guard, callers)
+    }
+}
+
+/// The lock's value, which has that frame_max, and in which each entry of the logs stands.
+fn lock_checked<'a, L: Crew, R: Wait>(
+    rt: &R,
+    shared: &'a Shared<L>,
+    frame_max: u32,
+    callers: &[Caller<L>],
+) -> MutexGuard<'a, Locked<L>>
+    ensures frame_max { (mutex_guard_value result).frame_max ≡ frame_max }
+    ensures stand { All (λ c. AllAt (mutex_guard_value result).entries c) callers.now }
+    ensures rise { All (λ c. Rise 0 c.log) callers.now }
+{
+    for _ in rt.forever() {
+        let guard = shared.lock.lock(rt);
+        if guard.frame_max() == frame_max && all_at(&guard, callers) {
+            return guard;
+        }
+    }
+    unreachable!()
+}
+
+fn all_at<L: Crew>(locked: &Locked<L>, callers: &[Caller<L>]) -> bool
+    ensures stand { result ≡ true → All (λ c. AllAt locked.now.entries c) callers.now }
+    ensures rise { result ≡ true → All (λ c. Rise 0 c.log) callers.now }
+{
+    let entries = locked.entries();
+    callers.iter().all(|caller| is_back(entries, caller))
+}
+
+/// Whether the log of a caller stands in the history.
+fn is_back<L: Crew>(entries: &[Entry], caller: &Caller<L>) -> bool
+    ensures stand { result ≡ true → AllAt entries.now caller.now }
+    ensures rise { Rise 0 caller.now.log }
+{
+    are_at(entries, caller.number(), caller.log())
+}
+
+/// Copies the history and takes the callers' shares back, which count its entries.
+fn close<L: Crew>(
+    alloc: Global,
+    locked: &mut Locked<L>,
+    callers: &mut Vec<Caller<L>>,
+) -> Result<History, FinishError>
+    requires { (0 < length callers.old.items) × (L.parts ≤ length callers.old.items) }
+    ensures history { IfOk result (λ h. h ≡ locked.old.entries) }
+    ensures lawful { IsLawful locked.old.frame_max locked.old.entries }
+    ensures count { IfOk result (λ h. length h ≡ sum_by (λ c. length c.log) callers.old.items) }
+    ensures emptied { OnOk result (callers.new.items ≡ []) }
+    ensures err { OnErr result (callers.new.items ≡ callers.old.items) }
+    ensures no_memory { IfErr result (λ e. e ≡ FinishError.NoMemory) }
+{
+    let Ok(history) = copied(alloc, locked.entries()) else {
+        return Err(FinishError::NoMemory);
+    };
+    let mut all = gathered(callers);
+    locked.audit(&mut all);
+    Ok(history)
+}
+
+/// The shares of all callers.
+fn gathered<L: Crew>(callers: &mut Vec<Caller<L>>) -> Share<L>
+    requires { 0 < length callers.old.items }
+    ensures parts { result.parts ≡ length callers.old.items }
+    ensures at_most { result.parts ≤ L.parts }
+    ensures amount { result.amount ≡ sum_by (λ c. length c.log) callers.old.items }
+    ensures emptied { callers.new.items ≡ [] }
+{
+    let Some(last) = callers.pop() else {
+        unreachable!()
+    };
+    let mut all = last.into_share();
+    let none = all.empty();
+    all.merge(none);
+    while let Some(caller) = callers.pop() {
+        all.merge(caller.into_share());
+    }
+    all
+}

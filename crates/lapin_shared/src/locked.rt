@@ -1,0 +1,220 @@
+//! The lock's value: a session, the history of its steps, and the book of the ledger whose shares the callers hold.
+//!
+//! No lock is taken here. `Hand` calls it for a caller.
+
+ghost use Rattle.std.specs.Prelude.{◌≡◌, ℕ, None, ◌+◌, ◌<◌, [], ◌∷◌, ◌++◌, length, ◌-◌, ◌≤◌, IfOk, IfSome, OnOk, OnErr, not, slice_get};
+ghost use Rattle.lapin_types.specs.declared.event.Event.TheVariants as event;
+ghost use Rattle.lapin_history.specs.History.{History, rec};
+ghost use Rattle.lapin_machine.specs.World.{told_by};
+ghost use Rattle.lapin_machine.specs.Told.{is_pending_record};
+ghost use Rattle.lapin_machine.specs.Numbers.{HasNumbersFor};
+ghost use Rattle.lapin_machine.specs.Stands.{Stands};
+ghost use Rattle.lapin_shared.specs.Lawful.{history_of, IsLawful};
+ghost use Rattle.lapin_shared.specs.Kept.{entry};
+
+use crate::entry::Entry;
+use lapin_session::Session;
+use lapin_types::{Error, Event, NoMemory, Record};
+use std::alloc::Global;
+use std::marker::{Brand, Model};
+use std::sync::ledger::{Book, Ledger, Share};
+
+/// One ledger, with as many parts as there are callers: what ties callers to their client.
+pub trait Crew: Ledger {}
+
+impl Crew for Brand {}
+
+/// What lies under the lock. The history is lawful, the session stands for it, and the book counts its entries. The session has no
+/// frame that was given back.
+#[derive(Drop)]
+pub struct Locked<L: Crew> {
+    session: Session,
+    frame_max: u32,
+    history: Vec<Entry>,
+    book: Book<L>,
+}
+
+impl<L: Crew> Model for Locked<L> {
+    ghost use Rattle.lapin_shared.specs.Kept.{Kept, IsKept};
+
+    ghost Value = { Kept };
+
+    ghost use Rattle.lapin_shared.specs.Codes.{kept_code};
+
+    ghost coded = { kept_code };
+
+    ghost view = { λ a. record { frame_max = a.frame_max; entries = a.history.items; world = a.session } };
+
+    ghost invariant = { λ a. IsKept a.frame_max a.history.items a.session a.book.total };
+}
+
+impl<L: Crew> Locked<L> {
+    /// A lock's value over a new session, with an empty history.
+    ///
+    /// # Errors
+    /// `NoMemory` alone.
+    pub fn new(alloc: Global, frame_max: u32, book: Book<L>) -> Result<Self, NoMemory>
+        requires large { 4096 ≤ frame_max }
+        requires none { book.total ≡ 0 }
+        ensures frame_max { IfOk result (λ locked. locked.frame_max ≡ frame_max) }
+        ensures entries { IfOk result (λ locked. locked.entries ≡ []) }
+    {
+        Ok(Locked {
+            session: Session::new(alloc, frame_max)?,
+            frame_max,
+            history: Vec::new(alloc),
+            book,
+        })
+    }
+
+    /// Makes one step, and answers the place of its entry, which is the history's new length. The entry has the record that the
+    /// stored history determines, and the share counts one more.
+    ///
+    /// # Errors
+    /// `NoMemory` alone. Nothing changes then.
+    pub fn step(
+        &mut self,
+        alloc: Global,
+        caller: u64,
+        share: &mut Share<L>,
+        event: Event,
+    ) -> Result<u64, NoMemory>
+        requires { 0 < share.old.parts }
+        ensures place { IfOk result (λ p. p ≡ length self.new.entries) }
+        ensures history { OnOk result (self.new.entries ≡ self.old.entries ++ entry caller event (rec self.old.frame_max (history_of self.old.entries) event) ∷ []) }
+        ensures machine { OnOk result (rec self.old.frame_max (history_of self.old.entries) event ≡ told_by self.old.world event) }
+        ensures amount { OnOk result (share.new.amount ≡ share.old.amount + 1) }
+        ensures frame_max { self.new.frame_max ≡ self.old.frame_max }
+        ensures parts { share.new.parts ≡ share.old.parts }
+        ensures err { OnErr result ((self.new ≡ self.old) × (share.new.amount ≡ share.old.amount)) }
+    {
+        let Ok(()) = self.history.reserve(1) else {
+            drop(event);
+            return Err(NoMemory);
+        };
+        let entry = told_entry(alloc, &mut self.session, caller, event)?;
+        self.history.push_reserved(entry);
+        self.book.add(share, 1);
+        Ok(self.history.len() as u64)
+    }
+
+    /// How many steps are stored.
+    pub fn len(&self) -> u64
+        ensures { result ≡ length self.now.entries }
+    {
+        self.history.len() as u64
+    }
+
+    /// The greatest size of a frame in bytes, with which the session began.
+    pub fn frame_max(&self) -> u32
+        ensures { result ≡ self.now.frame_max }
+    {
+        self.frame_max
+    }
+
+    /// The stored history, which is lawful.
+    pub fn entries(&self) -> &[Entry]
+        ensures value { result.now ≡ self.now.entries }
+        ensures lawful { IsLawful self.now.frame_max self.now.entries }
+    {
+        self.history.as_slice()
+    }
+
+    // A share with every part has the length of the history as its amount.
+    pub(crate) fn audit(&mut self, all: &mut Share<L>)
+        requires { all.old.parts ≡ L.parts }
+        ensures counted { all.old.amount ≡ length self.old.entries }
+        ensures same { self.new ≡ self.old }
+        ensures parts { all.new.parts ≡ all.old.parts }
+        ensures amount { all.new.amount ≡ all.old.amount }
+    {
+        self.book.audit(all);
+    }
+
+    // Whether a poll of the ticket would not be pending.
+    pub(crate) fn is_ready(&self, ticket: u64) -> bool
+        ensures { result ≡ not (is_pending_record (told_by self.now.world (event.PollTicket ticket))) }
+    {
+        self.session.ticket_ready(ticket)
+    }
+
+    // Makes one step as `step` does, and gives a copy of its record, or `None` where there was no memory for one.
+    pub(crate) fn make(
+        &mut self,
+        alloc: Global,
+        caller: u64,
+        share: &mut Share<L>,
+        event: Event,
+    ) -> Result<(u64, Option<Record>), NoMemory>
+        requires { 0 < share.old.parts }
+        ensures place { IfOk result (λ p. p.0 ≡ length self.old.entries + 1) }
+        ensures history { OnOk result (self.new.entries ≡ self.old.entries ++ entry caller event (rec self.old.frame_max (history_of self.old.entries) event) ∷ []) }
+        ensures answer { IfOk result (λ p. IfSome p.1 (λ r. r ≡ rec self.old.frame_max (history_of self.old.entries) event)) }
+        ensures machine { OnOk result (rec self.old.frame_max (history_of self.old.entries) event ≡ told_by self.old.world event) }
+        ensures amount { OnOk result (share.new.amount ≡ share.old.amount + 1) }
+        ensures frame_max { self.new.frame_max ≡ self.old.frame_max }
+        ensures parts { share.new.parts ≡ share.old.parts }
+        ensures err { OnErr result ((self.new ≡ self.old) × (share.new.amount ≡ share.old.amount)) }
+    {
+        let place = self.step(alloc, caller, share, event)?;
+        let answer = self.copy_at(alloc, place).ok();
+        Ok((place, answer))
+    }
+
+    // A copy of the record at a place.
+    pub(crate) fn copy_at(&self, alloc: Global, place: u64) -> Result<Record, NoMemory>
+        requires { (0 < place) × (place ≤ length self.now.entries) }
+        ensures { IfOk result (λ r. IfSome (slice_get self.now.entries (place - 1)) (λ x. r ≡ x.answer)) }
+    {
+        self.history[(place - 1) as usize].answer.try_clone(alloc)
+    }
+}
+
+// A step of a session that has numbers left and no frame given back, as the entry that is stored.
+fn told_entry(
+    alloc: Global,
+    session: &mut Session,
+    caller: u64,
+    event: Event,
+) -> Result<Entry, NoMemory>
+    requires numbers { HasNumbersFor 1 session.old }
+    requires steady { session.old.returned ≡ None }
+    ensures entry { IfOk result (λ x. x ≡ entry caller event x.answer) }
+    ensures told { IfOk result (λ x. x.answer ≡ told_by session.old event) }
+    ensures stands { IfOk result (λ x. (frame_max : ℕ) (h : History) → Stands frame_max h session.old →
+        (x.answer ≡ rec frame_max h event) × Stands frame_max (h ++ (event, x.answer) ∷ []) session.new) }
+    ensures steady { OnOk result (session.new.returned ≡ None) }
+    ensures err { OnErr result (session.new ≡ session.old) }
+{
+    let Ok(kept) = event.try_clone(alloc) else {
+        drop(event);
+        return Err(NoMemory);
+    };
+    let Ok(answer) = step_session(alloc, session, event) else {
+        drop(kept);
+        return Err(NoMemory);
+    };
+    Ok(Entry {
+        caller,
+        event: kept,
+        answer,
+    })
+}
+
+// A step of a session that has numbers left and no frame given back.
+#[tactic(auto, using(lapin_machine::proofs::Back::given_none, lapin_machine::proofs::Back::still_none))]
+fn step_session(alloc: Global, session: &mut Session, event: Event) -> Result<Record, NoMemory>
+    requires numbers { HasNumbersFor 1 session.old }
+    requires steady { session.old.returned ≡ None }
+    ensures told { IfOk result (λ r. r ≡ told_by session.old event) }
+    ensures stands { IfOk result (λ r. (frame_max : ℕ) (h : History) → Stands frame_max h session.old →
+        (r ≡ rec frame_max h event) × Stands frame_max (h ++ (event, r) ∷ []) session.new) }
+    ensures steady { OnOk result (session.new.returned ≡ None) }
+    ensures err { OnErr result (session.new ≡ session.old) }
+{
+    match session.step(alloc, event) {
+        Ok(answer) => Ok(answer),
+        Err(Error::NoMemory) => Err(NoMemory),
+        Err(_) => unreachable!(),
+    }
+}
