@@ -1,8 +1,10 @@
 -- Bytes as pairs of hexadecimal digits, and short texts.
-use Rattle.std.proofs.Common.{◌≡◌, ℕ, suc, Bool, ◌++◌, ◌+◌, ◌-◌, ◌*◌, ◌/◌, ◌%◌, ◌<◌, ◌≤◌, ◌≢◌, zero, false, arith, take, List, [], ◌∷◌, length, get_or, Option, Some, None, Ok, Err, refl, sym, ap, subst, ◌∙◌, true, ltb, leb, ◌⊎◌, inl, inr}
-use Rattle.std.specs.Prelude.{◌&&◌, ◌||◌, ◌==◌, slice_set}
+use Rattle.std.proofs.Common.{◌≡◌, ℕ, suc, Bool, ◌++◌, ◌+◌, ◌-◌, ◌*◌, ◌/◌, ◌%◌, ◌<◌, ◌≤◌, ◌≢◌, zero, false, arith, take, drop, List, [], ◌∷◌, length, get_or, Option, Some, None, refl, sym, ap, subst, ◌∙◌, true, ltb, leb, ◌⊎◌, inl, inr}
+use Rattle.std.specs.Prelude.{◌&&◌, ◌||◌, ◌==◌}
+use Rattle.std.specs.Int.{from_le_bytes, w16}
+use Rattle.std.specs.Simd.{first_chunks}
 use Rattle.std.proofs.lemmas.Bool.{cases_lt, eqb-true}
-use Rattle.std.proofs.lemmas.List.{append_assoc, get_or_past, take_all, take_more, take_more_set}
+use Rattle.std.proofs.lemmas.List.{append_assoc, get_or_past, get_or-drop, get_or-take, drop-drop, take_all, take_more}
 use Rattle.std.specs.Str.{is_utf8, IsUtf8}
 use Rattle.std.proofs.lemmas.Str.{IsUtf8-from_is_utf8, is_utf8-from_IsUtf8}
 use Rattle.std.proofs.lemmas.Bool.{lt-ltb, leb-true, le-leb}
@@ -66,6 +68,22 @@ value_text c v h e = elim (either_true (leb 48 c && leb c 57) (leb 97 c && leb c
       let d : v ≡ c - 87 = omega (arith, e, low, high) in
       (omega (arith, d, low, high), letter_text v (omega (arith, d, low, high)) (omega (arith, d, low, high)) ∙ omega (arith, d, low, high))
 ]
+
+-- what a pair of digits says, by its bits
+pub pair_text : (n v : ℕ) → is_digit (n % 256) ≡ true → is_digit (n / 256) ≡ true → v ≡ 16 * (n % 16 + 9 * (n / 64 % 2)) + (n / 256 % 16 + 9 * (n / 16384))
+    → (get_or lower_digits (v / 16) 0 ≡ n % 256) × (get_or lower_digits (v % 16) 0 ≡ n / 256)
+pair_text n v first second e =
+    let x : ℕ = n % 256 % 16 + 9 * (n % 256 / 64) in
+    let y : ℕ = n / 256 % 16 + 9 * (n / 256 / 64) in
+    let p = value_text (n % 256) x first refl in
+    let q = value_text (n / 256) y second refl in
+    let low : n % 16 ≡ n % 256 % 16 = omega arith in
+    let up : n / 64 % 2 ≡ n % 256 / 64 = omega (arith, p.0) in
+    let far : n / 16384 ≡ n / 256 / 64 = omega arith in
+    let sum : v ≡ 16 * x + y = omega (arith, e, low, up, far) in
+    let high : v / 16 ≡ x = omega (arith, sum, q.0) in
+    let rest : v % 16 ≡ y = omega (arith, sum, q.0) in
+    (ap (λ (k : ℕ). get_or lower_digits k 0) high ∙ p.1, ap (λ (k : ℕ). get_or lower_digits k 0) rest ∙ q.1)
 
 pub digit_within : (cs : List ℕ) (i : ℕ) → all_digits cs ≡ true → i < length cs → is_digit (get_or cs i 0) ≡ true
 digit_within [] i e lt = absurd (omega arith)
@@ -133,25 +151,65 @@ unfolding encode_with
 encode_push t [] b = refl
 encode_push t (x ∷ xs) b = ap (λ (rest : List ℕ). get_or t (x / 16) 0 ∷ get_or t (x % 16) 0 ∷ rest) (encode_push t xs b)
 
+-- a pair of digits among all pairs
+pub pair_at : (k i : ℕ) (xs d : List ℕ) → i < k → get_or (first_chunks 2 k xs) i d ≡ take 2 (drop (2 * i) xs)
+pair_at zero i xs d lt = absurd (omega arith)
+pair_at (suc k) zero xs d lt = refl
+pair_at (suc k) (suc i) xs d lt =
+    let two : 2 + 2 * i ≡ 2 * suc i = omega arith in
+    pair_at k i (drop 2 xs) d (omega arith) ∙ ap (take 2) (drop-drop (2 * i) 2 xs ∙ ap (λ (n : ℕ). drop n xs) two)
+
+-- the number that a pair is read as
+pub pair_number : (xs : List ℕ) (i : ℕ) → 2 * i + 1 < length xs
+    → from_le_bytes w16 (take 2 (drop (2 * i) xs)) ≡ get_or xs (2 * i) 0 + 256 * get_or xs (2 * i + 1) 0
+pair_number xs i fits =
+    let both : List ℕ = take 2 (drop (2 * i) xs) in
+    let here : 2 * i + 0 ≡ 2 * i = omega arith in
+    let first : get_or both 0 0 ≡ get_or xs (2 * i) 0 = get_or-take 2 (drop (2 * i) xs) 0 0 (omega arith) ∙ get_or-drop (2 * i) xs 0 0 ∙ ap (λ (k : ℕ). get_or xs k 0) here in
+    let second : get_or both 1 0 ≡ get_or xs (2 * i + 1) 0 = get_or-take 2 (drop (2 * i) xs) 1 0 (omega arith) ∙ get_or-drop (2 * i) xs 1 0 in
+    omega (arith, first, second)
+
+-- the two digits of a pair that is read as a number
+pub pair_digits : (xs : List ℕ) (ps : List (List ℕ)) (d : List ℕ) (i n : ℕ) → ps ≡ first_chunks 2 (length xs / 2) xs → i < length xs / 2
+    → n ≡ from_le_bytes w16 (get_or ps i d) → all_digits xs ≡ true
+    → (n % 256 ≡ get_or xs (2 * i) 0) × (n / 256 ≡ get_or xs (2 * i + 1) 0) × (is_digit (n % 256) ≡ true) × (is_digit (n / 256) ≡ true)
+pair_digits xs ps d i n whole lt e all =
+    let first = digit_within xs (2 * i) all (omega arith) in
+    let second = digit_within xs (2 * i + 1) all (omega arith) in
+    let small = (value_text (get_or xs (2 * i) 0) _ first refl).0 in
+    let number = e ∙ ap (from_le_bytes w16) (ap (λ (p : List (List ℕ)). get_or p i d) whole ∙ pair_at (length xs / 2) i xs d lt) ∙ pair_number xs i (omega arith) in
+    let low : n % 256 ≡ get_or xs (2 * i) 0 = omega (arith, number, small) in
+    let high : n / 256 ≡ get_or xs (2 * i + 1) 0 = omega (arith, number, small) in
+    (low, high, ap is_digit low ∙ first, ap is_digit high ∙ second)
+
 -- one byte more is decoded
-pub decode_step : (digits out : List ℕ) (i b x y : ℕ) → i < length out → 2 * i + 1 < length digits → x < 16 → y < 16 → b ≡ 16 * x + y
-    → get_or lower_digits x 0 ≡ get_or digits (2 * i) 0 → get_or lower_digits y 0 ≡ get_or digits (2 * i + 1) 0
-    → encode_lower (take i out) ≡ take (2 * i) digits → encode_lower (take (i + 1) (slice_set out i b)) ≡ take (2 * (i + 1)) digits
-decode_step digits out i b x y lt fits high low e first second inv =
-    let quotient : b / 16 ≡ x = omega arith in
-    let rest : b % 16 ≡ y = omega arith in
-    let a : get_or lower_digits (b / 16) 0 ≡ get_or digits (2 * i) 0 = ap (λ (k : ℕ). get_or lower_digits k 0) quotient ∙ first in
-    let z : get_or lower_digits (b % 16) 0 ≡ get_or digits (2 * i + 1) 0 = ap (λ (k : ℕ). get_or lower_digits k 0) rest ∙ second in
+pub decode_step : (digits out : List ℕ) (i b : ℕ) → 2 * i + 1 < length digits
+    → get_or lower_digits (b / 16) 0 ≡ get_or digits (2 * i) 0 → get_or lower_digits (b % 16) 0 ≡ get_or digits (2 * i + 1) 0
+    → encode_lower out ≡ take (2 * i) digits → encode_lower (out ++ b ∷ []) ≡ take (2 * (i + 1)) digits
+decode_step digits out i b fits first second inv =
     let two : 2 * (i + 1) ≡ 2 * i + 1 + 1 = omega arith in
     let one = take_more digits (2 * i) 0 (omega arith) in
     let other = take_more digits (2 * i + 1) 0 (omega arith) in
-    ap encode_lower (take_more_set out i b lt) ∙ encode_push lower_digits (take i out) b
-    ∙ rw (inv, a, z, two, other, one) (sym (append_assoc (take (2 * i) digits) (get_or digits (2 * i) 0 ∷ []) (get_or digits (2 * i + 1) 0 ∷ [])))
+    encode_push lower_digits out b
+    ∙ rw (inv, first, second, two, other, one) (sym (append_assoc (take (2 * i) digits) (get_or digits (2 * i) 0 ∷ []) (get_or digits (2 * i + 1) 0 ∷ [])))
 
--- every byte is decoded
-pub decode_done : (digits out : List ℕ) (i : ℕ) → length out ≤ i → length digits ≡ 2 * length out
-    → encode_lower (take i out) ≡ take (2 * i) digits → encode_lower out ≡ digits
-decode_done digits out i h len inv = sym (ap encode_lower (take_all i out h)) ∙ inv ∙ take_all (2 * i) digits (omega arith)
+-- every pair is decoded
+pub decode_done : (digits out : List ℕ) (i : ℕ) → length digits ≤ 2 * i → encode_lower out ≡ take (2 * i) digits → encode_lower out ≡ digits
+decode_done digits out i h inv = inv ∙ take_all (2 * i) digits h
+
+-- the digits of one byte more are written
+pub encode_step : (front after bs : List ℕ) (i x y : ℕ) → i < length bs
+    → x ≡ get_or lower_digits (get_or bs i 0 / 16) 0 → y ≡ get_or lower_digits (get_or bs i 0 % 16) 0
+    → after ≡ front ++ encode_lower (take i bs) → (after ++ x ∷ []) ++ y ∷ [] ≡ front ++ encode_lower (take (i + 1) bs)
+encode_step front after bs i x y lt ex ey inv =
+    let more : encode_lower (take (i + 1) bs) ≡ encode_lower (take i bs) ++ x ∷ y ∷ [] =
+    rw (ex, ey) (ap encode_lower (take_more bs i 0 lt) ∙ encode_push lower_digits (take i bs) (get_or bs i 0)) in
+    append_assoc after (x ∷ []) (y ∷ []) ∙ ap (λ (t : List ℕ). t ++ x ∷ y ∷ []) inv
+    ∙ append_assoc front (encode_lower (take i bs)) (x ∷ y ∷ []) ∙ ap (λ (r : List ℕ). front ++ r) (sym more)
+
+-- the digits of every byte are written
+pub encode_done : (front after bs : List ℕ) (i : ℕ) → length bs ≤ i → after ≡ front ++ encode_lower (take i bs) → after ≡ front ++ encode_lower bs
+encode_done front after bs i h inv = inv ∙ ap (λ (b : List ℕ). front ++ encode_lower b) (take_all i bs h)
 
 -- ---- behind an x
 

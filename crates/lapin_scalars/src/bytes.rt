@@ -21,8 +21,7 @@ pub fn pairs_of(alloc: Global, digits: &[u8]) -> Result<Vec<u8>, ReadError>
     if !are_digits(digits) {
         return Err(ReadError::Bad);
     }
-    let mut bytes = vec![in alloc; 0; digits.len() / 2]?;
-    decode(digits, &mut bytes);
+    let bytes = decode(alloc, digits)?;
     Ok(bytes)
 }
 

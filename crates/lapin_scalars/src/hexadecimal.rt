@@ -1,8 +1,11 @@
-//! Hexadecimal digits in lower case, two a byte, in loops that read and write in place.
+//! Hexadecimal digits in lower case, two a byte, in loops that the compiler makes work on many bytes at once.
 
-ghost use Rattle.std.specs.Prelude.{◌≡◌, ◌*◌, ◌<◌, true, length, slice_index};
+ghost use Rattle.std.specs.Prelude.{◌≡◌, ◌++◌, ◌+◌, ◌*◌, ◌/◌, ◌%◌, ◌<◌, ◌≤◌, true, length, slice_index, IfOk};
+ghost use Rattle.std.specs.Vec.{vec_len, vec_capacity};
 ghost use Rattle.hex.specs.Hex.{encode_lower, lower_digits};
 ghost use Rattle.lapin_scalars.specs.Digits.{is_digit as is_a_digit, all_digits};
+
+use std::alloc::{AllocError, Global};
 
 #[inline(always)]
 fn is_digit(byte: u8) -> bool
@@ -22,48 +25,53 @@ pub fn are_digits(bytes: &[u8]) -> bool
     all
 }
 
-// What a digit says.
+// The byte that two digits say, the first of them in the low 8 bits.
 #[inline(always)]
-fn value_of(digit: u8) -> u8
-    requires { is_a_digit digit ≡ true }
-    ensures less { result < 16 }
-    ensures digit { slice_index lower_digits result ≡ digit }
+fn byte_of(digits: u16) -> u8
+    requires first { is_a_digit (digits % 256) ≡ true }
+    requires second { is_a_digit (digits / 256) ≡ true }
+    ensures first { slice_index lower_digits (result / 16) ≡ digits % 256 }
+    ensures second { slice_index lower_digits (result % 16) ≡ digits / 256 }
 {
-    (digit & 15) + 9 * (digit >> 6)
+    let first = (digits & 15) + 9 * ((digits >> 6) & 1);
+    let second = ((digits >> 8) & 15) + 9 * (digits >> 14);
+    (16 * first + second) as u8
 }
 
-/// Writes the bytes that the pairs of digits say.
-pub fn decode(digits: &[u8], bytes: &mut [u8])
-    requires pairs { length digits.now ≡ 2 * length bytes.old }
+/// The bytes that the pairs of digits say. No byte is written twice: the room is made at once, and not set to 0 first.
+/// A pair is read as one number, since so the compiler reads many pairs at once.
+pub fn decode(alloc: Global, digits: &[u8]) -> Result<Vec<u8>, AllocError>
+    requires pairs { length digits.now % 2 ≡ 0 }
     requires digits { all_digits digits.now ≡ true }
-    ensures { encode_lower bytes.new ≡ digits.now }
+    ensures { IfOk result (λ bytes. encode_lower bytes.items ≡ digits.now) }
 {
-    'bytes: for i in 0..bytes.len() {
-        bytes[i] = 16 * value_of(digits[2 * i]) + value_of(digits[2 * i + 1]);
+    let mut bytes = Vec::with_capacity(alloc, digits.len() / 2)?;
+    let (pairs, _) = digits.as_chunks::<2>();
+    for pair in pairs {
+        bytes.push_reserved(byte_of(u16::from_le_bytes(*pair)));
     }
+    Ok(bytes)
 }
 
-// The digit that says a value.
+// The digit that says a value. Between the last number and the first letter stand 39 other bytes.
 #[inline(always)]
 fn digit_of(value: u8) -> u8
     requires { value < 16 }
     ensures { result ≡ slice_index lower_digits value }
 {
-    if value < 10 {
-        b'0' + value
-    } else {
-        b'a' + (value - 10)
-    }
+    let between = if value < 10 { 0 } else { 39 };
+    b'0' + value + between
 }
 
-/// Writes the digits of the bytes.
-pub fn encode(bytes: &[u8], digits: &mut [u8])
-    requires { length digits.old ≡ 2 * length bytes.now }
-    ensures { digits.new ≡ encode_lower bytes.now }
+/// The text with the digits of the bytes behind it. There is room for them. The text is handed over, since a loop that
+/// owns it writes many digits at once, and one behind a reference writes them one by one.
+pub fn encode(mut text: Vec<u8>, bytes: &[u8]) -> Vec<u8>
+    requires { vec_len text + 2 * length bytes.now ≤ vec_capacity text }
+    ensures { result.items ≡ text.items ++ encode_lower bytes.now }
 {
-    'bytes: for i in 0..bytes.len() {
-        let byte = bytes[i];
-        digits[2 * i] = digit_of(byte >> 4);
-        digits[2 * i + 1] = digit_of(byte & 15);
+    for byte in bytes {
+        text.push_reserved(digit_of(*byte >> 4));
+        text.push_reserved(digit_of(*byte & 15));
     }
+    text
 }

@@ -9,20 +9,18 @@ ghost use Rattle.lapin_scalars.specs.Scalars.Scalar.{bytes as some_bytes, pairs 
 use crate::hexadecimal::encode;
 use itoa::Buffer;
 use std::alloc::{AllocError, Global};
+use std::mem;
 
 /// Adds the digits of the bytes.
-pub fn put_pairs(_alloc: Global, out: &mut Vec<u8>, bytes: &[u8]) -> Result<(), AllocError>
+pub fn put_pairs(alloc: Global, out: &mut Vec<u8>, bytes: &[u8]) -> Result<(), AllocError>
     ensures { OnOk result (out.new.items ≡ out.old.items ++ scalar_text some_pairs bytes.now) }
 {
-    let start = out.len();
     let Some(count) = bytes.len().checked_mul(2) else {
         return Err(AllocError);
     };
-    let Some(end) = start.checked_add(count) else {
-        return Err(AllocError);
-    };
-    out.resize(end, 0)?;
-    encode(bytes, &mut out[start..]);
+    out.reserve(count)?;
+    let text = mem::replace(out, Vec::new(alloc));
+    *out = encode(text, bytes);
     Ok(())
 }
 

@@ -1,5 +1,4 @@
-use Rattle.std.proofs.Common.{◌≡◌, ℕ, arith, rules, sym, ◌∙◌, length, drop, true, false}
-use Rattle.std.proofs.lemmas.List.{take_at}
+use Rattle.std.proofs.Common.{◌≡◌, rules, sym, ◌∙◌, true, false}
 use Rattle.lapin_scalars.proofs.HexLaws.{pairs_some, pairs_odd, pairs_other}
 use Rattle.lapin_scalars.proofs.bytes.pairs_of.Goals as goal
 
@@ -14,6 +13,4 @@ returns-then-not-are_digits c =
 pub returns : goal.returns
 returns c =
     let all : c.are_digits.result ≡ true = search rules in
-    let len : length c.decode.new.bytes ≡ c.in_ok-bytes.bytes.len = omega arith in
-    rw (take_at c.decode.new.bytes (drop (length c.decode.new.bytes) c.in_ok-bytes.bytes.items) c.in_ok-bytes.bytes.len len)
-    (pairs_some c.args.digits.now c.decode.new.bytes (sym c.are_digits.ensures ∙ all) c.decode.ensures)
+    pairs_some c.args.digits.now c.in_ok-bytes.bytes.items (sym c.are_digits.ensures ∙ all) c.in_ok-bytes.ensures

@@ -1,6 +1,4 @@
-use Rattle.std.proofs.Common.{Bool, arith, sym, ◌∙◌, ap}
-use Rattle.std.specs.Prelude.{◌&&◌}
-use Rattle.lapin_scalars.specs.Digits.{is_digit, all_digits}
+use Rattle.std.proofs.Common.{arith, sym}
 use Rattle.lapin_scalars.proofs.HexLaws.{all_digits_more}
 use Rattle.lapin_scalars.proofs.hexadecimal.are_digits.Goals as goal
 

@@ -1,20 +1,26 @@
-use Rattle.std.proofs.Common.{ℕ, ◌+◌, ◌*◌, arith, refl}
-use Rattle.hex.specs.Hex.{encode_with}
-use Rattle.lapin_scalars.proofs.HexLaws.{digit_within, decode_step, decode_done}
+use Rattle.std.proofs.Common.{arith, ap, ◌∙◌}
+use Rattle.hex.specs.Hex.{encode_lower, encode_with}
+use Rattle.lapin_scalars.proofs.HexLaws.{pair_digits, decode_step, decode_done}
 use Rattle.lapin_scalars.proofs.hexadecimal.decode.Goals as goal
 
-pub bytes-init : goal.bytes-init
+pub loop-pair-init : goal.loop-pair-init
 unfolding encode_with
-bytes-init c = refl
+loop-pair-init c = (ap encode_lower c.in_ok-bytes.ensures.items, c.in_ok-bytes.ensures.len, c.in_ok-bytes.ensures.capacity)
 
-pub value_of-requires : goal.value_of-requires
-value_of-requires c = digit_within c.args.digits.now (2 * c.bytes.i) c.requires.digits (omega arith)
+pub byte_of-requires-clause-first : goal.byte_of-requires-clause-first
+byte_of-requires-clause-first c = (pair_digits c.args.digits.now _ _ c.loop-pair.pair-index _ c.as_chunks.ensures.front (omega arith) c.from_le_bytes.ensures c.requires.digits).2
 
-pub value_of-requires-in-bytes : goal.value_of-requires-in-bytes
-value_of-requires-in-bytes c = digit_within c.args.digits.now (2 * c.bytes.i + 1) c.requires.digits (omega arith)
+pub byte_of-requires-clause-second : goal.byte_of-requires-clause-second
+byte_of-requires-clause-second c = (pair_digits c.args.digits.now _ _ c.loop-pair.pair-index _ c.as_chunks.ensures.front (omega arith) c.from_le_bytes.ensures c.requires.digits).3
 
-pub bytes-preserved : goal.bytes-preserved
-bytes-preserved c = decode_step c.args.digits.now c.bytes.bytes c.bytes.i _ c.value_of.result c.value_of-in-bytes.result (omega arith) (omega arith) c.value_of.ensures.less c.value_of-in-bytes.ensures.less refl c.value_of.ensures.digit c.value_of-in-bytes.ensures.digit c.bytes.invariant
+pub loop-pair-preserved : goal.loop-pair-preserved
+loop-pair-preserved c =
+    let two = pair_digits c.args.digits.now _ _ c.loop-pair.pair-index _ c.as_chunks.ensures.front (omega arith) c.from_le_bytes.ensures c.requires.digits in (
+      ap encode_lower c.push_reserved.ensures.items
+          ∙ decode_step c.args.digits.now c.loop-pair.bytes.items c.loop-pair.pair-index c.byte_of.result (omega arith) (c.byte_of.ensures.first ∙ two.0) (c.byte_of.ensures.second ∙ two.1) c.loop-pair.invariant.0,
+      omega (arith, c.push_reserved.ensures.len, c.loop-pair.invariant.1),
+      omega (arith, c.push_reserved.ensures.capacity, c.loop-pair.invariant.2),
+    )
 
 pub returns : goal.returns
-returns c = decode_done c.args.digits.now c.bytes.bytes c.bytes.i (omega arith) (omega arith) c.bytes.invariant
+returns c = decode_done c.args.digits.now c.loop-pair.bytes.items c.loop-pair.pair-index (omega arith) c.loop-pair.invariant.0

@@ -1,6 +1,8 @@
-use Rattle.std.proofs.Common.{◌≡◌, ◌*◌, ◌++◌, take, drop}
+use Rattle.std.proofs.Common.{◌≡◌, ◌+◌, ◌*◌, ◌++◌, ◌≤◌, take, length}
+use Rattle.std.specs.Vec.{vec_len, vec_capacity}
 use Rattle.hex.specs.Hex.{encode_lower}
 use Rattle.lapin_scalars.proofs.hexadecimal.encode.Given as goal
 
-abbrev pub invariant-bytes : goal.invariant-bytes
-invariant-bytes l = take (2 * l.i) l.digits ++ encode_lower (drop l.i l.bytes) ≡ encode_lower l.bytes
+abbrev pub invariant-loop-byte : goal.invariant-loop-byte
+invariant-loop-byte l = (l.text.items ≡ l.fn.text.items ++ encode_lower (take l.byte-index l.bytes))
+    × (vec_len l.text + 2 * length l.bytes ≤ vec_capacity l.text + 2 * l.byte-index)

@@ -1,4 +1,4 @@
-use Rattle.std.proofs.Common.{ℕ, arith, rules, ap, ◌∙◌, Option, Some, None}
+use Rattle.std.proofs.Common.{ℕ, arith, rules, Option, Some, None}
 use Rattle.std.specs.Prelude.{IfNone}
 use Rattle.std.proofs.lemmas.Int.Digits.{digits_more, digits_value_more}
 use Rattle.lapin_scalars.proofs.NumberLaws.{starts_as_decimal, num_found, num_none}
