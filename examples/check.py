@@ -1,9 +1,9 @@
 #!/usr/bin/env python3
-"""See that the files of this folder are the histories of the tests, and that the built program prints their records.
+"""See that the files of this folder are the runs of the tests, and that the built program prints their answers.
 
-The histories stand in crates/lapin_tests/src/examples.rt, with a line an event and, behind an arrow, its record. The gate runs
-them there; this script, which stands outside it, compares the files beside it with them. Where the program is built
-(`./lapin` builds it), it is run on each file too.
+The runs stand in the files examples.rt of two crates of tests, one for each command, with a line an event or a step and, behind
+an arrow, its record or report. The gate runs them there; this script, which stands outside it, compares the files beside it with
+them. Where the program is built (`./lapin` builds it), it is run on each file too.
 
     examples/check.py
 """
@@ -13,44 +13,45 @@ import sys
 
 HERE = os.path.dirname(os.path.abspath(__file__))
 TOP = os.path.dirname(HERE)
-TABLES = os.path.join(TOP, "crates", "lapin_tests", "src", "examples.rt")
+TABLES = {"session": "lapin_tests", "joined": "lapin_joined_tests"}
 PROGRAM = os.path.join(TOP, "crates", "lapin_run", "out", "lapin_run")
 NAME = "# examples/"
 
 
-def histories():
-    """The events and the records of each example, by the name of its file."""
+def runs(crate):
+    """The lines and the answers of each example of a crate, by the name of its file."""
     found, steps = {}, None
-    with open(TABLES, encoding="utf-8") as lines:
+    with open(os.path.join(TOP, "crates", crate, "src", "examples.rt"), encoding="utf-8") as lines:
         for line in lines.read().split("\n"):
-            if line.startswith(NAME):
-                steps = found.setdefault(line[len(NAME):], [])
+            if NAME in line:
+                steps = found.setdefault(line.split(NAME)[1], [])
             elif " -> " in line and steps is not None:
-                steps.append(line.split(" -> "))
+                steps.append(line.rstrip("\";").split(" -> "))
     return found
 
 
-def printed(name):
+def printed(word, name):
     with open(os.path.join(HERE, name), "rb") as given:
-        return subprocess.run([PROGRAM, "session"], stdin=given, capture_output=True, check=False).stdout.decode()
+        return subprocess.run([PROGRAM, word], stdin=given, capture_output=True, check=False).stdout.decode()
 
 
 def main():
     wrong = 0
-    told = histories()
+    told = {name: (word, steps) for word, crate in TABLES.items() for name, steps in runs(crate).items()}
     files = {name for name in os.listdir(HERE) if name.endswith(".txt")}
     for name in sorted(files | set(told)):
         if name not in told or name not in files:
-            print(f"{name}: only one of file and history")
+            print(f"{name}: only one of file and run")
             wrong += 1
             continue
+        word, steps = told[name]
         with open(os.path.join(HERE, name), encoding="utf-8") as text:
-            events = text.read()
-        if events != "".join(f"{line}\n" for line in ["frame_max 4096"] + [event for event, _ in told[name]]):
-            print(f"{name}: not the events of its history")
+            lines = text.read()
+        if lines != "".join(f"{line}\n" for line in ["frame_max 4096"] + [step for step, _ in steps]):
+            print(f"{name}: not the lines of its run")
             wrong += 1
-        elif os.path.exists(PROGRAM) and printed(name) != "".join(f"{record}\n" for _, record in told[name]):
-            print(f"{name}: the program prints other records")
+        elif os.path.exists(PROGRAM) and printed(word, name) != "".join(f"{answer}\n" for _, answer in steps):
+            print(f"{name}: the program prints other answers")
             wrong += 1
         else:
             print(f"{name}: ok")

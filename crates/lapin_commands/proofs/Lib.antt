@@ -1,2 +1,5 @@
+pub mod Commands
+pub mod Ending
 pub mod Known
+pub mod Runs
 pub mod Streaming

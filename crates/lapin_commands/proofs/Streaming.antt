@@ -1,21 +1,17 @@
--- Printing each record before the next line is read prints what the run of all events has.
-use Rattle.std.proofs.Common.{◌≡◌, ℕ, suc, ◌+◌, ◌<◌, ◌≤◌, ◌^◌, List, [], ◌∷◌, ◌++◌, length, Option, Some, None, refl, sym, ap, subst, ◌∙◌, append_assoc, append-nil, arith, Bool, true, false, cond}
-use Rattle.std.specs.Prelude.{◌==◌, Result, Ok, Err, IfOk}
+-- Printing what each step answers before the next line is read prints what all steps print.
+use Rattle.std.proofs.Common.{◌≡◌, ℕ, suc, ◌+◌, ◌<◌, ◌≤◌, ◌^◌, List, [], ◌∷◌, ◌++◌, length, Option, Some, None, sym, ap, subst, ◌∙◌, append_assoc, append-nil, arith, Bool, true, false, cond}
+use Rattle.std.specs.Prelude.{◌==◌, take, drop}
+use Rattle.std.specs.Io.KnownBytes.{Appends}
 use Rattle.std.specs.List.{slice_split, flat_map}
+use Rattle.std.proofs.Math.Seq.{take-append_seam}
+use Rattle.std.proofs.lemmas.List.{take-append-drop}
 use Rattle.std.proofs.lemmas.List.Concat.{flat_map-cons}
 use Rattle.std.proofs.lemmas.List.Splits.{length-slice_split}
 use Rattle.std.proofs.lemmas.List.Sums.{count_by-le-length}
-use Rattle.lapin_types.specs.declared.event.Event.{Event}
-use Rattle.lapin_types.specs.declared.record.Record.{Record}
-use Rattle.lapin_machine.specs.World.{World, next, told_by, outputs, new_world}
-use Rattle.lapin_machine.specs.Numbers.{HasNumbersFor}
-use Rattle.lapin_machine.proofs.Standing.{outputs_run}
-use Rattle.lapin_machine.proofs.Counting.{numbers-next}
-use Rattle.lapin_text.specs.Events.{line_of, HasLine}
-use Rattle.lapin_text.specs.Input.{lines_of, without_empty_end, max_line, IsMax, NoMax, NoLine, AreEvents, AreParsed}
-use Rattle.lapin_text.specs.Records.{record_tokens, record_line, line_onto, records_text}
-use Rattle.lapin_text.proofs.Printed.{line_onto_is}
-use Rattle.lapin_commands.specs.Session.{records_of, Prints, PrintsRecords, PrintsEvents, PrintsFrom, bad_line_text}
+use Rattle.lapin_text.specs.Input.{lines_of, without_empty_end}
+use Rattle.lapin_commands.specs.Printing.{PrintsBy, GoesOnBy, Adds, bad_line_text}
+use Rattle.lapin_commands.specs.Writing.{WritesPrefix}
+use Rattle.lapin_commands.proofs.Known.{appends_both}
 
 -- ---- how many lines there are
 
@@ -39,99 +35,84 @@ few_behind bytes lines rest l all is few =
     let same : length lines ≡ length (lines_of bytes) = ap length all in
     omega (arith, lines_within bytes, one, same, few)
 
--- ---- the first line
+-- a run that can take all lines can take the first, and then those behind it
+pub can_take : (T : ℕ → Type 0) (lines rest : List (List ℕ)) (l : List ℕ) → T (length lines) → lines ≡ l ∷ rest → T (suc (length rest))
+can_take T lines rest l h is = subst T (ap length is) h
 
-pub max_missing : (lines : List (List ℕ)) → lines ≡ [] → AreParsed lines None [] (Some 1)
-max_missing lines is = subst (λ (ls : List (List ℕ)). AreParsed ls None [] (Some 1)) (sym is) (refl, refl, refl)
-
-pub max_bad : (lines rest : List (List ℕ)) (l : List ℕ) → lines ≡ l ∷ rest → NoMax l → AreParsed lines None [] (Some 1)
-max_bad lines rest l is not_max = subst (λ (ls : List (List ℕ)). AreParsed ls None [] (Some 1)) (sym is) (not_max, refl, refl)
-
-pub max_found : (lines rest : List (List ℕ)) (m : ℕ) (events : List Event) (bad : Option ℕ) → IsMax m → lines ≡ max_line m ∷ rest → AreEvents 2 rest events bad → AreParsed lines (Some m) events bad
-max_found lines rest m events bad ok is are = subst (λ (ls : List (List ℕ)). AreParsed ls (Some m) events bad) (sym is) (ok, refl, are)
-
--- ---- the loop over the lines of events
+-- ---- the loop over the lines, of a run of any kind
 
 -- With the text so far in front, whatever is printed from here on is what all lines print.
-abbrev pub Leads : World → List (List ℕ) → ℕ → World → List (List ℕ) → List ℕ → Type 0
-Leads start all n w lines text =
-    (bad : Option ℕ) (rest : List ℕ) → PrintsFrom n w lines bad rest → PrintsFrom 2 start all bad (text ++ rest)
+abbrev pub Leads : {R : Type 0} → (R → ℕ → List (List ℕ) → Option ℕ → List ℕ → Type 0) → R → List (List ℕ) → R → ℕ → List (List ℕ) → List ℕ → Type 0
+Leads goes_on start all run n lines text =
+    (bad : Option ℕ) (rest : List ℕ) → goes_on run n lines bad rest → goes_on start 2 all bad (text ++ rest)
 
-pub leads_first : (start : World) (all : List (List ℕ)) (text : List ℕ) → text ≡ [] → Leads start all 2 start all text
-leads_first start all text empty =
-    let T : List ℕ → Type 0 = λ t. Leads start all 2 start all t in
-    subst T (sym empty) (λ bad rest p. p)
+-- The bytes of `piece` were written since `before`, and with what is held behind them they lead on: what was written and what is
+-- held are one text.
+pub record Reaches {R : Type 0} (goes_on : R → ℕ → List (List ℕ) → Option ℕ → List ℕ → Type 0) (start : R) (all : List (List ℕ)) (before after : Option (List ℕ)) (run : R) (n : ℕ) (lines : List (List ℕ)) (held : List ℕ) : Type 0 where
+  pub piece : List ℕ
+  pub out : Appends before after piece
+  pub leads : Leads goes_on start all run n lines (piece ++ held)
 
-pub leads_next : (start w v : World) (all lines rest : List (List ℕ)) (n : ℕ) (l text more : List ℕ) (e : Event) → Leads start all n w lines text → lines ≡ l ∷ rest → HasLine e → l ≡ line_of e → v ≡ next w e → more ≡ line_onto text (record_tokens (told_by w e)) ++ 10 ∷ [] → Leads start all (n + 1) v rest more
-leads_next start w v all lines rest n l text more e leads is fit line stepped grown = λ bad after p.
-    let one : List ℕ = record_line (told_by w e) ++ 10 ∷ [] in
-    let shown : after ≡ records_text (outputs (next w e) p.events) = p.printed ∙ ap (λ (x : World). records_text (outputs x p.events)) stepped in
-    let longer : one ++ after ≡ records_text (outputs w (e ∷ p.events)) =
-    ap (λ (t : List ℕ). one ++ t) shown ∙ sym (flat_map-cons (λ r. record_line r ++ 10 ∷ []) (told_by w e) (outputs (next w e) p.events)) in
-    let from : PrintsFrom n w lines bad (one ++ after) = record {
-      events = e ∷ p.events;
-      are = subst (λ (ls : List (List ℕ)). AreEvents n ls (e ∷ p.events) bad) (sym is) (fit, line, p.are);
-      printed = longer;
-    } in
-    let joined : text ++ one ≡ more = sym (grown ∙ ap (λ (t : List ℕ). t ++ 10 ∷ []) (line_onto_is text (record_tokens (told_by w e))) ∙ append_assoc text (record_line (told_by w e)) (10 ∷ [])) in
-    let whole : text ++ (one ++ after) ≡ more ++ after = sym (append_assoc text one after) ∙ ap (λ (t : List ℕ). t ++ after) joined in
-    subst (PrintsFrom 2 start all bad) whole (leads bad (one ++ after) from)
-
-ended : (start w : World) (all lines : List (List ℕ)) (n : ℕ) (text : List ℕ) (bad : Option ℕ) → Leads start all n w lines text → AreEvents n lines [] bad → PrintsFrom 2 start all bad text
-ended start w all lines n text bad leads are =
-    let from : PrintsFrom n w lines bad [] = record { events = []; are = are; printed = refl } in
-    subst (PrintsFrom 2 start all bad) (append-nil text) (leads bad [] from)
-
-pub leads_end : (start w : World) (all lines : List (List ℕ)) (n : ℕ) (text : List ℕ) → Leads start all n w lines text → lines ≡ [] → PrintsFrom 2 start all None text
-leads_end start w all lines n text leads is =
-    ended start w all lines n text None leads (subst (λ (ls : List (List ℕ)). AreEvents n ls [] None) (sym is) refl)
-
-pub leads_bad : (start w : World) (all lines rest : List (List ℕ)) (n : ℕ) (l text : List ℕ) → Leads start all n w lines text → lines ≡ l ∷ rest → NoLine l → PrintsFrom 2 start all (Some n) text
-leads_bad start w all lines rest n l text leads is not_line =
-    ended start w all lines n text (Some n) leads (subst (λ (ls : List (List ℕ)). AreEvents n ls [] (Some n)) (sym is) (refl, not_line))
-
--- a new session prints what the history determines
-pub new_prints : (m : ℕ) (w : World) (lines : List (List ℕ)) (bad : Option ℕ) (text : List ℕ) → w ≡ new_world m → PrintsFrom 2 w lines bad text → PrintsEvents m lines bad text
-new_prints m w lines bad text new p = record {
-  events = p.events;
-  are = p.are;
-  printed = p.printed ∙ ap (λ (x : World). records_text (outputs x p.events)) new ∙ ap records_text (outputs_run m p.events);
+-- a line is taken
+pub reaches_next : {R : Type 0} (goes_on : R → ℕ → List (List ℕ) → Option ℕ → List ℕ → Type 0) (start run new : R) (all lines rest : List (List ℕ)) (before after : Option (List ℕ)) (n : ℕ) (l held more : List ℕ) → Reaches goes_on start all before after run n lines held → lines ≡ l ∷ rest → Adds (goes_on run) (goes_on new) l held more → Reaches goes_on start all before after new (n + 1) rest more
+reaches_next goes_on start run new all lines rest before after n l held more r is adds = record {
+  piece = r.piece;
+  out = r.out;
+  leads = λ bad later p.
+      let from : goes_on run n lines bad (adds.piece ++ later) = subst (λ (ls : List (List ℕ)). goes_on run n ls bad (adds.piece ++ later)) (sym is) (adds.leads n rest bad later p) in
+      let grown : (r.piece ++ held) ++ adds.piece ≡ r.piece ++ more = append_assoc r.piece held adds.piece ∙ ap (λ (t : List ℕ). r.piece ++ t) (sym adds.grown) in
+      let whole : (r.piece ++ held) ++ (adds.piece ++ later) ≡ (r.piece ++ more) ++ later = sym (append_assoc (r.piece ++ held) adds.piece later) ∙ ap (λ (t : List ℕ). t ++ later) grown in
+      subst (goes_on start 2 all bad) whole (r.leads bad (adds.piece ++ later) from);
 }
 
-pub new_result : {T E : Type 0} (r : Result T E) (text : T → List ℕ) (bad : T → Option ℕ) (m : ℕ) (w : World) (lines : List (List ℕ)) → w ≡ new_world m → IfOk r (λ p. PrintsFrom 2 w lines (bad p) (text p)) → IfOk r (λ p. PrintsEvents m lines (bad p) (text p))
-new_result (Ok p) text bad m w lines new h = new_prints m w lines (bad p) (text p) new h
-new_result (Err e) text bad m w lines new h = tt
+-- some of what is held is written
+pub reaches_out : {R : Type 0} (goes_on : R → ℕ → List (List ℕ) → Option ℕ → List ℕ → Type 0) (start run : R) (all lines : List (List ℕ)) (before mid after : Option (List ℕ)) (n : ℕ) (held piece left : List ℕ) → Reaches goes_on start all before mid run n lines held → Appends mid after piece → held ≡ piece ++ left → Reaches goes_on start all before after run n lines left
+reaches_out goes_on start run all lines before mid after n held piece left r wrote is = record {
+  piece = r.piece ++ piece;
+  out = appends_both before mid after r.piece piece r.out wrote;
+  leads = subst (Leads goes_on start all run n lines) (ap (λ (t : List ℕ). r.piece ++ t) is ∙ sym (append_assoc r.piece piece left)) r.leads;
+}
 
--- ---- there are numbers for every line
+-- the end, or a bad line: nothing more is printed
+pub reaches_last : {R : Type 0} (goes_on : R → ℕ → List (List ℕ) → Option ℕ → List ℕ → Type 0) (start run : R) (all lines here : List (List ℕ)) (before after : Option (List ℕ)) (n : ℕ) (held : List ℕ) (bad : Option ℕ) → Reaches goes_on start all before after run n lines held → lines ≡ here → goes_on run n here bad [] → (piece : List ℕ) × Appends before after piece × goes_on start 2 all bad (piece ++ held)
+reaches_last goes_on start run all lines here before after n held bad r is last = (
+  r.piece,
+  r.out,
+  subst (goes_on start 2 all bad) (append-nil (r.piece ++ held)) (r.leads bad [] (subst (λ (ls : List (List ℕ)). goes_on run n ls bad []) (sym is) last)),
+)
 
-pub numbers_first : (m n : ℕ) (w : World) → w ≡ new_world m → n < 2 ^ 63 → HasNumbersFor n w
-numbers_first m n w new few =
-    let first : HasNumbersFor n (new_world m) = record { tickets = omega arith; confirms = omega arith } in
-    subst (HasNumbersFor n) (sym new) first
+-- Writing was cut short within what is held. Whatever the lines behind say, the bytes written begin the text.
+pub reaches_cut : {R : Type 0} (goes_on : R → ℕ → List (List ℕ) → Option ℕ → List ℕ → Type 0) (start run : R) (all lines : List (List ℕ)) (before mid after : Option (List ℕ)) (n : ℕ) (held : List ℕ) → Reaches goes_on start all before mid run n lines held → WritesPrefix mid after held → ((bad : Option ℕ) × (text : List ℕ) × goes_on run n lines bad text) → (bad : Option ℕ) × (text : List ℕ) × goes_on start 2 all bad text × WritesPrefix before after text
+reaches_cut goes_on start run all lines before mid after n held r wrote goes =
+    let written : List ℕ = r.piece ++ take wrote.0 held in
+    let split : (r.piece ++ held) ++ goes.1 ≡ written ++ (drop wrote.0 held ++ goes.1) =
+    ap (λ (t : List ℕ). (r.piece ++ t) ++ goes.1) (sym (take-append-drop wrote.0 held)) ∙ ap (λ (t : List ℕ). t ++ goes.1) (sym (append_assoc r.piece (take wrote.0 held) (drop wrote.0 held))) ∙ append_assoc written (drop wrote.0 held) goes.1 in
+    let front : take (length written) ((r.piece ++ held) ++ goes.1) ≡ written = ap (take (length written)) split ∙ take-append_seam written (drop wrote.0 held ++ goes.1) in (
+      goes.0,
+      (r.piece ++ held) ++ goes.1,
+      r.leads goes.0 goes.1 goes.2,
+      (length written, subst (Appends before after) (sym front) (appends_both before mid after r.piece (take wrote.0 held) r.out wrote.1)),
+    )
 
-pub numbers_one : (lines rest : List (List ℕ)) (l : List ℕ) (w : World) → HasNumbersFor (length lines) w → lines ≡ l ∷ rest → HasNumbersFor 1 w
-numbers_one lines rest l w h is =
-    let some : length lines ≡ suc (length rest) = ap length is in
-    let tickets : w.wire.tickets + length lines < 2 ^ 64 = h.tickets in
-    let confirms : w.wire.published + length lines < 2 ^ 64 = h.confirms in
-    record { tickets = omega arith; confirms = omega arith }
+-- ---- what the runs of the two commands have in common
 
-pub numbers_rest : (lines rest : List (List ℕ)) (l : List ℕ) (w v : World) (e : Event) → HasNumbersFor (length lines) w → lines ≡ l ∷ rest → v ≡ next w e → HasNumbersFor (length rest) v
-numbers_rest lines rest l w v e h is stepped =
-    subst (HasNumbersFor (length rest)) (sym stepped) (numbers-next (length rest) w e (subst (λ (ls : List (List ℕ)). HasNumbersFor (length ls) w) is h))
+-- a line is a step, the step answers, and the answer's line is appended
+pub adds_by : {E A : Type 0} (AreSteps : ℕ → List (List ℕ) → List E → Option ℕ → Type 0) (line_of : A → List ℕ) (before after : List E → List A) (step : E) (answer : A) (line old new : List ℕ) → ((n : ℕ) (lines : List (List ℕ)) (steps : List E) (bad : Option ℕ) → AreSteps (n + 1) lines steps bad → AreSteps n (line ∷ lines) (step ∷ steps) bad) → ((steps : List E) → before (step ∷ steps) ≡ answer ∷ after steps) → new ≡ old ++ (line_of answer ++ 10 ∷ []) → Adds (GoesOnBy E AreSteps (λ steps. flat_map (λ a. line_of a ++ 10 ∷ []) (before steps))) (GoesOnBy E AreSteps (λ steps. flat_map (λ a. line_of a ++ 10 ∷ []) (after steps))) line old new
+adds_by AreSteps line_of before after step answer line old new is_step answers grown = record {
+  piece = line_of answer ++ 10 ∷ [];
+  grown = grown;
+  leads = λ n lines bad text p. record {
+    steps = step ∷ p.steps;
+    are = is_step n lines p.steps bad p.are;
+    printed = ap (λ (t : List ℕ). (line_of answer ++ 10 ∷ []) ++ t) p.printed ∙ sym (flat_map-cons (λ a. line_of a ++ 10 ∷ []) answer (after p.steps)) ∙ ap (flat_map (λ a. line_of a ++ 10 ∷ [])) (sym (answers p.steps));
+  };
+}
 
--- ---- the whole text
-
-pub records_none : (input : List ℕ) → AreParsed (lines_of input) None [] (Some 1) → PrintsRecords input (Some 1) []
-records_none input parsed = record { frame_max = None; events = []; parsed = parsed; printed = refl }
-
-pub records_some : (input : List ℕ) (rest : List (List ℕ)) (m : ℕ) (bad : Option ℕ) (text : List ℕ) → IsMax m → lines_of input ≡ max_line m ∷ rest → PrintsEvents m rest bad text → PrintsRecords input bad text
-records_some input rest m bad text ok is p = record { frame_max = Some m; events = p.events; parsed = max_found (lines_of input) rest m p.events bad ok is p.are; printed = p.printed }
-
-pub with_bad_line : (input text whole : List ℕ) (bad : Option ℕ) → PrintsRecords input bad text → whole ≡ text ++ bad_line_text bad → Prints input bad whole
-with_bad_line input text whole bad p is = record {
-  frame_max = p.frame_max;
-  events = p.events;
-  parsed = p.parsed;
-  printed = is ∙ ap (λ (t : List ℕ). t ++ bad_line_text bad) p.printed;
+-- a run that begins new, behind a first line
+pub prints_by : {E : Type 0} (AreParsed : List (List ℕ) → Option ℕ → List E → Option ℕ → Type 0) (AreSteps : ℕ → List (List ℕ) → List E → Option ℕ → Type 0) (text_of : ℕ → List E → List ℕ) (text_from : List E → List ℕ) (m : ℕ) (input : List ℕ) (lines : List (List ℕ)) (bad : Option ℕ) (text : List ℕ) → ((steps : List E) → AreSteps 2 lines steps bad → AreParsed (lines_of input) (Some m) steps bad) → ((steps : List E) → text_from steps ≡ text_of m steps) → GoesOnBy E AreSteps text_from 2 lines bad text → PrintsBy E AreParsed text_of input bad (text ++ bad_line_text bad)
+prints_by AreParsed AreSteps text_of text_from m input lines bad text parsed same p = record {
+  frame_max = Some m;
+  steps = p.steps;
+  parsed = parsed p.steps p.are;
+  printed = ap (λ (t : List ℕ). t ++ bad_line_text bad) (p.printed ∙ same p.steps);
 }

@@ -1,4 +1,9 @@
+pub mod EveryLine
+pub mod Generate
+pub mod Joined
+pub mod Laws
 pub mod Outcome
+pub mod Printing
 pub mod Reading
 pub mod Session
 pub mod Status

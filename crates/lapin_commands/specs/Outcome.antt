@@ -4,7 +4,11 @@ use Rattle.std.specs.Io.KnownBytes.{Appends}
 use Rattle.lapin_io.specs.Numbers.{RoseBy}
 use Rattle.lapin_commands.specs.Reading.{longest_input, ReadsAll}
 use Rattle.lapin_commands.specs.Writing.{WritesPrefix}
-use Rattle.lapin_commands.specs.Session.{Prints}
+use Rattle.lapin_commands.specs.Session.{PrintsSession}
+use Rattle.lapin_commands.specs.Joined.{PrintsJoined}
+use Rattle.lapin_commands.specs.Generate.{PrintsGenerated}
+use Rattle.lapin_commands.specs.declared.words.Command.{Command}
+use Rattle.lapin_commands.specs.declared.words.Command.TheVariants as command
 use Rattle.lapin_commands.specs.declared.status.Status.{Status}
 use Rattle.lapin_commands.specs.declared.status.Status.TheVariants.{Fine, BadWords, BadLine, NoMemory, ReadFault, WriteFault, InputTooLong}
 
@@ -16,19 +20,29 @@ pub record HasRead (left_before left_after : Option (List ℕ)) (given_before gi
   pub short : length bytes ≤ longest_input
   pub says : P bytes
 
--- the whole text of the input was written, and every line of it is in the format
-abbrev pub WroteAll : Option (List ℕ) → Option (List ℕ) → List ℕ → Type 0
-WroteAll before after input = (text : List ℕ) × Prints input None text × Appends before after text
+-- what is printed: the text, where this line of the input is the first bad one, if there is any
+abbrev pub Print : Type 1
+Print = Option ℕ → List ℕ → Type 0
+
+-- The command was run, and P holds of what it prints: `session` and `joined` for an input that was read to its end.
+abbrev pub HasRun : Command → Option (List ℕ) → Option (List ℕ) → ℕ → ℕ → (Print → Type 0) → Type 0
+HasRun command.Session left_before left_after given_before given_after P = HasRead left_before left_after given_before given_after (λ input. P (PrintsSession input))
+HasRun command.Joined left_before left_after given_before given_after P = HasRead left_before left_after given_before given_after (λ input. P (PrintsJoined input))
+HasRun (command.Generate n) left_before left_after given_before given_after P = P (PrintsGenerated n)
+
+-- the whole text was written, and every line of the input is in the format
+abbrev pub WroteAll : Option (List ℕ) → Option (List ℕ) → Print → Type 0
+WroteAll before after prints = (text : List ℕ) × prints None text × Appends before after text
 
 -- the text up to the first bad line was written, and the line that names it
-abbrev pub WroteToBadLine : Option (List ℕ) → Option (List ℕ) → List ℕ → Type 0
-WroteToBadLine before after input =
-    (line : ℕ) × (text : List ℕ) × Prints input (Some line) text × Appends before after text
+abbrev pub WroteToBadLine : Option (List ℕ) → Option (List ℕ) → Print → Type 0
+WroteToBadLine before after prints =
+    (line : ℕ) × (text : List ℕ) × prints (Some line) text × Appends before after text
 
 -- a prefix of the text was written
-abbrev pub WroteSome : Option (List ℕ) → Option (List ℕ) → List ℕ → Type 0
-WroteSome before after input =
-    (bad : Option ℕ) × (text : List ℕ) × Prints input bad text × WritesPrefix before after text
+abbrev pub WroteSome : Option (List ℕ) → Option (List ℕ) → Print → Type 0
+WroteSome before after prints =
+    (bad : Option ℕ) × (text : List ℕ) × prints bad text × WritesPrefix before after text
 
 -- one of the ends of a run whose input was read
 abbrev pub IsAnswer : Status → Type 0
@@ -39,3 +53,22 @@ IsAnswer NoMemory = Unit {0}
 IsAnswer ReadFault = ⊥
 IsAnswer WriteFault = Unit {0}
 IsAnswer InputTooLong = ⊥
+
+-- one of the ends of a run that reads nothing
+abbrev pub IsUnread : Status → Type 0
+IsUnread BadLine = ⊥
+IsUnread status = IsAnswer status
+
+-- P holds of a command that reads nothing
+abbrev pub WhereUnread : Command → Type 0 → Type 0
+WhereUnread (command.Generate n) P = P
+WhereUnread _ P = Unit {0}
+
+-- what a command prints for an input that is short enough; `generate` looks at none
+abbrev pub Prints : Command → List ℕ → Option ℕ → List ℕ → Type 0
+Prints command.Session input bad text = (length input ≤ longest_input) × PrintsSession input bad text
+Prints command.Joined input bad text = (length input ≤ longest_input) × PrintsJoined input bad text
+Prints (command.Generate n) input bad text = PrintsGenerated n bad text
+
+abbrev pub PrintsToBadLine : Command → List ℕ → List ℕ → Type 0
+PrintsToBadLine c input text = (line : ℕ) × Prints c input (Some line) text

@@ -1,4 +1,4 @@
--- Laws of books: where they begin, and what a settlement leaves.
+-- Where confirms begin, and what a settlement leaves.
 use Rattle.std.proofs.Common.{◌≡◌, ℕ, ◌<◌, ◌≤◌, ◌==◌, Bool, true, false, not, cond, ◌&&◌, ◌||◌, List, [], ◌∷◌, map, Option, Some, None, refl, ap, arith, inl, inr, ne_eqb}
 use Rattle.std.specs.Prelude.{◌↔◌}
 use Rattle.std.specs.List.{list_any}
@@ -10,17 +10,21 @@ use Rattle.lapin_history.specs.declared.marks.Outcome.{Outcome}
 use Rattle.lapin_history.specs.ConfirmReadings.{covers}
 use Rattle.lapin_confirm.specs.declared.cell.Cell.{Cell}
 use Rattle.lapin_confirm.specs.declared.cell.Cell.TheVariants as cell
-use Rattle.lapin_confirm.specs.Book.{empty_book, multiple_of, settled_cell, is_pending_as}
+use Rattle.lapin_confirm.specs.Book.{multiple_of, settled_cell, is_pending_as}
+use Rattle.lapin_confirm.specs.Post.{empty_post}
 use Rattle.lapin_confirm.specs.Follows.{Follows}
 
 -- the history without a mark
-pub nothing : Follows [] empty_book
+pub nothing : Follows [] empty_post
 nothing = record {
+  came = tt;
   ledgers = λ c. refl;
   count = refl;
   cells = λ k lt. absurd (omega arith);
-  fresh = λ k le. (refl, refl);
-  given = λ k lt taken. absurd (omega arith);
+  places = refl;
+  homes = λ k lt. absurd (omega arith);
+  trays = λ c. refl;
+  letters = λ c. refl;
 }
 
 pub up_to : (kind : SettleKind) (tag t : ℕ) → 0 < tag → (covers (multiple_of kind tag) t ≡ true) ↔ (t ≤ tag)

@@ -1,4 +1,4 @@
--- The cells of a book that follows a history follow the longer one.
+-- What one more mark does to the cell and the home of a publish.
 use Rattle.std.proofs.Common.{◌≡◌, ℕ, suc, ◌<◌, ◌==◌, true, false, cond, ◌||◌, ◌&&◌, List, [], ◌∷◌, ◌++◌, Option, Some, None, refl, ◌∙◌, ap, eq-eqb}
 use Rattle.std.specs.Option.{option_or, option_map}
 use Rattle.lapin_history.specs.declared.marks.Outcome.{Outcome}
@@ -6,13 +6,16 @@ use Rattle.lapin_history.specs.declared.marks.Outcome.TheVariants as outcome
 use Rattle.lapin_history.specs.ConfirmMarks.{ConfirmMark}
 use Rattle.lapin_history.specs.ConfirmMarks as mark
 use Rattle.lapin_history.specs.Words.{after}
-use Rattle.lapin_history.specs.ConfirmReadings.{leaves, takes, has_left, is_taken, channel_of, tag_of, tag_on, first_settled, settlement_on, first_rejected, rejection_on, life, added, covers, outcome_of}
-use Rattle.lapin_history.proofs.ListLaws.{any-push, after-push, through-push}
+use Rattle.lapin_history.specs.ConfirmReadings.{leaves, takes, lays, has_left, is_taken, is_aside, channel_of, tag_of, tag_on, first_settled, settlement_on, first_rejected, rejection_on, life, added, covers, outcome_of}
+use Rattle.lapin_history.specs.ReturnReadings.{goes, is_gone}
+use Rattle.lapin_history.proofs.ListLaws.{or_false, any-push, after-push, through-push}
+use Rattle.lapin_history.proofs.ReturnLaws.{gone-push}
 use Rattle.lapin_history.proofs.ConfirmLaws.{settled-push, rejected-push, accepted-push, life-push, accepted_new, life_new}
 use Rattle.lapin_confirm.specs.declared.cell.Cell.{Cell}
 use Rattle.lapin_confirm.specs.declared.cell.Cell.TheVariants as cell
 use Rattle.lapin_confirm.specs.Book.{tag_for, cell_with, settled_cell, closed_cell, ended_cell}
-use Rattle.lapin_confirm.specs.Follows.{ledger_in, open_cell, cell_in, left_cell, pending_cell, queued_cell}
+use Rattle.lapin_confirm.specs.Post.{new_home}
+use Rattle.lapin_confirm.specs.Follows.{ledger_in, open_cell, cell_in, home_in, left_cell, pending_cell, queued_cell}
 use Rattle.lapin_confirm.proofs.LedgerFollowing.{tag-push}
 
 -- what a mark of something else does to a publish's cell
@@ -58,7 +61,11 @@ left-push k ms m = any-push (leaves k) ms m
 pub taken-push : (k : ℕ) (ms : List ConfirmMark) (m : ConfirmMark) → is_taken k (ms ++ m ∷ []) ≡ (is_taken k ms || takes k m)
 taken-push k ms m = any-push (takes k) ms m
 
-open-step : (k : ℕ) (ms : List ConfirmMark) (m : ConfirmMark) → k < added ms → leaves (suc k) m ≡ false → Some (open_cell (suc k) (ms ++ m ∷ [])) ≡ stood m (Some (open_cell (suc k) ms))
+pub aside-push : (k : ℕ) (ms : List ConfirmMark) (m : ConfirmMark) → is_aside k (ms ++ m ∷ []) ≡ (is_aside k ms || lays k m)
+aside-push k ms m = any-push (lays k) ms m
+
+-- what a mark does to the cell of a publish that does not leave by it
+pub open-step : (k : ℕ) (ms : List ConfirmMark) (m : ConfirmMark) → k < added ms → leaves (suc k) m ≡ false → Some (open_cell (suc k) (ms ++ m ∷ [])) ≡ stood m (Some (open_cell (suc k) ms))
 open-step k ms m known away =
     elim (has_left (suc k) ms) as (λ b. has_left (suc k) ms ≡ b → Some (open_cell (suc k) (ms ++ m ∷ [])) ≡ stood m (Some (open_cell (suc k) ms))) [
       | true ↦ λ left. rw (left-push (suc k) ms m, left, accepted-push k ms m known, through-push (leaves (suc k)) ms m, left, after-push (leaves (suc k)) ms m, left) (left_cell-push (channel_of (suc k) ms) (tag_of (suc k) ms) (after (leaves (suc k)) ms) m)
@@ -66,14 +73,19 @@ open-step k ms m known away =
     ] refl
 
 -- what a mark of something else does to a publish's cell
-pub cell-step : (k : ℕ) (ms : List ConfirmMark) (m : ConfirmMark) → k < added ms → leaves (suc k) m ≡ false → takes (suc k) m ≡ false → cell_in (suc k) (ms ++ m ∷ []) ≡ stood m (cell_in (suc k) ms)
+pub cell-step : (k : ℕ) (ms : List ConfirmMark) (m : ConfirmMark) → k < added ms → leaves (suc k) m ≡ false → goes (suc k) ms m ≡ false → cell_in (suc k) (ms ++ m ∷ []) ≡ stood m (cell_in (suc k) ms)
 cell-step k ms m known away kept =
-    elim (is_taken (suc k) ms) as (λ b. is_taken (suc k) ms ≡ b → cell_in (suc k) (ms ++ m ∷ []) ≡ stood m (cell_in (suc k) ms)) [
-      | true ↦ λ h. rw (taken-push (suc k) ms m, h) (none_stays m)
+    elim (is_gone (suc k) ms) as (λ b. is_gone (suc k) ms ≡ b → cell_in (suc k) (ms ++ m ∷ []) ≡ stood m (cell_in (suc k) ms)) [
+      | true ↦ λ h. rw (gone-push (suc k) ms m, h) (none_stays m)
       | false ↦ λ h.
-          let still : is_taken (suc k) (ms ++ m ∷ []) ≡ false = taken-push (suc k) ms m ∙ rw (h, kept) refl in
+          let still : is_gone (suc k) (ms ++ m ∷ []) ≡ false = gone-push (suc k) ms m ∙ rw (h, kept) refl in
           rw (still, h) (open-step k ms m known away)
     ] refl
+
+-- what a mark by which it neither goes nor is set aside does to a publish's home
+pub home-step : (k : ℕ) (ms : List ConfirmMark) (m : ConfirmMark) → k < added ms → lays (suc k) m ≡ false → goes (suc k) ms m ≡ false → home_in (suc k) (ms ++ m ∷ []) ≡ home_in (suc k) ms
+home-step k ms m known unlaid kept =
+    rw (gone-push (suc k) ms m, kept, accepted-push k ms m known, aside-push (suc k) ms m, unlaid, or_false (is_gone (suc k) ms), or_false (is_aside (suc k) ms)) refl
 
 left_first : (c : ℕ) (t : Option ℕ) → left_cell c t [] ≡ cell_with c t
 left_first c None = refl
@@ -81,7 +93,7 @@ left_first c (Some t) = refl
 
 -- what a queued cell says
 pub record IsQueued (c k : ℕ) (ms : List ConfirmMark) : Type 0 where
-  pub kept : is_taken k ms ≡ false
+  pub kept : is_gone k ms ≡ false
   pub waits : has_left k ms ≡ false
   pub channel : channel_of k ms ≡ c
   pub unrejected : first_rejected (channel_of k ms) (life k ms) ≡ None
@@ -96,7 +108,7 @@ same_channel c d (Some o) e = cc
 
 pub queued_facts : (c k : ℕ) (ms : List ConfirmMark) → cell_in k ms ≡ Some (cell.Queued c) → IsQueued c k ms
 queued_facts c k ms =
-    elim (is_taken k ms) as (λ a. is_taken k ms ≡ a → cond a None (Some (open_cell k ms)) ≡ Some (cell.Queued c) → IsQueued c k ms) [
+    elim (is_gone k ms) as (λ a. is_gone k ms ≡ a → cond a None (Some (open_cell k ms)) ≡ Some (cell.Queued c) → IsQueued c k ms) [
       | true ↦ λ t e. cc
       | false ↦ λ t. elim (has_left k ms) as (λ a. has_left k ms ≡ a → Some (cond a (left_cell (channel_of k ms) (tag_of k ms) (after (leaves k) ms)) (queued_cell (channel_of k ms) (first_rejected (channel_of k ms) (life k ms)))) ≡ Some (cell.Queued c) → IsQueued c k ms) [
         | true ↦ λ l e. absurd (unqueued c (channel_of k ms) (tag_of k ms) (after (leaves k) ms) e)
@@ -111,9 +123,12 @@ pub cell-left : (c k : ℕ) (ms : List ConfirmMark) → k < added ms → cell_in
 cell-left c k ms known is =
     let facts : IsQueued c (suc k) ms = queued_facts c (suc k) ms is in
     let here : (suc k == suc k) ≡ true = eq-eqb (suc k) (suc k) refl in
-    rw (taken-push (suc k) ms (mark.Left c (suc k)), facts.kept, left-push (suc k) ms (mark.Left c (suc k)), facts.waits, here, accepted-push k ms (mark.Left c (suc k)) known, facts.channel, through-push (leaves (suc k)) ms (mark.Left c (suc k)), facts.waits, after-push (leaves (suc k)) ms (mark.Left c (suc k)), facts.waits)
+    rw (gone-push (suc k) ms (mark.Left c (suc k)), facts.kept, left-push (suc k) ms (mark.Left c (suc k)), facts.waits, here, accepted-push k ms (mark.Left c (suc k)) known, facts.channel, through-push (leaves (suc k)) ms (mark.Left c (suc k)), facts.waits, after-push (leaves (suc k)) ms (mark.Left c (suc k)), facts.waits)
     (ap Some (left_first c (tag_on c (ms ++ mark.Left c (suc k) ∷ [])) ∙ ap (cell_with c) (tag-push c (suc k) ms)))
 
 -- a new publish
-pub cell-added : (c k : ℕ) (ms : List ConfirmMark) → k ≡ added ms → (has_left (suc k) ms ≡ false) × (is_taken (suc k) ms ≡ false) → cell_in (suc k) (ms ++ mark.Added c ∷ []) ≡ Some (cell.Queued c)
-cell-added c k ms last fresh = rw (taken-push (suc k) ms (mark.Added c), fresh.1, left-push (suc k) ms (mark.Added c), fresh.0, accepted_new k c ms last, life_new k c ms last) refl
+pub cell-added : (c k : ℕ) (ms : List ConfirmMark) → k ≡ added ms → has_left (suc k) ms ≡ false → is_gone (suc k) ms ≡ false → cell_in (suc k) (ms ++ mark.Added c ∷ []) ≡ Some (cell.Queued c)
+cell-added c k ms last waits kept = rw (gone-push (suc k) ms (mark.Added c), kept, left-push (suc k) ms (mark.Added c), waits, accepted_new k c ms last, life_new k c ms last) refl
+
+pub home-added : (c k : ℕ) (ms : List ConfirmMark) → k ≡ added ms → is_aside (suc k) ms ≡ false → is_gone (suc k) ms ≡ false → home_in (suc k) (ms ++ mark.Added c ∷ []) ≡ Some (new_home c)
+home-added c k ms last unlaid kept = rw (gone-push (suc k) ms (mark.Added c), kept, accepted_new k c ms last, aside-push (suc k) ms (mark.Added c), unlaid) refl

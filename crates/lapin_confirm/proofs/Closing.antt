@@ -10,8 +10,11 @@ use Rattle.lapin_tables.proofs.SlotLaws.{count-with, counted, map-kept}
 use Rattle.lapin_confirm.specs.declared.cell.Cell.{Cell}
 use Rattle.lapin_confirm.specs.declared.cell.Cell.TheVariants as cell
 use Rattle.lapin_confirm.specs.Book.{Book, is_queued_on, queued_count, closed_cell, closed_here, rejected, ended_cell, ended}
-use Rattle.lapin_confirm.proofs.Ledgers.{same-book}
-use Rattle.lapin_confirm.proofs.Ended.{map-with}
+use Rattle.lapin_history.specs.ConfirmMarks as mark
+use Rattle.lapin_confirm.specs.Post.{Post}
+use Rattle.lapin_confirm.specs.Machine.{after_mark, rejected as rejected_on}
+use Rattle.lapin_confirm.proofs.Ledgers.{same-book, same-post}
+use Rattle.lapin_confirm.proofs.Ended.{map-with, ended-rejected}
 
 pub close-next : (c n : ℕ) (e : Error) (b : Book) → under n b.cells ≡ Some (cell.Queued c) → closed_here c e (rejected n e b) ≡ closed_here c e b
 close-next c n e b was = same-book _ _ _ _ refl (map-with (option_map (closed_cell c e)) n (Some (cell.Resolved (outcome.Failed e))) (cell.Queued c) b.cells was (rw (eq-eqb c c refl) refl))
@@ -50,3 +53,17 @@ end-closed c e (o ∷ cells) = ap (λ q. q ∷ map (option_map (ended_cell c e))
 
 pub end-close : (c : ℕ) (e : Error) (b : Book) → ended c e (closed_here c e b) ≡ ended c e b
 end-close c e b = same-book _ _ _ _ refl (end-closed c e b.cells)
+
+-- ---- confirms with their letters and homes, which stay
+
+pub all-next : (c n : ℕ) (e : Error) (p : Post) → under n p.book.cells ≡ Some (cell.Queued c) → after_mark (rejected_on n e p) (mark.ClosedHere c e) ≡ after_mark p (mark.ClosedHere c e)
+all-next c n e p was = same-post _ _ _ _ _ _ (close-next c n e p.book was) refl refl
+
+pub all-done : (c : ℕ) (e : Error) (p : Post) → queued_count c p.book ≡ 0 → after_mark p (mark.ClosedHere c e) ≡ p
+all-done c e p none = same-post _ _ _ _ _ _ (close-done c e p.book none) refl refl
+
+pub all-end : (c : ℕ) (e : Error) (p : Post) → after_mark (after_mark p (mark.ClosedHere c e)) (mark.Ended c e) ≡ after_mark p (mark.Ended c e)
+all-end c e p = same-post _ _ _ _ _ _ (end-close c e p.book) refl refl
+
+pub all-ended : (c n : ℕ) (e : Error) (p : Post) → under n p.book.cells ≡ Some (cell.Queued c) → after_mark (rejected_on n e p) (mark.Ended c e) ≡ after_mark p (mark.Ended c e)
+all-ended c n e p was = same-post _ _ _ _ _ _ (same-book _ _ _ _ refl (ended-rejected c n e p.book.cells was)) refl refl

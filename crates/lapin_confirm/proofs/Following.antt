@@ -1,203 +1,310 @@
--- A book that follows a history follows the longer one after the machine's step.
-use Rattle.std.proofs.Common.{◌≡◌, ◌≢◌, ℕ, zero, suc, ◌+◌, ◌<◌, ◌≤◌, ◌==◌, Bool, true, false, cond, ◌||◌, List, [], ◌∷◌, ◌++◌, map, length, Option, Some, None, refl, sym, ◌∙◌, ap, subst, arith, slice_get, slice_set, ◌⊎◌, inl, inr, eq-eqb, ne_eqb, eqb-true, ltb-true, ltb-false, nat_lt, length-append}
-use Rattle.std.specs.Option.{option_or, option_map}
+-- Confirms that follow a history follow the longer one after the machine's step.
+use Rattle.std.proofs.Common.{◌≡◌, ◌≢◌, ℕ, suc, ◌+◌, ◌<◌, ◌≤◌, ◌==◌, Bool, true, false, not, cond, ◌||◌, ◌&&◌, List, [], ◌∷◌, ◌++◌, map, length, Option, Some, None, refl, sym, ◌∙◌, ap, subst, arith, inl, inr, eq-eqb, ne_eqb}
+use Rattle.std.specs.Option.{option_map}
 use Rattle.std.proofs.Math.Bool.{or-true}
-use Rattle.std.proofs.lemmas.List.{length-map}
+use Rattle.std.proofs.lemmas.List.{length-map, length_push}
 use Rattle.std.proofs.lemmas.Bool.Decides.{eqb_tells}
-use Rattle.std.proofs.lemmas.Option.{slice_get-map}
 use Rattle.lapin_tables.specs.ByChannel.{at_channel}
-use Rattle.lapin_tables.specs.Numbered.{with_under}
-use Rattle.lapin_tables.proofs.Lists.{get-set_same, get-set_other}
-use Rattle.lapin_tables.proofs.SlotLaws.{length-with}
-use Rattle.lapin_history.specs.declared.marks.Outcome.{Outcome}
+use Rattle.lapin_tables.specs.Numbered.{under, with_under}
+use Rattle.lapin_tables.proofs.SlotLaws.{length-with, under-map, under-last}
 use Rattle.lapin_history.specs.ConfirmMarks.{ConfirmMark}
 use Rattle.lapin_history.specs.ConfirmMarks as mark
-use Rattle.lapin_history.specs.Words.{after}
-use Rattle.lapin_history.specs.ConfirmReadings.{leaves, takes, has_left, is_taken, channel_of, tag_of, first_settled, settlement_on, first_rejected, rejection_on, adds, life, added, outcome_at, outcome_after, is_open_outcome, covers, outcome_of}
-use Rattle.lapin_history.proofs.ListLaws.{after-push, through-push}
-use Rattle.lapin_history.proofs.ConfirmLaws.{settled-push, rejected-push, added-push, accepted-push, life-push}
+use Rattle.lapin_history.specs.ConfirmReadings.{adds, leaves, lays, is_aside, channel_of, added, covers, outcome_of, is_finished}
+use Rattle.lapin_history.specs.ReturnReadings.{is_done, is_gone, goes}
+use Rattle.lapin_history.proofs.ListLaws.{or_false}
+use Rattle.lapin_history.proofs.ConfirmLaws.{added-push, accepted-push}
+use Rattle.lapin_history.proofs.ReturnLaws.{gone-push}
 use Rattle.lapin_confirm.specs.declared.cell.Cell.{Cell}
 use Rattle.lapin_confirm.specs.declared.cell.Cell.TheVariants as cell
-use Rattle.lapin_confirm.specs.Book.{Book, tag_for, cell_with, settled_cell, closed_cell, ended_cell, after_mark}
-use Rattle.lapin_confirm.specs.Follows.{Follows, WasAdded, MayCome, cell_in}
+use Rattle.lapin_confirm.specs.declared.home.Home.{Home}
+use Rattle.lapin_confirm.specs.Book.{tag_for, cell_with, settled_cell, closed_cell, ended_cell, is_resolved}
+use Rattle.lapin_confirm.specs.Post.{Post, new_home, letters_at}
+use Rattle.lapin_confirm.specs.Aside.{kept_by, laid_by, put_aside, marked}
+use Rattle.lapin_confirm.specs.Drain.{remaining, is_over, over_aside}
+use Rattle.lapin_confirm.specs.Machine.{after_mark}
+use Rattle.lapin_confirm.specs.Follows.{Follows, MayCome, cell_in, home_in, open_cell}
 use Rattle.lapin_confirm.proofs.LedgerFollowing.{ledger-follows}
-use Rattle.lapin_confirm.proofs.CellFollowing.{stood, left-push, taken-push, cell-step, IsQueued, queued_facts, cell-left, cell-added}
+use Rattle.lapin_confirm.proofs.CellFollowing.{stood, cell-step, home-step, open-step, cell-left, cell-added, home-added, aside-push}
+use Rattle.lapin_confirm.proofs.AsideFollowing.{stands, stands-filter}
+use Rattle.lapin_confirm.proofs.Facts.{facts, came-push, untrue, unfinished, unfinished-kept}
+use Rattle.lapin_confirm.proofs.Asides.{length-marked}
+use Rattle.lapin_confirm.proofs.Remaining.{under-written, under-old, leaves_off, cells-less, homes-less, count-less, places-less}
+use Rattle.lapin_confirm.proofs.LetterFollowing.{trays-push, letters-after}
+use Rattle.lapin_confirm.proofs.Reading.{resolved_open, home-there, done-read}
 
-get-push_old : {X : Type 0} (xs : List X) (k : ℕ) (y : X) → k < length xs → slice_get (xs ++ y ∷ []) k ≡ slice_get xs k
-get-push_old [] k y h = absurd (omega arith)
-get-push_old (x ∷ xs) zero y h = refl
-get-push_old (x ∷ xs) (suc k) y h = get-push_old xs k y (omega arith)
+-- ---- a mark that changes nothing of a publish
 
-get-push_new : {X : Type 0} (xs : List X) (k : ℕ) (y : X) → k ≡ length xs → slice_get (xs ++ y ∷ []) k ≡ Some y
-get-push_new [] zero y h = refl
-get-push_new [] (suc k) y h = absurd (omega arith)
-get-push_new (x ∷ xs) zero y h = absurd (omega arith)
-get-push_new (x ∷ xs) (suc k) y h = get-push_new xs k y (omega arith)
+same-cell : (ms : List ConfirmMark) (p : Post) (m : ConfirmMark) → Follows ms p → (k : ℕ) → k < added ms → leaves (suc k) m ≡ false → goes (suc k) ms m ≡ false → stood m (cell_in (suc k) ms) ≡ cell_in (suc k) ms → under (suc k) p.book.cells ≡ cell_in (suc k) (ms ++ m ∷ [])
+same-cell ms p m f k lt away kept same = f.cells k lt ∙ sym same ∙ sym (cell-step k ms m lt away kept)
 
--- a mark that changes no cell
-same_cells : (ms : List ConfirmMark) (b : Book) (m : ConfirmMark) → Follows ms b → (k : ℕ) → k < added ms → leaves (suc k) m ≡ false → takes (suc k) m ≡ false → stood m (cell_in (suc k) ms) ≡ cell_in (suc k) ms → slice_get b.cells k ≡ Some (cell_in (suc k) (ms ++ m ∷ []))
-same_cells ms b m f k lt away kept same = f.cells k lt ∙ ap Some (sym same ∙ sym (cell-step k ms m lt away kept))
+same-home : (ms : List ConfirmMark) (p : Post) (m : ConfirmMark) → Follows ms p → (k : ℕ) → k < added ms → lays (suc k) m ≡ false → goes (suc k) ms m ≡ false → under (suc k) p.homes ≡ home_in (suc k) (ms ++ m ∷ [])
+same-home ms p m f k lt unlaid kept = f.homes k lt ∙ sym (home-step k ms m lt unlaid kept)
 
--- a write under one number, as the publish at place k sees it
-write_cell : (ms : List ConfirmMark) (b : Book) (m : ConfirmMark) → Follows ms b → (n k : ℕ) (o : Option Cell) → 1 ≤ n → k < added ms
+-- ---- one that writes under one number
+
+write-cell : (ms : List ConfirmMark) (p : Post) (m : ConfirmMark) → Follows ms p → (n k : ℕ) (o : Option Cell) → k < added ms
     → (n ≡ suc k → cell_in (suc k) (ms ++ m ∷ []) ≡ o)
-    → (n ≢ suc k → (leaves (suc k) m ≡ false) × (takes (suc k) m ≡ false) × (stood m (cell_in (suc k) ms) ≡ cell_in (suc k) ms))
-    → slice_get (with_under n o b.cells) k ≡ Some (cell_in (suc k) (ms ++ m ∷ []))
-write_cell ms b m f zero k o one lt here there = absurd (omega arith)
-write_cell ms b m f (suc j) k o one lt here there =
-    let count : length b.cells ≡ added ms = f.count in
-    elim (eqb_tells j k) [
-      | inl same ↦
-          let P : ℕ → Type 0 = λ i. slice_get (slice_set b.cells i o) k ≡ Some (cell_in (suc k) (ms ++ m ∷ [])) in
-          subst P (sym same.1) (get-set_same b.cells k o (omega arith) ∙ ap Some (sym (here (ap suc same.1))))
-      | inr other ↦
-          let away = there (λ e. other.1 (omega arith)) in
-          get-set_other b.cells j k o other.1 ∙ same_cells ms b m f k lt away.0 away.1 away.2
+    → (n ≢ suc k → (leaves (suc k) m ≡ false) × (goes (suc k) ms m ≡ false) × (stood m (cell_in (suc k) ms) ≡ cell_in (suc k) ms))
+    → under (suc k) (with_under n o p.book.cells) ≡ cell_in (suc k) (ms ++ m ∷ [])
+write-cell ms p m f n k o lt here there =
+    let count : length p.book.cells ≡ added ms = f.count in
+    under-written n k o p.book.cells (omega arith)
+    ∙ elim (eqb_tells n (suc k)) [
+      | inl same ↦ rw same.0 (sym (here same.1))
+      | inr other ↦ let away = there other.1 in rw other.0 (same-cell ms p m f k lt away.0 away.1 away.2)
     ]
 
-mapped_cells : (ms : List ConfirmMark) (b : Book) (m : ConfirmMark) (g : Cell → Cell) → Follows ms b → (k : ℕ) → k < added ms → leaves (suc k) m ≡ false → takes (suc k) m ≡ false → stood m (cell_in (suc k) ms) ≡ option_map g (cell_in (suc k) ms) → slice_get (map (option_map g) b.cells) k ≡ Some (cell_in (suc k) (ms ++ m ∷ []))
-mapped_cells ms b m g f k lt away kept same =
-    slice_get-map (option_map g) b.cells k ∙ ap (option_map (option_map g)) (f.cells k lt) ∙ ap Some (sym same ∙ sym (cell-step k ms m lt away kept))
+write-home : (ms : List ConfirmMark) (p : Post) (m : ConfirmMark) → Follows ms p → (n k : ℕ) (o : Option Home) → k < added ms
+    → (n ≡ suc k → home_in (suc k) (ms ++ m ∷ []) ≡ o)
+    → (n ≢ suc k → (lays (suc k) m ≡ false) × (goes (suc k) ms m ≡ false))
+    → under (suc k) (with_under n o p.homes) ≡ home_in (suc k) (ms ++ m ∷ [])
+write-home ms p m f n k o lt here there =
+    let count : length p.homes ≡ added ms = f.places in
+    under-written n k o p.homes (omega arith)
+    ∙ elim (eqb_tells n (suc k)) [
+      | inl same ↦ rw same.0 (sym (here same.1))
+      | inr other ↦ let away = there other.1 in rw other.0 (same-home ms p m f k lt away.0 away.1)
+    ]
 
-cells-follow : (ms : List ConfirmMark) (b : Book) (m : ConfirmMark) → Follows ms b → MayCome ms m → (k : ℕ) → k < added (ms ++ m ∷ []) → slice_get (after_mark b m).cells k ≡ Some (cell_in (suc k) (ms ++ m ∷ []))
-cells-follow ms b (mark.Added c) f may k lt =
+-- of what goes nothing is kept
+gone-cell : (k : ℕ) (ms : List ConfirmMark) (m : ConfirmMark) → goes (suc k) ms m ≡ true → cell_in (suc k) (ms ++ m ∷ []) ≡ None
+gone-cell k ms m now = rw (gone-push (suc k) ms m, now, or-true (is_gone (suc k) ms)) refl
+
+gone-home : (k : ℕ) (ms : List ConfirmMark) (m : ConfirmMark) → goes (suc k) ms m ≡ true → home_in (suc k) (ms ++ m ∷ []) ≡ None
+gone-home k ms m now = rw (gone-push (suc k) ms m, now, or-true (is_gone (suc k) ms)) refl
+
+mapped-cell : (ms : List ConfirmMark) (p : Post) (m : ConfirmMark) (g : Cell → Cell) → Follows ms p → (k : ℕ) → k < added ms → leaves (suc k) m ≡ false → goes (suc k) ms m ≡ false → stood m (cell_in (suc k) ms) ≡ option_map g (cell_in (suc k) ms) → under (suc k) (map (option_map g) p.book.cells) ≡ cell_in (suc k) (ms ++ m ∷ [])
+mapped-cell ms p m g f k lt away kept same = under-map g (suc k) p.book.cells ∙ ap (option_map g) (f.cells k lt) ∙ sym same ∙ sym (cell-step k ms m lt away kept)
+
+-- ---- one that lets go those that stand aside and are resolved
+
+-- which of them: those that go by the history
+swept : {X : Type 0} (x a g d r : Bool) (o : X) → r ≡ d → cond ((x && (a && not g)) && cond g false r) None (cond g None (Some o)) ≡ cond (g || (x && (a && d))) None (Some o)
+swept true true true d r o e = refl
+swept true false true d r o e = refl
+swept false a true d r o e = refl
+swept true true false d r o e = rw e refl
+swept true false false d r o e = refl
+swept false a false d r o e = refl
+
+over-in : (k : ℕ) (ms : List ConfirmMark) → is_resolved (cell_in (suc k) ms) ≡ cond (is_gone (suc k) ms) false (is_done ms (suc k))
+over-in k ms = elim (is_gone (suc k) ms) as (λ (b : Bool). is_resolved (cond b None (Some (open_cell (suc k) ms))) ≡ cond b false (is_done ms (suc k))) [ true ↦ refl | false ↦ resolved_open (suc k) ms ]
+
+-- what is let go with those that stand aside on channel c, by cells and letters that follow
+off-same : (c k : ℕ) (ms : List ConfirmMark) (p : Post) → Follows ms p → k < added ms → leaves_off (suc k) (letters_at c p).aside (remaining p.book.cells p.homes) ≡ ((channel_of (suc k) ms == c && (is_aside (suc k) ms && not (is_gone (suc k) ms))) && cond (is_gone (suc k) ms) false (is_done ms (suc k)))
+off-same c k ms p f lt =
+    let who : stands (suc k) (letters_at c p).aside ≡ (channel_of (suc k) ms == c && (is_aside (suc k) ms && not (is_gone (suc k) ms))) = ap (λ l. stands (suc k) l.aside) (f.letters c) ∙ (facts ms f.came).aside c (suc k) in
+    let over : is_over p.book.cells (suc k) ≡ cond (is_gone (suc k) ms) false (is_done ms (suc k)) = ap is_resolved (f.cells k lt) ∙ over-in k ms in
+    rw (who, over) refl
+
+-- a mark by which those go
+abbrev Sweeps : ℕ → ConfirmMark → Type 0
+Sweeps c m = (n : ℕ) (ms : List ConfirmMark) → (leaves n m ≡ false) × (lays n m ≡ false) × (goes n ms m ≡ (channel_of n ms == c && (is_aside n ms && is_done ms n))) × ((o : Option Cell) → stood m o ≡ o)
+
+swept-cell : (c k : ℕ) (ms : List ConfirmMark) (p : Post) (m : ConfirmMark) → Follows ms p → k < added ms → Sweeps c m → cond (leaves_off (suc k) (letters_at c p).aside (remaining p.book.cells p.homes)) None (under (suc k) p.book.cells) ≡ cell_in (suc k) (ms ++ m ∷ [])
+swept-cell c k ms p m f lt sweeps =
+    let is = sweeps (suc k) ms in
+    let still : Some (open_cell (suc k) (ms ++ m ∷ [])) ≡ Some (open_cell (suc k) ms) = open-step k ms m lt is.0 ∙ is.3 (Some (open_cell (suc k) ms)) in
+    rw (off-same c k ms p f lt, f.cells k lt)
+    (swept (channel_of (suc k) ms == c) (is_aside (suc k) ms) (is_gone (suc k) ms) (is_done ms (suc k)) (is_done ms (suc k)) (open_cell (suc k) ms) refl
+    ∙ ap (λ (b : Bool). cond b None (Some (open_cell (suc k) ms))) (sym (gone-push (suc k) ms m ∙ ap (λ (b : Bool). is_gone (suc k) ms || b) is.2))
+    ∙ ap (λ o. cond (is_gone (suc k) (ms ++ m ∷ [])) None o) (sym still))
+
+swept-home : (c k : ℕ) (ms : List ConfirmMark) (p : Post) (m : ConfirmMark) → Follows ms p → k < added ms → Sweeps c m → cond (leaves_off (suc k) (letters_at c p).aside (remaining p.book.cells p.homes)) None (under (suc k) p.homes) ≡ home_in (suc k) (ms ++ m ∷ [])
+swept-home c k ms p m f lt sweeps =
+    let is = sweeps (suc k) ms in
+    let home : Home = record { channel = channel_of (suc k) ms; aside = is_aside (suc k) ms } in
+    rw (off-same c k ms p f lt, f.homes k lt)
+    (swept (channel_of (suc k) ms == c) (is_aside (suc k) ms) (is_gone (suc k) ms) (is_done ms (suc k)) (is_done ms (suc k)) home refl
+    ∙ rw (gone-push (suc k) ms m, is.2, accepted-push k ms m lt, aside-push (suc k) ms m, is.1, or_false (is_aside (suc k) ms)) refl)
+
+drain-sweeps : (c : ℕ) → Sweeps c (mark.Drained c)
+drain-sweeps c n ms = (refl, refl, refl, λ o. refl)
+
+begin-sweeps : (c : ℕ) → Sweeps c (mark.Begun c)
+begin-sweeps c n ms = (refl, refl, refl, λ o. refl)
+
+-- a drain looks at those alone that are resolved
+over-off : (c n : ℕ) (p : Post) → leaves_off n (over_aside c p) (remaining p.book.cells p.homes) ≡ leaves_off n (letters_at c p).aside (remaining p.book.cells p.homes)
+over-off c n p = ap (λ (b : Bool). b && is_over p.book.cells n) (stands-filter (is_over p.book.cells) n (letters_at c p).aside) ∙ twice (stands n (letters_at c p).aside) (is_over p.book.cells n)
+  where
+    twice : (a b : Bool) → ((a && b) && b) ≡ (a && b)
+    twice true true = refl
+    twice true false = refl
+    twice false b = refl
+
+-- a publish that is not accepted yet is not gone, and was not set aside
+new-unfinished : (k : ℕ) (ms : List ConfirmMark) (p : Post) → Follows ms p → k ≡ added ms → is_finished (suc k) ms ≡ false
+new-unfinished k ms p f last = untrue (is_finished (suc k) ms) (λ h. let known = (facts ms f.came).known (suc k) h in let within : suc k ≤ added ms = known.1 in absurd (omega arith))
+
+new-kept : (k : ℕ) (ms : List ConfirmMark) (p : Post) → Follows ms p → k ≡ added ms → is_gone (suc k) ms ≡ false
+new-kept k ms p f last = unfinished-kept (suc k) ms (facts ms f.came) (new-unfinished k ms p f last)
+
+new-unlaid : (k : ℕ) (ms : List ConfirmMark) (p : Post) → Follows ms p → k ≡ added ms → is_aside (suc k) ms ≡ false
+new-unlaid k ms p f last = unfinished (suc k) ms (new-unfinished k ms p f last)
+
+-- one that is set aside unresolved does not go
+unresolved : (n k : ℕ) (ms : List ConfirmMark) → is_done ms n ≡ false → (n == suc k && is_done ms (suc k)) ≡ false
+unresolved n k ms undone =
+    elim (eqb_tells n (suc k)) [
+      | inl same ↦ let P : ℕ → Type 0 = λ i. is_done ms i ≡ false in rw same.0 (subst P same.1 undone)
+      | inr other ↦ rw other.0 refl
+    ]
+
+laid-home : (n k : ℕ) (ms : List ConfirmMark) → n ≡ suc k → k < added ms → is_gone n ms ≡ false → (n == suc k && is_done ms (suc k)) ≡ false → home_in (suc k) (ms ++ mark.SetAside n ∷ []) ≡ Some (record { channel = channel_of n ms; aside = true })
+laid-home n k ms same lt kept stays =
+    let P : ℕ → Type 0 = λ i. is_gone i ms ≡ false in
+    let here : (n == suc k) ≡ true = eq-eqb n (suc k) same in
+    rw (gone-push (suc k) ms (mark.SetAside n), subst P same kept, stays, accepted-push k ms (mark.SetAside n) lt, aside-push (suc k) ms (mark.SetAside n), here, or-true (is_aside (suc k) ms))
+    (ap (λ i. Some (record { channel = channel_of i ms; aside = true })) (sym same))
+
+-- ---- the cells after a mark
+
+cells-follow : (ms : List ConfirmMark) (p : Post) (m : ConfirmMark) → Follows ms p → MayCome ms m → (k : ℕ) → k < added (ms ++ m ∷ []) → under (suc k) (after_mark p m).book.cells ≡ cell_in (suc k) (ms ++ m ∷ [])
+cells-follow ms p (mark.Added c) f may k lt =
     let more : k < added ms + 1 = rw (added-push ms (mark.Added c)) at lt in
-    let count : length b.cells ≡ added ms = f.count in
+    let count : length p.book.cells ≡ added ms = f.count in
     elim (eqb_tells k (added ms)) [
-      | inl last ↦ get-push_new b.cells k (Some (cell.Queued c)) (last.1 ∙ sym f.count) ∙ ap Some (sym (cell-added c k ms last.1 (f.fresh k (omega arith))))
+      | inl last ↦ under-last (suc k) (Some (cell.Queued c)) p.book.cells (let at : k ≡ added ms = last.1 in omega arith) ∙ sym (cell-added c k ms last.1 ((facts ms f.came).unleft k (let at : k ≡ added ms = last.1 in omega arith)) (new-kept k ms p f last.1))
       | inr other ↦
           let old : k < added ms = omega arith in
-          get-push_old b.cells k (Some (cell.Queued c)) (omega arith) ∙ same_cells ms b (mark.Added c) f k old refl refl refl
+          under-old k (Some (cell.Queued c)) p.book.cells (omega arith) ∙ same-cell ms p (mark.Added c) f k old refl refl refl
     ]
-cells-follow ms b (mark.Left c n) f may k lt =
+cells-follow ms p (mark.Left c n) f may k lt =
     let below : k < added ms = rw (added-push ms (mark.Left c n)) at lt in
     let Q : ℕ → Type 0 = λ i. cell_in i ms ≡ Some (cell.Queued c) in
-    write_cell ms b (mark.Left c n) f n k (Some (cell_with c (tag_for (at_channel c b.ledgers)))) may.0.0 below
+    write-cell ms p (mark.Left c n) f n k (Some (cell_with c (tag_for (at_channel c p.book.ledgers)))) below
     (λ e.
-    let P : ℕ → Type 0 = λ i. cell_in (suc k) (ms ++ mark.Left c i ∷ []) ≡ Some (cell_with c (tag_for (at_channel c b.ledgers))) in
+    let P : ℕ → Type 0 = λ i. cell_in (suc k) (ms ++ mark.Left c i ∷ []) ≡ Some (cell_with c (tag_for (at_channel c p.book.ledgers))) in
     subst P (sym e) (cell-left c k ms below (subst Q e may.1) ∙ ap (λ o. Some (cell_with c (tag_for o))) (sym (f.ledgers c))))
     (λ apart. (ne_eqb n (suc k) apart, refl, refl))
-cells-follow ms b (mark.Settled c s) f may k lt = mapped_cells ms b (mark.Settled c s) (settled_cell c (covers s) (outcome_of s)) f k (rw (added-push ms (mark.Settled c s)) at lt) refl refl refl
-cells-follow ms b (mark.ClosedHere c e) f may k lt = mapped_cells ms b (mark.ClosedHere c e) (closed_cell c e) f k (rw (added-push ms (mark.ClosedHere c e)) at lt) refl refl refl
-cells-follow ms b (mark.Ended c e) f may k lt = mapped_cells ms b (mark.Ended c e) (ended_cell c e) f k (rw (added-push ms (mark.Ended c e)) at lt) refl refl refl
-cells-follow ms b (mark.Taken n) f may k lt =
+cells-follow ms p (mark.Settled c s) f may k lt = mapped-cell ms p (mark.Settled c s) (settled_cell c (covers s) (outcome_of s)) f k (rw (added-push ms (mark.Settled c s)) at lt) refl refl refl
+cells-follow ms p (mark.ClosedHere c e) f may k lt = mapped-cell ms p (mark.ClosedHere c e) (closed_cell c e) f k (rw (added-push ms (mark.ClosedHere c e)) at lt) refl refl refl
+cells-follow ms p (mark.Ended c e) f may k lt = mapped-cell ms p (mark.Ended c e) (ended_cell c e) f k (rw (added-push ms (mark.Ended c e)) at lt) refl refl refl
+cells-follow ms p (mark.Taken n) f may k lt =
     let below : k < added ms = rw (added-push ms (mark.Taken n)) at lt in
-    write_cell ms b (mark.Taken n) f n k None may.0.0 below
-    (λ e. let here : (n == suc k) ≡ true = eq-eqb n (suc k) e in rw (taken-push (suc k) ms (mark.Taken n), here, or-true) refl)
+    write-cell ms p (mark.Taken n) f n k None below
+    (λ e. gone-cell k ms (mark.Taken n) (eq-eqb n (suc k) e))
     (λ apart. (refl, ne_eqb n (suc k) apart, refl))
-cells-follow ms b (mark.Begun c) f may k lt = same_cells ms b (mark.Begun c) f k (rw (added-push ms (mark.Begun c)) at lt) refl refl refl
-cells-follow ms b (mark.SelectCalled c) f may k lt = same_cells ms b (mark.SelectCalled c) f k (rw (added-push ms (mark.SelectCalled c)) at lt) refl refl refl
-cells-follow ms b (mark.LimitSet c n) f may k lt = same_cells ms b (mark.LimitSet c n) f k (rw (added-push ms (mark.LimitSet c n)) at lt) refl refl refl
-cells-follow ms b (mark.SelectLeft c) f may k lt = same_cells ms b (mark.SelectLeft c) f k (rw (added-push ms (mark.SelectLeft c)) at lt) refl refl refl
-cells-follow ms b (mark.Arrived c x) f may k lt = same_cells ms b (mark.Arrived c x) f k (rw (added-push ms (mark.Arrived c x)) at lt) refl refl refl
-cells-follow ms b (mark.SetAside n) f may k lt = same_cells ms b (mark.SetAside n) f k (rw (added-push ms (mark.SetAside n)) at lt) refl refl refl
-cells-follow ms b (mark.Drained c) f may k lt = same_cells ms b (mark.Drained c) f k (rw (added-push ms (mark.Drained c)) at lt) refl refl refl
+cells-follow ms p (mark.SetAside n) f may k lt =
+    let below : k < added ms = rw (added-push ms (mark.SetAside n)) at lt in
+    let kept : is_gone n ms ≡ false = unfinished-kept n ms (facts ms f.came) may.1 in
+    let done : is_resolved (under n p.book.cells) ≡ is_done ms n = done-read n ms p f may.0 kept in
+    elim (is_resolved (under n p.book.cells)) as (λ (b : Bool). b ≡ is_done ms n → under (suc k) (cond b (kept_by n p) (laid_by n p)).book.cells ≡ cell_in (suc k) (ms ++ mark.SetAside n ∷ [])) [
+      | true ↦ λ over.
+          let P : ℕ → Type 0 = λ i. is_done ms i ≡ true in
+          write-cell ms p (mark.SetAside n) f n k None below
+          (λ e. gone-cell k ms (mark.SetAside n) (rw (eq-eqb n (suc k) e) (subst P e (sym over))))
+          (λ apart. (refl, rw (ne_eqb n (suc k) apart) refl, refl))
+      | false ↦ λ waits. same-cell ms p (mark.SetAside n) f k below refl (unresolved n k ms (sym waits)) refl
+    ] done
+cells-follow ms p (mark.Drained c) f may k lt =
+    cells-less (suc k) (over_aside c p) (remaining p.book.cells p.homes)
+    ∙ ap (λ (b : Bool). cond b None (under (suc k) p.book.cells)) (over-off c (suc k) p)
+    ∙ swept-cell c k ms p (mark.Drained c) f (rw (added-push ms (mark.Drained c)) at lt) (drain-sweeps c)
+cells-follow ms p (mark.Begun c) f may k lt =
+    cells-less (suc k) (letters_at c p).aside (remaining p.book.cells p.homes)
+    ∙ swept-cell c k ms p (mark.Begun c) f (rw (added-push ms (mark.Begun c)) at lt) (begin-sweeps c)
+cells-follow ms p (mark.SelectCalled c) f may k lt = same-cell ms p (mark.SelectCalled c) f k (rw (added-push ms (mark.SelectCalled c)) at lt) refl refl refl
+cells-follow ms p (mark.LimitSet c n) f may k lt = same-cell ms p (mark.LimitSet c n) f k (rw (added-push ms (mark.LimitSet c n)) at lt) refl refl refl
+cells-follow ms p (mark.SelectLeft c) f may k lt = same-cell ms p (mark.SelectLeft c) f k (rw (added-push ms (mark.SelectLeft c)) at lt) refl refl refl
+cells-follow ms p (mark.Arrived c x) f may k lt = same-cell ms p (mark.Arrived c x) f k (rw (added-push ms (mark.Arrived c x)) at lt) refl refl refl
 
-count-follows : (ms : List ConfirmMark) (b : Book) (m : ConfirmMark) → Follows ms b → length (after_mark b m).cells ≡ added (ms ++ m ∷ [])
-count-follows ms b (mark.Added c) f = let count : length b.cells ≡ added ms = f.count in rw (added-push ms (mark.Added c)) (omega (arith, length-append b.cells (Some (cell.Queued c) ∷ [])))
-count-follows ms b (mark.Left c n) f = length-with n _ b.cells ∙ f.count ∙ sym (added-push ms (mark.Left c n))
-count-follows ms b (mark.Settled c s) f = rw (added-push ms (mark.Settled c s)) (length-map b.cells (option_map (settled_cell c (covers s) (outcome_of s))) ∙ f.count)
-count-follows ms b (mark.ClosedHere c e) f = rw (added-push ms (mark.ClosedHere c e)) (length-map b.cells (option_map (closed_cell c e)) ∙ f.count)
-count-follows ms b (mark.Ended c e) f = rw (added-push ms (mark.Ended c e)) (length-map b.cells (option_map (ended_cell c e)) ∙ f.count)
-count-follows ms b (mark.Taken n) f = length-with n None b.cells ∙ f.count ∙ sym (added-push ms (mark.Taken n))
-count-follows ms b (mark.Begun c) f = f.count ∙ sym (added-push ms (mark.Begun c))
-count-follows ms b (mark.SelectCalled c) f = f.count ∙ sym (added-push ms (mark.SelectCalled c))
-count-follows ms b (mark.LimitSet c n) f = f.count ∙ sym (added-push ms (mark.LimitSet c n))
-count-follows ms b (mark.SelectLeft c) f = f.count ∙ sym (added-push ms (mark.SelectLeft c))
-count-follows ms b (mark.Arrived c x) f = f.count ∙ sym (added-push ms (mark.Arrived c x))
-count-follows ms b (mark.SetAside n) f = f.count ∙ sym (added-push ms (mark.SetAside n))
-count-follows ms b (mark.Drained c) f = f.count ∙ sym (added-push ms (mark.Drained c))
+-- ---- and the homes
 
--- a mark adds at most one publish
-added_grows : (ms : List ConfirmMark) (m : ConfirmMark) → added ms ≤ added (ms ++ m ∷ [])
-added_grows ms m = rw (added-push ms m) (elim (adds m) as (λ b. added ms ≤ cond b (added ms + 1) (added ms)) [ true ↦ omega arith | false ↦ omega arith ])
+homes-follow : (ms : List ConfirmMark) (p : Post) (m : ConfirmMark) → Follows ms p → MayCome ms m → (k : ℕ) → k < added (ms ++ m ∷ []) → under (suc k) (after_mark p m).homes ≡ home_in (suc k) (ms ++ m ∷ [])
+homes-follow ms p (mark.Added c) f may k lt =
+    let more : k < added ms + 1 = rw (added-push ms (mark.Added c)) at lt in
+    let count : length p.homes ≡ added ms = f.places in
+    elim (eqb_tells k (added ms)) [
+      | inl last ↦ under-last (suc k) (Some (new_home c)) p.homes (let at : k ≡ added ms = last.1 in omega arith) ∙ sym (home-added c k ms last.1 (new-unlaid k ms p f last.1) (new-kept k ms p f last.1))
+      | inr other ↦
+          let old : k < added ms = omega arith in
+          under-old k (Some (new_home c)) p.homes (omega arith) ∙ same-home ms p (mark.Added c) f k old refl refl
+    ]
+homes-follow ms p (mark.Taken n) f may k lt =
+    let below : k < added ms = rw (added-push ms (mark.Taken n)) at lt in
+    write-home ms p (mark.Taken n) f n k None below
+    (λ e. gone-home k ms (mark.Taken n) (eq-eqb n (suc k) e))
+    (λ apart. (refl, ne_eqb n (suc k) apart))
+homes-follow ms p (mark.SetAside n) f may k lt =
+    let below : k < added ms = rw (added-push ms (mark.SetAside n)) at lt in
+    let kept : is_gone n ms ≡ false = unfinished-kept n ms (facts ms f.came) may.1 in
+    let done : is_resolved (under n p.book.cells) ≡ is_done ms n = done-read n ms p f may.0 kept in
+    let there : under n p.homes ≡ Some (record { channel = channel_of n ms; aside = is_aside n ms }) = home-there n ms p f may.0 kept in
+    elim (is_resolved (under n p.book.cells)) as (λ (b : Bool). b ≡ is_done ms n → under (suc k) (cond b (kept_by n p) (laid_by n p)).homes ≡ home_in (suc k) (ms ++ mark.SetAside n ∷ [])) [
+      | true ↦ λ over.
+          let P : ℕ → Type 0 = λ i. is_done ms i ≡ true in
+          write-home ms p (mark.SetAside n) f n k None below
+          (λ e. gone-home k ms (mark.SetAside n) (rw (eq-eqb n (suc k) e) (subst P e (sym over))))
+          (λ apart. (ne_eqb n (suc k) apart, rw (ne_eqb n (suc k) apart) refl))
+      | false ↦ λ waits.
+          ap (λ o. under (suc k) (marked n o p.homes)) there
+          ∙ write-home ms p (mark.SetAside n) f n k (Some (record { channel = channel_of n ms; aside = true })) below
+          (λ e. laid-home n k ms e below kept (unresolved n k ms (sym waits)))
+          (λ apart. (ne_eqb n (suc k) apart, rw (ne_eqb n (suc k) apart) refl))
+    ] done
+homes-follow ms p (mark.Drained c) f may k lt =
+    homes-less (suc k) (over_aside c p) (remaining p.book.cells p.homes)
+    ∙ ap (λ (b : Bool). cond b None (under (suc k) p.homes)) (over-off c (suc k) p)
+    ∙ swept-home c k ms p (mark.Drained c) f (rw (added-push ms (mark.Drained c)) at lt) (drain-sweeps c)
+homes-follow ms p (mark.Begun c) f may k lt =
+    homes-less (suc k) (letters_at c p).aside (remaining p.book.cells p.homes)
+    ∙ swept-home c k ms p (mark.Begun c) f (rw (added-push ms (mark.Begun c)) at lt) (begin-sweeps c)
+homes-follow ms p (mark.Left c n) f may k lt = same-home ms p (mark.Left c n) f k (rw (added-push ms (mark.Left c n)) at lt) refl refl
+homes-follow ms p (mark.Settled c s) f may k lt = same-home ms p (mark.Settled c s) f k (rw (added-push ms (mark.Settled c s)) at lt) refl refl
+homes-follow ms p (mark.ClosedHere c e) f may k lt = same-home ms p (mark.ClosedHere c e) f k (rw (added-push ms (mark.ClosedHere c e)) at lt) refl refl
+homes-follow ms p (mark.Ended c e) f may k lt = same-home ms p (mark.Ended c e) f k (rw (added-push ms (mark.Ended c e)) at lt) refl refl
+homes-follow ms p (mark.SelectCalled c) f may k lt = same-home ms p (mark.SelectCalled c) f k (rw (added-push ms (mark.SelectCalled c)) at lt) refl refl
+homes-follow ms p (mark.LimitSet c n) f may k lt = same-home ms p (mark.LimitSet c n) f k (rw (added-push ms (mark.LimitSet c n)) at lt) refl refl
+homes-follow ms p (mark.SelectLeft c) f may k lt = same-home ms p (mark.SelectLeft c) f k (rw (added-push ms (mark.SelectLeft c)) at lt) refl refl
+homes-follow ms p (mark.Arrived c x) f may k lt = same-home ms p (mark.Arrived c x) f k (rw (added-push ms (mark.Arrived c x)) at lt) refl refl
 
--- what may leave or be taken was accepted
-away : (ms : List ConfirmMark) (m : ConfirmMark) → MayCome ms m → (k : ℕ) → added ms ≤ k → (leaves (suc k) m ≡ false) × (takes (suc k) m ≡ false)
-away ms (mark.Left c n) may k le = let last : n ≤ added ms = may.0.1 in (ne_eqb n (suc k) (λ e. omega arith), refl)
-away ms (mark.Taken n) may k le = let last : n ≤ added ms = may.0.1 in (refl, ne_eqb n (suc k) (λ e. omega arith))
-away ms _ may k le = (refl, refl)
+-- ---- how many there are
 
-fresh-follow : (ms : List ConfirmMark) (b : Book) (m : ConfirmMark) → Follows ms b → MayCome ms m → (k : ℕ) → added (ms ++ m ∷ []) ≤ k → (has_left (suc k) (ms ++ m ∷ []) ≡ false) × (is_taken (suc k) (ms ++ m ∷ []) ≡ false)
-fresh-follow ms b m f may k le =
-    let grows : added ms ≤ added (ms ++ m ∷ []) = added_grows ms m in
-    let old : added ms ≤ k = omega arith in
-    let was = f.fresh k old in
-    let new = away ms m may k old in
-    (left-push (suc k) ms m ∙ rw (was.0, new.0) refl, taken-push (suc k) ms m ∙ rw (was.1, new.1) refl)
-
--- ---- an outcome that is there stays
-
-settled_or : (o p : Option Outcome) → is_open_outcome o ≡ false → option_or o p ≡ o
-settled_or None p h = cc
-settled_or (Some x) p h = refl
-
-after_stays : (c : ℕ) (t : Option ℕ) (later : List ConfirmMark) (m : ConfirmMark) → is_open_outcome (outcome_after c t later) ≡ false → outcome_after c t (later ++ m ∷ []) ≡ outcome_after c t later
-after_stays c None later m h = refl
-after_stays c (Some t) later m h = settled-push c t later m ∙ settled_or (first_settled c t later) (settlement_on c t m) h
-
--- an outcome that is there is the outcome of every longer history
-pub outcome-push : (k : ℕ) (ms : List ConfirmMark) (m : ConfirmMark) → k < added ms → MayCome ms m → is_open_outcome (outcome_at (suc k) ms) ≡ false → outcome_at (suc k) (ms ++ m ∷ []) ≡ outcome_at (suc k) ms
-outcome-push k ms m known may h =
-    elim (has_left (suc k) ms) as (λ b. has_left (suc k) ms ≡ b → is_open_outcome (cond b (outcome_after (channel_of (suc k) ms) (tag_of (suc k) ms) (after (leaves (suc k)) ms)) (first_rejected (channel_of (suc k) ms) (life (suc k) ms))) ≡ false → outcome_at (suc k) (ms ++ m ∷ []) ≡ cond b (outcome_after (channel_of (suc k) ms) (tag_of (suc k) ms) (after (leaves (suc k)) ms)) (first_rejected (channel_of (suc k) ms) (life (suc k) ms))) [
-      | true ↦ λ left h. rw (left-push (suc k) ms m, left, accepted-push k ms m known, through-push (leaves (suc k)) ms m, left, after-push (leaves (suc k)) ms m, left) (after_stays (channel_of (suc k) ms) (tag_of (suc k) ms) (after (leaves (suc k)) ms) m h)
-      | false ↦ λ left h.
-          elim (leaves (suc k) m) as (λ b. leaves (suc k) m ≡ b → outcome_at (suc k) (ms ++ m ∷ []) ≡ first_rejected (channel_of (suc k) ms) (life (suc k) ms)) [
-            | true ↦ λ goes. absurd (unrejected (suc k) ms m may goes h)
-            | false ↦ λ away. rw (left-push (suc k) ms m, left, away, accepted-push k ms m known, life-push k ms m known, rejected-push (channel_of (suc k) ms) (life (suc k) ms) m) (settled_or (first_rejected (channel_of (suc k) ms) (life (suc k) ms)) (rejection_on (channel_of (suc k) ms) m) h)
-          ] refl
-    ] refl h
-  where
-    unrejected : (n : ℕ) (ms : List ConfirmMark) (m : ConfirmMark) → MayCome ms m → leaves n m ≡ true → is_open_outcome (first_rejected (channel_of n ms) (life n ms)) ≡ false → ⊥
-    unrejected n ms (mark.Left c j) may goes h =
-        let same : j ≡ n = eqb-true j n goes in
-        let facts : IsQueued c j ms = queued_facts c j ms may.1 in
-        let P : ℕ → Type 0 = λ i. first_rejected (channel_of i ms) (life i ms) ≡ None in
-        let none : first_rejected (channel_of n ms) (life n ms) ≡ None = subst P same facts.unrejected in
-        let open_ : is_open_outcome (first_rejected (channel_of n ms) (life n ms)) ≡ true = ap is_open_outcome none in
-        cc
-    unrejected n ms _ may goes h = cc
-
-given-old : (ms : List ConfirmMark) (b : Book) (m : ConfirmMark) → Follows ms b → MayCome ms m → (k : ℕ) → k < added ms → is_open_outcome (outcome_at (suc k) ms) ≡ false → is_open_outcome (outcome_at (suc k) (ms ++ m ∷ [])) ≡ false
-given-old ms b m f may k lt was = ap is_open_outcome (outcome-push k ms m lt may was) ∙ was
-
-or_split : (a b : Bool) → (a || b) ≡ true → (a ≡ true) ⊎ (b ≡ true)
-or_split true b h = inl refl
-or_split false b h = inr h
-
--- the result that a mark gives was there
-taken_now : (ms : List ConfirmMark) (m : ConfirmMark) (k : ℕ) → MayCome ms m → takes (suc k) m ≡ true → (k < added ms) × (is_open_outcome (outcome_at (suc k) ms) ≡ false)
-taken_now ms (mark.Taken n) k may goes =
-    let same : n ≡ suc k = eqb-true n (suc k) goes in
-    let last : n ≤ added ms = may.0.1 in
-    let P : ℕ → Type 0 = λ i. is_open_outcome (outcome_at i ms) ≡ false in
-    (omega arith, subst P same may.1)
-taken_now ms _ k may goes = cc
-
-taken_before : (ms : List ConfirmMark) (b : Book) (k : ℕ) → Follows ms b → is_taken (suc k) ms ≡ true → k < added ms
-taken_before ms b k f was =
-    elim (nat_lt k (added ms)) as (λ t. nat_lt k (added ms) ≡ t → k < added ms) [
-      | true ↦ λ h. ltb-true k (added ms) h
-      | false ↦ λ h. let le : added ms ≤ k = ltb-false k (added ms) h in let unset : is_taken (suc k) ms ≡ false = (f.fresh k le).1 in cc
-    ] refl
-
-given-follow : (ms : List ConfirmMark) (b : Book) (m : ConfirmMark) → Follows ms b → MayCome ms m → (k : ℕ) → k < added (ms ++ m ∷ []) → is_taken (suc k) (ms ++ m ∷ []) ≡ true → is_open_outcome (outcome_at (suc k) (ms ++ m ∷ [])) ≡ false
-given-follow ms b m f may k lt taken =
-    elim (or_split (is_taken (suc k) ms) (takes (suc k) m) (sym (taken-push (suc k) ms m) ∙ taken)) [
-      | inl was ↦ let old = taken_before ms b k f was in given-old ms b m f may k old (f.given k old was)
-      | inr now ↦ let there = taken_now ms m k may now in given-old ms b m f may k there.0 there.1
+put-count : (n : ℕ) (p : Post) → (length (put_aside n p).book.cells ≡ length p.book.cells) × (length (put_aside n p).homes ≡ length p.homes)
+put-count n p =
+    elim (is_resolved (under n p.book.cells)) as (λ (b : Bool). (length (cond b (kept_by n p) (laid_by n p)).book.cells ≡ length p.book.cells) × (length (cond b (kept_by n p) (laid_by n p)).homes ≡ length p.homes)) [
+      | true ↦ (length-with n None p.book.cells, length-with n None p.homes)
+      | false ↦ (refl, length-marked n (under n p.homes) p.homes)
     ]
 
--- a book that follows a history follows it one mark further
-pub follows-push : (ms : List ConfirmMark) (b : Book) (m : ConfirmMark) → Follows ms b → MayCome ms m → Follows (ms ++ m ∷ []) (after_mark b m)
-follows-push ms b m f may = record {
-  ledgers = ledger-follows ms b m f.ledgers;
-  count = count-follows ms b m f;
-  cells = cells-follow ms b m f may;
-  fresh = fresh-follow ms b m f may;
-  given = given-follow ms b m f may;
-}
+-- each mark but an acceptance leaves both counts
+counts-stay : (p : Post) (m : ConfirmMark) → adds m ≡ false → (length (after_mark p m).book.cells ≡ length p.book.cells) × (length (after_mark p m).homes ≡ length p.homes)
+counts-stay p (mark.Added c) other = cc
+counts-stay p (mark.Left c n) other = (length-with n _ p.book.cells, refl)
+counts-stay p (mark.Settled c s) other = (length-map p.book.cells (option_map (settled_cell c (covers s) (outcome_of s))), refl)
+counts-stay p (mark.ClosedHere c e) other = (length-map p.book.cells (option_map (closed_cell c e)), refl)
+counts-stay p (mark.Ended c e) other = (length-map p.book.cells (option_map (ended_cell c e)), refl)
+counts-stay p (mark.Taken n) other = (length-with n None p.book.cells, length-with n None p.homes)
+counts-stay p (mark.SetAside n) other = put-count n p
+counts-stay p (mark.Drained c) other = (count-less (over_aside c p) (remaining p.book.cells p.homes), places-less (over_aside c p) (remaining p.book.cells p.homes))
+counts-stay p (mark.Begun c) other = (count-less (letters_at c p).aside (remaining p.book.cells p.homes), places-less (letters_at c p).aside (remaining p.book.cells p.homes))
+counts-stay p (mark.SelectCalled c) other = (refl, refl)
+counts-stay p (mark.LimitSet c n) other = (refl, refl)
+counts-stay p (mark.SelectLeft c) other = (refl, refl)
+counts-stay p (mark.Arrived c x) other = (refl, refl)
 
-pub outcome-stays : (n : ℕ) (ms : List ConfirmMark) (m : ConfirmMark) → WasAdded n ms → MayCome ms m → is_open_outcome (outcome_at n ms) ≡ false → outcome_at n (ms ++ m ∷ []) ≡ outcome_at n ms
-outcome-stays zero ms m known may h = let none : 1 ≤ 0 = known.0 in absurd (omega arith)
-outcome-stays (suc k) ms m known may h = let last : suc k ≤ added ms = known.1 in outcome-push k ms m (omega arith) may h
+counts-grow : (p : Post) (m : ConfirmMark) → adds m ≡ true → (length (after_mark p m).book.cells ≡ length p.book.cells + 1) × (length (after_mark p m).homes ≡ length p.homes + 1)
+counts-grow p (mark.Added c) new = (length_push p.book.cells (Some (cell.Queued c)), length_push p.homes (Some (new_home c)))
+counts-grow p _ new = cc
+
+counts-follow : (ms : List ConfirmMark) (p : Post) (m : ConfirmMark) → Follows ms p → (length (after_mark p m).book.cells ≡ added (ms ++ m ∷ [])) × (length (after_mark p m).homes ≡ added (ms ++ m ∷ []))
+counts-follow ms p m f =
+    elim (adds m) as (λ b. adds m ≡ b → (length (after_mark p m).book.cells ≡ added (ms ++ m ∷ [])) × (length (after_mark p m).homes ≡ added (ms ++ m ∷ []))) [
+      | true ↦ λ new. let grow = counts-grow p m new in rw (added-push ms m, new) (grow.0 ∙ ap (λ (n : ℕ). n + 1) f.count, grow.1 ∙ ap (λ (n : ℕ). n + 1) f.places)
+      | false ↦ λ other. let stay = counts-stay p m other in rw (added-push ms m, other) (stay.0 ∙ f.count, stay.1 ∙ f.places)
+    ] refl
+
+-- confirms that follow a history follow it one mark further
+pub follows-push : (ms : List ConfirmMark) (p : Post) (m : ConfirmMark) → Follows ms p → MayCome ms m → Follows (ms ++ m ∷ []) (after_mark p m)
+follows-push ms p m f may = record {
+  came = came-push ms m f.came may;
+  ledgers = ledger-follows ms p m f.ledgers;
+  count = (counts-follow ms p m f).0;
+  cells = cells-follow ms p m f may;
+  places = (counts-follow ms p m f).1;
+  homes = homes-follow ms p m f may;
+  trays = trays-push ms p m f;
+  letters = letters-after ms p m f may;
+}

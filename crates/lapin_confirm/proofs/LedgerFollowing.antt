@@ -1,4 +1,4 @@
--- The ledgers of a book that follows a history follow the longer one.
+-- The ledgers of confirms that follow a history follow the longer one.
 use Rattle.std.proofs.Common.{◌≡◌, ℕ, ◌+◌, ◌==◌, Bool, true, false, cond, ◌||◌, ◌&&◌, List, [], ◌∷◌, ◌++◌, Option, Some, None, refl, sym, ◌∙◌, ap, subst, inl, inr, eq-eqb}
 use Rattle.std.specs.List.{count_by, list_any}
 use Rattle.std.specs.Option.{option_map}
@@ -12,7 +12,11 @@ use Rattle.lapin_history.specs.ConfirmReadings.{begins, turns, selects, asks, le
 use Rattle.lapin_history.proofs.ListLaws.{any-push, after-push, after_none, count-push, since-push}
 use Rattle.lapin_history.proofs.ConfirmLaws.{limit-push}
 use Rattle.lapin_history.proofs.ChannelLaws.{at-on, at-with}
-use Rattle.lapin_confirm.specs.Book.{LedgerState, Book, fresh_ledger, selected_ledger, asked_ledger, limited_ledger, ended_ledger, next_ledger, tag_for, ledgers_with, after_mark}
+use Rattle.lapin_tables.specs.Numbered.{under}
+use Rattle.lapin_confirm.specs.Book.{LedgerState, fresh_ledger, selected_ledger, asked_ledger, limited_ledger, ended_ledger, next_ledger, tag_for, ledgers_with, is_resolved}
+use Rattle.lapin_confirm.specs.Post.{Post}
+use Rattle.lapin_confirm.specs.Aside.{kept_by, laid_by}
+use Rattle.lapin_confirm.specs.Machine.{after_mark}
 use Rattle.lapin_confirm.specs.Follows.{ledger_in}
 
 abbrev ledger : Bool → ℕ → Bool → ℕ → LedgerState
@@ -132,50 +136,52 @@ end_moves true n = refl
 end_moves false n = refl
 
 -- each mark does to a ledger what the readings say
-ledger-step : (b : Book) (m : ConfirmMark) (d : ℕ) → at_channel d (after_mark b m).ledgers ≡ ledger_after d m (at_channel d b.ledgers)
-ledger-step b (mark.Begun c) d =
-    at-with c d fresh_ledger b.ledgers ∙
-    elim (c == d) as (λ e. (c == d) ≡ e → cond e (Some fresh_ledger) (at_channel d b.ledgers) ≡ ledger_after d (mark.Begun c) (at_channel d b.ledgers)) [
-      | true ↦ λ e. elim (at_channel d b.ledgers) as (λ o. Some fresh_ledger ≡ ledger_after d (mark.Begun c) o) [ None ↦ rw e refl | Some l ↦ rw e refl ]
-      | false ↦ λ e. same_ledger d (mark.Begun c) (at_channel d b.ledgers) (record { begins = e; turns = e; selects = refl; leaves = refl; asks = refl; limit = λ l. refl })
+ledger-step : (p : Post) (m : ConfirmMark) (d : ℕ) → at_channel d (after_mark p m).book.ledgers ≡ ledger_after d m (at_channel d p.book.ledgers)
+ledger-step p (mark.Begun c) d =
+    at-with c d fresh_ledger p.book.ledgers ∙
+    elim (c == d) as (λ e. (c == d) ≡ e → cond e (Some fresh_ledger) (at_channel d p.book.ledgers) ≡ ledger_after d (mark.Begun c) (at_channel d p.book.ledgers)) [
+      | true ↦ λ e. elim (at_channel d p.book.ledgers) as (λ o. Some fresh_ledger ≡ ledger_after d (mark.Begun c) o) [ None ↦ rw e refl | Some l ↦ rw e refl ]
+      | false ↦ λ e. same_ledger d (mark.Begun c) (at_channel d p.book.ledgers) (record { begins = e; turns = e; selects = refl; leaves = refl; asks = refl; limit = λ l. refl })
     ] refl
-ledger-step b (mark.SelectCalled c) d =
-    changed_ledger c d asked_ledger (mark.SelectCalled c) b.ledgers refl
+ledger-step p (mark.SelectCalled c) d =
+    changed_ledger c d asked_ledger (mark.SelectCalled c) p.book.ledgers refl
     (λ e. record { begins = refl; turns = refl; selects = refl; leaves = refl; asks = e; limit = λ l. refl })
     (λ e l. rw e (ask_moves l.selected l.asked l.last l.limit))
-ledger-step b (mark.LimitSet c n) d =
-    changed_ledger c d (limited_ledger n) (mark.LimitSet c n) b.ledgers refl
+ledger-step p (mark.LimitSet c n) d =
+    changed_ledger c d (limited_ledger n) (mark.LimitSet c n) p.book.ledgers refl
     (λ e. record { begins = refl; turns = refl; selects = refl; leaves = refl; asks = refl; limit = λ l. rw e refl })
     (λ e l. rw e (still l.selected l.asked l.last n))
-ledger-step b (mark.SelectLeft c) d =
-    changed_ledger c d selected_ledger (mark.SelectLeft c) b.ledgers refl
+ledger-step p (mark.SelectLeft c) d =
+    changed_ledger c d selected_ledger (mark.SelectLeft c) p.book.ledgers refl
     (λ e. record { begins = refl; turns = refl; selects = e; leaves = refl; asks = refl; limit = λ l. refl })
     (λ e l. rw e (select_moves l.selected l.asked l.last l.limit))
-ledger-step b (mark.Left c k) d =
+ledger-step p (mark.Left c k) d =
     elim (eqb_tells c d) [
       | inl same ↦
-          let P : ℕ → Type 0 = λ a. at_channel d (ledgers_with c (tag_for (at_channel a b.ledgers)) b.ledgers) ≡ ledger_after d (mark.Left c k) (at_channel d b.ledgers) in
+          let P : ℕ → Type 0 = λ a. at_channel d (ledgers_with c (tag_for (at_channel a p.book.ledgers)) p.book.ledgers) ≡ ledger_after d (mark.Left c k) (at_channel d p.book.ledgers) in
           subst P (sym same.1)
-          (elim (at_channel d b.ledgers) as (λ o. at_channel d b.ledgers ≡ o → at_channel d (ledgers_with c (tag_for o) b.ledgers) ≡ ledger_after d (mark.Left c k) o) [
+          (elim (at_channel d p.book.ledgers) as (λ o. at_channel d p.book.ledgers ≡ o → at_channel d (ledgers_with c (tag_for o) p.book.ledgers) ≡ ledger_after d (mark.Left c k) o) [
             | None ↦ λ none. none
-            | Some l ↦ λ is. left_ledger c d k l.last l.limit l.selected l.asked b.ledgers same.0 is
+            | Some l ↦ λ is. left_ledger c d k l.last l.limit l.selected l.asked p.book.ledgers same.0 is
           ] refl)
-      | inr other ↦ left_elsewhere c d (tag_for (at_channel c b.ledgers)) b.ledgers other.0 ∙ same_ledger d (mark.Left c k) (at_channel d b.ledgers) (record { begins = refl; turns = refl; selects = refl; leaves = other.0; asks = refl; limit = λ l. refl })
+      | inr other ↦ left_elsewhere c d (tag_for (at_channel c p.book.ledgers)) p.book.ledgers other.0 ∙ same_ledger d (mark.Left c k) (at_channel d p.book.ledgers) (record { begins = refl; turns = refl; selects = refl; leaves = other.0; asks = refl; limit = λ l. refl })
     ]
-ledger-step b (mark.Ended c e) d =
-    changed_ledger c d ended_ledger (mark.Ended c e) b.ledgers refl
+ledger-step p (mark.Ended c e) d =
+    changed_ledger c d ended_ledger (mark.Ended c e) p.book.ledgers refl
     (λ e. record { begins = refl; turns = e; selects = refl; leaves = refl; asks = refl; limit = λ l. refl })
     (λ e l. rw e (end_moves l.selected l.last))
-ledger-step b (mark.Added c) d = same_ledger d (mark.Added c) (at_channel d b.ledgers) (record { begins = refl; turns = refl; selects = refl; leaves = refl; asks = refl; limit = λ l. refl })
-ledger-step b (mark.Settled c s) d = same_ledger d (mark.Settled c s) (at_channel d b.ledgers) (record { begins = refl; turns = refl; selects = refl; leaves = refl; asks = refl; limit = λ l. refl })
-ledger-step b (mark.Arrived c x) d = same_ledger d (mark.Arrived c x) (at_channel d b.ledgers) (record { begins = refl; turns = refl; selects = refl; leaves = refl; asks = refl; limit = λ l. refl })
-ledger-step b (mark.ClosedHere c e) d = same_ledger d (mark.ClosedHere c e) (at_channel d b.ledgers) (record { begins = refl; turns = refl; selects = refl; leaves = refl; asks = refl; limit = λ l. refl })
-ledger-step b (mark.Taken n) d = same_ledger d (mark.Taken n) (at_channel d b.ledgers) (record { begins = refl; turns = refl; selects = refl; leaves = refl; asks = refl; limit = λ l. refl })
-ledger-step b (mark.SetAside n) d = same_ledger d (mark.SetAside n) (at_channel d b.ledgers) (record { begins = refl; turns = refl; selects = refl; leaves = refl; asks = refl; limit = λ l. refl })
-ledger-step b (mark.Drained c) d = same_ledger d (mark.Drained c) (at_channel d b.ledgers) (record { begins = refl; turns = refl; selects = refl; leaves = refl; asks = refl; limit = λ l. refl })
+ledger-step p (mark.Added c) d = same_ledger d (mark.Added c) (at_channel d p.book.ledgers) (record { begins = refl; turns = refl; selects = refl; leaves = refl; asks = refl; limit = λ l. refl })
+ledger-step p (mark.Settled c s) d = same_ledger d (mark.Settled c s) (at_channel d p.book.ledgers) (record { begins = refl; turns = refl; selects = refl; leaves = refl; asks = refl; limit = λ l. refl })
+ledger-step p (mark.Arrived c x) d = same_ledger d (mark.Arrived c x) (at_channel d p.book.ledgers) (record { begins = refl; turns = refl; selects = refl; leaves = refl; asks = refl; limit = λ l. refl })
+ledger-step p (mark.ClosedHere c e) d = same_ledger d (mark.ClosedHere c e) (at_channel d p.book.ledgers) (record { begins = refl; turns = refl; selects = refl; leaves = refl; asks = refl; limit = λ l. refl })
+ledger-step p (mark.Taken n) d = same_ledger d (mark.Taken n) (at_channel d p.book.ledgers) (record { begins = refl; turns = refl; selects = refl; leaves = refl; asks = refl; limit = λ l. refl })
+ledger-step p (mark.SetAside n) d =
+    elim (is_resolved (under n p.book.cells)) as (λ (b : Bool). at_channel d (cond b (kept_by n p) (laid_by n p)).book.ledgers ≡ at_channel d p.book.ledgers) [ true ↦ refl | false ↦ refl ]
+    ∙ same_ledger d (mark.SetAside n) (at_channel d p.book.ledgers) (record { begins = refl; turns = refl; selects = refl; leaves = refl; asks = refl; limit = λ l. refl })
+ledger-step p (mark.Drained c) d = same_ledger d (mark.Drained c) (at_channel d p.book.ledgers) (record { begins = refl; turns = refl; selects = refl; leaves = refl; asks = refl; limit = λ l. refl })
 
-pub ledger-follows : (ms : List ConfirmMark) (b : Book) (m : ConfirmMark) → ((c : ℕ) → at_channel c b.ledgers ≡ ledger_in c ms) → (c : ℕ) → at_channel c (after_mark b m).ledgers ≡ ledger_in c (ms ++ m ∷ [])
-ledger-follows ms b m h c = ledger-step b m c ∙ ap (ledger_after c m) (h c) ∙ sym (ledger-push c ms m)
+pub ledger-follows : (ms : List ConfirmMark) (p : Post) (m : ConfirmMark) → ((c : ℕ) → at_channel c p.book.ledgers ≡ ledger_in c ms) → (c : ℕ) → at_channel c (after_mark p m).book.ledgers ≡ ledger_in c (ms ++ m ∷ [])
+ledger-follows ms p m h c = ledger-step p m c ∙ ap (ledger_after c m) (h c) ∙ sym (ledger-push c ms m)
 
 -- the tag that a publish takes as it leaves
 pub tag-push : (c k : ℕ) (ms : List ConfirmMark) → cond (is_selected c (ms ++ mark.Left c k ∷ [])) (Some (place c (ms ++ mark.Left c k ∷ []))) None ≡ tag_for (ledger_in c ms)

@@ -4,6 +4,11 @@ pub mod Whole
 pub mod Settled
 pub mod LedgerFollowing
 pub mod CellFollowing
+pub mod Outcomes
+pub mod AsideFollowing
+pub mod Facts
+pub mod Remaining
+pub mod LetterFollowing
 pub mod Following
 pub mod Books
 pub mod Ended
@@ -19,3 +24,5 @@ pub mod Roomy
 pub mod Asides
 pub mod Sweeping
 pub mod Reading
+pub mod Polling
+pub mod Asking

@@ -1,15 +1,19 @@
--- When a book is what the marks of a history say.
-use Rattle.std.specs.Prelude.{◌≡◌, ℕ, suc, ◌<◌, ◌≤◌, true, false, if◌then◌else◌, List, Option, Some, None, length, slice_get}
+-- When confirms are what the marks of a history say.
+use Rattle.std.specs.Prelude.{◌≡◌, ℕ, suc, ◌<◌, ◌≤◌, true, false, if◌then◌else◌, List, [], ◌∷◌, ◌++◌, Option, Some, None, length}
 use Rattle.lapin_history.specs.declared.marks.Outcome.{Outcome}
 use Rattle.lapin_history.specs.declared.marks.Outcome.TheVariants as outcome
 use Rattle.lapin_history.specs.ConfirmMarks.{ConfirmMark}
 use Rattle.lapin_history.specs.ConfirmMarks as mark
-use Rattle.lapin_history.specs.Words.{after}
-use Rattle.lapin_history.specs.ConfirmReadings.{leaves, is_begun, is_selected, place, has_left, is_taken, channel_of, tag_of, covers, outcome_of, first_settled, first_rejected, life, added, outcome_at, is_open_outcome, is_asked, limit_of}
+use Rattle.lapin_history.specs.Words.{after, is_some}
+use Rattle.lapin_history.specs.ConfirmReadings.{leaves, is_begun, is_selected, place, has_left, is_aside, is_finished, channel_of, tag_of, covers, outcome_of, first_settled, first_rejected, life, added, outcome_at, is_open_outcome, is_asked, limit_of}
+use Rattle.lapin_history.specs.ReturnReadings.{is_gone, letters_of}
 use Rattle.lapin_tables.specs.ByChannel.{at_channel}
+use Rattle.lapin_tables.specs.Numbered.{under}
 use Rattle.lapin_confirm.specs.declared.cell.Cell.{Cell}
 use Rattle.lapin_confirm.specs.declared.cell.Cell.TheVariants as cell
-use Rattle.lapin_confirm.specs.Book.{LedgerState, Book}
+use Rattle.lapin_confirm.specs.declared.home.Home.{Home}
+use Rattle.lapin_confirm.specs.Book.{LedgerState}
+use Rattle.lapin_confirm.specs.Post.{Post, letters_at}
 
 -- a channel's ledger by the readings
 abbrev pub ledger_in : ℕ → List ConfirmMark → Option LedgerState
@@ -28,7 +32,7 @@ abbrev pub left_cell : ℕ → Option ℕ → List ConfirmMark → Cell
 left_cell c None later = cell.Resolved outcome.NotRequested
 left_cell c (Some t) later = pending_cell c t (first_settled c t later)
 
--- the cell of a publish whose result was not given
+-- the cell of a publish of which something is kept
 abbrev pub open_cell : ℕ → List ConfirmMark → Cell
 open_cell n ms =
     if has_left n ms
@@ -37,26 +41,52 @@ open_cell n ms =
 
 -- the cell of publish n, by the readings
 abbrev pub cell_in : ℕ → List ConfirmMark → Option Cell
-cell_in n ms = if is_taken n ms then None else Some (open_cell n ms)
+cell_in n ms = if is_gone n ms then None else Some (open_cell n ms)
 
-pub record Follows (ms : List ConfirmMark) (b : Book) : Type 0 where
-  pub ledgers : (c : ℕ) → at_channel c b.ledgers ≡ ledger_in c ms
-  pub count : length b.cells ≡ added ms
-  pub cells : (k : ℕ) → k < added ms → slice_get b.cells k ≡ Some (cell_in (suc k) ms)
-  -- what was never accepted never left and was never given
-  pub fresh : (k : ℕ) → added ms ≤ k → (has_left (suc k) ms ≡ false) × (is_taken (suc k) ms ≡ false)
-  -- what was given had an outcome
-  pub given : (k : ℕ) → k < added ms → is_taken (suc k) ms ≡ true → is_open_outcome (outcome_at (suc k) ms) ≡ false
+-- and where it belongs
+abbrev pub home_in : ℕ → List ConfirmMark → Option Home
+home_in n ms = if is_gone n ms then None else Some (record { channel = channel_of n ms; aside = is_aside n ms })
+
+-- ---- which marks may come
 
 -- the publish was accepted
 abbrev pub WasAdded : ℕ → List ConfirmMark → Type 0
 WasAdded n ms = (1 ≤ n) × (n ≤ added ms)
 
--- marks that a history may have next: a publish leaves while it is queued; a result is given once it is there
+-- every confirm of channel c that was set aside is resolved
+abbrev pub NoneWaitsAside : ℕ → List ConfirmMark → Type 0
+NoneWaitsAside c ms = (n : ℕ) → WasAdded n ms → channel_of n ms ≡ c → is_aside n ms ≡ true → is_open_outcome (outcome_at n ms) ≡ false
+
+-- Marks that a history may have next. An opening begins once every confirm that was set aside on its channel is resolved; a publish
+-- or a `confirm.select` is accepted, and a message arrives, on a channel that had an opening; a publish leaves while it is queued; a result is given once
+-- it is there, and it is given or set aside once.
 abbrev pub MayCome : List ConfirmMark → ConfirmMark → Type 0
+MayCome ms (mark.Begun c) = NoneWaitsAside c ms
+MayCome ms (mark.Added c) = is_begun c ms ≡ true
+MayCome ms (mark.SelectCalled c) = is_begun c ms ≡ true
+MayCome ms (mark.Arrived c m) = is_begun c ms ≡ true
 MayCome ms (mark.Left c n) = WasAdded n ms × (cell_in n ms ≡ Some (cell.Queued c))
-MayCome ms (mark.Taken n) = WasAdded n ms × (is_open_outcome (outcome_at n ms) ≡ false)
+MayCome ms (mark.Taken n) = WasAdded n ms × (is_finished n ms ≡ false) × (is_open_outcome (outcome_at n ms) ≡ false)
+MayCome ms (mark.SetAside n) = WasAdded n ms × (is_finished n ms ≡ false)
 MayCome ms _ = Unit {0}
+
+-- each of these marks came as it may, after those that were there
+abbrev pub CameAfter : List ConfirmMark → List ConfirmMark → Type 0
+CameAfter before [] = Unit {0}
+CameAfter before (m ∷ ms) = MayCome before m × CameAfter (before ++ m ∷ []) ms
+
+-- ---- what is kept is what the marks say
+
+pub record Follows (ms : List ConfirmMark) (p : Post) : Type 0 where
+  pub came : CameAfter [] ms
+  pub ledgers : (c : ℕ) → at_channel c p.book.ledgers ≡ ledger_in c ms
+  pub count : length p.book.cells ≡ added ms
+  pub cells : (k : ℕ) → k < added ms → under (suc k) p.book.cells ≡ cell_in (suc k) ms
+  pub places : length p.homes ≡ added ms
+  pub homes : (k : ℕ) → k < added ms → under (suc k) p.homes ≡ home_in (suc k) ms
+  -- a channel that had an opening has letters, and they are those of the history
+  pub trays : (c : ℕ) → is_some (at_channel c p.trays) ≡ is_begun c ms
+  pub letters : (c : ℕ) → letters_at c p ≡ letters_of c ms
 
 -- the mark resolves what is pending on channel c with tag t, as this: a settlement of the channel that covers the tag, or the
 -- end of the opening

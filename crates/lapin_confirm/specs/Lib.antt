@@ -4,7 +4,10 @@ pub mod Answers
 pub mod Post
 pub mod Aside
 pub mod Drain
+pub mod Machine
 pub mod Sweeps
 pub mod Kept
 pub mod Ties
 pub mod Follows
+pub mod Polled
+pub mod Codes

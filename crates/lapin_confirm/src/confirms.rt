@@ -3,16 +3,15 @@
 //! Each call does one thing that may happen to a publish, and says what the book is then. What runs over the tags of a
 //! channel stands in `settling`; results, set-asides and drains stand in `results` and `draining`.
 
-ghost use Rattle.std.specs.Prelude.{◌∷◌, ◌++◌, [], ◌≡◌, ◌≢◌, ℕ, ◌+◌, ◌≤◌, ◌<◌, ◌^◌, ◌↔◌, ◌⊎◌, true, false, Ok, Err, Some, OnOk, OnErr, IsOk, IfOk, IfErr, IsSome, length, if◌then◌else◌};
+ghost use Rattle.std.specs.Prelude.{◌≡◌, ◌≢◌, ℕ, ◌+◌, ◌≤◌, ◌<◌, ◌^◌, ◌↔◌, ◌⊎◌, true, false, Ok, Err, Some, OnOk, OnErr, IsOk, IfOk, IfErr, IsSome, length, if◌then◌else◌};
 ghost use Rattle.std.specs.List.{list_any};
-ghost use Rattle.lapin_tables.specs.ByChannel.{at_channel, on_channel};
+ghost use Rattle.lapin_tables.specs.ByChannel.{at_channel};
 ghost use Rattle.lapin_tables.specs.Numbered.{under, first_kept};
-ghost use Rattle.lapin_history.specs.ConfirmReadings.{covers, kind_outcome};
-ghost use Rattle.lapin_history.specs.Letters.{arrived_in, attached_to_all, renewed};
-ghost use Rattle.lapin_history.specs.Words.{with_channel};
-ghost use Rattle.lapin_confirm.specs.Drain.{renewed_on};
-ghost use Rattle.lapin_confirm.specs.Post.{empty_post, new_home, letters_at, covered_in};
-ghost use Rattle.lapin_confirm.specs.Book.{begun, with_publish, select_left, select_called, limited, left, settled, single_of, multiple_of, rejected, ended, tag_for, is_open_on, is_queued, is_pending, pending_count, queued_count, last_on, selected_on, asked_on, limit_on, full_on, span_on, span_from};
+ghost use Rattle.lapin_history.specs.ConfirmMarks as mark;
+ghost use Rattle.lapin_history.specs.ConfirmReadings.{kind_outcome};
+ghost use Rattle.lapin_confirm.specs.Post.{empty_post};
+ghost use Rattle.lapin_confirm.specs.Machine.{after_mark, rejected};
+ghost use Rattle.lapin_confirm.specs.Book.{single_of, multiple_of, tag_for, is_open_on, is_queued, is_pending, pending_count, queued_count, last_on, selected_on, asked_on, limit_on, full_on, span_on, span_from};
 ghost use Rattle.lapin_confirm.specs.Kept.{spare_on, KeepsRoom};
 
 use crate::attaching::{attach_on, attach_one};
@@ -103,9 +102,7 @@ impl Confirms {
     /// channel takes memory, and one for which there is room.
     pub fn begin(&mut self, alloc: Global, channel: u16) -> Result<(), NoMemory>
         requires { list_any (is_open_on channel) self.old.what.book.cells ≡ false }
-        ensures ok { OnOk result (self.new.what.book ≡ begun channel (renewed_on channel self.old.what).book) }
-        ensures trays { OnOk result (self.new.what.trays ≡ with_channel channel (renewed (letters_at channel self.old.what)) self.old.what.trays) }
-        ensures homes { OnOk result (self.new.what.homes ≡ (renewed_on channel self.old.what).homes) }
+        ensures ok { OnOk result (self.new.what ≡ after_mark self.old.what (mark.Begun channel)) }
         ensures err { OnErr result (self.new.what ≡ self.old.what) }
         ensures spare { self.new.spare ≡ self.old.spare }
         ensures succeeds { IsSome (at_channel channel self.old.what.book.ledgers) → IsSome (at_channel channel self.old.what.trays) → spare_on channel self.old ≡ 0 → IsOk result }
@@ -131,9 +128,7 @@ impl Confirms {
     pub fn add(&mut self, _alloc: Global, channel: u16) -> Result<u64, Error>
         requires { IsSome (at_channel channel self.old.what.book.ledgers) }
         ensures number { IfOk result (λ n. n ≡ length self.old.what.book.cells + 1) }
-        ensures ok { OnOk result (self.new.what.book ≡ with_publish channel self.old.what.book) }
-        ensures trays { self.new.what.trays ≡ self.old.what.trays }
-        ensures homes { OnOk result (self.new.what.homes ≡ self.old.what.homes ++ Some (new_home channel) ∷ []) }
+        ensures ok { OnOk result (self.new.what ≡ after_mark self.old.what (mark.Added channel)) }
         ensures err { OnErr result (self.new.what ≡ self.old.what) }
         ensures spare { (c : ℕ) → c ≢ channel → spare_on c self.old ≤ spare_on c self.new }
         ensures used { spare_on channel self.old ≤ spare_on channel self.new + 1 }
@@ -166,9 +161,7 @@ impl Confirms {
 
     /// A `confirm.select` frame of a channel leaves: the opening is selected from now on.
     pub fn select_left(&mut self, channel: u16)
-        ensures book { self.new.what.book ≡ select_left channel self.old.what.book }
-        ensures trays { self.new.what.trays ≡ self.old.what.trays }
-        ensures homes { self.new.what.homes ≡ self.old.what.homes }
+        ensures what { self.new.what ≡ after_mark self.old.what (mark.SelectLeft channel) }
         ensures spare { self.new.spare ≡ self.old.spare }
     {
         let Some(ledger) = self.ledgers.get_mut(channel) else {
@@ -179,9 +172,7 @@ impl Confirms {
 
     /// A `confirm.select` call is accepted on a channel with a live opening.
     pub fn select_called(&mut self, channel: u16)
-        ensures book { self.new.what.book ≡ select_called channel self.old.what.book }
-        ensures trays { self.new.what.trays ≡ self.old.what.trays }
-        ensures homes { self.new.what.homes ≡ self.old.what.homes }
+        ensures what { self.new.what ≡ after_mark self.old.what (mark.SelectCalled channel) }
         ensures spare { self.new.spare ≡ self.old.spare }
     {
         let Some(ledger) = self.ledgers.get_mut(channel) else {
@@ -192,9 +183,7 @@ impl Confirms {
 
     /// Sets the limit of pending tags of a channel with a live opening, 0 for none.
     pub fn set_limit(&mut self, channel: u16, limit: u64)
-        ensures book { self.new.what.book ≡ limited channel limit self.old.what.book }
-        ensures trays { self.new.what.trays ≡ self.old.what.trays }
-        ensures homes { self.new.what.homes ≡ self.old.what.homes }
+        ensures what { self.new.what ≡ after_mark self.old.what (mark.LimitSet channel limit) }
         ensures spare { self.new.spare ≡ self.old.spare }
     {
         let Some(ledger) = self.ledgers.get_mut(channel) else {
@@ -208,9 +197,7 @@ impl Confirms {
     pub fn register(&mut self, number: u64) -> Option<u64>
         requires { is_queued (under number self.old.what.book.cells) ≡ true }
         ensures tag { (c : ℕ) → under number self.old.what.book.cells ≡ Some (Cell.Queued c) → result ≡ tag_for (at_channel c self.old.what.book.ledgers) }
-        ensures left { (c : ℕ) → under number self.old.what.book.cells ≡ Some (Cell.Queued c) → self.new.what.book ≡ left c number self.old.what.book }
-        ensures trays { self.new.what.trays ≡ self.old.what.trays }
-        ensures homes { self.new.what.homes ≡ self.old.what.homes }
+        ensures left { (c : ℕ) → under number self.old.what.book.cells ≡ Some (Cell.Queued c) → self.new.what ≡ after_mark self.old.what (mark.Left c number) }
         ensures spare { self.new.spare ≡ self.old.spare }
     {
         let channel = queued_channel(&self.cells, number);
@@ -226,10 +213,8 @@ impl Confirms {
     /// `PreconditionFailed` with the tag and the last one taken comes exactly where the tag isn't pending, and nothing changes.
     pub fn settle_one(&mut self, channel: u16, kind: SettleKind, tag: u64) -> Result<(), Error>
         ensures answer { result ≡ (if is_pending channel tag self.old.what.book then Ok tt else Err (Error.PreconditionFailed tag (last_on channel self.old.what.book))) }
-        ensures settled { self.new.what.book ≡ settled channel (single_of kind tag) self.old.what.book }
-        ensures trays { self.new.what.trays ≡ on_channel channel (attached_to_all (covered_in channel (covers (single_of kind tag)) self.old.what.book)) self.old.what.trays }
-        ensures homes { self.new.what.homes ≡ self.old.what.homes }
-        ensures same { OnErr result (self.new.what ≡ self.old.what) }
+        ensures ok { OnOk result (self.new.what ≡ after_mark self.old.what (mark.Settled channel (single_of kind tag))) }
+        ensures err { OnErr result (self.new.what ≡ self.old.what) }
         ensures spare { self.new.spare ≡ self.old.spare }
     {
         let Some(ledger) = self.ledgers.get_mut(channel) else {
@@ -247,9 +232,7 @@ impl Confirms {
     /// returned message that then waits, if one does.
     pub fn settle_up_to(&mut self, channel: u16, kind: SettleKind, tag: u64)
         requires { 0 < tag }
-        ensures book { self.new.what.book ≡ settled channel (multiple_of kind tag) self.old.what.book }
-        ensures trays { self.new.what.trays ≡ on_channel channel (attached_to_all (covered_in channel (covers (multiple_of kind tag)) self.old.what.book)) self.old.what.trays }
-        ensures homes { self.new.what.homes ≡ self.old.what.homes }
+        ensures what { self.new.what ≡ after_mark self.old.what (mark.Settled channel (multiple_of kind tag)) }
         ensures spare { self.new.spare ≡ self.old.spare }
     {
         let Some(ledger) = self.ledgers.get_mut(channel) else {
@@ -263,9 +246,7 @@ impl Confirms {
     /// The broker settles every pending tag of a channel, in rising order: a multiple settlement with tag 0. Messages are
     /// taken as by `settle_up_to`.
     pub fn settle_all(&mut self, channel: u16, kind: SettleKind)
-        ensures book { self.new.what.book ≡ settled channel (multiple_of kind 0) self.old.what.book }
-        ensures trays { self.new.what.trays ≡ on_channel channel (attached_to_all (covered_in channel (covers (multiple_of kind 0)) self.old.what.book)) self.old.what.trays }
-        ensures homes { self.new.what.homes ≡ self.old.what.homes }
+        ensures what { self.new.what ≡ after_mark self.old.what (mark.Settled channel (multiple_of kind 0)) }
         ensures spare { self.new.spare ≡ self.old.spare }
     {
         let Some(ledger) = self.ledgers.get_mut(channel) else {
@@ -279,9 +260,7 @@ impl Confirms {
     /// A publish whose method frame has not left is resolved with an error.
     pub fn reject(&mut self, number: u64, error: Error)
         requires { is_queued (under number self.old.what.book.cells) ≡ true }
-        ensures book { self.new.what.book ≡ rejected number error self.old.what.book }
-        ensures trays { self.new.what.trays ≡ self.old.what.trays }
-        ensures homes { self.new.what.homes ≡ self.old.what.homes }
+        ensures what { self.new.what ≡ rejected number error self.old.what }
         ensures spare { self.new.spare ≡ self.old.spare }
     {
         let channel = queued_channel(&self.cells, number);
@@ -296,9 +275,7 @@ impl Confirms {
     /// It costs what it resolves where the publishes that have not left were rejected before. Else it also walks the numbers
     /// from the last one down to the oldest of those publishes.
     pub fn end(&mut self, channel: u16, error: Error)
-        ensures book { self.new.what.book ≡ ended channel error self.old.what.book }
-        ensures trays { self.new.what.trays ≡ self.old.what.trays }
-        ensures homes { self.new.what.homes ≡ self.old.what.homes }
+        ensures what { self.new.what ≡ after_mark self.old.what (mark.Ended channel error) }
         ensures spare { self.new.spare ≡ self.old.spare }
     {
         let Some(ledger) = self.ledgers.get_mut(channel) else {
@@ -335,9 +312,7 @@ impl Confirms {
         channel: u16,
         message: BasicReturnMessage,
     ) -> Result<(), NoMemory>
-        ensures ok { OnOk result (self.new.what.trays ≡ on_channel channel (arrived_in (selected_on channel self.old.what.book) message) self.old.what.trays) }
-        ensures book { self.new.what.book ≡ self.old.what.book }
-        ensures homes { self.new.what.homes ≡ self.old.what.homes }
+        ensures ok { OnOk result (self.new.what ≡ after_mark self.old.what (mark.Arrived channel message)) }
         ensures err { OnErr result (self.new.what ≡ self.old.what) }
         ensures spare { (c : ℕ) → c ≢ channel → spare_on c self.old ≤ spare_on c self.new }
         ensures used { spare_on channel self.old ≤ spare_on channel self.new + 1 }

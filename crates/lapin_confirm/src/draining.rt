@@ -2,7 +2,9 @@
 
 ghost use Rattle.std.specs.Prelude.{◌≡◌, ℕ, ◌≤◌, List, length, OnOk, OnErr, IfOk};
 ghost use Rattle.lapin_confirm.specs.declared.ledger.Ledger.{Ledger as ALedger};
-ghost use Rattle.lapin_confirm.specs.Drain.{drained_on, drained, remaining, less_all};
+ghost use Rattle.lapin_history.specs.ConfirmMarks as mark;
+ghost use Rattle.lapin_confirm.specs.Machine.{after_mark};
+ghost use Rattle.lapin_confirm.specs.Drain.{drained_on, remaining, less_all};
 ghost use Rattle.lapin_confirm.specs.Ties.{AllTied};
 
 use crate::cell::Cell;
@@ -20,7 +22,7 @@ impl Confirms {
     /// a settlement stay, as do the confirms that are unresolved. Where there is no memory nothing changes.
     pub fn drain(&mut self, alloc: Global, channel: u16) -> Result<ReturnedList, NoMemory>
         ensures given { IfOk result (λ list. list ≡ drained_on channel self.old.what) }
-        ensures ok { OnOk result (self.new.what ≡ drained channel self.old.what) }
+        ensures ok { OnOk result (self.new.what ≡ after_mark self.old.what (mark.Drained channel)) }
         ensures err { OnErr result (self.new.what ≡ self.old.what) }
         ensures spare { self.new.spare ≡ self.old.spare }
     {

@@ -3,12 +3,11 @@
 //! Here live delivery tags, settlements and what they make of the publishes that wait, and returned messages until they are given.
 //! Which frames leave, which states a channel is in and when a settlement is received are the session's, which calls this crate.
 //! Contracts see a `Post`: a `Book`, the letters of each channel, and where each publish belongs; and beside it the room.
-//! `machine_follows` says that a book that is changed by these calls is always what the history of its marks says, as long as no
-//! confirm is set aside.
+//! What a call does is what its mark does by `after_mark`, and `machine_follows` says that confirms which are changed by marks that
+//! may come are always what the history of those marks says.
 #![tactic(auto)]
 
 mod attaching;
-mod bare;
 mod cell;
 mod confirms;
 mod draining;
@@ -28,8 +27,9 @@ pub use confirms::Confirms;
 pub use home::Home;
 pub use lapin_history::SettleKind;
 pub use laws::{
-    a_close_one_by_one, a_close_rejects_what_waits, an_end_leaves_nothing_open, covered_as_read,
-    end_takes_close, end_takes_rejected, full_as_read, machine_follows, multiple_covers,
-    nothing_follows, outcome_stays, resolved_by_its_settlement, returned_as_read,
-    settlement_leaves, tag_stays, tags_count_up, waits_as_read,
+    a_close_one_by_one, a_close_rejects_what_waits, an_end_leaves_nothing_open,
+    an_opening_may_begin, answers_tell, covered_as_read, drains_as_read, end_takes_close,
+    end_takes_rejected, full_as_read, machine_follows, multiple_covers, nothing_follows,
+    openings_as_read, outcome_stays, polls_as_read, resolved_by_its_settlement, settlement_leaves,
+    tag_stays, tags_as_read, tags_count_up, waits_as_read, what_is_gone,
 };

@@ -1,9 +1,9 @@
 //! Results: each is given once, with the returned message that its confirm took; or its confirm is set aside.
 
 ghost use Rattle.std.specs.Prelude.{◌≡◌, ◌⊎◌, not, Err, OnOk, OnErr, if◌then◌else◌};
-ghost use Rattle.lapin_confirm.specs.Book.{taken};
-ghost use Rattle.lapin_confirm.specs.Post.{given};
-ghost use Rattle.lapin_confirm.specs.Aside.{is_waiting, is_giving, taken_answer, set_answer, put_aside};
+ghost use Rattle.lapin_history.specs.ConfirmMarks as mark;
+ghost use Rattle.lapin_confirm.specs.Machine.{after_mark};
+ghost use Rattle.lapin_confirm.specs.Aside.{is_waiting, is_giving, taken_answer, set_answer};
 ghost use Rattle.lapin_confirm.specs.Answers.{result_with, result_of as result_of_lem};
 
 use crate::cell::Cell;
@@ -34,8 +34,7 @@ impl Confirms {
     /// was set aside.
     pub fn take(&mut self, number: u64) -> Result<Option<Result<Confirmation, Error>>, Error>
         ensures answer { result ≡ taken_answer number self.old.what }
-        ensures what { self.new.what ≡ (if is_giving number self.old.what then given number self.old.what else self.old.what) }
-        ensures taken { self.new.what.book ≡ (if is_giving number self.old.what then taken number self.old.what.book else self.old.what.book) }
+        ensures what { self.new.what ≡ (if is_giving number self.old.what then after_mark self.old.what (mark.Taken number) else self.old.what) }
         ensures spare { self.new.spare ≡ self.old.spare }
     {
         if is_aside(&self.homes, number) {
@@ -62,7 +61,7 @@ impl Confirms {
     /// It is refused as `take` is. Where there is no memory nothing changes.
     pub fn set_aside(&mut self, _alloc: Global, number: u64) -> Result<(), Error>
         ensures answer { (result ≡ Err Error.NoMemory) ⊎ (result ≡ set_answer number self.old.what) }
-        ensures ok { OnOk result (self.new.what ≡ put_aside number self.old.what) }
+        ensures ok { OnOk result (self.new.what ≡ after_mark self.old.what (mark.SetAside number)) }
         ensures err { OnErr result (self.new.what ≡ self.old.what) }
         ensures spare { self.new.spare ≡ self.old.spare }
     {

@@ -7,6 +7,7 @@ use Rattle.lapin_methods.specs.declared.error.Error.TheVariants as error
 use Rattle.lapin_methods.specs.declared.frame.ContentHeader.{ContentHeader}
 use Rattle.lapin_values.specs.Properties.{Properties}
 use Rattle.lapin_content.specs.declared.start.Start.{Start}
+use Rattle.lapin_content.specs.declared.start.Start.TheVariants as start
 use Rattle.lapin_content.specs.declared.start.Whole.{Whole}
 
 -- a content whose header came: how many bytes it still lacks, and the bodies so far, joined
@@ -24,6 +25,11 @@ pub record Expected : Type 0 where
 -- a content that waits for its header
 abbrev pub expected : ℕ → Start → Expected
 expected k s = record { class_id = k; start = s; begun = None }
+
+-- what began a get's content, for the get of this ticket
+abbrev pub for_ticket : Option ℕ → Start → Start
+for_ticket t (start.Get ticket tag exchange key redelivered count) = start.Get t tag exchange key redelivered count
+for_ticket t s = s
 
 -- ---- what a content waits for
 
@@ -136,8 +142,7 @@ abbrev pub awaited : List Expected → Option ℕ
 awaited [] = None
 awaited (e ∷ es) = left_of e
 
--- the rest of this file is the words of the code's steps, which no public clause cites
-
+-- a header of the class, or a body, would be received
 abbrev pub front_waits : ℕ → List Expected → Bool
 front_waits k [] = false
 front_waits k (e ∷ es) = waits_for k e
@@ -145,6 +150,8 @@ front_waits k (e ∷ es) = waits_for k e
 abbrev pub front_takes : List ℕ → List Expected → Bool
 front_takes bytes [] = false
 front_takes bytes (e ∷ es) = takes_body bytes e
+
+-- the rest of this file is the words of the code's steps, which no public clause cites
 
 abbrev pub front_begun : Properties → ℕ → List Expected → List Expected
 front_begun q n [] = []

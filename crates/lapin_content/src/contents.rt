@@ -8,7 +8,7 @@
 ghost use Rattle.std.specs.Prelude.{◌≡◌, ◌⊎◌, [], Err, None, IfOk, IsOk, OnOk, OnErr};
 ghost use Rattle.lapin_tables.specs.ByChannel.{at_channel};
 ghost use Rattle.std.specs.Option.{option_copied};
-ghost use Rattle.lapin_content.specs.Contents.{awaited, front_start, heard_header, heard_body, UnlessNoMemory};
+ghost use Rattle.lapin_content.specs.Contents.{awaited, front_start, front_waits, front_takes, heard_header, heard_body, UnlessNoMemory};
 ghost use Rattle.lapin_content.specs.Channels.{expected_on, after_mark};
 ghost use Rattle.lapin_content.specs.Marks as mark;
 
@@ -179,6 +179,13 @@ impl Contents {
         queue.clear();
     }
 
+    /// Nothing is expected on any channel any more.
+    pub fn drop_all(&mut self)
+        ensures { self.new ≡ [] }
+    {
+        self.channels.clear();
+    }
+
     /// What began the front of a channel; None exactly where nothing is expected there.
     pub fn front(&self, channel: u16) -> Option<&Start>
         ensures { option_copied result ≡ front_start (expected_on channel self.now) }
@@ -186,6 +193,26 @@ impl Contents {
         match self.channels.get(channel) {
             Some(queue) => queue.front(),
             None => None,
+        }
+    }
+
+    /// Whether a header of a class would be received on a channel: its front waits for one.
+    pub fn hears_header(&self, channel: u16, class_id: u16) -> bool
+        ensures { result ≡ front_waits class_id (expected_on channel self.now) }
+    {
+        match self.channels.get(channel) {
+            Some(queue) => queue.waits_for(class_id),
+            None => false,
+        }
+    }
+
+    /// Whether a body would be received on a channel: its front had its header and lacks at least as many bytes.
+    pub fn hears_body(&self, channel: u16, body: &[u8]) -> bool
+        ensures { result ≡ front_takes body.now (expected_on channel self.now) }
+    {
+        match self.channels.get(channel) {
+            Some(queue) => queue.takes(body),
+            None => false,
         }
     }
 

@@ -136,8 +136,8 @@ impl Queue {
         Ok(self.take_whole())
     }
 
-    // Whether the front waits for a header of the class.
-    fn waits_for(&self, class_id: u16) -> bool
+    /// Whether the front waits for a header of the class.
+    pub(crate) fn waits_for(&self, class_id: u16) -> bool
         ensures { result ≡ front_waits class_id self.now }
     {
         match self.entries.front() {
@@ -146,8 +146,8 @@ impl Queue {
         }
     }
 
-    // Whether the front has had its header and lacks as many bytes.
-    fn takes(&self, bytes: &[u8]) -> bool
+    /// Whether the front has had its header and lacks as many bytes.
+    pub(crate) fn takes(&self, bytes: &[u8]) -> bool
         ensures { result ≡ front_takes bytes.now self.now }
     {
         match self.awaits() {

@@ -1,4 +1,7 @@
-//! What begins a content, and a whole one. Data alone: how a content is put together stands in the files beside.
+//! What begins a content, and a whole one. How a content is put together stands in the files beside.
+
+ghost use Rattle.std.specs.Prelude.{◌≡◌};
+ghost use Rattle.lapin_content.specs.Contents.{for_ticket};
 
 use lapin_types::{BasicProperties, Payload, ShortString};
 
@@ -44,6 +47,32 @@ pub enum Start {
         /// The routing key that it was published with.
         routing_key: ShortString,
     },
+}
+
+impl Start {
+    /// What began a get's content, for the get of this ticket; any other start as it is.
+    pub fn for_ticket(self, ticket: Option<u64>) -> Start
+        ensures { result ≡ for_ticket ticket self }
+    {
+        match self {
+            Start::Get {
+                ticket: _ticket,
+                delivery_tag,
+                exchange,
+                routing_key,
+                redelivered,
+                message_count,
+            } => Start::Get {
+                ticket,
+                delivery_tag,
+                exchange,
+                routing_key,
+                redelivered,
+                message_count,
+            },
+            start => start,
+        }
+    }
 }
 
 /// A whole content.

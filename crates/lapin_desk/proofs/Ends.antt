@@ -7,15 +7,17 @@ use Rattle.lapin_history.specs.declared.phases.ChannelPhase.{ChannelPhase}
 use Rattle.lapin_history.specs.Phases.{is_live, phase_in}
 use Rattle.lapin_history.specs.Ends.{ends, live_below}
 use Rattle.lapin_history.proofs.EndLaws.{live-next}
-use Rattle.lapin_confirm.specs.Book.{Book, ended, after_mark}
+use Rattle.lapin_history.specs.ConfirmMarks as mark
+use Rattle.lapin_confirm.specs.Machine.{after_mark}
+use Rattle.lapin_confirm.specs.Post.{Post}
 use Rattle.lapin_desk.specs.Live.{live_at}
 
-pub ends-join : (e : Error) (xs ys : List ℕ) (b : Book) → fold after_mark b (ends e (xs ++ ys)) ≡ fold after_mark (fold after_mark b (ends e xs)) (ends e ys)
+pub ends-join : (e : Error) (xs ys : List ℕ) (b : Post) → fold after_mark b (ends e (xs ++ ys)) ≡ fold after_mark (fold after_mark b (ends e xs)) (ends e ys)
 ends-join e [] ys b = refl
-ends-join e (x ∷ xs) ys b = ends-join e xs ys (ended x e b)
+ends-join e (x ∷ xs) ys b = ends-join e xs ys (after_mark b (mark.Ended x e))
 
 -- the channel of one more number
-pub ends-next : (e : Error) (n : ℕ) (all : List (ℕ × ChannelPhase)) (start b after : Book) → b ≡ fold after_mark start (ends e (live_below n all)) → after ≡ fold after_mark b (ends e (live_at n all)) → after ≡ fold after_mark start (ends e (live_below (n + 1) all))
+pub ends-next : (e : Error) (n : ℕ) (all : List (ℕ × ChannelPhase)) (start b after : Post) → b ≡ fold after_mark start (ends e (live_below n all)) → after ≡ fold after_mark b (ends e (live_at n all)) → after ≡ fold after_mark start (ends e (live_below (n + 1) all))
 ends-next e n all start b after before is =
     is
     ∙ ap (λ x. fold after_mark x (ends e (live_at n all))) before
@@ -23,13 +25,13 @@ ends-next e n all start b after before is =
     ∙ ap (λ cs. fold after_mark start (ends e cs)) (sym (live-next n all))
 
 -- a number that was found is that of a channel with a live opening
-pub found-live : (e : Error) (n c : ℕ) (all : List (ℕ × ChannelPhase)) (b : Book) → Some c ≡ cond (is_live (phase_in (at_channel n all))) (Some n) None → ended c e b ≡ fold after_mark b (ends e (live_at n all))
-found-live e n c all b = elim (is_live (phase_in (at_channel n all))) as (λ t. Some c ≡ cond t (Some n) None → ended c e b ≡ fold after_mark b (ends e (cond t (n ∷ []) []))) [
-  | true ↦ λ h. let same : c ≡ n = cc in ap (λ d. ended d e b) same
+pub found-live : (e : Error) (n c : ℕ) (all : List (ℕ × ChannelPhase)) (b : Post) → Some c ≡ cond (is_live (phase_in (at_channel n all))) (Some n) None → after_mark b (mark.Ended c e) ≡ fold after_mark b (ends e (live_at n all))
+found-live e n c all b = elim (is_live (phase_in (at_channel n all))) as (λ t. Some c ≡ cond t (Some n) None → after_mark b (mark.Ended c e) ≡ fold after_mark b (ends e (cond t (n ∷ []) []))) [
+  | true ↦ λ h. let same : c ≡ n = cc in ap (λ d. after_mark b (mark.Ended d e)) same
   | false ↦ λ h. cc
 ]
 
-pub none-live : (e : Error) (n : ℕ) (all : List (ℕ × ChannelPhase)) (b : Book) → None ≡ cond (is_live (phase_in (at_channel n all))) (Some n) None → b ≡ fold after_mark b (ends e (live_at n all))
+pub none-live : (e : Error) (n : ℕ) (all : List (ℕ × ChannelPhase)) (b : Post) → None ≡ cond (is_live (phase_in (at_channel n all))) (Some n) None → b ≡ fold after_mark b (ends e (live_at n all))
 none-live e n all b = elim (is_live (phase_in (at_channel n all))) as (λ t. None ≡ cond t (Some n) None → b ≡ fold after_mark b (ends e (cond t (n ∷ []) []))) [
   | true ↦ λ h. cc
   | false ↦ λ h. refl

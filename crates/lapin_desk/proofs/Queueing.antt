@@ -12,7 +12,10 @@ use Rattle.lapin_outbox.specs.declared.dropped.Dropped.{Dropped}
 use Rattle.lapin_outbox.specs.Drops.{told_publish}
 use Rattle.lapin_confirm.specs.declared.cell.Cell.{Cell}
 use Rattle.lapin_confirm.specs.declared.cell.Cell.TheVariants as cell
-use Rattle.lapin_confirm.specs.Book.{Book, is_queued, is_resolved, rejected, ended, ended_cell, closed_cell}
+use Rattle.lapin_history.specs.ConfirmMarks as mark
+use Rattle.lapin_confirm.specs.Book.{is_queued, is_resolved, ended_cell, closed_cell}
+use Rattle.lapin_confirm.specs.Machine.{after_mark}
+use Rattle.lapin_confirm.specs.Post.{Post}
 use Rattle.lapin_desk.specs.Queued.{EachQueued, MayReject, rejected_told}
 
 -- ---- what stands under a number
@@ -173,14 +176,14 @@ may-reject c cells ps d told q =
 pub queued-by : (cells : List (Option Cell)) (ps qs : List Publish) → ps ≡ qs → EachQueued cells ps → EachQueued cells qs
 queued-by cells ps qs same q = let P : List Publish → Type 0 = λ xs. EachQueued cells xs in subst P same q
 
-pub still-queued : (c : ℕ) (ps stay : List Publish) (d : Dropped) (e : Error) (b after : Book) → Some d ≡ slice_get (map told_publish (unbegun c ps)) 0 → stay ≡ without_first (is_on publish_channel c) ps → after ≡ rejected_told e d.publish b → EachQueued b.cells ps → EachQueued after.cells stay
+pub still-queued : (c : ℕ) (ps stay : List Publish) (d : Dropped) (e : Error) (b after : Post) → Some d ≡ slice_get (map told_publish (unbegun c ps)) 0 → stay ≡ without_first (is_on publish_channel c) ps → after ≡ rejected_told e d.publish b → EachQueued b.book.cells ps → EachQueued after.book.cells stay
 still-queued c ps stay d e b after told left rejected q =
     let is = first-of c ps d told in
-    let out = taken-out b.cells (is_on publish_channel c) ps is.first is.found q in
-    let P : Dropped → Type 0 = λ x. EachQueued (rejected_told e x.publish b).cells (without_first (is_on publish_channel c) ps) in
-    let here = subst P (sym is.told) (queued-written is.first.confirm _ b.cells (without_first (is_on publish_channel c) ps) out.other out.still) in
-    let Q : Book → Type 0 = λ x. EachQueued x.cells stay in
-    subst Q (sym rejected) (queued-by (rejected_told e d.publish b).cells _ _ (sym left) here)
+    let out = taken-out b.book.cells (is_on publish_channel c) ps is.first is.found q in
+    let P : Dropped → Type 0 = λ x. EachQueued (rejected_told e x.publish b).book.cells (without_first (is_on publish_channel c) ps) in
+    let here = subst P (sym is.told) (queued-written is.first.confirm _ b.book.cells (without_first (is_on publish_channel c) ps) out.other out.still) in
+    let Q : Post → Type 0 = λ x. EachQueued x.book.cells stay in
+    subst Q (sym rejected) (queued-by (rejected_told e d.publish b).book.cells _ _ (sym left) here)
 
 pub queued-without : (c : ℕ) (cells : List (Option Cell)) (ps : List Publish) → EachQueued cells ps → EachQueued cells (without_first (is_on publish_channel c) ps)
 queued-without c cells [] q = tt
@@ -221,7 +224,7 @@ closed-queued c e cells (p ∷ ps) h = elim (p.channel == c) as (λ b. (p.channe
     closed-other : (d : ℕ) → (d == c) ≡ false → closed_cell c e (cell.Queued d) ≡ cell.Queued d
     closed-other d off = rw off refl
 
-pub queued-ended : (c : ℕ) (e : Error) (ps stay : List Publish) (b after : Book) → stay ≡ filter (is_off publish_channel c) ps → after ≡ ended c e b → EachQueued b.cells stay → EachQueued after.cells stay
-queued-ended c e ps stay b after left ends q =
-    let Q : Book → Type 0 = λ x. EachQueued x.cells stay in
-    subst Q (sym ends) (queued-by (ended c e b).cells _ _ (sym left) (ended-queued c e b.cells ps (queued-by b.cells _ _ left q)))
+pub queued-ended : (c : ℕ) (e : Error) (ps stay : List Publish) (p after : Post) → stay ≡ filter (is_off publish_channel c) ps → after ≡ after_mark p (mark.Ended c e) → EachQueued p.book.cells stay → EachQueued after.book.cells stay
+queued-ended c e ps stay p after left ends q =
+    let Q : Post → Type 0 = λ x. EachQueued x.book.cells stay in
+    subst Q (sym ends) (queued-by (after_mark p (mark.Ended c e)).book.cells _ _ (sym left) (ended-queued c e p.book.cells ps (queued-by p.book.cells _ _ left q)))

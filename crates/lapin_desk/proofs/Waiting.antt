@@ -16,9 +16,12 @@ use Rattle.lapin_outbox.specs.declared.dropped.Dropped.{Dropped}
 use Rattle.lapin_outbox.specs.Drops.{told_publish}
 use Rattle.lapin_confirm.specs.declared.cell.Cell.{Cell}
 use Rattle.lapin_confirm.specs.declared.cell.Cell.TheVariants as cell
-use Rattle.lapin_confirm.specs.Book.{Book, is_queued_on, is_open_on, is_resolved, settled_cell, closed_cell, ended_cell, closed_here, ended, rejected}
+use Rattle.lapin_history.specs.ConfirmMarks as mark
+use Rattle.lapin_confirm.specs.Book.{Book, is_queued_on, is_open_on, is_resolved, settled_cell, closed_cell, ended_cell, closed_here}
+use Rattle.lapin_confirm.specs.Machine.{after_mark, rejected, with_book}
+use Rattle.lapin_confirm.specs.Post.{Post}
 use Rattle.lapin_confirm.proofs.Ledgers.{same-book}
-use Rattle.lapin_confirm.proofs.Closing.{close-next}
+use Rattle.lapin_confirm.proofs.Closing.{close-next, end-close}
 use Rattle.lapin_desk.specs.Queued.{EachQueued, AllWait, AreQueued, is_publish_of, rejected_told}
 use Rattle.lapin_desk.proofs.Queueing.{under-last, under-map, queued-kept, queued-push, queued-written, resolved_apart, still-queued, queued-ended, closed-queued, first-of}
 
@@ -163,10 +166,10 @@ queue-taken n cells ps h q = record {
 }
 
 -- the opening of the channel of those that were taken out ends
-pub queue-ended : (c : ℕ) (e : Error) (ps stay : List Publish) (b after : Book) → stay ≡ filter (is_off publish_channel c) ps → after ≡ ended c e b → AreQueued b.cells stay → AreQueued after.cells stay
-queue-ended c e ps stay b after left ends q = record {
-  each = queued-ended c e ps stay b after left ends q.each;
-  all = let P : Book → Type 0 = λ x. AllWait x.cells stay in subst P (sym ends) (waits-mapped (ended_cell c e) b.cells stay (λ d x. ended-back c d e x) q.all);
+pub queue-ended : (c : ℕ) (e : Error) (ps stay : List Publish) (p after : Post) → stay ≡ filter (is_off publish_channel c) ps → after ≡ after_mark p (mark.Ended c e) → AreQueued p.book.cells stay → AreQueued after.book.cells stay
+queue-ended c e ps stay p after left ends q = record {
+  each = queued-ended c e ps stay p after left ends q.each;
+  all = let P : Post → Type 0 = λ x. AllWait x.book.cells stay in subst P (sym ends) (waits-mapped (ended_cell c e) p.book.cells stay (λ d x. ended-back c d e x) q.all);
 }
 
 -- this side closes a channel, and its publishes are taken out
@@ -212,16 +215,16 @@ queue-none cells none = record {
     any-under c (suc k) cells h = any-get (is_open_on c) cells k refl h
 
 -- a drop took out the first publish of a channel, and it was rejected
-pub queue-rejected : (c : ℕ) (ps stay : List Publish) (d : Dropped) (e : Error) (b after : Book) → Some d ≡ slice_get (map told_publish (unbegun c ps)) 0 → stay ≡ without_first (is_on publish_channel c) ps → after ≡ rejected_told e d.publish b → AreQueued b.cells ps → AreQueued after.cells stay
+pub queue-rejected : (c : ℕ) (ps stay : List Publish) (d : Dropped) (e : Error) (b after : Post) → Some d ≡ slice_get (map told_publish (unbegun c ps)) 0 → stay ≡ without_first (is_on publish_channel c) ps → after ≡ rejected_told e d.publish b → AreQueued b.book.cells ps → AreQueued after.book.cells stay
 queue-rejected c ps stay d e b after told left rejected_ q =
     let is = first-of c ps d told in
     let others : List Publish = without_first (is_on publish_channel c) ps in
     let gone : (k m : ℕ) → m ≢ is.first.confirm → is_publish_of k m is.first ≡ false = λ k m apart. rw (ne_eqb is.first.confirm m (λ x. apart (sym x))) (and_false (is.first.channel == k)) in
-    let all : AllWait (rejected is.first.confirm e b).cells others =
-    waits-written is.first.confirm (Some (cell.Resolved (outcome.Failed e))) b.cells ps others (λ k. refl) (λ k m apart h. any-out (is_on publish_channel c) (is_publish_of k m) ps is.first is.found (gone k m apart) ∙ h) q.all in
-    let P : Dropped → Type 0 = λ x. AllWait (rejected_told e x.publish b).cells others in
-    let Q : Book → Type 0 = λ x. AllWait x.cells others in
-    let R : List Publish → Type 0 = λ xs. AllWait after.cells xs in
+    let all : AllWait (rejected is.first.confirm e b).book.cells others =
+    waits-written is.first.confirm (Some (cell.Resolved (outcome.Failed e))) b.book.cells ps others (λ k. refl) (λ k m apart h. any-out (is_on publish_channel c) (is_publish_of k m) ps is.first is.found (gone k m apart) ∙ h) q.all in
+    let P : Dropped → Type 0 = λ x. AllWait (rejected_told e x.publish b).book.cells others in
+    let Q : Post → Type 0 = λ x. AllWait x.book.cells others in
+    let R : List Publish → Type 0 = λ xs. AllWait after.book.cells xs in
     record { each = still-queued c ps stay d e b after told left rejected_ q.each; all = subst R (sym left) (subst Q (sym rejected_) (subst P (sym is.told) all)) }
 
 -- a drop found no publish of the channel
@@ -238,30 +241,33 @@ queue-without c cells ps none q = let P : List Publish → Type 0 = λ xs. AreQu
 -- ---- a close of this side
 
 -- a rejection leaves what the close comes to
-pub close-rejected : (c : ℕ) (ps : List Publish) (d : Dropped) (e : Error) (b after : Book) → Some d ≡ slice_get (map told_publish (unbegun c ps)) 0 → after ≡ rejected_told e d.publish b → AreQueued b.cells ps → closed_here c e after ≡ closed_here c e b
+pub close-rejected : (c : ℕ) (ps : List Publish) (d : Dropped) (e : Error) (b after : Post) → Some d ≡ slice_get (map told_publish (unbegun c ps)) 0 → after ≡ rejected_told e d.publish b → AreQueued b.book.cells ps → after_mark after (mark.ClosedHere c e) ≡ after_mark b (mark.ClosedHere c e)
 close-rejected c ps d e b after told rejected_ q =
     let is = first-of c ps d told in
-    let P : Option ℕ → Type 0 = λ o. closed_here c e (rejected_told e o b) ≡ closed_here c e b in
-    ap (closed_here c e) rejected_ ∙ subst P (sym (ap (λ (x : Dropped). x.publish) is.told)) (close-next c is.first.confirm e b (first-queued ps is.first is.found q.each))
+    let P : Option ℕ → Type 0 = λ o. after_mark (rejected_told e o b) (mark.ClosedHere c e) ≡ after_mark b (mark.ClosedHere c e) in
+    ap (λ (x : Post). after_mark x (mark.ClosedHere c e)) rejected_
+    ∙ subst P (sym (ap (λ (x : Dropped). x.publish) is.told)) (ap (λ (x : Book). with_book x b) (close-next c is.first.confirm e b.book (first-queued ps is.first is.found q.each)))
   where
     on_is : (p : Publish) → is_on publish_channel c p ≡ true → p.channel ≡ c
     on_is p h = elim (eqb_tells p.channel c) [ inl same ↦ same.1 | inr other ↦ cc ]
 
-    first-queued : (ps : List Publish) (q : Publish) → find (is_on publish_channel c) ps ≡ Some q → EachQueued b.cells ps → under q.confirm b.cells ≡ Some (cell.Queued c)
+    first-queued : (ps : List Publish) (q : Publish) → find (is_on publish_channel c) ps ≡ Some q → EachQueued b.book.cells ps → under q.confirm b.book.cells ≡ Some (cell.Queued c)
     first-queued [] q h each = cc
-    first-queued (p ∷ ps) q h each = elim (is_on publish_channel c p) as (λ t. is_on publish_channel c p ≡ t → cond t (Some p) (find (is_on publish_channel c) ps) ≡ Some q → under q.confirm b.cells ≡ Some (cell.Queued c)) [
+    first-queued (p ∷ ps) q h each = elim (is_on publish_channel c p) as (λ t. is_on publish_channel c p ≡ t → cond t (Some p) (find (is_on publish_channel c) ps) ≡ Some q → under q.confirm b.book.cells ≡ Some (cell.Queued c)) [
       | true ↦ λ on here.
           let same : p ≡ q = cc in
-          let P : Publish → Type 0 = λ r. under r.confirm b.cells ≡ Some (cell.Queued c) in
+          let P : Publish → Type 0 = λ r. under r.confirm b.book.cells ≡ Some (cell.Queued c) in
           subst P same (each.0 ∙ ap (λ k. Some (cell.Queued k)) (on_is p on))
       | false ↦ λ off later. first-queued ps q later each.2
     ] refl h
 
 -- where no publish of the channel waits the close is done
-pub close-over : (c : ℕ) (e : Error) (ps stay : List Publish) (b : Book) → stay ≡ filter (is_off publish_channel c) ps → AllWait b.cells stay → closed_here c e b ≡ b
-close-over c e ps stay b left all = same-book _ _ _ _ refl (map-kept (closed_cell c e) b.cells stays)
+pub close-over : (c : ℕ) (e : Error) (ps stay : List Publish) (p : Post) → stay ≡ filter (is_off publish_channel c) ps → AllWait p.book.cells stay → after_mark p (mark.ClosedHere c e) ≡ p
+close-over c e ps stay p left all =
+    let same : closed_here c e p.book ≡ p.book = same-book _ _ _ _ refl (map-kept (closed_cell c e) p.book.cells stays) in
+    ap (λ (x : Book). with_book x p) same
   where
-    stays : (k : ℕ) (x : Cell) → under (suc k) b.cells ≡ Some x → closed_cell c e x ≡ x
+    stays : (k : ℕ) (x : Cell) → under (suc k) p.book.cells ≡ Some x → closed_cell c e x ≡ x
     stays k (cell.Queued d) there =
         elim (eqb_tells d c) [
           | inl here ↦
@@ -272,3 +278,7 @@ close-over c e ps stay b left all = same-book _ _ _ _ refl (map-kept (closed_cel
         ]
     stays k (cell.Pending d t) there = refl
     stays k (cell.Resolved o) there = refl
+
+-- an end after a close of this side is the end alone
+pub end-closed : (c : ℕ) (e : Error) (p : Post) → after_mark (after_mark p (mark.ClosedHere c e)) (mark.Ended c e) ≡ after_mark p (mark.Ended c e)
+end-closed c e p = ap (λ (x : Book). with_book x p) (end-close c e p.book)

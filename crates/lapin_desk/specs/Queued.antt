@@ -6,7 +6,9 @@ use Rattle.lapin_types.specs.declared.leaving.Publish.{Publish}
 use Rattle.lapin_tables.specs.Numbered.{under}
 use Rattle.lapin_confirm.specs.declared.cell.Cell.{Cell}
 use Rattle.lapin_confirm.specs.declared.cell.Cell.TheVariants as cell
-use Rattle.lapin_confirm.specs.Book.{Book, is_queued, is_queued_on, rejected}
+use Rattle.lapin_confirm.specs.Book.{is_queued, is_queued_on}
+use Rattle.lapin_confirm.specs.Machine.{rejected}
+use Rattle.lapin_confirm.specs.Post.{Post}
 
 -- the publishes that wait are different ones, and none has left
 abbrev pub EachQueued : List (Option Cell) → List Publish → Type 0
@@ -33,6 +35,6 @@ MayReject None cells = Unit {0}
 MayReject (Some n) cells = is_queued (under n cells) ≡ true
 
 -- it is rejected
-abbrev pub rejected_told : Error → Option ℕ → Book → Book
-rejected_told e None b = b
-rejected_told e (Some n) b = rejected n e b
+abbrev pub rejected_told : Error → Option ℕ → Post → Post
+rejected_told e None p = p
+rejected_told e (Some n) p = rejected n e p

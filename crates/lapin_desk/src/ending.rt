@@ -14,7 +14,8 @@ ghost use Rattle.lapin_outbox.specs.Open.{KeepsRoom};
 ghost use Rattle.lapin_history.specs.Ends.{ends, live_channels};
 ghost use Rattle.lapin_history.specs.TicketReadings as mark;
 ghost use Rattle.lapin_ticket.specs.Slots as desk;
-ghost use Rattle.lapin_confirm.specs.Book as book;
+ghost use Rattle.lapin_history.specs.ConfirmMarks as confirm;
+ghost use Rattle.lapin_confirm.specs.Machine as post;
 ghost use Rattle.lapin_desk.specs.Live.{live_at};
 ghost use Rattle.lapin_desk.specs.Ended.{ended_outbox, emptied_outbox, same_but_lists};
 ghost use Rattle.lapin_desk.specs.Queued.{AreQueued, MayReject, rejected_told};
@@ -32,7 +33,7 @@ impl Desk {
         requires queued { AreQueued confirms.old.what.book.cells self.old.outbox.what.lists.publishes }
         ensures outbox { self.new.outbox.what ≡ with_lists (without_publishes_of channel self.old.outbox.what.lists) self.old.outbox.what }
         ensures slots { self.new.tickets.slots ≡ desk.after_mark self.old.tickets.slots (mark.ClosedHere channel error) }
-        ensures book { confirms.new.what.book ≡ book.closed_here channel error confirms.old.what.book }
+        ensures confirms { confirms.new.what ≡ post.after_mark confirms.old.what (confirm.ClosedHere channel error) }
         ensures queued { AreQueued confirms.new.what.book.cells self.new.outbox.what.lists.publishes }
         ensures requests { self.new.replies ≡ self.old.replies }
         ensures room { (self.old.outbox.spare ≤ self.new.outbox.spare) × (self.new.tickets.ready ≡ self.old.tickets.ready) }
@@ -54,7 +55,7 @@ impl Desk {
         ensures outbox { self.new.outbox.what ≡ ended_outbox channel self.old.outbox.what }
         ensures requests { self.new.replies.what ≡ on_channel channel no_requests self.old.replies.what }
         ensures slots { self.new.tickets.slots ≡ desk.after_mark self.old.tickets.slots (mark.OpeningFailed channel spared error) }
-        ensures book { confirms.new.what.book ≡ book.ended channel error confirms.old.what.book }
+        ensures confirms { confirms.new.what ≡ post.after_mark confirms.old.what (confirm.Ended channel error) }
         ensures queued { AreQueued confirms.new.what.book.cells self.new.outbox.what.lists.publishes }
         ensures room { (self.old.outbox.spare ≤ self.new.outbox.spare) × KeepsRoom self.old.replies self.new.replies × (self.new.tickets.ready ≡ self.old.tickets.ready) }
     {
@@ -77,7 +78,7 @@ impl Desk {
         ensures outbox { self.new.outbox.what ≡ emptied_outbox self.old.outbox.what }
         ensures requests { self.new.replies ≡ replies }
         ensures slots { self.new.tickets.slots ≡ desk.after_mark self.old.tickets.slots (mark.AllFailed error) }
-        ensures book { confirms.new.what.book ≡ fold book.after_mark confirms.old.what.book (ends error (live_channels phases.now.entries)) }
+        ensures confirms { confirms.new.what ≡ fold post.after_mark confirms.old.what (ends error (live_channels phases.now.entries)) }
         ensures room { (self.old.outbox.spare ≤ self.new.outbox.spare) × (self.new.tickets.ready ≡ self.old.tickets.ready) }
     {
         self.end_live(confirms, phases, error);
@@ -91,7 +92,7 @@ impl Desk {
     fn take_unbegun(&mut self, confirms: &mut Confirms, channel: u16, error: Error)
         requires queued { AreQueued confirms.old.what.book.cells self.old.outbox.what.lists.publishes }
         ensures outbox { self.new.outbox.what ≡ with_lists (without_publishes_of channel self.old.outbox.what.lists) self.old.outbox.what }
-        ensures book { book.closed_here channel error confirms.new.what.book ≡ book.closed_here channel error confirms.old.what.book }
+        ensures confirms { post.after_mark confirms.new.what (confirm.ClosedHere channel error) ≡ post.after_mark confirms.old.what (confirm.ClosedHere channel error) }
         ensures queued { AreQueued confirms.new.what.book.cells self.new.outbox.what.lists.publishes }
         ensures requests { self.new.replies ≡ self.old.replies }
         ensures tickets { self.new.tickets ≡ self.old.tickets }
@@ -107,7 +108,7 @@ impl Desk {
     fn end_publishes(&mut self, confirms: &mut Confirms, channel: u16, error: Error)
         requires queued { AreQueued confirms.old.what.book.cells self.old.outbox.what.lists.publishes }
         ensures outbox { self.new.outbox.what ≡ with_lists (without_publishes_of channel self.old.outbox.what.lists) self.old.outbox.what }
-        ensures book { confirms.new.what.book ≡ book.ended channel error confirms.old.what.book }
+        ensures confirms { confirms.new.what ≡ post.after_mark confirms.old.what (confirm.Ended channel error) }
         ensures queued { AreQueued confirms.new.what.book.cells self.new.outbox.what.lists.publishes }
         ensures requests { self.new.replies ≡ self.old.replies }
         ensures tickets { self.new.tickets ≡ self.old.tickets }
@@ -156,7 +157,7 @@ impl Desk {
     // The publishes of every live opening end, in rising number of its channel. What else waits stays, for `end_all`.
     fn end_live(&mut self, confirms: &mut Confirms, phases: &Phases, error: Error)
         requires queued { AreQueued confirms.old.what.book.cells self.old.outbox.what.lists.publishes }
-        ensures book { confirms.new.what.book ≡ fold book.after_mark confirms.old.what.book (ends error (live_channels phases.now.entries)) }
+        ensures confirms { confirms.new.what ≡ fold post.after_mark confirms.old.what (ends error (live_channels phases.now.entries)) }
         ensures rest { same_but_lists self.new.outbox.what ≡ same_but_lists self.old.outbox.what }
         ensures tickets { self.new.tickets ≡ self.old.tickets }
         ensures room { self.old.outbox.spare ≤ self.new.outbox.spare }
@@ -172,7 +173,7 @@ impl Desk {
     // The publishes of the opening of this channel end, if it has a live one.
     fn end_live_at(&mut self, confirms: &mut Confirms, phases: &Phases, number: usize, error: Error)
         requires queued { AreQueued confirms.old.what.book.cells self.old.outbox.what.lists.publishes }
-        ensures book { confirms.new.what.book ≡ fold book.after_mark confirms.old.what.book (ends error (live_at number phases.now.entries)) }
+        ensures confirms { confirms.new.what ≡ fold post.after_mark confirms.old.what (ends error (live_at number phases.now.entries)) }
         ensures queued { AreQueued confirms.new.what.book.cells self.new.outbox.what.lists.publishes }
         ensures rest { same_but_lists self.new.outbox.what ≡ same_but_lists self.old.outbox.what }
         ensures tickets { self.new.tickets ≡ self.old.tickets }
@@ -210,7 +211,7 @@ impl Desk {
 // Rejects the publish that a drop told of, if it told of one.
 fn reject(confirms: &mut Confirms, publish: Option<u64>, error: Error)
     requires { MayReject publish confirms.old.what.book.cells }
-    ensures { confirms.new.what.book ≡ rejected_told error publish confirms.old.what.book }
+    ensures { confirms.new.what ≡ rejected_told error publish confirms.old.what }
 {
     if let Some(number) = publish {
         confirms.reject(number, error);

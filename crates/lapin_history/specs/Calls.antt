@@ -68,6 +68,7 @@ asked (call.QueuePurge name o) = unless_nowait (method.Queue (queue.Purge name o
 asked (call.QueueDelete name o) = unless_nowait (method.Queue (queue.Delete name o.if_unused o.if_empty o.nowait)) o.nowait (reply.QueueDeleteOk name) (answer.Count 0)
 asked (call.QueueUnbind name from key more) = awaiting (method.Queue (queue.Unbind name from key more)) (reply.QueueUnbindOk name from key more)
 asked (call.BasicQos most o) = awaiting (method.Basic (basic.Qos most o.global)) reply.BasicQosOk
+asked (call.BasicGet queue o) = awaiting (method.Basic (basic.Get queue o.no_ack)) reply.BasicGetOk
 asked (call.BasicAck tag o) = done_as_it_leaves (method.Basic (basic.Ack tag o.multiple))
 asked (call.BasicNack tag o) = done_as_it_leaves (method.Basic (basic.Nack tag o.multiple o.requeue))
 asked (call.BasicReject tag o) = done_as_it_leaves (method.Basic (basic.Reject tag o.requeue))

@@ -174,6 +174,14 @@ is_taken n ms = list_any (takes n) ms
 abbrev pub is_aside : ℕ → List ConfirmMark → Bool
 is_aside n ms = list_any (lays n) ms
 
+-- publish n was accepted
+abbrev pub was_added : ℕ → List ConfirmMark → Bool
+was_added n ms = nat_lt 0 n && nat_le n (added ms)
+
+-- its result is asked for no more: it was given, or the publish was set aside
+abbrev pub is_finished : ℕ → List ConfirmMark → Bool
+is_finished n ms = is_taken n ms || is_aside n ms
+
 -- ---- pending tags
 
 abbrev pub is_tag : ℕ → Option ℕ → Bool

@@ -4,6 +4,8 @@ use Rattle.std.specs.Prelude.{ℕ, zero, suc, max, if◌then◌else◌, List, []
 use Rattle.lapin_tables.specs.ByChannel.{at_channel, on_channel}
 use Rattle.lapin_types.specs.declared.request.Request.{Request}
 use Rattle.lapin_types.specs.Types.{Error}
+use Rattle.lapin_content.specs.Channels.{after_mark}
+use Rattle.lapin_content.specs.Marks as content
 use Rattle.lapin_history.specs.declared.phases.ChannelPhase.{ChannelPhase}
 use Rattle.lapin_history.specs.declared.phases.ConnectionPhase.{ConnectionPhase}
 use Rattle.lapin_history.specs.ConfirmMarks.{ConfirmMark}
@@ -17,17 +19,19 @@ use Rattle.lapin_history.specs.Wire.{Wire, lists_of, with_lists}
 
 -- ---- what an end leaves
 
--- The opening of a channel ends: nothing of the channel leaves any more, and none of its requests stays open but those that are
--- kept.
+-- The opening of a channel ends: nothing of the channel leaves any more, none of its requests stays open but those that are kept,
+-- and none of its contents is expected.
 abbrev pub ended : ℕ → ChannelPhase → (List Request → List Request) → Wire → Wire
 ended c p kept b = record (with_lists (without_channel c (lists_of b)) b) {
   phases = with_channel c p b.phases;
   requests = on_channel c kept b.requests;
+  contents = after_mark b.contents (content.Dropped c);
 }
 
--- The connection leaves the open state, or is lost: no opening is live, nothing waits any more, and no request is open.
+-- The connection leaves the open state, or is lost: no opening is live, nothing waits any more, no request is open, and no content is
+-- expected.
 abbrev pub down : ConnectionPhase → Wire → Wire
-down l b = record (with_lists no_lists b) { link = l; phases = []; requests = [] }
+down l b = record (with_lists no_lists b) { link = l; phases = []; requests = []; contents = [] }
 
 -- ---- confirms
 

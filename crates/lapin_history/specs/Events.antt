@@ -17,7 +17,7 @@ use Rattle.lapin_history.specs.Handing.{handed, frame_record, after_next, left_m
 use Rattle.lapin_history.specs.Receiving.{incoming_record, after_incoming, incoming_marks, incoming_tickets}
 use Rattle.lapin_history.specs.Unexpected.{refused}
 use Rattle.lapin_history.specs.Loss.{after_lost, lost_marks, lost_tickets}
-use Rattle.lapin_history.specs.Polls.{confirm_poll_marks, ticket_poll_marks, ticket_aside_marks}
+use Rattle.lapin_history.specs.Polls.{wait_record, confirm_poll_marks, wait_marks, confirm_aside_marks, ticket_poll_marks, ticket_aside_marks}
 
 -- the record of an event, from the states and lists before it and from what is seen of confirms and tickets
 abbrev pub record_of : Wire → Readings → Event → Record
@@ -26,7 +26,9 @@ record_of b readings (event.Next flow) = frame_record (handed flow b)
 record_of b readings (event.Receive f) = incoming_record b readings (refused (frame_class f) (frame_method f)) (incoming_of f)
 record_of b readings (event.PollTicket n) = readings.ticket n
 record_of b readings (event.PollConfirm n) = readings.confirm n
+record_of b readings (event.PollWait c) = wait_record c b readings
 record_of b readings (event.AsideTicket n) = readings.ticket_aside n
+record_of b readings (event.AsideConfirm n) = readings.confirm_aside n
 record_of b readings (event.State c) = record_.State (connection_state b.link) (state_of c b)
 record_of b readings event.Lost = record_.Lost
 
@@ -44,6 +46,8 @@ confirm_marks b (event.Call c k) r = asking_marks c (asked k) b
 confirm_marks b (event.Next flow) r = left_marks (handed flow b)
 confirm_marks b (event.Receive f) r = incoming_marks (incoming_of f) r b
 confirm_marks b (event.PollConfirm n) r = confirm_poll_marks n r
+confirm_marks b (event.PollWait c) r = wait_marks c r
+confirm_marks b (event.AsideConfirm n) r = confirm_aside_marks n r
 confirm_marks b event.Lost r = lost_marks b
 confirm_marks b _ r = []
 

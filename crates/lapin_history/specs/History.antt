@@ -3,12 +3,14 @@ use Rattle.std.specs.Prelude.{ℕ, nat_lt, nat_le, Bool, ◌&&◌, if◌then◌e
 use Rattle.lapin_types.specs.declared.event.Event.{Event}
 use Rattle.lapin_types.specs.declared.record.Record.{Record}
 use Rattle.lapin_types.specs.declared.answer.Answer.{Answer}
+use Rattle.lapin_types.specs.declared.message.BasicReturnMessage.{BasicReturnMessage}
 use Rattle.lapin_types.specs.Types.{Error}
 use Rattle.lapin_types.specs.declared.record.Record.TheVariants as record_
 use Rattle.lapin_types.specs.Types.error
 use Rattle.lapin_history.specs.ConfirmMarks.{ConfirmMark}
 use Rattle.lapin_history.specs.declared.marks.Outcome.{Outcome}
-use Rattle.lapin_history.specs.ConfirmReadings.{is_selected, place, is_pending, added, is_taken, outcome_at}
+use Rattle.lapin_history.specs.ConfirmReadings.{is_selected, place, is_pending, was_added, is_finished, is_asked, outcome_at}
+use Rattle.lapin_history.specs.ReturnReadings.{message_of, drained, is_waited}
 use Rattle.lapin_history.specs.TicketReadings.{TicketMark, given, is_collected, answer_of}
 use Rattle.lapin_history.specs.Readings.{Readings}
 use Rattle.lapin_history.specs.Wire.{Wire, start}
@@ -39,18 +41,22 @@ past_on p (x ∷ h) = past_on (longer p x.0 x.1) h
 abbrev pub past : ℕ → History → Past
 past frame_max h = past_on (record { wire = start frame_max; confirms = []; tickets = [] }) h
 
--- what a poll of a confirm's number gives: the outcome once
-abbrev pub polled_outcome : Option Outcome → Record
-polled_outcome None = record_.Pending
-polled_outcome (Some o) = confirmed o
-
-abbrev pub was_added : ℕ → List ConfirmMark → Bool
-was_added n ms = nat_lt 0 n && nat_le n (added ms)
+-- what a poll of a confirm's number gives: the outcome once, with the returned message that it took
+abbrev pub polled_outcome : Option BasicReturnMessage → Option Outcome → Record
+polled_outcome m None = record_.Pending
+polled_outcome m (Some o) = confirmed m o
 
 abbrev pub confirm_poll : List ConfirmMark → ℕ → Record
 confirm_poll ms n =
     if was_added n ms
-    then (if is_taken n ms then record_.Refused error.AlreadyTaken else polled_outcome (outcome_at n ms))
+    then (if is_finished n ms then record_.Refused error.AlreadyTaken else polled_outcome (message_of n ms) (outcome_at n ms))
+    else record_.Refused error.UnknownTicket
+
+-- what setting a confirm aside gives
+abbrev pub confirm_aside : List ConfirmMark → ℕ → Record
+confirm_aside ms n =
+    if was_added n ms
+    then (if is_finished n ms then record_.Refused error.AlreadyTaken else record_.Aside)
     else record_.Refused error.UnknownTicket
 
 -- what a poll of a ticket's number gives: the answer once
@@ -82,7 +88,11 @@ readings_of confirms tickets = record {
   pending = λ c t. is_pending c t confirms;
   confirm = confirm_poll confirms;
   ticket = ticket_poll tickets;
+  confirm_aside = confirm_aside confirms;
   ticket_aside = ticket_aside tickets;
+  asked = λ c. is_asked c confirms;
+  waited = λ c. is_waited c confirms;
+  returned = λ c. drained c confirms;
 }
 
 abbrev pub record_after : Past → Event → Record

@@ -1,5 +1,5 @@
 -- The table of the broker's frames: what each frame is to its channel. A line a method; a reply makes its answer from its own data.
-use Rattle.std.specs.Prelude.{ℕ, ◌==◌, Bool, if◌then◌else◌}
+use Rattle.std.specs.Prelude.{ℕ, ◌==◌, Bool, if◌then◌else◌, None}
 use Rattle.lapin_methods.specs.Numbers.{class_number, method_number}
 use Rattle.lapin_types.specs.Types.{Frame, Method}
 use Rattle.lapin_types.specs.Types.frame
@@ -14,9 +14,11 @@ use Rattle.lapin_types.specs.Types.queue
 use Rattle.lapin_types.specs.Types.tx
 use Rattle.lapin_types.specs.declared.answer.Answer.TheVariants as answer
 use Rattle.lapin_types.specs.declared.request.ReplyKind.TheVariants as reply_kind
+use Rattle.lapin_content.specs.declared.start.Start.TheVariants as start
 use Rattle.lapin_history.specs.declared.marks.SettleKind.{SettleKind}
 use Rattle.lapin_history.specs.declared.marks.SettleKind.TheVariants as settle
 use Rattle.lapin_history.specs.declared.marks.Settlement.{Settlement}
+use Rattle.lapin_history.specs.declared.broker_frames.ContentPart.TheVariants as part
 use Rattle.lapin_history.specs.declared.broker_frames.Incoming.{Incoming}
 use Rattle.lapin_history.specs.declared.broker_frames.Incoming.TheVariants as incoming
 
@@ -38,7 +40,8 @@ settlement kind tag multiple = record { kind = kind; tag = tag; multiple = multi
 abbrev pub on_connection : ℕ → Incoming → Incoming
 on_connection c i = if c == 0 then i else incoming.Other
 
--- Replies with the answers that they make, settlements, flow and closes; every other method is none of these.
+-- Replies with the answers that they make, settlements, methods that begin a content, flow and closes; every other method is none of
+-- these. The content of a get names its get as get-ok takes it.
 abbrev pub incoming_method : ℕ → Method → Incoming
 incoming_method c (method.Connection (connection.Close code text class number)) = on_connection c (incoming.ConnectionClose code)
 incoming_method c (method.Connection connection.CloseOk) = on_connection c incoming.ConnectionCloseOk
@@ -60,6 +63,9 @@ incoming_method c (method.Queue queue.UnbindOk) = incoming.Reply c reply_kind.Qu
 incoming_method c (method.Basic basic.QosOk) = incoming.Reply c reply_kind.BasicQosOk answer.Done
 incoming_method c (method.Basic (basic.Ack tag multiple)) = incoming.Settlement c (settlement settle.Ack tag multiple)
 incoming_method c (method.Basic (basic.Nack tag multiple requeue)) = incoming.Settlement c (settlement settle.Nack tag multiple)
+incoming_method c (method.Basic (basic.Return code text exchange key)) = incoming.Content c (part.Return (start.Return code text exchange key))
+incoming_method c (method.Basic (basic.GetOk tag redelivered exchange key count)) = incoming.Content c (part.GetOk (start.Get None tag exchange key redelivered count))
+incoming_method c (method.Basic basic.GetEmpty) = incoming.Reply c reply_kind.BasicGetOk (answer.Got None)
 incoming_method c (method.Basic basic.RecoverOk) = incoming.Reply c reply_kind.BasicRecoverOk answer.Done
 incoming_method c (method.Confirm confirm.SelectOk) = incoming.Reply c reply_kind.ConfirmSelectOk answer.Done
 incoming_method c (method.Tx tx.SelectOk) = incoming.Reply c reply_kind.TxSelectOk answer.Done
@@ -69,4 +75,5 @@ incoming_method c _ = incoming.Other
 
 abbrev pub incoming_of : Frame → Incoming
 incoming_of (frame.Method c m) = incoming_method c m
-incoming_of _ = incoming.Other
+incoming_of (frame.Header c h) = incoming.Content c (part.Header h)
+incoming_of (frame.Body c bytes) = incoming.Content c (part.Body bytes)

@@ -20,6 +20,7 @@ pub mod Loss
 pub mod Settlement
 pub mod Reply
 pub mod Flow
+pub mod Content
 pub mod Select
 pub mod Calls
 pub mod Incoming

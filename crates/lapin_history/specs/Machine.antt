@@ -46,10 +46,11 @@ is_known_in (Some x) = is_known_call x.0
 
 -- ---- kept records
 
--- an outcome without its returned message
+-- returned messages are left out: an outcome without its message, and an empty list of them
 abbrev pub without_message : Record → Record
 without_message (record_.Confirmed (Ok (confirmation.Ack m))) = record_.Confirmed (Ok (confirmation.Ack None))
 without_message (record_.Confirmed (Ok (confirmation.Nack m))) = record_.Confirmed (Ok (confirmation.Nack None))
+without_message (record_.Returned messages) = record_.Returned []
 without_message r = r
 
 abbrev pub kept_of_ticket : ℕ → History → Record → Option Record
@@ -61,6 +62,7 @@ abbrev pub kept : History → Event → Record → Option Record
 kept h (event.PollTicket n) r = kept_of_ticket n h r
 kept h (event.AsideTicket n) r = kept_of_ticket n h r
 kept h (event.PollConfirm n) r = Some (without_message r)
+kept h (event.PollWait c) r = Some (without_message r)
 kept h _ r = Some r
 
 -- ---- traces

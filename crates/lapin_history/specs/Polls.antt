@@ -1,7 +1,8 @@
--- Polls: each result is given once, and a ticket that was set aside is asked for no more.
-use Rattle.std.specs.Prelude.{ℕ, Bool, true, false, if◌then◌else◌, List, [], ◌∷◌, None, Ok, Err}
+-- Polls: each result is given once, and what was set aside is asked for no more; and the wait for all confirms of a channel.
+use Rattle.std.specs.Prelude.{ℕ, Bool, true, false, ◌&&◌, ◌||◌, if◌then◌else◌, List, [], ◌∷◌, Option, Ok, Err}
 use Rattle.lapin_types.specs.declared.record.Record.{Record}
 use Rattle.lapin_types.specs.declared.record.Record.TheVariants as record_
+use Rattle.lapin_types.specs.declared.message.BasicReturnMessage.{BasicReturnMessage}
 use Rattle.lapin_types.specs.declared.confirmation.Confirmation.TheVariants as confirmation
 use Rattle.lapin_history.specs.declared.marks.Outcome.{Outcome}
 use Rattle.lapin_history.specs.declared.marks.Outcome.TheVariants as outcome
@@ -9,13 +10,24 @@ use Rattle.lapin_history.specs.ConfirmMarks.{ConfirmMark}
 use Rattle.lapin_history.specs.ConfirmMarks as mark
 use Rattle.lapin_history.specs.TicketReadings.{TicketMark}
 use Rattle.lapin_history.specs.TicketReadings as ticket
+use Rattle.lapin_history.specs.Drops.{is_rest_of}
+use Rattle.lapin_history.specs.Readings.{Readings}
+use Rattle.lapin_history.specs.Wire.{Wire}
 
--- the record of a confirm's outcome
-abbrev pub confirmed : Outcome → Record
-confirmed outcome.NotRequested = record_.Confirmed (Ok confirmation.NotRequested)
-confirmed outcome.Ack = record_.Confirmed (Ok (confirmation.Ack None))
-confirmed outcome.Nack = record_.Confirmed (Ok (confirmation.Nack None))
-confirmed (outcome.Failed e) = record_.Confirmed (Err e)
+-- the record of a confirm's outcome, with the returned message that it took
+abbrev pub confirmed : Option BasicReturnMessage → Outcome → Record
+confirmed m outcome.NotRequested = record_.Confirmed (Ok confirmation.NotRequested)
+confirmed m outcome.Ack = record_.Confirmed (Ok (confirmation.Ack m))
+confirmed m outcome.Nack = record_.Confirmed (Ok (confirmation.Nack m))
+confirmed m (outcome.Failed e) = record_.Confirmed (Err e)
+
+-- The wait for all confirms of a channel. There is something to wait for where its live opening accepted a `confirm.select` call and
+-- has a publish that is queued, begun with frames that have not left, or pending. Else the returned messages are given.
+abbrev pub is_waited_on : ℕ → Wire → Readings → Bool
+is_waited_on c b readings = readings.waited c || (readings.asked c && is_rest_of c b.rest)
+
+abbrev pub wait_record : ℕ → Wire → Readings → Record
+wait_record c b readings = if is_waited_on c b readings then record_.Pending else record_.Returned (readings.returned c)
 
 abbrev pub is_confirmed : Record → Bool
 is_confirmed (record_.Confirmed o) = true
@@ -29,10 +41,20 @@ abbrev pub is_aside : Record → Bool
 is_aside record_.Aside = true
 is_aside _ = false
 
--- ---- the marks of a poll, and of setting aside, by the record
+abbrev pub is_returned : Record → Bool
+is_returned (record_.Returned messages) = true
+is_returned _ = false
+
+-- ---- the marks of a poll, of a wait, and of setting aside, by the record
 
 abbrev pub confirm_poll_marks : ℕ → Record → List ConfirmMark
 confirm_poll_marks n r = if is_confirmed r then mark.Taken n ∷ [] else []
+
+abbrev pub wait_marks : ℕ → Record → List ConfirmMark
+wait_marks c r = if is_returned r then mark.Drained c ∷ [] else []
+
+abbrev pub confirm_aside_marks : ℕ → Record → List ConfirmMark
+confirm_aside_marks n r = if is_aside r then mark.SetAside n ∷ [] else []
 
 abbrev pub ticket_poll_marks : ℕ → Record → List TicketMark
 ticket_poll_marks n r = if is_answer r then ticket.Collected n ∷ [] else []

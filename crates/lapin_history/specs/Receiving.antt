@@ -18,6 +18,7 @@ use Rattle.lapin_history.specs.Unexpected.{after_unexpected, unexpected_marks, u
 use Rattle.lapin_history.specs.Settlement.{settlement_record, settlement_marks, after_failed_on, failed_marks_on, failed_tickets_on}
 use Rattle.lapin_history.specs.Reply.{receives_reply, after_reply, reply_tickets}
 use Rattle.lapin_history.specs.Flow.{after_flow}
+use Rattle.lapin_history.specs.Content.{receives_part, after_part, part_marks, part_tickets}
 
 -- ---- its record: received, passed over, or refused, where r is the refusal
 
@@ -28,6 +29,7 @@ when b r = if b then record_.Received else r
 abbrev pub incoming_up : Wire → Readings → Record → Incoming → Record
 incoming_up b readings r (incoming.Reply c k a) = when (receives_reply c k b) r
 incoming_up b readings r (incoming.Settlement c s) = if receives_on (state_of c b) then settlement_record readings c s else r
+incoming_up b readings r (incoming.Content c p) = when (receives_part c p b) r
 incoming_up b readings r (incoming.Flow c active) = when (receives_on (state_of c b)) r
 incoming_up b readings r (incoming.ChannelClose c code) = when (receives_close (state_of c b)) r
 incoming_up b readings r (incoming.ChannelCloseOk c) = when (receives_close_ok (state_of c b)) r
@@ -43,6 +45,7 @@ incoming_record b readings r i = if is_up b.link then incoming_up b readings r i
 
 abbrev pub after_received : Incoming → Wire → Wire
 after_received (incoming.Reply c k a) b = after_reply c k b
+after_received (incoming.Content c p) b = after_part c p b
 after_received (incoming.Flow c active) b = after_flow c active b
 after_received (incoming.Settlement c s) b = b
 after_received (incoming.ChannelClose c code) b = after_channel_close c (phase_of c b) b
@@ -69,6 +72,7 @@ after_incoming i _ b = b
 
 abbrev pub received_marks : Incoming → Wire → List ConfirmMark
 received_marks (incoming.Settlement c s) b = settlement_marks c s
+received_marks (incoming.Content c p) b = part_marks c p b
 received_marks (incoming.ChannelClose c code) b = broker_close_marks c code
 received_marks (incoming.ChannelCloseOk c) b = close_ok_marks c b
 received_marks (incoming.ConnectionClose code) b = connection_close_marks code b
@@ -92,6 +96,7 @@ incoming_marks i _ b = []
 
 abbrev pub received_tickets : Incoming → Wire → List TicketMark
 received_tickets (incoming.Reply c k a) b = reply_tickets c k a b
+received_tickets (incoming.Content c p) b = part_tickets c p b
 received_tickets (incoming.ChannelClose c code) b = broker_close_tickets c code b
 received_tickets (incoming.ChannelCloseOk c) b = close_ok_tickets c b
 received_tickets (incoming.ConnectionClose code) b = connection_close_tickets b.link code

@@ -1,5 +1,5 @@
 -- What a history comes to beside confirms and answers: where the connection and its channels stand, the frames that wait, the
--- open requests and the counters; and the words on it that the rules share. What an event does to it stands with the event's rule.
+-- open requests, the contents that are expected and the counters; and the words on it that the rules share. What an event does to it stands with the event's rule.
 use Rattle.std.specs.Prelude.{ℕ, ◌+◌, ◌==◌, Bool, true, false, ◌||◌, if◌then◌else◌, List, [], ◌∷◌, ◌++◌, Option, Some, None}
 use Rattle.lapin_tables.specs.ByChannel.{at_channel}
 use Rattle.lapin_types.specs.declared.leaving.Publish.{Publish}
@@ -7,6 +7,7 @@ use Rattle.lapin_types.specs.declared.request.Request.{Request}
 use Rattle.lapin_types.specs.declared.request.Reply.{Reply}
 use Rattle.lapin_types.specs.Types.{Method, ChannelState}
 use Rattle.lapin_types.specs.Types.channel_state as state
+use Rattle.lapin_content.specs.Channels.{Channels}
 use Rattle.lapin_history.specs.declared.phases.ChannelPhase.{ChannelPhase}
 use Rattle.lapin_history.specs.declared.phases.ConnectionPhase.{ConnectionPhase}
 use Rattle.lapin_history.specs.declared.phases.ConnectionPhase.TheVariants as link
@@ -29,12 +30,15 @@ pub record Wire : Type 0 where
   pub publishes : List Publish
   -- the open requests of each channel, the oldest first
   pub requests : List (ℕ × List Request)
-  -- how many tickets were given, and how many publishes were accepted
+  -- the contents that each channel expects, the oldest first
+  pub contents : Channels
+  -- how many tickets were given, how many publishes were accepted, and how many messages were given an acker
   pub tickets : ℕ
   pub published : ℕ
+  pub ackers : ℕ
 
 abbrev pub start : ℕ → Wire
-start frame_max = record { frame_max = frame_max; link = link.Open; phases = []; rest = []; methods = []; publishes = []; requests = []; tickets = 0; published = 0 }
+start frame_max = record { frame_max = frame_max; link = link.Open; phases = []; rest = []; methods = []; publishes = []; requests = []; contents = []; tickets = 0; published = 0; ackers = 0 }
 
 -- ---- states
 

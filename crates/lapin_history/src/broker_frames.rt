@@ -3,7 +3,7 @@
 //! Here a frame is sorted, once for all methods; what a channel does with it is the session's.
 
 ghost use Rattle.std.specs.Prelude.{◌≡◌};
-ghost use Rattle.lapin_history.specs.Incoming.{incoming_of, incoming_method, on_connection as on_connection_lem, frame_class, frame_method};
+ghost use Rattle.lapin_history.specs.Incoming.{incoming_of, incoming_method, on_connection as on_connection_lem, settlement as settlement_lem, frame_class, frame_method};
 ghost use Rattle.lapin_types.specs.Types.method as method_;
 ghost use Rattle.lapin_history.specs.Requests.{is_kind as is_kind_lem};
 ghost use Rattle.lapin_history.specs.declared.broker_frames.Incoming.TheVariants as incoming;
@@ -16,11 +16,25 @@ ghost use Rattle.lapin_history.specs.ConnectionClose.{receives_down as receives_
 
 use crate::marks::{SettleKind, Settlement};
 use crate::phases::ConnectionPhase;
+use lapin_content::Start;
 use lapin_types::{
     AccessMethod, Answer, BasicMethod, ChannelMethod, ChannelState, ConfirmMethod,
-    ConnectionMethod, ExchangeMethod, Frame, Method, Queue, QueueMethod, ReplyKind, Request,
-    TxMethod,
+    ConnectionMethod, ContentHeader, ExchangeMethod, Frame, Method, Payload, Queue, QueueMethod,
+    ReplyKind, Request, TxMethod,
 };
+
+/// A frame that begins a content, or belongs to one.
+#[derive(Debug, Drop)]
+pub enum ContentPart {
+    /// The broker answers a get with a message: what begins its content, which names no ticket yet.
+    GetOk(Start),
+    /// The broker gives a message back: what begins its content.
+    Return(Start),
+    /// The header of a content.
+    Header(ContentHeader),
+    /// Bytes of a content.
+    Body(Payload),
+}
 
 /// A broker's frame, as the rules see it.
 #[derive(Debug, Drop)]
@@ -29,6 +43,8 @@ pub enum Incoming {
     Reply(u16, ReplyKind, Answer),
     /// A settlement of publishes of the channel.
     Settlement(u16, Settlement),
+    /// A part of a content of the channel.
+    Content(u16, ContentPart),
     /// The broker pauses the channel, or with true ends the pause.
     Flow(u16, bool),
     /// The broker closes the channel, with its reply code.
@@ -49,7 +65,8 @@ pub fn sort_frame(frame: Frame) -> Incoming
 {
     match frame {
         Frame::Method(channel, method) => sort_method(channel, method),
-        _ => Incoming::Other,
+        Frame::Header(channel, header) => Incoming::Content(channel, ContentPart::Header(header)),
+        Frame::Body(channel, payload) => Incoming::Content(channel, ContentPart::Body(payload)),
     }
 }
 
@@ -145,31 +162,65 @@ fn sort_basic(channel: u16, method: BasicMethod) -> Incoming
     match method {
         BasicMethod::QosOk => done(channel, ReplyKind::BasicQosOk),
         BasicMethod::RecoverOk => done(channel, ReplyKind::BasicRecoverOk),
+        BasicMethod::GetEmpty => {
+            Incoming::Reply(channel, ReplyKind::BasicGetOk, Answer::Got(None))
+        }
+        BasicMethod::GetOk {
+            delivery_tag,
+            redelivered,
+            exchange,
+            routing_key,
+            message_count,
+        } => {
+            let start = Start::Get {
+                ticket: None,
+                delivery_tag,
+                exchange,
+                routing_key,
+                redelivered,
+                message_count,
+            };
+            Incoming::Content(channel, ContentPart::GetOk(start))
+        }
+        BasicMethod::Return {
+            reply_code,
+            reply_text,
+            exchange,
+            routing_key,
+        } => {
+            let start = Start::Return {
+                reply_code,
+                reply_text,
+                exchange,
+                routing_key,
+            };
+            Incoming::Content(channel, ContentPart::Return(start))
+        }
         BasicMethod::Ack {
             delivery_tag,
             multiple,
-        } => Incoming::Settlement(
-            channel,
-            Settlement {
-                kind: SettleKind::Ack,
-                tag: delivery_tag,
-                multiple,
-            },
-        ),
+        } => settlement(channel, SettleKind::Ack, delivery_tag, multiple),
         BasicMethod::Nack {
             delivery_tag,
             multiple,
             requeue: _requeue,
-        } => Incoming::Settlement(
-            channel,
-            Settlement {
-                kind: SettleKind::Nack,
-                tag: delivery_tag,
-                multiple,
-            },
-        ),
+        } => settlement(channel, SettleKind::Nack, delivery_tag, multiple),
         _ => Incoming::Other,
     }
+}
+
+// A settlement of one tag, or of many.
+fn settlement(channel: u16, kind: SettleKind, tag: u64, multiple: bool) -> Incoming
+    ensures { result ≡ incoming.Settlement channel (settlement_lem kind tag multiple) }
+{
+    Incoming::Settlement(
+        channel,
+        Settlement {
+            kind,
+            tag,
+            multiple,
+        },
+    )
 }
 
 // A reply that tells nothing but that its call is done.

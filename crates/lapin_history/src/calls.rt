@@ -150,6 +150,7 @@ pub fn sort_call(alloc: Global, call: Call) -> Result<Asked, NoMemory>
             prefetch_count,
             options,
         } => Ok(basic::qos(prefetch_count, options)),
+        Call::BasicGet { queue, options } => Ok(basic::get(queue, options)),
         Call::BasicAck {
             delivery_tag,
             options,

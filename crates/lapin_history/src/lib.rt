@@ -13,8 +13,8 @@ pub mod marks;
 pub mod phases;
 
 pub use broker_frames::{
-    Incoming, class_of, is_kind, method_of, opens, receives, receives_close, receives_close_ok,
-    receives_down, receives_on, sort_frame,
+    ContentPart, Incoming, class_of, is_kind, method_of, opens, receives, receives_close,
+    receives_close_ok, receives_down, receives_on, sort_frame,
 };
 pub use calls::{Asked, Row, is_allowed, is_select, sort_call};
 pub use closes::{

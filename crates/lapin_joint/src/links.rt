@@ -76,7 +76,9 @@ impl Links {
             Event::Call(channel, call) => self.event(alloc, Event::Call(channel, call)),
             Event::PollTicket(number) => self.event(alloc, Event::PollTicket(number)),
             Event::PollConfirm(number) => self.event(alloc, Event::PollConfirm(number)),
+            Event::PollWait(channel) => self.event(alloc, Event::PollWait(channel)),
             Event::AsideTicket(number) => self.event(alloc, Event::AsideTicket(number)),
+            Event::AsideConfirm(number) => self.event(alloc, Event::AsideConfirm(number)),
             Event::State(channel) => self.event(alloc, Event::State(channel)),
         }
     }
@@ -176,6 +178,7 @@ impl Links {
 
     /// The session receives the front of the link down.
     pub(crate) fn deliver(&mut self, alloc: Global) -> Result<Reported, NoMemory>
+        requires { HasNumbersFor 1 self.old.session }
         ensures told { IfOk result (λ r. r ≡ deliver_report by_machine self.old.down self.old.session) }
         ensures ok { OnOk result (self.new ≡ deliver_first by_machine self.old.down self.old) }
     {
@@ -187,6 +190,7 @@ impl Links {
 
     // The session receives a frame.
     fn receive(&mut self, alloc: Global, frame: Frame) -> Result<Reported, NoMemory>
+        requires { HasNumbersFor 1 self.old.session }
         ensures told { IfOk result (λ r. r ≡ reported.Delivered (told_by self.old.session (event.Receive frame))) }
         ensures ok { OnOk result (self.new ≡ record self.old { session = next self.old.session (event.Receive frame) }) }
     {

@@ -1,19 +1,12 @@
 -- The lines of an input, and the steps that they say.
-use Rattle.std.proofs.Common.{◌≡◌, ℕ, ◌<◌, ◌+◌, List, [], ◌∷◌, ◌++◌, length, get_or, map, Option, Some, None, refl, sym, ap, subst, ◌∙◌, append_assoc, arith, eqb, ltb, Bool, false, true}
-use Rattle.std.proofs.Common.{◌^◌}
-use Rattle.std.specs.Prelude.{codes, decimal, ◌&&◌}
-use Rattle.std.specs.List.{slice_split, flat_map, AllByRecursion}
+use Rattle.std.proofs.Common.{◌≡◌, ℕ, ◌+◌, List, [], ◌∷◌, ◌++◌, length, map, Option, Some, None, refl, sym, ap, subst, ◌∙◌, append_assoc, arith}
+use Rattle.std.specs.Prelude.{decimal}
+use Rattle.std.specs.List.{flat_map, AllByRecursion}
 use Rattle.std.proofs.lemmas.Fmt.{decimal_injective}
 use Rattle.std.proofs.lemmas.List.{append-nil, length-append}
 use Rattle.std.proofs.lemmas.List.Concat.{flat_map-cons}
-use Rattle.std.proofs.lemmas.List.Splits.{slice_split_at, length-slice_split}
-use Rattle.std.proofs.lemmas.Bool.{lt-ltb}
-use Rattle.lapin_scalars.proofs.ScalarLaws.{true_both}
-use Rattle.lapin_tokens.specs.Fields.{long_number}
-use Rattle.lapin_tokens.proofs.Plain.{no_feed}
-use Rattle.lapin_tokens.proofs.PlainFields.{plain_token}
-use Rattle.lapin_text.specs.Input.{lines_of, without_empty_end, max_line, IsMax, NoMax}
-use Rattle.lapin_text.proofs.InputLaws.{lines_nil}
+use Rattle.lapin_text.specs.Input.{lines_of, max_line, IsMax, NoMax}
+use Rattle.lapin_text.proofs.InputLaws.{lines_nil, line_first, max_plain}
 use Rattle.lapin_joint.specs.declared.step.Step.{Step}
 use Rattle.lapin_joint_text.specs.Steps.{step_line, HasLine, NoLine}
 use Rattle.lapin_joint_text.specs.Input.{AreSteps, AreParsed, input_of}
@@ -44,18 +37,6 @@ at_end n all lines steps before is =
 
 -- ---- what was printed is parsed
 
-abbrev is_feed : ℕ → Bool
-is_feed b = eqb b 10
-
-kept : (x : List ℕ) (parts : List (List ℕ)) → 0 < length parts → without_empty_end (x ∷ parts) ≡ x ∷ without_empty_end parts
-kept x [] h = absurd (omega arith)
-kept x (y ∷ zs) h = refl
-
-line_first : (line rest : List ℕ) → ((i d : ℕ) → i < length line → eqb (get_or line i d) 10 ≡ false) → lines_of (line ++ 10 ∷ rest) ≡ line ∷ lines_of rest
-unfolding lines_of
-line_first line rest free =
-    ap without_empty_end (slice_split_at is_feed line 10 rest free refl) ∙ kept line (slice_split is_feed rest) (omega (arith, length-slice_split is_feed rest))
-
 lines_printed : (ss : List Step) → AllByRecursion HasLine ss → lines_of (flat_map (λ s. step_line s ++ 10 ∷ []) ss) ≡ map step_line ss
 lines_printed [] h = lines_nil
 lines_printed (s ∷ ss) h =
@@ -81,11 +62,6 @@ max_again m (Some k) ss others bad ok h a =
   where
     drop_front : max_line m ≡ max_line k → decimal m ≡ decimal k
     drop_front e = cc
-
-max_plain : (m : ℕ) → IsMax m → (i d : ℕ) → i < length (max_line m) → eqb (get_or (max_line m) i d) 10 ≡ false
-max_plain m ok =
-    let fit : (ltb m (2 ^ 32) && ltb m (2 ^ 64)) ≡ true = true_both (ltb m (2 ^ 32)) (ltb m (2 ^ 64)) (lt-ltb _ _ ok.1) (lt-ltb _ _ (omega (arith, ok.1))) in
-    no_feed (codes "frame_max" ∷ decimal m ∷ []) (refl, (plain_token long_number m fit, tt))
 
 pub input_again : (m : ℕ) (ss : List Step) (max : Option ℕ) (others : List Step) (bad : Option ℕ) → IsMax m → AllByRecursion HasLine ss → AreParsed (lines_of (input_of m ss)) max others bad → (max ≡ Some m) × (others ≡ ss) × (bad ≡ None)
 input_again m ss max others bad ok h a =

@@ -3,14 +3,13 @@ use Rattle.std.proofs.Common.{◌≡◌, ◌≢◌, ℕ, ◌<◌, ◌+◌, List,
 use Rattle.std.specs.Prelude.{codes}
 use Rattle.std.specs.List.{join_with_byte}
 use Rattle.lapin_types.specs.Types.{Frame}
-use Rattle.lapin_types.specs.Types.frame
 use Rattle.lapin_types.specs.declared.event.Event.{Event}
 use Rattle.lapin_types.specs.declared.event.Event.TheVariants as event
 use Rattle.lapin_tokens.proofs.Plain.{no_feed}
 use Rattle.lapin_text.specs.Events as events
 use Rattle.lapin_text.specs.Events.{line_of, event_tokens}
 use Rattle.lapin_text.specs.Frames.{frame_text, frame_tokens, FrameFits}
-use Rattle.lapin_text.proofs.LineLaws.{plain_event, same_line, same_text}
+use Rattle.lapin_text.proofs.LineLaws.{some_tokens, some_frame_tokens, plain_event, same_line, same_text}
 use Rattle.lapin_joint.specs.declared.step.Step.{Step}
 use Rattle.lapin_joint.specs.declared.step.Step.TheVariants as step
 use Rattle.lapin_joint_text.specs.Steps.{step_line, HasLine, IsLineOf, NoLine, IsBare, NoBare}
@@ -104,27 +103,12 @@ behind_space : (word : List ℕ) (ts : List (List ℕ)) → 0 < length ts → jo
 behind_space word [] some = absurd (omega arith)
 behind_space word (t ∷ ts) some = refl
 
-some_event : (e : Event) → 0 < length (event_tokens e)
-some_event (event.Call c k) = omega arith
-some_event (event.Next flow) = omega arith
-some_event (event.Receive f) = omega arith
-some_event (event.PollTicket n) = omega arith
-some_event (event.PollConfirm n) = omega arith
-some_event (event.AsideTicket n) = omega arith
-some_event (event.State c) = omega arith
-some_event event.Lost = omega arith
-
-some_frame : (f : Frame) → 0 < length (frame_tokens f)
-some_frame (frame.Method c m) = omega arith
-some_frame (frame.Header c h) = omega arith
-some_frame (frame.Body c bytes) = omega arith
-
 abbrev HasNoFeed : List ℕ → Type 0
 HasNoFeed line = (i d : ℕ) → i < length line → eqb (get_or line i d) 10 ≡ false
 
 pub step_plain : (s : Step) → HasLine s → HasNoFeed (step_line s)
-step_plain (step.Client e) h = subst HasNoFeed (behind_space (codes "client") (event_tokens e) (some_event e)) (no_feed (codes "client" ∷ event_tokens e) (refl, plain_event e h))
+step_plain (step.Client e) h = subst HasNoFeed (behind_space (codes "client") (event_tokens e) (some_tokens e)) (no_feed (codes "client" ∷ event_tokens e) (refl, plain_event e h))
 step_plain step.Read h = no_feed (codes "read" ∷ []) (refl, tt)
-step_plain (step.Send f) h = subst HasNoFeed (behind_space (codes "send") (frame_tokens f) (some_frame f)) (no_feed (codes "send" ∷ frame_tokens f) (refl, (plain_event (event.Receive f) h).1))
+step_plain (step.Send f) h = subst HasNoFeed (behind_space (codes "send") (frame_tokens f) (some_frame_tokens f)) (no_feed (codes "send" ∷ frame_tokens f) (refl, (plain_event (event.Receive f) h).1))
 step_plain step.Deliver h = no_feed (codes "deliver" ∷ []) (refl, tt)
 step_plain step.Lose h = no_feed (codes "lose" ∷ []) (refl, tt)

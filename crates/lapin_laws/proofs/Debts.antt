@@ -1,5 +1,5 @@
 -- Each open ticket that awaits a reply has its request, after every list of events.
-use Rattle.std.proofs.Common.{◌≡◌, ℕ, zero, suc, ◌+◌, Bool, true, false, cond, not, List, [], ◌∷◌, ◌++◌, length, Option, Some, None, Ok, refl, sym, subst, ◌∙◌, ap, inl, inr}
+use Rattle.std.proofs.Common.{◌≡◌, ℕ, zero, suc, ◌+◌, Bool, true, false, cond, not, ◌&&◌, ◌==◌, List, [], ◌∷◌, ◌++◌, length, Option, Some, None, Ok, refl, sym, subst, ◌∙◌, ap, inl, inr}
 use Rattle.std.specs.List.{fold}
 use Rattle.lapin_tables.specs.ByChannel.{on_channel}
 use Rattle.lapin_tables.specs.Numbered.{under, with_under}
@@ -15,7 +15,15 @@ use Rattle.lapin_types.specs.declared.leaving.Left.{Left}
 use Rattle.lapin_types.specs.declared.request.Reply.{Reply}
 use Rattle.lapin_types.specs.declared.request.Reply.TheVariants as reply
 use Rattle.lapin_types.specs.declared.request.ReplyKind.TheVariants as reply_kind
-use Rattle.lapin_types.specs.Types.{Error, Method}
+use Rattle.lapin_types.specs.Types.{Error, Frame, Method}
+use Rattle.lapin_types.specs.Types.frame
+use Rattle.lapin_types.specs.Types.connection
+use Rattle.lapin_types.specs.Types.basic
+use Rattle.lapin_types.specs.Types.access
+use Rattle.lapin_types.specs.Types.exchange
+use Rattle.lapin_types.specs.Types.queue
+use Rattle.lapin_types.specs.Types.confirm
+use Rattle.lapin_types.specs.Types.tx
 use Rattle.lapin_types.specs.Types.error
 use Rattle.lapin_types.specs.Types.method
 use Rattle.lapin_types.specs.Types.channel
@@ -34,10 +42,15 @@ use Rattle.lapin_history.specs.TicketReadings as ticket
 use Rattle.lapin_history.specs.Words.{with_channel}
 use Rattle.lapin_history.specs.Phases.{is_lost}
 use Rattle.lapin_history.specs.Calls.{asked, unless_nowait}
-use Rattle.lapin_history.specs.Incoming.{incoming_of}
+use Rattle.lapin_history.specs.Incoming.{incoming_of, frame_class, frame_method}
+use Rattle.lapin_history.specs.declared.broker_frames.ContentPart.{ContentPart}
+use Rattle.lapin_history.specs.declared.broker_frames.ContentPart.TheVariants as part
+use Rattle.lapin_content.specs.Contents.{expected, after_header, after_body, for_ticket}
+use Rattle.lapin_content.specs.Channels.{Channels, expected_on}
+use Rattle.lapin_history.specs.Content.{content_class, get_ticket, for_get, receives_part, after_part, part_tickets, whole_on}
 use Rattle.lapin_history.specs.Requests.{first_request, close_alone, no_requests, without_kind, is_kind, resolved_with}
 use Rattle.lapin_history.specs.Ends.{down, end_tickets}
-use Rattle.lapin_history.specs.Wire.{Wire, state_of, phase_of, requests_of, is_open, requests_with, noted}
+use Rattle.lapin_history.specs.Wire.{Wire, state_of, phase_of, requests_of, is_open, receives_on, requests_with, noted}
 use Rattle.lapin_history.specs.ChannelClose.{has_sent_close, closing, close_tickets, close_ticket, close_ok_end, after_close_ok, failed_at_close, failed_at_close_ok}
 use Rattle.lapin_history.specs.ConnectionClose.{after_connection_close, connection_close_tickets}
 use Rattle.lapin_history.specs.Settlement.{session_close}
@@ -50,16 +63,18 @@ use Rattle.lapin_ticket.specs.declared.Slot.{Slot}
 use Rattle.lapin_ticket.specs.declared.Slot.TheVariants as slot
 use Rattle.lapin_ticket.specs.Slots.{after_mark}
 use Rattle.lapin_machine.specs.Stands.{Stands}
-use Rattle.lapin_machine.specs.World.{World, new_world, next, next_anew, told_by, told_anew}
+use Rattle.lapin_machine.specs.World.{World, new_world, next, next_anew, told_by, told_anew, readings_of}
 use Rattle.lapin_machine.proofs.Back.{given_none, next_none, still_none}
+use Rattle.lapin_machine.proofs.HeardParts.{IsHeard, is_heard}
 use Rattle.lapin_laws.specs.Runs.{world_after}
-use Rattle.lapin_laws.specs.Owed.{IsIn, request_tickets, IsRequested}
+use Rattle.lapin_laws.specs.Owed.{IsIn, request_tickets, IsOwed}
 use Rattle.lapin_laws.proofs.Traces.{stands_new, stands_next}
 use Rattle.lapin_laws.proofs.Opens.{IsOpen, open_resolved, open_begun, open_left, open_closed, open_gone}
-use Rattle.lapin_laws.proofs.Owing.{Table, Owed, in_alone, Fewer, same, asks, gives, makes, answers, answers_on, ends_one, falls}
+use Rattle.lapin_laws.proofs.Expecting.{header_keeps, body_keeps, names_its_get}
+use Rattle.lapin_laws.proofs.Owing.{Table, Owed, in_alone, Fewer, same, asks, gives, makes, answers, answers_on, ends_one, falls, begins, expects, hears}
 
 abbrev Owes : Wire → List (Option Slot) → Type 0
-Owes b slots = Owed b.requests slots
+Owes b slots = Owed b.requests b.contents slots
 
 module _ (slots : List (Option Slot)) where
   closed_fewer : (d : ℕ) (e : Error) → Fewer slots (after_mark slots (ticket.ClosedHere d e))
@@ -84,16 +99,16 @@ CallOwes c k = (b : Wire) (slots : List (Option Slot)) → b.tickets ≡ length 
 
 -- a line of the table of calls: the reply that it awaits, the answer that it makes, and that of its leaving
 abbrev RowOwes : ℕ → Option Reply → Option Answer → AtLeaving → Type 0
-RowOwes c r made at = (b : Wire) (slots : List (Option Slot)) → b.tickets ≡ length slots → Owes b slots → Owed (requests_with c (b.tickets + 1) r b.requests) (fold after_mark slots (ticket.Given c at ∷ made_marks (b.tickets + 1) made))
+RowOwes c r made at = (b : Wire) (slots : List (Option Slot)) → b.tickets ≡ length slots → Owes b slots → Owed (requests_with c (b.tickets + 1) r b.requests) b.contents (fold after_mark slots (ticket.Given c at ∷ made_marks (b.tickets + 1) made))
 
 awaits : (c : ℕ) (r : Reply) → RowOwes c (Some r) None leaving.Nothing
-awaits c r b slots n h = asks b.requests slots b.tickets c n h r
+awaits c r b slots n h = asks b.requests b.contents slots b.tickets c n h r
 
 at_once : (c : ℕ) (a : Answer) → RowOwes c None (Some a) leaving.Nothing
-at_once c a b slots n h = makes b.requests slots b.tickets c n h leaving.Nothing (Ok a)
+at_once c a b slots n h = makes b.requests b.contents slots b.tickets c n h leaving.Nothing (Ok a)
 
 leaves : (c : ℕ) → RowOwes c None None leaving.Done
-leaves c b slots n h = gives b.requests slots b.tickets c n h leaving.Done (λ e. cc)
+leaves c b slots n h = gives b.requests b.contents slots b.tickets c n h leaving.Done (λ e. cc)
 
 nowait : (c : ℕ) (m : Method) (t : Bool) (r : Reply) (a : Answer) → CallOwes c (unless_nowait m t r a)
 nowait c m true r a = at_once c a
@@ -108,12 +123,12 @@ length-closed c e [] = refl
 length-closed c e (x ∷ xs) = ap suc (length-closed c e xs)
 
 call_owes : (c : ℕ) (k : Call) → CallOwes c (asked k)
-call_owes c call.OpenChannel = λ b slots n h. asks b.requests slots b.tickets c n h reply.ChannelOpenOk
+call_owes c call.OpenChannel = λ b slots n h. asks b.requests b.contents slots b.tickets c n h reply.ChannelOpenOk
 call_owes c (call.ChannelClose code text) = λ b slots n h.
     let e : Error = failed_at_close closer.Application in
-    asks b.requests (after_mark slots (ticket.ClosedHere c e)) b.tickets c (n ∙ sym (length-closed c e slots)) (same b.requests slots _ (closed_fewer slots c e) h) reply.ChannelCloseOk
-call_owes c (call.ConnectionClose code text) = λ b slots n h. asks [] (after_mark slots (ticket.AllFailed _)) b.tickets c (n ∙ sym (length-all _ slots)) (falls _ [] slots) reply.ConnectionCloseOk
-call_owes c (call.BasicPublish exchange key o payload properties) = λ b slots n h. gives b.requests slots b.tickets c n h (leaving.Confirm (b.published + 1)) (λ e. cc)
+    asks b.requests b.contents (after_mark slots (ticket.ClosedHere c e)) b.tickets c (n ∙ sym (length-closed c e slots)) (same b.requests b.contents slots _ (closed_fewer slots c e) h) reply.ChannelCloseOk
+call_owes c (call.ConnectionClose code text) = λ b slots n h. asks [] [] (after_mark slots (ticket.AllFailed _)) b.tickets c (n ∙ sym (length-all _ slots)) (falls _ [] [] slots) reply.ConnectionCloseOk
+call_owes c (call.BasicPublish exchange key o payload properties) = λ b slots n h. gives b.requests b.contents slots b.tickets c n h (leaving.Confirm (b.published + 1)) (λ e. cc)
 call_owes c (call.ChannelFlow o) = awaits c _
 call_owes c (call.AccessRequest realm o) = awaits c _
 call_owes c (call.ExchangeDeclare name kind o more) = nowait c _ o.nowait _ _
@@ -126,6 +141,7 @@ call_owes c (call.QueuePurge name o) = nowait c _ o.nowait _ _
 call_owes c (call.QueueDelete name o) = nowait c _ o.nowait _ _
 call_owes c (call.QueueUnbind name from key more) = awaits c _
 call_owes c (call.BasicQos most o) = awaits c _
+call_owes c (call.BasicGet name o) = awaits c _
 call_owes c (call.BasicAck tag o) = leaves c
 call_owes c (call.BasicNack tag o) = leaves c
 call_owes c (call.BasicReject tag o) = leaves c
@@ -147,20 +163,45 @@ joined [] ns slots = refl
 joined (m ∷ ms) ns slots = joined ms ns (after_mark slots m)
 
 -- the requests of the channel go, after the close's ticket was answered
-all_go : (c : ℕ) (o : Option ℕ) (x : Error) (b : Wire) (slots : List (Option Slot)) → Owes b slots → Owed (on_channel c no_requests b.requests) (after_mark (fold after_mark slots (resolved_with (Ok answer.Done) o)) (ticket.OpeningFailed c None x))
-all_go c o x b slots h = ends_one c None x no_requests b.requests _ refl (λ n e. absurd cc) (same b.requests slots _ (answered_fewer slots o) h)
+all_go : (c : ℕ) (o : Option ℕ) (x : Error) (b : Wire) (slots : List (Option Slot)) → Owes b slots → Owed (on_channel c no_requests b.requests) (on_channel c (λ _. []) b.contents) (after_mark (fold after_mark slots (resolved_with (Ok answer.Done) o)) (ticket.OpeningFailed c None x))
+all_go c o x b slots h = ends_one c None x no_requests b.requests b.contents _ refl (λ n e. absurd cc) (same b.requests b.contents slots _ (answered_fewer slots o) h)
 
-one_goes : (c : ℕ) (b : Wire) (slots : List (Option Slot)) → Owes b slots → Owed (on_channel c (without_kind reply_kind.ChannelCloseOk) b.requests) (fold after_mark slots (resolved_with (Ok answer.Done) (close_ticket c b) ++ []))
-one_goes c b slots h = subst (Owed (on_channel c (without_kind reply_kind.ChannelCloseOk) b.requests)) (sym (joined (resolved_with (Ok answer.Done) (close_ticket c b)) [] slots)) (answers_on c (is_kind reply_kind.ChannelCloseOk) (Ok answer.Done) b.requests slots h)
+one_goes : (c : ℕ) (b : Wire) (slots : List (Option Slot)) → Owes b slots → Owed (on_channel c (without_kind reply_kind.ChannelCloseOk) b.requests) b.contents (fold after_mark slots (resolved_with (Ok answer.Done) (close_ticket c b) ++ []))
+one_goes c b slots h = subst (Owed (on_channel c (without_kind reply_kind.ChannelCloseOk) b.requests) b.contents) (sym (joined (resolved_with (Ok answer.Done) (close_ticket c b)) [] slots)) (answers_on c (is_kind reply_kind.ChannelCloseOk) (Ok answer.Done) b.requests b.contents slots h)
 
 close_ok_owes : (c : ℕ) (p : ChannelPhase) (b : Wire) (slots : List (Option Slot)) → Owes b slots → Owes (after_close_ok c p b) (fold after_mark slots (resolved_with (Ok answer.Done) (close_ticket c b) ++ end_tickets c (close_ok_end p)))
-close_ok_owes c (phase.Closing who s) b slots h = subst (Owed (on_channel c no_requests b.requests)) (sym (joined (resolved_with (Ok answer.Done) (close_ticket c b)) (ticket.OpeningFailed c None (failed_at_close_ok who) ∷ []) slots)) (all_go c (close_ticket c b) (failed_at_close_ok who) b slots h)
+close_ok_owes c (phase.Closing who s) b slots h = subst (Owed (on_channel c no_requests b.requests) (on_channel c (λ _. []) b.contents)) (sym (joined (resolved_with (Ok answer.Done) (close_ticket c b)) (ticket.OpeningFailed c None (failed_at_close_ok who) ∷ []) slots)) (all_go c (close_ticket c b) (failed_at_close_ok who) b slots h)
 close_ok_owes c phase.Closed b slots h = one_goes c b slots h
 close_ok_owes c phase.Opening b slots h = one_goes c b slots h
 close_ok_owes c (phase.Open paused) b slots h = one_goes c b slots h
 close_ok_owes c phase.Crossed b slots h = one_goes c b slots h
 
 -- ---- frames of the broker
+
+right : (x y : Bool) → (x && y) ≡ true → y ≡ true
+right true y h = h
+right false y h = cc
+
+-- the answer to a get begins the content of one
+abbrev IsMade : Incoming → Type 0
+IsMade (incoming.Content c (part.GetOk s)) = for_get s ≡ true
+IsMade _ = Unit {0}
+
+on_made : (t : Bool) (i : Incoming) → IsMade i → IsMade (cond t i incoming.Other)
+on_made true i h = h
+on_made false i h = tt
+
+is_made : (f : Frame) → IsMade (incoming_of f)
+is_made (frame.Method c (method.Connection (connection.Close code text class number))) = on_made (c == 0) (incoming.ConnectionClose code) tt
+is_made (frame.Method c (method.Connection connection.CloseOk)) = on_made (c == 0) incoming.ConnectionCloseOk tt
+is_made (frame.Method c (method.Basic (basic.GetOk tag redelivered exchange key count))) = refl
+is_made (frame.Method c (method.Channel channel.OpenOk)) = tt
+is_made (frame.Method c (method.Access access.RequestOk)) = tt
+is_made (frame.Method c (method.Exchange exchange.DeclareOk)) = tt
+is_made (frame.Method c (method.Queue queue.BindOk)) = tt
+is_made (frame.Method c (method.Confirm confirm.SelectOk)) = tt
+is_made (frame.Method c (method.Tx tx.SelectOk)) = tt
+is_made _ = tt
 
 module _ (b : Wire) (slots : List (Option Slot)) (h : Owes b slots) where
   kept_none : (s : Bool) → cond s (close_alone []) (no_requests []) ≡ []
@@ -171,12 +212,13 @@ module _ (b : Wire) (slots : List (Option Slot)) (h : Owes b slots) where
   kept_has true c n e = in_alone n (first_request reply_kind.ChannelCloseOk (requests_of c b)) (sym e)
   kept_has false c n e = absurd cc
 
-  closes : (c : ℕ) (s : Bool) (e : Error) → Owed (on_channel c (λ rs. cond s (close_alone rs) (no_requests rs)) b.requests) (after_mark slots (ticket.OpeningFailed c (cond s (close_ticket c b) None) e))
-  closes c s e = ends_one c (cond s (close_ticket c b) None) e (λ rs. cond s (close_alone rs) (no_requests rs)) b.requests slots (kept_none s) (kept_has s c) h
+  closes : (c : ℕ) (s : Bool) (e : Error) → Owed (on_channel c (λ rs. cond s (close_alone rs) (no_requests rs)) b.requests) (on_channel c (λ _. []) b.contents) (after_mark slots (ticket.OpeningFailed c (cond s (close_ticket c b) None) e))
+  closes c s e = ends_one c (cond s (close_ticket c b) None) e (λ rs. cond s (close_alone rs) (no_requests rs)) b.requests b.contents slots (kept_none s) (kept_has s c) h
 
   failed_owes : (i : Incoming) → Owes (after_failed i b) (fold after_mark slots (failed_tickets i b))
-  failed_owes (incoming.Settlement c z) = choose (is_open (state_of c b)) (noted c (session_close z.kind) (closing c closer.Session b)) b (close_tickets c closer.Session) [] slots (same b.requests slots _ (closed_fewer slots c _) h) h
+  failed_owes (incoming.Settlement c z) = choose (is_open (state_of c b)) (noted c (session_close z.kind) (closing c closer.Session b)) b (close_tickets c closer.Session) [] slots (same b.requests b.contents slots _ (closed_fewer slots c _) h) h
   failed_owes (incoming.Reply c k a) = h
+  failed_owes (incoming.Content c p) = h
   failed_owes (incoming.Flow c active) = h
   failed_owes (incoming.ChannelClose c code) = h
   failed_owes (incoming.ChannelCloseOk c) = h
@@ -190,81 +232,91 @@ module _ (b : Wire) (slots : List (Option Slot)) (h : Owes b slots) where
   refused_owes i (error.InvalidChannelState s) = h
   refused_owes i (error.ProtocolError code) = h
   refused_owes i error.ConnectionLost = h
-  refused_owes i (error.UnexpectedFrame class number) = falls _ [] slots
+  refused_owes i (error.UnexpectedFrame class number) = falls _ [] [] slots
   refused_owes i (error.PreconditionFailed tag current) = failed_owes i
   refused_owes i error.AlreadyTaken = h
   refused_owes i error.UnknownTicket = h
 
   connection_owes : (code : ℕ) (l : ConnectionPhase) → Owes (after_connection_close l b) (fold after_mark slots (connection_close_tickets l code))
-  connection_owes code link.Open = falls _ [] slots
+  connection_owes code link.Open = falls _ [] [] slots
   connection_owes code (link.Closing true x) = h
-  connection_owes code (link.Closing false x) = falls _ [] slots
-  connection_owes code link.Closed = falls _ [] slots
-  connection_owes code link.Lost = falls _ [] slots
+  connection_owes code (link.Closing false x) = falls _ [] [] slots
+  connection_owes code link.Closed = falls _ [] [] slots
+  connection_owes code link.Lost = falls _ [] [] slots
 
   lost_owes : (t : Bool) → Owes (cond t b (down link.Lost b)) (fold after_mark slots (cond t [] (ticket.AllFailed error.ConnectionLost ∷ [])))
   lost_owes true = h
-  lost_owes false = falls _ [] slots
+  lost_owes false = falls _ [] [] slots
 
-  flow_owes : (t : Bool) (x : Wire) → x.requests ≡ b.requests → Owes (cond t x b) slots
-  flow_owes true x e = subst (λ rs. Owed rs slots) (sym e) h
-  flow_owes false x e = h
+  flow_owes : (t : Bool) (x : Wire) → x.requests ≡ b.requests → x.contents ≡ b.contents → Owes (cond t x b) slots
+  flow_owes true x e f = subst (λ rs. Owed rs x.contents slots) (sym e) (subst (λ cs. Owed b.requests cs slots) (sym f) h)
+  flow_owes false x e f = h
 
-  received_owes : (i : Incoming) → Owes (after_received i b) (fold after_mark slots (received_tickets i b))
-  received_owes (incoming.Reply c k a) = answers c (is_kind k) (Ok a) b.requests slots h
-  received_owes (incoming.Settlement c z) = h
-  received_owes (incoming.Flow c active) = flow_owes (is_open (state_of c b)) (noted c (method.Channel (channel.FlowOk active)) (record b { phases = with_channel c (phase.Open (not active)) b.phases })) refl
-  received_owes (incoming.ChannelClose c code) = closes c (has_sent_close (phase_of c b)) _
-  received_owes (incoming.ChannelCloseOk c) = close_ok_owes c (phase_of c b) b slots h
-  received_owes (incoming.ConnectionClose code) = connection_owes code b.link
-  received_owes incoming.ConnectionCloseOk = answers_on 0 (is_kind reply_kind.ConnectionCloseOk) (Ok answer.Done) b.requests slots h
-  received_owes incoming.Other = h
+  part_owes : (c : ℕ) (p : ContentPart) → receives_part c p b ≡ true → IsMade (incoming.Content c p) → Owes (after_part c p b) (fold after_mark slots (part_tickets c p b))
+  part_owes c (part.GetOk s) heard made = begins c content_class (is_kind reply_kind.BasicGetOk) (for_ticket (get_ticket c b) s) b.requests b.contents slots (names_its_get s (get_ticket c b) made) h
+  part_owes c (part.Return s) heard made = expects c (expected content_class s) b.requests b.contents slots h
+  part_owes c (part.Header x) heard made = hears c b.ackers (after_header x) (whole_on c (part.Header x) b) b.requests b.contents slots refl (λ n i. header_keeps n x (expected_on c b.contents) (right (receives_on (state_of c b)) _ heard) i) h
+  part_owes c (part.Body bytes) heard made = hears c b.ackers (after_body bytes) (whole_on c (part.Body bytes) b) b.requests b.contents slots refl (λ n i. body_keeps n bytes (expected_on c b.contents) (right (receives_on (state_of c b)) _ heard) i) h
 
-  incoming_owes : (i : Incoming) (r : Record) → Owes (after_incoming i r b) (fold after_mark slots (incoming_tickets i r b))
-  incoming_owes i (record_.Refused x) = refused_owes i x
-  incoming_owes i record_.Received = received_owes i
-  incoming_owes i (record_.Ticket n) = h
-  incoming_owes i (record_.Publish t n) = h
-  incoming_owes i (record_.Frame f) = h
-  incoming_owes i record_.NoFrame = h
-  incoming_owes i record_.Passed = h
-  incoming_owes i record_.Pending = h
-  incoming_owes i (record_.Answer a) = h
-  incoming_owes i (record_.Confirmed o) = h
-  incoming_owes i (record_.State x y) = h
-  incoming_owes i record_.Aside = h
-  incoming_owes i record_.Lost = h
+  received_owes : (i : Incoming) → IsHeard i record_.Received b → IsMade i → Owes (after_received i b) (fold after_mark slots (received_tickets i b))
+  received_owes (incoming.Reply c k a) heard made = answers c (is_kind k) (Ok a) b.requests b.contents slots h
+  received_owes (incoming.Settlement c z) heard made = h
+  received_owes (incoming.Content c p) heard made = part_owes c p heard made
+  received_owes (incoming.Flow c active) heard made = flow_owes (is_open (state_of c b)) (noted c (method.Channel (channel.FlowOk active)) (record b { phases = with_channel c (phase.Open (not active)) b.phases })) refl refl
+  received_owes (incoming.ChannelClose c code) heard made = closes c (has_sent_close (phase_of c b)) _
+  received_owes (incoming.ChannelCloseOk c) heard made = close_ok_owes c (phase_of c b) b slots h
+  received_owes (incoming.ConnectionClose code) heard made = connection_owes code b.link
+  received_owes incoming.ConnectionCloseOk heard made = answers_on 0 (is_kind reply_kind.ConnectionCloseOk) (Ok answer.Done) b.requests b.contents slots h
+  received_owes incoming.Other heard made = h
+
+  incoming_owes : (i : Incoming) (r : Record) → IsHeard i r b → IsMade i → Owes (after_incoming i r b) (fold after_mark slots (incoming_tickets i r b))
+  incoming_owes i (record_.Refused x) heard made = refused_owes i x
+  incoming_owes i record_.Received heard made = received_owes i heard made
+  incoming_owes i (record_.Ticket n) heard made = h
+  incoming_owes i (record_.Publish t n) heard made = h
+  incoming_owes i (record_.Frame f) heard made = h
+  incoming_owes i record_.NoFrame heard made = h
+  incoming_owes i record_.Passed heard made = h
+  incoming_owes i record_.Pending heard made = h
+  incoming_owes i (record_.Answer a) heard made = h
+  incoming_owes i (record_.Confirmed o) heard made = h
+  incoming_owes i (record_.State x y) heard made = h
+  incoming_owes i record_.Aside heard made = h
+  incoming_owes i (record_.Returned ms) heard made = h
+  incoming_owes i record_.Lost heard made = h
 
 -- ---- a frame leaves, or a ticket is let go
 
-begun_owes : (rs : Table) (slots : List (Option Slot)) (first : Bool) (t p : Option ℕ) → Owed rs slots → Owed rs (fold after_mark slots (begun_ticket first t p))
-begun_owes rs slots true (Some t) (Some n) h = same rs slots _ (begun_fewer slots t) h
-begun_owes rs slots true (Some t) None h = h
-begun_owes rs slots true None p h = h
-begun_owes rs slots false t p h = h
+begun_owes : (rs : Table) (cs : Channels) (slots : List (Option Slot)) (first : Bool) (t p : Option ℕ) → Owed rs cs slots → Owed rs cs (fold after_mark slots (begun_ticket first t p))
+begun_owes rs cs slots true (Some t) (Some n) h = same rs cs slots _ (begun_fewer slots t) h
+begun_owes rs cs slots true (Some t) None h = h
+begun_owes rs cs slots true None p h = h
+begun_owes rs cs slots false t p h = h
 
-last_owes : (rs : Table) (slots : List (Option Slot)) (last : Bool) (t : Option ℕ) → Owed rs slots → Owed rs (fold after_mark slots (last_ticket last t))
-last_owes rs slots true (Some t) h = same rs slots _ (left_fewer slots t) h
-last_owes rs slots true None h = h
-last_owes rs slots false t h = h
+last_owes : (rs : Table) (cs : Channels) (slots : List (Option Slot)) (last : Bool) (t : Option ℕ) → Owed rs cs slots → Owed rs cs (fold after_mark slots (last_ticket last t))
+last_owes rs cs slots true (Some t) h = same rs cs slots _ (left_fewer slots t) h
+last_owes rs cs slots true None h = h
+last_owes rs cs slots false t h = h
 
 left_owes : (o : Option Left) (b : Wire) (slots : List (Option Slot)) → Owes b slots → Owes (sent o b) (fold after_mark slots (left_tickets o))
 left_owes None b slots h = h
-left_owes (Some l) b slots h = subst (Owed b.requests) (sym (joined (begun_ticket l.first l.ticket l.publish) (last_ticket l.last l.ticket) slots)) (last_owes b.requests _ l.last l.ticket (begun_owes b.requests slots l.first l.ticket l.publish h))
+left_owes (Some l) b slots h = subst (Owed b.requests b.contents) (sym (joined (begun_ticket l.first l.ticket l.publish) (last_ticket l.last l.ticket) slots)) (last_owes b.requests b.contents _ l.last l.ticket (begun_owes b.requests b.contents slots l.first l.ticket l.publish h))
 
-gone_owes : (t : Bool) (n : ℕ) (m : TicketMark) (rs : Table) (slots : List (Option Slot)) → after_mark slots m ≡ with_under n None slots → Owed rs slots → Owed rs (fold after_mark slots (cond t (m ∷ []) []))
-gone_owes true n m rs slots e h = subst (Owed rs) (sym e) (same rs slots _ (gone_fewer slots n) h)
-gone_owes false n m rs slots e h = h
+gone_owes : (t : Bool) (n : ℕ) (m : TicketMark) (rs : Table) (cs : Channels) (slots : List (Option Slot)) → after_mark slots m ≡ with_under n None slots → Owed rs cs slots → Owed rs cs (fold after_mark slots (cond t (m ∷ []) []))
+gone_owes true n m rs cs slots e h = subst (Owed rs cs) (sym e) (same rs cs slots _ (gone_fewer slots n) h)
+gone_owes false n m rs cs slots e h = h
 
 -- ---- every event
 
 owes-anew : (w : World) (e : Event) → w.wire.tickets ≡ length w.slots → Owes w.wire w.slots → Owes (next_anew w e).wire (next_anew w e).slots
 owes-anew w (event.Call c k) n h = choose (is_allowed (asked k) (state_of c w.wire)) (after_call c (asked k) w.wire) w.wire (call_tickets c (asked k) w.wire) [] w.slots (call_owes c k w.wire w.slots n h) h
 owes-anew w (event.Next flow) n h = left_owes (handed flow w.wire) _ w.slots h
-owes-anew w (event.Receive f) n h = incoming_owes w.wire w.slots h (incoming_of f) (told_anew w (event.Receive f))
-owes-anew w (event.PollTicket m) n h = gone_owes (is_answer (told_anew w (event.PollTicket m))) m (ticket.Collected m) w.wire.requests w.slots refl h
+owes-anew w (event.Receive f) n h = incoming_owes w.wire w.slots h (incoming_of f) (told_anew w (event.Receive f)) (is_heard (incoming_of f) (told_anew w (event.Receive f)) w.wire (readings_of w.post w.slots) (frame_class f) (frame_method f) refl) (is_made f)
+owes-anew w (event.PollTicket m) n h = gone_owes (is_answer (told_anew w (event.PollTicket m))) m (ticket.Collected m) w.wire.requests w.wire.contents w.slots refl h
 owes-anew w (event.PollConfirm m) n h = h
-owes-anew w (event.AsideTicket m) n h = gone_owes (is_aside (told_anew w (event.AsideTicket m))) m (ticket.SetAside m) w.wire.requests w.slots refl h
+owes-anew w (event.PollWait c) n h = h
+owes-anew w (event.AsideConfirm m) n h = h
+owes-anew w (event.AsideTicket m) n h = gone_owes (is_aside (told_anew w (event.AsideTicket m))) m (ticket.SetAside m) w.wire.requests w.wire.contents w.slots refl h
 owes-anew w (event.State c) n h = h
 owes-anew w event.Lost n h = lost_owes w.wire w.slots h (is_lost w.wire.link)
 
@@ -279,5 +331,5 @@ none_given : (n : ℕ) (c : ℕ) (g : Bool) → IsOpen n [] c leaving.Nothing g 
 none_given zero c g x = cc
 none_given (suc n) c g x = cc
 
-pub owed_after : (n : ℕ) (es : List Event) (t c : ℕ) (g : Bool) → under t (world_after n es).slots ≡ Some (slot.Open c leaving.Nothing g) → IsRequested t c (world_after n es).wire
+pub owed_after : (n : ℕ) (es : List Event) (t c : ℕ) (g : Bool) → under t (world_after n es).slots ≡ Some (slot.Open c leaving.Nothing g) → IsOwed t c (world_after n es).wire
 owed_after n es = owes_from n [] (new_world n) es refl (stands_new n) (λ t c g x. absurd (none_given t c g x))

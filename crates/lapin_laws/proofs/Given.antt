@@ -16,7 +16,9 @@ use Rattle.lapin_history.specs.declared.broker_frames.Incoming.{Incoming}
 use Rattle.lapin_history.specs.declared.broker_frames.Incoming.TheVariants as incoming
 use Rattle.lapin_history.specs.ConfirmMarks.{ConfirmMark}
 use Rattle.lapin_history.specs.TicketReadings.{TicketMark, is_collected, answer_of}
-use Rattle.lapin_history.specs.ConfirmReadings.{is_taken, outcome_at}
+use Rattle.lapin_history.specs.ConfirmReadings.{outcome_at, is_finished, was_added}
+use Rattle.lapin_history.specs.ReturnReadings.{message_of}
+use Rattle.lapin_types.specs.declared.message.BasicReturnMessage.{BasicReturnMessage}
 use Rattle.lapin_history.specs.Calls.{asked}
 use Rattle.lapin_history.specs.Phases.{is_up}
 use Rattle.lapin_history.specs.Incoming.{incoming_of, frame_class, frame_method}
@@ -25,12 +27,13 @@ use Rattle.lapin_history.specs.Wire.{Wire, state_of, receives_on}
 use Rattle.lapin_history.specs.ChannelClose.{receives_close, receives_close_ok}
 use Rattle.lapin_history.specs.ConnectionClose.{receives_down}
 use Rattle.lapin_history.specs.Reply.{receives_reply}
+use Rattle.lapin_history.specs.Content.{receives_part}
 use Rattle.lapin_history.specs.Unexpected.{refused}
-use Rattle.lapin_history.specs.Polls.{confirmed}
+use Rattle.lapin_history.specs.Polls.{confirmed, is_waited_on, wait_record}
 use Rattle.lapin_history.specs.Asking.{is_allowed, accepted_record, call_record}
 use Rattle.lapin_history.specs.Receiving.{incoming_up, incoming_record}
 use Rattle.lapin_history.specs.Events.{confirm_marks, record_of}
-use Rattle.lapin_history.specs.History.{History, Past, longer, past, rec, run_from, run, polled_outcome, was_added, confirm_poll, polled_answer, was_given, ticket_poll, ticket_aside, readings_of}
+use Rattle.lapin_history.specs.History.{History, Past, longer, past, rec, run_from, run, polled_outcome, confirm_poll, confirm_aside, polled_answer, was_given, ticket_poll, ticket_aside, readings_of}
 use Rattle.lapin_machine.proofs.Standing.{past-push}
 use Rattle.lapin_laws.specs.Outgoing.{Point, Called, Requested, Ended, called_by, given_by, requested_by, ended_in, points_on, points, given_in, frames_in}
 
@@ -53,6 +56,7 @@ accepted_none (ask.Method row) b = refl
 incoming_none : (b : Wire) (readings : Readings) (class number : ℕ) (i : Incoming) → IsNoFrame (incoming_up b readings (refused class number) i)
 incoming_none b readings class number (incoming.Reply c k a) = either (receives_reply c k b) record_.Received (refused class number) refl refl
 incoming_none b readings class number (incoming.Settlement c s) = either (receives_on (state_of c b)) _ (refused class number) (either (readings.selected c) _ record_.Passed (either (s.multiple || readings.pending c s.tag) record_.Received _ refl refl) refl) refl
+incoming_none b readings class number (incoming.Content c p) = either (receives_part c p b) record_.Received (refused class number) refl refl
 incoming_none b readings class number (incoming.Flow c active) = either (receives_on (state_of c b)) record_.Received (refused class number) refl refl
 incoming_none b readings class number (incoming.ChannelClose c code) = either (receives_close (state_of c b)) record_.Received (refused class number) refl refl
 incoming_none b readings class number (incoming.ChannelCloseOk c) = either (receives_close_ok (state_of c b)) record_.Received (refused class number) refl refl
@@ -60,18 +64,21 @@ incoming_none b readings class number (incoming.ConnectionClose code) = refl
 incoming_none b readings class number incoming.ConnectionCloseOk = refl
 incoming_none b readings class number incoming.Other = refl
 
-confirmed_none : (o : Outcome) → IsNoFrame (confirmed o)
-confirmed_none outcome.NotRequested = refl
-confirmed_none outcome.Ack = refl
-confirmed_none outcome.Nack = refl
-confirmed_none (outcome.Failed e) = refl
+confirmed_none : (m : Option BasicReturnMessage) (o : Outcome) → IsNoFrame (confirmed m o)
+confirmed_none m outcome.NotRequested = refl
+confirmed_none m outcome.Ack = refl
+confirmed_none m outcome.Nack = refl
+confirmed_none m (outcome.Failed e) = refl
 
-outcome_none : (o : Option Outcome) → IsNoFrame (polled_outcome o)
-outcome_none None = refl
-outcome_none (Some o) = confirmed_none o
+outcome_none : (m : Option BasicReturnMessage) (o : Option Outcome) → IsNoFrame (polled_outcome m o)
+outcome_none m None = refl
+outcome_none m (Some o) = confirmed_none m o
 
 confirm_none : (ms : List ConfirmMark) (n : ℕ) → IsNoFrame (confirm_poll ms n)
-confirm_none ms n = either (was_added n ms) _ _ (either (is_taken n ms) _ _ refl (outcome_none (outcome_at n ms))) refl
+confirm_none ms n = either (was_added n ms) _ _ (either (is_finished n ms) _ _ refl (outcome_none (message_of n ms) (outcome_at n ms))) refl
+
+laid_none : (ms : List ConfirmMark) (n : ℕ) → IsNoFrame (confirm_aside ms n)
+laid_none ms n = either (was_added n ms) _ _ (either (is_finished n ms) _ _ refl refl) refl
 
 answer_none : (o : Option (Result Answer Error)) → IsNoFrame (polled_answer o)
 answer_none None = refl
@@ -108,6 +115,8 @@ given_requested b ms ts (event.Receive f) ps rs h =
     quiet (incoming_record b (readings_of ms ts) no (incoming_of f)) ps rs (either (is_up b.link) _ _ (incoming_none b (readings_of ms ts) (frame_class f) (frame_method f) (incoming_of f)) (either (receives_down b.link (incoming_of f)) record_.Received record_.Passed refl refl)) h
 given_requested b ms ts (event.PollTicket n) ps rs h = quiet (ticket_poll ts n) ps rs (ticket_none ts n) h
 given_requested b ms ts (event.PollConfirm n) ps rs h = quiet (confirm_poll ms n) ps rs (confirm_none ms n) h
+given_requested b ms ts (event.PollWait c) ps rs h = quiet (wait_record c b (readings_of ms ts)) ps rs (either (is_waited_on c b (readings_of ms ts)) record_.Pending _ refl refl) h
+given_requested b ms ts (event.AsideConfirm n) ps rs h = quiet (confirm_aside ms n) ps rs (laid_none ms n) h
 given_requested b ms ts (event.AsideTicket n) ps rs h = quiet (ticket_aside ts n) ps rs (aside_none ts n) h
 given_requested b ms ts (event.State c) ps rs h = h
 given_requested b ms ts event.Lost ps rs h = h

@@ -34,7 +34,8 @@ use Rattle.lapin_laws.proofs.Alive.{live_at, live-sent, Alive, Grows, AreAlive, 
 use Rattle.lapin_laws.proofs.Closes.{AreMarked, marks_sent}
 use Rattle.lapin_laws.proofs.Parts.{IsPart, Behind, part-first}
 use Rattle.lapin_laws.proofs.Cuts.{frames_of, cut_at, parses-ends, parses-calls}
-use Rattle.lapin_laws.proofs.Moving.{ArePlain, Sound, Moves, call_event, incoming_event, lost_event, ticket_event, aside_event, confirm_event, state_event}
+use Rattle.lapin_laws.proofs.Moving.{ArePlain, Sound, Moves}
+use Rattle.lapin_laws.proofs.EventMoves.{call_event, incoming_event, lost_event, ticket_event, aside_event, confirm_event, state_event, wait_event, laid_event}
 
 -- ---- a frame that leaves
 
@@ -137,6 +138,7 @@ sent_sound n b f rest methods plain alive lost marks s = record {
   rest = rest-grows b.link _ b.phases _ rest (grows_sent f b.link b.phases) alive;
   lost = λ h. lost (sym (lost_sent f b.link) ∙ h);
   closes = λ u. marks (sym (up_sent f b.link) ∙ u);
+  contents = λ d. s.contents (sym (up_sent f b.link) ∙ d);
 }
 
 abbrev NextGoes : ℕ → Bool → Wire → Type 0
@@ -220,7 +222,7 @@ module _ (n : ℕ) (t : Bool) (b : Wire) (s : Sound n b) where
       let is_max : after_handing t b ≡ record b { rest = rest_of b.frame_max p; methods = []; publishes = ps } = rw e (next_publish b p ps r m q) in
       let is : after_handing t b ≡ record b { rest = rest_of n p; methods = []; publishes = ps } = is_max ∙ ap (λ k. record b { rest = rest_of k p; methods = []; publishes = ps }) s.max in
       record {
-        sound = subst (Sound n) (sym is) (record { max = s.max; plain = tt; publishes = alive.1; rest = rest_alive n p b.link b.phases alive.0; lost = λ h. refl; closes = λ u. subst (AreMarked b.phases) m (s.closes u) });
+        sound = subst (Sound n) (sym is) (record { max = s.max; plain = tt; publishes = alive.1; rest = rest_alive n p b.link b.phases alive.0; lost = λ h. refl; closes = λ u. subst (AreMarked b.phases) m (s.closes u); contents = s.contents });
         parses = λ big. parsed n t b _ [] (p ∷ ps) (Some (left_publish p)) r q (rw e (handed_publish b p ps r m q)) is (begins n p ps big);
         down = λ d. ap (λ x. is_up x.link) is ∙ d;
         dead = λ d x a. let z : false ≡ true = x in cc;
@@ -276,7 +278,7 @@ entry_quiet f None first = frame_quiet f
 entry_quiet f (Some k) true = refl
 entry_quiet f (Some k) false = refl
 
-left_quiet : (o : Option Left) → ended_in (left_marks o) ≡ []
+pub left_quiet : (o : Option Left) → ended_in (left_marks o) ≡ []
 left_quiet None = refl
 left_quiet (Some l) = entry_quiet l.frame l.publish l.first
 
@@ -286,6 +288,8 @@ goes n b readings (event.Next flow) shut s = subst (λ cs. Goes n b (after_next 
 goes n b readings (event.Receive f) shut s = moves_go n b _ _ _ (incoming_event n b readings f shut s)
 goes n b readings (event.PollTicket m) shut s = moves_go n b _ _ _ (ticket_event n b readings m s)
 goes n b readings (event.PollConfirm m) shut s = moves_go n b _ _ _ (confirm_event n b readings m s)
+goes n b readings (event.PollWait c) shut s = moves_go n b _ _ _ (wait_event n b readings c s)
+goes n b readings (event.AsideConfirm m) shut s = moves_go n b _ _ _ (laid_event n b readings m s)
 goes n b readings (event.AsideTicket m) shut s = moves_go n b _ _ _ (aside_event n b readings m s)
 goes n b readings (event.State c) shut s = moves_go n b _ _ _ (state_event n b readings c s)
 goes n b readings event.Lost shut s = moves_go n b _ _ _ (lost_event n b readings shut s)

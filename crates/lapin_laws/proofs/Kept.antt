@@ -54,7 +54,7 @@ pub record Kept (n : ℕ) (b : Wire) : Type 0 where
   pub shut : IsShut b
 
 pub kept-next : (n : ℕ) (w : World) (e : Event) → Kept n w.wire → Kept n (next w e).wire
-kept-next n w e k = next_keeps (λ v. Kept n v.wire) w e (record { sound = (goes n w.wire (readings_of w.book w.slots) e k.shut k.sound).sound; shut = shut-next w.wire (readings_of w.book w.slots) e k.shut }) k
+kept-next n w e k = next_keeps (λ v. Kept n v.wire) w e (record { sound = (goes n w.wire (readings_of w.post w.slots) e k.shut k.sound).sound; shut = shut-next w.wire (readings_of w.post w.slots) e k.shut }) k
 
 kept_from : (n : ℕ) (w : World) (es : List Event) → Kept n w.wire → Kept n (fold next w es).wire
 kept_from n w [] k = k
@@ -68,7 +68,7 @@ run_sound n es = (run_kept n es).sound
 
 stays_from : (n : ℕ) (w : World) (es : List Event) → Kept n w.wire → is_up w.wire.link ≡ false → is_up (fold next w es).wire.link ≡ false
 stays_from n w [] k d = d
-stays_from n w (e ∷ es) k d = let g = goes n w.wire (readings_of w.book w.slots) e k.shut k.sound in stays_from n (next w e) es (kept-next n w e k) (next_keeps (λ v. is_up v.wire.link ≡ false) w e (g.down d) d)
+stays_from n w (e ∷ es) k d = let g = goes n w.wire (readings_of w.post w.slots) e k.shut k.sound in stays_from n (next w e) es (kept-next n w e k) (next_keeps (λ v. is_up v.wire.link ≡ false) w e (g.down d) d)
 
 pub stays_down : (n : ℕ) (es more : List Event) → is_up (world_after n es).wire.link ≡ false → is_up (fold next (world_after n es) more).wire.link ≡ false
 stays_down n es more = stays_from n (world_after n es) more (run_kept n es)
@@ -100,13 +100,15 @@ lost-next b readings (event.Next flow) h = sent_lost (handed flow b) _ h
 lost-next b readings (event.Receive f) h = incoming_lost readings (refused (frame_class f) (frame_method f)) (incoming_of f) b (is_link_lost b.link h)
 lost-next b readings (event.PollTicket n) h = h
 lost-next b readings (event.PollConfirm n) h = h
+lost-next b readings (event.PollWait c) h = h
 lost-next b readings (event.AsideTicket n) h = h
+lost-next b readings (event.AsideConfirm n) h = h
 lost-next b readings (event.State c) h = h
 lost-next b readings event.Lost h = rw h h
 
 pub stays_lost : (w : World) (es : List Event) → is_lost w.wire.link ≡ true → is_lost (fold next w es).wire.link ≡ true
 stays_lost w [] h = h
-stays_lost w (e ∷ es) h = stays_lost (next w e) es (next_keeps (λ v. is_lost v.wire.link ≡ true) w e (lost-next w.wire (readings_of w.book w.slots) e h) h)
+stays_lost w (e ∷ es) h = stays_lost (next w e) es (next_keeps (λ v. is_lost v.wire.link ≡ true) w e (lost-next w.wire (readings_of w.post w.slots) e h) h)
 
 -- ---- what waits, and what a frame request gives
 
@@ -179,7 +181,7 @@ pub ends_leave_none : (n : ℕ) (es : List Event) (e : Event) (c : ℕ) → list
 ends_leave_none n es e c h =
     let w : World = world_after n es in
     let k : Kept n w.wire = run_kept n es in
-    let step = goes n w.wire (readings_of w.book w.slots) e k.shut k.sound in
+    let step = goes n w.wire (readings_of w.post w.slots) e k.shut k.sound in
     let none : w.returned ≡ None = unreturned_after n es in
     let marked = ap (λ r. list_any (is_channel c) (ended_in (confirm_marks w.wire e r))) (sym (told_none w e none)) ∙ h in
     let P : World → Type 0 = λ v. is_live_on v.wire.link (at_channel c v.wire.phases) ≡ false in

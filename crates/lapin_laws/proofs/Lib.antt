@@ -5,6 +5,7 @@ pub mod Closes
 pub mod Rows
 pub mod Cuts
 pub mod Moving
+pub mod EventMoves
 pub mod Going
 pub mod Kept
 pub mod Losing
@@ -14,5 +15,7 @@ pub mod Given
 pub mod Queue
 pub mod Waits
 pub mod Opens
+pub mod Expecting
 pub mod Owing
+pub mod Contents
 pub mod Debts

@@ -25,6 +25,9 @@ use Rattle.lapin_history.specs.declared.broker_frames.Incoming.TheVariants as in
 use Rattle.lapin_history.specs.TicketReadings.{TicketMark}
 use Rattle.lapin_history.specs.TicketReadings as ticket
 use Rattle.lapin_history.specs.Words.{with_channel}
+use Rattle.lapin_history.specs.declared.broker_frames.ContentPart.{ContentPart}
+use Rattle.lapin_history.specs.declared.broker_frames.ContentPart.TheVariants as part
+use Rattle.lapin_history.specs.Content.{after_part}
 use Rattle.lapin_history.specs.Phases.{is_lost}
 use Rattle.lapin_history.specs.Calls.{asked}
 use Rattle.lapin_history.specs.Incoming.{incoming_of, frame_class, frame_method}
@@ -114,9 +117,16 @@ connection_closed (link.Closing false x) b = refl
 connection_closed link.Closed b = refl
 connection_closed link.Lost b = refl
 
+part_received : (c : ℕ) (p : ContentPart) (b : Wire) → NotLost b → NotLost (after_part c p b)
+part_received c (part.GetOk x) b h = h
+part_received c (part.Return x) b h = h
+part_received c (part.Header x) b h = h
+part_received c (part.Body bytes) b h = h
+
 received : (i : Incoming) (b : Wire) → NotLost b → NotLost (after_received i b)
 received (incoming.Reply c k a) b h = h
 received (incoming.Settlement c z) b h = h
+received (incoming.Content c p) b h = part_received c p b h
 received (incoming.Flow c active) b h = either (is_open (state_of c b)) (noted c (method.Channel (channel.FlowOk active)) (record b { phases = with_channel c (phase.Open (not active)) b.phases })) b h h
 received (incoming.ChannelClose c code) b h = h
 received (incoming.ChannelCloseOk c) b h = close_answered c (phase_of c b) b h
@@ -127,6 +137,7 @@ received incoming.Other b h = h
 failed : (i : Incoming) (b : Wire) → NotLost b → NotLost (after_failed i b)
 failed (incoming.Settlement c z) b h = either (is_open (state_of c b)) (noted c (session_close z.kind) (closing c closer.Session b)) b h h
 failed (incoming.Reply c k a) b h = h
+failed (incoming.Content c p) b h = h
 failed (incoming.Flow c active) b h = h
 failed (incoming.ChannelClose c code) b h = h
 failed (incoming.ChannelCloseOk c) b h = h
@@ -158,6 +169,7 @@ incoming_not_lost i (record_.Answer a) b h = h
 incoming_not_lost i (record_.Confirmed o) b h = h
 incoming_not_lost i (record_.State x y) b h = h
 incoming_not_lost i record_.Aside b h = h
+incoming_not_lost i (record_.Returned ms) b h = h
 incoming_not_lost i record_.Lost b h = h
 
 -- ---- every event
@@ -202,10 +214,12 @@ answered-anew n w (event.Next flow) s h = λ l.
     let was : is_lost w.wire.link ≡ true = sent_back (handed flow w.wire) _ l in
     let none : handed flow w.wire ≡ None = handed_none n flow w s was in
     rw none (h was)
-answered-anew n w (event.Receive f) s h = incoming_answered (incoming_of f) (readings_of w.book w.slots) (refused (frame_class f) (frame_method f)) w.wire w.slots h
+answered-anew n w (event.Receive f) s h = incoming_answered (incoming_of f) (readings_of w.post w.slots) (refused (frame_class f) (frame_method f)) w.wire w.slots h
 answered-anew n w (event.PollTicket m) s h = λ l. polled_none _ m (ticket.Collected m) w.slots refl (h l)
 answered-anew n w (event.AsideTicket m) s h = λ l. polled_none _ m (ticket.SetAside m) w.slots refl (h l)
 answered-anew n w (event.PollConfirm m) s h = h
+answered-anew n w (event.PollWait c) s h = h
+answered-anew n w (event.AsideConfirm m) s h = h
 answered-anew n w (event.State c) s h = h
 answered-anew n w event.Lost s h = λ l. lost_answered w.wire w.slots h
 

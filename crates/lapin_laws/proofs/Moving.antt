@@ -1,16 +1,14 @@
--- What every event but a frame request does to the lists that wait, to the openings and to the connection.
-use Rattle.std.proofs.Common.{◌≡◌, ℕ, Bool, true, false, cond, not, ◌==◌, ◌||◌, ◌&&◌, List, [], ◌∷◌, ◌++◌, refl, sym, ◌∙◌, ap, subst, None, inl, inr}
+-- What calls, frames of the broker and a loss do to the lists that wait, to the openings and to the connection.
+use Rattle.std.proofs.Common.{◌≡◌, ℕ, Bool, true, false, cond, not, ◌==◌, ◌||◌, ◌&&◌, List, [], Option, Some, None, ◌∷◌, ◌++◌, refl, sym, ◌∙◌, ap, subst, inl, inr}
 use Rattle.std.specs.List.{filter, list_any}
 use Rattle.std.proofs.lemmas.Bool.Decides.{eqb_tells}
-use Rattle.lapin_types.specs.declared.event.Event.{Event}
-use Rattle.lapin_types.specs.declared.event.Event.TheVariants as event
 use Rattle.lapin_types.specs.declared.record.Record.{Record}
 use Rattle.lapin_types.specs.declared.record.Record.TheVariants as record_
 use Rattle.lapin_types.specs.declared.leaving.Publish.{Publish}
 use Rattle.lapin_types.specs.declared.request.ReplyKind.{ReplyKind}
+use Rattle.lapin_types.specs.declared.request.ReplyKind.TheVariants as reply_kind
 use Rattle.lapin_types.specs.declared.answer.Answer.{Answer}
-use Rattle.lapin_types.specs.declared.call.Call.{Call}
-use Rattle.lapin_types.specs.Types.{Frame, ChannelState, Error}
+use Rattle.lapin_types.specs.Types.{ChannelState, Error}
 use Rattle.lapin_types.specs.Types.channel_state as state
 use Rattle.lapin_types.specs.Types.error
 use Rattle.lapin_types.specs.Types.frame
@@ -29,12 +27,11 @@ use Rattle.lapin_history.specs.declared.broker_frames.Incoming.{Incoming}
 use Rattle.lapin_history.specs.declared.broker_frames.Incoming.TheVariants as incoming
 use Rattle.lapin_history.specs.ConfirmMarks as mark
 use Rattle.lapin_history.specs.Words.{is_some, with_channel}
-use Rattle.lapin_history.specs.Incoming.{incoming_of, frame_class, frame_method}
 use Rattle.lapin_history.specs.Phases.{is_up, is_lost, is_live, channel_state}
 use Rattle.lapin_history.specs.Requests.{first_request}
 use Rattle.lapin_history.specs.Frames.{MethodEntry, RestEntry}
 use Rattle.lapin_history.specs.Drops.{is_off, is_rest_of, method_channel, publish_channel}
-use Rattle.lapin_history.specs.Ends.{live_channels, ends_all, end_with, down}
+use Rattle.lapin_history.specs.Ends.{live_channels, ends_all, end_with}
 use Rattle.lapin_history.specs.Readings.{Readings}
 use Rattle.lapin_history.specs.Wire.{Wire, start, requests_of, state_of, phase_of, is_open, is_opening, noted, lists_of, receives_on}
 use Rattle.lapin_history.specs.Opening.{opens}
@@ -44,22 +41,24 @@ use Rattle.lapin_history.specs.Settlement.{settlement_record, session_close}
 use Rattle.lapin_history.specs.Select.{is_select}
 use Rattle.lapin_history.specs.Reply.{receives, receives_reply}
 use Rattle.lapin_history.specs.Flow.{after_flow}
-use Rattle.lapin_history.specs.Polls.{is_confirmed}
+use Rattle.lapin_history.specs.declared.broker_frames.ContentPart.{ContentPart}
+use Rattle.lapin_history.specs.declared.broker_frames.ContentPart.TheVariants as part
+use Rattle.lapin_content.specs.declared.start.Start.{Start}
+use Rattle.lapin_content.specs.declared.start.Start.TheVariants as start_
+use Rattle.lapin_content.specs.declared.start.Whole.{Whole}
+use Rattle.lapin_history.specs.Content.{receives_part, after_part, start_marks, whole_marks, whole_on}
 use Rattle.lapin_history.specs.Unexpected.{refused}
-use Rattle.lapin_history.specs.Loss.{after_lost}
-use Rattle.lapin_history.specs.Calls.{asked}
 use Rattle.lapin_history.specs.Asking.{is_allowed, accepted_record, call_record, after_call, after_asking, call_marks, asking_marks}
 use Rattle.lapin_history.specs.Receiving.{when, incoming_up, incoming_record, after_incoming, incoming_marks}
-use Rattle.lapin_history.specs.Events.{record_of, after_event, confirm_marks}
 use Rattle.lapin_machine.specs.Stands.{IsShut}
 use Rattle.lapin_laws.specs.Closes.{is_channel_close, is_unsent}
-use Rattle.lapin_laws.specs.Outgoing.{published_by, called_by, ended_in, is_channel}
+use Rattle.lapin_laws.specs.Outgoing.{published_by, ended_in, is_channel}
 use Rattle.lapin_laws.specs.Unbroken.{is_publish}
 use Rattle.lapin_laws.proofs.Alive.{live_at, live-with, Grows, grows-with, grows-dead, AreAlive, alive-grows, alive-filter, alive-off, alive-push, none_alive, IsRestAlive, rest-grows, rest-off, none_begun, Alive}
 use Rattle.lapin_laws.proofs.Closes.{AreMarked, marks_noted, marks_moved, marks_closing, marks_ended, broker_unsent, closed_unsent, open_unsent, opening_unsent}
 use Rattle.lapin_laws.proofs.Parts.{IsPart, part-filter, part-push, part-same}
 use Rattle.lapin_laws.proofs.Cuts.{frames_of, cut_at, cut-rest, cut-nil, cut-all, ended-ends, live-in}
-use Rattle.lapin_laws.proofs.Rows.{IsPlainRow, row_plain}
+use Rattle.lapin_laws.proofs.Rows.{IsPlainRow}
 
 -- ---- what is kept
 
@@ -83,6 +82,7 @@ pub record Sound (n : ℕ) (b : Wire) : Type 0 where
   pub rest : IsRestAlive b.link b.phases b.rest
   pub lost : is_lost b.link ≡ true → b.methods ≡ []
   pub closes : is_up b.link ≡ true → AreMarked b.phases b.methods
+  pub contents : is_up b.link ≡ false → b.contents ≡ []
 
 pub shut_refuses : (k : Asked) → is_allowed k state.Down ≡ false
 shut_refuses ask.Open = refl
@@ -119,11 +119,14 @@ pub record Moves (n : ℕ) (b b' : Wire) (cs : List ℕ) (qs : List Publish) : T
   pub down : is_up b.link ≡ false → is_up b'.link ≡ false
   pub dead : (c : ℕ) → list_any (is_channel c) cs ≡ true → Alive b'.link b'.phases c → ⊥
 
-same : (n : ℕ) (b : Wire) → Sound n b → Moves n b b [] []
+pub same : (n : ℕ) (b : Wire) → Sound n b → Moves n b b [] []
 same n b s = record { sound = s; part = λ calls p. part-same b.publishes calls p; cut = refl; down = λ d. d; dead = λ d h a. let z : false ≡ true = h in cc }
 
 up_not_lost : (l : ConnectionPhase) → l ≡ link.Open → is_lost l ≡ true → ⊥
 up_not_lost l e h = let x : is_lost link.Open ≡ true = rw e at h in cc
+
+up_not_down : (l : ConnectionPhase) → l ≡ link.Open → is_up l ≡ false → ⊥
+up_not_down l e h = let x : is_up link.Open ≡ false = rw e at h in cc
 
 -- nothing ends, and the connection stays open
 keeps : (n : ℕ) (b b' : Wire) → b.link ≡ link.Open → b'.link ≡ b.link → b'.frame_max ≡ b.frame_max → b'.publishes ≡ b.publishes → b'.rest ≡ b.rest → (ArePlain b.methods → ArePlain b'.methods) → Grows b.link b.phases b'.link b'.phases → (AreMarked b.phases b.methods → AreMarked b'.phases b'.methods) → Sound n b → Moves n b b' [] []
@@ -135,6 +138,7 @@ keeps n b b' e l m p r plain g marks s = record {
     rest = subst (IsRestAlive b'.link b'.phases) (sym r) (rest-grows b.link b'.link b.phases b'.phases b.rest g s.rest);
     lost = λ h. absurd (up_not_lost b'.link (l ∙ e) h);
     closes = λ u. marks (s.closes (ap is_up e));
+    contents = λ d. absurd (up_not_down b'.link (l ∙ e) d);
   };
   part = λ calls h. let P : List Publish → Type 0 = λ xs. IsPart xs (calls ++ []) in subst P (sym p) (part-same b.publishes calls h);
   cut = ap frames_of r;
@@ -156,6 +160,7 @@ closes n c who b b' e l m p r ph plain entry ms on is unsent s =
         publishes = subst (AreAlive b'.link b'.phases) (sym p) (alive-filter (is_off publish_channel c) b'.link b'.phases b.publishes (alive-grows b.link b'.link b.phases b'.phases b.publishes g s.publishes));
         rest = subst (IsRestAlive b'.link b'.phases) (sym r) (rest-grows b.link b'.link b.phases b'.phases b.rest g s.rest);
         lost = λ h. absurd (up_not_lost b'.link (l ∙ e) h);
+        contents = λ d. absurd (up_not_down b'.link (l ∙ e) d);
         closes = λ u. rw (ph, ms) (marks_closing c (phase.Closing who false) b.phases b.methods entry unsent refl on is (s.closes (ap is_up e)));
       };
       part = λ calls h. let P : List Publish → Type 0 = λ xs. IsPart xs (calls ++ []) in subst P (sym p) (part-same _ calls (part-filter (is_off publish_channel c) b.publishes calls h));
@@ -174,6 +179,7 @@ ends_one n c p b b' e l m q r ph plain marks over s = record {
     rest = rw (l, ph, r) (rest-off c p b.link b.phases b.rest s.rest);
     lost = λ h. absurd (up_not_lost b'.link (l ∙ e) h);
     closes = λ u. marks (s.closes (ap is_up e));
+    contents = λ d. absurd (up_not_down b'.link (l ∙ e) d);
   };
   part = λ calls h. let P : List Publish → Type 0 = λ xs. IsPart xs (calls ++ []) in subst P (sym q) (part-same _ calls (part-filter (is_off publish_channel c) b.publishes calls h));
   cut = ap frames_of r ∙ cut-rest c b.rest;
@@ -186,8 +192,8 @@ cut_down : (b : Wire) (rest : List RestEntry) → IsRestAlive b.link b.phases re
 cut_down b [] h = sym (cut-nil (live_channels b.phases))
 cut_down b (f ∷ fs) h = sym (cut-all f.frame (frames_of fs) (live_channels b.phases) (live-in _ b.phases h.0.1))
 
-falls : (n : ℕ) (x : Error) (b b' : Wire) → is_up b'.link ≡ false → b'.frame_max ≡ b.frame_max → b'.publishes ≡ [] → b'.rest ≡ [] → ArePlain b'.methods → (is_lost b'.link ≡ true → b'.methods ≡ []) → Sound n b → Moves n b b' (ended_in (ends_all x b)) []
-falls n x b b' d m p r plain lost s = record {
+pub falls : (n : ℕ) (x : Error) (b b' : Wire) → is_up b'.link ≡ false → b'.frame_max ≡ b.frame_max → b'.publishes ≡ [] → b'.rest ≡ [] → b'.contents ≡ [] → ArePlain b'.methods → (is_lost b'.link ≡ true → b'.methods ≡ []) → Sound n b → Moves n b b' (ended_in (ends_all x b)) []
+falls n x b b' d m p r none plain lost s = record {
   sound = record {
     max = m ∙ s.max;
     plain = plain;
@@ -195,6 +201,7 @@ falls n x b b' d m p r plain lost s = record {
     rest = rw r tt;
     lost = lost;
     closes = λ u. let z : true ≡ false = sym u ∙ d in absurd cc;
+    contents = λ _. none;
   };
   part = λ calls h. rw p tt;
   cut = ap frames_of r ∙ (cut_down b b.rest s.rest ∙ ap (λ cs. cut_at cs (frames_of b.rest)) (sym (ended-ends x (live_channels b.phases))));
@@ -203,14 +210,14 @@ falls n x b b' d m p r plain lost s = record {
 }
 
 -- the connection is closing already
-sinks : (n : ℕ) (b b' : Wire) → is_up b.link ≡ false → is_up b'.link ≡ false → is_lost b'.link ≡ false → b'.frame_max ≡ b.frame_max → (b.publishes ≡ [] → b'.publishes ≡ []) → (b.rest ≡ [] → b'.rest ≡ []) → (ArePlain b.methods → ArePlain b'.methods) → Sound n b → Moves n b b' [] []
-sinks n b b' d d' live m p r plain s =
+sinks : (n : ℕ) (b b' : Wire) → is_up b.link ≡ false → is_up b'.link ≡ false → is_lost b'.link ≡ false → b'.frame_max ≡ b.frame_max → (b.publishes ≡ [] → b'.publishes ≡ []) → (b.rest ≡ [] → b'.rest ≡ []) → (ArePlain b.methods → ArePlain b'.methods) → b'.contents ≡ b.contents → Sound n b → Moves n b b' [] []
+sinks n b b' d d' live m p r plain cs s =
     let was : b.rest ≡ [] = none_begun b.link b.phases b.rest d s.rest in
     let none : b'.rest ≡ [] = r was in
     let was_empty : b.publishes ≡ [] = none_alive b.link b.phases b.publishes d s.publishes in
     let empty : b'.publishes ≡ [] = p was_empty in
     record {
-      sound = record { max = m ∙ s.max; plain = plain s.plain; publishes = rw empty tt; rest = rw none tt; lost = λ h. let z : true ≡ false = sym h ∙ live in absurd cc; closes = λ u. let z : true ≡ false = sym u ∙ d' in absurd cc };
+      sound = record { max = m ∙ s.max; plain = plain s.plain; publishes = rw empty tt; rest = rw none tt; lost = λ h. let z : true ≡ false = sym h ∙ live in absurd cc; closes = λ u. let z : true ≡ false = sym u ∙ d' in absurd cc; contents = λ _. cs ∙ s.contents d };
       part = λ calls h. rw empty tt;
       cut = ap frames_of none ∙ ap frames_of (sym was);
       down = λ _. d';
@@ -245,6 +252,7 @@ joins n b b' q e l m p r ms ph live s = record {
     rest = rw (l, ph, r) s.rest;
     lost = λ h. absurd (up_not_lost b'.link (l ∙ e) h);
     closes = λ u. rw (ph, ms) (s.closes (ap is_up e));
+    contents = λ d. absurd (up_not_down b'.link (l ∙ e) d);
   };
   part = λ calls h. rw p (part-push b.publishes calls q h);
   cut = ap frames_of r;
@@ -252,7 +260,7 @@ joins n b b' q e l m p r ms ph live s = record {
   dead = λ d h a. let z : false ≡ true = h in cc;
 }
 
-queued_quiet : (t : Bool) (c : ℕ) → ended_in (cond t (mark.SelectCalled c ∷ []) []) ≡ []
+pub queued_quiet : (t : Bool) (c : ℕ) → ended_in (cond t (mark.SelectCalled c ∷ []) []) ≡ []
 queued_quiet true c = refl
 queued_quiet false c = refl
 
@@ -262,7 +270,7 @@ CallMoves n c k b = Moves n b (after_call c k b) (ended_in (call_marks c k b)) (
 call_up : (n c : ℕ) (k : Asked) (b : Wire) → b.link ≡ link.Open → is_allowed k (cond (c == 0) state.Base (channel_state (phase_of c b))) ≡ true → IsPlainRow c k → Sound n b → CallMoves n c k b
 call_up n c ask.Open b e a plain s = keeps n b _ e refl refl refl refl (plain-push b.methods _ refl) (grows-with c phase.Opening b.link b.phases refl) (λ h. marks_noted _ b.methods _ refl (marks_moved c phase.Opening b.phases b.methods (closed_unsent (c == 0) (phase_of c b) a) refl h)) s
 call_up n c (ask.CloseChannel code text) b e a plain s = closes n c closer.Application b _ e refl refl refl refl refl (plain-push b.methods _ refl) _ refl refl refl (open_unsent (c == 0) (phase_of c b) a) s
-call_up n c (ask.CloseConnection code text) b e a plain s = falls n _ b _ refl refl refl refl (refl, tt) (λ h. cc) s
+call_up n c (ask.CloseConnection code text) b e a plain s = falls n _ b _ refl refl refl refl refl (refl, tt) (λ h. cc) s
 call_up n c (ask.Publish exchange key o payload properties) b e a plain s = joins n b _ _ e refl refl refl refl refl refl (open_here (c == 0) (phase_of c b) a) s
 call_up n c (ask.Method row) b e a plain s =
     let moves : Moves n b (after_call c (ask.Method row) b) [] [] = keeps n b _ e refl refl refl refl (plain-push b.methods _ plain.0) (same_grows b.link b.phases) (marks_noted b.phases b.methods _ plain.1) s in
@@ -275,7 +283,7 @@ refused_none c (ask.CloseConnection code text) x = refl
 refused_none c (ask.Publish exchange key o payload properties) x = refl
 refused_none c (ask.Method row) x = refl
 
-call_moves : (n c : ℕ) (k : Asked) (b : Wire) → IsPlainRow c k → Sound n b → Moves n b (after_asking c k b) (ended_in (asking_marks c k b)) (published_by c k (call_record c k b))
+pub call_moves : (n c : ℕ) (k : Asked) (b : Wire) → IsPlainRow c k → Sound n b → Moves n b (after_asking c k b) (ended_in (asking_marks c k b)) (published_by c k (call_record c k b))
 call_moves n c k b plain s = elim (is_allowed k (state_of c b)) as (λ t. is_allowed k (state_of c b) ≡ t → Moves n b (cond t (after_call c k b) b) (ended_in (cond t (call_marks c k b) [])) (published_by c k (cond t (accepted_record k b) (record_.Refused (error.InvalidChannelState (state_of c b)))))) [
   | true ↦ λ a. let e = allowed_up b.link k (cond (c == 0) state.Base (channel_state (phase_of c b))) a in call_up n c k b e (rw e at a) plain s
   | false ↦ λ a. subst (Moves n b b []) (sym (refused_none c k (error.InvalidChannelState (state_of c b)))) (same n b s)
@@ -297,15 +305,25 @@ up_open link.Closed h = cc
 up_open link.Lost h = cc
 
 -- where no channel stands open, no opening ends
-no_ends : (x : Error) (b : Wire) → b.phases ≡ [] → [] ≡ ended_in (ends_all x b)
+pub no_ends : (x : Error) (b : Wire) → b.phases ≡ [] → [] ≡ ended_in (ends_all x b)
 no_ends x b none = rw none refl
+
+-- contents: a whole one ends no opening
+start_quiet : (c : ℕ) (x : Start) (w : Whole) → ended_in (start_marks c x w) ≡ []
+start_quiet c (start_.Return code text exchange key) w = refl
+start_quiet c (start_.Get ticket tag exchange key redelivered count) w = refl
+start_quiet c (start_.Deliver consumer tag exchange key redelivered) w = refl
+
+pub whole_quiet : (c : ℕ) (w : Option Whole) → ended_in (whole_marks c w) ≡ []
+whole_quiet c None = refl
+whole_quiet c (Some w) = start_quiet c w.start w
 
 module _ (class number : ℕ) where
   abbrev no : Record
   no = refused class number
 
   unreceived : (n : ℕ) (b : Wire) (i : Incoming) → Sound n b → Hears n b i no
-  unreceived n b i s = falls n _ b _ refl refl refl refl (refl, tt) (λ h. cc) s
+  unreceived n b i s = falls n _ b _ refl refl refl refl refl (refl, tt) (λ h. cc) s
 
   grows_opened : (c : ℕ) (t : Bool) (l : ConnectionPhase) (ps : List (ℕ × ChannelPhase)) → Grows l ps l (cond t (with_channel c (phase.Open false) ps) ps)
   grows_opened c true l ps = grows-with c (phase.Open false) l ps refl
@@ -384,13 +402,26 @@ module _ (class number : ℕ) where
     | false ↦ unreceived n b (incoming.Settlement c z) s
   ]
 
+  part_moves : (n c : ℕ) (p : ContentPart) (b : Wire) → b.link ≡ link.Open → receives_part c p b ≡ true → Sound n b → Hears n b (incoming.Content c p) record_.Received
+  part_moves n c (part.GetOk x) b e h s = keeps n b _ e refl refl refl refl (λ y. y) (grows_opened c (opens reply_kind.BasicGetOk) b.link b.phases) (marks_opened c (opens reply_kind.BasicGetOk) b (rw (state_up c b e) at (both (receives reply_kind.BasicGetOk (state_of c b)) (is_some (first_request reply_kind.BasicGetOk (requests_of c b))) h))) s
+  part_moves n c (part.Return x) b e h s = keeps n b _ e refl refl refl refl (λ y. y) (same_grows b.link b.phases) (λ y. y) s
+  part_moves n c (part.Header x) b e h s = subst (λ cs. Moves n b (after_part c (part.Header x) b) cs []) (sym (whole_quiet c (whole_on c (part.Header x) b))) (keeps n b _ e refl refl refl refl (λ y. y) (same_grows b.link b.phases) (λ y. y) s)
+  part_moves n c (part.Body bytes) b e h s = subst (λ cs. Moves n b (after_part c (part.Body bytes) b) cs []) (sym (whole_quiet c (whole_on c (part.Body bytes) b))) (keeps n b _ e refl refl refl refl (λ y. y) (same_grows b.link b.phases) (λ y. y) s)
+
+  part_receives : (n c : ℕ) (p : ContentPart) (b : Wire) → b.link ≡ link.Open → Sound n b → Hears n b (incoming.Content c p) (when (receives_part c p b) no)
+  part_receives n c p b e s = elim (receives_part c p b) as (λ t. receives_part c p b ≡ t → Hears n b (incoming.Content c p) (when t no)) [
+    | true ↦ λ h. part_moves n c p b e h s
+    | false ↦ λ h. unreceived n b (incoming.Content c p) s
+  ] refl
+
   up_receives : (n : ℕ) (b : Wire) (readings : Readings) (i : Incoming) → b.link ≡ link.Open → Sound n b → Hears n b i (incoming_up b readings no i)
   up_receives n b readings (incoming.Reply c k a) e s = reply_receives n c k a b e s
   up_receives n b readings (incoming.Settlement c z) e s = settlement_receives n c z readings b e s
+  up_receives n b readings (incoming.Content c p) e s = part_receives n c p b e s
   up_receives n b readings (incoming.Flow c active) e s = flow_receives n c active b e s
   up_receives n b readings (incoming.ChannelClose c code) e s = close_receives n c code b e s
   up_receives n b readings (incoming.ChannelCloseOk c) e s = close_ok_receives n c b e s
-  up_receives n b readings (incoming.ConnectionClose code) e s = subst (λ l. Moves n b (after_connection_close l b) (ended_in (ends_all (error.ProtocolError code) b)) []) (sym e) (falls n (error.ProtocolError code) b _ refl refl refl refl (refl, tt) (λ h. cc) s)
+  up_receives n b readings (incoming.ConnectionClose code) e s = subst (λ l. Moves n b (after_connection_close l b) (ended_in (ends_all (error.ProtocolError code) b)) []) (sym e) (falls n (error.ProtocolError code) b _ refl refl refl refl refl (refl, tt) (λ h. cc) s)
   up_receives n b readings incoming.ConnectionCloseOk e s = unreceived n b incoming.ConnectionCloseOk s
   up_receives n b readings incoming.Other e s = unreceived n b incoming.Other s
 
@@ -401,7 +432,7 @@ module _ (class number : ℕ) where
   down_receives n link.Open b i e d none s = absurd cc
   down_receives n link.Closed b i e d none s = same n b s
   down_receives n link.Lost b i e d none s = same n b s
-  down_receives n (link.Closing x was) b incoming.ConnectionCloseOk e d none s = sinks n b _ (rw e refl) refl refl refl (unsent_publishes (has_sent b.link)) (unsent_rest (has_sent b.link)) (unsent_plain (has_sent b.link)) s
+  down_receives n (link.Closing x was) b incoming.ConnectionCloseOk e d none s = sinks n b _ (rw e refl) refl refl refl (unsent_publishes (has_sent b.link)) (unsent_rest (has_sent b.link)) (unsent_plain (has_sent b.link)) refl s
     where
       unsent_publishes : (t : Bool) → b.publishes ≡ [] → (unless_sent t (lists_of b)).publishes ≡ []
       unsent_publishes true h = h
@@ -418,58 +449,25 @@ module _ (class number : ℕ) where
   down_receives n (link.Closing true false) b (incoming.ConnectionClose code) e d none s =
       let shut : is_up b.link ≡ false = rw e refl in
       let D : ConnectionPhase → List ℕ → Type 0 = λ l cs. Moves n b (after_connection_close l b) cs [] in
-      subst (D b.link) (no_ends (error.ProtocolError code) b none) (subst (λ l. D l []) (sym e) (sinks n b _ shut refl refl refl (λ h. h) (λ h. h) (plain-push b.methods _ refl) s))
+      subst (D b.link) (no_ends (error.ProtocolError code) b none) (subst (λ l. D l []) (sym e) (sinks n b _ shut refl refl refl (λ h. h) (λ h. h) (plain-push b.methods _ refl) refl s))
   down_receives n (link.Closing false false) b (incoming.ConnectionClose code) e d none s =
       let D : ConnectionPhase → List ℕ → Type 0 = λ l cs. Moves n b (after_connection_close l b) cs [] in
-      subst (λ l. D l (ended_in (ends_all (error.ProtocolError code) b))) (sym e) (falls n (error.ProtocolError code) b _ refl refl refl refl (refl, tt) (λ h. cc) s)
+      subst (λ l. D l (ended_in (ends_all (error.ProtocolError code) b))) (sym e) (falls n (error.ProtocolError code) b _ refl refl refl refl refl (refl, tt) (λ h. cc) s)
   down_receives n (link.Closing x was) b (incoming.Reply c k a) e d none s = same n b s
   down_receives n (link.Closing x was) b (incoming.Settlement c z) e d none s = same n b s
+  down_receives n (link.Closing x was) b (incoming.Content c p) e d none s = same n b s
   down_receives n (link.Closing x was) b (incoming.Flow c active) e d none s = same n b s
   down_receives n (link.Closing x was) b (incoming.ChannelClose c code) e d none s = same n b s
   down_receives n (link.Closing x was) b (incoming.ChannelCloseOk c) e d none s = same n b s
   down_receives n (link.Closing x was) b incoming.Other e d none s = same n b s
 
-  incoming_moves : (n : ℕ) (l : ConnectionPhase) (b : Wire) (readings : Readings) (i : Incoming) → b.link ≡ l → IsShut b → Sound n b → Hears n b i (incoming_record b readings no i)
+  pub incoming_moves : (n : ℕ) (l : ConnectionPhase) (b : Wire) (readings : Readings) (i : Incoming) → b.link ≡ l → IsShut b → Sound n b → Hears n b i (incoming_record b readings no i)
   incoming_moves n l b readings i e shut s = subst (Hears n b i) (sym (incoming_is b readings i l e)) (elim (is_up l) as (λ t. is_up l ≡ t → Hears n b i (cond t (incoming_up b readings no i) (cond (receives_down l i) record_.Received record_.Passed))) [
     | true ↦ λ u. up_receives n b readings i (e ∙ up_open l u) s
     | false ↦ λ u. down_receives n l b i e u (shut (ap is_up e ∙ u)) s
   ] refl)
 
--- ---- every event but a frame request
-
-lost_moves : (n : ℕ) (b : Wire) → IsShut b → Sound n b → Moves n b (after_lost b) (ended_in (ends_all error.ConnectionLost b)) []
-lost_moves n b shut s = elim (is_lost b.link) as (λ t. is_lost b.link ≡ t → Moves n b (cond t b (down link.Lost b)) (ended_in (ends_all error.ConnectionLost b)) []) [
-  | true ↦ λ h. subst (λ cs. Moves n b b cs []) (no_ends error.ConnectionLost b (shut (lost_not_up b.link h))) (same n b s)
-  | false ↦ λ h. falls n error.ConnectionLost b _ refl refl refl refl tt (λ x. refl) s
-] refl
-
-taken_quiet : (t : Bool) (m : ℕ) → ended_in (cond t (mark.Taken m ∷ []) []) ≡ []
-taken_quiet true m = refl
-taken_quiet false m = refl
-
-abbrev pub MovesBy : ℕ → Wire → Readings → Event → Type 0
-MovesBy n b readings e = Moves n b (after_event b e (record_of b readings e)) (ended_in (confirm_marks b e (record_of b readings e))) (called_by e (record_of b readings e))
-
-pub call_event : (n : ℕ) (b : Wire) (readings : Readings) (c : ℕ) (k : Call) → Sound n b → MovesBy n b readings (event.Call c k)
-call_event n b readings c k s = call_moves n c (asked k) b (row_plain c k) s
-
-pub incoming_event : (n : ℕ) (b : Wire) (readings : Readings) (f : Frame) → IsShut b → Sound n b → MovesBy n b readings (event.Receive f)
-incoming_event n b readings f shut s = incoming_moves (frame_class f) (frame_method f) n b.link b readings (incoming_of f) refl shut s
-
-pub lost_event : (n : ℕ) (b : Wire) (readings : Readings) → IsShut b → Sound n b → MovesBy n b readings event.Lost
-lost_event n b readings shut s = lost_moves n b shut s
-
-pub ticket_event : (n : ℕ) (b : Wire) (readings : Readings) (k : ℕ) → Sound n b → MovesBy n b readings (event.PollTicket k)
-ticket_event n b readings k s = same n b s
-
-pub aside_event : (n : ℕ) (b : Wire) (readings : Readings) (k : ℕ) → Sound n b → MovesBy n b readings (event.AsideTicket k)
-aside_event n b readings k s = same n b s
-
-pub confirm_event : (n : ℕ) (b : Wire) (readings : Readings) (m : ℕ) → Sound n b → MovesBy n b readings (event.PollConfirm m)
-confirm_event n b readings m s = subst (λ cs. Moves n b b cs []) (sym (taken_quiet (is_confirmed (readings.confirm m)) m)) (same n b s)
-
-pub state_event : (n : ℕ) (b : Wire) (readings : Readings) (c : ℕ) → Sound n b → MovesBy n b readings (event.State c)
-state_event n b readings c s = same n b s
+-- ---- a new session
 
 pub start_sound : (n : ℕ) → Sound n (start n)
-start_sound n = record { max = refl; plain = tt; publishes = tt; rest = tt; lost = λ h. cc; closes = λ u c. refl }
+start_sound n = record { max = refl; plain = tt; publishes = tt; rest = tt; lost = λ h. cc; closes = λ u c. refl; contents = λ _. refl }

@@ -12,10 +12,14 @@ use Rattle.lapin_history.specs.declared.marks.Outcome.TheVariants as outcome
 use Rattle.lapin_history.specs.declared.marks.Settlement.{Settlement}
 use Rattle.lapin_history.specs.ConfirmReadings.{covers, outcome_of}
 use Rattle.lapin_history.specs.Drops.{is_off, publish_channel}
+use Rattle.lapin_history.specs.ConfirmMarks as mark
 use Rattle.lapin_history.specs.Ends.{ends}
 use Rattle.lapin_confirm.specs.declared.cell.Cell.{Cell}
 use Rattle.lapin_confirm.specs.declared.cell.Cell.TheVariants as cell
-use Rattle.lapin_confirm.specs.Book.{Book, is_queued, settled_cell, closed_cell, ended_cell, after_mark, closed_here, ended}
+use Rattle.lapin_confirm.specs.Book.{Book, is_queued, is_resolved, settled_cell, closed_cell, ended_cell, closed_here, ended}
+use Rattle.lapin_confirm.specs.Post.{Post}
+use Rattle.lapin_confirm.specs.Machine.{after_mark}
+use Rattle.lapin_confirm.specs.Drain.{Remains, remaining, is_over, less_one, less_all}
 use Rattle.lapin_laws.specs.Outgoing.{is_channel}
 use Rattle.lapin_laws.specs.Queue.{queued_from, queued_in, numbered, waiting}
 
@@ -149,7 +153,27 @@ on-behind c cs (p ∷ ps) h = elim (eqb_tells p.channel c) [
   | inr n ↦ let away : (c == p.channel) ≡ false = ne_eqb c p.channel (λ e. n.1 (sym e)) in rw n.0 (rw away at h.0, on-behind c cs ps h.1)
 ]
 
-pub ends_queue : (e : Error) (cs : List ℕ) (ps : List Publish) (b : Book) → AreOn cs ps → queued_in b.cells ≡ waiting ps → queued_in (fold after_mark b (ends e cs)).cells ≡ []
-ends_queue e [] [] b a h = h
-ends_queue e [] (p ∷ ps) b a h = let z : false ≡ true = a.0 in absurd cc
-ends_queue e (c ∷ cs) ps b a h = ends_queue e cs (filter (is_off publish_channel c) ps) (ended c e b) (on-behind c cs ps a) (ended_queue c e ps b h)
+pub ends_queue : (e : Error) (cs : List ℕ) (ps : List Publish) (k : Post) → AreOn cs ps → queued_in k.book.cells ≡ waiting ps → queued_in (fold after_mark k (ends e cs)).book.cells ≡ []
+ends_queue e [] [] k a h = h
+ends_queue e [] (p ∷ ps) k a h = let z : false ≡ true = a.0 in absurd cc
+ends_queue e (c ∷ cs) ps k a h = ends_queue e cs (filter (is_off publish_channel c) ps) (after_mark k (mark.Ended c e)) (on-behind c cs ps a) (ended_queue c e ps k.book h)
+
+-- ---- of those that are resolved nothing is kept
+
+resolved_out : (o : Option Cell) → is_resolved o ≡ true → is_queued o ≡ false
+resolved_out None h = cc
+resolved_out (Some (cell.Queued d)) h = cc
+resolved_out (Some (cell.Pending d t)) h = refl
+resolved_out (Some (cell.Resolved x)) h = refl
+
+pub gone_queue : (n : ℕ) (cells : List (Option Cell)) → is_resolved (under n cells) ≡ true → queued_in (with_under n None cells) ≡ queued_in cells
+gone_queue n cells h = still n cells None (resolved_out (under n cells) h) refl
+
+less_one_queue : (n : ℕ) (r : Remains) → queued_in (less_one n r).cells ≡ queued_in r.cells
+less_one_queue n r =
+    elim (is_over r.cells n) as (λ b. is_over r.cells n ≡ b → queued_in (cond b (remaining (with_under n None r.cells) (with_under n None r.homes)) r).cells ≡ queued_in r.cells)
+    [ true ↦ λ h. gone_queue n r.cells h | false ↦ λ h. refl ] refl
+
+pub less_queue : (ns : List ℕ) (r : Remains) → queued_in (less_all ns r).cells ≡ queued_in r.cells
+less_queue [] r = refl
+less_queue (n ∷ ns) r = less_queue ns (less_one n r) ∙ less_one_queue n r

@@ -42,6 +42,7 @@ row_plain c (call.QueuePurge name o) = nowait_plain c _ o.nowait _ _ (refl, refl
 row_plain c (call.QueueDelete name o) = nowait_plain c _ o.nowait _ _ (refl, refl)
 row_plain c (call.QueueUnbind name from key more) = (refl, refl)
 row_plain c (call.BasicQos most o) = (refl, refl)
+row_plain c (call.BasicGet name o) = (refl, refl)
 row_plain c (call.BasicAck tag o) = (refl, refl)
 row_plain c (call.BasicNack tag o) = (refl, refl)
 row_plain c (call.BasicReject tag o) = (refl, refl)

@@ -37,6 +37,9 @@ use Rattle.lapin_history.specs.Readings.{Readings}
 use Rattle.lapin_history.specs.Ends.{down}
 use Rattle.lapin_history.specs.Wire.{Wire, requests_of, state_of, phase_of, is_open, is_opening, is_base, requests_with, noted, receives_on}
 use Rattle.lapin_history.specs.Opening.{opens}
+use Rattle.lapin_history.specs.declared.broker_frames.ContentPart.{ContentPart}
+use Rattle.lapin_history.specs.declared.broker_frames.ContentPart.TheVariants as part
+use Rattle.lapin_history.specs.Content.{receives_part}
 use Rattle.lapin_history.specs.ChannelClose.{has_sent_close, kept_at, phases_sent, closing, after_close_ok, receives_close, receives_close_ok}
 use Rattle.lapin_history.specs.ConnectionClose.{link_sent, receives_down, after_connection_close}
 use Rattle.lapin_history.specs.Settlement.{settlement_record, session_close}
@@ -228,6 +231,7 @@ down_receives (link.Closing true false) b (incoming.ConnectionClose code) e d = 
 down_receives (link.Closing false false) b (incoming.ConnectionClose code) e d = subst (λ l. Settled b → Settled (after_connection_close l b)) (sym e) (λ h c z dead. refl)
 down_receives (link.Closing x was) b (incoming.Reply c k a) e d = λ h. h
 down_receives (link.Closing x was) b (incoming.Settlement c z) e d = λ h. h
+down_receives (link.Closing x was) b (incoming.Content c p) e d = λ h. h
 down_receives (link.Closing x was) b (incoming.Flow c active) e d = λ h. h
 down_receives (link.Closing x was) b (incoming.ChannelClose c code) e d = λ h. h
 down_receives (link.Closing x was) b (incoming.ChannelCloseOk c) e d = λ h. h
@@ -253,9 +257,16 @@ module _ (class number : ℕ) where
   when_receives true b i h = h refl
   when_receives false b i h = unreceived class number b i
 
+  part_receives : (c : ℕ) (p : ContentPart) (b : Wire) → b.link ≡ link.Open → receives_part c p b ≡ true → Hears b (incoming.Content c p) record_.Received
+  part_receives c (part.GetOk x) b e h = reply_taken (opens reply_kind.BasicGetOk) c reply_kind.BasicGetOk b e (rw (state_up c b e) at (both (receives reply_kind.BasicGetOk (state_of c b)) (is_some (first_request reply_kind.BasicGetOk (requests_of c b))) h))
+  part_receives c (part.Return x) b e h = λ k. k
+  part_receives c (part.Header x) b e h = λ k. k
+  part_receives c (part.Body bytes) b e h = λ k. k
+
   up_receives : (b : Wire) (readings : Readings) (i : Incoming) → b.link ≡ link.Open → Hears b i (incoming_up b readings no i)
   up_receives b readings (incoming.Reply c k a) e = when_receives (receives_reply c k b) b (incoming.Reply c k a) (λ h. reply_taken (opens k) c k b e (rw (state_up c b e) at (both (receives k (state_of c b)) (is_some (first_request k (requests_of c b))) h)))
   up_receives b readings (incoming.Settlement c z) e = settlement_receives c z readings b e
+  up_receives b readings (incoming.Content c p) e = when_receives (receives_part c p b) b (incoming.Content c p) (λ h. part_receives c p b e h)
   up_receives b readings (incoming.Flow c active) e = when_receives (receives_on (state_of c b)) b (incoming.Flow c active) (λ a. flow_receives c active b e)
   up_receives b readings (incoming.ChannelClose c code) e = when_receives (receives_close (state_of c b)) b (incoming.ChannelClose c code) (λ a. close_receives c code b)
   up_receives b readings (incoming.ChannelCloseOk c) e = when_receives (receives_close_ok (state_of c b)) b (incoming.ChannelCloseOk c) (λ a. answered c (phase_of c b) b refl (rw (state_up c b e) at a))
@@ -280,13 +291,15 @@ settled-next b readings (event.Next flow) h = sent_settled (handed flow b) _ h
 settled-next b readings (event.Receive f) h = incoming_settled (frame_class f) (frame_method f) b.link b readings (incoming_of f) refl h
 settled-next b readings (event.PollTicket k) h = h
 settled-next b readings (event.PollConfirm k) h = h
+settled-next b readings (event.PollWait c) h = h
 settled-next b readings (event.AsideTicket k) h = h
+settled-next b readings (event.AsideConfirm k) h = h
 settled-next b readings (event.State c) h = h
 settled-next b readings event.Lost h = lost_settled b h
 
 settled_from : (w : World) (es : List Event) → Settled w.wire → Settled (fold next w es).wire
 settled_from w [] h = h
-settled_from w (e ∷ es) h = settled_from (next w e) es (next_keeps (λ v. Settled v.wire) w e (settled-next w.wire (readings_of w.book w.slots) e h) h)
+settled_from w (e ∷ es) h = settled_from (next w e) es (next_keeps (λ v. Settled v.wire) w e (settled-next w.wire (readings_of w.post w.slots) e h) h)
 
 pub settled_after : (n : ℕ) (es : List Event) → Settled (world_after n es).wire
 settled_after n es = settled_from (new_world n) es (λ c z dead. refl)

@@ -37,13 +37,24 @@ use Rattle.lapin_history.specs.ConnectionClose.{after_connection_close, after_co
 use Rattle.lapin_history.specs.Settlement.{session_close}
 use Rattle.lapin_history.specs.Flow.{may_begin}
 use Rattle.lapin_history.specs.Loss.{after_lost, lost_marks}
-use Rattle.lapin_history.specs.Polls.{is_confirmed}
+use Rattle.lapin_history.specs.Polls.{is_confirmed, is_returned, is_aside}
 use Rattle.lapin_history.specs.Asking.{is_allowed, after_call, after_asking, call_marks, asking_marks}
 use Rattle.lapin_history.specs.Handing.{sent, handed, left_marks}
 use Rattle.lapin_history.specs.Receiving.{after_received, received_marks, after_failed, failed_marks, after_refused, refused_marks, after_incoming, incoming_marks}
 use Rattle.lapin_history.specs.History.{History}
-use Rattle.lapin_confirm.specs.Answers.{answer_in, is_unknown}
-use Rattle.lapin_confirm.specs.Book.{Book, after_mark, is_queued, cell_with}
+use Rattle.lapin_confirm.specs.Answers.{answer_in, answer_with, is_unknown}
+use Rattle.lapin_confirm.specs.Book.{is_queued, is_resolved, cell_with}
+use Rattle.lapin_confirm.specs.Post.{Post, letters_at, message_of}
+use Rattle.lapin_confirm.specs.Machine.{after_mark}
+use Rattle.lapin_confirm.specs.Aside.{is_set_aside, kept_by, laid_by}
+use Rattle.lapin_confirm.specs.Drain.{remaining, over_aside}
+use Rattle.lapin_types.specs.declared.message.BasicReturnMessage.{BasicReturnMessage}
+use Rattle.lapin_history.specs.declared.broker_frames.ContentPart.{ContentPart}
+use Rattle.lapin_history.specs.declared.broker_frames.ContentPart.TheVariants as part
+use Rattle.lapin_content.specs.declared.start.Start.{Start}
+use Rattle.lapin_content.specs.declared.start.Start.TheVariants as start
+use Rattle.lapin_content.specs.declared.start.Whole.{Whole}
+use Rattle.lapin_history.specs.Content.{after_part, part_marks, start_marks, whole_marks, whole_on}
 use Rattle.lapin_confirm.specs.declared.cell.Cell.{Cell}
 use Rattle.lapin_confirm.specs.declared.cell.Cell.TheVariants as cell
 use Rattle.lapin_machine.specs.Stands.{Stands}
@@ -54,31 +65,31 @@ use Rattle.lapin_laws.specs.Queue.{queued_in, waiting}
 use Rattle.lapin_laws.proofs.Alive.{AreAlive, none_alive}
 use Rattle.lapin_laws.proofs.Cuts.{live-in}
 use Rattle.lapin_laws.proofs.Moving.{lost_not_up, start_sound}
-use Rattle.lapin_laws.proofs.Queue.{still, out, joined, settled_queue, closed_queue, ended_queue, AreOn, ends_queue}
+use Rattle.lapin_laws.proofs.Queue.{still, gone_queue, less_queue, out, joined, settled_queue, closed_queue, ended_queue, AreOn, ends_queue}
 use Rattle.lapin_laws.proofs.Traces.{stands_new, stands_next}
 use Rattle.lapin_laws.proofs.Kept.{Kept, kept-next}
 
 -- these confirms are queued for these publishes
-abbrev Waits : List Publish → Book → Type 0
-Waits ps k = queued_in k.cells ≡ waiting ps
+abbrev Waits : List Publish → Post → Type 0
+Waits ps k = queued_in k.book.cells ≡ waiting ps
 
 all_on : (l : ConnectionPhase) (ps : List (ℕ × ChannelPhase)) (qs : List Publish) → AreAlive l ps qs → AreOn (live_channels ps) qs
 all_on l ps [] a = tt
 all_on l ps (q ∷ qs) a = (live-in q.channel ps a.0.1, all_on l ps qs a.1)
 
-choose_waits : (t : Bool) (x y : Wire) (ms ns : List ConfirmMark) (k : Book) → Waits x.publishes (fold after_mark k ms) → Waits y.publishes (fold after_mark k ns) → Waits (cond t x y).publishes (fold after_mark k (cond t ms ns))
+choose_waits : (t : Bool) (x y : Wire) (ms ns : List ConfirmMark) (k : Post) → Waits x.publishes (fold after_mark k ms) → Waits y.publishes (fold after_mark k ns) → Waits (cond t x y).publishes (fold after_mark k (cond t ms ns))
 choose_waits true x y ms ns k h g = h
 choose_waits false x y ms ns k h g = g
 
-same_waits : (t : Bool) (x y : Wire) (k : Book) → Waits x.publishes k → Waits y.publishes k → Waits (cond t x y).publishes k
+same_waits : (t : Bool) (x y : Wire) (k : Post) → Waits x.publishes k → Waits y.publishes k → Waits (cond t x y).publishes k
 same_waits true x y k h g = h
 same_waits false x y k h g = g
 
-select_waits : (t : Bool) (m : ConfirmMark) (ps : List Publish) (k : Book) → (after_mark k m).cells ≡ k.cells → Waits ps k → Waits ps (fold after_mark k (cond t (m ∷ []) []))
+select_waits : (t : Bool) (m : ConfirmMark) (ps : List Publish) (k : Post) → (after_mark k m).book.cells ≡ k.book.cells → Waits ps k → Waits ps (fold after_mark k (cond t (m ∷ []) []))
 select_waits true m ps k e h = ap queued_in e ∙ h
 select_waits false m ps k e h = h
 
-module _ (b : Wire) (k : Book) (alive : AreAlive b.link b.phases b.publishes) (count : b.published ≡ length k.cells) (h : Waits b.publishes k) where
+module _ (b : Wire) (k : Post) (alive : AreAlive b.link b.phases b.publishes) (count : b.published ≡ length k.book.cells) (h : Waits b.publishes k) where
   falls : (x : Error) → Waits [] (fold after_mark k (ends_all x b))
   falls x = ends_queue x (live_channels b.phases) b.publishes k (all_on b.link b.phases b.publishes alive) h
 
@@ -88,10 +99,10 @@ module _ (b : Wire) (k : Book) (alive : AreAlive b.link b.phases b.publishes) (c
   -- ---- calls
 
   called : (c : ℕ) (a : Asked) → Waits (after_call c a b).publishes (fold after_mark k (call_marks c a b))
-  called c ask.Open = h
-  called c (ask.CloseChannel code text) = closed_queue c _ b.publishes k h
+  called c ask.Open = less_queue (letters_at c k).aside (remaining k.book.cells k.homes) ∙ h
+  called c (ask.CloseChannel code text) = closed_queue c _ b.publishes k.book h
   called c (ask.CloseConnection code text) = falls _
-  called c (ask.Publish exchange key o payload properties) = joined k.cells b.publishes _ (ap (λ n. n + 1) count) h
+  called c (ask.Publish exchange key o payload properties) = joined k.book.cells b.publishes _ (ap (λ n. n + 1) count) h
   called c (ask.Method row) = select_waits (is_select row.method) (mark.SelectCalled c) b.publishes k refl h
 
   asked_waits : (c : ℕ) (a : Asked) → Waits (after_asking c a b).publishes (fold after_mark k (asking_marks c a b))
@@ -103,7 +114,7 @@ module _ (b : Wire) (k : Book) (alive : AreAlive b.link b.phases b.publishes) (c
   closed_waits c phase.Closed = h
   closed_waits c phase.Opening = h
   closed_waits c (phase.Open paused) = h
-  closed_waits c (phase.Closing who x) = ended_queue c _ b.publishes k h
+  closed_waits c (phase.Closing who x) = ended_queue c _ b.publishes k.book h
   closed_waits c phase.Crossed = h
 
   -- of a connection that is not open nothing waits
@@ -124,19 +135,37 @@ module _ (b : Wire) (k : Book) (alive : AreAlive b.link b.phases b.publishes) (c
   close_ok_waits link.Closed e = rw e h
   close_ok_waits link.Lost e = rw e h
 
+  -- a whole content is nothing to tags and outcomes
+  start_waits : (c : ℕ) (x : Start) (y : Whole) → Waits b.publishes (fold after_mark k (start_marks c x y))
+  start_waits c (start.Return code text exchange key) y = h
+  start_waits c (start.Get ticket tag exchange key redelivered n) y = h
+  start_waits c (start.Deliver consumer tag exchange key redelivered) y = h
+
+  whole_waits : (c : ℕ) (y : Option Whole) → Waits b.publishes (fold after_mark k (whole_marks c y))
+  whole_waits c None = h
+  whole_waits c (Some y) = start_waits c y.start y
+
+  part_waits : (c : ℕ) (p : ContentPart) → Waits (after_part c p b).publishes (fold after_mark k (part_marks c p b))
+  part_waits c (part.GetOk x) = h
+  part_waits c (part.Return x) = h
+  part_waits c (part.Header x) = whole_waits c (whole_on c (part.Header x) b)
+  part_waits c (part.Body bytes) = whole_waits c (whole_on c (part.Body bytes) b)
+
   received : (i : Incoming) → Waits (after_received i b).publishes (fold after_mark k (received_marks i b))
   received (incoming.Reply c x a) = h
-  received (incoming.Settlement c z) = settled_queue c z k.cells ∙ h
+  received (incoming.Settlement c z) = settled_queue c z k.book.cells ∙ h
+  received (incoming.Content c p) = part_waits c p
   received (incoming.Flow c active) = same_waits (is_open (state_of c b)) (noted c (method.Channel (channel.FlowOk active)) (record b { phases = with_channel c (phase.Open (not active)) b.phases })) b k h h
-  received (incoming.ChannelClose c code) = ended_queue c _ b.publishes k h
+  received (incoming.ChannelClose c code) = ended_queue c _ b.publishes k.book h
   received (incoming.ChannelCloseOk c) = closed_waits c (phase_of c b)
   received (incoming.ConnectionClose code) = close_waits code b.link refl
   received incoming.ConnectionCloseOk = close_ok_waits b.link refl
   received incoming.Other = h
 
   failed : (i : Incoming) → Waits (after_failed i b).publishes (fold after_mark k (failed_marks i b))
-  failed (incoming.Settlement c z) = choose_waits (is_open (state_of c b)) (noted c (session_close z.kind) (closing c closer.Session b)) b (close_marks c closer.Session) [] k (closed_queue c _ b.publishes k h) h
+  failed (incoming.Settlement c z) = choose_waits (is_open (state_of c b)) (noted c (session_close z.kind) (closing c closer.Session b)) b (close_marks c closer.Session) [] k (closed_queue c _ b.publishes k.book h) h
   failed (incoming.Reply c x a) = h
+  failed (incoming.Content c p) = h
   failed (incoming.Flow c active) = h
   failed (incoming.ChannelClose c code) = h
   failed (incoming.ChannelCloseOk c) = h
@@ -168,6 +197,7 @@ module _ (b : Wire) (k : Book) (alive : AreAlive b.link b.phases b.publishes) (c
   incoming_waits i (record_.Confirmed o) = h
   incoming_waits i (record_.State x y) = h
   incoming_waits i record_.Aside = h
+  incoming_waits i (record_.Returned ms) = h
   incoming_waits i record_.Lost = h
 
   -- ---- a loss
@@ -188,47 +218,63 @@ sent_publishes : (o : Option Left) (b : Wire) → (sent o b).publishes ≡ b.pub
 sent_publishes None b = refl
 sent_publishes (Some l) b = refl
 
-left_waits : (n : ℕ) (t : Bool) (rest : List RestEntry) (methods : List MethodEntry) (publishes : List Publish) (k : Book) → Waits publishes k → Waits (left_of n t rest methods publishes).publishes (fold after_mark k (left_marks (handed_of t rest methods publishes)))
+left_waits : (n : ℕ) (t : Bool) (rest : List RestEntry) (methods : List MethodEntry) (publishes : List Publish) (k : Post) → Waits publishes k → Waits (left_of n t rest methods publishes).publishes (fold after_mark k (left_marks (handed_of t rest methods publishes)))
 left_waits n t (f ∷ fs) methods publishes k h = h
 left_waits n t [] (m ∷ ms) publishes k h = select_waits (is_select m.method) (mark.SelectLeft m.channel) publishes k refl h
-left_waits n true [] [] (p ∷ ps) k h = out p.confirm p.channel k.cells [] (waiting ps) _ (tagged_queued p.channel _) h
+left_waits n true [] [] (p ∷ ps) k h = out p.confirm p.channel k.book.cells [] (waiting ps) _ (tagged_queued p.channel _) h
 left_waits n true [] [] [] k h = h
 left_waits n false [] [] publishes k h = h
 
--- ---- a poll: a result is given of a publish that is queued no more
+-- ---- a poll, a wait, or setting aside: of what is queued all is kept
 
-known : (t : Bool) (o : Option Cell) → is_confirmed (outcome_record (cond t (Err error.UnknownTicket) (answer_in o))) ≡ true → is_queued o ≡ false
-known true o h = cc
-known false None h = refl
-known false (Some (cell.Queued d)) h = cc
-known false (Some (cell.Pending d t)) h = refl
-known false (Some (cell.Resolved x)) h = refl
+known : (a u : Bool) (m : Option BasicReturnMessage) (o : Option Cell) → is_confirmed (outcome_record (cond a (Err error.AlreadyTaken) (answer_with m (cond u (Err error.UnknownTicket) (answer_in o))))) ≡ true → is_queued o ≡ false
+known true u m o h = cc
+known false true m o h = cc
+known false false m None h = refl
+known false false m (Some (cell.Queued d)) h = cc
+known false false m (Some (cell.Pending d t)) h = refl
+known false false m (Some (cell.Resolved x)) h = refl
 
-taken_waits : (t : Bool) (n : ℕ) (ps : List Publish) (k : Book) → (t ≡ true → is_queued (under n k.cells) ≡ false) → Waits ps k → Waits ps (fold after_mark k (cond t (mark.Taken n ∷ []) []))
-taken_waits true n ps k may h = still n k.cells None (may refl) refl ∙ h
+taken_waits : (t : Bool) (n : ℕ) (ps : List Publish) (k : Post) → (t ≡ true → is_queued (under n k.book.cells) ≡ false) → Waits ps k → Waits ps (fold after_mark k (cond t (mark.Taken n ∷ []) []))
+taken_waits true n ps k may h = still n k.book.cells None (may refl) refl ∙ h
 taken_waits false n ps k may h = h
+
+drained_waits : (t : Bool) (c : ℕ) (ps : List Publish) (k : Post) → Waits ps k → Waits ps (fold after_mark k (cond t (mark.Drained c ∷ []) []))
+drained_waits true c ps k h = less_queue (over_aside c k) (remaining k.book.cells k.homes) ∙ h
+drained_waits false c ps k h = h
+
+put_waits : (n : ℕ) (ps : List Publish) (k : Post) → Waits ps k → Waits ps (after_mark k (mark.SetAside n))
+put_waits n ps k h =
+    elim (is_resolved (under n k.book.cells)) as (λ b. is_resolved (under n k.book.cells) ≡ b → Waits ps (cond b (kept_by n k) (laid_by n k)))
+    [ true ↦ λ e. gone_queue n k.book.cells e ∙ h | false ↦ λ e. h ] refl
+
+laid_waits : (t : Bool) (n : ℕ) (ps : List Publish) (k : Post) → Waits ps k → Waits ps (fold after_mark k (cond t (mark.SetAside n ∷ []) []))
+laid_waits true n ps k h = put_waits n ps k h
+laid_waits false n ps k h = h
 
 -- ---- every event
 
-waits-anew : (n : ℕ) (w : World) (e : Event) → Kept n w.wire → w.wire.published ≡ length w.book.cells → Waits w.wire.publishes w.book → Waits (next_anew w e).wire.publishes (next_anew w e).book
-waits-anew n w (event.Call c x) kept count h = asked_waits w.wire w.book kept.sound.publishes count h c (asked x)
+waits-anew : (n : ℕ) (w : World) (e : Event) → Kept n w.wire → w.wire.published ≡ length w.post.book.cells → Waits w.wire.publishes w.post → Waits (next_anew w e).wire.publishes (next_anew w e).post
+waits-anew n w (event.Call c x) kept count h = asked_waits w.wire w.post kept.sound.publishes count h c (asked x)
 waits-anew n w (event.Next flow) kept count h =
     let o : Option Left = handed flow w.wire in
-    let left : Waits (left_of w.wire.frame_max (may_begin flow w.wire) w.wire.rest w.wire.methods w.wire.publishes).publishes (fold after_mark w.book (left_marks o)) = left_waits w.wire.frame_max (may_begin flow w.wire) w.wire.rest w.wire.methods w.wire.publishes w.book h in
+    let left : Waits (left_of w.wire.frame_max (may_begin flow w.wire) w.wire.rest w.wire.methods w.wire.publishes).publishes (fold after_mark w.post (left_marks o)) = left_waits w.wire.frame_max (may_begin flow w.wire) w.wire.rest w.wire.methods w.wire.publishes w.post h in
     left ∙ ap waiting (sym (sent_publishes o _))
-waits-anew n w (event.Receive f) kept count h = incoming_waits w.wire w.book kept.sound.publishes count h (incoming_of f) (told_anew w (event.Receive f))
+waits-anew n w (event.Receive f) kept count h = incoming_waits w.wire w.post kept.sound.publishes count h (incoming_of f) (told_anew w (event.Receive f))
 waits-anew n w (event.PollTicket m) kept count h = h
-waits-anew n w (event.PollConfirm m) kept count h = taken_waits (is_confirmed (told_anew w (event.PollConfirm m))) m w.wire.publishes w.book (known (is_unknown m w.book) (under m w.book.cells)) h
+waits-anew n w (event.PollConfirm m) kept count h = taken_waits (is_confirmed (told_anew w (event.PollConfirm m))) m w.wire.publishes w.post (known (is_set_aside m w.post) (is_unknown m w.post.book) (message_of m w.post) (under m w.post.book.cells)) h
+waits-anew n w (event.PollWait c) kept count h = drained_waits (is_returned (told_anew w (event.PollWait c))) c w.wire.publishes w.post h
 waits-anew n w (event.AsideTicket m) kept count h = h
+waits-anew n w (event.AsideConfirm m) kept count h = laid_waits (is_aside (told_anew w (event.AsideConfirm m))) m w.wire.publishes w.post h
 waits-anew n w (event.State c) kept count h = h
-waits-anew n w event.Lost kept count h = lost_waits w.wire w.book kept.sound.publishes count h
+waits-anew n w event.Lost kept count h = lost_waits w.wire w.post kept.sound.publishes count h
 
-waits_from : (n : ℕ) (h : History) (w : World) (es : List Event) → w.returned ≡ None → Stands n h w → Kept n w.wire → Waits w.wire.publishes w.book → Waits (fold next w es).wire.publishes (fold next w es).book
+waits_from : (n : ℕ) (h : History) (w : World) (es : List Event) → w.returned ≡ None → Stands n h w → Kept n w.wire → Waits w.wire.publishes w.post → Waits (fold next w es).wire.publishes (fold next w es).post
 waits_from n h w [] none stands kept q = q
 waits_from n h w (e ∷ es) none stands kept q =
-    let count : w.wire.published ≡ length w.book.cells = stands.confirms.published ∙ sym stands.confirms.book.count in
-    let P : World → Type 0 = λ v. Waits v.wire.publishes v.book in
+    let count : w.wire.published ≡ length w.post.book.cells = stands.confirms.published ∙ sym stands.confirms.post.count in
+    let P : World → Type 0 = λ v. Waits v.wire.publishes v.post in
     waits_from n (h ++ (e, told_by w e) ∷ []) (next w e) es (still_unreturned w e none) (stands_next n h w e (given_none w.returned e none) stands) (kept-next n w e kept) (subst P (sym (next_none w e none)) (waits-anew n w e kept count q))
 
-pub waits_after : (n : ℕ) (es : List Event) → queued_in (world_after n es).book.cells ≡ waiting (world_after n es).wire.publishes
+pub waits_after : (n : ℕ) (es : List Event) → queued_in (world_after n es).post.book.cells ≡ waiting (world_after n es).wire.publishes
 waits_after n es = waits_from n [] (new_world n) es refl (stands_new n) (record { sound = start_sound n; shut = λ _. refl }) refl

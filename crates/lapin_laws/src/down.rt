@@ -17,7 +17,7 @@ ghost use Rattle.lapin_laws.specs.Runs.{world_after};
 
 /// Once the connection is not open it never is again (`stays`), and a loss is for good (`stays_lost`).
 ///
-/// Then no channel stands open (`phases`), and nothing waits but methods (`rest`, `publishes`). After a loss nothing waits at all
+/// Then no channel stands open (`phases`), nothing waits but methods (`rest`, `publishes`), and no content is expected (`contents`). After a loss nothing waits at all
 /// (`lost`), and no ticket is open (`answered`).
 ///
 /// Every broker frame but the two that a closing connection still receives is passed over (`passed`) and changes nothing (`unmoved`).
@@ -28,6 +28,7 @@ pub fn down_for_good()
     ensures stays_lost { (frame_max : ℕ) (events more : List AnEvent) → is_lost (world_after frame_max events).wire.link ≡ true → is_lost (fold next (world_after frame_max events) more).wire.link ≡ true }
     ensures phases { (frame_max : ℕ) (events : List AnEvent) → is_up (world_after frame_max events).wire.link ≡ false → (world_after frame_max events).wire.phases ≡ [] }
     ensures rest { (frame_max : ℕ) (events : List AnEvent) → is_up (world_after frame_max events).wire.link ≡ false → (world_after frame_max events).wire.rest ≡ [] }
+    ensures contents { (frame_max : ℕ) (events : List AnEvent) → is_up (world_after frame_max events).wire.link ≡ false → (world_after frame_max events).wire.contents ≡ [] }
     ensures publishes { (frame_max : ℕ) (events : List AnEvent) → is_up (world_after frame_max events).wire.link ≡ false → (world_after frame_max events).wire.publishes ≡ [] }
     ensures lost { (frame_max : ℕ) (events : List AnEvent) → is_lost (world_after frame_max events).wire.link ≡ true → lists_of (world_after frame_max events).wire ≡ no_lists }
     ensures answered { (frame_max : ℕ) (events : List AnEvent) → is_lost (world_after frame_max events).wire.link ≡ true → (t : ℕ) → is_awaited (under t (world_after frame_max events).slots) ≡ false }

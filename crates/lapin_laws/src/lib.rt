@@ -9,12 +9,14 @@
 
 mod down;
 mod leaving;
+mod messages;
 mod owed;
 mod standing;
 mod waiting;
 
 pub use down::down_for_good;
 pub use leaving::frames_are_unbroken;
+pub use messages::contents_are_of_the_history;
 pub use owed::awaited_replies_are_requested;
 pub use standing::a_session_stands;
 pub use waiting::{

@@ -31,5 +31,5 @@ pub fn only_live_openings_wait()
 /// The publishes that have not begun are those whose confirms are queued: the same numbers with the same channels, in order of
 /// call, and no others.
 pub fn waiting_publishes_are_queued()
-    ensures { (frame_max : ℕ) (events : List AnEvent) → queued_in (world_after frame_max events).book.cells ≡ waiting (world_after frame_max events).wire.publishes }
+    ensures { (frame_max : ℕ) (events : List AnEvent) → queued_in (world_after frame_max events).post.book.cells ≡ waiting (world_after frame_max events).wire.publishes }
 {}

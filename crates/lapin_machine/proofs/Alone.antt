@@ -38,6 +38,9 @@ use Rattle.lapin_history.specs.ChannelClose.{after_close_ok}
 use Rattle.lapin_history.specs.Handing.{after_next, handed, sent}
 use Rattle.lapin_history.specs.ConnectionClose.{link_sent, has_sent}
 use Rattle.lapin_machine.specs.World.{World, next, next_anew, new_world, readings_of}
+use Rattle.lapin_history.specs.declared.broker_frames.ContentPart.{ContentPart}
+use Rattle.lapin_history.specs.declared.broker_frames.ContentPart.TheVariants as part
+use Rattle.lapin_history.specs.Content.{after_part}
 use Rattle.lapin_machine.proofs.Back.{next_keeps}
 use Rattle.lapin_machine.specs.Alone.{is_connection_close, IsOneClose, IsCloseAlone, WaitsAlone, without_own_close}
 
@@ -142,9 +145,16 @@ close_ok_alone c (phase.Open paused) b e = rw e tt
 close_ok_alone c (phase.Closing who sent) b e = rw e tt
 close_ok_alone c phase.Crossed b e = rw e tt
 
+part_alone : (c : ℕ) (p : ContentPart) (b : Wire) → b.link ≡ link.Open → Alone (after_part c p b)
+part_alone c (part.GetOk s) b e = rw e tt
+part_alone c (part.Return s) b e = rw e tt
+part_alone c (part.Header h) b e = rw e tt
+part_alone c (part.Body bytes) b e = rw e tt
+
 received_alone : (i : Incoming) (b : Wire) → b.link ≡ link.Open → Alone (after_received i b)
 received_alone (incoming.Reply c k a) b e = rw e tt
 received_alone (incoming.Settlement c s) b e = rw e tt
+received_alone (incoming.Content c p) b e = part_alone c p b e
 received_alone (incoming.ChannelClose c code) b e = rw e tt
 received_alone (incoming.ChannelCloseOk c) b e = close_ok_alone c (phase_of c b) b e
 received_alone (incoming.ConnectionClose code) b e = rw e tt
@@ -155,6 +165,7 @@ received_alone incoming.Other b e = rw e tt
 failed_alone : (i : Incoming) (b : Wire) → b.link ≡ link.Open → Alone (after_failed i b)
 failed_alone (incoming.Settlement c s) b e = choose_alone (is_open (state_of c b)) _ b (rw e tt) (rw e tt)
 failed_alone (incoming.Reply c k a) b e = rw e tt
+failed_alone (incoming.Content c p) b e = rw e tt
 failed_alone (incoming.ChannelClose c code) b e = rw e tt
 failed_alone (incoming.ChannelCloseOk c) b e = rw e tt
 failed_alone (incoming.ConnectionClose code) b e = rw e tt
@@ -186,6 +197,7 @@ up_alone i (record_.Answer a) b e = rw e tt
 up_alone i (record_.Confirmed o) b e = rw e tt
 up_alone i (record_.State x y) b e = rw e tt
 up_alone i record_.Aside b e = rw e tt
+up_alone i (record_.Returned ms) b e = rw e tt
 up_alone i record_.Lost b e = rw e tt
 
 -- of the two frames that are received while this side closes, each takes the close out that has not left
@@ -199,6 +211,7 @@ incoming_alone (link.Closing true false) readings f (incoming.ConnectionClose co
 incoming_alone (link.Closing false false) readings f (incoming.ConnectionClose code) b e h = rw e tt
 incoming_alone (link.Closing s was) readings f (incoming.Reply c k a) b e h = rw e h
 incoming_alone (link.Closing s was) readings f (incoming.Settlement c x) b e h = rw e h
+incoming_alone (link.Closing s was) readings f (incoming.Content c p) b e h = rw e h
 incoming_alone (link.Closing s was) readings f (incoming.ChannelClose c code) b e h = rw e h
 incoming_alone (link.Closing s was) readings f (incoming.ChannelCloseOk c) b e h = rw e h
 incoming_alone (link.Closing s was) readings f (incoming.Flow c active) b e h = rw e h
@@ -209,10 +222,12 @@ incoming_alone (link.Closing s was) readings f incoming.Other b e h = rw e h
 alone-anew : (w : World) (e : Event) → Alone w.wire → Alone (next_anew w e).wire
 alone-anew w (event.Call c k) h = call_alone c (asked k) w.wire h
 alone-anew w (event.Next flow) h = next_alone flow w.wire.link w.wire refl h
-alone-anew w (event.Receive f) h = incoming_alone w.wire.link (readings_of w.book w.slots) (refused (frame_class f) (frame_method f)) (incoming_of f) w.wire refl h
+alone-anew w (event.Receive f) h = incoming_alone w.wire.link (readings_of w.post w.slots) (refused (frame_class f) (frame_method f)) (incoming_of f) w.wire refl h
 alone-anew w (event.PollTicket n) h = h
 alone-anew w (event.PollConfirm n) h = h
+alone-anew w (event.PollWait c) h = h
 alone-anew w (event.AsideTicket n) h = h
+alone-anew w (event.AsideConfirm n) h = h
 alone-anew w (event.State c) h = h
 alone-anew w event.Lost h = choose_alone (is_lost w.wire.link) w.wire _ h tt
 

@@ -97,6 +97,7 @@ closing_none link.Lost = refl
 received_none : (i : Incoming) (b : Wire) → after_received i b None ≡ None
 received_none (incoming.Reply c k a) b = refl
 received_none (incoming.Settlement c s) b = refl
+received_none (incoming.Content c p) b = refl
 received_none (incoming.Flow c active) b = refl
 received_none (incoming.ChannelClose c code) b = refl
 received_none (incoming.ChannelCloseOk c) b = crossed_none c (close_ok_end (phase_of c b))
@@ -128,6 +129,7 @@ incoming_none i (record_.Answer a) b = refl
 incoming_none i (record_.Confirmed o) b = refl
 incoming_none i (record_.State x y) b = refl
 incoming_none i record_.Aside b = refl
+incoming_none i (record_.Returned ms) b = refl
 incoming_none i record_.Lost b = refl
 
 event_none : (b : Wire) (e : Event) (r : Record) → after_event b e r None ≡ None
@@ -136,7 +138,9 @@ event_none b (event.Next flow) r = refl
 event_none b (event.Receive f) r = incoming_none (incoming_of f) r b
 event_none b (event.PollTicket n) r = refl
 event_none b (event.PollConfirm n) r = refl
+event_none b (event.PollWait c) r = refl
 event_none b (event.AsideTicket n) r = refl
+event_none b (event.AsideConfirm n) r = refl
 event_none b (event.State c) r = refl
 event_none b event.Lost r = choose_none (is_lost b.link)
 
@@ -146,7 +150,9 @@ given_none r (event.Next flow) h = h
 given_none r (event.Receive f) h = refl
 given_none r (event.PollTicket n) h = refl
 given_none r (event.PollConfirm n) h = refl
+given_none r (event.PollWait c) h = refl
 given_none r (event.AsideTicket n) h = refl
+given_none r (event.AsideConfirm n) h = refl
 given_none r (event.State c) h = refl
 given_none r event.Lost h = refl
 

@@ -32,7 +32,11 @@ use Rattle.lapin_history.specs.History.{History, Past, longer, past_on, past}
 use Rattle.lapin_machine.specs.World.{World, next, told_anew, IsLonger}
 use Rattle.lapin_machine.proofs.Back.{next_keeps}
 use Rattle.lapin_machine.specs.Stands.{Stands}
-use Rattle.lapin_machine.specs.Numbers.{HasNumbersFor, EventUsedUp, LacksNumber}
+use Rattle.lapin_machine.specs.Numbers.{HasNumbersFor, EventUsedUp, LacksNumber, LacksAcker}
+use Rattle.lapin_content.specs.declared.start.Whole.{Whole}
+use Rattle.lapin_history.specs.declared.broker_frames.ContentPart.{ContentPart}
+use Rattle.lapin_history.specs.declared.broker_frames.ContentPart.TheVariants as part
+use Rattle.lapin_history.specs.Content.{after_part, ackers_after, takes_acker, whole_on}
 
 choose_le : (t : Bool) (x y : Wire) (n : ℕ) (f : Wire → ℕ) → f x ≤ n → f y ≤ n → f (cond t x y) ≤ n
 choose_le true x y n f h k = h
@@ -52,83 +56,105 @@ published_call c (ask.CloseConnection code text) b = omega arith
 published_call c (ask.Method row) b = omega arith
 published_call c (ask.Publish exchange key o payload properties) b = omega arith
 
--- a frame of the broker and a loss change no counter
+ackers_call : (c : ℕ) (k : Asked) (b : Wire) → (after_call c k b).ackers ≡ b.ackers
+ackers_call c ask.Open b = refl
+ackers_call c (ask.CloseChannel code text) b = refl
+ackers_call c (ask.CloseConnection code text) b = refl
+ackers_call c (ask.Method row) b = refl
+ackers_call c (ask.Publish exchange key o payload properties) b = refl
+
+one_more : (n : ℕ) → n ≤ n + 1
+one_more n = omega arith
+
+-- a frame of the broker and a loss give no ticket and no confirm, and a whole content one acker at most
 abbrev SameCounts : Wire → Wire → Type 0
-SameCounts d b = (d.tickets ≡ b.tickets) × (d.published ≡ b.published)
+SameCounts d b = (d.tickets ≡ b.tickets) × (d.published ≡ b.published) × (d.ackers ≤ b.ackers + 1)
 
 choose_counts : (t : Bool) (x y b : Wire) → SameCounts x b → SameCounts y b → SameCounts (cond t x y) b
 choose_counts true x y b h k = h
 choose_counts false x y b h k = k
 
 close_ok_counts : (c : ℕ) (p : ChannelPhase) (b : Wire) → SameCounts (after_close_ok c p b) b
-close_ok_counts c phase.Closed b = (refl, refl)
-close_ok_counts c phase.Opening b = (refl, refl)
-close_ok_counts c (phase.Open paused) b = (refl, refl)
-close_ok_counts c (phase.Closing who sent) b = (refl, refl)
-close_ok_counts c phase.Crossed b = (refl, refl)
+close_ok_counts c phase.Closed b = (refl, refl, one_more b.ackers)
+close_ok_counts c phase.Opening b = (refl, refl, one_more b.ackers)
+close_ok_counts c (phase.Open paused) b = (refl, refl, one_more b.ackers)
+close_ok_counts c (phase.Closing who sent) b = (refl, refl, one_more b.ackers)
+close_ok_counts c phase.Crossed b = (refl, refl, one_more b.ackers)
 
 connection_close_counts : (l : ConnectionPhase) (b : Wire) → SameCounts (after_connection_close l b) b
-connection_close_counts link.Open b = (refl, refl)
-connection_close_counts (link.Closing true received) b = (refl, refl)
-connection_close_counts (link.Closing false received) b = (refl, refl)
-connection_close_counts link.Closed b = (refl, refl)
-connection_close_counts link.Lost b = (refl, refl)
+connection_close_counts link.Open b = (refl, refl, one_more b.ackers)
+connection_close_counts (link.Closing true received) b = (refl, refl, one_more b.ackers)
+connection_close_counts (link.Closing false received) b = (refl, refl, one_more b.ackers)
+connection_close_counts link.Closed b = (refl, refl, one_more b.ackers)
+connection_close_counts link.Lost b = (refl, refl, one_more b.ackers)
+
+acker_more : (w : Option Whole) (n : ℕ) → ackers_after w n ≤ n + 1
+acker_more w n = elim (takes_acker w) as (λ t. cond t (n + 1) n ≤ n + 1) [ true ↦ omega arith | false ↦ one_more n ]
+
+part_counts : (c : ℕ) (p : ContentPart) (b : Wire) → SameCounts (after_part c p b) b
+part_counts c (part.GetOk s) b = (refl, refl, one_more b.ackers)
+part_counts c (part.Return s) b = (refl, refl, one_more b.ackers)
+part_counts c (part.Header h) b = (refl, refl, acker_more (whole_on c (part.Header h) b) b.ackers)
+part_counts c (part.Body bytes) b = (refl, refl, acker_more (whole_on c (part.Body bytes) b) b.ackers)
 
 received_counts : (i : Incoming) (b : Wire) → SameCounts (after_received i b) b
-received_counts (incoming.Reply c k a) b = (refl, refl)
-received_counts (incoming.Settlement c s) b = (refl, refl)
-received_counts (incoming.ChannelClose c code) b = (refl, refl)
+received_counts (incoming.Reply c k a) b = (refl, refl, one_more b.ackers)
+received_counts (incoming.Settlement c s) b = (refl, refl, one_more b.ackers)
+received_counts (incoming.Content c p) b = part_counts c p b
+received_counts (incoming.ChannelClose c code) b = (refl, refl, one_more b.ackers)
 received_counts (incoming.ChannelCloseOk c) b = close_ok_counts c (phase_of c b) b
 received_counts (incoming.ConnectionClose code) b = connection_close_counts b.link b
-received_counts incoming.ConnectionCloseOk b = (refl, refl)
-received_counts (incoming.Flow c active) b = choose_counts (is_open (state_of c b)) _ b b (refl, refl) (refl, refl)
-received_counts incoming.Other b = (refl, refl)
+received_counts incoming.ConnectionCloseOk b = (refl, refl, one_more b.ackers)
+received_counts (incoming.Flow c active) b = choose_counts (is_open (state_of c b)) _ b b (refl, refl, one_more b.ackers) (refl, refl, one_more b.ackers)
+received_counts incoming.Other b = (refl, refl, one_more b.ackers)
 
 failed_counts : (i : Incoming) (b : Wire) → SameCounts (after_failed i b) b
-failed_counts (incoming.Settlement c s) b = choose_counts (is_open (state_of c b)) _ b b (refl, refl) (refl, refl)
-failed_counts (incoming.Reply c k a) b = (refl, refl)
-failed_counts (incoming.ChannelClose c code) b = (refl, refl)
-failed_counts (incoming.ChannelCloseOk c) b = (refl, refl)
-failed_counts (incoming.ConnectionClose code) b = (refl, refl)
-failed_counts incoming.ConnectionCloseOk b = (refl, refl)
-failed_counts (incoming.Flow c active) b = (refl, refl)
-failed_counts incoming.Other b = (refl, refl)
+failed_counts (incoming.Settlement c s) b = choose_counts (is_open (state_of c b)) _ b b (refl, refl, one_more b.ackers) (refl, refl, one_more b.ackers)
+failed_counts (incoming.Reply c k a) b = (refl, refl, one_more b.ackers)
+failed_counts (incoming.Content c p) b = (refl, refl, one_more b.ackers)
+failed_counts (incoming.ChannelClose c code) b = (refl, refl, one_more b.ackers)
+failed_counts (incoming.ChannelCloseOk c) b = (refl, refl, one_more b.ackers)
+failed_counts (incoming.ConnectionClose code) b = (refl, refl, one_more b.ackers)
+failed_counts incoming.ConnectionCloseOk b = (refl, refl, one_more b.ackers)
+failed_counts (incoming.Flow c active) b = (refl, refl, one_more b.ackers)
+failed_counts incoming.Other b = (refl, refl, one_more b.ackers)
 
 refused_counts : (i : Incoming) (e : Error) (b : Wire) → SameCounts (after_refused i e b) b
-refused_counts i error.NoMemory b = (refl, refl)
-refused_counts i error.NumbersUsedUp b = (refl, refl)
-refused_counts i (error.InvalidChannelState s) b = (refl, refl)
-refused_counts i (error.ProtocolError code) b = (refl, refl)
-refused_counts i error.ConnectionLost b = (refl, refl)
-refused_counts i (error.UnexpectedFrame class number) b = (refl, refl)
+refused_counts i error.NoMemory b = (refl, refl, one_more b.ackers)
+refused_counts i error.NumbersUsedUp b = (refl, refl, one_more b.ackers)
+refused_counts i (error.InvalidChannelState s) b = (refl, refl, one_more b.ackers)
+refused_counts i (error.ProtocolError code) b = (refl, refl, one_more b.ackers)
+refused_counts i error.ConnectionLost b = (refl, refl, one_more b.ackers)
+refused_counts i (error.UnexpectedFrame class number) b = (refl, refl, one_more b.ackers)
 refused_counts i (error.PreconditionFailed tag current) b = failed_counts i b
-refused_counts i error.AlreadyTaken b = (refl, refl)
-refused_counts i error.UnknownTicket b = (refl, refl)
+refused_counts i error.AlreadyTaken b = (refl, refl, one_more b.ackers)
+refused_counts i error.UnknownTicket b = (refl, refl, one_more b.ackers)
 
 pub incoming_counts : (i : Incoming) (r : Record) (b : Wire) → SameCounts (after_incoming i r b) b
 incoming_counts i (record_.Refused e) b = refused_counts i e b
 incoming_counts i record_.Received b = received_counts i b
-incoming_counts i (record_.Ticket n) b = (refl, refl)
-incoming_counts i (record_.Publish t n) b = (refl, refl)
-incoming_counts i (record_.Frame f) b = (refl, refl)
-incoming_counts i record_.NoFrame b = (refl, refl)
-incoming_counts i record_.Passed b = (refl, refl)
-incoming_counts i record_.Pending b = (refl, refl)
-incoming_counts i (record_.Answer a) b = (refl, refl)
-incoming_counts i (record_.Confirmed o) b = (refl, refl)
-incoming_counts i (record_.State x y) b = (refl, refl)
-incoming_counts i record_.Aside b = (refl, refl)
-incoming_counts i record_.Lost b = (refl, refl)
+incoming_counts i (record_.Ticket n) b = (refl, refl, one_more b.ackers)
+incoming_counts i (record_.Publish t n) b = (refl, refl, one_more b.ackers)
+incoming_counts i (record_.Frame f) b = (refl, refl, one_more b.ackers)
+incoming_counts i record_.NoFrame b = (refl, refl, one_more b.ackers)
+incoming_counts i record_.Passed b = (refl, refl, one_more b.ackers)
+incoming_counts i record_.Pending b = (refl, refl, one_more b.ackers)
+incoming_counts i (record_.Answer a) b = (refl, refl, one_more b.ackers)
+incoming_counts i (record_.Confirmed o) b = (refl, refl, one_more b.ackers)
+incoming_counts i (record_.State x y) b = (refl, refl, one_more b.ackers)
+incoming_counts i record_.Aside b = (refl, refl, one_more b.ackers)
+incoming_counts i (record_.Returned ms) b = (refl, refl, one_more b.ackers)
+incoming_counts i record_.Lost b = (refl, refl, one_more b.ackers)
 
 pub lost_counts : (b : Wire) → SameCounts (after_lost b) b
-lost_counts b = choose_counts (is_lost b.link) b _ b (refl, refl) (refl, refl)
+lost_counts b = choose_counts (is_lost b.link) b _ b (refl, refl, one_more b.ackers) (refl, refl, one_more b.ackers)
 
 pub next_counts : (flow : Bool) (b : Wire) → SameCounts (after_next flow b) b
 next_counts flow b = at (handed flow b)
   where
     at : (o : Option Left) → SameCounts (sent o (with_lists (left_lists b.frame_max (may_begin flow b) (lists_of b)) b)) b
-    at None = (refl, refl)
-    at (Some l) = (refl, refl)
+    at None = (refl, refl, one_more b.ackers)
+    at (Some l) = (refl, refl, one_more b.ackers)
 
 tickets-next : (b : Wire) (e : Event) (r : Record) → (after_event b e r).tickets ≤ b.tickets + 1
 tickets-next b (event.Call c k) r = choose_le (is_allowed (asked k) (state_of c b)) (after_call c (asked k) b) b (b.tickets + 1) (λ x. x.tickets) (tickets_call c (asked k) b) (omega arith)
@@ -136,7 +162,9 @@ tickets-next b (event.Next flow) r = let same : (after_next flow b).tickets ≡ 
 tickets-next b (event.Receive f) r = let same : (after_incoming (incoming_of f) r b).tickets ≡ b.tickets = (incoming_counts (incoming_of f) r b).0 in omega arith
 tickets-next b (event.PollTicket n) r = omega arith
 tickets-next b (event.PollConfirm n) r = omega arith
+tickets-next b (event.PollWait c) r = omega arith
 tickets-next b (event.AsideTicket n) r = omega arith
+tickets-next b (event.AsideConfirm n) r = omega arith
 tickets-next b (event.State c) r = omega arith
 tickets-next b event.Lost r = let same : (after_lost b).tickets ≡ b.tickets = (lost_counts b).0 in omega arith
 
@@ -146,17 +174,33 @@ published-next b (event.Next flow) r = let same : (after_next flow b).published 
 published-next b (event.Receive f) r = let same : (after_incoming (incoming_of f) r b).published ≡ b.published = (incoming_counts (incoming_of f) r b).1 in omega arith
 published-next b (event.PollTicket n) r = omega arith
 published-next b (event.PollConfirm n) r = omega arith
+published-next b (event.PollWait c) r = omega arith
 published-next b (event.AsideTicket n) r = omega arith
+published-next b (event.AsideConfirm n) r = omega arith
 published-next b (event.State c) r = omega arith
 published-next b event.Lost r = let same : (after_lost b).published ≡ b.published = (lost_counts b).1 in omega arith
+
+ackers-next : (b : Wire) (e : Event) (r : Record) → (after_event b e r).ackers ≤ b.ackers + 1
+ackers-next b (event.Call c k) r = choose_le (is_allowed (asked k) (state_of c b)) (after_call c (asked k) b) b (b.ackers + 1) (λ x. x.ackers) (let same : (after_call c (asked k) b).ackers ≡ b.ackers = ackers_call c (asked k) b in omega arith) (one_more b.ackers)
+ackers-next b (event.Next flow) r = (next_counts flow b).2
+ackers-next b (event.Receive f) r = (incoming_counts (incoming_of f) r b).2
+ackers-next b (event.PollTicket n) r = one_more b.ackers
+ackers-next b (event.PollConfirm n) r = one_more b.ackers
+ackers-next b (event.PollWait c) r = one_more b.ackers
+ackers-next b (event.AsideTicket n) r = one_more b.ackers
+ackers-next b (event.AsideConfirm n) r = one_more b.ackers
+ackers-next b (event.State c) r = one_more b.ackers
+ackers-next b event.Lost r = (lost_counts b).2
 
 pub numbers-next : (n : ℕ) (w : World) (e : Event) → HasNumbersFor (suc n) w → HasNumbersFor n (next w e)
 numbers-next n w e h =
     let tickets : w.wire.tickets + suc n < 2 ^ 64 = h.tickets in
     let confirms : w.wire.published + suc n < 2 ^ 64 = h.confirms in
+    let ackers : w.wire.ackers + suc n < 2 ^ 64 = h.ackers in
     let more : (next w e).wire.tickets ≤ w.wire.tickets + 1 = next_keeps (λ v. v.wire.tickets ≤ w.wire.tickets + 1) w e (tickets-next w.wire e (told_anew w e)) (omega arith) in
     let also : (next w e).wire.published ≤ w.wire.published + 1 = next_keeps (λ v. v.wire.published ≤ w.wire.published + 1) w e (published-next w.wire e (told_anew w e)) (omega arith) in
-    record { tickets = omega arith; confirms = omega arith }
+    let last : (next w e).wire.ackers ≤ w.wire.ackers + 1 = next_keeps (λ v. v.wire.ackers ≤ w.wire.ackers + 1) w e (ackers-next w.wire e (told_anew w e)) (one_more w.wire.ackers) in
+    record { tickets = omega arith; confirms = omega arith; ackers = omega arith }
 
 more : (n : ℕ) (w : World) → HasNumbersFor (suc n) w → w.wire.tickets + 1 ≡ 2 ^ 64 → ⊥
 more n w h full = let t : w.wire.tickets + suc n < 2 ^ 64 = h.tickets in omega arith
@@ -172,14 +216,28 @@ no_lack n w (ask.Publish exchange key o payload properties) h full = elim full [
   | inr confirms ↦ (let p : w.wire.published + suc n < 2 ^ 64 = h.confirms in let e : w.wire.published + 1 ≡ 2 ^ 64 = confirms in omega arith)
 ]
 
+-- and no frame an acker
+no_acker : (n : ℕ) (w : World) (i : Incoming) → HasNumbersFor (suc n) w → LacksAcker i w.wire → ⊥
+no_acker n w (incoming.Content c p) h u = let some : w.wire.ackers + suc n < 2 ^ 64 = h.ackers in let full : w.wire.ackers + 1 ≡ 2 ^ 64 = u.2 in omega arith
+no_acker n w (incoming.Reply c k a) h u = absurd u
+no_acker n w (incoming.Settlement c s) h u = absurd u
+no_acker n w (incoming.ChannelClose c code) h u = absurd u
+no_acker n w (incoming.ChannelCloseOk c) h u = absurd u
+no_acker n w (incoming.ConnectionClose code) h u = absurd u
+no_acker n w incoming.ConnectionCloseOk h u = absurd u
+no_acker n w (incoming.Flow c active) h u = absurd u
+no_acker n w incoming.Other h u = absurd u
+
 -- a counter that has a further number isn't used up
 pub has_number : (n : ℕ) (w : World) (e : Event) → HasNumbersFor (suc n) w → EventUsedUp e w.wire → ⊥
 has_number n w (event.Call c k) h u = no_lack n w (asked k) h u.1
 has_number n w (event.Next flow) h u = absurd u
-has_number n w (event.Receive f) h u = absurd u
+has_number n w (event.Receive f) h u = no_acker n w (incoming_of f) h u
 has_number n w (event.PollTicket k) h u = absurd u
 has_number n w (event.PollConfirm k) h u = absurd u
+has_number n w (event.PollWait c) h u = absurd u
 has_number n w (event.AsideTicket k) h u = absurd u
+has_number n w (event.AsideConfirm k) h u = absurd u
 has_number n w (event.State c) h u = absurd u
 has_number n w event.Lost h u = absurd u
 
@@ -193,13 +251,14 @@ longer-push old new records rest ends r h e = record {
 
 -- ---- no counter is above the number of events
 
-within_on : (p : Past) (h : History) → ((past_on p h).wire.tickets ≤ p.wire.tickets + length h) × ((past_on p h).wire.published ≤ p.wire.published + length h)
-within_on p [] = (omega arith, omega arith)
+within_on : (p : Past) (h : History) → ((past_on p h).wire.tickets ≤ p.wire.tickets + length h) × ((past_on p h).wire.published ≤ p.wire.published + length h) × ((past_on p h).wire.ackers ≤ p.wire.ackers + length h)
+within_on p [] = (omega arith, omega arith, omega arith)
 within_on p (x ∷ h) =
     let rest = within_on (longer p x.0 x.1) h in
     let one : (longer p x.0 x.1).wire.tickets ≤ p.wire.tickets + 1 = tickets-next p.wire x.0 x.1 in
     let also : (longer p x.0 x.1).wire.published ≤ p.wire.published + 1 = published-next p.wire x.0 x.1 in
-    (omega (arith, rest.0, one), omega (arith, rest.1, also))
+    let last : (longer p x.0 x.1).wire.ackers ≤ p.wire.ackers + 1 = ackers-next p.wire x.0 x.1 in
+    (omega (arith, rest.0, one), omega (arith, rest.1, also), omega (arith, rest.2, last))
 
 -- a session that stands for a history has used at most one number of each counter an event
 pub standing_numbers : (n m : ℕ) (h : History) (w : World) → Stands n h w → length h + m < 2 ^ 64 → HasNumbersFor m w
@@ -207,4 +266,5 @@ standing_numbers n m h w s few =
     let within = within_on (past n []) h in
     let t : w.wire.tickets ≡ (past n h).wire.tickets = ap (λ b. b.tickets) s.wire in
     let p : w.wire.published ≡ (past n h).wire.published = ap (λ b. b.published) s.wire in
-    record { tickets = omega (arith, within.0, t); confirms = omega (arith, within.1, p) }
+    let a : w.wire.ackers ≡ (past n h).wire.ackers = ap (λ b. b.ackers) s.wire in
+    record { tickets = omega (arith, within.0, t); confirms = omega (arith, within.1, p); ackers = omega (arith, within.2, a) }

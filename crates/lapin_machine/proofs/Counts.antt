@@ -18,8 +18,12 @@ use Rattle.lapin_history.specs.Asking.{made_marks}
 use Rattle.lapin_history.specs.Handing.{begun_ticket, last_ticket, left_tickets, frame_marks, entry_marks, left_marks}
 use Rattle.lapin_ticket.specs.declared.Slot.{Slot}
 use Rattle.lapin_ticket.specs.Slots.{after_mark, answered_slot, begun_slot, left_slot, closed_slot, failed_slot}
-use Rattle.lapin_confirm.specs.Book.{Book, closed_here, ended}
-use Rattle.lapin_confirm.specs.Book as book
+use Rattle.lapin_confirm.specs.Book.{is_resolved}
+use Rattle.lapin_confirm.specs.Post.{Post, letters_at}
+use Rattle.lapin_confirm.specs.Aside.{kept_by, laid_by}
+use Rattle.lapin_confirm.specs.Drain.{remaining, over_aside}
+use Rattle.lapin_confirm.proofs.Remaining.{count-less}
+use Rattle.lapin_confirm.specs.Machine as post
 
 -- ---- as many tickets
 
@@ -54,15 +58,28 @@ opening-count c (Some n) e slots = length-under n (under n slots) (map (failed_s
 
 -- ---- as many confirms
 
-pub rejected-count : (c : ℕ) (e : Error) (b : Book) → length (closed_here c e b).cells ≡ length b.cells
-rejected-count c e b = length-map b.cells _
+pub rejected-count : (c : ℕ) (e : Error) (p : Post) → length (post.after_mark p (mark.ClosedHere c e)).book.cells ≡ length p.book.cells
+rejected-count c e p = length-map p.book.cells _
 
-pub ended-count : (c : ℕ) (e : Error) (b : Book) → length (ended c e b).cells ≡ length b.cells
-ended-count c e b = length-map b.cells _
+pub ended-count : (c : ℕ) (e : Error) (p : Post) → length (post.after_mark p (mark.Ended c e)).book.cells ≡ length p.book.cells
+ended-count c e p = length-map p.book.cells _
 
-pub ends-count : (e : Error) (cs : List ℕ) (b : Book) → length (fold book.after_mark b (ends e cs)).cells ≡ length b.cells
-ends-count e [] b = refl
-ends-count e (c ∷ cs) b = ends-count e cs (ended c e b) ∙ ended-count c e b
+pub ends-count : (e : Error) (cs : List ℕ) (p : Post) → length (fold post.after_mark p (ends e cs)).book.cells ≡ length p.book.cells
+ends-count e [] p = refl
+ends-count e (c ∷ cs) p = ends-count e cs (post.after_mark p (mark.Ended c e)) ∙ ended-count c e p
+
+-- of which some are kept no more
+pub begun-confirms : (c : ℕ) (p : Post) → length (post.after_mark p (mark.Begun c)).book.cells ≡ length p.book.cells
+begun-confirms c p = count-less (letters_at c p).aside (remaining p.book.cells p.homes)
+
+pub drained-count : (c : ℕ) (p : Post) → length (post.after_mark p (mark.Drained c)).book.cells ≡ length p.book.cells
+drained-count c p = count-less (over_aside c p) (remaining p.book.cells p.homes)
+
+pub taken-count : (n : ℕ) (p : Post) → length (post.after_mark p (mark.Taken n)).book.cells ≡ length p.book.cells
+taken-count n p = length-under n None p.book.cells
+
+pub aside-count : (n : ℕ) (p : Post) → length (post.after_mark p (mark.SetAside n)).book.cells ≡ length p.book.cells
+aside-count n p = elim (is_resolved (under n p.book.cells)) as (λ b. length (cond b (kept_by n p) (laid_by n p)).book.cells ≡ length p.book.cells) [ true ↦ length-under n None p.book.cells | false ↦ refl ]
 
 -- ---- a frame that leaves
 
@@ -84,22 +101,22 @@ left_tickets-count (Some l) slots =
     ∙ last-count l.last l.ticket (fold after_mark slots (begun_ticket l.first l.ticket l.publish))
     ∙ begun-count l.first l.ticket l.publish slots
 
-method_marks-count : (c : ℕ) (m : Method) (b : Book) → length (fold book.after_mark b (method_marks c m)).cells ≡ length b.cells
-method_marks-count c m b = elim (is_select m) as (λ s. length (fold book.after_mark b (cond s (mark.SelectLeft c ∷ []) [])).cells ≡ length b.cells) [ true ↦ refl | false ↦ refl ]
+method_marks-count : (c : ℕ) (m : Method) (p : Post) → length (fold post.after_mark p (method_marks c m)).book.cells ≡ length p.book.cells
+method_marks-count c m p = elim (is_select m) as (λ s. length (fold post.after_mark p (cond s (mark.SelectLeft c ∷ []) [])).book.cells ≡ length p.book.cells) [ true ↦ refl | false ↦ refl ]
 
-frame_marks-count : (f : Frame) (b : Book) → length (fold book.after_mark b (frame_marks f)).cells ≡ length b.cells
-frame_marks-count (frame.Method c m) b = method_marks-count c m b
-frame_marks-count (frame.Header c h) b = refl
-frame_marks-count (frame.Body c bytes) b = refl
+frame_marks-count : (f : Frame) (p : Post) → length (fold post.after_mark p (frame_marks f)).book.cells ≡ length p.book.cells
+frame_marks-count (frame.Method c m) p = method_marks-count c m p
+frame_marks-count (frame.Header c h) p = refl
+frame_marks-count (frame.Body c bytes) p = refl
 
-entry_marks-count : (f : Frame) (o : Option ℕ) (first : Bool) (b : Book) → length (fold book.after_mark b (entry_marks f o first)).cells ≡ length b.cells
-entry_marks-count f None first b = frame_marks-count f b
-entry_marks-count f (Some n) true b = length-under n _ b.cells
-entry_marks-count f (Some n) false b = refl
+entry_marks-count : (f : Frame) (o : Option ℕ) (first : Bool) (p : Post) → length (fold post.after_mark p (entry_marks f o first)).book.cells ≡ length p.book.cells
+entry_marks-count f None first p = frame_marks-count f p
+entry_marks-count f (Some n) true p = length-under n _ p.book.cells
+entry_marks-count f (Some n) false p = refl
 
-pub left_marks-count : (o : Option Left) (b : Book) → length (fold book.after_mark b (left_marks o)).cells ≡ length b.cells
-left_marks-count None b = refl
-left_marks-count (Some l) b = entry_marks-count l.frame l.publish l.first b
+pub left_marks-count : (o : Option Left) (p : Post) → length (fold post.after_mark p (left_marks o)).book.cells ≡ length p.book.cells
+left_marks-count None p = refl
+left_marks-count (Some l) p = entry_marks-count l.frame l.publish l.first p
 
 -- the same, of what is known to be so
 pub failed_counted : (e : Error) (slots new : List (Option Slot)) → new ≡ after_mark slots (ticket.AllFailed e) → length new ≡ length slots
@@ -108,11 +125,11 @@ failed_counted e slots new h = ap length h ∙ failed-count e slots
 pub closed_counted : (c : ℕ) (e : Error) (slots new : List (Option Slot)) → new ≡ after_mark slots (ticket.ClosedHere c e) → length new ≡ length slots
 closed_counted c e slots new h = ap length h ∙ closed-count c e slots
 
-pub rejected_counted : (c : ℕ) (e : Error) (b new : Book) → new ≡ closed_here c e b → length new.cells ≡ length b.cells
-rejected_counted c e b new h = ap (λ (x : Book). length x.cells) h ∙ rejected-count c e b
+pub rejected_counted : (c : ℕ) (e : Error) (p new : Post) → new ≡ post.after_mark p (mark.ClosedHere c e) → length new.book.cells ≡ length p.book.cells
+rejected_counted c e p new h = ap (λ (x : Post). length x.book.cells) h ∙ rejected-count c e p
 
-pub ends_counted : (e : Error) (xs : List ℕ) (b new : Book) → new ≡ fold book.after_mark b (ends e xs) → length new.cells ≡ length b.cells
-ends_counted e xs b new h = ap (λ (x : Book). length x.cells) h ∙ ends-count e xs b
+pub ends_counted : (e : Error) (xs : List ℕ) (p new : Post) → new ≡ fold post.after_mark p (ends e xs) → length new.book.cells ≡ length p.book.cells
+ends_counted e xs p new h = ap (λ (x : Post). length x.book.cells) h ∙ ends-count e xs p
 
-pub called-count : (c : ℕ) (m : Method) (b : Book) → length (fold book.after_mark b (queued_marks c m)).cells ≡ length b.cells
-called-count c m b = elim (is_select m) as (λ s. length (fold book.after_mark b (cond s (mark.SelectCalled c ∷ []) [])).cells ≡ length b.cells) [ true ↦ refl | false ↦ refl ]
+pub called-count : (c : ℕ) (m : Method) (p : Post) → length (fold post.after_mark p (queued_marks c m)).book.cells ≡ length p.book.cells
+called-count c m p = elim (is_select m) as (λ s. length (fold post.after_mark p (cond s (mark.SelectCalled c ∷ []) [])).book.cells ≡ length p.book.cells) [ true ↦ refl | false ↦ refl ]

@@ -26,8 +26,14 @@ use Rattle.lapin_history.specs.Readings.{Readings}
 use Rattle.lapin_history.specs.Calls.{asked}
 use Rattle.lapin_history.specs.Incoming.{incoming_of, frame_class, frame_method}
 use Rattle.lapin_history.specs.Phases.{is_up, is_lost}
-use Rattle.lapin_history.specs.Polls.{is_confirmed}
+use Rattle.lapin_history.specs.Polls.{is_confirmed, is_returned, is_aside}
 use Rattle.lapin_history.specs.Select.{is_select}
+use Rattle.lapin_history.specs.declared.broker_frames.ContentPart.{ContentPart}
+use Rattle.lapin_history.specs.declared.broker_frames.ContentPart.TheVariants as part
+use Rattle.lapin_content.specs.declared.start.Start.{Start}
+use Rattle.lapin_content.specs.declared.start.Start.TheVariants as start
+use Rattle.lapin_content.specs.declared.start.Whole.{Whole}
+use Rattle.lapin_history.specs.Content.{receives_part, start_marks, whole_marks, whole_on}
 use Rattle.lapin_history.specs.Words.{with_channel}
 use Rattle.lapin_history.specs.Wire.{Wire, state_of, phase_of, is_open, is_base, receives_on, noted}
 use Rattle.lapin_history.specs.Asking.{is_allowed, after_call, call_marks}
@@ -136,6 +142,22 @@ close_ok_goes c phase.Opening b r = quiet b.link r
 close_ok_goes c (phase.Open paused) b r = quiet b.link r
 close_ok_goes c phase.Crossed b r = quiet b.link r
 
+-- a whole content ends no opening
+start_stays : (c : ℕ) (s : Start) (w : Whole) (r : Option Left) → without_ended (start_marks c s w) r ≡ r
+start_stays c (start.Return code text exchange key) w r = refl
+start_stays c (start.Get ticket tag exchange key redelivered count) w r = refl
+start_stays c (start.Deliver consumer tag exchange key redelivered) w r = refl
+
+whole_stays : (c : ℕ) (w : Option Whole) (r : Option Left) → without_ended (whole_marks c w) r ≡ r
+whole_stays c None r = refl
+whole_stays c (Some w) r = start_stays c w.start w r
+
+part_goes : (c : ℕ) (p : ContentPart) (b : Wire) (r : Option Left) → G (incoming.Content c p) record_.Received b r
+part_goes c (part.GetOk s) b r = quiet b.link r
+part_goes c (part.Return s) b r = quiet b.link r
+part_goes c (part.Header h) b r = quiet_marks b.link (whole_marks c (whole_on c (part.Header h) b)) r (whole_stays c (whole_on c (part.Header h) b) r)
+part_goes c (part.Body bytes) b r = quiet_marks b.link (whole_marks c (whole_on c (part.Body bytes) b)) r (whole_stays c (whole_on c (part.Body bytes) b) r)
+
 open_goes : (readings : Readings) (class number : ℕ) (i : Incoming) (b : Wire) (r : Option Left) → b.link ≡ link.Open → G i (incoming_up b readings (refused class number) i) b r
 open_goes readings class number (incoming.Reply c q a) b r e = choose_goes (receives_reply c q b) (incoming.Reply c q a) record_.Received (refused class number) b r (quiet b.link r) (unheard_goes (incoming.Reply c q a) class number b r e)
 open_goes readings class number (incoming.Settlement c s) b r e =
@@ -146,6 +168,7 @@ open_goes readings class number (incoming.Settlement c s) b r e =
     (failed_goes c s s.tag (readings.last c) b r))
     (quiet b.link r))
     (unheard_goes (incoming.Settlement c s) class number b r e)
+open_goes readings class number (incoming.Content c p) b r e = choose_goes (receives_part c p b) (incoming.Content c p) record_.Received (refused class number) b r (part_goes c p b r) (unheard_goes (incoming.Content c p) class number b r e)
 open_goes readings class number (incoming.Flow c active) b r e = choose_goes (receives_on (state_of c b)) (incoming.Flow c active) record_.Received (refused class number) b r (flow_goes c active b r) (unheard_goes (incoming.Flow c active) class number b r e)
 open_goes readings class number (incoming.ChannelClose c code) b r e = choose_goes (receives_close (state_of c b)) (incoming.ChannelClose c code) record_.Received (refused class number) b r (rw (stays b.link) refl) (unheard_goes (incoming.ChannelClose c code) class number b r e)
 open_goes readings class number (incoming.ChannelCloseOk c) b r e = choose_goes (receives_close_ok (state_of c b)) (incoming.ChannelCloseOk c) record_.Received (refused class number) b r (close_ok_goes c (phase_of c b) b r) (unheard_goes (incoming.ChannelCloseOk c) class number b r e)
@@ -165,6 +188,7 @@ closing_goes true false readings x (incoming.ConnectionClose code) b r e shut = 
 closing_goes false false readings x (incoming.ConnectionClose code) b r e shut = rw e refl
 closing_goes s was readings x (incoming.Reply c q a) b r e shut = rw e (quiet (link.Closing s was) r)
 closing_goes s was readings x (incoming.Settlement c y) b r e shut = rw e (quiet (link.Closing s was) r)
+closing_goes s was readings x (incoming.Content c p) b r e shut = rw e (quiet (link.Closing s was) r)
 closing_goes s was readings x (incoming.ChannelClose c code) b r e shut = rw e (quiet (link.Closing s was) r)
 closing_goes s was readings x (incoming.ChannelCloseOk c) b r e shut = rw e (quiet (link.Closing s was) r)
 closing_goes s was readings x (incoming.Flow c active) b r e shut = rw e (quiet (link.Closing s was) r)
@@ -196,10 +220,12 @@ goes_anew w (event.Next flow) step shut =
     let L : ConnectionPhase = (next_anew w (event.Next flow)).wire.link in
     let P : Option Left → Type 0 = λ r. r ≡ after_ends w.wire.link L (left_marks (handed flow w.wire)) r in
     subst P (sym step) (none_goes w.wire.link L (left_marks (handed flow w.wire)))
-goes_anew w (event.Receive f) step shut = incoming_goes w.wire.link (readings_of w.book w.slots) (frame_class f) (frame_method f) (incoming_of f) w.wire w.returned refl shut
+goes_anew w (event.Receive f) step shut = incoming_goes w.wire.link (readings_of w.post w.slots) (frame_class f) (frame_method f) (incoming_of f) w.wire w.returned refl shut
 goes_anew w (event.PollTicket n) step shut = quiet w.wire.link w.returned
 goes_anew w (event.PollConfirm n) step shut = quiet_marks w.wire.link (confirm_marks w.wire (event.PollConfirm n) (told_anew w (event.PollConfirm n))) w.returned (select_quiet (is_confirmed (told_anew w (event.PollConfirm n))) (mark.Taken n) w.returned refl)
+goes_anew w (event.PollWait c) step shut = quiet_marks w.wire.link (confirm_marks w.wire (event.PollWait c) (told_anew w (event.PollWait c))) w.returned (select_quiet (is_returned (told_anew w (event.PollWait c))) (mark.Drained c) w.returned refl)
 goes_anew w (event.AsideTicket n) step shut = quiet w.wire.link w.returned
+goes_anew w (event.AsideConfirm n) step shut = quiet_marks w.wire.link (confirm_marks w.wire (event.AsideConfirm n) (told_anew w (event.AsideConfirm n))) w.returned (select_quiet (is_aside (told_anew w (event.AsideConfirm n))) (mark.SetAside n) w.returned refl)
 goes_anew w (event.State c) step shut = quiet w.wire.link w.returned
 goes_anew w event.Lost step shut = lost_goes w.wire.link w.wire w.returned refl shut
 

@@ -1,5 +1,5 @@
 -- What ties a session's parts together holds after each change.
-use Rattle.std.proofs.Common.{◌≡◌, ◌≢◌, ℕ, zero, suc, ◌+◌, ◌<◌, ◌==◌, nat_lt, ltb-true, ltb-false, Bool, true, false, cond, ◌||◌, ◌&&◌, List, [], ◌∷◌, ◌++◌, map, length, Option, Some, None, refl, sym, ◌∙◌, ap, subst, arith, slice_set, get_or, inl, inr, ne_eqb, eq-eqb}
+use Rattle.std.proofs.Common.{◌≡◌, ◌≢◌, ℕ, zero, suc, ◌+◌, ◌<◌, ◌==◌, nat_lt, ltb-true, ltb-false, Bool, true, false, cond, not, ◌||◌, ◌&&◌, List, [], ◌∷◌, ◌++◌, map, length, Option, Some, None, refl, sym, ◌∙◌, ap, subst, arith, slice_set, get_or, inl, inr, ne_eqb, eq-eqb}
 use Rattle.std.specs.Prelude.{IsSome}
 use Rattle.std.specs.List.{list_any, fold}
 use Rattle.std.specs.Option.{option_map}
@@ -39,7 +39,11 @@ use Rattle.lapin_history.proofs.ChannelLaws.{at-on, at-with}
 use Rattle.lapin_history.proofs.ListLaws.{any-push}
 use Rattle.lapin_confirm.specs.declared.cell.Cell.{Cell}
 use Rattle.lapin_confirm.specs.declared.cell.Cell.TheVariants as cell
-use Rattle.lapin_confirm.specs.Book.{Book, LedgerState, empty_book, fresh_ledger, selected_ledger, asked_ledger, next_ledger, ended_ledger, tag_for, ledgers_with, cell_with, settled_cell, closed_cell, is_queued_on, is_open_on, is_resolved, begun, with_publish, select_left, left, settled, closed_here, ended, taken, after_mark}
+use Rattle.lapin_confirm.specs.Book.{Book, LedgerState, empty_book, fresh_ledger, selected_ledger, asked_ledger, next_ledger, ended_ledger, tag_for, ledgers_with, cell_with, settled_cell, closed_cell, is_queued_on, is_open_on, is_resolved, begun, with_publish, select_left, left, settled, closed_here, ended, taken}
+use Rattle.lapin_confirm.specs.Post.{Post, letters_at}
+use Rattle.lapin_confirm.specs.Machine.{after_mark}
+use Rattle.lapin_confirm.specs.Aside.{is_set_aside, is_giving, kept_by as kept_aside, laid_by}
+use Rattle.lapin_confirm.specs.Drain.{Remains, remaining, is_over, less_one, less_all, over_aside, renewed_on}
 use Rattle.lapin_confirm.proofs.Ended.{any-ended}
 use Rattle.lapin_desk.specs.Queued.{AreQueued}
 use Rattle.lapin_desk.proofs.Ends.{ends-join}
@@ -97,32 +101,32 @@ ended_none c d e b h = any-ended c d e b ∙ elim (d == c) as (λ t. cond t fals
 ended_here : (c : ℕ) (e : Error) (b : Book) → list_any (is_open_on c) (ended c e b).cells ≡ false
 ended_here c e b = let same : (c == c) ≡ true = eq-eqb c c refl in any-ended c c e b ∙ rw same refl
 
-ends_none : (c : ℕ) (e : Error) (cs : List ℕ) (b : Book) → list_any (is_open_on c) b.cells ≡ false → list_any (is_open_on c) (fold after_mark b (ends e cs)).cells ≡ false
-ends_none c e [] b h = h
-ends_none c e (d ∷ cs) b h = ends_none c e cs (ended d e b) (ended_none c d e b h)
+ends_none : (c : ℕ) (e : Error) (cs : List ℕ) (p : Post) → list_any (is_open_on c) p.book.cells ≡ false → list_any (is_open_on c) (fold after_mark p (ends e cs)).book.cells ≡ false
+ends_none c e [] p h = h
+ends_none c e (d ∷ cs) p h = ends_none c e cs (after_mark p (mark.Ended d e)) (ended_none c d e p.book h)
 
 -- a channel of a live opening has nothing unresolved once all those below a greater number ended
-ends_below : (c n : ℕ) (e : Error) (xs : List (ℕ × ChannelPhase)) (b : Book) → c < n → is_live (phase_in (at_channel c xs)) ≡ true → list_any (is_open_on c) (fold after_mark b (ends e (live_below n xs))).cells ≡ false
-ends_below c zero e xs b lt live = absurd (omega arith)
-ends_below c (suc k) e xs b lt live =
-    let B : Book = fold after_mark b (ends e (live_below k xs)) in
+ends_below : (c n : ℕ) (e : Error) (xs : List (ℕ × ChannelPhase)) (p : Post) → c < n → is_live (phase_in (at_channel c xs)) ≡ true → list_any (is_open_on c) (fold after_mark p (ends e (live_below n xs))).book.cells ≡ false
+ends_below c zero e xs p lt live = absurd (omega arith)
+ends_below c (suc k) e xs p lt live =
+    let B : Post = fold after_mark p (ends e (live_below k xs)) in
     let last : List ℕ = cond (is_live (phase_in (at_channel k xs))) (k ∷ []) [] in
-    let C : Book → Type 0 = λ x. list_any (is_open_on c) x.cells ≡ false in
-    subst C (sym (ends-join e (live_below k xs) last b))
+    let C : Post → Type 0 = λ x. list_any (is_open_on c) x.book.cells ≡ false in
+    subst C (sym (ends-join e (live_below k xs) last p))
     (elim (eqb_tells c k) [
       | inl same ↦
           let here : is_live (phase_in (at_channel k xs)) ≡ true = subst (λ i. is_live (phase_in (at_channel i xs)) ≡ true) same.1 live in
-          let P : ℕ → Type 0 = λ i. list_any (is_open_on i) (ended k e B).cells ≡ false in
-          rw here (subst P (sym same.1) (ended_here k e B))
+          let P : ℕ → Type 0 = λ i. list_any (is_open_on i) (ended k e B.book).cells ≡ false in
+          rw here (subst P (sym same.1) (ended_here k e B.book))
       | inr other ↦
           let apart : c ≢ k = other.1 in
-          ends_none c e last B (ends_below c k e xs b (omega arith) live)
+          ends_none c e last B (ends_below c k e xs p (omega arith) live)
     ])
 
 -- and once all ended
-ends_live : (c : ℕ) (e : Error) (xs : List (ℕ × ChannelPhase)) (b : Book) → is_live (phase_in (at_channel c xs)) ≡ true → list_any (is_open_on c) (fold after_mark b (ends e (live_channels xs))).cells ≡ false
-ends_live c e xs b live = elim (nat_lt c (beyond xs)) as (λ t. nat_lt c (beyond xs) ≡ t → list_any (is_open_on c) (fold after_mark b (ends e (live_channels xs))).cells ≡ false) [
-  | true ↦ λ within. ends_below c (beyond xs) e xs b (ltb-true c (beyond xs) within) live
+ends_live : (c : ℕ) (e : Error) (xs : List (ℕ × ChannelPhase)) (p : Post) → is_live (phase_in (at_channel c xs)) ≡ true → list_any (is_open_on c) (fold after_mark p (ends e (live_channels xs))).book.cells ≡ false
+ends_live c e xs p live = elim (nat_lt c (beyond xs)) as (λ t. nat_lt c (beyond xs) ≡ t → list_any (is_open_on c) (fold after_mark p (ends e (live_channels xs))).book.cells ≡ false) [
+  | true ↦ λ within. ends_below c (beyond xs) e xs p (ltb-true c (beyond xs) within) live
   | false ↦ λ past.
       let none : at_channel c xs ≡ None = beyond-none c xs (ltb-false c (beyond xs) past) in
       let dead : is_live (phase_in (at_channel c xs)) ≡ false = ap (λ o. is_live (phase_in o)) none in
@@ -174,9 +178,9 @@ live_up l p up live = rw up live
 pub tied_new : IsTied link.Open [] [] empty_book
 tied_new = record { queued = queue-none [] (λ c. refl); ledgers = λ c h. cc; done = λ c h. refl; down = λ h. cc }
 
--- a channel is opened
-pub tied_open : (l : ConnectionPhase) (c : ℕ) (phases : List (ℕ × ChannelPhase)) (ps : List Publish) (b : Book) → is_up l ≡ true → IsTied l phases ps b → IsTied l (with_channel c phase.Opening phases) ps (begun c b)
-tied_open l c phases ps b up t =
+-- a line begins anew
+tied_begun : (l : ConnectionPhase) (c : ℕ) (phases : List (ℕ × ChannelPhase)) (ps : List Publish) (b : Book) → is_up l ≡ true → IsTied l phases ps b → IsTied l (with_channel c phase.Opening phases) ps (begun c b)
+tied_begun l c phases ps b up t =
     let here : IsSome (at_channel c (with_channel c fresh_ledger b.ledgers)) = let same : (c == c) ≡ true = eq-eqb c c refl in rw (at-with c c fresh_ledger b.ledgers, same) refl in
     record {
       queued = t.queued;
@@ -227,14 +231,14 @@ tied_dropped l m phases ps b down t =
     record { queued = queue-none b.cells done; ledgers = t.ledgers; done = λ c h. done c; down = λ h. t.down down }
 
 -- the connection is not open any more
-pub tied_down : (l m : ConnectionPhase) (e : Error) (phases : List (ℕ × ChannelPhase)) (ps : List Publish) (b : Book) → IsTied l phases ps b → IsTied m [] [] (fold after_mark b (ends e (live_channels phases)))
-tied_down l m e phases ps b t =
-    let done : (c : ℕ) → list_any (is_open_on c) (fold after_mark b (ends e (live_channels phases))).cells ≡ false = λ c.
-    elim (is_live (phase_in (at_channel c phases))) as (λ v. is_live (phase_in (at_channel c phases)) ≡ v → list_any (is_open_on c) (fold after_mark b (ends e (live_channels phases))).cells ≡ false) [
-      | true ↦ λ live. ends_live c e phases b live
-      | false ↦ λ over. ends_none c e (live_channels phases) b (t.done c (ap (λ v. is_up l && v) over ∙ and_false (is_up l)))
+pub tied_down : (l m : ConnectionPhase) (e : Error) (phases : List (ℕ × ChannelPhase)) (ps : List Publish) (p : Post) → IsTied l phases ps p.book → IsTied m [] [] (fold after_mark p (ends e (live_channels phases))).book
+tied_down l m e phases ps p t =
+    let done : (c : ℕ) → list_any (is_open_on c) (fold after_mark p (ends e (live_channels phases))).book.cells ≡ false = λ c.
+    elim (is_live (phase_in (at_channel c phases))) as (λ v. is_live (phase_in (at_channel c phases)) ≡ v → list_any (is_open_on c) (fold after_mark p (ends e (live_channels phases))).book.cells ≡ false) [
+      | true ↦ λ live. ends_live c e phases p live
+      | false ↦ λ over. ends_none c e (live_channels phases) p (t.done c (ap (λ v. is_up l && v) over ∙ and_false (is_up l)))
     ] refl in
-    record { queued = queue-none (fold after_mark b (ends e (live_channels phases))).cells done; ledgers = λ c h. cc; done = λ c h. done c; down = λ h. refl }
+    record { queued = queue-none (fold after_mark p (ends e (live_channels phases))).book.cells done; ledgers = λ c h. cc; done = λ c h. done c; down = λ h. refl }
   where
     and_false : (x : Bool) → (x && false) ≡ false
     and_false true = refl
@@ -284,21 +288,21 @@ tied_left l phases p ps b t = record {
 tied_select : (l : ConnectionPhase) (c : ℕ) (phases : List (ℕ × ChannelPhase)) (ps : List Publish) (b : Book) → IsTied l phases ps b → IsTied l phases ps (select_left c b)
 tied_select l c phases ps b t = record { queued = t.queued; ledgers = λ d h. some_on c d selected_ledger b.ledgers (t.ledgers d h); done = t.done; down = t.down }
 
-tied_method : (l : ConnectionPhase) (c : ℕ) (m : Method) (phases : List (ℕ × ChannelPhase)) (ps : List Publish) (b : Book) → IsTied l phases ps b → IsTied l phases ps (fold after_mark b (method_marks c m))
-tied_method l c m phases ps b t = elim (is_select m) as (λ s. IsTied l phases ps (fold after_mark b (cond s (mark.SelectLeft c ∷ []) []))) [ true ↦ tied_select l c phases ps b t | false ↦ t ]
+tied_method : (l : ConnectionPhase) (c : ℕ) (m : Method) (phases : List (ℕ × ChannelPhase)) (ps : List Publish) (p : Post) → IsTied l phases ps p.book → IsTied l phases ps (fold after_mark p (method_marks c m)).book
+tied_method l c m phases ps p t = elim (is_select m) as (λ s. IsTied l phases ps (fold after_mark p (cond s (mark.SelectLeft c ∷ []) [])).book) [ true ↦ tied_select l c phases ps p.book t | false ↦ t ]
 
 -- a `confirm.select` is called
-pub tied_called : (l : ConnectionPhase) (c : ℕ) (m : Method) (phases : List (ℕ × ChannelPhase)) (ps : List Publish) (b : Book) → IsTied l phases ps b → IsTied l phases ps (fold after_mark b (queued_marks c m))
-tied_called l c m phases ps b t = elim (is_select m) as (λ s. IsTied l phases ps (fold after_mark b (cond s (mark.SelectCalled c ∷ []) []))) [
-  | true ↦ record { queued = t.queued; ledgers = λ d h. some_on c d asked_ledger b.ledgers (t.ledgers d h); done = t.done; down = t.down }
+pub tied_called : (l : ConnectionPhase) (c : ℕ) (m : Method) (phases : List (ℕ × ChannelPhase)) (ps : List Publish) (p : Post) → IsTied l phases ps p.book → IsTied l phases ps (fold after_mark p (queued_marks c m)).book
+tied_called l c m phases ps p t = elim (is_select m) as (λ s. IsTied l phases ps (fold after_mark p (cond s (mark.SelectCalled c ∷ []) [])).book) [
+  | true ↦ record { queued = t.queued; ledgers = λ d h. some_on c d asked_ledger p.book.ledgers (t.ledgers d h); done = t.done; down = t.down }
   | false ↦ t
 ]
 
-pub tied_leaves : (frame_max : ℕ) (flow : Bool) (rest : List RestEntry) (methods : List MethodEntry) (ps : List Publish) (l : ConnectionPhase) (phases : List (ℕ × ChannelPhase)) (b : Book) → IsTied l phases ps b → IsTied l phases (left_of frame_max flow rest methods ps).publishes (fold after_mark b (left_marks (handed_of flow rest methods ps)))
+pub tied_leaves : (frame_max : ℕ) (flow : Bool) (rest : List RestEntry) (methods : List MethodEntry) (ps : List Publish) (l : ConnectionPhase) (phases : List (ℕ × ChannelPhase)) (b : Post) → IsTied l phases ps b.book → IsTied l phases (left_of frame_max flow rest methods ps).publishes (fold after_mark b (left_marks (handed_of flow rest methods ps))).book
 tied_leaves frame_max flow (f ∷ fs) methods ps l phases b t = t
 tied_leaves frame_max flow [] (m ∷ ms) ps l phases b t = tied_method l m.channel m.method phases ps b t
 tied_leaves frame_max true [] [] [] l phases b t = t
-tied_leaves frame_max true [] [] (p ∷ ps) l phases b t = tied_left l phases p ps b t
+tied_leaves frame_max true [] [] (p ∷ ps) l phases b t = tied_left l phases p ps b.book t
 tied_leaves frame_max false [] [] ps l phases b t = t
 
 -- a close of this side that left changes no opening
@@ -359,7 +363,7 @@ tied_sent (frame.Header c h) l phases ps b t = t
 tied_sent (frame.Body c bytes) l phases ps b t = t
 
 -- a frame leaves
-pub tied_handed : (frame_max : ℕ) (flow : Bool) (rest : List RestEntry) (methods : List MethodEntry) (ps : List Publish) (l : ConnectionPhase) (phases : List (ℕ × ChannelPhase)) (b : Book) (x : Left) → IsTied l phases ps b → IsTied (link_sent x.frame l) (phases_sent x.frame phases) (left_of frame_max flow rest methods ps).publishes (fold after_mark b (left_marks (handed_of flow rest methods ps)))
+pub tied_handed : (frame_max : ℕ) (flow : Bool) (rest : List RestEntry) (methods : List MethodEntry) (ps : List Publish) (l : ConnectionPhase) (phases : List (ℕ × ChannelPhase)) (b : Post) (x : Left) → IsTied l phases ps b.book → IsTied (link_sent x.frame l) (phases_sent x.frame phases) (left_of frame_max flow rest methods ps).publishes (fold after_mark b (left_marks (handed_of flow rest methods ps))).book
 tied_handed frame_max flow rest methods ps l phases b x t = tied_sent x.frame l phases _ _ (tied_leaves frame_max flow rest methods ps l phases b t)
 
 -- the publish that leaves is queued
@@ -393,11 +397,43 @@ tied_taken n l phases ps b h t = record {
   down = t.down;
 }
 
+-- ---- confirms of which nothing is kept any more
+
+and_right : (x y : Bool) → (x && y) ≡ true → y ≡ true
+and_right true y h = h
+and_right false y h = cc
+
 -- a poll gives the result only where it is there
-pub tied_poll : (n : ℕ) (l : ConnectionPhase) (phases : List (ℕ × ChannelPhase)) (ps : List Publish) (b : Book) → IsTied l phases ps b → IsTied l phases ps (cond (is_resolved (under n b.cells)) (taken n b) b)
-tied_poll n l phases ps b t =
-    elim (is_resolved (under n b.cells)) as (λ r. is_resolved (under n b.cells) ≡ r → IsTied l phases ps (cond r (taken n b) b))
-    [ true ↦ λ h. tied_taken n l phases ps b h t | false ↦ λ h. t ] refl
+pub tied_given : (n : ℕ) (l : ConnectionPhase) (phases : List (ℕ × ChannelPhase)) (ps : List Publish) (p : Post) → IsTied l phases ps p.book → IsTied l phases ps (cond (is_giving n p) (after_mark p (mark.Taken n)) p).book
+tied_given n l phases ps p t =
+    elim (is_giving n p) as (λ g. is_giving n p ≡ g → IsTied l phases ps (cond g (after_mark p (mark.Taken n)) p).book)
+    [ true ↦ λ h. tied_taken n l phases ps p.book (and_right (not (is_set_aside n p)) (is_resolved (under n p.book.cells)) h) t | false ↦ λ h. t ] refl
+
+pub tied_aside : (n : ℕ) (l : ConnectionPhase) (phases : List (ℕ × ChannelPhase)) (ps : List Publish) (p : Post) → IsTied l phases ps p.book → IsTied l phases ps (after_mark p (mark.SetAside n)).book
+tied_aside n l phases ps p t =
+    elim (is_resolved (under n p.book.cells)) as (λ r. is_resolved (under n p.book.cells) ≡ r → IsTied l phases ps (cond r (kept_aside n p) (laid_by n p)).book)
+    [ true ↦ λ h. tied_taken n l phases ps p.book h t | false ↦ λ h. t ] refl
+
+-- of those that are resolved
+module _ (l : ConnectionPhase) (phases : List (ℕ × ChannelPhase)) (ps : List Publish) (ledgers : List (ℕ × LedgerState)) where
+  abbrev kept_of : Remains → Book
+  kept_of r = record { ledgers = ledgers; cells = r.cells }
+
+  tied_less_one : (n : ℕ) (r : Remains) → IsTied l phases ps (kept_of r) → IsTied l phases ps (kept_of (less_one n r))
+  tied_less_one n r t =
+      elim (is_over r.cells n) as (λ b. is_over r.cells n ≡ b → IsTied l phases ps (kept_of (cond b (remaining (with_under n None r.cells) (with_under n None r.homes)) r)))
+      [ true ↦ λ h. tied_taken n l phases ps (kept_of r) h t | false ↦ λ h. t ] refl
+
+  tied_less_all : (ns : List ℕ) (r : Remains) → IsTied l phases ps (kept_of r) → IsTied l phases ps (kept_of (less_all ns r))
+  tied_less_all [] r t = t
+  tied_less_all (n ∷ ns) r t = tied_less_all ns (less_one n r) (tied_less_one n r t)
+
+pub tied_drained : (c : ℕ) (l : ConnectionPhase) (phases : List (ℕ × ChannelPhase)) (ps : List Publish) (p : Post) → IsTied l phases ps p.book → IsTied l phases ps (after_mark p (mark.Drained c)).book
+tied_drained c l phases ps p t = tied_less_all l phases ps p.book.ledgers (over_aside c p) (remaining p.book.cells p.homes) t
+
+-- a channel is opened
+pub tied_opened : (l : ConnectionPhase) (c : ℕ) (phases : List (ℕ × ChannelPhase)) (ps : List Publish) (p : Post) → is_up l ≡ true → IsTied l phases ps p.book → IsTied l (with_channel c phase.Opening phases) ps (after_mark p (mark.Begun c)).book
+tied_opened l c phases ps p up t = tied_begun l c phases ps (renewed_on c p).book up (tied_less_all l phases ps p.book.ledgers (letters_at c p).aside (remaining p.book.cells p.homes) t)
 
 -- the same values
 pub tied_by : (l k : ConnectionPhase) (s r : List (ℕ × ChannelPhase)) (p q : List Publish) (b d : Book) → l ≡ k → s ≡ r → p ≡ q → b ≡ d → IsTied k r q d → IsTied l s p b

@@ -1,5 +1,6 @@
 pub mod Readings
 pub mod TicketStanding
+pub mod HeardParts
 pub mod ConfirmStanding
 pub mod Standing
 pub mod Keeping
@@ -13,3 +14,8 @@ pub mod Worlds
 pub mod Counting
 pub mod Alone
 pub mod Shut
+pub mod Causes
+pub mod Wholes
+pub mod Parts
+pub mod Asides
+pub mod Beginnings

@@ -71,11 +71,15 @@ open_opening l c phases h = has_opening l c phases is_open refl refl refl refl h
 pub receives_opening : (l : ConnectionPhase) (c : ℕ) (phases : List (ℕ × ChannelPhase)) → receives_close (state_at l c (at_channel c phases)) ≡ true → HasOpening l c phases
 receives_opening l c phases h = has_opening l c phases receives_close refl refl refl refl h
 
+-- so are settlements, flow and contents
+pub heard_opening : (l : ConnectionPhase) (c : ℕ) (phases : List (ℕ × ChannelPhase)) → receives_on (state_at l c (at_channel c phases)) ≡ true → HasOpening l c phases
+heard_opening l c phases h = has_opening l c phases receives_on refl refl refl refl h
+
 -- a reply is received on a channel with a live opening
 pub reply_opening : (l : ConnectionPhase) (c : ℕ) (k : ReplyKind) (phases : List (ℕ × ChannelPhase)) → receives k (state_at l c (at_channel c phases)) ≡ true → HasOpening l c phases
 reply_opening l c k phases h = elim (opens k) as (λ o. cond o (is_opening (state_at l c (at_channel c phases))) (receives_on (state_at l c (at_channel c phases))) ≡ true → HasOpening l c phases) [
   | true ↦ λ h. has_opening l c phases is_opening refl refl refl refl h
-  | false ↦ λ h. has_opening l c phases receives_on refl refl refl refl h
+  | false ↦ λ h. heard_opening l c phases h
 ] h
 
 pub tied_replied : (l : ConnectionPhase) (c : ℕ) (k : ReplyKind) (phases : List (ℕ × ChannelPhase)) (ps : List Publish) (b : Book) → HasOpening l c phases → IsTied l phases ps b → IsTied l (phases_with c k phases) ps b
@@ -109,6 +113,9 @@ closed_over l c phases h =
 -- an open channel has a line
 pub open_ledger : (l : ConnectionPhase) (c : ℕ) (phases : List (ℕ × ChannelPhase)) (ps : List Publish) (b : Book) → is_open (state_at l c (at_channel c phases)) ≡ true → IsTied l phases ps b → IsSome (at_channel c b.ledgers)
 open_ledger l c phases ps b h t = t.ledgers c (open_opening l c phases h).some
+
+pub heard_ledger : (l : ConnectionPhase) (c : ℕ) (phases : List (ℕ × ChannelPhase)) (ps : List Publish) (b : Book) → receives_on (state_at l c (at_channel c phases)) ≡ true → IsTied l phases ps b → IsSome (at_channel c b.ledgers)
+heard_ledger l c phases ps b h t = t.ledgers c (heard_opening l c phases h).some
 
 -- a channel whose opening a crossed close ended
 pub crossed_over : (l : ConnectionPhase) (c : ℕ) (phases : List (ℕ × ChannelPhase)) → close_ok_end (phase_in (at_channel c phases)) ≡ None → receives_close_ok (state_at l c (at_channel c phases)) ≡ true → is_live_on l (at_channel c phases) ≡ false

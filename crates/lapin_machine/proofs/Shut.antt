@@ -39,6 +39,9 @@ use Rattle.lapin_history.specs.Receiving.{incoming_up, incoming_record, after_in
 use Rattle.lapin_history.specs.ChannelClose.{receives_close, receives_close_ok, phases_sent, closing, after_channel_close, after_close_ok}
 use Rattle.lapin_history.specs.Handing.{handed, sent}
 use Rattle.lapin_history.specs.Events.{record_of, after_event}
+use Rattle.lapin_history.specs.declared.broker_frames.ContentPart.{ContentPart}
+use Rattle.lapin_history.specs.declared.broker_frames.ContentPart.TheVariants as part
+use Rattle.lapin_history.specs.Content.{receives_part, after_part}
 use Rattle.lapin_machine.specs.Stands.{IsShut}
 use Rattle.lapin_machine.proofs.Alone.{down_refuses}
 
@@ -111,6 +114,12 @@ failed_up c s b e h = let d : Wire = noted c (session_close s.kind) (closing c c
 flow_up : (c : ℕ) (active : Bool) (b : Wire) → b.link ≡ link.Open → IsShut b → IsShut (after_flow c active b)
 flow_up c active b e h = let d : Wire = noted c (method.Channel (channel.FlowOk active)) (record b { phases = with_channel c (phase.Open (not active)) b.phases }) in choose_shut (is_open (state_of c b)) d b (up_shut d e) h
 
+part_up : (c : ℕ) (p : ContentPart) (b : Wire) → b.link ≡ link.Open → IsShut (after_part c p b)
+part_up c (part.GetOk s) b e = up_shut (after_part c (part.GetOk s) b) e
+part_up c (part.Return s) b e = up_shut (after_part c (part.Return s) b) e
+part_up c (part.Header h) b e = up_shut (after_part c (part.Header h) b) e
+part_up c (part.Body bytes) b e = up_shut (after_part c (part.Body bytes) b) e
+
 -- while the connection is open
 incoming_open : (readings : Readings) (class number : ℕ) (i : Incoming) (b : Wire) → b.link ≡ link.Open → IsShut b → IsShut (after_incoming i (incoming_up b readings (refused class number) i) b)
 incoming_open readings class number (incoming.Reply c k a) b e h = choose_record (receives_reply c k b) (incoming.Reply c k a) record_.Received (refused class number) b (up_shut (after_reply c k b) e) (λ _. refl)
@@ -120,6 +129,7 @@ incoming_open readings class number (incoming.Settlement c s) b e h =
     (choose_record (s.multiple || readings.pending c s.tag) (incoming.Settlement c s) record_.Received (record_.Refused (error.PreconditionFailed s.tag (readings.last c))) b h (failed_up c s b e h))
     h)
     (λ _. refl)
+incoming_open readings class number (incoming.Content c p) b e h = choose_record (receives_part c p b) (incoming.Content c p) record_.Received (refused class number) b (part_up c p b e) (λ _. refl)
 incoming_open readings class number (incoming.Flow c active) b e h = choose_record (receives_on (state_of c b)) (incoming.Flow c active) record_.Received (refused class number) b (flow_up c active b e h) (λ _. refl)
 incoming_open readings class number (incoming.ChannelClose c code) b e h = choose_record (receives_close (state_of c b)) (incoming.ChannelClose c code) record_.Received (refused class number) b (up_shut (after_channel_close c (phase_of c b) b) e) (λ _. refl)
 incoming_open readings class number (incoming.ChannelCloseOk c) b e h = choose_record (receives_close_ok (state_of c b)) (incoming.ChannelCloseOk c) record_.Received (refused class number) b (close_ok_up c (phase_of c b) b e) (λ _. refl)
@@ -141,6 +151,7 @@ incoming_shut (link.Closing true false) readings class number (incoming.Connecti
 incoming_shut (link.Closing false false) readings class number (incoming.ConnectionClose code) b e h = rw e (λ _. refl)
 incoming_shut (link.Closing s was) readings class number (incoming.Reply c k a) b e h = let none : b.phases ≡ [] = h (ap is_up e) in rw e (λ _. none)
 incoming_shut (link.Closing s was) readings class number (incoming.Settlement c x) b e h = let none : b.phases ≡ [] = h (ap is_up e) in rw e (λ _. none)
+incoming_shut (link.Closing s was) readings class number (incoming.Content c p) b e h = let none : b.phases ≡ [] = h (ap is_up e) in rw e (λ _. none)
 incoming_shut (link.Closing s was) readings class number (incoming.ChannelClose c code) b e h = let none : b.phases ≡ [] = h (ap is_up e) in rw e (λ _. none)
 incoming_shut (link.Closing s was) readings class number (incoming.ChannelCloseOk c) b e h = let none : b.phases ≡ [] = h (ap is_up e) in rw e (λ _. none)
 incoming_shut (link.Closing s was) readings class number (incoming.Flow c active) b e h = let none : b.phases ≡ [] = h (ap is_up e) in rw e (λ _. none)
@@ -154,6 +165,8 @@ shut-next b readings (event.Next flow) h = sent_shut (handed flow b) (with_lists
 shut-next b readings (event.Receive f) h = incoming_shut b.link readings (frame_class f) (frame_method f) (incoming_of f) b refl h
 shut-next b readings (event.PollTicket n) h = h
 shut-next b readings (event.PollConfirm n) h = h
+shut-next b readings (event.PollWait c) h = h
 shut-next b readings (event.AsideTicket n) h = h
+shut-next b readings (event.AsideConfirm n) h = h
 shut-next b readings (event.State c) h = h
 shut-next b readings event.Lost h = choose_shut (is_lost b.link) b (down link.Lost b) h (λ _. refl)

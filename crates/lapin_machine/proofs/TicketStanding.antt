@@ -21,6 +21,10 @@ use Rattle.lapin_history.specs.declared.phases.Closer.TheVariants as closer
 use Rattle.lapin_history.specs.ChannelClose.{failed_at_close, close_ok_end}
 use Rattle.lapin_history.specs.TicketReadings.{TicketMark, Given, ClosedHere, AllFailed, Collected, SetAside, gives, given}
 use Rattle.lapin_history.specs.Incoming.{incoming_of}
+use Rattle.lapin_content.specs.declared.start.Start.{Start}
+use Rattle.lapin_content.specs.declared.start.Start.TheVariants as start
+use Rattle.lapin_content.specs.declared.start.Whole.{Whole}
+use Rattle.lapin_history.specs.Content.{start_tickets, whole_tickets, whole_on}
 use Rattle.lapin_history.specs.Wire.{Wire, state_of, phase_of, is_open}
 use Rattle.lapin_history.specs.Asking.{is_allowed, after_call}
 use Rattle.lapin_history.specs.Events.{after_event}
@@ -109,9 +113,19 @@ connection_close_none (link.Closing false received) code = (refl, tt)
 connection_close_none link.Closed code = (refl, tt)
 connection_close_none link.Lost code = (refl, tt)
 
+start_none : (c n : ℕ) (s : Start) (w : Whole) → gives_none (start_tickets c n s w)
+start_none c n (start.Get ticket tag exchange key redelivered count) w = resolved_none _ ticket
+start_none c n (start.Return code text exchange key) w = tt
+start_none c n (start.Deliver consumer tag exchange key redelivered) w = tt
+
+whole_none : (c n : ℕ) (w : Option Whole) → gives_none (whole_tickets c n w)
+whole_none c n None = tt
+whole_none c n (Some w) = start_none c n w.start w
+
 received_none : (i : Incoming) (b : Wire) → gives_none (received_tickets i b)
 received_none (incoming.Reply c k a) b = resolved_none _ _
 received_none (incoming.Settlement c s) b = tt
+received_none (incoming.Content c p) b = whole_none c b.ackers (whole_on c p b)
 received_none (incoming.ChannelClose c code) b = (refl, tt)
 received_none (incoming.ChannelCloseOk c) b = join_none _ (end_tickets c (close_ok_end (phase_of c b))) (resolved_none _ _) (end_none c (close_ok_end (phase_of c b)))
 received_none (incoming.ConnectionClose code) b = connection_close_none b.link code
@@ -122,6 +136,7 @@ received_none incoming.Other b = tt
 failed_none : (i : Incoming) (b : Wire) → gives_none (failed_tickets i b)
 failed_none (incoming.Settlement c s) b = choose_none (is_open (state_of c b)) (ClosedHere c (failed_at_close closer.Session) ∷ []) [] (refl, tt) tt
 failed_none (incoming.Reply c k a) b = tt
+failed_none (incoming.Content c p) b = tt
 failed_none (incoming.ChannelClose c code) b = tt
 failed_none (incoming.ChannelCloseOk c) b = tt
 failed_none (incoming.ConnectionClose code) b = tt
@@ -153,6 +168,7 @@ incoming_none i (record_.Answer a) b = tt
 incoming_none i (record_.Confirmed o) b = tt
 incoming_none i (record_.State x y) b = tt
 incoming_none i record_.Aside b = tt
+incoming_none i (record_.Returned ms) b = tt
 incoming_none i record_.Lost b = tt
 
 -- an event that gives no ticket
@@ -197,5 +213,7 @@ tickets-next b ms slots (event.Receive f) r s = stand_quiet b (after_incoming (i
 tickets-next b ms slots (event.PollTicket n) r s = stand_quiet b b ms (cond (is_answer r) (Collected n ∷ []) []) slots s (choose_none (is_answer r) (Collected n ∷ []) [] (refl, tt) tt) refl
 tickets-next b ms slots (event.AsideTicket n) r s = stand_quiet b b ms (cond (is_aside r) (SetAside n ∷ []) []) slots s (choose_none (is_aside r) (SetAside n ∷ []) [] (refl, tt) tt) refl
 tickets-next b ms slots (event.PollConfirm n) r s = stand_quiet b b ms [] slots s tt refl
+tickets-next b ms slots (event.PollWait c) r s = stand_quiet b b ms [] slots s tt refl
+tickets-next b ms slots (event.AsideConfirm n) r s = stand_quiet b b ms [] slots s tt refl
 tickets-next b ms slots (event.State c) r s = stand_quiet b b ms [] slots s tt refl
 tickets-next b ms slots event.Lost r s = stand_lost b.link b _ ms slots error.ConnectionLost refl s

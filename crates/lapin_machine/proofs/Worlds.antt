@@ -64,8 +64,12 @@ use Rattle.lapin_outbox.specs.Open.{requests_at}
 use Rattle.lapin_ticket.specs.declared.Slot.{Slot}
 use Rattle.lapin_ticket.specs.declared.Slot.TheVariants as slot
 use Rattle.lapin_ticket.specs.Slots.{after_mark}
-use Rattle.lapin_confirm.specs.Book.{Book, closed_here, ended}
-use Rattle.lapin_confirm.specs.Book as book
+use Rattle.lapin_content.specs.Channels.{Channels}
+use Rattle.lapin_content.specs.Channels as contents
+use Rattle.lapin_content.specs.Marks as content
+use Rattle.lapin_confirm.specs.Post.{Post}
+use Rattle.lapin_confirm.specs.Machine as post
+use Rattle.lapin_history.specs.ConfirmMarks as mark
 use Rattle.lapin_machine.specs.Kept.{kept_request, with_kept, is_close_sent}
 use Rattle.lapin_machine.specs.World.{World, next, asking, handing, receiving}
 use Rattle.lapin_machine.specs.Returned as back
@@ -74,34 +78,35 @@ use Rattle.lapin_machine.proofs.Channels.{on_absent, on_same, on_twice}
 
 -- ---- by its fields
 
-pub base_is : (b d : Wire) → b.frame_max ≡ d.frame_max → b.link ≡ d.link → b.phases ≡ d.phases → b.rest ≡ d.rest → b.methods ≡ d.methods → b.publishes ≡ d.publishes → b.requests ≡ d.requests → b.tickets ≡ d.tickets → b.published ≡ d.published → b ≡ d
-base_is b d e1 e2 e3 e4 e5 e6 e7 e8 e9 =
-    let same : base_of b.frame_max b.link b.phases b.rest b.methods b.publishes b.requests b.tickets b.published ≡ base_of d.frame_max d.link d.phases d.rest d.methods d.publishes d.requests d.tickets d.published = rw (e1, e2, e3, e4, e5, e6, e7, e8, e9) refl in
+pub base_is : (b d : Wire) → b.frame_max ≡ d.frame_max → b.link ≡ d.link → b.phases ≡ d.phases → b.rest ≡ d.rest → b.methods ≡ d.methods → b.publishes ≡ d.publishes → b.requests ≡ d.requests → b.contents ≡ d.contents → b.tickets ≡ d.tickets → b.published ≡ d.published → b.ackers ≡ d.ackers → b ≡ d
+base_is b d e1 e2 e3 e4 e5 e6 e7 e8 e9 e10 e11 =
+    let same : base_of b.frame_max b.link b.phases b.rest b.methods b.publishes b.requests b.contents b.tickets b.published b.ackers ≡ base_of d.frame_max d.link d.phases d.rest d.methods d.publishes d.requests d.contents d.tickets d.published d.ackers = rw (e1, e2, e3, e4, e5, e6, e7, e8, e9, e10, e11) refl in
     same
   where
-    base_of : ℕ → ConnectionPhase → List (ℕ × ChannelPhase) → List RestEntry → List MethodEntry → List Publish → List (ℕ × List Request) → ℕ → ℕ → Wire
-    base_of m l p r ms ps rs t n = record { frame_max = m; link = l; phases = p; rest = r; methods = ms; publishes = ps; requests = rs; tickets = t; published = n }
+    base_of : ℕ → ConnectionPhase → List (ℕ × ChannelPhase) → List RestEntry → List MethodEntry → List Publish → List (ℕ × List Request) → Channels → ℕ → ℕ → ℕ → Wire
+    base_of m l p r ms ps rs cs t n a = record { frame_max = m; link = l; phases = p; rest = r; methods = ms; publishes = ps; requests = rs; contents = cs; tickets = t; published = n; ackers = a }
 
-pub world_is : (w v : World) → w.wire ≡ v.wire → w.book ≡ v.book → w.slots ≡ v.slots → w.returned ≡ v.returned → w ≡ v
+pub world_is : (w v : World) → w.wire ≡ v.wire → w.post ≡ v.post → w.slots ≡ v.slots → w.returned ≡ v.returned → w ≡ v
 world_is w v e1 e2 e3 e4 =
-    let same : world_of w.wire w.book w.slots w.returned ≡ world_of v.wire v.book v.slots v.returned = rw (e1, e2, e3, e4) refl in
+    let same : world_of w.wire w.post w.slots w.returned ≡ world_of v.wire v.post v.slots v.returned = rw (e1, e2, e3, e4) refl in
     same
   where
-    world_of : Wire → Book → List (Option Slot) → Option Left → World
-    world_of b k s r = record { wire = b; book = k; slots = s; returned = r }
+    world_of : Wire → Post → List (Option Slot) → Option Left → World
+    world_of b k s r = record { wire = b; post = k; slots = s; returned = r }
 
--- ---- the value of a session by its parts
+-- ---- the value of a session by its parts: where connection and channels stand, what waits, requests, contents, how many ackers were
+-- given, tickets and confirms
 
-abbrev pub seen : ConnectionPhase → List (ℕ × ChannelPhase) → OutboxState → List (ℕ × List Request) → List (Option Slot) → Book → World
-seen l p o rs s b = record {
-  wire = record { frame_max = o.frame_max; link = l; phases = p; rest = o.lists.rest; methods = o.lists.methods; publishes = o.lists.publishes; requests = rs; tickets = length s; published = length b.cells };
-  book = b;
+abbrev pub seen : ConnectionPhase → List (ℕ × ChannelPhase) → OutboxState → List (ℕ × List Request) → Channels → ℕ → List (Option Slot) → Post → World
+seen l p o rs cs n s b = record {
+  wire = record { frame_max = o.frame_max; link = l; phases = p; rest = o.lists.rest; methods = o.lists.methods; publishes = o.lists.publishes; requests = rs; contents = cs; tickets = length s; published = length b.book.cells; ackers = n };
+  post = b;
   slots = s;
   returned = o.returned;
 }
 
-pub seen_is : (l l2 : ConnectionPhase) (p p2 : List (ℕ × ChannelPhase)) (o o2 : OutboxState) (rs rs2 : List (ℕ × List Request)) (s s2 : List (Option Slot)) (b b2 : Book) → l ≡ l2 → p ≡ p2 → o ≡ o2 → rs ≡ rs2 → s ≡ s2 → b ≡ b2 → seen l p o rs s b ≡ seen l2 p2 o2 rs2 s2 b2
-seen_is l l2 p p2 o o2 rs rs2 s s2 b b2 e1 e2 e3 e4 e5 e6 = rw (e1, e2, e3, e4, e5, e6) refl
+pub seen_is : (l l2 : ConnectionPhase) (p p2 : List (ℕ × ChannelPhase)) (o o2 : OutboxState) (rs rs2 : List (ℕ × List Request)) (cs cs2 : Channels) (n n2 : ℕ) (s s2 : List (Option Slot)) (b b2 : Post) → l ≡ l2 → p ≡ p2 → o ≡ o2 → rs ≡ rs2 → cs ≡ cs2 → n ≡ n2 → s ≡ s2 → b ≡ b2 → seen l p o rs cs n s b ≡ seen l2 p2 o2 rs2 cs2 n2 s2 b2
+seen_is l l2 p p2 o o2 rs rs2 cs cs2 n n2 s s2 b b2 e1 e2 e3 e4 e5 e6 e7 e8 = rw (e1, e2, e3, e4, e5, e6, e7, e8) refl
 
 -- ---- what is queued, and what a close of this side takes out
 
@@ -118,7 +123,7 @@ publish_queued p o clean = rw clean refl
 -- ---- what an event leaves, once it is known how it is taken
 
 call_next : (w : World) (c : ℕ) (k : Asked) → is_allowed k (state_of c w.wire) ≡ true
-    → asking c k w ≡ record { wire = after_call c k w.wire; book = fold book.after_mark w.book (call_marks c k w.wire); slots = fold after_mark w.slots (call_tickets c k w.wire); returned = back.after_asked c k w.wire w.returned }
+    → asking c k w ≡ record { wire = after_call c k w.wire; post = fold post.after_mark w.post (call_marks c k w.wire); slots = fold after_mark w.slots (call_tickets c k w.wire); returned = back.after_asked c k w.wire w.returned }
 call_next w c k h = rw h refl
 
 -- the request of a close of this side is open again where the closes crossed
@@ -158,9 +163,9 @@ crossed_base c phase.Opening d h = refl
 crossed_base c (phase.Open paused) d h = refl
 crossed_base c phase.Crossed d h = refl
 
-module _ (l : ConnectionPhase) (p : List (ℕ × ChannelPhase)) (o : OutboxState) (rs : List (ℕ × List Request)) (s : List (Option Slot)) (b : Book) where
+module _ (l : ConnectionPhase) (p : List (ℕ × ChannelPhase)) (o : OutboxState) (rs : List (ℕ × List Request)) (cs : Channels) (n : ℕ) (s : List (Option Slot)) (b : Post) where
   abbrev pub old : World
-  old = seen l p o rs s b
+  old = seen l p o rs cs n s b
 
   -- the fields of an outbox
   frame_max_is : {O : OutboxState} {q : OutboxState} → O ≡ q → O.frame_max ≡ q.frame_max
@@ -178,10 +183,10 @@ module _ (l : ConnectionPhase) (p : List (ℕ × ChannelPhase)) (o : OutboxState
   returned_is : {O : OutboxState} {q : OutboxState} → O ≡ q → O.returned ≡ q.returned
   returned_is e = ap (λ (y : OutboxState). y.returned) e
 
-  pub lost_seen : is_lost l ≡ false → seen link.Lost [] (emptied_outbox o) [] (after_mark s (ticket.AllFailed error.ConnectionLost)) (fold book.after_mark b (ends error.ConnectionLost (live_channels p))) ≡ next old event.Lost
+  pub lost_seen : is_lost l ≡ false → seen link.Lost [] (emptied_outbox o) [] [] n (after_mark s (ticket.AllFailed error.ConnectionLost)) (fold post.after_mark b (ends error.ConnectionLost (live_channels p))) ≡ next old event.Lost
   lost_seen h =
       world_is _ _
-      (base_is _ (down link.Lost old.wire) refl refl refl refl refl refl refl (failed-count error.ConnectionLost s) (ends-count error.ConnectionLost (live_channels p) b) ∙ sym (rw h refl))
+      (base_is _ (down link.Lost old.wire) refl refl refl refl refl refl refl refl (failed-count error.ConnectionLost s) (ends-count error.ConnectionLost (live_channels p) b) refl ∙ sym (rw h refl))
       refl (sym (rw h refl)) (sym (rw h refl))
 
   -- ---- closes of this side
@@ -189,15 +194,15 @@ module _ (l : ConnectionPhase) (p : List (ℕ × ChannelPhase)) (o : OutboxState
   given-count : (c n : ℕ) (S T : List (Option Slot)) → T ≡ after_mark S (ticket.Given c leaving.Nothing) → length S ≡ n → length T ≡ n + 1
   given-count c n S T e h = ap length e ∙ length-append S (Some (slot.Open c leaving.Nothing false) ∷ []) ∙ ap (λ k. k + 1) h
 
-  pub channel_close_seen : (c code : ℕ) (text : List ℕ) (P : List (ℕ × ChannelPhase)) (O : OutboxState) (R : List (ℕ × List Request)) (S T : List (Option Slot)) (B : Book)
+  pub channel_close_seen : (c code : ℕ) (text : List ℕ) (P : List (ℕ × ChannelPhase)) (O : OutboxState) (R : List (ℕ × List Request)) (S T : List (Option Slot)) (B : Post)
       → is_open (state_of c old.wire) ≡ true
       → P ≡ with_channel c (phase.Closing closer.Application false) p
       → S ≡ after_mark s (ticket.ClosedHere c (failed_at_close closer.Application))
       → O ≡ with_lists (with_method (record { channel = c; method = method.Channel (channel.Close code text 0 0); ticket = Some (length S + 1) }) (without_publishes_of c o.lists)) o
       → R ≡ requests_with c (length S + 1) (Some reply.ChannelCloseOk) rs
       → T ≡ after_mark S (ticket.Given c leaving.Nothing)
-      → B ≡ closed_here c (failed_at_close closer.Application) b
-      → seen l P O R T B ≡ asking c (ask.CloseChannel code text) old
+      → B ≡ post.after_mark b (mark.ClosedHere c (failed_at_close closer.Application))
+      → seen l P O R cs n T B ≡ asking c (ask.CloseChannel code text) old
   channel_close_seen c code text P O R S T B h eP eS eO eR eT eB =
       let count : length S ≡ length s = closed_counted c (failed_at_close closer.Application) s S eS in
       let entry : ℕ → MethodEntry = λ k. record { channel = c; method = method.Channel (channel.Close code text 0 0); ticket = Some (k + 1) } in
@@ -207,24 +212,27 @@ module _ (l : ConnectionPhase) (p : List (ℕ × ChannelPhase)) (o : OutboxState
       (methods_are eO ∙ ap (λ k. o.lists.methods ++ entry k ∷ []) count)
       (publishes_are eO)
       (eR ∙ ap (λ k. requests_with c (k + 1) (Some reply.ChannelCloseOk) rs) count)
+      refl
       (given-count c (length s) S T eT count)
-      (rejected_counted c (failed_at_close closer.Application) b B eB))
+      (rejected_counted c (failed_at_close closer.Application) b B eB)
+      refl)
       eB
       (eT ∙ ap (λ y. after_mark y (ticket.Given c leaving.Nothing)) eS)
       (returned_is eO)
       ∙ sym (call_next old c (ask.CloseChannel code text) h)
 
-  pub connection_close_seen : (c code : ℕ) (text : List ℕ) (l2 : ConnectionPhase) (P : List (ℕ × ChannelPhase)) (O : OutboxState) (R : List (ℕ × List Request)) (S T : List (Option Slot)) (B : Book)
+  pub connection_close_seen : (c code : ℕ) (text : List ℕ) (l2 : ConnectionPhase) (P : List (ℕ × ChannelPhase)) (O : OutboxState) (R : List (ℕ × List Request)) (C : Channels) (S T : List (Option Slot)) (B : Post)
       → is_base (state_of c old.wire) ≡ true
       → l2 ≡ link.Closing false false
       → P ≡ []
       → S ≡ after_mark s (ticket.AllFailed failed_at_connection_close)
       → O ≡ with_lists (with_method (record { channel = c; method = method.Connection (connection.Close code text 0 0); ticket = Some (length S + 1) }) no_lists) (emptied_outbox o)
       → R ≡ requests_with c (length S + 1) (Some reply.ConnectionCloseOk) []
+      → C ≡ []
       → T ≡ after_mark S (ticket.Given c leaving.Nothing)
-      → B ≡ fold book.after_mark b (ends failed_at_connection_close (live_channels p))
-      → seen l2 P O R T B ≡ asking c (ask.CloseConnection code text) old
-  connection_close_seen c code text l2 P O R S T B h el eP eS eO eR eT eB =
+      → B ≡ fold post.after_mark b (ends failed_at_connection_close (live_channels p))
+      → seen l2 P O R C n T B ≡ asking c (ask.CloseConnection code text) old
+  connection_close_seen c code text l2 P O R C S T B h el eP eS eO eR eC eT eB =
       let count : length S ≡ length s = failed_counted failed_at_connection_close s S eS in
       let entry : ℕ → MethodEntry = λ k. record { channel = c; method = method.Connection (connection.Close code text 0 0); ticket = Some (k + 1) } in
       world_is _ _
@@ -233,27 +241,30 @@ module _ (l : ConnectionPhase) (p : List (ℕ × ChannelPhase)) (o : OutboxState
       (methods_are eO ∙ ap (λ k. entry k ∷ []) count)
       (publishes_are eO)
       (eR ∙ ap (λ k. requests_with c (k + 1) (Some reply.ConnectionCloseOk) []) count)
+      eC
       (given-count c (length s) S T eT count)
-      (ap (λ (y : Book). length y.cells) eB ∙ ends-count failed_at_connection_close (live_channels p) b))
+      (ap (λ (y : Post). length y.book.cells) eB ∙ ends-count failed_at_connection_close (live_channels p) b)
+      refl)
       eB
       (eT ∙ ap (λ y. after_mark y (ticket.Given c leaving.Nothing)) eS)
       (returned_is eO ∙ sym (rw h refl))
       ∙ sym (call_next old c (ask.CloseConnection code text) h)
 
   -- a call that is its line of the table
-  pub row_seen : (c : ℕ) (row : Row) (O : OutboxState) (R : List (ℕ × List Request)) (S : List (Option Slot)) (B : Book)
+  pub row_seen : (c : ℕ) (row : Row) (O : OutboxState) (R : List (ℕ × List Request)) (S : List (Option Slot)) (B : Post)
       → is_open (state_of c old.wire) ≡ true
       → O ≡ with_lists (with_method (record { channel = c; method = row.method; ticket = Some (length s + 1) }) o.lists) o
       → R ≡ requests_with c (length s + 1) row.awaits rs
       → S ≡ fold after_mark (after_mark s (ticket.Given c row.at_leaving)) (made_marks (length s + 1) row.made)
-      → B ≡ fold book.after_mark b (queued_marks c row.method)
-      → seen l p O R S B ≡ asking c (ask.Method row) old
+      → B ≡ fold post.after_mark b (queued_marks c row.method)
+      → seen l p O R cs n S B ≡ asking c (ask.Method row) old
   row_seen c row O R S B h eO eR eS eB =
       world_is _ _
       (base_is _ (after_call c (ask.Method row) old.wire) (frame_max_is eO) refl refl
-      (rest_is eO) (methods_are eO) (publishes_are eO) eR
+      (rest_is eO) (methods_are eO) (publishes_are eO) eR refl
       (ap length eS ∙ made-count (length s + 1) row.made (after_mark s (ticket.Given c row.at_leaving)) ∙ length-append s (Some (slot.Open c row.at_leaving false) ∷ []))
-      (ap (λ (y : Book). length y.cells) eB ∙ called-count c row.method b))
+      (ap (λ (y : Post). length y.book.cells) eB ∙ called-count c row.method b)
+      refl)
       eB
       eS
       (returned_is eO)
@@ -261,39 +272,42 @@ module _ (l : ConnectionPhase) (p : List (ℕ × ChannelPhase)) (o : OutboxState
 
   -- ---- frames that are not received
 
-  pub unexpected_seen : (i : Incoming) (class number : ℕ) (l2 : ConnectionPhase) (P : List (ℕ × ChannelPhase)) (O : OutboxState) (R : List (ℕ × List Request)) (S : List (Option Slot)) (B : Book)
+  pub unexpected_seen : (i : Incoming) (class number : ℕ) (l2 : ConnectionPhase) (P : List (ℕ × ChannelPhase)) (O : OutboxState) (R : List (ℕ × List Request)) (C : Channels) (S : List (Option Slot)) (B : Post)
       → l2 ≡ link.Closing false false
       → P ≡ []
       → O ≡ with_lists (with_method (record { channel = 0; method = unexpected_close class number; ticket = None }) no_lists) (emptied_outbox o)
       → R ≡ []
+      → C ≡ []
       → S ≡ after_mark s (ticket.AllFailed failed_at_unexpected)
-      → B ≡ fold book.after_mark b (ends failed_at_unexpected (live_channels p))
-      → seen l2 P O R S B ≡ receiving i (record_.Refused (error.UnexpectedFrame class number)) old
-  unexpected_seen i class number l2 P O R S B el eP eO eR eS eB =
+      → B ≡ fold post.after_mark b (ends failed_at_unexpected (live_channels p))
+      → seen l2 P O R C n S B ≡ receiving i (record_.Refused (error.UnexpectedFrame class number)) old
+  unexpected_seen i class number l2 P O R C S B el eP eO eR eC eS eB =
       world_is _ _
       (base_is _ (after_unexpected class number old.wire) (frame_max_is eO) el eP
-      (rest_is eO) (methods_are eO) (publishes_are eO) eR
+      (rest_is eO) (methods_are eO) (publishes_are eO) eR eC
       (failed_counted failed_at_unexpected s S eS)
-      (ap (λ (y : Book). length y.cells) eB ∙ ends-count failed_at_unexpected (live_channels p) b))
+      (ap (λ (y : Post). length y.book.cells) eB ∙ ends-count failed_at_unexpected (live_channels p) b)
+      refl)
       eB
       eS
       (returned_is eO)
 
-  pub failed_seen : (c : ℕ) (z : Settlement) (tag current : ℕ) (P : List (ℕ × ChannelPhase)) (O : OutboxState) (S : List (Option Slot)) (B : Book)
+  pub failed_seen : (c : ℕ) (z : Settlement) (tag current : ℕ) (P : List (ℕ × ChannelPhase)) (O : OutboxState) (S : List (Option Slot)) (B : Post)
       → is_open (state_of c old.wire) ≡ true
       → P ≡ with_channel c (phase.Closing closer.Session false) p
       → O ≡ with_lists (with_method (record { channel = c; method = session_close z.kind; ticket = None }) (without_publishes_of c o.lists)) o
       → S ≡ after_mark s (ticket.ClosedHere c (failed_at_close closer.Session))
-      → B ≡ closed_here c (failed_at_close closer.Session) b
-      → seen l P O rs S B ≡ receiving (incoming.Settlement c z) (record_.Refused (error.PreconditionFailed tag current)) old
+      → B ≡ post.after_mark b (mark.ClosedHere c (failed_at_close closer.Session))
+      → seen l P O rs cs n S B ≡ receiving (incoming.Settlement c z) (record_.Refused (error.PreconditionFailed tag current)) old
   failed_seen c z tag current P O S B h eP eO eS eB =
       let is : receiving (incoming.Settlement c z) (record_.Refused (error.PreconditionFailed tag current)) old
-      ≡ record { wire = noted c (session_close z.kind) (closing c closer.Session old.wire); book = closed_here c (failed_at_close closer.Session) b; slots = after_mark s (ticket.ClosedHere c (failed_at_close closer.Session)); returned = o.returned } = rw h refl in
+      ≡ record { wire = noted c (session_close z.kind) (closing c closer.Session old.wire); post = post.after_mark b (mark.ClosedHere c (failed_at_close closer.Session)); slots = after_mark s (ticket.ClosedHere c (failed_at_close closer.Session)); returned = o.returned } = rw h refl in
       world_is _ _
       (base_is _ (noted c (session_close z.kind) (closing c closer.Session old.wire)) (frame_max_is eO) refl eP
-      (rest_is eO) (methods_are eO) (publishes_are eO) refl
+      (rest_is eO) (methods_are eO) (publishes_are eO) refl refl
       (closed_counted c (failed_at_close closer.Session) s S eS)
-      (rejected_counted c (failed_at_close closer.Session) b B eB))
+      (rejected_counted c (failed_at_close closer.Session) b B eB)
+      refl)
       eB
       eS
       (returned_is eO)
@@ -304,43 +318,48 @@ module _ (l : ConnectionPhase) (p : List (ℕ × ChannelPhase)) (o : OutboxState
 
   -- ---- closes of the broker
 
-  pub channel_close_incoming : (c code : ℕ) (P : List (ℕ × ChannelPhase)) (O : OutboxState) (R : List (ℕ × List Request)) (S : List (Option Slot)) (B : Book)
+  pub channel_close_incoming : (c code : ℕ) (P : List (ℕ × ChannelPhase)) (O : OutboxState) (R : List (ℕ × List Request)) (C : Channels) (S : List (Option Slot)) (B : Post)
       → P ≡ with_channel c (after_broker_close (phase_of c old.wire)) p
       → O ≡ with_lists (with_method (record { channel = c; method = method.Channel channel.CloseOk; ticket = None }) (without_channel c o.lists)) (ended_outbox c o)
       → R ≡ with_kept c (kept_request (has_sent_close (phase_of c old.wire)) (requests_at c rs)) (on_channel c no_requests rs)
+      → C ≡ contents.after_mark cs (content.Dropped c)
       → S ≡ after_mark s (ticket.OpeningFailed c (ticket_of (kept_request (has_sent_close (phase_of c old.wire)) (requests_at c rs))) (error.ProtocolError code))
-      → B ≡ ended c (error.ProtocolError code) b
-      → seen l P O R S B ≡ receiving (incoming.ChannelClose c code) record_.Received old
-  channel_close_incoming c code P O R S B eP eO eR eS eB =
+      → B ≡ post.after_mark b (mark.Ended c (error.ProtocolError code))
+      → seen l P O R C n S B ≡ receiving (incoming.ChannelClose c code) record_.Received old
+  channel_close_incoming c code P O R C S B eP eO eR eC eS eB =
       let e : Error = error.ProtocolError code in
       let q : ChannelPhase = phase_of c old.wire in
       world_is _ _
       (base_is _ (after_channel_close c q old.wire) (frame_max_is eO) refl eP
       (rest_is eO) (methods_are eO) (publishes_are eO)
       (eR ∙ kept_is c q rs)
+      eC
       (ap length eS ∙ opening-count c (ticket_of (kept_request (has_sent_close q) (requests_at c rs))) e s)
-      (ap (λ (y : Book). length y.cells) eB ∙ ended-count c e b))
+      (ap (λ (y : Post). length y.book.cells) eB ∙ ended-count c e b)
+      refl)
       eB
       (eS ∙ ap (λ k. after_mark s (ticket.OpeningFailed c k e)) (kept_ticket_is c q old.wire))
       (returned_is eO)
 
-  pub closing_answered : (c : ℕ) (e : Error) (P : List (ℕ × ChannelPhase)) (O : OutboxState) (R : List (ℕ × List Request)) (S : List (Option Slot)) (B : Book)
+  pub closing_answered : (c : ℕ) (e : Error) (P : List (ℕ × ChannelPhase)) (O : OutboxState) (R : List (ℕ × List Request)) (C : Channels) (S : List (Option Slot)) (B : Post)
       → close_ok_end (phase_of c old.wire) ≡ Some e
       → P ≡ with_channel c phase.Closed p
       → O ≡ ended_outbox c o
       → R ≡ on_channel c no_requests rs
+      → C ≡ contents.after_mark cs (content.Dropped c)
       → S ≡ after_mark (fold after_mark s (resolved_with (Ok answer.Done) (ticket_of (first_request reply_kind.ChannelCloseOk (requests_at c rs))))) (ticket.OpeningFailed c None e)
-      → B ≡ ended c e b
-      → seen l P O R S B ≡ receiving (incoming.ChannelCloseOk c) record_.Received old
-  closing_answered c e P O R S B h eP eO eR eS eB =
+      → B ≡ post.after_mark b (mark.Ended c e)
+      → seen l P O R C n S B ≡ receiving (incoming.ChannelCloseOk c) record_.Received old
+  closing_answered c e P O R C S B h eP eO eR eC eS eB =
       let done : List TicketMark = resolved_with (Ok answer.Done) (close_ticket c old.wire) in
       world_is _ _
       (base_is _ (ended_base c phase.Closed no_requests old.wire) (frame_max_is eO) refl eP
-      (rest_is eO) (methods_are eO) (publishes_are eO) eR
+      (rest_is eO) (methods_are eO) (publishes_are eO) eR eC
       (ap length eS ∙ opening-count c None e (fold after_mark s done) ∙ resolved-count (Ok answer.Done) (close_ticket c old.wire) s)
-      (ap (λ (y : Book). length y.cells) eB ∙ ended-count c e b)
+      (ap (λ (y : Post). length y.book.cells) eB ∙ ended-count c e b)
+      refl
       ∙ sym (closing_base c (phase_of c old.wire) e old.wire h))
-      (eB ∙ ap (λ ms. fold book.after_mark b ms) (ap (end_with c) (sym h)))
+      (eB ∙ ap (λ ms. fold post.after_mark b ms) (ap (end_with c) (sym h)))
       (eS ∙ sym (marks-join done (ticket.OpeningFailed c None e ∷ []) s) ∙ ap (λ o. fold after_mark s (done ++ end_tickets c o)) (sym h))
       (returned_is eO ∙ sym (ap (λ x. back.unless_crossed c x o.returned) h))
 
@@ -349,56 +368,58 @@ module _ (l : ConnectionPhase) (p : List (ℕ × ChannelPhase)) (o : OutboxState
       → P ≡ with_channel c phase.Closed p
       → R ≡ on_channel c (without_kind reply_kind.ChannelCloseOk) rs
       → S ≡ fold after_mark s (resolved_with (Ok answer.Done) (ticket_of (first_request reply_kind.ChannelCloseOk (requests_at c rs))))
-      → seen l P o R S b ≡ receiving (incoming.ChannelCloseOk c) record_.Received old
+      → seen l P o R cs n S b ≡ receiving (incoming.ChannelCloseOk c) record_.Received old
   crossed_answered c P R S h eP eR eS =
       let done : List TicketMark = resolved_with (Ok answer.Done) (close_ticket c old.wire) in
       world_is _ _
-      (base_is _ (record old.wire { phases = with_channel c phase.Closed p; requests = on_channel c (without_kind reply_kind.ChannelCloseOk) rs }) refl refl eP refl refl refl eR
+      (base_is _ (record old.wire { phases = with_channel c phase.Closed p; requests = on_channel c (without_kind reply_kind.ChannelCloseOk) rs }) refl refl eP refl refl refl eR refl
       (ap length eS ∙ resolved-count (Ok answer.Done) (close_ticket c old.wire) s)
-      refl
+      refl refl
       ∙ sym (crossed_base c (phase_of c old.wire) old.wire h))
-      (ap (λ ms. fold book.after_mark b ms) (ap (end_with c) (sym h)))
+      (ap (λ ms. fold post.after_mark b ms) (ap (end_with c) (sym h)))
       (eS ∙ sym (marks-join done [] s) ∙ ap (λ o. fold after_mark s (done ++ end_tickets c o)) (sym h))
       (sym (ap (λ x. back.unless_crossed c x o.returned) h))
 
   pub connection_close_crossed : (code : ℕ) (l2 : ConnectionPhase) (O : OutboxState) → is_close_sent l ≡ true → p ≡ [] → l2 ≡ link.Closing true true
       → O ≡ with_lists (with_method (record { channel = 0; method = method.Connection connection.CloseOk; ticket = None }) o.lists) o
-      → seen l2 p O rs s b ≡ receiving (incoming.ConnectionClose code) record_.Received old
+      → seen l2 p O rs cs n s b ≡ receiving (incoming.ConnectionClose code) record_.Received old
   connection_close_crossed code l2 O h none el eO = at l h
     where
-      at : (k : ConnectionPhase) → is_close_sent k ≡ true → seen l2 p O rs s b ≡ receiving (incoming.ConnectionClose code) record_.Received (seen k p o rs s b)
+      at : (k : ConnectionPhase) → is_close_sent k ≡ true → seen l2 p O rs cs n s b ≡ receiving (incoming.ConnectionClose code) record_.Received (seen k p o rs cs n s b)
       at link.Open h = cc
       at (link.Closing true received) h =
-          world_is _ _ (base_is _ _ (frame_max_is eO) el refl (rest_is eO) (methods_are eO) (publishes_are eO) refl refl refl)
-          (ap (λ (ps : List (ℕ × ChannelPhase)). fold book.after_mark b (ends (error.ProtocolError code) (live_channels ps))) (sym none)) refl
+          world_is _ _ (base_is _ _ (frame_max_is eO) el refl (rest_is eO) (methods_are eO) (publishes_are eO) refl refl refl refl refl)
+          (ap (λ (ps : List (ℕ × ChannelPhase)). fold post.after_mark b (ends (error.ProtocolError code) (live_channels ps))) (sym none)) refl
           (returned_is eO)
       at (link.Closing false received) h = cc
       at link.Closed h = cc
       at link.Lost h = cc
 
-  pub connection_close_incoming : (code : ℕ) (l2 : ConnectionPhase) (P : List (ℕ × ChannelPhase)) (O : OutboxState) (R : List (ℕ × List Request)) (S : List (Option Slot)) (B : Book) → is_close_sent l ≡ false → l2 ≡ link.Closed
+  pub connection_close_incoming : (code : ℕ) (l2 : ConnectionPhase) (P : List (ℕ × ChannelPhase)) (O : OutboxState) (R : List (ℕ × List Request)) (C : Channels) (S : List (Option Slot)) (B : Post) → is_close_sent l ≡ false → l2 ≡ link.Closed
       → P ≡ []
       → O ≡ with_lists (with_method (record { channel = 0; method = method.Connection connection.CloseOk; ticket = None }) no_lists) (emptied_outbox o)
       → R ≡ []
+      → C ≡ []
       → S ≡ after_mark s (ticket.AllFailed (error.ProtocolError code))
-      → B ≡ fold book.after_mark b (ends (error.ProtocolError code) (live_channels p))
-      → seen l2 P O R S B ≡ receiving (incoming.ConnectionClose code) record_.Received old
-  connection_close_incoming code l2 P O R S B h el eP eO eR eS eB = at l h
+      → B ≡ fold post.after_mark b (ends (error.ProtocolError code) (live_channels p))
+      → seen l2 P O R C n S B ≡ receiving (incoming.ConnectionClose code) record_.Received old
+  connection_close_incoming code l2 P O R C S B h el eP eO eR eC eS eB = at l h
     where
-      by_parts : (k : ConnectionPhase) → (after_connection_close k (seen k p o rs s b).wire ≡ noted 0 (method.Connection connection.CloseOk) (down link.Closed (seen k p o rs s b).wire)) → connection_close_tickets k code ≡ ticket.AllFailed (error.ProtocolError code) ∷ [] → back.unless_closing k o.returned ≡ None
-          → seen l2 P O R S B ≡ receiving (incoming.ConnectionClose code) record_.Received (seen k p o rs s b)
+      by_parts : (k : ConnectionPhase) → (after_connection_close k (seen k p o rs cs n s b).wire ≡ noted 0 (method.Connection connection.CloseOk) (down link.Closed (seen k p o rs cs n s b).wire)) → connection_close_tickets k code ≡ ticket.AllFailed (error.ProtocolError code) ∷ [] → back.unless_closing k o.returned ≡ None
+          → seen l2 P O R C n S B ≡ receiving (incoming.ConnectionClose code) record_.Received (seen k p o rs cs n s b)
       by_parts k base tickets gone =
           world_is _ _
-          (base_is _ (noted 0 (method.Connection connection.CloseOk) (down link.Closed (seen k p o rs s b).wire)) (frame_max_is eO) el eP
-          (rest_is eO) (methods_are eO) (publishes_are eO) eR
+          (base_is _ (noted 0 (method.Connection connection.CloseOk) (down link.Closed (seen k p o rs cs n s b).wire)) (frame_max_is eO) el eP
+          (rest_is eO) (methods_are eO) (publishes_are eO) eR eC
           (failed_counted (error.ProtocolError code) s S eS)
-          (ap (λ (y : Book). length y.cells) eB ∙ ends-count (error.ProtocolError code) (live_channels p) b)
+          (ap (λ (y : Post). length y.book.cells) eB ∙ ends-count (error.ProtocolError code) (live_channels p) b)
+          refl
           ∙ sym base)
           eB
           (eS ∙ ap (λ ms. fold after_mark s ms) (sym tickets))
           (returned_is eO ∙ sym gone)
 
-      at : (k : ConnectionPhase) → is_close_sent k ≡ false → seen l2 P O R S B ≡ receiving (incoming.ConnectionClose code) record_.Received (seen k p o rs s b)
+      at : (k : ConnectionPhase) → is_close_sent k ≡ false → seen l2 P O R C n S B ≡ receiving (incoming.ConnectionClose code) record_.Received (seen k p o rs cs n s b)
       at link.Open h = by_parts link.Open refl refl refl
       at (link.Closing true received) h = cc
       at (link.Closing false received) h = by_parts (link.Closing false received) refl refl refl
@@ -409,14 +430,14 @@ module _ (l : ConnectionPhase) (p : List (ℕ × ChannelPhase)) (o : OutboxState
       → O ≡ cond (has_sent l) o (emptied_outbox o)
       → R ≡ on_channel 0 (without_kind reply_kind.ConnectionCloseOk) rs
       → S ≡ fold after_mark s (resolved_with (Ok answer.Done) (ticket_of (first_request reply_kind.ConnectionCloseOk (requests_at 0 rs))))
-      → seen l2 p O R S b ≡ receiving incoming.ConnectionCloseOk record_.Received old
+      → seen l2 p O R cs n S b ≡ receiving incoming.ConnectionCloseOk record_.Received old
   connection_answered l2 O R S el eO eR eS =
       let t : Bool = has_sent l in
       world_is _ _
       (base_is _ (after_connection_close_ok old.wire) (frame_max_is eO ∙ unsent-frame t) el refl
-      (rest_is eO ∙ ap (λ (y : Lists). y.rest) (unsent-lists t)) (methods_are eO ∙ ap (λ (y : Lists). y.methods) (unsent-lists t)) (publishes_are eO ∙ ap (λ (y : Lists). y.publishes) (unsent-lists t)) eR
+      (rest_is eO ∙ ap (λ (y : Lists). y.rest) (unsent-lists t)) (methods_are eO ∙ ap (λ (y : Lists). y.methods) (unsent-lists t)) (publishes_are eO ∙ ap (λ (y : Lists). y.publishes) (unsent-lists t)) eR refl
       (ap length eS ∙ resolved-count (Ok answer.Done) (ticket_of (first_request reply_kind.ConnectionCloseOk (requests_at 0 rs))) s)
-      refl)
+      refl refl)
       refl
       eS
       (returned_is eO ∙ unsent-returned t)
@@ -435,21 +456,22 @@ module _ (l : ConnectionPhase) (p : List (ℕ × ChannelPhase)) (o : OutboxState
 
   -- ---- a frame that leaves
 
-  pub handing_seen : (t : Bool) (a : Left) (l2 : ConnectionPhase) (P : List (ℕ × ChannelPhase)) (O : OutboxState) (S : List (Option Slot)) (B : Book)
+  pub handing_seen : (t : Bool) (a : Left) (l2 : ConnectionPhase) (P : List (ℕ × ChannelPhase)) (O : OutboxState) (S : List (Option Slot)) (B : Post)
       → handed_of t o.lists.rest o.lists.methods o.lists.publishes ≡ Some a
       → l2 ≡ link_sent a.frame l
       → P ≡ phases_sent a.frame p
       → O ≡ with_lists (left_lists o.frame_max t o.lists) o
       → S ≡ fold after_mark s (left_tickets (Some a))
-      → B ≡ fold book.after_mark b (left_marks (Some a))
-      → seen l2 P O rs S B ≡ handing t old
+      → B ≡ fold post.after_mark b (left_marks (Some a))
+      → seen l2 P O rs cs n S B ≡ handing t old
   handing_seen t a l2 P O S B told el eP eO eS eB =
       world_is _ _
       (base_is _ (sent (Some a) (base_with (left_lists o.frame_max t o.lists) old.wire)) (frame_max_is eO) el eP
-      (rest_is eO) (methods_are eO) (publishes_are eO) refl
+      (rest_is eO) (methods_are eO) (publishes_are eO) refl refl
       (ap length eS ∙ left_tickets-count (Some a) s)
-      (ap (λ (y : Book). length y.cells) eB ∙ left_marks-count (Some a) b)
+      (ap (λ (y : Post). length y.book.cells) eB ∙ left_marks-count (Some a) b)
+      refl
       ∙ ap (λ h. sent h (base_with (left_lists o.frame_max t o.lists) old.wire)) (sym told))
-      (eB ∙ ap (λ h. fold book.after_mark b (left_marks h)) (sym told))
+      (eB ∙ ap (λ h. fold post.after_mark b (left_marks h)) (sym told))
       (eS ∙ ap (λ h. fold after_mark s (left_tickets h)) (sym told))
       (returned_is eO)

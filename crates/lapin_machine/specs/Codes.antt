@@ -1,6 +1,6 @@
 -- How the value of a session is stored as tuples of its fields, by which a proof tells two of them apart. No clause cites this.
-use Rattle.std.specs.Prelude.{ℕ, Bool, List, Option, refl}
-use Rattle.std.specs.Coded.{Coded, code_by, coded×, coded_ℕ, coded_bool, coded_list, coded_option}
+use Rattle.std.specs.Prelude.{ℕ, List, Option, refl}
+use Rattle.std.specs.Coded.{Coded, code_by, coded×, coded_ℕ, coded_list, coded_option}
 use Rattle.lapin_types.specs.declared.leaving.Publish.{Publish}
 use Rattle.lapin_types.specs.declared.request.Request.{Request}
 use Rattle.lapin_history.specs.declared.phases.ChannelPhase.{ChannelPhase}
@@ -11,48 +11,31 @@ use Rattle.lapin_types.specs.contracts.leaving.Publish as publish_row
 use Rattle.lapin_types.specs.declared.leaving.Left.{Left}
 use Rattle.lapin_types.specs.contracts.leaving.Left as left_row
 use Rattle.lapin_types.specs.contracts.request.Request as request_row
-use Rattle.lapin_confirm.specs.contracts.cell.Cell as cell_row
+use Rattle.lapin_confirm.specs.Codes.{post_code}
+use Rattle.lapin_content.specs.Channels.{Channels}
+use Rattle.lapin_content.specs.Codes.{channels_code}
 use Rattle.lapin_ticket.specs.contracts.Slot as slot_row
 use Rattle.lapin_history.specs.Frames.{MethodEntry, RestEntry}
 use Rattle.lapin_history.specs.Wire.{Wire}
 use Rattle.lapin_outbox.specs.Codes.{rest_entry_code, method_entry_code}
-use Rattle.lapin_confirm.specs.declared.cell.Cell.{Cell}
-use Rattle.lapin_confirm.specs.Book.{LedgerState, Book}
+use Rattle.lapin_confirm.specs.Post.{Post}
 use Rattle.lapin_ticket.specs.declared.Slot.{Slot}
 use Rattle.lapin_machine.specs.World.{World}
-
-abbrev pub ledger_code : Coded LedgerState
-ledger_code =
-    code_by
-    (Bool × (ℕ × (Bool × ℕ)))
-    (coded× coded_bool (coded× coded_ℕ (coded× coded_bool coded_ℕ)))
-    (λ l. (l.selected, (l.last, (l.asked, l.limit))))
-    (λ p. record { selected = p.0; last = p.1.0; asked = p.1.1.0; limit = p.1.1.1 })
-    (λ _. refl)
-
-abbrev pub book_code : Coded Book
-book_code =
-    code_by
-    (List (ℕ × LedgerState) × List (Option Cell))
-    (coded× (coded_list (coded× coded_ℕ ledger_code)) (coded_list (coded_option cell_row.the_row.coded)))
-    (λ b. (b.ledgers, b.cells))
-    (λ p. record { ledgers = p.0; cells = p.1 })
-    (λ _. refl)
 
 abbrev pub base_code : Coded Wire
 base_code =
     code_by
-    (ℕ × (ConnectionPhase × (List (ℕ × ChannelPhase) × (List RestEntry × (List MethodEntry × (List Publish × (List (ℕ × List Request) × (ℕ × ℕ))))))))
-    (coded× coded_ℕ (coded× link_row.the_row.coded (coded× (coded_list (coded× coded_ℕ phase_row.the_row.coded)) (coded× (coded_list rest_entry_code) (coded× (coded_list method_entry_code) (coded× (coded_list publish_row.the_row.coded) (coded× (coded_list (coded× coded_ℕ (coded_list request_row.the_row.coded))) (coded× coded_ℕ coded_ℕ))))))))
-    (λ b. (b.frame_max, (b.link, (b.phases, (b.rest, (b.methods, (b.publishes, (b.requests, (b.tickets, b.published)))))))))
-    (λ p. record { frame_max = p.0; link = p.1.0; phases = p.1.1.0; rest = p.1.1.1.0; methods = p.1.1.1.1.0; publishes = p.1.1.1.1.1.0; requests = p.1.1.1.1.1.1.0; tickets = p.1.1.1.1.1.1.1.0; published = p.1.1.1.1.1.1.1.1 })
+    (ℕ × (ConnectionPhase × (List (ℕ × ChannelPhase) × (List RestEntry × (List MethodEntry × (List Publish × (List (ℕ × List Request) × (Channels × (ℕ × (ℕ × ℕ))))))))))
+    (coded× coded_ℕ (coded× link_row.the_row.coded (coded× (coded_list (coded× coded_ℕ phase_row.the_row.coded)) (coded× (coded_list rest_entry_code) (coded× (coded_list method_entry_code) (coded× (coded_list publish_row.the_row.coded) (coded× (coded_list (coded× coded_ℕ (coded_list request_row.the_row.coded))) (coded× channels_code (coded× coded_ℕ (coded× coded_ℕ coded_ℕ))))))))))
+    (λ b. (b.frame_max, (b.link, (b.phases, (b.rest, (b.methods, (b.publishes, (b.requests, (b.contents, (b.tickets, (b.published, b.ackers)))))))))))
+    (λ p. record { frame_max = p.0; link = p.1.0; phases = p.1.1.0; rest = p.1.1.1.0; methods = p.1.1.1.1.0; publishes = p.1.1.1.1.1.0; requests = p.1.1.1.1.1.1.0; contents = p.1.1.1.1.1.1.1.0; tickets = p.1.1.1.1.1.1.1.1.0; published = p.1.1.1.1.1.1.1.1.1.0; ackers = p.1.1.1.1.1.1.1.1.1.1 })
     (λ _. refl)
 
 abbrev pub world_code : Coded World
 world_code =
     code_by
-    (Wire × (Book × (List (Option Slot) × Option Left)))
-    (coded× base_code (coded× book_code (coded× (coded_list (coded_option slot_row.the_row.coded)) (coded_option left_row.the_row.coded))))
-    (λ w. (w.wire, (w.book, (w.slots, w.returned))))
-    (λ p. record { wire = p.0; book = p.1.0; slots = p.1.1.0; returned = p.1.1.1 })
+    (Wire × (Post × (List (Option Slot) × Option Left)))
+    (coded× base_code (coded× post_code (coded× (coded_list (coded_option slot_row.the_row.coded)) (coded_option left_row.the_row.coded))))
+    (λ w. (w.wire, (w.post, (w.slots, w.returned))))
+    (λ p. record { wire = p.0; post = p.1.0; slots = p.1.1.0; returned = p.1.1.1 })
     (λ _. refl)

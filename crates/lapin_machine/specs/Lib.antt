@@ -1,6 +1,7 @@
 pub mod World
 pub mod Told
 pub mod Numbers
+pub mod Whole
 pub mod Tied
 pub mod Stands
 pub mod Codes

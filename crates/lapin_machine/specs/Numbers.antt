@@ -1,4 +1,4 @@
--- The counters: tickets and confirms are numbered by u64 from 1.
+-- The counters: tickets, confirms and ackers are numbered by u64 from 1.
 use Rattle.std.specs.Prelude.{◌≡◌, ℕ, ◌+◌, ◌<◌, ◌^◌, ◌⊎◌, true, false, Result, Ok, Err}
 use Rattle.lapin_types.specs.declared.call.Call.{Call}
 use Rattle.lapin_history.specs.declared.calls.Asked.{Asked}
@@ -8,6 +8,10 @@ use Rattle.lapin_types.specs.declared.event.Event.{Event}
 use Rattle.lapin_types.specs.declared.event.Event.TheVariants as event
 use Rattle.lapin_types.specs.Types.{Error}
 use Rattle.lapin_types.specs.Types.error
+use Rattle.lapin_history.specs.declared.broker_frames.Incoming.{Incoming}
+use Rattle.lapin_history.specs.declared.broker_frames.Incoming.TheVariants as incoming
+use Rattle.lapin_history.specs.Incoming.{incoming_of}
+use Rattle.lapin_history.specs.Content.{receives_part, whole_on, takes_acker}
 use Rattle.lapin_history.specs.Wire.{Wire, state_of}
 use Rattle.lapin_history.specs.Asking.{is_allowed}
 use Rattle.lapin_machine.specs.World.{World}
@@ -16,6 +20,7 @@ use Rattle.lapin_machine.specs.World.{World}
 pub record HasNumbersFor (n : ℕ) (w : World) : Type 0 where
   pub tickets : w.wire.tickets + n < 2 ^ 64
   pub confirms : w.wire.published + n < 2 ^ 64
+  pub ackers : w.wire.ackers + n < 2 ^ 64
 
 -- the next ticket would pass the greatest u64
 abbrev pub NoTicket : Wire → Type 0
@@ -33,8 +38,17 @@ LacksNumber _ b = NoTicket b
 abbrev pub UsedUp : ℕ → Asked → Wire → Type 0
 UsedUp c k b = (is_allowed k (state_of c b) ≡ true) × LacksNumber k b
 
+-- or where a frame makes the content of a get whole, whose message lacks its acker
+abbrev pub NoAcker : Wire → Type 0
+NoAcker b = b.ackers + 1 ≡ 2 ^ 64
+
+abbrev pub LacksAcker : Incoming → Wire → Type 0
+LacksAcker (incoming.Content c p) b = (receives_part c p b ≡ true) × (takes_acker (whole_on c p b) ≡ true) × NoAcker b
+LacksAcker _ b = ⊥
+
 abbrev pub EventUsedUp : Event → Wire → Type 0
 EventUsedUp (event.Call c k) b = UsedUp c (asked k) b
+EventUsedUp (event.Receive f) b = LacksAcker (incoming_of f) b
 EventUsedUp _ b = ⊥
 
 -- an error of a call: want of memory is free, numbers are used up only where the call lacks one, and it is refused by its state
@@ -60,7 +74,12 @@ abbrev pub HasNumbers : {T : Type 0} → Result T Error → Type 0
 HasNumbers (Err error.NumbersUsedUp) = ⊥
 HasNumbers _ = Unit {0}
 
--- an error of a step: want of memory is free, and numbers are used up only where a call lacks one
+-- they are used up only where a frame lacks the acker of its message
+abbrev pub ReceiveCause : {T : Type 0} → Result T Error → Incoming → Wire → Type 0
+ReceiveCause (Err error.NumbersUsedUp) i b = LacksAcker i b
+ReceiveCause _ i b = Unit {0}
+
+-- an error of a step: want of memory is free, and numbers are used up only where a call or a frame lacks one
 abbrev pub HasCause : {T : Type 0} → Result T Error → Event → Wire → Type 0
 HasCause (Ok x) e b = Unit {0}
 HasCause (Err error.NoMemory) e b = Unit {0}

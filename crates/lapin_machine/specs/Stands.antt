@@ -9,11 +9,12 @@ use Rattle.lapin_history.specs.TicketReadings.{TicketMark, given}
 use Rattle.lapin_history.specs.Phases.{is_up}
 use Rattle.lapin_history.specs.Wire.{Wire}
 use Rattle.lapin_history.specs.History.{History, past}
-use Rattle.lapin_confirm.specs.Book.{Book}
+use Rattle.lapin_confirm.specs.Post.{Post}
 use Rattle.lapin_confirm.specs.Follows.{MayCome}
 use Rattle.lapin_confirm.specs.Follows as confirms
 use Rattle.lapin_ticket.specs.declared.Slot.{Slot}
 use Rattle.lapin_ticket.specs.Follows as tickets
+use Rattle.lapin_machine.specs.Tied.{IsTied}
 use Rattle.lapin_machine.specs.World.{World}
 
 -- the publishes that wait have not left, and are different ones
@@ -22,8 +23,8 @@ AreFresh ms [] = Unit {0}
 AreFresh ms (p ∷ ps) = MayCome ms (mark.Left p.channel p.confirm) × AllByRecursion (λ q. p.confirm ≢ q.confirm) ps × AreFresh ms ps
 
 -- the confirms are what the marks say
-pub record ConfirmsStand (b : Wire) (ms : List ConfirmMark) (bk : Book) : Type 0 where
-  pub book : confirms.Follows ms bk
+pub record ConfirmsStand (b : Wire) (ms : List ConfirmMark) (p : Post) : Type 0 where
+  pub post : confirms.Follows ms p
   pub published : b.published ≡ added ms
   pub queue : AreFresh ms b.publishes
 
@@ -37,9 +38,11 @@ abbrev pub IsShut : Wire → Type 0
 IsShut b = is_up b.link ≡ false → b.phases ≡ []
 
 -- The session stands for the history: it has its states, lists, requests and counters; its tags, outcomes and answers are those
--- that the history's marks say.
+-- that the history's marks say. And its parts hang together: on which channels a confirm or a message may come is not in the marks
+-- alone.
 pub record Stands (frame_max : ℕ) (h : History) (w : World) : Type 0 where
   pub wire : w.wire ≡ (past frame_max h).wire
   pub shut : IsShut w.wire
-  pub confirms : ConfirmsStand w.wire (past frame_max h).confirms w.book
+  pub tied : IsTied w.wire.link w.wire.phases w.wire.publishes w.post.book
+  pub confirms : ConfirmsStand w.wire (past frame_max h).confirms w.post
   pub tickets : TicketsStand w.wire (past frame_max h).tickets w.slots

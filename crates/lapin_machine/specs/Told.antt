@@ -1,7 +1,8 @@
 -- The answers of the public calls, as the records of their events.
-use Rattle.std.specs.Prelude.{◌≡◌, Bool, true, false, Result, Ok, Err}
+use Rattle.std.specs.Prelude.{◌≡◌, Bool, true, false, List, Result, Ok, Err}
 use Rattle.lapin_types.specs.declared.answer.Answer.{Answer}
 use Rattle.lapin_types.specs.declared.confirmation.Confirmation.{Confirmation}
+use Rattle.lapin_types.specs.declared.message.BasicReturnMessage.{BasicReturnMessage}
 use Rattle.lapin_types.specs.declared.poll.Poll.{Poll}
 use Rattle.lapin_types.specs.declared.poll.Poll.TheVariants as poll
 use Rattle.lapin_types.specs.declared.record.Record.{Record}
@@ -51,6 +52,16 @@ abbrev pub confirm_record : Result (Poll (Result Confirmation Error)) Error → 
 confirm_record (Ok (poll.Ready o)) = record_.Confirmed o
 confirm_record (Ok poll.Pending) = record_.Pending
 confirm_record (Err e) = record_.Refused e
+
+-- setting a confirm aside; want of memory has no record
+abbrev pub AsideTold : Result (Unit {0}) Error → Record → Type 0
+AsideTold (Ok x) r = r ≡ record_.Aside
+AsideTold (Err e) r = IsRefusal e r
+
+-- what a wait answers
+abbrev pub wait_told : Poll (List BasicReturnMessage) → Record
+wait_told (poll.Ready messages) = record_.Returned messages
+wait_told poll.Pending = record_.Pending
 
 -- the record of a call's answer, where it has one
 abbrev pub ticket_told : Result Ticket Error → Result Record Error

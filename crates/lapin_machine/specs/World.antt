@@ -22,25 +22,27 @@ use Rattle.lapin_history.specs.Receiving.{incoming_marks, incoming_tickets}
 use Rattle.lapin_history.specs.Readings.{Readings}
 use Rattle.lapin_history.specs.Events.{record_of}
 use Rattle.lapin_history.specs.Settlement.{settlement_record}
-use Rattle.lapin_confirm.specs.Answers.{answer_at}
-use Rattle.lapin_confirm.specs.Book.{Book, empty_book, selected_on, last_on, is_pending}
-use Rattle.lapin_confirm.specs.Book as book
+use Rattle.lapin_confirm.specs.Aside.{taken_answer, set_answer}
+use Rattle.lapin_confirm.specs.Book.{selected_on, last_on, is_pending, asked_on}
+use Rattle.lapin_confirm.specs.Drain.{drained_on}
+use Rattle.lapin_confirm.specs.Post.{Post, empty_post, waits_on}
+use Rattle.lapin_confirm.specs.Machine as post
 use Rattle.lapin_ticket.specs.declared.Slot.{Slot}
 use Rattle.lapin_ticket.specs.Slots as desk
 use Rattle.lapin_types.specs.declared.leaving.Left.{Left}
 use Rattle.lapin_machine.specs.Returned.{given_back}
 use Rattle.lapin_machine.specs.Returned as back
 
--- states, lists, requests and counters; the confirms; the tickets; and the frame that was given back, until it is handed out
+-- states, lists, requests, contents and counters; the confirms with the returned messages; the tickets; and the frame that was given back, until it is handed out
 -- again
 pub record World : Type 0 where
   pub wire : Wire
-  pub book : Book
+  pub post : Post
   pub slots : List (Option Slot)
   pub returned : Option Left
 
 abbrev pub new_world : ℕ → World
-new_world frame_max = record { wire = start frame_max; book = empty_book; slots = []; returned = None }
+new_world frame_max = record { wire = start frame_max; post = empty_post; slots = []; returned = None }
 
 -- ---- what polls meet
 
@@ -56,25 +58,29 @@ poll_record (Ok None) = record_.Pending
 poll_record (Ok (Some a)) = record_.Answer a
 poll_record (Err e) = record_.Refused e
 
--- setting a ticket aside
+-- setting a confirm or a ticket aside
 abbrev pub aside_record : Result (Unit {0}) Error → Record
 aside_record (Ok x) = record_.Aside
 aside_record (Err e) = record_.Refused e
 
 -- what is seen of confirms and tickets
-abbrev pub readings_of : Book → List (Option Slot) → Readings
-readings_of b slots = record {
-  selected = λ c. selected_on c b;
-  last = λ c. last_on c b;
-  pending = λ c t. is_pending c t b;
-  confirm = λ n. outcome_record (answer_at n b);
+abbrev pub readings_of : Post → List (Option Slot) → Readings
+readings_of p slots = record {
+  selected = λ c. selected_on c p.book;
+  last = λ c. last_on c p.book;
+  pending = λ c t. is_pending c t p.book;
+  confirm = λ n. outcome_record (taken_answer n p);
   ticket = λ n. poll_record (desk.polled n slots);
+  confirm_aside = λ n. aside_record (set_answer n p);
   ticket_aside = λ n. aside_record (desk.laid n slots);
+  asked = λ c. asked_on c p.book;
+  waited = λ c. waits_on c p.book;
+  returned = λ c. drained_on c p;
 }
 
 -- the record of an event, where no frame is handed out once more
 abbrev pub told_anew : World → Event → Record
-told_anew w e = record_of w.wire (readings_of w.book w.slots) e
+told_anew w e = record_of w.wire (readings_of w.post w.slots) e
 
 -- the record of an event: a frame request gives the frame that was given back
 abbrev pub told_or : Option Left → Record → Record
@@ -88,14 +94,14 @@ told_by w e = told_or (given_back w.returned e) (told_anew w e)
 abbrev pub next_anew : World → Event → World
 next_anew w e = record {
   wire = after_event w.wire e (told_anew w e);
-  book = fold book.after_mark w.book (confirm_marks w.wire e (told_anew w e));
+  post = fold post.after_mark w.post (confirm_marks w.wire e (told_anew w e));
   slots = fold desk.after_mark w.slots (ticket_marks w.wire e (told_anew w e));
   returned = back.after_event w.wire e (told_anew w e) w.returned;
 }
 
 -- a session with this as the frame that was given back
 abbrev pub with_returned : Option Left → World → World
-with_returned r w = record { wire = w.wire; book = w.book; slots = w.slots; returned = r }
+with_returned r w = record { wire = w.wire; post = w.post; slots = w.slots; returned = r }
 
 -- what an event leaves: a frame that is handed out once more has left before, so nothing else changes
 abbrev pub next_or : Option Left → World → World → World
@@ -109,7 +115,7 @@ next w e = next_or (given_back w.returned e) (next_anew w e) w
 abbrev pub asking : ℕ → Asked → World → World
 asking c k w = record {
   wire = after_asking c k w.wire;
-  book = fold book.after_mark w.book (asking_marks c k w.wire);
+  post = fold post.after_mark w.post (asking_marks c k w.wire);
   slots = fold desk.after_mark w.slots (asking_tickets c k w.wire);
   returned = back.after_asked c k w.wire w.returned;
 }
@@ -118,7 +124,7 @@ asking c k w = record {
 abbrev pub handing : Bool → World → World
 handing t w = record {
   wire = after_handing t w.wire;
-  book = fold book.after_mark w.book (left_marks (handed_out t w.wire));
+  post = fold post.after_mark w.post (left_marks (handed_out t w.wire));
   slots = fold desk.after_mark w.slots (left_tickets (handed_out t w.wire));
   returned = w.returned;
 }
@@ -127,14 +133,14 @@ handing t w = record {
 abbrev pub receiving : Incoming → Record → World → World
 receiving i r w = record {
   wire = after_incoming i r w.wire;
-  book = fold book.after_mark w.book (incoming_marks i r w.wire);
+  post = fold post.after_mark w.post (incoming_marks i r w.wire);
   slots = fold desk.after_mark w.slots (incoming_tickets i r w.wire);
   returned = back.after_incoming i r w.wire w.returned;
 }
 
 -- what a settlement on a channel that receives it is answered by
 abbrev pub settlement_told : ℕ → Settlement → World → Record
-settlement_told c s w = settlement_record (readings_of w.book w.slots) c s
+settlement_told c s w = settlement_record (readings_of w.post w.slots) c s
 
 -- the records of a list of events
 abbrev pub outputs : World → List Event → List Record

@@ -10,7 +10,7 @@ ghost use Rattle.lapin_history.specs.declared.calls.Asked.TheVariants as ask;
 ghost use Rattle.lapin_history.specs.Calls.{asked as asked_lem, publishes};
 ghost use Rattle.lapin_history.specs.Asking.{call_record};
 ghost use Rattle.lapin_history.specs.Select.{queued_marks};
-ghost use Rattle.lapin_confirm.specs.Book as book;
+ghost use Rattle.lapin_confirm.specs.Machine as post;
 ghost use Rattle.lapin_machine.specs.World.{told_by, next, asking};
 ghost use Rattle.lapin_machine.specs.Told.{TicketTold, PublishTold, ticket_told, publish_told};
 ghost use Rattle.lapin_machine.specs.Numbers.{HasCause, CallCause, AskCause};
@@ -47,7 +47,7 @@ impl Session {
         }
         self.phases.reserve(channel)?;
         self.desk.reserve(alloc, channel)?;
-        self.confirms.begin_bare(alloc, channel)?;
+        self.confirms.begin(alloc, channel)?;
         self.phases.set(channel, ChannelPhase::Opening);
         let row = Row {
             method: Method::Channel(ChannelMethod::Open),
@@ -200,7 +200,7 @@ impl Session {
 
 // A call that queues this method was accepted: `confirm.select` asks for confirms.
 fn confirms_called(confirms: &mut Confirms, channel: u16, method: &Method)
-    ensures { confirms.new.what.book ≡ fold book.after_mark confirms.old.what.book (queued_marks channel method.now) }
+    ensures { confirms.new.what ≡ fold post.after_mark confirms.old.what (queued_marks channel method.now) }
 {
     if let Method::Confirm(ConfirmMethod::Select { .. }) = method {
         confirms.select_called(channel);

@@ -2,13 +2,15 @@
 //!
 //! Nothing is kept here: every call is the session's, on the number that stands here. Channels stand in the surface crate.
 
-ghost use Rattle.std.specs.Prelude.{◌≡◌};
-ghost use Rattle.lapin_types.specs.declared.event.Event.TheVariants.{PollTicket, PollConfirm};
+ghost use Rattle.std.specs.Prelude.{◌≡◌, OnOk, OnErr};
+ghost use Rattle.lapin_types.specs.declared.event.Event.TheVariants.{PollTicket, PollConfirm, AsideConfirm};
 ghost use Rattle.lapin_machine.specs.World.{told_by, next};
-ghost use Rattle.lapin_machine.specs.Told.{ticket_record, confirm_record};
+ghost use Rattle.lapin_machine.specs.Told.{AsideTold, ticket_record, confirm_record};
+ghost use Rattle.lapin_machine.specs.Numbers.{HasNumbers};
 
 use crate::session::Session;
 use lapin_types::{Answer, Confirmation, Error, Poll};
+use std::alloc::Global;
 
 /// The promise of a call's answer. Tickets of a session are numbered from 1.
 #[derive(Debug, Drop)]
@@ -56,5 +58,15 @@ impl PublisherConfirm {
         ensures ok { session.new ≡ next session.old (PollConfirm self.now.number) }
     {
         session.poll_confirm(self.number)
+    }
+
+    /// The session's `set_aside` on this number.
+    pub fn set_aside(&self, alloc: Global, session: &mut Session) -> Result<(), Error>
+        ensures told { AsideTold result (told_by session.old (AsideConfirm self.now.number)) }
+        ensures ok { OnOk result (session.new ≡ next session.old (AsideConfirm self.now.number)) }
+        ensures err { OnErr result (session.new ≡ session.old) }
+        ensures numbers { HasNumbers result }
+    {
+        session.set_aside(alloc, self.number)
     }
 }

@@ -15,7 +15,8 @@ ghost use Rattle.lapin_history.specs.Drops.{without_publishes_of};
 ghost use Rattle.lapin_outbox.specs.Outgoing.{with_lists};
 ghost use Rattle.lapin_history.specs.Ends.{ends, live_channels};
 ghost use Rattle.lapin_history.specs.TicketReadings as mark;
-ghost use Rattle.lapin_confirm.specs.Book as book;
+ghost use Rattle.lapin_confirm.specs.Machine as post;
+ghost use Rattle.lapin_history.specs.ConfirmMarks as confirm_mark;
 ghost use Rattle.lapin_ticket.specs.Slots as answers;
 ghost use Rattle.lapin_desk.specs.Queued.{AreQueued};
 ghost use Rattle.lapin_desk.specs.Ended.{emptied_outbox};
@@ -26,6 +27,7 @@ ghost use Rattle.lapin_machine.specs.Numbers.{HasCause, CallCause};
 use crate::channel::Ticket;
 use crate::session::{Session, is_base, is_open};
 use lapin_confirm::Confirms;
+use lapin_content::Contents;
 use lapin_desk::Desk;
 use lapin_history::{AtLeaving, ChannelPhase, Closer, ConnectionPhase, Row, failed_at_close};
 use lapin_outbox::Replies;
@@ -134,6 +136,7 @@ impl Session {
             &mut self.phases,
             &mut self.desk,
             &mut self.confirms,
+            &mut self.contents,
             replies,
             to,
             error,
@@ -171,6 +174,7 @@ impl Session {
             &mut self.phases,
             &mut self.desk,
             &mut self.confirms,
+            &mut self.contents,
             replies,
             ConnectionPhase::Lost,
             Error::ConnectionLost,
@@ -210,7 +214,7 @@ pub(crate) fn begin_close(
     ensures phases { phases.new.entries ≡ with_channel channel (ChannelPhase.Closing closer false) phases.old.entries }
     ensures outbox { desk.new.outbox.what ≡ with_lists (without_publishes_of channel desk.old.outbox.what.lists) desk.old.outbox.what }
     ensures slots { desk.new.tickets.slots ≡ answers.after_mark desk.old.tickets.slots (mark.ClosedHere channel (failed_at_close_lem closer)) }
-    ensures book { confirms.new.what.book ≡ book.closed_here channel (failed_at_close_lem closer) confirms.old.what.book }
+    ensures confirms { confirms.new.what ≡ post.after_mark confirms.old.what (confirm_mark.ClosedHere channel (failed_at_close_lem closer)) }
     ensures queued { AreQueued confirms.new.what.book.cells desk.new.outbox.what.lists.publishes }
     ensures requests { desk.new.replies ≡ desk.old.replies }
     ensures room { (desk.old.outbox.spare ≤ desk.new.outbox.spare) × (desk.new.tickets.ready ≡ desk.old.tickets.ready) }
@@ -227,12 +231,13 @@ pub(crate) fn begin_close(
 }
 
 // The connection leaves the open state, or is lost: every live opening ends and no channel stands open, nothing waits any more,
-// and every open ticket fails.
+// every open ticket fails, and no content is expected.
 pub(crate) fn go_down(
     link: &mut ConnectionPhase,
     phases: &mut Phases,
     desk: &mut Desk,
     confirms: &mut Confirms,
+    contents: &mut Contents,
     replies: Replies,
     to: ConnectionPhase,
     error: Error,
@@ -242,12 +247,14 @@ pub(crate) fn go_down(
     ensures phases { phases.new.entries ≡ [] }
     ensures outbox { desk.new.outbox.what ≡ emptied_outbox desk.old.outbox.what }
     ensures slots { desk.new.tickets.slots ≡ answers.after_mark desk.old.tickets.slots (mark.AllFailed error) }
-    ensures book { confirms.new.what.book ≡ fold book.after_mark confirms.old.what.book (ends error (live_channels phases.old.entries)) }
+    ensures confirms { confirms.new.what ≡ fold post.after_mark confirms.old.what (ends error (live_channels phases.old.entries)) }
+    ensures contents { contents.new ≡ [] }
     ensures requests { desk.new.replies ≡ replies }
     ensures room { (desk.old.outbox.spare ≤ desk.new.outbox.spare) × (desk.new.tickets.ready ≡ desk.old.tickets.ready) }
     ensures counts { (length desk.new.tickets.slots ≡ length desk.old.tickets.slots) × (length confirms.new.what.book.cells ≡ length confirms.old.what.book.cells) }
 {
     desk.end_all(confirms, phases, replies, error);
     phases.clear();
+    contents.drop_all();
     *link = to;
 }

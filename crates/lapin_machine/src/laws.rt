@@ -64,7 +64,7 @@ impl Session {
     /// No confirm is lost: on a channel without a live opening, and on every channel once the connection is not open, each
     /// publish that was accepted has its outcome.
     pub fn no_confirm_is_lost(&self)
-        ensures { (c : ℕ) → is_live_on self.now.wire.link (at_channel c self.now.wire.phases) ≡ false → list_any (is_open_on c) self.now.book.cells ≡ false }
+        ensures { (c : ℕ) → is_live_on self.now.wire.link (at_channel c self.now.wire.phases) ≡ false → list_any (is_open_on c) self.now.post.book.cells ≡ false }
     {
         let _link = self.link;
     }

@@ -19,7 +19,8 @@ ghost use Rattle.lapin_history.specs.ConnectionClose.{receives_down as receives_
 ghost use Rattle.lapin_history.specs.Opening.{phases_with};
 ghost use Rattle.lapin_machine.specs.World.{told_by, next, receiving, readings_of, settlement_told};
 ghost use Rattle.lapin_machine.specs.Told.{HeardTold, WasHeard};
-ghost use Rattle.lapin_machine.specs.Numbers.{HasCause, HasNumbers};
+ghost use Rattle.lapin_machine.specs.Numbers.{HasCause, HasNumbers, ReceiveCause};
+ghost use Rattle.lapin_history.specs.Incoming.{incoming_of};
 
 use crate::channel::Heard;
 use crate::closing::{begin_close, go_down};
@@ -37,7 +38,8 @@ use std::alloc::Global;
 impl Session {
     /// Takes a frame of the broker.
     ///
-    /// While the connection is open: a reply is received in its state and takes the oldest request of its kind on its channel; a
+    /// While the connection is open: a reply is received in its state and takes the oldest request of its kind on its channel; the
+    /// answer to a get and a returned message begin a content, whose header and bodies are received while it waits for them; a
     /// settlement is received on an open or closing channel, and passed over where the channel asked for no confirms; a close is
     /// received on a channel with a live opening, its answer where this side's close is under way, and a close of the connection
     /// always. Once the connection is not open every frame is passed over, but for two while this side closes it: the answer,
@@ -47,11 +49,13 @@ impl Session {
     /// `UnexpectedFrame` with the class and method of a frame that is not received (0 and 0 of a body, the class and 0 of a
     /// header): the connection is then closed with the reply code 505, and every opening ends. `PreconditionFailed` where a
     /// single settlement names a tag that is not pending, with that tag and the last tag taken: an open channel is then closed
-    /// with the reply code 406. `NoMemory`: nothing changes then.
+    /// with the reply code 406. `NumbersUsedUp` where a get's message is whole and the next acker would pass the greatest `u64`,
+    /// and `NoMemory`: nothing changes then.
+    #[tactic(auto, using(crate::proofs::Causes::numbers_so))]
     pub fn receive(&mut self, alloc: Global, frame: Frame) -> Result<Heard, Error>
         ensures told { HeardTold result (told_by self.old (event.Receive frame)) }
         ensures ok { WasHeard result (self.new ≡ next self.old (event.Receive frame)) (self.new ≡ self.old) }
-        ensures numbers { HasNumbers result }
+        ensures cause { ReceiveCause result (incoming_of frame) self.old.wire }
     {
         let class = class_of(&frame);
         let number = method_of(&frame);
@@ -64,6 +68,7 @@ impl Session {
     }
 
     // A frame that comes while the connection is open.
+    #[tactic(auto, using(crate::proofs::Causes::numbers_so))]
     fn receive_up(
         &mut self,
         alloc: Global,
@@ -72,9 +77,9 @@ impl Session {
         incoming: Incoming,
     ) -> Result<Heard, Error>
         requires { is_up self.old.wire.link ≡ true }
-        ensures told { HeardTold result (incoming_up self.old.wire (readings_of self.old.book self.old.slots) (refused class number) incoming) }
-        ensures ok { WasHeard result (self.new ≡ receiving incoming (incoming_up self.old.wire (readings_of self.old.book self.old.slots) (refused class number) incoming) self.old) (self.new ≡ self.old) }
-        ensures numbers { HasNumbers result }
+        ensures told { HeardTold result (incoming_up self.old.wire (readings_of self.old.post self.old.slots) (refused class number) incoming) }
+        ensures ok { WasHeard result (self.new ≡ receiving incoming (incoming_up self.old.wire (readings_of self.old.post self.old.slots) (refused class number) incoming) self.old) (self.new ≡ self.old) }
+        ensures cause { ReceiveCause result incoming self.old.wire }
     {
         match incoming {
             Incoming::Reply(channel, kind, answer) => {
@@ -88,6 +93,14 @@ impl Session {
                 if receives_on(self.channel_state(channel)) {
                     self.receive_settlement(alloc, channel, settlement)
                 } else {
+                    self.refuse(alloc, class, number)
+                }
+            }
+            Incoming::Content(channel, part) => {
+                if self.receives_part(channel, &part) {
+                    self.receive_part(alloc, channel, part)
+                } else {
+                    drop(part);
                     self.refuse(alloc, class, number)
                 }
             }
@@ -158,6 +171,7 @@ impl Session {
             &mut self.phases,
             &mut self.desk,
             &mut self.confirms,
+            &mut self.contents,
             replies,
             to,
             error,
@@ -246,7 +260,7 @@ impl Session {
         kind: SettleKind,
         tag: u64,
     ) -> Result<Heard, Error>
-        requires { selected_on channel self.old.book ≡ true }
+        requires { selected_on channel self.old.post.book ≡ true }
         ensures told { HeardTold result (settlement_told channel (single_of kind tag) self.old) }
         ensures ok { WasHeard result (self.new ≡ receiving (SettlementFrame channel (single_of kind tag)) (settlement_told channel (single_of kind tag) self.old) self.old) (self.new ≡ self.old) }
         ensures numbers { HasNumbers result }
@@ -296,6 +310,7 @@ impl Session {
             Ok(Heard::Received) => Ok(Record::Received),
             Ok(Heard::Passed) => Ok(Record::Passed),
             Err(Error::NoMemory) => Err(Error::NoMemory),
+            Err(Error::NumbersUsedUp) => Err(Error::NumbersUsedUp),
             Err(error) => Ok(Record::Refused(error)),
         }
     }

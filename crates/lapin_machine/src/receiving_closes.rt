@@ -52,6 +52,7 @@ impl Session {
         let error = Error::ProtocolError(code);
         self.desk
             .end_opening(&mut self.confirms, channel, kept, error);
+        self.contents.drop_channel(channel);
         self.phases.set(channel, after_broker_close(phase));
         keep(&mut self.desk.replies, alloc, channel, close);
         self.desk
@@ -81,6 +82,7 @@ impl Session {
         self.desk.resolve(into_ticket(close), Ok(Answer::Done));
         self.desk
             .end_opening(&mut self.confirms, channel, None, error);
+        self.contents.drop_channel(channel);
         self.phases.set(channel, ChannelPhase::Closed);
     }
 
@@ -122,6 +124,7 @@ impl Session {
             &mut self.phases,
             &mut self.desk,
             &mut self.confirms,
+            &mut self.contents,
             replies,
             ConnectionPhase::Closed,
             Error::ProtocolError(code),

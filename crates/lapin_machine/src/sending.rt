@@ -9,7 +9,7 @@ ghost use Rattle.lapin_history.specs.ConnectionClose.{link_sent};
 ghost use Rattle.lapin_history.specs.ChannelClose.{phases_sent};
 ghost use Rattle.lapin_history.specs.Handing.{frame_record as frame_record_lem};
 ghost use Rattle.lapin_history.specs.Handing.{left_marks, frame_marks};
-ghost use Rattle.lapin_confirm.specs.Book as book;
+ghost use Rattle.lapin_confirm.specs.Machine as post;
 ghost use Rattle.lapin_tables.specs.ByChannel.{on_channel};
 ghost use Rattle.lapin_history.specs.ChannelClose.{close_sent as close_sent_lem};
 ghost use Rattle.lapin_history.specs.Phases.{is_up, is_lost};
@@ -128,7 +128,7 @@ fn frame_record(left: Option<Left>) -> Record
 // A frame leaves: the first `confirm.select` selects, the method frame of a publish takes a tag.
 fn confirms_left(confirms: &mut Confirms, left: &Left)
     requires { CanRegister left.now confirms.old.what.book.cells }
-    ensures { confirms.new.what.book ≡ fold book.after_mark confirms.old.what.book (left_marks (Some left.now)) }
+    ensures { confirms.new.what ≡ fold post.after_mark confirms.old.what (left_marks (Some left.now)) }
 {
     match (left.publish, left.first) {
         (None, _) => select_left(confirms, &left.frame),
@@ -140,7 +140,7 @@ fn confirms_left(confirms: &mut Confirms, left: &Left)
 }
 
 fn select_left(confirms: &mut Confirms, frame: &Frame)
-    ensures { confirms.new.what.book ≡ fold book.after_mark confirms.old.what.book (frame_marks frame.now) }
+    ensures { confirms.new.what ≡ fold post.after_mark confirms.old.what (frame_marks frame.now) }
 {
     if let Frame::Method(channel, Method::Confirm(ConfirmMethod::Select { .. })) = frame {
         confirms.select_left(*channel);

@@ -17,6 +17,7 @@ ghost use Rattle.lapin_machine.specs.Returned.{given_back};
 ghost use Rattle.lapin_machine.specs.Stands.{Stands};
 
 use lapin_confirm::Confirms;
+use lapin_content::Contents;
 use lapin_desk::Desk;
 use lapin_history::{ChannelPhase, ConnectionPhase};
 use lapin_outbox::{Outbox, Replies};
@@ -34,6 +35,9 @@ pub struct Session {
     pub(crate) phases: Phases,
     pub(crate) desk: Desk,
     pub(crate) confirms: Confirms,
+    pub(crate) contents: Contents,
+    // How many messages were given an acker.
+    pub(crate) ackers: u64,
 }
 
 impl Model for Session {
@@ -56,10 +60,12 @@ impl Model for Session {
         methods = a.desk.outbox.what.lists.methods;
         publishes = a.desk.outbox.what.lists.publishes;
         requests = a.desk.replies.what;
+        contents = a.contents;
         tickets = length a.desk.tickets.slots;
         published = length a.confirms.what.book.cells;
+        ackers = a.ackers;
       };
-      book = a.confirms.what.book;
+      post = a.confirms.what;
       slots = a.desk.tickets.slots;
       returned = a.desk.outbox.what.returned;
     } };
@@ -89,6 +95,8 @@ impl Session {
                 tickets: Tickets::new(alloc),
             },
             confirms: Confirms::new(alloc)?,
+            contents: Contents::new(alloc)?,
+            ackers: 0,
         })
     }
 
@@ -129,11 +137,18 @@ impl Session {
         &self.desk.replies
     }
 
-    /// The publishes that were accepted, each until its outcome was given.
+    /// The publishes that were accepted, each until its outcome was given, and the messages that came back.
     pub fn confirms(&self) -> &Confirms
-        ensures { result.now.what.book ≡ self.now.book }
+        ensures { result.now.what ≡ self.now.post }
     {
         &self.confirms
+    }
+
+    /// The contents that each channel expects.
+    pub fn contents(&self) -> &Contents
+        ensures { result.now ≡ self.now.wire.contents }
+    {
+        &self.contents
     }
 
     // Where a channel stands while the connection is open.
@@ -179,7 +194,9 @@ impl Session {
             Event::Receive(frame) => self.step_receive(alloc, frame),
             Event::PollTicket(number) => Ok(self.step_poll_ticket(number)),
             Event::PollConfirm(number) => Ok(self.step_poll_confirm(number)),
+            Event::PollWait(channel) => self.step_wait(alloc, channel),
             Event::AsideTicket(number) => Ok(self.step_aside_ticket(number)),
+            Event::AsideConfirm(number) => self.step_aside_confirm(alloc, number),
             Event::State(channel) => Ok(self.step_state(channel)),
             Event::Lost => self.step_lost(alloc),
         }

@@ -149,6 +149,13 @@ impl Outbox {
         self.retrying() || self.queues.has_entries()
     }
 
+    /// Whether a publish of a channel has begun and some of its frames have not left.
+    pub fn is_amid(&self, channel: u16) -> bool
+        ensures { result ≡ is_rest_of channel self.now.what.lists.rest }
+    {
+        self.queues.is_amid(channel)
+    }
+
     /// Hands out the frame that was given back, marked so; else the first of what follows the begun publish, else the first
     /// method, else, where `flow` is true, the method frame of the first publish, whose header and bodies follow; else none.
     /// Where there is no memory all stays.

@@ -248,6 +248,16 @@ impl Queues {
         Some(dropped_publish(publish))
     }
 
+    /// Whether a publish of a channel has begun and some of its frames have not left.
+    pub(crate) fn is_amid(&self, channel: u16) -> bool
+        ensures { result ≡ is_rest_of channel self.now.lists.rest }
+    {
+        match &self.begun {
+            Some(begun) => begun.is_of(channel),
+            None => false,
+        }
+    }
+
     /// A law, and nothing runs: all that waits of the begun publish is on one channel.
     pub(crate) fn begun_publish_is_on_one_channel(&self)
         ensures { (c : ℕ) → is_rest_of c self.now.lists.rest ≡ true → AreOn c self.now.lists.rest }

@@ -1,9 +1,12 @@
-//! The program: it makes the real source and sink, hands them with its words to the top call, and ends with the
-//! status's code. What it does is stated by `run_program` of `lapin_commands`; here stands only what touches the process.
+//! The program: it makes the real source and sink, hands them with its words to a top call, and ends with the status's code. What it
+//! does is stated by `run_shared` of `lapin_shared_commands`, where the first word is `shared`, else by `run_program` of
+//! `lapin_commands`; here stands only what touches the process.
 #![tactic(auto)]
 
 use lapin_commands::{Status, run_program};
 use lapin_io::{StdSink, StdSource};
+use lapin_shared::OpenGate;
+use lapin_shared_commands::run_shared;
 use std::env;
 use std::io::ErrorKind;
 use std::process::ExitCode;
@@ -20,12 +23,32 @@ fn given_words(rt: &HostRuntime) -> Result<Vec<String>, Status> {
     }
 }
 
+// Whether the first word is `shared`.
+fn is_shared(words: &[String]) -> bool {
+    match words {
+        [word, ..] => word.as_str() == "shared",
+        [] => false,
+    }
+}
+
 fn main(rt: HostRuntime) -> ExitCode {
     let status = match given_words(&rt) {
         Ok(words) => {
             let mut source = StdSource::new(rt.stdin());
             let mut sink = StdSink::new(rt.stdout());
-            run_program(rt.alloc(), &words, &mut source, &mut sink)
+            if is_shared(&words) {
+                run_shared(
+                    &rt,
+                    rt.alloc(),
+                    &words,
+                    &OpenGate,
+                    &mut source,
+                    &mut sink,
+                    &mut None,
+                )
+            } else {
+                run_program(rt.alloc(), &words, &mut source, &mut sink)
+            }
         }
         Err(status) => status,
     };

@@ -13,9 +13,9 @@ ghost use Rattle.lapin_machine.specs.Numbers.{CallCause};
 use crate::channel::Channel;
 use lapin_machine::{Published, Session, Ticket};
 use lapin_types::{
-    BasicAckOptions, BasicNackOptions, BasicProperties, BasicPublishOptions, BasicQosOptions,
-    BasicRecoverAsyncOptions, BasicRecoverOptions, BasicRejectOptions, Call, Error, Payload,
-    ShortString,
+    BasicAckOptions, BasicGetOptions, BasicNackOptions, BasicProperties, BasicPublishOptions,
+    BasicQosOptions, BasicRecoverAsyncOptions, BasicRecoverOptions, BasicRejectOptions, Call,
+    Error, Payload, ShortString,
 };
 use std::alloc::Global;
 
@@ -77,6 +77,27 @@ impl Channel {
             payload,
             properties,
         )
+    }
+
+    /// Asks for one message of a queue (AMQP 0-9-1, `basic.get`). The ticket is answered with `Got` and the message once its
+    /// content is whole, or with `Got` and none at the broker's `basic.get-empty`. The message is given an acker.
+    ///
+    /// # Errors
+    /// `InvalidChannelState` where the channel is not open, `NumbersUsedUp` where the next ticket would pass the greatest
+    /// `u64`, `NoMemory`. Nothing changes then.
+    pub fn basic_get(
+        &self,
+        alloc: Global,
+        session: &mut Session,
+        queue: ShortString,
+        options: BasicGetOptions,
+    ) -> Result<Ticket, Error>
+        ensures told { TicketTold result (told_by session.old (CallEvent self.now.id (call.BasicGet queue options))) }
+        ensures ok { OnOk result (session.new ≡ next session.old (CallEvent self.now.id (call.BasicGet queue options))) }
+        ensures err { OnErr result (session.new ≡ session.old) }
+        ensures cause { CallCause result self.now.id (call.BasicGet queue options) session.old.wire }
+    {
+        session.call(alloc, self.id, Call::BasicGet { queue, options })
     }
 
     /// Acknowledges a delivery, with `multiple` all up to it, and all with tag 0 (AMQP 0-9-1, `basic.ack`). The ticket

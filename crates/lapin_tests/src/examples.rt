@@ -138,6 +138,49 @@ next 1 -> frame method 1 queue.delete x616d712e67656e2d31 0 0 0
 recv method 1 queue.delete-ok 1 -> received
 ticket 6 -> answer count 1
 
+# examples/returned-message.txt
+call 1 channel.open -> ticket 1
+next 1 -> frame method 1 channel.open
+recv method 1 channel.open-ok -> received
+call 1 confirm.select 0 -> ticket 2
+next 1 -> frame method 1 confirm.select 0
+recv method 1 confirm.select-ok -> received
+call 1 basic.publish x6576656e7473 x6f726465722e70616964 1 0 x7b226f72646572223a377d [message_id=x6531] -> publish 3 1
+call 1 basic.publish x6576656e7473 x6f726465722e70616964 1 0 x7b226f72646572223a387d [message_id=x6532] -> publish 4 2
+aside-confirm 2 -> aside
+next 1 -> frame method 1 basic.publish x6576656e7473 x6f726465722e70616964 1 0
+next 1 -> frame header 1 60 11 [message_id=x6531]
+next 1 -> frame body 1 x7b226f72646572223a377d
+wait 1 -> pending
+recv method 1 basic.return 312 x4e4f5f524f555445 x6576656e7473 x6f726465722e70616964 -> received
+recv header 1 60 11 [message_id=x6531] -> received
+recv body 1 x7b226f72646572223a377d -> received
+confirm 1 -> pending
+recv method 1 basic.ack 1 0 -> received
+confirm 1 -> confirmed ack 0 x6576656e7473 x6f726465722e70616964 0 [message_id=x6531] x7b226f72646572223a377d 0 312 x4e4f5f524f555445
+next 1 -> frame method 1 basic.publish x6576656e7473 x6f726465722e70616964 1 0
+next 1 -> frame header 1 60 11 [message_id=x6532]
+next 1 -> frame body 1 x7b226f72646572223a387d
+recv method 1 basic.return 312 x4e4f5f524f555445 x6576656e7473 x6f726465722e70616964 -> received
+recv header 1 60 11 [message_id=x6532] -> received
+recv body 1 x7b226f72646572223a387d -> received
+recv method 1 basic.ack 2 0 -> received
+confirm 2 -> refused AlreadyTaken
+wait 1 -> returned 1 0 x6576656e7473 x6f726465722e70616964 0 [message_id=x6532] x7b226f72646572223a387d 0 312 x4e4f5f524f555445
+wait 1 -> returned 0
+call 1 basic.get x6175646974 1 -> ticket 5
+next 1 -> frame method 1 basic.get x6175646974 1
+recv method 1 basic.get-ok 1 0 x6576656e7473 x6f726465722e70616964 0 -> received
+ticket 5 -> pending
+recv header 1 60 11 [] -> received
+recv body 1 x7b226f -> received
+recv body 1 x72646572223a377d -> received
+ticket 5 -> answer got 1 x6576656e7473 x6f726465722e70616964 0 [] x7b226f72646572223a377d 1 0
+call 1 basic.get x6175646974 1 -> ticket 6
+next 1 -> frame method 1 basic.get x6175646974 1
+recv method 1 basic.get-empty -> received
+ticket 6 -> answer got -
+
 # examples/event-bus.txt
 call 1 channel.open -> ticket 1
 next 1 -> frame method 1 channel.open

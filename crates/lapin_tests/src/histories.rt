@@ -1,8 +1,9 @@
 //! Runs the tables of histories.
 use crate::driver::{shows, shows_all};
 use crate::{
-    broker_close, calls, channel_close, confirms, connection_close, crossed, examples, flow, loss,
-    methods_table, session_close, unexpected,
+    asides, broker_close, calls, channel_close, confirms, connection_close, content_ends,
+    content_faults, contents, crossed, examples, flow, gets, loss, methods_table, returned,
+    session_close, unexpected, waits,
 };
 use std::alloc::{AllocError, Global};
 use std::test::Fail;
@@ -23,6 +24,13 @@ fn histories_have_their_records(rt: HostRuntime) -> Result<(), Fail> {
         connection_close::HISTORIES,
         unexpected::HISTORIES,
         loss::HISTORIES,
+        gets::HISTORIES,
+        contents::HISTORIES,
+        content_faults::HISTORIES,
+        content_ends::HISTORIES,
+        returned::HISTORIES,
+        asides::HISTORIES,
+        waits::HISTORIES,
     ] {
         shows_all(&rt, table)?;
     }

@@ -6,6 +6,8 @@
 #![tactic(auto)]
 
 #[cfg(test)]
+mod asides;
+#[cfg(test)]
 mod begun;
 #[cfg(test)]
 mod bodies;
@@ -20,6 +22,12 @@ mod confirms;
 #[cfg(test)]
 mod connection_close;
 #[cfg(test)]
+mod content_ends;
+#[cfg(test)]
+mod content_faults;
+#[cfg(test)]
+mod contents;
+#[cfg(test)]
 mod crossed;
 #[cfg(test)]
 mod driver;
@@ -30,6 +38,8 @@ mod faults;
 #[cfg(test)]
 mod flow;
 #[cfg(test)]
+mod gets;
+#[cfg(test)]
 mod histories;
 #[cfg(test)]
 mod lines;
@@ -38,8 +48,12 @@ mod loss;
 #[cfg(test)]
 mod methods_table;
 #[cfg(test)]
+mod returned;
+#[cfg(test)]
 mod session_close;
 #[cfg(test)]
 mod unexpected;
+#[cfg(test)]
+mod waits;
 #[cfg(test)]
 mod words;

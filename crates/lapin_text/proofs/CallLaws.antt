@@ -3,7 +3,7 @@ use Rattle.std.proofs.Common.{◌≡◌, ℕ, List, [], ◌∷◌, ◌++◌, Opt
 use Rattle.std.specs.Prelude.{codes, ◌||◌, if◌then◌else◌}
 use Rattle.std.specs.Str.{bytes_eq}
 use Rattle.std.proofs.lemmas.Slice.Eq.{bytes_eq-Decides}
-use Rattle.lapin_types.specs.Types.{Method, ChannelMethod, AccessMethod, ExchangeMethod, QueueMethod, BasicMethod, ConfirmMethod, TxMethod}
+use Rattle.lapin_types.specs.Types.{Method}
 use Rattle.lapin_types.specs.declared.call.Call.{Call}
 use Rattle.lapin_types.specs.declared.call.Call.TheVariants as call
 use Rattle.lapin_types.specs.Types.method
@@ -25,8 +25,8 @@ use Rattle.lapin_tokens.proofs.PlainFields.{plain_tokens}
 use Rattle.lapin_method_text.specs.Methods.{method_tokens, MethodFits}
 use Rattle.lapin_method_text.specs.MethodReading.{method_at}
 use Rattle.lapin_method_text.proofs.MethodLaws.{plain_method, method_again, method_found}
-use Rattle.lapin_text.specs.Calls.{is_standard, IsNamed, kind_named, method_of, close_fields, content_fields, call_tokens, CallFits}
-use Rattle.lapin_text.specs.CallReading.{channel_call, access_call, exchange_call, queue_call, basic_call, confirm_call, tx_call, call_of, call_with, call_named, call_at}
+use Rattle.lapin_text.specs.Calls.{is_standard, IsNamed, kind_named, method_of, call_of}
+use Rattle.lapin_text.specs.CallText.{close_fields, content_fields, call_tokens, CallFits, call_with, call_named, call_at}
 
 -- ---- kinds of exchanges
 
@@ -81,65 +81,30 @@ call_again c rest h = as_method c rest h refl refl
 abbrev IsSpelled : Method → Call → Type 0
 IsSpelled m c = (method_tokens m ≡ call_tokens c) × CallFits c
 
-is_made : (m : Method) (made c : Call) → Some made ≡ Some c → IsSpelled m made → IsSpelled m c
-is_made m made c e p = subst (λ (y : Call). IsSpelled m y) (some_is made c e) p
+-- The method's text is that of the call that queues it, where one does. Where none does, the same is said of the method itself, which
+-- always holds: so one answer has both forms.
+abbrev IsSpelledWhereQueued : Method → Option Call → Type 0
+IsSpelledWhereQueued m (Some c) = IsSpelled m c
+IsSpelledWhereQueued m None = (method_tokens m ≡ method_tokens m) × MethodFits m
 
-channel_found : (m : ChannelMethod) (c : Call) → channel_call m ≡ Some c → MethodFits (method.Channel m) → IsSpelled (method.Channel m) c
-channel_found channel_method.Open c e fit = is_made (method.Channel channel_method.Open) call.OpenChannel c e (refl, fit)
-channel_found (channel_method.Flow active) c e fit = is_made (method.Channel (channel_method.Flow active)) (call.ChannelFlow (record { active = active })) c e (refl, fit)
-channel_found _ c e fit = absurd cc
-
-access_found : (m : AccessMethod) (c : Call) → access_call m ≡ Some c → MethodFits (method.Access m) → IsSpelled (method.Access m) c
-access_found (access_method.Request realm exclusive passive active write read) c e fit = is_made (method.Access (access_method.Request realm exclusive passive active write read)) (call.AccessRequest realm (record { exclusive = exclusive; passive = passive; active = active; write = write; read = read })) c e (refl, fit)
-access_found _ c e fit = absurd cc
-
-exchange_found : (m : ExchangeMethod) (c : Call) → exchange_call m ≡ Some c → MethodFits (method.Exchange m) → IsSpelled (method.Exchange m) c
-exchange_found (exchange_method.Declare exchange kind passive durable auto_delete internal nowait arguments) c e fit =
+-- A call's text is that of its method, so each method's case computes but for the one whose field is a kind of an exchange. One
+-- method of each other class stands here by name, so that the last line is taken method by method.
+queued_spelled : (m : Method) → MethodFits m → IsSpelledWhereQueued m (call_of m)
+queued_spelled (method.Exchange (exchange_method.Declare exchange kind passive durable auto_delete internal nowait arguments)) fit =
     let k = kind_found kind in
     let is : method.Exchange (exchange_method.Declare exchange kind passive durable auto_delete internal nowait arguments) ≡ method.Exchange (exchange_method.Declare exchange (kind_text (kind_named kind)) passive durable auto_delete internal nowait arguments) =
     ap (λ (name : List ℕ). method.Exchange (exchange_method.Declare exchange name passive durable auto_delete internal nowait arguments)) (sym k.0) in
-    is_made (method.Exchange (exchange_method.Declare exchange kind passive durable auto_delete internal nowait arguments)) (call.ExchangeDeclare exchange (kind_named kind) (record { passive = passive; durable = durable; auto_delete = auto_delete; internal = internal; nowait = nowait }) arguments) c e (ap method_tokens is, (subst MethodFits is fit, k.1))
-exchange_found (exchange_method.Delete exchange if_unused nowait) c e fit = is_made (method.Exchange (exchange_method.Delete exchange if_unused nowait)) (call.ExchangeDelete exchange (record { if_unused = if_unused; nowait = nowait })) c e (refl, fit)
-exchange_found (exchange_method.Bind destination source routing_key nowait arguments) c e fit = is_made (method.Exchange (exchange_method.Bind destination source routing_key nowait arguments)) (call.ExchangeBind destination source routing_key (record { nowait = nowait }) arguments) c e (refl, fit)
-exchange_found (exchange_method.Unbind destination source routing_key nowait arguments) c e fit = is_made (method.Exchange (exchange_method.Unbind destination source routing_key nowait arguments)) (call.ExchangeUnbind destination source routing_key (record { nowait = nowait }) arguments) c e (refl, fit)
-exchange_found _ c e fit = absurd cc
-
-queue_found : (m : QueueMethod) (c : Call) → queue_call m ≡ Some c → MethodFits (method.Queue m) → IsSpelled (method.Queue m) c
-queue_found (queue_method.Declare queue passive durable exclusive auto_delete nowait arguments) c e fit = is_made (method.Queue (queue_method.Declare queue passive durable exclusive auto_delete nowait arguments)) (call.QueueDeclare queue (record { passive = passive; durable = durable; exclusive = exclusive; auto_delete = auto_delete; nowait = nowait }) arguments) c e (refl, fit)
-queue_found (queue_method.Bind queue exchange routing_key nowait arguments) c e fit = is_made (method.Queue (queue_method.Bind queue exchange routing_key nowait arguments)) (call.QueueBind queue exchange routing_key (record { nowait = nowait }) arguments) c e (refl, fit)
-queue_found (queue_method.Purge queue nowait) c e fit = is_made (method.Queue (queue_method.Purge queue nowait)) (call.QueuePurge queue (record { nowait = nowait })) c e (refl, fit)
-queue_found (queue_method.Delete queue if_unused if_empty nowait) c e fit = is_made (method.Queue (queue_method.Delete queue if_unused if_empty nowait)) (call.QueueDelete queue (record { if_unused = if_unused; if_empty = if_empty; nowait = nowait })) c e (refl, fit)
-queue_found (queue_method.Unbind queue exchange routing_key arguments) c e fit = is_made (method.Queue (queue_method.Unbind queue exchange routing_key arguments)) (call.QueueUnbind queue exchange routing_key arguments) c e (refl, fit)
-queue_found _ c e fit = absurd cc
-
-basic_found : (m : BasicMethod) (c : Call) → basic_call m ≡ Some c → MethodFits (method.Basic m) → IsSpelled (method.Basic m) c
-basic_found (basic_method.Qos prefetch_count global) c e fit = is_made (method.Basic (basic_method.Qos prefetch_count global)) (call.BasicQos prefetch_count (record { global = global })) c e (refl, fit)
-basic_found (basic_method.Ack delivery_tag multiple) c e fit = is_made (method.Basic (basic_method.Ack delivery_tag multiple)) (call.BasicAck delivery_tag (record { multiple = multiple })) c e (refl, fit)
-basic_found (basic_method.Nack delivery_tag multiple requeue) c e fit = is_made (method.Basic (basic_method.Nack delivery_tag multiple requeue)) (call.BasicNack delivery_tag (record { multiple = multiple; requeue = requeue })) c e (refl, fit)
-basic_found (basic_method.Reject delivery_tag requeue) c e fit = is_made (method.Basic (basic_method.Reject delivery_tag requeue)) (call.BasicReject delivery_tag (record { requeue = requeue })) c e (refl, fit)
-basic_found (basic_method.RecoverAsync requeue) c e fit = is_made (method.Basic (basic_method.RecoverAsync requeue)) (call.BasicRecoverAsync (record { requeue = requeue })) c e (refl, fit)
-basic_found (basic_method.Recover requeue) c e fit = is_made (method.Basic (basic_method.Recover requeue)) (call.BasicRecover (record { requeue = requeue })) c e (refl, fit)
-basic_found _ c e fit = absurd cc
-
-confirm_found : (m : ConfirmMethod) (c : Call) → confirm_call m ≡ Some c → MethodFits (method.Confirm m) → IsSpelled (method.Confirm m) c
-confirm_found (confirm_method.Select nowait) c e fit = is_made (method.Confirm (confirm_method.Select nowait)) (call.ConfirmSelect (record { nowait = nowait })) c e (refl, fit)
-confirm_found _ c e fit = absurd cc
-
-tx_found : (m : TxMethod) (c : Call) → tx_call m ≡ Some c → MethodFits (method.Tx m) → IsSpelled (method.Tx m) c
-tx_found tx_method.Select c e fit = is_made (method.Tx tx_method.Select) call.TxSelect c e (refl, fit)
-tx_found tx_method.Commit c e fit = is_made (method.Tx tx_method.Commit) call.TxCommit c e (refl, fit)
-tx_found tx_method.Rollback c e fit = is_made (method.Tx tx_method.Rollback) call.TxRollback c e (refl, fit)
-tx_found _ c e fit = absurd cc
+    (ap method_tokens is, (subst MethodFits is fit, k.1))
+queued_spelled (method.Channel channel_method.OpenOk) fit = (refl, fit)
+queued_spelled (method.Access access_method.RequestOk) fit = (refl, fit)
+queued_spelled (method.Queue queue_method.BindOk) fit = (refl, fit)
+queued_spelled (method.Basic basic_method.QosOk) fit = (refl, fit)
+queued_spelled (method.Confirm confirm_method.SelectOk) fit = (refl, fit)
+queued_spelled (method.Tx tx_method.SelectOk) fit = (refl, fit)
+queued_spelled _ fit = (refl, fit)
 
 call_of_found : (m : Method) (c : Call) → call_of m ≡ Some c → MethodFits m → IsSpelled m c
-call_of_found (method.Channel m) c e fit = channel_found m c e fit
-call_of_found (method.Access m) c e fit = access_found m c e fit
-call_of_found (method.Exchange m) c e fit = exchange_found m c e fit
-call_of_found (method.Queue m) c e fit = queue_found m c e fit
-call_of_found (method.Basic m) c e fit = basic_found m c e fit
-call_of_found (method.Confirm m) c e fit = confirm_found m c e fit
-call_of_found (method.Tx m) c e fit = tx_found m c e fit
-call_of_found _ c e fit = absurd cc
+call_of_found m c e fit = subst (λ (o : Option Call). IsSpelledWhereQueued m o) e (queued_spelled m fit)
 
 -- the pieces are the tokens of a call that has a text, and others
 abbrev pub IsCall : List (List ℕ) → Call × List (List ℕ) → Type 0

@@ -96,7 +96,7 @@ at_end n all lines events before is =
 
 -- ---- what was printed is parsed
 
-line_first : (line rest : List ℕ) → ((i d : ℕ) → i < length line → eqb (get_or line i d) 10 ≡ false) → lines_of (line ++ 10 ∷ rest) ≡ line ∷ lines_of rest
+pub line_first : (line rest : List ℕ) → ((i d : ℕ) → i < length line → eqb (get_or line i d) 10 ≡ false) → lines_of (line ++ 10 ∷ rest) ≡ line ∷ lines_of rest
 unfolding lines_of
 line_first line rest free =
     ap without_empty_end (slice_split_at is_feed line 10 rest free refl) ∙ kept line (slice_split is_feed rest) (omega (arith, length-slice_split is_feed rest))
@@ -127,7 +127,7 @@ max_again m ls (Some k) es got bad ok h a =
     drop_front : max_line m ≡ max_line k → decimal m ≡ decimal k
     drop_front e = cc
 
-max_plain : (m : ℕ) → IsMax m → (i d : ℕ) → i < length (max_line m) → eqb (get_or (max_line m) i d) 10 ≡ false
+pub max_plain : (m : ℕ) → IsMax m → (i d : ℕ) → i < length (max_line m) → eqb (get_or (max_line m) i d) 10 ≡ false
 max_plain m ok =
     let fit : (ltb m (2 ^ 32) && ltb m (2 ^ 64)) ≡ true = true_both (ltb m (2 ^ 32)) (ltb m (2 ^ 64)) (lt-ltb _ _ ok.1) (lt-ltb _ _ (omega (arith, ok.1))) in
     no_feed (codes "frame_max" ∷ decimal m ∷ []) (refl, (plain_token long_number m fit, tt))

@@ -22,9 +22,8 @@ use Rattle.lapin_method_text.specs.Methods.{method_tokens}
 use Rattle.lapin_method_text.specs.MethodReading.{method_at}
 use Rattle.lapin_method_text.proofs.MethodLaws.{plain_method, method_again, method_found}
 use Rattle.lapin_text.specs.Frames.{header_fields, body_fields, frame_tokens, FrameFits, frame_text}
-use Rattle.lapin_text.specs.Calls.{call_tokens, CallFits}
+use Rattle.lapin_text.specs.CallText.{call_tokens, call_at}
 use Rattle.lapin_text.specs.Events.{event_tokens, HasLine, line_of}
-use Rattle.lapin_text.specs.CallReading.{call_at}
 use Rattle.lapin_text.proofs.CallLaws.{call_again, call_found, plain_call}
 use Rattle.lapin_text.specs.LineReading.{word_at, word_text, frame_of_word, frame_at, event_of_word, event_at, whole, frame_text_at, line_at}
 
@@ -37,16 +36,7 @@ word_found piece w e = sym ((bytes_eq-Decides (word_text w) piece).0 (find_found
 word_again : (w : Word) → word_at (word_text w) ≡ Some w
 unfolding word_at
 word_again word.Method = refl
-word_again word.Header = refl
-word_again word.Body = refl
-word_again word.Call = refl
-word_again word.Next = refl
-word_again word.Recv = refl
-word_again word.Ticket = refl
-word_again word.Confirm = refl
-word_again word.AsideTicket = refl
-word_again word.State = refl
-word_again word.Lost = refl
+word_again _ = refl
 
 -- ---- frames
 
@@ -99,7 +89,9 @@ event_again (event.Next flow) rest h = rw (word_again word.Next) (fields_again (
 event_again (event.Receive f) rest h = rw (word_again word.Recv, frame_again f rest h) refl
 event_again (event.PollTicket n) rest h = rw (word_again word.Ticket) (fields_again (wide_number ∷ []) (λ v. event.PollTicket v.0) (n, tt) rest (h, tt))
 event_again (event.PollConfirm n) rest h = rw (word_again word.Confirm) (fields_again (wide_number ∷ []) (λ v. event.PollConfirm v.0) (n, tt) rest (h, tt))
+event_again (event.PollWait c) rest h = rw (word_again word.Wait) (fields_again (short_number ∷ []) (λ v. event.PollWait v.0) (c, tt) rest (h, tt))
 event_again (event.AsideTicket n) rest h = rw (word_again word.AsideTicket) (fields_again (wide_number ∷ []) (λ v. event.AsideTicket v.0) (n, tt) rest (h, tt))
+event_again (event.AsideConfirm n) rest h = rw (word_again word.AsideConfirm) (fields_again (wide_number ∷ []) (λ v. event.AsideConfirm v.0) (n, tt) rest (h, tt))
 event_again (event.State c) rest h = rw (word_again word.State) (fields_again (short_number ∷ []) (λ v. event.State v.0) (c, tt) rest (h, tt))
 event_again event.Lost rest h = rw (word_again word.Lost) refl
 
@@ -128,9 +120,15 @@ event_of_word_found word.Ticket rest x e =
 event_of_word_found word.Confirm rest x e =
     let r = fields_found (wide_number ∷ []) (λ v. event.PollConfirm v.0) rest x e in
     subst (λ (f : Event). IsEvent (word_text word.Confirm ∷ rest) (f, x.1)) (sym r.is) (ap (λ (t : List (List ℕ)). word_text word.Confirm ∷ t) r.spelled, r.fit.0)
+event_of_word_found word.Wait rest x e =
+    let r = fields_found (short_number ∷ []) (λ v. event.PollWait v.0) rest x e in
+    subst (λ (f : Event). IsEvent (word_text word.Wait ∷ rest) (f, x.1)) (sym r.is) (ap (λ (t : List (List ℕ)). word_text word.Wait ∷ t) r.spelled, r.fit.0)
 event_of_word_found word.AsideTicket rest x e =
     let r = fields_found (wide_number ∷ []) (λ v. event.AsideTicket v.0) rest x e in
     subst (λ (f : Event). IsEvent (word_text word.AsideTicket ∷ rest) (f, x.1)) (sym r.is) (ap (λ (t : List (List ℕ)). word_text word.AsideTicket ∷ t) r.spelled, r.fit.0)
+event_of_word_found word.AsideConfirm rest x e =
+    let r = fields_found (wide_number ∷ []) (λ v. event.AsideConfirm v.0) rest x e in
+    subst (λ (f : Event). IsEvent (word_text word.AsideConfirm ∷ rest) (f, x.1)) (sym r.is) (ap (λ (t : List (List ℕ)). word_text word.AsideConfirm ∷ t) r.spelled, r.fit.0)
 event_of_word_found word.State rest x e =
     let r = fields_found (short_number ∷ []) (λ v. event.State v.0) rest x e in
     subst (λ (f : Event). IsEvent (word_text word.State ∷ rest) (f, x.1)) (sym r.is) (ap (λ (t : List (List ℕ)). word_text word.State ∷ t) r.spelled, r.fit.0)
@@ -159,24 +157,19 @@ plain_event (event.Next flow) h = (refl, (plain_token flag flow h, tt))
 plain_event (event.Receive f) h = (refl, plain_frame f h)
 plain_event (event.PollTicket n) h = (refl, (plain_token wide_number n h, tt))
 plain_event (event.PollConfirm n) h = (refl, (plain_token wide_number n h, tt))
+plain_event (event.PollWait c) h = (refl, (plain_token short_number c h, tt))
 plain_event (event.AsideTicket n) h = (refl, (plain_token wide_number n h, tt))
+plain_event (event.AsideConfirm n) h = (refl, (plain_token wide_number n h, tt))
 plain_event (event.State c) h = (refl, (plain_token short_number c h, tt))
 plain_event event.Lost h = (refl, tt)
 
-some_frame_tokens : (f : Frame) → 0 < length (frame_tokens f)
+pub some_frame_tokens : (f : Frame) → 0 < length (frame_tokens f)
 some_frame_tokens (frame.Method c m) = omega arith
-some_frame_tokens (frame.Header c header) = omega arith
-some_frame_tokens (frame.Body c bytes) = omega arith
+some_frame_tokens _ = omega arith
 
-some_tokens : (e : Event) → 0 < length (event_tokens e)
-some_tokens (event.Call c made) = omega arith
-some_tokens (event.Next flow) = omega arith
-some_tokens (event.Receive f) = omega arith
-some_tokens (event.PollTicket n) = omega arith
-some_tokens (event.PollConfirm n) = omega arith
-some_tokens (event.AsideTicket n) = omega arith
-some_tokens (event.State c) = omega arith
+pub some_tokens : (e : Event) → 0 < length (event_tokens e)
 some_tokens event.Lost = omega arith
+some_tokens _ = omega arith
 
 -- ---- whole texts
 

@@ -1,8 +1,7 @@
--- The text of calls. A call's text is that of the method that it queues, but for three calls: a close has its code and its text
--- alone, and a publish is followed by its bytes and its properties.
-use Rattle.std.specs.Prelude.{◌≡◌, ℕ, Bool, false, ◌||◌, List, [], ◌∷◌, ◌++◌, codes, if◌then◌else◌}
+-- Which call queues which method: a table from calls to methods, and one back, a line a call in each. The text of calls goes by them.
+use Rattle.std.specs.Prelude.{◌≡◌, ℕ, Bool, false, ◌||◌, List, codes, Option, Some, None, if◌then◌else◌}
 use Rattle.std.specs.Str.{bytes_eq}
-use Rattle.lapin_types.specs.Types.{Method}
+use Rattle.lapin_types.specs.Types.{Method, ChannelMethod, AccessMethod, ExchangeMethod, QueueMethod, BasicMethod, ConfirmMethod, TxMethod}
 use Rattle.lapin_types.specs.declared.call.Call.{Call}
 use Rattle.lapin_types.specs.declared.call.Call.TheVariants as call
 use Rattle.lapin_types.specs.Types.method
@@ -17,9 +16,6 @@ use Rattle.lapin_types.specs.Types.tx as tx_method
 use Rattle.lapin_types.specs.declared.exchange_kind.ExchangeKind.{ExchangeKind}
 use Rattle.lapin_types.specs.declared.exchange_kind.ExchangeKind.TheVariants as exchange_kind
 use Rattle.lapin_types.specs.ExchangeKinds.{kind_text}
-use Rattle.lapin_tokens.specs.Fields.{Field, tokens, AllFit, short_number}
-use Rattle.lapin_tokens.specs.Fields.Field.{text, bytes, props}
-use Rattle.lapin_method_text.specs.Methods.{method_tokens, MethodFits}
 
 -- ---- kinds of exchanges
 
@@ -41,7 +37,7 @@ kind_named name =
     if bytes_eq name (codes "topic") then exchange_kind.Topic else
     exchange_kind.Custom name
 
--- ---- calls
+-- ---- the method that a call queues
 
 -- the method that a call queues: the one of its name, with the arguments as fields; a close names no class and no method
 abbrev pub method_of : Call → Method
@@ -61,6 +57,7 @@ method_of (call.QueueDelete queue options) = method.Queue (queue_method.Delete q
 method_of (call.QueueUnbind queue exchange routing_key arguments) = method.Queue (queue_method.Unbind queue exchange routing_key arguments)
 method_of (call.BasicQos prefetch_count options) = method.Basic (basic_method.Qos prefetch_count options.global)
 method_of (call.BasicPublish exchange routing_key options payload properties) = method.Basic (basic_method.Publish exchange routing_key options.mandatory options.immediate)
+method_of (call.BasicGet queue options) = method.Basic (basic_method.Get queue options.no_ack)
 method_of (call.BasicAck delivery_tag options) = method.Basic (basic_method.Ack delivery_tag options.multiple)
 method_of (call.BasicNack delivery_tag options) = method.Basic (basic_method.Nack delivery_tag options.multiple options.requeue)
 method_of (call.BasicReject delivery_tag options) = method.Basic (basic_method.Reject delivery_tag options.requeue)
@@ -71,28 +68,59 @@ method_of call.TxSelect = method.Tx tx_method.Select
 method_of call.TxCommit = method.Tx tx_method.Commit
 method_of call.TxRollback = method.Tx tx_method.Rollback
 
--- what the line of a close has: its code and its text
-abbrev pub close_fields : List Field
-close_fields = short_number ∷ text ∷ []
+-- ---- the call that queues a method, a class at a time; none where no call does
 
--- what follows the method of a publish: its bytes and its properties
-abbrev pub content_fields : List Field
-content_fields = bytes ∷ props ∷ []
+abbrev pub channel_call : ChannelMethod → Option Call
+channel_call channel_method.Open = Some call.OpenChannel
+channel_call (channel_method.Flow active) = Some (call.ChannelFlow (record { active = active }))
+channel_call _ = None
 
--- a call's name and the tokens of its arguments
-abbrev pub call_tokens : Call → List (List ℕ)
-call_tokens (call.ChannelClose reply_code reply_text) = codes "channel.close" ∷ tokens close_fields (reply_code, (reply_text, tt))
-call_tokens (call.ConnectionClose reply_code reply_text) = codes "connection.close" ∷ tokens close_fields (reply_code, (reply_text, tt))
-call_tokens (call.BasicPublish exchange routing_key options payload properties) =
-    method_tokens (method_of (call.BasicPublish exchange routing_key options payload properties)) ++ tokens content_fields (payload, (properties, tt))
-call_tokens c = method_tokens (method_of c)
+abbrev pub access_call : AccessMethod → Option Call
+access_call (access_method.Request realm exclusive passive active write read) = Some (call.AccessRequest realm (record { exclusive = exclusive; passive = passive; active = active; write = write; read = read }))
+access_call _ = None
 
--- the calls that have a text: each argument has a token, and the kind of an exchange is what its text stands for
-abbrev pub CallFits : Call → Type 0
-CallFits (call.ChannelClose reply_code reply_text) = AllFit close_fields (reply_code, (reply_text, tt))
-CallFits (call.ConnectionClose reply_code reply_text) = AllFit close_fields (reply_code, (reply_text, tt))
-CallFits (call.BasicPublish exchange routing_key options payload properties) =
-    MethodFits (method_of (call.BasicPublish exchange routing_key options payload properties)) × AllFit content_fields (payload, (properties, tt))
-CallFits (call.ExchangeDeclare exchange kind options arguments) =
-    MethodFits (method_of (call.ExchangeDeclare exchange kind options arguments)) × IsNamed kind
-CallFits c = MethodFits (method_of c)
+abbrev pub exchange_call : ExchangeMethod → Option Call
+exchange_call (exchange_method.Declare exchange kind passive durable auto_delete internal nowait arguments) = Some (call.ExchangeDeclare exchange (kind_named kind) (record { passive = passive; durable = durable; auto_delete = auto_delete; internal = internal; nowait = nowait }) arguments)
+exchange_call (exchange_method.Delete exchange if_unused nowait) = Some (call.ExchangeDelete exchange (record { if_unused = if_unused; nowait = nowait }))
+exchange_call (exchange_method.Bind destination source routing_key nowait arguments) = Some (call.ExchangeBind destination source routing_key (record { nowait = nowait }) arguments)
+exchange_call (exchange_method.Unbind destination source routing_key nowait arguments) = Some (call.ExchangeUnbind destination source routing_key (record { nowait = nowait }) arguments)
+exchange_call _ = None
+
+abbrev pub queue_call : QueueMethod → Option Call
+queue_call (queue_method.Declare queue passive durable exclusive auto_delete nowait arguments) = Some (call.QueueDeclare queue (record { passive = passive; durable = durable; exclusive = exclusive; auto_delete = auto_delete; nowait = nowait }) arguments)
+queue_call (queue_method.Bind queue exchange routing_key nowait arguments) = Some (call.QueueBind queue exchange routing_key (record { nowait = nowait }) arguments)
+queue_call (queue_method.Purge queue nowait) = Some (call.QueuePurge queue (record { nowait = nowait }))
+queue_call (queue_method.Delete queue if_unused if_empty nowait) = Some (call.QueueDelete queue (record { if_unused = if_unused; if_empty = if_empty; nowait = nowait }))
+queue_call (queue_method.Unbind queue exchange routing_key arguments) = Some (call.QueueUnbind queue exchange routing_key arguments)
+queue_call _ = None
+
+abbrev pub basic_call : BasicMethod → Option Call
+basic_call (basic_method.Qos prefetch_count global) = Some (call.BasicQos prefetch_count (record { global = global }))
+basic_call (basic_method.Get queue no_ack) = Some (call.BasicGet queue (record { no_ack = no_ack }))
+basic_call (basic_method.Ack delivery_tag multiple) = Some (call.BasicAck delivery_tag (record { multiple = multiple }))
+basic_call (basic_method.Nack delivery_tag multiple requeue) = Some (call.BasicNack delivery_tag (record { multiple = multiple; requeue = requeue }))
+basic_call (basic_method.Reject delivery_tag requeue) = Some (call.BasicReject delivery_tag (record { requeue = requeue }))
+basic_call (basic_method.RecoverAsync requeue) = Some (call.BasicRecoverAsync (record { requeue = requeue }))
+basic_call (basic_method.Recover requeue) = Some (call.BasicRecover (record { requeue = requeue }))
+basic_call _ = None
+
+abbrev pub confirm_call : ConfirmMethod → Option Call
+confirm_call (confirm_method.Select nowait) = Some (call.ConfirmSelect (record { nowait = nowait }))
+confirm_call _ = None
+
+abbrev pub tx_call : TxMethod → Option Call
+tx_call tx_method.Select = Some call.TxSelect
+tx_call tx_method.Commit = Some call.TxCommit
+tx_call tx_method.Rollback = Some call.TxRollback
+tx_call _ = None
+
+-- the call that queues a method and has its fields alone
+abbrev pub call_of : Method → Option Call
+call_of (method.Channel m) = channel_call m
+call_of (method.Access m) = access_call m
+call_of (method.Exchange m) = exchange_call m
+call_of (method.Queue m) = queue_call m
+call_of (method.Basic m) = basic_call m
+call_of (method.Confirm m) = confirm_call m
+call_of (method.Tx m) = tx_call m
+call_of _ = None

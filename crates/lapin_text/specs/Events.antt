@@ -6,16 +6,19 @@ use Rattle.lapin_types.specs.declared.event.Event.TheVariants as event
 use Rattle.lapin_tokens.specs.Fields.{token, fits, short_number, wide_number}
 use Rattle.lapin_tokens.specs.Fields.Field.{flag}
 use Rattle.lapin_text.specs.Frames.{frame_tokens, FrameFits}
-use Rattle.lapin_text.specs.Calls.{call_tokens, CallFits}
+use Rattle.lapin_text.specs.CallText.{call_tokens, CallFits}
 
--- `call C NAME ARGS`, `next BOOL`, `recv FRAME`, `ticket N`, `confirm N`, `aside-ticket N`, `state C` or `lost`
+-- `call C NAME ARGS`, `next BOOL`, `recv FRAME`, `ticket N`, `confirm N`, `wait C`, `aside-ticket N`, `aside-confirm N`, `state C` or
+-- `lost`
 abbrev pub event_tokens : Event → List (List ℕ)
 event_tokens (event.Call channel call) = codes "call" ∷ token short_number channel ∷ call_tokens call
 event_tokens (event.Next flow) = codes "next" ∷ token flag flow ∷ []
 event_tokens (event.Receive frame) = codes "recv" ∷ frame_tokens frame
 event_tokens (event.PollTicket number) = codes "ticket" ∷ token wide_number number ∷ []
 event_tokens (event.PollConfirm number) = codes "confirm" ∷ token wide_number number ∷ []
+event_tokens (event.PollWait channel) = codes "wait" ∷ token short_number channel ∷ []
 event_tokens (event.AsideTicket number) = codes "aside-ticket" ∷ token wide_number number ∷ []
+event_tokens (event.AsideConfirm number) = codes "aside-confirm" ∷ token wide_number number ∷ []
 event_tokens (event.State channel) = codes "state" ∷ token short_number channel ∷ []
 event_tokens event.Lost = codes "lost" ∷ []
 
@@ -27,7 +30,9 @@ HasLine (event.Next flow) = fits flag flow ≡ true
 HasLine (event.Receive frame) = FrameFits frame
 HasLine (event.PollTicket number) = fits wide_number number ≡ true
 HasLine (event.PollConfirm number) = fits wide_number number ≡ true
+HasLine (event.PollWait channel) = fits short_number channel ≡ true
 HasLine (event.AsideTicket number) = fits wide_number number ≡ true
+HasLine (event.AsideConfirm number) = fits wide_number number ≡ true
 HasLine (event.State channel) = fits short_number channel ≡ true
 HasLine event.Lost = Unit {0}
 

@@ -1,6 +1,6 @@
 pub mod Frames
 pub mod Calls
-pub mod CallReading
+pub mod CallText
 pub mod Events
 pub mod Records
 pub mod LineReading

@@ -14,7 +14,7 @@ use Rattle.lapin_tokens.specs.Fields.Field.{flag}
 use Rattle.lapin_tokens.specs.Reading.{◌>>=◌, field_at, fields_at}
 use Rattle.lapin_method_text.specs.MethodReading.{method_at}
 use Rattle.lapin_text.specs.Frames.{header_fields, body_fields}
-use Rattle.lapin_text.specs.CallReading.{call_at}
+use Rattle.lapin_text.specs.CallText.{call_at}
 
 -- ---- the words that begin a frame or an event
 
@@ -28,7 +28,9 @@ word_text word.Next = codes "next"
 word_text word.Recv = codes "recv"
 word_text word.Ticket = codes "ticket"
 word_text word.Confirm = codes "confirm"
+word_text word.Wait = codes "wait"
 word_text word.AsideTicket = codes "aside-ticket"
+word_text word.AsideConfirm = codes "aside-confirm"
 word_text word.State = codes "state"
 word_text word.Lost = codes "lost"
 
@@ -62,7 +64,9 @@ event_of_word word.Next pieces = fields_at (flag ∷ []) (λ v. event.Next v.0) 
 event_of_word word.Recv pieces = frame_at pieces >>= λ f. Some (event.Receive f.0, f.1)
 event_of_word word.Ticket pieces = fields_at (wide_number ∷ []) (λ v. event.PollTicket v.0) pieces
 event_of_word word.Confirm pieces = fields_at (wide_number ∷ []) (λ v. event.PollConfirm v.0) pieces
+event_of_word word.Wait pieces = fields_at (short_number ∷ []) (λ v. event.PollWait v.0) pieces
 event_of_word word.AsideTicket pieces = fields_at (wide_number ∷ []) (λ v. event.AsideTicket v.0) pieces
+event_of_word word.AsideConfirm pieces = fields_at (wide_number ∷ []) (λ v. event.AsideConfirm v.0) pieces
 event_of_word word.State pieces = fields_at (short_number ∷ []) (λ v. event.State v.0) pieces
 event_of_word word.Lost pieces = Some (event.Lost, pieces)
 event_of_word _ pieces = None

@@ -1,5 +1,5 @@
 -- The lines of records.
-use Rattle.std.specs.Prelude.{ℕ, List, [], ◌∷◌, ◌++◌, codes, Option, Some, None, Ok, Err}
+use Rattle.std.specs.Prelude.{ℕ, List, [], ◌∷◌, ◌++◌, length, codes, Option, Some, None, Ok, Err}
 use Rattle.std.specs.List.{join_with_byte, flat_map}
 use Rattle.lapin_types.specs.Types.{Error}
 use Rattle.lapin_types.specs.Types.error
@@ -63,6 +63,10 @@ abbrev pub held_tokens : Option BasicReturnMessage → List (List ℕ)
 held_tokens None = codes "-" ∷ []
 held_tokens (Some message) = message_tokens message
 
+-- how many messages there are, and each of them in order
+abbrev pub returned_tokens : List BasicReturnMessage → List (List ℕ)
+returned_tokens messages = token wide_number (length messages) ∷ flat_map message_tokens messages
+
 -- the message of a get and how many messages are left, or a dash where there is none
 abbrev pub got_tokens : Option BasicGetMessage → List (List ℕ)
 got_tokens None = codes "-" ∷ []
@@ -98,6 +102,7 @@ record_tokens (record_.Answer (Ok answer)) = codes "answer" ∷ answer_tokens an
 record_tokens (record_.Answer (Err error)) = codes "error" ∷ error_tokens error
 record_tokens (record_.Confirmed (Ok confirmation)) = codes "confirmed" ∷ confirmation_tokens confirmation
 record_tokens (record_.Confirmed (Err error)) = codes "error" ∷ error_tokens error
+record_tokens (record_.Returned messages) = codes "returned" ∷ returned_tokens messages
 record_tokens record_.Aside = codes "aside" ∷ []
 record_tokens (record_.State connection channel) = codes "state" ∷ connection_name connection ∷ state_name channel ∷ []
 record_tokens record_.Lost = codes "lost" ∷ []

@@ -6,8 +6,7 @@
 ghost use Rattle.std.specs.Prelude.{◌≡◌};
 ghost use Rattle.lapin_types.specs.declared.call.Call.TheVariants as call;
 ghost use Rattle.lapin_tokens.specs.Reading.{Gives, fields_at};
-ghost use Rattle.lapin_text.specs.Calls.{close_fields, content_fields};
-ghost use Rattle.lapin_text.specs.CallReading.{call_with as call_with_lem, call_named as call_named_lem, call_at};
+ghost use Rattle.lapin_text.specs.CallText.{close_fields, content_fields, call_with as call_with_lem, call_named as call_named_lem, call_at};
 
 use crate::queued::call_of;
 use lapin_method_text::read_named;
@@ -84,7 +83,7 @@ fn call_with(alloc: Global, method: Method, tokens: &mut Tokens) -> Result<Call,
 }
 
 // The call of this name, whose arguments are the next tokens.
-#[tactic(auto, unfolding(crate::specs::CallReading::call_named))]
+#[tactic(auto, unfolding(crate::specs::CallText::call_named))]
 fn call_named(alloc: Global, name: &[u8], tokens: &mut Tokens) -> Result<Call, ReadError>
     ensures { Gives result tokens.new (call_named_lem name.now tokens.old) }
 {
@@ -101,7 +100,7 @@ fn call_named(alloc: Global, name: &[u8], tokens: &mut Tokens) -> Result<Call, R
 }
 
 /// The call whose name and arguments are the next tokens.
-#[tactic(auto, unfolding(crate::specs::CallReading::call_at))]
+#[tactic(auto, unfolding(crate::specs::CallText::call_at))]
 pub fn read_call(alloc: Global, tokens: &mut Tokens) -> Result<Call, ReadError>
     ensures { Gives result tokens.new (call_at tokens.old) }
 {

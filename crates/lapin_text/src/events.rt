@@ -1,5 +1,5 @@
-//! Events as tokens: `call C NAME ARGS`, `next BOOL`, `recv FRAME`, `ticket N`, `confirm N`, `aside-ticket N`, `state C` and
-//! `lost`.
+//! Events as tokens: `call C NAME ARGS`, `next BOOL`, `recv FRAME`, `ticket N`, `confirm N`, `wait C`, `aside-ticket N`,
+//! `aside-confirm N`, `state C` and `lost`.
 //!
 //! An event is an arm here and a row in each table of the definitions. Whole lines are read in `reading`.
 
@@ -36,7 +36,9 @@ pub fn read_event_tokens(alloc: Global, tokens: &mut Tokens) -> Result<Event, Re
             },
             Some(Word::Ticket) => Ok(Event::PollTicket(u64_at(tokens)?)),
             Some(Word::Confirm) => Ok(Event::PollConfirm(u64_at(tokens)?)),
+            Some(Word::Wait) => Ok(Event::PollWait(u16_at(tokens)?)),
             Some(Word::AsideTicket) => Ok(Event::AsideTicket(u64_at(tokens)?)),
+            Some(Word::AsideConfirm) => Ok(Event::AsideConfirm(u64_at(tokens)?)),
             Some(Word::State) => Ok(Event::State(u16_at(tokens)?)),
             Some(Word::Lost) => Ok(Event::Lost),
             _ => Err(ReadError::Bad),

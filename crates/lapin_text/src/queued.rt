@@ -1,16 +1,15 @@
 //! The call that queues a method: a table a class, with a line a call. A publish has more than its method, and is not here.
 
 ghost use Rattle.std.specs.Prelude.{◌≡◌};
-ghost use Rattle.lapin_text.specs.Calls.{kind_named as kind_named_lem};
-ghost use Rattle.lapin_text.specs.CallReading.{channel_call as channel_call_lem, access_call as access_call_lem, exchange_call as exchange_call_lem, queue_call as queue_call_lem, basic_call as basic_call_lem, confirm_call as confirm_call_lem, tx_call as tx_call_lem, call_of as call_of_lem};
+ghost use Rattle.lapin_text.specs.Calls.{kind_named as kind_named_lem, channel_call as channel_call_lem, access_call as access_call_lem, exchange_call as exchange_call_lem, queue_call as queue_call_lem, basic_call as basic_call_lem, confirm_call as confirm_call_lem, tx_call as tx_call_lem, call_of as call_of_lem};
 
 use lapin_types::{
-    AccessMethod, AccessRequestOptions, BasicAckOptions, BasicMethod, BasicNackOptions,
-    BasicQosOptions, BasicRecoverAsyncOptions, BasicRecoverOptions, BasicRejectOptions, Call,
-    ChannelFlowOptions, ChannelMethod, ConfirmMethod, ConfirmSelectOptions, ExchangeBindOptions,
-    ExchangeDeclareOptions, ExchangeDeleteOptions, ExchangeKind, ExchangeMethod,
-    ExchangeUnbindOptions, Method, QueueBindOptions, QueueDeclareOptions, QueueDeleteOptions,
-    QueueMethod, QueuePurgeOptions, ShortString, TxMethod,
+    AccessMethod, AccessRequestOptions, BasicAckOptions, BasicGetOptions, BasicMethod,
+    BasicNackOptions, BasicQosOptions, BasicRecoverAsyncOptions, BasicRecoverOptions,
+    BasicRejectOptions, Call, ChannelFlowOptions, ChannelMethod, ConfirmMethod,
+    ConfirmSelectOptions, ExchangeBindOptions, ExchangeDeclareOptions, ExchangeDeleteOptions,
+    ExchangeKind, ExchangeMethod, ExchangeUnbindOptions, Method, QueueBindOptions,
+    QueueDeclareOptions, QueueDeleteOptions, QueueMethod, QueuePurgeOptions, ShortString, TxMethod,
 };
 
 // One of the standard's four words is the named kind, any other text a custom one.
@@ -209,6 +208,10 @@ fn basic_call(method: BasicMethod) -> Option<Call>
         } => Some(Call::BasicQos {
             prefetch_count,
             options: BasicQosOptions { global },
+        }),
+        BasicMethod::Get { queue, no_ack } => Some(Call::BasicGet {
+            queue,
+            options: BasicGetOptions { no_ack },
         }),
         BasicMethod::Ack {
             delivery_tag,

@@ -3,19 +3,20 @@
 //! A record is an arm here and a row in the definitions. Whole lines and texts of records are written in `printing`.
 //! Where memory runs out, the text may end within the record.
 
-ghost use Rattle.std.specs.Prelude.{◌≡◌, ◌++◌, ◌∷◌, [], OnOk};
+ghost use Rattle.std.specs.Prelude.{◌≡◌, ◌+◌, ◌++◌, ◌∷◌, [], drop, OnOk};
+ghost use Rattle.std.specs.List.{flat_map};
 ghost use Rattle.lapin_types.specs.declared.answer.Answer.TheVariants as answer;
 ghost use Rattle.lapin_types.specs.declared.record.Record.TheVariants as told;
 ghost use Rattle.lapin_tokens.specs.Fields.{token, wide_number};
 ghost use Rattle.lapin_tokens.specs.TokenText.{onto};
 ghost use Rattle.lapin_text.specs.Frames.{frame_tokens};
-ghost use Rattle.lapin_text.specs.Records.{connection_name, state_name, error_tokens, delivery_tokens, message_tokens, held_tokens, got_tokens, answer_tokens, confirmation_tokens, record_tokens, line_onto};
+ghost use Rattle.lapin_text.specs.Records.{connection_name, state_name, error_tokens, delivery_tokens, message_tokens, held_tokens, returned_tokens, got_tokens, answer_tokens, confirmation_tokens, record_tokens, line_onto};
 
 use crate::frames::put_frame;
 use lapin_tokens::{Token, put_count, put_tokens, put_word};
 use lapin_types::{
     Answer, BasicGetMessage, BasicReturnMessage, ChannelState, Confirmation, ConnectionState,
-    Delivery, Error, Queue, Record,
+    Delivery, Error, Queue, Record, ReturnedList,
 };
 use std::alloc::{AllocError, Global};
 
@@ -151,6 +152,39 @@ fn put_held(
         Some(message) => put_message(alloc, out, message),
         None => put_word(out, b"-"),
     }
+}
+
+// The message at a place; what is then left to be written stands behind that place.
+#[tactic(auto, using(crate::proofs::Printed::onto_past))]
+fn put_message_at(
+    alloc: Global,
+    out: &mut Vec<u8>,
+    messages: &ReturnedList,
+    place: usize,
+) -> Result<(), AllocError>
+    ensures { OnOk result (onto out.new.items (flat_map message_tokens (drop (place + 1) messages.now)) ≡ onto out.old.items (flat_map message_tokens (drop place messages.now))) }
+{
+    match messages.at(place) {
+        Some(message) => put_message(alloc, out, message),
+        None => Ok(()),
+    }
+}
+
+// The messages in their order, without their number.
+fn put_messages(alloc: Global, out: &mut Vec<u8>, messages: &ReturnedList) -> Result<(), AllocError>
+    ensures { OnOk result (out.new.items ≡ onto out.old.items (flat_map message_tokens messages.now)) }
+{
+    for place in 0..messages.len() {
+        put_message_at(alloc, out, messages, place)?;
+    }
+    Ok(())
+}
+
+fn put_returned(alloc: Global, out: &mut Vec<u8>, messages: &ReturnedList) -> Result<(), AllocError>
+    ensures { OnOk result (out.new.items ≡ onto out.old.items (returned_tokens messages.now)) }
+{
+    put_count(out, messages.len() as u64)?;
+    put_messages(alloc, out, messages)
 }
 
 fn put_got(
@@ -308,6 +342,10 @@ pub fn put_record(alloc: Global, out: &mut Vec<u8>, record: &Record) -> Result<(
         }
         Record::Answer(Err(error)) => put_error_line(alloc, out, b"error", *error),
         Record::Confirmed(Err(error)) => put_error_line(alloc, out, b"error", *error),
+        Record::Returned(messages) => {
+            out.extend_from_slice(b"returned")?;
+            put_returned(alloc, out, messages)
+        }
         Record::Aside => out.extend_from_slice(b"aside"),
         Record::State(connection, channel) => {
             out.extend_from_slice(b"state")?;

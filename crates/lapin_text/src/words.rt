@@ -18,13 +18,15 @@ pub enum Word {
     Recv,
     Ticket,
     Confirm,
+    Wait,
     AsideTicket,
+    AsideConfirm,
     State,
     Lost,
 }
 
 /// Each word once.
-pub const WORDS: [Word; 11] = [
+pub const WORDS: [Word; 13] = [
     Word::Method,
     Word::Header,
     Word::Body,
@@ -33,7 +35,9 @@ pub const WORDS: [Word; 11] = [
     Word::Recv,
     Word::Ticket,
     Word::Confirm,
+    Word::Wait,
     Word::AsideTicket,
+    Word::AsideConfirm,
     Word::State,
     Word::Lost,
 ];
@@ -50,7 +54,9 @@ fn text_of_word(word: Word) -> &'static [u8]
         Word::Recv => b"recv",
         Word::Ticket => b"ticket",
         Word::Confirm => b"confirm",
+        Word::Wait => b"wait",
         Word::AsideTicket => b"aside-ticket",
+        Word::AsideConfirm => b"aside-confirm",
         Word::State => b"state",
         Word::Lost => b"lost",
     }

@@ -7,6 +7,10 @@
 #[cfg(test)]
 mod driver;
 #[cfg(test)]
+mod events;
+#[cfg(test)]
+mod messages;
+#[cfg(test)]
 mod pieces;
 #[cfg(test)]
 mod records;

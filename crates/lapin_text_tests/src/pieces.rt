@@ -108,6 +108,8 @@ properties [headers=x61] -> none
 method basic.publish x x68656c6c6f 0 0 -> kept
 method basic.deliver x74 18446744073709551615 1 x x71 -> kept
 method basic.nack 3 0 1 -> kept
+method basic.get x71 1 -> kept
+method basic.get-ok 7 1 x x71 4294967295 -> kept
 method basic.get-empty -> kept
 method connection.close 320 x6279 10 50 -> kept
 method channel.flow 0 -> kept
@@ -123,6 +125,8 @@ method basic.Publish x x 0 0 -> none
 method basic.publish x x 0 -> none
 method basic.publish x  x 0 0 -> none
 method basic.ack 18446744073709551616 0 -> none
+method basic.get x71 -> none
+method basic.get-ok 7 1 x x71 4294967296 -> none
 method queue.purge-ok 07 -> none
 
 frame method 0 confirm.select-ok -> kept
@@ -140,10 +144,18 @@ event call 0 channel.open -> read
 event call 65535 confirm.select 1 -> read
 event call 1 channel.close 65535 x676f6e65 -> read
 event call 0 connection.close 200 x -> read
+event call 65535 basic.get x71 1 -> read
+event call 1 basic.get x 0 -> read
 event recv method 1 channel.open-ok -> read
+event recv method 1 basic.get-ok 7 0 x x 0 -> read
 event next 1 -> read
 event ticket 0 -> read
 event confirm 18446744073709551615 -> read
+event wait 0 -> read
+event wait 65535 -> read
+event aside-ticket 18446744073709551615 -> read
+event aside-confirm 0 -> read
+event aside-confirm 18446744073709551615 -> read
 event state 65535 -> read
 event lost -> read
 event  -> none
@@ -155,6 +167,24 @@ event call 1 channel.close 65536 x -> none
 event call 1 channel.close 200 x 0 0 -> none
 event call 65536 channel.open -> none
 event call 1 basic.publish x x 0 0 x -> none
+event call 1 basic.get x71 -> none
+event call 1 basic.get x71 2 -> none
+event call 1 basic.get 71 0 -> none
+event call 1 basic.get x71 0 0 -> none
+event call 1 basic.get-ok 7 0 x x 0 -> none
 event recv channel.open-ok -> none
+event wait -> none
+event wait  -> none
+event wait x -> none
+event wait 01 -> none
+event wait 65536 -> none
+event wait 1 1 -> none
+event Wait 1 -> none
+event aside-confirm -> none
+event aside-confirm x -> none
+event aside-confirm 18446744073709551616 -> none
+event aside-confirm 1 1 -> none
+event aside_confirm 1 -> none
+event aside 1 -> none
 event Next 1 -> none
 ";

@@ -5,11 +5,11 @@ ghost use Rattle.std.specs.Bool.{Decides};
 
 use crate::exchange_kind::ExchangeKind;
 use lapin_methods::{
-    AccessRequestOptions, BasicAckOptions, BasicNackOptions, BasicPublishOptions, BasicQosOptions,
-    BasicRecoverAsyncOptions, BasicRecoverOptions, BasicRejectOptions, ChannelFlowOptions,
-    ConfirmSelectOptions, ExchangeBindOptions, ExchangeDeclareOptions, ExchangeDeleteOptions,
-    ExchangeUnbindOptions, QueueBindOptions, QueueDeclareOptions, QueueDeleteOptions,
-    QueuePurgeOptions,
+    AccessRequestOptions, BasicAckOptions, BasicGetOptions, BasicNackOptions, BasicPublishOptions,
+    BasicQosOptions, BasicRecoverAsyncOptions, BasicRecoverOptions, BasicRejectOptions,
+    ChannelFlowOptions, ConfirmSelectOptions, ExchangeBindOptions, ExchangeDeclareOptions,
+    ExchangeDeleteOptions, ExchangeUnbindOptions, QueueBindOptions, QueueDeclareOptions,
+    QueueDeleteOptions, QueuePurgeOptions,
 };
 use lapin_values::{BasicProperties, FieldTable, NoMemory, Payload, ShortString};
 use std::alloc::Global;
@@ -161,6 +161,13 @@ pub enum Call {
         /// The properties of the message.
         properties: BasicProperties,
     },
+    /// Asks for one message of a queue (`basic.get`).
+    BasicGet {
+        /// The queue.
+        queue: ShortString,
+        /// The marks of the method.
+        options: BasicGetOptions,
+    },
     /// Acknowledges deliveries (`basic.ack`).
     BasicAck {
         /// The tag of the delivery; 0 with `multiple` stands for all.
@@ -304,6 +311,7 @@ impl Call {
                 properties,
                 alloc,
             ),
+            Call::BasicGet { queue, options } => basic::copied_basic_get(queue, options, alloc),
             Call::BasicAck {
                 delivery_tag,
                 options,
@@ -429,6 +437,7 @@ impl Call {
                 payload,
                 properties,
             ),
+            Call::BasicGet { queue, options } => basic::is_basic_get(other, queue, options),
             Call::BasicAck {
                 delivery_tag,
                 options,

@@ -22,8 +22,12 @@ pub enum Event {
     PollTicket(u64),
     /// The outcome of a publish is asked for, by its confirm number.
     PollConfirm(u64),
+    /// All confirms of a channel are waited for.
+    PollWait(u16),
     /// A ticket is set aside: nobody asks for its result any more.
     AsideTicket(u64),
+    /// A confirm is set aside: nobody asks for its result any more.
+    AsideConfirm(u64),
     /// The states of the connection and of a channel are asked for.
     State(u16),
     /// The connection was lost.
@@ -41,7 +45,9 @@ impl Event {
             Event::Receive(frame) => copied_frame(frame, alloc),
             Event::PollTicket(number) => Ok(Event::PollTicket(*number)),
             Event::PollConfirm(number) => Ok(Event::PollConfirm(*number)),
+            Event::PollWait(channel) => Ok(Event::PollWait(*channel)),
             Event::AsideTicket(number) => Ok(Event::AsideTicket(*number)),
+            Event::AsideConfirm(number) => Ok(Event::AsideConfirm(*number)),
             Event::State(channel) => Ok(Event::State(*channel)),
             Event::Lost => Ok(Event::Lost),
         }
@@ -57,7 +63,9 @@ impl Event {
             (Event::Receive(left), Event::Receive(right)) => left.same(right),
             (Event::PollTicket(left), Event::PollTicket(right)) => left == right,
             (Event::PollConfirm(left), Event::PollConfirm(right)) => left == right,
+            (Event::PollWait(left), Event::PollWait(right)) => left == right,
             (Event::AsideTicket(left), Event::AsideTicket(right)) => left == right,
+            (Event::AsideConfirm(left), Event::AsideConfirm(right)) => left == right,
             (Event::State(left), Event::State(right)) => left == right,
             (Event::Lost, Event::Lost) => true,
             _ => false,

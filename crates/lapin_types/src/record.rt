@@ -6,6 +6,7 @@ ghost use Rattle.lapin_types.specs.declared.record.Record.TheVariants as told;
 
 use crate::answer::Answer;
 use crate::confirmation::Confirmation;
+use crate::returned::ReturnedList;
 use lapin_methods::{ChannelState, ConnectionState, Error, Frame};
 use lapin_values::NoMemory;
 use std::alloc::Global;
@@ -38,6 +39,8 @@ pub enum Record {
     Answer(Result<Answer, Error>),
     /// The outcome of a publish.
     Confirmed(Result<Confirmation, Error>),
+    /// The returned messages of a channel whose confirms were waited for.
+    Returned(ReturnedList),
     /// The ticket or the confirm is set aside.
     Aside,
     /// The states of the connection and of a channel.
@@ -65,6 +68,7 @@ impl Record {
             Record::Pending => Ok(Record::Pending),
             Record::Answer(answer) => copied_answer(answer, alloc),
             Record::Confirmed(outcome) => copied_outcome(outcome, alloc),
+            Record::Returned(messages) => copied_messages(messages, alloc),
             Record::Aside => Ok(Record::Aside),
             Record::State(connection, channel) => Ok(Record::State(*connection, *channel)),
             Record::Lost => Ok(Record::Lost),
@@ -92,6 +96,7 @@ impl Record {
             (Record::Pending, Record::Pending) => true,
             (Record::Answer(left), Record::Answer(right)) => same_answer(left, right),
             (Record::Confirmed(left), Record::Confirmed(right)) => same_outcome(left, right),
+            (Record::Returned(left), Record::Returned(right)) => left.same(right),
             (Record::Aside, Record::Aside) => true,
             (Record::State(a, b), Record::State(connection, channel)) => {
                 a == connection && b == channel
@@ -106,6 +111,12 @@ fn copied_frame(frame: &Frame, alloc: Global) -> Result<Record, NoMemory>
     ensures { IfOk result (λ copy. copy ≡ told.Frame frame.now) }
 {
     Ok(Record::Frame(frame.try_clone(alloc)?))
+}
+
+fn copied_messages(messages: &ReturnedList, alloc: Global) -> Result<Record, NoMemory>
+    ensures { IfOk result (λ copy. copy ≡ told.Returned messages.now) }
+{
+    Ok(Record::Returned(messages.try_clone(alloc)?))
 }
 
 fn copied_answer(answer: &Result<Answer, Error>, alloc: Global) -> Result<Record, NoMemory>

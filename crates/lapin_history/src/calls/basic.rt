@@ -6,8 +6,8 @@ ghost use Rattle.lapin_history.specs.Calls.{asked};
 
 use super::{Asked, awaiting, done_as_it_leaves};
 use lapin_types::{
-    BasicAckOptions, BasicMethod, BasicNackOptions, BasicQosOptions, BasicRecoverAsyncOptions,
-    BasicRecoverOptions, BasicRejectOptions, Method, Reply,
+    BasicAckOptions, BasicGetOptions, BasicMethod, BasicNackOptions, BasicQosOptions,
+    BasicRecoverAsyncOptions, BasicRecoverOptions, BasicRejectOptions, Method, Reply, ShortString,
 };
 
 pub(crate) fn qos(prefetch_count: u16, options: BasicQosOptions) -> Asked
@@ -18,6 +18,16 @@ pub(crate) fn qos(prefetch_count: u16, options: BasicQosOptions) -> Asked
         global: options.global,
     };
     awaiting(Method::Basic(method), Reply::BasicQosOk)
+}
+
+pub(crate) fn get(queue: ShortString, options: BasicGetOptions) -> Asked
+    ensures { result ≡ asked (call.BasicGet queue options) }
+{
+    let method = BasicMethod::Get {
+        queue,
+        no_ack: options.no_ack,
+    };
+    awaiting(Method::Basic(method), Reply::BasicGetOk)
 }
 
 pub(crate) fn ack(delivery_tag: u64, options: BasicAckOptions) -> Asked

@@ -10,9 +10,9 @@ use crate::caller::{Caller, StepError};
 use crate::entry::Told;
 use crate::locked::Crew;
 use lapin_types::{
-    BasicAckOptions, BasicNackOptions, BasicProperties, BasicPublishOptions, BasicQosOptions,
-    BasicRecoverAsyncOptions, BasicRecoverOptions, BasicRejectOptions, Call, Event, Payload,
-    ShortString,
+    BasicAckOptions, BasicGetOptions, BasicNackOptions, BasicProperties, BasicPublishOptions,
+    BasicQosOptions, BasicRecoverAsyncOptions, BasicRecoverOptions, BasicRejectOptions, Call,
+    Event, Payload, ShortString,
 };
 use std::alloc::Global;
 use std::sync::Wait;
@@ -68,6 +68,21 @@ impl<L: Crew> Caller<L> {
             payload,
             properties,
         };
+        self.step(rt, alloc, Event::Call(channel, call))
+    }
+
+    /// Asks for one message of a queue (AMQP 0-9-1, `basic.get`).
+    pub fn basic_get<R: Wait>(
+        &mut self,
+        rt: &R,
+        alloc: Global,
+        channel: u16,
+        queue: ShortString,
+        options: BasicGetOptions,
+    ) -> Result<&Told, StepError>
+        ensures* after { sem 𝓛 (follows_so (the_row L.row L.Ledger) (the_row L.row L.Ledger) self.entry.ghost_name none (λ _ _. ⊤) (λ new. IsStep result (λ t. t.now) self.old (event.Call channel (call.BasicGet queue options)) new)) }
+    {
+        let call = Call::BasicGet { queue, options };
         self.step(rt, alloc, Event::Call(channel, call))
     }
 

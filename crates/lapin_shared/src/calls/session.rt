@@ -79,4 +79,28 @@ impl<L: Crew> Caller<L> {
     {
         self.step(rt, alloc, Event::PollConfirm(number))
     }
+
+    /// Waits for all confirms of a channel, and asks for the messages that came back. It may be pending.
+    pub fn wait_for_confirms<R: Wait>(
+        &mut self,
+        rt: &R,
+        alloc: Global,
+        channel: u16,
+    ) -> Result<&Told, StepError>
+        ensures* after { sem 𝓛 (follows_so (the_row L.row L.Ledger) (the_row L.row L.Ledger) self.entry.ghost_name none (λ _ _. ⊤) (λ new. IsStep result (λ t. t.now) self.old (event.PollWait channel) new)) }
+    {
+        self.step(rt, alloc, Event::PollWait(channel))
+    }
+
+    /// Sets a confirm aside: its outcome is asked for no more.
+    pub fn set_aside<R: Wait>(
+        &mut self,
+        rt: &R,
+        alloc: Global,
+        number: u64,
+    ) -> Result<&Told, StepError>
+        ensures* after { sem 𝓛 (follows_so (the_row L.row L.Ledger) (the_row L.row L.Ledger) self.entry.ghost_name none (λ _ _. ⊤) (λ new. IsStep result (λ t. t.now) self.old (event.AsideConfirm number) new)) }
+    {
+        self.step(rt, alloc, Event::AsideConfirm(number))
+    }
 }

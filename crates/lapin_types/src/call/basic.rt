@@ -7,7 +7,7 @@ ghost use Rattle.lapin_types.specs.declared.call.Call.TheVariants as variant;
 
 use crate::call::Call;
 use lapin_methods::{
-    BasicAckOptions, BasicNackOptions, BasicPublishOptions, BasicQosOptions,
+    BasicAckOptions, BasicGetOptions, BasicNackOptions, BasicPublishOptions, BasicQosOptions,
     BasicRecoverAsyncOptions, BasicRecoverOptions, BasicRejectOptions,
 };
 use lapin_values::{BasicProperties, NoMemory, Payload, ShortString};
@@ -69,6 +69,33 @@ pub fn is_basic_publish(
             && c == options
             && d == payload
             && e.same(properties),
+        _ => false,
+    }
+}
+
+/// A copy of `Call::BasicGet`.
+pub fn copied_basic_get(
+    queue: &ShortString,
+    options: &BasicGetOptions,
+    alloc: Global,
+) -> Result<Call, NoMemory>
+    ensures { IfOk result (λ copy. copy ≡ variant.BasicGet queue.now options.now) }
+{
+    Ok(Call::BasicGet {
+        queue: queue.try_clone(alloc)?,
+        options: *options,
+    })
+}
+
+/// Whether a call is `Call::BasicGet` with these arguments.
+pub fn is_basic_get(call: &Call, queue: &ShortString, options: &BasicGetOptions) -> bool
+    ensures { Decides result (call.now ≡ variant.BasicGet queue.now options.now) }
+{
+    match call {
+        Call::BasicGet {
+            queue: a,
+            options: b,
+        } => a == queue && b == options,
         _ => false,
     }
 }

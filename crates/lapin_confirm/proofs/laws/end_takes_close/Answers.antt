@@ -1,5 +1,5 @@
-use Rattle.lapin_confirm.proofs.Closing.{end-close}
+use Rattle.lapin_confirm.proofs.Closing.{all-end}
 use Rattle.lapin_confirm.proofs.laws.end_takes_close.Goals as goal
 
 pub returns : goal.returns
-returns c = end-close
+returns a = λ c e p. all-end c e p

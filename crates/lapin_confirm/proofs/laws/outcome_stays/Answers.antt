@@ -1,4 +1,4 @@
-use Rattle.lapin_confirm.proofs.Following.{outcome-stays}
+use Rattle.lapin_confirm.proofs.Outcomes.{outcome-stays}
 use Rattle.lapin_confirm.proofs.laws.outcome_stays.Goals as goal
 
 pub returns : goal.returns

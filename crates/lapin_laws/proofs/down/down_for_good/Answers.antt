@@ -12,6 +12,9 @@ returns-clause-stays_lost c = λ n es. stays_lost (world_after n es)
 pub returns-clause-rest : goal.returns-clause-rest
 returns-clause-rest c = λ n es. no_rest n (world_after n es) (run_sound n es)
 
+pub returns-clause-contents : goal.returns-clause-contents
+returns-clause-contents c = λ n es. (run_sound n es).contents
+
 pub returns-clause-publishes : goal.returns-clause-publishes
 returns-clause-publishes c = λ n es. no_publishes n (world_after n es) (run_sound n es)
 

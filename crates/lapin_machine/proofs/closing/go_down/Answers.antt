@@ -5,5 +5,5 @@ use Rattle.lapin_machine.proofs.closing.go_down.Goals as goal
 pub returns-clause-counts : goal.returns-clause-counts
 returns-clause-counts c = (
   failed_counted c.args.error c.args.desk.now.tickets.slots _ c.end_all.ensures.slots,
-  ends_counted c.args.error (live_channels c.args.phases.now.entries) c.args.confirms.now.what.book _ c.end_all.ensures.book,
+  ends_counted c.args.error (live_channels c.args.phases.now.entries) c.args.confirms.now.what _ c.end_all.ensures.confirms,
 )

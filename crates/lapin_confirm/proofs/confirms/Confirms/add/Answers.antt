@@ -3,6 +3,8 @@ use Rattle.std.proofs.lemmas.List.{length_push}
 use Rattle.lapin_tables.specs.ByChannel.{at_channel}
 use Rattle.lapin_confirm.specs.declared.cell.Cell.{Cell}
 use Rattle.lapin_confirm.specs.declared.cell.Cell.TheVariants as cell
+use Rattle.lapin_confirm.specs.declared.home.Home.{Home}
+use Rattle.lapin_confirm.specs.Post.{new_home}
 use Rattle.lapin_confirm.specs.Kept.{spare_in}
 use Rattle.lapin_confirm.specs.Ties.{TagFits}
 use Rattle.lapin_confirm.proofs.Ledgers.{no-ledger, ledgers-same, same-ledger, same-book, same-post}
@@ -54,7 +56,10 @@ returns-in-Err-clause-err c =
 pub returns-clause-ok : goal.returns-clause-ok
 returns-clause-ok c =
     rw (← c.self.view_is)
+    (same-post _ _ _ _ _ _
     (same-book _ _ _ _
     (ledgers-same c.args.channel c.in-Some.ledger.now c.enqueue.new.ledger c.self.inside.ledgers.entries (sym c.in-Some.ensures.value)
     (c.enqueue.ensures.ledger ∙ same-ledger c.in-Some.ledger.now c.use_room.new.ledger c.use_room.ensures.rest c.use_room.ensures.tags))
     (c.enqueue.ensures.cells ∙ ap (λ (xs : List (Option Cell)). xs ++ Some (cell.Queued c.args.channel) ∷ []) c.use_room.ensures.cells))
+    refl
+    (c.push_reserved.ensures.slots ∙ ap (λ (xs : List (Option Home)). xs ++ Some (new_home c.args.channel) ∷ []) c.use_room.ensures.homes))

@@ -10,7 +10,7 @@ use Rattle.lapin_confirm.proofs.Roomy.{given-fits, messages-kept, room-received}
 use Rattle.lapin_confirm.proofs.confirms.Confirms.arrived.Goals as goal
 
 pub returns-in_default-clause-ok : goal.returns-in_default-clause-ok
-returns-in_default-clause-ok c = rw (← c.self.view_is) (sym (trays-absent c.args.channel (arrived_in _ c.args.message) c.self.inside.trays.entries (sym c.in_default.ensures.value)))
+returns-in_default-clause-ok c = rw (← c.self.view_is) (same-post _ _ _ _ _ _ refl (sym (trays-absent c.args.channel (arrived_in _ c.args.message) c.self.inside.trays.entries (sym c.in_default.ensures.value))) refl)
 
 pub invariant_of-self-in-Err : goal.invariant_of-self-in-Err
 invariant_of-self-in-Err c =
@@ -38,8 +38,10 @@ invariant_of-self-2 c =
 pub returns-clause-ok : goal.returns-clause-ok
 returns-clause-ok c =
     rw (← c.self.view_is)
+    (same-post _ _ _ _ _ _ refl
     (trays-on c.args.channel (arrived_in c.selected-selected.result c.args.message) c.in-Some.tray.now c.receive.new.self c.self.inside.trays.entries (sym c.in-Some.ensures.value) c.in_default-receive.ensures.ok
     ∙ ap (λ (b : Bool). on_channel c.args.channel (arrived_in b c.args.message) (trays_of c.self.inside.trays.entries)) (rw (← c.self.view_is) at c.selected-selected.ensures))
+    refl)
 
 pub returns-clause-spare : goal.returns-clause-spare
 returns-clause-spare c = λ d other. rw (← c.self.view_is, c.give_up.ensures) (omega (arith, ap spare_in (at-on_other c.args.channel d (λ _. false) c.self.inside.rooms.entries (λ same. other (sym same)))))

@@ -36,10 +36,10 @@ invariant_of-self-2 c =
 pub returns-clause-ok : goal.returns-clause-ok
 returns-clause-ok c =
     rw (← c.self.view_is, c.put_ledger.ensures, c.make_place.ensures.same)
+    (same-post _ _ _ _ _ _
     (same-book _ _ _ _ (ledgers-begun c.args.channel c.in_ok-ledger.ledger c.self.inside.ledgers.entries (fresh-ledger c.in_ok-ledger.ledger c.in_ok-ledger.ensures.made.0)) (ap (λ (r : Remains). r.cells) c.in_ok-renew_tray.ensures.remains))
-
-pub returns-clause-homes : goal.returns-clause-homes
-returns-clause-homes c = rw (← c.self.view_is) (ap (λ (r : Remains). r.homes) c.in_ok-renew_tray.ensures.remains)
+    c.in_ok-renew_tray.ensures.ok
+    (ap (λ (r : Remains). r.homes) c.in_ok-renew_tray.ensures.remains))
 
 pub invariant_of-self-in_err-renew_tray : goal.invariant_of-self-in_err-renew_tray
 invariant_of-self-in_err-renew_tray c =

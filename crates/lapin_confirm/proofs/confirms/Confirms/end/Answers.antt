@@ -1,15 +1,15 @@
 use Rattle.std.proofs.Common.{length, ap, ◌∙◌}
 use Rattle.std.proofs.lemmas.List.{length-map}
-use Rattle.std.proofs.Common.{sym}
+use Rattle.std.proofs.Common.{refl, sym}
 use Rattle.lapin_confirm.specs.Book.{ended_ledger}
-use Rattle.lapin_confirm.proofs.Ledgers.{ledgers-absent, ledgers-on, same-book}
+use Rattle.lapin_confirm.proofs.Ledgers.{ledgers-absent, ledgers-on, same-book, same-post}
 use Rattle.lapin_confirm.proofs.Roomy.{same-homes, room-kept}
 use Rattle.lapin_confirm.proofs.Whole.{untouched-of, all-on, tied_at-ended}
 use Rattle.lapin_confirm.proofs.Ended.{ended-untouched}
 use Rattle.lapin_confirm.proofs.confirms.Confirms.end.Goals as goal
 
-pub returns-in_default-clause-book : goal.returns-in_default-clause-book
-returns-in_default-clause-book c = rw (← c.self.view_is) (same-book _ _ _ _ (sym (ledgers-absent c.args.channel ended_ledger c.self.inside.ledgers.entries (sym c.in_default.ensures.value))) (sym (ended-untouched c.args.channel c.args.error c.self.inside.cells.slots (untouched-of c.args.channel c.self.inside.ledgers.entries c.self.inside.cells.slots (sym c.in_default.ensures.value) c.self.invariant.tied))))
+pub returns-in_default-clause-what : goal.returns-in_default-clause-what
+returns-in_default-clause-what c = rw (← c.self.view_is) (same-post _ _ _ _ _ _ (same-book _ _ _ _ (sym (ledgers-absent c.args.channel ended_ledger c.self.inside.ledgers.entries (sym c.in_default.ensures.value))) (sym (ended-untouched c.args.channel c.args.error c.self.inside.cells.slots (untouched-of c.args.channel c.self.inside.ledgers.entries c.self.inside.cells.slots (sym c.in_default.ensures.value) c.self.invariant.tied)))) refl refl)
 
 pub invariant_of-self-2 : goal.invariant_of-self-2
 invariant_of-self-2 c =
@@ -22,5 +22,5 @@ invariant_of-self-2 c =
       homes = same-homes _ _ c.end_opening.new.cells.slots _ c.self.invariant.homes (ap length c.end_opening.ensures.cells ∙ length-map c.self.inside.cells.slots _);
     }
 
-pub returns-clause-book : goal.returns-clause-book
-returns-clause-book c = rw (← c.self.view_is) (same-book _ _ _ _ (ledgers-on c.args.channel ended_ledger c.in-Some.ledger.now c.end_opening.new.ledger c.self.inside.ledgers.entries (sym c.in-Some.ensures.value) c.end_opening.ensures.ledger) c.end_opening.ensures.cells)
+pub returns-clause-what : goal.returns-clause-what
+returns-clause-what c = rw (← c.self.view_is) (same-post _ _ _ _ _ _ (same-book _ _ _ _ (ledgers-on c.args.channel ended_ledger c.in-Some.ledger.now c.end_opening.new.ledger c.self.inside.ledgers.entries (sym c.in-Some.ensures.value) c.end_opening.ensures.ledger) c.end_opening.ensures.cells) refl refl)

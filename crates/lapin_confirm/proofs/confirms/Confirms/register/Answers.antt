@@ -1,12 +1,12 @@
 use Rattle.std.proofs.Common.{length, ap, ◌∙◌}
 use Rattle.lapin_tables.proofs.SlotLaws.{length-with}
-use Rattle.std.proofs.Common.{◌≡◌, ◌∙◌, ℕ, sym, subst, Some, Option, ne_eqb}
+use Rattle.std.proofs.Common.{◌≡◌, ◌∙◌, ℕ, refl, sym, subst, Some, Option, ne_eqb}
 use Rattle.lapin_confirm.specs.declared.cell.Cell.TheVariants as cell
 use Rattle.lapin_confirm.specs.declared.cell.Cell.{Cell}
 use Rattle.lapin_tables.specs.ByChannel.{at_channel, on_channel}
 use Rattle.lapin_confirm.specs.Book.{tag_for, cell_with, left}
 use Rattle.lapin_confirm.specs.Ties.{ledger_states}
-use Rattle.lapin_confirm.proofs.Ledgers.{book, tag-there, left-book}
+use Rattle.lapin_confirm.proofs.Ledgers.{book, tag-there, left-book, same-post}
 use Rattle.lapin_confirm.proofs.Tying.{tied_at-other, left-closed}
 use Rattle.lapin_confirm.proofs.Roomy.{same-homes, room-kept}
 use Rattle.lapin_confirm.proofs.Whole.{all-on}
@@ -38,5 +38,5 @@ pub returns-clause-left : goal.returns-clause-left
 returns-clause-left c = λ d there.
     let was : _ ≡ Some (cell.Queued d) = rw (← c.self.view_is) at there in
     let P : ℕ → Type 0 = λ e. book (ledger_states (on_channel c.queued_channel-channel.result (λ _. c.leave.new.ledger) c.self.inside.ledgers.entries)) c.leave.new.cells.slots ≡ left e c.args.number (book (ledger_states c.self.inside.ledgers.entries) c.self.inside.cells.slots) in
-    rw (← c.self.view_is) (subst P (same_channel c.queued_channel-channel.result d _ c.queued_channel-channel.ensures.queued was)
-    (left-book c.queued_channel-channel.result c.args.number c.leave.result c.in-Some.ledger.now c.leave.new.ledger c.self.inside.ledgers.entries c.self.inside.cells.slots c.leave.new.cells.slots (sym c.in-Some.ensures.value) c.leave.ensures.tag c.leave.ensures.ledger c.leave.ensures.cells))
+    rw (← c.self.view_is) (same-post _ _ _ _ _ _ (subst P (same_channel c.queued_channel-channel.result d _ c.queued_channel-channel.ensures.queued was)
+    (left-book c.queued_channel-channel.result c.args.number c.leave.result c.in-Some.ledger.now c.leave.new.ledger c.self.inside.ledgers.entries c.self.inside.cells.slots c.leave.new.cells.slots (sym c.in-Some.ensures.value) c.leave.ensures.tag c.leave.ensures.ledger c.leave.ensures.cells)) refl refl)

@@ -3,7 +3,7 @@ use Rattle.lapin_tables.proofs.SlotLaws.{length-with}
 use Rattle.std.proofs.Common.{Some, sym, refl, ne_eqb}
 use Rattle.lapin_history.specs.declared.marks.Outcome.TheVariants as outcome
 use Rattle.lapin_confirm.specs.declared.cell.Cell.TheVariants as cell
-use Rattle.lapin_confirm.proofs.Ledgers.{ledgers-same, same-book}
+use Rattle.lapin_confirm.proofs.Ledgers.{ledgers-same, same-book, same-post}
 use Rattle.lapin_confirm.proofs.Tying.{tied_at-other}
 use Rattle.lapin_confirm.proofs.Roomy.{same-homes, room-kept}
 use Rattle.lapin_confirm.proofs.Whole.{all-on}
@@ -22,5 +22,5 @@ invariant_of-self c =
       homes = same-homes _ _ c.reject.new.cells.slots _ c.self.invariant.homes (ap length c.reject.ensures.cells ∙ length-with c.args.number _ c.self.inside.cells.slots);
     }
 
-pub returns-clause-book : goal.returns-clause-book
-returns-clause-book c = rw (← c.self.view_is) (same-book _ _ _ _ (ledgers-same c.queued_channel-channel.result c.in-Some.ledger.now c.reject.new.ledger c.self.inside.ledgers.entries (sym c.in-Some.ensures.value) c.reject.ensures.ledger) c.reject.ensures.cells)
+pub returns-clause-what : goal.returns-clause-what
+returns-clause-what c = rw (← c.self.view_is) (same-post _ _ _ _ _ _ (same-book _ _ _ _ (ledgers-same c.queued_channel-channel.result c.in-Some.ledger.now c.reject.new.ledger c.self.inside.ledgers.entries (sym c.in-Some.ensures.value) c.reject.ensures.ledger) c.reject.ensures.cells) refl refl)

@@ -3,16 +3,16 @@ use Rattle.std.proofs.lemmas.List.{length-map}
 use Rattle.std.proofs.Common.{ap, [], List, ℕ, ◌≡◌, ◌∙◌, true, false, sym, refl, Option, Some, None}
 use Rattle.std.specs.List.{list_any}
 use Rattle.std.specs.Prelude.{is_some}
-use Rattle.lapin_confirm.specs.Book.{is_pending_as, last_in}
-use Rattle.lapin_tables.specs.ByChannel.{at_channel, on_channel}
+use Rattle.lapin_confirm.specs.Book.{is_pending_as}
+use Rattle.lapin_tables.specs.ByChannel.{on_channel}
 use Rattle.lapin_history.specs.Letters.{attached_to_all}
-use Rattle.lapin_confirm.specs.Ties.{ledger_states, trays_of}
+use Rattle.lapin_confirm.specs.Ties.{trays_of}
 use Rattle.lapin_confirm.proofs.Covered.{covered-one}
 use Rattle.lapin_confirm.proofs.Trays.{on-still}
 use Rattle.lapin_confirm.proofs.Ledgers.{ledger-at, ledgers-same, same-book, same-post}
 use Rattle.lapin_confirm.proofs.Roomy.{same-homes, room-kept, with-messages}
 use Rattle.lapin_confirm.proofs.Whole.{tied-of, untouched-of, all-settled}
-use Rattle.lapin_confirm.proofs.Settled.{settled-untouched, settled-none, pending-tells, pending-untouched}
+use Rattle.lapin_confirm.proofs.Settled.{settled-none, pending-tells, pending-untouched}
 use Rattle.lapin_confirm.proofs.confirms.Confirms.settle_one.Goals as goal
 
 not_there : {X : Type 0} (o : Option X) → false ≡ is_some o → o ≡ None
@@ -24,9 +24,6 @@ returns-in_default-clause-answer c =
     let none = sym c.in_default.ensures.value in
     let untouched = untouched-of c.args.channel c.self.inside.ledgers.entries c.self.inside.cells.slots none c.self.invariant.tied in
     rw (← c.self.view_is, pending-untouched c.args.channel c.args.tag c.self.inside.cells.slots untouched, ledger-at c.args.channel c.self.inside.ledgers.entries None none) refl
-
-pub returns-in_default-clause-settled : goal.returns-in_default-clause-settled
-returns-in_default-clause-settled c = rw (← c.self.view_is) (same-book _ _ _ _ refl (sym (settled-untouched c.args.channel _ _ c.self.inside.cells.slots (untouched-of c.args.channel c.self.inside.ledgers.entries c.self.inside.cells.slots (sym c.in_default.ensures.value) c.self.invariant.tied))))
 
 pub invariant_of-self-then-not-settle_tag : goal.invariant_of-self-then-not-settle_tag
 invariant_of-self-then-not-settle_tag c =
@@ -44,15 +41,8 @@ returns-then-not-settle_tag-clause-answer c =
     let pending : list_any (is_pending_as c.args.channel c.args.tag) c.self.inside.cells.slots ≡ false = pending-tells c.args.channel c.args.tag c.in-Some.ledger.now c.self.inside.cells.slots tied ∙ sym c.if-not-settle_tag.ensures.found in
     rw (← c.self.view_is, pending, ledger-at c.args.channel c.self.inside.ledgers.entries (Some c.in-Some.ledger.now) is, c.count-current.ensures) refl
 
-pub returns-then-not-settle_tag-clause-settled : goal.returns-then-not-settle_tag-clause-settled
-returns-then-not-settle_tag-clause-settled c =
-    rw (← c.self.view_is)
-    (same-book _ _ _ _
-    (ledgers-same c.args.channel c.in-Some.ledger.now c.settle_tag.new.ledger c.self.inside.ledgers.entries (sym c.in-Some.ensures.value) c.settle_tag.ensures.ledger)
-    (c.settle_tag.ensures.cells ∙ rw c.outcome_of.ensures refl))
-
-pub returns-then-not-settle_tag-clause-same : goal.returns-then-not-settle_tag-clause-same
-returns-then-not-settle_tag-clause-same c =
+pub returns-then-not-settle_tag-clause-err : goal.returns-then-not-settle_tag-clause-err
+returns-then-not-settle_tag-clause-err c =
     let is = sym c.in-Some.ensures.value in
     let tied = tied-of c.args.channel c.in-Some.ledger.now c.self.inside.ledgers.entries c.self.inside.cells.slots is c.self.invariant.tied in
     rw (← c.self.view_is)
@@ -76,28 +66,14 @@ returns-clause-answer c =
     let pending : list_any (is_pending_as c.args.channel c.args.tag) c.self.inside.cells.slots ≡ true = pending-tells c.args.channel c.args.tag c.in-Some.ledger.now c.self.inside.cells.slots tied ∙ sym c.if-not-settle_tag.ensures.found in
     rw (← c.self.view_is, pending) refl
 
-pub returns-clause-settled : goal.returns-clause-settled
-returns-clause-settled c =
-    rw (← c.self.view_is)
+pub returns-clause-ok : goal.returns-clause-ok
+returns-clause-ok c =
+    let is = sym c.in-Some.ensures.value in
+    let tied = tied-of c.args.channel c.in-Some.ledger.now c.self.inside.ledgers.entries c.self.inside.cells.slots is c.self.invariant.tied in
+    rw (← c.self.view_is, ledger-at c.args.channel c.self.inside.ledgers.entries (Some c.in-Some.ledger.now) is)
+    (same-post _ _ _ _ _ _
     (same-book _ _ _ _
-    (ledgers-same c.args.channel c.in-Some.ledger.now c.settle_tag.new.ledger c.self.inside.ledgers.entries (sym c.in-Some.ensures.value) c.settle_tag.ensures.ledger)
+    (ledgers-same c.args.channel c.in-Some.ledger.now c.settle_tag.new.ledger c.self.inside.ledgers.entries is c.settle_tag.ensures.ledger)
     (c.settle_tag.ensures.cells ∙ rw c.outcome_of.ensures refl))
-
-pub returns-in_default-clause-trays : goal.returns-in_default-clause-trays
-returns-in_default-clause-trays c =
-    let none : last_in (at_channel c.args.channel (ledger_states c.self.inside.ledgers.entries)) ≡ 0 = ap last_in (ledger-at c.args.channel c.self.inside.ledgers.entries None (sym c.in_default.ensures.value)) in
-    rw (← c.self.view_is) (rw none (sym (on-still c.args.channel (attached_to_all []) (trays_of c.self.inside.trays.entries) (λ l. refl))))
-
-pub returns-then-not-settle_tag-clause-trays : goal.returns-then-not-settle_tag-clause-trays
-returns-then-not-settle_tag-clause-trays c =
-    let is = sym c.in-Some.ensures.value in
-    let tied = tied-of c.args.channel c.in-Some.ledger.now c.self.inside.ledgers.entries c.self.inside.cells.slots is c.self.invariant.tied in
-    rw (← c.self.view_is, ledger-at c.args.channel c.self.inside.ledgers.entries (Some c.in-Some.ledger.now) is)
     (c.attach_one.ensures.letters ∙ ap (λ (ns : List ℕ). on_channel c.args.channel (attached_to_all ns) (trays_of c.self.inside.trays.entries)) (covered-one c.args.channel c.args.kind c.args.tag c.in-Some.ledger.now c.self.inside.cells.slots tied))
-
-pub returns-clause-trays : goal.returns-clause-trays
-returns-clause-trays c =
-    let is = sym c.in-Some.ensures.value in
-    let tied = tied-of c.args.channel c.in-Some.ledger.now c.self.inside.ledgers.entries c.self.inside.cells.slots is c.self.invariant.tied in
-    rw (← c.self.view_is, ledger-at c.args.channel c.self.inside.ledgers.entries (Some c.in-Some.ledger.now) is)
-    (c.attach_one.ensures.letters ∙ ap (λ (ns : List ℕ). on_channel c.args.channel (attached_to_all ns) (trays_of c.self.inside.trays.entries)) (covered-one c.args.channel c.args.kind c.args.tag c.in-Some.ledger.now c.self.inside.cells.slots tied))
+    refl)

@@ -1,23 +1,23 @@
 use Rattle.std.proofs.Common.{◌≡◌, ◌∙◌, ap, arith}
 use Rattle.std.specs.List.{fold}
 use Rattle.lapin_history.specs.Ends.{ends, live_below}
-use Rattle.lapin_confirm.specs.Book as book
+use Rattle.lapin_confirm.specs.Machine.{after_mark}
 use Rattle.lapin_desk.proofs.Ends.{ends-next}
 use Rattle.lapin_desk.proofs.desk.Desk.end_live.Goals as goal
 
 pub loop-number-preserved : goal.loop-number-preserved
 loop-number-preserved c = record {
   within = omega arith;
-  book = ends-next c.args.error c.loop-number.number c.args.phases.now.entries c.args.confirms.now.what.book c.loop-number.confirms.what.book _ c.loop-number.invariant.book c.end_live_at.ensures.book;
+  confirms = ends-next c.args.error c.loop-number.number c.args.phases.now.entries c.args.confirms.now.what c.loop-number.confirms.what _ c.loop-number.invariant.confirms c.end_live_at.ensures.confirms;
   queued = c.end_live_at.ensures.queued;
   tickets = c.end_live_at.ensures.tickets ∙ c.loop-number.invariant.tickets;
   rest = c.end_live_at.ensures.rest ∙ c.loop-number.invariant.rest;
   outbox_room = omega arith;
 }
 
-pub returns-clause-book : goal.returns-clause-book
-returns-clause-book c =
+pub returns-clause-confirms : goal.returns-clause-confirms
+returns-clause-confirms c =
     let last : c.loop-number.number ≡ c.reach-reach.result = omega arith in
-    c.loop-number.invariant.book
-    ∙ ap (λ n. fold book.after_mark c.args.confirms.now.what.book (ends c.args.error (live_below n c.args.phases.now.entries))) last
-    ∙ ap (λ cs. fold book.after_mark c.args.confirms.now.what.book (ends c.args.error cs)) c.reach-reach.ensures
+    c.loop-number.invariant.confirms
+    ∙ ap (λ n. fold after_mark c.args.confirms.now.what (ends c.args.error (live_below n c.args.phases.now.entries))) last
+    ∙ ap (λ cs. fold after_mark c.args.confirms.now.what (ends c.args.error cs)) c.reach-reach.ensures

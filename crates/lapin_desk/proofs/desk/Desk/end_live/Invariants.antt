@@ -1,7 +1,7 @@
 use Rattle.std.proofs.Common.{◌≡◌, ◌≤◌, ◌-◌}
 use Rattle.std.specs.List.{fold}
 use Rattle.lapin_history.specs.Ends.{ends, live_below}
-use Rattle.lapin_confirm.specs.Book as book
+use Rattle.lapin_confirm.specs.Machine.{after_mark}
 use Rattle.lapin_desk.specs.Queued.{AreQueued}
 use Rattle.lapin_desk.specs.Ended.{same_but_lists}
 use Rattle.lapin_desk.proofs.desk.Desk.end_live.Given as goal
@@ -9,7 +9,7 @@ use Rattle.lapin_desk.proofs.desk.Desk.end_live.Given as goal
 abbrev pub invariant-loop-number : goal.invariant-loop-number
 invariant-loop-number l = record {
   within : l.number ≤ l.reach;
-  book : l.confirms.what.book ≡ fold book.after_mark l.initial.confirms.what.book (ends l.error (live_below l.number l.phases.entries));
+  confirms : l.confirms.what ≡ fold after_mark l.initial.confirms.what (ends l.error (live_below l.number l.phases.entries));
   queued : AreQueued l.confirms.what.book.cells l.self.outbox.what.lists.publishes;
   tickets : l.self.tickets ≡ l.initial.self.tickets;
   rest : same_but_lists l.self.outbox.what ≡ same_but_lists l.initial.self.outbox.what;

@@ -19,8 +19,8 @@ loop-dropped-preserved c =
     let now = c.loop-dropped.self.outbox.what in
     record {
       outbox = ap (λ (o : OutboxState). with_lists (without_publishes_of c.args.channel o.lists) o) c.drop_unbegun.ensures.what ∙ ap (λ (l : Lists). with_lists l now) (unbegun-others c.args.channel now.lists) ∙ c.loop-dropped.invariant.outbox;
-      book = close-rejected c.args.channel now.lists.publishes c.in-Some.dropped c.args.error c.loop-dropped.confirms.what.book _ c.in-Some.ensures.told c.reject.ensures c.loop-dropped.invariant.queued ∙ c.loop-dropped.invariant.book;
-      queued = queue-rejected c.args.channel now.lists.publishes _ c.in-Some.dropped c.args.error c.loop-dropped.confirms.what.book _ c.in-Some.ensures.told (ap (λ (o : OutboxState). o.lists.publishes) c.drop_unbegun.ensures.what) c.reject.ensures c.loop-dropped.invariant.queued;
+      confirms = close-rejected c.args.channel now.lists.publishes c.in-Some.dropped c.args.error c.loop-dropped.confirms.what _ c.in-Some.ensures.told c.reject.ensures c.loop-dropped.invariant.queued ∙ c.loop-dropped.invariant.confirms;
+      queued = queue-rejected c.args.channel now.lists.publishes _ c.in-Some.dropped c.args.error c.loop-dropped.confirms.what _ c.in-Some.ensures.told (ap (λ (o : OutboxState). o.lists.publishes) c.drop_unbegun.ensures.what) c.reject.ensures c.loop-dropped.invariant.queued;
       requests = c.loop-dropped.invariant.requests;
       tickets = c.loop-dropped.invariant.tickets;
       outbox_room = omega arith;

@@ -2,14 +2,15 @@ use Rattle.std.proofs.Common.{◌≡◌, ◌≤◌, length}
 use Rattle.lapin_history.specs.Drops.{without_publishes_of}
 use Rattle.lapin_outbox.specs.Drops.{unbegun_of}
 use Rattle.lapin_outbox.specs.Outgoing.{with_lists}
-use Rattle.lapin_confirm.specs.Book.{closed_here}
+use Rattle.lapin_history.specs.ConfirmMarks as mark
+use Rattle.lapin_confirm.specs.Machine.{after_mark}
 use Rattle.lapin_desk.specs.Queued.{AreQueued}
 use Rattle.lapin_desk.proofs.desk.Desk.take_unbegun.Given as goal
 
 abbrev pub invariant-loop-dropped : goal.invariant-loop-dropped
 invariant-loop-dropped l = record {
   outbox : with_lists (without_publishes_of l.channel l.self.outbox.what.lists) l.self.outbox.what ≡ with_lists (without_publishes_of l.channel l.initial.self.outbox.what.lists) l.initial.self.outbox.what;
-  book : closed_here l.channel l.error l.confirms.what.book ≡ closed_here l.channel l.error l.initial.confirms.what.book;
+  confirms : after_mark l.confirms.what (mark.ClosedHere l.channel l.error) ≡ after_mark l.initial.confirms.what (mark.ClosedHere l.channel l.error);
   queued : AreQueued l.confirms.what.book.cells l.self.outbox.what.lists.publishes;
   requests : l.self.replies ≡ l.initial.self.replies;
   tickets : l.self.tickets ≡ l.initial.self.tickets;

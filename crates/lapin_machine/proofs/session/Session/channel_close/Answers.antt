@@ -13,7 +13,9 @@ use Rattle.lapin_outbox.specs.Open.{OpenRequests}
 use Rattle.lapin_outbox.specs.Outgoing.{OutboxState}
 use Rattle.lapin_ticket.specs.declared.Slot.{Slot}
 use Rattle.lapin_ticket.specs.Slots.{after_mark}
-use Rattle.lapin_confirm.specs.Book.{Book, closed_here}
+use Rattle.lapin_history.specs.ConfirmMarks as confirm
+use Rattle.lapin_confirm.specs.Post.{Post}
+use Rattle.lapin_confirm.specs.Machine as post
 use Rattle.lapin_desk.specs.Queued.{AreQueued}
 use Rattle.lapin_machine.specs.World.{World, next}
 use Rattle.lapin_machine.proofs.Keeping.{tied_closing, kept_by}
@@ -27,11 +29,11 @@ invariant_of-self-2 c =
     let here = open_opening c.self.inside.link c.args.channel c.self.inside.phases.entries open_ in
     let entry : MethodEntry = record { channel = c.args.channel; method = method.Channel (channel.Close c.args.reply_code c.args.reply_text 0 0); ticket = Some (length c.begin_close.new.desk.tickets.slots + 1) } in
     let taken = c.begin_close.ensures.outbox ∙ ap (without_unbegun c.args.channel) c.reserve.ensures.same.outbox in
-    let Q : Book → Type 0 = λ k. AreQueued k.cells c.begin_close.new.desk.outbox.what.lists.publishes in
-    let R : OutboxState → Type 0 = λ o. AreQueued (closed_here c.args.channel (failed_at_close closer.Application) c.self.inside.confirms.what.book).cells o.lists.publishes in
-    kept_by _ _ _ _ _ _ _ _ refl c.begin_close.ensures.phases (c.queue-number.ensures.outbox ∙ ap (with_entry entry) taken) c.begin_close.ensures.book
+    let Q : Post → Type 0 = λ p. AreQueued p.book.cells c.begin_close.new.desk.outbox.what.lists.publishes in
+    let R : OutboxState → Type 0 = λ o. AreQueued (post.after_mark c.self.inside.confirms.what (confirm.ClosedHere c.args.channel (failed_at_close closer.Application))).book.cells o.lists.publishes in
+    kept_by _ _ _ _ _ _ _ _ refl c.begin_close.ensures.phases (c.queue-number.ensures.outbox ∙ ap (with_entry entry) taken) (ap (λ (p : Post). p.book) c.begin_close.ensures.confirms)
     (tied_closing c.self.inside.link c.args.channel closer.Application (failed_at_close closer.Application) c.self.inside.phases.entries _ _ c.self.inside.confirms.what.book here.up here.some
-    (subst R taken (subst Q c.begin_close.ensures.book c.begin_close.ensures.queued)) c.self.invariant.tied)
+    (subst R taken (subst Q c.begin_close.ensures.confirms c.begin_close.ensures.queued)) c.self.invariant.tied)
     c.self.invariant.unpoisoned
 
 pub returns-clause-ok : goal.returns-clause-ok
@@ -39,12 +41,12 @@ returns-clause-ok c =
     let open_ = ap (λ (w : World). is_open (state_of c.args.channel w.wire)) c.self.view_is ∙ sym (ap is_open c.channel_state-state.ensures) ∙ sym c.is_open.ensures ∙ c.if-not-is_open.false in
     let number : ℕ = length c.begin_close.new.desk.tickets.slots + 1 in
     let entry : MethodEntry = record { channel = c.args.channel; method = method.Channel (channel.Close c.args.reply_code c.args.reply_text 0 0); ticket = Some number } in
-    channel_close_seen c.self.inside.link c.self.inside.phases.entries c.self.inside.desk.outbox.what c.self.inside.desk.replies.what c.self.inside.desk.tickets.slots c.self.inside.confirms.what.book c.args.channel c.args.reply_code c.args.reply_text _ _ _ c.begin_close.new.desk.tickets.slots _ _
+    channel_close_seen c.self.inside.link c.self.inside.phases.entries c.self.inside.desk.outbox.what c.self.inside.desk.replies.what c.self.inside.contents c.self.inside.ackers c.self.inside.desk.tickets.slots c.self.inside.confirms.what c.args.channel c.args.reply_code c.args.reply_text _ _ _ c.begin_close.new.desk.tickets.slots _ _
     open_
     c.begin_close.ensures.phases
     (c.begin_close.ensures.slots ∙ ap (λ (y : List (Option Slot)). after_mark y (mark.ClosedHere c.args.channel (failed_at_close closer.Application))) c.reserve.ensures.same.slots)
     (c.queue-number.ensures.outbox ∙ ap (with_entry entry) (c.begin_close.ensures.outbox ∙ ap (without_unbegun c.args.channel) c.reserve.ensures.same.outbox))
     (c.queue-number.ensures.requests ∙ ap (requests_with c.args.channel number (Some reply.ChannelCloseOk)) (ap (λ (r : OpenRequests). r.what) c.begin_close.ensures.requests ∙ c.reserve.ensures.same.requests))
     c.queue-number.ensures.slots
-    c.begin_close.ensures.book
+    c.begin_close.ensures.confirms
     ∙ ap (λ (w : World). next w (event.Call c.args.channel (call.ChannelClose c.args.reply_code c.args.reply_text))) c.self.view_is

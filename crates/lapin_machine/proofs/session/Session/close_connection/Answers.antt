@@ -12,6 +12,7 @@ use Rattle.lapin_ticket.specs.declared.Slot.{Slot}
 use Rattle.lapin_ticket.specs.Slots.{after_mark}
 use Rattle.lapin_outbox.specs.Open.{OpenRequests}
 use Rattle.lapin_desk.specs.Ended.{emptied_outbox}
+use Rattle.lapin_confirm.specs.Post.{Post}
 use Rattle.lapin_machine.specs.World.{World, next}
 use Rattle.lapin_machine.proofs.Keeping.{tied_down, kept_by}
 use Rattle.lapin_machine.proofs.Worlds.{with_entry, connection_close_seen}
@@ -21,21 +22,22 @@ pub invariant_of-self-2 : goal.invariant_of-self-2
 invariant_of-self-2 c =
     let entry : MethodEntry = record { channel = c.args.channel; method = method.Connection (connection.Close c.args.reply_code c.args.reply_text 0 0); ticket = Some (length c.go_down.new.desk.tickets.slots + 1) } in
     let outbox = c.queue-number.ensures.outbox ∙ ap (with_entry entry) (c.go_down.ensures.outbox ∙ ap emptied_outbox c.reserve-2.ensures.same.outbox) in
-    kept_by _ _ _ _ _ _ _ _ refl c.go_down.ensures.phases outbox c.go_down.ensures.book
-    (tied_down c.self.inside.link c.go_down.new.link failed_at_connection_close _ _ _ c.self.invariant.tied) c.self.invariant.unpoisoned
+    kept_by _ _ _ _ _ _ _ _ refl c.go_down.ensures.phases outbox (ap (λ (p : Post). p.book) c.go_down.ensures.confirms)
+    (tied_down c.self.inside.link c.go_down.new.link failed_at_connection_close _ _ c.self.inside.confirms.what c.self.invariant.tied) c.self.invariant.unpoisoned
 
 pub returns-clause-ok : goal.returns-clause-ok
 returns-clause-ok c =
     let base_ = ap (λ (w : World). is_base (state_of c.args.channel w.wire)) c.self.view_is ∙ sym (ap is_base c.channel_state-state.ensures) ∙ sym c.is_base.ensures ∙ c.if-not-is_base.false in
     let number : ℕ = length c.go_down.new.desk.tickets.slots + 1 in
     let entry : MethodEntry = record { channel = c.args.channel; method = method.Connection (connection.Close c.args.reply_code c.args.reply_text 0 0); ticket = Some number } in
-    connection_close_seen c.self.inside.link c.self.inside.phases.entries c.self.inside.desk.outbox.what c.self.inside.desk.replies.what c.self.inside.desk.tickets.slots c.self.inside.confirms.what.book c.args.channel c.args.reply_code c.args.reply_text _ _ _ _ c.go_down.new.desk.tickets.slots _ _
+    connection_close_seen c.self.inside.link c.self.inside.phases.entries c.self.inside.desk.outbox.what c.self.inside.desk.replies.what c.self.inside.contents c.self.inside.ackers c.self.inside.desk.tickets.slots c.self.inside.confirms.what c.args.channel c.args.reply_code c.args.reply_text _ _ _ _ _ c.go_down.new.desk.tickets.slots _ _
     base_
     c.go_down.ensures.link
     c.go_down.ensures.phases
     (c.go_down.ensures.slots ∙ ap (λ (y : List (Option Slot)). after_mark y (mark.AllFailed failed_at_connection_close)) c.reserve-2.ensures.same.slots)
     (c.queue-number.ensures.outbox ∙ ap (with_entry entry) (c.go_down.ensures.outbox ∙ ap emptied_outbox c.reserve-2.ensures.same.outbox))
     (c.queue-number.ensures.requests ∙ ap (requests_with c.args.channel number (Some reply.ConnectionCloseOk)) (ap (λ (r : OpenRequests). r.what) c.go_down.ensures.requests ∙ c.reserve.ensures.same ∙ c.in_ok-replies.ensures.made))
+    c.go_down.ensures.contents
     c.queue-number.ensures.slots
-    c.go_down.ensures.book
+    c.go_down.ensures.confirms
     ∙ ap (λ (w : World). next w (event.Call c.args.channel (call.ConnectionClose c.args.reply_code c.args.reply_text))) c.self.view_is

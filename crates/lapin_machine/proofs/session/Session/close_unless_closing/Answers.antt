@@ -10,7 +10,10 @@ use Rattle.lapin_history.specs.ChannelClose.{failed_at_close}
 use Rattle.lapin_history.specs.Wire.{is_open, state_of}
 use Rattle.lapin_outbox.specs.Open.{OpenRequests}
 use Rattle.lapin_outbox.specs.Outgoing.{OutboxState}
-use Rattle.lapin_confirm.specs.Book.{Book, single_of, closed_here}
+use Rattle.lapin_history.specs.ConfirmMarks as confirm
+use Rattle.lapin_confirm.specs.Book.{single_of}
+use Rattle.lapin_confirm.specs.Post.{Post}
+use Rattle.lapin_confirm.specs.Machine as post
 use Rattle.lapin_desk.specs.Queued.{AreQueued}
 use Rattle.lapin_machine.specs.World.{World, receiving}
 use Rattle.lapin_machine.proofs.Keeping.{tied_closing, kept_by}
@@ -24,11 +27,11 @@ invariant_of-self-2 c =
     let here = open_opening c.self.inside.link c.args.channel c.self.inside.phases.entries open_ in
     let entry : MethodEntry = record { channel = c.args.channel; method = c.in_ok-method.method; ticket = None } in
     let taken = c.begin_close.ensures.outbox ∙ ap (without_unbegun c.args.channel) c.reserve.ensures.same in
-    let Q : Book → Type 0 = λ k. AreQueued k.cells c.begin_close.new.desk.outbox.what.lists.publishes in
-    let R : OutboxState → Type 0 = λ o. AreQueued (closed_here c.args.channel (failed_at_close closer.Session) c.self.inside.confirms.what.book).cells o.lists.publishes in
-    kept_by _ _ _ _ _ _ _ _ refl c.begin_close.ensures.phases (c.queue_own.ensures.outbox ∙ ap (with_entry entry) taken) c.begin_close.ensures.book
+    let Q : Post → Type 0 = λ p. AreQueued p.book.cells c.begin_close.new.desk.outbox.what.lists.publishes in
+    let R : OutboxState → Type 0 = λ o. AreQueued (post.after_mark c.self.inside.confirms.what (confirm.ClosedHere c.args.channel (failed_at_close closer.Session))).book.cells o.lists.publishes in
+    kept_by _ _ _ _ _ _ _ _ refl c.begin_close.ensures.phases (c.queue_own.ensures.outbox ∙ ap (with_entry entry) taken) (ap (λ (p : Post). p.book) c.begin_close.ensures.confirms)
     (tied_closing c.self.inside.link c.args.channel closer.Session (failed_at_close closer.Session) c.self.inside.phases.entries _ _ c.self.inside.confirms.what.book here.up here.some
-    (subst R taken (subst Q c.begin_close.ensures.book c.begin_close.ensures.queued)) c.self.invariant.tied)
+    (subst R taken (subst Q c.begin_close.ensures.confirms c.begin_close.ensures.queued)) c.self.invariant.tied)
     c.self.invariant.unpoisoned
 
 pub returns-clause-ok : goal.returns-clause-ok
@@ -38,11 +41,11 @@ returns-clause-ok c = λ tag current.
     let outbox = c.queue_own.ensures.outbox
     ∙ ap (with_entry (entry c.in_ok-method.method)) (c.begin_close.ensures.outbox ∙ ap (without_unbegun c.args.channel) c.reserve.ensures.same)
     ∙ ap (λ (k : Method). with_entry (entry k) (without_unbegun c.args.channel c.self.inside.desk.outbox.what)) c.in_ok-method.ensures in
-    seen_is _ _ _ _ c.queue_own.new.self.outbox.what _ _ _ _ _ _ _ refl refl refl (ap (λ (r : OpenRequests). r.what) (c.queue_own.ensures.replies ∙ c.begin_close.ensures.requests)) refl refl
-    ∙ failed_seen c.self.inside.link c.self.inside.phases.entries c.self.inside.desk.outbox.what c.self.inside.desk.replies.what c.self.inside.desk.tickets.slots c.self.inside.confirms.what.book c.args.channel (single_of c.args.kind tag) tag current _ _ _ _
+    seen_is _ _ _ _ c.queue_own.new.self.outbox.what _ _ _ _ _ _ _ _ _ _ _ refl refl refl (ap (λ (r : OpenRequests). r.what) (c.queue_own.ensures.replies ∙ c.begin_close.ensures.requests)) refl refl refl refl
+    ∙ failed_seen c.self.inside.link c.self.inside.phases.entries c.self.inside.desk.outbox.what c.self.inside.desk.replies.what c.self.inside.contents c.self.inside.ackers c.self.inside.desk.tickets.slots c.self.inside.confirms.what c.args.channel (single_of c.args.kind tag) tag current _ _ _ _
     open_
     c.begin_close.ensures.phases
     outbox
     (ap (λ (t : Issued). t.slots) c.queue_own.ensures.tickets ∙ c.begin_close.ensures.slots)
-    c.begin_close.ensures.book
+    c.begin_close.ensures.confirms
     ∙ ap (λ (w : World). receiving (incoming.Settlement c.args.channel (single_of c.args.kind tag)) (record_.Refused (error.PreconditionFailed tag current)) w) c.self.view_is

@@ -16,7 +16,9 @@ use Rattle.lapin_outbox.specs.Open.{OpenRequests}
 use Rattle.lapin_outbox.specs.Outgoing.{Outgoing, OutboxState}
 use Rattle.lapin_ticket.specs.declared.Slot.{Slot}
 use Rattle.lapin_ticket.specs.Slots.{after_mark}
-use Rattle.lapin_confirm.specs.Book.{Book, ended}
+use Rattle.lapin_history.specs.ConfirmMarks as confirm
+use Rattle.lapin_confirm.specs.Post.{Post}
+use Rattle.lapin_confirm.specs.Machine as post
 use Rattle.lapin_desk.specs.Queued.{AreQueued}
 use Rattle.lapin_desk.specs.Ended.{ended_outbox}
 use Rattle.lapin_machine.specs.World.{World, receiving}
@@ -31,22 +33,23 @@ invariant_of-self c =
     let received = ap (λ (w : World). receives_close_ok (state_of c.args.channel w.wire)) c.self.view_is ∙ c.requires.received in
     let here = close_ok_some c.self.inside.link c.args.channel c.self.inside.phases.entries received in
     let outbox = c.end_opening.ensures.outbox ∙ ap (λ (o : Outgoing). ended_outbox c.args.channel o.what) c.resolve.ensures.outbox in
-    let Q : Book → Type 0 = λ k. AreQueued k.cells c.end_opening.new.self.outbox.what.lists.publishes in
-    let R : OutboxState → Type 0 = λ o. AreQueued (ended c.args.channel c.args.error c.self.inside.confirms.what.book).cells o.lists.publishes in
-    kept_by _ _ _ _ _ _ _ _ refl c.set.ensures outbox c.end_opening.ensures.book
-    (tied_ended c.self.inside.link c.args.channel phase.Closed c.args.error c.self.inside.phases.entries _ _ c.self.inside.confirms.what.book here.0 here.1 (subst R outbox (subst Q c.end_opening.ensures.book c.end_opening.ensures.queued)) c.self.invariant.tied)
+    let Q : Post → Type 0 = λ p. AreQueued p.book.cells c.end_opening.new.self.outbox.what.lists.publishes in
+    let R : OutboxState → Type 0 = λ o. AreQueued (post.after_mark c.self.inside.confirms.what (confirm.Ended c.args.channel c.args.error)).book.cells o.lists.publishes in
+    kept_by _ _ _ _ _ _ _ _ refl c.set.ensures outbox (ap (λ (p : Post). p.book) c.end_opening.ensures.confirms)
+    (tied_ended c.self.inside.link c.args.channel phase.Closed c.args.error c.self.inside.phases.entries _ _ c.self.inside.confirms.what.book here.0 here.1 (subst R outbox (subst Q c.end_opening.ensures.confirms c.end_opening.ensures.queued)) c.self.invariant.tied)
     c.self.invariant.unpoisoned
 
 pub returns : goal.returns
 returns c =
     let waiting = ap (λ (r : OpenRequests). r.what) c.resolve.ensures.replies ∙ c.take_request-close.ensures.waiting in
-    closing_answered c.self.inside.link c.self.inside.phases.entries c.self.inside.desk.outbox.what c.self.inside.desk.replies.what c.self.inside.desk.tickets.slots c.self.inside.confirms.what.book c.args.channel c.args.error _ _ _ _ _
+    closing_answered c.self.inside.link c.self.inside.phases.entries c.self.inside.desk.outbox.what c.self.inside.desk.replies.what c.self.inside.contents c.self.inside.ackers c.self.inside.desk.tickets.slots c.self.inside.confirms.what c.args.channel c.args.error _ _ _ _ _ _
     (ap (λ (w : World). close_ok_end (phase_of c.args.channel w.wire)) c.self.view_is ∙ c.requires.end)
     c.set.ensures
     (c.end_opening.ensures.outbox ∙ ap (λ (o : Outgoing). ended_outbox c.args.channel o.what) c.resolve.ensures.outbox)
     (c.end_opening.ensures.requests ∙ ap (on_channel c.args.channel no_requests) waiting ∙ on_twice c.args.channel (without_kind reply_kind.ChannelCloseOk) no_requests c.self.inside.desk.replies.what)
+    c.drop_channel.ensures
     (c.end_opening.ensures.slots
     ∙ ap (λ (y : List (Option Slot)). after_mark y (mark.OpeningFailed c.args.channel None c.args.error))
     (c.resolve.ensures.slots ∙ ap (λ (t : Option ℕ). fold after_mark c.self.inside.desk.tickets.slots (resolved_with (Ok answer.Done) t)) (c.into_ticket.ensures ∙ ap ticket_of c.take_request-close.ensures.taken)))
-    c.end_opening.ensures.book
+    c.end_opening.ensures.confirms
     ∙ ap (λ (w : World). receiving (incoming.ChannelCloseOk c.args.channel) record_.Received w) c.self.view_is

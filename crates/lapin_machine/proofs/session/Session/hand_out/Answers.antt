@@ -2,7 +2,8 @@ use Rattle.std.proofs.Common.{◌∙◌, sym, ap, refl, Option}
 use Rattle.std.specs.List.{fold}
 use Rattle.lapin_types.specs.declared.leaving.Left.{Left}
 use Rattle.lapin_history.specs.Handing.{left_marks}
-use Rattle.lapin_confirm.specs.Book.{after_mark}
+use Rattle.lapin_confirm.specs.Post.{Post}
+use Rattle.lapin_confirm.specs.Machine.{after_mark}
 use Rattle.lapin_outbox.specs.Open.{OpenRequests}
 use Rattle.lapin_outbox.specs.Outgoing.{Outgoing}
 use Rattle.lapin_outbox.specs.Returned.{is_retried}
@@ -26,16 +27,16 @@ invariant_of-self-in-Some c =
     let told = sym c.in-Some.is ∙ c.in_ok-left.ensures.told ∙ popped_anew c.args.may_begin o none in
     kept_by _ _ _ _ _ _ _ _ c.link_left.ensures c.phases_left.ensures
     (ap (λ (x : Outgoing). x.what) c.leave.ensures.outbox ∙ c.in_ok-left.ensures.ok ∙ popped_left c.args.may_begin o none)
-    (c.confirms_left.ensures ∙ ap (λ (h : Option Left). fold after_mark c.self.inside.confirms.what.book (left_marks h)) told)
-    (tied_handed o.frame_max _ o.lists.rest o.lists.methods o.lists.publishes _ _ _ c.in-Some.left c.self.invariant.tied)
+    (ap (λ (p : Post). p.book) (c.confirms_left.ensures ∙ ap (λ (h : Option Left). fold after_mark c.self.inside.confirms.what (left_marks h)) told))
+    (tied_handed o.frame_max _ o.lists.rest o.lists.methods o.lists.publishes _ _ c.self.inside.confirms.what c.in-Some.left c.self.invariant.tied)
     c.self.invariant.unpoisoned
 
 pub returns-in-Some-clause-ok : goal.returns-in-Some-clause-ok
 returns-in-Some-clause-ok c =
     let o = c.self.inside.desk.outbox.what in
     let none = ap (λ (w : World). is_retried w.returned) c.self.view_is ∙ c.requires in
-    seen_is _ _ _ _ c.leave.new.self.outbox.what _ _ _ _ _ _ _ refl refl refl (ap (λ (r : OpenRequests). r.what) c.leave.ensures.replies) refl refl
-    ∙ handing_seen c.self.inside.link c.self.inside.phases.entries o c.self.inside.desk.replies.what c.self.inside.desk.tickets.slots c.self.inside.confirms.what.book c.args.may_begin c.in-Some.left _ _ _ _ _
+    seen_is _ _ _ _ c.leave.new.self.outbox.what _ _ _ _ _ _ _ _ _ _ _ refl refl refl (ap (λ (r : OpenRequests). r.what) c.leave.ensures.replies) refl refl refl refl
+    ∙ handing_seen c.self.inside.link c.self.inside.phases.entries o c.self.inside.desk.replies.what c.self.inside.contents c.self.inside.ackers c.self.inside.desk.tickets.slots c.self.inside.confirms.what c.args.may_begin c.in-Some.left _ _ _ _ _
     (sym (popped_anew c.args.may_begin o none) ∙ sym c.in_ok-left.ensures.told ∙ c.in-Some.is) c.link_left.ensures c.phases_left.ensures
     (ap (λ (x : Outgoing). x.what) c.leave.ensures.outbox ∙ c.in_ok-left.ensures.ok ∙ popped_left c.args.may_begin o none) c.leave.ensures.slots c.confirms_left.ensures
     ∙ ap (handing c.args.may_begin) c.self.view_is

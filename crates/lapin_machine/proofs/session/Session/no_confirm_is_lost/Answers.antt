@@ -8,5 +8,5 @@ use Rattle.lapin_machine.proofs.session.Session.no_confirm_is_lost.Goals as goal
 
 pub returns : goal.returns
 returns c =
-    let P : World → Type 0 = λ w. (d : ℕ) → is_live_on w.wire.link (at_channel d w.wire.phases) ≡ false → list_any (is_open_on d) w.book.cells ≡ false in
+    let P : World → Type 0 = λ w. (d : ℕ) → is_live_on w.wire.link (at_channel d w.wire.phases) ≡ false → list_any (is_open_on d) w.post.book.cells ≡ false in
     subst P c.self.view_is c.self.invariant.tied.done

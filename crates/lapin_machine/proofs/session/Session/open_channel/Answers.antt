@@ -1,18 +1,26 @@
-use Rattle.std.proofs.Common.{◌∙◌, sym, ap, refl, Some, length, ◌+◌}
+use Rattle.std.proofs.Common.{◌≡◌, ◌∙◌, ℕ, sym, ap, refl, List, Option, Some, length, ◌+◌}
+use Rattle.lapin_types.specs.declared.request.Reply.TheVariants as reply
 use Rattle.lapin_history.specs.declared.phases.ChannelPhase.TheVariants as phase
 use Rattle.lapin_history.specs.Words.{with_channel}
 use Rattle.lapin_types.specs.Types.method
 use Rattle.lapin_types.specs.Types.channel
 use Rattle.lapin_history.specs.Frames.{MethodEntry}
-use Rattle.lapin_history.specs.Wire.{is_closed, state_of}
-use Rattle.lapin_machine.specs.World.{World}
-use Rattle.lapin_machine.proofs.Keeping.{tied_open, kept_by}
+use Rattle.lapin_history.specs.declared.calls.Asked.TheVariants as ask
+use Rattle.lapin_history.specs.declared.marks.AtLeaving.TheVariants as leaving
+use Rattle.lapin_history.specs.TicketReadings as mark
+use Rattle.lapin_history.specs.Wire.{is_closed, state_of, requests_with}
+use Rattle.lapin_ticket.specs.declared.Slot.{Slot}
+use Rattle.lapin_ticket.specs.Slots.{after_mark}
+use Rattle.lapin_confirm.specs.Post.{Post}
+use Rattle.lapin_machine.specs.World.{World, asking}
+use Rattle.lapin_machine.proofs.Keeping.{tied_opened, kept_by}
 use Rattle.lapin_machine.proofs.Openings.{closed_over}
 use Rattle.lapin_machine.proofs.Worlds.{with_entry}
+use Rattle.lapin_machine.proofs.Beginnings.{open_seen}
 use Rattle.lapin_machine.proofs.session.Session.open_channel.Goals as goal
 
-pub begin_bare-requires : goal.begin_bare-requires
-begin_bare-requires c =
+pub begin-requires : goal.begin-requires
+begin-requires c =
     let closed = ap (λ (w : World). is_closed (state_of c.args.channel w.wire)) c.self.view_is ∙ sym (ap is_closed c.channel_state-state.ensures) ∙ sym c.is_closed.ensures ∙ c.if-not-is_closed.false in
     c.self.invariant.tied.done c.args.channel (closed_over c.self.inside.link c.args.channel c.self.inside.phases.entries closed).1
 
@@ -23,6 +31,23 @@ invariant_of-self-2 c =
     kept_by _ _ _ _ _ _ _ _ refl
     (c.set.ensures ∙ ap (with_channel c.args.channel phase.Opening) c.reserve.ensures.same)
     (c.queue-number.ensures.outbox ∙ ap (with_entry entry) c.reserve-2.ensures.same.outbox)
-    c.in_ok-begin_bare.ensures.ok
-    (tied_open c.self.inside.link c.args.channel _ _ _ (closed_over c.self.inside.link c.args.channel c.self.inside.phases.entries closed).0 c.self.invariant.tied)
+    (ap (λ (p : Post). p.book) c.in_ok-begin.ensures.ok)
+    (tied_opened c.self.inside.link c.args.channel _ _ c.self.inside.confirms.what (closed_over c.self.inside.link c.args.channel c.self.inside.phases.entries closed).0 c.self.invariant.tied)
     c.self.invariant.unpoisoned
+
+pub returns-clause-ok : goal.returns-clause-ok
+returns-clause-ok c =
+    let closed = ap (λ (w : World). is_closed (state_of c.args.channel w.wire)) c.self.view_is ∙ sym (ap is_closed c.channel_state-state.ensures) ∙ sym c.is_closed.ensures ∙ c.if-not-is_closed.false in
+    let entry : ℕ → MethodEntry = λ n. record { channel = c.args.channel; method = method.Channel channel.Open; ticket = Some (n + 1) } in
+    let slots : c.reserve-2.new.self.tickets.slots ≡ c.self.inside.desk.tickets.slots = c.reserve-2.ensures.same.slots in
+    let count : length c.reserve-2.new.self.tickets.slots ≡ length c.self.inside.desk.tickets.slots = ap length slots in
+    open_seen c.self.inside.link c.self.inside.phases.entries c.self.inside.desk.outbox.what c.self.inside.desk.replies.what c.self.inside.contents c.self.inside.ackers c.self.inside.desk.tickets.slots c.self.inside.confirms.what c.args.channel _ _ _ _ _
+    closed
+    (c.set.ensures ∙ ap (with_channel c.args.channel phase.Opening) c.reserve.ensures.same)
+    (c.queue-number.ensures.outbox ∙ ap (λ n. with_entry (entry n) c.reserve-2.new.self.outbox.what) count ∙ ap (with_entry (entry (length c.self.inside.desk.tickets.slots))) c.reserve-2.ensures.same.outbox)
+    (c.queue-number.ensures.requests
+    ∙ ap (λ n. requests_with c.args.channel (n + 1) (Some reply.ChannelOpenOk) c.reserve-2.new.self.replies.what) count
+    ∙ ap (requests_with c.args.channel (length c.self.inside.desk.tickets.slots + 1) (Some reply.ChannelOpenOk)) c.reserve-2.ensures.same.requests)
+    (c.queue-number.ensures.slots ∙ ap (λ (y : List (Option Slot)). after_mark y (mark.Given c.args.channel leaving.Nothing)) slots)
+    c.in_ok-begin.ensures.ok
+    ∙ ap (λ (w : World). asking c.args.channel ask.Open w) c.self.view_is

@@ -7,6 +7,7 @@ use Rattle.lapin_history.specs.Asking.{made_marks}
 use Rattle.lapin_history.specs.Wire.{is_open, state_of, requests_with}
 use Rattle.lapin_ticket.specs.declared.Slot.{Slot}
 use Rattle.lapin_ticket.specs.Slots.{after_mark}
+use Rattle.lapin_confirm.specs.Post.{Post}
 use Rattle.lapin_machine.specs.World.{World, asking}
 use Rattle.lapin_machine.proofs.Keeping.{tied_called, kept_by}
 use Rattle.lapin_machine.proofs.Worlds.{with_entry, row_seen}
@@ -15,15 +16,15 @@ use Rattle.lapin_machine.proofs.session.Session.queue_row.Goals as goal
 pub invariant_of-self-2 : goal.invariant_of-self-2
 invariant_of-self-2 c =
     let entry : MethodEntry = record { channel = c.args.channel; method = c.args.row.method; ticket = Some (length c.reserve.new.self.tickets.slots + 1) } in
-    kept_by _ _ _ _ _ _ _ _ refl refl (c.queue-number.ensures.outbox ∙ ap (with_entry entry) c.reserve.ensures.same.outbox) c.confirms_called.ensures
-    (tied_called c.self.inside.link c.args.channel c.args.row.method _ _ _ c.self.invariant.tied) c.self.invariant.unpoisoned
+    kept_by _ _ _ _ _ _ _ _ refl refl (c.queue-number.ensures.outbox ∙ ap (with_entry entry) c.reserve.ensures.same.outbox) (ap (λ (p : Post). p.book) c.confirms_called.ensures)
+    (tied_called c.self.inside.link c.args.channel c.args.row.method _ _ c.self.inside.confirms.what c.self.invariant.tied) c.self.invariant.unpoisoned
 
 pub returns-clause-ok : goal.returns-clause-ok
 returns-clause-ok c =
     let open_ = ap (λ (w : World). is_open (state_of c.args.channel w.wire)) c.self.view_is ∙ sym (ap is_open c.channel_state-state.ensures) ∙ sym c.is_open.ensures ∙ c.if-not-is_open.false in
     let entry : ℕ → MethodEntry = λ n. record { channel = c.args.channel; method = c.args.row.method; ticket = Some (n + 1) } in
     let count : length c.reserve.new.self.tickets.slots ≡ length c.self.inside.desk.tickets.slots = ap length c.reserve.ensures.same.slots in
-    row_seen c.self.inside.link c.self.inside.phases.entries c.self.inside.desk.outbox.what c.self.inside.desk.replies.what c.self.inside.desk.tickets.slots c.self.inside.confirms.what.book c.args.channel c.args.row _ _ _ _
+    row_seen c.self.inside.link c.self.inside.phases.entries c.self.inside.desk.outbox.what c.self.inside.desk.replies.what c.self.inside.contents c.self.inside.ackers c.self.inside.desk.tickets.slots c.self.inside.confirms.what c.args.channel c.args.row _ _ _ _
     open_
     (c.queue-number.ensures.outbox ∙ ap (λ n. with_entry (entry n) c.reserve.new.self.outbox.what) count ∙ ap (with_entry (entry (length c.self.inside.desk.tickets.slots))) c.reserve.ensures.same.outbox)
     (c.queue-number.ensures.requests

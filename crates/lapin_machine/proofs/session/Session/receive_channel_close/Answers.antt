@@ -19,7 +19,9 @@ use Rattle.lapin_history.specs.Wire.{state_of, phase_of}
 use Rattle.lapin_outbox.specs.Open.{OpenRequests, requests_at}
 use Rattle.lapin_outbox.specs.Outgoing.{OutboxState}
 use Rattle.lapin_ticket.specs.Slots.{after_mark}
-use Rattle.lapin_confirm.specs.Book.{Book, ended}
+use Rattle.lapin_history.specs.ConfirmMarks as confirm
+use Rattle.lapin_confirm.specs.Post.{Post}
+use Rattle.lapin_confirm.specs.Machine as post
 use Rattle.lapin_desk.specs.Queued.{AreQueued}
 use Rattle.lapin_desk.specs.Ended.{ended_outbox}
 use Rattle.lapin_machine.specs.Kept.{kept_request, with_kept}
@@ -35,10 +37,10 @@ invariant_of-self-2 c =
     let here = receives_opening c.self.inside.link c.args.channel c.self.inside.phases.entries received in
     let entry : MethodEntry = record { channel = c.args.channel; method = method.Channel channel.CloseOk; ticket = None } in
     let taken = c.end_opening.ensures.outbox ∙ ap (ended_outbox c.args.channel) c.reserve.ensures.same in
-    let Q : Book → Type 0 = λ k. AreQueued k.cells c.end_opening.new.self.outbox.what.lists.publishes in
-    let R : OutboxState → Type 0 = λ o. AreQueued (ended c.args.channel (error.ProtocolError c.args.code) c.self.inside.confirms.what.book).cells o.lists.publishes in
-    kept_by _ _ _ _ _ _ _ _ refl c.set.ensures (c.queue_own.ensures.outbox ∙ ap (with_entry entry) taken) c.end_opening.ensures.book
-    (tied_ended c.self.inside.link c.args.channel c.after_broker_close.result (error.ProtocolError c.args.code) c.self.inside.phases.entries _ _ c.self.inside.confirms.what.book here.up here.some (subst R taken (subst Q c.end_opening.ensures.book c.end_opening.ensures.queued)) c.self.invariant.tied)
+    let Q : Post → Type 0 = λ p. AreQueued p.book.cells c.end_opening.new.self.outbox.what.lists.publishes in
+    let R : OutboxState → Type 0 = λ o. AreQueued (post.after_mark c.self.inside.confirms.what (confirm.Ended c.args.channel (error.ProtocolError c.args.code))).book.cells o.lists.publishes in
+    kept_by _ _ _ _ _ _ _ _ refl c.set.ensures (c.queue_own.ensures.outbox ∙ ap (with_entry entry) taken) (ap (λ (p : Post). p.book) c.end_opening.ensures.confirms)
+    (tied_ended c.self.inside.link c.args.channel c.after_broker_close.result (error.ProtocolError c.args.code) c.self.inside.phases.entries _ _ c.self.inside.confirms.what.book here.up here.some (subst R taken (subst Q c.end_opening.ensures.confirms c.end_opening.ensures.queued)) c.self.invariant.tied)
     c.self.invariant.unpoisoned
 
 pub returns-clause-ok : goal.returns-clause-ok
@@ -52,13 +54,14 @@ returns-clause-ok c =
     let left : c.end_opening.new.self.replies.what ≡ on_channel c.args.channel no_requests c.self.inside.desk.replies.what =
     c.end_opening.ensures.requests ∙ c.kept_close-close.ensures.emptied ∙ ap (on_channel c.args.channel no_requests) c.reserve-2.ensures.same in
     let entry : MethodEntry = record { channel = c.args.channel; method = method.Channel channel.CloseOk; ticket = None } in
-    channel_close_incoming c.self.inside.link c.self.inside.phases.entries c.self.inside.desk.outbox.what c.self.inside.desk.replies.what c.self.inside.desk.tickets.slots c.self.inside.confirms.what.book c.args.channel c.args.code _ _ _ _ _
+    channel_close_incoming c.self.inside.link c.self.inside.phases.entries c.self.inside.desk.outbox.what c.self.inside.desk.replies.what c.self.inside.contents c.self.inside.ackers c.self.inside.desk.tickets.slots c.self.inside.confirms.what c.args.channel c.args.code _ _ _ _ _ _
     (c.set.ensures ∙ ap (λ (q : ChannelPhase). with_channel c.args.channel q c.self.inside.phases.entries) (c.after_broker_close.ensures ∙ ap after_broker_close stood))
     (c.queue_own.ensures.outbox ∙ ap (with_entry entry) (c.end_opening.ensures.outbox ∙ ap (ended_outbox c.args.channel) c.reserve.ensures.same))
     (ap (λ (r : OpenRequests). r.what) c.queue_own.ensures.replies ∙ c.keep.ensures
     ∙ ap (λ (o : Option Request). with_kept c.args.channel o c.end_opening.new.self.replies.what) close
     ∙ ap (with_kept c.args.channel (kept_request (has_sent_close old) (requests_at c.args.channel c.self.inside.desk.replies.what))) left)
+    c.drop_channel.ensures
     (ap (λ (t : Issued). t.slots) c.queue_own.ensures.tickets ∙ c.end_opening.ensures.slots
     ∙ ap (λ (k : Option ℕ). after_mark c.self.inside.desk.tickets.slots (mark.OpeningFailed c.args.channel k (error.ProtocolError c.args.code))) (c.ticket_of-kept.ensures ∙ ap ticket_of close))
-    c.end_opening.ensures.book
+    c.end_opening.ensures.confirms
     ∙ ap (λ (w : World). receiving (incoming.ChannelClose c.args.channel c.args.code) record_.Received w) c.self.view_is

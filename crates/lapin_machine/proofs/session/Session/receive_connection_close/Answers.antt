@@ -8,6 +8,7 @@ use Rattle.lapin_history.specs.declared.broker_frames.Incoming.TheVariants as in
 use Rattle.lapin_history.specs.Frames.{MethodEntry}
 use Rattle.lapin_outbox.specs.Open.{OpenRequests}
 use Rattle.lapin_desk.specs.Ended.{emptied_outbox}
+use Rattle.lapin_confirm.specs.Post.{Post}
 use Rattle.lapin_machine.specs.World.{World, receiving}
 use Rattle.lapin_machine.proofs.Keeping.{tied_down, tied_further, kept_by}
 use Rattle.lapin_machine.proofs.Openings.{sent_down}
@@ -24,16 +25,16 @@ invariant_of-self-then-is_close_sent c =
 pub invariant_of-self-2 : goal.invariant_of-self-2
 invariant_of-self-2 c =
     let entry : MethodEntry = record { channel = 0; method = method.Connection connection.CloseOk; ticket = None } in
-    kept_by _ _ _ _ _ _ _ _ refl c.go_down.ensures.phases (c.queue_own-2.ensures.outbox ∙ ap (with_entry entry) (c.go_down.ensures.outbox ∙ ap emptied_outbox c.reserve.ensures.same)) c.go_down.ensures.book
-    (tied_down c.self.inside.link c.go_down.new.link (error.ProtocolError c.args.code) _ _ _ c.self.invariant.tied)
+    kept_by _ _ _ _ _ _ _ _ refl c.go_down.ensures.phases (c.queue_own-2.ensures.outbox ∙ ap (with_entry entry) (c.go_down.ensures.outbox ∙ ap emptied_outbox c.reserve.ensures.same)) (ap (λ (p : Post). p.book) c.go_down.ensures.confirms)
+    (tied_down c.self.inside.link c.go_down.new.link (error.ProtocolError c.args.code) _ _ c.self.inside.confirms.what c.self.invariant.tied)
     c.self.invariant.unpoisoned
 
 pub returns-then-is_close_sent-clause-ok : goal.returns-then-is_close_sent-clause-ok
 returns-then-is_close_sent-clause-ok c =
     let sent = sym c.is_close_sent.ensures ∙ c.if-is_close_sent.true in
     let entry : MethodEntry = record { channel = 0; method = method.Connection connection.CloseOk; ticket = None } in
-    seen_is _ _ _ _ c.queue_own.new.self.outbox.what _ _ _ _ _ _ _ refl refl refl (ap (λ (r : OpenRequests). r.what) c.queue_own.ensures.replies) (ap (λ (t : Issued). t.slots) c.queue_own.ensures.tickets) refl
-    ∙ connection_close_crossed c.self.inside.link c.self.inside.phases.entries c.self.inside.desk.outbox.what c.self.inside.desk.replies.what c.self.inside.desk.tickets.slots c.self.inside.confirms.what.book c.args.code _ _
+    seen_is _ _ _ _ c.queue_own.new.self.outbox.what _ _ _ _ _ _ _ _ _ _ _ refl refl refl (ap (λ (r : OpenRequests). r.what) c.queue_own.ensures.replies) refl refl (ap (λ (t : Issued). t.slots) c.queue_own.ensures.tickets) refl
+    ∙ connection_close_crossed c.self.inside.link c.self.inside.phases.entries c.self.inside.desk.outbox.what c.self.inside.desk.replies.what c.self.inside.contents c.self.inside.ackers c.self.inside.desk.tickets.slots c.self.inside.confirms.what c.args.code _ _
     sent
     (c.self.invariant.tied.down (sent_down c.self.inside.link sent))
     refl
@@ -43,12 +44,13 @@ returns-then-is_close_sent-clause-ok c =
 pub returns-clause-ok : goal.returns-clause-ok
 returns-clause-ok c =
     let entry : MethodEntry = record { channel = 0; method = method.Connection connection.CloseOk; ticket = None } in
-    connection_close_incoming c.self.inside.link c.self.inside.phases.entries c.self.inside.desk.outbox.what c.self.inside.desk.replies.what c.self.inside.desk.tickets.slots c.self.inside.confirms.what.book c.args.code _ _ _ _ _ _
+    connection_close_incoming c.self.inside.link c.self.inside.phases.entries c.self.inside.desk.outbox.what c.self.inside.desk.replies.what c.self.inside.contents c.self.inside.ackers c.self.inside.desk.tickets.slots c.self.inside.confirms.what c.args.code _ _ _ _ _ _ _
     (sym c.is_close_sent.ensures ∙ c.if-is_close_sent.false)
     c.go_down.ensures.link
     c.go_down.ensures.phases
     (c.queue_own-2.ensures.outbox ∙ ap (with_entry entry) (c.go_down.ensures.outbox ∙ ap emptied_outbox c.reserve.ensures.same))
     (ap (λ (r : OpenRequests). r.what) (c.queue_own-2.ensures.replies ∙ c.go_down.ensures.requests) ∙ c.in_ok-replies.ensures.made)
+    c.go_down.ensures.contents
     (ap (λ (t : Issued). t.slots) c.queue_own-2.ensures.tickets ∙ c.go_down.ensures.slots)
-    c.go_down.ensures.book
+    c.go_down.ensures.confirms
     ∙ ap (λ (w : World). receiving (incoming.ConnectionClose c.args.code) record_.Received w) c.self.view_is

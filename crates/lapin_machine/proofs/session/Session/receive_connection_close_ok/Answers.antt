@@ -28,7 +28,7 @@ invariant_of-self c =
 
 pub returns : goal.returns
 returns c =
-    connection_answered c.self.inside.link c.self.inside.phases.entries c.self.inside.desk.outbox.what c.self.inside.desk.replies.what c.self.inside.desk.tickets.slots c.self.inside.confirms.what.book _ _ _ _
+    connection_answered c.self.inside.link c.self.inside.phases.entries c.self.inside.desk.outbox.what c.self.inside.desk.replies.what c.self.inside.contents c.self.inside.ackers c.self.inside.desk.tickets.slots c.self.inside.confirms.what _ _ _ _
     refl
     (ap (λ (o : Outgoing). o.what) c.resolve.ensures.outbox ∙ c.drop_unsent.ensures.outbox)
     (ap (λ (r : OpenRequests). r.what) (c.resolve.ensures.replies ∙ c.drop_unsent.ensures.requests) ∙ c.take_request-close.ensures.waiting)

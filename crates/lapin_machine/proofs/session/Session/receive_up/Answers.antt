@@ -22,7 +22,7 @@ incoming_so r P R Q f h = f h
 
 -- the record of a frame while the connection is open
 abbrev up : World → Record → Incoming → Record
-up w f i = incoming_up w.wire (readings_of w.book w.slots) f i
+up w f i = incoming_up w.wire (readings_of w.post w.slots) f i
 
 -- a frame was refused
 abbrev WasRefused : Result Heard Error → World → World → Record → Type 0
@@ -49,7 +49,7 @@ pub returns-else-receives_on-clause-ok : goal.returns-else-receives_on-clause-ok
 returns-else-receives_on-clause-ok c =
     let w = c.args.self.now in
     let state = ap receives_on c.channel_state.ensures in
-    let told = ap (λ (b : Bool). cond b (settlement_record (readings_of w.book w.slots) c.in-Settlement.channel c.in-Settlement.settlement) (refused c.args.class c.args.number)) (sym (c.if-receives_on.ensures ∙ state)) in
+    let told = ap (λ (b : Bool). cond b (settlement_record (readings_of w.post w.slots) c.in-Settlement.channel c.in-Settlement.settlement) (refused c.args.class c.args.number)) (sym (c.if-receives_on.ensures ∙ state)) in
     refused_up c.refuse-else-receives_on.result c.refuse-else-receives_on.new.self c.args.self.now (refused c.args.class c.args.number) c.args.incoming _ c.in-Settlement.is told c.refuse-else-receives_on.ensures.ok
 
 pub returns-else-receives_close-clause-ok : goal.returns-else-receives_close-clause-ok
@@ -73,3 +73,8 @@ returns-else-receives_on-2-clause-ok c =
     let state = ap receives_on c.channel_state-in-Flow.ensures in
     let told = ap (λ (b : Bool). when b (refused c.args.class c.args.number)) (sym (c.if-receives_on-2.ensures ∙ state)) in
     refused_up c.refuse-else-receives_on-2.result c.refuse-else-receives_on-2.new.self c.args.self.now (refused c.args.class c.args.number) c.args.incoming _ c.in-Flow.is told c.refuse-else-receives_on-2.ensures.ok
+
+pub returns-else-receives_part-clause-ok : goal.returns-else-receives_part-clause-ok
+returns-else-receives_part-clause-ok c =
+    let told = ap (λ (b : Bool). when b (refused c.args.class c.args.number)) (sym c.if-receives_part.ensures) in
+    refused_up c.refuse-else-receives_part.result c.refuse-else-receives_part.new.self c.args.self.now (refused c.args.class c.args.number) c.args.incoming _ c.in-Content.is told c.refuse-else-receives_part.ensures.ok

@@ -6,6 +6,7 @@ use Rattle.lapin_history.specs.Frames.{MethodEntry}
 use Rattle.lapin_history.specs.Unexpected.{refused}
 use Rattle.lapin_outbox.specs.Open.{OpenRequests}
 use Rattle.lapin_desk.specs.Ended.{emptied_outbox}
+use Rattle.lapin_confirm.specs.Post.{Post}
 use Rattle.lapin_machine.specs.World.{World, receiving}
 use Rattle.lapin_machine.proofs.Keeping.{tied_down, kept_by}
 use Rattle.lapin_machine.proofs.Worlds.{with_entry, unexpected_seen}
@@ -15,18 +16,19 @@ pub invariant_of-self-2 : goal.invariant_of-self-2
 invariant_of-self-2 c =
     let entry : MethodEntry = record { channel = 0; method = c.in_ok-method.method; ticket = None } in
     let outbox = c.queue_own.ensures.outbox ∙ ap (with_entry entry) (c.go_down.ensures.outbox ∙ ap emptied_outbox c.reserve.ensures.same) in
-    kept_by _ _ _ _ _ _ _ _ refl c.go_down.ensures.phases outbox c.go_down.ensures.book
-    (tied_down c.self.inside.link c.go_down.new.link (error.ProtocolError 505) _ _ _ c.self.invariant.tied) c.self.invariant.unpoisoned
+    kept_by _ _ _ _ _ _ _ _ refl c.go_down.ensures.phases outbox (ap (λ (p : Post). p.book) c.go_down.ensures.confirms)
+    (tied_down c.self.inside.link c.go_down.new.link (error.ProtocolError 505) _ _ c.self.inside.confirms.what c.self.invariant.tied) c.self.invariant.unpoisoned
 
 pub returns-clause-ok : goal.returns-clause-ok
 returns-clause-ok c = λ i.
     let entry : Method → MethodEntry = λ k. record { channel = 0; method = k; ticket = None } in
     let outbox = c.queue_own.ensures.outbox ∙ ap (with_entry (entry c.in_ok-method.method)) (c.go_down.ensures.outbox ∙ ap emptied_outbox c.reserve.ensures.same) ∙ ap (λ (k : Method). with_entry (entry k) (emptied_outbox c.self.inside.desk.outbox.what)) c.in_ok-method.ensures in
-    unexpected_seen c.self.inside.link c.self.inside.phases.entries c.self.inside.desk.outbox.what c.self.inside.desk.replies.what c.self.inside.desk.tickets.slots c.self.inside.confirms.what.book i c.args.class c.args.number _ _ _ _ _ _
+    unexpected_seen c.self.inside.link c.self.inside.phases.entries c.self.inside.desk.outbox.what c.self.inside.desk.replies.what c.self.inside.contents c.self.inside.ackers c.self.inside.desk.tickets.slots c.self.inside.confirms.what i c.args.class c.args.number _ _ _ _ _ _ _
     c.go_down.ensures.link
     c.go_down.ensures.phases
     outbox
     (ap (λ (r : OpenRequests). r.what) (c.queue_own.ensures.replies ∙ c.go_down.ensures.requests) ∙ c.in_ok-replies.ensures.made)
+    c.go_down.ensures.contents
     (ap (λ (t : Issued). t.slots) c.queue_own.ensures.tickets ∙ c.go_down.ensures.slots)
-    c.go_down.ensures.book
+    c.go_down.ensures.confirms
     ∙ ap (λ (w : World). receiving i (refused c.args.class c.args.number) w) c.self.view_is

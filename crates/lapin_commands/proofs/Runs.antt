@@ -1,0 +1,90 @@
+-- What a session and a joined run owe as runs that an input drives.
+use Rattle.std.proofs.Common.{◌≡◌, ℕ, suc, ◌+◌, ◌-◌, ◌<◌, ◌≤◌, ◌^◌, List, [], ◌∷◌, ◌++◌, Option, Some, None, false, refl, sym, ap, subst, ◌∙◌, append_assoc, arith}
+use Rattle.std.specs.Prelude.{Result, Ok, Err, IfOk}
+use Rattle.std.specs.List.{join_with_byte}
+use Rattle.lapin_types.specs.declared.event.Event.{Event}
+use Rattle.lapin_machine.specs.World.{World, next, told_by, outputs, new_world}
+use Rattle.lapin_machine.specs.Numbers.{HasNumbersFor}
+use Rattle.lapin_machine.proofs.Standing.{outputs_run}
+use Rattle.lapin_machine.proofs.Counting.{numbers-next}
+use Rattle.lapin_text.specs.Events.{line_of, HasLine}
+use Rattle.lapin_text.specs.Input.{lines_of, max_line, IsMax, NoLine, AreEvents, AreParsed}
+use Rattle.lapin_text.specs.Records.{record_tokens, record_line, line_onto, records_text}
+use Rattle.lapin_text.proofs.Printed.{line_onto_is}
+use Rattle.lapin_joint.specs.declared.step.Step.{Step}
+use Rattle.lapin_joint.specs.Joint.{Joint, by_machine, new_joint, after, report, reports, joined}
+use Rattle.lapin_joint.specs.Kept.{Kept}
+use Rattle.lapin_joint.proofs.Alike.{reports_joined}
+use Rattle.lapin_joint.proofs.Steps.{new_goes_on, fewer as numbers_fewer}
+use Rattle.lapin_joint_text.specs.Steps as steps
+use Rattle.lapin_joint_text.specs.Input as steps_input
+use Rattle.lapin_joint_text.specs.Reports.{report_tokens, report_line, reports_text}
+use Rattle.lapin_commands.specs.Printing.{Adds, bad_line_text}
+use Rattle.lapin_commands.specs.Session.{session_text, PrintsSession, SessionGoesOn}
+use Rattle.lapin_commands.specs.Joined.{joined_text, PrintsJoined, JoinedGoesOn}
+use Rattle.lapin_commands.proofs.Streaming.{adds_by, prints_by}
+
+-- a line behind a text
+line_grown : (old : List ℕ) (tokens : List (List ℕ)) → line_onto old tokens ++ 10 ∷ [] ≡ old ++ (join_with_byte 32 tokens ++ 10 ∷ [])
+line_grown old tokens = ap (λ (t : List ℕ). t ++ 10 ∷ []) (line_onto_is old tokens) ∙ append_assoc old (join_with_byte 32 tokens) (10 ∷ [])
+
+-- ---- a session
+
+pub session_adds : (w v : World) (e : Event) (line old new : List ℕ) → HasLine e → line ≡ line_of e → v ≡ next w e → new ≡ line_onto old (record_tokens (told_by w e)) ++ 10 ∷ [] → Adds (SessionGoesOn w) (SessionGoesOn v) line old new
+session_adds w v e line old new fit is stepped grown =
+    subst (λ (x : World). Adds (SessionGoesOn w) (SessionGoesOn x) line old new) (sym stepped)
+    (adds_by AreEvents record_line (outputs w) (outputs (next w e)) e (told_by w e) line old new (λ n lines es bad are. (fit, is, are)) (λ es. refl) (grown ∙ line_grown old (record_tokens (told_by w e))))
+
+pub session_stops : (w : World) (n : ℕ) (lines : List (List ℕ)) (line : List ℕ) → NoLine line → SessionGoesOn w n (line ∷ lines) (Some n) []
+session_stops w n lines line none = record { steps = []; are = (refl, none); printed = refl }
+
+session_whole : (m : ℕ) (w : World) (input : List ℕ) (lines : List (List ℕ)) (bad : Option ℕ) (text : List ℕ) → w ≡ new_world m → IsMax m → lines_of input ≡ max_line m ∷ lines → SessionGoesOn w 2 lines bad text → PrintsSession input bad (text ++ bad_line_text bad)
+session_whole m w input lines bad text new ok is p =
+    prints_by AreParsed AreEvents session_text (λ es. records_text (outputs w es)) m input lines bad text
+    (λ es are. subst (λ (ls : List (List ℕ)). AreParsed ls (Some m) es bad) (sym is) (ok, refl, are))
+    (λ es. ap records_text (ap (λ (x : World). outputs x es) new ∙ outputs_run m es))
+    p
+
+pub session_begins : {E : Type 0} (r : Result World E) (m : ℕ) → IfOk r (λ w. w ≡ new_world m) → IfOk r (λ w. (input : List ℕ) (lines : List (List ℕ)) (bad : Option ℕ) (text : List ℕ) → IsMax m → lines_of input ≡ max_line m ∷ lines → SessionGoesOn w 2 lines bad text → PrintsSession input bad (text ++ bad_line_text bad))
+session_begins (Ok w) m new = λ input lines bad text ok is p. session_whole m w input lines bad text new ok is p
+session_begins (Err e) m new = tt
+
+numbers_first : (m n : ℕ) (w : World) → w ≡ new_world m → n < 2 ^ 63 → HasNumbersFor n w
+numbers_first m n w new few =
+    let first = new_goes_on m w new in
+    numbers_fewer (2 ^ 64 - 1 - 0) n w first.numbers (omega (arith, few))
+
+pub session_takes : {E : Type 0} (r : Result World E) (m : ℕ) → IfOk r (λ w. w ≡ new_world m) → IfOk r (λ w. (n : ℕ) → n < 2 ^ 63 → HasNumbersFor n w)
+session_takes (Ok w) m new = λ n few. numbers_first m n w new few
+session_takes (Err e) m new = tt
+
+pub numbers_one : (n : ℕ) (w : World) → HasNumbersFor (suc n) w → HasNumbersFor 1 w
+numbers_one n w h = numbers_fewer (suc n) 1 w h (omega arith)
+
+pub numbers_rest : (n : ℕ) (w v : World) (e : Event) → v ≡ next w e → HasNumbersFor (suc n) w → HasNumbersFor n v
+numbers_rest n w v e stepped h = subst (HasNumbersFor n) (sym stepped) (numbers-next n w e h)
+
+-- ---- a joined run
+
+pub joined_adds : (k m : Kept) (s : Step) (line old new : List ℕ) → steps.HasLine s → line ≡ steps.step_line s → m ≡ record { joint = after by_machine s k.joint; steps = k.steps + 1; stopped = false } → new ≡ line_onto old (report_tokens (report by_machine s k.joint)) ++ 10 ∷ [] → Adds (JoinedGoesOn k) (JoinedGoesOn m) line old new
+joined_adds k m s line old new fit is made grown =
+    subst (λ (x : Kept). Adds (JoinedGoesOn k) (JoinedGoesOn x) line old new) (sym made)
+    (adds_by steps_input.AreSteps report_line (λ ss. reports by_machine ss k.joint) (λ ss. reports by_machine ss (after by_machine s k.joint)) s (report by_machine s k.joint) line old new (λ n lines ss bad are. (fit, is, are)) (λ ss. refl) (grown ∙ line_grown old (report_tokens (report by_machine s k.joint))))
+
+pub joined_stops : (k : Kept) (n : ℕ) (lines : List (List ℕ)) (line : List ℕ) → steps.NoLine line → JoinedGoesOn k n (line ∷ lines) (Some n) []
+joined_stops k n lines line none = record { steps = []; are = (refl, none); printed = refl }
+
+joined_whole : (m : ℕ) (k : Kept) (input : List ℕ) (lines : List (List ℕ)) (bad : Option ℕ) (text : List ℕ) → k ≡ record { joint = new_joint (new_world m) m; steps = 0; stopped = false } → IsMax m → lines_of input ≡ max_line m ∷ lines → JoinedGoesOn k 2 lines bad text → PrintsJoined input bad (text ++ bad_line_text bad)
+joined_whole m k input lines bad text new ok is p =
+    prints_by steps_input.AreParsed steps_input.AreSteps joined_text (λ ss. reports_text (reports by_machine ss k.joint)) m input lines bad text
+    (λ ss are. subst (λ (ls : List (List ℕ)). steps_input.AreParsed ls (Some m) ss bad) (sym is) (ok, refl, are))
+    (λ ss. ap reports_text (ap (λ (x : Kept). reports by_machine ss x.joint) new ∙ reports_joined m ss))
+    p
+
+pub joined_begins : {E : Type 0} (r : Result Kept E) (m : ℕ) → IfOk r (λ k. k ≡ record { joint = new_joint (new_world m) m; steps = 0; stopped = false }) → IfOk r (λ k. (input : List ℕ) (lines : List (List ℕ)) (bad : Option ℕ) (text : List ℕ) → IsMax m → lines_of input ≡ max_line m ∷ lines → JoinedGoesOn k 2 lines bad text → PrintsJoined input bad (text ++ bad_line_text bad))
+joined_begins (Ok k) m new = λ input lines bad text ok is p. joined_whole m k input lines bad text new ok is p
+joined_begins (Err e) m new = tt
+
+pub joined_takes : {E : Type 0} (r : Result Kept E) (m : ℕ) → IfOk r (λ k. k ≡ record { joint = new_joint (new_world m) m; steps = 0; stopped = false }) → IfOk r (λ k. (n : ℕ) → n < 2 ^ 63 → k.steps + n < 2 ^ 64)
+joined_takes (Ok k) m new = λ n few. let none : k.steps ≡ 0 = ap (λ (x : Kept). x.steps) new in omega (arith, none, few)
+joined_takes (Err e) m new = tt

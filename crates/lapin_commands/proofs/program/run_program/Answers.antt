@@ -1,0 +1,12 @@
+use Rattle.lapin_commands.specs.declared.words.Command.TheVariants as command
+use Rattle.lapin_commands.proofs.Commands.{of_command}
+use Rattle.lapin_commands.proofs.program.run_program.Goals as goal
+
+pub returns-in-Some-Generate-clause-fine : goal.returns-in-Some-Generate-clause-fine
+returns-in-Some-Generate-clause-fine g c = of_command c.args.words.now _ (command.Generate c.in-Some-Generate.publishes) (rw c.in-Some-Generate.field-0-is at c.in-Some-Generate.ensures.some) c.run_generated.ensures.fine
+
+pub returns-in-Some-Generate-clause-cut_short : goal.returns-in-Some-Generate-clause-cut_short
+returns-in-Some-Generate-clause-cut_short g c = of_command c.args.words.now _ (command.Generate c.in-Some-Generate.publishes) (rw c.in-Some-Generate.field-0-is at c.in-Some-Generate.ensures.some) c.run_generated.ensures.cut_short
+
+pub returns-in-Some-Generate-clause-no_memory : goal.returns-in-Some-Generate-clause-no_memory
+returns-in-Some-Generate-clause-no_memory g c = of_command c.args.words.now _ (command.Generate c.in-Some-Generate.publishes) (rw c.in-Some-Generate.field-0-is at c.in-Some-Generate.ensures.some) c.run_generated.ensures.no_memory

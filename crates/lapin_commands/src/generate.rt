@@ -1,0 +1,53 @@
+//! The command `generate`: it makes the steps of so many publishes, each with its ack, and prints what their reports come to. It
+//! reads nothing.
+//!
+//! The steps and the summary of a run's reports stand in `lapin_generate`.
+ghost use Rattle.std.specs.Prelude.{◌≡◌, ◌≤◌, ◌++◌, IfOk, OnOk};
+ghost use Rattle.lapin_joint.specs.Joint.{joined};
+ghost use Rattle.lapin_generate.specs.Generated.{most_publishes, generated};
+ghost use Rattle.lapin_generate.specs.Summed.{summed};
+ghost use Rattle.lapin_commands.specs.Generate.{summary_text, generated_text};
+
+use crate::printing::put_number;
+use lapin_generate::{Summary, generated_steps, summarize};
+use lapin_joint::run_joined;
+use lapin_types::NoMemory;
+use std::alloc::Global;
+
+/// The size of a frame in bytes, at most.
+const FRAME_MAX: u32 = 4096;
+
+/// What is printed for so many publishes.
+///
+/// # Errors
+/// `NoMemory` alone.
+pub fn print_generated(alloc: Global, publishes: u64) -> Result<Vec<u8>, NoMemory>
+    requires { publishes ≤ most_publishes }
+    ensures { IfOk result (λ text. text.items ≡ generated_text publishes) }
+{
+    let summary = run_generated(alloc, publishes)?;
+    let mut text = Vec::new(alloc);
+    put_summary(alloc, &mut text, &summary)?;
+    Ok(text)
+}
+
+// The summary of the run.
+fn run_generated(alloc: Global, publishes: u64) -> Result<Summary, NoMemory>
+    requires { publishes ≤ most_publishes }
+    ensures { IfOk result (λ summary. summary ≡ summed (joined 4096 (generated publishes))) }
+{
+    let steps = generated_steps(alloc, publishes)?;
+    let mut reports = Vec::new(alloc);
+    run_joined(alloc, FRAME_MAX, steps, &mut reports)?;
+    Ok(summarize(&reports))
+}
+
+// Appends the four lines of a summary.
+fn put_summary(alloc: Global, text: &mut Vec<u8>, summary: &Summary) -> Result<(), NoMemory>
+    ensures { OnOk result (text.new.items ≡ text.old.items ++ summary_text summary.now) }
+{
+    put_number(alloc, text, "publishes", u128::from(summary.publishes))?;
+    put_number(alloc, text, "frames", u128::from(summary.frames))?;
+    put_number(alloc, text, "bytes", summary.bytes)?;
+    put_number(alloc, text, "acks", u128::from(summary.acks))
+}

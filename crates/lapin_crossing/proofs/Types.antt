@@ -1,0 +1,141 @@
+-- The values that events and records hold, from tables up: which of them may cross threads.
+use denote.Param.Send.{IsSend, IsSync, recorded_send, recorded_sync, sendable}
+use Rattle.std.proofs.Crossing.{crosses}
+use Rattle.lapin_values.proofs.value.FieldArray.TheLaws.TheKnot as knot
+use Rattle.lapin_values.proofs.text.ShortString.TheSendSync as text
+use Rattle.lapin_values.proofs.payload.Payload.TheSendSync as payload
+use Rattle.lapin_values.specs.contracts.value.FieldTable as table_
+use Rattle.lapin_values.specs.contracts.properties.BasicProperties as properties_
+use Rattle.lapin_methods.specs.contracts.frame.ContentHeader as header_
+use Rattle.lapin_methods.specs.contracts.basic.BasicMethod as basic_
+use Rattle.lapin_methods.specs.contracts.queue.QueueMethod as queue_
+use Rattle.lapin_methods.specs.contracts.exchange.ExchangeMethod as exchange_
+use Rattle.lapin_methods.specs.contracts.method.Method as method_
+use Rattle.lapin_methods.specs.contracts.frame.Frame as frame_
+use Rattle.lapin_types.specs.contracts.call.Call as call_
+use Rattle.lapin_types.specs.contracts.message.Delivery as delivery_
+use Rattle.lapin_types.specs.contracts.message.BasicReturnMessage as returned_
+use Rattle.lapin_types.specs.contracts.returned.ReturnedList as list_
+use Rattle.lapin_types.specs.contracts.message.BasicGetMessage as got_
+use Rattle.lapin_types.specs.contracts.confirmation.Confirmation as confirmation_
+use Rattle.lapin_types.specs.contracts.answer.Answer as answer_
+use Rattle.lapin_types.specs.contracts.event.Event as event_
+use Rattle.lapin_types.specs.contracts.record.Record as record_
+use Rattle.lapin_types.specs.contracts.leaving.Left as left_
+use Rattle.lapin_types.specs.contracts.leaving.Publish as publish_
+use Rattle.lapin_types.specs.contracts.request.Reply as reply_
+use Rattle.lapin_types.specs.contracts.request.Request as request_
+
+pub table_send : IsSend table_.the_row
+table_send = search (knot.crosses, crosses, sendable) depth 400 fits 200000
+
+pub table_sync : IsSync table_.the_row
+table_sync = search (knot.crosses, crosses, sendable) depth 400 fits 200000
+
+pub properties_send : IsSend properties_.the_row
+properties_send = search (table_send, text.the_send, crosses, sendable) depth 400 fits 200000
+
+pub properties_sync : IsSync properties_.the_row
+properties_sync = search (table_sync, text.the_sync, crosses, sendable) depth 400 fits 200000
+
+pub header_field_send : IsSend (header_.the_field).row
+header_field_send = search (properties_send, crosses, sendable) depth 400 fits 200000
+
+pub header_field_sync : IsSync (header_.the_field).row
+header_field_sync = search (properties_sync, crosses, sendable) depth 400 fits 200000
+
+pub basic_field_send : IsSend (basic_.the_field).row
+basic_field_send = search (table_send, text.the_send, crosses, sendable) depth 400 fits 200000
+
+pub basic_field_sync : IsSync (basic_.the_field).row
+basic_field_sync = search (table_sync, text.the_sync, crosses, sendable) depth 400 fits 200000
+
+pub queue_field_send : IsSend (queue_.the_field).row
+queue_field_send = search (table_send, text.the_send, crosses, sendable) depth 400 fits 200000
+
+pub queue_field_sync : IsSync (queue_.the_field).row
+queue_field_sync = search (table_sync, text.the_sync, crosses, sendable) depth 400 fits 200000
+
+pub exchange_field_send : IsSend (exchange_.the_field).row
+exchange_field_send = search (table_send, text.the_send, crosses, sendable) depth 400 fits 200000
+
+pub exchange_field_sync : IsSync (exchange_.the_field).row
+exchange_field_sync = search (table_sync, text.the_sync, crosses, sendable) depth 400 fits 200000
+
+pub method_field_send : IsSend (method_.the_field).row
+method_field_send = search (basic_field_send, queue_field_send, exchange_field_send, text.the_send, crosses, sendable) depth 400 fits 200000
+
+pub method_field_sync : IsSync (method_.the_field).row
+method_field_sync = search (basic_field_sync, queue_field_sync, exchange_field_sync, text.the_sync, crosses, sendable) depth 400 fits 200000
+
+pub frame_field_send : IsSend (frame_.the_field).row
+frame_field_send = search (method_field_send, header_field_send, payload.the_send, crosses, sendable) depth 400 fits 200000
+
+pub frame_field_sync : IsSync (frame_.the_field).row
+frame_field_sync = search (method_field_sync, header_field_sync, payload.the_sync, crosses, sendable) depth 400 fits 200000
+
+pub call_field_send : IsSend (call_.the_field).row
+call_field_send = search (table_send, properties_send, text.the_send, payload.the_send, crosses, sendable) depth 400 fits 200000
+
+pub call_field_sync : IsSync (call_.the_field).row
+call_field_sync = search (table_sync, properties_sync, text.the_sync, payload.the_sync, crosses, sendable) depth 400 fits 200000
+
+pub delivery_field_send : IsSend (delivery_.the_field).row
+delivery_field_send = search (properties_send, text.the_send, payload.the_send, crosses, sendable) depth 400 fits 200000
+
+pub returned_field_send : IsSend (returned_.the_field).row
+returned_field_send = search (delivery_field_send, text.the_send, crosses, sendable) depth 400 fits 200000
+
+pub returned_send : IsSend returned_.the_row
+returned_send = recorded_send (returned_.the_field).row _ _ (returned_.the_type).to_one returned_field_send
+
+pub list_send : IsSend list_.the_row
+list_send = search (returned_send, crosses, sendable) depth 400 fits 200000
+
+pub got_field_send : IsSend (got_.the_field).row
+got_field_send = search (delivery_field_send, crosses, sendable) depth 400 fits 200000
+
+pub got_send : IsSend got_.the_row
+got_send = recorded_send (got_.the_field).row _ _ (got_.the_type).to_one got_field_send
+
+pub confirmation_field_send : IsSend (confirmation_.the_field).row
+confirmation_field_send = search (returned_send, crosses, sendable) depth 400 fits 200000
+
+pub confirmation_send : IsSend confirmation_.the_row
+confirmation_send = recorded_send (confirmation_.the_field).row _ _ (confirmation_.the_type).to_one confirmation_field_send
+
+pub answer_field_send : IsSend (answer_.the_field).row
+answer_field_send = search (got_send, text.the_send, crosses, sendable) depth 400 fits 200000
+
+pub answer_send : IsSend answer_.the_row
+answer_send = recorded_send (answer_.the_field).row _ _ (answer_.the_type).to_one answer_field_send
+
+pub event_field_send : IsSend (event_.the_field).row
+event_field_send = search (call_field_send, frame_field_send, crosses, sendable) depth 400 fits 200000
+
+pub event_send : IsSend event_.the_row
+event_send = recorded_send (event_.the_field).row _ _ (event_.the_type).to_one event_field_send
+
+pub event_field_sync : IsSync (event_.the_field).row
+event_field_sync = search (call_field_sync, frame_field_sync, crosses, sendable) depth 400 fits 200000
+
+pub event_sync : IsSync event_.the_row
+event_sync = recorded_sync (event_.the_field).row _ _ (event_.the_type).to_one event_field_sync
+
+pub record_field_send : IsSend (record_.the_field).row
+record_field_send = search (frame_field_send, answer_send, confirmation_send, list_send, crosses, sendable) depth 400 fits 200000
+
+pub record_send : IsSend record_.the_row
+record_send = recorded_send (record_.the_field).row _ _ (record_.the_type).to_one record_field_send
+
+pub left_field_send : IsSend (left_.the_field).row
+left_field_send = search (frame_field_send, crosses, sendable) depth 400 fits 200000
+
+pub publish_field_send : IsSend (publish_.the_field).row
+publish_field_send = search (properties_send, text.the_send, payload.the_send, crosses, sendable) depth 400 fits 200000
+
+pub reply_field_send : IsSend (reply_.the_field).row
+reply_field_send = search (table_send, text.the_send, crosses, sendable) depth 400 fits 200000
+
+pub request_field_send : IsSend (request_.the_field).row
+request_field_send = search (reply_field_send, crosses, sendable) depth 400 fits 200000

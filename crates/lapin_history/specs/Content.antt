@@ -1,0 +1,140 @@
+-- Contents: the methods that begin one, the headers and bodies that make it whole, and what a whole one does (AMQP 0-9-1, section
+-- 4.2.6, "Content Framing"). They are received on an open channel, and still on one that this side is closing.
+use Rattle.std.specs.Prelude.{ℕ, ◌+◌, Bool, true, false, ◌&&◌, if◌then◌else◌, List, [], ◌∷◌, Option, Some, None, Result, Ok, Err}
+use Rattle.lapin_types.specs.Types.{Error}
+use Rattle.lapin_values.specs.Properties.{Properties}
+use Rattle.lapin_types.specs.declared.message.Delivery.{Delivery}
+use Rattle.lapin_types.specs.declared.message.BasicGetMessage.{BasicGetMessage}
+use Rattle.lapin_types.specs.declared.message.BasicReturnMessage.{BasicReturnMessage}
+use Rattle.lapin_types.specs.declared.answer.Answer.TheVariants as answer
+use Rattle.lapin_types.specs.declared.request.ReplyKind.TheVariants as reply_kind
+use Rattle.lapin_content.specs.declared.start.Start.{Start}
+use Rattle.lapin_content.specs.declared.start.Start.TheVariants as start
+use Rattle.lapin_content.specs.declared.start.Whole.{Whole}
+use Rattle.lapin_content.specs.Contents.{Expected, front_waits, front_takes, heard_header, heard_body, for_ticket}
+use Rattle.lapin_content.specs.Channels.{expected_on, after_mark}
+use Rattle.lapin_content.specs.Marks as mark
+use Rattle.lapin_history.specs.declared.broker_frames.ContentPart.{ContentPart}
+use Rattle.lapin_history.specs.declared.broker_frames.ContentPart.TheVariants as part
+use Rattle.lapin_history.specs.ConfirmMarks.{ConfirmMark}
+use Rattle.lapin_history.specs.ConfirmMarks as confirm
+use Rattle.lapin_history.specs.TicketReadings.{TicketMark}
+use Rattle.lapin_history.specs.Requests.{first_request, ticket_of, resolved_with}
+use Rattle.lapin_history.specs.Wire.{Wire, state_of, requests_of, receives_on}
+use Rattle.lapin_history.specs.Reply.{receives_reply, after_reply}
+
+-- ---- a content begins: get-ok takes the oldest open get of its channel, as a reply does
+
+-- the class of every message: basic
+abbrev pub content_class : ℕ
+content_class = 60
+
+-- one more content is expected on the channel
+abbrev pub expecting : ℕ → Start → Wire → Wire
+expecting c s b = record b { contents = after_mark b.contents (mark.Awaited c content_class s) }
+
+-- the ticket of the get whose answer comes next
+abbrev pub get_ticket : ℕ → Wire → Option ℕ
+get_ticket c b = ticket_of (first_request reply_kind.BasicGetOk (requests_of c b))
+
+abbrev pub after_get_ok : ℕ → Start → Wire → Wire
+after_get_ok c s b = expecting c (for_ticket (get_ticket c b) s) (after_reply c reply_kind.BasicGetOk b)
+
+-- ---- when one is received: get-ok where a get is open, a header or a body where the content at the front of its channel waits for it
+
+abbrev pub receives_part : ℕ → ContentPart → Wire → Bool
+receives_part c (part.GetOk s) b = receives_reply c reply_kind.BasicGetOk b
+receives_part c (part.Return s) b = receives_on (state_of c b)
+receives_part c (part.Header h) b = receives_on (state_of c b) && front_waits h.class_id (expected_on c b.contents)
+receives_part c (part.Body bytes) b = receives_on (state_of c b) && front_takes bytes (expected_on c b.contents)
+
+-- the content that it makes whole, if it does
+abbrev pub whole_in : Result (Option Whole) Error → Option Whole
+whole_in (Ok w) = w
+whole_in (Err e) = None
+
+abbrev pub whole_by : ContentPart → List Expected → Option Whole
+whole_by (part.Header h) es = whole_in (heard_header h es)
+whole_by (part.Body bytes) es = whole_in (heard_body bytes es)
+whole_by _ es = None
+
+abbrev pub whole_on : ℕ → ContentPart → Wire → Option Whole
+whole_on c p b = whole_by p (expected_on c b.contents)
+
+-- ---- a whole content: the message of a get is given the next acker, and answers the get's ticket; one that was returned is known to
+-- the confirms
+
+-- what began it was a get
+abbrev pub for_get : Start → Bool
+for_get (start.Get ticket tag exchange key redelivered count) = true
+for_get _ = false
+
+abbrev pub takes_acker : Option Whole → Bool
+takes_acker None = false
+takes_acker (Some w) = for_get w.start
+
+-- how many ackers were given then
+abbrev pub ackers_after : Option Whole → ℕ → ℕ
+ackers_after w n = if takes_acker w then n + 1 else n
+
+-- the message of a get on the channel, with the acker of number n
+abbrev pub got_message : ℕ → ℕ → ℕ → List ℕ → List ℕ → Bool → ℕ → Whole → BasicGetMessage
+got_message c n tag exchange key redelivered count w = record {
+  delivery = record {
+    delivery_tag = tag;
+    exchange = exchange;
+    routing_key = key;
+    redelivered = redelivered;
+    properties = w.properties;
+    payload = w.payload;
+    acker = record { channel_id = c; delivery_tag = tag; number = n; used = false };
+  };
+  message_count = count;
+}
+
+-- a returned message: its delivery has no tag, and nothing acknowledges it
+abbrev pub returned_delivery : List ℕ → List ℕ → Properties → List ℕ → Delivery
+returned_delivery exchange key properties payload = record {
+  delivery_tag = 0;
+  exchange = exchange;
+  routing_key = key;
+  redelivered = false;
+  properties = properties;
+  payload = payload;
+  acker = record { channel_id = 0; delivery_tag = 0; number = 0; used = true };
+}
+
+abbrev pub returned_message : ℕ → List ℕ → List ℕ → List ℕ → Whole → BasicReturnMessage
+returned_message code text exchange key w = record { delivery = returned_delivery exchange key w.properties w.payload; reply_code = code; reply_text = text }
+
+-- what a whole content does to confirms
+abbrev pub start_marks : ℕ → Start → Whole → List ConfirmMark
+start_marks c (start.Return code text exchange key) w = confirm.Arrived c (returned_message code text exchange key w) ∷ []
+start_marks c _ w = []
+
+abbrev pub whole_marks : ℕ → Option Whole → List ConfirmMark
+whole_marks c None = []
+whole_marks c (Some w) = start_marks c w.start w
+
+-- and to tickets, where n ackers were given before
+abbrev pub start_tickets : ℕ → ℕ → Start → Whole → List TicketMark
+start_tickets c n (start.Get ticket tag exchange key redelivered count) w = resolved_with (Ok (answer.Got (Some (got_message c (n + 1) tag exchange key redelivered count w)))) ticket
+start_tickets c n _ w = []
+
+abbrev pub whole_tickets : ℕ → ℕ → Option Whole → List TicketMark
+whole_tickets c n None = []
+whole_tickets c n (Some w) = start_tickets c n w.start w
+
+-- ---- what it leaves, and what it does to confirms and tickets
+
+abbrev pub after_part : ℕ → ContentPart → Wire → Wire
+after_part c (part.GetOk s) b = after_get_ok c s b
+after_part c (part.Return s) b = expecting c s b
+after_part c (part.Header h) b = record b { contents = after_mark b.contents (mark.Header c h); ackers = ackers_after (whole_on c (part.Header h) b) b.ackers }
+after_part c (part.Body bytes) b = record b { contents = after_mark b.contents (mark.Body c bytes); ackers = ackers_after (whole_on c (part.Body bytes) b) b.ackers }
+
+abbrev pub part_marks : ℕ → ContentPart → Wire → List ConfirmMark
+part_marks c p b = whole_marks c (whole_on c p b)
+
+abbrev pub part_tickets : ℕ → ContentPart → Wire → List TicketMark
+part_tickets c p b = whole_tickets c b.ackers (whole_on c p b)

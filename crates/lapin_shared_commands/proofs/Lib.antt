@@ -1,0 +1,6 @@
+pub mod Captured
+pub mod Counts
+pub mod Dealing
+pub mod Finishing
+pub mod Places
+pub mod Shares

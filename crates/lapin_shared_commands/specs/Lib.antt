@@ -1,0 +1,4 @@
+pub mod Dealt
+pub mod Outcome
+pub mod Printed
+pub mod Words

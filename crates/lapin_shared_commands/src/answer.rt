@@ -1,0 +1,79 @@
+//! What follows once the input was read: it is parsed and run, the history is kept, and its text is written.
+ghost use Rattle.std.specs.Prelude.{◌≡◌, ◌≤◌, ◌⊎◌, None, IfOk};
+ghost use Rattle.lapin_io.specs.Numbers.{Rose};
+ghost use Rattle.lapin_commands.specs.Outcome.{IsAnswer};
+ghost use Rattle.lapin_shared_commands.specs.Outcome.{IsRun, WroteAll, WroteSome, WroteToBadLine};
+
+use crate::printing::print_run;
+use crate::running::shared_history;
+use lapin_commands::{Status, write_all};
+use lapin_io::{Sink, SinkError};
+use lapin_shared::{Gate, History};
+use lapin_text::{Parsed, parse_events};
+use lapin_types::NoMemory;
+use std::alloc::Global;
+use std::marker::Brand;
+use std::sync::Wait;
+use std::sync::ledger::Blank;
+use std::thread::Threads;
+
+/// Runs the input that was read, keeps its history, and writes its text.
+pub fn answer<G: Gate, K: Sink, R: Threads + Wait + Sync>(
+    rt: &R,
+    alloc: Global,
+    callers: usize,
+    gate: &G,
+    input: &[u8],
+    sink: &mut K,
+    kept: &mut Option<History>,
+) -> Status
+    requires some { 1 ≤ callers }
+    requires none { kept.old ≡ None }
+    ensures statuses { IsAnswer result }
+    ensures fine { result ≡ Status.Fine → WroteAll callers kept.new (K.written sink.old) (K.written sink.new) input.now }
+    ensures bad_line { result ≡ Status.BadLine → WroteToBadLine callers kept.new (K.written sink.old) (K.written sink.new) input.now }
+    ensures fault { result ≡ Status.WriteFault → Rose (K.faults sink.old) (K.faults sink.new) }
+    ensures cut_short { result ≡ Status.WriteFault → WroteSome callers kept.new (K.written sink.old) (K.written sink.new) input.now }
+    ensures no_memory { result ≡ Status.NoMemory → ((sink.new ≡ sink.old) × (kept.new ≡ None))
+        ⊎ WroteSome callers kept.new (K.written sink.old) (K.written sink.new) input.now }
+{
+    let Ok((history, bad)) = run_input(rt, alloc, callers, gate, input) else {
+        return Status::NoMemory;
+    };
+    let Ok(text) = print_run(alloc, &history, bad) else {
+        return Status::NoMemory;
+    };
+    *kept = history;
+    match (write_all(sink, &text), bad) {
+        (Ok(()), None) => Status::Fine,
+        (Ok(()), Some(_)) => Status::BadLine,
+        (Err(SinkError::Failed), _) => Status::WriteFault,
+        (Err(SinkError::NoMemory), _) => Status::NoMemory,
+    }
+}
+
+/// The history of the input's events up to the first bad line, and that line's number. There is none where the first line is bad.
+fn run_input<G: Gate, R: Threads + Wait + Sync>(
+    rt: &R,
+    alloc: Global,
+    callers: usize,
+    gate: &G,
+    input: &[u8],
+) -> Result<(Option<History>, Option<u64>), NoMemory>
+    requires { 1 ≤ callers }
+    ensures { IfOk result (λ run. IsRun callers input.now run.0 run.1) }
+{
+    let Parsed {
+        frame_max,
+        events,
+        bad,
+    } = parse_events(alloc, input)?;
+    let Some(frame_max) = frame_max else {
+        return Ok((None, bad));
+    };
+    let blank = Blank::new(callers as u64);
+    let history = shared_history::<Brand, _, _>(
+        rt, alloc, gate, frame_max, callers, &events, blank,
+    )?;
+    Ok((Some(history), bad))
+}
