@@ -1,0 +1,127 @@
+//! Callers without the command: one that waits for another's frame, many that make many steps, and one that isn't given back.
+
+ghost use Rattle.std.specs.Prelude.{◌≡◌};
+
+use lapin_shared::{Caller, Client, Crew, FinishError, History};
+use lapin_threads::each_mut;
+use lapin_types::{Answer, ChannelMethod, Event, Frame, Method, Record};
+use std::alloc::Global;
+use std::marker::Brand;
+use std::process::Abort;
+use std::sync::Wait;
+use std::sync::ledger::Blank;
+use std::test::Fail;
+use std::thread::Threads;
+
+fn missing<L: Crew, R: Wait + Abort>(rt: &R, alloc: Global, blank: Blank) -> Result<(), Fail>
+    requires name { blank.name ≡ L.name }
+    requires parts { (blank.parts ≡ 2) × (blank.parts ≡ L.parts) }
+{
+    let (client, mut callers) = Client::<L>::new(alloc, 4096, 2, blank).map_err(|_| "memory")?;
+    let first = callers.pop();
+    match client.finish(rt, alloc, &mut callers) {
+        Ok(_) => assert!(rt; false),
+        Err(error) => assert_eq!(rt; error, FinishError::StillOut { made: 2, given: 1 }),
+    }
+    assert_eq!(rt; callers.len(), 1);
+    drop(first);
+    Ok(())
+}
+
+#[test]
+fn all_callers_have_to_come_back(rt: HostRuntime) -> Result<(), Fail> {
+    missing::<Brand, _>(&rt, rt.alloc(), Blank::new(2))
+}
+
+// Caller 1 waits for ticket 1, caller 2 hands in the frame that answers it.
+fn wait_or_receive<L: Crew, R: Wait>(rt: &R, alloc: Global, caller: &mut Caller<L>) -> bool {
+    if caller.number() == 1 {
+        return caller.wait(rt, alloc, 1).is_ok();
+    }
+    let reply = Frame::Method(1, Method::Channel(ChannelMethod::OpenOk));
+    caller.make(rt, alloc, Event::Receive(reply)).is_ok()
+}
+
+fn waiting<L: Crew + Send + Sync, R: Threads + Wait + Abort + Sync>(
+    rt: &R,
+    alloc: Global,
+    blank: Blank,
+) -> Result<(), Fail>
+    requires name { blank.name ≡ L.name }
+    requires parts { (blank.parts ≡ 2) × (blank.parts ≡ L.parts) }
+{
+    let (client, mut callers) = Client::<L>::new(alloc, 4096, 2, blank).map_err(|_| "memory")?;
+    callers[0].open_channel(rt, alloc, 1).map_err(|_| "memory")?;
+    callers[0]
+        .next_frame(rt, alloc, true)
+        .map_err(|_| "memory")?;
+    let job = |caller: &mut Caller<L>| wait_or_receive(rt, alloc, caller);
+    assert!(rt; each_mut(rt, &job, callers.as_mut_slice()));
+    let told = callers[0].log().last().ok_or("an entry")?;
+    assert!(rt; matches!(&told.answer, Some(Record::Answer(Ok(Answer::Channel(1))))));
+    let history = client
+        .finish(rt, alloc, &mut callers)
+        .map_err(|_| "memory")?;
+    assert_eq!(rt; history.len(), 4);
+    let third = history.at(3).ok_or("an entry")?;
+    assert_eq!(rt; third.caller, 2);
+    Ok(())
+}
+
+#[test]
+fn a_wait_ends_with_the_frame_of_another(rt: HostRuntime) -> Result<(), Fail> {
+    waiting::<Brand, _>(&rt, rt.alloc(), Blank::new(2))
+}
+
+// A thousand steps, whose place in the log is that in the caller's own order.
+fn make_many<L: Crew, R: Wait>(rt: &R, alloc: Global, caller: &mut Caller<L>) -> bool {
+    for k in 0..1_000 {
+        if caller.make(rt, alloc, Event::State(k)).is_err() {
+            return false;
+        }
+    }
+    true
+}
+
+// Whether the caller's entries of the history ask for the channels 0, 1, 2, .. in this order.
+fn are_in_order(history: &History, caller: u64) -> bool {
+    let mut next: u16 = 0;
+    for place in 0..history.len() as u64 {
+        let Some(entry) = history.at(place + 1) else {
+            return false;
+        };
+        if entry.caller == caller {
+            if !matches!(entry.event, Event::State(channel) if channel == next) {
+                return false;
+            }
+            next = next.saturating_add(1);
+        }
+    }
+    next == 1_000
+}
+
+fn many<L: Crew + Send + Sync, R: Threads + Wait + Abort + Sync>(
+    rt: &R,
+    alloc: Global,
+    blank: Blank,
+) -> Result<(), Fail>
+    requires name { blank.name ≡ L.name }
+    requires parts { (blank.parts ≡ 4) × (blank.parts ≡ L.parts) }
+{
+    let (client, mut callers) = Client::<L>::new(alloc, 4096, 4, blank).map_err(|_| "memory")?;
+    let job = |caller: &mut Caller<L>| make_many(rt, alloc, caller);
+    assert!(rt; each_mut(rt, &job, callers.as_mut_slice()));
+    let history = client
+        .finish(rt, alloc, &mut callers)
+        .map_err(|_| "memory")?;
+    assert_eq!(rt; history.len(), 4_000);
+    for caller in 1..5 {
+        assert!(rt; are_in_order(&history, caller));
+    }
+    Ok(())
+}
+
+#[test]
+fn four_callers_make_a_thousand_steps_each(rt: HostRuntime) -> Result<(), Fail> {
+    many::<Brand, _>(&rt, rt.alloc(), Blank::new(4))
+}

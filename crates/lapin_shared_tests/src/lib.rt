@@ -1,0 +1,13 @@
+//! The tests of the command `shared N` and of callers on threads of their own.
+//!
+//! Expected values come from the rules, never from a run. What two threads do in which order is settled by a gate, or doesn't matter.
+#![tactic(auto)]
+
+#[cfg(test)]
+mod callers;
+#[cfg(test)]
+mod command;
+#[cfg(test)]
+mod driver;
+#[cfg(test)]
+mod meeting;
