@@ -164,8 +164,8 @@ impl Switches {
         }
     }
 
-    // How many ackers were given.
-    fn count(&self) -> u64
+    /// How many ackers were given.
+    pub fn count(&self) -> u64
         ensures { result ≡ length self.now.switches }
     {
         self.let_go + self.cells.len() as u64

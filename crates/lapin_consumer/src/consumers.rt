@@ -354,6 +354,16 @@ impl Consumers {
         self.hall.let_go(consumer)
     }
 
+    /// What `close` would answer: whether a consumer is active and registered. It changes nothing.
+    ///
+    /// # Errors
+    /// `UnknownTicket` exactly where the number was never given.
+    pub fn would_close(&self, consumer: u64) -> Result<bool, Error>
+        ensures { result ≡ let_go_answer (consumer_at consumer self.now.roster) }
+    {
+        self.hall.would_let_go(consumer)
+    }
+
     /// The tag under which a consumer was registered; `None` exactly where the number was never given.
     pub fn tag(&self, consumer: u64) -> Option<&ShortString>
         ensures { option_copied result ≡ option_map (λ x. x.tag) (consumer_at consumer self.now.roster) }

@@ -271,6 +271,16 @@ impl Hall {
         Ok(cancel_if_idle(&mut self.seats[place]))
     }
 
+    /// What `let_go` would answer.
+    pub(crate) fn would_let_go(&self, consumer: u64) -> Result<bool, Error>
+        ensures { result ≡ let_go_answer (consumer_at consumer self.now.roster) }
+    {
+        match self.place(consumer) {
+            Some(place) => Ok(self.seats[place].is_idle()),
+            None => Err(Error::UnknownTicket),
+        }
+    }
+
     pub(crate) fn channel(&self, consumer: u64) -> Option<u16>
         ensures { result ≡ option_map (λ x. x.channel) (consumer_at consumer self.now.roster) }
     {

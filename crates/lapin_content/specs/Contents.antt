@@ -31,6 +31,11 @@ abbrev pub for_ticket : Option ℕ → Start → Start
 for_ticket t (start.Get ticket tag exchange key redelivered count) = start.Get t tag exchange key redelivered count
 for_ticket t s = s
 
+-- what began a delivery, for this consumer
+abbrev pub for_consumer : Option ℕ → Start → Start
+for_consumer k (start.Deliver consumer tag exchange key redelivered) = start.Deliver k tag exchange key redelivered
+for_consumer k s = s
+
 -- ---- what a content waits for
 
 abbrev pub is_unbegun : Option Begun → Bool

@@ -1,7 +1,7 @@
 //! What begins a content, and a whole one. How a content is put together stands in the files beside.
 
 ghost use Rattle.std.specs.Prelude.{◌≡◌};
-ghost use Rattle.lapin_content.specs.Contents.{for_ticket};
+ghost use Rattle.lapin_content.specs.Contents.{for_ticket, for_consumer};
 
 use lapin_types::{BasicProperties, Payload, ShortString};
 
@@ -69,6 +69,28 @@ impl Start {
                 routing_key,
                 redelivered,
                 message_count,
+            },
+            start => start,
+        }
+    }
+
+    /// What began a delivery's content, for this consumer; any other start as it is.
+    pub fn for_consumer(self, consumer: Option<u64>) -> Start
+        ensures { result ≡ for_consumer consumer self }
+    {
+        match self {
+            Start::Deliver {
+                consumer: _consumer,
+                delivery_tag,
+                exchange,
+                routing_key,
+                redelivered,
+            } => Start::Deliver {
+                consumer,
+                delivery_tag,
+                exchange,
+                routing_key,
+                redelivered,
             },
             start => start,
         }

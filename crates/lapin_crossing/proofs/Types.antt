@@ -20,6 +20,8 @@ use Rattle.lapin_types.specs.contracts.message.BasicGetMessage as got_
 use Rattle.lapin_types.specs.contracts.confirmation.Confirmation as confirmation_
 use Rattle.lapin_types.specs.contracts.answer.Answer as answer_
 use Rattle.lapin_types.specs.contracts.event.Event as event_
+use Rattle.lapin_types.specs.contracts.job.JobKind as kind_
+use Rattle.lapin_types.specs.contracts.job.Job as job_
 use Rattle.lapin_types.specs.contracts.record.Record as record_
 use Rattle.lapin_types.specs.contracts.leaving.Left as left_
 use Rattle.lapin_types.specs.contracts.leaving.Publish as publish_
@@ -83,6 +85,9 @@ call_field_sync = search (table_sync, properties_sync, text.the_sync, payload.th
 pub delivery_field_send : IsSend (delivery_.the_field).row
 delivery_field_send = search (properties_send, text.the_send, payload.the_send, crosses, sendable) depth 400 fits 200000
 
+pub delivery_send : IsSend delivery_.the_row
+delivery_send = recorded_send (delivery_.the_field).row _ _ (delivery_.the_type).to_one delivery_field_send
+
 pub returned_field_send : IsSend (returned_.the_field).row
 returned_field_send = search (delivery_field_send, text.the_send, crosses, sendable) depth 400 fits 200000
 
@@ -110,6 +115,15 @@ answer_field_send = search (got_send, text.the_send, crosses, sendable) depth 40
 pub answer_send : IsSend answer_.the_row
 answer_send = recorded_send (answer_.the_field).row _ _ (answer_.the_type).to_one answer_field_send
 
+pub kind_field_send : IsSend (kind_.the_field).row
+kind_field_send = search (delivery_send, crosses, sendable) depth 400 fits 200000
+
+pub job_field_send : IsSend (job_.the_field).row
+job_field_send = search (kind_field_send, crosses, sendable) depth 400 fits 200000
+
+pub job_send : IsSend job_.the_row
+job_send = recorded_send (job_.the_field).row _ _ (job_.the_type).to_one job_field_send
+
 pub event_field_send : IsSend (event_.the_field).row
 event_field_send = search (call_field_send, frame_field_send, crosses, sendable) depth 400 fits 200000
 
@@ -123,7 +137,7 @@ pub event_sync : IsSync event_.the_row
 event_sync = recorded_sync (event_.the_field).row _ _ (event_.the_type).to_one event_field_sync
 
 pub record_field_send : IsSend (record_.the_field).row
-record_field_send = search (frame_field_send, answer_send, confirmation_send, list_send, crosses, sendable) depth 400 fits 200000
+record_field_send = search (frame_field_send, answer_send, confirmation_send, delivery_send, job_field_send, list_send, crosses, sendable) depth 400 fits 200000
 
 pub record_send : IsSend record_.the_row
 record_send = recorded_send (record_.the_field).row _ _ (record_.the_type).to_one record_field_send

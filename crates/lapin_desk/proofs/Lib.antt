@@ -2,3 +2,4 @@ pub mod Queueing
 pub mod Waiting
 pub mod Dropped
 pub mod Ends
+pub mod Cancels

@@ -7,18 +7,21 @@ ghost use Rattle.std.specs.Prelude.{◌≡◌, ◌+◌, ◌^◌, ◌<◌, Some, 
 ghost use Rattle.std.specs.List.{fold};
 ghost use Rattle.lapin_outbox.specs.Outgoing.{with_method, with_lists};
 ghost use Rattle.lapin_outbox.specs.Poison.{poison_on};
+ghost use Rattle.lapin_outbox.specs.Open.{spare_on};
 ghost use Rattle.lapin_history.specs.Wire.{requests_with};
 ghost use Rattle.lapin_history.specs.TicketReadings as mark;
 ghost use Rattle.lapin_history.specs.Asking.{made_marks};
-ghost use Rattle.lapin_history.specs.Requests.{resolved_with};
+ghost use Rattle.lapin_history.specs.declared.marks.AtLeaving.TheVariants as leaving;
+ghost use Rattle.lapin_history.specs.Calls.{awaited_by, made_by, leaving_by};
+ghost use Rattle.lapin_history.specs.Requests.{with_request, resolved_with};
 ghost use Rattle.lapin_history.specs.Handing.{left_tickets, begun_ticket, last_ticket};
 ghost use Rattle.lapin_ticket.specs.Slots.{after_mark};
 ghost use Rattle.lapin_desk.specs.Rooms.{HasRoom, SameDesk};
 
-use lapin_history::Row;
+use lapin_history::{Answered, AtLeaving, Row};
 use lapin_outbox::{Outbox, Replies};
 use lapin_ticket::Tickets;
-use lapin_types::{Answer, Error, Left, Method, NoMemory, Request};
+use lapin_types::{Answer, Error, Left, Method, NoMemory, Reply, Request};
 use std::alloc::Global;
 
 /// Frames that wait, open requests and tickets. Nobody poisons the outbox of a desk: what is queued is queued.
@@ -49,31 +52,87 @@ impl Desk {
         requires unpoisoned { poison_on channel self.old.outbox.what ≡ None }
         ensures ticket { result ≡ length self.old.tickets.slots + 1 }
         ensures outbox { self.new.outbox.what ≡ with_lists (with_method (record { channel = channel; method = row.method; ticket = Some (length self.old.tickets.slots + 1) }) self.old.outbox.what.lists) self.old.outbox.what }
-        ensures requests { self.new.replies.what ≡ requests_with channel (length self.old.tickets.slots + 1) row.awaits self.old.replies.what }
-        ensures slots { self.new.tickets.slots ≡ fold after_mark (after_mark self.old.tickets.slots (mark.Given channel row.at_leaving)) (made_marks (length self.old.tickets.slots + 1) row.made) }
+        ensures requests { self.new.replies.what ≡ requests_with channel (length self.old.tickets.slots + 1) (awaited_by row.answered) self.old.replies.what }
+        ensures slots { self.new.tickets.slots ≡ fold after_mark (after_mark self.old.tickets.slots (mark.Given channel (leaving_by row.answered))) (made_marks (length self.old.tickets.slots + 1) (made_by row.answered)) }
     {
-        let Row {
-            method,
-            awaits,
-            made,
-            at_leaving,
-        } = row;
+        let Row { method, answered } = row;
+        let ticket = self.queue_method(alloc, channel, method, at_leaving(&answered));
+        self.begin_answer(alloc, channel, ticket, answered);
+        ticket
+    }
+
+    /// Queues the method of a call that has its answer already, under the next ticket, and answers the ticket.
+    pub fn queue_answered(
+        &mut self,
+        alloc: Global,
+        channel: u16,
+        method: Method,
+        answer: Answer,
+    ) -> u64
+        requires room { HasRoom channel self.old }
+        requires numbers { length self.old.tickets.slots + 1 < 2 ^ 64 }
+        requires unpoisoned { poison_on channel self.old.outbox.what ≡ None }
+        ensures ticket { result ≡ length self.old.tickets.slots + 1 }
+        ensures outbox { self.new.outbox.what ≡ with_lists (with_method (record { channel = channel; method = method; ticket = Some (length self.old.tickets.slots + 1) }) self.old.outbox.what.lists) self.old.outbox.what }
+        ensures requests { self.new.replies.what ≡ self.old.replies.what }
+        ensures slots { self.new.tickets.slots ≡ fold after_mark (after_mark self.old.tickets.slots (mark.Given channel leaving.Nothing)) (made_marks (length self.old.tickets.slots + 1) (Some answer)) }
+    {
+        let ticket = self.queue_method(alloc, channel, method, AtLeaving::Nothing);
+        self.tickets.answer(ticket, Ok(answer));
+        ticket
+    }
+
+    // Queues the method of a call under the next ticket.
+    fn queue_method(
+        &mut self,
+        alloc: Global,
+        channel: u16,
+        method: Method,
+        at_leaving: AtLeaving,
+    ) -> u64
+        requires room { HasRoom channel self.old }
+        requires numbers { length self.old.tickets.slots + 1 < 2 ^ 64 }
+        requires unpoisoned { poison_on channel self.old.outbox.what ≡ None }
+        ensures ticket { result ≡ length self.old.tickets.slots + 1 }
+        ensures outbox { self.new.outbox.what ≡ with_lists (with_method (record { channel = channel; method = method; ticket = Some (length self.old.tickets.slots + 1) }) self.old.outbox.what.lists) self.old.outbox.what }
+        ensures replies { self.new.replies ≡ self.old.replies }
+        ensures slots { self.new.tickets.slots ≡ after_mark self.old.tickets.slots (mark.Given channel at_leaving) }
+    {
         let ticket = self.tickets.give(channel, at_leaving);
         let _queued = self
             .outbox
             .push_method(alloc, channel, method, Some(ticket))
             .unwrap();
-        if let Some(reply) = awaits {
-            let request = Request {
-                ticket: Some(ticket),
-                reply,
-            };
-            self.replies.expect(alloc, channel, request).unwrap();
-        }
-        if let Some(answer) = made {
-            self.tickets.answer(ticket, Ok(answer));
-        }
         ticket
+    }
+
+    // What a call that was queued does for the answer of its ticket: it opens the request of a reply that it awaits, or makes
+    // the answer itself.
+    fn begin_answer(&mut self, alloc: Global, channel: u16, ticket: u64, answered: Answered)
+        requires room { 0 < spare_on channel self.old.replies }
+        ensures requests { self.new.replies.what ≡ requests_with channel ticket (awaited_by answered) self.old.replies.what }
+        ensures slots { self.new.tickets.slots ≡ fold after_mark self.old.tickets.slots (made_marks ticket (made_by answered)) }
+        ensures outbox { self.new.outbox ≡ self.old.outbox }
+    {
+        match answered {
+            Answered::ByReply(reply) => self.open_request(alloc, channel, Some(ticket), reply),
+            Answered::AtOnce(reply, answer) => {
+                drop(reply);
+                self.tickets.answer(ticket, Ok(answer));
+            }
+            Answered::AsItLeaves(_) => (),
+        }
+    }
+
+    // Opens a request on a channel, in the room that was made.
+    fn open_request(&mut self, alloc: Global, channel: u16, ticket: Option<u64>, reply: Reply)
+        requires room { 0 < spare_on channel self.old.replies }
+        ensures requests { self.new.replies.what ≡ with_request channel (record { ticket = ticket; reply = reply }) self.old.replies.what }
+        ensures outbox { self.new.outbox ≡ self.old.outbox }
+        ensures tickets { self.new.tickets ≡ self.old.tickets }
+    {
+        let request = Request { ticket, reply };
+        self.replies.expect(alloc, channel, request).unwrap();
     }
 
     /// Queues a method that no call asked for, in the room that was made.
@@ -88,6 +147,19 @@ impl Desk {
             .outbox
             .push_method(alloc, channel, method, None)
             .unwrap();
+    }
+
+    /// Queues a method and opens the request of the reply that it awaits, for which nobody holds a ticket, in the room that was
+    /// made: a consumer is let go.
+    pub fn queue_unheld(&mut self, alloc: Global, channel: u16, method: Method, reply: Reply)
+        requires room { HasRoom channel self.old }
+        requires unpoisoned { poison_on channel self.old.outbox.what ≡ None }
+        ensures outbox { self.new.outbox.what ≡ with_lists (with_method (record { channel = channel; method = method; ticket = None }) self.old.outbox.what.lists) self.old.outbox.what }
+        ensures requests { self.new.replies.what ≡ with_request channel (record { ticket = None; reply = reply }) self.old.replies.what }
+        ensures tickets { self.new.tickets ≡ self.old.tickets }
+    {
+        self.queue_own(alloc, channel, method);
+        self.open_request(alloc, channel, None, reply);
     }
 
     /// Resolves a ticket, if somebody holds it.
@@ -112,6 +184,16 @@ impl Desk {
     {
         first_left(&mut self.tickets, left);
         last_left(&mut self.tickets, left);
+    }
+}
+
+// The answer that the leaving of its last frame gives a call.
+fn at_leaving(answered: &Answered) -> AtLeaving
+    ensures { result ≡ leaving_by answered.now }
+{
+    match answered {
+        Answered::AsItLeaves(at_leaving) => *at_leaving,
+        _ => AtLeaving::Nothing,
     }
 }
 

@@ -3,7 +3,7 @@
 //! Each is done whole, in the room that was made before, and takes no memory. The session calls these once it knows that a
 //! close or an end has come.
 
-ghost use Rattle.std.specs.Prelude.{◌≡◌, ◌≤◌, false, None};
+ghost use Rattle.std.specs.Prelude.{◌≡◌, ◌≤◌, ◌++◌, ◌∷◌, [], false, None};
 ghost use Rattle.std.specs.List.{fold};
 ghost use Rattle.lapin_tables.specs.ByChannel.{on_channel};
 ghost use Rattle.lapin_history.specs.Requests.{no_requests};
@@ -11,20 +11,21 @@ ghost use Rattle.lapin_history.specs.Drops.{no_lists, without_publishes_of, with
 ghost use Rattle.lapin_outbox.specs.Outgoing.{with_lists};
 ghost use Rattle.lapin_outbox.specs.Returned.{is_returned_on};
 ghost use Rattle.lapin_outbox.specs.Open.{KeepsRoom};
-ghost use Rattle.lapin_history.specs.Ends.{ends, live_channels};
+ghost use Rattle.lapin_history.specs.Ends.{ends, live_channels, cancels_in, cancels_at, cancels_on};
 ghost use Rattle.lapin_history.specs.TicketReadings as mark;
 ghost use Rattle.lapin_ticket.specs.Slots as desk;
 ghost use Rattle.lapin_history.specs.ConfirmMarks as confirm;
 ghost use Rattle.lapin_confirm.specs.Machine as post;
 ghost use Rattle.lapin_desk.specs.Live.{live_at};
-ghost use Rattle.lapin_desk.specs.Ended.{ended_outbox, emptied_outbox, same_but_lists};
+ghost use Rattle.lapin_desk.specs.Ended.{ended_outbox, emptied_outbox, same_but_lists, KeepsOtherRequests};
 ghost use Rattle.lapin_desk.specs.Queued.{AreQueued, MayReject, rejected_told};
 
 use crate::desk::Desk;
 use lapin_confirm::Confirms;
+use lapin_history::is_kind;
 use lapin_outbox::Replies;
 use lapin_phases::Phases;
-use lapin_types::Error;
+use lapin_types::{Answer, Error, ReplyKind, Request};
 
 impl Desk {
     /// A close of this side: the publishes of a channel that have not begun are taken out, and their tickets and confirms fail
@@ -42,8 +43,8 @@ impl Desk {
         self.tickets.close(channel, error);
     }
 
-    /// An opening ends: nothing of its channel waits any more and none of its requests is open. Its open tickets, but for one
-    /// that is kept, and the confirms that are unresolved fail with the error.
+    /// An opening ends: nothing of its channel waits any more and none of its requests is open. A `basic.cancel` that was open is
+    /// done. The other open tickets, but for one that is kept, and the confirms that are unresolved fail with the error.
     pub fn end_opening(
         &mut self,
         confirms: &mut Confirms,
@@ -54,19 +55,20 @@ impl Desk {
         requires queued { AreQueued confirms.old.what.book.cells self.old.outbox.what.lists.publishes }
         ensures outbox { self.new.outbox.what ≡ ended_outbox channel self.old.outbox.what }
         ensures requests { self.new.replies.what ≡ on_channel channel no_requests self.old.replies.what }
-        ensures slots { self.new.tickets.slots ≡ desk.after_mark self.old.tickets.slots (mark.OpeningFailed channel spared error) }
+        ensures slots { self.new.tickets.slots ≡ fold desk.after_mark self.old.tickets.slots (cancels_at channel self.old.replies.what ++ mark.OpeningFailed channel spared error ∷ []) }
         ensures confirms { confirms.new.what ≡ post.after_mark confirms.old.what (confirm.Ended channel error) }
         ensures queued { AreQueued confirms.new.what.book.cells self.new.outbox.what.lists.publishes }
         ensures room { (self.old.outbox.spare ≤ self.new.outbox.spare) × KeepsRoom self.old.replies self.new.replies × (self.new.tickets.ready ≡ self.old.tickets.ready) }
     {
         self.end_publishes(confirms, channel, error);
         self.drop_entries(channel);
-        self.drop_requests(channel);
+        self.end_requests(channel);
         self.tickets.end(channel, spared, error);
     }
 
-    /// The connection leaves the open state, or is lost: every live opening ends, nothing waits any more, and every open ticket
-    /// fails with the error. `replies` is what is open from now on.
+    /// The connection leaves the open state, or is lost: every live opening ends, in rising number of its channel, and nothing
+    /// waits any more. A `basic.cancel` that was open on one is done, and every other open ticket fails with the error. `replies`
+    /// is what is open from now on.
     pub fn end_all(
         &mut self,
         confirms: &mut Confirms,
@@ -77,7 +79,7 @@ impl Desk {
         requires queued { AreQueued confirms.old.what.book.cells self.old.outbox.what.lists.publishes }
         ensures outbox { self.new.outbox.what ≡ emptied_outbox self.old.outbox.what }
         ensures requests { self.new.replies ≡ replies }
-        ensures slots { self.new.tickets.slots ≡ desk.after_mark self.old.tickets.slots (mark.AllFailed error) }
+        ensures slots { self.new.tickets.slots ≡ fold desk.after_mark self.old.tickets.slots (cancels_on (live_channels phases.now.entries) self.old.replies.what ++ mark.AllFailed error ∷ []) }
         ensures confirms { confirms.new.what ≡ fold post.after_mark confirms.old.what (ends error (live_channels phases.now.entries)) }
         ensures room { (self.old.outbox.spare ≤ self.new.outbox.spare) × (self.new.tickets.ready ≡ self.old.tickets.ready) }
     {
@@ -142,25 +144,38 @@ impl Desk {
         }
     }
 
-    // Takes out every request of a channel.
-    fn drop_requests(&mut self, channel: u16)
+    // Takes out every request of a channel. A `basic.cancel` among them is done.
+    fn end_requests(&mut self, channel: u16)
         ensures requests { self.new.replies.what ≡ on_channel channel no_requests self.old.replies.what }
+        ensures slots { self.new.tickets.slots ≡ fold desk.after_mark self.old.tickets.slots (cancels_at channel self.old.replies.what) }
         ensures outbox { self.new.outbox ≡ self.old.outbox }
-        ensures tickets { self.new.tickets ≡ self.old.tickets }
-        ensures room { KeepsRoom self.old.replies self.new.replies }
+        ensures room { KeepsRoom self.old.replies self.new.replies × (self.new.tickets.ready ≡ self.old.tickets.ready) }
     {
         while let Some(request) = self.replies.drain(channel) {
-            drop(request);
+            self.end_request(request);
         }
     }
 
-    // The publishes of every live opening end, in rising number of its channel. What else waits stays, for `end_all`.
+    // A request ends with the opening of its channel: a `basic.cancel` is done, since its consumer is gone.
+    fn end_request(&mut self, request: Request)
+        ensures slots { self.new.tickets.slots ≡ fold desk.after_mark self.old.tickets.slots (cancels_in (request ∷ [])) }
+        ensures outbox { self.new.outbox ≡ self.old.outbox }
+        ensures requests { self.new.replies ≡ self.old.replies }
+        ensures room { self.new.tickets.ready ≡ self.old.tickets.ready }
+    {
+        if is_kind(ReplyKind::BasicCancelOk, &request) {
+            self.resolve(request.ticket, Ok(Answer::Done));
+        }
+    }
+
+    // The publishes and the requests of every live opening end, in rising number of its channel. What else waits stays, for
+    // `end_all`.
     fn end_live(&mut self, confirms: &mut Confirms, phases: &Phases, error: Error)
         requires queued { AreQueued confirms.old.what.book.cells self.old.outbox.what.lists.publishes }
         ensures confirms { confirms.new.what ≡ fold post.after_mark confirms.old.what (ends error (live_channels phases.now.entries)) }
+        ensures slots { self.new.tickets.slots ≡ fold desk.after_mark self.old.tickets.slots (cancels_on (live_channels phases.now.entries) self.old.replies.what) }
         ensures rest { same_but_lists self.new.outbox.what ≡ same_but_lists self.old.outbox.what }
-        ensures tickets { self.new.tickets ≡ self.old.tickets }
-        ensures room { self.old.outbox.spare ≤ self.new.outbox.spare }
+        ensures room { (self.old.outbox.spare ≤ self.new.outbox.spare) × (self.new.tickets.ready ≡ self.old.tickets.ready) }
     {
         let reach = phases.reach();
         let mut number = 0;
@@ -170,19 +185,21 @@ impl Desk {
         }
     }
 
-    // The publishes of the opening of this channel end, if it has a live one.
+    // The publishes and the requests of the opening of this channel end, if it has a live one.
     fn end_live_at(&mut self, confirms: &mut Confirms, phases: &Phases, number: usize, error: Error)
         requires queued { AreQueued confirms.old.what.book.cells self.old.outbox.what.lists.publishes }
         ensures confirms { confirms.new.what ≡ fold post.after_mark confirms.old.what (ends error (live_at number phases.now.entries)) }
+        ensures slots { self.new.tickets.slots ≡ fold desk.after_mark self.old.tickets.slots (cancels_on (live_at number phases.now.entries) self.old.replies.what) }
         ensures queued { AreQueued confirms.new.what.book.cells self.new.outbox.what.lists.publishes }
+        ensures others { KeepsOtherRequests number self.old.replies.what self.new.replies.what }
         ensures rest { same_but_lists self.new.outbox.what ≡ same_but_lists self.old.outbox.what }
-        ensures tickets { self.new.tickets ≡ self.old.tickets }
-        ensures room { self.old.outbox.spare ≤ self.new.outbox.spare }
+        ensures room { (self.old.outbox.spare ≤ self.new.outbox.spare) × (self.new.tickets.ready ≡ self.old.tickets.ready) }
     {
         let Some(channel) = phases.live_at(number) else {
             return;
         };
         self.end_publishes(confirms, channel, error);
+        self.end_requests(channel);
     }
 
     /// Takes out all that waits, and a frame that was given back. Its tickets stay open.

@@ -2,9 +2,12 @@
 use Rattle.std.specs.Prelude.{ℕ, ◌+◌, Bool, if◌then◌else◌, List, [], ◌∷◌, ◌++◌, Option, Some, None, Ok}
 use Rattle.lapin_types.specs.declared.record.Record.{Record}
 use Rattle.lapin_types.specs.declared.answer.Answer.{Answer}
+use Rattle.lapin_types.specs.declared.answer.Answer.TheVariants as answer
 use Rattle.lapin_types.specs.Types.{ChannelState}
 use Rattle.lapin_types.specs.declared.record.Record.TheVariants as record_
 use Rattle.lapin_types.specs.Types.error
+use Rattle.lapin_inbox.specs.Marks.{InboxMark}
+use Rattle.lapin_inbox.specs.Marks as inbox
 use Rattle.lapin_history.specs.declared.marks.AtLeaving.{AtLeaving}
 use Rattle.lapin_history.specs.declared.marks.AtLeaving.TheVariants as leaving
 use Rattle.lapin_history.specs.declared.phases.Closer.TheVariants as closer
@@ -14,10 +17,13 @@ use Rattle.lapin_history.specs.ConfirmMarks.{ConfirmMark}
 use Rattle.lapin_history.specs.ConfirmMarks as mark
 use Rattle.lapin_history.specs.TicketReadings.{TicketMark}
 use Rattle.lapin_history.specs.TicketReadings as ticket
-use Rattle.lapin_history.specs.Wire.{Wire, state_of, is_closed, is_base, is_open, queued}
+use Rattle.lapin_history.specs.Wire.{Wire, state_of, is_closed, is_base, is_open, queued, with_inbox}
+use Rattle.lapin_history.specs.Calls.{awaited_by, made_by, leaving_by}
+use Rattle.lapin_history.specs.Consumers.{next_consumer}
+use Rattle.lapin_history.specs.Registry.{line_inbox}
 use Rattle.lapin_history.specs.Opening.{after_open_call, open_marks}
-use Rattle.lapin_history.specs.ChannelClose.{after_close_call, close_marks, close_tickets}
-use Rattle.lapin_history.specs.ConnectionClose.{after_connection_close_call, connection_close_call_marks, connection_close_call_tickets}
+use Rattle.lapin_history.specs.ChannelClose.{after_close_call, close_call_inbox, close_marks, close_tickets}
+use Rattle.lapin_history.specs.ConnectionClose.{after_connection_close_call, connection_close_call_inbox, connection_close_call_marks, connection_close_call_tickets}
 use Rattle.lapin_history.specs.Select.{queued_marks}
 
 -- `channel.open` is allowed on a closed channel, `connection.close` on channel 0 of an open connection, every other call on an
@@ -48,7 +54,8 @@ abbrev pub after_call : ℕ → Asked → Wire → Wire
 after_call c ask.Open b = after_open_call c b
 after_call c (ask.CloseChannel code text) b = after_close_call c code text b
 after_call c (ask.CloseConnection code text) b = after_connection_close_call c code text b
-after_call c (ask.Method row) b = queued c row.method row.awaits b
+after_call c (ask.Method row) b = queued c row.method (awaited_by row.answered) b
+after_call c (ask.Consume m tag queue o) b = queued c m None b
 after_call c (ask.Publish exchange key o payload properties) b = record b {
   publishes = b.publishes ++ record {
     confirm = b.published + 1;
@@ -65,8 +72,26 @@ after_call c (ask.Publish exchange key o payload properties) b = record b {
 }
 
 -- one that is not allowed changes nothing
+abbrev pub asked_wire : ℕ → Asked → Wire → Wire
+asked_wire c k b = if is_allowed k (state_of c b) then after_call c k b else b
+
+-- ---- consumers, and what is declared
+
+abbrev pub call_inbox : ℕ → Asked → Wire → List InboxMark
+call_inbox c ask.Open b = inbox.Opened c ∷ []
+call_inbox c (ask.CloseChannel code text) b = close_call_inbox c
+call_inbox c (ask.CloseConnection code text) b = connection_close_call_inbox b
+call_inbox c (ask.Consume m tag queue o) b = inbox.Consumed c tag queue ∷ []
+call_inbox c (ask.Method row) b = line_inbox c row.method row.answered
+call_inbox c _ b = []
+
+abbrev pub asking_inbox : ℕ → Asked → Wire → List InboxMark
+asking_inbox c k b = if is_allowed k (state_of c b) then call_inbox c k b else []
+
+-- ---- all that it leaves
+
 abbrev pub after_asking : ℕ → Asked → Wire → Wire
-after_asking c k b = if is_allowed k (state_of c b) then after_call c k b else b
+after_asking c k b = with_inbox (asking_inbox c k b) (asked_wire c k b)
 
 -- ---- confirms
 
@@ -76,6 +101,7 @@ call_marks c (ask.CloseChannel code text) b = close_marks c closer.Application
 call_marks c (ask.CloseConnection code text) b = connection_close_call_marks b
 call_marks c (ask.Publish exchange key o payload properties) b = mark.Added c ∷ []
 call_marks c (ask.Method row) b = queued_marks c row.method
+call_marks c (ask.Consume m tag queue o) b = []
 
 abbrev pub asking_marks : ℕ → Asked → Wire → List ConfirmMark
 asking_marks c k b = if is_allowed k (state_of c b) then call_marks c k b else []
@@ -83,21 +109,22 @@ asking_marks c k b = if is_allowed k (state_of c b) then call_marks c k b else [
 -- ---- tickets
 
 -- a close rejects or fails older tickets first
-abbrev pub closing_tickets : ℕ → Asked → List TicketMark
-closing_tickets c (ask.CloseChannel code text) = close_tickets c closer.Application
-closing_tickets c (ask.CloseConnection code text) = connection_close_call_tickets
-closing_tickets c _ = []
+abbrev pub closing_tickets : ℕ → Asked → Wire → List TicketMark
+closing_tickets c (ask.CloseChannel code text) b = close_tickets c closer.Application
+closing_tickets c (ask.CloseConnection code text) b = connection_close_call_tickets b
+closing_tickets c _ b = []
 
 -- the answer that the leaving of its last frame gives: of a publish, its confirm's number
 abbrev pub leaving_answer : Asked → Wire → AtLeaving
 leaving_answer (ask.Publish exchange key o payload properties) b = leaving.Confirm (b.published + 1)
-leaving_answer (ask.Method row) b = row.at_leaving
+leaving_answer (ask.Method row) b = leaving_by row.answered
 leaving_answer _ b = leaving.Nothing
 
 -- the answer that it makes itself: that of a call without wait
-abbrev pub made_answer : Asked → Option Answer
-made_answer (ask.Method row) = row.made
-made_answer _ = None
+abbrev pub made_answer : Asked → Wire → Option Answer
+made_answer (ask.Method row) b = made_by row.answered
+made_answer (ask.Consume m tag queue o) b = Some (answer.Consumer (next_consumer b.inbox))
+made_answer _ b = None
 
 abbrev pub made_marks : ℕ → Option Answer → List TicketMark
 made_marks n None = []
@@ -105,7 +132,7 @@ made_marks n (Some a) = ticket.Answered n (Ok a) ∷ []
 
 -- the next ticket is given, and answered where the call makes its answer itself
 abbrev pub call_tickets : ℕ → Asked → Wire → List TicketMark
-call_tickets c k b = closing_tickets c k ++ (ticket.Given c (leaving_answer k b) ∷ made_marks (b.tickets + 1) (made_answer k))
+call_tickets c k b = closing_tickets c k b ++ (ticket.Given c (leaving_answer k b) ∷ made_marks (b.tickets + 1) (made_answer k b))
 
 abbrev pub asking_tickets : ℕ → Asked → Wire → List TicketMark
 asking_tickets c k b = if is_allowed k (state_of c b) then call_tickets c k b else []

@@ -1,11 +1,12 @@
 -- The table of calls: what each call is to a session. A line a call says the method that it queues, and how its ticket is answered:
--- by a reply, by the call itself where it is made without wait, or as its frame leaves. Four calls do more, and are named.
-use Rattle.std.specs.Prelude.{Bool, true, false, if◌then◌else◌, Some, None}
+-- by a reply, by the call itself where it is made without wait, or as its frame leaves. Five calls do more, and are named: opens, closes,
+-- a publish, and a consume without wait.
+use Rattle.std.specs.Prelude.{ℕ, Bool, true, false, if◌then◌else◌, List, Option, Some, None}
 use Rattle.lapin_types.specs.ExchangeKinds.{kind_text}
 use Rattle.lapin_types.specs.declared.call.Call.{Call}
 use Rattle.lapin_types.specs.declared.answer.Answer.{Answer}
 use Rattle.lapin_types.specs.declared.request.Reply.{Reply}
-use Rattle.lapin_types.specs.Types.{Method}
+use Rattle.lapin_types.specs.Types.{Method, BasicConsumeOptions}
 use Rattle.lapin_types.specs.declared.call.Call.TheVariants as call
 use Rattle.lapin_types.specs.declared.answer.Answer.TheVariants as answer
 use Rattle.lapin_types.specs.declared.request.Reply.TheVariants as reply
@@ -17,25 +18,45 @@ use Rattle.lapin_types.specs.Types.queue
 use Rattle.lapin_types.specs.Types.basic
 use Rattle.lapin_types.specs.Types.confirm
 use Rattle.lapin_types.specs.Types.tx
+use Rattle.lapin_history.specs.declared.marks.AtLeaving.{AtLeaving}
 use Rattle.lapin_history.specs.declared.marks.AtLeaving.TheVariants as leaving
+use Rattle.lapin_history.specs.declared.calls.Answered.{Answered}
+use Rattle.lapin_history.specs.declared.calls.Answered.TheVariants as answered
 use Rattle.lapin_history.specs.declared.calls.Asked.{Asked}
 use Rattle.lapin_history.specs.declared.calls.Asked.TheVariants as ask
 
 -- a call that awaits this reply
 abbrev pub awaiting : Method → Reply → Asked
-awaiting m r = ask.Method (record { method = m; awaits = Some r; made = None; at_leaving = leaving.Nothing })
+awaiting m r = ask.Method (record { method = m; answered = answered.ByReply r })
 
--- a call that awaits no reply, and is answered as it is made
-abbrev pub answered_at_once : Method → Answer → Asked
-answered_at_once m a = ask.Method (record { method = m; awaits = None; made = Some a; at_leaving = leaving.Nothing })
+-- a call that awaits no reply, and is answered as it is made, in place of this reply
+abbrev pub answered_at_once : Method → Reply → Answer → Asked
+answered_at_once m r a = ask.Method (record { method = m; answered = answered.AtOnce r a })
 
 -- a call that awaits this reply, or, without wait, makes this answer itself
 abbrev pub unless_nowait : Method → Bool → Reply → Answer → Asked
-unless_nowait m nowait r a = if nowait then answered_at_once m a else awaiting m r
+unless_nowait m nowait r a = if nowait then answered_at_once m r a else awaiting m r
 
 -- a call that awaits no reply, and is done as its frame leaves
 abbrev pub done_as_it_leaves : Method → Asked
-done_as_it_leaves m = ask.Method (record { method = m; awaits = None; made = None; at_leaving = leaving.Done })
+done_as_it_leaves m = ask.Method (record { method = m; answered = answered.AsItLeaves leaving.Done })
+
+-- the reply that a line awaits, the answer that it makes itself, and the answer that the leaving of its frame gives
+abbrev pub awaited_by : Answered → Option Reply
+awaited_by (answered.ByReply r) = Some r
+awaited_by _ = None
+
+abbrev pub made_by : Answered → Option Answer
+made_by (answered.AtOnce r a) = Some a
+made_by _ = None
+
+abbrev pub leaving_by : Answered → AtLeaving
+leaving_by (answered.AsItLeaves l) = l
+leaving_by _ = leaving.Nothing
+
+-- a call that registers a consumer: by its reply, or, without wait, itself
+abbrev pub consuming : Method → List ℕ → List ℕ → BasicConsumeOptions → Asked
+consuming m tag queue o = if o.nowait then ask.Consume m tag queue o else awaiting m (reply.BasicConsumeOk queue o)
 
 abbrev pub publishes : Asked → Bool
 publishes (ask.Publish exchange key o payload properties) = true
@@ -68,6 +89,8 @@ asked (call.QueuePurge name o) = unless_nowait (method.Queue (queue.Purge name o
 asked (call.QueueDelete name o) = unless_nowait (method.Queue (queue.Delete name o.if_unused o.if_empty o.nowait)) o.nowait (reply.QueueDeleteOk name) (answer.Count 0)
 asked (call.QueueUnbind name from key more) = awaiting (method.Queue (queue.Unbind name from key more)) (reply.QueueUnbindOk name from key more)
 asked (call.BasicQos most o) = awaiting (method.Basic (basic.Qos most o.global)) reply.BasicQosOk
+asked (call.BasicConsume name tag o more) = consuming (method.Basic (basic.Consume name tag o.no_local o.no_ack o.exclusive o.nowait more)) tag name o
+asked (call.BasicCancel tag o) = unless_nowait (method.Basic (basic.Cancel tag o.nowait)) o.nowait reply.BasicCancelOk answer.Done
 asked (call.BasicGet queue o) = awaiting (method.Basic (basic.Get queue o.no_ack)) reply.BasicGetOk
 asked (call.BasicAck tag o) = done_as_it_leaves (method.Basic (basic.Ack tag o.multiple))
 asked (call.BasicNack tag o) = done_as_it_leaves (method.Basic (basic.Nack tag o.multiple o.requeue))

@@ -11,6 +11,8 @@ use Rattle.lapin_types.specs.declared.answer.Answer.TheVariants as answer
 use Rattle.lapin_types.specs.Types.channel_state as state
 use Rattle.lapin_types.specs.declared.request.Reply.TheVariants as reply
 use Rattle.lapin_types.specs.declared.request.ReplyKind.TheVariants as reply_kind
+use Rattle.lapin_inbox.specs.Marks.{InboxMark}
+use Rattle.lapin_inbox.specs.Marks as inbox
 use Rattle.lapin_history.specs.declared.phases.Closer.{Closer}
 use Rattle.lapin_history.specs.declared.phases.Closer.TheVariants as closer
 use Rattle.lapin_history.specs.declared.phases.ChannelPhase.{ChannelPhase}
@@ -23,7 +25,7 @@ use Rattle.lapin_history.specs.Words.{with_channel}
 use Rattle.lapin_history.specs.Drops.{without_publishes_of}
 use Rattle.lapin_history.specs.Requests.{first_request, without_kind, close_alone, no_requests, ticket_of, resolved_with}
 use Rattle.lapin_history.specs.Wire.{Wire, lists_of, with_lists, phase_of, requests_of, is_opening, is_closing, is_crossed, receives_on, queued, noted}
-use Rattle.lapin_history.specs.Ends.{ended, end_with, end_tickets}
+use Rattle.lapin_history.specs.Ends.{ended, end_with, cancels_done, end_tickets}
 
 -- ---- this side closes
 
@@ -43,6 +45,10 @@ abbrev pub close_tickets : ℕ → Closer → List TicketMark
 close_tickets c who = ticket.ClosedHere c (failed_at_close who) ∷ []
 
 -- ---- the call `channel.close`
+
+-- the channel's consumers are being cancelled; a close of the session's own leaves them as they are
+abbrev pub close_call_inbox : ℕ → List InboxMark
+close_call_inbox c = inbox.CloseAsked c ∷ []
 
 -- its class and method are 0: no method of the broker is the cause
 abbrev pub own_close : ℕ → List ℕ → Method
@@ -92,12 +98,15 @@ after_channel_close c p b = noted c (method.Channel channel.CloseOk) (ended c (a
 abbrev pub broker_close_marks : ℕ → ℕ → List ConfirmMark
 broker_close_marks c code = mark.Ended c (error.ProtocolError code) ∷ []
 
+abbrev pub broker_close_inbox : ℕ → ℕ → List InboxMark
+broker_close_inbox c code = inbox.Ended c (Some (error.ProtocolError code)) ∷ []
+
 -- what the opening leaves unresolved fails; where the two crossed, the ticket of this side's close stays open
 abbrev pub kept_ticket : ℕ → ChannelPhase → Wire → Option ℕ
 kept_ticket c p b = if has_sent_close p then close_ticket c b else None
 
 abbrev pub broker_close_tickets : ℕ → ℕ → Wire → List TicketMark
-broker_close_tickets c code b = ticket.OpeningFailed c (kept_ticket c (phase_of c b) b) (error.ProtocolError code) ∷ []
+broker_close_tickets c code b = cancels_done c b ++ ticket.OpeningFailed c (kept_ticket c (phase_of c b) b) (error.ProtocolError code) ∷ []
 
 -- ---- the broker's `channel.close-ok`: it is received where a close of this side is under way
 
@@ -122,6 +131,18 @@ after_close_ok c p b = record b { phases = with_channel c phase.Closed b.phases;
 abbrev pub close_ok_marks : ℕ → Wire → List ConfirmMark
 close_ok_marks c b = end_with c (close_ok_end (phase_of c b))
 
+-- an opening that the application closed gives its consumers their end alone, one that the session closed the error too
+abbrev pub consumers_end : ChannelPhase → Option Error
+consumers_end (phase.Closing closer.Session sent) = Some (error.ProtocolError 406)
+consumers_end _ = None
+
+abbrev pub close_ok_inbox_in : ℕ → ChannelPhase → List InboxMark
+close_ok_inbox_in c (phase.Closing who sent) = inbox.Ended c (consumers_end (phase.Closing who sent)) ∷ []
+close_ok_inbox_in c _ = []
+
+abbrev pub close_ok_inbox : ℕ → Wire → List InboxMark
+close_ok_inbox c b = close_ok_inbox_in c (phase_of c b)
+
 -- this side's close is done, also where it has not left; then what else the opening leaves unresolved fails
 abbrev pub close_ok_tickets : ℕ → Wire → List TicketMark
-close_ok_tickets c b = resolved_with (Ok answer.Done) (close_ticket c b) ++ end_tickets c (close_ok_end (phase_of c b))
+close_ok_tickets c b = resolved_with (Ok answer.Done) (close_ticket c b) ++ end_tickets c (close_ok_end (phase_of c b)) b

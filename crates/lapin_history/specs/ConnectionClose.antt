@@ -10,6 +10,7 @@ use Rattle.lapin_types.specs.declared.answer.Answer.TheVariants as answer
 use Rattle.lapin_types.specs.Types.channel_state as state
 use Rattle.lapin_types.specs.declared.request.Reply.TheVariants as reply
 use Rattle.lapin_types.specs.declared.request.ReplyKind.TheVariants as reply_kind
+use Rattle.lapin_inbox.specs.Marks.{InboxMark}
 use Rattle.lapin_history.specs.declared.phases.ConnectionPhase.{ConnectionPhase}
 use Rattle.lapin_history.specs.declared.phases.ConnectionPhase.TheVariants as link
 use Rattle.lapin_history.specs.declared.broker_frames.Incoming.{Incoming}
@@ -21,7 +22,7 @@ use Rattle.lapin_history.specs.Leaving.{Lists}
 use Rattle.lapin_history.specs.Drops.{no_lists}
 use Rattle.lapin_history.specs.Requests.{first_request, without_kind, ticket_of, resolved_with}
 use Rattle.lapin_history.specs.Wire.{Wire, lists_of, with_lists, requests_of, queued, noted}
-use Rattle.lapin_history.specs.Ends.{down, ends_all}
+use Rattle.lapin_history.specs.Ends.{down, ends_all, inbox_ends_all, all_failed}
 
 -- ---- the call `connection.close`: every opening ends
 
@@ -40,8 +41,11 @@ after_connection_close_call c code text b = queued c (own_connection_close code 
 abbrev pub connection_close_call_marks : Wire → List ConfirmMark
 connection_close_call_marks b = ends_all failed_at_connection_close b
 
-abbrev pub connection_close_call_tickets : List TicketMark
-connection_close_call_tickets = ticket.AllFailed failed_at_connection_close ∷ []
+abbrev pub connection_close_call_inbox : Wire → List InboxMark
+connection_close_call_inbox b = inbox_ends_all failed_at_connection_close b
+
+abbrev pub connection_close_call_tickets : Wire → List TicketMark
+connection_close_call_tickets b = all_failed failed_at_connection_close b
 
 -- ---- this side's `connection.close` leaves
 
@@ -72,10 +76,13 @@ after_connection_close l b = noted 0 (method.Connection connection.CloseOk) (dow
 abbrev pub connection_close_marks : ℕ → Wire → List ConfirmMark
 connection_close_marks code b = ends_all (error.ProtocolError code) b
 
+abbrev pub connection_close_inbox : ℕ → Wire → List InboxMark
+connection_close_inbox code b = inbox_ends_all (error.ProtocolError code) b
+
 -- every open ticket fails, but where this side's close has left: its ticket, the only open one, awaits the broker's close-ok
-abbrev pub connection_close_tickets : ConnectionPhase → ℕ → List TicketMark
-connection_close_tickets (link.Closing true received) code = []
-connection_close_tickets l code = ticket.AllFailed (error.ProtocolError code) ∷ []
+abbrev pub connection_close_tickets : ConnectionPhase → ℕ → Wire → List TicketMark
+connection_close_tickets (link.Closing true received) code b = []
+connection_close_tickets l code b = all_failed (error.ProtocolError code) b
 
 -- ---- the broker's `connection.close-ok`: the connection is closed
 

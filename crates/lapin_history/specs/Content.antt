@@ -1,6 +1,6 @@
 -- Contents: the methods that begin one, the headers and bodies that make it whole, and what a whole one does (AMQP 0-9-1, section
 -- 4.2.6, "Content Framing"). They are received on an open channel, and still on one that this side is closing.
-use Rattle.std.specs.Prelude.{ℕ, ◌+◌, Bool, true, false, ◌&&◌, if◌then◌else◌, List, [], ◌∷◌, Option, Some, None, Result, Ok, Err}
+use Rattle.std.specs.Prelude.{ℕ, ◌+◌, Bool, true, false, ◌&&◌, if◌then◌else◌, List, [], ◌∷◌, Option, Some, None, Result, Ok, Err, length}
 use Rattle.lapin_types.specs.Types.{Error}
 use Rattle.lapin_values.specs.Properties.{Properties}
 use Rattle.lapin_types.specs.declared.message.Delivery.{Delivery}
@@ -11,9 +11,13 @@ use Rattle.lapin_types.specs.declared.request.ReplyKind.TheVariants as reply_kin
 use Rattle.lapin_content.specs.declared.start.Start.{Start}
 use Rattle.lapin_content.specs.declared.start.Start.TheVariants as start
 use Rattle.lapin_content.specs.declared.start.Whole.{Whole}
-use Rattle.lapin_content.specs.Contents.{Expected, front_waits, front_takes, heard_header, heard_body, for_ticket}
+use Rattle.lapin_content.specs.Contents.{Expected, front_waits, front_takes, heard_header, heard_body, for_ticket, for_consumer}
 use Rattle.lapin_content.specs.Channels.{expected_on, after_mark}
 use Rattle.lapin_content.specs.Marks as mark
+use Rattle.lapin_consumer.specs.Roster.{found, is_registered}
+use Rattle.lapin_inbox.specs.Inbox.{Inbox}
+use Rattle.lapin_inbox.specs.Marks.{InboxMark}
+use Rattle.lapin_inbox.specs.Marks as inbox
 use Rattle.lapin_history.specs.declared.broker_frames.ContentPart.{ContentPart}
 use Rattle.lapin_history.specs.declared.broker_frames.ContentPart.TheVariants as part
 use Rattle.lapin_history.specs.ConfirmMarks.{ConfirmMark}
@@ -40,11 +44,16 @@ get_ticket c b = ticket_of (first_request reply_kind.BasicGetOk (requests_of c b
 abbrev pub after_get_ok : ℕ → Start → Wire → Wire
 after_get_ok c s b = expecting c (for_ticket (get_ticket c b) s) (after_reply c reply_kind.BasicGetOk b)
 
+-- a delivery is for the consumer that is registered under its tag as the method comes
+abbrev pub after_deliver : ℕ → List ℕ → Start → Wire → Wire
+after_deliver c tag s b = expecting c (for_consumer (found c tag b.inbox.roster) s) b
+
 -- ---- when one is received: get-ok where a get is open, a header or a body where the content at the front of its channel waits for it
 
 abbrev pub receives_part : ℕ → ContentPart → Wire → Bool
 receives_part c (part.GetOk s) b = receives_reply c reply_kind.BasicGetOk b
 receives_part c (part.Return s) b = receives_on (state_of c b)
+receives_part c (part.Deliver tag s) b = receives_on (state_of c b)
 receives_part c (part.Header h) b = receives_on (state_of c b) && front_waits h.class_id (expected_on c b.contents)
 receives_part c (part.Body bytes) b = receives_on (state_of c b) && front_takes bytes (expected_on c b.contents)
 
@@ -61,36 +70,38 @@ whole_by _ es = None
 abbrev pub whole_on : ℕ → ContentPart → Wire → Option Whole
 whole_on c p b = whole_by p (expected_on c b.contents)
 
--- ---- a whole content: the message of a get is given the next acker, and answers the get's ticket; one that was returned is known to
--- the confirms
+-- ---- a whole content: the message of a get is given the next acker, and answers the get's ticket; a delivery is given the next
+-- acker, and goes to its consumer, if that is registered still; one that was returned is known to the confirms
 
--- what began it was a get
-abbrev pub for_get : Start → Bool
-for_get (start.Get ticket tag exchange key redelivered count) = true
-for_get _ = false
+-- the number of the next acker
+abbrev pub next_acker : Inbox → ℕ
+next_acker i = length i.switches + 1
 
-abbrev pub takes_acker : Option Whole → Bool
-takes_acker None = false
-takes_acker (Some w) = for_get w.start
+-- what it began with takes an acker: a get, and a delivery for a consumer that is registered
+abbrev pub for_acker : Inbox → Start → Bool
+for_acker i (start.Get ticket tag exchange key redelivered count) = true
+for_acker i (start.Deliver (Some k) tag exchange key redelivered) = is_registered k i.roster
+for_acker i _ = false
 
--- how many ackers were given then
-abbrev pub ackers_after : Option Whole → ℕ → ℕ
-ackers_after w n = if takes_acker w then n + 1 else n
+abbrev pub takes_acker : Inbox → Option Whole → Bool
+takes_acker i None = false
+takes_acker i (Some w) = for_acker i w.start
 
--- the message of a get on the channel, with the acker of number n
-abbrev pub got_message : ℕ → ℕ → ℕ → List ℕ → List ℕ → Bool → ℕ → Whole → BasicGetMessage
-got_message c n tag exchange key redelivered count w = record {
-  delivery = record {
-    delivery_tag = tag;
-    exchange = exchange;
-    routing_key = key;
-    redelivered = redelivered;
-    properties = w.properties;
-    payload = w.payload;
-    acker = record { channel_id = c; delivery_tag = tag; number = n; used = false };
-  };
-  message_count = count;
+-- a message that came on the channel, with the acker of number n
+abbrev pub delivered_message : ℕ → ℕ → ℕ → List ℕ → List ℕ → Bool → Whole → Delivery
+delivered_message c n tag exchange key redelivered w = record {
+  delivery_tag = tag;
+  exchange = exchange;
+  routing_key = key;
+  redelivered = redelivered;
+  properties = w.properties;
+  payload = w.payload;
+  acker = record { channel_id = c; delivery_tag = tag; number = n; used = false };
 }
+
+-- that of a get
+abbrev pub got_message : ℕ → ℕ → ℕ → List ℕ → List ℕ → Bool → ℕ → Whole → BasicGetMessage
+got_message c n tag exchange key redelivered count w = record { delivery = delivered_message c n tag exchange key redelivered w; message_count = count }
 
 -- a returned message: its delivery has no tag, and nothing acknowledges it
 abbrev pub returned_delivery : List ℕ → List ℕ → Properties → List ℕ → Delivery
@@ -116,25 +127,42 @@ abbrev pub whole_marks : ℕ → Option Whole → List ConfirmMark
 whole_marks c None = []
 whole_marks c (Some w) = start_marks c w.start w
 
--- and to tickets, where n ackers were given before
+-- to tickets, where n is the number of the next acker
 abbrev pub start_tickets : ℕ → ℕ → Start → Whole → List TicketMark
-start_tickets c n (start.Get ticket tag exchange key redelivered count) w = resolved_with (Ok (answer.Got (Some (got_message c (n + 1) tag exchange key redelivered count w)))) ticket
+start_tickets c n (start.Get ticket tag exchange key redelivered count) w = resolved_with (Ok (answer.Got (Some (got_message c n tag exchange key redelivered count w)))) ticket
 start_tickets c n _ w = []
 
 abbrev pub whole_tickets : ℕ → ℕ → Option Whole → List TicketMark
 whole_tickets c n None = []
 whole_tickets c n (Some w) = start_tickets c n w.start w
 
--- ---- what it leaves, and what it does to confirms and tickets
+-- and to consumers and ackers
+abbrev pub arrival : ℕ → Delivery → Inbox → List InboxMark
+arrival k d i = if is_registered k i.roster then inbox.Delivered k d ∷ [] else []
+
+abbrev pub start_inbox : ℕ → Inbox → Start → Whole → List InboxMark
+start_inbox c i (start.Get ticket tag exchange key redelivered count) w = inbox.Got c tag ∷ []
+start_inbox c i (start.Deliver (Some k) tag exchange key redelivered) w = arrival k (delivered_message c (next_acker i) tag exchange key redelivered w) i
+start_inbox c i _ w = []
+
+abbrev pub whole_inbox : ℕ → Inbox → Option Whole → List InboxMark
+whole_inbox c i None = []
+whole_inbox c i (Some w) = start_inbox c i w.start w
+
+-- ---- what it leaves, and what it does to confirms, tickets, consumers and ackers
 
 abbrev pub after_part : ℕ → ContentPart → Wire → Wire
 after_part c (part.GetOk s) b = after_get_ok c s b
 after_part c (part.Return s) b = expecting c s b
-after_part c (part.Header h) b = record b { contents = after_mark b.contents (mark.Header c h); ackers = ackers_after (whole_on c (part.Header h) b) b.ackers }
-after_part c (part.Body bytes) b = record b { contents = after_mark b.contents (mark.Body c bytes); ackers = ackers_after (whole_on c (part.Body bytes) b) b.ackers }
+after_part c (part.Deliver tag s) b = after_deliver c tag s b
+after_part c (part.Header h) b = record b { contents = after_mark b.contents (mark.Header c h) }
+after_part c (part.Body bytes) b = record b { contents = after_mark b.contents (mark.Body c bytes) }
 
 abbrev pub part_marks : ℕ → ContentPart → Wire → List ConfirmMark
 part_marks c p b = whole_marks c (whole_on c p b)
 
 abbrev pub part_tickets : ℕ → ContentPart → Wire → List TicketMark
-part_tickets c p b = whole_tickets c b.ackers (whole_on c p b)
+part_tickets c p b = whole_tickets c (next_acker b.inbox) (whole_on c p b)
+
+abbrev pub part_inbox : ℕ → ContentPart → Wire → List InboxMark
+part_inbox c p b = whole_inbox c b.inbox (whole_on c p b)

@@ -1,9 +1,14 @@
 -- The end of an opening: what it leaves, and what it does to confirms and tickets. When an opening ends, and with which error,
 -- stands with the rule that ends it.
-use Rattle.std.specs.Prelude.{ℕ, zero, suc, max, if◌then◌else◌, List, [], ◌∷◌, ◌++◌, Option, Some, None}
+use Rattle.std.specs.Prelude.{ℕ, zero, suc, max, if◌then◌else◌, List, [], ◌∷◌, ◌++◌, Option, Some, None, Ok}
+use Rattle.std.specs.List.{filter}
 use Rattle.lapin_tables.specs.ByChannel.{at_channel, on_channel}
 use Rattle.lapin_types.specs.declared.request.Request.{Request}
+use Rattle.lapin_types.specs.declared.answer.Answer.TheVariants as answer
+use Rattle.lapin_types.specs.declared.request.ReplyKind.TheVariants as reply_kind
 use Rattle.lapin_types.specs.Types.{Error}
+use Rattle.lapin_inbox.specs.Marks.{InboxMark}
+use Rattle.lapin_inbox.specs.Marks as inbox
 use Rattle.lapin_content.specs.Channels.{after_mark}
 use Rattle.lapin_content.specs.Marks as content
 use Rattle.lapin_history.specs.declared.phases.ChannelPhase.{ChannelPhase}
@@ -15,6 +20,7 @@ use Rattle.lapin_history.specs.TicketReadings as ticket
 use Rattle.lapin_history.specs.Words.{with_channel}
 use Rattle.lapin_history.specs.Drops.{no_lists, without_channel}
 use Rattle.lapin_history.specs.Phases.{is_live, phase_in}
+use Rattle.lapin_history.specs.Requests.{is_kind, requests_in, resolved_with}
 use Rattle.lapin_history.specs.Wire.{Wire, lists_of, with_lists}
 
 -- ---- what an end leaves
@@ -62,9 +68,46 @@ abbrev pub end_with : ℕ → Option Error → List ConfirmMark
 end_with c None = []
 end_with c (Some e) = mark.Ended c e ∷ []
 
+-- ---- consumers: each registered one of the channel gets the error and its end, and the ackers of the opening are over
+
+abbrev pub inbox_end_with : ℕ → Option Error → List InboxMark
+inbox_end_with c None = []
+inbox_end_with c (Some e) = inbox.Ended c (Some e) ∷ []
+
+-- the openings of these channels end, one after another
+abbrev pub inbox_ends : Error → List ℕ → List InboxMark
+inbox_ends e [] = []
+inbox_ends e (c ∷ cs) = inbox.Ended c (Some e) ∷ inbox_ends e cs
+
+abbrev pub inbox_ends_all : Error → Wire → List InboxMark
+inbox_ends_all e b = inbox_ends e (live_channels b.phases)
+
 -- ---- tickets
 
+-- an open `basic.cancel` is done: with its opening the consumer is gone
+abbrev pub done_with : List Request → List TicketMark
+done_with [] = []
+done_with (r ∷ rs) = resolved_with (Ok answer.Done) r.ticket ++ done_with rs
+
+abbrev pub cancels_in : List Request → List TicketMark
+cancels_in rs = done_with (filter (is_kind reply_kind.BasicCancelOk) rs)
+
+abbrev pub cancels_at : ℕ → List (ℕ × List Request) → List TicketMark
+cancels_at c all = cancels_in (requests_in (at_channel c all))
+
+abbrev pub cancels_done : ℕ → Wire → List TicketMark
+cancels_done c b = cancels_at c b.requests
+
+-- those of these channels, one after another
+abbrev pub cancels_on : List ℕ → List (ℕ × List Request) → List TicketMark
+cancels_on [] all = []
+cancels_on (c ∷ cs) all = cancels_at c all ++ cancels_on cs all
+
 -- every open ticket of the channel fails, if there is an error with which its opening ends
-abbrev pub end_tickets : ℕ → Option Error → List TicketMark
-end_tickets c None = []
-end_tickets c (Some e) = ticket.OpeningFailed c None e ∷ []
+abbrev pub end_tickets : ℕ → Option Error → Wire → List TicketMark
+end_tickets c None b = []
+end_tickets c (Some e) b = cancels_done c b ++ ticket.OpeningFailed c None e ∷ []
+
+-- every open ticket fails
+abbrev pub all_failed : Error → Wire → List TicketMark
+all_failed e b = cancels_on (live_channels b.phases) b.requests ++ ticket.AllFailed e ∷ []

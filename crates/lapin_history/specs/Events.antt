@@ -1,22 +1,26 @@
--- The rules, event by event: the record of an event, what it leaves, and what it does to confirms and tickets. Each line names the
--- rule that says the rest.
-use Rattle.std.specs.Prelude.{List, []}
+-- The rules, event by event: the record of an event, what it leaves, and what it does to consumers, confirms and tickets. Each line
+-- names the rule that says the rest.
+use Rattle.std.specs.Prelude.{List, [], ◌∷◌}
 use Rattle.lapin_types.specs.declared.event.Event.{Event}
 use Rattle.lapin_types.specs.declared.record.Record.{Record}
 use Rattle.lapin_types.specs.declared.event.Event.TheVariants as event
 use Rattle.lapin_types.specs.declared.record.Record.TheVariants as record_
+use Rattle.lapin_inbox.specs.Marks.{InboxMark}
+use Rattle.lapin_inbox.specs.Marks as inbox
 use Rattle.lapin_history.specs.ConfirmMarks.{ConfirmMark}
 use Rattle.lapin_history.specs.TicketReadings.{TicketMark}
 use Rattle.lapin_history.specs.Phases.{connection_state}
 use Rattle.lapin_history.specs.Readings.{Readings}
-use Rattle.lapin_history.specs.Wire.{Wire, state_of}
+use Rattle.lapin_history.specs.Wire.{Wire, state_of, with_inbox}
 use Rattle.lapin_history.specs.Calls.{asked}
 use Rattle.lapin_history.specs.Incoming.{incoming_of, frame_class, frame_method}
-use Rattle.lapin_history.specs.Asking.{call_record, after_asking, asking_marks, asking_tickets}
+use Rattle.lapin_history.specs.Asking.{call_record, after_asking, asking_inbox, asking_marks, asking_tickets}
 use Rattle.lapin_history.specs.Handing.{handed, frame_record, after_next, left_marks, left_tickets}
-use Rattle.lapin_history.specs.Receiving.{incoming_record, after_incoming, incoming_marks, incoming_tickets}
+use Rattle.lapin_history.specs.Receiving.{incoming_record, after_incoming, incoming_inbox, incoming_marks, incoming_tickets}
 use Rattle.lapin_history.specs.Unexpected.{refused}
-use Rattle.lapin_history.specs.Loss.{after_lost, lost_marks, lost_tickets}
+use Rattle.lapin_history.specs.Loss.{after_lost, lost_inbox, lost_marks, lost_tickets}
+use Rattle.lapin_history.specs.Consumers.{item_told, delegate_told, delegate_inbox, job_told, job_inbox, drop_told, after_drop, drop_inbox}
+use Rattle.lapin_history.specs.Ackers.{acker_told, after_acker, acker_inbox, acker_tickets}
 use Rattle.lapin_history.specs.Polls.{wait_record, confirm_poll_marks, wait_marks, confirm_aside_marks, ticket_poll_marks, ticket_aside_marks}
 
 -- the record of an event, from the states and lists before it and from what is seen of confirms and tickets
@@ -26,9 +30,14 @@ record_of b readings (event.Next flow) = frame_record (handed flow b)
 record_of b readings (event.Receive f) = incoming_record b readings (refused (frame_class f) (frame_method f)) (incoming_of f)
 record_of b readings (event.PollTicket n) = readings.ticket n
 record_of b readings (event.PollConfirm n) = readings.confirm n
+record_of b readings (event.PollConsumer n) = item_told n b
 record_of b readings (event.PollWait c) = wait_record c b readings
 record_of b readings (event.AsideTicket n) = readings.ticket_aside n
 record_of b readings (event.AsideConfirm n) = readings.confirm_aside n
+record_of b readings (event.Acker n k) = acker_told n k b
+record_of b readings (event.Delegate n) = delegate_told n b
+record_of b readings (event.DropConsumer n) = drop_told n b
+record_of b readings event.NextJob = job_told b
 record_of b readings (event.State c) = record_.State (connection_state b.link) (state_of c b)
 record_of b readings event.Lost = record_.Lost
 
@@ -37,8 +46,25 @@ abbrev pub after_event : Wire → Event → Record → Wire
 after_event b (event.Call c k) r = after_asking c (asked k) b
 after_event b (event.Next flow) r = after_next flow b
 after_event b (event.Receive f) r = after_incoming (incoming_of f) r b
-after_event b event.Lost r = after_lost b
+after_event b (event.PollConsumer n) r = with_inbox (inbox.Polled n ∷ []) b
+after_event b (event.Acker n k) r = after_acker n k b
+after_event b (event.Delegate n) r = with_inbox (delegate_inbox n b) b
+after_event b (event.DropConsumer n) r = with_inbox (drop_inbox n b) (after_drop n b)
+after_event b event.NextJob r = with_inbox (job_inbox b) b
+after_event b event.Lost r = with_inbox (lost_inbox b) (after_lost b)
 after_event b _ r = b
+
+-- what happens to consumers and ackers, and to what is declared
+abbrev pub inbox_marks : Wire → Event → Record → List InboxMark
+inbox_marks b (event.Call c k) r = asking_inbox c (asked k) b
+inbox_marks b (event.Receive f) r = incoming_inbox (incoming_of f) r b
+inbox_marks b (event.PollConsumer n) r = inbox.Polled n ∷ []
+inbox_marks b (event.Acker n k) r = acker_inbox n k b
+inbox_marks b (event.Delegate n) r = delegate_inbox n b
+inbox_marks b (event.DropConsumer n) r = drop_inbox n b
+inbox_marks b event.NextJob r = job_inbox b
+inbox_marks b event.Lost r = lost_inbox b
+inbox_marks b _ r = []
 
 -- what happens to confirms
 abbrev pub confirm_marks : Wire → Event → Record → List ConfirmMark
@@ -56,6 +82,7 @@ abbrev pub ticket_marks : Wire → Event → Record → List TicketMark
 ticket_marks b (event.Call c k) r = asking_tickets c (asked k) b
 ticket_marks b (event.Next flow) r = left_tickets (handed flow b)
 ticket_marks b (event.Receive f) r = incoming_tickets (incoming_of f) r b
+ticket_marks b (event.Acker n k) r = acker_tickets n k b
 ticket_marks b (event.PollTicket n) r = ticket_poll_marks n r
 ticket_marks b (event.AsideTicket n) r = ticket_aside_marks n r
 ticket_marks b event.Lost r = lost_tickets b

@@ -1,7 +1,7 @@
 -- The table of the broker's frames: what each frame is to its channel. A line a method; a reply makes its answer from its own data.
-use Rattle.std.specs.Prelude.{ℕ, ◌==◌, Bool, if◌then◌else◌, None}
+use Rattle.std.specs.Prelude.{ℕ, ◌==◌, Bool, true, false, if◌then◌else◌, None}
 use Rattle.lapin_methods.specs.Numbers.{class_number, method_number}
-use Rattle.lapin_types.specs.Types.{Frame, Method}
+use Rattle.lapin_types.specs.Types.{Frame, Method, BasicMethod}
 use Rattle.lapin_types.specs.Types.frame
 use Rattle.lapin_types.specs.Types.method
 use Rattle.lapin_types.specs.Types.connection
@@ -19,6 +19,7 @@ use Rattle.lapin_history.specs.declared.marks.SettleKind.{SettleKind}
 use Rattle.lapin_history.specs.declared.marks.SettleKind.TheVariants as settle
 use Rattle.lapin_history.specs.declared.marks.Settlement.{Settlement}
 use Rattle.lapin_history.specs.declared.broker_frames.ContentPart.TheVariants as part
+use Rattle.lapin_history.specs.declared.broker_frames.ConsumerPart.TheVariants as consumer
 use Rattle.lapin_history.specs.declared.broker_frames.Incoming.{Incoming}
 use Rattle.lapin_history.specs.declared.broker_frames.Incoming.TheVariants as incoming
 
@@ -40,8 +41,9 @@ settlement kind tag multiple = record { kind = kind; tag = tag; multiple = multi
 abbrev pub on_connection : ℕ → Incoming → Incoming
 on_connection c i = if c == 0 then i else incoming.Other
 
--- Replies with the answers that they make, settlements, methods that begin a content, flow and closes; every other method is none of
--- these. The content of a get names its get as get-ok takes it.
+-- Replies with the answers that they make, settlements, methods that begin a content, what is about consumers, flow and closes; every
+-- other method is none of these. The content of a get names its get as get-ok takes it, that of a delivery its consumer as the method
+-- comes.
 abbrev pub incoming_method : ℕ → Method → Incoming
 incoming_method c (method.Connection (connection.Close code text class number)) = on_connection c (incoming.ConnectionClose code)
 incoming_method c (method.Connection connection.CloseOk) = on_connection c incoming.ConnectionCloseOk
@@ -66,12 +68,27 @@ incoming_method c (method.Basic (basic.Nack tag multiple requeue)) = incoming.Se
 incoming_method c (method.Basic (basic.Return code text exchange key)) = incoming.Content c (part.Return (start.Return code text exchange key))
 incoming_method c (method.Basic (basic.GetOk tag redelivered exchange key count)) = incoming.Content c (part.GetOk (start.Get None tag exchange key redelivered count))
 incoming_method c (method.Basic basic.GetEmpty) = incoming.Reply c reply_kind.BasicGetOk (answer.Got None)
-incoming_method c (method.Basic basic.RecoverOk) = incoming.Reply c reply_kind.BasicRecoverOk answer.Done
+incoming_method c (method.Basic (basic.Deliver tag number redelivered exchange key)) = incoming.Content c (part.Deliver tag (start.Deliver None number exchange key redelivered))
+incoming_method c (method.Basic (basic.ConsumeOk tag)) = incoming.Consumer c (consumer.ConsumeOk tag)
+incoming_method c (method.Basic (basic.CancelOk tag)) = incoming.Consumer c (consumer.CancelOk tag)
+incoming_method c (method.Basic (basic.Cancel tag nowait)) = incoming.Consumer c (consumer.Cancel tag nowait)
+incoming_method c (method.Basic basic.RecoverOk) = incoming.Consumer c consumer.RecoverOk
 incoming_method c (method.Confirm confirm.SelectOk) = incoming.Reply c reply_kind.ConfirmSelectOk answer.Done
 incoming_method c (method.Tx tx.SelectOk) = incoming.Reply c reply_kind.TxSelectOk answer.Done
 incoming_method c (method.Tx tx.CommitOk) = incoming.Reply c reply_kind.TxCommitOk answer.Done
 incoming_method c (method.Tx tx.RollbackOk) = incoming.Reply c reply_kind.TxRollbackOk answer.Done
 incoming_method c _ = incoming.Other
+
+-- a method of the class basic that is sorted without a content
+abbrev pub tells_all : BasicMethod → Bool
+tells_all basic.QosOk = true
+tells_all (basic.ConsumeOk tag) = true
+tells_all (basic.Cancel tag nowait) = true
+tells_all (basic.CancelOk tag) = true
+tells_all (basic.Ack tag multiple) = true
+tells_all (basic.Nack tag multiple requeue) = true
+tells_all basic.RecoverOk = true
+tells_all _ = false
 
 abbrev pub incoming_of : Frame → Incoming
 incoming_of (frame.Method c m) = incoming_method c m

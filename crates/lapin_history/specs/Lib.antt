@@ -21,10 +21,13 @@ pub mod Settlement
 pub mod Reply
 pub mod Flow
 pub mod Content
+pub mod Consumers
+pub mod Registry
 pub mod Select
 pub mod Calls
 pub mod Incoming
 pub mod Asking
+pub mod Ackers
 pub mod Handing
 pub mod Receiving
 pub mod Polls

@@ -2,12 +2,12 @@
 use Rattle.std.specs.Prelude.{if◌then◌else◌, List, [], ◌∷◌}
 use Rattle.lapin_types.specs.Types.error
 use Rattle.lapin_history.specs.declared.phases.ConnectionPhase.TheVariants as link
+use Rattle.lapin_inbox.specs.Marks.{InboxMark}
 use Rattle.lapin_history.specs.ConfirmMarks.{ConfirmMark}
 use Rattle.lapin_history.specs.TicketReadings.{TicketMark}
-use Rattle.lapin_history.specs.TicketReadings as ticket
 use Rattle.lapin_history.specs.Phases.{is_lost}
 use Rattle.lapin_history.specs.Wire.{Wire}
-use Rattle.lapin_history.specs.Ends.{down, ends_all}
+use Rattle.lapin_history.specs.Ends.{down, ends_all, inbox_ends_all, all_failed}
 
 -- a second loss changes nothing
 abbrev pub after_lost : Wire → Wire
@@ -17,6 +17,9 @@ after_lost b = if is_lost b.link then b else down link.Lost b
 abbrev pub lost_marks : Wire → List ConfirmMark
 lost_marks b = ends_all error.ConnectionLost b
 
+abbrev pub lost_inbox : Wire → List InboxMark
+lost_inbox b = inbox_ends_all error.ConnectionLost b
+
 -- every open ticket fails
 abbrev pub lost_tickets : Wire → List TicketMark
-lost_tickets b = if is_lost b.link then [] else ticket.AllFailed error.ConnectionLost ∷ []
+lost_tickets b = if is_lost b.link then [] else all_failed error.ConnectionLost b

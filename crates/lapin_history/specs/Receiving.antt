@@ -5,20 +5,23 @@ use Rattle.lapin_types.specs.declared.record.Record.{Record}
 use Rattle.lapin_types.specs.Types.{Error}
 use Rattle.lapin_types.specs.declared.record.Record.TheVariants as record_
 use Rattle.lapin_types.specs.Types.error
+use Rattle.lapin_inbox.specs.Marks.{InboxMark}
 use Rattle.lapin_history.specs.declared.broker_frames.Incoming.{Incoming}
 use Rattle.lapin_history.specs.declared.broker_frames.Incoming.TheVariants as incoming
 use Rattle.lapin_history.specs.ConfirmMarks.{ConfirmMark}
 use Rattle.lapin_history.specs.TicketReadings.{TicketMark}
 use Rattle.lapin_history.specs.Phases.{is_up}
 use Rattle.lapin_history.specs.Readings.{Readings}
-use Rattle.lapin_history.specs.Wire.{Wire, state_of, phase_of, receives_on}
-use Rattle.lapin_history.specs.ChannelClose.{receives_close, receives_close_ok, after_channel_close, after_close_ok, broker_close_marks, close_ok_marks, broker_close_tickets, close_ok_tickets}
-use Rattle.lapin_history.specs.ConnectionClose.{receives_down, after_connection_close, after_connection_close_ok, connection_close_marks, connection_close_tickets, connection_close_ok_tickets}
-use Rattle.lapin_history.specs.Unexpected.{after_unexpected, unexpected_marks, unexpected_tickets}
+use Rattle.lapin_history.specs.Wire.{Wire, state_of, phase_of, receives_on, with_inbox}
+use Rattle.lapin_history.specs.ChannelClose.{receives_close, receives_close_ok, after_channel_close, after_close_ok, broker_close_inbox, close_ok_inbox, broker_close_marks, close_ok_marks, broker_close_tickets, close_ok_tickets}
+use Rattle.lapin_history.specs.ConnectionClose.{receives_down, after_connection_close, after_connection_close_ok, connection_close_inbox, connection_close_marks, connection_close_tickets, connection_close_ok_tickets}
+use Rattle.lapin_history.specs.Unexpected.{after_unexpected, unexpected_inbox, unexpected_marks, unexpected_tickets}
 use Rattle.lapin_history.specs.Settlement.{settlement_record, settlement_marks, after_failed_on, failed_marks_on, failed_tickets_on}
 use Rattle.lapin_history.specs.Reply.{receives_reply, after_reply, reply_tickets}
 use Rattle.lapin_history.specs.Flow.{after_flow}
-use Rattle.lapin_history.specs.Content.{receives_part, after_part, part_marks, part_tickets}
+use Rattle.lapin_history.specs.Content.{receives_part, after_part, part_inbox, part_marks, part_tickets}
+use Rattle.lapin_history.specs.Consumers.{receives_consumer, after_consumer, consumer_inbox, consumer_tickets}
+use Rattle.lapin_history.specs.Registry.{reply_inbox}
 
 -- ---- its record: received, passed over, or refused, where r is the refusal
 
@@ -30,6 +33,7 @@ abbrev pub incoming_up : Wire → Readings → Record → Incoming → Record
 incoming_up b readings r (incoming.Reply c k a) = when (receives_reply c k b) r
 incoming_up b readings r (incoming.Settlement c s) = if receives_on (state_of c b) then settlement_record readings c s else r
 incoming_up b readings r (incoming.Content c p) = when (receives_part c p b) r
+incoming_up b readings r (incoming.Consumer c p) = when (receives_consumer c p b) r
 incoming_up b readings r (incoming.Flow c active) = when (receives_on (state_of c b)) r
 incoming_up b readings r (incoming.ChannelClose c code) = when (receives_close (state_of c b)) r
 incoming_up b readings r (incoming.ChannelCloseOk c) = when (receives_close_ok (state_of c b)) r
@@ -46,6 +50,7 @@ incoming_record b readings r i = if is_up b.link then incoming_up b readings r i
 abbrev pub after_received : Incoming → Wire → Wire
 after_received (incoming.Reply c k a) b = after_reply c k b
 after_received (incoming.Content c p) b = after_part c p b
+after_received (incoming.Consumer c p) b = after_consumer c p b
 after_received (incoming.Flow c active) b = after_flow c active b
 after_received (incoming.Settlement c s) b = b
 after_received (incoming.ChannelClose c code) b = after_channel_close c (phase_of c b) b
@@ -63,10 +68,35 @@ after_refused i (error.UnexpectedFrame class number) b = after_unexpected class 
 after_refused i (error.PreconditionFailed tag current) b = after_failed i b
 after_refused i _ b = b
 
+abbrev pub incoming_wire : Incoming → Record → Wire → Wire
+incoming_wire i (record_.Refused e) b = after_refused i e b
+incoming_wire i record_.Received b = after_received i b
+incoming_wire i _ b = b
+
+-- ---- consumers, and what is declared
+
+abbrev pub received_inbox : Incoming → Wire → List InboxMark
+received_inbox (incoming.Reply c k a) b = reply_inbox c k a b
+received_inbox (incoming.Content c p) b = part_inbox c p b
+received_inbox (incoming.Consumer c p) b = consumer_inbox c p b
+received_inbox (incoming.ChannelClose c code) b = broker_close_inbox c code
+received_inbox (incoming.ChannelCloseOk c) b = close_ok_inbox c b
+received_inbox (incoming.ConnectionClose code) b = connection_close_inbox code b
+received_inbox _ b = []
+
+abbrev pub refused_inbox : Error → Wire → List InboxMark
+refused_inbox (error.UnexpectedFrame class number) b = unexpected_inbox b
+refused_inbox _ b = []
+
+abbrev pub incoming_inbox : Incoming → Record → Wire → List InboxMark
+incoming_inbox i (record_.Refused e) b = refused_inbox e b
+incoming_inbox i record_.Received b = received_inbox i b
+incoming_inbox i _ b = []
+
+-- ---- all that it leaves
+
 abbrev pub after_incoming : Incoming → Record → Wire → Wire
-after_incoming i (record_.Refused e) b = after_refused i e b
-after_incoming i record_.Received b = after_received i b
-after_incoming i _ b = b
+after_incoming i r b = with_inbox (incoming_inbox i r b) (incoming_wire i r b)
 
 -- ---- confirms
 
@@ -97,9 +127,10 @@ incoming_marks i _ b = []
 abbrev pub received_tickets : Incoming → Wire → List TicketMark
 received_tickets (incoming.Reply c k a) b = reply_tickets c k a b
 received_tickets (incoming.Content c p) b = part_tickets c p b
+received_tickets (incoming.Consumer c p) b = consumer_tickets c p b
 received_tickets (incoming.ChannelClose c code) b = broker_close_tickets c code b
 received_tickets (incoming.ChannelCloseOk c) b = close_ok_tickets c b
-received_tickets (incoming.ConnectionClose code) b = connection_close_tickets b.link code
+received_tickets (incoming.ConnectionClose code) b = connection_close_tickets b.link code b
 received_tickets incoming.ConnectionCloseOk b = connection_close_ok_tickets b
 received_tickets _ b = []
 
@@ -108,7 +139,7 @@ failed_tickets (incoming.Settlement c s) b = failed_tickets_on c b
 failed_tickets _ b = []
 
 abbrev pub refused_tickets : Incoming → Error → Wire → List TicketMark
-refused_tickets i (error.UnexpectedFrame class number) b = unexpected_tickets
+refused_tickets i (error.UnexpectedFrame class number) b = unexpected_tickets b
 refused_tickets i (error.PreconditionFailed tag current) b = failed_tickets i b
 refused_tickets i _ b = []
 

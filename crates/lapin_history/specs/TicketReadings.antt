@@ -67,6 +67,7 @@ abbrev pub answer_at : AtLeaving → Option Answer
 answer_at leaving.Nothing = None
 answer_at leaving.Done = Some answer.Done
 answer_at (leaving.Confirm n) = Some (answer.Confirm n)
+answer_at leaving.Yes = Some answer.Yes
 
 abbrev pub begins : ℕ → TicketMark → Bool
 begins n (Begun j) = j == n

@@ -7,11 +7,11 @@ use Rattle.lapin_types.specs.Types.method
 use Rattle.lapin_types.specs.Types.connection
 use Rattle.lapin_types.specs.Types.error
 use Rattle.lapin_history.specs.declared.phases.ConnectionPhase.TheVariants as link
+use Rattle.lapin_inbox.specs.Marks.{InboxMark}
 use Rattle.lapin_history.specs.ConfirmMarks.{ConfirmMark}
 use Rattle.lapin_history.specs.TicketReadings.{TicketMark}
-use Rattle.lapin_history.specs.TicketReadings as ticket
 use Rattle.lapin_history.specs.Wire.{Wire, noted}
-use Rattle.lapin_history.specs.Ends.{down, ends_all}
+use Rattle.lapin_history.specs.Ends.{down, ends_all, inbox_ends_all, all_failed}
 
 -- it is refused with its class and method
 abbrev pub refused : ℕ → ℕ → Record
@@ -32,5 +32,8 @@ after_unexpected class number b = noted 0 (unexpected_close class number) (down 
 abbrev pub unexpected_marks : Wire → List ConfirmMark
 unexpected_marks b = ends_all failed_at_unexpected b
 
-abbrev pub unexpected_tickets : List TicketMark
-unexpected_tickets = ticket.AllFailed failed_at_unexpected ∷ []
+abbrev pub unexpected_inbox : Wire → List InboxMark
+unexpected_inbox b = inbox_ends_all failed_at_unexpected b
+
+abbrev pub unexpected_tickets : Wire → List TicketMark
+unexpected_tickets b = all_failed failed_at_unexpected b

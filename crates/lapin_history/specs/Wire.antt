@@ -1,6 +1,7 @@
 -- What a history comes to beside confirms and answers: where the connection and its channels stand, the frames that wait, the
 -- open requests, the contents that are expected and the counters; and the words on it that the rules share. What an event does to it stands with the event's rule.
 use Rattle.std.specs.Prelude.{ℕ, ◌+◌, ◌==◌, Bool, true, false, ◌||◌, if◌then◌else◌, List, [], ◌∷◌, ◌++◌, Option, Some, None}
+use Rattle.std.specs.List.{fold}
 use Rattle.lapin_tables.specs.ByChannel.{at_channel}
 use Rattle.lapin_types.specs.declared.leaving.Publish.{Publish}
 use Rattle.lapin_types.specs.declared.request.Request.{Request}
@@ -8,6 +9,8 @@ use Rattle.lapin_types.specs.declared.request.Reply.{Reply}
 use Rattle.lapin_types.specs.Types.{Method, ChannelState}
 use Rattle.lapin_types.specs.Types.channel_state as state
 use Rattle.lapin_content.specs.Channels.{Channels}
+use Rattle.lapin_inbox.specs.Inbox.{Inbox, empty_inbox, after_mark}
+use Rattle.lapin_inbox.specs.Marks.{InboxMark}
 use Rattle.lapin_history.specs.declared.phases.ChannelPhase.{ChannelPhase}
 use Rattle.lapin_history.specs.declared.phases.ConnectionPhase.{ConnectionPhase}
 use Rattle.lapin_history.specs.declared.phases.ConnectionPhase.TheVariants as link
@@ -32,13 +35,14 @@ pub record Wire : Type 0 where
   pub requests : List (ℕ × List Request)
   -- the contents that each channel expects, the oldest first
   pub contents : Channels
-  -- how many tickets were given, how many publishes were accepted, and how many messages were given an acker
+  -- how many tickets were given, and how many publishes were accepted
   pub tickets : ℕ
   pub published : ℕ
-  pub ackers : ℕ
+  -- the consumers with what waits for them, the jobs, the ackers, and what each channel declared
+  pub inbox : Inbox
 
 abbrev pub start : ℕ → Wire
-start frame_max = record { frame_max = frame_max; link = link.Open; phases = []; rest = []; methods = []; publishes = []; requests = []; contents = []; tickets = 0; published = 0; ackers = 0 }
+start frame_max = record { frame_max = frame_max; link = link.Open; phases = []; rest = []; methods = []; publishes = []; requests = []; contents = []; tickets = 0; published = 0; inbox = empty_inbox }
 
 -- ---- states
 
@@ -110,3 +114,9 @@ queued c m awaits b = record b {
   requests = requests_with c (b.tickets + 1) awaits b.requests;
   tickets = b.tickets + 1;
 }
+
+-- ---- consumers, ackers and registries
+
+-- what these marks say of them has happened
+abbrev pub with_inbox : List InboxMark → Wire → Wire
+with_inbox ms b = record b { inbox = fold after_mark b.inbox ms }

@@ -2,8 +2,9 @@
 //!
 //! Here a frame is sorted, once for all methods; what a channel does with it is the session's.
 
-ghost use Rattle.std.specs.Prelude.{◌≡◌};
-ghost use Rattle.lapin_history.specs.Incoming.{incoming_of, incoming_method, on_connection as on_connection_lem, settlement as settlement_lem, frame_class, frame_method};
+ghost use Rattle.std.specs.Prelude.{◌≡◌, false};
+ghost use Rattle.lapin_history.specs.Incoming.{incoming_of, incoming_method, on_connection as on_connection_lem, settlement as settlement_lem, tells_all, frame_class, frame_method};
+ghost use Rattle.lapin_types.specs.Types.basic;
 ghost use Rattle.lapin_types.specs.Types.method as method_;
 ghost use Rattle.lapin_history.specs.Requests.{is_kind as is_kind_lem};
 ghost use Rattle.lapin_history.specs.declared.broker_frames.Incoming.TheVariants as incoming;
@@ -20,7 +21,7 @@ use lapin_content::Start;
 use lapin_types::{
     AccessMethod, Answer, BasicMethod, ChannelMethod, ChannelState, ConfirmMethod,
     ConnectionMethod, ContentHeader, ExchangeMethod, Frame, Method, Payload, Queue, QueueMethod,
-    ReplyKind, Request, TxMethod,
+    ReplyKind, Request, ShortString, TxMethod,
 };
 
 /// A frame that begins a content, or belongs to one.
@@ -30,10 +31,25 @@ pub enum ContentPart {
     GetOk(Start),
     /// The broker gives a message back: what begins its content.
     Return(Start),
+    /// The broker delivers a message to the consumer of this tag: what begins its content, which names no consumer yet.
+    Deliver(ShortString, Start),
     /// The header of a content.
     Header(ContentHeader),
     /// Bytes of a content.
     Body(Payload),
+}
+
+/// A frame that is about consumers, with the tag that it names.
+#[derive(Debug, Drop)]
+pub enum ConsumerPart {
+    /// `basic.consume-ok`.
+    ConsumeOk(ShortString),
+    /// `basic.cancel-ok`.
+    CancelOk(ShortString),
+    /// `basic.recover-ok`.
+    RecoverOk,
+    /// The broker's own `basic.cancel`, and whether it asks for no answer.
+    Cancel(ShortString, bool),
 }
 
 /// A broker's frame, as the rules see it.
@@ -45,6 +61,8 @@ pub enum Incoming {
     Settlement(u16, Settlement),
     /// A part of a content of the channel.
     Content(u16, ContentPart),
+    /// What is about consumers of the channel.
+    Consumer(u16, ConsumerPart),
     /// The broker pauses the channel, or with true ends the pause.
     Flow(u16, bool),
     /// The broker closes the channel, with its reply code.
@@ -161,41 +179,17 @@ fn sort_basic(channel: u16, method: BasicMethod) -> Incoming
 {
     match method {
         BasicMethod::QosOk => done(channel, ReplyKind::BasicQosOk),
-        BasicMethod::RecoverOk => done(channel, ReplyKind::BasicRecoverOk),
-        BasicMethod::GetEmpty => {
-            Incoming::Reply(channel, ReplyKind::BasicGetOk, Answer::Got(None))
+        BasicMethod::RecoverOk => Incoming::Consumer(channel, ConsumerPart::RecoverOk),
+        BasicMethod::ConsumeOk { consumer_tag } => {
+            Incoming::Consumer(channel, ConsumerPart::ConsumeOk(consumer_tag))
         }
-        BasicMethod::GetOk {
-            delivery_tag,
-            redelivered,
-            exchange,
-            routing_key,
-            message_count,
-        } => {
-            let start = Start::Get {
-                ticket: None,
-                delivery_tag,
-                exchange,
-                routing_key,
-                redelivered,
-                message_count,
-            };
-            Incoming::Content(channel, ContentPart::GetOk(start))
+        BasicMethod::CancelOk { consumer_tag } => {
+            Incoming::Consumer(channel, ConsumerPart::CancelOk(consumer_tag))
         }
-        BasicMethod::Return {
-            reply_code,
-            reply_text,
-            exchange,
-            routing_key,
-        } => {
-            let start = Start::Return {
-                reply_code,
-                reply_text,
-                exchange,
-                routing_key,
-            };
-            Incoming::Content(channel, ContentPart::Return(start))
-        }
+        BasicMethod::Cancel {
+            consumer_tag,
+            nowait,
+        } => Incoming::Consumer(channel, ConsumerPart::Cancel(consumer_tag, nowait)),
         BasicMethod::Ack {
             delivery_tag,
             multiple,
@@ -205,8 +199,114 @@ fn sort_basic(channel: u16, method: BasicMethod) -> Incoming
             multiple,
             requeue: _requeue,
         } => settlement(channel, SettleKind::Nack, delivery_tag, multiple),
+        method => sort_content(channel, method),
+    }
+}
+
+// A method that begins a content, or tells that there is none; or one that only a client sends.
+fn sort_content(channel: u16, method: BasicMethod) -> Incoming
+    requires { tells_all method ≡ false }
+    ensures { result ≡ incoming_method channel (method_.Basic method) }
+{
+    match method {
+        BasicMethod::Deliver {
+            consumer_tag,
+            delivery_tag,
+            redelivered,
+            exchange,
+            routing_key,
+        } => delivered(
+            channel,
+            consumer_tag,
+            delivery_tag,
+            redelivered,
+            exchange,
+            routing_key,
+        ),
+        BasicMethod::GetEmpty => {
+            Incoming::Reply(channel, ReplyKind::BasicGetOk, Answer::Got(None))
+        }
+        BasicMethod::GetOk {
+            delivery_tag,
+            redelivered,
+            exchange,
+            routing_key,
+            message_count,
+        } => got(
+            channel,
+            delivery_tag,
+            redelivered,
+            exchange,
+            routing_key,
+            message_count,
+        ),
+        BasicMethod::Return {
+            reply_code,
+            reply_text,
+            exchange,
+            routing_key,
+        } => returned(channel, reply_code, reply_text, exchange, routing_key),
         _ => Incoming::Other,
     }
+}
+
+fn delivered(
+    channel: u16,
+    consumer_tag: ShortString,
+    delivery_tag: u64,
+    redelivered: bool,
+    exchange: ShortString,
+    routing_key: ShortString,
+) -> Incoming
+    ensures { result ≡ incoming_method channel (method_.Basic (basic.Deliver consumer_tag delivery_tag redelivered exchange routing_key)) }
+{
+    let start = Start::Deliver {
+        consumer: None,
+        delivery_tag,
+        exchange,
+        routing_key,
+        redelivered,
+    };
+    Incoming::Content(channel, ContentPart::Deliver(consumer_tag, start))
+}
+
+fn got(
+    channel: u16,
+    delivery_tag: u64,
+    redelivered: bool,
+    exchange: ShortString,
+    routing_key: ShortString,
+    message_count: u32,
+) -> Incoming
+    ensures { result ≡ incoming_method channel (method_.Basic (basic.GetOk delivery_tag redelivered exchange routing_key message_count)) }
+{
+    let start = Start::Get {
+        ticket: None,
+        delivery_tag,
+        exchange,
+        routing_key,
+        redelivered,
+        message_count,
+    };
+    Incoming::Content(channel, ContentPart::GetOk(start))
+}
+
+fn returned(
+    channel: u16,
+    reply_code: u16,
+    reply_text: ShortString,
+    exchange: ShortString,
+    routing_key: ShortString,
+) -> Incoming
+    ensures { result ≡ incoming_method channel (method_.Basic (basic.Return reply_code reply_text exchange routing_key)) }
+{
+    let start = Start::Return {
+        reply_code,
+        reply_text,
+        exchange,
+        routing_key,
+    };
+    Incoming::Content(channel, ContentPart::Return(start))
 }
 
 // A settlement of one tag, or of many.

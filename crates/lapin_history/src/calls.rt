@@ -1,19 +1,22 @@
 //! What a call is to a session: the table of calls.
 //!
-//! One line a call, as the definition of `specs/Calls.antt` says. Four calls do more than to queue their method; all others are
+//! One line a call, as the definition of `specs/Calls.antt` says. Five calls do more than to queue their method; all others are
 //! their line of the table, made by class in the files below. The session asks here, and nothing here knows of a state.
 
 ghost use Rattle.std.specs.Prelude.{◌≡◌, Option, IfOk};
 ghost use Rattle.lapin_history.specs.Calls.{asked, awaiting as awaiting_lem, answered_at_once as answered_at_once_lem, unless_nowait as unless_nowait_lem, done_as_it_leaves as done_as_it_leaves_lem};
 ghost use Rattle.lapin_history.specs.Asking.{is_allowed as is_allowed_lem};
 ghost use Rattle.lapin_history.specs.Select.{is_select as is_select_lem};
+ghost use Rattle.lapin_history.specs.Ackers.{acker_asked};
+ghost use Rattle.lapin_history.specs.declared.calls.Asked.TheVariants as ask;
 ghost use Rattle.lapin_types.specs.Types.method as method_;
 ghost use Rattle.lapin_types.specs.declared.call.Call.TheVariants as call;
 
 use crate::marks::AtLeaving;
 use lapin_types::{
-    Answer, BasicProperties, BasicPublishOptions, Call, ChannelState, ConfirmMethod,
-    ConfirmSelectOptions, Method, NoMemory, Payload, Reply, ShortString, TxMethod,
+    AckerCall, Answer, BasicConsumeOptions, BasicMethod, BasicProperties, BasicPublishOptions,
+    Call, ChannelState, ConfirmMethod, ConfirmSelectOptions, Method, NoMemory, Payload, Reply,
+    ShortString, TxMethod,
 };
 use std::alloc::Global;
 
@@ -27,12 +30,19 @@ mod queue;
 pub struct Row {
     /// The method that the call queues.
     pub method: Method,
-    /// The reply that it awaits, if it awaits one.
-    pub awaits: Option<Reply>,
-    /// The answer that its ticket gets in the call, where it is called without wait.
-    pub made: Option<Answer>,
-    /// The answer that its ticket gets as its frame leaves.
-    pub at_leaving: AtLeaving,
+    /// How its ticket is answered.
+    pub answered: Answered,
+}
+
+/// How the ticket of a call is answered.
+#[derive(Debug, Drop)]
+pub enum Answered {
+    /// By the reply that the call awaits.
+    ByReply(Reply),
+    /// In the call, which is made without wait: with an answer in place of that of the reply.
+    AtOnce(Reply, Answer),
+    /// As its frame leaves.
+    AsItLeaves(AtLeaving),
 }
 
 /// A call, as the rules see it.
@@ -56,6 +66,17 @@ pub enum Asked {
         payload: Payload,
         /// The properties of the message.
         properties: BasicProperties,
+    },
+    /// Registers a consumer itself, without wait.
+    Consume {
+        /// The method that the call queues.
+        method: Method,
+        /// The tag of the consumer.
+        consumer_tag: ShortString,
+        /// The queue that it consumes from.
+        queue: ShortString,
+        /// The marks of the method.
+        options: BasicConsumeOptions,
     },
     /// Any other call: it queues its method, and does what its line says.
     Method(Row),
@@ -150,6 +171,16 @@ pub fn sort_call(alloc: Global, call: Call) -> Result<Asked, NoMemory>
             prefetch_count,
             options,
         } => Ok(basic::qos(prefetch_count, options)),
+        Call::BasicConsume {
+            queue,
+            consumer_tag,
+            options,
+            arguments,
+        } => basic::consume(alloc, queue, consumer_tag, options, arguments),
+        Call::BasicCancel {
+            consumer_tag,
+            options,
+        } => Ok(basic::cancel(consumer_tag, options)),
         Call::BasicGet { queue, options } => Ok(basic::get(queue, options)),
         Call::BasicAck {
             delivery_tag,
@@ -169,6 +200,31 @@ pub fn sort_call(alloc: Global, call: Call) -> Result<Asked, NoMemory>
         Call::TxSelect => Ok(tx(TxMethod::Select, Reply::TxSelectOk)),
         Call::TxCommit => Ok(tx(TxMethod::Commit, Reply::TxCommitOk)),
         Call::TxRollback => Ok(tx(TxMethod::Rollback, Reply::TxRollbackOk)),
+    }
+}
+
+/// What an acker's call asks for: the method of its name with the delivery tag; its ticket answers yes as the frame leaves.
+pub fn acker_row(call: AckerCall, delivery_tag: u64) -> Row
+    ensures { ask.Method result ≡ acker_asked call delivery_tag }
+{
+    let method = match call {
+        AckerCall::Ack(options) => BasicMethod::Ack {
+            delivery_tag,
+            multiple: options.multiple,
+        },
+        AckerCall::Nack(options) => BasicMethod::Nack {
+            delivery_tag,
+            multiple: options.multiple,
+            requeue: options.requeue,
+        },
+        AckerCall::Reject(options) => BasicMethod::Reject {
+            delivery_tag,
+            requeue: options.requeue,
+        },
+    };
+    Row {
+        method: Method::Basic(method),
+        answered: Answered::AsItLeaves(AtLeaving::Yes),
     }
 }
 
@@ -199,9 +255,7 @@ pub(crate) fn awaiting(method: Method, reply: Reply) -> Asked
 {
     Asked::Method(Row {
         method,
-        awaits: Some(reply),
-        made: None,
-        at_leaving: AtLeaving::Nothing,
+        answered: Answered::ByReply(reply),
     })
 }
 
@@ -210,21 +264,19 @@ pub(crate) fn unless_nowait(method: Method, nowait: bool, reply: Reply, answer: 
     ensures { result ≡ unless_nowait_lem method nowait reply answer }
 {
     if nowait {
-        answered_at_once(method, answer)
+        answered_at_once(method, reply, answer)
     } else {
         awaiting(method, reply)
     }
 }
 
 // A call that awaits no reply, and is answered as it is made.
-fn answered_at_once(method: Method, answer: Answer) -> Asked
-    ensures { result ≡ answered_at_once_lem method answer }
+fn answered_at_once(method: Method, reply: Reply, answer: Answer) -> Asked
+    ensures { result ≡ answered_at_once_lem method reply answer }
 {
     Asked::Method(Row {
         method,
-        awaits: None,
-        made: Some(answer),
-        at_leaving: AtLeaving::Nothing,
+        answered: Answered::AtOnce(reply, answer),
     })
 }
 
@@ -234,8 +286,6 @@ pub(crate) fn done_as_it_leaves(method: Method) -> Asked
 {
     Asked::Method(Row {
         method,
-        awaits: None,
-        made: None,
-        at_leaving: AtLeaving::Done,
+        answered: Answered::AsItLeaves(AtLeaving::Done),
     })
 }

@@ -4,7 +4,7 @@
 //! The session asks here.
 
 ghost use Rattle.std.specs.Prelude.{◌≡◌, IfOk};
-ghost use Rattle.lapin_history.specs.ChannelClose.{failed_at_close as failed_at_close_lem, failed_at_close_ok as failed_at_close_ok_lem, close_ok_end as close_ok_end_lem, after_broker_close as after_broker_close_lem, has_sent_close as has_sent_close_lem, close_sent as close_sent_lem};
+ghost use Rattle.lapin_history.specs.ChannelClose.{failed_at_close as failed_at_close_lem, failed_at_close_ok as failed_at_close_ok_lem, close_ok_end as close_ok_end_lem, consumers_end as consumers_end_lem, after_broker_close as after_broker_close_lem, has_sent_close as has_sent_close_lem, close_sent as close_sent_lem};
 ghost use Rattle.lapin_history.specs.ConnectionClose.{link_close_sent as link_close_sent_lem};
 ghost use Rattle.lapin_history.specs.Settlement.{settle_method as settle_method_lem, session_close as session_close_lem};
 ghost use Rattle.lapin_history.specs.Unexpected.{unexpected_close as unexpected_close_lem};
@@ -42,6 +42,20 @@ pub fn close_ok_end(phase: ChannelPhase) -> Option<Error>
 {
     match phase {
         ChannelPhase::Closing { closer, .. } => Some(failed_at_close_ok(closer)),
+        _ => None,
+    }
+}
+
+/// The error that the consumers of a channel get before their end as `channel.close-ok` ends the opening: none where the
+/// application closed it.
+pub fn consumers_end(phase: ChannelPhase) -> Option<Error>
+    ensures { result ≡ consumers_end_lem phase }
+{
+    match phase {
+        ChannelPhase::Closing {
+            closer: Closer::Session,
+            ..
+        } => Some(Error::ProtocolError(406)),
         _ => None,
     }
 }

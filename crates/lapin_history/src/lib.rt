@@ -13,13 +13,13 @@ pub mod marks;
 pub mod phases;
 
 pub use broker_frames::{
-    ContentPart, Incoming, class_of, is_kind, method_of, opens, receives, receives_close,
-    receives_close_ok, receives_down, receives_on, sort_frame,
+    ConsumerPart, ContentPart, Incoming, class_of, is_kind, method_of, opens, receives,
+    receives_close, receives_close_ok, receives_down, receives_on, sort_frame,
 };
-pub use calls::{Asked, Row, is_allowed, is_select, sort_call};
+pub use calls::{Answered, Asked, Row, acker_row, is_allowed, is_select, sort_call};
 pub use closes::{
-    after_broker_close, close_ok_end, close_sent, failed_at_close, has_sent_close, link_close_sent,
-    session_close, unexpected_close,
+    after_broker_close, close_ok_end, close_sent, consumers_end, failed_at_close, has_sent_close,
+    link_close_sent, session_close, unexpected_close,
 };
 pub use marks::{AtLeaving, Outcome, SettleKind, Settlement};
 pub use phases::{ChannelPhase, Closer, ConnectionPhase};

@@ -39,4 +39,6 @@ pub enum AtLeaving {
     Done,
     /// A publish: the number of its confirm.
     Confirm(u64),
+    /// A call of an acker.
+    Yes,
 }

@@ -73,8 +73,9 @@ pub fewer : (n m : ℕ) (w : World) → HasNumbersFor n w → m ≤ n → HasNum
 fewer n m w h le =
     let t : w.wire.tickets + n < 2 ^ 64 = h.tickets in
     let p : w.wire.published + n < 2 ^ 64 = h.confirms in
-    let a : w.wire.ackers + n < 2 ^ 64 = h.ackers in
-    record { tickets = omega arith; confirms = omega arith; ackers = omega arith }
+    let c : length w.wire.inbox.roster.consumers + n < 2 ^ 64 = h.consumers in
+    let a : length w.wire.inbox.switches + n < 2 ^ 64 = h.ackers in
+    record { tickets = omega arith; confirms = omega arith; consumers = omega arith; ackers = omega arith }
 
 chosen_numbers : (n : ℕ) (b : Bool) (j k : Joint World) → HasNumbersFor n j.session → HasNumbersFor n k.session → HasNumbersFor n (cond b j k).session
 chosen_numbers n true j k one other = one
@@ -116,7 +117,7 @@ goes_on s j k steps more h lt is one = record {
 
 new_numbers : (n : ℕ) (w : World) → w ≡ new_world n → HasNumbersFor (2 ^ 64 - 1 - 0) w
 new_numbers n w is =
-    let first : HasNumbersFor (2 ^ 64 - 1 - 0) (new_world n) = record { tickets = omega arith; confirms = omega arith; ackers = omega arith } in
+    let first : HasNumbersFor (2 ^ 64 - 1 - 0) (new_world n) = record { tickets = omega arith; confirms = omega arith; consumers = omega arith; ackers = omega arith } in
     subst (λ (x : World). HasNumbersFor (2 ^ 64 - 1 - 0) x) (sym is) first
 
 pub new_goes_on : (n : ℕ) (w : World) → w ≡ new_world n → GoesOn 0 w

@@ -76,9 +76,14 @@ impl Links {
             Event::Call(channel, call) => self.event(alloc, Event::Call(channel, call)),
             Event::PollTicket(number) => self.event(alloc, Event::PollTicket(number)),
             Event::PollConfirm(number) => self.event(alloc, Event::PollConfirm(number)),
+            Event::PollConsumer(number) => self.event(alloc, Event::PollConsumer(number)),
             Event::PollWait(channel) => self.event(alloc, Event::PollWait(channel)),
             Event::AsideTicket(number) => self.event(alloc, Event::AsideTicket(number)),
             Event::AsideConfirm(number) => self.event(alloc, Event::AsideConfirm(number)),
+            Event::Acker(number, call) => self.event(alloc, Event::Acker(number, call)),
+            Event::Delegate(number) => self.event(alloc, Event::Delegate(number)),
+            Event::DropConsumer(number) => self.event(alloc, Event::DropConsumer(number)),
+            Event::NextJob => self.event(alloc, Event::NextJob),
             Event::State(channel) => self.event(alloc, Event::State(channel)),
         }
     }

@@ -13,12 +13,18 @@ use Rattle.lapin_types.specs.Types.{Error}
 use Rattle.lapin_types.specs.Types.error
 use Rattle.lapin_types.specs.Types.method
 use Rattle.lapin_types.specs.Types.channel
-use Rattle.lapin_content.specs.Contents.{Expected, expected, after_header, after_body, for_ticket}
+use Rattle.lapin_types.specs.declared.acker_call.AckerCall.{AckerCall}
+use Rattle.lapin_types.specs.Types.basic
+use Rattle.lapin_content.specs.Contents.{Expected, expected, after_header, after_body, for_ticket, for_consumer}
 use Rattle.lapin_content.specs.Channels.{Channels, expected_on, after_mark}
 use Rattle.lapin_content.specs.Follows.{Follows}
 use Rattle.lapin_content.specs.Marks.{ContentMark}
 use Rattle.lapin_content.specs.Marks as content
+use Rattle.lapin_content.specs.declared.start.Start.{Start}
 use Rattle.lapin_content.proofs.Following.{follows-push}
+use Rattle.lapin_consumer.specs.Roster.{Consumer, consumer_at, found}
+use Rattle.lapin_inbox.specs.Marks.{InboxMark}
+use Rattle.lapin_inbox.specs.Marks as inbox
 use Rattle.lapin_history.specs.declared.calls.Asked.{Asked}
 use Rattle.lapin_history.specs.declared.calls.Asked.TheVariants as ask
 use Rattle.lapin_history.specs.declared.marks.Settlement.{Settlement}
@@ -40,20 +46,24 @@ use Rattle.lapin_history.specs.Opening.{opens}
 use Rattle.lapin_history.specs.Polls.{is_confirmed, is_returned, is_aside, wait_record}
 use Rattle.lapin_history.specs.Select.{is_select}
 use Rattle.lapin_history.specs.Ends.{live_channels, ends_all, end_with, down}
-use Rattle.lapin_history.specs.Wire.{Wire, state_of, phase_of, is_open, receives_on, noted}
+use Rattle.lapin_history.specs.Wire.{Wire, state_of, phase_of, is_open, receives_on, noted, queued, with_inbox}
 use Rattle.lapin_history.specs.Content.{content_class, get_ticket, receives_part, after_part, whole_on}
 use Rattle.lapin_history.specs.ChannelClose.{after_broker_close, close_marks, close_ok_end, closing, after_close_ok, receives_close, receives_close_ok, phases_sent}
 use Rattle.lapin_history.specs.ConnectionClose.{link_sent, receives_down, after_connection_close}
 use Rattle.lapin_history.specs.Settlement.{settlement_record, session_close}
 use Rattle.lapin_history.specs.Flow.{after_flow}
-use Rattle.lapin_history.specs.Loss.{after_lost}
+use Rattle.lapin_history.specs.Loss.{after_lost, lost_inbox}
 use Rattle.lapin_history.specs.Reply.{receives, receives_reply}
 use Rattle.lapin_history.specs.Unexpected.{refused}
-use Rattle.lapin_history.specs.Asking.{is_allowed, after_call, after_asking, call_marks, asking_marks}
+use Rattle.lapin_history.specs.Asking.{is_allowed, after_call, call_marks, asking_marks, asked_wire, asking_inbox}
 use Rattle.lapin_history.specs.Handing.{sent, handed}
-use Rattle.lapin_history.specs.Receiving.{when, incoming_up, incoming_record, after_incoming, incoming_marks}
+use Rattle.lapin_history.specs.Receiving.{when, incoming_up, incoming_record, incoming_marks, incoming_wire, incoming_inbox}
 use Rattle.lapin_history.specs.Events.{record_of, after_event}
 use Rattle.lapin_history.specs.History.{History, Past, longer, past, rec, run_from, run, readings_of}
+use Rattle.lapin_history.specs.declared.broker_frames.ConsumerPart.{ConsumerPart}
+use Rattle.lapin_history.specs.declared.broker_frames.ConsumerPart.TheVariants as consumer
+use Rattle.lapin_history.specs.Ackers.{acker_method, usable_at, acked_wire, acker_inbox}
+use Rattle.lapin_history.specs.Consumers.{receives_consumer, lets_go_of, cancel_noted, after_let_go, after_drop, drop_inbox, delegate_inbox, job_inbox}
 use Rattle.lapin_machine.specs.Stands.{IsShut}
 use Rattle.lapin_machine.specs.Tied.{is_live_on}
 use Rattle.lapin_machine.proofs.Openings.{heard_opening, reply_opening, crossed_over}
@@ -66,7 +76,8 @@ use Rattle.lapin_laws.proofs.Alive.{live_at, live-with}
 use Rattle.lapin_laws.proofs.Cuts.{ended-ends, live-in}
 use Rattle.lapin_laws.proofs.Expecting.{expected-here, expected-away, joined-away}
 use Rattle.lapin_laws.proofs.Going.{up_sent, live_sent, left_quiet}
-use Rattle.lapin_laws.proofs.Moving.{allowed_up, both, up_open, lost_not_up, queued_quiet, no_ends, whole_quiet, incoming_is}
+use Rattle.lapin_laws.proofs.Moving.{allowed_up, lost_not_up, queued_quiet}
+use Rattle.lapin_laws.proofs.FrameMoves.{both, up_open, no_ends, whole_quiet, incoming_is}
 use Rattle.lapin_laws.proofs.EventMoves.{taken_quiet, drained_quiet, laid_quiet}
 use Rattle.lapin_laws.proofs.Traces.{stands_after}
 
@@ -121,6 +132,10 @@ record Expects (b : Wire) (ms : List ContentMark) : Type 0 where
 
 abbrev Moved : Wire → Wire → List ℕ → List ContentMark → Type 0
 Moved b b' cs new = (ms : List ContentMark) → Expects b ms → Expects b' (ms ++ (map content.Dropped cs ++ new))
+
+-- consumers and ackers have no part in it
+inboxed : (ns : List InboxMark) (b : Wire) (ms : List ContentMark) → Expects b ms → Expects (with_inbox ns b) ms
+inboxed ns b ms x = record { follows = x.follows; quiet = x.quiet }
 
 -- contents stay
 stays : (b b' : Wire) → b'.contents ≡ b.contents → (Quiet b.link b.phases b.contents → Quiet b'.link b'.phases b.contents) → Moved b b' [] []
@@ -192,13 +207,28 @@ call_moved c ask.Open b e = stays b _ refl (λ q. quiet_live c phase.Opening b.l
 call_moved c (ask.CloseChannel code text) b e = stays b _ refl (λ q. quiet_live c (phase.Closing closer.Application false) b.link b.phases b.contents b.contents (λ d n. refl) q (up_by b.link e) refl)
 call_moved c (ask.CloseConnection code text) b e = falls _ b _ refl
 call_moved c (ask.Publish exchange key o payload properties) b e = stays b _ refl (λ q. q)
+call_moved c (ask.Consume m tag queue o) b e = stays b _ refl (λ q. q)
 call_moved c (ask.Method row) b e = subst (λ cs. Moved b (after_call c (ask.Method row) b) cs []) (sym (queued_quiet (is_select row.method) c)) (stays b _ refl (λ q. q))
 
-asked_moved : (c : ℕ) (k : Asked) (b : Wire) → Moved b (after_asking c k b) (ended_in (asking_marks c k b)) []
+asked_moved : (c : ℕ) (k : Asked) (b : Wire) → Moved b (asked_wire c k b) (ended_in (asking_marks c k b)) []
 asked_moved c k b = elim (is_allowed k (state_of c b)) as (λ t. is_allowed k (state_of c b) ≡ t → Moved b (cond t (after_call c k b) b) (ended_in (cond t (call_marks c k b) [])) []) [
   | true ↦ λ a. call_moved c k b (allowed_up b.link k _ a)
   | false ↦ λ a. stays b b refl (λ q. q)
 ] refl
+
+-- ---- ackers, and consumers that are let go
+
+choose_moved : (t : Bool) (b b' : Wire) → b'.contents ≡ b.contents → b'.link ≡ b.link → b'.phases ≡ b.phases → Moved b (cond t b' b) [] []
+choose_moved true b b' e l p = stays b b' e (λ q. rw (l, p) q)
+choose_moved false b b' e l p = stays b b refl (λ q. q)
+
+acked_moved : (o : Option (ℕ × ℕ)) (k : AckerCall) (b : Wire) → Moved b (acked_wire o k b) [] []
+acked_moved None k b = stays b b refl (λ q. q)
+acked_moved (Some x) k b = choose_moved (is_open (state_of x.0 b)) b (queued x.0 (acker_method k x.1) None b) refl refl refl
+
+dropped_moved : (o : Option Consumer) (b : Wire) → Moved b (after_let_go o b) [] []
+dropped_moved None b = stays b b refl (λ q. q)
+dropped_moved (Some x) b = choose_moved (lets_go_of x b) b (cancel_noted x b) refl refl refl
 
 -- ---- frames that leave
 
@@ -211,7 +241,7 @@ sent_moved (Some x) b = stays b _ refl (λ q c dead.
 -- ---- frames of the broker
 
 abbrev Hears : Wire → Incoming → Record → Type 0
-Hears b i r = Moved b (after_incoming i r b) (ended_in (incoming_marks i r b)) (heard_contents r i b)
+Hears b i r = Moved b (incoming_wire i r b) (ended_in (incoming_marks i r b)) (heard_contents r i b)
 
 part_moved : (c : ℕ) (p : ContentPart) (b : Wire) → receives_part c p b ≡ true → Hears b (incoming.Content c p) record_.Received
 part_moved c (part.GetOk s) b h =
@@ -221,6 +251,10 @@ part_moved c (part.GetOk s) b h =
 part_moved c (part.Return s) b h =
     let here = heard_opening b.link c b.phases h in
     one b _ (content.Awaited c content_class s) refl (λ q. quiet_here c b.link b.phases b.contents _ here.live (λ d n. joined-away c d (expected content_class s) b.contents (at_channel c b.contents) n) q)
+part_moved c (part.Deliver tag s) b h =
+    let here = heard_opening b.link c b.phases h in
+    let t : Start = for_consumer (found c tag b.inbox.roster) s in
+    one b _ (content.Awaited c content_class t) refl (λ q. quiet_here c b.link b.phases b.contents _ here.live (λ d n. joined-away c d (expected content_class t) b.contents (at_channel c b.contents) n) q)
 part_moved c (part.Header x) b h =
     let here = heard_opening b.link c b.phases (both (receives_on (state_of c b)) _ h) in
     subst (λ cs. Moved b (after_part c (part.Header x) b) cs (content.Header c x ∷ [])) (sym (whole_quiet c (whole_on c (part.Header x) b)))
@@ -233,6 +267,12 @@ part_moved c (part.Body bytes) b h =
 reply_moved : (t : Bool) (c : ℕ) (b : Wire) → is_up b.link ≡ true → Quiet b.link b.phases b.contents → Quiet b.link (cond t (with_channel c (phase.Open false) b.phases) b.phases) b.contents
 reply_moved true c b up q = quiet_live c (phase.Open false) b.link b.phases b.contents b.contents (λ d n. refl) q up refl
 reply_moved false c b up q = q
+
+consumer_moved : (c : ℕ) (p : ConsumerPart) (b : Wire) → b.link ≡ link.Open → Hears b (incoming.Consumer c p) record_.Received
+consumer_moved c (consumer.ConsumeOk tag) b e = stays b _ refl (λ q. q)
+consumer_moved c (consumer.CancelOk tag) b e = stays b _ refl (λ q. q)
+consumer_moved c consumer.RecoverOk b e = stays b _ refl (λ q. q)
+consumer_moved c (consumer.Cancel tag nowait) b e = choose_moved (is_open (state_of c b) && not nowait) b (noted c (method.Basic (basic.CancelOk tag)) b) refl refl refl
 
 -- the opening of a channel ends
 ended_moved : (c : ℕ) (p : ChannelPhase) (b b' : Wire) → b'.link ≡ b.link → b'.phases ≡ with_channel c p b.phases → b'.contents ≡ on_channel c (λ _. []) b.contents → Moved b b' (c ∷ []) []
@@ -290,6 +330,7 @@ module _ (class number : ℕ) where
   up_moved b readings (incoming.Reply c k a) e = when_moved (receives_reply c k b) b (incoming.Reply c k a) (λ h. stays b _ refl (reply_moved (opens k) c b (up_by b.link e)))
   up_moved b readings (incoming.Settlement c z) e = settlement_moved c z readings b e
   up_moved b readings (incoming.Content c p) e = when_moved (receives_part c p b) b (incoming.Content c p) (λ h. part_moved c p b h)
+  up_moved b readings (incoming.Consumer c p) e = when_moved (receives_consumer c p b) b (incoming.Consumer c p) (λ h. consumer_moved c p b e)
   up_moved b readings (incoming.Flow c active) e = when_moved (receives_on (state_of c b)) b (incoming.Flow c active) (λ h. flow_moved c active b e)
   up_moved b readings (incoming.ChannelClose c code) e = when_moved (receives_close (state_of c b)) b (incoming.ChannelClose c code) (λ h. ended_moved c (after_broker_close (phase_of c b)) b _ refl refl refl)
   up_moved b readings (incoming.ChannelCloseOk c) e = when_moved (receives_close_ok (state_of c b)) b (incoming.ChannelCloseOk c) (λ h. close_ok_moved c (phase_of c b) b refl h)
@@ -313,6 +354,7 @@ module _ (class number : ℕ) where
   down_moved (link.Closing x was) b (incoming.Reply c k a) e d none = stays b b refl (λ q. q)
   down_moved (link.Closing x was) b (incoming.Settlement c z) e d none = stays b b refl (λ q. q)
   down_moved (link.Closing x was) b (incoming.Content c p) e d none = stays b b refl (λ q. q)
+  down_moved (link.Closing x was) b (incoming.Consumer c p) e d none = stays b b refl (λ q. q)
   down_moved (link.Closing x was) b (incoming.Flow c active) e d none = stays b b refl (λ q. q)
   down_moved (link.Closing x was) b (incoming.ChannelClose c code) e d none = stays b b refl (λ q. q)
   down_moved (link.Closing x was) b (incoming.ChannelCloseOk c) e d none = stays b b refl (λ q. q)
@@ -336,16 +378,24 @@ quietly : (b : Wire) (cs : List ℕ) → cs ≡ [] → Moved b b cs []
 quietly b cs none = subst (λ ds. Moved b b ds []) (sym none) (stays b b refl (λ q. q))
 
 event_moved : (b : Wire) (readings : Readings) (e : Event) (ms : List ContentMark) → IsShut b → Expects b ms → Expects (after_event b e (record_of b readings e)) (ms ++ content_marks b e (record_of b readings e))
-event_moved b readings (event.Call c k) ms shut x = asked_moved c (asked k) b ms x
+event_moved b readings (event.Call c k) ms shut x = inboxed (asking_inbox c (asked k) b) (asked_wire c (asked k) b) _ (asked_moved c (asked k) b ms x)
 event_moved b readings (event.Next flow) ms shut x = subst (λ cs. Moved b (after_event b (event.Next flow) (record_of b readings (event.Next flow))) cs []) (sym (left_quiet (handed flow b))) (λ xs y. sent_moved (handed flow b) _ xs (record { follows = y.follows; quiet = y.quiet })) ms x
-event_moved b readings (event.Receive f) ms shut x = incoming_moved (frame_class f) (frame_method f) b.link b readings (incoming_of f) refl shut ms x
+event_moved b readings (event.Receive f) ms shut x =
+    let i : Incoming = incoming_of f in
+    let r : Record = incoming_record b readings (refused (frame_class f) (frame_method f)) i in
+    inboxed (incoming_inbox i r b) (incoming_wire i r b) _ (incoming_moved (frame_class f) (frame_method f) b.link b readings i refl shut ms x)
 event_moved b readings (event.PollTicket n) ms shut x = stays b b refl (λ q. q) ms x
 event_moved b readings (event.PollConfirm n) ms shut x = quietly b _ (taken_quiet (is_confirmed (readings.confirm n)) n) ms x
 event_moved b readings (event.PollWait c) ms shut x = quietly b _ (drained_quiet (is_returned (wait_record c b readings)) c) ms x
 event_moved b readings (event.AsideTicket n) ms shut x = stays b b refl (λ q. q) ms x
 event_moved b readings (event.AsideConfirm n) ms shut x = quietly b _ (laid_quiet (is_aside (readings.confirm_aside n)) n) ms x
+event_moved b readings (event.PollConsumer n) ms shut x = inboxed (inbox.Polled n ∷ []) b _ (stays b b refl (λ q. q) ms x)
+event_moved b readings (event.Acker n k) ms shut x = inboxed (acker_inbox n k b) (acked_wire (usable_at n b) k b) _ (acked_moved (usable_at n b) k b ms x)
+event_moved b readings (event.Delegate n) ms shut x = inboxed (delegate_inbox n b) b _ (stays b b refl (λ q. q) ms x)
+event_moved b readings (event.DropConsumer n) ms shut x = inboxed (drop_inbox n b) (after_drop n b) _ (dropped_moved (consumer_at n b.inbox.roster) b ms x)
+event_moved b readings event.NextJob ms shut x = inboxed (job_inbox b) b _ (stays b b refl (λ q. q) ms x)
 event_moved b readings (event.State c) ms shut x = stays b b refl (λ q. q) ms x
-event_moved b readings event.Lost ms shut x = lost_moved b shut ms x
+event_moved b readings event.Lost ms shut x = inboxed (lost_inbox b) (after_lost b) _ (lost_moved b shut ms x)
 
 -- ---- every list of events
 

@@ -1,5 +1,5 @@
 -- Which gets have a content that is expected: after one more begins, after a header or a body, and as an opening ends.
-use Rattle.std.proofs.Common.{◌≡◌, ◌≢◌, ℕ, ◌==◌, true, false, cond, List, [], ◌∷◌, ◌++◌, Option, Some, None, refl, sym, ◌∙◌, ap, subst, ◌⊎◌, inl, inr, eq-eqb, ne_eqb}
+use Rattle.std.proofs.Common.{◌≡◌, ◌≢◌, ℕ, ◌==◌, true, false, cond, List, [], ◌∷◌, ◌++◌, Option, Some, None, refl, sym, ◌∙◌, ap, subst, ◌⊎◌, inl, inr, eq-eqb, ne_eqb, Bool}
 use Rattle.std.specs.Option.{option_map, option_or}
 use Rattle.std.proofs.lemmas.Bool.Decides.{eqb_tells}
 use Rattle.lapin_methods.specs.declared.frame.ContentHeader.{ContentHeader}
@@ -11,7 +11,7 @@ use Rattle.lapin_content.specs.declared.start.Whole.{Whole}
 use Rattle.lapin_content.specs.Contents.{Expected, Begun, grown, has_left, waits_for, takes_body, front_waits, front_takes, if_whole, unless_whole, after_header, after_body, for_ticket}
 use Rattle.lapin_content.specs.Channels.{Channels, listed, expected_on, joined, joined_at}
 use Rattle.lapin_history.specs.declared.broker_frames.ContentPart.TheVariants as part
-use Rattle.lapin_history.specs.Content.{for_get, whole_by}
+use Rattle.lapin_history.specs.Content.{whole_by}
 use Rattle.lapin_history.proofs.ChannelLaws.{at-on}
 use Rattle.lapin_laws.specs.Owed.{IsIn, start_ticket, content_tickets}
 
@@ -111,7 +111,11 @@ body_keeps n bytes (e ∷ es) takes i =
     rw front (grows n bytes e.class_id e.start es e.begun takes i)
 
 -- what begins a get's content names its get
-pub names_its_get : (s : Start) (t : Option ℕ) → for_get s ≡ true → start_ticket (for_ticket t s) ≡ t
+abbrev pub is_get : Start → Bool
+is_get (start.Get ticket tag exchange key redelivered count) = true
+is_get _ = false
+
+pub names_its_get : (s : Start) (t : Option ℕ) → is_get s ≡ true → start_ticket (for_ticket t s) ≡ t
 names_its_get (start.Get ticket tag exchange key redelivered count) t h = refl
 names_its_get (start.Return code text exchange key) t h = cc
 names_its_get (start.Deliver consumer tag exchange key redelivered) t h = cc

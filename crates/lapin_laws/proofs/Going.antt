@@ -35,7 +35,7 @@ use Rattle.lapin_laws.proofs.Closes.{AreMarked, marks_sent}
 use Rattle.lapin_laws.proofs.Parts.{IsPart, Behind, part-first}
 use Rattle.lapin_laws.proofs.Cuts.{frames_of, cut_at, parses-ends, parses-calls}
 use Rattle.lapin_laws.proofs.Moving.{ArePlain, Sound, Moves}
-use Rattle.lapin_laws.proofs.EventMoves.{call_event, incoming_event, lost_event, ticket_event, aside_event, confirm_event, state_event, wait_event, laid_event}
+use Rattle.lapin_laws.proofs.EventMoves.{call_event, incoming_event, lost_event, ticket_event, aside_event, confirm_event, state_event, wait_event, laid_event, poll_event, acker_event, delegate_event, drop_event, job_event}
 
 -- ---- a frame that leaves
 
@@ -291,5 +291,10 @@ goes n b readings (event.PollConfirm m) shut s = moves_go n b _ _ _ (confirm_eve
 goes n b readings (event.PollWait c) shut s = moves_go n b _ _ _ (wait_event n b readings c s)
 goes n b readings (event.AsideConfirm m) shut s = moves_go n b _ _ _ (laid_event n b readings m s)
 goes n b readings (event.AsideTicket m) shut s = moves_go n b _ _ _ (aside_event n b readings m s)
+goes n b readings (event.PollConsumer m) shut s = moves_go n b _ _ _ (poll_event n b readings m s)
+goes n b readings (event.Acker m k) shut s = moves_go n b _ _ _ (acker_event n b readings m k s)
+goes n b readings (event.Delegate m) shut s = moves_go n b _ _ _ (delegate_event n b readings m s)
+goes n b readings (event.DropConsumer m) shut s = moves_go n b _ _ _ (drop_event n b readings m s)
+goes n b readings event.NextJob shut s = moves_go n b _ _ _ (job_event n b readings s)
 goes n b readings (event.State c) shut s = moves_go n b _ _ _ (state_event n b readings c s)
 goes n b readings event.Lost shut s = moves_go n b _ _ _ (lost_event n b readings shut s)

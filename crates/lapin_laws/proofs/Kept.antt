@@ -1,5 +1,5 @@
 -- A connection that is not open any more, and channels without a live opening.
-use Rattle.std.proofs.Common.{◌≡◌, ℕ, Bool, true, false, List, [], ◌∷◌, refl, sym, ◌∙◌, ap, subst, drop, inl, inr, Option, Some, None, ◌&&◌}
+use Rattle.std.proofs.Common.{◌≡◌, ℕ, Bool, true, false, List, [], ◌∷◌, refl, sym, ◌∙◌, ap, subst, drop, inl, inr, Option, Some, None, ◌&&◌, cond}
 use Rattle.std.proofs.lemmas.Bool.Decides.{eqb_tells}
 use Rattle.std.specs.List.{fold, list_any}
 use Rattle.lapin_tables.specs.ByChannel.{at_channel}
@@ -10,6 +10,8 @@ use Rattle.lapin_types.specs.declared.record.Record.TheVariants as record_
 use Rattle.lapin_types.specs.declared.leaving.Left.{Left}
 use Rattle.lapin_types.specs.declared.leaving.Publish.{Publish}
 use Rattle.lapin_types.specs.Types.channel_state as state
+use Rattle.lapin_types.specs.declared.acker_call.AckerCall.{AckerCall}
+use Rattle.lapin_consumer.specs.Roster.{Consumer, consumer_at}
 use Rattle.lapin_history.specs.declared.calls.Asked.{Asked}
 use Rattle.lapin_history.specs.declared.broker_frames.Incoming.{Incoming}
 use Rattle.lapin_history.specs.declared.phases.ConnectionPhase.{ConnectionPhase}
@@ -28,6 +30,8 @@ use Rattle.lapin_history.specs.Asking.{is_allowed, after_asking}
 use Rattle.lapin_history.specs.Receiving.{incoming_record, after_incoming}
 use Rattle.lapin_history.specs.Handing.{frame_record, handed, sent}
 use Rattle.lapin_history.specs.Events.{record_of, after_event, confirm_marks}
+use Rattle.lapin_history.specs.Ackers.{acker_asked, usable_at, acked_wire}
+use Rattle.lapin_history.specs.Consumers.{lets_go_of, cancel_noted, after_let_go}
 use Rattle.lapin_machine.specs.Stands.{IsShut}
 use Rattle.lapin_machine.specs.Tied.{is_live_on}
 use Rattle.lapin_machine.specs.World.{World, new_world, next, next_anew, told_by, readings_of}
@@ -91,6 +95,19 @@ call_lost c k b e =
     let shut : is_allowed k (state_of c b) ≡ false = ap (is_allowed k) at ∙ shut_refuses k in
     rw shut (ap is_lost e)
 
+acked_lost : (o : Option (ℕ × ℕ)) (k : AckerCall) (b : Wire) → b.link ≡ link.Lost → is_lost (acked_wire o k b).link ≡ true
+acked_lost None k b e = ap is_lost e
+acked_lost (Some x) k b e = call_lost x.0 (acker_asked k x.1) b e
+
+let_go_link : (t : Bool) (x : Consumer) (b : Wire) → (cond t (cancel_noted x b) b).link ≡ b.link
+let_go_link true x b = refl
+let_go_link false x b = refl
+
+-- a consumer that is let go moves no connection
+pub dropped_link : (o : Option Consumer) (b : Wire) → (after_let_go o b).link ≡ b.link
+dropped_link None b = refl
+dropped_link (Some x) b = let_go_link (lets_go_of x b) x b
+
 incoming_lost : (readings : Readings) (r : Record) (i : Incoming) (b : Wire) → b.link ≡ link.Lost → is_lost (after_incoming i (incoming_record b readings r i) b).link ≡ true
 incoming_lost readings r i b e = rw e refl
 
@@ -103,6 +120,11 @@ lost-next b readings (event.PollConfirm n) h = h
 lost-next b readings (event.PollWait c) h = h
 lost-next b readings (event.AsideTicket n) h = h
 lost-next b readings (event.AsideConfirm n) h = h
+lost-next b readings (event.PollConsumer n) h = h
+lost-next b readings (event.Acker n k) h = acked_lost (usable_at n b) k b (is_link_lost b.link h)
+lost-next b readings (event.Delegate n) h = h
+lost-next b readings (event.DropConsumer n) h = ap is_lost (dropped_link (consumer_at n b.inbox.roster) b) ∙ h
+lost-next b readings event.NextJob h = h
 lost-next b readings (event.State c) h = h
 lost-next b readings event.Lost h = rw h h
 

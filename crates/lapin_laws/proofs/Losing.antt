@@ -1,7 +1,8 @@
 -- After a loss no ticket is open.
-use Rattle.std.proofs.Common.{◌≡◌, ℕ, zero, suc, Bool, true, false, cond, not, List, [], ◌∷◌, map, Option, Some, None, Result, Err, refl, sym, subst, ◌∙◌, ap}
+use Rattle.std.proofs.Common.{◌≡◌, ℕ, zero, suc, Bool, true, false, cond, not, List, [], ◌∷◌, map, Option, Some, None, Result, Err, refl, sym, subst, ◌∙◌, ap, ◌++◌, ◌&&◌}
 use Rattle.std.specs.Prelude.{slice_set, slice_index_or}
 use Rattle.std.specs.List.{fold}
+use Rattle.std.proofs.lemmas.List.Sums.{fold-append}
 use Rattle.lapin_tables.specs.Numbered.{under, with_under}
 use Rattle.lapin_types.specs.declared.answer.Answer.{Answer}
 use Rattle.lapin_types.specs.declared.event.Event.{Event}
@@ -13,6 +14,9 @@ use Rattle.lapin_types.specs.Types.{Error}
 use Rattle.lapin_types.specs.Types.error
 use Rattle.lapin_types.specs.Types.method
 use Rattle.lapin_types.specs.Types.channel
+use Rattle.lapin_types.specs.Types.basic
+use Rattle.lapin_types.specs.declared.acker_call.AckerCall.{AckerCall}
+use Rattle.lapin_consumer.specs.Roster.{consumer_at}
 use Rattle.lapin_history.specs.declared.calls.Asked.{Asked}
 use Rattle.lapin_history.specs.declared.calls.Asked.TheVariants as ask
 use Rattle.lapin_history.specs.declared.phases.ChannelPhase.{ChannelPhase}
@@ -42,6 +46,13 @@ use Rattle.lapin_history.specs.Readings.{Readings}
 use Rattle.lapin_history.specs.Asking.{is_allowed, after_call, call_tickets}
 use Rattle.lapin_history.specs.Handing.{handed, sent}
 use Rattle.lapin_history.specs.Receiving.{after_received, after_failed, after_refused, after_incoming, incoming_record, incoming_tickets}
+use Rattle.lapin_history.specs.declared.broker_frames.ConsumerPart.{ConsumerPart}
+use Rattle.lapin_history.specs.declared.broker_frames.ConsumerPart.TheVariants as consumer
+use Rattle.lapin_history.specs.Ackers.{acker_asked, usable_at, acked_wire, acked_tickets}
+use Rattle.lapin_history.specs.Consumers.{after_consumer}
+use Rattle.lapin_history.specs.Ends.{live_channels, cancels_on}
+use Rattle.lapin_history.specs.Ends as ends
+use Rattle.lapin_history.specs.Loss.{lost_tickets}
 use Rattle.lapin_ticket.specs.declared.Slot.{Slot}
 use Rattle.lapin_ticket.specs.declared.Slot.TheVariants as slot
 use Rattle.lapin_ticket.specs.Slots.{answered_slot, after_mark, is_awaited}
@@ -50,7 +61,7 @@ use Rattle.lapin_machine.proofs.Back.{next_none, still_none}
 use Rattle.lapin_laws.specs.Runs.{world_after}
 use Rattle.lapin_laws.proofs.Moving.{Sound, allowed_up, start_sound, lost_not_up}
 use Rattle.lapin_laws.proofs.Going.{lost_sent}
-use Rattle.lapin_laws.proofs.Kept.{Kept, kept-next, no_rest, no_publishes, is_link_lost}
+use Rattle.lapin_laws.proofs.Kept.{Kept, kept-next, no_rest, no_publishes, is_link_lost, dropped_link}
 
 abbrev NoneOpen : List (Option Slot) → Type 0
 NoneOpen slots = (t : ℕ) → is_awaited (under t slots) ≡ false
@@ -102,6 +113,7 @@ called c (ask.CloseChannel code text) b e = rw e refl
 called c (ask.CloseConnection code text) b e = refl
 called c (ask.Publish exchange key o payload properties) b e = rw e refl
 called c (ask.Method row) b e = rw e refl
+called c (ask.Consume m tag queue o) b e = rw e refl
 
 close_answered : (c : ℕ) (p : ChannelPhase) (b : Wire) → NotLost b → NotLost (after_close_ok c p b)
 close_answered c phase.Closed b h = h
@@ -120,13 +132,21 @@ connection_closed link.Lost b = refl
 part_received : (c : ℕ) (p : ContentPart) (b : Wire) → NotLost b → NotLost (after_part c p b)
 part_received c (part.GetOk x) b h = h
 part_received c (part.Return x) b h = h
+part_received c (part.Deliver tag x) b h = h
 part_received c (part.Header x) b h = h
 part_received c (part.Body bytes) b h = h
+
+consumer_received : (c : ℕ) (p : ConsumerPart) (b : Wire) → NotLost b → NotLost (after_consumer c p b)
+consumer_received c (consumer.ConsumeOk tag) b h = h
+consumer_received c (consumer.CancelOk tag) b h = h
+consumer_received c consumer.RecoverOk b h = h
+consumer_received c (consumer.Cancel tag nowait) b h = either (is_open (state_of c b) && not nowait) (noted c (method.Basic (basic.CancelOk tag)) b) b h h
 
 received : (i : Incoming) (b : Wire) → NotLost b → NotLost (after_received i b)
 received (incoming.Reply c k a) b h = h
 received (incoming.Settlement c z) b h = h
 received (incoming.Content c p) b h = part_received c p b h
+received (incoming.Consumer c p) b h = consumer_received c p b h
 received (incoming.Flow c active) b h = either (is_open (state_of c b)) (noted c (method.Channel (channel.FlowOk active)) (record b { phases = with_channel c (phase.Open (not active)) b.phases })) b h h
 received (incoming.ChannelClose c code) b h = h
 received (incoming.ChannelCloseOk c) b h = close_answered c (phase_of c b) b h
@@ -136,41 +156,17 @@ received incoming.Other b h = h
 
 failed : (i : Incoming) (b : Wire) → NotLost b → NotLost (after_failed i b)
 failed (incoming.Settlement c z) b h = either (is_open (state_of c b)) (noted c (session_close z.kind) (closing c closer.Session b)) b h h
-failed (incoming.Reply c k a) b h = h
-failed (incoming.Content c p) b h = h
-failed (incoming.Flow c active) b h = h
-failed (incoming.ChannelClose c code) b h = h
-failed (incoming.ChannelCloseOk c) b h = h
-failed (incoming.ConnectionClose code) b h = h
-failed incoming.ConnectionCloseOk b h = h
-failed incoming.Other b h = h
+failed _ b h = h
 
 turned_away : (i : Incoming) (x : Error) (b : Wire) → NotLost b → NotLost (after_refused i x b)
-turned_away i error.NoMemory b h = h
-turned_away i error.NumbersUsedUp b h = h
-turned_away i (error.InvalidChannelState s) b h = h
-turned_away i (error.ProtocolError code) b h = h
-turned_away i error.ConnectionLost b h = h
 turned_away i (error.UnexpectedFrame class number) b h = refl
 turned_away i (error.PreconditionFailed tag current) b h = failed i b h
-turned_away i error.AlreadyTaken b h = h
-turned_away i error.UnknownTicket b h = h
+turned_away i _ b h = h
 
 incoming_not_lost : (i : Incoming) (r : Record) (b : Wire) → NotLost b → NotLost (after_incoming i r b)
 incoming_not_lost i (record_.Refused x) b h = turned_away i x b h
 incoming_not_lost i record_.Received b h = received i b h
-incoming_not_lost i (record_.Ticket n) b h = h
-incoming_not_lost i (record_.Publish t n) b h = h
-incoming_not_lost i (record_.Frame f) b h = h
-incoming_not_lost i record_.NoFrame b h = h
-incoming_not_lost i record_.Passed b h = h
-incoming_not_lost i record_.Pending b h = h
-incoming_not_lost i (record_.Answer a) b h = h
-incoming_not_lost i (record_.Confirmed o) b h = h
-incoming_not_lost i (record_.State x y) b h = h
-incoming_not_lost i record_.Aside b h = h
-incoming_not_lost i (record_.Returned ms) b h = h
-incoming_not_lost i record_.Lost b h = h
+incoming_not_lost i _ b h = h
 
 -- ---- every event
 
@@ -184,6 +180,10 @@ call_answered c k b slots h = elim (is_allowed k (state_of c b)) as (λ t. is_al
   | false ↦ λ a. h
 ] refl
 
+acked_answered : (o : Option (ℕ × ℕ)) (k : AckerCall) (b : Wire) (slots : List (Option Slot)) → Answered b slots → Answered (acked_wire o k b) (fold after_mark slots (acked_tickets o k b))
+acked_answered None k b slots h = h
+acked_answered (Some x) k b slots h = call_answered x.0 (acker_asked k x.1) b slots h
+
 passed : (i : Incoming) (readings : Readings) (r : Record) (b : Wire) → b.link ≡ link.Lost → incoming_record b readings r i ≡ record_.Passed
 passed i readings r b e = rw e refl
 
@@ -193,8 +193,11 @@ incoming_answered i readings r b slots h = elim (is_lost b.link) as (λ t. is_lo
   | false ↦ λ e l. let z : true ≡ false = sym l ∙ incoming_not_lost i (incoming_record b readings r i) b e in absurd cc
 ] refl
 
-lost_answered : (b : Wire) (slots : List (Option Slot)) → Answered b slots → NoneOpen (fold after_mark slots (cond (is_lost b.link) [] (ticket.AllFailed error.ConnectionLost ∷ [])))
-lost_answered b slots h = elim (is_lost b.link) as (λ t. is_lost b.link ≡ t → NoneOpen (fold after_mark slots (cond t [] (ticket.AllFailed error.ConnectionLost ∷ [])))) [ true ↦ λ e. h e | false ↦ λ e. all_failed error.ConnectionLost slots ] refl
+ended_all : (ms : List TicketMark) (e : Error) (slots : List (Option Slot)) → NoneOpen (fold after_mark slots (ms ++ ticket.AllFailed e ∷ []))
+ended_all ms e slots = subst NoneOpen (sym (fold-append after_mark slots ms (ticket.AllFailed e ∷ []))) (all_failed e (fold after_mark slots ms))
+
+lost_answered : (b : Wire) (slots : List (Option Slot)) → Answered b slots → NoneOpen (fold after_mark slots (lost_tickets b))
+lost_answered b slots h = elim (is_lost b.link) as (λ t. is_lost b.link ≡ t → NoneOpen (fold after_mark slots (cond t [] (ends.all_failed error.ConnectionLost b)))) [ true ↦ λ e. h e | false ↦ λ e. ended_all (cancels_on (live_channels b.phases) b.requests) error.ConnectionLost slots ] refl
 
 handed_none : (n : ℕ) (flow : Bool) (w : World) → Sound n w.wire → is_lost w.wire.link ≡ true → handed flow w.wire ≡ None
 handed_none n flow w s l =
@@ -220,6 +223,11 @@ answered-anew n w (event.AsideTicket m) s h = λ l. polled_none _ m (ticket.SetA
 answered-anew n w (event.PollConfirm m) s h = h
 answered-anew n w (event.PollWait c) s h = h
 answered-anew n w (event.AsideConfirm m) s h = h
+answered-anew n w (event.PollConsumer m) s h = h
+answered-anew n w (event.Acker m k) s h = acked_answered (usable_at m w.wire) k w.wire w.slots h
+answered-anew n w (event.Delegate m) s h = h
+answered-anew n w (event.DropConsumer m) s h = λ l. h (ap is_lost (sym (dropped_link (consumer_at m w.wire.inbox.roster) w.wire)) ∙ l)
+answered-anew n w event.NextJob s h = h
 answered-anew n w (event.State c) s h = h
 answered-anew n w event.Lost s h = λ l. lost_answered w.wire w.slots h
 

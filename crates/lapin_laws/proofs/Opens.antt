@@ -57,6 +57,7 @@ module _ (c : ℕ) (a : AtLeaving) (g : Bool) where
   left_was (Some (slot.Open d leaving.Nothing b)) h = (h, cc)
   left_was (Some (slot.Open d leaving.Done b)) h = cc
   left_was (Some (slot.Open d (leaving.Confirm k) b)) h = cc
+  left_was (Some (slot.Open d leaving.Yes b)) h = cc
   left_was (Some (slot.Held y)) h = cc
 
   closed_was : (d : ℕ) (e : Error) (o : Option Slot) → Opened (closed_slot d e o) → Opened o × ((d == c && (is_publish a && not g)) ≡ false)

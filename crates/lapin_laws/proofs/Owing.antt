@@ -12,7 +12,6 @@ use Rattle.lapin_types.specs.Types.{Error}
 use Rattle.lapin_history.proofs.ChannelLaws.{at-with}
 use Rattle.lapin_history.specs.declared.marks.AtLeaving.{AtLeaving}
 use Rattle.lapin_history.specs.declared.marks.AtLeaving.TheVariants as leaving
-use Rattle.lapin_history.specs.TicketReadings.{TicketMark}
 use Rattle.lapin_history.specs.TicketReadings as ticket
 use Rattle.lapin_history.specs.Words.{without_first, with_channel}
 use Rattle.lapin_history.specs.Requests.{requests_in, ticket_of, with_request, resolved_with, request_alone}
@@ -126,6 +125,10 @@ module _ (rs : Table) (cs : Channels) (slots : List (Option Slot)) (t c : ℕ) (
         | inl y ↦ h n d g y
         | inr y ↦ let number : n ≡ t + 1 = y.0 ∙ ap (λ k. k + 1) (sym count) in absurd (was.0 (sym number))
       ]
+
+-- or opens a request that nobody holds a ticket of
+pub notes : (c : ℕ) (r : Reply) (rs : Table) (cs : Channels) (slots : List (Option Slot)) → Owed rs cs slots → Owed (with_request c (record { ticket = None; reply = r }) rs) cs slots
+notes c r rs cs slots h = λ n d g x. requested (has_with n c d _ rs (λ i. in_pushed n _ (requests_in (at_channel c rs)) i)) (h n d g x)
 
 -- the oldest request of a kind is answered
 pub answers : (c : ℕ) (f : Request → Bool) (x : Result Answer Error) (rs : Table) (cs : Channels) (slots : List (Option Slot)) → Owed rs cs slots → Owed (with_channel c (without_first f (requests_in (at_channel c rs))) rs) cs (fold after_mark slots (resolved_with x (ticket_of (find f (requests_in (at_channel c rs))))))

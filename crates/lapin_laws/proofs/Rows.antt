@@ -1,14 +1,20 @@
--- Which methods the table of calls queues.
-use Rattle.std.proofs.Common.{◌≡◌, ℕ, Bool, true, false, refl}
-use Rattle.lapin_types.specs.declared.answer.Answer.{Answer}
+-- What stands in a line of the table of calls: a method that is no publish and no close of a channel, and how its ticket is answered.
+-- The search closes each line as a case of its own, so a new line touches nothing here: the case that is named makes it tell them apart.
+use Rattle.std.proofs.Common.{◌≡◌, ℕ, Bool, true, false, rules}
+use Rattle.lapin_types.specs.declared.acker_call.AckerCall.{AckerCall}
+use Rattle.lapin_types.specs.declared.acker_call.AckerCall.TheVariants as acker_call
 use Rattle.lapin_types.specs.declared.call.Call.{Call}
 use Rattle.lapin_types.specs.declared.call.Call.TheVariants as call
-use Rattle.lapin_types.specs.declared.request.Reply.{Reply}
 use Rattle.lapin_types.specs.Types.{Method}
 use Rattle.lapin_types.specs.Types.frame
+use Rattle.lapin_history.specs.declared.calls.Answered.{Answered}
+use Rattle.lapin_history.specs.declared.calls.Answered.TheVariants as answered
 use Rattle.lapin_history.specs.declared.calls.Asked.{Asked}
 use Rattle.lapin_history.specs.declared.calls.Asked.TheVariants as ask
-use Rattle.lapin_history.specs.Calls.{asked, unless_nowait}
+use Rattle.lapin_history.specs.TicketReadings.{answer_at}
+use Rattle.lapin_history.specs.Words.{is_some}
+use Rattle.lapin_history.specs.Calls.{asked}
+use Rattle.lapin_history.specs.Ackers.{acker_asked}
 use Rattle.lapin_laws.specs.Closes.{is_channel_close}
 use Rattle.lapin_laws.specs.Unbroken.{is_publish}
 
@@ -16,39 +22,20 @@ use Rattle.lapin_laws.specs.Unbroken.{is_publish}
 abbrev pub IsPlain : ℕ → Method → Type 0
 IsPlain c m = (is_publish (frame.Method c m) ≡ false) × (is_channel_close m ≡ false)
 
-abbrev pub IsPlainRow : ℕ → Asked → Type 0
-IsPlainRow c (ask.Method row) = IsPlain c row.method
-IsPlainRow c _ = Unit {0}
+-- what is answered as it leaves has an answer then
+abbrev pub is_sure : Answered → Bool
+is_sure (answered.AsItLeaves l) = is_some (answer_at l)
+is_sure _ = true
 
-nowait_plain : (c : ℕ) (m : Method) (t : Bool) (r : Reply) (a : Answer) → IsPlain c m → IsPlainRow c (unless_nowait m t r a)
-nowait_plain c m true r a h = h
-nowait_plain c m false r a h = h
+abbrev pub IsLine : ℕ → Asked → Type 0
+IsLine c (ask.Method row) = IsPlain c row.method × (is_sure row.answered ≡ true)
+IsLine c (ask.Consume m tag queue o) = IsPlain c m
+IsLine c _ = Unit {0}
 
--- the four calls that do more stand apart from the table's lines
-pub row_plain : (c : ℕ) (k : Call) → IsPlainRow c (asked k)
-row_plain c call.OpenChannel = tt
-row_plain c (call.ChannelClose code text) = tt
-row_plain c (call.ConnectionClose code text) = tt
-row_plain c (call.BasicPublish exchange key o payload properties) = tt
-row_plain c (call.ChannelFlow o) = (refl, refl)
-row_plain c (call.AccessRequest realm o) = (refl, refl)
-row_plain c (call.ExchangeDeclare name kind o more) = nowait_plain c _ o.nowait _ _ (refl, refl)
-row_plain c (call.ExchangeDelete name o) = nowait_plain c _ o.nowait _ _ (refl, refl)
-row_plain c (call.ExchangeBind to from key o more) = nowait_plain c _ o.nowait _ _ (refl, refl)
-row_plain c (call.ExchangeUnbind to from key o more) = nowait_plain c _ o.nowait _ _ (refl, refl)
-row_plain c (call.QueueDeclare name o more) = nowait_plain c _ o.nowait _ _ (refl, refl)
-row_plain c (call.QueueBind name from key o more) = nowait_plain c _ o.nowait _ _ (refl, refl)
-row_plain c (call.QueuePurge name o) = nowait_plain c _ o.nowait _ _ (refl, refl)
-row_plain c (call.QueueDelete name o) = nowait_plain c _ o.nowait _ _ (refl, refl)
-row_plain c (call.QueueUnbind name from key more) = (refl, refl)
-row_plain c (call.BasicQos most o) = (refl, refl)
-row_plain c (call.BasicGet name o) = (refl, refl)
-row_plain c (call.BasicAck tag o) = (refl, refl)
-row_plain c (call.BasicNack tag o) = (refl, refl)
-row_plain c (call.BasicReject tag o) = (refl, refl)
-row_plain c (call.BasicRecoverAsync o) = (refl, refl)
-row_plain c (call.BasicRecover o) = (refl, refl)
-row_plain c (call.ConfirmSelect o) = nowait_plain c _ o.nowait _ _ (refl, refl)
-row_plain c call.TxSelect = (refl, refl)
-row_plain c call.TxCommit = (refl, refl)
-row_plain c call.TxRollback = (refl, refl)
+pub call_line : (c : ℕ) (k : Call) → IsLine c (asked k)
+call_line c call.OpenChannel = tt
+call_line c k = search rules
+
+pub acker_line : (c tag : ℕ) (k : AckerCall) → IsLine c (acker_asked k tag)
+acker_line c tag (acker_call.Ack o) = search rules
+acker_line c tag k = search rules

@@ -18,6 +18,9 @@ use Rattle.lapin_types.specs.Types.method
 use Rattle.lapin_types.specs.Types.channel
 use Rattle.lapin_types.specs.Types.error
 use Rattle.lapin_types.specs.Types.channel_state as state
+use Rattle.lapin_types.specs.declared.acker_call.AckerCall.{AckerCall}
+use Rattle.lapin_types.specs.Types.basic
+use Rattle.lapin_consumer.specs.Roster.{Consumer, consumer_at, is_idle}
 use Rattle.lapin_history.specs.declared.calls.Asked.{Asked}
 use Rattle.lapin_history.specs.declared.calls.Asked.TheVariants as ask
 use Rattle.lapin_history.specs.declared.marks.Settlement.{Settlement}
@@ -28,7 +31,7 @@ use Rattle.lapin_history.specs.declared.phases.ConnectionPhase.TheVariants as li
 use Rattle.lapin_history.specs.declared.phases.Closer.TheVariants as closer
 use Rattle.lapin_history.specs.declared.broker_frames.Incoming.{Incoming}
 use Rattle.lapin_history.specs.declared.broker_frames.Incoming.TheVariants as incoming
-use Rattle.lapin_history.specs.Calls.{asked}
+use Rattle.lapin_history.specs.Calls.{asked, awaited_by}
 use Rattle.lapin_history.specs.Incoming.{incoming_of, frame_class, frame_method}
 use Rattle.lapin_history.specs.Words.{is_some, without_first, with_channel}
 use Rattle.lapin_history.specs.Phases.{is_up, is_lost, is_live, channel_state}
@@ -44,19 +47,24 @@ use Rattle.lapin_history.specs.ChannelClose.{has_sent_close, kept_at, phases_sen
 use Rattle.lapin_history.specs.ConnectionClose.{link_sent, receives_down, after_connection_close}
 use Rattle.lapin_history.specs.Settlement.{settlement_record, session_close}
 use Rattle.lapin_history.specs.Loss.{after_lost}
-use Rattle.lapin_history.specs.Reply.{receives, receives_reply}
+use Rattle.lapin_history.specs.Reply.{receives, receives_reply, after_reply}
 use Rattle.lapin_history.specs.Unexpected.{refused}
 use Rattle.lapin_history.specs.Asking.{is_allowed, after_call, after_asking}
 use Rattle.lapin_history.specs.Receiving.{when, incoming_up, incoming_record, after_incoming}
 use Rattle.lapin_history.specs.Handing.{sent, handed}
 use Rattle.lapin_history.specs.Events.{record_of, after_event}
+use Rattle.lapin_history.specs.declared.broker_frames.ConsumerPart.{ConsumerPart}
+use Rattle.lapin_history.specs.declared.broker_frames.ConsumerPart.TheVariants as consumer
+use Rattle.lapin_history.specs.Ackers.{acker_asked, usable_at, acked_wire}
+use Rattle.lapin_history.specs.Consumers.{receives_consumer, lets_go_of, cancel_noted, after_let_go}
 use Rattle.lapin_history.proofs.ChannelLaws.{at-on, at-with}
 use Rattle.lapin_machine.specs.Tied.{is_live_on}
 use Rattle.lapin_machine.specs.World.{World, new_world, next, readings_of}
 use Rattle.lapin_machine.proofs.Back.{next_keeps}
 use Rattle.lapin_laws.specs.Runs.{world_after}
 use Rattle.lapin_laws.proofs.Alive.{live_at, live-with}
-use Rattle.lapin_laws.proofs.Moving.{allowed_up, state_up, both, up_open, open_here, incoming_is}
+use Rattle.lapin_laws.proofs.Moving.{allowed_up, open_up, state_up, open_here}
+use Rattle.lapin_laws.proofs.FrameMoves.{both, up_open, incoming_is, right}
 use Rattle.lapin_laws.proofs.Going.{up_sent, live_sent}
 
 -- ---- the requests of each channel after a write
@@ -148,13 +156,30 @@ call_up c (ask.CloseConnection code text) b e a h = λ d z dead.
     let apart : c ≢ d = λ x. let y : (d == 0) ≡ true = ap (λ k. k == 0) (sym x) ∙ zero in let w : true ≡ false = sym y ∙ z in cc in
     ap (without_kind reply_kind.ChannelCloseOk) (requests-away c d _ [] apart)
 call_up c (ask.Publish exchange key o payload properties) b e a h = h
-call_up c (ask.Method row) b e a h = of_live c b.link b.phases b.requests _ e (open_here (c == 0) (phase_of c b) a) (awaits_away c (b.tickets + 1) row.awaits b.requests) h
+call_up c (ask.Method row) b e a h = of_live c b.link b.phases b.requests _ e (open_here (c == 0) (phase_of c b) a) (awaits_away c (b.tickets + 1) (awaited_by row.answered) b.requests) h
+call_up c (ask.Consume m tag queue o) b e a h = h
 
 call_settled : (c : ℕ) (k : Asked) (b : Wire) → Settled b → Settled (after_asking c k b)
 call_settled c k b h = elim (is_allowed k (state_of c b)) as (λ t. is_allowed k (state_of c b) ≡ t → Settled (cond t (after_call c k b) b)) [
   | true ↦ λ a. let e = allowed_up b.link k (cond (c == 0) state.Base (channel_state (phase_of c b))) a in call_up c k b e (rw e at a) h
   | false ↦ λ a. h
 ] refl
+
+-- ---- ackers, and consumers that are let go
+
+acked_settled : (o : Option (ℕ × ℕ)) (k : AckerCall) (b : Wire) → Settled b → Settled (acked_wire o k b)
+acked_settled None k b h = h
+acked_settled (Some x) k b h = call_settled x.0 (acker_asked k x.1) b h
+
+let_go_settled : (x : Consumer) (b : Wire) → Settled b → Settled (cond (lets_go_of x b) (cancel_noted x b) b)
+let_go_settled x b h = elim (lets_go_of x b) as (λ t. lets_go_of x b ≡ t → Settled (cond t (cancel_noted x b) b)) [
+  | true ↦ λ a. let free = right (is_idle x) _ a in let e = open_up b.link _ free in of_live x.channel b.link b.phases b.requests _ e (open_here (x.channel == 0) (phase_of x.channel b) (rw (state_up x.channel b e) at free)) (λ d n. requests-away x.channel d _ b.requests n) h
+  | false ↦ λ a. h
+] refl
+
+dropped_settled : (o : Option Consumer) (b : Wire) → Settled b → Settled (after_let_go o b)
+dropped_settled None b h = h
+dropped_settled (Some x) b h = let_go_settled x b h
 
 -- ---- frames that leave
 
@@ -232,6 +257,7 @@ down_receives (link.Closing false false) b (incoming.ConnectionClose code) e d =
 down_receives (link.Closing x was) b (incoming.Reply c k a) e d = λ h. h
 down_receives (link.Closing x was) b (incoming.Settlement c z) e d = λ h. h
 down_receives (link.Closing x was) b (incoming.Content c p) e d = λ h. h
+down_receives (link.Closing x was) b (incoming.Consumer c p) e d = λ h. h
 down_receives (link.Closing x was) b (incoming.Flow c active) e d = λ h. h
 down_receives (link.Closing x was) b (incoming.ChannelClose c code) e d = λ h. h
 down_receives (link.Closing x was) b (incoming.ChannelCloseOk c) e d = λ h. h
@@ -257,16 +283,31 @@ module _ (class number : ℕ) where
   when_receives true b i h = h refl
   when_receives false b i h = unreceived class number b i
 
+  replied : (c : ℕ) (k : ReplyKind) (b : Wire) → b.link ≡ link.Open → receives_reply c k b ≡ true → Settled b → Settled (after_reply c k b)
+  replied c k b e h = reply_taken (opens k) c k b e (rw (state_up c b e) at (both (receives k (state_of c b)) (is_some (first_request k (requests_of c b))) h))
+
   part_receives : (c : ℕ) (p : ContentPart) (b : Wire) → b.link ≡ link.Open → receives_part c p b ≡ true → Hears b (incoming.Content c p) record_.Received
-  part_receives c (part.GetOk x) b e h = reply_taken (opens reply_kind.BasicGetOk) c reply_kind.BasicGetOk b e (rw (state_up c b e) at (both (receives reply_kind.BasicGetOk (state_of c b)) (is_some (first_request reply_kind.BasicGetOk (requests_of c b))) h))
+  part_receives c (part.GetOk x) b e h = replied c reply_kind.BasicGetOk b e h
   part_receives c (part.Return x) b e h = λ k. k
+  part_receives c (part.Deliver tag x) b e h = λ k. k
   part_receives c (part.Header x) b e h = λ k. k
   part_receives c (part.Body bytes) b e h = λ k. k
 
+  cancel_settled : (c : ℕ) (tag : List ℕ) (t : Bool) (b : Wire) → Settled b → Settled (cond t (noted c (method.Basic (basic.CancelOk tag)) b) b)
+  cancel_settled c tag true b h = h
+  cancel_settled c tag false b h = h
+
+  consumer_receives : (c : ℕ) (p : ConsumerPart) (b : Wire) → b.link ≡ link.Open → receives_consumer c p b ≡ true → Hears b (incoming.Consumer c p) record_.Received
+  consumer_receives c (consumer.ConsumeOk tag) b e h = replied c reply_kind.BasicConsumeOk b e h
+  consumer_receives c (consumer.CancelOk tag) b e h = replied c reply_kind.BasicCancelOk b e h
+  consumer_receives c consumer.RecoverOk b e h = replied c reply_kind.BasicRecoverOk b e h
+  consumer_receives c (consumer.Cancel tag nowait) b e h = cancel_settled c tag (is_open (state_of c b) && not nowait) b
+
   up_receives : (b : Wire) (readings : Readings) (i : Incoming) → b.link ≡ link.Open → Hears b i (incoming_up b readings no i)
-  up_receives b readings (incoming.Reply c k a) e = when_receives (receives_reply c k b) b (incoming.Reply c k a) (λ h. reply_taken (opens k) c k b e (rw (state_up c b e) at (both (receives k (state_of c b)) (is_some (first_request k (requests_of c b))) h)))
+  up_receives b readings (incoming.Reply c k a) e = when_receives (receives_reply c k b) b (incoming.Reply c k a) (λ h. replied c k b e h)
   up_receives b readings (incoming.Settlement c z) e = settlement_receives c z readings b e
   up_receives b readings (incoming.Content c p) e = when_receives (receives_part c p b) b (incoming.Content c p) (λ h. part_receives c p b e h)
+  up_receives b readings (incoming.Consumer c p) e = when_receives (receives_consumer c p b) b (incoming.Consumer c p) (λ h. consumer_receives c p b e h)
   up_receives b readings (incoming.Flow c active) e = when_receives (receives_on (state_of c b)) b (incoming.Flow c active) (λ a. flow_receives c active b e)
   up_receives b readings (incoming.ChannelClose c code) e = when_receives (receives_close (state_of c b)) b (incoming.ChannelClose c code) (λ a. close_receives c code b)
   up_receives b readings (incoming.ChannelCloseOk c) e = when_receives (receives_close_ok (state_of c b)) b (incoming.ChannelCloseOk c) (λ a. answered c (phase_of c b) b refl (rw (state_up c b e) at a))
@@ -294,6 +335,11 @@ settled-next b readings (event.PollConfirm k) h = h
 settled-next b readings (event.PollWait c) h = h
 settled-next b readings (event.AsideTicket k) h = h
 settled-next b readings (event.AsideConfirm k) h = h
+settled-next b readings (event.PollConsumer k) h = h
+settled-next b readings (event.Acker m k) h = acked_settled (usable_at m b) k b h
+settled-next b readings (event.Delegate k) h = h
+settled-next b readings (event.DropConsumer k) h = dropped_settled (consumer_at k b.inbox.roster) b h
+settled-next b readings event.NextJob h = h
 settled-next b readings (event.State c) h = h
 settled-next b readings event.Lost h = lost_settled b h
 

@@ -1,5 +1,5 @@
 -- What waits in the publishes is what is queued in the confirms.
-use Rattle.std.proofs.Common.{◌≡◌, ℕ, ◌+◌, Bool, true, false, cond, not, List, [], ◌∷◌, ◌++◌, length, refl, sym, subst, ◌∙◌, ap, Option, Some, None, Err}
+use Rattle.std.proofs.Common.{◌≡◌, ℕ, ◌+◌, Bool, true, false, cond, not, List, [], ◌∷◌, ◌++◌, length, refl, sym, subst, ◌∙◌, ap, Option, Some, None, Err, ◌&&◌}
 use Rattle.std.specs.List.{fold}
 use Rattle.lapin_tables.specs.Numbered.{under}
 use Rattle.lapin_types.specs.declared.event.Event.{Event}
@@ -31,7 +31,7 @@ use Rattle.lapin_history.specs.Calls.{asked}
 use Rattle.lapin_history.specs.Incoming.{incoming_of}
 use Rattle.lapin_history.specs.Select.{is_select}
 use Rattle.lapin_history.specs.Ends.{ends_all, end_with, live_channels, down}
-use Rattle.lapin_history.specs.Wire.{Wire, state_of, phase_of, is_open, noted}
+use Rattle.lapin_history.specs.Wire.{Wire, state_of, phase_of, is_open, noted, queued}
 use Rattle.lapin_history.specs.ChannelClose.{closing, close_marks, close_ok_end, after_close_ok}
 use Rattle.lapin_history.specs.ConnectionClose.{after_connection_close, after_connection_close_ok}
 use Rattle.lapin_history.specs.Settlement.{session_close}
@@ -49,12 +49,19 @@ use Rattle.lapin_confirm.specs.Machine.{after_mark}
 use Rattle.lapin_confirm.specs.Aside.{is_set_aside, kept_by, laid_by}
 use Rattle.lapin_confirm.specs.Drain.{remaining, over_aside}
 use Rattle.lapin_types.specs.declared.message.BasicReturnMessage.{BasicReturnMessage}
+use Rattle.lapin_types.specs.Types.basic
+use Rattle.lapin_types.specs.declared.acker_call.AckerCall.{AckerCall}
 use Rattle.lapin_history.specs.declared.broker_frames.ContentPart.{ContentPart}
 use Rattle.lapin_history.specs.declared.broker_frames.ContentPart.TheVariants as part
 use Rattle.lapin_content.specs.declared.start.Start.{Start}
 use Rattle.lapin_content.specs.declared.start.Start.TheVariants as start
 use Rattle.lapin_content.specs.declared.start.Whole.{Whole}
+use Rattle.lapin_consumer.specs.Roster.{Consumer, consumer_at}
 use Rattle.lapin_history.specs.Content.{after_part, part_marks, start_marks, whole_marks, whole_on}
+use Rattle.lapin_history.specs.declared.broker_frames.ConsumerPart.{ConsumerPart}
+use Rattle.lapin_history.specs.declared.broker_frames.ConsumerPart.TheVariants as consumer
+use Rattle.lapin_history.specs.Ackers.{acker_method, usable_at, acked_wire}
+use Rattle.lapin_history.specs.Consumers.{after_consumer, lets_go_of, cancel_noted, after_let_go}
 use Rattle.lapin_confirm.specs.declared.cell.Cell.{Cell}
 use Rattle.lapin_confirm.specs.declared.cell.Cell.TheVariants as cell
 use Rattle.lapin_machine.specs.Stands.{Stands}
@@ -103,6 +110,7 @@ module _ (b : Wire) (k : Post) (alive : AreAlive b.link b.phases b.publishes) (c
   called c (ask.CloseChannel code text) = closed_queue c _ b.publishes k.book h
   called c (ask.CloseConnection code text) = falls _
   called c (ask.Publish exchange key o payload properties) = joined k.book.cells b.publishes _ (ap (λ n. n + 1) count) h
+  called c (ask.Consume m tag queue o) = h
   called c (ask.Method row) = select_waits (is_select row.method) (mark.SelectCalled c) b.publishes k refl h
 
   asked_waits : (c : ℕ) (a : Asked) → Waits (after_asking c a b).publishes (fold after_mark k (asking_marks c a b))
@@ -148,13 +156,21 @@ module _ (b : Wire) (k : Post) (alive : AreAlive b.link b.phases b.publishes) (c
   part_waits : (c : ℕ) (p : ContentPart) → Waits (after_part c p b).publishes (fold after_mark k (part_marks c p b))
   part_waits c (part.GetOk x) = h
   part_waits c (part.Return x) = h
+  part_waits c (part.Deliver tag x) = h
   part_waits c (part.Header x) = whole_waits c (whole_on c (part.Header x) b)
   part_waits c (part.Body bytes) = whole_waits c (whole_on c (part.Body bytes) b)
+
+  consumer_waits : (c : ℕ) (p : ConsumerPart) → Waits (after_consumer c p b).publishes k
+  consumer_waits c (consumer.ConsumeOk tag) = h
+  consumer_waits c (consumer.CancelOk tag) = h
+  consumer_waits c consumer.RecoverOk = h
+  consumer_waits c (consumer.Cancel tag nowait) = same_waits (is_open (state_of c b) && not nowait) (noted c (method.Basic (basic.CancelOk tag)) b) b k h h
 
   received : (i : Incoming) → Waits (after_received i b).publishes (fold after_mark k (received_marks i b))
   received (incoming.Reply c x a) = h
   received (incoming.Settlement c z) = settled_queue c z k.book.cells ∙ h
   received (incoming.Content c p) = part_waits c p
+  received (incoming.Consumer c p) = consumer_waits c p
   received (incoming.Flow c active) = same_waits (is_open (state_of c b)) (noted c (method.Channel (channel.FlowOk active)) (record b { phases = with_channel c (phase.Open (not active)) b.phases })) b k h h
   received (incoming.ChannelClose c code) = ended_queue c _ b.publishes k.book h
   received (incoming.ChannelCloseOk c) = closed_waits c (phase_of c b)
@@ -164,41 +180,27 @@ module _ (b : Wire) (k : Post) (alive : AreAlive b.link b.phases b.publishes) (c
 
   failed : (i : Incoming) → Waits (after_failed i b).publishes (fold after_mark k (failed_marks i b))
   failed (incoming.Settlement c z) = choose_waits (is_open (state_of c b)) (noted c (session_close z.kind) (closing c closer.Session b)) b (close_marks c closer.Session) [] k (closed_queue c _ b.publishes k.book h) h
-  failed (incoming.Reply c x a) = h
-  failed (incoming.Content c p) = h
-  failed (incoming.Flow c active) = h
-  failed (incoming.ChannelClose c code) = h
-  failed (incoming.ChannelCloseOk c) = h
-  failed (incoming.ConnectionClose code) = h
-  failed incoming.ConnectionCloseOk = h
-  failed incoming.Other = h
+  failed _ = h
 
   refused : (i : Incoming) (x : Error) → Waits (after_refused i x b).publishes (fold after_mark k (refused_marks i x b))
-  refused i error.NoMemory = h
-  refused i error.NumbersUsedUp = h
-  refused i (error.InvalidChannelState s) = h
-  refused i (error.ProtocolError code) = h
-  refused i error.ConnectionLost = h
   refused i (error.UnexpectedFrame class number) = falls _
   refused i (error.PreconditionFailed tag current) = failed i
-  refused i error.AlreadyTaken = h
-  refused i error.UnknownTicket = h
+  refused i _ = h
 
   incoming_waits : (i : Incoming) (r : Record) → Waits (after_incoming i r b).publishes (fold after_mark k (incoming_marks i r b))
   incoming_waits i (record_.Refused x) = refused i x
   incoming_waits i record_.Received = received i
-  incoming_waits i (record_.Ticket n) = h
-  incoming_waits i (record_.Publish t n) = h
-  incoming_waits i (record_.Frame f) = h
-  incoming_waits i record_.NoFrame = h
-  incoming_waits i record_.Passed = h
-  incoming_waits i record_.Pending = h
-  incoming_waits i (record_.Answer a) = h
-  incoming_waits i (record_.Confirmed o) = h
-  incoming_waits i (record_.State x y) = h
-  incoming_waits i record_.Aside = h
-  incoming_waits i (record_.Returned ms) = h
-  incoming_waits i record_.Lost = h
+  incoming_waits i _ = h
+
+  -- ---- ackers, and consumers that are let go
+
+  acked_waits : (o : Option (ℕ × ℕ)) (x : AckerCall) → Waits (acked_wire o x b).publishes k
+  acked_waits None x = h
+  acked_waits (Some y) x = same_waits (is_open (state_of y.0 b)) (queued y.0 (acker_method x y.1) None b) b k h h
+
+  dropped_waits : (o : Option Consumer) → Waits (after_let_go o b).publishes k
+  dropped_waits None = h
+  dropped_waits (Some x) = same_waits (lets_go_of x b) (cancel_noted x b) b k h h
 
   -- ---- a loss
 
@@ -266,6 +268,11 @@ waits-anew n w (event.PollConfirm m) kept count h = taken_waits (is_confirmed (t
 waits-anew n w (event.PollWait c) kept count h = drained_waits (is_returned (told_anew w (event.PollWait c))) c w.wire.publishes w.post h
 waits-anew n w (event.AsideTicket m) kept count h = h
 waits-anew n w (event.AsideConfirm m) kept count h = laid_waits (is_aside (told_anew w (event.AsideConfirm m))) m w.wire.publishes w.post h
+waits-anew n w (event.PollConsumer m) kept count h = h
+waits-anew n w (event.Acker m x) kept count h = acked_waits w.wire w.post kept.sound.publishes count h (usable_at m w.wire) x
+waits-anew n w (event.Delegate m) kept count h = h
+waits-anew n w (event.DropConsumer m) kept count h = dropped_waits w.wire w.post kept.sound.publishes count h (consumer_at m w.wire.inbox.roster)
+waits-anew n w event.NextJob kept count h = h
 waits-anew n w (event.State c) kept count h = h
 waits-anew n w event.Lost kept count h = lost_waits w.wire w.post kept.sound.publishes count h
 

@@ -7,17 +7,21 @@
 //! where it ends: of an opening, of the connection (the laws of tickets), and of a loss (`down_for_good`).
 #![tactic(auto)]
 
+mod consuming;
 mod down;
 mod leaving;
 mod messages;
 mod owed;
+mod registry;
 mod standing;
 mod waiting;
 
+pub use consuming::{an_acker_is_used_once, consumers_are_of_the_history};
 pub use down::down_for_good;
 pub use leaving::frames_are_unbroken;
 pub use messages::contents_are_of_the_history;
 pub use owed::awaited_replies_are_requested;
+pub use registry::topologies_are_of_the_history;
 pub use standing::a_session_stands;
 pub use waiting::{
     closes_wait_until_they_leave, only_live_openings_wait, waiting_publishes_are_queued,

@@ -1,5 +1,5 @@
 -- An unsent `connection.close` of this side waits alone: kept by every event.
-use Rattle.std.proofs.Common.{◌≡◌, ℕ, Bool, true, false, cond, List, [], ◌∷◌, Option, Some, None, refl, ◌⊎◌, inl, inr}
+use Rattle.std.proofs.Common.{◌≡◌, ℕ, Bool, true, false, cond, ◌&&◌, not, List, [], ◌∷◌, Option, Some, None, refl, ◌⊎◌, inl, inr}
 use Rattle.std.specs.List.{fold}
 use Rattle.lapin_history.specs.declared.calls.Asked.{Asked}
 use Rattle.lapin_history.specs.declared.calls.Asked.TheVariants as ask
@@ -8,6 +8,7 @@ use Rattle.lapin_types.specs.declared.event.Event.{Event}
 use Rattle.lapin_types.specs.declared.event.Event.TheVariants as event
 use Rattle.lapin_types.specs.declared.record.Record.{Record}
 use Rattle.lapin_types.specs.declared.record.Record.TheVariants as record_
+use Rattle.lapin_types.specs.declared.acker_call.AckerCall.{AckerCall}
 use Rattle.lapin_types.specs.declared.leaving.Left.{Left}
 use Rattle.lapin_types.specs.declared.leaving.Publish.{Publish}
 use Rattle.lapin_types.specs.Types.{Error, Frame, Method}
@@ -41,6 +42,11 @@ use Rattle.lapin_machine.specs.World.{World, next, next_anew, new_world, reading
 use Rattle.lapin_history.specs.declared.broker_frames.ContentPart.{ContentPart}
 use Rattle.lapin_history.specs.declared.broker_frames.ContentPart.TheVariants as part
 use Rattle.lapin_history.specs.Content.{after_part}
+use Rattle.lapin_history.specs.declared.broker_frames.ConsumerPart.{ConsumerPart}
+use Rattle.lapin_history.specs.declared.broker_frames.ConsumerPart.TheVariants as consumer
+use Rattle.lapin_consumer.specs.Roster.{Consumer, consumer_at, is_idle}
+use Rattle.lapin_history.specs.Consumers.{after_consumer, lets_go_of, cancel_noted, after_let_go}
+use Rattle.lapin_history.specs.Ackers.{acker_asked, acked_wire, usable_at}
 use Rattle.lapin_machine.proofs.Back.{next_keeps}
 use Rattle.lapin_machine.specs.Alone.{is_connection_close, IsOneClose, IsCloseAlone, WaitsAlone, without_own_close}
 
@@ -58,6 +64,7 @@ call_up c ask.Open b e = rw e tt
 call_up c (ask.CloseChannel code text) b e = rw e tt
 call_up c (ask.CloseConnection code text) b e = record { close = refl; rest = refl; publishes = refl }
 call_up c (ask.Method row) b e = rw e tt
+call_up c (ask.Consume m tag queue o) b e = rw e tt
 call_up c (ask.Publish exchange key o payload properties) b e = rw e tt
 
 -- no call is allowed once the connection is not open
@@ -70,16 +77,19 @@ down_refuses (link.Closing s h) c ask.Open b e = inr (rw e refl)
 down_refuses (link.Closing s h) c (ask.CloseChannel code text) b e = inr (rw e refl)
 down_refuses (link.Closing s h) c (ask.CloseConnection code text) b e = inr (rw e refl)
 down_refuses (link.Closing s h) c (ask.Method row) b e = inr (rw e refl)
+down_refuses (link.Closing s h) c (ask.Consume m tag queue o) b e = inr (rw e refl)
 down_refuses (link.Closing s h) c (ask.Publish exchange key o payload properties) b e = inr (rw e refl)
 down_refuses link.Closed c ask.Open b e = inr (rw e refl)
 down_refuses link.Closed c (ask.CloseChannel code text) b e = inr (rw e refl)
 down_refuses link.Closed c (ask.CloseConnection code text) b e = inr (rw e refl)
 down_refuses link.Closed c (ask.Method row) b e = inr (rw e refl)
+down_refuses link.Closed c (ask.Consume m tag queue o) b e = inr (rw e refl)
 down_refuses link.Closed c (ask.Publish exchange key o payload properties) b e = inr (rw e refl)
 down_refuses link.Lost c ask.Open b e = inr (rw e refl)
 down_refuses link.Lost c (ask.CloseChannel code text) b e = inr (rw e refl)
 down_refuses link.Lost c (ask.CloseConnection code text) b e = inr (rw e refl)
 down_refuses link.Lost c (ask.Method row) b e = inr (rw e refl)
+down_refuses link.Lost c (ask.Consume m tag queue o) b e = inr (rw e refl)
 down_refuses link.Lost c (ask.Publish exchange key o payload properties) b e = inr (rw e refl)
 
 call_alone : (c : ℕ) (k : Asked) (b : Wire) → Alone b → Alone (cond (is_allowed k (state_of c b)) (after_call c k b) b)
@@ -148,13 +158,21 @@ close_ok_alone c phase.Crossed b e = rw e tt
 part_alone : (c : ℕ) (p : ContentPart) (b : Wire) → b.link ≡ link.Open → Alone (after_part c p b)
 part_alone c (part.GetOk s) b e = rw e tt
 part_alone c (part.Return s) b e = rw e tt
+part_alone c (part.Deliver tag s) b e = rw e tt
 part_alone c (part.Header h) b e = rw e tt
 part_alone c (part.Body bytes) b e = rw e tt
+
+consumer_alone : (c : ℕ) (p : ConsumerPart) (b : Wire) → b.link ≡ link.Open → Alone (after_consumer c p b)
+consumer_alone c (consumer.ConsumeOk tag) b e = rw e tt
+consumer_alone c (consumer.CancelOk tag) b e = rw e tt
+consumer_alone c consumer.RecoverOk b e = rw e tt
+consumer_alone c (consumer.Cancel tag nowait) b e = choose_alone (is_open (state_of c b) && not nowait) _ b (rw e tt) (rw e tt)
 
 received_alone : (i : Incoming) (b : Wire) → b.link ≡ link.Open → Alone (after_received i b)
 received_alone (incoming.Reply c k a) b e = rw e tt
 received_alone (incoming.Settlement c s) b e = rw e tt
 received_alone (incoming.Content c p) b e = part_alone c p b e
+received_alone (incoming.Consumer c p) b e = consumer_alone c p b e
 received_alone (incoming.ChannelClose c code) b e = rw e tt
 received_alone (incoming.ChannelCloseOk c) b e = close_ok_alone c (phase_of c b) b e
 received_alone (incoming.ConnectionClose code) b e = rw e tt
@@ -166,6 +184,7 @@ failed_alone : (i : Incoming) (b : Wire) → b.link ≡ link.Open → Alone (aft
 failed_alone (incoming.Settlement c s) b e = choose_alone (is_open (state_of c b)) _ b (rw e tt) (rw e tt)
 failed_alone (incoming.Reply c k a) b e = rw e tt
 failed_alone (incoming.Content c p) b e = rw e tt
+failed_alone (incoming.Consumer c p) b e = rw e tt
 failed_alone (incoming.ChannelClose c code) b e = rw e tt
 failed_alone (incoming.ChannelCloseOk c) b e = rw e tt
 failed_alone (incoming.ConnectionClose code) b e = rw e tt
@@ -187,18 +206,7 @@ refused_alone i error.UnknownTicket b e = rw e tt
 up_alone : (i : Incoming) (r : Record) (b : Wire) → b.link ≡ link.Open → Alone (after_incoming i r b)
 up_alone i (record_.Refused x) b e = refused_alone i x b e
 up_alone i record_.Received b e = received_alone i b e
-up_alone i (record_.Ticket n) b e = rw e tt
-up_alone i (record_.Publish t n) b e = rw e tt
-up_alone i (record_.Frame f) b e = rw e tt
-up_alone i record_.NoFrame b e = rw e tt
-up_alone i record_.Passed b e = rw e tt
-up_alone i record_.Pending b e = rw e tt
-up_alone i (record_.Answer a) b e = rw e tt
-up_alone i (record_.Confirmed o) b e = rw e tt
-up_alone i (record_.State x y) b e = rw e tt
-up_alone i record_.Aside b e = rw e tt
-up_alone i (record_.Returned ms) b e = rw e tt
-up_alone i record_.Lost b e = rw e tt
+up_alone i _ b e = rw e tt
 
 -- of the two frames that are received while this side closes, each takes the close out that has not left
 incoming_alone : (l : ConnectionPhase) (readings : Readings) (f : Record) (i : Incoming) (b : Wire) → b.link ≡ l → WaitsAlone l (lists_of b) → Alone (after_incoming i (incoming_record b readings f i) b)
@@ -212,10 +220,28 @@ incoming_alone (link.Closing false false) readings f (incoming.ConnectionClose c
 incoming_alone (link.Closing s was) readings f (incoming.Reply c k a) b e h = rw e h
 incoming_alone (link.Closing s was) readings f (incoming.Settlement c x) b e h = rw e h
 incoming_alone (link.Closing s was) readings f (incoming.Content c p) b e h = rw e h
+incoming_alone (link.Closing s was) readings f (incoming.Consumer c p) b e h = rw e h
 incoming_alone (link.Closing s was) readings f (incoming.ChannelClose c code) b e h = rw e h
 incoming_alone (link.Closing s was) readings f (incoming.ChannelCloseOk c) b e h = rw e h
 incoming_alone (link.Closing s was) readings f (incoming.Flow c active) b e h = rw e h
 incoming_alone (link.Closing s was) readings f incoming.Other b e h = rw e h
+
+-- ---- ackers, and consumers that are let go
+
+acked_alone : (o : Option (ℕ × ℕ)) (k : AckerCall) (b : Wire) → Alone b → Alone (acked_wire o k b)
+acked_alone None k b h = h
+acked_alone (Some x) k b h = call_alone x.0 (acker_asked k x.1) b h
+
+pub down_shuts : (l : ConnectionPhase) (c : ℕ) (b : Wire) → b.link ≡ l → (l ≡ link.Open) ⊎ (is_open (state_of c b) ≡ false)
+down_shuts link.Open c b e = inl refl
+down_shuts _ c b e = inr (rw e refl)
+
+let_go_alone : (o : Option Consumer) (b : Wire) → Alone b → Alone (after_let_go o b)
+let_go_alone None b h = h
+let_go_alone (Some x) b h = elim (down_shuts b.link x.channel b refl) [
+  | inl up ↦ choose_alone (lets_go_of x b) (cancel_noted x b) b (rw up tt) h
+  | inr shut ↦ rw shut (elim (is_idle x) as (λ t. Alone (cond (t && false) (cancel_noted x b) b)) [ true ↦ h | false ↦ h ])
+]
 
 -- ---- every event
 
@@ -225,9 +251,14 @@ alone-anew w (event.Next flow) h = next_alone flow w.wire.link w.wire refl h
 alone-anew w (event.Receive f) h = incoming_alone w.wire.link (readings_of w.post w.slots) (refused (frame_class f) (frame_method f)) (incoming_of f) w.wire refl h
 alone-anew w (event.PollTicket n) h = h
 alone-anew w (event.PollConfirm n) h = h
+alone-anew w (event.PollConsumer n) h = h
 alone-anew w (event.PollWait c) h = h
 alone-anew w (event.AsideTicket n) h = h
 alone-anew w (event.AsideConfirm n) h = h
+alone-anew w (event.Acker n k) h = acked_alone (usable_at n w.wire) k w.wire h
+alone-anew w (event.Delegate n) h = h
+alone-anew w (event.DropConsumer n) h = let_go_alone (consumer_at n w.wire.inbox.roster) w.wire h
+alone-anew w event.NextJob h = h
 alone-anew w (event.State c) h = h
 alone-anew w event.Lost h = choose_alone (is_lost w.wire.link) w.wire _ h tt
 

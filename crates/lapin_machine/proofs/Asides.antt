@@ -1,9 +1,8 @@
 -- Setting a confirm aside, and the wait for all confirms of a channel: what they answer and what they leave.
-use Rattle.std.proofs.Common.{◌≡◌, ℕ, Bool, true, false, cond, List, [], ◌∷◌, length, Option, Some, None, Result, Ok, Err, ◌⊎◌, inl, inr, refl, sym, ◌∙◌, ap, subst}
+use Rattle.std.proofs.Common.{◌≡◌, ℕ, true, false, cond, List, length, Option, Some, None, Result, Ok, Err, ◌⊎◌, inl, inr, refl, sym, ◌∙◌, ap, subst}
 use Rattle.std.specs.Prelude.{OnOk, OnErr}
 use Rattle.lapin_types.specs.declared.event.Event.TheVariants as event
 use Rattle.lapin_types.specs.declared.leaving.Publish.{Publish}
-use Rattle.lapin_types.specs.declared.record.Record.{Record}
 use Rattle.lapin_types.specs.declared.record.Record.TheVariants as record_
 use Rattle.lapin_types.specs.Types.{Error}
 use Rattle.lapin_types.specs.Types.error
@@ -17,7 +16,6 @@ use Rattle.lapin_confirm.specs.declared.cell.Cell.{Cell}
 use Rattle.lapin_confirm.specs.declared.cell.Cell.TheVariants as cell
 use Rattle.lapin_confirm.specs.Answers.{answer_at, answer_in, answer_with, is_unknown}
 use Rattle.lapin_confirm.specs.Aside.{set_answer, is_set_aside, refused_as}
-use Rattle.lapin_confirm.specs.Drain.{drained_on}
 use Rattle.lapin_confirm.specs.Machine.{after_mark}
 use Rattle.lapin_confirm.specs.Post.{Post, message_of}
 use Rattle.lapin_machine.specs.World.{World, next, aside_record, readings_of}
@@ -26,7 +24,7 @@ use Rattle.lapin_machine.specs.Numbers.{HasNumbers}
 use Rattle.lapin_machine.specs.Tied.{IsTied}
 use Rattle.lapin_machine.proofs.Counts.{drained-count, aside-count}
 use Rattle.lapin_machine.proofs.Keeping.{tied_aside, tied_drained}
-use Rattle.lapin_machine.proofs.Worlds.{world_is, base_is}
+use Rattle.lapin_machine.proofs.Seen.{world_is, base_is}
 
 -- ---- a confirm is set aside
 

@@ -81,6 +81,7 @@ asked_none c ask.Open b = refl
 asked_none c (ask.CloseChannel code text) b = refl
 asked_none c (ask.CloseConnection code text) b = choose_none (is_allowed (ask.CloseConnection code text) (state_of c b))
 asked_none c (ask.Method row) b = refl
+asked_none c (ask.Consume m tag queue o) b = refl
 asked_none c (ask.Publish exchange key o payload properties) b = refl
 
 crossed_none : (c : ℕ) (e : Option Error) → unless_crossed c e None ≡ None
@@ -98,6 +99,7 @@ received_none : (i : Incoming) (b : Wire) → after_received i b None ≡ None
 received_none (incoming.Reply c k a) b = refl
 received_none (incoming.Settlement c s) b = refl
 received_none (incoming.Content c p) b = refl
+received_none (incoming.Consumer c p) b = refl
 received_none (incoming.Flow c active) b = refl
 received_none (incoming.ChannelClose c code) b = refl
 received_none (incoming.ChannelCloseOk c) b = crossed_none c (close_ok_end (phase_of c b))
@@ -119,18 +121,7 @@ refused_none error.UnknownTicket = refl
 incoming_none : (i : Incoming) (r : Record) (b : Wire) → after_incoming i r b None ≡ None
 incoming_none i (record_.Refused e) b = refused_none e
 incoming_none i record_.Received b = received_none i b
-incoming_none i (record_.Ticket n) b = refl
-incoming_none i (record_.Publish t n) b = refl
-incoming_none i (record_.Frame f) b = refl
-incoming_none i record_.NoFrame b = refl
-incoming_none i record_.Passed b = refl
-incoming_none i record_.Pending b = refl
-incoming_none i (record_.Answer a) b = refl
-incoming_none i (record_.Confirmed o) b = refl
-incoming_none i (record_.State x y) b = refl
-incoming_none i record_.Aside b = refl
-incoming_none i (record_.Returned ms) b = refl
-incoming_none i record_.Lost b = refl
+incoming_none i _ b = refl
 
 event_none : (b : Wire) (e : Event) (r : Record) → after_event b e r None ≡ None
 event_none b (event.Call c k) r = asked_none c (asked k) b
@@ -138,9 +129,14 @@ event_none b (event.Next flow) r = refl
 event_none b (event.Receive f) r = incoming_none (incoming_of f) r b
 event_none b (event.PollTicket n) r = refl
 event_none b (event.PollConfirm n) r = refl
+event_none b (event.PollConsumer n) r = refl
 event_none b (event.PollWait c) r = refl
 event_none b (event.AsideTicket n) r = refl
 event_none b (event.AsideConfirm n) r = refl
+event_none b (event.Acker n k) r = refl
+event_none b (event.Delegate n) r = refl
+event_none b (event.DropConsumer n) r = refl
+event_none b event.NextJob r = refl
 event_none b (event.State c) r = refl
 event_none b event.Lost r = choose_none (is_lost b.link)
 
@@ -150,9 +146,14 @@ given_none r (event.Next flow) h = h
 given_none r (event.Receive f) h = refl
 given_none r (event.PollTicket n) h = refl
 given_none r (event.PollConfirm n) h = refl
+given_none r (event.PollConsumer n) h = refl
 given_none r (event.PollWait c) h = refl
 given_none r (event.AsideTicket n) h = refl
 given_none r (event.AsideConfirm n) h = refl
+given_none r (event.Acker n k) h = refl
+given_none r (event.Delegate n) h = refl
+given_none r (event.DropConsumer n) h = refl
+given_none r event.NextJob h = refl
 given_none r (event.State c) h = refl
 given_none r event.Lost h = refl
 

@@ -1,5 +1,5 @@
 -- Where numbers are not used up, and where there is no room for a whole content.
-use Rattle.std.proofs.Common.{◌≡◌, ℕ, true, Option, Some, None, Result, Ok, Err, refl, ap, subst, ◌∙◌}
+use Rattle.std.proofs.Common.{◌≡◌, ℕ, true, Option, Some, Result, Err, ap, subst, ◌∙◌}
 use Rattle.lapin_types.specs.declared.record.Record.{Record}
 use Rattle.lapin_types.specs.Types.{Error}
 use Rattle.lapin_types.specs.Types.error
@@ -7,6 +7,7 @@ use Rattle.lapin_content.specs.declared.start.Start.{Start}
 use Rattle.lapin_content.specs.declared.start.Whole.{Whole}
 use Rattle.lapin_content.specs.Contents.{front_start}
 use Rattle.lapin_content.specs.Channels.{expected_on}
+use Rattle.lapin_inbox.specs.Inbox.{Inbox}
 use Rattle.lapin_history.specs.declared.broker_frames.ContentPart.{ContentPart}
 use Rattle.lapin_history.specs.declared.broker_frames.Incoming.{Incoming}
 use Rattle.lapin_history.specs.declared.broker_frames.Incoming.TheVariants as incoming
@@ -24,20 +25,20 @@ numbers_so r i b h = tt
 
 -- ---- no room for a whole content
 
-pub room_told : (e : Error) (s : Option Start) (n : ℕ) (r : Record) → MakesRoom (Err e) s n → HeardTold (Err e) r
-room_told error.NoMemory s n r h = tt
-room_told error.NumbersUsedUp s n r h = tt
-room_told e s n r h = absurd h
+pub room_told : (e : Error) (s : Option Start) (i : Inbox) (r : Record) → MakesRoom (Err e) s i → HeardTold (Err e) r
+room_told error.NoMemory s i r h = tt
+room_told error.NumbersUsedUp s i r h = tt
+room_told e s i r h = absurd h
 
-pub room_heard : (e : Error) (s : Option Start) (n : ℕ) (P Q : Type 0) → MakesRoom (Err e) s n → Q → WasHeard (Err e) P Q
-room_heard error.NoMemory s n P Q h q = q
-room_heard error.NumbersUsedUp s n P Q h q = q
-room_heard e s n P Q h q = absurd h
+pub room_heard : (e : Error) (s : Option Start) (i : Inbox) (P Q : Type 0) → MakesRoom (Err e) s i → Q → WasHeard (Err e) P Q
+room_heard error.NoMemory s i P Q h q = q
+room_heard error.NumbersUsedUp s i P Q h q = q
+room_heard e s i P Q h q = absurd h
 
--- numbers are used up only where the content is that of a get, which has no acker
-pub room_cause : (e : Error) (c : ℕ) (q : ContentPart) (b : Wire) (w : Whole) → receives_part c q b ≡ true → whole_on c q b ≡ Some w → front_start (expected_on c b.contents) ≡ Some w.start → MakesRoom (Err e) (front_start (expected_on c b.contents)) b.ackers → ReceiveCause {T = Heard} (Err e) (incoming.Content c q) b
+-- numbers are used up only where the content is that of a message, which has no acker
+pub room_cause : (e : Error) (c : ℕ) (q : ContentPart) (b : Wire) (w : Whole) → receives_part c q b ≡ true → whole_on c q b ≡ Some w → front_start (expected_on c b.contents) ≡ Some w.start → MakesRoom (Err e) (front_start (expected_on c b.contents)) b.inbox → ReceiveCause {T = Heard} (Err e) (incoming.Content c q) b
 room_cause error.NumbersUsedUp c q b w received whole front h =
-    let P : Option Start → Type 0 = λ s. LacksAcker s b.ackers in
+    let P : Option Start → Type 0 = λ s. LacksAcker s b.inbox in
     let lacks = subst P front h in
-    (received, ap takes_acker whole ∙ lacks.0, lacks.1)
+    (received, ap (takes_acker b.inbox) whole ∙ lacks.0, lacks.1)
 room_cause e c q b w received whole front h = tt

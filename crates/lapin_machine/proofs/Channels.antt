@@ -14,7 +14,6 @@ use Rattle.lapin_history.specs.Wire.{is_closing}
 use Rattle.lapin_tables.proofs.Channels.{at-on_same}
 use Rattle.lapin_history.specs.Requests.{requests_in, is_kind, first_request, without_kind, without_request}
 use Rattle.lapin_outbox.specs.Open.{requests_at}
-use Rattle.lapin_outbox.specs.Open.{requests_at}
 
 value_is : {X : Type 0} {x y : X} → Some x ≡ Some y → x ≡ y
 value_is e = cc

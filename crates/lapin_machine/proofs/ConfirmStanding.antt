@@ -11,6 +11,7 @@ use Rattle.lapin_types.specs.declared.event.Event.TheVariants as event
 use Rattle.lapin_types.specs.declared.leaving.Publish.{Publish}
 use Rattle.lapin_types.specs.declared.record.Record.{Record}
 use Rattle.lapin_types.specs.declared.record.Record.TheVariants as record_
+use Rattle.lapin_types.specs.declared.acker_call.AckerCall.{AckerCall}
 use Rattle.lapin_types.specs.declared.leaving.Left.{Left}
 use Rattle.lapin_types.specs.Types.{Method, Error}
 use Rattle.lapin_types.specs.Types.error
@@ -33,11 +34,18 @@ use Rattle.lapin_history.specs.Phases.{is_up, is_lost}
 use Rattle.lapin_history.specs.Drops.{is_off, publish_channel}
 use Rattle.lapin_history.specs.ChannelClose.{close_ok_end}
 use Rattle.lapin_history.specs.Incoming.{incoming_of, frame_class, frame_method}
-use Rattle.lapin_history.specs.Wire.{Wire, state_of, phase_of, is_open, receives_on, lists_of, with_lists}
-use Rattle.lapin_history.specs.Asking.{is_allowed, after_call}
+use Rattle.lapin_history.specs.Wire.{Wire, state_of, phase_of, is_open, receives_on, lists_of, with_lists, with_inbox}
+use Rattle.lapin_history.specs.Loss.{after_lost, lost_inbox}
+use Rattle.lapin_history.specs.declared.broker_frames.ConsumerPart.{ConsumerPart}
+use Rattle.lapin_history.specs.declared.broker_frames.ConsumerPart.TheVariants as consumer
+use Rattle.lapin_consumer.specs.Roster.{Consumer, consumer_at}
+use Rattle.lapin_inbox.specs.Marks.{InboxMark}
+use Rattle.lapin_history.specs.Consumers.{after_consumer, lets_go_of, cancel_noted, after_let_go}
+use Rattle.lapin_history.specs.Ackers.{acker_asked, usable_at, acked_wire}
+use Rattle.lapin_history.specs.Asking.{is_allowed, after_call, asked_wire, asking_inbox}
 use Rattle.lapin_history.specs.Flow.{may_begin}
 use Rattle.lapin_history.specs.Events.{after_event}
-use Rattle.lapin_history.specs.Receiving.{after_incoming, after_received, after_refused, after_failed}
+use Rattle.lapin_history.specs.Receiving.{incoming_wire, after_received, after_refused, after_failed}
 use Rattle.lapin_history.specs.ChannelClose.{after_close_ok}
 use Rattle.lapin_history.specs.ConnectionClose.{after_connection_close, unless_sent, has_sent}
 use Rattle.lapin_history.specs.Handing.{handed, sent}
@@ -46,7 +54,7 @@ use Rattle.lapin_history.specs.Asking.{call_marks}
 use Rattle.lapin_history.specs.Select.{queued_marks, is_select, method_marks}
 use Rattle.lapin_history.specs.Ends.{live_channels, ends, ends_all, end_with}
 use Rattle.lapin_history.specs.Handing.{left_marks}
-use Rattle.lapin_history.specs.Receiving.{incoming_marks, received_marks, refused_marks, failed_marks}
+use Rattle.lapin_history.specs.Receiving.{incoming_inbox, incoming_marks, received_marks, refused_marks, failed_marks}
 use Rattle.lapin_history.specs.Polls.{is_confirmed, is_returned, is_aside as is_laid}
 use Rattle.lapin_types.specs.declared.message.BasicReturnMessage.{BasicReturnMessage}
 use Rattle.lapin_history.specs.declared.broker_frames.ContentPart.{ContentPart}
@@ -239,6 +247,7 @@ stand_call c ask.Open b ms bk t s h = stand_quiet b _ ms bk (mark.Begun c) s (ma
 stand_call c (ask.CloseChannel code text) b ms bk t s h = stand_closed c _ b _ ms bk s refl refl
 stand_call c (ask.CloseConnection code text) b ms bk t s h = stand_down _ b _ ms bk s refl refl
 stand_call c (ask.Method row) b ms bk t s h = stand_queued b _ ms bk c row.method (begun_by c ms bk s.post (open_ledger b.link c b.phases b.publishes bk.book h t)) s refl refl
+stand_call c (ask.Consume m tag queue o) b ms bk t s h = stand_still b _ ms bk s refl refl
 stand_call c (ask.Publish exchange key o payload properties) b ms bk t s h =
     let begun : is_begun c ms ≡ true = begun_by c ms bk s.post (open_ledger b.link c b.phases b.publishes bk.book h t) in
     stand-push b _ ms bk (mark.Added c) s begun (ap (λ n. n + 1) s.published ∙ sym (added-push ms (mark.Added c)))
@@ -314,13 +323,21 @@ stand_whole c (Some w) b d ms bk begun s n q = stand_start c w.start w b d ms bk
 stand_part : (c : ℕ) (p : ContentPart) (b : Wire) (ms : List ConfirmMark) (bk : Post) → receives_part c p b ≡ true → T b bk → ConfirmsStand b ms bk → HeardStands b (after_part c p b) ms (part_marks c p b) bk
 stand_part c (part.GetOk x) b ms bk h t s = stand_still b _ ms bk s refl refl
 stand_part c (part.Return x) b ms bk h t s = stand_still b _ ms bk s refl refl
+stand_part c (part.Deliver tag x) b ms bk h t s = stand_still b _ ms bk s refl refl
 stand_part c (part.Header x) b ms bk h t s = stand_whole c (whole_on c (part.Header x) b) b _ ms bk (begun_by c ms bk s.post (heard_ledger b.link c b.phases b.publishes bk.book (and_split (receives_on (state_of c b)) _ h).0 t)) s refl refl
 stand_part c (part.Body bytes) b ms bk h t s = stand_whole c (whole_on c (part.Body bytes) b) b _ ms bk (begun_by c ms bk s.post (heard_ledger b.link c b.phases b.publishes bk.book (and_split (receives_on (state_of c b)) _ h).0 t)) s refl refl
+
+stand_consumer : (c : ℕ) (p : ConsumerPart) (b : Wire) (ms : List ConfirmMark) (bk : Post) → ConfirmsStand b ms bk → ConfirmsStand (after_consumer c p b) (ms ++ []) bk
+stand_consumer c (consumer.ConsumeOk tag) b ms bk s = stand_still b _ ms bk s refl refl
+stand_consumer c (consumer.CancelOk tag) b ms bk s = stand_still b _ ms bk s refl refl
+stand_consumer c consumer.RecoverOk b ms bk s = stand_still b _ ms bk s refl refl
+stand_consumer c (consumer.Cancel tag nowait) b ms bk s = stand_flow (is_open (state_of c b) && not nowait) _ b ms bk refl refl s
 
 stand_received : (i : Incoming) (b : Wire) (ms : List ConfirmMark) (bk : Post) → IsHeard i record_.Received b → IsShut b → T b bk → ConfirmsStand b ms bk → HeardStands b (after_received i b) ms (received_marks i b) bk
 stand_received (incoming.Reply c k a) b ms bk heard shut t s = stand_still b _ ms bk s refl refl
 stand_received (incoming.Settlement c x) b ms bk heard shut t s = stand_quiet b b ms bk (mark.Settled c x) s tt (spares_all (mark.Settled c x) b.publishes (λ k. refl) (λ d. refl)) (added-push ms (mark.Settled c x)) refl refl
 stand_received (incoming.Content c p) b ms bk heard shut t s = stand_part c p b ms bk heard t s
+stand_received (incoming.Consumer c p) b ms bk heard shut t s = stand_consumer c p b ms bk s
 stand_received (incoming.ChannelClose c code) b ms bk heard shut t s = stand_ended c _ b _ ms bk s refl refl
 stand_received (incoming.ChannelCloseOk c) b ms bk heard shut t s = stand_close_ok c (phase_of c b) b ms bk s
 stand_received (incoming.ConnectionClose code) b ms bk heard shut t s = stand_connection_close b.link code b ms bk refl shut s
@@ -336,6 +353,7 @@ stand_failed : (i : Incoming) (b : Wire) (ms : List ConfirmMark) (bk : Post) →
 stand_failed (incoming.Settlement c x) b ms bk s = stand_failed_on (is_open (state_of c b)) c _ _ b ms bk refl refl s
 stand_failed (incoming.Reply c k a) b ms bk s = stand_still b b ms bk s refl refl
 stand_failed (incoming.Content c p) b ms bk s = stand_still b b ms bk s refl refl
+stand_failed (incoming.Consumer c p) b ms bk s = stand_still b b ms bk s refl refl
 stand_failed (incoming.ChannelClose c code) b ms bk s = stand_still b b ms bk s refl refl
 stand_failed (incoming.ChannelCloseOk c) b ms bk s = stand_still b b ms bk s refl refl
 stand_failed (incoming.ConnectionClose code) b ms bk s = stand_still b b ms bk s refl refl
@@ -354,21 +372,10 @@ stand_refused i error.ConnectionLost b ms bk s = stand_still b b ms bk s refl re
 stand_refused i error.AlreadyTaken b ms bk s = stand_still b b ms bk s refl refl
 stand_refused i error.UnknownTicket b ms bk s = stand_still b b ms bk s refl refl
 
-stand_incoming : (i : Incoming) (r : Record) (b : Wire) (ms : List ConfirmMark) (bk : Post) → IsHeard i r b → IsShut b → T b bk → ConfirmsStand b ms bk → HeardStands b (after_incoming i r b) ms (incoming_marks i r b) bk
+stand_incoming : (i : Incoming) (r : Record) (b : Wire) (ms : List ConfirmMark) (bk : Post) → IsHeard i r b → IsShut b → T b bk → ConfirmsStand b ms bk → HeardStands b (incoming_wire i r b) ms (incoming_marks i r b) bk
 stand_incoming i (record_.Refused e) b ms bk heard shut t s = stand_refused i e b ms bk s
 stand_incoming i record_.Received b ms bk heard shut t s = stand_received i b ms bk heard shut t s
-stand_incoming i (record_.Ticket n) b ms bk heard shut t s = stand_still b b ms bk s refl refl
-stand_incoming i (record_.Publish k n) b ms bk heard shut t s = stand_still b b ms bk s refl refl
-stand_incoming i (record_.Frame f) b ms bk heard shut t s = stand_still b b ms bk s refl refl
-stand_incoming i record_.NoFrame b ms bk heard shut t s = stand_still b b ms bk s refl refl
-stand_incoming i record_.Passed b ms bk heard shut t s = stand_still b b ms bk s refl refl
-stand_incoming i record_.Pending b ms bk heard shut t s = stand_still b b ms bk s refl refl
-stand_incoming i (record_.Answer a) b ms bk heard shut t s = stand_still b b ms bk s refl refl
-stand_incoming i (record_.Confirmed o) b ms bk heard shut t s = stand_still b b ms bk s refl refl
-stand_incoming i (record_.State x y) b ms bk heard shut t s = stand_still b b ms bk s refl refl
-stand_incoming i record_.Aside b ms bk heard shut t s = stand_still b b ms bk s refl refl
-stand_incoming i (record_.Returned xs) b ms bk heard shut t s = stand_still b b ms bk s refl refl
-stand_incoming i record_.Lost b ms bk heard shut t s = stand_still b b ms bk s refl refl
+stand_incoming i _ b ms bk heard shut t s = stand_still b b ms bk s refl refl
 
 stand_lost : (l : ConnectionPhase) (b d : Wire) (ms : List ConfirmMark) (bk : Post) → b.link ≡ l → IsShut b → ConfirmsStand b ms bk → d.published ≡ b.published → d.publishes ≡ [] → HeardStands b (cond (is_lost l) b d) ms (ends_all error.ConnectionLost b) bk
 stand_lost link.Open b d ms bk e shut s n q = stand_down _ b d ms bk s n q
@@ -421,18 +428,51 @@ stand_sent : (o : Option Left) (b : Wire) (ms : List ConfirmMark) (bk : Post) �
 stand_sent None b ms bk s = s
 stand_sent (Some l) b ms bk s = record { post = s.post; published = s.published; queue = s.queue }
 
+-- nor is what happens to consumers and ackers
+stand_boxed : (xs : List InboxMark) (b : Wire) (ms : List ConfirmMark) (bk : Post) → ConfirmsStand b ms bk → ConfirmsStand (with_inbox xs b) ms bk
+stand_boxed xs b ms bk s = record { post = s.post; published = s.published; queue = s.queue }
+
+-- an acker's call publishes nothing, and neither does letting a consumer go
+abbrev SamePublishes : Wire → Wire → Type 0
+SamePublishes x y = (x.published ≡ y.published) × (x.publishes ≡ y.publishes)
+
+choose_publishes : (t : Bool) (x y b : Wire) → SamePublishes x b → SamePublishes y b → SamePublishes (cond t x y) b
+choose_publishes true x y b h k = h
+choose_publishes false x y b h k = k
+
+acked_publishes : (o : Option (ℕ × ℕ)) (k : AckerCall) (b : Wire) → SamePublishes (acked_wire o k b) b
+acked_publishes None k b = (refl, refl)
+acked_publishes (Some x) k b = choose_publishes (is_allowed (acker_asked k x.1) (state_of x.0 b)) (after_call x.0 (acker_asked k x.1) b) b b (refl, refl) (refl, refl)
+
+let_go_publishes : (o : Option Consumer) (b : Wire) → SamePublishes (after_let_go o b) b
+let_go_publishes None b = (refl, refl)
+let_go_publishes (Some x) b = choose_publishes (lets_go_of x b) (cancel_noted x b) b b (refl, refl) (refl, refl)
+
 pub confirms-next : (b : Wire) (ms : List ConfirmMark) (tms : List TicketMark) (bk : Post) (e : Event) (r : Record) → r ≡ record_of b (readings_of ms tms) e → IsShut b → T b bk → ConfirmsStand b ms bk
     → ConfirmsStand (after_event b e r) (ms ++ confirm_marks b e r) (fold after_mark bk (confirm_marks b e r))
-confirms-next b ms tms bk (event.Call c k) r is shut t s = choose_mark (is_allowed (asked k) (state_of c b)) (after_call c (asked k) b) b ms bk (call_marks c (asked k) b) (stand_call c (asked k) b ms bk t s) s
+confirms-next b ms tms bk (event.Call c k) r is shut t s =
+    stand_boxed (asking_inbox c (asked k) b) (asked_wire c (asked k) b) _ _
+    (choose_mark (is_allowed (asked k) (state_of c b)) (after_call c (asked k) b) b ms bk (call_marks c (asked k) b) (stand_call c (asked k) b ms bk t s) s)
 confirms-next b ms tms bk (event.Next flow) r is shut t s = stand_sent (handed flow b) _ _ _ (stand_next (may_begin flow b) b ms bk b.rest b.methods b.publishes s)
-confirms-next b ms tms bk (event.Receive f) r is shut t s = stand_incoming (incoming_of f) r b ms bk (is_heard (incoming_of f) r b (readings_of ms tms) (frame_class f) (frame_method f) is) shut t s
+confirms-next b ms tms bk (event.Receive f) r is shut t s =
+    stand_boxed (incoming_inbox (incoming_of f) r b) (incoming_wire (incoming_of f) r b) _ _
+    (stand_incoming (incoming_of f) r b ms bk (is_heard (incoming_of f) r b (readings_of ms tms) (frame_class f) (frame_method f) is) shut t s)
 confirms-next b ms tms bk (event.PollTicket n) r is shut t s = stand_still b b ms bk s refl refl
 confirms-next b ms tms bk (event.PollConfirm n) r is shut t s =
     stand_one (is_confirmed r) b ms bk (mark.Taken n) (λ h. given_is n ms (ap is_confirmed (sym is) ∙ h)) (spares_all (mark.Taken n) b.publishes (λ k. refl) (λ d. refl)) (added-push ms (mark.Taken n)) s
+confirms-next b ms tms bk (event.PollConsumer n) r is shut t s = stand_still b (after_event b (event.PollConsumer n) r) ms bk s refl refl
 confirms-next b ms tms bk (event.PollWait c) r is shut t s =
     stand_one (is_returned r) b ms bk (mark.Drained c) (λ h. tt) (spares_all (mark.Drained c) b.publishes (λ k. refl) (λ d. refl)) (added-push ms (mark.Drained c)) s
 confirms-next b ms tms bk (event.AsideTicket n) r is shut t s = stand_still b b ms bk s refl refl
 confirms-next b ms tms bk (event.AsideConfirm n) r is shut t s =
     stand_one (is_laid r) b ms bk (mark.SetAside n) (λ h. laid_is n ms (ap is_laid (sym is) ∙ h)) (spares_all (mark.SetAside n) b.publishes (λ k. refl) (λ d. refl)) (added-push ms (mark.SetAside n)) s
+confirms-next b ms tms bk (event.Acker n k) r is shut t s =
+    let same = acked_publishes (usable_at n b) k b in
+    stand_still b (after_event b (event.Acker n k) r) ms bk s same.0 same.1
+confirms-next b ms tms bk (event.Delegate n) r is shut t s = stand_still b (after_event b (event.Delegate n) r) ms bk s refl refl
+confirms-next b ms tms bk (event.DropConsumer n) r is shut t s =
+    let same = let_go_publishes (consumer_at n b.inbox.roster) b in
+    stand_still b (after_event b (event.DropConsumer n) r) ms bk s same.0 same.1
+confirms-next b ms tms bk event.NextJob r is shut t s = stand_still b (after_event b event.NextJob r) ms bk s refl refl
 confirms-next b ms tms bk (event.State c) r is shut t s = stand_still b b ms bk s refl refl
-confirms-next b ms tms bk event.Lost r is shut t s = stand_lost b.link b _ ms bk refl shut s refl refl
+confirms-next b ms tms bk event.Lost r is shut t s = stand_boxed (lost_inbox b) (after_lost b) _ _ (stand_lost b.link b _ ms bk refl shut s refl refl)

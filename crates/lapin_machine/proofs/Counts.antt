@@ -119,9 +119,6 @@ left_marks-count None p = refl
 left_marks-count (Some l) p = entry_marks-count l.frame l.publish l.first p
 
 -- the same, of what is known to be so
-pub failed_counted : (e : Error) (slots new : List (Option Slot)) → new ≡ after_mark slots (ticket.AllFailed e) → length new ≡ length slots
-failed_counted e slots new h = ap length h ∙ failed-count e slots
-
 pub closed_counted : (c : ℕ) (e : Error) (slots new : List (Option Slot)) → new ≡ after_mark slots (ticket.ClosedHere c e) → length new ≡ length slots
 closed_counted c e slots new h = ap length h ∙ closed-count c e slots
 

@@ -1,7 +1,8 @@
 -- A frame that was given back is gone as the opening of its channel ends, or as all that waits is dropped.
-use Rattle.std.proofs.Common.{◌≡◌, ℕ, Bool, true, false, cond, not, ◌||◌, List, [], ◌∷◌, Option, Some, None, refl, sym, ◌∙◌, ap, subst}
+use Rattle.std.proofs.Common.{◌≡◌, ℕ, Bool, true, false, cond, not, ◌||◌, ◌&&◌, List, [], ◌∷◌, Option, Some, None, refl, sym, ◌∙◌, ap, subst}
 use Rattle.lapin_types.specs.declared.event.Event.{Event}
 use Rattle.lapin_types.specs.declared.event.Event.TheVariants as event
+use Rattle.lapin_types.specs.declared.acker_call.AckerCall.{AckerCall}
 use Rattle.lapin_types.specs.declared.leaving.Left.{Left}
 use Rattle.lapin_types.specs.declared.record.Record.{Record}
 use Rattle.lapin_types.specs.declared.record.Record.TheVariants as record_
@@ -9,6 +10,7 @@ use Rattle.lapin_types.specs.Types.{Error, ChannelState}
 use Rattle.lapin_types.specs.Types.error
 use Rattle.lapin_types.specs.Types.method
 use Rattle.lapin_types.specs.Types.channel
+use Rattle.lapin_types.specs.Types.basic
 use Rattle.lapin_types.specs.Types.channel_state as state
 use Rattle.lapin_history.specs.ConfirmMarks.{ConfirmMark}
 use Rattle.lapin_history.specs.ConfirmMarks as mark
@@ -34,6 +36,11 @@ use Rattle.lapin_content.specs.declared.start.Start.{Start}
 use Rattle.lapin_content.specs.declared.start.Start.TheVariants as start
 use Rattle.lapin_content.specs.declared.start.Whole.{Whole}
 use Rattle.lapin_history.specs.Content.{receives_part, start_marks, whole_marks, whole_on}
+use Rattle.lapin_history.specs.declared.broker_frames.ConsumerPart.{ConsumerPart}
+use Rattle.lapin_history.specs.declared.broker_frames.ConsumerPart.TheVariants as consumer
+use Rattle.lapin_consumer.specs.Roster.{Consumer, consumer_at}
+use Rattle.lapin_history.specs.Consumers.{receives_consumer, lets_go_of, cancel_noted, after_let_go}
+use Rattle.lapin_history.specs.Ackers.{acker_asked, acked_wire, usable_at}
 use Rattle.lapin_history.specs.Words.{with_channel}
 use Rattle.lapin_history.specs.Wire.{Wire, state_of, phase_of, is_open, is_base, receives_on, noted}
 use Rattle.lapin_history.specs.Asking.{is_allowed, after_call, call_marks}
@@ -63,6 +70,9 @@ stays link.Lost = refl
 -- an event that drops nothing and ends no opening
 quiet : (l : ConnectionPhase) (r : Option Left) → r ≡ after_ends l l [] r
 quiet l r = rw (stays l) refl
+
+quiet_at : (l m : ConnectionPhase) (r : Option Left) → m ≡ l → r ≡ after_ends l m [] r
+quiet_at l m r same = rw same (quiet l r)
 
 quiet_marks : (l : ConnectionPhase) (ms : List ConfirmMark) (r : Option Left) → without_ended ms r ≡ r → r ≡ after_ends l l ms r
 quiet_marks l ms r h = rw (stays l) (sym h)
@@ -107,6 +117,8 @@ called c (ask.CloseConnection code text) b r true h = let up : b.link ≡ link.O
 called c (ask.CloseConnection code text) b r false h = rw h (quiet b.link r)
 called c (ask.Method row) b r true h = quiet_marks b.link (call_marks c (ask.Method row) b) r (select_quiet (is_select row.method) (mark.SelectCalled c) r refl)
 called c (ask.Method row) b r false h = quiet b.link r
+called c (ask.Consume m tag queue o) b r true h = quiet b.link r
+called c (ask.Consume m tag queue o) b r false h = quiet b.link r
 called c (ask.Publish exchange key o payload properties) b r true h = quiet_marks b.link (mark.Added c ∷ []) r refl
 called c (ask.Publish exchange key o payload properties) b r false h = quiet b.link r
 
@@ -155,8 +167,15 @@ whole_stays c (Some w) r = start_stays c w.start w r
 part_goes : (c : ℕ) (p : ContentPart) (b : Wire) (r : Option Left) → G (incoming.Content c p) record_.Received b r
 part_goes c (part.GetOk s) b r = quiet b.link r
 part_goes c (part.Return s) b r = quiet b.link r
+part_goes c (part.Deliver tag s) b r = quiet b.link r
 part_goes c (part.Header h) b r = quiet_marks b.link (whole_marks c (whole_on c (part.Header h) b)) r (whole_stays c (whole_on c (part.Header h) b) r)
 part_goes c (part.Body bytes) b r = quiet_marks b.link (whole_marks c (whole_on c (part.Body bytes) b)) r (whole_stays c (whole_on c (part.Body bytes) b) r)
+
+consumer_goes : (c : ℕ) (p : ConsumerPart) (b : Wire) (r : Option Left) → G (incoming.Consumer c p) record_.Received b r
+consumer_goes c (consumer.ConsumeOk tag) b r = quiet b.link r
+consumer_goes c (consumer.CancelOk tag) b r = quiet b.link r
+consumer_goes c consumer.RecoverOk b r = quiet b.link r
+consumer_goes c (consumer.Cancel tag nowait) b r = quiet_at b.link _ r (choose_link (is_open (state_of c b) && not nowait) (noted c (method.Basic (basic.CancelOk tag)) b) b b.link refl refl)
 
 open_goes : (readings : Readings) (class number : ℕ) (i : Incoming) (b : Wire) (r : Option Left) → b.link ≡ link.Open → G i (incoming_up b readings (refused class number) i) b r
 open_goes readings class number (incoming.Reply c q a) b r e = choose_goes (receives_reply c q b) (incoming.Reply c q a) record_.Received (refused class number) b r (quiet b.link r) (unheard_goes (incoming.Reply c q a) class number b r e)
@@ -169,6 +188,7 @@ open_goes readings class number (incoming.Settlement c s) b r e =
     (quiet b.link r))
     (unheard_goes (incoming.Settlement c s) class number b r e)
 open_goes readings class number (incoming.Content c p) b r e = choose_goes (receives_part c p b) (incoming.Content c p) record_.Received (refused class number) b r (part_goes c p b r) (unheard_goes (incoming.Content c p) class number b r e)
+open_goes readings class number (incoming.Consumer c p) b r e = choose_goes (receives_consumer c p b) (incoming.Consumer c p) record_.Received (refused class number) b r (consumer_goes c p b r) (unheard_goes (incoming.Consumer c p) class number b r e)
 open_goes readings class number (incoming.Flow c active) b r e = choose_goes (receives_on (state_of c b)) (incoming.Flow c active) record_.Received (refused class number) b r (flow_goes c active b r) (unheard_goes (incoming.Flow c active) class number b r e)
 open_goes readings class number (incoming.ChannelClose c code) b r e = choose_goes (receives_close (state_of c b)) (incoming.ChannelClose c code) record_.Received (refused class number) b r (rw (stays b.link) refl) (unheard_goes (incoming.ChannelClose c code) class number b r e)
 open_goes readings class number (incoming.ChannelCloseOk c) b r e = choose_goes (receives_close_ok (state_of c b)) (incoming.ChannelCloseOk c) record_.Received (refused class number) b r (close_ok_goes c (phase_of c b) b r) (unheard_goes (incoming.ChannelCloseOk c) class number b r e)
@@ -189,6 +209,7 @@ closing_goes false false readings x (incoming.ConnectionClose code) b r e shut =
 closing_goes s was readings x (incoming.Reply c q a) b r e shut = rw e (quiet (link.Closing s was) r)
 closing_goes s was readings x (incoming.Settlement c y) b r e shut = rw e (quiet (link.Closing s was) r)
 closing_goes s was readings x (incoming.Content c p) b r e shut = rw e (quiet (link.Closing s was) r)
+closing_goes s was readings x (incoming.Consumer c p) b r e shut = rw e (quiet (link.Closing s was) r)
 closing_goes s was readings x (incoming.ChannelClose c code) b r e shut = rw e (quiet (link.Closing s was) r)
 closing_goes s was readings x (incoming.ChannelCloseOk c) b r e shut = rw e (quiet (link.Closing s was) r)
 closing_goes s was readings x (incoming.Flow c active) b r e shut = rw e (quiet (link.Closing s was) r)
@@ -212,6 +233,16 @@ lost_goes (link.Closing s was) b r e shut = rw e refl
 lost_goes link.Closed b r e shut = rw e refl
 lost_goes link.Lost b r e shut = rw e (sym (no_ends error.ConnectionLost b r (shut (ap is_up e))))
 
+-- ---- ackers, and consumers that are let go
+
+acked_link : (o : Option (ℕ × ℕ)) (k : AckerCall) (b : Wire) → (acked_wire o k b).link ≡ b.link
+acked_link None k b = refl
+acked_link (Some x) k b = choose_link (is_allowed (acker_asked k x.1) (state_of x.0 b)) (after_call x.0 (acker_asked k x.1) b) b b.link refl refl
+
+let_go_link : (o : Option Consumer) (b : Wire) → (after_let_go o b).link ≡ b.link
+let_go_link None b = refl
+let_go_link (Some x) b = choose_link (lets_go_of x b) (cancel_noted x b) b b.link refl refl
+
 -- ---- every event
 
 goes_anew : (w : World) (e : Event) → given_back w.returned e ≡ None → IsShut w.wire → (next_anew w e).returned ≡ after_ends w.wire.link (next_anew w e).wire.link (confirm_marks w.wire e (told_anew w e)) w.returned
@@ -223,9 +254,14 @@ goes_anew w (event.Next flow) step shut =
 goes_anew w (event.Receive f) step shut = incoming_goes w.wire.link (readings_of w.post w.slots) (frame_class f) (frame_method f) (incoming_of f) w.wire w.returned refl shut
 goes_anew w (event.PollTicket n) step shut = quiet w.wire.link w.returned
 goes_anew w (event.PollConfirm n) step shut = quiet_marks w.wire.link (confirm_marks w.wire (event.PollConfirm n) (told_anew w (event.PollConfirm n))) w.returned (select_quiet (is_confirmed (told_anew w (event.PollConfirm n))) (mark.Taken n) w.returned refl)
+goes_anew w (event.PollConsumer n) step shut = quiet w.wire.link w.returned
 goes_anew w (event.PollWait c) step shut = quiet_marks w.wire.link (confirm_marks w.wire (event.PollWait c) (told_anew w (event.PollWait c))) w.returned (select_quiet (is_returned (told_anew w (event.PollWait c))) (mark.Drained c) w.returned refl)
 goes_anew w (event.AsideTicket n) step shut = quiet w.wire.link w.returned
 goes_anew w (event.AsideConfirm n) step shut = quiet_marks w.wire.link (confirm_marks w.wire (event.AsideConfirm n) (told_anew w (event.AsideConfirm n))) w.returned (select_quiet (is_aside (told_anew w (event.AsideConfirm n))) (mark.SetAside n) w.returned refl)
+goes_anew w (event.Acker n k) step shut = quiet_at w.wire.link _ w.returned (acked_link (usable_at n w.wire) k w.wire)
+goes_anew w (event.Delegate n) step shut = quiet w.wire.link w.returned
+goes_anew w (event.DropConsumer n) step shut = quiet_at w.wire.link _ w.returned (let_go_link (consumer_at n w.wire.inbox.roster) w.wire)
+goes_anew w event.NextJob step shut = quiet w.wire.link w.returned
 goes_anew w (event.State c) step shut = quiet w.wire.link w.returned
 goes_anew w event.Lost step shut = lost_goes w.wire.link w.wire w.returned refl shut
 

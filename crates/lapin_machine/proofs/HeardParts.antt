@@ -28,24 +28,4 @@ heard_content link.Lost x class number c p h = cc
 
 pub is_heard : (i : Incoming) (r : Record) (b : Wire) (readings : Readings) (class number : ℕ) → r ≡ incoming_record b readings (refused class number) i → IsHeard i r b
 is_heard (incoming.Content c p) record_.Received b readings class number is = heard_content b.link (receives_part c p b) class number c p (sym is)
-is_heard (incoming.Content c p) (record_.Ticket n) b readings class number is = tt
-is_heard (incoming.Content c p) (record_.Publish t n) b readings class number is = tt
-is_heard (incoming.Content c p) (record_.Frame f) b readings class number is = tt
-is_heard (incoming.Content c p) record_.NoFrame b readings class number is = tt
-is_heard (incoming.Content c p) record_.Passed b readings class number is = tt
-is_heard (incoming.Content c p) record_.Pending b readings class number is = tt
-is_heard (incoming.Content c p) (record_.Answer a) b readings class number is = tt
-is_heard (incoming.Content c p) (record_.Confirmed o) b readings class number is = tt
-is_heard (incoming.Content c p) (record_.State x y) b readings class number is = tt
-is_heard (incoming.Content c p) record_.Aside b readings class number is = tt
-is_heard (incoming.Content c p) (record_.Returned xs) b readings class number is = tt
-is_heard (incoming.Content c p) record_.Lost b readings class number is = tt
-is_heard (incoming.Content c p) (record_.Refused e) b readings class number is = tt
-is_heard (incoming.Reply c k a) r b readings class number is = tt
-is_heard (incoming.Settlement c s) r b readings class number is = tt
-is_heard (incoming.ChannelClose c code) r b readings class number is = tt
-is_heard (incoming.ChannelCloseOk c) r b readings class number is = tt
-is_heard (incoming.ConnectionClose code) r b readings class number is = tt
-is_heard incoming.ConnectionCloseOk r b readings class number is = tt
-is_heard (incoming.Flow c active) r b readings class number is = tt
-is_heard incoming.Other r b readings class number is = tt
+is_heard i r b readings class number is = tt

@@ -1,5 +1,5 @@
 -- What a channel's state tells of its opening, and what ties a session's parts together as its opening goes on.
-use Rattle.std.proofs.Common.{◌≡◌, ℕ, ◌==◌, Bool, true, false, cond, List, Option, Some, None, refl}
+use Rattle.std.proofs.Common.{◌≡◌, ℕ, ◌==◌, ◌&&◌, Bool, true, false, cond, List, Option, Some, None, refl}
 use Rattle.std.specs.Prelude.{IsSome, IsOk, OnOk, Result, Ok, Err}
 use Rattle.lapin_types.specs.declared.leaving.Publish.{Publish}
 use Rattle.lapin_types.specs.Types.{ChannelState}
@@ -81,6 +81,14 @@ reply_opening l c k phases h = elim (opens k) as (λ o. cond o (is_opening (stat
   | true ↦ λ h. has_opening l c phases is_opening refl refl refl refl h
   | false ↦ λ h. heard_opening l c phases h
 ] h
+
+-- where a request of its kind is open too
+pub replied_opening : (l : ConnectionPhase) (c : ℕ) (k : ReplyKind) (phases : List (ℕ × ChannelPhase)) (some : Bool) → (receives k (state_at l c (at_channel c phases)) && some) ≡ true → HasOpening l c phases
+replied_opening l c k phases some h = reply_opening l c k phases (first (receives k (state_at l c (at_channel c phases))) some h)
+  where
+    first : (a b : Bool) → (a && b) ≡ true → a ≡ true
+    first true b h = refl
+    first false b h = cc
 
 pub tied_replied : (l : ConnectionPhase) (c : ℕ) (k : ReplyKind) (phases : List (ℕ × ChannelPhase)) (ps : List Publish) (b : Book) → HasOpening l c phases → IsTied l phases ps b → IsTied l (phases_with c k phases) ps b
 tied_replied l c k phases ps b h t = elim (opens k) as (λ o. IsTied l (cond o (with_channel c (phase.Open false) phases) phases) ps b) [

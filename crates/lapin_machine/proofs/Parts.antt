@@ -1,9 +1,10 @@
 -- What a part of a content that is received makes of a session, by what the session's parts then hold.
-use Rattle.std.proofs.Common.{◌≡◌, ℕ, ◌+◌, Bool, true, false, List, [], ◌∷◌, length, Option, Some, None, Ok, refl, sym, ◌∙◌, ap}
+use Rattle.std.proofs.Common.{◌≡◌, ℕ, Bool, true, false, List, [], ◌∷◌, length, Option, Some, None, Ok, refl, sym, ◌∙◌, ap}
 use Rattle.std.specs.Prelude.{OnSome}
 use Rattle.std.specs.List.{fold}
 use Rattle.lapin_types.specs.declared.answer.Answer.TheVariants as answer
 use Rattle.lapin_types.specs.declared.message.BasicGetMessage.{BasicGetMessage}
+use Rattle.lapin_types.specs.declared.message.Delivery.{Delivery}
 use Rattle.lapin_types.specs.declared.message.BasicReturnMessage.{BasicReturnMessage}
 use Rattle.lapin_types.specs.declared.record.Record.TheVariants as record_
 use Rattle.lapin_types.specs.declared.request.Request.{Request}
@@ -18,7 +19,12 @@ use Rattle.lapin_history.specs.declared.phases.ConnectionPhase.{ConnectionPhase}
 use Rattle.lapin_history.specs.ConfirmMarks as mark
 use Rattle.lapin_history.specs.Requests.{resolved_with}
 use Rattle.lapin_history.specs.Words.{is_some}
-use Rattle.lapin_history.specs.Content.{whole_on, whole_marks, start_marks, whole_tickets, start_tickets, got_message, returned_message, ackers_after, after_part}
+use Rattle.lapin_consumer.specs.Roster.{is_registered}
+use Rattle.lapin_inbox.specs.Inbox.{Inbox}
+use Rattle.lapin_inbox.specs.Inbox as inbox
+use Rattle.lapin_inbox.specs.Marks as inbox_mark
+use Rattle.lapin_history.specs.Wire.{with_inbox}
+use Rattle.lapin_history.specs.Content.{whole_on, whole_marks, start_marks, whole_tickets, start_tickets, next_acker, arrival, start_inbox, whole_inbox, part_inbox, delivered_message, got_message, returned_message, after_part}
 use Rattle.lapin_outbox.specs.Outgoing.{OutboxState}
 use Rattle.lapin_ticket.specs.declared.Slot.{Slot}
 use Rattle.lapin_ticket.specs.Slots.{after_mark}
@@ -27,7 +33,7 @@ use Rattle.lapin_confirm.specs.Machine as post
 use Rattle.lapin_confirm.specs.Post.{Post}
 use Rattle.lapin_machine.specs.World.{World, receiving}
 use Rattle.lapin_machine.proofs.Counts.{resolved-count}
-use Rattle.lapin_machine.proofs.Worlds.{seen, base_is, world_is}
+use Rattle.lapin_machine.proofs.Seen.{seen, base_is, world_is}
 
 -- ---- a whole content changes no tag and no outcome, and gives no ticket
 
@@ -46,7 +52,7 @@ whole_book c w p new is = ap (λ (q : Post). q.book) is ∙ whole-book c w p
 
 start-count : (c n : ℕ) (s : Start) (w : Whole) (slots : List (Option Slot)) → length (fold after_mark slots (start_tickets c n s w)) ≡ length slots
 start-count c n (start.Return code text exchange key) w slots = refl
-start-count c n (start.Get ticket tag exchange key redelivered count) w slots = resolved-count (Ok (answer.Got (Some (got_message c (n + 1) tag exchange key redelivered count w)))) ticket slots
+start-count c n (start.Get ticket tag exchange key redelivered count) w slots = resolved-count (Ok (answer.Got (Some (got_message c n tag exchange key redelivered count w)))) ticket slots
 start-count c n (start.Deliver consumer tag exchange key redelivered) w slots = refl
 
 whole-count : (c n : ℕ) (w : Option Whole) (slots : List (Option Slot)) → length (fold after_mark slots (whole_tickets c n w)) ≡ length slots
@@ -55,7 +61,7 @@ whole-count c n (Some w) slots = start-count c n w.start w slots
 
 -- ---- a whole content, by what began it
 
-pub got_slots : (c n : ℕ) (w : Whole) (ticket : Option ℕ) (tag : ℕ) (exchange key : List ℕ) (redelivered : Bool) (count : ℕ) (m : BasicGetMessage) (slots new : List (Option Slot)) → w.start ≡ start.Get ticket tag exchange key redelivered count → m ≡ got_message c (n + 1) tag exchange key redelivered count w → new ≡ fold after_mark slots (resolved_with (Ok (answer.Got (Some m))) ticket) → new ≡ fold after_mark slots (whole_tickets c n (Some w))
+pub got_slots : (c n : ℕ) (w : Whole) (ticket : Option ℕ) (tag : ℕ) (exchange key : List ℕ) (redelivered : Bool) (count : ℕ) (m : BasicGetMessage) (slots new : List (Option Slot)) → w.start ≡ start.Get ticket tag exchange key redelivered count → m ≡ got_message c n tag exchange key redelivered count w → new ≡ fold after_mark slots (resolved_with (Ok (answer.Got (Some m))) ticket) → new ≡ fold after_mark slots (whole_tickets c n (Some w))
 got_slots c n w ticket tag exchange key redelivered count m slots new is got resolved =
     resolved
     ∙ ap (λ (x : BasicGetMessage). fold after_mark slots (resolved_with (Ok (answer.Got (Some x))) ticket)) got
@@ -67,37 +73,54 @@ returned_marks c w code text exchange key m p new is came arrived =
     ∙ ap (λ (x : BasicReturnMessage). post.after_mark p (mark.Arrived c x)) came
     ∙ ap (λ (x : Start). fold post.after_mark p (start_marks c x w)) (sym is)
 
+-- consumers and ackers: the message of a get takes an acker, and so does a delivery for a consumer that is registered
+pub got_inbox : (c : ℕ) (w : Whole) (ticket : Option ℕ) (tag : ℕ) (exchange key : List ℕ) (redelivered : Bool) (count : ℕ) (i new : Inbox) → w.start ≡ start.Get ticket tag exchange key redelivered count → new ≡ inbox.after_mark i (inbox_mark.Got c tag) → new ≡ fold inbox.after_mark i (whole_inbox c i (Some w))
+got_inbox c w ticket tag exchange key redelivered count i new is got = got ∙ ap (λ (x : Start). fold inbox.after_mark i (start_inbox c i x w)) (sym is)
+
+pub delivered_inbox : (c : ℕ) (w : Whole) (k tag : ℕ) (exchange key : List ℕ) (redelivered : Bool) (d : Delivery) (i new : Inbox) → w.start ≡ start.Deliver (Some k) tag exchange key redelivered → is_registered k i.roster ≡ true → d ≡ delivered_message c (next_acker i) tag exchange key redelivered w → new ≡ inbox.after_mark i (inbox_mark.Delivered k d) → new ≡ fold inbox.after_mark i (whole_inbox c i (Some w))
+delivered_inbox c w k tag exchange key redelivered d i new is registered made came =
+    let arrived : arrival k (delivered_message c (next_acker i) tag exchange key redelivered w) i ≡ inbox_mark.Delivered k (delivered_message c (next_acker i) tag exchange key redelivered w) ∷ [] = rw registered refl in
+    came
+    ∙ ap (λ (x : Delivery). inbox.after_mark i (inbox_mark.Delivered k x)) made
+    ∙ ap (fold inbox.after_mark i) (sym arrived)
+    ∙ ap (λ (x : Start). fold inbox.after_mark i (start_inbox c i x w)) (sym is)
+
+pub missed_inbox : (c : ℕ) (w : Whole) (k tag : ℕ) (exchange key : List ℕ) (redelivered : Bool) (i : Inbox) → w.start ≡ start.Deliver (Some k) tag exchange key redelivered → is_registered k i.roster ≡ false → i ≡ fold inbox.after_mark i (whole_inbox c i (Some w))
+missed_inbox c w k tag exchange key redelivered i is gone =
+    let none : arrival k (delivered_message c (next_acker i) tag exchange key redelivered w) i ≡ [] = rw gone refl in
+    ap (fold inbox.after_mark i) (sym none) ∙ ap (λ (x : Start). fold inbox.after_mark i (start_inbox c i x w)) (sym is)
+
 -- ---- a request that is open is found
 
 pub found : (r : Option Request) (P : Type 0) → is_some r ≡ true → OnSome r P → P
 found None P some h = cc
 found (Some r) P some h = h
 
-module _ (l : ConnectionPhase) (p : List (ℕ × ChannelPhase)) (o : OutboxState) (rs : List (ℕ × List Request)) (cs : Channels) (n : ℕ) (s : List (Option Slot)) (b : Post) where
+module _ (l : ConnectionPhase) (p : List (ℕ × ChannelPhase)) (o : OutboxState) (rs : List (ℕ × List Request)) (cs : Channels) (i : Inbox) (s : List (Option Slot)) (b : Post) where
   abbrev old : World
-  old = seen l p o rs cs n s b
+  old = seen l p o rs cs i s b
 
   -- a header or a body, and the content that it makes whole, if it does
-  pub part_seen : (c : ℕ) (q : ContentPart) (w : Option Whole) (O : OutboxState) (R : List (ℕ × List Request)) (C : Channels) (N : ℕ) (S : List (Option Slot)) (B : Post)
+  pub part_seen : (c : ℕ) (q : ContentPart) (w : Option Whole) (O : OutboxState) (R : List (ℕ × List Request)) (C : Channels) (J : Inbox) (S : List (Option Slot)) (B : Post)
       → whole_on c q old.wire ≡ w
-      → after_part c q old.wire ≡ record old.wire { contents = (after_part c q old.wire).contents; ackers = ackers_after (whole_on c q old.wire) n }
+      → after_part c q old.wire ≡ record old.wire { contents = (after_part c q old.wire).contents }
       → O ≡ o
       → R ≡ rs
       → C ≡ (after_part c q old.wire).contents
-      → N ≡ ackers_after w n
-      → S ≡ fold after_mark s (whole_tickets c n w)
+      → J ≡ fold inbox.after_mark i (whole_inbox c i w)
+      → S ≡ fold after_mark s (whole_tickets c (next_acker i) w)
       → B ≡ fold post.after_mark b (whole_marks c w)
-      → seen l p O R C N S B ≡ receiving (incoming.Content c q) record_.Received old
-  part_seen c q w O R C N S B whole after eO eR eC eN eS eB =
+      → seen l p O R C J S B ≡ receiving (incoming.Content c q) record_.Received old
+  part_seen c q w O R C J S B whole after eO eR eC eI eS eB =
       world_is _ _
-      (base_is _ (record old.wire { contents = (after_part c q old.wire).contents; ackers = ackers_after (whole_on c q old.wire) n })
+      (base_is _ (with_inbox (part_inbox c q old.wire) (record old.wire { contents = (after_part c q old.wire).contents }))
       (ap (λ (y : OutboxState). y.frame_max) eO) refl refl
       (ap (λ (y : OutboxState). y.lists.rest) eO) (ap (λ (y : OutboxState). y.lists.methods) eO) (ap (λ (y : OutboxState). y.lists.publishes) eO)
       eR eC
-      (ap length eS ∙ whole-count c n w s)
+      (ap length eS ∙ whole-count c (next_acker i) w s)
       (ap (λ (y : Book). length y.cells) (whole_book c w b B eB))
-      (eN ∙ ap (λ x. ackers_after x n) (sym whole))
-      ∙ sym after)
+      (eI ∙ ap (λ x. fold inbox.after_mark i (whole_inbox c i x)) (sym whole))
+      ∙ ap (with_inbox (part_inbox c q old.wire)) (sym after))
       (eB ∙ ap (λ x. fold post.after_mark b (whole_marks c x)) (sym whole))
-      (eS ∙ ap (λ x. fold after_mark s (whole_tickets c n x)) (sym whole))
+      (eS ∙ ap (λ x. fold after_mark s (whole_tickets c (next_acker i) x)) (sym whole))
       (ap (λ (y : OutboxState). y.returned) eO)

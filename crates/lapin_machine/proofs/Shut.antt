@@ -1,5 +1,5 @@
 -- No channel stands open once the connection does not: kept by every event.
-use Rattle.std.proofs.Common.{◌≡◌, ℕ, Bool, true, false, cond, not, ◌||◌, subst, [], Option, Some, None, refl, sym, ◌∙◌, ap, inl, inr}
+use Rattle.std.proofs.Common.{◌≡◌, ℕ, Bool, true, false, cond, not, ◌||◌, ◌&&◌, subst, [], Option, Some, None, refl, sym, ◌∙◌, ap, inl, inr}
 use Rattle.lapin_history.specs.declared.calls.Asked.{Asked}
 use Rattle.lapin_history.specs.declared.calls.Asked.TheVariants as ask
 use Rattle.lapin_history.specs.Calls.{asked}
@@ -7,6 +7,7 @@ use Rattle.lapin_types.specs.declared.event.Event.{Event}
 use Rattle.lapin_types.specs.declared.event.Event.TheVariants as event
 use Rattle.lapin_types.specs.declared.record.Record.{Record}
 use Rattle.lapin_types.specs.declared.record.Record.TheVariants as record_
+use Rattle.lapin_types.specs.declared.acker_call.AckerCall.{AckerCall}
 use Rattle.lapin_types.specs.declared.leaving.Left.{Left}
 use Rattle.lapin_types.specs.Types.{Frame}
 use Rattle.lapin_types.specs.Types.error
@@ -14,6 +15,7 @@ use Rattle.lapin_types.specs.Types.frame
 use Rattle.lapin_types.specs.Types.method
 use Rattle.lapin_types.specs.Types.connection
 use Rattle.lapin_types.specs.Types.channel
+use Rattle.lapin_types.specs.Types.basic
 use Rattle.lapin_history.specs.declared.broker_frames.Incoming.{Incoming}
 use Rattle.lapin_history.specs.declared.broker_frames.Incoming.TheVariants as incoming
 use Rattle.lapin_history.specs.declared.phases.ChannelPhase.{ChannelPhase}
@@ -42,6 +44,11 @@ use Rattle.lapin_history.specs.Events.{record_of, after_event}
 use Rattle.lapin_history.specs.declared.broker_frames.ContentPart.{ContentPart}
 use Rattle.lapin_history.specs.declared.broker_frames.ContentPart.TheVariants as part
 use Rattle.lapin_history.specs.Content.{receives_part, after_part}
+use Rattle.lapin_history.specs.declared.broker_frames.ConsumerPart.{ConsumerPart}
+use Rattle.lapin_history.specs.declared.broker_frames.ConsumerPart.TheVariants as consumer
+use Rattle.lapin_consumer.specs.Roster.{Consumer, consumer_at}
+use Rattle.lapin_history.specs.Consumers.{receives_consumer, after_consumer, lets_go_of, cancel_noted, after_let_go}
+use Rattle.lapin_history.specs.Ackers.{acker_asked, acked_wire, usable_at}
 use Rattle.lapin_machine.specs.Stands.{IsShut}
 use Rattle.lapin_machine.proofs.Alone.{down_refuses}
 
@@ -60,6 +67,7 @@ call_up c ask.Open b e = up_shut (after_call c ask.Open b) e
 call_up c (ask.CloseChannel code text) b e = up_shut (after_call c (ask.CloseChannel code text) b) e
 call_up c (ask.CloseConnection code text) b e = λ _. refl
 call_up c (ask.Method row) b e = up_shut (after_call c (ask.Method row) b) e
+call_up c (ask.Consume m tag queue o) b e = up_shut (after_call c (ask.Consume m tag queue o) b) e
 call_up c (ask.Publish exchange key o payload properties) b e = up_shut (after_call c (ask.Publish exchange key o payload properties) b) e
 
 call_shut : (c : ℕ) (k : Asked) (b : Wire) → IsShut b → IsShut (cond (is_allowed k (state_of c b)) (after_call c k b) b)
@@ -117,8 +125,15 @@ flow_up c active b e h = let d : Wire = noted c (method.Channel (channel.FlowOk 
 part_up : (c : ℕ) (p : ContentPart) (b : Wire) → b.link ≡ link.Open → IsShut (after_part c p b)
 part_up c (part.GetOk s) b e = up_shut (after_part c (part.GetOk s) b) e
 part_up c (part.Return s) b e = up_shut (after_part c (part.Return s) b) e
+part_up c (part.Deliver tag s) b e = up_shut (after_part c (part.Deliver tag s) b) e
 part_up c (part.Header h) b e = up_shut (after_part c (part.Header h) b) e
 part_up c (part.Body bytes) b e = up_shut (after_part c (part.Body bytes) b) e
+
+consumer_up : (c : ℕ) (p : ConsumerPart) (b : Wire) → b.link ≡ link.Open → IsShut b → IsShut (after_consumer c p b)
+consumer_up c (consumer.ConsumeOk tag) b e h = up_shut (after_consumer c (consumer.ConsumeOk tag) b) e
+consumer_up c (consumer.CancelOk tag) b e h = up_shut (after_consumer c (consumer.CancelOk tag) b) e
+consumer_up c consumer.RecoverOk b e h = up_shut (after_consumer c consumer.RecoverOk b) e
+consumer_up c (consumer.Cancel tag nowait) b e h = choose_shut (is_open (state_of c b) && not nowait) (noted c (method.Basic (basic.CancelOk tag)) b) b h h
 
 -- while the connection is open
 incoming_open : (readings : Readings) (class number : ℕ) (i : Incoming) (b : Wire) → b.link ≡ link.Open → IsShut b → IsShut (after_incoming i (incoming_up b readings (refused class number) i) b)
@@ -130,6 +145,7 @@ incoming_open readings class number (incoming.Settlement c s) b e h =
     h)
     (λ _. refl)
 incoming_open readings class number (incoming.Content c p) b e h = choose_record (receives_part c p b) (incoming.Content c p) record_.Received (refused class number) b (part_up c p b e) (λ _. refl)
+incoming_open readings class number (incoming.Consumer c p) b e h = choose_record (receives_consumer c p b) (incoming.Consumer c p) record_.Received (refused class number) b (consumer_up c p b e h) (λ _. refl)
 incoming_open readings class number (incoming.Flow c active) b e h = choose_record (receives_on (state_of c b)) (incoming.Flow c active) record_.Received (refused class number) b (flow_up c active b e h) (λ _. refl)
 incoming_open readings class number (incoming.ChannelClose c code) b e h = choose_record (receives_close (state_of c b)) (incoming.ChannelClose c code) record_.Received (refused class number) b (up_shut (after_channel_close c (phase_of c b) b) e) (λ _. refl)
 incoming_open readings class number (incoming.ChannelCloseOk c) b e h = choose_record (receives_close_ok (state_of c b)) (incoming.ChannelCloseOk c) record_.Received (refused class number) b (close_ok_up c (phase_of c b) b e) (λ _. refl)
@@ -152,10 +168,21 @@ incoming_shut (link.Closing false false) readings class number (incoming.Connect
 incoming_shut (link.Closing s was) readings class number (incoming.Reply c k a) b e h = let none : b.phases ≡ [] = h (ap is_up e) in rw e (λ _. none)
 incoming_shut (link.Closing s was) readings class number (incoming.Settlement c x) b e h = let none : b.phases ≡ [] = h (ap is_up e) in rw e (λ _. none)
 incoming_shut (link.Closing s was) readings class number (incoming.Content c p) b e h = let none : b.phases ≡ [] = h (ap is_up e) in rw e (λ _. none)
+incoming_shut (link.Closing s was) readings class number (incoming.Consumer c p) b e h = let none : b.phases ≡ [] = h (ap is_up e) in rw e (λ _. none)
 incoming_shut (link.Closing s was) readings class number (incoming.ChannelClose c code) b e h = let none : b.phases ≡ [] = h (ap is_up e) in rw e (λ _. none)
 incoming_shut (link.Closing s was) readings class number (incoming.ChannelCloseOk c) b e h = let none : b.phases ≡ [] = h (ap is_up e) in rw e (λ _. none)
 incoming_shut (link.Closing s was) readings class number (incoming.Flow c active) b e h = let none : b.phases ≡ [] = h (ap is_up e) in rw e (λ _. none)
 incoming_shut (link.Closing s was) readings class number incoming.Other b e h = let none : b.phases ≡ [] = h (ap is_up e) in rw e (λ _. none)
+
+-- ---- ackers, and consumers that are let go
+
+acked_shut : (o : Option (ℕ × ℕ)) (k : AckerCall) (b : Wire) → IsShut b → IsShut (acked_wire o k b)
+acked_shut None k b h = h
+acked_shut (Some x) k b h = call_shut x.0 (acker_asked k x.1) b h
+
+let_go_shut : (o : Option Consumer) (b : Wire) → IsShut b → IsShut (after_let_go o b)
+let_go_shut None b h = h
+let_go_shut (Some x) b h = choose_shut (lets_go_of x b) (cancel_noted x b) b h h
 
 -- ---- every event
 
@@ -165,8 +192,13 @@ shut-next b readings (event.Next flow) h = sent_shut (handed flow b) (with_lists
 shut-next b readings (event.Receive f) h = incoming_shut b.link readings (frame_class f) (frame_method f) (incoming_of f) b refl h
 shut-next b readings (event.PollTicket n) h = h
 shut-next b readings (event.PollConfirm n) h = h
+shut-next b readings (event.PollConsumer n) h = h
 shut-next b readings (event.PollWait c) h = h
 shut-next b readings (event.AsideTicket n) h = h
 shut-next b readings (event.AsideConfirm n) h = h
+shut-next b readings (event.Acker n k) h = acked_shut (usable_at n b) k b h
+shut-next b readings (event.Delegate n) h = h
+shut-next b readings (event.DropConsumer n) h = let_go_shut (consumer_at n b.inbox.roster) b h
+shut-next b readings event.NextJob h = h
 shut-next b readings (event.State c) h = h
 shut-next b readings event.Lost h = choose_shut (is_lost b.link) b (down link.Lost b) h (λ _. refl)

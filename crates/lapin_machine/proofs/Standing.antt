@@ -45,6 +45,7 @@ use Rattle.lapin_machine.proofs.ConfirmStanding.{confirms-next}
 up_same : (b : Wire) (ms : List ConfirmMark) (tms : List TicketMark) (bk : Post) (slots : List (Option Slot)) (f : Record) (i : Incoming) → confirms.Follows ms bk → incoming_up b (readings_of bk slots) f i ≡ incoming_up b (history.readings_of ms tms) f i
 up_same b ms tms bk slots f (incoming.Settlement c s) h = rw (selected-read c ms bk h, last-read c ms bk h, tag-read c s.tag ms bk h) refl
 up_same b ms tms bk slots f (incoming.Content c p) h = refl
+up_same b ms tms bk slots f (incoming.Consumer c p) h = refl
 up_same b ms tms bk slots f (incoming.Reply c k a) h = refl
 up_same b ms tms bk slots f (incoming.ChannelClose c code) h = refl
 up_same b ms tms bk slots f (incoming.ChannelCloseOk c) h = refl
@@ -62,9 +63,14 @@ record_same b ms tms bk slots (event.Next flow) h t = refl
 record_same b ms tms bk slots (event.Receive f) h t = incoming_same b ms tms bk slots (refused (frame_class f) (frame_method f)) (incoming_of f) h
 record_same b ms tms bk slots (event.PollTicket n) h t = ticket_shown n tms slots t
 record_same b ms tms bk slots (event.PollConfirm n) h t = confirm_shown n ms bk h
+record_same b ms tms bk slots (event.PollConsumer n) h t = refl
 record_same b ms tms bk slots (event.PollWait c) h t = wait_shown c b ms tms bk slots h
 record_same b ms tms bk slots (event.AsideTicket n) h t = aside_shown n tms slots t
 record_same b ms tms bk slots (event.AsideConfirm n) h t = confirm_aside_shown n ms bk h
+record_same b ms tms bk slots (event.Acker n k) h t = refl
+record_same b ms tms bk slots (event.Delegate n) h t = refl
+record_same b ms tms bk slots (event.DropConsumer n) h t = refl
+record_same b ms tms bk slots event.NextJob h t = refl
 record_same b ms tms bk slots (event.State c) h t = refl
 record_same b ms tms bk slots event.Lost h t = refl
 

@@ -1,15 +1,19 @@
 -- Tickets stand for the longer history after each event.
 use Rattle.std.proofs.Common.{◌≡◌, ℕ, ◌+◌, Bool, true, false, cond, List, [], ◌∷◌, ◌++◌, Option, Some, None, Result, refl, sym, ◌∙◌, ap, subst, append_assoc, append-nil}
-use Rattle.std.specs.List.{fold}
+use Rattle.std.specs.List.{fold, filter}
 use Rattle.lapin_types.specs.declared.answer.Answer.{Answer}
 use Rattle.lapin_history.specs.declared.calls.Asked.{Asked}
 use Rattle.lapin_history.specs.declared.calls.Asked.TheVariants as ask
 use Rattle.lapin_history.specs.Calls.{asked}
 use Rattle.lapin_types.specs.declared.event.Event.{Event}
 use Rattle.lapin_types.specs.declared.event.Event.TheVariants as event
+use Rattle.lapin_types.specs.declared.acker_call.AckerCall.{AckerCall}
 use Rattle.lapin_types.specs.declared.leaving.Left.{Left}
 use Rattle.lapin_types.specs.declared.record.Record.{Record}
 use Rattle.lapin_types.specs.declared.record.Record.TheVariants as record_
+use Rattle.lapin_types.specs.declared.request.Request.{Request}
+use Rattle.lapin_types.specs.declared.request.ReplyKind.TheVariants as reply_kind
+use Rattle.lapin_tables.specs.ByChannel.{at_channel}
 use Rattle.lapin_types.specs.Types.{Error}
 use Rattle.lapin_types.specs.Types.error
 use Rattle.lapin_history.specs.declared.broker_frames.Incoming.{Incoming}
@@ -19,13 +23,13 @@ use Rattle.lapin_history.specs.declared.phases.ConnectionPhase.TheVariants as li
 use Rattle.lapin_history.specs.Phases.{is_lost}
 use Rattle.lapin_history.specs.declared.phases.Closer.TheVariants as closer
 use Rattle.lapin_history.specs.ChannelClose.{failed_at_close, close_ok_end}
-use Rattle.lapin_history.specs.TicketReadings.{TicketMark, Given, ClosedHere, AllFailed, Collected, SetAside, gives, given}
+use Rattle.lapin_history.specs.TicketReadings.{TicketMark, Given, ClosedHere, OpeningFailed, AllFailed, Collected, SetAside, gives, given}
 use Rattle.lapin_history.specs.Incoming.{incoming_of}
 use Rattle.lapin_content.specs.declared.start.Start.{Start}
 use Rattle.lapin_content.specs.declared.start.Start.TheVariants as start
 use Rattle.lapin_content.specs.declared.start.Whole.{Whole}
-use Rattle.lapin_history.specs.Content.{start_tickets, whole_tickets, whole_on}
-use Rattle.lapin_history.specs.Wire.{Wire, state_of, phase_of, is_open}
+use Rattle.lapin_history.specs.Content.{next_acker, start_tickets, whole_tickets, whole_on}
+use Rattle.lapin_history.specs.Wire.{Wire, state_of, phase_of, is_open, with_inbox}
 use Rattle.lapin_history.specs.Asking.{is_allowed, after_call}
 use Rattle.lapin_history.specs.Events.{after_event}
 use Rattle.lapin_history.specs.Receiving.{after_incoming}
@@ -33,11 +37,19 @@ use Rattle.lapin_history.specs.Handing.{handed}
 use Rattle.lapin_history.specs.declared.marks.AtLeaving.{AtLeaving}
 use Rattle.lapin_history.specs.Events.{ticket_marks}
 use Rattle.lapin_history.specs.Asking.{made_answer, made_marks, leaving_answer, call_tickets}
-use Rattle.lapin_history.specs.Asking.{closing_tickets}
+use Rattle.lapin_history.specs.Asking.{closing_tickets, asking_inbox, asked_wire, asking_tickets}
 use Rattle.lapin_history.specs.Handing.{begun_ticket, last_ticket, left_tickets}
-use Rattle.lapin_history.specs.Requests.{resolved_with}
-use Rattle.lapin_history.specs.Ends.{end_tickets}
-use Rattle.lapin_history.specs.ConnectionClose.{connection_close_tickets}
+use Rattle.lapin_history.specs.Requests.{is_kind, requests_in, resolved_with}
+use Rattle.lapin_history.specs.Ends.{live_channels, done_with, cancels_at, cancels_on, end_tickets, all_failed}
+use Rattle.lapin_history.specs.ConnectionClose.{failed_at_connection_close, connection_close_tickets}
+use Rattle.lapin_history.specs.Unexpected.{failed_at_unexpected}
+use Rattle.lapin_history.specs.Loss.{after_lost, lost_inbox}
+use Rattle.lapin_history.specs.declared.broker_frames.ConsumerPart.{ConsumerPart}
+use Rattle.lapin_history.specs.declared.broker_frames.ConsumerPart.TheVariants as consumer
+use Rattle.lapin_consumer.specs.Roster.{consumer_at}
+use Rattle.lapin_inbox.specs.Marks.{InboxMark}
+use Rattle.lapin_history.specs.Consumers.{consumer_tickets}
+use Rattle.lapin_history.specs.Ackers.{acker_asked, usable_at, acked_wire, acker_inbox, acked_tickets}
 use Rattle.lapin_history.specs.Receiving.{received_tickets, failed_tickets, refused_tickets, incoming_tickets}
 use Rattle.lapin_history.specs.Polls.{is_answer, is_aside}
 use Rattle.lapin_history.proofs.TicketLaws.{given-push}
@@ -46,7 +58,7 @@ use Rattle.lapin_ticket.specs.Slots.{after_mark}
 use Rattle.lapin_ticket.specs.Follows.{Follows}
 use Rattle.lapin_ticket.proofs.Following.{follows-push}
 use Rattle.lapin_machine.specs.Stands.{TicketsStand}
-use Rattle.lapin_machine.proofs.Counting.{incoming_counts, next_counts}
+use Rattle.lapin_machine.proofs.Counting.{incoming_counts, next_counts, let_go_counts}
 
 -- tickets follow, whatever marks come
 follows_fold : (ms new : List TicketMark) (slots : List (Option Slot)) → Follows ms slots → Follows (ms ++ new) (fold after_mark slots new)
@@ -95,23 +107,36 @@ choose_none : (t : Bool) (xs ys : List TicketMark) → gives_none xs → gives_n
 choose_none true xs ys h k = h
 choose_none false xs ys h k = k
 
-call_none : (c : ℕ) (k : Asked) → gives_none (closing_tickets c k)
-call_none c ask.Open = tt
-call_none c (ask.CloseChannel code text) = (refl, tt)
-call_none c (ask.CloseConnection code text) = (refl, tt)
-call_none c (ask.Method row) = tt
-call_none c (ask.Publish exchange key o payload properties) = tt
+done_none : (rs : List Request) → gives_none (done_with rs)
+done_none [] = tt
+done_none (r ∷ rs) = join_none (resolved_with _ r.ticket) (done_with rs) (resolved_none _ r.ticket) (done_none rs)
 
-end_none : (c : ℕ) (e : Option Error) → gives_none (end_tickets c e)
-end_none c None = tt
-end_none c (Some e) = (refl, tt)
+cancels_none : (c : ℕ) (all : List (ℕ × List Request)) → gives_none (cancels_at c all)
+cancels_none c all = done_none (filter (is_kind reply_kind.BasicCancelOk) (requests_in (at_channel c all)))
 
-connection_close_none : (l : ConnectionPhase) (code : ℕ) → gives_none (connection_close_tickets l code)
-connection_close_none link.Open code = (refl, tt)
-connection_close_none (link.Closing true received) code = tt
-connection_close_none (link.Closing false received) code = (refl, tt)
-connection_close_none link.Closed code = (refl, tt)
-connection_close_none link.Lost code = (refl, tt)
+on_none : (cs : List ℕ) (all : List (ℕ × List Request)) → gives_none (cancels_on cs all)
+on_none [] all = tt
+on_none (c ∷ cs) all = join_none (cancels_at c all) (cancels_on cs all) (cancels_none c all) (on_none cs all)
+
+-- every open ticket fails, or is that of a cancel
+failed_all_none : (e : Error) (b : Wire) → gives_none (all_failed e b)
+failed_all_none e b = join_none (cancels_on (live_channels b.phases) b.requests) (AllFailed e ∷ []) (on_none (live_channels b.phases) b.requests) (refl, tt)
+
+call_none : (c : ℕ) (k : Asked) (b : Wire) → gives_none (closing_tickets c k b)
+call_none c ask.Open b = tt
+call_none c (ask.CloseChannel code text) b = (refl, tt)
+call_none c (ask.CloseConnection code text) b = failed_all_none failed_at_connection_close b
+call_none c (ask.Method row) b = tt
+call_none c (ask.Consume m tag queue o) b = tt
+call_none c (ask.Publish exchange key o payload properties) b = tt
+
+end_none : (c : ℕ) (e : Option Error) (b : Wire) → gives_none (end_tickets c e b)
+end_none c None b = tt
+end_none c (Some e) b = join_none (cancels_at c b.requests) (OpeningFailed c None e ∷ []) (cancels_none c b.requests) (refl, tt)
+
+connection_close_none : (l : ConnectionPhase) (code : ℕ) (b : Wire) → gives_none (connection_close_tickets l code b)
+connection_close_none (link.Closing true received) code b = tt
+connection_close_none _ code b = failed_all_none (error.ProtocolError code) b
 
 start_none : (c n : ℕ) (s : Start) (w : Whole) → gives_none (start_tickets c n s w)
 start_none c n (start.Get ticket tag exchange key redelivered count) w = resolved_none _ ticket
@@ -122,13 +147,20 @@ whole_none : (c n : ℕ) (w : Option Whole) → gives_none (whole_tickets c n w)
 whole_none c n None = tt
 whole_none c n (Some w) = start_none c n w.start w
 
+consumer_none : (c : ℕ) (p : ConsumerPart) (b : Wire) → gives_none (consumer_tickets c p b)
+consumer_none c (consumer.ConsumeOk tag) b = resolved_none _ _
+consumer_none c (consumer.CancelOk tag) b = resolved_none _ _
+consumer_none c consumer.RecoverOk b = resolved_none _ _
+consumer_none c (consumer.Cancel tag nowait) b = tt
+
 received_none : (i : Incoming) (b : Wire) → gives_none (received_tickets i b)
 received_none (incoming.Reply c k a) b = resolved_none _ _
 received_none (incoming.Settlement c s) b = tt
-received_none (incoming.Content c p) b = whole_none c b.ackers (whole_on c p b)
-received_none (incoming.ChannelClose c code) b = (refl, tt)
-received_none (incoming.ChannelCloseOk c) b = join_none _ (end_tickets c (close_ok_end (phase_of c b))) (resolved_none _ _) (end_none c (close_ok_end (phase_of c b)))
-received_none (incoming.ConnectionClose code) b = connection_close_none b.link code
+received_none (incoming.Content c p) b = whole_none c (next_acker b.inbox) (whole_on c p b)
+received_none (incoming.Consumer c p) b = consumer_none c p b
+received_none (incoming.ChannelClose c code) b = join_none (cancels_at c b.requests) (OpeningFailed c _ (error.ProtocolError code) ∷ []) (cancels_none c b.requests) (refl, tt)
+received_none (incoming.ChannelCloseOk c) b = join_none _ (end_tickets c (close_ok_end (phase_of c b)) b) (resolved_none _ _) (end_none c (close_ok_end (phase_of c b)) b)
+received_none (incoming.ConnectionClose code) b = connection_close_none b.link code b
 received_none incoming.ConnectionCloseOk b = resolved_none _ _
 received_none (incoming.Flow c active) b = tt
 received_none incoming.Other b = tt
@@ -137,6 +169,7 @@ failed_none : (i : Incoming) (b : Wire) → gives_none (failed_tickets i b)
 failed_none (incoming.Settlement c s) b = choose_none (is_open (state_of c b)) (ClosedHere c (failed_at_close closer.Session) ∷ []) [] (refl, tt) tt
 failed_none (incoming.Reply c k a) b = tt
 failed_none (incoming.Content c p) b = tt
+failed_none (incoming.Consumer c p) b = tt
 failed_none (incoming.ChannelClose c code) b = tt
 failed_none (incoming.ChannelCloseOk c) b = tt
 failed_none (incoming.ConnectionClose code) b = tt
@@ -145,7 +178,7 @@ failed_none (incoming.Flow c active) b = tt
 failed_none incoming.Other b = tt
 
 refused_none : (i : Incoming) (e : Error) (b : Wire) → gives_none (refused_tickets i e b)
-refused_none i (error.UnexpectedFrame class number) b = (refl, tt)
+refused_none i (error.UnexpectedFrame class number) b = failed_all_none failed_at_unexpected b
 refused_none i (error.PreconditionFailed tag current) b = failed_none i b
 refused_none i error.NoMemory b = tt
 refused_none i error.NumbersUsedUp b = tt
@@ -158,18 +191,7 @@ refused_none i error.UnknownTicket b = tt
 incoming_none : (i : Incoming) (r : Record) (b : Wire) → gives_none (incoming_tickets i r b)
 incoming_none i (record_.Refused e) b = refused_none i e b
 incoming_none i record_.Received b = received_none i b
-incoming_none i (record_.Ticket n) b = tt
-incoming_none i (record_.Publish t n) b = tt
-incoming_none i (record_.Frame f) b = tt
-incoming_none i record_.NoFrame b = tt
-incoming_none i record_.Passed b = tt
-incoming_none i record_.Pending b = tt
-incoming_none i (record_.Answer a) b = tt
-incoming_none i (record_.Confirmed o) b = tt
-incoming_none i (record_.State x y) b = tt
-incoming_none i record_.Aside b = tt
-incoming_none i (record_.Returned ms) b = tt
-incoming_none i record_.Lost b = tt
+incoming_none i _ b = tt
 
 -- an event that gives no ticket
 stand_quiet : (b d : Wire) (ms new : List TicketMark) (slots : List (Option Slot)) → TicketsStand b ms slots → gives_none new → d.tickets ≡ b.tickets → TicketsStand d (ms ++ new) (fold after_mark slots new)
@@ -180,6 +202,7 @@ call_tickets_more c ask.Open b = refl
 call_tickets_more c (ask.CloseChannel code text) b = refl
 call_tickets_more c (ask.CloseConnection code text) b = refl
 call_tickets_more c (ask.Method row) b = refl
+call_tickets_more c (ask.Consume m tag queue o) b = refl
 call_tickets_more c (ask.Publish exchange key o payload properties) b = refl
 
 -- marks that give one ticket
@@ -193,27 +216,41 @@ given-one c l ms before made h k =
 
 stand_call : (c : ℕ) (k : Asked) (b : Wire) (ms : List TicketMark) (slots : List (Option Slot)) → TicketsStand b ms slots → TicketsStand (after_call c k b) (ms ++ call_tickets c k b) (fold after_mark slots (call_tickets c k b))
 stand_call c k b ms slots s =
-    let all : given (ms ++ call_tickets c k b) ≡ given ms + 1 = given-one c (leaving_answer k b) ms (closing_tickets c k) (made_marks (b.tickets + 1) (made_answer k)) (call_none c k) (made_none (b.tickets + 1) (made_answer k)) in
+    let all : given (ms ++ call_tickets c k b) ≡ given ms + 1 = given-one c (leaving_answer k b) ms (closing_tickets c k b) (made_marks (b.tickets + 1) (made_answer k b)) (call_none c k b) (made_none (b.tickets + 1) (made_answer k b)) in
     record { kept = follows_fold ms (call_tickets c k b) slots s.kept; given = call_tickets_more c k b ∙ ap (λ n. n + 1) s.given ∙ sym all }
 
 choose_call : (t : Bool) (x b : Wire) (ms new : List TicketMark) (slots : List (Option Slot)) → TicketsStand x (ms ++ new) (fold after_mark slots new) → TicketsStand b ms slots → TicketsStand (cond t x b) (ms ++ cond t new []) (fold after_mark slots (cond t new []))
 choose_call true x b ms new slots h s = h
 choose_call false x b ms new slots h s = stand_quiet b b ms [] slots s tt refl
 
-stand_lost : (l : ConnectionPhase) (b d : Wire) (ms : List TicketMark) (slots : List (Option Slot)) (e : Error) → d.tickets ≡ b.tickets → TicketsStand b ms slots → TicketsStand (cond (is_lost l) b d) (ms ++ cond (is_lost l) [] (AllFailed e ∷ [])) (fold after_mark slots (cond (is_lost l) [] (AllFailed e ∷ [])))
-stand_lost link.Open b d ms slots e same s = stand_quiet b d ms (AllFailed e ∷ []) slots s (refl, tt) same
-stand_lost (link.Closing sent received) b d ms slots e same s = stand_quiet b d ms (AllFailed e ∷ []) slots s (refl, tt) same
-stand_lost link.Closed b d ms slots e same s = stand_quiet b d ms (AllFailed e ∷ []) slots s (refl, tt) same
-stand_lost link.Lost b d ms slots e same s = stand_quiet b b ms [] slots s tt refl
+stand_lost : (l : ConnectionPhase) (b d : Wire) (ms new : List TicketMark) (slots : List (Option Slot)) → d.tickets ≡ b.tickets → gives_none new → TicketsStand b ms slots → TicketsStand (cond (is_lost l) b d) (ms ++ cond (is_lost l) [] new) (fold after_mark slots (cond (is_lost l) [] new))
+stand_lost link.Lost b d ms new slots same none s = stand_quiet b b ms [] slots s tt refl
+stand_lost _ b d ms new slots same none s = stand_quiet b d ms new slots s none same
+
+-- what happens to consumers and ackers is nothing to the tickets
+stand_boxed : (xs : List InboxMark) (b : Wire) (ms : List TicketMark) (slots : List (Option Slot)) → TicketsStand b ms slots → TicketsStand (with_inbox xs b) ms slots
+stand_boxed xs b ms slots s = record { kept = s.kept; given = s.given }
+
+stand_asked : (c : ℕ) (k : Asked) (b : Wire) (ms : List TicketMark) (slots : List (Option Slot)) → TicketsStand b ms slots → TicketsStand (asked_wire c k b) (ms ++ asking_tickets c k b) (fold after_mark slots (asking_tickets c k b))
+stand_asked c k b ms slots s = choose_call (is_allowed k (state_of c b)) (after_call c k b) b ms (call_tickets c k b) slots (stand_call c k b ms slots s) s
+
+stand_acked : (o : Option (ℕ × ℕ)) (k : AckerCall) (b : Wire) (ms : List TicketMark) (slots : List (Option Slot)) → TicketsStand b ms slots → TicketsStand (acked_wire o k b) (ms ++ acked_tickets o k b) (fold after_mark slots (acked_tickets o k b))
+stand_acked None k b ms slots s = stand_quiet b b ms [] slots s tt refl
+stand_acked (Some x) k b ms slots s = stand_asked x.0 (acker_asked k x.1) b ms slots s
 
 pub tickets-next : (b : Wire) (ms : List TicketMark) (slots : List (Option Slot)) (e : Event) (r : Record) → TicketsStand b ms slots → TicketsStand (after_event b e r) (ms ++ ticket_marks b e r) (fold after_mark slots (ticket_marks b e r))
-tickets-next b ms slots (event.Call c k) r s = choose_call (is_allowed (asked k) (state_of c b)) (after_call c (asked k) b) b ms (call_tickets c (asked k) b) slots (stand_call c (asked k) b ms slots s) s
+tickets-next b ms slots (event.Call c k) r s = stand_boxed (asking_inbox c (asked k) b) (asked_wire c (asked k) b) _ _ (stand_asked c (asked k) b ms slots s)
 tickets-next b ms slots (event.Next flow) r s = stand_quiet b (after_event b (event.Next flow) r) ms (left_tickets (handed flow b)) slots s (left_none (handed flow b)) (next_counts flow b).0
 tickets-next b ms slots (event.Receive f) r s = stand_quiet b (after_incoming (incoming_of f) r b) ms (incoming_tickets (incoming_of f) r b) slots s (incoming_none (incoming_of f) r b) (incoming_counts (incoming_of f) r b).0
 tickets-next b ms slots (event.PollTicket n) r s = stand_quiet b b ms (cond (is_answer r) (Collected n ∷ []) []) slots s (choose_none (is_answer r) (Collected n ∷ []) [] (refl, tt) tt) refl
 tickets-next b ms slots (event.AsideTicket n) r s = stand_quiet b b ms (cond (is_aside r) (SetAside n ∷ []) []) slots s (choose_none (is_aside r) (SetAside n ∷ []) [] (refl, tt) tt) refl
 tickets-next b ms slots (event.PollConfirm n) r s = stand_quiet b b ms [] slots s tt refl
+tickets-next b ms slots (event.PollConsumer n) r s = stand_quiet b (after_event b (event.PollConsumer n) r) ms [] slots s tt refl
 tickets-next b ms slots (event.PollWait c) r s = stand_quiet b b ms [] slots s tt refl
 tickets-next b ms slots (event.AsideConfirm n) r s = stand_quiet b b ms [] slots s tt refl
+tickets-next b ms slots (event.Acker n k) r s = stand_boxed (acker_inbox n k b) (acked_wire (usable_at n b) k b) _ _ (stand_acked (usable_at n b) k b ms slots s)
+tickets-next b ms slots (event.Delegate n) r s = stand_quiet b (after_event b (event.Delegate n) r) ms [] slots s tt refl
+tickets-next b ms slots (event.DropConsumer n) r s = stand_quiet b (after_event b (event.DropConsumer n) r) ms [] slots s tt (let_go_counts (consumer_at n b.inbox.roster) b).0
+tickets-next b ms slots event.NextJob r s = stand_quiet b (after_event b event.NextJob r) ms [] slots s tt refl
 tickets-next b ms slots (event.State c) r s = stand_quiet b b ms [] slots s tt refl
-tickets-next b ms slots event.Lost r s = stand_lost b.link b _ ms slots error.ConnectionLost refl s
+tickets-next b ms slots event.Lost r s = stand_boxed (lost_inbox b) (after_lost b) _ _ (stand_lost b.link b _ ms (all_failed error.ConnectionLost b) slots refl (failed_all_none error.ConnectionLost b) s)

@@ -3,6 +3,7 @@ use Rattle.std.proofs.Common.{◌≡◌, ℕ, ◌+◌, Bool, true, false, cond, 
 use Rattle.std.specs.List.{fold, filter}
 use Rattle.lapin_types.specs.declared.event.Event.{Event}
 use Rattle.lapin_types.specs.declared.event.Event.TheVariants as event
+use Rattle.lapin_types.specs.declared.acker_call.AckerCall.{AckerCall}
 use Rattle.lapin_types.specs.declared.leaving.Left.{Left}
 use Rattle.lapin_types.specs.declared.leaving.Publish.{Publish}
 use Rattle.lapin_types.specs.declared.record.Record.{Record}
@@ -54,6 +55,11 @@ use Rattle.lapin_types.specs.declared.message.BasicReturnMessage.{BasicReturnMes
 use Rattle.lapin_history.specs.declared.broker_frames.ContentPart.{ContentPart}
 use Rattle.lapin_history.specs.declared.broker_frames.ContentPart.TheVariants as part
 use Rattle.lapin_history.specs.Content.{receives_part, after_part, part_marks, start_marks, whole_marks, whole_on}
+use Rattle.lapin_history.specs.declared.broker_frames.ConsumerPart.{ConsumerPart}
+use Rattle.lapin_history.specs.declared.broker_frames.ConsumerPart.TheVariants as consumer
+use Rattle.lapin_consumer.specs.Roster.{Consumer, consumer_at}
+use Rattle.lapin_history.specs.Consumers.{receives_consumer, after_consumer, lets_go_of, cancel_noted, after_let_go}
+use Rattle.lapin_history.specs.Ackers.{acker_asked, usable_at, acked_wire}
 use Rattle.lapin_confirm.specs.Answers.{answer_at, answer_in, answer_with, is_unknown}
 use Rattle.lapin_confirm.specs.Aside.{is_set_aside, taken_answer}
 use Rattle.lapin_confirm.specs.Book.{closed_here, ended, is_resolved}
@@ -96,6 +102,7 @@ call_tied c ask.Open b k n t h = tied_opened b.link c b.phases b.publishes k (cl
 call_tied c (ask.CloseChannel code text) b k n t h = closing_tied c closer.Application b k h t
 call_tied c (ask.CloseConnection code text) b k n t h = tied_down b.link (link.Closing false false) failed_at_connection_close b.phases b.publishes k t
 call_tied c (ask.Method row) b k n t h = tied_called b.link c row.method b.phases b.publishes k t
+call_tied c (ask.Consume m tag queue o) b k n t h = t
 call_tied c (ask.Publish exchange key o payload properties) b k n t h =
     let p : Publish = record { confirm = b.published + 1; ticket = b.tickets + 1; channel = c; exchange = exchange; routing_key = key; options = o; payload = payload; properties = properties } in
     tied_publish b.link c b.phases b.publishes k.book p (open_opening b.link c b.phases h).live (ap (λ i. i + 1) n) refl t
@@ -159,8 +166,16 @@ whole_tied c (Some w) b k t = start_tied c w.start w b k t
 part_tied : (c : ℕ) (p : ContentPart) (b : Wire) (k : Post) → receives_part c p b ≡ true → T b k → T (after_part c p b) (fold after_mark k (part_marks c p b))
 part_tied c (part.GetOk s) b k h t = tied_replied b.link c reply_kind.BasicGetOk b.phases b.publishes k.book (reply_opening b.link c reply_kind.BasicGetOk b.phases (and_left (receives reply_kind.BasicGetOk (state_of c b)) _ h)) t
 part_tied c (part.Return s) b k h t = t
+part_tied c (part.Deliver tag s) b k h t = t
 part_tied c (part.Header x) b k h t = whole_tied c (whole_on c (part.Header x) b) b k t
 part_tied c (part.Body bytes) b k h t = whole_tied c (whole_on c (part.Body bytes) b) b k t
+
+-- consumers: none of the three replies opens a channel
+consumer_tied : (c : ℕ) (p : ConsumerPart) (b : Wire) (k : Post) → T b k → T (after_consumer c p b) k
+consumer_tied c (consumer.ConsumeOk tag) b k t = t
+consumer_tied c (consumer.CancelOk tag) b k t = t
+consumer_tied c consumer.RecoverOk b k t = t
+consumer_tied c (consumer.Cancel tag nowait) b k t = choose_base (is_open (state_of c b) && not nowait) _ b k (λ _. t) t
 
 -- while the connection is open
 open_tied : (readings : Readings) (class number : ℕ) (i : Incoming) (b : Wire) (k : Post) → b.link ≡ link.Open → T b k → H i (incoming_up b readings (refused class number) i) b k
@@ -170,6 +185,7 @@ open_tied readings class number (incoming.Reply c r a) b k e t =
     (unheard_tied b k t)
 open_tied readings class number (incoming.Settlement c s) b k e t = choose_incoming (receives_on (state_of c b)) (incoming.Settlement c s) (settlement_record readings c s) (refused class number) b k (λ _. settlement_tied readings c s b k t) (unheard_tied b k t)
 open_tied readings class number (incoming.Content c p) b k e t = choose_incoming (receives_part c p b) (incoming.Content c p) record_.Received (refused class number) b k (λ h. part_tied c p b k h t) (unheard_tied b k t)
+open_tied readings class number (incoming.Consumer c p) b k e t = choose_incoming (receives_consumer c p b) (incoming.Consumer c p) record_.Received (refused class number) b k (λ _. consumer_tied c p b k t) (unheard_tied b k t)
 open_tied readings class number (incoming.Flow c active) b k e t =
     choose_incoming (receives_on (state_of c b)) (incoming.Flow c active) record_.Received (refused class number) b k
     (λ _. choose_base (is_open (state_of c b)) _ b k (λ h. tied_paused b.link c (not active) b.phases b.publishes k.book (open_opening b.link c b.phases h) t) t)
@@ -208,6 +224,7 @@ closing_incoming false false readings r (incoming.ConnectionClose code) b k e t 
 closing_incoming s was readings r (incoming.Reply c q a) b k e t = rw e (at_link (link.Closing s was) b k e t)
 closing_incoming s was readings r (incoming.Settlement c x) b k e t = rw e (at_link (link.Closing s was) b k e t)
 closing_incoming s was readings r (incoming.Content c p) b k e t = rw e (at_link (link.Closing s was) b k e t)
+closing_incoming s was readings r (incoming.Consumer c p) b k e t = rw e (at_link (link.Closing s was) b k e t)
 closing_incoming s was readings r (incoming.ChannelClose c code) b k e t = rw e (at_link (link.Closing s was) b k e t)
 closing_incoming s was readings r (incoming.ChannelCloseOk c) b k e t = rw e (at_link (link.Closing s was) b k e t)
 closing_incoming s was readings r (incoming.Flow c active) b k e t = rw e (at_link (link.Closing s was) b k e t)
@@ -257,6 +274,16 @@ choose_mark t m b k h other = elim t as (λ s. t ≡ s → T b (fold after_mark 
 poll_tied : (n : ℕ) (b : Wire) (k : Post) → T b k → T b (fold after_mark k (cond (is_confirmed (outcome_record (taken_answer n k))) (mark.Taken n ∷ []) []))
 poll_tied n b k t = choose_mark (is_confirmed (outcome_record (taken_answer n k))) (mark.Taken n) b k (λ h. tied_taken n b.link b.phases b.publishes k.book (confirmed_resolved n k h) t) t
 
+-- ---- ackers, and consumers that are let go
+
+acked_tied : (o : Option (ℕ × ℕ)) (a : AckerCall) (b : Wire) (k : Post) → T b k → T (acked_wire o a b) k
+acked_tied None a b k t = t
+acked_tied (Some x) a b k t = choose_base (is_allowed (acker_asked a x.1) (state_of x.0 b)) (after_call x.0 (acker_asked a x.1) b) b k (λ _. t) t
+
+let_go_tied : (o : Option Consumer) (b : Wire) (k : Post) → T b k → T (after_let_go o b) k
+let_go_tied None b k t = t
+let_go_tied (Some x) b k t = choose_base (lets_go_of x b) (cancel_noted x b) b k (λ _. t) t
+
 -- ---- every event
 
 pub tied_anew : (w : World) (e : Event) → w.wire.published ≡ length w.post.book.cells → T w.wire w.post → T (next_anew w e).wire (next_anew w e).post
@@ -267,9 +294,14 @@ tied_anew w (event.Next flow) n t =
 tied_anew w (event.Receive f) n t = incoming_tied w.wire.link (readings_of w.post w.slots) (frame_class f) (frame_method f) (incoming_of f) w.wire w.post refl t
 tied_anew w (event.PollTicket k) n t = t
 tied_anew w (event.PollConfirm k) n t = poll_tied k w.wire w.post t
+tied_anew w (event.PollConsumer k) n t = t
 tied_anew w (event.PollWait c) n t = choose_mark (is_returned (told_anew w (event.PollWait c))) (mark.Drained c) w.wire w.post (λ _. tied_drained c w.wire.link w.wire.phases w.wire.publishes w.post t) t
 tied_anew w (event.AsideTicket k) n t = t
 tied_anew w (event.AsideConfirm k) n t = choose_mark (is_aside (told_anew w (event.AsideConfirm k))) (mark.SetAside k) w.wire w.post (λ _. tied_aside k w.wire.link w.wire.phases w.wire.publishes w.post t) t
+tied_anew w (event.Acker a k) n t = acked_tied (usable_at a w.wire) k w.wire w.post t
+tied_anew w (event.Delegate k) n t = t
+tied_anew w (event.DropConsumer k) n t = let_go_tied (consumer_at k w.wire.inbox.roster) w.wire w.post t
+tied_anew w event.NextJob n t = t
 tied_anew w (event.State c) n t = t
 tied_anew w event.Lost n t = lost_tied w.wire.link w.wire w.post refl t
 

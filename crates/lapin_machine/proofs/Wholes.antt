@@ -1,9 +1,10 @@
 -- When a header or a body makes the content at the front whole.
-use Rattle.std.proofs.Common.{◌≡◌, ◌≢◌, ℕ, ◌+◌, ◌-◌, ◌<◌, ◌≤◌, ◌==◌, ◌&&◌, Bool, true, false, cond, List, [], ◌∷◌, ◌++◌, length, Option, Some, None, Result, Ok, Err, ◌⊎◌, inl, inr, refl, sym, ◌∙◌, ap, subst, arith, eq-eqb, ne_eqb}
+use Rattle.std.proofs.Common.{◌≡◌, ◌≢◌, ℕ, ◌-◌, ◌<◌, ◌≤◌, ◌==◌, ◌&&◌, Bool, true, false, cond, List, [], ◌∷◌, ◌++◌, length, Option, Some, None, Result, Ok, Err, ◌⊎◌, inl, inr, refl, sym, ◌∙◌, ap, subst, arith, eq-eqb, ne_eqb}
 use Rattle.std.proofs.lemmas.Bool.{leb-true}
 use Rattle.lapin_types.specs.Types.{Error}
 use Rattle.lapin_types.specs.Types.error
 use Rattle.lapin_confirm.specs.Kept.{Kept}
+use Rattle.lapin_inbox.specs.declared.inbox.Inbox.{Inbox as Held}
 use Rattle.lapin_machine.specs.Whole.{Fits, FitsFront}
 use Rattle.lapin_methods.specs.declared.frame.ContentHeader.{ContentHeader}
 use Rattle.lapin_content.specs.declared.start.Start.{Start}
@@ -67,12 +68,12 @@ and_right true y h = h
 and_right false y h = cc
 
 -- there is room for it where there is room for what stands at the front
-pub fits_whole : (es : List Expected) (r : Result (Option Whole) Error) (w : Whole) (c n : ℕ) (k : Kept) → Ends es r → r ≡ Ok (Some w) → FitsFront (front_start es) c n k → Fits w.start c n k
-fits_whole es r w c n k e is room =
+pub fits_whole : (es : List Expected) (r : Result (Option Whole) Error) (w : Whole) (c : ℕ) (h : Held) (k : Kept) → Ends es r → r ≡ Ok (Some w) → FitsFront (front_start es) c h k → Fits w.start c h k
+fits_whole es r w c h k e is room =
     let at_end : r ≡ Ok (Some e.whole) = e.is in
     let same : e.whole ≡ w = cc in
-    let P : Option Start → Type 0 = λ s. FitsFront s c n k in
-    let Q : Whole → Type 0 = λ x. Fits x.start c n k in
+    let P : Option Start → Type 0 = λ s. FitsFront s c h k in
+    let Q : Whole → Type 0 = λ x. Fits x.start c h k in
     subst Q same (subst P e.front room)
 
 -- what a body is answered by, where it is not for want of memory

@@ -1,4 +1,4 @@
--- A session's value is known by its fields, and by those of its parts.
+-- What each event leaves of a session, part by part: the values that code made are the rules' own.
 use Rattle.std.proofs.Common.{◌≡◌, ℕ, ◌+◌, Bool, true, false, cond, List, [], ◌∷◌, ◌++◌, length, Option, Some, None, Ok, refl, sym, ◌∙◌, ap, length-append}
 use Rattle.std.specs.List.{fold}
 use Rattle.std.specs.Option.{option_map}
@@ -7,13 +7,12 @@ use Rattle.lapin_history.specs.declared.calls.Row.{Row}
 use Rattle.lapin_history.specs.declared.calls.Asked.{Asked}
 use Rattle.lapin_history.specs.declared.calls.Asked.TheVariants as ask
 use Rattle.lapin_types.specs.declared.event.Event.TheVariants as event
-use Rattle.lapin_types.specs.declared.leaving.Publish.{Publish}
 use Rattle.lapin_types.specs.declared.record.Record.TheVariants as record_
 use Rattle.lapin_types.specs.declared.request.Request.{Request}
 use Rattle.lapin_types.specs.declared.request.Reply.TheVariants as reply
 use Rattle.lapin_types.specs.declared.request.ReplyKind.TheVariants as reply_kind
 use Rattle.lapin_types.specs.declared.leaving.Left.{Left}
-use Rattle.lapin_types.specs.Types.{Error}
+use Rattle.lapin_types.specs.Types.{Method, Error, BasicConsumeOptions}
 use Rattle.lapin_types.specs.Types.error
 use Rattle.lapin_types.specs.Types.method
 use Rattle.lapin_types.specs.Types.connection
@@ -30,9 +29,12 @@ use Rattle.lapin_history.specs.declared.broker_frames.Incoming.{Incoming}
 use Rattle.lapin_history.specs.declared.broker_frames.Incoming.TheVariants as incoming
 use Rattle.lapin_history.specs.Words.{with_channel}
 use Rattle.lapin_history.specs.Leaving.{Lists, handed_of, left_lists}
-use Rattle.lapin_history.specs.Frames.{MethodEntry, RestEntry}
+use Rattle.lapin_history.specs.Frames.{MethodEntry}
 use Rattle.lapin_history.specs.Drops.{no_lists, without_publishes_of, without_channel}
 use Rattle.lapin_history.specs.Phases.{is_lost}
+use Rattle.lapin_inbox.specs.Inbox.{Inbox}
+use Rattle.lapin_inbox.specs.Inbox as inbox
+use Rattle.lapin_inbox.specs.Marks as inbox_mark
 use Rattle.lapin_history.specs.ChannelClose.{after_broker_close, has_sent_close}
 use Rattle.lapin_history.specs.ChannelClose.{failed_at_close, close_ok_end}
 use Rattle.lapin_history.specs.ConnectionClose.{failed_at_connection_close}
@@ -42,23 +44,25 @@ use Rattle.lapin_history.specs.Requests.{requests_in, first_request, without_kin
 use Rattle.lapin_history.specs.declared.marks.AtLeaving.TheVariants as leaving
 use Rattle.lapin_history.specs.TicketReadings.{TicketMark}
 use Rattle.lapin_history.specs.TicketReadings as ticket
-use Rattle.lapin_history.specs.Wire.{Wire, state_of, phase_of, is_open, is_base, requests_with, noted, with_lists as base_with}
-use Rattle.lapin_history.specs.Asking.{is_allowed, after_call}
-use Rattle.lapin_history.specs.ChannelClose.{closing, after_channel_close, after_close_ok, kept_at, phases_sent}
+use Rattle.lapin_history.specs.Wire.{Wire, state_of, phase_of, is_open, is_base, requests_with, noted, with_inbox, with_lists as base_with}
+use Rattle.lapin_history.specs.Asking.{is_allowed, after_call, call_inbox}
+use Rattle.lapin_history.specs.Calls.{awaited_by, made_by, leaving_by}
+use Rattle.lapin_history.specs.Consumers.{next_consumer}
+use Rattle.lapin_history.specs.Registry.{line_inbox}
+use Rattle.lapin_history.specs.ChannelClose.{closing, after_channel_close, after_close_ok, broker_close_inbox, close_call_inbox, close_ok_inbox_in, consumers_end, kept_at, phases_sent}
 use Rattle.lapin_history.specs.Ends.{down}
 use Rattle.lapin_history.specs.Unexpected.{after_unexpected}
-use Rattle.lapin_history.specs.ConnectionClose.{after_connection_close, after_connection_close_ok, unless_sent, has_sent, link_sent}
+use Rattle.lapin_history.specs.ConnectionClose.{after_connection_close, after_connection_close_ok, connection_close_inbox, unless_sent, has_sent, link_sent}
 use Rattle.lapin_history.specs.Handing.{sent}
 use Rattle.lapin_history.specs.Ends.{ended as ended_base}
 use Rattle.lapin_history.specs.Select.{queued_marks}
-use Rattle.lapin_history.specs.Ends.{ends, live_channels, end_with, end_tickets}
+use Rattle.lapin_history.specs.Ends.{ends, inbox_ends, live_channels, cancels_at, cancels_on, end_with, end_tickets}
 use Rattle.lapin_history.specs.Requests.{resolved_with}
 use Rattle.lapin_history.specs.Asking.{made_marks, call_marks, call_tickets}
 use Rattle.lapin_history.specs.ChannelClose.{kept_ticket, close_ticket}
 use Rattle.lapin_history.specs.ConnectionClose.{connection_close_tickets}
 use Rattle.lapin_history.specs.Handing.{left_tickets, left_marks}
-use Rattle.lapin_outbox.specs.Outgoing.{OutboxState, with_method, with_publish, with_lists}
-use Rattle.lapin_outbox.specs.Poison.{poison_on, publish_pushed}
+use Rattle.lapin_outbox.specs.Outgoing.{OutboxState, with_method, with_lists}
 use Rattle.lapin_desk.specs.Ended.{ended_outbox, emptied_outbox}
 use Rattle.lapin_outbox.specs.Open.{requests_at}
 use Rattle.lapin_ticket.specs.declared.Slot.{Slot}
@@ -73,57 +77,15 @@ use Rattle.lapin_history.specs.ConfirmMarks as mark
 use Rattle.lapin_machine.specs.Kept.{kept_request, with_kept, is_close_sent}
 use Rattle.lapin_machine.specs.World.{World, next, asking, handing, receiving}
 use Rattle.lapin_machine.specs.Returned as back
-use Rattle.lapin_machine.proofs.Counts.{resolved-count, made-count, marks-join, failed-count, opening-count, ended-count, ends-count, left_tickets-count, left_marks-count, failed_counted, closed_counted, rejected_counted, called-count}
+use Rattle.lapin_machine.proofs.Counts.{resolved-count, made-count, marks-join, ended-count, ends-count, left_tickets-count, left_marks-count, closed_counted, rejected_counted, called-count}
+use Rattle.lapin_machine.proofs.Cancelled.{opening_counted, all_failed_counted}
 use Rattle.lapin_machine.proofs.Channels.{on_absent, on_same, on_twice}
-
--- ---- by its fields
-
-pub base_is : (b d : Wire) → b.frame_max ≡ d.frame_max → b.link ≡ d.link → b.phases ≡ d.phases → b.rest ≡ d.rest → b.methods ≡ d.methods → b.publishes ≡ d.publishes → b.requests ≡ d.requests → b.contents ≡ d.contents → b.tickets ≡ d.tickets → b.published ≡ d.published → b.ackers ≡ d.ackers → b ≡ d
-base_is b d e1 e2 e3 e4 e5 e6 e7 e8 e9 e10 e11 =
-    let same : base_of b.frame_max b.link b.phases b.rest b.methods b.publishes b.requests b.contents b.tickets b.published b.ackers ≡ base_of d.frame_max d.link d.phases d.rest d.methods d.publishes d.requests d.contents d.tickets d.published d.ackers = rw (e1, e2, e3, e4, e5, e6, e7, e8, e9, e10, e11) refl in
-    same
-  where
-    base_of : ℕ → ConnectionPhase → List (ℕ × ChannelPhase) → List RestEntry → List MethodEntry → List Publish → List (ℕ × List Request) → Channels → ℕ → ℕ → ℕ → Wire
-    base_of m l p r ms ps rs cs t n a = record { frame_max = m; link = l; phases = p; rest = r; methods = ms; publishes = ps; requests = rs; contents = cs; tickets = t; published = n; ackers = a }
-
-pub world_is : (w v : World) → w.wire ≡ v.wire → w.post ≡ v.post → w.slots ≡ v.slots → w.returned ≡ v.returned → w ≡ v
-world_is w v e1 e2 e3 e4 =
-    let same : world_of w.wire w.post w.slots w.returned ≡ world_of v.wire v.post v.slots v.returned = rw (e1, e2, e3, e4) refl in
-    same
-  where
-    world_of : Wire → Post → List (Option Slot) → Option Left → World
-    world_of b k s r = record { wire = b; post = k; slots = s; returned = r }
-
--- ---- the value of a session by its parts: where connection and channels stand, what waits, requests, contents, how many ackers were
--- given, tickets and confirms
-
-abbrev pub seen : ConnectionPhase → List (ℕ × ChannelPhase) → OutboxState → List (ℕ × List Request) → Channels → ℕ → List (Option Slot) → Post → World
-seen l p o rs cs n s b = record {
-  wire = record { frame_max = o.frame_max; link = l; phases = p; rest = o.lists.rest; methods = o.lists.methods; publishes = o.lists.publishes; requests = rs; contents = cs; tickets = length s; published = length b.book.cells; ackers = n };
-  post = b;
-  slots = s;
-  returned = o.returned;
-}
-
-pub seen_is : (l l2 : ConnectionPhase) (p p2 : List (ℕ × ChannelPhase)) (o o2 : OutboxState) (rs rs2 : List (ℕ × List Request)) (cs cs2 : Channels) (n n2 : ℕ) (s s2 : List (Option Slot)) (b b2 : Post) → l ≡ l2 → p ≡ p2 → o ≡ o2 → rs ≡ rs2 → cs ≡ cs2 → n ≡ n2 → s ≡ s2 → b ≡ b2 → seen l p o rs cs n s b ≡ seen l2 p2 o2 rs2 cs2 n2 s2 b2
-seen_is l l2 p p2 o o2 rs rs2 cs cs2 n n2 s s2 b b2 e1 e2 e3 e4 e5 e6 e7 e8 = rw (e1, e2, e3, e4, e5, e6, e7, e8) refl
-
--- ---- what is queued, and what a close of this side takes out
-
-abbrev pub with_entry : MethodEntry → OutboxState → OutboxState
-with_entry m o = with_lists (with_method m o.lists) o
-
-abbrev pub without_unbegun : ℕ → OutboxState → OutboxState
-without_unbegun c o = with_lists (without_publishes_of c o.lists) o
-
--- a publish joins an outbox that is not poisoned
-pub publish_queued : (p : Publish) (o : OutboxState) → poison_on p.channel o ≡ None → publish_pushed p o ≡ with_lists (with_publish p o.lists) o
-publish_queued p o clean = rw clean refl
+use Rattle.lapin_machine.proofs.Seen.{base_is, world_is, seen}
 
 -- ---- what an event leaves, once it is known how it is taken
 
 call_next : (w : World) (c : ℕ) (k : Asked) → is_allowed k (state_of c w.wire) ≡ true
-    → asking c k w ≡ record { wire = after_call c k w.wire; post = fold post.after_mark w.post (call_marks c k w.wire); slots = fold after_mark w.slots (call_tickets c k w.wire); returned = back.after_asked c k w.wire w.returned }
+    → asking c k w ≡ record { wire = with_inbox (call_inbox c k w.wire) (after_call c k w.wire); post = fold post.after_mark w.post (call_marks c k w.wire); slots = fold after_mark w.slots (call_tickets c k w.wire); returned = back.after_asked c k w.wire w.returned }
 call_next w c k h = rw h refl
 
 -- the request of a close of this side is open again where the closes crossed
@@ -156,6 +118,20 @@ closing_base c phase.Opening e d h = cc
 closing_base c (phase.Open paused) e d h = cc
 closing_base c phase.Crossed e d h = cc
 
+closing_inbox : (c : ℕ) (q : ChannelPhase) (e : Error) → close_ok_end q ≡ Some e → close_ok_inbox_in c q ≡ inbox_mark.Ended c (consumers_end q) ∷ []
+closing_inbox c (phase.Closing who sent) e h = refl
+closing_inbox c phase.Closed e h = cc
+closing_inbox c phase.Opening e h = cc
+closing_inbox c (phase.Open paused) e h = cc
+closing_inbox c phase.Crossed e h = cc
+
+crossed_inbox : (c : ℕ) (q : ChannelPhase) → close_ok_end q ≡ None → close_ok_inbox_in c q ≡ []
+crossed_inbox c (phase.Closing who sent) h = cc
+crossed_inbox c phase.Closed h = refl
+crossed_inbox c phase.Opening h = refl
+crossed_inbox c (phase.Open paused) h = refl
+crossed_inbox c phase.Crossed h = refl
+
 crossed_base : (c : ℕ) (q : ChannelPhase) (d : Wire) → close_ok_end q ≡ None → after_close_ok c q d ≡ record d { phases = with_channel c phase.Closed d.phases; requests = on_channel c (without_kind reply_kind.ChannelCloseOk) d.requests }
 crossed_base c (phase.Closing who sent) d h = cc
 crossed_base c phase.Closed d h = refl
@@ -163,9 +139,9 @@ crossed_base c phase.Opening d h = refl
 crossed_base c (phase.Open paused) d h = refl
 crossed_base c phase.Crossed d h = refl
 
-module _ (l : ConnectionPhase) (p : List (ℕ × ChannelPhase)) (o : OutboxState) (rs : List (ℕ × List Request)) (cs : Channels) (n : ℕ) (s : List (Option Slot)) (b : Post) where
+module _ (l : ConnectionPhase) (p : List (ℕ × ChannelPhase)) (o : OutboxState) (rs : List (ℕ × List Request)) (cs : Channels) (i : Inbox) (s : List (Option Slot)) (b : Post) where
   abbrev pub old : World
-  old = seen l p o rs cs n s b
+  old = seen l p o rs cs i s b
 
   -- the fields of an outbox
   frame_max_is : {O : OutboxState} {q : OutboxState} → O ≡ q → O.frame_max ≡ q.frame_max
@@ -183,10 +159,13 @@ module _ (l : ConnectionPhase) (p : List (ℕ × ChannelPhase)) (o : OutboxState
   returned_is : {O : OutboxState} {q : OutboxState} → O ≡ q → O.returned ≡ q.returned
   returned_is e = ap (λ (y : OutboxState). y.returned) e
 
-  pub lost_seen : is_lost l ≡ false → seen link.Lost [] (emptied_outbox o) [] [] n (after_mark s (ticket.AllFailed error.ConnectionLost)) (fold post.after_mark b (ends error.ConnectionLost (live_channels p))) ≡ next old event.Lost
-  lost_seen h =
+  pub lost_seen : (J : Inbox) → is_lost l ≡ false → J ≡ fold inbox.after_mark i (inbox_ends error.ConnectionLost (live_channels p))
+      → seen link.Lost [] (emptied_outbox o) [] [] J (fold after_mark s (cancels_on (live_channels p) rs ++ ticket.AllFailed error.ConnectionLost ∷ [])) (fold post.after_mark b (ends error.ConnectionLost (live_channels p))) ≡ next old event.Lost
+  lost_seen J h eI =
       world_is _ _
-      (base_is _ (down link.Lost old.wire) refl refl refl refl refl refl refl refl (failed-count error.ConnectionLost s) (ends-count error.ConnectionLost (live_channels p) b) refl ∙ sym (rw h refl))
+      (base_is _ (with_inbox (inbox_ends error.ConnectionLost (live_channels p)) (down link.Lost old.wire)) refl refl refl refl refl refl refl refl
+      (all_failed_counted (live_channels p) rs error.ConnectionLost s _ refl) (ends-count error.ConnectionLost (live_channels p) b) eI
+      ∙ sym (rw h refl))
       refl (sym (rw h refl)) (sym (rw h refl))
 
   -- ---- closes of this side
@@ -194,7 +173,7 @@ module _ (l : ConnectionPhase) (p : List (ℕ × ChannelPhase)) (o : OutboxState
   given-count : (c n : ℕ) (S T : List (Option Slot)) → T ≡ after_mark S (ticket.Given c leaving.Nothing) → length S ≡ n → length T ≡ n + 1
   given-count c n S T e h = ap length e ∙ length-append S (Some (slot.Open c leaving.Nothing false) ∷ []) ∙ ap (λ k. k + 1) h
 
-  pub channel_close_seen : (c code : ℕ) (text : List ℕ) (P : List (ℕ × ChannelPhase)) (O : OutboxState) (R : List (ℕ × List Request)) (S T : List (Option Slot)) (B : Post)
+  pub channel_close_seen : (c code : ℕ) (text : List ℕ) (P : List (ℕ × ChannelPhase)) (O : OutboxState) (R : List (ℕ × List Request)) (J : Inbox) (S T : List (Option Slot)) (B : Post)
       → is_open (state_of c old.wire) ≡ true
       → P ≡ with_channel c (phase.Closing closer.Application false) p
       → S ≡ after_mark s (ticket.ClosedHere c (failed_at_close closer.Application))
@@ -202,12 +181,13 @@ module _ (l : ConnectionPhase) (p : List (ℕ × ChannelPhase)) (o : OutboxState
       → R ≡ requests_with c (length S + 1) (Some reply.ChannelCloseOk) rs
       → T ≡ after_mark S (ticket.Given c leaving.Nothing)
       → B ≡ post.after_mark b (mark.ClosedHere c (failed_at_close closer.Application))
-      → seen l P O R cs n T B ≡ asking c (ask.CloseChannel code text) old
-  channel_close_seen c code text P O R S T B h eP eS eO eR eT eB =
+      → J ≡ inbox.after_mark i (inbox_mark.CloseAsked c)
+      → seen l P O R cs J T B ≡ asking c (ask.CloseChannel code text) old
+  channel_close_seen c code text P O R J S T B h eP eS eO eR eT eB eI =
       let count : length S ≡ length s = closed_counted c (failed_at_close closer.Application) s S eS in
       let entry : ℕ → MethodEntry = λ k. record { channel = c; method = method.Channel (channel.Close code text 0 0); ticket = Some (k + 1) } in
       world_is _ _
-      (base_is _ (after_call c (ask.CloseChannel code text) old.wire) (frame_max_is eO) refl eP
+      (base_is _ (with_inbox (close_call_inbox c) (after_call c (ask.CloseChannel code text) old.wire)) (frame_max_is eO) refl eP
       (rest_is eO)
       (methods_are eO ∙ ap (λ k. o.lists.methods ++ entry k ∷ []) count)
       (publishes_are eO)
@@ -215,28 +195,30 @@ module _ (l : ConnectionPhase) (p : List (ℕ × ChannelPhase)) (o : OutboxState
       refl
       (given-count c (length s) S T eT count)
       (rejected_counted c (failed_at_close closer.Application) b B eB)
-      refl)
+      eI)
       eB
       (eT ∙ ap (λ y. after_mark y (ticket.Given c leaving.Nothing)) eS)
       (returned_is eO)
       ∙ sym (call_next old c (ask.CloseChannel code text) h)
 
-  pub connection_close_seen : (c code : ℕ) (text : List ℕ) (l2 : ConnectionPhase) (P : List (ℕ × ChannelPhase)) (O : OutboxState) (R : List (ℕ × List Request)) (C : Channels) (S T : List (Option Slot)) (B : Post)
+  pub connection_close_seen : (c code : ℕ) (text : List ℕ) (l2 : ConnectionPhase) (P : List (ℕ × ChannelPhase)) (O : OutboxState) (R : List (ℕ × List Request)) (C : Channels) (J : Inbox) (S T : List (Option Slot)) (B : Post)
       → is_base (state_of c old.wire) ≡ true
       → l2 ≡ link.Closing false false
       → P ≡ []
-      → S ≡ after_mark s (ticket.AllFailed failed_at_connection_close)
+      → S ≡ fold after_mark s (cancels_on (live_channels p) rs ++ ticket.AllFailed failed_at_connection_close ∷ [])
       → O ≡ with_lists (with_method (record { channel = c; method = method.Connection (connection.Close code text 0 0); ticket = Some (length S + 1) }) no_lists) (emptied_outbox o)
       → R ≡ requests_with c (length S + 1) (Some reply.ConnectionCloseOk) []
       → C ≡ []
       → T ≡ after_mark S (ticket.Given c leaving.Nothing)
       → B ≡ fold post.after_mark b (ends failed_at_connection_close (live_channels p))
-      → seen l2 P O R C n T B ≡ asking c (ask.CloseConnection code text) old
-  connection_close_seen c code text l2 P O R C S T B h el eP eS eO eR eC eT eB =
-      let count : length S ≡ length s = failed_counted failed_at_connection_close s S eS in
+      → J ≡ fold inbox.after_mark i (inbox_ends failed_at_connection_close (live_channels p))
+      → seen l2 P O R C J T B ≡ asking c (ask.CloseConnection code text) old
+  connection_close_seen c code text l2 P O R C J S T B h el eP eS eO eR eC eT eB eI =
+      let failed : List TicketMark = cancels_on (live_channels p) rs ++ ticket.AllFailed failed_at_connection_close ∷ [] in
+      let count : length S ≡ length s = all_failed_counted (live_channels p) rs failed_at_connection_close s S eS in
       let entry : ℕ → MethodEntry = λ k. record { channel = c; method = method.Connection (connection.Close code text 0 0); ticket = Some (k + 1) } in
       world_is _ _
-      (base_is _ (after_call c (ask.CloseConnection code text) old.wire) (frame_max_is eO) el eP
+      (base_is _ (with_inbox (inbox_ends failed_at_connection_close (live_channels p)) (after_call c (ask.CloseConnection code text) old.wire)) (frame_max_is eO) el eP
       (rest_is eO)
       (methods_are eO ∙ ap (λ k. entry k ∷ []) count)
       (publishes_are eO)
@@ -244,50 +226,72 @@ module _ (l : ConnectionPhase) (p : List (ℕ × ChannelPhase)) (o : OutboxState
       eC
       (given-count c (length s) S T eT count)
       (ap (λ (y : Post). length y.book.cells) eB ∙ ends-count failed_at_connection_close (live_channels p) b)
-      refl)
+      eI)
       eB
-      (eT ∙ ap (λ y. after_mark y (ticket.Given c leaving.Nothing)) eS)
+      (eT ∙ ap (λ y. after_mark y (ticket.Given c leaving.Nothing)) eS ∙ sym (marks-join failed (ticket.Given c leaving.Nothing ∷ []) s))
       (returned_is eO ∙ sym (rw h refl))
       ∙ sym (call_next old c (ask.CloseConnection code text) h)
 
   -- a call that is its line of the table
-  pub row_seen : (c : ℕ) (row : Row) (O : OutboxState) (R : List (ℕ × List Request)) (S : List (Option Slot)) (B : Post)
+  pub row_seen : (c : ℕ) (row : Row) (O : OutboxState) (R : List (ℕ × List Request)) (J : Inbox) (S : List (Option Slot)) (B : Post)
       → is_open (state_of c old.wire) ≡ true
       → O ≡ with_lists (with_method (record { channel = c; method = row.method; ticket = Some (length s + 1) }) o.lists) o
-      → R ≡ requests_with c (length s + 1) row.awaits rs
-      → S ≡ fold after_mark (after_mark s (ticket.Given c row.at_leaving)) (made_marks (length s + 1) row.made)
+      → R ≡ requests_with c (length s + 1) (awaited_by row.answered) rs
+      → S ≡ fold after_mark (after_mark s (ticket.Given c (leaving_by row.answered))) (made_marks (length s + 1) (made_by row.answered))
       → B ≡ fold post.after_mark b (queued_marks c row.method)
-      → seen l p O R cs n S B ≡ asking c (ask.Method row) old
-  row_seen c row O R S B h eO eR eS eB =
+      → J ≡ fold inbox.after_mark i (line_inbox c row.method row.answered)
+      → seen l p O R cs J S B ≡ asking c (ask.Method row) old
+  row_seen c row O R J S B h eO eR eS eB eI =
       world_is _ _
-      (base_is _ (after_call c (ask.Method row) old.wire) (frame_max_is eO) refl refl
+      (base_is _ (with_inbox (line_inbox c row.method row.answered) (after_call c (ask.Method row) old.wire)) (frame_max_is eO) refl refl
       (rest_is eO) (methods_are eO) (publishes_are eO) eR refl
-      (ap length eS ∙ made-count (length s + 1) row.made (after_mark s (ticket.Given c row.at_leaving)) ∙ length-append s (Some (slot.Open c row.at_leaving false) ∷ []))
+      (ap length eS ∙ made-count (length s + 1) (made_by row.answered) (after_mark s (ticket.Given c (leaving_by row.answered))) ∙ length-append s (Some (slot.Open c (leaving_by row.answered) false) ∷ []))
       (ap (λ (y : Post). length y.book.cells) eB ∙ called-count c row.method b)
-      refl)
+      eI)
       eB
       eS
       (returned_is eO)
       ∙ sym (call_next old c (ask.Method row) h)
 
+  -- a consume without wait
+  pub consume_seen : (c : ℕ) (m : Method) (tag queue : List ℕ) (q : BasicConsumeOptions) (O : OutboxState) (R : List (ℕ × List Request)) (J : Inbox) (S : List (Option Slot))
+      → is_open (state_of c old.wire) ≡ true
+      → O ≡ with_lists (with_method (record { channel = c; method = m; ticket = Some (length s + 1) }) o.lists) o
+      → R ≡ rs
+      → S ≡ fold after_mark (after_mark s (ticket.Given c leaving.Nothing)) (made_marks (length s + 1) (Some (answer.Consumer (next_consumer i))))
+      → J ≡ inbox.after_mark i (inbox_mark.Consumed c tag queue)
+      → seen l p O R cs J S b ≡ asking c (ask.Consume m tag queue q) old
+  consume_seen c m tag queue q O R J S h eO eR eS eI =
+      world_is _ _
+      (base_is _ (with_inbox (inbox_mark.Consumed c tag queue ∷ []) (after_call c (ask.Consume m tag queue q) old.wire)) (frame_max_is eO) refl refl
+      (rest_is eO) (methods_are eO) (publishes_are eO) eR refl
+      (ap length eS ∙ made-count (length s + 1) (Some (answer.Consumer (next_consumer i))) (after_mark s (ticket.Given c leaving.Nothing)) ∙ length-append s (Some (slot.Open c leaving.Nothing false) ∷ []))
+      refl
+      eI)
+      refl
+      eS
+      (returned_is eO)
+      ∙ sym (call_next old c (ask.Consume m tag queue q) h)
+
   -- ---- frames that are not received
 
-  pub unexpected_seen : (i : Incoming) (class number : ℕ) (l2 : ConnectionPhase) (P : List (ℕ × ChannelPhase)) (O : OutboxState) (R : List (ℕ × List Request)) (C : Channels) (S : List (Option Slot)) (B : Post)
+  pub unexpected_seen : (f : Incoming) (class number : ℕ) (l2 : ConnectionPhase) (P : List (ℕ × ChannelPhase)) (O : OutboxState) (R : List (ℕ × List Request)) (C : Channels) (J : Inbox) (S : List (Option Slot)) (B : Post)
       → l2 ≡ link.Closing false false
       → P ≡ []
       → O ≡ with_lists (with_method (record { channel = 0; method = unexpected_close class number; ticket = None }) no_lists) (emptied_outbox o)
       → R ≡ []
       → C ≡ []
-      → S ≡ after_mark s (ticket.AllFailed failed_at_unexpected)
+      → S ≡ fold after_mark s (cancels_on (live_channels p) rs ++ ticket.AllFailed failed_at_unexpected ∷ [])
       → B ≡ fold post.after_mark b (ends failed_at_unexpected (live_channels p))
-      → seen l2 P O R C n S B ≡ receiving i (record_.Refused (error.UnexpectedFrame class number)) old
-  unexpected_seen i class number l2 P O R C S B el eP eO eR eC eS eB =
+      → J ≡ fold inbox.after_mark i (inbox_ends failed_at_unexpected (live_channels p))
+      → seen l2 P O R C J S B ≡ receiving f (record_.Refused (error.UnexpectedFrame class number)) old
+  unexpected_seen f class number l2 P O R C J S B el eP eO eR eC eS eB eI =
       world_is _ _
-      (base_is _ (after_unexpected class number old.wire) (frame_max_is eO) el eP
+      (base_is _ (with_inbox (inbox_ends failed_at_unexpected (live_channels p)) (after_unexpected class number old.wire)) (frame_max_is eO) el eP
       (rest_is eO) (methods_are eO) (publishes_are eO) eR eC
-      (failed_counted failed_at_unexpected s S eS)
+      (all_failed_counted (live_channels p) rs failed_at_unexpected s S eS)
       (ap (λ (y : Post). length y.book.cells) eB ∙ ends-count failed_at_unexpected (live_channels p) b)
-      refl)
+      eI)
       eB
       eS
       (returned_is eO)
@@ -298,7 +302,7 @@ module _ (l : ConnectionPhase) (p : List (ℕ × ChannelPhase)) (o : OutboxState
       → O ≡ with_lists (with_method (record { channel = c; method = session_close z.kind; ticket = None }) (without_publishes_of c o.lists)) o
       → S ≡ after_mark s (ticket.ClosedHere c (failed_at_close closer.Session))
       → B ≡ post.after_mark b (mark.ClosedHere c (failed_at_close closer.Session))
-      → seen l P O rs cs n S B ≡ receiving (incoming.Settlement c z) (record_.Refused (error.PreconditionFailed tag current)) old
+      → seen l P O rs cs i S B ≡ receiving (incoming.Settlement c z) (record_.Refused (error.PreconditionFailed tag current)) old
   failed_seen c z tag current P O S B h eP eO eS eB =
       let is : receiving (incoming.Settlement c z) (record_.Refused (error.PreconditionFailed tag current)) old
       ≡ record { wire = noted c (session_close z.kind) (closing c closer.Session old.wire); post = post.after_mark b (mark.ClosedHere c (failed_at_close closer.Session)); slots = after_mark s (ticket.ClosedHere c (failed_at_close closer.Session)); returned = o.returned } = rw h refl in
@@ -318,49 +322,51 @@ module _ (l : ConnectionPhase) (p : List (ℕ × ChannelPhase)) (o : OutboxState
 
   -- ---- closes of the broker
 
-  pub channel_close_incoming : (c code : ℕ) (P : List (ℕ × ChannelPhase)) (O : OutboxState) (R : List (ℕ × List Request)) (C : Channels) (S : List (Option Slot)) (B : Post)
+  pub channel_close_incoming : (c code : ℕ) (P : List (ℕ × ChannelPhase)) (O : OutboxState) (R : List (ℕ × List Request)) (C : Channels) (J : Inbox) (S : List (Option Slot)) (B : Post)
       → P ≡ with_channel c (after_broker_close (phase_of c old.wire)) p
       → O ≡ with_lists (with_method (record { channel = c; method = method.Channel channel.CloseOk; ticket = None }) (without_channel c o.lists)) (ended_outbox c o)
       → R ≡ with_kept c (kept_request (has_sent_close (phase_of c old.wire)) (requests_at c rs)) (on_channel c no_requests rs)
       → C ≡ contents.after_mark cs (content.Dropped c)
-      → S ≡ after_mark s (ticket.OpeningFailed c (ticket_of (kept_request (has_sent_close (phase_of c old.wire)) (requests_at c rs))) (error.ProtocolError code))
+      → S ≡ fold after_mark s (cancels_at c rs ++ ticket.OpeningFailed c (ticket_of (kept_request (has_sent_close (phase_of c old.wire)) (requests_at c rs))) (error.ProtocolError code) ∷ [])
       → B ≡ post.after_mark b (mark.Ended c (error.ProtocolError code))
-      → seen l P O R C n S B ≡ receiving (incoming.ChannelClose c code) record_.Received old
-  channel_close_incoming c code P O R C S B eP eO eR eC eS eB =
+      → J ≡ inbox.after_mark i (inbox_mark.Ended c (Some (error.ProtocolError code)))
+      → seen l P O R C J S B ≡ receiving (incoming.ChannelClose c code) record_.Received old
+  channel_close_incoming c code P O R C J S B eP eO eR eC eS eB eI =
       let e : Error = error.ProtocolError code in
       let q : ChannelPhase = phase_of c old.wire in
       world_is _ _
-      (base_is _ (after_channel_close c q old.wire) (frame_max_is eO) refl eP
+      (base_is _ (with_inbox (broker_close_inbox c code) (after_channel_close c q old.wire)) (frame_max_is eO) refl eP
       (rest_is eO) (methods_are eO) (publishes_are eO)
       (eR ∙ kept_is c q rs)
       eC
-      (ap length eS ∙ opening-count c (ticket_of (kept_request (has_sent_close q) (requests_at c rs))) e s)
+      (ap length eS ∙ opening_counted c rs (ticket_of (kept_request (has_sent_close q) (requests_at c rs))) e s)
       (ap (λ (y : Post). length y.book.cells) eB ∙ ended-count c e b)
-      refl)
+      eI)
       eB
-      (eS ∙ ap (λ k. after_mark s (ticket.OpeningFailed c k e)) (kept_ticket_is c q old.wire))
+      (eS ∙ ap (λ k. fold after_mark s (cancels_at c rs ++ ticket.OpeningFailed c k e ∷ [])) (kept_ticket_is c q old.wire))
       (returned_is eO)
 
-  pub closing_answered : (c : ℕ) (e : Error) (P : List (ℕ × ChannelPhase)) (O : OutboxState) (R : List (ℕ × List Request)) (C : Channels) (S : List (Option Slot)) (B : Post)
+  pub closing_answered : (c : ℕ) (e : Error) (P : List (ℕ × ChannelPhase)) (O : OutboxState) (R : List (ℕ × List Request)) (C : Channels) (J : Inbox) (S : List (Option Slot)) (B : Post)
       → close_ok_end (phase_of c old.wire) ≡ Some e
       → P ≡ with_channel c phase.Closed p
       → O ≡ ended_outbox c o
       → R ≡ on_channel c no_requests rs
       → C ≡ contents.after_mark cs (content.Dropped c)
-      → S ≡ after_mark (fold after_mark s (resolved_with (Ok answer.Done) (ticket_of (first_request reply_kind.ChannelCloseOk (requests_at c rs))))) (ticket.OpeningFailed c None e)
+      → S ≡ fold after_mark (fold after_mark s (resolved_with (Ok answer.Done) (ticket_of (first_request reply_kind.ChannelCloseOk (requests_at c rs))))) (cancels_at c rs ++ ticket.OpeningFailed c None e ∷ [])
       → B ≡ post.after_mark b (mark.Ended c e)
-      → seen l P O R C n S B ≡ receiving (incoming.ChannelCloseOk c) record_.Received old
-  closing_answered c e P O R C S B h eP eO eR eC eS eB =
+      → J ≡ inbox.after_mark i (inbox_mark.Ended c (consumers_end (phase_of c old.wire)))
+      → seen l P O R C J S B ≡ receiving (incoming.ChannelCloseOk c) record_.Received old
+  closing_answered c e P O R C J S B h eP eO eR eC eS eB eI =
       let done : List TicketMark = resolved_with (Ok answer.Done) (close_ticket c old.wire) in
       world_is _ _
-      (base_is _ (ended_base c phase.Closed no_requests old.wire) (frame_max_is eO) refl eP
+      (base_is _ (with_inbox (close_ok_inbox_in c (phase_of c old.wire)) (ended_base c phase.Closed no_requests old.wire)) (frame_max_is eO) refl eP
       (rest_is eO) (methods_are eO) (publishes_are eO) eR eC
-      (ap length eS ∙ opening-count c None e (fold after_mark s done) ∙ resolved-count (Ok answer.Done) (close_ticket c old.wire) s)
+      (ap length eS ∙ opening_counted c rs None e (fold after_mark s done) ∙ resolved-count (Ok answer.Done) (close_ticket c old.wire) s)
       (ap (λ (y : Post). length y.book.cells) eB ∙ ended-count c e b)
-      refl
-      ∙ sym (closing_base c (phase_of c old.wire) e old.wire h))
+      (eI ∙ sym (ap (fold inbox.after_mark i) (closing_inbox c (phase_of c old.wire) e h)))
+      ∙ ap (with_inbox (close_ok_inbox_in c (phase_of c old.wire))) (sym (closing_base c (phase_of c old.wire) e old.wire h)))
       (eB ∙ ap (λ ms. fold post.after_mark b ms) (ap (end_with c) (sym h)))
-      (eS ∙ sym (marks-join done (ticket.OpeningFailed c None e ∷ []) s) ∙ ap (λ o. fold after_mark s (done ++ end_tickets c o)) (sym h))
+      (eS ∙ sym (marks-join done (cancels_at c rs ++ ticket.OpeningFailed c None e ∷ []) s) ∙ ap (λ o. fold after_mark s (done ++ end_tickets c o old.wire)) (sym h))
       (returned_is eO ∙ sym (ap (λ x. back.unless_crossed c x o.returned) h))
 
   pub crossed_answered : (c : ℕ) (P : List (ℕ × ChannelPhase)) (R : List (ℕ × List Request)) (S : List (Option Slot))
@@ -368,58 +374,60 @@ module _ (l : ConnectionPhase) (p : List (ℕ × ChannelPhase)) (o : OutboxState
       → P ≡ with_channel c phase.Closed p
       → R ≡ on_channel c (without_kind reply_kind.ChannelCloseOk) rs
       → S ≡ fold after_mark s (resolved_with (Ok answer.Done) (ticket_of (first_request reply_kind.ChannelCloseOk (requests_at c rs))))
-      → seen l P o R cs n S b ≡ receiving (incoming.ChannelCloseOk c) record_.Received old
+      → seen l P o R cs i S b ≡ receiving (incoming.ChannelCloseOk c) record_.Received old
   crossed_answered c P R S h eP eR eS =
       let done : List TicketMark = resolved_with (Ok answer.Done) (close_ticket c old.wire) in
       world_is _ _
-      (base_is _ (record old.wire { phases = with_channel c phase.Closed p; requests = on_channel c (without_kind reply_kind.ChannelCloseOk) rs }) refl refl eP refl refl refl eR refl
+      (base_is _ (with_inbox (close_ok_inbox_in c (phase_of c old.wire)) (record old.wire { phases = with_channel c phase.Closed p; requests = on_channel c (without_kind reply_kind.ChannelCloseOk) rs })) refl refl eP refl refl refl eR refl
       (ap length eS ∙ resolved-count (Ok answer.Done) (close_ticket c old.wire) s)
-      refl refl
-      ∙ sym (crossed_base c (phase_of c old.wire) old.wire h))
+      refl
+      (sym (ap (fold inbox.after_mark i) (crossed_inbox c (phase_of c old.wire) h)))
+      ∙ ap (with_inbox (close_ok_inbox_in c (phase_of c old.wire))) (sym (crossed_base c (phase_of c old.wire) old.wire h)))
       (ap (λ ms. fold post.after_mark b ms) (ap (end_with c) (sym h)))
-      (eS ∙ sym (marks-join done [] s) ∙ ap (λ o. fold after_mark s (done ++ end_tickets c o)) (sym h))
+      (eS ∙ sym (marks-join done [] s) ∙ ap (λ o. fold after_mark s (done ++ end_tickets c o old.wire)) (sym h))
       (sym (ap (λ x. back.unless_crossed c x o.returned) h))
 
   pub connection_close_crossed : (code : ℕ) (l2 : ConnectionPhase) (O : OutboxState) → is_close_sent l ≡ true → p ≡ [] → l2 ≡ link.Closing true true
       → O ≡ with_lists (with_method (record { channel = 0; method = method.Connection connection.CloseOk; ticket = None }) o.lists) o
-      → seen l2 p O rs cs n s b ≡ receiving (incoming.ConnectionClose code) record_.Received old
+      → seen l2 p O rs cs i s b ≡ receiving (incoming.ConnectionClose code) record_.Received old
   connection_close_crossed code l2 O h none el eO = at l h
     where
-      at : (k : ConnectionPhase) → is_close_sent k ≡ true → seen l2 p O rs cs n s b ≡ receiving (incoming.ConnectionClose code) record_.Received (seen k p o rs cs n s b)
+      at : (k : ConnectionPhase) → is_close_sent k ≡ true → seen l2 p O rs cs i s b ≡ receiving (incoming.ConnectionClose code) record_.Received (seen k p o rs cs i s b)
       at link.Open h = cc
       at (link.Closing true received) h =
-          world_is _ _ (base_is _ _ (frame_max_is eO) el refl (rest_is eO) (methods_are eO) (publishes_are eO) refl refl refl refl refl)
+          world_is _ _ (base_is _ _ (frame_max_is eO) el refl (rest_is eO) (methods_are eO) (publishes_are eO) refl refl refl refl (ap (λ (ps : List (ℕ × ChannelPhase)). fold inbox.after_mark i (inbox_ends (error.ProtocolError code) (live_channels ps))) (sym none)))
           (ap (λ (ps : List (ℕ × ChannelPhase)). fold post.after_mark b (ends (error.ProtocolError code) (live_channels ps))) (sym none)) refl
           (returned_is eO)
       at (link.Closing false received) h = cc
       at link.Closed h = cc
       at link.Lost h = cc
 
-  pub connection_close_incoming : (code : ℕ) (l2 : ConnectionPhase) (P : List (ℕ × ChannelPhase)) (O : OutboxState) (R : List (ℕ × List Request)) (C : Channels) (S : List (Option Slot)) (B : Post) → is_close_sent l ≡ false → l2 ≡ link.Closed
+  pub connection_close_incoming : (code : ℕ) (l2 : ConnectionPhase) (P : List (ℕ × ChannelPhase)) (O : OutboxState) (R : List (ℕ × List Request)) (C : Channels) (J : Inbox) (S : List (Option Slot)) (B : Post) → is_close_sent l ≡ false → l2 ≡ link.Closed
       → P ≡ []
       → O ≡ with_lists (with_method (record { channel = 0; method = method.Connection connection.CloseOk; ticket = None }) no_lists) (emptied_outbox o)
       → R ≡ []
       → C ≡ []
-      → S ≡ after_mark s (ticket.AllFailed (error.ProtocolError code))
+      → S ≡ fold after_mark s (cancels_on (live_channels p) rs ++ ticket.AllFailed (error.ProtocolError code) ∷ [])
       → B ≡ fold post.after_mark b (ends (error.ProtocolError code) (live_channels p))
-      → seen l2 P O R C n S B ≡ receiving (incoming.ConnectionClose code) record_.Received old
-  connection_close_incoming code l2 P O R C S B h el eP eO eR eC eS eB = at l h
+      → J ≡ fold inbox.after_mark i (inbox_ends (error.ProtocolError code) (live_channels p))
+      → seen l2 P O R C J S B ≡ receiving (incoming.ConnectionClose code) record_.Received old
+  connection_close_incoming code l2 P O R C J S B h el eP eO eR eC eS eB eI = at l h
     where
-      by_parts : (k : ConnectionPhase) → (after_connection_close k (seen k p o rs cs n s b).wire ≡ noted 0 (method.Connection connection.CloseOk) (down link.Closed (seen k p o rs cs n s b).wire)) → connection_close_tickets k code ≡ ticket.AllFailed (error.ProtocolError code) ∷ [] → back.unless_closing k o.returned ≡ None
-          → seen l2 P O R C n S B ≡ receiving (incoming.ConnectionClose code) record_.Received (seen k p o rs cs n s b)
+      by_parts : (k : ConnectionPhase) → (after_connection_close k (seen k p o rs cs i s b).wire ≡ noted 0 (method.Connection connection.CloseOk) (down link.Closed (seen k p o rs cs i s b).wire)) → connection_close_tickets k code (seen k p o rs cs i s b).wire ≡ cancels_on (live_channels p) rs ++ ticket.AllFailed (error.ProtocolError code) ∷ [] → back.unless_closing k o.returned ≡ None
+          → seen l2 P O R C J S B ≡ receiving (incoming.ConnectionClose code) record_.Received (seen k p o rs cs i s b)
       by_parts k base tickets gone =
           world_is _ _
-          (base_is _ (noted 0 (method.Connection connection.CloseOk) (down link.Closed (seen k p o rs cs n s b).wire)) (frame_max_is eO) el eP
+          (base_is _ (with_inbox (connection_close_inbox code (seen k p o rs cs i s b).wire) (noted 0 (method.Connection connection.CloseOk) (down link.Closed (seen k p o rs cs i s b).wire))) (frame_max_is eO) el eP
           (rest_is eO) (methods_are eO) (publishes_are eO) eR eC
-          (failed_counted (error.ProtocolError code) s S eS)
+          (all_failed_counted (live_channels p) rs (error.ProtocolError code) s S eS)
           (ap (λ (y : Post). length y.book.cells) eB ∙ ends-count (error.ProtocolError code) (live_channels p) b)
-          refl
-          ∙ sym base)
+          eI
+          ∙ ap (with_inbox (connection_close_inbox code (seen k p o rs cs i s b).wire)) (sym base))
           eB
           (eS ∙ ap (λ ms. fold after_mark s ms) (sym tickets))
           (returned_is eO ∙ sym gone)
 
-      at : (k : ConnectionPhase) → is_close_sent k ≡ false → seen l2 P O R C n S B ≡ receiving (incoming.ConnectionClose code) record_.Received (seen k p o rs cs n s b)
+      at : (k : ConnectionPhase) → is_close_sent k ≡ false → seen l2 P O R C J S B ≡ receiving (incoming.ConnectionClose code) record_.Received (seen k p o rs cs i s b)
       at link.Open h = by_parts link.Open refl refl refl
       at (link.Closing true received) h = cc
       at (link.Closing false received) h = by_parts (link.Closing false received) refl refl refl
@@ -430,7 +438,7 @@ module _ (l : ConnectionPhase) (p : List (ℕ × ChannelPhase)) (o : OutboxState
       → O ≡ cond (has_sent l) o (emptied_outbox o)
       → R ≡ on_channel 0 (without_kind reply_kind.ConnectionCloseOk) rs
       → S ≡ fold after_mark s (resolved_with (Ok answer.Done) (ticket_of (first_request reply_kind.ConnectionCloseOk (requests_at 0 rs))))
-      → seen l2 p O R cs n S b ≡ receiving incoming.ConnectionCloseOk record_.Received old
+      → seen l2 p O R cs i S b ≡ receiving incoming.ConnectionCloseOk record_.Received old
   connection_answered l2 O R S el eO eR eS =
       let t : Bool = has_sent l in
       world_is _ _
@@ -463,7 +471,7 @@ module _ (l : ConnectionPhase) (p : List (ℕ × ChannelPhase)) (o : OutboxState
       → O ≡ with_lists (left_lists o.frame_max t o.lists) o
       → S ≡ fold after_mark s (left_tickets (Some a))
       → B ≡ fold post.after_mark b (left_marks (Some a))
-      → seen l2 P O rs cs n S B ≡ handing t old
+      → seen l2 P O rs cs i S B ≡ handing t old
   handing_seen t a l2 P O S B told el eP eO eS eB =
       world_is _ _
       (base_is _ (sent (Some a) (base_with (left_lists o.frame_max t o.lists) old.wire)) (frame_max_is eO) el eP

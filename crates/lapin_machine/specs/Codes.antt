@@ -11,6 +11,13 @@ use Rattle.lapin_types.specs.contracts.leaving.Publish as publish_row
 use Rattle.lapin_types.specs.declared.leaving.Left.{Left}
 use Rattle.lapin_types.specs.contracts.leaving.Left as left_row
 use Rattle.lapin_types.specs.contracts.request.Request as request_row
+use Rattle.lapin_acker.specs.declared.switch.Switch.{Switch}
+use Rattle.lapin_acker.specs.contracts.switch.Switch as switch_row
+use Rattle.lapin_consumer.specs.Roster.{Roster}
+use Rattle.lapin_consumer.specs.Codes.{roster_code}
+use Rattle.lapin_registry.specs.contracts.registry.ChannelDefinition as definition_row
+use Rattle.lapin_registry.specs.Topologies.{Topologies}
+use Rattle.lapin_inbox.specs.Inbox.{Inbox}
 use Rattle.lapin_confirm.specs.Codes.{post_code}
 use Rattle.lapin_content.specs.Channels.{Channels}
 use Rattle.lapin_content.specs.Codes.{channels_code}
@@ -22,13 +29,22 @@ use Rattle.lapin_confirm.specs.Post.{Post}
 use Rattle.lapin_ticket.specs.declared.Slot.{Slot}
 use Rattle.lapin_machine.specs.World.{World}
 
+abbrev pub inbox_code : Coded Inbox
+inbox_code =
+    code_by
+    (Roster × (List Switch × Topologies))
+    (coded× roster_code (coded× (coded_list switch_row.the_row.coded) (coded_list (coded× coded_ℕ definition_row.the_row.coded))))
+    (λ i. (i.roster, (i.switches, i.topologies)))
+    (λ p. record { roster = p.0; switches = p.1.0; topologies = p.1.1 })
+    (λ _. refl)
+
 abbrev pub base_code : Coded Wire
 base_code =
     code_by
-    (ℕ × (ConnectionPhase × (List (ℕ × ChannelPhase) × (List RestEntry × (List MethodEntry × (List Publish × (List (ℕ × List Request) × (Channels × (ℕ × (ℕ × ℕ))))))))))
-    (coded× coded_ℕ (coded× link_row.the_row.coded (coded× (coded_list (coded× coded_ℕ phase_row.the_row.coded)) (coded× (coded_list rest_entry_code) (coded× (coded_list method_entry_code) (coded× (coded_list publish_row.the_row.coded) (coded× (coded_list (coded× coded_ℕ (coded_list request_row.the_row.coded))) (coded× channels_code (coded× coded_ℕ (coded× coded_ℕ coded_ℕ))))))))))
-    (λ b. (b.frame_max, (b.link, (b.phases, (b.rest, (b.methods, (b.publishes, (b.requests, (b.contents, (b.tickets, (b.published, b.ackers)))))))))))
-    (λ p. record { frame_max = p.0; link = p.1.0; phases = p.1.1.0; rest = p.1.1.1.0; methods = p.1.1.1.1.0; publishes = p.1.1.1.1.1.0; requests = p.1.1.1.1.1.1.0; contents = p.1.1.1.1.1.1.1.0; tickets = p.1.1.1.1.1.1.1.1.0; published = p.1.1.1.1.1.1.1.1.1.0; ackers = p.1.1.1.1.1.1.1.1.1.1 })
+    (ℕ × (ConnectionPhase × (List (ℕ × ChannelPhase) × (List RestEntry × (List MethodEntry × (List Publish × (List (ℕ × List Request) × (Channels × (ℕ × (ℕ × Inbox))))))))))
+    (coded× coded_ℕ (coded× link_row.the_row.coded (coded× (coded_list (coded× coded_ℕ phase_row.the_row.coded)) (coded× (coded_list rest_entry_code) (coded× (coded_list method_entry_code) (coded× (coded_list publish_row.the_row.coded) (coded× (coded_list (coded× coded_ℕ (coded_list request_row.the_row.coded))) (coded× channels_code (coded× coded_ℕ (coded× coded_ℕ inbox_code))))))))))
+    (λ b. (b.frame_max, (b.link, (b.phases, (b.rest, (b.methods, (b.publishes, (b.requests, (b.contents, (b.tickets, (b.published, b.inbox)))))))))))
+    (λ p. record { frame_max = p.0; link = p.1.0; phases = p.1.1.0; rest = p.1.1.1.0; methods = p.1.1.1.1.0; publishes = p.1.1.1.1.1.0; requests = p.1.1.1.1.1.1.0; contents = p.1.1.1.1.1.1.1.0; tickets = p.1.1.1.1.1.1.1.1.0; published = p.1.1.1.1.1.1.1.1.1.0; inbox = p.1.1.1.1.1.1.1.1.1.1 })
     (λ _. refl)
 
 abbrev pub world_code : Coded World

@@ -1,4 +1,5 @@
 pub mod World
+pub mod Consumers
 pub mod Told
 pub mod Numbers
 pub mod Whole

@@ -1,6 +1,7 @@
--- The counters: tickets, confirms and ackers are numbered by u64 from 1.
-use Rattle.std.specs.Prelude.{◌≡◌, ℕ, ◌+◌, ◌<◌, ◌^◌, ◌⊎◌, true, false, Result, Ok, Err}
+-- The counters: tickets, confirms, consumers and ackers are numbered by u64 from 1.
+use Rattle.std.specs.Prelude.{◌≡◌, ℕ, ◌+◌, ◌<◌, ◌^◌, ◌⊎◌, true, false, Option, Some, None, Result, Ok, Err, length}
 use Rattle.lapin_types.specs.declared.call.Call.{Call}
+use Rattle.lapin_types.specs.declared.acker_call.AckerCall.{AckerCall}
 use Rattle.lapin_history.specs.declared.calls.Asked.{Asked}
 use Rattle.lapin_history.specs.declared.calls.Asked.TheVariants as ask
 use Rattle.lapin_history.specs.Calls.{asked}
@@ -11,7 +12,11 @@ use Rattle.lapin_types.specs.Types.error
 use Rattle.lapin_history.specs.declared.broker_frames.Incoming.{Incoming}
 use Rattle.lapin_history.specs.declared.broker_frames.Incoming.TheVariants as incoming
 use Rattle.lapin_history.specs.Incoming.{incoming_of}
-use Rattle.lapin_history.specs.Content.{receives_part, whole_on, takes_acker}
+use Rattle.lapin_history.specs.declared.broker_frames.ConsumerPart.{ConsumerPart}
+use Rattle.lapin_history.specs.declared.broker_frames.ConsumerPart.TheVariants as part
+use Rattle.lapin_history.specs.Content.{receives_part, whole_on, takes_acker, next_acker}
+use Rattle.lapin_history.specs.Consumers.{receives_consumer, next_consumer}
+use Rattle.lapin_history.specs.Ackers.{usable_at, acker_asked}
 use Rattle.lapin_history.specs.Wire.{Wire, state_of}
 use Rattle.lapin_history.specs.Asking.{is_allowed}
 use Rattle.lapin_machine.specs.World.{World}
@@ -20,7 +25,8 @@ use Rattle.lapin_machine.specs.World.{World}
 pub record HasNumbersFor (n : ℕ) (w : World) : Type 0 where
   pub tickets : w.wire.tickets + n < 2 ^ 64
   pub confirms : w.wire.published + n < 2 ^ 64
-  pub ackers : w.wire.ackers + n < 2 ^ 64
+  pub consumers : length w.wire.inbox.roster.consumers + n < 2 ^ 64
+  pub ackers : length w.wire.inbox.switches + n < 2 ^ 64
 
 -- the next ticket would pass the greatest u64
 abbrev pub NoTicket : Wire → Type 0
@@ -29,26 +35,41 @@ NoTicket b = b.tickets + 1 ≡ 2 ^ 64
 abbrev pub NoConfirm : Wire → Type 0
 NoConfirm b = b.published + 1 ≡ 2 ^ 64
 
+abbrev pub NoConsumer : Wire → Type 0
+NoConsumer b = next_consumer b.inbox ≡ 2 ^ 64
+
+abbrev pub NoAcker : Wire → Type 0
+NoAcker b = next_acker b.inbox ≡ 2 ^ 64
+
 -- a number that the call needs would pass the greatest u64
 abbrev pub LacksNumber : Asked → Wire → Type 0
 LacksNumber (ask.Publish exchange key o payload properties) b = NoTicket b ⊎ NoConfirm b
+LacksNumber (ask.Consume m tag queue o) b = NoTicket b ⊎ NoConsumer b
 LacksNumber _ b = NoTicket b
 
 -- numbers are used up exactly where an allowed call lacks one
 abbrev pub UsedUp : ℕ → Asked → Wire → Type 0
 UsedUp c k b = (is_allowed k (state_of c b) ≡ true) × LacksNumber k b
 
--- or where a frame makes the content of a get whole, whose message lacks its acker
-abbrev pub NoAcker : Wire → Type 0
-NoAcker b = b.ackers + 1 ≡ 2 ^ 64
+-- a usable acker's call lacks its ticket
+abbrev pub AckUsedUp : Option (ℕ × ℕ) → AckerCall → Wire → Type 0
+AckUsedUp None k b = ⊥
+AckUsedUp (Some x) k b = UsedUp x.0 (acker_asked k x.1) b
 
-abbrev pub LacksAcker : Incoming → Wire → Type 0
-LacksAcker (incoming.Content c p) b = (receives_part c p b ≡ true) × (takes_acker (whole_on c p b) ≡ true) × NoAcker b
-LacksAcker _ b = ⊥
+-- or where a frame makes a message whole that lacks its acker, or a consumer's reply lacks its number
+abbrev pub LacksConsumer : ℕ → ConsumerPart → Wire → Type 0
+LacksConsumer c (part.ConsumeOk tag) b = (receives_consumer c (part.ConsumeOk tag) b ≡ true) × NoConsumer b
+LacksConsumer c _ b = ⊥
+
+abbrev pub FrameUsedUp : Incoming → Wire → Type 0
+FrameUsedUp (incoming.Content c p) b = (receives_part c p b ≡ true) × (takes_acker b.inbox (whole_on c p b) ≡ true) × NoAcker b
+FrameUsedUp (incoming.Consumer c p) b = LacksConsumer c p b
+FrameUsedUp _ b = ⊥
 
 abbrev pub EventUsedUp : Event → Wire → Type 0
 EventUsedUp (event.Call c k) b = UsedUp c (asked k) b
-EventUsedUp (event.Receive f) b = LacksAcker (incoming_of f) b
+EventUsedUp (event.Receive f) b = FrameUsedUp (incoming_of f) b
+EventUsedUp (event.Acker n k) b = AckUsedUp (usable_at n b) k b
 EventUsedUp _ b = ⊥
 
 -- an error of a call: want of memory is free, numbers are used up only where the call lacks one, and it is refused by its state
@@ -69,14 +90,19 @@ OnlyMemory (Ok x) = Unit {0}
 OnlyMemory (Err error.NoMemory) = Unit {0}
 OnlyMemory (Err _) = ⊥
 
+-- an acker's call: the same of the call that a usable acker makes
+abbrev pub AckCause : {T : Type 0} → Result T Error → Option (ℕ × ℕ) → AckerCall → Wire → Type 0
+AckCause r None k b = OnlyMemory r
+AckCause r (Some x) k b = AskCause r x.0 (acker_asked k x.1) b
+
 -- numbers are not used up
 abbrev pub HasNumbers : {T : Type 0} → Result T Error → Type 0
 HasNumbers (Err error.NumbersUsedUp) = ⊥
 HasNumbers _ = Unit {0}
 
--- they are used up only where a frame lacks the acker of its message
+-- they are used up only where a frame lacks the acker of its message or the number of its consumer
 abbrev pub ReceiveCause : {T : Type 0} → Result T Error → Incoming → Wire → Type 0
-ReceiveCause (Err error.NumbersUsedUp) i b = LacksAcker i b
+ReceiveCause (Err error.NumbersUsedUp) i b = FrameUsedUp i b
 ReceiveCause _ i b = Unit {0}
 
 -- an error of a step: want of memory is free, and numbers are used up only where a call or a frame lacks one

@@ -1,5 +1,5 @@
 -- The answers of the public calls, as the records of their events.
-use Rattle.std.specs.Prelude.{◌≡◌, Bool, true, false, List, Result, Ok, Err}
+use Rattle.std.specs.Prelude.{◌≡◌, Bool, true, false, List, Option, Some, None, Result, Ok, Err}
 use Rattle.lapin_types.specs.declared.answer.Answer.{Answer}
 use Rattle.lapin_types.specs.declared.confirmation.Confirmation.{Confirmation}
 use Rattle.lapin_types.specs.declared.message.BasicReturnMessage.{BasicReturnMessage}
@@ -7,6 +7,7 @@ use Rattle.lapin_types.specs.declared.poll.Poll.{Poll}
 use Rattle.lapin_types.specs.declared.poll.Poll.TheVariants as poll
 use Rattle.lapin_types.specs.declared.record.Record.{Record}
 use Rattle.lapin_types.specs.declared.record.Record.TheVariants as record_
+use Rattle.lapin_consumer.specs.Roster.{Handed}
 use Rattle.lapin_types.specs.Types.{Error}
 use Rattle.lapin_types.specs.Types.error
 use Rattle.lapin_machine.specs.declared.channel.Ticket.{Ticket}
@@ -62,6 +63,40 @@ AsideTold (Err e) r = IsRefusal e r
 abbrev pub wait_told : Poll (List BasicReturnMessage) → Record
 wait_told (poll.Ready messages) = record_.Returned messages
 wait_told poll.Pending = record_.Pending
+
+-- what a poll of a consumer answers
+abbrev pub next_record : Result (Poll Handed) Error → Record
+next_record (Ok (poll.Ready y)) = record_.Item y
+next_record (Ok poll.Pending) = record_.Pending
+next_record (Err e) = record_.Refused e
+
+-- giving a consumer a delegate, and letting go of one; want of memory has no record
+abbrev pub DelegateTold : Result (Unit {0}) Error → Record → Type 0
+DelegateTold (Ok x) r = r ≡ record_.Delegated
+DelegateTold (Err e) r = IsRefusal e r
+
+abbrev pub DropTold : Result Bool Error → Record → Type 0
+DropTold (Ok b) r = r ≡ record_.Dropped b
+DropTold (Err e) r = IsRefusal e r
+
+-- an acker's call
+abbrev pub AckTold : Result (Option Ticket) Error → Record → Type 0
+AckTold (Ok None) r = r ≡ record_.No
+AckTold (Ok (Some t)) r = r ≡ record_.Ticket t.number
+AckTold (Err e) r = IsRefusal e r
+
+-- p where a call was made, also where its channel's state refused it, q where it was not for want of memory or numbers
+abbrev pub WasMade : {T : Type 0} → Result T Error → Type 0 → Type 0 → Type 0
+WasMade (Err error.NoMemory) p q = q
+WasMade (Err error.NumbersUsedUp) p q = q
+WasMade _ p q = p
+
+abbrev pub ack_told : Result (Option Ticket) Error → Result Record Error
+ack_told (Ok None) = Ok record_.No
+ack_told (Ok (Some t)) = Ok (record_.Ticket t.number)
+ack_told (Err error.NoMemory) = Err error.NoMemory
+ack_told (Err error.NumbersUsedUp) = Err error.NumbersUsedUp
+ack_told (Err e) = Ok (record_.Refused e)
 
 -- the record of a call's answer, where it has one
 abbrev pub ticket_told : Result Ticket Error → Result Record Error

@@ -1,30 +1,52 @@
--- The room that a whole content needs: a get's message takes the next acker, a returned message a place with the confirms.
-use Rattle.std.specs.Prelude.{◌≡◌, ℕ, ◌+◌, ◌<◌, ◌^◌, true, Option, Some, None, Result, Ok, Err}
+-- The room that a whole content needs: a get's message takes the next acker, a delivery the next acker and a place with its consumer, a
+-- returned message a place with the confirms.
+use Rattle.std.specs.Prelude.{◌≡◌, ℕ, ◌+◌, ◌<◌, ◌^◌, true, Option, Some, None, Result, Ok, Err, length}
 use Rattle.lapin_types.specs.Types.{Error}
 use Rattle.lapin_types.specs.Types.error
 use Rattle.lapin_content.specs.declared.start.Start.{Start}
 use Rattle.lapin_content.specs.declared.start.Start.TheVariants as start
 use Rattle.lapin_confirm.specs.Kept.{Kept, spare_on}
-use Rattle.lapin_history.specs.Content.{for_get}
+use Rattle.lapin_consumer.specs.Roster.{is_registered}
+use Rattle.lapin_inbox.specs.declared.inbox.Inbox.{Inbox as Held}
+use Rattle.lapin_inbox.specs.Held.{HasAckerRoom, HasDeliveryRoom}
+use Rattle.lapin_inbox.specs.Inbox.{Inbox}
+use Rattle.lapin_history.specs.Content.{next_acker, for_acker}
 
--- there is room for a content on channel c that began so, where n ackers were given
-abbrev pub Fits : Start → ℕ → ℕ → Kept → Type 0
-Fits (start.Get ticket tag exchange key redelivered count) c n k = n + 1 < 2 ^ 64
-Fits (start.Return code text exchange key) c n k = 0 < spare_on c k
-Fits _ c n k = Unit {0}
+-- there is room for a delivery of this consumer, if it is registered
+abbrev pub FitsAt : Option ℕ → Held → Type 0
+FitsAt None h = Unit {0}
+FitsAt (Some k) h = is_registered k h.consumers.roster ≡ true → HasDeliveryRoom k h
+
+-- there is room for a content on channel c that began so
+abbrev pub Fits : Start → ℕ → Held → Kept → Type 0
+Fits (start.Get ticket tag exchange key redelivered count) c h k = HasAckerRoom h
+Fits (start.Deliver consumer tag exchange key redelivered) c h k = FitsAt consumer h
+Fits (start.Return code text exchange key) c h k = 0 < spare_on c k
 
 -- for the content at the front, if there is one
-abbrev pub FitsFront : Option Start → ℕ → ℕ → Kept → Type 0
-FitsFront None c n k = Unit {0}
-FitsFront (Some s) c n k = Fits s c n k
+abbrev pub FitsFront : Option Start → ℕ → Held → Kept → Type 0
+FitsFront None c h k = Unit {0}
+FitsFront (Some s) c h k = Fits s c h k
 
-abbrev pub LacksAcker : Option Start → ℕ → Type 0
-LacksAcker None n = ⊥
-LacksAcker (Some s) n = (for_get s ≡ true) × (n + 1 ≡ 2 ^ 64)
+-- the next acker would pass the greatest u64
+abbrev pub NoAcker : Inbox → Type 0
+NoAcker i = next_acker i ≡ 2 ^ 64
 
--- why there is no room: want of memory, or a get for which the next acker would pass the greatest u64
-abbrev pub MakesRoom : Result (Unit {0}) Error → Option Start → ℕ → Type 0
-MakesRoom (Ok x) s n = Unit {0}
-MakesRoom (Err error.NoMemory) s n = Unit {0}
-MakesRoom (Err error.NumbersUsedUp) s n = LacksAcker s n
-MakesRoom (Err _) s n = ⊥
+abbrev pub LacksAcker : Option Start → Inbox → Type 0
+LacksAcker None i = ⊥
+LacksAcker (Some s) i = (for_acker i s ≡ true) × NoAcker i
+
+-- why there is no room: want of memory, or a message for which the next acker would pass the greatest u64
+abbrev pub MakesRoom : Result (Unit {0}) Error → Option Start → Inbox → Type 0
+MakesRoom (Ok x) s i = Unit {0}
+MakesRoom (Err error.NoMemory) s i = Unit {0}
+MakesRoom (Err error.NumbersUsedUp) s i = LacksAcker s i
+MakesRoom (Err _) s i = ⊥
+
+-- the same for a delivery of this consumer
+abbrev pub MakesRoomAt : Result (Unit {0}) Error → Option ℕ → Inbox → Type 0
+MakesRoomAt (Ok x) k i = Unit {0}
+MakesRoomAt (Err error.NoMemory) k i = Unit {0}
+MakesRoomAt (Err error.NumbersUsedUp) None i = ⊥
+MakesRoomAt (Err error.NumbersUsedUp) (Some k) i = (is_registered k i.roster ≡ true) × NoAcker i
+MakesRoomAt (Err _) k i = ⊥

@@ -10,7 +10,8 @@ use Rattle.lapin_types.specs.declared.confirmation.Confirmation.{Confirmation}
 use Rattle.lapin_history.specs.declared.marks.Settlement.{Settlement}
 use Rattle.lapin_history.specs.declared.calls.Asked.{Asked}
 use Rattle.lapin_history.specs.declared.broker_frames.Incoming.{Incoming}
-use Rattle.lapin_history.specs.Wire.{Wire, start}
+use Rattle.lapin_inbox.specs.Marks as inbox
+use Rattle.lapin_history.specs.Wire.{Wire, start, with_inbox}
 use Rattle.lapin_history.specs.Handing.{handed_out, after_handing}
 use Rattle.lapin_history.specs.Events.{after_event}
 use Rattle.lapin_history.specs.Asking.{after_asking}
@@ -119,6 +120,10 @@ asking c k w = record {
   slots = fold desk.after_mark w.slots (asking_tickets c k w.wire);
   returned = back.after_asked c k w.wire w.returned;
 }
+
+-- an acker is used up
+abbrev pub spending : ℕ → World → World
+spending n w = record w { wire = with_inbox (inbox.Spent n ∷ []) w.wire }
 
 -- what a frame request leaves where no frame was given back, and t tells whether a publish may begin
 abbrev pub handing : Bool → World → World

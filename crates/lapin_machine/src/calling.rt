@@ -10,6 +10,10 @@ ghost use Rattle.lapin_history.specs.declared.calls.Asked.TheVariants as ask;
 ghost use Rattle.lapin_history.specs.Calls.{asked as asked_lem, publishes};
 ghost use Rattle.lapin_history.specs.Asking.{call_record};
 ghost use Rattle.lapin_history.specs.Select.{queued_marks};
+ghost use Rattle.lapin_history.specs.Consumers.{called_inbox, cancel_inbox, all_inbox};
+ghost use Rattle.lapin_history.specs.Registry.{line_inbox, at_once_inbox};
+ghost use Rattle.lapin_inbox.specs.Held.{what};
+ghost use Rattle.lapin_inbox.specs.Inbox.{after_mark as after_inbox_mark};
 ghost use Rattle.lapin_confirm.specs.Machine as post;
 ghost use Rattle.lapin_machine.specs.World.{told_by, next, asking};
 ghost use Rattle.lapin_machine.specs.Told.{TicketTold, PublishTold, ticket_told, publish_told};
@@ -18,10 +22,11 @@ ghost use Rattle.lapin_machine.specs.Numbers.{HasCause, CallCause, AskCause};
 use crate::channel::{Published, PublisherConfirm, Ticket};
 use crate::session::{Session, is_closed, is_open};
 use lapin_confirm::Confirms;
-use lapin_history::{Asked, AtLeaving, ChannelPhase, Row, sort_call};
+use lapin_history::{Answered, Asked, AtLeaving, ChannelPhase, Row, sort_call};
+use lapin_inbox::Inbox;
 use lapin_types::{
-    BasicProperties, BasicPublishOptions, Call, ChannelMethod, ConfirmMethod, Error, Method,
-    Payload, Publish, Record, Reply, ShortString,
+    BasicMethod, BasicProperties, BasicPublishOptions, Call, ChannelMethod, ConfirmMethod, Error,
+    Method, NoMemory, Payload, Publish, Record, Reply, ShortString,
 };
 use std::alloc::Global;
 
@@ -47,13 +52,13 @@ impl Session {
         }
         self.phases.reserve(channel)?;
         self.desk.reserve(alloc, channel)?;
+        self.inbox.reserve_opening(channel)?;
         self.confirms.begin(alloc, channel)?;
+        self.inbox.begin(alloc, channel);
         self.phases.set(channel, ChannelPhase::Opening);
         let row = Row {
             method: Method::Channel(ChannelMethod::Open),
-            awaits: Some(Reply::ChannelOpenOk),
-            made: None,
-            at_leaving: AtLeaving::Nothing,
+            answered: Answered::ByReply(Reply::ChannelOpenOk),
         };
         let number = self.desk.queue(alloc, channel, row);
         Ok(Ticket { number })
@@ -92,13 +97,24 @@ impl Session {
                 self.close_connection(alloc, channel, reply_code, reply_text)
             }
             Asked::Method(row) => self.queue_row(alloc, channel, row),
+            Asked::Consume {
+                method,
+                consumer_tag,
+                queue,
+                options,
+            } => self.consume_at_once(alloc, channel, method, consumer_tag, queue, options),
             Asked::Publish { .. } => unreachable!(),
         }
     }
 
     // A call that is its line of the table. What is let go is let go by `drop`: so the ways by which a line can be let go, one
     // for each of its methods and replies, are no ways through this function.
-    fn queue_row(&mut self, alloc: Global, channel: u16, row: Row) -> Result<Ticket, Error>
+    pub(crate) fn queue_row(
+        &mut self,
+        alloc: Global,
+        channel: u16,
+        row: Row,
+    ) -> Result<Ticket, Error>
         ensures told { TicketTold result (call_record channel (ask.Method row) self.old.wire) }
         ensures ok { OnOk result (self.new ≡ asking channel (ask.Method row) self.old) }
         ensures err { OnErr result (self.new ≡ self.old) }
@@ -114,6 +130,10 @@ impl Session {
             return Err(Error::NumbersUsedUp);
         }
         if self.desk.reserve(alloc, channel).is_err() {
+            drop(row);
+            return Err(Error::NoMemory);
+        }
+        if let Err(NoMemory) = line_called(&mut self.inbox, alloc, channel, &row) {
             drop(row);
             return Err(Error::NoMemory);
         }
@@ -198,6 +218,100 @@ impl Session {
     }
 }
 
+// A call of this line was accepted: one of the class basic says something of consumers, any other that is made without wait has its
+// answer, and what it declared is recorded.
+fn line_called(inbox: &mut Inbox, alloc: Global, channel: u16, row: &Row) -> Result<(), NoMemory>
+    ensures ok { OnOk result (what inbox.new ≡ fold after_inbox_mark (what inbox.old) (line_inbox channel row.now.method row.now.answered)) }
+    ensures err { OnErr result (what inbox.new ≡ what inbox.old) }
+{
+    match &row.method {
+        Method::Basic(method) => consumers_called(inbox, alloc, channel, method),
+        _ => completed_at_once(inbox, alloc, channel, &row.answered),
+    }
+}
+
+// A call that queues this method was accepted: a cancel asks for its consumer's end, an acknowledgement of all there is and
+// `basic.recover-async` make void what was handed on before.
+fn consumers_called(
+    inbox: &mut Inbox,
+    alloc: Global,
+    channel: u16,
+    method: &BasicMethod,
+) -> Result<(), NoMemory>
+    ensures ok { OnOk result (what inbox.new ≡ fold after_inbox_mark (what inbox.old) (called_inbox channel method.now)) }
+    ensures err { OnErr result (what inbox.new ≡ what inbox.old) }
+{
+    match method {
+        BasicMethod::Cancel {
+            consumer_tag,
+            nowait,
+        } => cancel_called(inbox, alloc, channel, consumer_tag, *nowait),
+        BasicMethod::Ack {
+            delivery_tag,
+            multiple,
+        } => ack_called(inbox, alloc, channel, *delivery_tag, *multiple),
+        BasicMethod::Nack {
+            delivery_tag,
+            multiple,
+            ..
+        } => ack_called(inbox, alloc, channel, *delivery_tag, *multiple),
+        BasicMethod::RecoverAsync { .. } => inbox.discard(alloc, channel),
+        _ => Ok(()),
+    }
+}
+
+// A call that is answered so was accepted: without wait its request is completed in the call.
+fn completed_at_once(
+    inbox: &mut Inbox,
+    alloc: Global,
+    channel: u16,
+    answered: &Answered,
+) -> Result<(), NoMemory>
+    ensures ok { OnOk result (what inbox.new ≡ fold after_inbox_mark (what inbox.old) (at_once_inbox channel answered.now)) }
+    ensures err { OnErr result (what inbox.new ≡ what inbox.old) }
+{
+    match answered {
+        Answered::AtOnce(reply, answer) => inbox.complete(alloc, channel, reply, answer),
+        _ => Ok(()),
+    }
+}
+
+// A cancel was called.
+fn cancel_called(
+    inbox: &mut Inbox,
+    alloc: Global,
+    channel: u16,
+    tag: &ShortString,
+    nowait: bool,
+) -> Result<(), NoMemory>
+    ensures ok { OnOk result (what inbox.new ≡ fold after_inbox_mark (what inbox.old) (cancel_inbox channel tag.now nowait)) }
+    ensures err { OnErr result (what inbox.new ≡ what inbox.old) }
+{
+    if nowait {
+        return inbox.cancel_at_once(alloc, channel, tag.as_str());
+    }
+    inbox.ask_cancel(channel, tag.as_str());
+    Ok(())
+}
+
+// An acknowledgement was called: one of all there is discards.
+fn ack_called(
+    inbox: &mut Inbox,
+    alloc: Global,
+    channel: u16,
+    tag: u64,
+    multiple: bool,
+) -> Result<(), NoMemory>
+    ensures ok { OnOk result (what inbox.new ≡ fold after_inbox_mark (what inbox.old) (all_inbox channel tag multiple)) }
+    ensures err { OnErr result (what inbox.new ≡ what inbox.old) }
+{
+    if multiple && tag == 0 {
+        inbox.discard(alloc, channel)
+    } else {
+        Ok(())
+    }
+}
+
 // A call that queues this method was accepted: `confirm.select` asks for confirms.
 fn confirms_called(confirms: &mut Confirms, channel: u16, method: &Method)
     ensures { confirms.new.what ≡ fold post.after_mark confirms.old.what (queued_marks channel method.now) }
@@ -208,7 +322,7 @@ fn confirms_called(confirms: &mut Confirms, channel: u16, method: &Method)
 }
 
 // The record of a call's answer; want of memory and of numbers have none.
-fn ticket_record(told: Result<Ticket, Error>) -> Result<Record, Error>
+pub(crate) fn ticket_record(told: Result<Ticket, Error>) -> Result<Record, Error>
     ensures { result ≡ ticket_told told }
 {
     match told {

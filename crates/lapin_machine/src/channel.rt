@@ -1,15 +1,17 @@
-//! What a caller holds: tickets and confirms by their numbers, each with its calls on a session.
+//! What a caller holds: tickets, confirms and consumers by their numbers, each with its calls on a session.
 //!
 //! Nothing is kept here: every call is the session's, on the number that stands here. Channels stand in the surface crate.
 
 ghost use Rattle.std.specs.Prelude.{◌≡◌, OnOk, OnErr};
-ghost use Rattle.lapin_types.specs.declared.event.Event.TheVariants.{PollTicket, PollConfirm, AsideConfirm};
+ghost use Rattle.lapin_types.specs.declared.event.Event.TheVariants.{PollTicket, PollConfirm, PollConsumer, AsideConfirm, Delegate, DropConsumer};
+ghost use Rattle.std.specs.Option.{option_copied, option_map};
+ghost use Rattle.lapin_consumer.specs.Roster.{consumer_at};
 ghost use Rattle.lapin_machine.specs.World.{told_by, next};
-ghost use Rattle.lapin_machine.specs.Told.{AsideTold, ticket_record, confirm_record};
+ghost use Rattle.lapin_machine.specs.Told.{AsideTold, DelegateTold, DropTold, ticket_record, confirm_record, next_record};
 ghost use Rattle.lapin_machine.specs.Numbers.{HasNumbers};
 
 use crate::session::Session;
-use lapin_types::{Answer, Confirmation, Error, Poll};
+use lapin_types::{Answer, Confirmation, DeliveryResult, Error, Poll, ShortString};
 use std::alloc::Global;
 
 /// The promise of a call's answer. Tickets of a session are numbered from 1.
@@ -29,6 +31,12 @@ pub struct PublisherConfirm {
 pub struct Published {
     pub ticket: Ticket,
     pub confirm: PublisherConfirm,
+}
+
+/// A consumer (AMQP 0-9-1, `basic.consume`). Consumers of a session are numbered from 1.
+#[derive(Clone, Copy, Debug)]
+pub struct Consumer {
+    pub number: u64,
 }
 
 /// What became of a frame of the broker that was not refused.
@@ -68,5 +76,49 @@ impl PublisherConfirm {
         ensures numbers { HasNumbers result }
     {
         session.set_aside(alloc, self.number)
+    }
+}
+
+impl Consumer {
+    /// The tag under which it was registered; `None` exactly where the number was never given.
+    pub fn tag<'a>(&self, session: &'a Session) -> Option<&'a ShortString>
+        ensures { option_copied result ≡ option_map (λ x. x.tag) (consumer_at self.now.number session.now.wire.inbox.roster) }
+    {
+        session.consumers().tag(self.number)
+    }
+
+    /// The queue that it consumes from; `None` exactly where the number was never given.
+    pub fn queue<'a>(&self, session: &'a Session) -> Option<&'a ShortString>
+        ensures { option_copied result ≡ option_map (λ x. x.queue) (consumer_at self.now.number session.now.wire.inbox.roster) }
+    {
+        session.consumers().queue(self.number)
+    }
+
+    /// The session's `set_delegate` on this number.
+    pub fn set_delegate(&self, alloc: Global, session: &mut Session) -> Result<(), Error>
+        ensures told { DelegateTold result (told_by session.old (Delegate self.now.number)) }
+        ensures ok { OnOk result (session.new ≡ next session.old (Delegate self.now.number)) }
+        ensures err { OnErr result (session.new ≡ session.old) }
+        ensures numbers { HasNumbers result }
+    {
+        session.set_delegate(alloc, self.number)
+    }
+
+    /// The session's `poll_next` on this number.
+    pub fn poll_next(&self, session: &mut Session) -> Result<Poll<DeliveryResult>, Error>
+        ensures told { next_record result ≡ told_by session.old (PollConsumer self.now.number) }
+        ensures ok { session.new ≡ next session.old (PollConsumer self.now.number) }
+    {
+        session.poll_next(self.number)
+    }
+
+    /// The session's `close_consumer` on this number.
+    pub fn close(&self, alloc: Global, session: &mut Session) -> Result<bool, Error>
+        ensures told { DropTold result (told_by session.old (DropConsumer self.now.number)) }
+        ensures ok { OnOk result (session.new ≡ next session.old (DropConsumer self.now.number)) }
+        ensures err { OnErr result (session.new ≡ session.old) }
+        ensures numbers { HasNumbers result }
+    {
+        session.close_consumer(alloc, self.number)
     }
 }

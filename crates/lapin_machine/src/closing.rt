@@ -3,7 +3,7 @@
 //! A close is refused by state, then for want of numbers; then all room is made; then what the close rejects or ends is
 //! resolved, and the close is queued. What is dropped and resolved stands in `lapin_desk`.
 
-ghost use Rattle.std.specs.Prelude.{◌≡◌, ◌≤◌, [], true, false, IfOk, OnOk, OnErr, length};
+ghost use Rattle.std.specs.Prelude.{◌≡◌, ◌≤◌, ◌++◌, ◌∷◌, [], true, false, IfOk, OnOk, OnErr, length};
 ghost use Rattle.std.specs.List.{fold};
 ghost use Rattle.lapin_tables.specs.ByChannel.{at_channel};
 ghost use Rattle.lapin_types.specs.declared.event.Event.TheVariants.{Call as CallEvent, Lost as LostEvent};
@@ -13,7 +13,11 @@ ghost use Rattle.lapin_history.specs.Phases.{is_lost as is_lost_lem};
 ghost use Rattle.lapin_history.specs.ChannelClose.{failed_at_close as failed_at_close_lem};
 ghost use Rattle.lapin_history.specs.Drops.{without_publishes_of};
 ghost use Rattle.lapin_outbox.specs.Outgoing.{with_lists};
-ghost use Rattle.lapin_history.specs.Ends.{ends, live_channels};
+ghost use Rattle.lapin_history.specs.Ends.{ends, inbox_ends, cancels_on, live_channels};
+ghost use Rattle.lapin_inbox.specs.Held.{what};
+ghost use Rattle.lapin_inbox.specs.Inbox.{after_mark as after_inbox_mark};
+ghost use Rattle.lapin_consumer.specs.Kept.{HasEnds};
+ghost use Rattle.lapin_desk.specs.Live.{live_at};
 ghost use Rattle.lapin_history.specs.TicketReadings as mark;
 ghost use Rattle.lapin_confirm.specs.Machine as post;
 ghost use Rattle.lapin_history.specs.ConfirmMarks as confirm_mark;
@@ -29,7 +33,8 @@ use crate::session::{Session, is_base, is_open};
 use lapin_confirm::Confirms;
 use lapin_content::Contents;
 use lapin_desk::Desk;
-use lapin_history::{AtLeaving, ChannelPhase, Closer, ConnectionPhase, Row, failed_at_close};
+use lapin_history::{Answered, ChannelPhase, Closer, ConnectionPhase, Row, failed_at_close};
+use lapin_inbox::Inbox;
 use lapin_outbox::Replies;
 use lapin_phases::Phases;
 use lapin_types::{
@@ -67,6 +72,7 @@ impl Session {
             channel,
             Closer::Application,
         );
+        self.inbox.ask_close(channel);
         let row = Row {
             method: Method::Channel(ChannelMethod::Close {
                 reply_code,
@@ -74,9 +80,7 @@ impl Session {
                 class_id: 0,
                 method_id: 0,
             }),
-            awaits: Some(Reply::ChannelCloseOk),
-            made: None,
-            at_leaving: AtLeaving::Nothing,
+            answered: Answered::ByReply(Reply::ChannelCloseOk),
         };
         let number = self.desk.queue(alloc, channel, row);
         Ok(Ticket { number })
@@ -126,17 +130,20 @@ impl Session {
         let mut replies = Replies::new(alloc)?;
         replies.reserve(alloc, channel)?;
         self.desk.reserve(alloc, channel)?;
+        self.inbox.reserve_ends(alloc)?;
         let to = ConnectionPhase::Closing {
             sent: false,
             received: false,
         };
         let error = Error::InvalidChannelState(ChannelState::Down);
         go_down(
+            alloc,
             &mut self.link,
             &mut self.phases,
             &mut self.desk,
             &mut self.confirms,
             &mut self.contents,
+            &mut self.inbox,
             replies,
             to,
             error,
@@ -148,9 +155,7 @@ impl Session {
                 class_id: 0,
                 method_id: 0,
             }),
-            awaits: Some(Reply::ConnectionCloseOk),
-            made: None,
-            at_leaving: AtLeaving::Nothing,
+            answered: Answered::ByReply(Reply::ConnectionCloseOk),
         };
         let number = self.desk.queue(alloc, channel, row);
         Ok(Ticket { number })
@@ -169,12 +174,15 @@ impl Session {
             return Ok(());
         }
         let replies = Replies::new(alloc)?;
+        self.inbox.reserve_ends(alloc)?;
         go_down(
+            alloc,
             &mut self.link,
             &mut self.phases,
             &mut self.desk,
             &mut self.confirms,
             &mut self.contents,
+            &mut self.inbox,
             replies,
             ConnectionPhase::Lost,
             Error::ConnectionLost,
@@ -231,30 +239,61 @@ pub(crate) fn begin_close(
 }
 
 // The connection leaves the open state, or is lost: every live opening ends and no channel stands open, nothing waits any more,
-// every open ticket fails, and no content is expected.
+// every open ticket fails but the cancels, no content is expected, and every consumer gets the error and its end, in the room that
+// was made.
 pub(crate) fn go_down(
+    alloc: Global,
     link: &mut ConnectionPhase,
     phases: &mut Phases,
     desk: &mut Desk,
     confirms: &mut Confirms,
     contents: &mut Contents,
+    inbox: &mut Inbox,
     replies: Replies,
     to: ConnectionPhase,
     error: Error,
 )
     requires queued { AreQueued confirms.old.what.book.cells desk.old.outbox.what.lists.publishes }
+    requires ends { HasEnds inbox.old.consumers }
     ensures link { link.new ≡ to }
     ensures phases { phases.new.entries ≡ [] }
     ensures outbox { desk.new.outbox.what ≡ emptied_outbox desk.old.outbox.what }
-    ensures slots { desk.new.tickets.slots ≡ answers.after_mark desk.old.tickets.slots (mark.AllFailed error) }
+    ensures slots { desk.new.tickets.slots ≡ fold answers.after_mark desk.old.tickets.slots (cancels_on (live_channels phases.old.entries) desk.old.replies.what ++ mark.AllFailed error ∷ []) }
     ensures confirms { confirms.new.what ≡ fold post.after_mark confirms.old.what (ends error (live_channels phases.old.entries)) }
     ensures contents { contents.new ≡ [] }
+    ensures inbox { what inbox.new ≡ fold after_inbox_mark (what inbox.old) (inbox_ends error (live_channels phases.old.entries)) }
     ensures requests { desk.new.replies ≡ replies }
     ensures room { (desk.old.outbox.spare ≤ desk.new.outbox.spare) × (desk.new.tickets.ready ≡ desk.old.tickets.ready) }
     ensures counts { (length desk.new.tickets.slots ≡ length desk.old.tickets.slots) × (length confirms.new.what.book.cells ≡ length confirms.old.what.book.cells) }
 {
+    end_consumers(alloc, inbox, phases, error);
     desk.end_all(confirms, phases, replies, error);
     phases.clear();
     contents.drop_all();
     *link = to;
+}
+
+// The consumers of every live opening get the error and their end, in rising number of its channel.
+fn end_consumers(alloc: Global, inbox: &mut Inbox, phases: &Phases, error: Error)
+    requires { HasEnds inbox.old.consumers }
+    ensures { what inbox.new ≡ fold after_inbox_mark (what inbox.old) (inbox_ends error (live_channels phases.now.entries)) }
+{
+    let reach = phases.reach();
+    let mut number = 0;
+    while number < reach {
+        end_consumers_at(alloc, inbox, phases, number, error);
+        number += 1;
+    }
+}
+
+// The consumers of the opening of this channel, if it has a live one.
+fn end_consumers_at(alloc: Global, inbox: &mut Inbox, phases: &Phases, number: usize, error: Error)
+    requires { HasEnds inbox.old.consumers }
+    ensures ended { what inbox.new ≡ fold after_inbox_mark (what inbox.old) (inbox_ends error (live_at number phases.now.entries)) }
+    ensures room { HasEnds inbox.new.consumers }
+{
+    let Some(channel) = phases.live_at(number) else {
+        return;
+    };
+    inbox.end(alloc, channel, Some(error));
 }

@@ -12,7 +12,13 @@ ghost use Rattle.lapin_history.specs.declared.broker_frames.Incoming.TheVariants
 ghost use Rattle.lapin_history.specs.Words.{is_some};
 ghost use Rattle.lapin_history.specs.Phases.{is_up};
 ghost use Rattle.lapin_history.specs.Unexpected.{refused};
-ghost use Rattle.lapin_history.specs.Receiving.{incoming_up};
+ghost use Rattle.std.specs.List.{fold};
+ghost use Rattle.lapin_inbox.specs.Held.{what};
+ghost use Rattle.lapin_inbox.specs.Inbox.{after_mark as after_inbox_mark};
+ghost use Rattle.lapin_history.specs.Receiving.{incoming_up, when};
+ghost use Rattle.lapin_history.specs.Registry.{request_inbox};
+ghost use Rattle.lapin_history.specs.Requests.{first_request};
+ghost use Rattle.lapin_outbox.specs.Open.{requests_at};
 ghost use Rattle.lapin_history.specs.Wire.{state_of, receives_on as receives_on_lem};
 ghost use Rattle.lapin_history.specs.Reply.{receives_reply};
 ghost use Rattle.lapin_history.specs.ConnectionClose.{receives_down as receives_down_lem};
@@ -24,12 +30,14 @@ ghost use Rattle.lapin_history.specs.Incoming.{incoming_of};
 
 use crate::channel::Heard;
 use crate::closing::{begin_close, go_down};
-use crate::session::{Session, is_open};
+use crate::receiving_consumers::answer_first;
+use crate::session::{Session, is_open, no_replies};
 use lapin_history::{
     ChannelPhase, Closer, ConnectionPhase, Incoming, SettleKind, Settlement, class_of, method_of,
-    opens, receives, receives_close, receives_close_ok, receives_down, receives_on, session_close,
+    opens, receives_close, receives_close_ok, receives_down, receives_on, session_close,
     sort_frame, unexpected_close,
 };
+use lapin_inbox::Inbox;
 use lapin_outbox::Replies;
 use lapin_phases::Phases;
 use lapin_types::{Answer, ChannelMethod, Error, Frame, Method, NoMemory, Record, ReplyKind};
@@ -39,8 +47,8 @@ impl Session {
     /// Takes a frame of the broker.
     ///
     /// While the connection is open: a reply is received in its state and takes the oldest request of its kind on its channel; the
-    /// answer to a get and a returned message begin a content, whose header and bodies are received while it waits for them; a
-    /// settlement is received on an open or closing channel, and passed over where the channel asked for no confirms; a close is
+    /// answer to a get, a delivery and a returned message begin a content, whose header and bodies are received while it waits for
+    /// them; a cancel of a consumer is received on an open or closing channel; a settlement is received on an open or closing channel, and passed over where the channel asked for no confirms; a close is
     /// received on a channel with a live opening, its answer where this side's close is under way, and a close of the connection
     /// always. Once the connection is not open every frame is passed over, but for two while this side closes it: the answer,
     /// and the broker's first close.
@@ -49,8 +57,8 @@ impl Session {
     /// `UnexpectedFrame` with the class and method of a frame that is not received (0 and 0 of a body, the class and 0 of a
     /// header): the connection is then closed with the reply code 505, and every opening ends. `PreconditionFailed` where a
     /// single settlement names a tag that is not pending, with that tag and the last tag taken: an open channel is then closed
-    /// with the reply code 406. `NumbersUsedUp` where a get's message is whole and the next acker would pass the greatest `u64`,
-    /// and `NoMemory`: nothing changes then.
+    /// with the reply code 406. `NumbersUsedUp` where a message is whole and the next acker would pass the greatest `u64`, or
+    /// consume-ok comes and the next consumer would, and `NoMemory`: nothing changes then.
     #[tactic(auto, using(crate::proofs::Causes::numbers_so))]
     pub fn receive(&mut self, alloc: Global, frame: Frame) -> Result<Heard, Error>
         ensures told { HeardTold result (told_by self.old (event.Receive frame)) }
@@ -83,11 +91,7 @@ impl Session {
     {
         match incoming {
             Incoming::Reply(channel, kind, answer) => {
-                if self.receive_reply(channel, kind, answer) {
-                    Ok(Heard::Received)
-                } else {
-                    self.refuse(alloc, class, number)
-                }
+                self.receive_reply(alloc, class, number, channel, kind, answer)
             }
             Incoming::Settlement(channel, settlement) => {
                 if receives_on(self.channel_state(channel)) {
@@ -97,12 +101,10 @@ impl Session {
                 }
             }
             Incoming::Content(channel, part) => {
-                if self.receives_part(channel, &part) {
-                    self.receive_part(alloc, channel, part)
-                } else {
-                    drop(part);
-                    self.refuse(alloc, class, number)
-                }
+                self.receive_content(alloc, class, number, channel, part)
+            }
+            Incoming::Consumer(channel, part) => {
+                self.receive_of_consumer(alloc, class, number, channel, part)
             }
             Incoming::Flow(channel, active) => {
                 if receives_on(self.channel_state(channel)) {
@@ -120,8 +122,7 @@ impl Session {
             }
             Incoming::ChannelCloseOk(channel) => {
                 if receives_close_ok(self.channel_state(channel)) {
-                    self.receive_channel_close_ok(channel);
-                    Ok(Heard::Received)
+                    self.receive_channel_close_ok(alloc, channel)
                 } else {
                     self.refuse(alloc, class, number)
                 }
@@ -152,26 +153,29 @@ impl Session {
     }
 
     // A frame that is not received: the connection is closed, and every opening ends.
-    fn refuse(&mut self, alloc: Global, class: u16, number: u16) -> Result<Heard, Error>
+    pub(crate) fn refuse(&mut self, alloc: Global, class: u16, number: u16) -> Result<Heard, Error>
         requires { is_up self.old.wire.link ≡ true }
         ensures told { HeardTold result (refused class number) }
         ensures ok { WasHeard result ((i : AnIncoming) → self.new ≡ receiving i (refused class number) self.old) (self.new ≡ self.old) }
         ensures numbers { HasNumbers result }
     {
-        let method = unexpected_close(alloc, class, number)?;
-        let replies = Replies::new(alloc)?;
         self.desk.outbox.reserve(alloc)?;
+        self.inbox.reserve_ends(alloc)?;
+        let method = unexpected_close(alloc, class, number)?;
+        let replies = no_replies(alloc);
         let to = ConnectionPhase::Closing {
             sent: false,
             received: false,
         };
         let error = Error::ProtocolError(505);
         go_down(
+            alloc,
             &mut self.link,
             &mut self.phases,
             &mut self.desk,
             &mut self.confirms,
             &mut self.contents,
+            &mut self.inbox,
             replies,
             to,
             error,
@@ -183,23 +187,58 @@ impl Session {
         })
     }
 
-    // A reply, if it is received, opens its channel where it is `channel.open-ok` and resolves the ticket of its request.
-    fn receive_reply(&mut self, channel: u16, kind: ReplyKind, answer: Answer) -> bool
-        ensures told { result ≡ receives_reply channel kind self.old.wire }
-        ensures ok { result ≡ true → self.new ≡ receiving (ReplyFrame channel kind answer) Received self.old }
-        ensures same { result ≡ false → self.new ≡ self.old }
+    // A reply: it is received, or the connection is closed.
+    fn receive_reply(
+        &mut self,
+        alloc: Global,
+        class: u16,
+        number: u16,
+        channel: u16,
+        kind: ReplyKind,
+        answer: Answer,
+    ) -> Result<Heard, Error>
+        requires { is_up self.old.wire.link ≡ true }
+        ensures told { HeardTold result (when (receives_reply channel kind self.old.wire) (refused class number)) }
+        ensures ok { WasHeard result (self.new ≡ receiving (ReplyFrame channel kind answer) (when (receives_reply channel kind self.old.wire) (refused class number)) self.old) (self.new ≡ self.old) }
+        ensures numbers { HasNumbers result }
     {
-        if !receives(kind, self.channel_state(channel)) {
+        if self.awaits(channel, kind) {
+            self.take_reply(alloc, channel, kind, answer)
+        } else {
             drop(answer);
-            return false;
+            self.refuse(alloc, class, number)
         }
-        let Some(request) = self.desk.replies.take_first(channel, kind) else {
+    }
+
+    // A reply that is received: it opens its channel where it is `channel.open-ok`, what its request declared is recorded, and the
+    // ticket of its request is resolved.
+    fn take_reply(
+        &mut self,
+        alloc: Global,
+        channel: u16,
+        kind: ReplyKind,
+        answer: Answer,
+    ) -> Result<Heard, Error>
+        requires { receives_reply channel kind self.old.wire ≡ true }
+        ensures told { HeardTold result Received }
+        ensures ok { WasHeard result (self.new ≡ receiving (ReplyFrame channel kind answer) Received self.old) (self.new ≡ self.old) }
+        ensures numbers { HasNumbers result }
+    {
+        let completed = complete_first(
+            &mut self.inbox,
+            &self.desk.replies,
+            alloc,
+            channel,
+            kind,
+            &answer,
+        );
+        if let Err(NoMemory) = completed {
             drop(answer);
-            return false;
-        };
+            return Err(Error::NoMemory);
+        }
         phase_replied(&mut self.phases, channel, kind);
-        self.desk.resolve(request.into_ticket(), Ok(answer));
-        true
+        answer_first(&mut self.desk, channel, kind, answer);
+        Ok(Heard::Received)
     }
 
     // A flow on a channel that receives it: an open channel is paused or goes on, and the broker is answered.
@@ -313,6 +352,24 @@ impl Session {
             Err(Error::NumbersUsedUp) => Err(Error::NumbersUsedUp),
             Err(error) => Ok(Record::Refused(error)),
         }
+    }
+}
+
+// The oldest request of a kind on a channel is completed with an answer: what it declared is recorded.
+fn complete_first(
+    inbox: &mut Inbox,
+    replies: &Replies,
+    alloc: Global,
+    channel: u16,
+    kind: ReplyKind,
+    answer: &Answer,
+) -> Result<(), NoMemory>
+    ensures ok { OnOk result (what inbox.new ≡ fold after_inbox_mark (what inbox.old) (request_inbox channel answer.now (first_request kind (requests_at channel replies.now.what)))) }
+    ensures err { OnErr result (what inbox.new ≡ what inbox.old) }
+{
+    match replies.first(channel, kind) {
+        Some(request) => inbox.complete(alloc, channel, &request.reply, answer),
+        None => Ok(()),
     }
 }
 

@@ -6,6 +6,8 @@ ghost use Rattle.std.specs.Prelude.{◌≡◌, ◌<◌, true, false, Some, None,
 ghost use Rattle.lapin_tables.specs.ByChannel.{on_channel};
 ghost use Rattle.lapin_types.specs.declared.record.Record.TheVariants.{Received};
 ghost use Rattle.lapin_history.specs.declared.broker_frames.Incoming.TheVariants.{ChannelClose as ChannelCloseFrame, ChannelCloseOk as ChannelCloseOkFrame, ConnectionClose as ConnectionCloseFrame, ConnectionCloseOk as ConnectionCloseOkFrame};
+ghost use Rattle.lapin_history.specs.Ends.{cancels_at};
+ghost use Rattle.lapin_types.specs.declared.request.ReplyKind.TheVariants.{ChannelCloseOk as ChannelCloseOkKind};
 ghost use Rattle.lapin_history.specs.Requests.{first_request, without_kind, no_requests, ticket_of as ticket_of_lem};
 ghost use Rattle.lapin_history.specs.Phases.{is_up};
 ghost use Rattle.lapin_history.specs.ChannelClose.{has_sent_close as has_sent_close_lem};
@@ -25,7 +27,7 @@ use crate::closing::go_down;
 use crate::session::Session;
 use lapin_desk::Desk;
 use lapin_history::{
-    ChannelPhase, ConnectionPhase, after_broker_close, close_ok_end, has_sent_close,
+    ChannelPhase, ConnectionPhase, after_broker_close, close_ok_end, consumers_end, has_sent_close,
 };
 use lapin_outbox::Replies;
 use lapin_types::{Answer, ChannelMethod, ConnectionMethod, Error, Method, ReplyKind, Request};
@@ -47,9 +49,10 @@ impl Session {
         let phase = self.phase(channel);
         self.desk.outbox.reserve(alloc)?;
         self.desk.replies.reserve(alloc, channel)?;
+        let error = Error::ProtocolError(code);
+        self.inbox.end_channel(alloc, channel, Some(error))?;
         let close = kept_close(&mut self.desk.replies, channel, phase);
         let kept = ticket_of(&close);
-        let error = Error::ProtocolError(code);
         self.desk
             .end_opening(&mut self.confirms, channel, kept, error);
         self.contents.drop_channel(channel);
@@ -61,29 +64,43 @@ impl Session {
     }
 
     // The broker answers a close of a channel: the channel is closed and the close done.
-    pub(crate) fn receive_channel_close_ok(&mut self, channel: u16)
+    pub(crate) fn receive_channel_close_ok(
+        &mut self,
+        alloc: Global,
+        channel: u16,
+    ) -> Result<Heard, Error>
         requires { receives_close_ok_lem (state_of channel self.old.wire) ≡ true }
-        ensures { self.new ≡ receiving (ChannelCloseOkFrame channel) Received self.old }
+        ensures told { HeardTold result Received }
+        ensures ok { WasHeard result (self.new ≡ receiving (ChannelCloseOkFrame channel) Received self.old) (self.new ≡ self.old) }
+        ensures numbers { HasNumbers result }
     {
         match close_ok_end(self.phase(channel)) {
-            Some(error) => self.end_closing(channel, error),
-            None => self.end_crossed(channel),
+            Some(error) => self.end_closing(alloc, channel, error),
+            None => {
+                self.end_crossed(channel);
+                Ok(Heard::Received)
+            }
         }
     }
 
     // The opening of a channel that this side closes ends with the answer. The close is done first, also where it has not left:
-    // the end drops it then.
-    fn end_closing(&mut self, channel: u16, error: Error)
+    // the end drops it then. Its consumers get their end, after the session's own close the error too.
+    fn end_closing(&mut self, alloc: Global, channel: u16, error: Error) -> Result<Heard, Error>
         requires received { receives_close_ok_lem (state_of channel self.old.wire) ≡ true }
         requires end { close_ok_end_lem (phase_of channel self.old.wire) ≡ Some error }
-        ensures { self.new ≡ receiving (ChannelCloseOkFrame channel) Received self.old }
+        ensures told { HeardTold result Received }
+        ensures ok { WasHeard result (self.new ≡ receiving (ChannelCloseOkFrame channel) Received self.old) (self.new ≡ self.old) }
+        ensures numbers { HasNumbers result }
     {
-        let close = take_request(&mut self.desk.replies, channel, ReplyKind::ChannelCloseOk);
+        let due = consumers_end(self.phase(channel));
+        self.inbox.end_channel(alloc, channel, due)?;
+        let close = take_close(&mut self.desk.replies, channel);
         self.desk.resolve(into_ticket(close), Ok(Answer::Done));
         self.desk
             .end_opening(&mut self.confirms, channel, None, error);
         self.contents.drop_channel(channel);
         self.phases.set(channel, ChannelPhase::Closed);
+        Ok(Heard::Received)
     }
 
     // A crossed close ended the opening before.
@@ -119,12 +136,15 @@ impl Session {
             return Ok(Heard::Received);
         }
         let replies = Replies::new(alloc)?;
+        self.inbox.reserve_ends(alloc)?;
         go_down(
+            alloc,
             &mut self.link,
             &mut self.phases,
             &mut self.desk,
             &mut self.confirms,
             &mut self.contents,
+            &mut self.inbox,
             replies,
             ConnectionPhase::Closed,
             Error::ProtocolError(code),
@@ -151,12 +171,13 @@ impl Session {
 fn kept_close(replies: &mut Replies, channel: u16, phase: ChannelPhase) -> Option<Request>
     ensures close { result ≡ kept_request (has_sent_close_lem phase) (requests_at channel replies.old.what) }
     ensures emptied { on_channel channel no_requests replies.new.what ≡ on_channel channel no_requests replies.old.what }
+    ensures cancels { cancels_at channel replies.new.what ≡ cancels_at channel replies.old.what }
     ensures room { KeepsRoom replies.old replies.new }
 {
     if !has_sent_close(phase) {
         return None;
     }
-    take_request(replies, channel, ReplyKind::ChannelCloseOk)
+    take_close(replies, channel)
 }
 
 // A request that is kept is open again, in the room that was made.
@@ -167,6 +188,16 @@ fn keep(replies: &mut Replies, alloc: Global, channel: u16, close: Option<Reques
     if let Some(request) = close {
         replies.expect(alloc, channel, request).unwrap();
     }
+}
+
+// Takes out the request of this side's close of a channel, if there is one. Its open cancels stay.
+fn take_close(replies: &mut Replies, channel: u16) -> Option<Request>
+    ensures taken { result ≡ first_request ChannelCloseOkKind (requests_at channel replies.old.what) }
+    ensures waiting { replies.new.what ≡ on_channel channel (without_kind ChannelCloseOkKind) replies.old.what }
+    ensures cancels { cancels_at channel replies.new.what ≡ cancels_at channel replies.old.what }
+    ensures room { KeepsRoom replies.old replies.new }
+{
+    take_request(replies, channel, ReplyKind::ChannelCloseOk)
 }
 
 // Takes out the oldest request of a kind, if there is one.

@@ -8,14 +8,17 @@ ghost use Rattle.std.specs.Bool.{Decides};
 ghost use Rattle.lapin_types.specs.declared.record.Record.TheVariants.{Received};
 ghost use Rattle.lapin_types.specs.declared.request.ReplyKind.TheVariants.{BasicGetOk};
 ghost use Rattle.lapin_history.specs.declared.broker_frames.Incoming.TheVariants.{Content};
-ghost use Rattle.lapin_history.specs.declared.broker_frames.ContentPart.TheVariants.{GetOk, Return, Header, Body};
+ghost use Rattle.lapin_history.specs.declared.broker_frames.ContentPart.TheVariants.{GetOk, Return, Deliver, Header, Body};
 ghost use Rattle.lapin_history.specs.Words.{is_some};
 ghost use Rattle.lapin_history.specs.Requests.{first_request};
 ghost use Rattle.lapin_history.specs.Wire.{requests_of};
 ghost use Rattle.lapin_history.specs.Content.{receives_part as receives_part_lem, get_ticket as get_ticket_lem};
 ghost use Rattle.lapin_content.specs.Contents.{awaited};
 ghost use Rattle.lapin_content.specs.Channels.{expected_on};
-ghost use Rattle.lapin_machine.specs.World.{receiving};
+ghost use Rattle.lapin_history.specs.Phases.{is_up};
+ghost use Rattle.lapin_history.specs.Unexpected.{refused};
+ghost use Rattle.lapin_history.specs.Receiving.{incoming_up};
+ghost use Rattle.lapin_machine.specs.World.{receiving, readings_of};
 ghost use Rattle.lapin_machine.specs.Told.{HeardTold, WasHeard};
 ghost use Rattle.lapin_machine.specs.Numbers.{HasNumbers, ReceiveCause};
 
@@ -24,7 +27,7 @@ use crate::session::Session;
 use crate::whole::{complete, make_room};
 use lapin_content::Start;
 use lapin_history::{ContentPart, receives_on};
-use lapin_types::{ContentHeader, Error, Payload, ReplyKind};
+use lapin_types::{ContentHeader, Error, Payload, ReplyKind, ShortString};
 use std::alloc::Global;
 
 /// The class of every message (AMQP 0-9-1, class basic).
@@ -39,7 +42,7 @@ impl Session {
         let hears = receives_on(self.channel_state(channel));
         match part {
             ContentPart::GetOk(_) => hears && self.has_get(channel),
-            ContentPart::Return(_) => hears,
+            ContentPart::Return(_) | ContentPart::Deliver(_, _) => hears,
             ContentPart::Header(header) => {
                 hears && self.contents.hears_header(channel, header.class_id)
             }
@@ -69,6 +72,29 @@ impl Session {
         }
     }
 
+    // A part of a content that comes while the connection is open: it is received, or the connection is closed.
+    #[tactic(auto, using(crate::proofs::Causes::numbers_so))]
+    pub(crate) fn receive_content(
+        &mut self,
+        alloc: Global,
+        class: u16,
+        number: u16,
+        channel: u16,
+        part: ContentPart,
+    ) -> Result<Heard, Error>
+        requires { is_up self.old.wire.link ≡ true }
+        ensures told { HeardTold result (incoming_up self.old.wire (readings_of self.old.post self.old.slots) (refused class number) (Content channel part)) }
+        ensures ok { WasHeard result (self.new ≡ receiving (Content channel part) (incoming_up self.old.wire (readings_of self.old.post self.old.slots) (refused class number) (Content channel part)) self.old) (self.new ≡ self.old) }
+        ensures cause { ReceiveCause result (Content channel part) self.old.wire }
+    {
+        if self.receives_part(channel, &part) {
+            self.receive_part(alloc, channel, part)
+        } else {
+            drop(part);
+            self.refuse(alloc, class, number)
+        }
+    }
+
     // A part of a content that is received.
     #[tactic(auto, using(crate::proofs::Causes::numbers_so))]
     pub(crate) fn receive_part(
@@ -85,6 +111,7 @@ impl Session {
         match part {
             ContentPart::GetOk(start) => self.receive_get_ok(alloc, channel, start),
             ContentPart::Return(start) => self.receive_return(alloc, channel, start),
+            ContentPart::Deliver(tag, start) => self.receive_deliver(alloc, channel, tag, start),
             ContentPart::Header(header) => self.receive_header(alloc, channel, header),
             ContentPart::Body(payload) => self.receive_body(alloc, channel, payload),
         }
@@ -111,6 +138,24 @@ impl Session {
         ensures ok { WasHeard result (self.new ≡ receiving (Content channel (Return start)) Received self.old) (self.new ≡ self.old) }
         ensures numbers { HasNumbers result }
     {
+        self.contents.expect(alloc, channel, BASIC_CLASS, start)?;
+        Ok(Heard::Received)
+    }
+
+    // A delivery for the consumer that is registered under its tag: its content begins.
+    fn receive_deliver(
+        &mut self,
+        alloc: Global,
+        channel: u16,
+        tag: ShortString,
+        start: Start,
+    ) -> Result<Heard, Error>
+        requires { receives_part_lem channel (Deliver tag start) self.old.wire ≡ true }
+        ensures told { HeardTold result Received }
+        ensures ok { WasHeard result (self.new ≡ receiving (Content channel (Deliver tag start)) Received self.old) (self.new ≡ self.old) }
+        ensures numbers { HasNumbers result }
+    {
+        let start = start.for_consumer(self.inbox.find(channel, tag.as_str()));
         self.contents.expect(alloc, channel, BASIC_CLASS, start)?;
         Ok(Heard::Received)
     }
@@ -161,7 +206,7 @@ impl Session {
             alloc,
             &self.contents,
             &mut self.confirms,
-            self.ackers,
+            &mut self.inbox,
             channel,
         ) {
             drop(header);
@@ -173,7 +218,7 @@ impl Session {
                     alloc,
                     &mut self.desk,
                     &mut self.confirms,
-                    &mut self.ackers,
+                    &mut self.inbox,
                     channel,
                     whole,
                 );
@@ -254,7 +299,7 @@ impl Session {
             alloc,
             &self.contents,
             &mut self.confirms,
-            self.ackers,
+            &mut self.inbox,
             channel,
         ) {
             drop(payload);
@@ -266,7 +311,7 @@ impl Session {
                     alloc,
                     &mut self.desk,
                     &mut self.confirms,
-                    &mut self.ackers,
+                    &mut self.inbox,
                     channel,
                     whole,
                 );

@@ -4,6 +4,8 @@
 //! polls.
 
 ghost use Rattle.std.specs.Prelude.{◌≡◌, ◌≤◌, ◌++◌, ◌∷◌, [], List, ℕ, false, None, Some, IfOk, OnOk, OnErr};
+ghost use Rattle.std.specs.Option.{option_copied};
+ghost use Rattle.lapin_tables.specs.ByChannel.{at_channel};
 ghost use Rattle.lapin_types.specs.declared.event.Event.TheVariants as event;
 ghost use Rattle.lapin_types.specs.declared.leaving.Left.{Left as ALeft};
 ghost use Rattle.lapin_types.specs.declared.record.Record.TheVariants as record_;
@@ -12,16 +14,24 @@ ghost use Rattle.lapin_history.specs.Phases.{connection_state as connection_stat
 ghost use Rattle.lapin_history.specs.History.{History, rec};
 ghost use Rattle.lapin_machine.specs.World.{told_by, next, new_world};
 ghost use Rattle.lapin_machine.specs.Numbers.{HasCause};
+ghost use Rattle.lapin_confirm.specs.Post.{empty_post};
+ghost use Rattle.lapin_inbox.specs.Held.{what};
+ghost use Rattle.lapin_inbox.specs.Inbox.{empty_inbox};
+ghost use Rattle.lapin_outbox.specs.Outgoing.{empty};
 ghost use Rattle.lapin_outbox.specs.Returned.{is_retried};
 ghost use Rattle.lapin_machine.specs.Returned.{given_back};
 ghost use Rattle.lapin_machine.specs.Stands.{Stands};
 
+use lapin_acker::Switches;
 use lapin_confirm::Confirms;
+use lapin_consumer::Consumers;
 use lapin_content::Contents;
 use lapin_desk::Desk;
 use lapin_history::{ChannelPhase, ConnectionPhase};
+use lapin_inbox::Inbox;
 use lapin_outbox::{Outbox, Replies};
 use lapin_phases::Phases;
+use lapin_registry::ChannelDefinition;
 use lapin_ticket::Tickets;
 use lapin_types::{Call, ChannelState, ConnectionState, Error, Event, NoMemory, Record};
 use std::alloc::Global;
@@ -36,8 +46,7 @@ pub struct Session {
     pub(crate) desk: Desk,
     pub(crate) confirms: Confirms,
     pub(crate) contents: Contents,
-    // How many messages were given an acker.
-    pub(crate) ackers: u64,
+    pub(crate) inbox: Inbox,
 }
 
 impl Model for Session {
@@ -50,6 +59,7 @@ impl Model for Session {
     ghost coded = { world_code };
 
     ghost use Rattle.lapin_machine.specs.Tied.{IsKept};
+    ghost use Rattle.lapin_inbox.specs.Held.{what};
 
     ghost view = { λ a. record {
       wire = record {
@@ -63,7 +73,7 @@ impl Model for Session {
         contents = a.contents;
         tickets = length a.desk.tickets.slots;
         published = length a.confirms.what.book.cells;
-        ackers = a.ackers;
+        inbox = what a.inbox;
       };
       post = a.confirms.what;
       slots = a.desk.tickets.slots;
@@ -86,17 +96,18 @@ impl Session {
         // It stands for the history in which nothing happened.
         ensures stands { IfOk result (λ session. Stands frame_max [] session) }
     {
+        let phases = Phases::new(alloc);
+        let desk = new_desk(alloc, frame_max);
+        let confirms = no_confirms(alloc);
+        let contents = no_contents(alloc);
+        let inbox = no_inbox(alloc);
         Ok(Session {
             link: ConnectionPhase::Open,
-            phases: Phases::new(alloc),
-            desk: Desk {
-                outbox: Outbox::new(alloc, frame_max)?,
-                replies: Replies::new(alloc)?,
-                tickets: Tickets::new(alloc),
-            },
-            confirms: Confirms::new(alloc)?,
-            contents: Contents::new(alloc)?,
-            ackers: 0,
+            phases,
+            desk,
+            confirms,
+            contents,
+            inbox,
         })
     }
 
@@ -151,6 +162,28 @@ impl Session {
         &self.contents
     }
 
+    /// The consumers with what waits for them, and the jobs.
+    pub fn consumers(&self) -> &Consumers
+        ensures { result.now.roster ≡ self.now.wire.inbox.roster }
+    {
+        &self.inbox.consumers
+    }
+
+    /// The ackers of the messages that consumers and gets were given.
+    pub fn switches(&self) -> &Switches
+        ensures { result.now.switches ≡ self.now.wire.inbox.switches }
+    {
+        &self.inbox.switches
+    }
+
+    /// What a channel declared and bound in its present or last opening, as far as the broker answered or was asked not to; None
+    /// exactly where the channel never had an opening.
+    pub fn topology(&self, channel: u16) -> Option<&ChannelDefinition>
+        ensures { option_copied result ≡ at_channel channel self.now.wire.inbox.topologies }
+    {
+        self.inbox.topology(channel)
+    }
+
     // Where a channel stands while the connection is open.
     pub(crate) fn phase(&self, channel: u16) -> ChannelPhase
         ensures { result ≡ phase_of channel self.now.wire }
@@ -199,8 +232,52 @@ impl Session {
             Event::AsideConfirm(number) => self.step_aside_confirm(alloc, number),
             Event::State(channel) => Ok(self.step_state(channel)),
             Event::Lost => self.step_lost(alloc),
+            Event::PollConsumer(number) => Ok(self.step_poll_consumer(number)),
+            Event::Acker(number, call) => self.step_acker(alloc, number, call),
+            Event::Delegate(number) => self.step_delegate(alloc, number),
+            Event::DropConsumer(number) => self.step_drop(alloc, number),
+            Event::NextJob => Ok(self.step_next_job()),
         }
     }
+}
+
+// A desk on which nothing waits. The parts of a new session take no memory yet, so that none of them fails.
+fn new_desk(alloc: Global, frame_max: u32) -> Desk
+    requires { 4096 ≤ frame_max }
+    ensures outbox { result.outbox.what ≡ empty frame_max }
+    ensures replies { result.replies.what ≡ [] }
+    ensures tickets { result.tickets.slots ≡ [] }
+{
+    Desk {
+        outbox: Outbox::new(alloc, frame_max).unwrap(),
+        replies: no_replies(alloc),
+        tickets: Tickets::new(alloc),
+    }
+}
+
+/// No open request, on any channel.
+pub(crate) fn no_replies(alloc: Global) -> Replies
+    ensures { result.what ≡ [] }
+{
+    Replies::new(alloc).unwrap()
+}
+
+fn no_confirms(alloc: Global) -> Confirms
+    ensures { result.what ≡ empty_post }
+{
+    Confirms::new(alloc).unwrap()
+}
+
+fn no_contents(alloc: Global) -> Contents
+    ensures { result ≡ [] }
+{
+    Contents::new(alloc).unwrap()
+}
+
+fn no_inbox(alloc: Global) -> Inbox
+    ensures { what result ≡ empty_inbox }
+{
+    Inbox::new(alloc).unwrap()
 }
 
 pub(crate) fn is_open(state: ChannelState) -> bool

@@ -1,20 +1,25 @@
-//! A whole content: the room that it needs, and what it does to tickets and confirms.
+//! A whole content: the room that it needs, and what it does to tickets, consumers and confirms.
 //!
-//! Which frame makes a content whole stands in `receiving_contents`, what becomes of a returned message in `lapin_confirm`.
+//! Which frame makes a content whole stands in `receiving_contents`, what becomes of a returned message in `lapin_confirm`, of a
+//! delivery in `lapin_consumer`.
 
 ghost use Rattle.std.specs.Prelude.{◌≡◌, Some, OnOk};
 ghost use Rattle.std.specs.List.{fold};
-ghost use Rattle.lapin_history.specs.Content.{ackers_after, whole_marks, whole_tickets, got_message, returned_message};
+ghost use Rattle.lapin_history.specs.Content.{next_acker, start_inbox, whole_inbox, whole_marks, whole_tickets, delivered_message, returned_message};
+ghost use Rattle.lapin_content.specs.declared.start.Start.TheVariants.{Deliver as DeliverStart};
+ghost use Rattle.lapin_inbox.specs.Held.{what};
+ghost use Rattle.lapin_inbox.specs.Inbox.{after_mark as after_inbox_mark};
 ghost use Rattle.lapin_content.specs.declared.start.Start.{Start as AStart};
 ghost use Rattle.lapin_content.specs.Contents.{front_start};
 ghost use Rattle.lapin_content.specs.Channels.{expected_on};
 ghost use Rattle.lapin_confirm.specs.Machine as post;
 ghost use Rattle.lapin_ticket.specs.Slots as answers;
-ghost use Rattle.lapin_machine.specs.Whole.{Fits, FitsFront, MakesRoom};
+ghost use Rattle.lapin_machine.specs.Whole.{Fits, FitsAt, FitsFront, MakesRoom, MakesRoomAt};
 
 use lapin_confirm::Confirms;
 use lapin_content::{Contents, Start, Whole};
 use lapin_desk::Desk;
+use lapin_inbox::Inbox;
 use lapin_types::{
     Acker, Answer, BasicGetMessage, BasicProperties, BasicReturnMessage, Delivery, Error, Payload,
     ShortString,
@@ -26,59 +31,71 @@ pub(crate) fn make_room(
     alloc: Global,
     contents: &Contents,
     confirms: &mut Confirms,
-    ackers: u64,
+    inbox: &mut Inbox,
     channel: u16,
 ) -> Result<(), Error>
-    ensures same { confirms.new.what ≡ confirms.old.what }
-    ensures room { OnOk result (FitsFront (front_start (expected_on channel contents.now)) channel ackers confirms.new) }
-    ensures cause { MakesRoom result (front_start (expected_on channel contents.now)) ackers }
+    ensures same { (confirms.new.what ≡ confirms.old.what) × (what inbox.new ≡ what inbox.old) }
+    ensures room { OnOk result (FitsFront (front_start (expected_on channel contents.now)) channel inbox.new confirms.new) }
+    ensures cause { MakesRoom result (front_start (expected_on channel contents.now)) (what inbox.old) }
 {
     match contents.front(channel) {
-        Some(start) => make_room_for(alloc, start, confirms, ackers, channel),
+        Some(start) => make_room_for(alloc, start, confirms, inbox, channel),
         None => Ok(()),
     }
 }
 
-// The message of a get takes an acker, a returned one a place with the confirms.
+// The message of a get takes an acker, a delivery an acker and a place with its consumer, a returned message a place with the
+// confirms.
 fn make_room_for(
     alloc: Global,
     start: &Start,
     confirms: &mut Confirms,
-    ackers: u64,
+    inbox: &mut Inbox,
     channel: u16,
 ) -> Result<(), Error>
-    ensures same { confirms.new.what ≡ confirms.old.what }
-    ensures room { OnOk result (Fits start.now channel ackers confirms.new) }
-    ensures cause { MakesRoom result (Some start.now) ackers }
+    ensures same { (confirms.new.what ≡ confirms.old.what) × (what inbox.new ≡ what inbox.old) }
+    ensures room { OnOk result (Fits start.now channel inbox.new confirms.new) }
+    ensures cause { MakesRoom result (Some start.now) (what inbox.old) }
 {
     match start {
-        Start::Get { .. } => {
-            if ackers == u64::MAX {
-                return Err(Error::NumbersUsedUp);
-            }
-            Ok(())
-        }
+        Start::Get { .. } => inbox.reserve_acker(alloc),
         Start::Return { .. } => {
             confirms.reserve(alloc, channel)?;
             Ok(())
         }
-        Start::Deliver { .. } => Ok(()),
+        Start::Deliver { consumer, .. } => make_room_at(alloc, *consumer, inbox),
     }
 }
 
-// A content is whole: the message of a get answers the get's ticket, a returned message goes to the confirms.
+// The delivery of a consumer that is registered takes an acker and a place; another is dropped.
+fn make_room_at(alloc: Global, consumer: Option<u64>, inbox: &mut Inbox) -> Result<(), Error>
+    ensures same { what inbox.new ≡ what inbox.old }
+    ensures room { OnOk result (FitsAt consumer inbox.new) }
+    ensures cause { MakesRoomAt result consumer (what inbox.old) }
+{
+    let Some(number) = consumer else {
+        return Ok(());
+    };
+    if !inbox.is_registered(number) {
+        return Ok(());
+    }
+    inbox.reserve_delivery(alloc, number)
+}
+
+// A content is whole: the message of a get answers the get's ticket, a delivery goes to its consumer, a returned message to the
+// confirms.
 pub(crate) fn complete(
     alloc: Global,
     desk: &mut Desk,
     confirms: &mut Confirms,
-    ackers: &mut u64,
+    inbox: &mut Inbox,
     channel: u16,
     whole: Whole,
 )
-    requires { Fits whole.start channel ackers.old confirms.old }
+    requires { Fits whole.start channel inbox.old confirms.old }
     ensures confirms { confirms.new.what ≡ fold post.after_mark confirms.old.what (whole_marks channel (Some whole)) }
-    ensures slots { desk.new.tickets.slots ≡ fold answers.after_mark desk.old.tickets.slots (whole_tickets channel ackers.old (Some whole)) }
-    ensures ackers { ackers.new ≡ ackers_after (Some whole) ackers.old }
+    ensures slots { desk.new.tickets.slots ≡ fold answers.after_mark desk.old.tickets.slots (whole_tickets channel (next_acker (what inbox.old)) (Some whole)) }
+    ensures inbox { what inbox.new ≡ fold after_inbox_mark (what inbox.old) (whole_inbox channel (what inbox.old) (Some whole)) }
     ensures outbox { desk.new.outbox ≡ desk.old.outbox }
     ensures replies { desk.new.replies ≡ desk.old.replies }
 {
@@ -96,18 +113,21 @@ pub(crate) fn complete(
             redelivered,
             message_count,
         } => {
-            *ackers += 1;
-            let message = got(
+            let number = inbox.got(alloc, channel, delivery_tag);
+            let delivery = delivered(
                 channel,
-                *ackers,
+                number,
                 delivery_tag,
                 exchange,
                 routing_key,
                 redelivered,
-                message_count,
                 properties,
                 payload,
             );
+            let message = BasicGetMessage {
+                delivery,
+                message_count,
+            };
             desk.resolve(ticket, Ok(Answer::Got(Some(message))));
         }
         Start::Return {
@@ -126,25 +146,76 @@ pub(crate) fn complete(
             );
             confirms.arrived(alloc, channel, message).unwrap();
         }
-        Start::Deliver { .. } => let_go(properties, payload),
+        Start::Deliver {
+            consumer,
+            delivery_tag,
+            exchange,
+            routing_key,
+            redelivered,
+        } => arrive(
+            alloc,
+            inbox,
+            channel,
+            consumer,
+            delivery_tag,
+            exchange,
+            routing_key,
+            redelivered,
+            properties,
+            payload,
+        ),
     }
 }
 
-// The message of a get, with its acker.
-fn got(
+// A delivery is whole: it goes to its consumer, if that is registered still, else it is dropped.
+fn arrive(
+    alloc: Global,
+    inbox: &mut Inbox,
+    channel: u16,
+    consumer: Option<u64>,
+    delivery_tag: u64,
+    exchange: ShortString,
+    routing_key: ShortString,
+    redelivered: bool,
+    properties: BasicProperties,
+    payload: Payload,
+)
+    requires { FitsAt consumer inbox.old }
+    ensures { (start : AStart) → what inbox.new ≡ fold after_inbox_mark (what inbox.old) (start_inbox channel (what inbox.old) (DeliverStart consumer delivery_tag exchange routing_key redelivered) (record { start = start; properties = properties; payload = payload })) }
+{
+    match consumer {
+        Some(number) if inbox.is_registered(number) => {
+            let acker = inbox.next_acker();
+            let delivery = delivered(
+                channel,
+                acker,
+                delivery_tag,
+                exchange,
+                routing_key,
+                redelivered,
+                properties,
+                payload,
+            );
+            inbox.deliver(alloc, number, delivery);
+        }
+        _ => let_go(exchange, routing_key, properties, payload),
+    }
+}
+
+// A message that came on a channel, with its acker.
+fn delivered(
     channel: u16,
     number: u64,
     delivery_tag: u64,
     exchange: ShortString,
     routing_key: ShortString,
     redelivered: bool,
-    message_count: u32,
     properties: BasicProperties,
     payload: Payload,
-) -> BasicGetMessage
-    ensures { (start : AStart) → result ≡ got_message channel number delivery_tag exchange routing_key redelivered message_count (record { start = start; properties = properties; payload = payload }) }
+) -> Delivery
+    ensures { (start : AStart) → result ≡ delivered_message channel number delivery_tag exchange routing_key redelivered (record { start = start; properties = properties; payload = payload }) }
 {
-    let delivery = Delivery {
+    Delivery {
         delivery_tag,
         exchange,
         routing_key,
@@ -157,10 +228,6 @@ fn got(
             number,
             used: false,
         },
-    };
-    BasicGetMessage {
-        delivery,
-        message_count,
     }
 }
 
@@ -197,4 +264,9 @@ fn returned(
 }
 
 // Drops a message, in one place.
-fn let_go(_properties: BasicProperties, _payload: Payload) {}
+fn let_go(
+    _exchange: ShortString,
+    _routing_key: ShortString,
+    _properties: BasicProperties,
+    _payload: Payload,
+) {}

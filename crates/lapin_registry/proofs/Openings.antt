@@ -1,26 +1,32 @@
--- What the begin of an opening does to the registries of all channels.
-use Rattle.std.proofs.Common.{◌≡◌, ◌≢◌, ℕ, List, [], ◌∷◌, ◌++◌, Option, Some, None, cond, ◌==◌, refl, sym, ◌∙◌, ap, eq-eqb, ne_eqb}
-use Rattle.std.specs.Option.{option_map, option_or}
+-- What a request that is completed leaves of the registries of all channels.
+use Rattle.std.proofs.Common.{◌≡◌, ℕ, Option, Some, None, Result, Ok, Err, sym, ◌∙◌, ap}
+use Rattle.std.specs.Prelude.{OnOk, OnErr}
 use Rattle.lapin_tables.specs.ByChannel.{at_channel, on_channel}
-use Rattle.lapin_tables.proofs.Channels.{at-push, at-on_same, at-on_other}
+use Rattle.lapin_tables.proofs.Channels.{on-known, on-same, on-absent}
+use Rattle.lapin_types.specs.declared.answer.Answer.{Answer}
+use Rattle.lapin_types.specs.declared.request.Reply.{Reply}
+use Rattle.lapin_registry.specs.declared.registry.ChannelDefinition.{ChannelDefinition}
+use Rattle.lapin_registry.specs.Topologies.{Topologies, with_completed, completed_on}
 
-or-none : {X : Type 0} (o : Option X) → option_or o None ≡ o
-or-none None = refl
-or-none (Some x) = refl
+-- what follows where it went well, and where it failed
+pub on-ok : {T E : Type 0} (r : Result T E) (P Q : Type 0) → (P → Q) → OnOk r P → OnOk r Q
+on-ok (Ok x) P Q f h = f h
+on-ok (Err e) P Q f h = tt
 
-module _ {T : Type 0} (c : ℕ) (all : List (ℕ × T)) where
-  -- its registry was emptied
-  pub again : (old new empty : T) → Some old ≡ at_channel c all → new ≡ empty → at_channel c (on_channel c (λ _. new) all) ≡ Some empty
-  again old new empty at is = at-on_same c (λ _. new) all ∙ ap (option_map (λ _. new)) (sym at) ∙ ap Some is
+pub on-err : {T E : Type 0} (r : Result T E) (P Q : Type 0) → (P → Q) → OnErr r P → OnErr r Q
+on-err (Ok x) P Q f h = tt
+on-err (Err e) P Q f h = f h
 
-  pub again-other : (new : T) (d : ℕ) → d ≢ c → at_channel d (on_channel c (λ _. new) all) ≡ at_channel d all
-  again-other new d apart = at-on_other c d (λ _. new) all (λ e. apart (sym e))
+module _ (c : ℕ) (all : Topologies) where
+  module _ (r : Reply) (a : Answer) where
+    -- the registry recorded what was completed
+    pub recorded : (old new : ChannelDefinition) → Some old ≡ at_channel c all → new ≡ with_completed r a old → on_channel c (λ _. new) all ≡ completed_on c r a all
+    recorded old new at is = ap (λ x. on_channel c (λ _. x) all) is ∙ sym (on-known c (with_completed r a) old all (sym at))
 
-  -- it is the channel's first
-  pub first : (made empty : T) → None ≡ at_channel c all → made ≡ empty → at_channel c (all ++ (c, made) ∷ []) ≡ Some empty
-  first made empty at is =
-      at-push c c made all ∙ ap (λ o. option_or o (cond (c == c) (Some made) None)) (sym at) ∙ ap (λ b. cond b (Some made) None) (eq-eqb c c refl) ∙ ap Some is
+    -- there was no registry
+    pub nowhere : None ≡ at_channel c all → all ≡ completed_on c r a all
+    nowhere at = sym (on-absent c (with_completed r a) all (sym at))
 
-  pub first-other : (made : T) (d : ℕ) → d ≢ c → at_channel d (all ++ (c, made) ∷ []) ≡ at_channel d all
-  first-other made d apart =
-      at-push c d made all ∙ ap (λ b. option_or (at_channel d all) (cond b (Some made) None)) (ne_eqb c d (λ e. apart (sym e))) ∙ or-none (at_channel d all)
+  -- the registry stayed
+  pub stayed : (old new : ChannelDefinition) → Some old ≡ at_channel c all → new ≡ old → on_channel c (λ _. new) all ≡ all
+  stayed old new at is = ap (λ x. on_channel c (λ _. x) all) is ∙ on-same c old all (sym at)

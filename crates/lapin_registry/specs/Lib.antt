@@ -1,3 +1,5 @@
 pub mod ByName
 pub mod Topology
 pub mod Marks
+pub mod Completed
+pub mod Topologies

@@ -6,6 +6,7 @@
 
 mod bindings;
 mod by_name;
+mod completed;
 mod exchanges;
 pub mod laws;
 mod queues;
@@ -17,6 +18,3 @@ pub use exchanges::{ExchangeDefinition, Exchanges};
 pub use queues::{QueueDefinition, Queues};
 pub use registry::{ChannelDefinition, Registry};
 pub use topologies::Topologies;
-
-#[cfg(test)]
-mod tests;

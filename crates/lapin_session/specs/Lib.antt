@@ -4,3 +4,5 @@ pub use Rattle.lapin_machine.specs.Numbers
 pub use Rattle.lapin_machine.specs.Stands
 pub use Rattle.lapin_machine.specs.Kept
 pub use Rattle.lapin_machine.specs.Alone
+pub use Rattle.lapin_machine.specs.Consumers
+pub mod Acking

@@ -13,9 +13,9 @@ ghost use Rattle.lapin_machine.specs.Numbers.{CallCause};
 use crate::channel::Channel;
 use lapin_machine::{Published, Session, Ticket};
 use lapin_types::{
-    BasicAckOptions, BasicGetOptions, BasicNackOptions, BasicProperties, BasicPublishOptions,
-    BasicQosOptions, BasicRecoverAsyncOptions, BasicRecoverOptions, BasicRejectOptions, Call,
-    Error, Payload, ShortString,
+    BasicAckOptions, BasicCancelOptions, BasicConsumeOptions, BasicGetOptions, BasicNackOptions,
+    BasicProperties, BasicPublishOptions, BasicQosOptions, BasicRecoverAsyncOptions,
+    BasicRecoverOptions, BasicRejectOptions, Call, Error, FieldTable, Payload, ShortString,
 };
 use std::alloc::Global;
 
@@ -40,6 +40,62 @@ impl Channel {
     {
         let call = Call::BasicQos {
             prefetch_count,
+            options,
+        };
+        session.call(alloc, self.id, call)
+    }
+
+    /// Asks the broker to deliver the messages of a queue (AMQP 0-9-1, `basic.consume`). The ticket is answered with `Consumer` and
+    /// the consumer's number at the broker's `basic.consume-ok`, whose tag is then the consumer's, with `nowait` at once, and the
+    /// tag is then the given one. A consumer that was registered on this channel under the same tag receives nothing more.
+    ///
+    /// # Errors
+    /// `InvalidChannelState` where the channel is not open, `NumbersUsedUp` where the next ticket, or with `nowait` the next
+    /// consumer, would pass the greatest `u64`, `NoMemory`. Nothing changes then.
+    pub fn basic_consume(
+        &self,
+        alloc: Global,
+        session: &mut Session,
+        queue: ShortString,
+        consumer_tag: ShortString,
+        options: BasicConsumeOptions,
+        arguments: FieldTable,
+    ) -> Result<Ticket, Error>
+        ensures told { TicketTold result (told_by session.old (CallEvent self.now.id (call.BasicConsume queue consumer_tag options arguments))) }
+        ensures ok { OnOk result (session.new ≡ next session.old (CallEvent self.now.id (call.BasicConsume queue consumer_tag options arguments))) }
+        ensures err { OnErr result (session.new ≡ session.old) }
+        ensures cause { CallCause result self.now.id (call.BasicConsume queue consumer_tag options arguments) session.old.wire }
+    {
+        let call = Call::BasicConsume {
+            queue,
+            consumer_tag,
+            options,
+            arguments,
+        };
+        session.call(alloc, self.id, call)
+    }
+
+    /// Asks the broker to end a consumer (AMQP 0-9-1, `basic.cancel`): the consumer that is registered under the tag has no delegate
+    /// from now on. The ticket is `Done` at the broker's `basic.cancel-ok`, with `nowait` at once; the consumer of the tag that the
+    /// reply names, with `nowait` of the given tag, is then registered no more and is given its end.
+    ///
+    /// # Errors
+    /// `InvalidChannelState` where the channel is not open, `NumbersUsedUp` where the next ticket would pass the greatest
+    /// `u64`, `NoMemory`. Nothing changes then.
+    pub fn basic_cancel(
+        &self,
+        alloc: Global,
+        session: &mut Session,
+        consumer_tag: ShortString,
+        options: BasicCancelOptions,
+    ) -> Result<Ticket, Error>
+        ensures told { TicketTold result (told_by session.old (CallEvent self.now.id (call.BasicCancel consumer_tag options))) }
+        ensures ok { OnOk result (session.new ≡ next session.old (CallEvent self.now.id (call.BasicCancel consumer_tag options))) }
+        ensures err { OnErr result (session.new ≡ session.old) }
+        ensures cause { CallCause result self.now.id (call.BasicCancel consumer_tag options) session.old.wire }
+    {
+        let call = Call::BasicCancel {
+            consumer_tag,
             options,
         };
         session.call(alloc, self.id, call)
@@ -101,7 +157,8 @@ impl Channel {
     }
 
     /// Acknowledges a delivery, with `multiple` all up to it, and all with tag 0 (AMQP 0-9-1, `basic.ack`). The ticket
-    /// is `Done` as the frame leaves, since the broker answers nothing.
+    /// is `Done` as the frame leaves, since the broker answers nothing. With `multiple` and tag 0 all that waits in the queues
+    /// of the channel's consumers is void from the call on.
     ///
     /// # Errors
     /// `InvalidChannelState` where the channel is not open, `NumbersUsedUp` where the next ticket would pass the greatest
@@ -126,7 +183,8 @@ impl Channel {
     }
 
     /// Gives a delivery back, with `multiple` all up to it, and all with tag 0 (RabbitMQ, `basic.nack`). The ticket is
-    /// `Done` as the frame leaves, since the broker answers nothing.
+    /// `Done` as the frame leaves, since the broker answers nothing. With `multiple` and tag 0 all that waits in the queues
+    /// of the channel's consumers is void from the call on.
     ///
     /// # Errors
     /// `InvalidChannelState` where the channel is not open, `NumbersUsedUp` where the next ticket would pass the greatest
@@ -176,7 +234,8 @@ impl Channel {
     }
 
     /// Asks for all unacknowledged messages again (AMQP 0-9-1, `basic.recover-async`). The ticket is `Done` as the
-    /// frame leaves, since the broker answers nothing.
+    /// frame leaves, since the broker answers nothing. All that waits in the queues of the channel's consumers is void from the
+    /// call on.
     ///
     /// # Errors
     /// `InvalidChannelState` where the channel is not open, `NumbersUsedUp` where the next ticket would pass the greatest
@@ -197,7 +256,7 @@ impl Channel {
     }
 
     /// Asks for all unacknowledged messages again (AMQP 0-9-1, `basic.recover`). The ticket is `Done` at the broker's
-    /// `basic.recover-ok`.
+    /// `basic.recover-ok`, and all that waits in the queues of the channel's consumers is void then.
     ///
     /// # Errors
     /// `InvalidChannelState` where the channel is not open, `NumbersUsedUp` where the next ticket would pass the greatest

@@ -10,16 +10,18 @@ use Rattle.lapin_shared.specs.declared.entry.Told.{Told}
 use Rattle.lapin_shared.specs.Grown.{Seen, Grew, told, Stepped, IsOver}
 use Rattle.lapin_shared.specs.Kept.{Kept}
 
--- before the step nothing changed; behind it the log got its entry, without an answer
+-- before the step nothing changed; behind it the log got its entry, without an answer; no step is left unsent
 abbrev pub IfFailed : Seen → Event → StepError → Seen → Type 0
 IfFailed old e failed.NoMemory new = new ≡ old
 IfFailed old e (failed.Unread p) new = Grew old new (told p e None)
+IfFailed old e (failed.Unsent a v) new = ⊥
 
 -- the history got the entry where the step was made
 abbrev pub IsStored : Result ℕ StepError → Kept → Entry → Kept → Type 0
 IsStored (Ok p) old x new = new.entries ≡ old.entries ++ x ∷ []
 IsStored (Err failed.NoMemory) old x new = new.entries ≡ old.entries
 IsStored (Err (failed.Unread p)) old x new = new.entries ≡ old.entries ++ x ∷ []
+IsStored (Err (failed.Unsent a v)) old x new = ⊥
 
 -- A call that makes one step. It answers the log's new entry, which has this event and holds an answer; or memory ran out. The entry
 -- is told through a reference, which `now` reads.

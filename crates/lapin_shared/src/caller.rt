@@ -14,6 +14,7 @@ ghost use Rattle.lapin_shared.specs.Failed.{IfFailed, IsStep, IsWait};
 use crate::entry::Told;
 use crate::hand::Hand;
 use crate::locked::{Crew, Locked};
+use lapin_acker::Verdict;
 use lapin_types::{Event, NoMemory, Record};
 use std::alloc::Global;
 use std::marker::Model;
@@ -29,6 +30,13 @@ pub enum StepError {
     Unread {
         /// Where the step stands in the history, from 1.
         place: u64,
+    },
+    /// A delegate answered, and no step was made of its verdict. A turn of work alone ends so; no call of a caller gives it.
+    Unsent {
+        /// The acker of the delivery.
+        acker: u64,
+        /// What the delegate answered.
+        verdict: Verdict,
     },
 }
 
@@ -202,8 +210,8 @@ impl<L: Crew> Caller<L> {
         }
     }
 
-    // The newest entry of the log.
-    fn newest(&self) -> &Told
+    /// The newest entry of the log, which has one.
+    pub fn newest(&self) -> &Told
         requires { 0 < length self.now.log }
         ensures { slice_get self.now.log (length self.now.log - 1) ≡ Some result.now }
     {

@@ -4,8 +4,8 @@
 //! each thread's end, its `Caller`, keeps a log of its own steps. `Client::finish` takes all callers back and gives the history, which
 //! is one that a single session could have told, and an interleaving of the logs.
 //!
-//! What an event does stands in the session below, text and commands above. Not built yet: workers, which take jobs of consumers and
-//! call their delegates, and polls of a consumer's messages. They wait for consumers in the session.
+//! What an event does stands in the session below; text, commands and workers, which take jobs of consumers and call their delegates,
+//! stand above.
 #![tactic(auto)]
 
 mod caller;

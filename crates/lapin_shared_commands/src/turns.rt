@@ -95,5 +95,6 @@ fn is_made<L: Crew, R: Wait>(rt: &R, alloc: Global, event: Event, caller: &mut C
         Ok(_) => true,
         Err(StepError::Unread { .. }) => true,
         Err(StepError::NoMemory) => false,
+        Err(StepError::Unsent { .. }) => unreachable!(),
     }
 }

@@ -1,5 +1,5 @@
 -- Frames, events and lines: what was written is read, and what was read is spelled so.
-use Rattle.std.proofs.Common.{◌≡◌, ℕ, ◌<◌, List, [], ◌∷◌, ◌++◌, length, Option, Some, None, refl, sym, ap, subst, ◌∙◌, eqb, arith}
+use Rattle.std.proofs.Common.{◌≡◌, ℕ, ◌<◌, List, [], ◌∷◌, ◌++◌, length, Option, Some, None, true, refl, sym, ap, subst, ◌∙◌, eqb, arith}
 use Rattle.std.specs.Str.{bytes_eq}
 use Rattle.std.specs.List.{join_with_byte, slice_split}
 use Rattle.std.proofs.lemmas.List.{append-nil}
@@ -9,12 +9,14 @@ use Rattle.lapin_types.specs.Types.{Frame}
 use Rattle.lapin_types.specs.Types.frame
 use Rattle.lapin_types.specs.declared.event.Event.{Event}
 use Rattle.lapin_types.specs.declared.event.Event.TheVariants as event
+use Rattle.lapin_types.specs.declared.acker_call.AckerCall.{AckerCall}
+use Rattle.lapin_types.specs.declared.acker_call.AckerCall.TheVariants as acker_call
 use Rattle.lapin_text.specs.declared.words.TheConstants.{WORDS}
 use Rattle.lapin_text.specs.declared.words.Word.{Word}
 use Rattle.lapin_text.specs.declared.words.Word.TheVariants as word
-use Rattle.lapin_tokens.specs.Fields.{Values, token, short_number, wide_number}
+use Rattle.lapin_tokens.specs.Fields.{Field, Value, Values, token, fits, short_number, wide_number}
 use Rattle.lapin_tokens.specs.Fields.Field.{flag}
-use Rattle.lapin_tokens.specs.Reading.{◌>>=◌, field_at}
+use Rattle.lapin_tokens.specs.Reading.{◌>>=◌, field_at, fields_at}
 use Rattle.lapin_tokens.proofs.FieldLaws.{bind_some, some_is, field_again, field_found, fields_again, fields_found, find_found}
 use Rattle.lapin_tokens.proofs.Plain.{AllPlain, split_join}
 use Rattle.lapin_tokens.proofs.PlainFields.{plain_token, plain_tokens}
@@ -23,9 +25,9 @@ use Rattle.lapin_method_text.specs.MethodReading.{method_at}
 use Rattle.lapin_method_text.proofs.MethodLaws.{plain_method, method_again, method_found}
 use Rattle.lapin_text.specs.Frames.{header_fields, body_fields, frame_tokens, FrameFits, frame_text}
 use Rattle.lapin_text.specs.CallText.{call_tokens, call_at}
-use Rattle.lapin_text.specs.Events.{event_tokens, HasLine, line_of}
+use Rattle.lapin_text.specs.Events.{acker_call_tokens, event_tokens, HasLine, line_of}
 use Rattle.lapin_text.proofs.CallLaws.{call_again, call_found, plain_call}
-use Rattle.lapin_text.specs.LineReading.{word_at, word_text, frame_of_word, frame_at, event_of_word, event_at, whole, frame_text_at, line_at}
+use Rattle.lapin_text.specs.LineReading.{word_at, word_text, frame_of_word, frame_at, acker_call_of_word, acker_call_at, event_of_word, event_at, whole, frame_text_at, line_at}
 
 -- ---- words
 
@@ -80,6 +82,46 @@ frame_found (piece ∷ rest) x e =
     let f = of_word_found a.0 rest x a.2 in
     (ap (λ (p : List ℕ). p ∷ rest) (word_found piece a.0 a.1) ∙ f.0, f.1)
 
+-- ---- calls of an acker
+
+abbrev ack_made : Values (flag ∷ []) → AckerCall
+ack_made v = acker_call.Ack (record { multiple = v.0 })
+
+abbrev nack_made : Values (flag ∷ flag ∷ []) → AckerCall
+nack_made v = acker_call.Nack (record { multiple = v.0; requeue = v.1.0 })
+
+abbrev reject_made : Values (flag ∷ []) → AckerCall
+reject_made v = acker_call.Reject (record { requeue = v.0 })
+
+acker_call_again : (c : AckerCall) (rest : List (List ℕ)) → acker_call_at (acker_call_tokens c ++ rest) ≡ Some (c, rest)
+unfolding acker_call_at
+acker_call_again (acker_call.Ack options) rest = rw (word_again word.Ack) (fields_again (flag ∷ []) ack_made (options.multiple, tt) rest (refl, tt))
+acker_call_again (acker_call.Nack options) rest = rw (word_again word.Nack) (fields_again (flag ∷ flag ∷ []) nack_made (options.multiple, (options.requeue, tt)) rest (refl, (refl, tt)))
+acker_call_again (acker_call.Reject options) rest = rw (word_again word.Reject) (fields_again (flag ∷ []) reject_made (options.requeue, tt) rest (refl, tt))
+
+-- the pieces are the tokens of an acker's call, and others
+abbrev IsAckerCall : List (List ℕ) → AckerCall × List (List ℕ) → Type 0
+IsAckerCall pieces x = pieces ≡ acker_call_tokens x.0 ++ x.1
+
+acker_call_of_word_found : (w : Word) (rest : List (List ℕ)) (x : AckerCall × List (List ℕ)) → acker_call_of_word w rest ≡ Some x → IsAckerCall (word_text w ∷ rest) x
+acker_call_of_word_found word.Ack rest x e =
+    let r = fields_found (flag ∷ []) ack_made rest x e in
+    subst (λ (c : AckerCall). IsAckerCall (word_text word.Ack ∷ rest) (c, x.1)) (sym r.is) (ap (λ (t : List (List ℕ)). word_text word.Ack ∷ t) r.spelled)
+acker_call_of_word_found word.Nack rest x e =
+    let r = fields_found (flag ∷ flag ∷ []) nack_made rest x e in
+    subst (λ (c : AckerCall). IsAckerCall (word_text word.Nack ∷ rest) (c, x.1)) (sym r.is) (ap (λ (t : List (List ℕ)). word_text word.Nack ∷ t) r.spelled)
+acker_call_of_word_found word.Reject rest x e =
+    let r = fields_found (flag ∷ []) reject_made rest x e in
+    subst (λ (c : AckerCall). IsAckerCall (word_text word.Reject ∷ rest) (c, x.1)) (sym r.is) (ap (λ (t : List (List ℕ)). word_text word.Reject ∷ t) r.spelled)
+acker_call_of_word_found _ rest x e = absurd cc
+
+acker_call_found : (pieces : List (List ℕ)) (x : AckerCall × List (List ℕ)) → acker_call_at pieces ≡ Some x → IsAckerCall pieces x
+unfolding acker_call_at
+acker_call_found [] x e = absurd cc
+acker_call_found (piece ∷ rest) x e =
+    let a = bind_some (word_at piece) (λ w. acker_call_of_word w rest) x e in
+    ap (λ (p : List ℕ). p ∷ rest) (word_found piece a.0 a.1) ∙ acker_call_of_word_found a.0 rest x a.2
+
 -- ---- events
 
 pub event_again : (e : Event) (rest : List (List ℕ)) → HasLine e → event_at (event_tokens e ++ rest) ≡ Some (e, rest)
@@ -89,15 +131,26 @@ event_again (event.Next flow) rest h = rw (word_again word.Next) (fields_again (
 event_again (event.Receive f) rest h = rw (word_again word.Recv, frame_again f rest h) refl
 event_again (event.PollTicket n) rest h = rw (word_again word.Ticket) (fields_again (wide_number ∷ []) (λ v. event.PollTicket v.0) (n, tt) rest (h, tt))
 event_again (event.PollConfirm n) rest h = rw (word_again word.Confirm) (fields_again (wide_number ∷ []) (λ v. event.PollConfirm v.0) (n, tt) rest (h, tt))
+event_again (event.PollConsumer n) rest h = rw (word_again word.Consumer) (fields_again (wide_number ∷ []) (λ v. event.PollConsumer v.0) (n, tt) rest (h, tt))
 event_again (event.PollWait c) rest h = rw (word_again word.Wait) (fields_again (short_number ∷ []) (λ v. event.PollWait v.0) (c, tt) rest (h, tt))
 event_again (event.AsideTicket n) rest h = rw (word_again word.AsideTicket) (fields_again (wide_number ∷ []) (λ v. event.AsideTicket v.0) (n, tt) rest (h, tt))
 event_again (event.AsideConfirm n) rest h = rw (word_again word.AsideConfirm) (fields_again (wide_number ∷ []) (λ v. event.AsideConfirm v.0) (n, tt) rest (h, tt))
+event_again (event.Acker n made) rest h = rw (word_again word.Acker, field_again wide_number n (acker_call_tokens made ++ rest) h, acker_call_again made rest) refl
+event_again (event.Delegate n) rest h = rw (word_again word.Delegate) (fields_again (wide_number ∷ []) (λ v. event.Delegate v.0) (n, tt) rest (h, tt))
+event_again (event.DropConsumer n) rest h = rw (word_again word.Drop) (fields_again (wide_number ∷ []) (λ v. event.DropConsumer v.0) (n, tt) rest (h, tt))
+event_again event.NextJob rest h = rw (word_again word.Job) refl
 event_again (event.State c) rest h = rw (word_again word.State) (fields_again (short_number ∷ []) (λ v. event.State v.0) (c, tt) rest (h, tt))
 event_again event.Lost rest h = rw (word_again word.Lost) refl
 
 -- the pieces are the tokens of an event that has a line, and others
 abbrev IsEvent : List (List ℕ) → Event × List (List ℕ) → Type 0
 IsEvent pieces x = (pieces ≡ event_tokens x.0 ++ x.1) × HasLine x.0
+
+-- the event of a word and one field
+one_found : (w : Word) (f : Field) (made : Value f → Event) (rest : List (List ℕ)) (x : Event × List (List ℕ)) → ((v : Value f) → event_tokens (made v) ≡ word_text w ∷ token f v ∷ []) → ((v : Value f) → fits f v ≡ true → HasLine (made v)) → fields_at (f ∷ []) (λ v. made v.0) rest ≡ Some x → IsEvent (word_text w ∷ rest) x
+one_found w f made rest x spelled fit e =
+    let r = fields_found (f ∷ []) (λ v. made v.0) rest x e in
+    subst (λ (y : Event). IsEvent (word_text w ∷ rest) (y, x.1)) (sym r.is) (ap (λ (t : List (List ℕ)). word_text w ∷ t) r.spelled ∙ ap (λ (t : List (List ℕ)). t ++ x.1) (sym (spelled r.vs.0)), fit r.vs.0 r.fit.0)
 
 event_of_word_found : (w : Word) (rest : List (List ℕ)) (x : Event × List (List ℕ)) → event_of_word w rest ≡ Some x → IsEvent (word_text w ∷ rest) x
 event_of_word_found word.Call rest x e =
@@ -107,31 +160,28 @@ event_of_word_found word.Call rest x e =
     let m = call_found a.0.1 b.0 b.1 in
     subst (λ (y : Event × List (List ℕ)). IsEvent (word_text word.Call ∷ rest) y) (some_is (event.Call a.0.0 b.0.0, b.0.1) x b.2)
     (ap (λ (t : List (List ℕ)). word_text word.Call ∷ t) (f.0 ∙ ap (λ (t : List (List ℕ)). token short_number a.0.0 ∷ t) m.0), (f.1, m.1))
-event_of_word_found word.Next rest x e =
-    let r = fields_found (flag ∷ []) (λ v. event.Next v.0) rest x e in
-    subst (λ (f : Event). IsEvent (word_text word.Next ∷ rest) (f, x.1)) (sym r.is) (ap (λ (t : List (List ℕ)). word_text word.Next ∷ t) r.spelled, r.fit.0)
+event_of_word_found word.Next rest x e = one_found word.Next flag event.Next rest x (λ v. refl) (λ v h. h) e
 event_of_word_found word.Recv rest x e =
     let a = bind_some (frame_at rest) (λ f. Some (event.Receive f.0, f.1)) x e in
     let f = frame_found rest a.0 a.1 in
     subst (λ (y : Event × List (List ℕ)). IsEvent (word_text word.Recv ∷ rest) y) (some_is (event.Receive a.0.0, a.0.1) x a.2) (ap (λ (t : List (List ℕ)). word_text word.Recv ∷ t) f.0, f.1)
-event_of_word_found word.Ticket rest x e =
-    let r = fields_found (wide_number ∷ []) (λ v. event.PollTicket v.0) rest x e in
-    subst (λ (f : Event). IsEvent (word_text word.Ticket ∷ rest) (f, x.1)) (sym r.is) (ap (λ (t : List (List ℕ)). word_text word.Ticket ∷ t) r.spelled, r.fit.0)
-event_of_word_found word.Confirm rest x e =
-    let r = fields_found (wide_number ∷ []) (λ v. event.PollConfirm v.0) rest x e in
-    subst (λ (f : Event). IsEvent (word_text word.Confirm ∷ rest) (f, x.1)) (sym r.is) (ap (λ (t : List (List ℕ)). word_text word.Confirm ∷ t) r.spelled, r.fit.0)
-event_of_word_found word.Wait rest x e =
-    let r = fields_found (short_number ∷ []) (λ v. event.PollWait v.0) rest x e in
-    subst (λ (f : Event). IsEvent (word_text word.Wait ∷ rest) (f, x.1)) (sym r.is) (ap (λ (t : List (List ℕ)). word_text word.Wait ∷ t) r.spelled, r.fit.0)
-event_of_word_found word.AsideTicket rest x e =
-    let r = fields_found (wide_number ∷ []) (λ v. event.AsideTicket v.0) rest x e in
-    subst (λ (f : Event). IsEvent (word_text word.AsideTicket ∷ rest) (f, x.1)) (sym r.is) (ap (λ (t : List (List ℕ)). word_text word.AsideTicket ∷ t) r.spelled, r.fit.0)
-event_of_word_found word.AsideConfirm rest x e =
-    let r = fields_found (wide_number ∷ []) (λ v. event.AsideConfirm v.0) rest x e in
-    subst (λ (f : Event). IsEvent (word_text word.AsideConfirm ∷ rest) (f, x.1)) (sym r.is) (ap (λ (t : List (List ℕ)). word_text word.AsideConfirm ∷ t) r.spelled, r.fit.0)
-event_of_word_found word.State rest x e =
-    let r = fields_found (short_number ∷ []) (λ v. event.State v.0) rest x e in
-    subst (λ (f : Event). IsEvent (word_text word.State ∷ rest) (f, x.1)) (sym r.is) (ap (λ (t : List (List ℕ)). word_text word.State ∷ t) r.spelled, r.fit.0)
+event_of_word_found word.Ticket rest x e = one_found word.Ticket wide_number event.PollTicket rest x (λ v. refl) (λ v h. h) e
+event_of_word_found word.Confirm rest x e = one_found word.Confirm wide_number event.PollConfirm rest x (λ v. refl) (λ v h. h) e
+event_of_word_found word.Consumer rest x e = one_found word.Consumer wide_number event.PollConsumer rest x (λ v. refl) (λ v h. h) e
+event_of_word_found word.Wait rest x e = one_found word.Wait short_number event.PollWait rest x (λ v. refl) (λ v h. h) e
+event_of_word_found word.AsideTicket rest x e = one_found word.AsideTicket wide_number event.AsideTicket rest x (λ v. refl) (λ v h. h) e
+event_of_word_found word.AsideConfirm rest x e = one_found word.AsideConfirm wide_number event.AsideConfirm rest x (λ v. refl) (λ v h. h) e
+event_of_word_found word.Acker rest x e =
+    let a = bind_some (field_at wide_number rest) (λ n. acker_call_at n.1 >>= λ m. Some (event.Acker n.0 m.0, m.1)) x e in
+    let b = bind_some (acker_call_at a.0.1) (λ m. Some (event.Acker a.0.0 m.0, m.1)) x a.2 in
+    let f = field_found wide_number rest a.0 a.1 in
+    subst (λ (y : Event × List (List ℕ)). IsEvent (word_text word.Acker ∷ rest) y) (some_is (event.Acker a.0.0 b.0.0, b.0.1) x b.2)
+    (ap (λ (t : List (List ℕ)). word_text word.Acker ∷ t) (f.0 ∙ ap (λ (t : List (List ℕ)). token wide_number a.0.0 ∷ t) (acker_call_found a.0.1 b.0 b.1)), f.1)
+event_of_word_found word.Delegate rest x e = one_found word.Delegate wide_number event.Delegate rest x (λ v. refl) (λ v h. h) e
+event_of_word_found word.Drop rest x e = one_found word.Drop wide_number event.DropConsumer rest x (λ v. refl) (λ v h. h) e
+event_of_word_found word.Job rest x e =
+    subst (λ (y : Event × List (List ℕ)). IsEvent (word_text word.Job ∷ rest) y) (some_is (event.NextJob, rest) x e) (refl, tt)
+event_of_word_found word.State rest x e = one_found word.State short_number event.State rest x (λ v. refl) (λ v h. h) e
 event_of_word_found word.Lost rest x e =
     subst (λ (y : Event × List (List ℕ)). IsEvent (word_text word.Lost ∷ rest) y) (some_is (event.Lost, rest) x e) (refl, tt)
 event_of_word_found _ rest x e = absurd cc
@@ -151,15 +201,25 @@ plain_frame (frame.Method c m) h = (refl, (plain_token short_number c h.0, plain
 plain_frame (frame.Header c header) h = (refl, plain_tokens header_fields (c, (header.class_id, (header.body_size, (header.properties, tt)))) h)
 plain_frame (frame.Body c bytes) h = (refl, plain_tokens body_fields (c, (bytes, tt)) h)
 
+plain_acker_call : (c : AckerCall) → AllPlain (acker_call_tokens c)
+plain_acker_call (acker_call.Ack options) = (refl, plain_tokens (flag ∷ []) (options.multiple, tt) (refl, tt))
+plain_acker_call (acker_call.Nack options) = (refl, plain_tokens (flag ∷ flag ∷ []) (options.multiple, (options.requeue, tt)) (refl, (refl, tt)))
+plain_acker_call (acker_call.Reject options) = (refl, plain_tokens (flag ∷ []) (options.requeue, tt) (refl, tt))
+
 pub plain_event : (e : Event) → HasLine e → AllPlain (event_tokens e)
 plain_event (event.Call c made) h = (refl, (plain_token short_number c h.0, plain_call made h.1))
 plain_event (event.Next flow) h = (refl, (plain_token flag flow h, tt))
 plain_event (event.Receive f) h = (refl, plain_frame f h)
 plain_event (event.PollTicket n) h = (refl, (plain_token wide_number n h, tt))
 plain_event (event.PollConfirm n) h = (refl, (plain_token wide_number n h, tt))
+plain_event (event.PollConsumer n) h = (refl, (plain_token wide_number n h, tt))
 plain_event (event.PollWait c) h = (refl, (plain_token short_number c h, tt))
 plain_event (event.AsideTicket n) h = (refl, (plain_token wide_number n h, tt))
 plain_event (event.AsideConfirm n) h = (refl, (plain_token wide_number n h, tt))
+plain_event (event.Acker n made) h = (refl, (plain_token wide_number n h, plain_acker_call made))
+plain_event (event.Delegate n) h = (refl, (plain_token wide_number n h, tt))
+plain_event (event.DropConsumer n) h = (refl, (plain_token wide_number n h, tt))
+plain_event event.NextJob h = (refl, tt)
 plain_event (event.State c) h = (refl, (plain_token short_number c h, tt))
 plain_event event.Lost h = (refl, tt)
 

@@ -56,6 +56,8 @@ method_of (call.QueuePurge queue options) = method.Queue (queue_method.Purge que
 method_of (call.QueueDelete queue options) = method.Queue (queue_method.Delete queue options.if_unused options.if_empty options.nowait)
 method_of (call.QueueUnbind queue exchange routing_key arguments) = method.Queue (queue_method.Unbind queue exchange routing_key arguments)
 method_of (call.BasicQos prefetch_count options) = method.Basic (basic_method.Qos prefetch_count options.global)
+method_of (call.BasicConsume queue consumer_tag options arguments) = method.Basic (basic_method.Consume queue consumer_tag options.no_local options.no_ack options.exclusive options.nowait arguments)
+method_of (call.BasicCancel consumer_tag options) = method.Basic (basic_method.Cancel consumer_tag options.nowait)
 method_of (call.BasicPublish exchange routing_key options payload properties) = method.Basic (basic_method.Publish exchange routing_key options.mandatory options.immediate)
 method_of (call.BasicGet queue options) = method.Basic (basic_method.Get queue options.no_ack)
 method_of (call.BasicAck delivery_tag options) = method.Basic (basic_method.Ack delivery_tag options.multiple)
@@ -96,6 +98,8 @@ queue_call _ = None
 
 abbrev pub basic_call : BasicMethod → Option Call
 basic_call (basic_method.Qos prefetch_count global) = Some (call.BasicQos prefetch_count (record { global = global }))
+basic_call (basic_method.Consume queue consumer_tag no_local no_ack exclusive nowait arguments) = Some (call.BasicConsume queue consumer_tag (record { no_local = no_local; no_ack = no_ack; exclusive = exclusive; nowait = nowait }) arguments)
+basic_call (basic_method.Cancel consumer_tag nowait) = Some (call.BasicCancel consumer_tag (record { nowait = nowait }))
 basic_call (basic_method.Get queue no_ack) = Some (call.BasicGet queue (record { no_ack = no_ack }))
 basic_call (basic_method.Ack delivery_tag multiple) = Some (call.BasicAck delivery_tag (record { multiple = multiple }))
 basic_call (basic_method.Nack delivery_tag multiple requeue) = Some (call.BasicNack delivery_tag (record { multiple = multiple; requeue = requeue }))

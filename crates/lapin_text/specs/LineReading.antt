@@ -6,6 +6,8 @@ use Rattle.lapin_types.specs.Types.{Frame}
 use Rattle.lapin_types.specs.Types.frame
 use Rattle.lapin_types.specs.declared.event.Event.{Event}
 use Rattle.lapin_types.specs.declared.event.Event.TheVariants as event
+use Rattle.lapin_types.specs.declared.acker_call.AckerCall.{AckerCall}
+use Rattle.lapin_types.specs.declared.acker_call.AckerCall.TheVariants as acker_call
 use Rattle.lapin_text.specs.declared.words.Word.{Word}
 use Rattle.lapin_text.specs.declared.words.Word.TheVariants as word
 use Rattle.lapin_text.specs.declared.words.TheConstants.{WORDS}
@@ -16,7 +18,7 @@ use Rattle.lapin_method_text.specs.MethodReading.{method_at}
 use Rattle.lapin_text.specs.Frames.{header_fields, body_fields}
 use Rattle.lapin_text.specs.CallText.{call_at}
 
--- ---- the words that begin a frame or an event
+-- ---- the words that begin a frame, an event or the call of an acker
 
 -- each word's text
 abbrev pub word_text : Word → List ℕ
@@ -28,11 +30,19 @@ word_text word.Next = codes "next"
 word_text word.Recv = codes "recv"
 word_text word.Ticket = codes "ticket"
 word_text word.Confirm = codes "confirm"
+word_text word.Consumer = codes "consumer"
 word_text word.Wait = codes "wait"
 word_text word.AsideTicket = codes "aside-ticket"
 word_text word.AsideConfirm = codes "aside-confirm"
+word_text word.Acker = codes "acker"
+word_text word.Delegate = codes "delegate"
+word_text word.Drop = codes "drop"
+word_text word.Job = codes "job"
 word_text word.State = codes "state"
 word_text word.Lost = codes "lost"
+word_text word.Ack = codes "ack"
+word_text word.Nack = codes "nack"
+word_text word.Reject = codes "reject"
 
 unfoldable pub word_at : List ℕ → Option Word
 word_at piece = find (λ w. bytes_eq (word_text w) piece) WORDS
@@ -52,6 +62,18 @@ unfoldable pub frame_at : List (List ℕ) → Option (Frame × List (List ℕ))
 frame_at [] = None
 frame_at (piece ∷ rest) = word_at piece >>= λ w. frame_of_word w rest
 
+-- ---- calls of an acker
+
+abbrev pub acker_call_of_word : Word → List (List ℕ) → Option (AckerCall × List (List ℕ))
+acker_call_of_word word.Ack pieces = fields_at (flag ∷ []) (λ v. acker_call.Ack (record { multiple = v.0 })) pieces
+acker_call_of_word word.Nack pieces = fields_at (flag ∷ flag ∷ []) (λ v. acker_call.Nack (record { multiple = v.0; requeue = v.1.0 })) pieces
+acker_call_of_word word.Reject pieces = fields_at (flag ∷ []) (λ v. acker_call.Reject (record { requeue = v.0 })) pieces
+acker_call_of_word _ pieces = None
+
+unfoldable pub acker_call_at : List (List ℕ) → Option (AckerCall × List (List ℕ))
+acker_call_at [] = None
+acker_call_at (piece ∷ rest) = word_at piece >>= λ w. acker_call_of_word w rest
+
 -- ---- events
 
 -- the event that a word and the pieces behind it make, and the pieces that are left
@@ -64,9 +86,17 @@ event_of_word word.Next pieces = fields_at (flag ∷ []) (λ v. event.Next v.0) 
 event_of_word word.Recv pieces = frame_at pieces >>= λ f. Some (event.Receive f.0, f.1)
 event_of_word word.Ticket pieces = fields_at (wide_number ∷ []) (λ v. event.PollTicket v.0) pieces
 event_of_word word.Confirm pieces = fields_at (wide_number ∷ []) (λ v. event.PollConfirm v.0) pieces
+event_of_word word.Consumer pieces = fields_at (wide_number ∷ []) (λ v. event.PollConsumer v.0) pieces
 event_of_word word.Wait pieces = fields_at (short_number ∷ []) (λ v. event.PollWait v.0) pieces
 event_of_word word.AsideTicket pieces = fields_at (wide_number ∷ []) (λ v. event.AsideTicket v.0) pieces
 event_of_word word.AsideConfirm pieces = fields_at (wide_number ∷ []) (λ v. event.AsideConfirm v.0) pieces
+event_of_word word.Acker pieces = do
+  number ← field_at wide_number pieces
+  call ← acker_call_at number.1
+  Some (event.Acker number.0 call.0, call.1)
+event_of_word word.Delegate pieces = fields_at (wide_number ∷ []) (λ v. event.Delegate v.0) pieces
+event_of_word word.Drop pieces = fields_at (wide_number ∷ []) (λ v. event.DropConsumer v.0) pieces
+event_of_word word.Job pieces = Some (event.NextJob, pieces)
 event_of_word word.State pieces = fields_at (short_number ∷ []) (λ v. event.State v.0) pieces
 event_of_word word.Lost pieces = Some (event.Lost, pieces)
 event_of_word _ pieces = None

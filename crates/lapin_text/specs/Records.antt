@@ -1,5 +1,5 @@
 -- The lines of records.
-use Rattle.std.specs.Prelude.{ℕ, List, [], ◌∷◌, ◌++◌, length, codes, Option, Some, None, Ok, Err}
+use Rattle.std.specs.Prelude.{ℕ, List, [], ◌∷◌, ◌++◌, length, codes, Option, Some, None, Result, Ok, Err}
 use Rattle.std.specs.List.{join_with_byte, flat_map}
 use Rattle.lapin_types.specs.Types.{Error}
 use Rattle.lapin_types.specs.Types.error
@@ -11,6 +11,9 @@ use Rattle.lapin_types.specs.declared.answer.Answer.{Answer}
 use Rattle.lapin_types.specs.declared.answer.Answer.TheVariants as answer
 use Rattle.lapin_types.specs.declared.confirmation.Confirmation.{Confirmation}
 use Rattle.lapin_types.specs.declared.confirmation.Confirmation.TheVariants as confirmation
+use Rattle.lapin_types.specs.declared.job.Job.{Job}
+use Rattle.lapin_types.specs.declared.job.JobKind.{JobKind}
+use Rattle.lapin_types.specs.declared.job.JobKind.TheVariants as job_kind
 use Rattle.lapin_types.specs.declared.message.Delivery.{Delivery}
 use Rattle.lapin_types.specs.declared.message.BasicReturnMessage.{BasicReturnMessage}
 use Rattle.lapin_types.specs.declared.record.Record.{Record}
@@ -88,6 +91,31 @@ confirmation_tokens (confirmation.Ack message) = codes "ack" ∷ held_tokens mes
 confirmation_tokens (confirmation.Nack message) = codes "nack" ∷ held_tokens message
 confirmation_tokens confirmation.NotRequested = codes "notrequested" ∷ []
 
+-- the word of a consumer's item: a delivery, its end, or the error that ended its channel
+abbrev pub item_word : Result (Option Delivery) Error → List ℕ
+item_word (Ok (Some delivery)) = codes "item"
+item_word (Ok None) = codes "end"
+item_word (Err error) = codes "failed"
+
+-- what a consumer's item carries
+abbrev pub carried_tokens : Result (Option Delivery) Error → List (List ℕ)
+carried_tokens (Ok (Some delivery)) = delivery_tokens delivery
+carried_tokens (Ok None) = []
+carried_tokens (Err error) = error_tokens error
+
+-- `item DELIVERY`, `end` or `failed ERROR`
+abbrev pub item_tokens : Result (Option Delivery) Error → List (List ℕ)
+item_tokens given = item_word given ∷ carried_tokens given
+
+-- what a delegate is called with: an item, or that messages are to be forgotten
+abbrev pub kind_tokens : JobKind → List (List ℕ)
+kind_tokens (job_kind.Deliver given) = item_tokens given
+kind_tokens job_kind.Discard = codes "discard" ∷ []
+
+-- the consumer's number, and what its delegate is called with
+abbrev pub job_tokens : Job → List (List ℕ)
+job_tokens job = token wide_number job.consumer ∷ kind_tokens job.kind
+
 -- a record: its word, and what it carries
 abbrev pub record_tokens : Record → List (List ℕ)
 record_tokens (record_.Ticket number) = codes "ticket" ∷ token wide_number number ∷ []
@@ -102,8 +130,14 @@ record_tokens (record_.Answer (Ok answer)) = codes "answer" ∷ answer_tokens an
 record_tokens (record_.Answer (Err error)) = codes "error" ∷ error_tokens error
 record_tokens (record_.Confirmed (Ok confirmation)) = codes "confirmed" ∷ confirmation_tokens confirmation
 record_tokens (record_.Confirmed (Err error)) = codes "error" ∷ error_tokens error
+record_tokens (record_.Item given) = item_tokens given
 record_tokens (record_.Returned messages) = codes "returned" ∷ returned_tokens messages
 record_tokens record_.Aside = codes "aside" ∷ []
+record_tokens record_.No = codes "no" ∷ []
+record_tokens record_.Delegated = codes "delegated" ∷ []
+record_tokens (record_.Dropped cancels) = codes "dropped" ∷ token flag cancels ∷ []
+record_tokens (record_.Job job) = codes "job" ∷ job_tokens job
+record_tokens record_.NoJob = codes "nojob" ∷ []
 record_tokens (record_.State connection channel) = codes "state" ∷ connection_name connection ∷ state_name channel ∷ []
 record_tokens record_.Lost = codes "lost" ∷ []
 

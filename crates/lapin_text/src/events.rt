@@ -1,5 +1,5 @@
-//! Events as tokens: `call C NAME ARGS`, `next BOOL`, `recv FRAME`, `ticket N`, `confirm N`, `wait C`, `aside-ticket N`,
-//! `aside-confirm N`, `state C` and `lost`.
+//! Events as tokens: `call C NAME ARGS`, `next BOOL`, `recv FRAME`, `ticket N`, `confirm N`, `consumer N`, `wait C`,
+//! `aside-ticket N`, `aside-confirm N`, `acker N` and the acker's call, `delegate N`, `drop N`, `job`, `state C` and `lost`.
 //!
 //! An event is an arm here and a row in each table of the definitions. Whole lines are read in `reading`.
 
@@ -7,6 +7,7 @@ ghost use Rattle.std.specs.Prelude.{◌≡◌};
 ghost use Rattle.lapin_tokens.specs.Reading.{Gives};
 ghost use Rattle.lapin_text.specs.LineReading.{event_at};
 
+use crate::ackers::read_acker_call;
 use crate::calls::read_call;
 use crate::frames::read_frame_tokens;
 use crate::words::{Word, word_named};
@@ -36,9 +37,20 @@ pub fn read_event_tokens(alloc: Global, tokens: &mut Tokens) -> Result<Event, Re
             },
             Some(Word::Ticket) => Ok(Event::PollTicket(u64_at(tokens)?)),
             Some(Word::Confirm) => Ok(Event::PollConfirm(u64_at(tokens)?)),
+            Some(Word::Consumer) => Ok(Event::PollConsumer(u64_at(tokens)?)),
             Some(Word::Wait) => Ok(Event::PollWait(u16_at(tokens)?)),
             Some(Word::AsideTicket) => Ok(Event::AsideTicket(u64_at(tokens)?)),
             Some(Word::AsideConfirm) => Ok(Event::AsideConfirm(u64_at(tokens)?)),
+            Some(Word::Acker) => {
+                let number = u64_at(tokens)?;
+                match read_acker_call(tokens) {
+                    Ok(call) => Ok(Event::Acker(number, call)),
+                    Err(error) => Err(error),
+                }
+            }
+            Some(Word::Delegate) => Ok(Event::Delegate(u64_at(tokens)?)),
+            Some(Word::Drop) => Ok(Event::DropConsumer(u64_at(tokens)?)),
+            Some(Word::Job) => Ok(Event::NextJob),
             Some(Word::State) => Ok(Event::State(u16_at(tokens)?)),
             Some(Word::Lost) => Ok(Event::Lost),
             _ => Err(ReadError::Bad),

@@ -5,6 +5,7 @@
 //! stands here. The program's commands call this crate.
 #![tactic(auto)]
 
+mod ackers;
 mod calls;
 mod events;
 mod frames;

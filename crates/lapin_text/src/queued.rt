@@ -4,12 +4,13 @@ ghost use Rattle.std.specs.Prelude.{◌≡◌};
 ghost use Rattle.lapin_text.specs.Calls.{kind_named as kind_named_lem, channel_call as channel_call_lem, access_call as access_call_lem, exchange_call as exchange_call_lem, queue_call as queue_call_lem, basic_call as basic_call_lem, confirm_call as confirm_call_lem, tx_call as tx_call_lem, call_of as call_of_lem};
 
 use lapin_types::{
-    AccessMethod, AccessRequestOptions, BasicAckOptions, BasicGetOptions, BasicMethod,
-    BasicNackOptions, BasicQosOptions, BasicRecoverAsyncOptions, BasicRecoverOptions,
-    BasicRejectOptions, Call, ChannelFlowOptions, ChannelMethod, ConfirmMethod,
-    ConfirmSelectOptions, ExchangeBindOptions, ExchangeDeclareOptions, ExchangeDeleteOptions,
-    ExchangeKind, ExchangeMethod, ExchangeUnbindOptions, Method, QueueBindOptions,
-    QueueDeclareOptions, QueueDeleteOptions, QueueMethod, QueuePurgeOptions, ShortString, TxMethod,
+    AccessMethod, AccessRequestOptions, BasicAckOptions, BasicCancelOptions, BasicConsumeOptions,
+    BasicGetOptions, BasicMethod, BasicNackOptions, BasicQosOptions, BasicRecoverAsyncOptions,
+    BasicRecoverOptions, BasicRejectOptions, Call, ChannelFlowOptions, ChannelMethod,
+    ConfirmMethod, ConfirmSelectOptions, ExchangeBindOptions, ExchangeDeclareOptions,
+    ExchangeDeleteOptions, ExchangeKind, ExchangeMethod, ExchangeUnbindOptions, Method,
+    QueueBindOptions, QueueDeclareOptions, QueueDeleteOptions, QueueMethod, QueuePurgeOptions,
+    ShortString, TxMethod,
 };
 
 // One of the standard's four words is the named kind, any other text a custom one.
@@ -208,6 +209,32 @@ fn basic_call(method: BasicMethod) -> Option<Call>
         } => Some(Call::BasicQos {
             prefetch_count,
             options: BasicQosOptions { global },
+        }),
+        BasicMethod::Consume {
+            queue,
+            consumer_tag,
+            no_local,
+            no_ack,
+            exclusive,
+            nowait,
+            arguments,
+        } => Some(Call::BasicConsume {
+            queue,
+            consumer_tag,
+            options: BasicConsumeOptions {
+                no_local,
+                no_ack,
+                exclusive,
+                nowait,
+            },
+            arguments,
+        }),
+        BasicMethod::Cancel {
+            consumer_tag,
+            nowait,
+        } => Some(Call::BasicCancel {
+            consumer_tag,
+            options: BasicCancelOptions { nowait },
         }),
         BasicMethod::Get { queue, no_ack } => Some(Call::BasicGet {
             queue,

@@ -10,13 +10,13 @@ ghost use Rattle.lapin_types.specs.declared.record.Record.TheVariants as told;
 ghost use Rattle.lapin_tokens.specs.Fields.{token, wide_number};
 ghost use Rattle.lapin_tokens.specs.TokenText.{onto};
 ghost use Rattle.lapin_text.specs.Frames.{frame_tokens};
-ghost use Rattle.lapin_text.specs.Records.{connection_name, state_name, error_tokens, delivery_tokens, message_tokens, held_tokens, returned_tokens, got_tokens, answer_tokens, confirmation_tokens, record_tokens, line_onto};
+ghost use Rattle.lapin_text.specs.Records.{connection_name, state_name, error_tokens, delivery_tokens, message_tokens, held_tokens, returned_tokens, got_tokens, answer_tokens, confirmation_tokens, item_word, carried_tokens, job_tokens, record_tokens, line_onto};
 
 use crate::frames::put_frame;
 use lapin_tokens::{Token, put_count, put_tokens, put_word};
 use lapin_types::{
     Answer, BasicGetMessage, BasicReturnMessage, ChannelState, Confirmation, ConnectionState,
-    Delivery, Error, Queue, Record, ReturnedList,
+    Delivery, DeliveryResult, Error, Job, JobKind, Queue, Record, ReturnedList,
 };
 use std::alloc::{AllocError, Global};
 
@@ -275,6 +275,40 @@ fn put_confirmation(
     }
 }
 
+fn word_of_item(given: &DeliveryResult) -> &'static [u8]
+    ensures { result.now ≡ item_word given.now }
+{
+    match given {
+        Ok(Some(_)) => b"item",
+        Ok(None) => b"end",
+        Err(_) => b"failed",
+    }
+}
+
+// What an item carries behind its word.
+fn put_carried(alloc: Global, out: &mut Vec<u8>, given: &DeliveryResult) -> Result<(), AllocError>
+    ensures { OnOk result (out.new.items ≡ onto out.old.items (carried_tokens given.now)) }
+{
+    match given {
+        Ok(Some(delivery)) => put_delivery(alloc, out, delivery),
+        Ok(None) => Ok(()),
+        Err(error) => put_error(alloc, out, *error),
+    }
+}
+
+fn put_job(alloc: Global, out: &mut Vec<u8>, job: &Job) -> Result<(), AllocError>
+    ensures { OnOk result (out.new.items ≡ onto out.old.items (job_tokens job.now)) }
+{
+    put_count(out, job.consumer)?;
+    match &job.kind {
+        JobKind::Deliver(given) => {
+            put_word(out, word_of_item(given))?;
+            put_carried(alloc, out, given)
+        }
+        JobKind::Discard => put_word(out, b"discard"),
+    }
+}
+
 fn put_published(out: &mut Vec<u8>, ticket: u64, confirm: u64) -> Result<(), AllocError>
     ensures { OnOk result (out.new.items ≡ line_onto out.old.items (record_tokens (told.Publish ticket confirm))) }
 {
@@ -342,11 +376,26 @@ pub fn put_record(alloc: Global, out: &mut Vec<u8>, record: &Record) -> Result<(
         }
         Record::Answer(Err(error)) => put_error_line(alloc, out, b"error", *error),
         Record::Confirmed(Err(error)) => put_error_line(alloc, out, b"error", *error),
+        Record::Item(given) => {
+            out.extend_from_slice(word_of_item(given))?;
+            put_carried(alloc, out, given)
+        }
         Record::Returned(messages) => {
             out.extend_from_slice(b"returned")?;
             put_returned(alloc, out, messages)
         }
         Record::Aside => out.extend_from_slice(b"aside"),
+        Record::No => out.extend_from_slice(b"no"),
+        Record::Delegated => out.extend_from_slice(b"delegated"),
+        Record::Dropped(cancels) => {
+            out.extend_from_slice(b"dropped")?;
+            put_tokens(alloc, out, &[Token::Flag(*cancels)])
+        }
+        Record::Job(job) => {
+            out.extend_from_slice(b"job")?;
+            put_job(alloc, out, job)
+        }
+        Record::NoJob => out.extend_from_slice(b"nojob"),
         Record::State(connection, channel) => {
             out.extend_from_slice(b"state")?;
             put_states(alloc, out, *connection, *channel)

@@ -1,13 +1,13 @@
-//! The words that begin a frame or an event.
+//! The words that begin a frame, an event or the call of an acker.
 //!
-//! Here stands which word is whose text. What follows a word is read in `frames` and `events`.
+//! Here stands which word is whose text. What follows a word is read in `frames`, `events` and `ackers`.
 
 ghost use Rattle.std.specs.Prelude.{◌≡◌};
 ghost use Rattle.lapin_text.specs.LineReading.{word_at, word_text};
 
 use lapin_tokens::is_word;
 
-/// The words that begin a frame or an event.
+/// The words that begin a frame, an event or the call of an acker.
 #[derive(Clone, Copy, Debug, PartialEq, Eq)]
 pub enum Word {
     Method,
@@ -18,15 +18,23 @@ pub enum Word {
     Recv,
     Ticket,
     Confirm,
+    Consumer,
     Wait,
     AsideTicket,
     AsideConfirm,
+    Acker,
+    Delegate,
+    Drop,
+    Job,
     State,
     Lost,
+    Ack,
+    Nack,
+    Reject,
 }
 
 /// Each word once.
-pub const WORDS: [Word; 13] = [
+pub const WORDS: [Word; 21] = [
     Word::Method,
     Word::Header,
     Word::Body,
@@ -35,11 +43,19 @@ pub const WORDS: [Word; 13] = [
     Word::Recv,
     Word::Ticket,
     Word::Confirm,
+    Word::Consumer,
     Word::Wait,
     Word::AsideTicket,
     Word::AsideConfirm,
+    Word::Acker,
+    Word::Delegate,
+    Word::Drop,
+    Word::Job,
     Word::State,
     Word::Lost,
+    Word::Ack,
+    Word::Nack,
+    Word::Reject,
 ];
 
 fn text_of_word(word: Word) -> &'static [u8]
@@ -54,11 +70,19 @@ fn text_of_word(word: Word) -> &'static [u8]
         Word::Recv => b"recv",
         Word::Ticket => b"ticket",
         Word::Confirm => b"confirm",
+        Word::Consumer => b"consumer",
         Word::Wait => b"wait",
         Word::AsideTicket => b"aside-ticket",
         Word::AsideConfirm => b"aside-confirm",
+        Word::Acker => b"acker",
+        Word::Delegate => b"delegate",
+        Word::Drop => b"drop",
+        Word::Job => b"job",
         Word::State => b"state",
         Word::Lost => b"lost",
+        Word::Ack => b"ack",
+        Word::Nack => b"nack",
+        Word::Reject => b"reject",
     }
 }
 

@@ -1,5 +1,5 @@
 -- Lists that were cut in two, side by side.
-use Rattle.std.proofs.Common.{◌≡◌, ℕ, List, [], ◌∷◌, ◌++◌, arith, length, get_or}
+use Rattle.std.proofs.Common.{◌≡◌, List, [], ◌∷◌, ◌++◌, arith, length, get_or}
 use Rattle.std.specs.Prelude.{slice_set}
 use Rattle.lapin_threads.specs.Each.{EachLeft}
 

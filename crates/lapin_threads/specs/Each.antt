@@ -1,15 +1,15 @@
 -- What calls at each element of a list leave there.
-use Rattle.std.specs.Prelude.{◌≡◌, Bool, List, [], ◌∷◌}
+use Rattle.std.specs.Prelude.{◌≡◌, List, [], ◌∷◌}
 use denote.Ref.{MutBor}
 use denote.Param.Members.{Shared}
 
-module _ {F T : Type 0} (g : Shared F (MutBor T × Unit {0}) (Bool × (MutBor T × Unit {0}))) (f : F) where
+module _ {F T R : Type 0} (g : Shared F (MutBor T × Unit {0}) (R × (MutBor T × Unit {0}))) (f : F) where
   -- f may be called with any element
   abbrev pub Accepts : Type 0
   Accepts = (p : MutBor T) → g.pre f (p, tt)
 
   -- a call of f with a `&mut` to x may answer r and leave y there
-  pub record Leaves (x : T) (r : Bool) (y : T) : Type 0 where
+  pub record Leaves (x : T) (r : R) (y : T) : Type 0 where
     pub argument : MutBor T
     pub argument_is : argument.now ≡ x
     pub after_call : MutBor T

@@ -2,5 +2,7 @@
 #![tactic(auto)]
 
 mod each;
+mod tally;
 
 pub use each::each_mut;
+pub use tally::{Tally, tally_mut};

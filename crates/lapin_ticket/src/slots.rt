@@ -53,5 +53,6 @@ fn left(channel: u16, at_leaving: AtLeaving, begun: bool) -> Slot
         AtLeaving::Nothing => Slot::Open(channel, at_leaving, begun),
         AtLeaving::Done => Slot::Held(Ok(Answer::Done)),
         AtLeaving::Confirm(number) => Slot::Held(Ok(Answer::Confirm(number))),
+        AtLeaving::Yes => Slot::Held(Ok(Answer::Yes)),
     }
 }

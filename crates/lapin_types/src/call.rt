@@ -1,21 +1,22 @@
 //! The calls of a channel and of the connection, as data. What they do stands in the crates above.
 
 ghost use Rattle.std.specs.Prelude.{◌≡◌, IfOk};
-ghost use Rattle.std.specs.Bool.{Decides};
 
 use crate::exchange_kind::ExchangeKind;
 use lapin_methods::{
-    AccessRequestOptions, BasicAckOptions, BasicGetOptions, BasicNackOptions, BasicPublishOptions,
-    BasicQosOptions, BasicRecoverAsyncOptions, BasicRecoverOptions, BasicRejectOptions,
-    ChannelFlowOptions, ConfirmSelectOptions, ExchangeBindOptions, ExchangeDeclareOptions,
-    ExchangeDeleteOptions, ExchangeUnbindOptions, QueueBindOptions, QueueDeclareOptions,
-    QueueDeleteOptions, QueuePurgeOptions,
+    AccessRequestOptions, BasicAckOptions, BasicCancelOptions, BasicConsumeOptions,
+    BasicGetOptions, BasicNackOptions, BasicPublishOptions, BasicQosOptions,
+    BasicRecoverAsyncOptions, BasicRecoverOptions, BasicRejectOptions, ChannelFlowOptions,
+    ConfirmSelectOptions, ExchangeBindOptions, ExchangeDeclareOptions, ExchangeDeleteOptions,
+    ExchangeUnbindOptions, QueueBindOptions, QueueDeclareOptions, QueueDeleteOptions,
+    QueuePurgeOptions,
 };
 use lapin_values::{BasicProperties, FieldTable, NoMemory, Payload, ShortString};
 use std::alloc::Global;
 
 mod basic;
 mod channel;
+mod equality;
 mod exchange;
 mod queue;
 
@@ -147,6 +148,24 @@ pub enum Call {
         prefetch_count: u16,
         /// The marks of the method.
         options: BasicQosOptions,
+    },
+    /// Asks for the messages of a queue, as they come (`basic.consume`).
+    BasicConsume {
+        /// The queue.
+        queue: ShortString,
+        /// The tag of the consumer; the broker makes one up where this is empty.
+        consumer_tag: ShortString,
+        /// The marks of the method.
+        options: BasicConsumeOptions,
+        /// Further arguments.
+        arguments: FieldTable,
+    },
+    /// Asks for no more messages (`basic.cancel`).
+    BasicCancel {
+        /// The tag of the consumer.
+        consumer_tag: ShortString,
+        /// The marks of the method.
+        options: BasicCancelOptions,
     },
     /// Publishes a message (`basic.publish`).
     BasicPublish {
@@ -297,6 +316,16 @@ impl Call {
                 prefetch_count: *prefetch_count,
                 options: *options,
             }),
+            Call::BasicConsume {
+                queue,
+                consumer_tag,
+                options,
+                arguments,
+            } => basic::copied_basic_consume(queue, consumer_tag, options, arguments, alloc),
+            Call::BasicCancel {
+                consumer_tag,
+                options,
+            } => basic::copied_basic_cancel(consumer_tag, options, alloc),
             Call::BasicPublish {
                 exchange,
                 routing_key,
@@ -342,133 +371,5 @@ impl Call {
             Call::TxCommit => Ok(Call::TxCommit),
             Call::TxRollback => Ok(Call::TxRollback),
         }
-    }
-
-    /// Whether two calls are equal in every field.
-    pub fn same(&self, other: &Call) -> bool
-        ensures { Decides result (self.now ≡ other.now) }
-    {
-        match self {
-            Call::OpenChannel => matches!(other, Call::OpenChannel),
-            Call::ConnectionClose {
-                reply_code,
-                reply_text,
-            } => channel::is_connection_close(other, reply_code, reply_text),
-            Call::ChannelClose {
-                reply_code,
-                reply_text,
-            } => channel::is_channel_close(other, reply_code, reply_text),
-            Call::ChannelFlow { options } => channel::is_channel_flow(other, options),
-            Call::AccessRequest { realm, options } => channel::is_access_request(
-                other, realm, options,
-            ),
-            Call::ExchangeDeclare {
-                exchange,
-                kind,
-                options,
-                arguments,
-            } => exchange::is_exchange_declare(other, exchange, kind, options, arguments),
-            Call::ExchangeDelete { exchange, options } => exchange::is_exchange_delete(
-                other, exchange, options,
-            ),
-            Call::ExchangeBind {
-                destination,
-                source,
-                routing_key,
-                options,
-                arguments,
-            } => exchange::is_exchange_bind(
-                other,
-                destination,
-                source,
-                routing_key,
-                options,
-                arguments,
-            ),
-            Call::ExchangeUnbind {
-                destination,
-                source,
-                routing_key,
-                options,
-                arguments,
-            } => exchange::is_exchange_unbind(
-                other,
-                destination,
-                source,
-                routing_key,
-                options,
-                arguments,
-            ),
-            Call::QueueDeclare {
-                queue,
-                options,
-                arguments,
-            } => queue::is_queue_declare(other, queue, options, arguments),
-            Call::QueueBind {
-                queue,
-                exchange,
-                routing_key,
-                options,
-                arguments,
-            } => queue::is_queue_bind(other, queue, exchange, routing_key, options, arguments),
-            Call::QueuePurge { queue, options } => queue::is_queue_purge(other, queue, options),
-            Call::QueueDelete { queue, options } => queue::is_queue_delete(other, queue, options),
-            Call::QueueUnbind {
-                queue,
-                exchange,
-                routing_key,
-                arguments,
-            } => queue::is_queue_unbind(other, queue, exchange, routing_key, arguments),
-            Call::BasicQos {
-                prefetch_count,
-                options,
-            } => basic::is_basic_qos(other, prefetch_count, options),
-            Call::BasicPublish {
-                exchange,
-                routing_key,
-                options,
-                payload,
-                properties,
-            } => basic::is_basic_publish(
-                other,
-                exchange,
-                routing_key,
-                options,
-                payload,
-                properties,
-            ),
-            Call::BasicGet { queue, options } => basic::is_basic_get(other, queue, options),
-            Call::BasicAck {
-                delivery_tag,
-                options,
-            } => basic::is_basic_ack(other, delivery_tag, options),
-            Call::BasicNack {
-                delivery_tag,
-                options,
-            } => basic::is_basic_nack(other, delivery_tag, options),
-            Call::BasicReject {
-                delivery_tag,
-                options,
-            } => basic::is_basic_reject(other, delivery_tag, options),
-            Call::BasicRecoverAsync { options } => basic::is_basic_recover_async(other, options),
-            Call::BasicRecover { options } => basic::is_basic_recover(other, options),
-            Call::ConfirmSelect { options } => channel::is_confirm_select(other, options),
-            Call::TxSelect => matches!(other, Call::TxSelect),
-            Call::TxCommit => matches!(other, Call::TxCommit),
-            Call::TxRollback => matches!(other, Call::TxRollback),
-        }
-    }
-}
-
-impl PartialEq for Call {
-    ghost use Rattle.lapin_values.specs.Same.{same_by, same_by_per};
-    ghost use Rattle.lapin_types.specs.contracts.call.Call as it;
-
-    ghost eq = { same_by it.the_row.coded };
-
-    ghost laws = { same_by_per it.the_row.coded };
-
-    fn eq(&self, other: &Call) -> bool {
-        self.same(other)
     }
 }

@@ -4,6 +4,7 @@ ghost use Rattle.std.specs.Prelude.{◌≡◌, IfOk};
 ghost use Rattle.std.specs.Bool.{Decides};
 ghost use Rattle.lapin_types.specs.declared.event.Event.TheVariants as event;
 
+use crate::acker_call::AckerCall;
 use crate::call::Call;
 use lapin_methods::Frame;
 use lapin_values::NoMemory;
@@ -22,12 +23,22 @@ pub enum Event {
     PollTicket(u64),
     /// The outcome of a publish is asked for, by its confirm number.
     PollConfirm(u64),
+    /// The next item of a consumer is asked for.
+    PollConsumer(u64),
     /// All confirms of a channel are waited for.
     PollWait(u16),
     /// A ticket is set aside: nobody asks for its result any more.
     AsideTicket(u64),
     /// A confirm is set aside: nobody asks for its result any more.
     AsideConfirm(u64),
+    /// A call of an acker, by its number.
+    Acker(u64, AckerCall),
+    /// A consumer gets a delegate, by its number: from now on its items are jobs.
+    Delegate(u64),
+    /// A consumer is dropped, by its number: nobody polls it any more.
+    DropConsumer(u64),
+    /// The next job is asked for.
+    NextJob,
     /// The states of the connection and of a channel are asked for.
     State(u16),
     /// The connection was lost.
@@ -45,9 +56,14 @@ impl Event {
             Event::Receive(frame) => copied_frame(frame, alloc),
             Event::PollTicket(number) => Ok(Event::PollTicket(*number)),
             Event::PollConfirm(number) => Ok(Event::PollConfirm(*number)),
+            Event::PollConsumer(number) => Ok(Event::PollConsumer(*number)),
             Event::PollWait(channel) => Ok(Event::PollWait(*channel)),
             Event::AsideTicket(number) => Ok(Event::AsideTicket(*number)),
             Event::AsideConfirm(number) => Ok(Event::AsideConfirm(*number)),
+            Event::Acker(number, call) => Ok(Event::Acker(*number, *call)),
+            Event::Delegate(number) => Ok(Event::Delegate(*number)),
+            Event::DropConsumer(number) => Ok(Event::DropConsumer(*number)),
+            Event::NextJob => Ok(Event::NextJob),
             Event::State(channel) => Ok(Event::State(*channel)),
             Event::Lost => Ok(Event::Lost),
         }
@@ -63,9 +79,14 @@ impl Event {
             (Event::Receive(left), Event::Receive(right)) => left.same(right),
             (Event::PollTicket(left), Event::PollTicket(right)) => left == right,
             (Event::PollConfirm(left), Event::PollConfirm(right)) => left == right,
+            (Event::PollConsumer(left), Event::PollConsumer(right)) => left == right,
             (Event::PollWait(left), Event::PollWait(right)) => left == right,
             (Event::AsideTicket(left), Event::AsideTicket(right)) => left == right,
             (Event::AsideConfirm(left), Event::AsideConfirm(right)) => left == right,
+            (Event::Acker(a, left), Event::Acker(b, right)) => a == b && left == right,
+            (Event::Delegate(left), Event::Delegate(right)) => left == right,
+            (Event::DropConsumer(left), Event::DropConsumer(right)) => left == right,
+            (Event::NextJob, Event::NextJob) => true,
             (Event::State(left), Event::State(right)) => left == right,
             (Event::Lost, Event::Lost) => true,
             _ => false,

@@ -6,6 +6,8 @@ ghost use Rattle.lapin_types.specs.declared.record.Record.TheVariants as told;
 
 use crate::answer::Answer;
 use crate::confirmation::Confirmation;
+use crate::job::Job;
+use crate::message::{DeliveryResult, copied_result, same_result};
 use crate::returned::ReturnedList;
 use lapin_methods::{ChannelState, ConnectionState, Error, Frame};
 use lapin_values::NoMemory;
@@ -39,10 +41,22 @@ pub enum Record {
     Answer(Result<Answer, Error>),
     /// The outcome of a publish.
     Confirmed(Result<Confirmation, Error>),
+    /// The next item of a consumer: a delivery, its end, or the error that ended its channel.
+    Item(DeliveryResult),
     /// The returned messages of a channel whose confirms were waited for.
     Returned(ReturnedList),
     /// The ticket or the confirm is set aside.
     Aside,
+    /// The acker isn't usable.
+    No,
+    /// The consumer has a delegate.
+    Delegated,
+    /// The consumer is dropped; whether its `basic.cancel` was queued.
+    Dropped(bool),
+    /// The next job.
+    Job(Job),
+    /// There is no job.
+    NoJob,
     /// The states of the connection and of a channel.
     State(ConnectionState, ChannelState),
     /// The connection is lost.
@@ -68,8 +82,14 @@ impl Record {
             Record::Pending => Ok(Record::Pending),
             Record::Answer(answer) => copied_answer(answer, alloc),
             Record::Confirmed(outcome) => copied_outcome(outcome, alloc),
+            Record::Item(given) => copied_item(given, alloc),
             Record::Returned(messages) => copied_messages(messages, alloc),
             Record::Aside => Ok(Record::Aside),
+            Record::No => Ok(Record::No),
+            Record::Delegated => Ok(Record::Delegated),
+            Record::Dropped(cancels) => Ok(Record::Dropped(*cancels)),
+            Record::Job(job) => copied_job(job, alloc),
+            Record::NoJob => Ok(Record::NoJob),
             Record::State(connection, channel) => Ok(Record::State(*connection, *channel)),
             Record::Lost => Ok(Record::Lost),
         }
@@ -96,8 +116,14 @@ impl Record {
             (Record::Pending, Record::Pending) => true,
             (Record::Answer(left), Record::Answer(right)) => same_answer(left, right),
             (Record::Confirmed(left), Record::Confirmed(right)) => same_outcome(left, right),
+            (Record::Item(left), Record::Item(right)) => same_result(left, right),
             (Record::Returned(left), Record::Returned(right)) => left.same(right),
             (Record::Aside, Record::Aside) => true,
+            (Record::No, Record::No) => true,
+            (Record::Delegated, Record::Delegated) => true,
+            (Record::Dropped(left), Record::Dropped(right)) => left == right,
+            (Record::Job(left), Record::Job(right)) => left.same(right),
+            (Record::NoJob, Record::NoJob) => true,
             (Record::State(a, b), Record::State(connection, channel)) => {
                 a == connection && b == channel
             }
@@ -111,6 +137,18 @@ fn copied_frame(frame: &Frame, alloc: Global) -> Result<Record, NoMemory>
     ensures { IfOk result (λ copy. copy ≡ told.Frame frame.now) }
 {
     Ok(Record::Frame(frame.try_clone(alloc)?))
+}
+
+fn copied_item(given: &DeliveryResult, alloc: Global) -> Result<Record, NoMemory>
+    ensures { IfOk result (λ copy. copy ≡ told.Item given.now) }
+{
+    Ok(Record::Item(copied_result(given, alloc)?))
+}
+
+fn copied_job(job: &Job, alloc: Global) -> Result<Record, NoMemory>
+    ensures { IfOk result (λ copy. copy ≡ told.Job job.now) }
+{
+    Ok(Record::Job(job.try_clone(alloc)?))
 }
 
 fn copied_messages(messages: &ReturnedList, alloc: Global) -> Result<Record, NoMemory>

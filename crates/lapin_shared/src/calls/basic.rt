@@ -10,9 +10,9 @@ use crate::caller::{Caller, StepError};
 use crate::entry::Told;
 use crate::locked::Crew;
 use lapin_types::{
-    BasicAckOptions, BasicGetOptions, BasicNackOptions, BasicProperties, BasicPublishOptions,
-    BasicQosOptions, BasicRecoverAsyncOptions, BasicRecoverOptions, BasicRejectOptions, Call,
-    Event, Payload, ShortString,
+    BasicAckOptions, BasicCancelOptions, BasicConsumeOptions, BasicGetOptions, BasicNackOptions,
+    BasicProperties, BasicPublishOptions, BasicQosOptions, BasicRecoverAsyncOptions,
+    BasicRecoverOptions, BasicRejectOptions, Call, Event, FieldTable, Payload, ShortString,
 };
 use std::alloc::Global;
 use std::sync::Wait;
@@ -36,6 +36,46 @@ impl<L: Crew> Caller<L> {
     {
         let call = Call::BasicQos {
             prefetch_count,
+            options,
+        };
+        self.step(rt, alloc, Event::Call(channel, call))
+    }
+
+    /// Asks the broker to deliver the messages of a queue (AMQP 0-9-1, `basic.consume`).
+    pub fn basic_consume<R: Wait>(
+        &mut self,
+        rt: &R,
+        alloc: Global,
+        channel: u16,
+        queue: ShortString,
+        consumer_tag: ShortString,
+        options: BasicConsumeOptions,
+        arguments: FieldTable,
+    ) -> Result<&Told, StepError>
+        ensures* after { sem 𝓛 (follows_so (the_row L.row L.Ledger) (the_row L.row L.Ledger) self.entry.ghost_name none (λ _ _. ⊤) (λ new. IsStep result (λ t. t.now) self.old (event.Call channel (call.BasicConsume queue consumer_tag options arguments)) new)) }
+    {
+        let call = Call::BasicConsume {
+            queue,
+            consumer_tag,
+            options,
+            arguments,
+        };
+        self.step(rt, alloc, Event::Call(channel, call))
+    }
+
+    /// Asks the broker to end a consumer (AMQP 0-9-1, `basic.cancel`).
+    pub fn basic_cancel<R: Wait>(
+        &mut self,
+        rt: &R,
+        alloc: Global,
+        channel: u16,
+        consumer_tag: ShortString,
+        options: BasicCancelOptions,
+    ) -> Result<&Told, StepError>
+        ensures* after { sem 𝓛 (follows_so (the_row L.row L.Ledger) (the_row L.row L.Ledger) self.entry.ghost_name none (λ _ _. ⊤) (λ new. IsStep result (λ t. t.now) self.old (event.Call channel (call.BasicCancel consumer_tag options)) new)) }
+    {
+        let call = Call::BasicCancel {
+            consumer_tag,
             options,
         };
         self.step(rt, alloc, Event::Call(channel, call))

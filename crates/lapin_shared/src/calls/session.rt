@@ -80,6 +80,18 @@ impl<L: Crew> Caller<L> {
         self.step(rt, alloc, Event::PollConfirm(number))
     }
 
+    /// Asks for the next item of a consumer: a delivery, the error that ended its channel, or its end. It may be pending.
+    pub fn poll_next<R: Wait>(
+        &mut self,
+        rt: &R,
+        alloc: Global,
+        consumer: u64,
+    ) -> Result<&Told, StepError>
+        ensures* after { sem 𝓛 (follows_so (the_row L.row L.Ledger) (the_row L.row L.Ledger) self.entry.ghost_name none (λ _ _. ⊤) (λ new. IsStep result (λ t. t.now) self.old (event.PollConsumer consumer) new)) }
+    {
+        self.step(rt, alloc, Event::PollConsumer(consumer))
+    }
+
     /// Waits for all confirms of a channel, and asks for the messages that came back. It may be pending.
     pub fn wait_for_confirms<R: Wait>(
         &mut self,

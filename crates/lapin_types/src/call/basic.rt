@@ -7,10 +7,11 @@ ghost use Rattle.lapin_types.specs.declared.call.Call.TheVariants as variant;
 
 use crate::call::Call;
 use lapin_methods::{
-    BasicAckOptions, BasicGetOptions, BasicNackOptions, BasicPublishOptions, BasicQosOptions,
-    BasicRecoverAsyncOptions, BasicRecoverOptions, BasicRejectOptions,
+    BasicAckOptions, BasicCancelOptions, BasicConsumeOptions, BasicGetOptions, BasicNackOptions,
+    BasicPublishOptions, BasicQosOptions, BasicRecoverAsyncOptions, BasicRecoverOptions,
+    BasicRejectOptions,
 };
-use lapin_values::{BasicProperties, NoMemory, Payload, ShortString};
+use lapin_values::{BasicProperties, FieldTable, NoMemory, Payload, ShortString};
 use std::alloc::Global;
 
 /// Whether a call is `Call::BasicQos` with these arguments.
@@ -22,6 +23,76 @@ pub fn is_basic_qos(call: &Call, prefetch_count: &u16, options: &BasicQosOptions
             prefetch_count: a,
             options: b,
         } => a == prefetch_count && b == options,
+        _ => false,
+    }
+}
+
+/// A copy of `Call::BasicConsume`.
+pub fn copied_basic_consume(
+    queue: &ShortString,
+    consumer_tag: &ShortString,
+    options: &BasicConsumeOptions,
+    arguments: &FieldTable,
+    alloc: Global,
+) -> Result<Call, NoMemory>
+    ensures { IfOk result (λ copy. copy ≡ variant.BasicConsume queue.now consumer_tag.now options.now arguments.now) }
+{
+    Ok(Call::BasicConsume {
+        queue: queue.try_clone(alloc)?,
+        consumer_tag: consumer_tag.try_clone(alloc)?,
+        options: *options,
+        arguments: arguments.try_clone(alloc)?,
+    })
+}
+
+/// Whether a call is `Call::BasicConsume` with these arguments.
+pub fn is_basic_consume(
+    call: &Call,
+    queue: &ShortString,
+    consumer_tag: &ShortString,
+    options: &BasicConsumeOptions,
+    arguments: &FieldTable,
+) -> bool
+    ensures { Decides result (call.now ≡ variant.BasicConsume queue.now consumer_tag.now options.now arguments.now) }
+{
+    match call {
+        Call::BasicConsume {
+            queue: a,
+            consumer_tag: b,
+            options: c,
+            arguments: d,
+        } => a == queue && b == consumer_tag && c == options && d.same(arguments),
+        _ => false,
+    }
+}
+
+/// A copy of `Call::BasicCancel`.
+pub fn copied_basic_cancel(
+    consumer_tag: &ShortString,
+    options: &BasicCancelOptions,
+    alloc: Global,
+) -> Result<Call, NoMemory>
+    ensures { IfOk result (λ copy. copy ≡ variant.BasicCancel consumer_tag.now options.now) }
+{
+    Ok(Call::BasicCancel {
+        consumer_tag: consumer_tag.try_clone(alloc)?,
+        options: *options,
+    })
+}
+
+/// Whether a call is `Call::BasicCancel` with these arguments.
+pub fn is_basic_cancel(
+    call: &Call,
+    consumer_tag: &ShortString,
+    options: &BasicCancelOptions,
+) -> bool
+    ensures { Decides result (call.now ≡ variant.BasicCancel consumer_tag.now options.now) }
+{
+    match call {
+        Call::BasicCancel {
+            consumer_tag: a,
+            options: b,
+        } => a == consumer_tag && b == options,
         _ => false,
     }
 }

@@ -7,5 +7,5 @@ use Rattle.lapin_machine.proofs.receiving_closes.kept_close.Goals as goal
 
 pub returns-clause-emptied : goal.returns-clause-emptied
 returns-clause-emptied c =
-    ap (on_channel c.args.channel no_requests) c.take_request.ensures.waiting
+    ap (on_channel c.args.channel no_requests) c.take_close.ensures.waiting
     ∙ on_twice c.args.channel (without_kind reply_kind.ChannelCloseOk) no_requests c.args.replies.now.what

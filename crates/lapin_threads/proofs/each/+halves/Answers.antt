@@ -1,4 +1,4 @@
-use Rattle.std.proofs.Common.{rules, ℕ, ◌≡◌, List, Bool, true, subst, get_or}
+use Rattle.std.proofs.Common.{Bool, true, subst, get_or}
 use Rattle.lapin_threads.specs.Each.{Leaves}
 use Rattle.lapin_threads.proofs.Sides.{left_one, left_append}
 use Rattle.lapin_threads.proofs.each.+halves.Goals as goal

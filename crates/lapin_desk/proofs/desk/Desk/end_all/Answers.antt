@@ -1,8 +1,10 @@
 use Rattle.std.proofs.Common.{◌∙◌, ap, None}
+use Rattle.lapin_history.specs.Ends.{live_channels, cancels_on}
 use Rattle.lapin_history.specs.TicketReadings as mark
+use Rattle.lapin_history.specs.Ends.{live_channels, cancels_on}
 use Rattle.lapin_outbox.specs.Returned.{with_returned}
 use Rattle.lapin_ticket.specs.Room.{Issued}
-use Rattle.lapin_ticket.specs.Slots as desk
+use Rattle.lapin_desk.proofs.Cancels.{cancels-then}
 use Rattle.lapin_desk.proofs.desk.Desk.end_all.Goals as goal
 
 pub returns-clause-outbox : goal.returns-clause-outbox
@@ -10,5 +12,6 @@ returns-clause-outbox c = c.drop_waiting.ensures.outbox ∙ ap (with_returned No
 
 pub returns-clause-slots : goal.returns-clause-slots
 returns-clause-slots c =
+    cancels-then c.args.self.now.tickets.slots c.drop_waiting.new.self.tickets.slots _ (cancels_on (live_channels c.args.phases.now.entries) c.args.self.now.replies.what) (mark.AllFailed c.args.error)
+    (ap (λ (t : Issued). t.slots) c.drop_waiting.ensures.tickets ∙ c.end_live.ensures.slots)
     c.fail_all.ensures.slots
-    ∙ ap (λ (s : Issued). desk.after_mark s.slots (mark.AllFailed c.args.error)) (c.drop_waiting.ensures.tickets ∙ c.end_live.ensures.tickets)

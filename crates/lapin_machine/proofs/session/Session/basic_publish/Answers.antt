@@ -7,7 +7,7 @@ use Rattle.lapin_confirm.specs.Post.{Post}
 use Rattle.lapin_machine.specs.World.{World}
 use Rattle.lapin_machine.proofs.Keeping.{tied_publish, kept_by, clean}
 use Rattle.lapin_machine.proofs.Openings.{open_opening, ok_then}
-use Rattle.lapin_machine.proofs.Worlds.{publish_queued}
+use Rattle.lapin_machine.proofs.Seen.{publish_queued}
 use Rattle.lapin_machine.proofs.session.Session.basic_publish.Goals as goal
 
 pub invariant_of-self-2 : goal.invariant_of-self-2

@@ -1,4 +1,5 @@
 use Rattle.std.proofs.Common.{None, refl, ◌∙◌, ap}
+use Rattle.lapin_inbox.specs.Held.{what}
 use Rattle.lapin_types.specs.declared.record.Record.TheVariants as record_
 use Rattle.lapin_content.specs.Channels.{expected_on}
 use Rattle.lapin_history.specs.declared.broker_frames.ContentPart.TheVariants as part
@@ -10,7 +11,7 @@ use Rattle.lapin_machine.proofs.session.Session.begin_bytes.Goals as goal
 
 pub returns : goal.returns
 returns c =
-    part_seen c.self.inside.link c.self.inside.phases.entries c.self.inside.desk.outbox.what c.self.inside.desk.replies.what c.self.inside.contents c.self.inside.ackers c.self.inside.desk.tickets.slots c.self.inside.confirms.what c.args.channel (part.Header c.args.header) None _ _ _ _ _ _
+    part_seen c.self.inside.link c.self.inside.phases.entries c.self.inside.desk.outbox.what c.self.inside.desk.replies.what c.self.inside.contents (what c.self.inside.inbox) c.self.inside.desk.tickets.slots c.self.inside.confirms.what c.args.channel (part.Header c.args.header) None _ _ _ _ _ _
     (header_begins c.args.header (expected_on c.args.channel c.self.inside.contents) c.requires)
     refl refl refl c.header-heard.ensures.after refl refl refl
     ∙ ap (λ (w : World). receiving (incoming.Content c.args.channel (part.Header c.args.header)) record_.Received w) c.self.view_is

@@ -1,4 +1,5 @@
 use Rattle.std.proofs.Common.{◌∙◌, refl, sym, ap, subst, length, ℕ, ◌+◌, List, Option, Some}
+use Rattle.lapin_inbox.specs.Held.{what}
 use Rattle.lapin_types.specs.declared.call.Call.TheVariants as call
 use Rattle.lapin_types.specs.declared.event.Event.TheVariants as event
 use Rattle.lapin_types.specs.declared.request.Reply.TheVariants as reply
@@ -20,7 +21,8 @@ use Rattle.lapin_desk.specs.Queued.{AreQueued}
 use Rattle.lapin_machine.specs.World.{World, next}
 use Rattle.lapin_machine.proofs.Keeping.{tied_closing, kept_by}
 use Rattle.lapin_machine.proofs.Openings.{open_opening}
-use Rattle.lapin_machine.proofs.Worlds.{with_entry, without_unbegun, channel_close_seen}
+use Rattle.lapin_machine.proofs.Seen.{with_entry, without_unbegun}
+use Rattle.lapin_machine.proofs.Worlds.{channel_close_seen}
 use Rattle.lapin_machine.proofs.session.Session.channel_close.Goals as goal
 
 pub invariant_of-self-2 : goal.invariant_of-self-2
@@ -41,7 +43,7 @@ returns-clause-ok c =
     let open_ = ap (λ (w : World). is_open (state_of c.args.channel w.wire)) c.self.view_is ∙ sym (ap is_open c.channel_state-state.ensures) ∙ sym c.is_open.ensures ∙ c.if-not-is_open.false in
     let number : ℕ = length c.begin_close.new.desk.tickets.slots + 1 in
     let entry : MethodEntry = record { channel = c.args.channel; method = method.Channel (channel.Close c.args.reply_code c.args.reply_text 0 0); ticket = Some number } in
-    channel_close_seen c.self.inside.link c.self.inside.phases.entries c.self.inside.desk.outbox.what c.self.inside.desk.replies.what c.self.inside.contents c.self.inside.ackers c.self.inside.desk.tickets.slots c.self.inside.confirms.what c.args.channel c.args.reply_code c.args.reply_text _ _ _ c.begin_close.new.desk.tickets.slots _ _
+    channel_close_seen c.self.inside.link c.self.inside.phases.entries c.self.inside.desk.outbox.what c.self.inside.desk.replies.what c.self.inside.contents (what c.self.inside.inbox) c.self.inside.desk.tickets.slots c.self.inside.confirms.what c.args.channel c.args.reply_code c.args.reply_text _ _ _ _ c.begin_close.new.desk.tickets.slots _ _
     open_
     c.begin_close.ensures.phases
     (c.begin_close.ensures.slots ∙ ap (λ (y : List (Option Slot)). after_mark y (mark.ClosedHere c.args.channel (failed_at_close closer.Application))) c.reserve.ensures.same.slots)
@@ -49,4 +51,5 @@ returns-clause-ok c =
     (c.queue-number.ensures.requests ∙ ap (requests_with c.args.channel number (Some reply.ChannelCloseOk)) (ap (λ (r : OpenRequests). r.what) c.begin_close.ensures.requests ∙ c.reserve.ensures.same.requests))
     c.queue-number.ensures.slots
     c.begin_close.ensures.confirms
+    c.ask_close.ensures
     ∙ ap (λ (w : World). next w (event.Call c.args.channel (call.ChannelClose c.args.reply_code c.args.reply_text))) c.self.view_is

@@ -1,4 +1,5 @@
 use Rattle.std.proofs.Common.{◌∙◌, refl, sym, ap, subst, None}
+use Rattle.lapin_inbox.specs.Held.{what}
 use Rattle.lapin_types.specs.declared.record.Record.TheVariants as record_
 use Rattle.lapin_types.specs.Types.{Method}
 use Rattle.lapin_types.specs.Types.error
@@ -18,7 +19,8 @@ use Rattle.lapin_desk.specs.Queued.{AreQueued}
 use Rattle.lapin_machine.specs.World.{World, receiving}
 use Rattle.lapin_machine.proofs.Keeping.{tied_closing, kept_by}
 use Rattle.lapin_machine.proofs.Openings.{open_opening}
-use Rattle.lapin_machine.proofs.Worlds.{with_entry, without_unbegun, seen_is, failed_seen}
+use Rattle.lapin_machine.proofs.Seen.{with_entry, without_unbegun, seen_is}
+use Rattle.lapin_machine.proofs.Worlds.{failed_seen}
 use Rattle.lapin_machine.proofs.session.Session.close_unless_closing.Goals as goal
 
 pub invariant_of-self-2 : goal.invariant_of-self-2
@@ -42,7 +44,7 @@ returns-clause-ok c = λ tag current.
     ∙ ap (with_entry (entry c.in_ok-method.method)) (c.begin_close.ensures.outbox ∙ ap (without_unbegun c.args.channel) c.reserve.ensures.same)
     ∙ ap (λ (k : Method). with_entry (entry k) (without_unbegun c.args.channel c.self.inside.desk.outbox.what)) c.in_ok-method.ensures in
     seen_is _ _ _ _ c.queue_own.new.self.outbox.what _ _ _ _ _ _ _ _ _ _ _ refl refl refl (ap (λ (r : OpenRequests). r.what) (c.queue_own.ensures.replies ∙ c.begin_close.ensures.requests)) refl refl refl refl
-    ∙ failed_seen c.self.inside.link c.self.inside.phases.entries c.self.inside.desk.outbox.what c.self.inside.desk.replies.what c.self.inside.contents c.self.inside.ackers c.self.inside.desk.tickets.slots c.self.inside.confirms.what c.args.channel (single_of c.args.kind tag) tag current _ _ _ _
+    ∙ failed_seen c.self.inside.link c.self.inside.phases.entries c.self.inside.desk.outbox.what c.self.inside.desk.replies.what c.self.inside.contents (what c.self.inside.inbox) c.self.inside.desk.tickets.slots c.self.inside.confirms.what c.args.channel (single_of c.args.kind tag) tag current _ _ _ _
     open_
     c.begin_close.ensures.phases
     outbox

@@ -1,5 +1,6 @@
 use Rattle.std.proofs.Common.{◌∙◌, sym, ap, refl, Option}
 use Rattle.std.specs.List.{fold}
+use Rattle.lapin_inbox.specs.Held.{what}
 use Rattle.lapin_types.specs.declared.leaving.Left.{Left}
 use Rattle.lapin_history.specs.Handing.{left_marks}
 use Rattle.lapin_confirm.specs.Post.{Post}
@@ -8,7 +9,8 @@ use Rattle.lapin_outbox.specs.Open.{OpenRequests}
 use Rattle.lapin_outbox.specs.Outgoing.{Outgoing}
 use Rattle.lapin_outbox.specs.Returned.{is_retried}
 use Rattle.lapin_machine.specs.World.{World, handing}
-use Rattle.lapin_machine.proofs.Worlds.{seen_is, handing_seen}
+use Rattle.lapin_machine.proofs.Seen.{seen_is}
+use Rattle.lapin_machine.proofs.Worlds.{handing_seen}
 use Rattle.lapin_machine.proofs.Keeping.{tied_handed, can_register, kept_by}
 use Rattle.lapin_machine.proofs.Back.{popped_anew, popped_left}
 use Rattle.lapin_machine.proofs.session.Session.hand_out.Goals as goal
@@ -36,7 +38,7 @@ returns-in-Some-clause-ok c =
     let o = c.self.inside.desk.outbox.what in
     let none = ap (λ (w : World). is_retried w.returned) c.self.view_is ∙ c.requires in
     seen_is _ _ _ _ c.leave.new.self.outbox.what _ _ _ _ _ _ _ _ _ _ _ refl refl refl (ap (λ (r : OpenRequests). r.what) c.leave.ensures.replies) refl refl refl refl
-    ∙ handing_seen c.self.inside.link c.self.inside.phases.entries o c.self.inside.desk.replies.what c.self.inside.contents c.self.inside.ackers c.self.inside.desk.tickets.slots c.self.inside.confirms.what c.args.may_begin c.in-Some.left _ _ _ _ _
+    ∙ handing_seen c.self.inside.link c.self.inside.phases.entries o c.self.inside.desk.replies.what c.self.inside.contents (what c.self.inside.inbox) c.self.inside.desk.tickets.slots c.self.inside.confirms.what c.args.may_begin c.in-Some.left _ _ _ _ _
     (sym (popped_anew c.args.may_begin o none) ∙ sym c.in_ok-left.ensures.told ∙ c.in-Some.is) c.link_left.ensures c.phases_left.ensures
     (ap (λ (x : Outgoing). x.what) c.leave.ensures.outbox ∙ c.in_ok-left.ensures.ok ∙ popped_left c.args.may_begin o none) c.leave.ensures.slots c.confirms_left.ensures
     ∙ ap (handing c.args.may_begin) c.self.view_is

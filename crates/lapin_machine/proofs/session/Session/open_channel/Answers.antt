@@ -1,4 +1,7 @@
 use Rattle.std.proofs.Common.{◌≡◌, ◌∙◌, ℕ, sym, ap, refl, List, Option, Some, length, ◌+◌}
+use Rattle.lapin_inbox.specs.Held.{what}
+use Rattle.lapin_inbox.specs.Inbox.{Inbox, after_mark as after_inbox_mark}
+use Rattle.lapin_inbox.specs.Marks as inbox_mark
 use Rattle.lapin_types.specs.declared.request.Reply.TheVariants as reply
 use Rattle.lapin_history.specs.declared.phases.ChannelPhase.TheVariants as phase
 use Rattle.lapin_history.specs.Words.{with_channel}
@@ -15,7 +18,7 @@ use Rattle.lapin_confirm.specs.Post.{Post}
 use Rattle.lapin_machine.specs.World.{World, asking}
 use Rattle.lapin_machine.proofs.Keeping.{tied_opened, kept_by}
 use Rattle.lapin_machine.proofs.Openings.{closed_over}
-use Rattle.lapin_machine.proofs.Worlds.{with_entry}
+use Rattle.lapin_machine.proofs.Seen.{with_entry}
 use Rattle.lapin_machine.proofs.Beginnings.{open_seen}
 use Rattle.lapin_machine.proofs.session.Session.open_channel.Goals as goal
 
@@ -41,7 +44,7 @@ returns-clause-ok c =
     let entry : ℕ → MethodEntry = λ n. record { channel = c.args.channel; method = method.Channel channel.Open; ticket = Some (n + 1) } in
     let slots : c.reserve-2.new.self.tickets.slots ≡ c.self.inside.desk.tickets.slots = c.reserve-2.ensures.same.slots in
     let count : length c.reserve-2.new.self.tickets.slots ≡ length c.self.inside.desk.tickets.slots = ap length slots in
-    open_seen c.self.inside.link c.self.inside.phases.entries c.self.inside.desk.outbox.what c.self.inside.desk.replies.what c.self.inside.contents c.self.inside.ackers c.self.inside.desk.tickets.slots c.self.inside.confirms.what c.args.channel _ _ _ _ _
+    open_seen c.self.inside.link c.self.inside.phases.entries c.self.inside.desk.outbox.what c.self.inside.desk.replies.what c.self.inside.contents (what c.self.inside.inbox) c.self.inside.desk.tickets.slots c.self.inside.confirms.what c.args.channel _ _ _ _ _ _
     closed
     (c.set.ensures ∙ ap (with_channel c.args.channel phase.Opening) c.reserve.ensures.same)
     (c.queue-number.ensures.outbox ∙ ap (λ n. with_entry (entry n) c.reserve-2.new.self.outbox.what) count ∙ ap (with_entry (entry (length c.self.inside.desk.tickets.slots))) c.reserve-2.ensures.same.outbox)
@@ -50,4 +53,5 @@ returns-clause-ok c =
     ∙ ap (requests_with c.args.channel (length c.self.inside.desk.tickets.slots + 1) (Some reply.ChannelOpenOk)) c.reserve-2.ensures.same.requests)
     (c.queue-number.ensures.slots ∙ ap (λ (y : List (Option Slot)). after_mark y (mark.Given c.args.channel leaving.Nothing)) slots)
     c.in_ok-begin.ensures.ok
+    (c.begin-2.ensures ∙ ap (λ (i : Inbox). after_inbox_mark i (inbox_mark.Opened c.args.channel)) c.reserve_opening.ensures.same)
     ∙ ap (λ (w : World). asking c.args.channel ask.Open w) c.self.view_is

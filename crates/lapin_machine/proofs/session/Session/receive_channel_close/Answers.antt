@@ -1,4 +1,5 @@
-use Rattle.std.proofs.Common.{◌≡◌, ◌∙◌, ℕ, refl, sym, ap, subst, List, Option, None}
+use Rattle.std.proofs.Common.{◌≡◌, ◌∙◌, ℕ, refl, sym, ap, subst, List, Option, None, [], ◌∷◌, ◌++◌}
+use Rattle.lapin_inbox.specs.Held.{what}
 use Rattle.lapin_types.specs.declared.record.Record.TheVariants as record_
 use Rattle.lapin_types.specs.declared.request.Request.{Request}
 use Rattle.lapin_types.specs.Types.error
@@ -28,7 +29,11 @@ use Rattle.lapin_machine.specs.Kept.{kept_request, with_kept}
 use Rattle.lapin_machine.specs.World.{World, receiving}
 use Rattle.lapin_machine.proofs.Keeping.{tied_ended, kept_by}
 use Rattle.lapin_machine.proofs.Openings.{receives_opening}
-use Rattle.lapin_machine.proofs.Worlds.{with_entry, channel_close_incoming}
+use Rattle.std.specs.List.{fold}
+use Rattle.lapin_history.specs.Ends.{cancels_at}
+use Rattle.lapin_history.specs.TicketReadings.{TicketMark}
+use Rattle.lapin_machine.proofs.Seen.{with_entry}
+use Rattle.lapin_machine.proofs.Worlds.{channel_close_incoming}
 use Rattle.lapin_machine.proofs.session.Session.receive_channel_close.Goals as goal
 
 pub invariant_of-self-2 : goal.invariant_of-self-2
@@ -53,8 +58,10 @@ returns-clause-ok c =
     ∙ ap (λ (rs : List (ℕ × List Request)). kept_request (has_sent_close old) (requests_at c.args.channel rs)) c.reserve-2.ensures.same in
     let left : c.end_opening.new.self.replies.what ≡ on_channel c.args.channel no_requests c.self.inside.desk.replies.what =
     c.end_opening.ensures.requests ∙ c.kept_close-close.ensures.emptied ∙ ap (on_channel c.args.channel no_requests) c.reserve-2.ensures.same in
+    let cancels : cancels_at c.args.channel c.kept_close-close.new.replies.what ≡ cancels_at c.args.channel c.self.inside.desk.replies.what =
+    c.kept_close-close.ensures.cancels ∙ ap (cancels_at c.args.channel) c.reserve-2.ensures.same in
     let entry : MethodEntry = record { channel = c.args.channel; method = method.Channel channel.CloseOk; ticket = None } in
-    channel_close_incoming c.self.inside.link c.self.inside.phases.entries c.self.inside.desk.outbox.what c.self.inside.desk.replies.what c.self.inside.contents c.self.inside.ackers c.self.inside.desk.tickets.slots c.self.inside.confirms.what c.args.channel c.args.code _ _ _ _ _ _
+    channel_close_incoming c.self.inside.link c.self.inside.phases.entries c.self.inside.desk.outbox.what c.self.inside.desk.replies.what c.self.inside.contents (what c.self.inside.inbox) c.self.inside.desk.tickets.slots c.self.inside.confirms.what c.args.channel c.args.code _ _ _ _ _ _ _
     (c.set.ensures ∙ ap (λ (q : ChannelPhase). with_channel c.args.channel q c.self.inside.phases.entries) (c.after_broker_close.ensures ∙ ap after_broker_close stood))
     (c.queue_own.ensures.outbox ∙ ap (with_entry entry) (c.end_opening.ensures.outbox ∙ ap (ended_outbox c.args.channel) c.reserve.ensures.same))
     (ap (λ (r : OpenRequests). r.what) c.queue_own.ensures.replies ∙ c.keep.ensures
@@ -62,6 +69,8 @@ returns-clause-ok c =
     ∙ ap (with_kept c.args.channel (kept_request (has_sent_close old) (requests_at c.args.channel c.self.inside.desk.replies.what))) left)
     c.drop_channel.ensures
     (ap (λ (t : Issued). t.slots) c.queue_own.ensures.tickets ∙ c.end_opening.ensures.slots
-    ∙ ap (λ (k : Option ℕ). after_mark c.self.inside.desk.tickets.slots (mark.OpeningFailed c.args.channel k (error.ProtocolError c.args.code))) (c.ticket_of-kept.ensures ∙ ap ticket_of close))
+    ∙ ap (λ (ms : List TicketMark). fold after_mark c.self.inside.desk.tickets.slots (ms ++ mark.OpeningFailed c.args.channel c.ticket_of-kept.result (error.ProtocolError c.args.code) ∷ [])) cancels
+    ∙ ap (λ (k : Option ℕ). fold after_mark c.self.inside.desk.tickets.slots (cancels_at c.args.channel c.self.inside.desk.replies.what ++ mark.OpeningFailed c.args.channel k (error.ProtocolError c.args.code) ∷ [])) (c.ticket_of-kept.ensures ∙ ap ticket_of close))
     c.end_opening.ensures.confirms
+    c.in_ok-end_channel.ensures.ok
     ∙ ap (λ (w : World). receiving (incoming.ChannelClose c.args.channel c.args.code) record_.Received w) c.self.view_is

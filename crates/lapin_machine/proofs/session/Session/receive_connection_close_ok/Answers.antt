@@ -1,5 +1,6 @@
 use Rattle.std.proofs.Common.{◌∙◌, ℕ, refl, ap, Option, Ok}
 use Rattle.std.specs.List.{fold}
+use Rattle.lapin_inbox.specs.Held.{what}
 use Rattle.lapin_types.specs.declared.answer.Answer.TheVariants as answer
 use Rattle.lapin_types.specs.declared.record.Record.TheVariants as record_
 use Rattle.lapin_ticket.specs.Room.{Issued}
@@ -28,7 +29,7 @@ invariant_of-self c =
 
 pub returns : goal.returns
 returns c =
-    connection_answered c.self.inside.link c.self.inside.phases.entries c.self.inside.desk.outbox.what c.self.inside.desk.replies.what c.self.inside.contents c.self.inside.ackers c.self.inside.desk.tickets.slots c.self.inside.confirms.what _ _ _ _
+    connection_answered c.self.inside.link c.self.inside.phases.entries c.self.inside.desk.outbox.what c.self.inside.desk.replies.what c.self.inside.contents (what c.self.inside.inbox) c.self.inside.desk.tickets.slots c.self.inside.confirms.what _ _ _ _
     refl
     (ap (λ (o : Outgoing). o.what) c.resolve.ensures.outbox ∙ c.drop_unsent.ensures.outbox)
     (ap (λ (r : OpenRequests). r.what) (c.resolve.ensures.replies ∙ c.drop_unsent.ensures.requests) ∙ c.take_request-close.ensures.waiting)

@@ -6,7 +6,7 @@ use Rattle.lapin_history.specs.Wire.{is_open, state_of}
 use Rattle.lapin_machine.specs.World.{World}
 use Rattle.lapin_machine.proofs.Keeping.{kept_by}
 use Rattle.lapin_machine.proofs.Openings.{tied_paused, open_opening}
-use Rattle.lapin_machine.proofs.Worlds.{with_entry}
+use Rattle.lapin_machine.proofs.Seen.{with_entry}
 use Rattle.lapin_machine.proofs.session.Session.receive_flow.Goals as goal
 
 pub invariant_of-self-2 : goal.invariant_of-self-2

@@ -1,13 +1,11 @@
-use Rattle.std.proofs.Common.{◌∙◌, sym, ap, refl}
-use Rattle.lapin_history.specs.Reply.{receives}
-use Rattle.lapin_history.specs.Wire.{state_of}
-use Rattle.lapin_outbox.specs.Outgoing.{Outgoing}
-use Rattle.lapin_machine.specs.World.{World}
-use Rattle.lapin_machine.proofs.Keeping.{kept_by}
-use Rattle.lapin_machine.proofs.Openings.{tied_replied, reply_opening}
+use Rattle.std.proofs.Common.{Bool, refl, sym, ap}
+use Rattle.lapin_history.specs.declared.broker_frames.Incoming.TheVariants as incoming
+use Rattle.lapin_history.specs.Receiving.{when}
+use Rattle.lapin_history.specs.Unexpected.{refused}
+use Rattle.lapin_machine.proofs.Refusals.{refused_up}
 use Rattle.lapin_machine.proofs.session.Session.receive_reply.Goals as goal
 
-pub invariant_of-self-2 : goal.invariant_of-self-2
-invariant_of-self-2 c =
-    let received = ap (λ (w : World). receives c.args.kind (state_of c.args.channel w.wire)) c.self.view_is ∙ sym (ap (receives c.args.kind) c.channel_state.ensures) ∙ sym c.receives.ensures ∙ c.if-not-receives.false in
-    kept_by _ _ _ _ _ _ _ _ refl c.phase_replied.ensures (ap (λ (o : Outgoing). o.what) c.resolve.ensures.outbox) refl (tied_replied c.self.inside.link c.args.channel c.args.kind _ _ _ (reply_opening c.self.inside.link c.args.channel c.args.kind c.self.inside.phases.entries received) c.self.invariant.tied) c.self.invariant.unpoisoned
+pub returns-else-awaits-clause-ok : goal.returns-else-awaits-clause-ok
+returns-else-awaits-clause-ok c =
+    let told = ap (λ (b : Bool). when b (refused c.args.class c.args.number)) (sym c.if-awaits.ensures) in
+    refused_up c.refuse.result c.refuse.new.self c.args.self.now (refused c.args.class c.args.number) (incoming.Reply c.args.channel c.args.kind c.args.answer) _ refl told c.refuse.ensures.ok

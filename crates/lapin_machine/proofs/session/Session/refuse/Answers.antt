@@ -1,4 +1,5 @@
 use Rattle.std.proofs.Common.{◌∙◌, refl, ap, None}
+use Rattle.lapin_inbox.specs.Held.{what}
 use Rattle.lapin_types.specs.Types.{Method}
 use Rattle.lapin_types.specs.Types.error
 use Rattle.lapin_ticket.specs.Room.{Issued}
@@ -9,7 +10,13 @@ use Rattle.lapin_desk.specs.Ended.{emptied_outbox}
 use Rattle.lapin_confirm.specs.Post.{Post}
 use Rattle.lapin_machine.specs.World.{World, receiving}
 use Rattle.lapin_machine.proofs.Keeping.{tied_down, kept_by}
-use Rattle.lapin_machine.proofs.Worlds.{with_entry, unexpected_seen}
+use Rattle.std.specs.List.{fold}
+use Rattle.lapin_history.specs.Ends.{inbox_ends}
+use Rattle.lapin_history.specs.Ends.{live_channels}
+use Rattle.lapin_inbox.specs.Inbox.{Inbox}
+use Rattle.lapin_inbox.specs.Inbox as inbox
+use Rattle.lapin_machine.proofs.Seen.{with_entry}
+use Rattle.lapin_machine.proofs.Worlds.{unexpected_seen}
 use Rattle.lapin_machine.proofs.session.Session.refuse.Goals as goal
 
 pub invariant_of-self-2 : goal.invariant_of-self-2
@@ -23,12 +30,13 @@ pub returns-clause-ok : goal.returns-clause-ok
 returns-clause-ok c = λ i.
     let entry : Method → MethodEntry = λ k. record { channel = 0; method = k; ticket = None } in
     let outbox = c.queue_own.ensures.outbox ∙ ap (with_entry (entry c.in_ok-method.method)) (c.go_down.ensures.outbox ∙ ap emptied_outbox c.reserve.ensures.same) ∙ ap (λ (k : Method). with_entry (entry k) (emptied_outbox c.self.inside.desk.outbox.what)) c.in_ok-method.ensures in
-    unexpected_seen c.self.inside.link c.self.inside.phases.entries c.self.inside.desk.outbox.what c.self.inside.desk.replies.what c.self.inside.contents c.self.inside.ackers c.self.inside.desk.tickets.slots c.self.inside.confirms.what i c.args.class c.args.number _ _ _ _ _ _ _
+    unexpected_seen c.self.inside.link c.self.inside.phases.entries c.self.inside.desk.outbox.what c.self.inside.desk.replies.what c.self.inside.contents (what c.self.inside.inbox) c.self.inside.desk.tickets.slots c.self.inside.confirms.what i c.args.class c.args.number _ _ _ _ _ _ _ _
     c.go_down.ensures.link
     c.go_down.ensures.phases
     outbox
-    (ap (λ (r : OpenRequests). r.what) (c.queue_own.ensures.replies ∙ c.go_down.ensures.requests) ∙ c.in_ok-replies.ensures.made)
+    (ap (λ (r : OpenRequests). r.what) (c.queue_own.ensures.replies ∙ c.go_down.ensures.requests) ∙ c.no_replies-replies.ensures)
     c.go_down.ensures.contents
     (ap (λ (t : Issued). t.slots) c.queue_own.ensures.tickets ∙ c.go_down.ensures.slots)
     c.go_down.ensures.confirms
+    (c.go_down.ensures.inbox ∙ ap (λ (x : Inbox). fold inbox.after_mark x (inbox_ends (error.ProtocolError 505) (live_channels c.self.inside.phases.entries))) c.reserve_ends.ensures.same)
     ∙ ap (λ (w : World). receiving i (refused c.args.class c.args.number) w) c.self.view_is

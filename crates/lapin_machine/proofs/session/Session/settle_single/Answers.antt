@@ -14,7 +14,7 @@ use Rattle.lapin_machine.specs.World.{World, receiving, settlement_told}
 use Rattle.lapin_machine.specs.Told.{WasHeard}
 use Rattle.lapin_machine.specs.contracts.session.Session as session_view
 use Rattle.lapin_machine.proofs.Keeping.{tied_settled, kept_by}
-use Rattle.lapin_machine.proofs.Worlds.{base_is, world_is}
+use Rattle.lapin_machine.proofs.Seen.{base_is, world_is}
 use Rattle.lapin_machine.proofs.session.Session.settle_single.Goals as goal
 
 pub invariant_of-self : goal.invariant_of-self
@@ -34,7 +34,7 @@ with_post w p = record {
     contents = w.wire.contents;
     tickets = w.wire.tickets;
     published = length p.book.cells;
-    ackers = w.wire.ackers;
+    inbox = w.wire.inbox;
   };
   post = p;
   slots = w.slots;

@@ -1,0 +1,164 @@
+-- Consumers (AMQP 0-9-1, class basic, `consume` and `cancel`): what calls and frames of the broker do to them, and what is asked of
+-- them. How a consumer gets its deliveries and its end stands in `lapin_consumer`; when an opening ends stands with the rule that ends
+-- it.
+use Rattle.std.specs.Prelude.{ℕ, ◌+◌, ◌==◌, Bool, true, false, not, ◌&&◌, if◌then◌else◌, List, [], ◌∷◌, ◌++◌, Option, Some, None, Result, Ok, Err, length, slice_get}
+use Rattle.lapin_types.specs.declared.request.Request.{Request}
+use Rattle.lapin_types.specs.declared.request.Reply.{Reply}
+use Rattle.lapin_types.specs.declared.request.Reply.TheVariants as reply
+use Rattle.lapin_types.specs.declared.request.ReplyKind.TheVariants as reply_kind
+use Rattle.lapin_types.specs.declared.answer.Answer.TheVariants as answer
+use Rattle.lapin_types.specs.declared.record.Record.{Record}
+use Rattle.lapin_types.specs.declared.record.Record.TheVariants as record_
+use Rattle.lapin_types.specs.declared.job.Job.{Job}
+use Rattle.lapin_types.specs.Types.{Method, BasicMethod, Error}
+use Rattle.lapin_types.specs.Types.method
+use Rattle.lapin_types.specs.Types.basic
+use Rattle.lapin_types.specs.Types.error
+use Rattle.lapin_consumer.specs.Roster.{Handed, Consumer, Roster, consumer_at, answered, is_idle}
+use Rattle.lapin_inbox.specs.Inbox.{Inbox}
+use Rattle.lapin_inbox.specs.Marks.{InboxMark}
+use Rattle.lapin_inbox.specs.Marks as inbox
+use Rattle.lapin_history.specs.declared.broker_frames.ConsumerPart.{ConsumerPart}
+use Rattle.lapin_history.specs.declared.broker_frames.ConsumerPart.TheVariants as part
+use Rattle.lapin_history.specs.TicketReadings.{TicketMark}
+use Rattle.lapin_history.specs.Requests.{first_request, with_request}
+use Rattle.lapin_history.specs.Wire.{Wire, state_of, requests_of, is_open, receives_on, noted}
+use Rattle.lapin_history.specs.Reply.{receives_reply, after_reply, reply_tickets}
+
+-- the number of the next consumer
+abbrev pub next_consumer : Inbox → ℕ
+next_consumer i = length i.roster.consumers + 1
+
+-- ---- calls: what queues one of these methods says something of consumers as it is made
+
+-- an acknowledgement of all there is makes void what was handed on before
+abbrev pub all_inbox : ℕ → ℕ → Bool → List InboxMark
+all_inbox c tag multiple = if multiple && tag == 0 then inbox.Discarded c ∷ [] else []
+
+-- a cancel asks for the end of the consumer of its tag; without wait that is its end
+abbrev pub cancel_inbox : ℕ → List ℕ → Bool → List InboxMark
+cancel_inbox c tag nowait = inbox.CancelAsked c tag ∷ (if nowait then inbox.Canceled c tag ∷ [] else [])
+
+abbrev pub called_inbox : ℕ → BasicMethod → List InboxMark
+called_inbox c (basic.Cancel tag nowait) = cancel_inbox c tag nowait
+called_inbox c (basic.Ack tag multiple) = all_inbox c tag multiple
+called_inbox c (basic.Nack tag multiple requeue) = all_inbox c tag multiple
+called_inbox c (basic.RecoverAsync requeue) = inbox.Discarded c ∷ []
+called_inbox c _ = []
+
+-- ---- frames of the broker: three replies and its own cancel
+
+abbrev pub receives_consumer : ℕ → ConsumerPart → Wire → Bool
+receives_consumer c (part.ConsumeOk tag) b = receives_reply c reply_kind.BasicConsumeOk b
+receives_consumer c (part.CancelOk tag) b = receives_reply c reply_kind.BasicCancelOk b
+receives_consumer c part.RecoverOk b = receives_reply c reply_kind.BasicRecoverOk b
+receives_consumer c (part.Cancel tag nowait) b = receives_on (state_of c b)
+
+-- its own cancel is answered on an open channel, unless it asks for no answer
+abbrev pub after_cancel : ℕ → List ℕ → Bool → Wire → Wire
+after_cancel c tag nowait b = if is_open (state_of c b) && not nowait then noted c (method.Basic (basic.CancelOk tag)) b else b
+
+abbrev pub after_consumer : ℕ → ConsumerPart → Wire → Wire
+after_consumer c (part.ConsumeOk tag) b = after_reply c reply_kind.BasicConsumeOk b
+after_consumer c (part.CancelOk tag) b = after_reply c reply_kind.BasicCancelOk b
+after_consumer c part.RecoverOk b = after_reply c reply_kind.BasicRecoverOk b
+after_consumer c (part.Cancel tag nowait) b = after_cancel c tag nowait b
+
+abbrev pub consumer_tickets : ℕ → ConsumerPart → Wire → List TicketMark
+consumer_tickets c (part.ConsumeOk tag) b = reply_tickets c reply_kind.BasicConsumeOk (answer.Consumer (next_consumer b.inbox)) b
+consumer_tickets c (part.CancelOk tag) b = reply_tickets c reply_kind.BasicCancelOk answer.Done b
+consumer_tickets c part.RecoverOk b = reply_tickets c reply_kind.BasicRecoverOk answer.Done b
+consumer_tickets c (part.Cancel tag nowait) b = []
+
+-- the queue that a request for a consumer named
+abbrev pub queue_in : Reply → List ℕ
+queue_in (reply.BasicConsumeOk queue o) = queue
+queue_in _ = []
+
+abbrev pub queue_of : Option Request → List ℕ
+queue_of None = []
+queue_of (Some r) = queue_in r.reply
+
+abbrev pub queue_asked : ℕ → Wire → List ℕ
+queue_asked c b = queue_of (first_request reply_kind.BasicConsumeOk (requests_of c b))
+
+-- each goes by the tag that it names
+abbrev pub consumer_inbox : ℕ → ConsumerPart → Wire → List InboxMark
+consumer_inbox c (part.ConsumeOk tag) b = inbox.Consumed c tag (queue_asked c b) ∷ []
+consumer_inbox c (part.CancelOk tag) b = inbox.Canceled c tag ∷ []
+consumer_inbox c part.RecoverOk b = inbox.Discarded c ∷ []
+consumer_inbox c (part.Cancel tag nowait) b = inbox.Canceled c tag ∷ []
+
+-- ---- a poll: the first item, the end where the consumer is canceled, else nothing yet
+
+abbrev pub item_record : Result (Option Handed) Error → Record
+item_record (Ok None) = record_.Pending
+item_record (Ok (Some y)) = record_.Item y
+item_record (Err e) = record_.Refused e
+
+abbrev pub item_told : ℕ → Wire → Record
+item_told n b = item_record (answered (consumer_at n b.inbox.roster))
+
+-- ---- a delegate, for a number that was given
+
+abbrev pub delegate_record : Option Consumer → Record
+delegate_record None = record_.Refused error.UnknownTicket
+delegate_record (Some x) = record_.Delegated
+
+abbrev pub delegate_told : ℕ → Wire → Record
+delegate_told n b = delegate_record (consumer_at n b.inbox.roster)
+
+abbrev pub delegate_marks : ℕ → Option Consumer → List InboxMark
+delegate_marks n None = []
+delegate_marks n (Some x) = inbox.Delegated n ∷ []
+
+abbrev pub delegate_inbox : ℕ → Wire → List InboxMark
+delegate_inbox n b = delegate_marks n (consumer_at n b.inbox.roster)
+
+-- ---- a job is taken from the front
+
+abbrev pub job_record : Option Job → Record
+job_record None = record_.NoJob
+job_record (Some j) = record_.Job j
+
+abbrev pub job_told : Wire → Record
+job_told b = job_record (slice_get b.inbox.roster.jobs 0)
+
+abbrev pub job_marks : Option Job → List InboxMark
+job_marks None = []
+job_marks (Some j) = inbox.JobAsked ∷ []
+
+abbrev pub job_inbox : Wire → List InboxMark
+job_inbox b = job_marks (slice_get b.inbox.roster.jobs 0)
+
+-- ---- a consumer is let go: where it is active and registered and its channel open, it is cancelled by a request without a ticket
+
+abbrev pub lets_go_of : Consumer → Wire → Bool
+lets_go_of x b = is_idle x && is_open (state_of x.channel b)
+
+abbrev pub drop_record : Option Consumer → Wire → Record
+drop_record None b = record_.Refused error.UnknownTicket
+drop_record (Some x) b = record_.Dropped (lets_go_of x b)
+
+abbrev pub drop_told : ℕ → Wire → Record
+drop_told n b = drop_record (consumer_at n b.inbox.roster) b
+
+abbrev pub let_go_cancel : Consumer → Method
+let_go_cancel x = method.Basic (basic.Cancel x.tag false)
+
+abbrev pub cancel_noted : Consumer → Wire → Wire
+cancel_noted x b = record (noted x.channel (let_go_cancel x) b) { requests = with_request x.channel (record { ticket = None; reply = reply.BasicCancelOk }) b.requests }
+
+abbrev pub after_let_go : Option Consumer → Wire → Wire
+after_let_go None b = b
+after_let_go (Some x) b = if lets_go_of x b then cancel_noted x b else b
+
+abbrev pub after_drop : ℕ → Wire → Wire
+after_drop n b = after_let_go (consumer_at n b.inbox.roster) b
+
+abbrev pub let_go_marks : ℕ → Option Consumer → Wire → List InboxMark
+let_go_marks n None b = []
+let_go_marks n (Some x) b = if lets_go_of x b then inbox.LetGo n ∷ [] else []
+
+abbrev pub drop_inbox : ℕ → Wire → List InboxMark
+drop_inbox n b = let_go_marks n (consumer_at n b.inbox.roster) b

@@ -1,0 +1,40 @@
+-- What happens to the consumers of a connection, to the ackers of what it delivered and to what its channels declared, in the words of
+-- the protocol (AMQP 0-9-1, classes basic, exchange and queue). A history gives a list of these, oldest first. Consumers are numbered from 1 in the order in which they are
+-- registered, and ackers from 1 in the order in which they are given.
+use Rattle.std.specs.Prelude.{ℕ, List, Option}
+use Rattle.lapin_types.specs.declared.answer.Answer.{Answer}
+use Rattle.lapin_types.specs.declared.message.Delivery.{Delivery}
+use Rattle.lapin_types.specs.declared.request.Reply.{Reply}
+use Rattle.lapin_types.specs.Types.{Error}
+
+pub data InboxMark : Type 0 where
+  -- consume-ok, or the call without wait, registered the next consumer under a tag
+  Consumed : (channel : ℕ) (tag queue : List ℕ) → InboxMark
+  -- a delivery for the consumer is whole: it carries the next acker
+  Delivered : (consumer : ℕ) (delivery : Delivery) → InboxMark
+  -- the message of a get is whole: it is given the next acker
+  Got : (channel delivery_tag : ℕ) → InboxMark
+  -- this side asked to cancel the consumer of the tag
+  CancelAsked : (channel : ℕ) (tag : List ℕ) → InboxMark
+  -- this side asked to close the channel
+  CloseAsked : (channel : ℕ) → InboxMark
+  -- cancel-ok, the call without wait, or the broker's cancel
+  Canceled : (channel : ℕ) (tag : List ℕ) → InboxMark
+  -- the channel's opening ended, with an error or by close-ok for a close of this side
+  Ended : (channel : ℕ) (error : Option Error) → InboxMark
+  -- what the channel's consumers were handed before is void
+  Discarded : (channel : ℕ) → InboxMark
+  -- the consumer was given a delegate
+  Delegated : (consumer : ℕ) → InboxMark
+  -- the consumer was polled
+  Polled : (consumer : ℕ) → InboxMark
+  -- the caller let go of the consumer
+  LetGo : (consumer : ℕ) → InboxMark
+  -- a job was asked for
+  JobAsked : InboxMark
+  -- a call is made on an acker
+  Spent : (acker : ℕ) → InboxMark
+  -- an opening of the channel begins
+  Opened : (channel : ℕ) → InboxMark
+  -- a request of the channel got its answer, by the reply that it awaited or in the call without wait
+  Completed : (channel : ℕ) (reply : Reply) (answer : Answer) → InboxMark

@@ -1,0 +1,377 @@
+-- What an event does to consumers and ackers is what its marks say, and it gives one number of each at most.
+use Rattle.std.proofs.Common.{◌≡◌, ℕ, suc, ◌+◌, ◌==◌, ◌≤◌, Bool, true, false, cond, not, ◌&&◌, List, [], ◌∷◌, ◌++◌, length, Option, Some, None, refl, sym, ◌∙◌, ap, subst, arith, length-append}
+use Rattle.std.specs.List.{fold}
+use Rattle.lapin_types.specs.declared.acker_call.AckerCall.{AckerCall}
+use Rattle.lapin_types.specs.declared.answer.Answer.{Answer}
+use Rattle.lapin_types.specs.declared.request.Request.{Request}
+use Rattle.lapin_types.specs.declared.acker_call.AckerCall.TheVariants as acker_call
+use Rattle.lapin_types.specs.declared.event.Event.{Event}
+use Rattle.lapin_types.specs.declared.event.Event.TheVariants as event
+use Rattle.lapin_types.specs.declared.job.Job.{Job}
+use Rattle.lapin_types.specs.declared.leaving.Left.{Left}
+use Rattle.lapin_types.specs.declared.record.Record.{Record}
+use Rattle.lapin_types.specs.declared.record.Record.TheVariants as record_
+use Rattle.lapin_types.specs.Types.{Error, Method, BasicMethod}
+use Rattle.lapin_types.specs.Types.error
+use Rattle.lapin_types.specs.Types.method
+use Rattle.lapin_types.specs.Types.basic
+use Rattle.lapin_acker.specs.declared.switch.Switch.{Switch}
+use Rattle.lapin_acker.specs.declared.switch.Switch.TheVariants as switch
+use Rattle.lapin_acker.specs.Marks as acker_mark
+use Rattle.lapin_acker.specs.Switches.{map_numbered, moved as moved_switch}
+use Rattle.lapin_consumer.specs.Marks as consumer_mark
+use Rattle.lapin_consumer.specs.Roster.{Consumer, consumer_at, newcomer, is_registered, moved}
+use Rattle.lapin_consumer.specs.Ackers.{ackers_on}
+use Rattle.lapin_consumer.specs.Words.{map_at}
+use Rattle.lapin_consumer.proofs.Places.{length-map_at}
+use Rattle.lapin_content.specs.declared.start.Start.{Start}
+use Rattle.lapin_content.specs.declared.start.Start.TheVariants as start
+use Rattle.lapin_content.specs.declared.start.Whole.{Whole}
+use Rattle.lapin_inbox.specs.Inbox.{Inbox, after_mark}
+use Rattle.lapin_inbox.specs.Marks.{InboxMark}
+use Rattle.lapin_inbox.specs.Marks as inbox
+use Rattle.lapin_history.specs.declared.calls.Asked.{Asked}
+use Rattle.lapin_history.specs.declared.calls.Asked.TheVariants as ask
+use Rattle.lapin_history.specs.declared.broker_frames.ConsumerPart.{ConsumerPart}
+use Rattle.lapin_history.specs.declared.broker_frames.ConsumerPart.TheVariants as consumer
+use Rattle.lapin_history.specs.declared.broker_frames.ContentPart.{ContentPart}
+use Rattle.lapin_history.specs.declared.broker_frames.ContentPart.TheVariants as part
+use Rattle.lapin_history.specs.declared.broker_frames.Incoming.{Incoming}
+use Rattle.lapin_history.specs.declared.broker_frames.Incoming.TheVariants as incoming
+use Rattle.lapin_history.specs.declared.phases.ChannelPhase.{ChannelPhase}
+use Rattle.lapin_history.specs.declared.phases.ChannelPhase.TheVariants as phase
+use Rattle.lapin_history.specs.declared.phases.ConnectionPhase.{ConnectionPhase}
+use Rattle.lapin_history.specs.declared.phases.ConnectionPhase.TheVariants as link
+use Rattle.lapin_history.specs.Calls.{asked}
+use Rattle.lapin_history.specs.Incoming.{incoming_of}
+use Rattle.lapin_history.specs.Phases.{is_lost}
+use Rattle.lapin_history.specs.Leaving.{left_lists}
+use Rattle.lapin_history.specs.Wire.{Wire, state_of, phase_of, requests_of, is_open, lists_of, with_lists, with_inbox}
+use Rattle.lapin_history.specs.Ends.{inbox_ends, live_channels}
+use Rattle.lapin_history.specs.Flow.{may_begin}
+use Rattle.lapin_history.specs.ChannelClose.{after_close_ok, close_ok_inbox_in}
+use Rattle.lapin_history.specs.ConnectionClose.{after_connection_close, failed_at_connection_close}
+use Rattle.lapin_history.specs.Content.{after_part, whole_on, start_inbox, whole_inbox}
+use Rattle.lapin_history.specs.Consumers.{all_inbox, cancel_inbox, called_inbox, after_consumer, consumer_inbox, delegate_marks, job_marks, lets_go_of, cancel_noted, after_let_go, let_go_marks}
+use Rattle.lapin_history.specs.declared.calls.Answered.{Answered}
+use Rattle.lapin_history.specs.declared.calls.Answered.TheVariants as answered
+use Rattle.lapin_history.specs.Requests.{first_request}
+use Rattle.lapin_history.specs.Registry.{line_inbox, at_once_inbox, request_inbox}
+use Rattle.lapin_history.specs.Asking.{is_allowed, after_call, asked_wire, call_inbox, asking_inbox}
+use Rattle.lapin_history.specs.Ackers.{acker_asked, usable_at, acked_wire, acked_inbox}
+use Rattle.lapin_history.specs.Handing.{after_next, handed, sent}
+use Rattle.lapin_history.specs.Receiving.{after_received, after_failed, after_refused, incoming_wire, received_inbox, refused_inbox, incoming_inbox}
+use Rattle.lapin_history.specs.Unexpected.{failed_at_unexpected}
+use Rattle.lapin_history.specs.Loss.{after_lost}
+use Rattle.lapin_history.specs.Events.{after_event, inbox_marks}
+
+-- ---- the rules of the other parts leave consumers and ackers as they are
+
+choose_box : (t : Bool) (x y b : Wire) → x.inbox ≡ b.inbox → y.inbox ≡ b.inbox → (cond t x y).inbox ≡ b.inbox
+choose_box true x y b h k = h
+choose_box false x y b h k = k
+
+call_box : (c : ℕ) (k : Asked) (b : Wire) → (after_call c k b).inbox ≡ b.inbox
+call_box c ask.Open b = refl
+call_box c _ b = refl
+
+asked_box : (c : ℕ) (k : Asked) (b : Wire) → (asked_wire c k b).inbox ≡ b.inbox
+asked_box c k b = choose_box (is_allowed k (state_of c b)) (after_call c k b) b b (call_box c k b) refl
+
+acked_box : (o : Option (ℕ × ℕ)) (k : AckerCall) (b : Wire) → (acked_wire o k b).inbox ≡ b.inbox
+acked_box None k b = refl
+acked_box (Some x) k b = asked_box x.0 (acker_asked k x.1) b
+
+next_box : (flow : Bool) (b : Wire) → (after_next flow b).inbox ≡ b.inbox
+next_box flow b = at (handed flow b)
+  where
+    at : (o : Option Left) → (sent o (with_lists (left_lists b.frame_max (may_begin flow b) (lists_of b)) b)).inbox ≡ b.inbox
+    at None = refl
+    at (Some l) = refl
+
+close_ok_box : (c : ℕ) (p : ChannelPhase) (b : Wire) → (after_close_ok c p b).inbox ≡ b.inbox
+close_ok_box c (phase.Closing who sent) b = refl
+close_ok_box c _ b = refl
+
+connection_close_box : (l : ConnectionPhase) (b : Wire) → (after_connection_close l b).inbox ≡ b.inbox
+connection_close_box (link.Closing true received) b = refl
+connection_close_box _ b = refl
+
+part_box : (c : ℕ) (p : ContentPart) (b : Wire) → (after_part c p b).inbox ≡ b.inbox
+part_box c (part.GetOk s) b = refl
+part_box c _ b = refl
+
+consumer_box : (c : ℕ) (p : ConsumerPart) (b : Wire) → (after_consumer c p b).inbox ≡ b.inbox
+consumer_box c (consumer.Cancel tag nowait) b = choose_box (is_open (state_of c b) && not nowait) _ b b refl refl
+consumer_box c _ b = refl
+
+received_box : (i : Incoming) (b : Wire) → (after_received i b).inbox ≡ b.inbox
+received_box (incoming.Content c p) b = part_box c p b
+received_box (incoming.Consumer c p) b = consumer_box c p b
+received_box (incoming.ChannelCloseOk c) b = close_ok_box c (phase_of c b) b
+received_box (incoming.ConnectionClose code) b = connection_close_box b.link b
+received_box (incoming.Flow c active) b = choose_box (is_open (state_of c b)) _ b b refl refl
+received_box _ b = refl
+
+failed_box : (i : Incoming) (b : Wire) → (after_failed i b).inbox ≡ b.inbox
+failed_box (incoming.Settlement c s) b = choose_box (is_open (state_of c b)) _ b b refl refl
+failed_box _ b = refl
+
+refused_box : (i : Incoming) (e : Error) (b : Wire) → (after_refused i e b).inbox ≡ b.inbox
+refused_box i (error.PreconditionFailed tag current) b = failed_box i b
+refused_box i _ b = refl
+
+incoming_box : (i : Incoming) (r : Record) (b : Wire) → (incoming_wire i r b).inbox ≡ b.inbox
+incoming_box i (record_.Refused e) b = refused_box i e b
+incoming_box i record_.Received b = received_box i b
+incoming_box i _ b = refl
+
+let_go_box : (o : Option Consumer) (b : Wire) → (after_let_go o b).inbox ≡ b.inbox
+let_go_box None b = refl
+let_go_box (Some x) b = choose_box (lets_go_of x b) (cancel_noted x b) b b refl refl
+
+lost_box : (b : Wire) → (after_lost b).inbox ≡ b.inbox
+lost_box b = choose_box (is_lost b.link) b _ b refl refl
+
+-- so they go by the marks alone
+boxed : (ms : List InboxMark) (x b : Wire) → x.inbox ≡ b.inbox → (with_inbox ms x).inbox ≡ fold after_mark b.inbox ms
+boxed ms x b same = ap (λ i. fold after_mark i ms) same
+
+pub inbox-next : (b : Wire) (e : Event) (r : Record) → (after_event b e r).inbox ≡ fold after_mark b.inbox (inbox_marks b e r)
+inbox-next b (event.Call c k) r = boxed (asking_inbox c (asked k) b) (asked_wire c (asked k) b) b (asked_box c (asked k) b)
+inbox-next b (event.Next flow) r = next_box flow b
+inbox-next b (event.Receive f) r = boxed (incoming_inbox (incoming_of f) r b) (incoming_wire (incoming_of f) r b) b (incoming_box (incoming_of f) r b)
+inbox-next b (event.Acker n k) r = boxed (acked_inbox n (usable_at n b) k b) (acked_wire (usable_at n b) k b) b (acked_box (usable_at n b) k b)
+inbox-next b (event.DropConsumer n) r = boxed (let_go_marks n (consumer_at n b.inbox.roster) b) (after_let_go (consumer_at n b.inbox.roster) b) b (let_go_box (consumer_at n b.inbox.roster) b)
+inbox-next b event.Lost r = boxed (inbox_ends error.ConnectionLost (live_channels b.phases)) (after_lost b) b (lost_box b)
+inbox-next b _ r = refl
+
+-- ---- how many numbers a mark gives
+
+-- it gives the next number of a consumer or of an acker
+abbrev numbers : InboxMark → Bool
+numbers (inbox.Consumed c t q) = true
+numbers (inbox.Delivered k d) = true
+numbers (inbox.Got c t) = true
+numbers _ = false
+
+length-numbered : (f : ℕ → Switch → Switch) (i : ℕ) (ss : List Switch) → length (map_numbered i f ss) ≡ length ss
+length-numbered f i [] = refl
+length-numbered f i (s ∷ ss) = ap suc (length-numbered f (suc i) ss)
+
+quiet_switches : (m : InboxMark) (i : Inbox) → numbers m ≡ false → length (after_mark i m).switches ≡ length i.switches
+quiet_switches (inbox.Consumed c t q) i h = cc
+quiet_switches (inbox.Delivered k d) i h = cc
+quiet_switches (inbox.Got c t) i h = cc
+quiet_switches (inbox.Ended c e) i h = length-numbered (moved_switch (acker_mark.Ended c)) 0 i.switches
+quiet_switches (inbox.Discarded c) i h = length-numbered (moved_switch (acker_mark.Voided (ackers_on c i.roster.consumers))) 0 i.switches
+quiet_switches (inbox.Spent n) i h = length-numbered (moved_switch (acker_mark.Spent n)) 0 i.switches
+quiet_switches _ i h = refl
+
+quiet_consumers : (m : InboxMark) (i : Inbox) → numbers m ≡ false → length (after_mark i m).roster.consumers ≡ length i.roster.consumers
+quiet_consumers (inbox.Consumed c t q) i h = cc
+quiet_consumers (inbox.Delivered k d) i h = cc
+quiet_consumers (inbox.Got c t) i h = cc
+quiet_consumers (inbox.CancelAsked c t) i h = length-map_at (moved (consumer_mark.CancelAsked c t)) i.roster.consumers
+quiet_consumers (inbox.CloseAsked c) i h = length-map_at (moved (consumer_mark.CloseAsked c)) i.roster.consumers
+quiet_consumers (inbox.Canceled c t) i h = length-map_at (moved (consumer_mark.Canceled c t)) i.roster.consumers
+quiet_consumers (inbox.Ended c e) i h = length-map_at (moved (consumer_mark.Ended c e)) i.roster.consumers
+quiet_consumers (inbox.Discarded c) i h = length-map_at (moved (consumer_mark.Discarded c)) i.roster.consumers
+quiet_consumers (inbox.Delegated k) i h = length-map_at (moved (consumer_mark.Delegated k)) i.roster.consumers
+quiet_consumers (inbox.Polled k) i h = length-map_at (moved (consumer_mark.Polled k)) i.roster.consumers
+quiet_consumers (inbox.LetGo k) i h = length-map_at (moved (consumer_mark.LetGo k)) i.roster.consumers
+quiet_consumers inbox.JobAsked i h = length-map_at (moved consumer_mark.JobAsked) i.roster.consumers
+quiet_consumers (inbox.Spent n) i h = refl
+quiet_consumers (inbox.Opened c) i h = refl
+quiet_consumers (inbox.Completed c r a) i h = refl
+
+-- a switch joins
+joined_switches : (f : ℕ → Switch → Switch) (ss : List Switch) (s : Switch) → length (map_numbered 0 f ss ++ s ∷ []) ≤ length ss + 1
+joined_switches f ss s = let more = length-append (map_numbered 0 f ss) (s ∷ []) in let same = length-numbered f 0 ss in omega arith
+
+one_switch : (m : InboxMark) (i : Inbox) → length (after_mark i m).switches ≤ length i.switches + 1
+one_switch (inbox.Delivered k d) i = joined_switches (λ n s. s) i.switches (switch.Usable d.acker.channel_id d.acker.delivery_tag)
+one_switch (inbox.Got c t) i = joined_switches (λ n s. s) i.switches (switch.Usable c t)
+one_switch (inbox.Consumed c t q) i = omega arith
+one_switch m i = let same = quiet_switches m i refl in omega (arith, same)
+
+-- a consumer joins
+joined_consumers : (f : ℕ → Consumer → Consumer) (xs : List Consumer) (x : Consumer) → length (map_at f xs ++ x ∷ []) ≤ length xs + 1
+joined_consumers f xs x = let more = length-append (map_at f xs) (x ∷ []) in let same = length-map_at f xs in omega arith
+
+one_consumer : (m : InboxMark) (i : Inbox) → length (after_mark i m).roster.consumers ≤ length i.roster.consumers + 1
+one_consumer (inbox.Consumed c t q) i = joined_consumers (moved (consumer_mark.Registered c t q)) i.roster.consumers (newcomer c t q)
+one_consumer (inbox.Delivered k d) i = let same = length-map_at (moved (consumer_mark.Completed k d)) i.roster.consumers in omega arith
+one_consumer (inbox.Got c t) i = omega arith
+one_consumer m i = let same = quiet_consumers m i refl in omega (arith, same)
+
+-- ---- marks that give no number, and marks that give one at most: none of them does, or there is one alone
+
+abbrev AreQuiet : List InboxMark → Type 0
+AreQuiet [] = Unit {0}
+AreQuiet (m ∷ ms) = (numbers m ≡ false) × AreQuiet ms
+
+abbrev AreFew : List InboxMark → Type 0
+AreFew (m ∷ []) = Unit {0}
+AreFew ms = AreQuiet ms
+
+all_switches : (ms : List InboxMark) (i : Inbox) → AreQuiet ms → length (fold after_mark i ms).switches ≡ length i.switches
+all_switches [] i h = refl
+all_switches (m ∷ ms) i h = all_switches ms (after_mark i m) h.1 ∙ quiet_switches m i h.0
+
+all_consumers : (ms : List InboxMark) (i : Inbox) → AreQuiet ms → length (fold after_mark i ms).roster.consumers ≡ length i.roster.consumers
+all_consumers [] i h = refl
+all_consumers (m ∷ ms) i h = all_consumers ms (after_mark i m) h.1 ∙ quiet_consumers m i h.0
+
+few_switches : (ms : List InboxMark) (i : Inbox) → AreFew ms → length (fold after_mark i ms).switches ≤ length i.switches + 1
+few_switches [] i h = omega arith
+few_switches (m ∷ []) i h = one_switch m i
+few_switches (m ∷ n ∷ ms) i h = let same = all_switches (m ∷ n ∷ ms) i h in omega (arith, same)
+
+few_consumers : (ms : List InboxMark) (i : Inbox) → AreFew ms → length (fold after_mark i ms).roster.consumers ≤ length i.roster.consumers + 1
+few_consumers [] i h = omega arith
+few_consumers (m ∷ []) i h = one_consumer m i
+few_consumers (m ∷ n ∷ ms) i h = let same = all_consumers (m ∷ n ∷ ms) i h in omega (arith, same)
+
+quiet_few : (ms : List InboxMark) → AreQuiet ms → AreFew ms
+quiet_few [] h = tt
+quiet_few (m ∷ []) h = tt
+quiet_few (m ∷ n ∷ ms) h = h
+
+choose_few : (t : Bool) (xs ys : List InboxMark) → AreFew xs → AreFew ys → AreFew (cond t xs ys)
+choose_few true xs ys h k = h
+choose_few false xs ys h k = k
+
+-- ---- the marks of an event are such
+
+ends_quiet : (e : Error) (cs : List ℕ) → AreQuiet (inbox_ends e cs)
+ends_quiet e [] = tt
+ends_quiet e (c ∷ cs) = (refl, ends_quiet e cs)
+
+ends_few : (e : Error) (cs : List ℕ) → AreFew (inbox_ends e cs)
+ends_few e cs = quiet_few (inbox_ends e cs) (ends_quiet e cs)
+
+all_few : (c tag : ℕ) (multiple : Bool) → AreFew (all_inbox c tag multiple)
+all_few c tag multiple = choose_few (multiple && tag == 0) (inbox.Discarded c ∷ []) [] tt tt
+
+cancel_few : (c : ℕ) (tag : List ℕ) (nowait : Bool) → AreFew (cancel_inbox c tag nowait)
+cancel_few c tag true = (refl, (refl, tt))
+cancel_few c tag false = tt
+
+called_few : (c : ℕ) (m : BasicMethod) → AreFew (called_inbox c m)
+called_few c (basic.Cancel tag nowait) = cancel_few c tag nowait
+called_few c (basic.Ack tag multiple) = all_few c tag multiple
+called_few c (basic.Nack tag multiple requeue) = all_few c tag multiple
+called_few c (basic.RecoverAsync requeue) = tt
+called_few c _ = tt
+
+at_once_few : (c : ℕ) (x : Answered) → AreFew (at_once_inbox c x)
+at_once_few c (answered.AtOnce r a) = tt
+at_once_few c _ = tt
+
+line_few : (c : ℕ) (m : Method) (x : Answered) → AreFew (line_inbox c m x)
+line_few c (method.Basic m) x = called_few c m
+line_few c _ x = at_once_few c x
+
+request_few : (c : ℕ) (a : Answer) (o : Option Request) → AreFew (request_inbox c a o)
+request_few c a None = tt
+request_few c a (Some r) = tt
+
+call_few : (c : ℕ) (k : Asked) (b : Wire) → AreFew (call_inbox c k b)
+call_few c (ask.CloseConnection code text) b = ends_few failed_at_connection_close (live_channels b.phases)
+call_few c (ask.Method row) b = line_few c row.method row.answered
+call_few c _ b = tt
+
+asking_few : (c : ℕ) (k : Asked) (b : Wire) → AreFew (asking_inbox c k b)
+asking_few c k b = choose_few (is_allowed k (state_of c b)) (call_inbox c k b) [] (call_few c k b) tt
+
+-- an acker's call gives none
+choose_quiet : (t : Bool) (xs ys : List InboxMark) → AreQuiet xs → AreQuiet ys → AreQuiet (cond t xs ys)
+choose_quiet true xs ys h k = h
+choose_quiet false xs ys h k = k
+
+all_quiet : (c tag : ℕ) (multiple : Bool) → AreQuiet (all_inbox c tag multiple)
+all_quiet c tag multiple = choose_quiet (multiple && tag == 0) (inbox.Discarded c ∷ []) [] (refl, tt) tt
+
+acker_quiet : (c : ℕ) (k : AckerCall) (tag : ℕ) (b : Wire) → AreQuiet (call_inbox c (acker_asked k tag) b)
+acker_quiet c (acker_call.Ack o) tag b = all_quiet c tag o.multiple
+acker_quiet c (acker_call.Nack o) tag b = all_quiet c tag o.multiple
+acker_quiet c (acker_call.Reject o) tag b = tt
+
+join_quiet : (xs ys : List InboxMark) → AreQuiet xs → AreQuiet ys → AreQuiet (xs ++ ys)
+join_quiet [] ys h k = k
+join_quiet (x ∷ xs) ys h k = (h.0, join_quiet xs ys h.1 k)
+
+acked_few : (n : ℕ) (o : Option (ℕ × ℕ)) (k : AckerCall) (b : Wire) → AreFew (acked_inbox n o k b)
+acked_few n None k b = tt
+acked_few n (Some x) k b =
+    let made : AreQuiet (asking_inbox x.0 (acker_asked k x.1) b) = choose_quiet (is_allowed (acker_asked k x.1) (state_of x.0 b)) (call_inbox x.0 (acker_asked k x.1) b) [] (acker_quiet x.0 k x.1 b) tt in
+    quiet_few (acked_inbox n (Some x) k b) (join_quiet (asking_inbox x.0 (acker_asked k x.1) b) (inbox.Spent n ∷ []) made (refl, tt))
+
+start_few : (c : ℕ) (i : Inbox) (s : Start) (w : Whole) → AreFew (start_inbox c i s w)
+start_few c i (start.Get ticket tag exchange key redelivered count) w = tt
+start_few c i (start.Deliver (Some k) tag exchange key redelivered) w = choose_few (is_registered k i.roster) (inbox.Delivered k _ ∷ []) [] tt tt
+start_few c i _ w = tt
+
+whole_few : (c : ℕ) (i : Inbox) (w : Option Whole) → AreFew (whole_inbox c i w)
+whole_few c i None = tt
+whole_few c i (Some w) = start_few c i w.start w
+
+consumer_few : (c : ℕ) (p : ConsumerPart) (b : Wire) → AreFew (consumer_inbox c p b)
+consumer_few c (consumer.ConsumeOk tag) b = tt
+consumer_few c _ b = tt
+
+close_ok_few : (c : ℕ) (p : ChannelPhase) → AreFew (close_ok_inbox_in c p)
+close_ok_few c (phase.Closing who sent) = tt
+close_ok_few c _ = tt
+
+received_few : (i : Incoming) (b : Wire) → AreFew (received_inbox i b)
+received_few (incoming.Reply c k a) b = request_few c a (first_request k (requests_of c b))
+received_few (incoming.Content c p) b = whole_few c b.inbox (whole_on c p b)
+received_few (incoming.Consumer c p) b = consumer_few c p b
+received_few (incoming.ChannelCloseOk c) b = close_ok_few c (phase_of c b)
+received_few (incoming.ConnectionClose code) b = ends_few (error.ProtocolError code) (live_channels b.phases)
+received_few _ b = tt
+
+refused_few : (e : Error) (b : Wire) → AreFew (refused_inbox e b)
+refused_few (error.UnexpectedFrame class number) b = ends_few failed_at_unexpected (live_channels b.phases)
+refused_few _ b = tt
+
+incoming_few : (i : Incoming) (r : Record) (b : Wire) → AreFew (incoming_inbox i r b)
+incoming_few i (record_.Refused e) b = refused_few e b
+incoming_few i record_.Received b = received_few i b
+incoming_few i _ b = tt
+
+delegate_few : (n : ℕ) (o : Option Consumer) → AreFew (delegate_marks n o)
+delegate_few n None = tt
+delegate_few n (Some x) = tt
+
+let_go_few : (n : ℕ) (o : Option Consumer) (b : Wire) → AreFew (let_go_marks n o b)
+let_go_few n None b = tt
+let_go_few n (Some x) b = choose_few (lets_go_of x b) (inbox.LetGo n ∷ []) [] tt tt
+
+job_few : (o : Option Job) → AreFew (job_marks o)
+job_few None = tt
+job_few (Some j) = tt
+
+event_few : (b : Wire) (e : Event) (r : Record) → AreFew (inbox_marks b e r)
+event_few b (event.Call c k) r = asking_few c (asked k) b
+event_few b (event.Receive f) r = incoming_few (incoming_of f) r b
+event_few b (event.Acker n k) r = acked_few n (usable_at n b) k b
+event_few b (event.Delegate n) r = delegate_few n (consumer_at n b.inbox.roster)
+event_few b (event.DropConsumer n) r = let_go_few n (consumer_at n b.inbox.roster) b
+event_few b event.NextJob r = job_few _
+event_few b event.Lost r = ends_few error.ConnectionLost (live_channels b.phases)
+event_few b _ r = tt
+
+-- ---- an event gives one number of each at most
+
+pub switches-next : (b : Wire) (e : Event) (r : Record) → length (after_event b e r).inbox.switches ≤ length b.inbox.switches + 1
+switches-next b e r =
+    let P : Inbox → Type 0 = λ i. length i.switches ≤ length b.inbox.switches + 1 in
+    subst P (sym (inbox-next b e r)) (few_switches (inbox_marks b e r) b.inbox (event_few b e r))
+
+pub consumers-next : (b : Wire) (e : Event) (r : Record) → length (after_event b e r).inbox.roster.consumers ≤ length b.inbox.roster.consumers + 1
+consumers-next b e r =
+    let P : Inbox → Type 0 = λ i. length i.roster.consumers ≤ length b.inbox.roster.consumers + 1 in
+    subst P (sym (inbox-next b e r)) (few_consumers (inbox_marks b e r) b.inbox (event_few b e r))

@@ -1,0 +1,11 @@
+use Rattle.std.proofs.Common.{Bool, refl, sym, ap}
+use Rattle.lapin_history.specs.declared.broker_frames.Incoming.TheVariants as incoming
+use Rattle.lapin_history.specs.Receiving.{when}
+use Rattle.lapin_history.specs.Unexpected.{refused}
+use Rattle.lapin_machine.proofs.Refusals.{refused_up}
+use Rattle.lapin_machine.proofs.session.Session.receive_content.Goals as goal
+
+pub returns-else-receives_part-clause-ok : goal.returns-else-receives_part-clause-ok
+returns-else-receives_part-clause-ok c =
+    let told = ap (λ (b : Bool). when b (refused c.args.class c.args.number)) (sym c.if-receives_part.ensures) in
+    refused_up c.refuse.result c.refuse.new.self c.args.self.now (refused c.args.class c.args.number) (incoming.Content c.args.channel c.args.part) _ refl told c.refuse.ensures.ok

@@ -1,0 +1,4 @@
+pub mod Jobs
+pub mod Decided
+pub mod Worked
+pub mod Ran
