@@ -1,8 +1,8 @@
 #!/usr/bin/env python3
 """See that the files of this folder are the runs of the tests, and that the built program prints their answers.
 
-The runs stand in the files examples.rt of two crates of tests, one for each command, with a line an event or a step and, behind
-an arrow, its record or report. The gate runs them there; this script, which stands outside it, compares the files beside it with
+The runs stand in files of two crates of tests, one crate for each command, with a line an event or a step and, behind an arrow, its
+record or report. The gate runs them there; this script, which stands outside it, compares the files beside it with
 them. Where the program is built (`./lapin` builds it), it is run on each file too.
 
     examples/check.py
@@ -13,15 +13,18 @@ import sys
 
 HERE = os.path.dirname(os.path.abspath(__file__))
 TOP = os.path.dirname(HERE)
-TABLES = {"session": "lapin_tests", "joined": "lapin_joined_tests"}
+TABLES = {
+    "session": ["lapin_tests/src/examples.rt", "lapin_tests/src/tutorials.rt"],
+    "joined": ["lapin_joined_tests/src/examples.rt"],
+}
 PROGRAM = os.path.join(TOP, "crates", "lapin_run", "out", "lapin_run")
 NAME = "# examples/"
 
 
-def runs(crate):
-    """The lines and the answers of each example of a crate, by the name of its file."""
+def runs(table):
+    """The lines and the answers of each example of a table, by the name of its file."""
     found, steps = {}, None
-    with open(os.path.join(TOP, "crates", crate, "src", "examples.rt"), encoding="utf-8") as lines:
+    with open(os.path.join(TOP, "crates", table), encoding="utf-8") as lines:
         for line in lines.read().split("\n"):
             if NAME in line:
                 steps = found.setdefault(line.split(NAME)[1], [])
@@ -37,7 +40,12 @@ def printed(word, name):
 
 def main():
     wrong = 0
-    told = {name: (word, steps) for word, crate in TABLES.items() for name, steps in runs(crate).items()}
+    told = {
+        name: (word, steps)
+        for word, tables in TABLES.items()
+        for table in tables
+        for name, steps in runs(table).items()
+    }
     files = {name for name in os.listdir(HERE) if name.endswith(".txt")}
     for name in sorted(files | set(told)):
         if name not in told or name not in files:

@@ -11,3 +11,9 @@ mod command;
 mod driver;
 #[cfg(test)]
 mod meeting;
+#[cfg(test)]
+mod stepping;
+#[cfg(test)]
+mod work;
+#[cfg(test)]
+mod workers;

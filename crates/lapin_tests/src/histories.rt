@@ -1,9 +1,10 @@
 //! Runs the tables of histories.
 use crate::driver::{shows, shows_all};
 use crate::{
-    asides, broker_close, calls, channel_close, confirms, connection_close, content_ends,
-    content_faults, contents, crossed, examples, flow, gets, loss, methods_table, returned,
-    session_close, unexpected, waits,
+    ackers, asides, broker_close, calls, channel_close, confirms, connection_close, consumer_ends,
+    consumers, content_ends, content_faults, contents, crossed, deliveries, discards, examples,
+    flow, gets, letting_go, loss, methods_table, open_cancels, returned, session_close, tutorials,
+    unexpected, waits,
 };
 use std::alloc::{AllocError, Global};
 use std::test::Fail;
@@ -13,6 +14,7 @@ fn histories_have_their_records(rt: HostRuntime) -> Result<(), Fail> {
     for table in [
         examples::HISTORIES,
         examples::TOPOLOGY,
+        tutorials::HISTORIES,
         methods_table::HISTORIES,
         calls::HISTORIES,
         flow::HISTORIES,
@@ -31,6 +33,13 @@ fn histories_have_their_records(rt: HostRuntime) -> Result<(), Fail> {
         returned::HISTORIES,
         asides::HISTORIES,
         waits::HISTORIES,
+        consumers::HISTORIES,
+        deliveries::HISTORIES,
+        letting_go::HISTORIES,
+        discards::HISTORIES,
+        ackers::HISTORIES,
+        consumer_ends::HISTORIES,
+        open_cancels::HISTORIES,
     ] {
         shows_all(&rt, table)?;
     }

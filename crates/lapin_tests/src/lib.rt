@@ -6,6 +6,8 @@
 #![tactic(auto)]
 
 #[cfg(test)]
+mod ackers;
+#[cfg(test)]
 mod asides;
 #[cfg(test)]
 mod begun;
@@ -22,6 +24,10 @@ mod confirms;
 #[cfg(test)]
 mod connection_close;
 #[cfg(test)]
+mod consumer_ends;
+#[cfg(test)]
+mod consumers;
+#[cfg(test)]
 mod content_ends;
 #[cfg(test)]
 mod content_faults;
@@ -29,6 +35,10 @@ mod content_faults;
 mod contents;
 #[cfg(test)]
 mod crossed;
+#[cfg(test)]
+mod deliveries;
+#[cfg(test)]
+mod discards;
 #[cfg(test)]
 mod driver;
 #[cfg(test)]
@@ -42,15 +52,21 @@ mod gets;
 #[cfg(test)]
 mod histories;
 #[cfg(test)]
+mod letting_go;
+#[cfg(test)]
 mod lines;
 #[cfg(test)]
 mod loss;
 #[cfg(test)]
 mod methods_table;
 #[cfg(test)]
+mod open_cancels;
+#[cfg(test)]
 mod returned;
 #[cfg(test)]
 mod session_close;
+#[cfg(test)]
+mod tutorials;
 #[cfg(test)]
 mod unexpected;
 #[cfg(test)]

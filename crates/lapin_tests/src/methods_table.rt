@@ -243,6 +243,30 @@ ticket 3 -> pending
 recv method 1 basic.qos-ok -> received
 ticket 3 -> answer done
 
+# `basic.consume` is answered with the number of its consumer, each of its marks.
+= opened
+call 1 basic.consume x71 x74 1 0 0 0 {} -> ticket 2
+next 0 -> frame method 1 basic.consume x71 x74 1 0 0 0 {}
+ticket 2 -> pending
+recv method 1 basic.consume-ok x74 -> received
+ticket 2 -> answer consumer 1
+call 1 basic.consume x72 x75 0 1 1 1 {x61=t1} -> ticket 3
+ticket 3 -> answer consumer 2
+next 0 -> frame method 1 basic.consume x72 x75 0 1 1 1 {x61=t1}
+recv method 1 basic.consume-ok x75 -> refused UnexpectedFrame 60 21
+
+# `basic.cancel`
+= opened
+call 1 basic.cancel x74 0 -> ticket 2
+next 0 -> frame method 1 basic.cancel x74 0
+ticket 2 -> pending
+recv method 1 basic.cancel-ok x74 -> received
+ticket 2 -> answer done
+call 1 basic.cancel x75 1 -> ticket 3
+ticket 3 -> answer done
+next 0 -> frame method 1 basic.cancel x75 1
+recv method 1 basic.cancel-ok x75 -> refused UnexpectedFrame 60 31
+
 # `basic.recover`
 = opened
 call 1 basic.recover 1 -> ticket 2

@@ -5,11 +5,11 @@
 #![tactic(auto)]
 
 #[cfg(test)]
+mod consumers;
+#[cfg(test)]
 mod driver;
 #[cfg(test)]
 mod events;
-#[cfg(test)]
-mod messages;
 #[cfg(test)]
 mod pieces;
 #[cfg(test)]

@@ -146,16 +146,34 @@ event call 1 channel.close 65535 x676f6e65 -> read
 event call 0 connection.close 200 x -> read
 event call 65535 basic.get x71 1 -> read
 event call 1 basic.get x 0 -> read
+event call 1 basic.consume x71 x74 0 0 0 0 {} -> read
+event call 65535 basic.consume x x 1 1 1 1 {x61=I-1} -> read
+event call 1 basic.cancel x74 0 -> read
+event call 1 basic.cancel x 1 -> read
 event recv method 1 channel.open-ok -> read
+event recv method 1 basic.cancel x74 1 -> read
 event recv method 1 basic.get-ok 7 0 x x 0 -> read
 event next 1 -> read
 event ticket 0 -> read
 event confirm 18446744073709551615 -> read
+event consumer 0 -> read
+event consumer 18446744073709551615 -> read
 event wait 0 -> read
 event wait 65535 -> read
 event aside-ticket 18446744073709551615 -> read
 event aside-confirm 0 -> read
 event aside-confirm 18446744073709551615 -> read
+event acker 0 ack 0 -> read
+event acker 18446744073709551615 ack 1 -> read
+event acker 1 nack 0 1 -> read
+event acker 1 nack 1 0 -> read
+event acker 1 reject 0 -> read
+event acker 1 reject 1 -> read
+event delegate 0 -> read
+event delegate 18446744073709551615 -> read
+event drop 0 -> read
+event drop 18446744073709551615 -> read
+event job -> read
 event state 65535 -> read
 event lost -> read
 event  -> none
@@ -172,6 +190,19 @@ event call 1 basic.get x71 2 -> none
 event call 1 basic.get 71 0 -> none
 event call 1 basic.get x71 0 0 -> none
 event call 1 basic.get-ok 7 0 x x 0 -> none
+event call 1 basic.consume x71 x74 0 0 0 0 -> none
+event call 1 basic.consume x71 x74 0 0 0 {} -> none
+event call 1 basic.consume x71 x74 0 0 0 2 {} -> none
+event call 1 basic.consume x71 74 0 0 0 0 {} -> none
+event call 1 basic.consume x71 x74  0 0 0 0 {} -> none
+event call 1 basic.consume x71 x74 0 0 0 0 {} 0 -> none
+event call 65536 basic.consume x71 x74 0 0 0 0 {} -> none
+event call 1 basic.consume-ok x74 -> none
+event call 1 basic.cancel x74 -> none
+event call 1 basic.cancel x74 2 -> none
+event call 1 basic.cancel x74 0 0 -> none
+event call 1 basic.cancel 74 0 -> none
+event call 1 basic.cancel-ok x74 -> none
 event recv channel.open-ok -> none
 event wait -> none
 event wait  -> none
@@ -187,4 +218,46 @@ event aside-confirm 1 1 -> none
 event aside_confirm 1 -> none
 event aside 1 -> none
 event Next 1 -> none
+event consumer -> none
+event consumer x -> none
+event consumer 01 -> none
+event consumer 18446744073709551616 -> none
+event consumer 1 1 -> none
+event consumers 1 -> none
+event acker -> none
+event acker 1 -> none
+event acker 1 ack -> none
+event acker 1 ack 2 -> none
+event acker 1 ack 0 1 -> none
+event acker 1  ack 0 -> none
+event acker 1 ack  0 -> none
+event acker 18446744073709551616 ack 0 -> none
+event acker ack 0 -> none
+event acker 1 Ack 0 -> none
+event acker 1 basic.ack 0 -> none
+event acker 1 nack -> none
+event acker 1 nack 0 -> none
+event acker 1 nack 0 2 -> none
+event acker 1 nack 0 1 1 -> none
+event acker 1 reject -> none
+event acker 1 reject x -> none
+event acker 1 reject 0 1 -> none
+event acker 1 job -> none
+event ack 0 -> none
+event nack 0 1 -> none
+event reject 0 -> none
+event delegate -> none
+event delegate 01 -> none
+event delegate 18446744073709551616 -> none
+event delegate 1 1 -> none
+event delegated 1 -> none
+event drop -> none
+event drop -1 -> none
+event drop 18446744073709551616 -> none
+event drop 1 1 -> none
+event dropped 1 -> none
+event job 1 -> none
+event job  -> none
+event Job -> none
+event nojob -> none
 ";

@@ -13,3 +13,6 @@ pub use given_back::give_back;
 pub use outcomes::{Advice, advice_on};
 pub use publisher::{Message, Publisher, Settled, Waiting};
 pub use reconnect::{after_loss, open_again};
+
+#[cfg(test)]
+mod topology;

@@ -1,0 +1,481 @@
+//! Confirms: which tag a publish takes, what settlements and ends make of it, and where returned messages go.
+ghost use Rattle.std.specs.Prelude.{◌≡◌, false, IsTrue, IsSome};
+ghost use Rattle.std.specs.List.{list_any};
+ghost use Rattle.lapin_tables.specs.ByChannel.{at_channel};
+ghost use Rattle.lapin_confirm.specs.Book.{is_open_on};
+
+use crate::alike::put;
+use crate::script::{Part, Words, runs};
+use crate::texts::{
+    bit, channel, digits, done, error, failed, number, refused, returned, said, unread, unused,
+};
+use lapin_confirm::{Confirms, SettleKind};
+use lapin_types::{BasicReturnMessage, Confirmation, Error, NoMemory, ReturnedList};
+use std::alloc::Global;
+use std::test::Fail;
+
+// Confirms, and the message that a result had last.
+#[derive(Drop)]
+struct Office {
+    confirms: Confirms,
+    message: Option<BasicReturnMessage>,
+}
+
+impl Part for Office {
+    fn answer(&mut self, alloc: Global, call: &Words) -> Result<String, Fail> {
+        match call.name {
+            "take" => self.take(alloc, number(call.first)?),
+            "aside" => done(alloc, self.confirms.set_aside(alloc, number(call.first)?)),
+            "ready" => bit(alloc, self.confirms.ready(number(call.first)?)),
+            _ => self.on_channel(alloc, channel(call.first)?, call),
+        }
+    }
+}
+
+impl Office {
+    fn new(alloc: Global) -> Result<Office, NoMemory> {
+        let confirms = Confirms::new(alloc)?;
+        Ok(Office {
+            confirms,
+            message: None,
+        })
+    }
+
+    fn take(&mut self, alloc: Global, number: u64) -> Result<String, Fail> {
+        match self.confirms.take(number) {
+            Ok(Some(Ok(confirmation))) => {
+                let word = outcome_word(&confirmation);
+                put(&mut self.message, confirmation.take_message());
+                outcome(alloc, word, message_text(&self.message))
+            }
+            Ok(Some(Err(error))) => failed(alloc, error),
+            Ok(None) => said(alloc, "none"),
+            Err(error) => refused(alloc, error),
+        }
+    }
+
+    fn on_channel(&mut self, alloc: Global, channel: u16, call: &Words) -> Result<String, Fail> {
+        match call.name {
+            "begin" => begin(&mut self.confirms, alloc, channel),
+            "add" => add(&mut self.confirms, alloc, channel),
+            "publish" => publish(&mut self.confirms, alloc, channel),
+            "overtaken" => overtaken(&mut self.confirms, alloc, channel),
+            "crossed" => crossed(&mut self.confirms, alloc, channel),
+            "refuse" => refuse(&mut self.confirms, alloc, channel, error(call.second)?),
+            "ack" => self.settle(alloc, channel, SettleKind::Ack, number(call.second)?),
+            "nack" => self.settle(alloc, channel, SettleKind::Nack, number(call.second)?),
+            "arrived" => self.arrived(alloc, channel, call.second),
+            "drain" => list_text(alloc, &self.confirms.drain(alloc, channel)?),
+            _ => self.changes(alloc, channel, call),
+        }
+    }
+
+    fn settle(
+        &mut self,
+        alloc: Global,
+        channel: u16,
+        kind: SettleKind,
+        tag: u64,
+    ) -> Result<String, Fail> {
+        done(alloc, self.confirms.settle_one(channel, kind, tag))
+    }
+
+    fn arrived(&mut self, alloc: Global, channel: u16, text: &str) -> Result<String, Fail> {
+        let message = returned(alloc, unused(0, 0, 0), 312, text)?;
+        self.confirms.arrived(alloc, channel, message)?;
+        said(alloc, "done")
+    }
+
+    fn changes(&mut self, alloc: Global, channel: u16, call: &Words) -> Result<String, Fail> {
+        match call.name {
+            "reserve" => self.confirms.reserve(alloc, channel)?,
+            "called" => self.confirms.select_called(channel),
+            "select" => self.confirms.select_left(channel),
+            "limit" => self.confirms.set_limit(channel, number(call.second)?),
+            "ack-all" => self.confirms.settle_all(channel, SettleKind::Ack),
+            "nack-all" => self.confirms.settle_all(channel, SettleKind::Nack),
+            "ack-to" => settle_to(&mut self.confirms, channel, SettleKind::Ack, call.second)?,
+            "nack-to" => settle_to(&mut self.confirms, channel, SettleKind::Nack, call.second)?,
+            "end" => self.confirms.end(channel, error(call.second)?),
+            _ => return self.reads(alloc, channel, call.name),
+        }
+        said(alloc, "done")
+    }
+
+    fn reads(&mut self, alloc: Global, channel: u16, name: &str) -> Result<String, Fail> {
+        match name {
+            "asked" => bit(alloc, self.confirms.asked(channel)),
+            "selected" => bit(alloc, self.confirms.selected(channel)),
+            "full" => bit(alloc, self.confirms.full(channel)),
+            "current" => digits(alloc, self.confirms.current(channel)),
+            "pending" => digits(alloc, self.confirms.pending(channel) as u64),
+            "queued" => digits(alloc, self.confirms.queued(channel) as u64),
+            "span" => digits(alloc, self.confirms.span(channel)),
+            "limit-of" => digits(alloc, self.confirms.limit(channel)),
+            _ => unread(alloc),
+        }
+    }
+}
+
+// ---- calls that ask something of the confirms
+
+// Whether a channel is seen to have an opening: something was set on it.
+fn has_opening(confirms: &Confirms, channel: u16) -> bool
+    ensures { IsTrue result → IsSome (at_channel channel confirms.now.what.book.ledgers) }
+{
+    confirms.selected(channel) || confirms.asked(channel) || confirms.limit(channel) > 0
+}
+
+// Whether nothing of a channel is open.
+fn is_over(confirms: &Confirms, channel: u16) -> bool
+    ensures { IsTrue result → list_any (is_open_on channel) confirms.now.what.book.cells ≡ false }
+{
+    confirms.pending(channel) == 0 && confirms.queued(channel) == 0
+}
+
+fn begin(confirms: &mut Confirms, alloc: Global, channel: u16) -> Result<String, Fail> {
+    if !is_over(confirms, channel) {
+        return said(alloc, "open");
+    }
+    confirms.begin(alloc, channel)?;
+    said(alloc, "done")
+}
+
+fn add(confirms: &mut Confirms, alloc: Global, channel: u16) -> Result<String, Fail> {
+    if !has_opening(confirms, channel) {
+        return said(alloc, "no opening");
+    }
+    let number = confirms.add(alloc, channel)?;
+    digits(alloc, number)
+}
+
+// A publish that leaves at once: its number and its tag.
+fn publish(confirms: &mut Confirms, alloc: Global, channel: u16) -> Result<String, Fail> {
+    if !has_opening(confirms, channel) {
+        return said(alloc, "no opening");
+    }
+    let number = confirms.add(alloc, channel)?;
+    tagged(alloc, number, confirms.register(number))
+}
+
+// A publish that leaves behind a select which was called after it: its number and its tag.
+fn overtaken(confirms: &mut Confirms, alloc: Global, channel: u16) -> Result<String, Fail> {
+    if !has_opening(confirms, channel) {
+        return said(alloc, "no opening");
+    }
+    let number = confirms.add(alloc, channel)?;
+    confirms.select_left(channel);
+    tagged(alloc, number, confirms.register(number))
+}
+
+// Two publishes of which the second leaves first: their numbers and tags in the order of leaving.
+fn crossed(confirms: &mut Confirms, alloc: Global, channel: u16) -> Result<String, Fail> {
+    if !has_opening(confirms, channel) {
+        return said(alloc, "no opening");
+    }
+    let first = confirms.add(alloc, channel)?;
+    let second = confirms.add(alloc, channel)?;
+    let of_second = confirms.register(second);
+    let of_first = confirms.register(first);
+    let text = tagged(alloc, second, of_second)?;
+    let other = tagged(alloc, first, of_first)?;
+    Ok(format!(in alloc; "{} {}", text.as_str(), other.as_str())?)
+}
+
+fn tagged(alloc: Global, number: u64, tag: Option<u64>) -> Result<String, Fail> {
+    match tag {
+        Some(tag) => Ok(format!(in alloc; "{number} {tag}")?),
+        None => Ok(format!(in alloc; "{number} -")?),
+    }
+}
+
+// A publish that is rejected before it leaves: its number.
+fn refuse(
+    confirms: &mut Confirms,
+    alloc: Global,
+    channel: u16,
+    error: Error,
+) -> Result<String, Fail> {
+    if !has_opening(confirms, channel) {
+        return said(alloc, "no opening");
+    }
+    let number = confirms.add(alloc, channel)?;
+    confirms.reject(number, error);
+    digits(alloc, number)
+}
+
+fn settle_to(
+    confirms: &mut Confirms,
+    channel: u16,
+    kind: SettleKind,
+    word: &str,
+) -> Result<(), Fail> {
+    let tag = number(word)?;
+    if tag == 0 {
+        return Err(Fail::from("0 is no tag"));
+    }
+    confirms.settle_up_to(channel, kind, tag);
+    Ok(())
+}
+
+// ---- messages and results in words
+
+fn outcome(alloc: Global, word: &str, text: &str) -> Result<String, Fail> {
+    Ok(format!(in alloc; "{word} {text}")?)
+}
+
+fn outcome_word(given: &Confirmation) -> &'static str {
+    match (given.is_ack(), given.is_nack()) {
+        (true, false) => "ack",
+        (false, true) => "nack",
+        (false, false) => "not requested",
+        (true, true) => "?",
+    }
+}
+
+fn message_text(message: &Option<BasicReturnMessage>) -> &str {
+    match message {
+        Some(message) => message.reply_text.as_str(),
+        None => "-",
+    }
+}
+
+// How many messages, and the text of each.
+fn list_text(alloc: Global, list: &ReturnedList) -> Result<String, Fail> {
+    let mut text = digits(alloc, list.len() as u64)?;
+    for place in 0..list.len() {
+        if let Some(message) = list.at(place) {
+            text.push_str(" ")?;
+            text.push_str(message.reply_text.as_str())?;
+        }
+    }
+    Ok(text)
+}
+
+// ---- the scripts
+
+// A publish that leaves before the select isn't confirmed; behind it tags count from 1, and another select changes nothing. A new
+// opening counts anew, and confirm numbers go on.
+const TAGS: &str = "\
+    add 1 -> no opening
+    begin 1 -> done
+    limit 1 9 -> done
+    called 1 -> done
+    asked 1 -> yes
+    selected 1 -> no
+    publish 1 -> 1 -
+    take 1 -> not requested -
+    add 1 -> 2
+    select 1 -> done
+    selected 1 -> yes
+    current 1 -> 0
+    publish 1 -> 3 1
+    publish 1 -> 4 2
+    select 1 -> done
+    reserve 1 -> done
+    publish 1 -> 5 3
+    begin 2 -> done
+    select 2 -> done
+    publish 2 -> 6 1
+    current 1 -> 3
+    pending 1 -> 3
+    queued 1 -> 1
+    queued 2 -> 0
+    ready 2 -> no
+    ready 3 -> no
+    take 3 -> none
+    begin 1 -> open
+    end 1 lost -> done
+    asked 1 -> no
+    limit-of 1 -> 0
+    pending 1 -> 0
+    queued 1 -> 0
+    take 2 -> failed ConnectionLost
+    take 3 -> failed ConnectionLost
+    ready 6 -> no
+    begin 1 -> done
+    selected 1 -> no
+    current 1 -> 0
+    select 1 -> done
+    publish 1 -> 7 1
+    take 4 -> failed ConnectionLost";
+
+// What counts is the order of leaving: a publish that was added before the select left takes a tag where it leaves behind it, and of
+// two the one that leaves first takes the lower tag.
+const LEAVING: &str = "\
+    begin 1 -> done
+    called 1 -> done
+    overtaken 1 -> 1 1
+    crossed 1 -> 3 2 2 3
+    pending 1 -> 3
+    nack 1 2 -> done
+    take 3 -> nack -
+    take 2 -> none
+    ack 1 3 -> done
+    take 2 -> ack -
+    publish 1 -> 4 4
+    current 1 -> 4";
+
+// A settlement covers its tag, or each up to it, or all; one of a tag that isn't pending is refused with the last one taken.
+const SETTLEMENTS: &str = "\
+    begin 1 -> done
+    ack 1 1 -> PreconditionFailed 1 0
+    select 1 -> done
+    publish 1 -> 1 1
+    publish 1 -> 2 2
+    publish 1 -> 3 3
+    publish 1 -> 4 4
+    publish 1 -> 5 5
+    publish 1 -> 6 6
+    ack 1 7 -> PreconditionFailed 7 6
+    ack 1 0 -> PreconditionFailed 0 6
+    ack 2 1 -> PreconditionFailed 1 0
+    pending 1 -> 6
+    nack 1 2 -> done
+    nack 1 2 -> PreconditionFailed 2 6
+    ack-to 1 3 -> done
+    pending 1 -> 3
+    take 1 -> ack -
+    take 2 -> nack -
+    take 3 -> ack -
+    take 4 -> none
+    ack-to 1 3 -> done
+    nack-to 1 4 -> done
+    take 4 -> nack -
+    ack-all 1 -> done
+    pending 1 -> 0
+    take 5 -> ack -
+    take 6 -> ack -
+    take 6 -> AlreadyTaken
+    take 0 -> UnknownTicket
+    take 7 -> UnknownTicket
+    publish 1 -> 7 7
+    ack-to 1 99 -> done
+    take 7 -> ack -
+    publish 1 -> 8 8
+    nack-all 1 -> done
+    take 8 -> nack -";
+
+// The span reaches from the least pending tag to the last one taken; a channel is full at its limit, which 0 takes away.
+const WINDOW: &str = "\
+    begin 1 -> done
+    called 1 -> done
+    limit 1 2 -> done
+    limit-of 1 -> 2
+    full 1 -> no
+    span 1 -> 0
+    select 1 -> done
+    publish 1 -> 1 1
+    span 1 -> 1
+    full 1 -> no
+    publish 1 -> 2 2
+    full 1 -> yes
+    publish 1 -> 3 3
+    span 1 -> 3
+    full 1 -> yes
+    full 2 -> no
+    ack 1 2 -> done
+    span 1 -> 3
+    ack 1 1 -> done
+    span 1 -> 1
+    full 1 -> no
+    limit 1 1 -> done
+    full 1 -> yes
+    limit 1 0 -> done
+    full 1 -> no
+    ack 1 3 -> done
+    span 1 -> 0
+    current 1 -> 3";
+
+// Messages go to the confirms as these are settled, in rising tags, the oldest message first. A drain gives those of before the
+// select, then those of confirms that were set aside when they were resolved, then those of confirms resolved after that.
+const RETURNED: &str = "\
+    begin 1 -> done
+    limit 1 9 -> done
+    arrived 1 a -> done
+    select 1 -> done
+    publish 1 -> 1 1
+    publish 1 -> 2 2
+    publish 1 -> 3 3
+    publish 1 -> 4 4
+    publish 1 -> 5 5
+    arrived 1 b -> done
+    arrived 1 c -> done
+    arrived 1 d -> done
+    arrived 1 e -> done
+    nack 1 5 -> done
+    take 5 -> nack b
+    aside 3 -> done
+    take 3 -> AlreadyTaken
+    ready 3 -> yes
+    aside 3 -> AlreadyTaken
+    aside 2 -> done
+    aside 9 -> UnknownTicket
+    ack-to 1 3 -> done
+    aside 1 -> done
+    aside 1 -> AlreadyTaken
+    drain 1 -> 4 a c e d
+    drain 1 -> 0
+    ack 1 4 -> done
+    take 4 -> ack -
+    drain 2 -> 0";
+
+// A message that waits at an end stays until the next opening begins, and none is left then.
+const EMPTIED: &str = "\
+    begin 1 -> done
+    select 1 -> done
+    publish 1 -> 1 1
+    publish 1 -> 2 2
+    publish 1 -> 3 3
+    arrived 1 a -> done
+    arrived 1 b -> done
+    ack 1 1 -> done
+    ack 1 2 -> done
+    aside 1 -> done
+    arrived 1 c -> done
+    end 1 404 -> done
+    take 3 -> failed ProtocolError 404
+    drain 1 -> 1 a
+    aside 2 -> done
+    begin 1 -> done
+    drain 1 -> 0
+    select 1 -> done
+    publish 1 -> 4 1
+    ack 1 1 -> done
+    take 4 -> ack -";
+
+// A publish that is rejected has the error of its own, and takes no tag; an end fails what is open of its channel alone.
+const REJECTS: &str = "\
+    begin 1 -> done
+    begin 2 -> done
+    select 1 -> done
+    select 2 -> done
+    refuse 1 404 -> 1
+    publish 1 -> 2 1
+    publish 2 -> 3 1
+    add 1 -> 4
+    add 2 -> 5
+    take 1 -> failed ProtocolError 404
+    end 1 lost -> done
+    take 2 -> failed ConnectionLost
+    take 4 -> failed ConnectionLost
+    take 3 -> none
+    take 5 -> none
+    ack 2 1 -> done
+    take 3 -> ack -";
+
+#[test]
+fn confirms_take_tags_and_are_settled(rt: HostRuntime) -> Result<(), Fail> {
+    for script in [
+        TAGS,
+        LEAVING,
+        SETTLEMENTS,
+        WINDOW,
+        RETURNED,
+        EMPTIED,
+        REJECTS,
+    ] {
+        runs(&rt, rt.alloc(), Office::new(rt.alloc())?, script)?;
+    }
+    Ok(())
+}

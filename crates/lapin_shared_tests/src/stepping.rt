@@ -1,0 +1,71 @@
+//! Steps of a caller as text: events that it makes, and the entries that its log then has. The other modules call it.
+
+use lapin_shared::{Caller, Crew, Told};
+use lapin_text::{parse_events, read_event, write_record};
+use lapin_types::{Event, Record};
+use std::alloc::Global;
+use std::process::Abort;
+use std::sync::Wait;
+use std::test::Fail;
+
+/// A channel that is open, and consumers 1 and 2 of it under the tags `t` and `u`, whose deliveries are jobs. The next ticket is 4.
+const CONSUMING: &str = "frame_max 4096\n\
+call 1 channel.open\nnext 1\nrecv method 1 channel.open-ok\n\
+call 1 basic.consume x71 x74 0 0 0 1 {}\nnext 1\ndelegate 1\n\
+call 1 basic.consume x71 x75 0 0 0 1 {}\nnext 1\ndelegate 2\n";
+
+/// Makes the events of that beginning and those of these lines.
+pub fn make_lines<L: Crew, R: Wait + Abort>(
+    rt: &R,
+    alloc: Global,
+    caller: &mut Caller<L>,
+    lines: &str,
+) -> Result<(), Fail> {
+    let mut text = String::from_str(alloc, CONSUMING)?;
+    text.push_str(lines)?;
+    let parsed = parse_events(alloc, text.as_bytes()).map_err(|_| "memory")?;
+    assert_eq!(rt; parsed.bad, None);
+    for event in parsed.events {
+        caller.make(rt, alloc, event).map_err(|_| "memory")?;
+    }
+    Ok(())
+}
+
+/// Compares the entries of a log behind the first `made` with lines, each an event and its record with an arrow between them.
+pub fn are_steps<R: Abort>(
+    rt: &R,
+    alloc: Global,
+    log: &[Told],
+    made: usize,
+    lines: &str,
+) -> Result<(), Fail> {
+    let mut k = made;
+    for line in lines.lines() {
+        let told = log.get(k).ok_or("an entry")?;
+        assert!(rt; is_step(alloc, told, line), "at {line}");
+        k = k.saturating_add(1);
+    }
+    assert_eq!(rt; log.len(), k, "at {lines}");
+    Ok(())
+}
+
+fn is_step(alloc: Global, told: &Told, line: &str) -> bool {
+    match (line.split_once(" -> "), &told.answer) {
+        (Some((event, record)), Some(answer)) => {
+            is_event(alloc, &told.event, event) && is_record(alloc, answer, record)
+        }
+        _ => false,
+    }
+}
+
+fn is_event(alloc: Global, event: &Event, line: &str) -> bool {
+    match read_event(alloc, line.as_bytes()) {
+        Ok(Some(read)) => read.same(event),
+        _ => false,
+    }
+}
+
+fn is_record(alloc: Global, record: &Record, line: &str) -> bool {
+    let mut text = Vec::new(alloc);
+    write_record(alloc, &mut text, record).is_ok() && text.as_slice() == line.as_bytes()
+}
