@@ -1,5 +1,6 @@
 #!/usr/bin/env python3
-"""What an event costs the program's command `session`: instructions, time and memory, a row a workload.
+"""What an event costs the program: instructions, time and memory, a row a workload. Most rows are of the command `session`, two of
+`shared N` on the same input.
 
 It stands outside the gate: `rt run` in crates/lapin_run builds the program, and this script makes inputs and runs it.
 
@@ -91,7 +92,49 @@ def closes(count, channels=1):
         yield f"recv method {channel} channel.close-ok"
 
 
-# A row: its name, its input of so many turns, and the turns of the smaller and of the larger input.
+def content(channel, length):
+    """The header and the body of a message."""
+    yield f"recv header {channel} 60 {length} []"
+    yield f"recv body {channel} x{'61' * length}"
+
+
+def deliveries(count, length):
+    """Deliveries for one consumer, each polled and acked, and the frame of each ack."""
+    yield from opened(1)
+    yield "call 1 basic.consume x71 x74 0 0 0 1 {}"
+    yield "next 1"
+    for number in range(1, count + 1):
+        yield f"recv method 1 basic.deliver x74 {number} 0 x65 x6b"
+        yield from content(1, length)
+        yield "consumer 1"
+        yield f"acker {number} ack 0"
+        yield "next 1"
+
+
+def gets(count, length):
+    """Gets of a message each, its ticket polled and its message acked."""
+    yield from opened(1)
+    for number in range(1, count + 1):
+        yield "call 1 basic.get x71 0"
+        yield "next 1"
+        yield f"recv method 1 basic.get-ok {number} 0 x65 x6b 0"
+        yield from content(1, length)
+        yield f"ticket {2 * number + 1}"
+        yield f"acker {number} ack 0"
+        yield "next 1"
+
+
+def returns(count, length):
+    """Publishes that come back, each before its ack, with which it is polled."""
+    yield from opened(1)
+    for number in range(1, count + 1):
+        yield from publish(1, length)
+        yield "recv method 1 basic.return 312 x4e4f5f524f555445 x x6b6579"
+        yield from content(1, length)
+        yield from settled(1, number, number)
+
+
+# A row: its name, its input of so many turns, the turns of the smaller and of the larger input, and the words of its command.
 WORKLOADS = [
     ("publish and confirm, empty", lambda n: published(n), 2_000, 20_000),
     ("publish and confirm, 100 bytes", lambda n: published(n, length=100), 2_000, 10_000),
@@ -102,6 +145,11 @@ WORKLOADS = [
     ("polls", polls, 10_000, 50_000),
     ("closes", closes, 500, 5_000),
     ("closes on 1,000 channels", lambda n: closes(n, channels=1_000), 2_000, 7_000),
+    ("deliveries of 100 bytes, polled and acked", lambda n: deliveries(n, 100), 2_000, 10_000),
+    ("gets of 100 bytes, polled and acked", lambda n: gets(n, 100), 2_000, 10_000),
+    ("publishes of 100 bytes that come back", lambda n: returns(n, 100), 2_000, 10_000),
+    ("publish and confirm, empty, by shared 1", lambda n: published(n), 2_000, 10_000, ["shared", "1"]),
+    ("publish and confirm, empty, by shared 4", lambda n: published(n), 2_000, 10_000, ["shared", "4"]),
 ]
 
 # The same at other sizes: how an event's cost grows with the events before it.
@@ -130,39 +178,40 @@ def run(command, path):
     return done.stderr.decode()
 
 
-def instructions(program, path):
-    told = run(["valgrind", "--tool=callgrind", "--callgrind-out-file=/dev/null", program, "session"], path)
+def instructions(command, path):
+    told = run(["valgrind", "--tool=callgrind", "--callgrind-out-file=/dev/null", *command], path)
     return int(re.search(r"Collected : (\d+)", told)[1])
 
 
-def seconds(program, path, repeat):
+def seconds(command, path, repeat):
     """The least user and system time of the runs."""
     least = None
     for _ in range(repeat):
         before = os.times()
-        run([program, "session"], path)
+        run(command, path)
         after = os.times()
         spent = after.children_user - before.children_user + after.children_system - before.children_system
         least = spent if least is None else min(least, spent)
     return least
 
 
-def peak(program, path):
+def peak(command, path):
     """The most memory that the process held, in bytes. `time` starts it: of a process that this script started itself, the
     system would tell the script's own memory."""
-    return 1024 * int(run(["/usr/bin/time", "-f", "%M", program, "session"], path).split()[-1])
+    return 1024 * int(run(["/usr/bin/time", "-f", "%M", *command], path).split()[-1])
 
 
 def row(program, folder, repeat, counted, workload):
-    name, make, few, many = workload
+    name, make, few, many, *words = workload
+    command = [program, *(words[0] if words else ["session"])]
     small, large = os.path.join(folder, "small"), os.path.join(folder, "large")
     more = -write_input(small, make(few)) + write_input(large, make(many))
     count = "-"
     if counted:
-        count = f"{(instructions(program, large) - instructions(program, small)) / more:,.0f}"
-    spent = max(0.0, seconds(program, large, repeat) - seconds(program, small, repeat)) / more * 1e9
+        count = f"{(instructions(command, large) - instructions(command, small)) / more:,.0f}"
+    spent = max(0.0, seconds(command, large, repeat) - seconds(command, small, repeat)) / more * 1e9
     mebi = 1 << 20
-    return f"| {name} | {count} | {spent:,.0f} | {os.path.getsize(large) / mebi:.2f} | {peak(program, large) / mebi:.2f} |"
+    return f"| {name} | {count} | {spent:,.0f} | {os.path.getsize(large) / mebi:.2f} | {peak(command, large) / mebi:.2f} |"
 
 
 def main():
