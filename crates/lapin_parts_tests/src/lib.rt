@@ -17,9 +17,13 @@ mod contents;
 #[cfg(test)]
 mod events;
 #[cfg(test)]
+mod leaving;
+#[cfg(test)]
 mod methods;
 #[cfg(test)]
 mod outbox;
+#[cfg(test)]
+mod properties;
 #[cfg(test)]
 mod records;
 #[cfg(test)]
