@@ -1,8 +1,9 @@
 -- What the readings of a history count and find is what the confirms have: who is queued, who is pending with a tag, in which order,
 -- and who is resolved.
-use Rattle.std.proofs.Common.{◌≡◌, ◌≤◌, eq-eqb, ne_eqb, ℕ, zero, suc, ◌+◌, ◌<◌, ◌==◌, Bool, true, false, not, cond, ◌&&◌, ◌||◌, List, [], ◌∷◌, length, Option, Some, None, refl, sym, ◌∙◌, ap, subst, arith, slice_get}
+use Rattle.std.proofs.Common.{◌≡◌, ◌≤◌, nat_lt, nat_le, eq-eqb, ne_eqb, ℕ, zero, suc, ◌+◌, ◌<◌, ◌==◌, Bool, true, false, not, cond, ◌&&◌, ◌||◌, List, [], ◌∷◌, length, Option, Some, None, refl, sym, ◌∙◌, ap, subst, arith, slice_get}
 use Rattle.std.specs.List.{list_any, count_by, range_with_len, find}
 use Rattle.std.proofs.Math.Bool.{or-true}
+use Rattle.std.proofs.lemmas.Bool.{leb-true}
 use Rattle.lapin_tables.proofs.Counts.{count-cons}
 use Rattle.lapin_history.specs.declared.marks.Outcome.{Outcome}
 use Rattle.lapin_history.specs.declared.marks.Settlement.{Settlement}
@@ -10,12 +11,12 @@ use Rattle.lapin_history.specs.ConfirmMarks.{ConfirmMark}
 use Rattle.lapin_history.proofs.ListLaws.{since_none}
 use Rattle.lapin_tables.specs.Numbered.{under}
 use Rattle.lapin_history.specs.ConfirmReadings as read
-use Rattle.lapin_history.specs.ConfirmReadings.{has_left, is_taken, is_aside, channel_of, tag_of, is_tag, covers, first_rejected, first_settled, life, added, outcome_at, outcome_after, is_open_outcome, is_begun, is_asked, is_selected, place, numbers, is_full, limit_of}
+use Rattle.lapin_history.specs.ConfirmReadings.{has_left, is_taken, is_aside, channel_of, tag_of, is_tag, covers, first_rejected, first_settled, life, added, outcome_at, outcome_after, is_open_outcome, is_begun, is_asked, is_selected, place, numbers, is_full, limit_of, is_at_limit}
 use Rattle.lapin_history.specs.ReturnReadings.{is_done, is_gone, letters_of, taking, pending_with, covered, is_waited}
 use Rattle.lapin_history.specs.Words.{after, is_some}
 use Rattle.lapin_tables.specs.ByChannel.{at_channel}
 use Rattle.lapin_confirm.specs.declared.cell.Cell.{Cell}
-use Rattle.lapin_confirm.specs.Book.{is_queued_on, is_pending_on, is_pending_as, is_open_on, queued_count, pending_count, asked_in, asked_on, last_in, last_on, selected_in, selected_on, is_pending, is_resolved, full_on, limit_in, limit_on}
+use Rattle.lapin_confirm.specs.Book.{is_queued_on, is_pending_on, is_pending_as, is_open_on, queued_count, pending_count, asked_in, asked_on, last_in, last_on, selected_in, selected_on, is_pending, is_resolved, full_on, limit_in, limit_on, at_limit_on}
 use Rattle.lapin_confirm.specs.Post.{Post, number_from, covered_in, waits_on}
 use Rattle.lapin_confirm.specs.Drain.{is_over}
 use Rattle.lapin_confirm.specs.Follows.{Follows, WasAdded, NoneWaitsAside, cell_in, open_cell, left_cell, pending_cell, queued_cell}
@@ -285,6 +286,32 @@ none-of c ms p a o f none = is-none (λ n. a n && (channel_of n ms == c && o n))
     at : (k : ℕ) → 1 ≤ k → k < 1 + added ms → (a k && (channel_of k ms == c && o k)) ≡ false
     at zero low high = absurd (omega arith)
     at (suc k) low high = rw (elsewhere c k ms p f none (omega arith)) (both (a (suc k)) (o (suc k)))
+
+-- a limit above 0 is more than none
+none_reached : (l : ℕ) → (nat_lt 0 l && nat_le l 0) ≡ false
+none_reached l =
+    elim (nat_le l 0) as (λ b. nat_le l 0 ≡ b → (nat_lt 0 l && b) ≡ false) [
+      | true ↦ λ h. let most : l ≤ 0 = leb-true l 0 h in let none : l ≡ 0 = omega (arith, most) in rw none refl
+      | false ↦ λ h. elim (nat_lt 0 l) as (λ x. (x && false) ≡ false) [ true ↦ refl | false ↦ refl ]
+    ] refl
+
+pub limit-read : (c : ℕ) (ms : List ConfirmMark) (p : Post) → Follows ms p → is_begun c ms ≡ true → limit_on c p.book ≡ limit_of c ms
+limit-read c ms p f h = ap limit_in (f.ledgers c) ∙ rw h refl
+
+pub at-limit-read : (c : ℕ) (ms : List ConfirmMark) (p : Post) → Follows ms p → at_limit_on c p.book ≡ is_at_limit c ms
+at-limit-read c ms p f =
+    elim (is_begun c ms) as (λ b. is_begun c ms ≡ b → at_limit_on c p.book ≡ is_at_limit c ms) [
+      | true ↦ λ h. rw (limit-read c ms p f h, queued-reads c ms p f, pending-reads c ms p f) refl
+      | false ↦ λ h.
+          let limit : limit_on c p.book ≡ 0 = ap limit_in (f.ledgers c) ∙ rw h refl in
+          let queued : read.queued_count c ms ≡ 0 = none-of c ms p (λ n. not (has_left n ms)) (λ n. is_open_outcome (outcome_at n ms)) f h in
+          let pending : read.pending_count c ms ≡ 0 = none-of c ms p (λ n. has_left n ms) (λ n. is_open_outcome (outcome_at n ms)) f h in
+          rw (limit, queued, pending) (sym (none_reached (limit_of c ms)))
+    ] refl
+
+-- a channel that never had an opening is not at a limit
+pub unbegun_unlimited : (c : ℕ) (ms : List ConfirmMark) (p : Post) → Follows ms p → is_begun c ms ≡ false → at_limit_on c p.book ≡ false
+unbegun_unlimited c ms p f h = let limit : limit_on c p.book ≡ 0 = ap limit_in (f.ledgers c) ∙ rw h refl in rw limit refl
 
 pub waits-read : (c : ℕ) (ms : List ConfirmMark) (p : Post) → Follows ms p → waits_on c p.book ≡ is_waited c ms
 waits-read c ms p f =

@@ -187,6 +187,10 @@ limit_on c b = limit_in (at_channel c b.ledgers)
 abbrev pub full_on : ℕ → Book → Bool
 full_on c b = selected_on c b && (nat_lt 0 (limit_on c b) && nat_le (limit_on c b) (pending_count c b))
 
+-- the channel is at its limit: as many of its publishes are queued or pending as the limit allows
+abbrev pub at_limit_on : ℕ → Book → Bool
+at_limit_on c b = nat_lt 0 (limit_on c b) && nat_le (limit_on c b) (queued_count c b + pending_count c b)
+
 -- The last tag taken less the least pending one, plus 1; 0 where none is pending.
 abbrev pub tag_on : ℕ → Option Cell → Option ℕ
 tag_on c (Some (cell.Pending d t)) = if d == c then Some t else None

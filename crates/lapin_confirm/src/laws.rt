@@ -8,7 +8,7 @@ ghost use Rattle.lapin_history.specs.declared.marks.SettleKind.{SettleKind as AK
 ghost use Rattle.lapin_history.specs.declared.marks.Settlement.{Settlement as ASettlement};
 ghost use Rattle.lapin_history.specs.declared.marks.Outcome.{Outcome as AnOutcome};
 ghost use Rattle.lapin_history.specs.ConfirmMarks as mark;
-ghost use Rattle.lapin_history.specs.ConfirmReadings.{begins, is_begun, leaves_on, is_selected, place, has_left, channel_of, tag_of, covers, outcome_at, is_open_outcome, is_full, is_finished};
+ghost use Rattle.lapin_history.specs.ConfirmReadings.{begins, is_begun, leaves_on, is_selected, place, has_left, channel_of, tag_of, covers, outcome_at, is_open_outcome, limit_of, is_full, is_at_limit, is_finished};
 ghost use Rattle.lapin_history.specs.ConfirmReadings as read;
 ghost use Rattle.lapin_history.specs.ReturnReadings.{covered, is_waited, is_gone};
 ghost use Rattle.lapin_history.specs.ReturnReadings as returns;
@@ -16,7 +16,7 @@ ghost use Rattle.lapin_history.specs.Words.{is_some};
 ghost use Rattle.lapin_tables.specs.ByChannel.{at_channel};
 ghost use Rattle.lapin_tables.specs.Numbered.{under};
 ghost use Rattle.lapin_confirm.specs.declared.cell.Cell.TheVariants as cell;
-ghost use Rattle.lapin_confirm.specs.Book.{Book, settled, queued_count, is_pending, is_open_on, is_resolved, selected_on, last_on, multiple_of, full_on};
+ghost use Rattle.lapin_confirm.specs.Book.{Book, settled, queued_count, is_pending, is_open_on, is_resolved, selected_on, last_on, multiple_of, limit_on, full_on, at_limit_on};
 ghost use Rattle.lapin_confirm.specs.Post.{Post, empty_post, waits_on, covered_in};
 ghost use Rattle.lapin_confirm.specs.Machine.{after_mark, rejected};
 ghost use Rattle.lapin_confirm.specs.Drain.{drained_on};
@@ -130,6 +130,12 @@ pub fn tags_as_read()
 /// Whether a channel is full.
 pub fn full_as_read()
     ensures { (c : ℕ) (ms : List AMark) (p : Post) → Follows ms p → full_on c p.book ≡ is_full c ms }
+{}
+
+/// Whether a channel is at its limit, and the limit of a channel that had an opening.
+pub fn limits_as_read()
+    ensures at { (c : ℕ) (ms : List AMark) (p : Post) → Follows ms p → at_limit_on c p.book ≡ is_at_limit c ms }
+    ensures limit { (c : ℕ) (ms : List AMark) (p : Post) → Follows ms p → is_begun c ms ≡ true → limit_on c p.book ≡ limit_of c ms }
 {}
 
 /// Whether there is something to wait for on a channel.

@@ -15,6 +15,7 @@ mod home;
 mod laws;
 mod ledger;
 mod letters;
+mod limits;
 mod openings;
 mod results;
 mod returned;
@@ -29,7 +30,7 @@ pub use lapin_history::SettleKind;
 pub use laws::{
     a_close_one_by_one, a_close_rejects_what_waits, an_end_leaves_nothing_open,
     an_opening_may_begin, answers_tell, covered_as_read, drains_as_read, end_takes_close,
-    end_takes_rejected, full_as_read, machine_follows, multiple_covers, nothing_follows,
-    openings_as_read, outcome_stays, polls_as_read, resolved_by_its_settlement, settlement_leaves,
-    tag_stays, tags_as_read, tags_count_up, waits_as_read, what_is_gone,
+    end_takes_rejected, full_as_read, limits_as_read, machine_follows, multiple_covers,
+    nothing_follows, openings_as_read, outcome_stays, polls_as_read, resolved_by_its_settlement,
+    settlement_leaves, tag_stays, tags_as_read, tags_count_up, waits_as_read, what_is_gone,
 };

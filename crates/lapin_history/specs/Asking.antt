@@ -1,6 +1,7 @@
 -- A call: when it is allowed, its record, what it leaves, and its marks. All of this goes by what the call is in the table of calls.
-use Rattle.std.specs.Prelude.{ℕ, ◌+◌, Bool, if◌then◌else◌, List, [], ◌∷◌, ◌++◌, Option, Some, None, Ok}
+use Rattle.std.specs.Prelude.{ℕ, ◌+◌, Bool, true, false, ◌&&◌, if◌then◌else◌, List, [], ◌∷◌, ◌++◌, Option, Some, None, Ok}
 use Rattle.lapin_types.specs.declared.record.Record.{Record}
+use Rattle.lapin_types.specs.declared.call.Call.{Call}
 use Rattle.lapin_types.specs.declared.answer.Answer.{Answer}
 use Rattle.lapin_types.specs.declared.answer.Answer.TheVariants as answer
 use Rattle.lapin_types.specs.Types.{ChannelState}
@@ -18,7 +19,8 @@ use Rattle.lapin_history.specs.ConfirmMarks as mark
 use Rattle.lapin_history.specs.TicketReadings.{TicketMark}
 use Rattle.lapin_history.specs.TicketReadings as ticket
 use Rattle.lapin_history.specs.Wire.{Wire, state_of, is_closed, is_base, is_open, queued, with_inbox}
-use Rattle.lapin_history.specs.Calls.{awaited_by, made_by, leaving_by}
+use Rattle.lapin_history.specs.Readings.{Readings}
+use Rattle.lapin_history.specs.Calls.{asked, is_try, awaited_by, made_by, leaving_by}
 use Rattle.lapin_history.specs.Consumers.{next_consumer}
 use Rattle.lapin_history.specs.Registry.{line_inbox}
 use Rattle.lapin_history.specs.Opening.{after_open_call, open_marks}
@@ -31,6 +33,7 @@ use Rattle.lapin_history.specs.Select.{queued_marks}
 abbrev pub is_allowed : Asked → ChannelState → Bool
 is_allowed ask.Open s = is_closed s
 is_allowed (ask.CloseConnection code text) s = is_base s
+is_allowed ask.Nothing s = false
 is_allowed _ s = is_open s
 
 -- ---- its record
@@ -47,9 +50,30 @@ call_record c k b =
     then accepted_record k b
     else record_.Refused (error.InvalidChannelState (state_of c b))
 
+-- ---- a publish that its channel's limit refuses
+
+-- A try publish is refused where its channel is open and as many of its publishes wait or are pending as its limit allows; else
+-- it is a publish like any other.
+abbrev pub is_held : ℕ → Call → Wire → Readings → Bool
+is_held c k b readings = is_try k && (is_open (state_of c b) && readings.at_limit c)
+
+abbrev pub call_told : ℕ → Call → Wire → Readings → Record
+call_told c k b readings =
+    if is_held c k b readings
+    then record_.Refused (error.ConfirmsOutstanding (readings.limit c))
+    else call_record c (asked k) b
+
+abbrev pub is_outstanding : Record → Bool
+is_outstanding (record_.Refused (error.ConfirmsOutstanding limit)) = true
+is_outstanding _ = false
+
+-- what a call with this record asks for: nothing, where it is refused by the limit
+abbrev pub asked_by : Call → Record → Asked
+asked_by k r = if is_try k && is_outstanding r then ask.Nothing else asked k
+
 -- ---- what it leaves
 
--- an accepted call queues its method, a publish joins the publishes
+-- an accepted call queues its method, a publish joins the publishes, and what is set at once takes its ticket alone
 abbrev pub after_call : ℕ → Asked → Wire → Wire
 after_call c ask.Open b = after_open_call c b
 after_call c (ask.CloseChannel code text) b = after_close_call c code text b
@@ -70,6 +94,7 @@ after_call c (ask.Publish exchange key o payload properties) b = record b {
   tickets = b.tickets + 1;
   published = b.published + 1;
 }
+after_call c _ b = record b { tickets = b.tickets + 1 }
 
 -- one that is not allowed changes nothing
 abbrev pub asked_wire : ℕ → Asked → Wire → Wire
@@ -101,7 +126,8 @@ call_marks c (ask.CloseChannel code text) b = close_marks c closer.Application
 call_marks c (ask.CloseConnection code text) b = connection_close_call_marks b
 call_marks c (ask.Publish exchange key o payload properties) b = mark.Added c ∷ []
 call_marks c (ask.Method row) b = queued_marks c row.method
-call_marks c (ask.Consume m tag queue o) b = []
+call_marks c (ask.Limit limit) b = mark.LimitSet c limit ∷ []
+call_marks c _ b = []
 
 abbrev pub asking_marks : ℕ → Asked → Wire → List ConfirmMark
 asking_marks c k b = if is_allowed k (state_of c b) then call_marks c k b else []
@@ -120,10 +146,11 @@ leaving_answer (ask.Publish exchange key o payload properties) b = leaving.Confi
 leaving_answer (ask.Method row) b = leaving_by row.answered
 leaving_answer _ b = leaving.Nothing
 
--- the answer that it makes itself: that of a call without wait
+-- the answer that it makes itself: that of a call without wait, and of a limit
 abbrev pub made_answer : Asked → Wire → Option Answer
 made_answer (ask.Method row) b = made_by row.answered
 made_answer (ask.Consume m tag queue o) b = Some (answer.Consumer (next_consumer b.inbox))
+made_answer (ask.Limit limit) b = Some answer.Done
 made_answer _ b = None
 
 abbrev pub made_marks : ℕ → Option Answer → List TicketMark

@@ -1,6 +1,6 @@
 -- The table of calls: what each call is to a session. A line a call says the method that it queues, and how its ticket is answered:
--- by a reply, by the call itself where it is made without wait, or as its frame leaves. Five calls do more, and are named: opens, closes,
--- a publish, and a consume without wait.
+-- by a reply, by the call itself where it is made without wait, or as its frame leaves. Six calls do something else, and are named:
+-- opens, closes, a publish, a consume without wait, and a limit of outstanding confirms, which queues nothing.
 use Rattle.std.specs.Prelude.{ℕ, Bool, true, false, if◌then◌else◌, List, Option, Some, None}
 use Rattle.lapin_types.specs.ExchangeKinds.{kind_text}
 use Rattle.lapin_types.specs.declared.call.Call.{Call}
@@ -58,6 +58,11 @@ leaving_by _ = leaving.Nothing
 abbrev pub consuming : Method → List ℕ → List ℕ → BasicConsumeOptions → Asked
 consuming m tag queue o = if o.nowait then ask.Consume m tag queue o else awaiting m (reply.BasicConsumeOk queue o)
 
+-- a publish that its channel's limit may refuse
+abbrev pub is_try : Call → Bool
+is_try (call.TryBasicPublish exchange key o payload properties) = true
+is_try _ = false
+
 abbrev pub publishes : Asked → Bool
 publishes (ask.Publish exchange key o payload properties) = true
 publishes _ = false
@@ -67,6 +72,8 @@ asked call.OpenChannel = ask.Open
 asked (call.ChannelClose code text) = ask.CloseChannel code text
 asked (call.ConnectionClose code text) = ask.CloseConnection code text
 asked (call.BasicPublish exchange key o payload properties) = ask.Publish exchange key o payload properties
+asked (call.TryBasicPublish exchange key o payload properties) = ask.Publish exchange key o payload properties
+asked (call.ConfirmLimit limit) = ask.Limit limit
 asked (call.ChannelFlow o) = awaiting (method.Channel (channel.Flow o.active)) reply.ChannelFlowOk
 asked (call.AccessRequest realm o) = awaiting (method.Access (access.Request realm o.exclusive o.passive o.active o.write o.read)) reply.AccessRequestOk
 asked (call.ExchangeDeclare name kind o more) =

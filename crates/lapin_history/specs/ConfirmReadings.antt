@@ -1,5 +1,5 @@
 -- Tags and outcomes, read off the marks of a whole history (RabbitMQ publisher confirms).
-use Rattle.std.specs.Prelude.{ℕ, ◌==◌, nat_lt, nat_le, not, Bool, true, false, ◌&&◌, ◌||◌, if◌then◌else◌, List, [], ◌∷◌, Option, Some, None, count_by}
+use Rattle.std.specs.Prelude.{ℕ, ◌+◌, ◌==◌, nat_lt, nat_le, not, Bool, true, false, ◌&&◌, ◌||◌, if◌then◌else◌, List, [], ◌∷◌, Option, Some, None, count_by}
 use Rattle.std.specs.List.{list_any, range_with_len}
 use Rattle.std.specs.Option.{option_or}
 use Rattle.lapin_history.specs.declared.marks.SettleKind.{SettleKind}
@@ -239,3 +239,7 @@ limit_of c ms = last_limit c 0 (present c ms)
 -- the channel is full: no further publish of it begins
 abbrev pub is_full : ℕ → List ConfirmMark → Bool
 is_full c ms = is_selected c ms && (nat_lt 0 (limit_of c ms) && nat_le (limit_of c ms) (pending_count c ms))
+
+-- the channel is at its limit: as many of its publishes wait or are pending as the limit allows
+abbrev pub is_at_limit : ℕ → List ConfirmMark → Bool
+is_at_limit c ms = nat_lt 0 (limit_of c ms) && nat_le (limit_of c ms) (queued_count c ms + pending_count c ms)

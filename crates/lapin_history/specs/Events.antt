@@ -12,10 +12,9 @@ use Rattle.lapin_history.specs.TicketReadings.{TicketMark}
 use Rattle.lapin_history.specs.Phases.{connection_state}
 use Rattle.lapin_history.specs.Readings.{Readings}
 use Rattle.lapin_history.specs.Wire.{Wire, state_of, with_inbox}
-use Rattle.lapin_history.specs.Calls.{asked}
 use Rattle.lapin_history.specs.Incoming.{incoming_of, frame_class, frame_method}
-use Rattle.lapin_history.specs.Asking.{call_record, after_asking, asking_inbox, asking_marks, asking_tickets}
-use Rattle.lapin_history.specs.Handing.{handed, frame_record, after_next, left_marks, left_tickets}
+use Rattle.lapin_history.specs.Asking.{call_told, asked_by, after_asking, asking_inbox, asking_marks, asking_tickets}
+use Rattle.lapin_history.specs.Handing.{handed, handed_as, frame_record, after_next, left_marks, left_tickets}
 use Rattle.lapin_history.specs.Receiving.{incoming_record, after_incoming, incoming_inbox, incoming_marks, incoming_tickets}
 use Rattle.lapin_history.specs.Unexpected.{refused}
 use Rattle.lapin_history.specs.Loss.{after_lost, lost_inbox, lost_marks, lost_tickets}
@@ -25,8 +24,8 @@ use Rattle.lapin_history.specs.Polls.{wait_record, confirm_poll_marks, wait_mark
 
 -- the record of an event, from the states and lists before it and from what is seen of confirms and tickets
 abbrev pub record_of : Wire → Readings → Event → Record
-record_of b readings (event.Call c k) = call_record c (asked k) b
-record_of b readings (event.Next flow) = frame_record (handed flow b)
+record_of b readings (event.Call c k) = call_told c k b readings
+record_of b readings (event.Next flow) = frame_record (handed flow readings.full b)
 record_of b readings (event.Receive f) = incoming_record b readings (refused (frame_class f) (frame_method f)) (incoming_of f)
 record_of b readings (event.PollTicket n) = readings.ticket n
 record_of b readings (event.PollConfirm n) = readings.confirm n
@@ -43,8 +42,8 @@ record_of b readings event.Lost = record_.Lost
 
 -- the states, lists and requests after an event with its record; nothing here looks at a tag, an outcome or an answer
 abbrev pub after_event : Wire → Event → Record → Wire
-after_event b (event.Call c k) r = after_asking c (asked k) b
-after_event b (event.Next flow) r = after_next flow b
+after_event b (event.Call c k) r = after_asking c (asked_by k r) b
+after_event b (event.Next flow) r = after_next r b
 after_event b (event.Receive f) r = after_incoming (incoming_of f) r b
 after_event b (event.PollConsumer n) r = with_inbox (inbox.Polled n ∷ []) b
 after_event b (event.Acker n k) r = after_acker n k b
@@ -56,7 +55,7 @@ after_event b _ r = b
 
 -- what happens to consumers and ackers, and to what is declared
 abbrev pub inbox_marks : Wire → Event → Record → List InboxMark
-inbox_marks b (event.Call c k) r = asking_inbox c (asked k) b
+inbox_marks b (event.Call c k) r = asking_inbox c (asked_by k r) b
 inbox_marks b (event.Receive f) r = incoming_inbox (incoming_of f) r b
 inbox_marks b (event.PollConsumer n) r = inbox.Polled n ∷ []
 inbox_marks b (event.Acker n k) r = acker_inbox n k b
@@ -68,8 +67,8 @@ inbox_marks b _ r = []
 
 -- what happens to confirms
 abbrev pub confirm_marks : Wire → Event → Record → List ConfirmMark
-confirm_marks b (event.Call c k) r = asking_marks c (asked k) b
-confirm_marks b (event.Next flow) r = left_marks (handed flow b)
+confirm_marks b (event.Call c k) r = asking_marks c (asked_by k r) b
+confirm_marks b (event.Next flow) r = left_marks (handed_as r b)
 confirm_marks b (event.Receive f) r = incoming_marks (incoming_of f) r b
 confirm_marks b (event.PollConfirm n) r = confirm_poll_marks n r
 confirm_marks b (event.PollWait c) r = wait_marks c r
@@ -79,8 +78,8 @@ confirm_marks b _ r = []
 
 -- what happens to tickets
 abbrev pub ticket_marks : Wire → Event → Record → List TicketMark
-ticket_marks b (event.Call c k) r = asking_tickets c (asked k) b
-ticket_marks b (event.Next flow) r = left_tickets (handed flow b)
+ticket_marks b (event.Call c k) r = asking_tickets c (asked_by k r) b
+ticket_marks b (event.Next flow) r = left_tickets (handed_as r b)
 ticket_marks b (event.Receive f) r = incoming_tickets (incoming_of f) r b
 ticket_marks b (event.Acker n k) r = acker_tickets n k b
 ticket_marks b (event.PollTicket n) r = ticket_poll_marks n r

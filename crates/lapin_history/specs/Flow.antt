@@ -17,9 +17,16 @@ after_flow c active b =
     then noted c (method.Channel (channel.FlowOk active)) (record b { phases = with_channel c (phase.Open (not active)) b.phases })
     else b
 
--- a publish may begin where the request's flow is true and no open channel is paused
+-- whether an open channel is paused
 abbrev pub is_paused_on : ℕ × ChannelPhase → Bool
 is_paused_on x = is_paused x.1
 
-abbrev pub may_begin : Bool → Wire → Bool
-may_begin flow b = flow && not (list_any is_paused_on b.phases)
+-- a publish may begin where the request's flow is true, no open channel is paused, and its own channel is not full
+abbrev pub is_flowing : Bool → Wire → Bool
+is_flowing flow b = flow && not (list_any is_paused_on b.phases)
+
+abbrev pub unless_full : Bool → (ℕ → Bool) → ℕ → Bool
+unless_full flowing full c = flowing && not (full c)
+
+abbrev pub begins_on : Bool → (ℕ → Bool) → Wire → ℕ → Bool
+begins_on flow full b = unless_full (is_flowing flow b) full

@@ -1,5 +1,5 @@
 -- A frame request: the frame that leaves is its record, and what its leaving does to lists, states, confirms and tickets.
-use Rattle.std.specs.Prelude.{ℕ, Bool, true, false, List, [], ◌∷◌, ◌++◌, Option, Some, None}
+use Rattle.std.specs.Prelude.{ℕ, ◌==◌, Bool, true, false, List, [], ◌∷◌, ◌++◌, Option, Some, None}
 use Rattle.lapin_types.specs.declared.leaving.Left.{Left}
 use Rattle.lapin_types.specs.declared.record.Record.{Record}
 use Rattle.lapin_types.specs.Types.{Frame}
@@ -14,32 +14,41 @@ use Rattle.lapin_history.specs.Leaving.{handed_of, left_lists}
 use Rattle.lapin_history.specs.Wire.{Wire, lists_of, with_lists}
 use Rattle.lapin_history.specs.ChannelClose.{phases_sent}
 use Rattle.lapin_history.specs.ConnectionClose.{link_sent}
-use Rattle.lapin_history.specs.Flow.{may_begin}
+use Rattle.lapin_history.specs.Flow.{begins_on}
 use Rattle.lapin_history.specs.Select.{method_marks}
 
--- what leaves, where t tells whether a publish may begin
-abbrev pub handed_out : Bool → Wire → Option Left
+-- what leaves, where t tells on which channels a publish may begin
+abbrev pub handed_out : (ℕ → Bool) → Wire → Option Left
 handed_out t b = handed_of t b.rest b.methods b.publishes
 
-abbrev pub handed : Bool → Wire → Option Left
-handed flow b = handed_out (may_begin flow b) b
+-- what a frame request hands out, where full tells the full channels
+abbrev pub handed : Bool → (ℕ → Bool) → Wire → Option Left
+handed flow full b = handed_out (begins_on flow full b) b
 
 abbrev pub frame_record : Option Left → Record
 frame_record None = record_.NoFrame
 frame_record (Some l) = record_.Frame l.frame
 
--- ---- what it leaves
+-- ---- what it leaves: the record tells on which channel a publish began, if one did, and there it was the first
+
+abbrev pub began_on : Record → ℕ → Bool
+began_on (record_.Frame f) c = c == frame_channel f
+began_on _ c = false
+
+-- the frame that left by a request with this record, with the numbers of its call
+abbrev pub handed_as : Record → Wire → Option Left
+handed_as r b = handed_out (began_on r) b
 
 -- a close of this side is known to have left
 abbrev pub sent : Option Left → Wire → Wire
 sent None b = b
 sent (Some l) b = record b { link = link_sent l.frame b.link; phases = phases_sent l.frame b.phases }
 
-abbrev pub after_handing : Bool → Wire → Wire
+abbrev pub after_handing : (ℕ → Bool) → Wire → Wire
 after_handing t b = sent (handed_out t b) (with_lists (left_lists b.frame_max t (lists_of b)) b)
 
-abbrev pub after_next : Bool → Wire → Wire
-after_next flow b = after_handing (may_begin flow b) b
+abbrev pub after_next : Record → Wire → Wire
+after_next r b = after_handing (began_on r) b
 
 -- ---- confirms: a method leaves, a publish begins, or a frame behind its method leaves
 

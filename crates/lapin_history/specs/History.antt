@@ -9,7 +9,7 @@ use Rattle.lapin_types.specs.declared.record.Record.TheVariants as record_
 use Rattle.lapin_types.specs.Types.error
 use Rattle.lapin_history.specs.ConfirmMarks.{ConfirmMark}
 use Rattle.lapin_history.specs.declared.marks.Outcome.{Outcome}
-use Rattle.lapin_history.specs.ConfirmReadings.{is_selected, place, is_pending, was_added, is_finished, is_asked, outcome_at}
+use Rattle.lapin_history.specs.ConfirmReadings.{is_selected, place, is_pending, was_added, is_finished, is_asked, limit_of, is_full, is_at_limit, outcome_at}
 use Rattle.lapin_history.specs.ReturnReadings.{message_of, drained, is_waited}
 use Rattle.lapin_history.specs.TicketReadings.{TicketMark, given, is_collected, answer_of}
 use Rattle.lapin_history.specs.Readings.{Readings}
@@ -92,6 +92,9 @@ readings_of confirms tickets = record {
   ticket_aside = ticket_aside tickets;
   asked = λ c. is_asked c confirms;
   waited = λ c. is_waited c confirms;
+  full = λ c. is_full c confirms;
+  limit = λ c. limit_of c confirms;
+  at_limit = λ c. is_at_limit c confirms;
   returned = λ c. drained c confirms;
 }
 

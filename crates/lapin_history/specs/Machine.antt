@@ -33,6 +33,7 @@ is_known (call.ChannelClose code text) = true
 is_known (call.ConnectionClose code text) = true
 is_known (call.ConfirmSelect o) = true
 is_known (call.BasicPublish exchange key o payload properties) = true
+is_known (call.TryBasicPublish exchange key o payload properties) = true
 is_known _ = false
 
 abbrev pub is_known_call : Event → Bool

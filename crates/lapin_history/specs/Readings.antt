@@ -19,5 +19,9 @@ pub record Readings : Type 0 where
   -- whether the channel's live opening accepted a `confirm.select` call, and whether one of its publishes is then queued or pending
   pub asked : ℕ → Bool
   pub waited : ℕ → Bool
+  -- whether the channel is full, so that no further publish of it begins; its limit, 0 for none, and whether it is at its limit
+  pub full : ℕ → Bool
+  pub limit : ℕ → ℕ
+  pub at_limit : ℕ → Bool
   -- the returned messages of the channel that are asked for once none is
   pub returned : ℕ → List BasicReturnMessage

@@ -1,10 +1,10 @@
 //! What a call is to a session: the table of calls.
 //!
-//! One line a call, as the definition of `specs/Calls.antt` says. Five calls do more than to queue their method; all others are
-//! their line of the table, made by class in the files below. The session asks here, and nothing here knows of a state.
+//! One line a call, as the definition of `specs/Calls.antt` says. Six calls do something else than to queue their method; all others
+//! are their line of the table, made by class in the files below. The session asks here, and nothing here knows of a state.
 
 ghost use Rattle.std.specs.Prelude.{◌≡◌, Option, IfOk};
-ghost use Rattle.lapin_history.specs.Calls.{asked, awaiting as awaiting_lem, answered_at_once as answered_at_once_lem, unless_nowait as unless_nowait_lem, done_as_it_leaves as done_as_it_leaves_lem};
+ghost use Rattle.lapin_history.specs.Calls.{asked, is_try as is_try_lem, awaiting as awaiting_lem, answered_at_once as answered_at_once_lem, unless_nowait as unless_nowait_lem, done_as_it_leaves as done_as_it_leaves_lem};
 ghost use Rattle.lapin_history.specs.Asking.{is_allowed as is_allowed_lem};
 ghost use Rattle.lapin_history.specs.Select.{is_select as is_select_lem};
 ghost use Rattle.lapin_history.specs.Ackers.{acker_asked};
@@ -78,8 +78,12 @@ pub enum Asked {
         /// The marks of the method.
         options: BasicConsumeOptions,
     },
+    /// Limits the outstanding confirms of the channel's opening, 0 for no limit.
+    Limit(u64),
     /// Any other call: it queues its method, and does what its line says.
     Method(Row),
+    /// Nothing that a state allows: what is left of a publish that its channel's limit refused.
+    Nothing,
 }
 
 /// Whether a call may be made on a channel in this state: an open on a closed one, a close of the connection on channel 0 of an
@@ -90,8 +94,16 @@ pub fn is_allowed(asked: &Asked, state: ChannelState) -> bool
     match asked {
         Asked::Open => matches!(state, ChannelState::Closed),
         Asked::CloseConnection(_, _) => matches!(state, ChannelState::Base),
+        Asked::Nothing => false,
         _ => matches!(state, ChannelState::Open),
     }
+}
+
+/// Whether a call is a publish that its channel's limit may refuse.
+pub fn is_try(call: &Call) -> bool
+    ensures { result ≡ is_try_lem call.now }
+{
+    matches!(call, Call::TryBasicPublish { .. })
 }
 
 /// Sorts a call: one line a call, as in the table of calls.
@@ -112,6 +124,19 @@ pub fn sort_call(alloc: Global, call: Call) -> Result<Asked, NoMemory>
             reply_text,
         } => Ok(Asked::CloseConnection(reply_code, reply_text)),
         Call::BasicPublish {
+            exchange,
+            routing_key,
+            options,
+            payload,
+            properties,
+        } => Ok(Asked::Publish {
+            exchange,
+            routing_key,
+            options,
+            payload,
+            properties,
+        }),
+        Call::TryBasicPublish {
             exchange,
             routing_key,
             options,
@@ -197,6 +222,7 @@ pub fn sort_call(alloc: Global, call: Call) -> Result<Asked, NoMemory>
         Call::BasicRecoverAsync { options } => Ok(basic::recover_async(options)),
         Call::BasicRecover { options } => Ok(basic::recover(options)),
         Call::ConfirmSelect { options } => Ok(confirm_select(options)),
+        Call::ConfirmLimit { limit } => Ok(Asked::Limit(limit)),
         Call::TxSelect => Ok(tx(TxMethod::Select, Reply::TxSelectOk)),
         Call::TxCommit => Ok(tx(TxMethod::Commit, Reply::TxCommitOk)),
         Call::TxRollback => Ok(tx(TxMethod::Rollback, Reply::TxRollbackOk)),

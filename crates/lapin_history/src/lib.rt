@@ -8,6 +8,7 @@
 pub mod broker_frames;
 pub mod calls;
 pub mod closes;
+pub mod flow;
 pub mod laws;
 pub mod marks;
 pub mod phases;
@@ -16,10 +17,11 @@ pub use broker_frames::{
     ConsumerPart, ContentPart, Incoming, class_of, is_kind, method_of, opens, receives,
     receives_close, receives_close_ok, receives_down, receives_on, sort_frame,
 };
-pub use calls::{Answered, Asked, Row, acker_row, is_allowed, is_select, sort_call};
+pub use calls::{Answered, Asked, Row, acker_row, is_allowed, is_select, is_try, sort_call};
 pub use closes::{
     after_broker_close, close_ok_end, close_sent, consumers_end, failed_at_close, has_sent_close,
     link_close_sent, session_close, unexpected_close,
 };
+pub use flow::FullChannels;
 pub use marks::{AtLeaving, Outcome, SettleKind, Settlement};
 pub use phases::{ChannelPhase, Closer, ConnectionPhase};

@@ -48,6 +48,12 @@ pub enum Error {
     /// No ticket, confirm or consumer has this number.
     #[error("no ticket, confirm or consumer has this number")]
     UnknownTicket,
+    /// As many publishes of the channel wait or are outstanding as its limit allows.
+    #[error("as many publishes wait or are outstanding as the limit allows: {limit}")]
+    ConfirmsOutstanding {
+        /// The limit that the channel's opening was given.
+        limit: u64,
+    },
 }
 
 impl From<NoMemory> for Error {

@@ -180,6 +180,19 @@ pub enum Call {
         /// The properties of the message.
         properties: BasicProperties,
     },
+    /// Publishes a message, unless as many of the channel wait or are outstanding as its limit allows.
+    TryBasicPublish {
+        /// The exchange to publish to, empty for the default one.
+        exchange: ShortString,
+        /// The routing key.
+        routing_key: ShortString,
+        /// The marks of the method.
+        options: BasicPublishOptions,
+        /// The bytes of the message.
+        payload: Payload,
+        /// The properties of the message.
+        properties: BasicProperties,
+    },
     /// Asks for one message of a queue (`basic.get`).
     BasicGet {
         /// The queue.
@@ -222,6 +235,11 @@ pub enum Call {
     ConfirmSelect {
         /// The marks of the method.
         options: ConfirmSelectOptions,
+    },
+    /// Limits how many confirms of the channel's opening may be outstanding; nothing is sent.
+    ConfirmLimit {
+        /// The limit; 0 stands for none.
+        limit: u64,
     },
     /// Begins transactions (`tx.select`).
     TxSelect,
@@ -340,6 +358,20 @@ impl Call {
                 properties,
                 alloc,
             ),
+            Call::TryBasicPublish {
+                exchange,
+                routing_key,
+                options,
+                payload,
+                properties,
+            } => basic::copied_try_basic_publish(
+                exchange,
+                routing_key,
+                options,
+                payload,
+                properties,
+                alloc,
+            ),
             Call::BasicGet { queue, options } => basic::copied_basic_get(queue, options, alloc),
             Call::BasicAck {
                 delivery_tag,
@@ -367,6 +399,7 @@ impl Call {
             }),
             Call::BasicRecover { options } => Ok(Call::BasicRecover { options: *options }),
             Call::ConfirmSelect { options } => Ok(Call::ConfirmSelect { options: *options }),
+            Call::ConfirmLimit { limit } => Ok(Call::ConfirmLimit { limit: *limit }),
             Call::TxSelect => Ok(Call::TxSelect),
             Call::TxCommit => Ok(Call::TxCommit),
             Call::TxRollback => Ok(Call::TxRollback),

@@ -144,6 +144,53 @@ pub fn is_basic_publish(
     }
 }
 
+/// A copy of `Call::TryBasicPublish`.
+pub fn copied_try_basic_publish(
+    exchange: &ShortString,
+    routing_key: &ShortString,
+    options: &BasicPublishOptions,
+    payload: &Payload,
+    properties: &BasicProperties,
+    alloc: Global,
+) -> Result<Call, NoMemory>
+    ensures { IfOk result (λ copy. copy ≡ variant.TryBasicPublish exchange.now routing_key.now options.now payload.now properties.now) }
+{
+    Ok(Call::TryBasicPublish {
+        exchange: exchange.try_clone(alloc)?,
+        routing_key: routing_key.try_clone(alloc)?,
+        options: *options,
+        payload: payload.try_clone(alloc)?,
+        properties: properties.try_clone(alloc)?,
+    })
+}
+
+/// Whether a call is `Call::TryBasicPublish` with these arguments.
+pub fn is_try_basic_publish(
+    call: &Call,
+    exchange: &ShortString,
+    routing_key: &ShortString,
+    options: &BasicPublishOptions,
+    payload: &Payload,
+    properties: &BasicProperties,
+) -> bool
+    ensures { Decides result (call.now ≡ variant.TryBasicPublish exchange.now routing_key.now options.now payload.now properties.now) }
+{
+    match call {
+        Call::TryBasicPublish {
+            exchange: a,
+            routing_key: b,
+            options: c,
+            payload: d,
+            properties: e,
+        } => a == exchange
+            && b == routing_key
+            && c == options
+            && d == payload
+            && e.same(properties),
+        _ => false,
+    }
+}
+
 /// A copy of `Call::BasicGet`.
 pub fn copied_basic_get(
     queue: &ShortString,

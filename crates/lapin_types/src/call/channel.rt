@@ -121,3 +121,13 @@ pub fn is_confirm_select(call: &Call, options: &ConfirmSelectOptions) -> bool
         _ => false,
     }
 }
+
+/// Whether a call is `Call::ConfirmLimit` with this limit.
+pub fn is_confirm_limit(call: &Call, limit: &u64) -> bool
+    ensures { Decides result (call.now ≡ variant.ConfirmLimit limit.now) }
+{
+    match call {
+        Call::ConfirmLimit { limit: a } => a == limit,
+        _ => false,
+    }
+}

@@ -109,6 +109,20 @@ impl Call {
                 payload,
                 properties,
             ),
+            Call::TryBasicPublish {
+                exchange,
+                routing_key,
+                options,
+                payload,
+                properties,
+            } => basic::is_try_basic_publish(
+                other,
+                exchange,
+                routing_key,
+                options,
+                payload,
+                properties,
+            ),
             Call::BasicGet { queue, options } => basic::is_basic_get(other, queue, options),
             Call::BasicAck {
                 delivery_tag,
@@ -125,6 +139,7 @@ impl Call {
             Call::BasicRecoverAsync { options } => basic::is_basic_recover_async(other, options),
             Call::BasicRecover { options } => basic::is_basic_recover(other, options),
             Call::ConfirmSelect { options } => channel::is_confirm_select(other, options),
+            Call::ConfirmLimit { limit } => channel::is_confirm_limit(other, limit),
             Call::TxSelect => matches!(other, Call::TxSelect),
             Call::TxCommit => matches!(other, Call::TxCommit),
             Call::TxRollback => matches!(other, Call::TxRollback),
