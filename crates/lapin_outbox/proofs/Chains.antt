@@ -5,7 +5,7 @@ use Rattle.std.specs.Bool.{if◌then◌else◌}
 use Rattle.std.specs.Option.{option_map, IsSome}
 use Rattle.std.proofs.lemmas.Bool.Decides.{eqb_tells}
 use Rattle.std.proofs.lemmas.List.{map_push}
-use Rattle.lapin_tables.specs.Numbered.{under, with_under}
+use Rattle.lapin_tables.specs.Numbered.{under, with_under, first_kept}
 use Rattle.lapin_tables.proofs.SlotLaws.{under-push, under-map, given, length-with}
 use Rattle.lapin_outbox.specs.declared.order.Link.{Link}
 use Rattle.lapin_outbox.specs.declared.order.Ends.{Ends}
@@ -320,6 +320,12 @@ pub first-key : (c : ℕ) (os : List (Option Link)) → first_on c (keys_of os) 
 first-key c [] = refl
 first-key c (o ∷ os) = rw (waits-link c o, first-key c os) (first-behind (is_link_of c o) (ends_of c os))
 
+-- the first number that was not taken
+pub first-kept : (os : List (Option Link)) → first_kept (keys_of os) ≡ first_kept os
+first-kept [] = refl
+first-kept (None ∷ os) = ap (option_map suc) (first-kept os)
+first-kept (Some l ∷ os) = refl
+
 pub keys-set : (n : ℕ) (k y : Link) (os : List (Option Link)) → under n os ≡ Some k → y.key ≡ k.key → keys_of (with_under n (Some y) os) ≡ keys_of os
 keys-set n k y os at same =
     let there : under n (keys_of os) ≡ Some k.key = under-map link_key n os ∙ ap (option_map link_key) at in
@@ -345,7 +351,7 @@ ok-then (Err e) ok h = cc
 
 -- ---- the calls of an order
 
-same-test : (c : ℕ) → (c == c) ≡ true
+pub same-test : (c : ℕ) → (c == c) ≡ true
 same-test c = elim (eqb_tells c c) [
   | inl same ↦ same.0
   | inr other ↦ absurd (other.1 refl)

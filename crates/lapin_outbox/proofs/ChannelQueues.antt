@@ -13,11 +13,11 @@ use Rattle.lapin_outbox.specs.Order.{first_on, without_number}
 use Rattle.lapin_outbox.specs.ChannelQueue.{kept, keys_by}
 use Rattle.lapin_outbox.proofs.Chains.{under-behind, with-behind, map-with}
 
-next-number : (n : ℕ) (o : Option ℕ) → option_map suc o ≡ Some n → (q : ℕ) × (o ≡ Some q) × (suc q ≡ n)
+pub next-number : (n : ℕ) (o : Option ℕ) → option_map suc o ≡ Some n → (q : ℕ) × (o ≡ Some q) × (suc q ≡ n)
 next-number n None h = cc
 next-number n (Some q) h = (q, refl, cc)
 
-no-number : (o : Option ℕ) → option_map suc o ≡ None → o ≡ None
+pub no-number : (o : Option ℕ) → option_map suc o ≡ None → o ≡ None
 no-number None h = refl
 no-number (Some q) h = cc
 

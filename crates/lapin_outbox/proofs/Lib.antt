@@ -4,6 +4,8 @@ pub mod Waiting
 pub mod Rooms
 pub mod Chains
 pub mod ChannelQueues
+pub mod PassedOver
+pub mod Beginning
 pub mod Dropping
 pub mod DropTickets
 pub mod Poison

@@ -10,5 +10,6 @@ pub mod Links
 pub mod Open
 pub mod Order
 pub mod Outgoing
+pub mod Passing
 pub mod Poison
 pub mod Returned

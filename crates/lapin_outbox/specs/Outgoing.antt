@@ -1,5 +1,5 @@
 -- What a contract sees of the outbox.
-use Rattle.std.specs.Prelude.{ℕ, Bool, ◌&&◌, not, List, [], ◌∷◌, ◌++◌, Option, None}
+use Rattle.std.specs.Prelude.{◌≡◌, ℕ, Bool, true, false, ◌&&◌, not, All, List, [], ◌∷◌, ◌++◌, Option, None}
 use Rattle.lapin_types.specs.Types.{Error}
 use Rattle.lapin_types.specs.declared.leaving.Left.{Left}
 use Rattle.lapin_types.specs.declared.leaving.Publish.{Publish}
@@ -49,3 +49,15 @@ with_publish p l = record { rest = l.rest; methods = l.methods; publishes = l.pu
 -- one of the three lists has an entry
 abbrev pub has_entries : Lists → Bool
 has_entries l = not (is_empty l.rest && is_empty l.methods && is_empty l.publishes)
+
+-- ---- the publish that begins
+
+-- A publish is the first that may begin, where t tells on which channels one may: its channel may, no channel of a publish in front
+-- of it may, and what is left keeps its order.
+pub record IsFirstToBegin (t : ℕ → Bool) (p : Publish) (ps left : List Publish) : Type 0 where
+  pub front : List Publish
+  pub behind : List Publish
+  pub stands : ps ≡ front ++ p ∷ behind
+  pub may : t p.channel ≡ true
+  pub none : All (λ q. t q.channel ≡ false) front
+  pub stays : left ≡ front ++ behind

@@ -1,6 +1,7 @@
 -- A frame that was given back. It has left already: it is handed out once more before all else, and changes none of the three
 -- lists. Until then it is the first entry of its channel that a drop takes out.
 use Rattle.std.specs.Prelude.{ℕ, ◌==◌, Bool, true, false, ◌||◌, if◌then◌else◌, List, [], ◌∷◌, ◌++◌, Option, Some, None}
+use Rattle.std.specs.List.{list_any}
 use Rattle.lapin_types.specs.declared.leaving.Left.{Left}
 use Rattle.lapin_history.specs.Leaving.{Lists, handed_of, left_lists}
 use Rattle.lapin_history.specs.Drops.{frame_channel}
@@ -23,25 +24,30 @@ is_pending o = is_retried o.returned || has_entries o.lists
 
 -- ---- a frame request
 
+-- whether a channel is named among these
+abbrev pub is_named : List ℕ → ℕ → Bool
+is_named channels c = list_any (λ d. d == c) channels
+
 -- a frame as it is handed out once more
 abbrev pub again : Left → Left
 again l = record { frame = l.frame; ticket = l.ticket; publish = l.publish; first = l.first; last = l.last; again = true }
 
--- what a frame request gives: the frame that was given back, marked so, else what the three lists give
+-- what a frame request gives: the frame that was given back, marked so, else what the three lists give, where t tells on which
+-- channels a publish may begin
 abbrev pub given : Option Left → Option Left → Option Left
 given None handed = handed
 given (Some l) handed = Some (again l)
 
-abbrev pub popped : Bool → OutboxState → Option Left
-popped flow o = given o.returned (handed_of flow o.lists.rest o.lists.methods o.lists.publishes)
+abbrev pub popped : (ℕ → Bool) → OutboxState → Option Left
+popped t o = given o.returned (handed_of t o.lists.rest o.lists.methods o.lists.publishes)
 
 -- what it leaves of the three lists: all, where it gives the frame that was given back
 abbrev pub popped_lists : Option Left → Lists → Lists → Lists
 popped_lists None left old = left
 popped_lists (Some l) left old = old
 
-abbrev pub after_pop : Bool → OutboxState → OutboxState
-after_pop flow o = with_returned None (with_lists (popped_lists o.returned (left_lists o.frame_max flow o.lists) o.lists) o)
+abbrev pub after_pop : (ℕ → Bool) → OutboxState → OutboxState
+after_pop t o = with_returned None (with_lists (popped_lists o.returned (left_lists o.frame_max t o.lists) o.lists) o)
 
 -- ---- drops
 

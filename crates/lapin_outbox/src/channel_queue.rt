@@ -4,14 +4,16 @@
 //! stand in a line by their kinds. What an entry is, and when it is taken, is `queues` and `requests`, which alone call this
 //! file.
 
-ghost use Rattle.std.specs.Prelude.{◌≡◌, ℕ, ◌+◌, ◌<◌, ◌≤◌, ◌++◌, ◌∷◌, [], IsOk, OnOk, OnErr, drop, slice_get};
+ghost use Rattle.std.specs.Prelude.{◌≡◌, ℕ, ◌+◌, ◌<◌, ◌≤◌, ◌++◌, ◌∷◌, [], IsOk, IfOk, OnOk, OnErr, drop, slice_get};
 ghost use Rattle.std.specs.List.{find};
 ghost use Rattle.std.specs.Option.{option_copied};
 ghost use Rattle.lapin_history.specs.Frames.{is_empty};
 ghost use Rattle.lapin_history.specs.Words.{without_first};
 ghost use Rattle.lapin_history.specs.Drops.{is_on};
+ghost use Rattle.lapin_outbox.specs.Passing.{not_full, of_key};
 
-use crate::order::Order;
+use crate::passing::Passing;
+use lapin_history::FullChannels;
 use lapin_tables::Numbered;
 use lapin_types::NoMemory;
 use std::alloc::Global;
@@ -31,7 +33,7 @@ pub(crate) trait Keyed: Drop {
 pub(crate) struct ChannelQueue<T: Keyed> {
     // Under the numbers of `order`.
     entries: Numbered<T>,
-    order: Order,
+    order: Passing,
 }
 
 impl<T: Keyed> Model for ChannelQueue<T> {
@@ -52,7 +54,7 @@ impl<T: Keyed> ChannelQueue<T> {
     {
         ChannelQueue {
             entries: Numbered::new(alloc),
-            order: Order::new(alloc),
+            order: Passing::new(alloc),
         }
     }
 
@@ -118,5 +120,22 @@ impl<T: Keyed> ChannelQueue<T> {
     {
         let number = self.order.take_first(key)?;
         self.entries.take(number)
+    }
+    /// Takes out the first entry of a key that isn't full; `None` exactly where there is none. The others keep their order. Where
+    /// there is no memory all stay.
+    pub(crate) fn pop_unless<F: FullChannels>(&mut self, full: &F) -> Result<Option<T>, NoMemory>
+        ensures taken { IfOk result (λ entry. entry ≡ find (of_key T.key_of (not_full (F.full full.now))) self.old.entries) }
+        ensures others { OnOk result (self.new.entries ≡ without_first (of_key T.key_of (not_full (F.full full.now))) self.old.entries) }
+        ensures err { OnErr result (self.new.entries ≡ self.old.entries) }
+        ensures kept { self.old.spare ≤ self.new.spare }
+    {
+        let Some(number) = self.order.first_unless(full)? else {
+            return Ok(None);
+        };
+        let Some(entry) = self.entries.take(number) else {
+            return Ok(None);
+        };
+        let _ = self.order.take_first(entry.key());
+        Ok(Some(entry))
     }
 }

@@ -3,19 +3,21 @@
 //!
 //! The contracts of the outbox speak of a publish's frames by a definition that cuts its payload step by step. Here it is
 //! proved that this definition says what the standard says. The contracts speak of one drop; here it is proved what drops tell
-//! and leave that are repeated until there is nothing to drop, what `retry` and `pop` do together, and which push meets which
-//! poison. Nothing runs here.
+//! and leave that are repeated until there is nothing to drop, what `retry` and `pop` do together, which publish begins where
+//! channels are full, and which push meets which poison. Nothing runs here.
 
 ghost use Rattle.std.specs.Prelude.{◌≡◌, ◌≢◌, ◌<◌, [], ◌∷◌, ℕ, Bool, true, false, List, Option, Some, None, IsSome, map, drop, slice_get};
+ghost use Rattle.std.specs.List.{find};
 ghost use Rattle.lapin_types.specs.Types.frame;
 ghost use Rattle.lapin_types.specs.Types.{Error as ErrorEntry};
 ghost use Rattle.lapin_types.specs.declared.leaving.Publish.{Publish as PublishEntry};
 ghost use Rattle.lapin_history.specs.Frames.{MethodEntry, contents, content_header, cut, room_for_body};
-ghost use Rattle.lapin_history.specs.Leaving.{Lists, handed_of, left_lists};
+ghost use Rattle.lapin_history.specs.Leaving.{Lists, handed_of, left_lists, may_begin};
+ghost use Rattle.lapin_history.specs.Words.{without_first};
 ghost use Rattle.lapin_outbox.specs.Cut.{IsCut, body_payloads};
-ghost use Rattle.lapin_history.specs.Drops.{no_lists, without_channel, without_publishes_of};
+ghost use Rattle.lapin_history.specs.Drops.{no_lists, without_channel, without_publishes_of, is_on, publish_channel};
 ghost use Rattle.lapin_outbox.specs.Drops.{entries_of, without_entry_of, unbegun_of, without_unbegun, all_entries, without_entry};
-ghost use Rattle.lapin_outbox.specs.Outgoing.{OutboxState, with_lists};
+ghost use Rattle.lapin_outbox.specs.Outgoing.{OutboxState, with_lists, IsFirstToBegin};
 ghost use Rattle.lapin_outbox.specs.Returned.{with_returned, is_retried, again, popped, after_pop, is_returned_on, returned_off, channel_entries, outbox_entries, after_drop_channel, after_drop, is_pending};
 ghost use Rattle.lapin_outbox.specs.Poison.{poison_on, error_at, method_pushed, publish_pushed, channel_poisoned, channel_cleared};
 
@@ -62,15 +64,23 @@ pub fn drops_empty_the_outbox()
 /// A frame that is given back is handed out by the next request, marked so, and counts as left already: that request leaves
 /// the outbox as it was before the frame was given back, and the frame is not given again.
 pub fn a_frame_given_back_is_given_once(left: &Left)
-    ensures given { (flow : Bool) (o : OutboxState) → popped flow (with_returned (Some left.now) o) ≡ Some (again left.now) }
-    ensures counted { (flow : Bool) (o : OutboxState) → o.returned ≡ None → after_pop flow (with_returned (Some left.now) o) ≡ o }
-    ensures once { (flow : Bool) (o : OutboxState) → is_retried (after_pop flow o).returned ≡ false }
+    ensures given { (t : ℕ → Bool) (o : OutboxState) → popped t (with_returned (Some left.now) o) ≡ Some (again left.now) }
+    ensures counted { (t : ℕ → Bool) (o : OutboxState) → o.returned ≡ None → after_pop t (with_returned (Some left.now) o) ≡ o }
+    ensures once { (t : ℕ → Bool) (o : OutboxState) → is_retried (after_pop t o).returned ≡ false }
 {}
 
 /// Where no frame was given back, a request gives and leaves what the three lists say.
 pub fn a_request_goes_by_the_lists()
-    ensures told { (flow : Bool) (o : OutboxState) → o.returned ≡ None → popped flow o ≡ handed_of flow o.lists.rest o.lists.methods o.lists.publishes }
-    ensures left { (flow : Bool) (o : OutboxState) → o.returned ≡ None → after_pop flow o ≡ with_lists (left_lists o.frame_max flow o.lists) o }
+    ensures told { (t : ℕ → Bool) (o : OutboxState) → o.returned ≡ None → popped t o ≡ handed_of t o.lists.rest o.lists.methods o.lists.publishes }
+    ensures left { (t : ℕ → Bool) (o : OutboxState) → o.returned ≡ None → after_pop t o ≡ with_lists (left_lists o.frame_max t o.lists) o }
+{}
+
+/// Where no channel may begin a publish, none begins. Else the publish that begins is the first of its channel that waits, its
+/// channel may begin one, and no channel of a publish in front of it may; the others keep their order.
+pub fn publishes_of_full_channels_wait()
+    ensures none { (ps : List PublishEntry) → (find (may_begin (λ _. false)) ps ≡ None) × (without_first (may_begin (λ _. false)) ps ≡ ps) }
+    ensures first { (t : ℕ → Bool) (p : PublishEntry) (ps : List PublishEntry) → find (may_begin t) ps ≡ Some p → find (is_on publish_channel p.channel) ps ≡ Some p }
+    ensures front { (t : ℕ → Bool) (p : PublishEntry) (ps : List PublishEntry) → find (may_begin t) ps ≡ Some p → IsFirstToBegin t p ps (without_first (may_begin t) ps) }
 {}
 
 /// Drops of a channel tell of the frame that was given back first, and then of the channel's entries; drops over all channels

@@ -3,7 +3,7 @@
 //! Here live the three lists of frames that wait (what follows a begun publish, methods, publishes), the frame that was given
 //! back, the poison that pushes meet, the drops that take out what will not leave, and the requests that wait for their replies.
 //! Neither part knows of the state of a channel, of a tag or of a ticket's answer: the session decides what is queued, given
-//! back, dropped and expected, and calls these two parts for their order alone.
+//! back, dropped and expected, tells which channels are full, and calls these two parts for their order alone.
 #![tactic(auto)]
 
 mod begun;
@@ -13,6 +13,7 @@ mod dropped;
 pub mod laws;
 mod order;
 pub mod outbox;
+mod passing;
 mod queues;
 pub mod replies;
 mod requests;

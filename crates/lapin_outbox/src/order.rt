@@ -1,9 +1,10 @@
 //! Numbers in order of joining, each of a key, from which the first of a key is found at once.
 //!
 //! Under each number stands how far behind it the next number of its key is, and by key stand its first number and its
-//! last, so that nothing is searched. What waits under a number is the line's, which alone calls this file.
+//! last, so that nothing is searched. What waits under a number is the line's. `passing` alone calls this file.
 
 ghost use Rattle.std.specs.Prelude.{◌≡◌, ◌+◌, ◌^◌, ◌<◌, ◌≤◌, ◌++◌, ◌∷◌, [], Some, length, IsOk, OnOk};
+ghost use Rattle.lapin_tables.specs.Numbered.{under, first_kept};
 ghost use Rattle.lapin_outbox.specs.Order.{first_on, without_number};
 
 use lapin_tables::Numbered;
@@ -98,6 +99,27 @@ impl Order {
         };
         let next = number - last;
         self.links.set(last, Link { key, next });
+    }
+
+    /// How many numbers were given, which is also the last one.
+    pub(crate) fn count(&self) -> u64
+        ensures { result ≡ length self.now.keys }
+    {
+        self.links.count()
+    }
+
+    /// The least number that was not taken.
+    pub(crate) fn first_number(&self) -> Option<u64>
+        ensures { result ≡ first_kept self.now.keys }
+    {
+        self.links.first_number()
+    }
+
+    /// The key of a number; `None` where the number was never given or was taken.
+    pub(crate) fn key(&self, number: u64) -> Option<u16>
+        ensures { result ≡ under number self.now.keys }
+    {
+        Some(self.links.get(number)?.key)
     }
 
     /// The first number of a key; `None` exactly where it has none.

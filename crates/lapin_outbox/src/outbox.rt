@@ -7,14 +7,16 @@
 ghost use Rattle.std.specs.Prelude.{◌≡◌, ℕ, true, false, ◌+◌, ◌<◌, ◌≤◌, ◌++◌, ◌∷◌, [], Some, None, IsOk, IsSome, IfOk, OnOk, OnErr, slice_get, is_some, if◌then◌else◌};
 ghost use Rattle.lapin_history.specs.Words.{with_channel};
 ghost use Rattle.lapin_history.specs.Drops.{is_rest_of, frame_channel as frame_channel_lem};
+ghost use Rattle.lapin_history.specs.Flow.{unless_full};
 ghost use Rattle.lapin_tables.specs.ByChannel.{on_channel};
 ghost use Rattle.lapin_outbox.specs.Outgoing.{empty};
 ghost use Rattle.lapin_outbox.specs.Poison.{error_at, poison_on, push_told, method_pushed, publish_pushed, with_poison, channel_poisoned, channel_cleared};
-ghost use Rattle.lapin_outbox.specs.Returned.{with_returned, is_retried, is_pending, again as again_lem, popped, after_pop, is_returned_on, returned_off, channel_entries, outbox_entries, after_drop_unbegun, after_drop_channel, after_drop};
+ghost use Rattle.lapin_outbox.specs.Returned.{with_returned, is_retried, is_pending, again as again_lem, is_named, popped, after_pop, is_returned_on, returned_off, channel_entries, outbox_entries, after_drop_unbegun, after_drop_channel, after_drop};
 ghost use Rattle.lapin_outbox.specs.Drops.{AreOn, unbegun_of};
 
 use crate::dropped::Dropped;
 use crate::queues::Queues;
+use lapin_history::FullChannels;
 use lapin_tables::ByChannel;
 use lapin_types::{Error, Frame, Left, Method, NoMemory, Publish};
 use std::alloc::Global;
@@ -157,18 +159,33 @@ impl Outbox {
     }
 
     /// Hands out the frame that was given back, marked so; else the first of what follows the begun publish, else the first
-    /// method, else, where `flow` is true, the method frame of the first publish, whose header and bodies follow; else none.
-    /// Where there is no memory all stays.
-    pub fn pop(&mut self, alloc: Global, flow: bool) -> Result<Option<Left>, NoMemory>
-        ensures told { IfOk result (λ left. left ≡ popped flow self.old.what) }
-        ensures ok { OnOk result (self.new.what ≡ after_pop flow self.old.what) }
+    /// method, else, where `flow` is true, the method frame of the first publish whose channel isn't among the full ones, whose
+    /// header and bodies follow; else none. Where there is no memory all stays.
+    pub fn pop(&mut self, alloc: Global, flow: bool, full: &[u16]) -> Result<Option<Left>, NoMemory>
+        ensures told { IfOk result (λ left. left ≡ popped (unless_full flow (is_named full.now)) self.old.what) }
+        ensures ok { OnOk result (self.new.what ≡ after_pop (unless_full flow (is_named full.now)) self.old.what) }
+        ensures err { OnErr result (self.new.what ≡ self.old.what) }
+        ensures room { self.old.spare ≤ self.new.spare }
+    {
+        self.pop_unless(alloc, flow, &Named { channels: full })
+    }
+
+    /// Does what `pop` does, for whoever tells which channels are full.
+    pub fn pop_unless<F: FullChannels>(
+        &mut self,
+        alloc: Global,
+        flow: bool,
+        full: &F,
+    ) -> Result<Option<Left>, NoMemory>
+        ensures told { IfOk result (λ left. left ≡ popped (unless_full flow (F.full full.now)) self.old.what) }
+        ensures ok { OnOk result (self.new.what ≡ after_pop (unless_full flow (F.full full.now)) self.old.what) }
         ensures err { OnErr result (self.new.what ≡ self.old.what) }
         ensures room { self.old.spare ≤ self.new.spare }
     {
         if let Some(left) = self.returned.take() {
             return Ok(Some(retried(left)));
         }
-        self.queues.pop(alloc, self.frame_max, flow)
+        self.queues.pop(alloc, self.frame_max, flow, full)
     }
 
     /// Gives a frame back: the next `pop` hands it out once more, unless a drop takes it out before. It counts as left already,
@@ -306,6 +323,20 @@ impl Outbox {
         ensures { (c : ℕ) → is_rest_of c self.now.what.lists.rest ≡ true → AreOn c self.now.what.lists.rest }
     {
         self.queues.begun_publish_is_on_one_channel();
+    }
+}
+
+// Full channels that are named one by one.
+#[derive(Clone, Copy)]
+struct Named<'a> {
+    channels: &'a [u16],
+}
+
+impl<'a> FullChannels for Named<'a> {
+    ghost full = { λ n c. is_named n.channels.now c };
+
+    fn is_full(&self, channel: u16) -> bool {
+        self.channels.contains(&channel)
     }
 }
 

@@ -2,11 +2,17 @@
 //!
 //! What follows the method of the begun publish, methods in order of queueing, and publishes that have not begun in order of
 //! call over all channels. A frame request takes from the first of them that has anything; a publish begins only where the flow
-//! of content is on. A drop takes out what will not leave, an entry at a time. Neither a frame that was given back nor poison is
-//! known here: the outbox, which alone calls this file, looks at them first.
+//! of content is on and its channel isn't full, and those of full channels are passed over. A drop takes out what will not leave,
+//! an entry at a time. Neither a frame that was given back nor poison is known here: the outbox, which alone calls this file,
+//! looks at them first.
 
 ghost use Rattle.std.specs.Prelude.{◌≡◌, ℕ, true, ◌+◌, ◌<◌, ◌≤◌, ◌++◌, ◌∷◌, [], IsOk, IfOk, OnOk, OnErr, slice_get, is_some, if◌then◌else◌};
-ghost use Rattle.lapin_history.specs.Leaving.{handed_of, left_lists};
+ghost use Rattle.std.specs.List.{find};
+ghost use Rattle.std.specs.Option.{option_map};
+ghost use Rattle.lapin_history.specs.Frames.{left_publish};
+ghost use Rattle.lapin_history.specs.Leaving.{handed_of, left_lists, may_begin, begun_rest};
+ghost use Rattle.lapin_history.specs.Words.{without_first};
+ghost use Rattle.lapin_history.specs.Flow.{unless_full};
 ghost use Rattle.lapin_outbox.specs.Outgoing.{with_method, with_publish, has_entries as has_entries_lem};
 ghost use Rattle.lapin_history.specs.Drops.{no_lists, is_rest_of};
 ghost use Rattle.lapin_outbox.specs.Entries.{rest_in};
@@ -15,6 +21,7 @@ ghost use Rattle.lapin_outbox.specs.Drops.{AreOn, told_rest, told_rest_of, told_
 use crate::begun::Begun;
 use crate::channel_queue::{ChannelQueue, Keyed};
 use crate::dropped::Dropped;
+use lapin_history::FullChannels;
 use lapin_types::{Frame, Left, Method, NoMemory, Publish};
 use std::alloc::Global;
 use std::marker::Model;
@@ -170,17 +177,18 @@ impl Queues {
     }
 
     /// Hands out the next frame: the first of what follows the begun publish, else the first method, else, where `flow` is
-    /// true, the method frame of the first publish, whose header and bodies follow; else none. Where there is no memory the
-    /// lists stay.
-    pub(crate) fn pop(
+    /// true, the method frame of the first publish whose channel isn't full, whose header and bodies follow; else none. Where
+    /// there is no memory the lists stay.
+    pub(crate) fn pop<F: FullChannels>(
         &mut self,
         alloc: Global,
         frame_max: u32,
         flow: bool,
+        full: &F,
     ) -> Result<Option<Left>, NoMemory>
         requires { 8 < frame_max }
-        ensures told { IfOk result (λ left. left ≡ handed_of flow self.old.lists.rest self.old.lists.methods self.old.lists.publishes) }
-        ensures ok { OnOk result (self.new.lists ≡ left_lists frame_max flow self.old.lists) }
+        ensures told { IfOk result (λ left. left ≡ handed_of (unless_full flow (F.full full.now)) self.old.lists.rest self.old.lists.methods self.old.lists.publishes) }
+        ensures ok { OnOk result (self.new.lists ≡ left_lists frame_max (unless_full flow (F.full full.now)) self.old.lists) }
         ensures err { OnErr result (self.new.lists ≡ self.old.lists) }
         ensures room { self.old.spare ≤ self.new.spare }
     {
@@ -192,15 +200,7 @@ impl Queues {
         if let Some(waiting) = self.methods.pop() {
             return Ok(Some(waiting.leave()));
         }
-        if !flow {
-            return Ok(None);
-        }
-        let Some(publish) = self.publishes.pop() else {
-            return Ok(None);
-        };
-        let (left, begun) = Begun::new(publish, frame_max);
-        drop(self.begun.replace(begun));
-        Ok(Some(left))
+        begin_publish(&mut self.publishes, &mut self.begun, frame_max, flow, full)
     }
 
     /// Takes out the first publish of a channel that has not begun; `None` exactly where there is none.
@@ -275,6 +275,49 @@ impl Queues {
             Some(begun) => begun.is_empty(),
             None => true,
         }
+    }
+}
+
+// The first publish that may begin begins: its method leaves, and its other frames become what follows the begun publish.
+fn begin_publish<F: FullChannels>(
+    publishes: &mut ChannelQueue<Publish>,
+    begun: &mut Option<Begun>,
+    frame_max: u32,
+    flow: bool,
+    full: &F,
+) -> Result<Option<Left>, NoMemory>
+    requires room { 8 < frame_max }
+    requires rest { rest_in begun.old ≡ [] }
+    ensures told { IfOk result (λ left. left ≡ option_map left_publish (find (may_begin (unless_full flow (F.full full.now))) publishes.old.entries)) }
+    ensures rest { OnOk result (rest_in begun.new ≡ begun_rest frame_max (find (may_begin (unless_full flow (F.full full.now))) publishes.old.entries)) }
+    ensures others { OnOk result (publishes.new.entries ≡ without_first (may_begin (unless_full flow (F.full full.now))) publishes.old.entries) }
+    ensures err { OnErr result (publishes.new.entries ≡ publishes.old.entries) }
+    ensures same { OnErr result (rest_in begun.new ≡ rest_in begun.old) }
+    ensures kept { publishes.old.spare ≤ publishes.new.spare }
+{
+    let Some(publish) = next_publish(publishes, flow, full)? else {
+        return Ok(None);
+    };
+    let (left, rest) = Begun::new(publish, frame_max);
+    drop(begun.replace(rest));
+    Ok(Some(left))
+}
+
+// Takes out the first publish that may begin: the first whose channel isn't full, where the flow is on.
+fn next_publish<F: FullChannels>(
+    publishes: &mut ChannelQueue<Publish>,
+    flow: bool,
+    full: &F,
+) -> Result<Option<Publish>, NoMemory>
+    ensures taken { IfOk result (λ publish. publish ≡ find (may_begin (unless_full flow (F.full full.now))) publishes.old.entries) }
+    ensures others { OnOk result (publishes.new.entries ≡ without_first (may_begin (unless_full flow (F.full full.now))) publishes.old.entries) }
+    ensures err { OnErr result (publishes.new.entries ≡ publishes.old.entries) }
+    ensures kept { publishes.old.spare ≤ publishes.new.spare }
+{
+    if flow {
+        publishes.pop_unless(full)
+    } else {
+        Ok(None)
     }
 }
 
