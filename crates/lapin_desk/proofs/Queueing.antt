@@ -101,7 +101,7 @@ resolved_apart n cells (p ∷ ps) h q = (
 -- ---- one that is taken out
 
 module _ {X : Type 0} (P : X → Type 0) (t : X → Bool) where
-  all-without : (xs : List X) → AllByRecursion P xs → AllByRecursion P (without_first t xs)
+  pub all-without : (xs : List X) → AllByRecursion P xs → AllByRecursion P (without_first t xs)
   all-without [] h = tt
   all-without (x ∷ xs) h = elim (t x) as (λ b. AllByRecursion P (cond b xs (x ∷ without_first t xs))) [ true ↦ h.1 | false ↦ (h.0, all-without xs h.1) ]
 
@@ -109,7 +109,7 @@ module _ {X : Type 0} (P : X → Type 0) (t : X → Bool) where
   all-filter [] h = tt
   all-filter (x ∷ xs) h = elim (t x) as (λ b. AllByRecursion P (cond b (x ∷ filter t xs) (filter t xs))) [ true ↦ (h.0, all-filter xs h.1) | false ↦ all-filter xs h.1 ]
 
-  all-found : (xs : List X) (y : X) → AllByRecursion P xs → find t xs ≡ Some y → P y
+  pub all-found : (xs : List X) (y : X) → AllByRecursion P xs → find t xs ≡ Some y → P y
   all-found [] y h e = cc
   all-found (x ∷ xs) y h e = elim (t x) as (λ b. cond b (Some x) (find t xs) ≡ Some y → P y) [
     | true ↦ λ here. let same : x ≡ y = cc in subst P same h.0

@@ -12,6 +12,8 @@ use Rattle.lapin_machine.specs.World.{World, told_by, new_world}
 use Rattle.lapin_machine.specs.World as world
 use Rattle.lapin_machine.specs.Stands.{Stands}
 use Rattle.lapin_machine.proofs.Back.{given_none, still_none}
+use Rattle.lapin_history.specs.ConfirmReadings.{is_full}
+use Rattle.lapin_machine.proofs.Readings.{handed_shown}
 use Rattle.lapin_machine.proofs.Standing.{stands-next, new_stands}
 use Rattle.lapin_broker.specs.States.{Broker, after_loss}
 use Rattle.lapin_broker.specs.Reads.{read}
@@ -37,7 +39,9 @@ stands_on n h w e none s =
     (stands-next n h w (world.next w e) e (rec n h e) (given_none w.returned e none) s (sym (told_same n h w e none s)) refl).1
 
 handed_same : (n : ℕ) (h : History) (w : World) (e : Event) → Stands n h w → handed_by by_machine e w ≡ handed_by (by_history n) e h
-handed_same n h w (event.Next flow) s = ap (λ (b : Wire). left_alone (handed flow b)) s.wire
+handed_same n h w (event.Next flow) s =
+    let full : ℕ → Bool = λ c. is_full c (past n h).confirms in
+    ap left_alone (handed_shown flow w.wire (past n h).confirms w.post s.confirms.post ∙ ap (λ (b : Wire). handed flow full b) s.wire)
 handed_same n h w _ s = refl
 
 -- ---- no step gives a frame back

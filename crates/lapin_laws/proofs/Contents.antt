@@ -38,7 +38,6 @@ use Rattle.lapin_history.specs.declared.broker_frames.ContentPart.TheVariants as
 use Rattle.lapin_history.specs.declared.broker_frames.Incoming.{Incoming}
 use Rattle.lapin_history.specs.declared.broker_frames.Incoming.TheVariants as incoming
 use Rattle.lapin_history.specs.Words.{with_channel}
-use Rattle.lapin_history.specs.Calls.{asked}
 use Rattle.lapin_history.specs.Incoming.{incoming_of, frame_class, frame_method}
 use Rattle.lapin_history.specs.Phases.{is_up, is_lost, is_live}
 use Rattle.lapin_history.specs.Readings.{Readings}
@@ -55,8 +54,8 @@ use Rattle.lapin_history.specs.Flow.{after_flow}
 use Rattle.lapin_history.specs.Loss.{after_lost, lost_inbox}
 use Rattle.lapin_history.specs.Reply.{receives, receives_reply}
 use Rattle.lapin_history.specs.Unexpected.{refused}
-use Rattle.lapin_history.specs.Asking.{is_allowed, after_call, call_marks, asking_marks, asked_wire, asking_inbox}
-use Rattle.lapin_history.specs.Handing.{sent, handed}
+use Rattle.lapin_history.specs.Asking.{is_allowed, asked_by, after_call, call_marks, asking_marks, asked_wire, asking_inbox}
+use Rattle.lapin_history.specs.Handing.{sent, handed_as}
 use Rattle.lapin_history.specs.Receiving.{when, incoming_up, incoming_record, incoming_marks, incoming_wire, incoming_inbox}
 use Rattle.lapin_history.specs.Events.{record_of, after_event}
 use Rattle.lapin_history.specs.History.{History, Past, longer, past, rec, run_from, run, readings_of}
@@ -208,6 +207,8 @@ call_moved c (ask.CloseChannel code text) b e = stays b _ refl (λ q. quiet_live
 call_moved c (ask.CloseConnection code text) b e = falls _ b _ refl
 call_moved c (ask.Publish exchange key o payload properties) b e = stays b _ refl (λ q. q)
 call_moved c (ask.Consume m tag queue o) b e = stays b _ refl (λ q. q)
+call_moved c (ask.Limit limit) b e = stays b _ refl (λ q. q)
+call_moved c ask.Nothing b e = stays b _ refl (λ q. q)
 call_moved c (ask.Method row) b e = subst (λ cs. Moved b (after_call c (ask.Method row) b) cs []) (sym (queued_quiet (is_select row.method) c)) (stays b _ refl (λ q. q))
 
 asked_moved : (c : ℕ) (k : Asked) (b : Wire) → Moved b (asked_wire c k b) (ended_in (asking_marks c k b)) []
@@ -378,8 +379,12 @@ quietly : (b : Wire) (cs : List ℕ) → cs ≡ [] → Moved b b cs []
 quietly b cs none = subst (λ ds. Moved b b ds []) (sym none) (stays b b refl (λ q. q))
 
 event_moved : (b : Wire) (readings : Readings) (e : Event) (ms : List ContentMark) → IsShut b → Expects b ms → Expects (after_event b e (record_of b readings e)) (ms ++ content_marks b e (record_of b readings e))
-event_moved b readings (event.Call c k) ms shut x = inboxed (asking_inbox c (asked k) b) (asked_wire c (asked k) b) _ (asked_moved c (asked k) b ms x)
-event_moved b readings (event.Next flow) ms shut x = subst (λ cs. Moved b (after_event b (event.Next flow) (record_of b readings (event.Next flow))) cs []) (sym (left_quiet (handed flow b))) (λ xs y. sent_moved (handed flow b) _ xs (record { follows = y.follows; quiet = y.quiet })) ms x
+event_moved b readings (event.Call c k) ms shut x =
+    let a : Asked = asked_by k (record_of b readings (event.Call c k)) in
+    inboxed (asking_inbox c a b) (asked_wire c a b) _ (asked_moved c a b ms x)
+event_moved b readings (event.Next flow) ms shut x =
+    let r : Record = record_of b readings (event.Next flow) in
+    subst (λ cs. Moved b (after_event b (event.Next flow) r) cs []) (sym (left_quiet (handed_as r b))) (λ xs y. sent_moved (handed_as r b) _ xs (record { follows = y.follows; quiet = y.quiet })) ms x
 event_moved b readings (event.Receive f) ms shut x =
     let i : Incoming = incoming_of f in
     let r : Record = incoming_record b readings (refused (frame_class f) (frame_method f)) i in

@@ -42,7 +42,7 @@ use Rattle.lapin_history.specs.TicketReadings.{TicketMark, answer_at}
 use Rattle.lapin_history.specs.TicketReadings as ticket
 use Rattle.lapin_history.specs.Words.{with_channel, is_some}
 use Rattle.lapin_history.specs.Phases.{is_lost}
-use Rattle.lapin_history.specs.Calls.{asked, awaited_by, made_by, leaving_by}
+use Rattle.lapin_history.specs.Calls.{awaited_by, made_by, leaving_by}
 use Rattle.lapin_history.specs.Incoming.{incoming_of, frame_class, frame_method}
 use Rattle.lapin_history.specs.declared.broker_frames.ContentPart.{ContentPart}
 use Rattle.lapin_history.specs.declared.broker_frames.ContentPart.TheVariants as part
@@ -57,8 +57,8 @@ use Rattle.lapin_history.specs.ChannelClose.{has_sent_close, closing, close_tick
 use Rattle.lapin_history.specs.ConnectionClose.{after_connection_close, connection_close_tickets, failed_at_connection_close}
 use Rattle.lapin_history.specs.Settlement.{session_close}
 use Rattle.lapin_history.specs.Polls.{is_answer, is_aside}
-use Rattle.lapin_history.specs.Asking.{is_allowed, after_call, made_marks, call_tickets, asked_wire, asking_tickets}
-use Rattle.lapin_history.specs.Handing.{sent, handed, left_tickets, begun_ticket, last_ticket}
+use Rattle.lapin_history.specs.Asking.{is_allowed, asked_by, after_call, made_marks, call_tickets, asked_wire, asking_tickets}
+use Rattle.lapin_history.specs.Handing.{sent, handed_as, left_tickets, begun_ticket, last_ticket}
 use Rattle.lapin_history.specs.Receiving.{after_received, received_tickets, after_failed, failed_tickets, after_refused, refused_tickets, after_incoming, incoming_tickets}
 use Rattle.lapin_history.specs.History.{History}
 use Rattle.lapin_history.specs.declared.calls.Answered.{Answered}
@@ -83,7 +83,7 @@ use Rattle.lapin_laws.proofs.Opens.{IsOpen, open_begun, open_left, open_closed, 
 use Rattle.lapin_laws.proofs.Expecting.{header_keeps, body_keeps, names_its_get, is_get}
 use Rattle.lapin_laws.proofs.Owing.{Table, Owed, in_alone, Fewer, same, asks, gives, makes, answers, answers_on, ends_one, falls, begins, expects, hears, notes}
 use Rattle.lapin_laws.proofs.FrameMoves.{right}
-use Rattle.lapin_laws.proofs.Rows.{IsLine, is_sure, call_line, acker_line}
+use Rattle.lapin_laws.proofs.Rows.{IsLine, is_sure, told_line, acker_line}
 use Rattle.lapin_laws.proofs.Cancels.{resolved_fewer, cancels_fewer, failing-count}
 
 abbrev Owes : Wire → List (Option Slot) → Type 0
@@ -105,7 +105,7 @@ module _ (slots : List (Option Slot)) where
 -- ---- calls
 
 abbrev CallOwes : ℕ → Asked → Type 0
-CallOwes c k = (b : Wire) (slots : List (Option Slot)) → b.tickets ≡ length slots → Owes b slots → Owes (after_call c k b) (fold after_mark slots (call_tickets c k b))
+CallOwes c k = (b : Wire) (slots : List (Option Slot)) → is_allowed k (state_of c b) ≡ true → b.tickets ≡ length slots → Owes b slots → Owes (after_call c k b) (fold after_mark slots (call_tickets c k b))
 
 -- a line of the table of calls: the reply that it awaits, the answer that it makes, and that of its leaving
 abbrev RowOwes : ℕ → Option Reply → Option Answer → AtLeaving → Type 0
@@ -137,21 +137,26 @@ close_owes c e b slots n =
     subst (Owed rs []) (sym (fold-append after_mark slots (all_failed e b) (ticket.Given c leaving.Nothing ∷ []))) (asks [] [] (fold after_mark slots (all_failed e b)) b.tickets c (n ∙ sym (failing-count (live_channels b.phases) b.requests e slots)) (all_fall cancels e [] [] slots) reply.ConnectionCloseOk)
 
 call_owes : (c : ℕ) (k : Asked) → IsLine c k → CallOwes c k
-call_owes c ask.Open line = λ b slots n h. asks b.requests b.contents slots b.tickets c n h reply.ChannelOpenOk
-call_owes c (ask.CloseChannel code text) line = λ b slots n h.
+call_owes c ask.Open line = λ b slots a n h. asks b.requests b.contents slots b.tickets c n h reply.ChannelOpenOk
+call_owes c (ask.CloseChannel code text) line = λ b slots a n h.
     let e : Error = failed_at_close closer.Application in
     asks b.requests b.contents (after_mark slots (ticket.ClosedHere c e)) b.tickets c (n ∙ sym (closed-count c e slots)) (same b.requests b.contents slots _ (closed_fewer slots c e) h) reply.ChannelCloseOk
-call_owes c (ask.CloseConnection code text) line = λ b slots n h. close_owes c failed_at_connection_close b slots n
-call_owes c (ask.Publish exchange key o payload properties) line = λ b slots n h. gives b.requests b.contents slots b.tickets c n h (leaving.Confirm (b.published + 1)) (λ e. cc)
-call_owes c (ask.Consume m tag queue o) line = λ b slots n h. at_once c (answer.Consumer (next_consumer b.inbox)) b slots n h
-call_owes c (ask.Method row) line = row_owes c row.answered line.1
+call_owes c (ask.CloseConnection code text) line = λ b slots a n h. close_owes c failed_at_connection_close b slots n
+call_owes c (ask.Publish exchange key o payload properties) line = λ b slots a n h. gives b.requests b.contents slots b.tickets c n h (leaving.Confirm (b.published + 1)) (λ e. cc)
+call_owes c (ask.Consume m tag queue o) line = λ b slots a n h. at_once c (answer.Consumer (next_consumer b.inbox)) b slots n h
+call_owes c (ask.Limit limit) line = λ b slots a n h. at_once c answer.Done b slots n h
+call_owes c ask.Nothing line = λ b slots a n h. absurd cc
+call_owes c (ask.Method row) line = λ b slots a n h. row_owes c row.answered line.1 b slots n h
 
 choose : (t : Bool) (x y : Wire) (ms ns : List TicketMark) (slots : List (Option Slot)) → Owes x (fold after_mark slots ms) → Owes y (fold after_mark slots ns) → Owes (cond t x y) (fold after_mark slots (cond t ms ns))
 choose true x y ms ns slots h k = h
 choose false x y ms ns slots h k = k
 
 asked_owes : (c : ℕ) (k : Asked) → IsLine c k → (b : Wire) (slots : List (Option Slot)) → b.tickets ≡ length slots → Owes b slots → Owes (asked_wire c k b) (fold after_mark slots (asking_tickets c k b))
-asked_owes c k line b slots n h = choose (is_allowed k (state_of c b)) (after_call c k b) b (call_tickets c k b) [] slots (call_owes c k line b slots n h) h
+asked_owes c k line b slots n h = elim (is_allowed k (state_of c b)) as (λ t. is_allowed k (state_of c b) ≡ t → Owes (cond t (after_call c k b) b) (fold after_mark slots (cond t (call_tickets c k b) []))) [
+  | true ↦ λ a. call_owes c k line b slots a n h
+  | false ↦ λ a. h
+] refl
 
 acked_owes : (o : Option (ℕ × ℕ)) (k : AckerCall) (b : Wire) (slots : List (Option Slot)) → b.tickets ≡ length slots → Owes b slots → Owes (acked_wire o k b) (fold after_mark slots (acked_tickets o k b))
 acked_owes None k b slots n h = h
@@ -308,8 +313,8 @@ gone_owes false n m rs cs slots e h = h
 -- ---- every event
 
 owes-anew : (w : World) (e : Event) → w.wire.tickets ≡ length w.slots → Owes w.wire w.slots → Owes (next_anew w e).wire (next_anew w e).slots
-owes-anew w (event.Call c k) n h = asked_owes c (asked k) (call_line c k) w.wire w.slots n h
-owes-anew w (event.Next flow) n h = left_owes (handed flow w.wire) _ w.slots h
+owes-anew w (event.Call c k) n h = let r : Record = told_anew w (event.Call c k) in asked_owes c (asked_by k r) (told_line c k r) w.wire w.slots n h
+owes-anew w (event.Next flow) n h = left_owes (handed_as (told_anew w (event.Next flow)) w.wire) _ w.slots h
 owes-anew w (event.Receive f) n h = incoming_owes w.wire w.slots h (incoming_of f) (told_anew w (event.Receive f)) (is_heard (incoming_of f) (told_anew w (event.Receive f)) w.wire (readings_of w.post w.slots) (frame_class f) (frame_method f) refl) (is_made f)
 owes-anew w (event.PollTicket m) n h = gone_owes (is_answer (told_anew w (event.PollTicket m))) m (ticket.Collected m) w.wire.requests w.wire.contents w.slots refl h
 owes-anew w (event.PollConfirm m) n h = h

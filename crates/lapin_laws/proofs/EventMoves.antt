@@ -15,17 +15,19 @@ use Rattle.lapin_history.specs.Readings.{Readings}
 use Rattle.lapin_history.specs.Wire.{Wire, state_of, is_open, queued}
 use Rattle.lapin_history.specs.Polls.{is_confirmed, is_returned, is_aside, wait_record}
 use Rattle.lapin_history.specs.Loss.{after_lost, lost_inbox}
+use Rattle.lapin_history.specs.declared.calls.Asked.{Asked}
+use Rattle.lapin_history.specs.declared.calls.Asked.TheVariants as ask
 use Rattle.lapin_history.specs.Calls.{asked}
-use Rattle.lapin_history.specs.Asking.{asked_wire, asking_inbox}
+use Rattle.lapin_history.specs.Asking.{asked_wire, asking_inbox, after_asking, asking_marks, call_record}
 use Rattle.lapin_history.specs.Consumers.{delegate_inbox, job_inbox, lets_go_of, let_go_cancel, cancel_noted, after_let_go, after_drop, drop_inbox}
 use Rattle.lapin_history.specs.Ackers.{acker_method, usable_at, acked_wire, acker_inbox}
 use Rattle.lapin_history.specs.Events.{record_of, after_event, confirm_marks}
 use Rattle.lapin_consumer.specs.Roster.{Consumer, consumer_at, is_idle}
 use Rattle.lapin_inbox.specs.Marks as inbox
 use Rattle.lapin_machine.specs.Stands.{IsShut}
-use Rattle.lapin_laws.specs.Outgoing.{called_by, ended_in}
+use Rattle.lapin_laws.specs.Outgoing.{published_by, called_by, ended_in}
 use Rattle.lapin_laws.proofs.Closes.{marks_noted}
-use Rattle.lapin_laws.proofs.Rows.{call_line, acker_line}
+use Rattle.lapin_laws.proofs.Rows.{IsLine, call_line, told_as, acker_line}
 use Rattle.lapin_laws.proofs.Moving.{plain-push, Sound, Moves, inboxed, same, keeps, same_grows, falls, open_up, queued_up, asked_moves, lost_not_up}
 use Rattle.lapin_laws.proofs.FrameMoves.{no_ends, incoming_moves, right}
 
@@ -69,8 +71,11 @@ dropped_moves n (Some x) b s = let_go_moves n x b s
 abbrev pub MovesBy : ℕ → Wire → Readings → Event → Type 0
 MovesBy n b readings e = Moves n b (after_event b e (record_of b readings e)) (ended_in (confirm_marks b e (record_of b readings e))) (called_by e (record_of b readings e))
 
+call_moves : (n c : ℕ) (a : Asked) (b : Wire) → IsLine c a → Sound n b → Moves n b (after_asking c a b) (ended_in (asking_marks c a b)) (published_by c a (call_record c a b))
+call_moves n c a b line s = inboxed n (asking_inbox c a b) b (asked_wire c a b) _ _ (asked_moves n c a b line s)
+
 pub call_event : (n : ℕ) (b : Wire) (readings : Readings) (c : ℕ) (k : Call) → Sound n b → MovesBy n b readings (event.Call c k)
-call_event n b readings c k s = inboxed n (asking_inbox c (asked k) b) b (asked_wire c (asked k) b) _ _ (asked_moves n c (asked k) b (call_line c k) s)
+call_event n b readings c k s = told_as c k b readings (λ a r. Moves n b (after_asking c a b) (ended_in (asking_marks c a b)) (published_by c a r)) (call_moves n c ask.Nothing b tt s) (call_moves n c (asked k) b (call_line c k) s)
 
 pub incoming_event : (n : ℕ) (b : Wire) (readings : Readings) (f : Frame) → IsShut b → Sound n b → MovesBy n b readings (event.Receive f)
 incoming_event n b readings f shut s = incoming_moves (frame_class f) (frame_method f) n b.link b readings (incoming_of f) refl shut s

@@ -1,6 +1,7 @@
 -- What each event does, and how the frames that it hands out are parsed.
 use Rattle.std.proofs.Common.{◌≡◌, ℕ, ◌-◌, ◌<◌, Bool, true, false, cond, List, [], ◌∷◌, ◌++◌, map, refl, sym, ◌∙◌, ap, subst, append_assoc, append-nil, ◌⊎◌, inl, inr, Option, Some, None, arith}
-use Rattle.std.specs.List.{list_any}
+use Rattle.std.specs.List.{list_any, find, filter}
+use Rattle.std.specs.Option.{option_map}
 use Rattle.lapin_tables.specs.ByChannel.{on_channel}
 use Rattle.lapin_types.specs.declared.event.Event.{Event}
 use Rattle.lapin_types.specs.declared.event.Event.TheVariants as event
@@ -22,17 +23,23 @@ use Rattle.lapin_history.specs.ChannelClose.{close_sent, phases_sent}
 use Rattle.lapin_history.specs.Select.{is_select}
 use Rattle.lapin_history.specs.Frames.{left_rest, left_method, left_publish, MethodEntry, RestEntry, rest_of, behind, contents, content_header, bodies, cut, room_for_body, publish_method}
 use Rattle.lapin_history.specs.Readings.{Readings}
-use Rattle.lapin_history.specs.Wire.{Wire}
-use Rattle.lapin_history.specs.Flow.{may_begin}
-use Rattle.lapin_history.specs.Handing.{frame_record, after_handing, after_next, handed, handed_out, frame_marks, entry_marks, left_marks}
+use Rattle.lapin_history.specs.Words.{without_first}
+use Rattle.lapin_history.specs.Leaving.{may_begin, begun_rest}
+use Rattle.lapin_history.specs.Drops.{is_off, publish_channel}
+use Rattle.lapin_history.specs.Wire.{Wire, with_lists}
+use Rattle.lapin_history.specs.Flow.{begins_on}
+use Rattle.lapin_history.specs.Handing.{frame_record, began_on, handed_as, sent, after_handing, after_next, handed_out, frame_marks, entry_marks, left_marks}
 use Rattle.lapin_history.specs.Events.{record_of, after_event, confirm_marks}
 use Rattle.lapin_outbox.proofs.Cuts.{cut-is}
 use Rattle.lapin_machine.specs.Stands.{IsShut}
+use Rattle.lapin_machine.proofs.Brought.{none_begins}
+use Rattle.lapin_machine.proofs.Handed.{handed_told}
 use Rattle.lapin_laws.specs.Outgoing.{Point, Called, Requested, Ended, called_by, given_by, requested_by, ended_in, is_channel}
 use Rattle.lapin_laws.specs.Unbroken.{AreContents, is_method, Parses}
 use Rattle.lapin_laws.proofs.Alive.{live_at, live-sent, Alive, Grows, AreAlive, alive-grows, AreOn, IsBegun, IsRestAlive, rest-grows, rest-tail}
 use Rattle.lapin_laws.proofs.Closes.{AreMarked, marks_sent}
-use Rattle.lapin_laws.proofs.Parts.{IsPart, Behind, part-first}
+use Rattle.lapin_laws.proofs.Parts.{IsPart}
+use Rattle.lapin_laws.proofs.Places.{Begun, begun_of, alive_begun}
 use Rattle.lapin_laws.proofs.Cuts.{frames_of, cut_at, parses-ends, parses-calls}
 use Rattle.lapin_laws.proofs.Moving.{ArePlain, Sound, Moves}
 use Rattle.lapin_laws.proofs.EventMoves.{call_event, incoming_event, lost_event, ticket_event, aside_event, confirm_event, state_event, wait_event, laid_event, poll_event, acker_event, delegate_event, drop_event, job_event}
@@ -141,65 +148,67 @@ sent_sound n b f rest methods plain alive lost marks s = record {
   contents = λ d. s.contents (sym (up_sent f b.link) ∙ d);
 }
 
-abbrev NextGoes : ℕ → Bool → Wire → Type 0
+abbrev NextGoes : ℕ → (ℕ → Bool) → Wire → Type 0
 NextGoes n t b = Goes n b (after_handing t b) [] (Requested (given_by (frame_record (handed_out t b))) ∷ [])
 
-next_rest : (t : Bool) (b : Wire) (f : RestEntry) (fs : List RestEntry) → b.rest ≡ f ∷ fs → after_handing t b ≡ record b { link = link_sent f.frame b.link; phases = phases_sent f.frame b.phases; rest = fs }
+next_rest : (t : ℕ → Bool) (b : Wire) (f : RestEntry) (fs : List RestEntry) → b.rest ≡ f ∷ fs → after_handing t b ≡ record b { link = link_sent f.frame b.link; phases = phases_sent f.frame b.phases; rest = fs }
 next_rest t b f fs r = rw r refl
 
-next_method : (t : Bool) (b : Wire) (m : MethodEntry) (ms : List MethodEntry) → b.rest ≡ [] → b.methods ≡ m ∷ ms → after_handing t b ≡ record b { link = link_sent (frame.Method m.channel m.method) b.link; phases = phases_sent (frame.Method m.channel m.method) b.phases; rest = []; methods = ms }
+next_method : (t : ℕ → Bool) (b : Wire) (m : MethodEntry) (ms : List MethodEntry) → b.rest ≡ [] → b.methods ≡ m ∷ ms → after_handing t b ≡ record b { link = link_sent (frame.Method m.channel m.method) b.link; phases = phases_sent (frame.Method m.channel m.method) b.phases; rest = []; methods = ms }
 next_method t b m ms r e = rw (r, e) refl
 
-next_publish : (b : Wire) (p : Publish) (ps : List Publish) → b.rest ≡ [] → b.methods ≡ [] → b.publishes ≡ p ∷ ps → after_handing true b ≡ record b { rest = rest_of b.frame_max p; methods = []; publishes = ps }
-next_publish b p ps r m q = rw (r, m, q) refl
+-- what is left where a publish begins, or none
+abbrev begun_next : (ℕ → Bool) → Wire → Option Publish → Wire
+begun_next t b o = sent (option_map left_publish o) (with_lists (record { rest = begun_rest b.frame_max o; methods = []; publishes = without_first (may_begin t) b.publishes }) b)
+
+next_begun : (t : ℕ → Bool) (b : Wire) → b.rest ≡ [] → b.methods ≡ [] → after_handing t b ≡ begun_next t b (find (may_begin t) b.publishes)
+next_begun t b r m = rw (r, m) refl
+
+pub next_publish : (t : ℕ → Bool) (b : Wire) (p : Publish) → b.rest ≡ [] → b.methods ≡ [] → find (may_begin t) b.publishes ≡ Some p → after_handing t b ≡ record b { rest = rest_of b.frame_max p; methods = []; publishes = without_first (may_begin t) b.publishes }
+next_publish t b p r m q = next_begun t b r m ∙ ap (begun_next t b) q
 
 same_lists : (b : Wire) (ps : List Publish) → b.rest ≡ [] → b.methods ≡ [] → b.publishes ≡ ps → record b { rest = []; methods = []; publishes = ps } ≡ b
 same_lists b ps r m q = λ i. record b { rest = sym r i; methods = sym m i; publishes = sym q i }
 
-next_none : (t : Bool) (b : Wire) (ps : List Publish) → b.rest ≡ [] → b.methods ≡ [] → b.publishes ≡ ps → handed_out t (record b { rest = []; methods = []; publishes = ps }) ≡ None → after_handing t b ≡ b
-next_none true b [] r m q n = rw (r, m, q) refl ∙ same_lists b [] r m q
-next_none true b (p ∷ ps) r m q n = cc
-next_none false b ps r m q n = rw (r, m, q) refl ∙ same_lists b ps r m q
+next_none : (t : ℕ → Bool) (b : Wire) → b.rest ≡ [] → b.methods ≡ [] → find (may_begin t) b.publishes ≡ None → after_handing t b ≡ b
+next_none t b r m q = next_begun t b r m ∙ ap (begun_next t b) q ∙ same_lists b (without_first (may_begin t) b.publishes) r m (sym (none_begins (may_begin t) b.publishes q))
 
 -- a request that gives this is parsed with these frames and publishes before and behind it
 abbrev ParsesOn : ℕ → List Frame → List Frame → List Publish → List Publish → Option Frame → Type 0
 ParsesOn n fs gs ps qs o = (more : List Point) (calls : List Publish) → IsPart ps calls → ((later : List Publish) → IsPart qs later → Parses n more gs later) → Parses n (Requested o ∷ more) fs calls
 
-parsed : (n : ℕ) (t : Bool) (b b' : Wire) (rest : List RestEntry) (publishes : List Publish) (o : Option Left) → b.rest ≡ rest → b.publishes ≡ publishes → handed_out t b ≡ o → after_handing t b ≡ b'
-    → ParsesOn n (frames_of rest) (frames_of b'.rest) publishes b'.publishes (given_by (frame_record o))
+parsed : (n : ℕ) (t : ℕ → Bool) (b b' : Wire) (rest : List RestEntry) (o : Option Left) → b.rest ≡ rest → handed_out t b ≡ o → after_handing t b ≡ b'
+    → ParsesOn n (frames_of rest) (frames_of b'.rest) b.publishes b'.publishes (given_by (frame_record o))
     → ParsesOn n (frames_of b.rest) (frames_of (after_handing t b).rest) b.publishes (after_handing t b).publishes (given_by (frame_record (handed_out t b)))
-parsed n t b b' rest publishes o r p h is x =
-    let D : List RestEntry → List Publish → Option Left → Wire → Type 0 = λ rs ps l d. ParsesOn n (frames_of rs) (frames_of d.rest) ps d.publishes (given_by (frame_record l)) in
-    let x1 : D b.rest publishes o b' = subst (λ rs. D rs publishes o b') (sym r) x in
-    let x2 : D b.rest b.publishes o b' = subst (λ ps. D b.rest ps o b') (sym p) x1 in
-    let x3 : D b.rest b.publishes (handed_out t b) b' = subst (λ l. D b.rest b.publishes l b') (sym h) x2 in
-    subst (λ d. D b.rest b.publishes (handed_out t b) d) (sym is) x3
+parsed n t b b' rest o r h is x =
+    let D : List RestEntry → Option Left → Wire → Type 0 = λ rs l d. ParsesOn n (frames_of rs) (frames_of d.rest) b.publishes d.publishes (given_by (frame_record l)) in
+    let x1 : D b.rest o b' = subst (λ rs. D rs o b') (sym r) x in
+    let x2 : D b.rest (handed_out t b) b' = subst (λ l. D b.rest l b') (sym h) x1 in
+    subst (λ d. D b.rest (handed_out t b) d) (sym is) x2
 
-handed_rest : (t : Bool) (b : Wire) (f : RestEntry) (fs : List RestEntry) → b.rest ≡ f ∷ fs → handed_out t b ≡ Some (left_rest f)
+handed_rest : (t : ℕ → Bool) (b : Wire) (f : RestEntry) (fs : List RestEntry) → b.rest ≡ f ∷ fs → handed_out t b ≡ Some (left_rest f)
 handed_rest t b f fs r = rw r refl
 
-handed_method : (t : Bool) (b : Wire) (m : MethodEntry) (ms : List MethodEntry) → b.rest ≡ [] → b.methods ≡ m ∷ ms → handed_out t b ≡ Some (left_method m)
+handed_method : (t : ℕ → Bool) (b : Wire) (m : MethodEntry) (ms : List MethodEntry) → b.rest ≡ [] → b.methods ≡ m ∷ ms → handed_out t b ≡ Some (left_method m)
 handed_method t b m ms r e = rw (r, e) refl
 
-handed_publish : (b : Wire) (p : Publish) (ps : List Publish) → b.rest ≡ [] → b.methods ≡ [] → b.publishes ≡ p ∷ ps → handed_out true b ≡ Some (left_publish p)
-handed_publish b p ps r m q = rw (r, m, q) refl
+pub handed_begun : (t : ℕ → Bool) (b : Wire) → b.rest ≡ [] → b.methods ≡ [] → handed_out t b ≡ option_map left_publish (find (may_begin t) b.publishes)
+handed_begun t b r m = rw (r, m) refl
 
-handed_none : (t : Bool) (b : Wire) (ps : List Publish) → b.rest ≡ [] → b.methods ≡ [] → b.publishes ≡ ps → handed_out t (record b { rest = []; methods = []; publishes = ps }) ≡ None → handed_out t b ≡ None
-handed_none t b ps r m q h = rw (r, m, q) h
+begins : (n : ℕ) (t : ℕ → Bool) (p : Publish) (ps : List Publish) → 8 < n → find (may_begin t) ps ≡ Some p → ParsesOn n [] (frames_of (rest_of n p)) ps (without_first (may_begin t) ps) (Some (frame.Method p.channel (publish_method p)))
+begins n t p ps h e more calls part then =
+    let at : Begun p (without_first (may_begin t) ps) calls = begun_of t p ps calls e part in
+    let later : List Publish = filter (is_off publish_channel p.channel) at.passed ++ at.later in
+    inr (frames_of (rest_of n p), later, record { publish = p; passed = at.passed; behind = at.later; called = at.all; stay = refl; method = refl; contents = are_contents n p h }, then later at.part)
 
-begins : (n : ℕ) (p : Publish) (ps : List Publish) → 8 < n → ParsesOn n [] (frames_of (rest_of n p)) (p ∷ ps) ps (Some (frame.Method p.channel (publish_method p)))
-begins n p ps h more calls part then =
-    let at : Behind p ps calls = part-first p ps calls part in
-    inr (frames_of (rest_of n p), at.later, record { publish = p; passed = at.passed; called = at.all; method = refl; contents = are_contents n p h }, then at.later at.part)
-
-module _ (n : ℕ) (t : Bool) (b : Wire) (s : Sound n b) where
+module _ (n : ℕ) (t : ℕ → Bool) (b : Wire) (s : Sound n b) where
   goes_rest : (f : RestEntry) (fs : List RestEntry) → b.rest ≡ f ∷ fs → NextGoes n t b
   goes_rest f fs r =
       let alive : IsRestAlive b.link b.phases (f ∷ fs) = subst (IsRestAlive b.link b.phases) r s.rest in
       let is : after_handing t b ≡ record b { link = link_sent f.frame b.link; phases = phases_sent f.frame b.phases; rest = fs } = next_rest t b f fs r in
       record {
         sound = subst (Sound n) (sym is) (sent_sound n b f.frame fs b.methods s.plain (rest-tail b.link b.phases f fs alive) s.lost (λ u. subst (λ ps. AreMarked ps b.methods) (sym (quiet_phases f.frame b.phases alive.1)) (s.closes u)) s);
-        parses = λ big. parsed n t b _ (f ∷ fs) b.publishes (Some (left_rest f)) r refl (handed_rest t b f fs r) is (λ more calls p k. (refl, k calls p));
+        parses = λ big. parsed n t b _ (f ∷ fs) (Some (left_rest f)) r (handed_rest t b f fs r) is (λ more calls p k. (refl, k calls p));
         down = λ d. ap (λ x. is_up x.link) is ∙ up_sent f.frame b.link ∙ d;
         dead = λ d x a. let z : false ≡ true = x in cc;
       }
@@ -211,39 +220,47 @@ module _ (n : ℕ) (t : Bool) (b : Wire) (s : Sound n b) where
       let is : after_handing t b ≡ record b { link = link_sent f b.link; phases = phases_sent f b.phases; rest = []; methods = ms } = next_method t b m ms r e in
       record {
         sound = subst (Sound n) (sym is) (sent_sound n b f [] ms plain.1 tt (λ h. let x : m ∷ ms ≡ [] = sym e ∙ s.lost h in absurd cc) (λ u. marks_sent m ms b.phases (subst (AreMarked b.phases) e (s.closes u))) s);
-        parses = λ big. parsed n t b _ [] b.publishes (Some (left_method m)) r refl (handed_method t b m ms r e) is (λ more calls p k. inl (refl, plain.0, k calls p));
+        parses = λ big. parsed n t b _ [] (Some (left_method m)) r (handed_method t b m ms r e) is (λ more calls p k. inl (refl, plain.0, k calls p));
         down = λ d. ap (λ x. is_up x.link) is ∙ up_sent f b.link ∙ d;
         dead = λ d x a. let z : false ≡ true = x in cc;
       }
 
-  goes_publish : (p : Publish) (ps : List Publish) → t ≡ true → b.rest ≡ [] → b.methods ≡ [] → b.publishes ≡ p ∷ ps → NextGoes n t b
-  goes_publish p ps e r m q =
-      let alive : AreAlive b.link b.phases (p ∷ ps) = subst (AreAlive b.link b.phases) q s.publishes in
-      let is_max : after_handing t b ≡ record b { rest = rest_of b.frame_max p; methods = []; publishes = ps } = rw e (next_publish b p ps r m q) in
-      let is : after_handing t b ≡ record b { rest = rest_of n p; methods = []; publishes = ps } = is_max ∙ ap (λ k. record b { rest = rest_of k p; methods = []; publishes = ps }) s.max in
+  goes_publish : (p : Publish) → b.rest ≡ [] → b.methods ≡ [] → find (may_begin t) b.publishes ≡ Some p → NextGoes n t b
+  goes_publish p r m q =
+      let stay : List Publish = without_first (may_begin t) b.publishes in
+      let alive : Alive b.link b.phases p.channel × AreAlive b.link b.phases stay = alive_begun (may_begin t) b.link b.phases b.publishes p q s.publishes in
+      let is : after_handing t b ≡ record b { rest = rest_of n p; methods = []; publishes = stay } = next_publish t b p r m q ∙ ap (λ k. record b { rest = rest_of k p; methods = []; publishes = stay }) s.max in
       record {
         sound = subst (Sound n) (sym is) (record { max = s.max; plain = tt; publishes = alive.1; rest = rest_alive n p b.link b.phases alive.0; lost = λ h. refl; closes = λ u. subst (AreMarked b.phases) m (s.closes u); contents = s.contents });
-        parses = λ big. parsed n t b _ [] (p ∷ ps) (Some (left_publish p)) r q (rw e (handed_publish b p ps r m q)) is (begins n p ps big);
+        parses = λ big. parsed n t b _ [] (Some (left_publish p)) r (handed_begun t b r m ∙ ap (option_map left_publish) q) is (begins n t p b.publishes big q);
         down = λ d. ap (λ x. is_up x.link) is ∙ d;
         dead = λ d x a. let z : false ≡ true = x in cc;
       }
 
-  goes_none : (ps : List Publish) → b.rest ≡ [] → b.methods ≡ [] → b.publishes ≡ ps → handed_out t (record b { rest = []; methods = []; publishes = ps }) ≡ None → NextGoes n t b
-  goes_none ps r m q h =
-      let is : after_handing t b ≡ b = next_none t b ps r m q h in
+  goes_none : b.rest ≡ [] → b.methods ≡ [] → find (may_begin t) b.publishes ≡ None → NextGoes n t b
+  goes_none r m q =
+      let is : after_handing t b ≡ b = next_none t b r m q in
       record {
         sound = subst (Sound n) (sym is) s;
-        parses = λ big. parsed n t b b [] b.publishes None r refl (handed_none t b ps r m q h) is (subst (λ rs. ParsesOn n [] (frames_of rs) b.publishes b.publishes None) (sym r) (λ more calls p k. k calls p));
+        parses = λ big. parsed n t b b [] None r (handed_begun t b r m ∙ ap (option_map left_publish) q) is (subst (λ rs. ParsesOn n [] (frames_of rs) b.publishes b.publishes None) (sym r) (λ more calls p k. k calls p));
         down = λ d. ap (λ x. is_up x.link) is ∙ d;
         dead = λ d x a. let z : false ≡ true = x in cc;
       }
 
-next_by : (n : ℕ) (t : Bool) (b : Wire) (rest : List RestEntry) (methods : List MethodEntry) (publishes : List Publish) → Sound n b → b.rest ≡ rest → b.methods ≡ methods → b.publishes ≡ publishes → NextGoes n t b
-next_by n t b (f ∷ fs) ms ps s r m q = goes_rest n t b s f fs r
-next_by n t b [] (x ∷ ms) ps s r m q = goes_method n t b s x ms r m
-next_by n true b [] [] (p ∷ ps) s r m q = goes_publish n true b s p ps refl r m q
-next_by n true b [] [] [] s r m q = goes_none n true b s [] r m q refl
-next_by n false b [] [] ps s r m q = goes_none n false b s ps r m q refl
+  goes_begun : (o : Option Publish) → b.rest ≡ [] → b.methods ≡ [] → find (may_begin t) b.publishes ≡ o → NextGoes n t b
+  goes_begun None r m q = goes_none r m q
+  goes_begun (Some p) r m q = goes_publish p r m q
+
+next_by : (n : ℕ) (t : ℕ → Bool) (b : Wire) (rest : List RestEntry) (methods : List MethodEntry) → Sound n b → b.rest ≡ rest → b.methods ≡ methods → NextGoes n t b
+next_by n t b (f ∷ fs) ms s r m = goes_rest n t b s f fs r
+next_by n t b [] (x ∷ ms) s r m = goes_method n t b s x ms r m
+next_by n t b [] [] s r m = goes_begun n t b s (find (may_begin t) b.publishes) r m refl
+
+-- the record tells on which channel a publish began
+next_told : (n : ℕ) (t : ℕ → Bool) (b : Wire) → Sound n b → Goes n b (after_next (frame_record (handed_out t b)) b) [] (Requested (given_by (frame_record (handed_out t b))) ∷ [])
+next_told n t b s =
+    let r : Record = frame_record (handed_out t b) in
+    subst (λ o. Goes n b (after_next r b) [] (Requested (given_by (frame_record o)) ∷ [])) (handed_told t b) (next_by n (began_on r) b b.rest b.methods s refl refl)
 
 -- ---- every event
 
@@ -284,7 +301,9 @@ left_quiet (Some l) = entry_quiet l.frame l.publish l.first
 
 pub goes : (n : ℕ) (b : Wire) (readings : Readings) (e : Event) → IsShut b → Sound n b → Goes n b (after_event b e (record_of b readings e)) (ended_in (confirm_marks b e (record_of b readings e))) (added_by b e (record_of b readings e))
 goes n b readings (event.Call c x) shut s = moves_go n b _ _ _ (call_event n b readings c x s)
-goes n b readings (event.Next flow) shut s = subst (λ cs. Goes n b (after_next flow b) cs (map Ended cs ++ (Requested (given_by (frame_record (handed flow b))) ∷ []))) (sym (left_quiet (handed flow b))) (next_by n (may_begin flow b) b b.rest b.methods b.publishes s refl refl refl)
+goes n b readings (event.Next flow) shut s =
+    let r : Record = record_of b readings (event.Next flow) in
+    subst (λ cs. Goes n b (after_next r b) cs (map Ended cs ++ (Requested (given_by r) ∷ []))) (sym (left_quiet (handed_as r b))) (next_told n (begins_on flow readings.full b) b s)
 goes n b readings (event.Receive f) shut s = moves_go n b _ _ _ (incoming_event n b readings f shut s)
 goes n b readings (event.PollTicket m) shut s = moves_go n b _ _ _ (ticket_event n b readings m s)
 goes n b readings (event.PollConfirm m) shut s = moves_go n b _ _ _ (confirm_event n b readings m s)

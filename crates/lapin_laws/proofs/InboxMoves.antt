@@ -41,7 +41,6 @@ use Rattle.lapin_history.specs.Words.{with_channel}
 use Rattle.lapin_history.specs.Phases.{is_lost}
 use Rattle.lapin_history.specs.Ends.{down, live_channels, inbox_ends}
 use Rattle.lapin_history.specs.Wire.{Wire, state_of, phase_of, requests_of, is_open, noted}
-use Rattle.lapin_history.specs.Calls.{asked}
 use Rattle.lapin_history.specs.Incoming.{incoming_of}
 use Rattle.lapin_history.specs.ChannelClose.{closing, after_close_ok, close_ok_inbox_in}
 use Rattle.lapin_history.specs.ConnectionClose.{after_connection_close}
@@ -50,9 +49,9 @@ use Rattle.lapin_history.specs.Content.{after_part, start_inbox, whole_inbox, wh
 use Rattle.lapin_history.specs.Consumers.{after_consumer, consumer_inbox, all_inbox, cancel_inbox, called_inbox, lets_go_of, cancel_noted, after_let_go, let_go_marks, delegate_marks}
 use Rattle.lapin_history.specs.Registry.{line_inbox, at_once_inbox, request_inbox}
 use Rattle.lapin_history.specs.Requests.{first_request}
-use Rattle.lapin_history.specs.Asking.{is_allowed, after_call, asked_wire, call_inbox, asking_inbox}
+use Rattle.lapin_history.specs.Asking.{is_allowed, asked_by, after_call, asked_wire, call_inbox, asking_inbox}
 use Rattle.lapin_history.specs.Ackers.{acker_asked, usable_at, acked_wire, acked_inbox, acker_inbox}
-use Rattle.lapin_history.specs.Handing.{handed, sent}
+use Rattle.lapin_history.specs.Handing.{handed_as, sent}
 use Rattle.lapin_history.specs.Receiving.{after_received, after_failed, after_refused, incoming_wire, received_inbox, refused_inbox, incoming_inbox}
 use Rattle.lapin_history.specs.Loss.{after_lost, lost_inbox}
 use Rattle.lapin_history.specs.Events.{after_event, inbox_marks}
@@ -127,8 +126,8 @@ by_marks : (ms : List InboxMark) (b' b : Wire) → b'.inbox ≡ b.inbox → fold
 by_marks ms b' b e = ap (λ i. fold after_mark i ms) e
 
 pub inbox-next : (b : Wire) (e : Event) (r : Record) → (after_event b e r).inbox ≡ fold after_mark b.inbox (inbox_marks b e r)
-inbox-next b (event.Call c k) r = by_marks (asking_inbox c (asked k) b) (asked_wire c (asked k) b) b (asked_still c (asked k) b)
-inbox-next b (event.Next flow) r = sent_still (handed flow b) _
+inbox-next b (event.Call c k) r = let a : Asked = asked_by k r in by_marks (asking_inbox c a b) (asked_wire c a b) b (asked_still c a b)
+inbox-next b (event.Next flow) r = sent_still (handed_as r b) _
 inbox-next b (event.Receive f) r = by_marks (incoming_inbox (incoming_of f) r b) (incoming_wire (incoming_of f) r b) b (incoming_still (incoming_of f) r b)
 inbox-next b (event.Acker n k) r = by_marks (acker_inbox n k b) (acked_wire (usable_at n b) k b) b (acked_still (usable_at n b) k b)
 inbox-next b (event.DropConsumer n) r = by_marks (let_go_marks n (consumer_at n b.inbox.roster) b) (after_let_go (consumer_at n b.inbox.roster) b) b (dropped_still (consumer_at n b.inbox.roster) b)
@@ -240,7 +239,7 @@ asks_job event.NextJob = true
 asks_job _ = false
 
 pub marks_steady : (b : Wire) (e : Event) (r : Record) → asks_job e ≡ false → AreSteady (inbox_marks b e r)
-marks_steady b (event.Call c k) r h = asking_steady c (asked k) b
+marks_steady b (event.Call c k) r h = asking_steady c (asked_by k r) b
 marks_steady b (event.Receive f) r h = incoming_steady (incoming_of f) r b
 marks_steady b (event.Acker n k) r h = acked_steady n (usable_at n b) k b
 marks_steady b (event.Delegate n) r h = delegate_steady n (consumer_at n b.inbox.roster)

@@ -16,7 +16,6 @@ use Rattle.lapin_history.specs.declared.calls.Asked.{Asked}
 use Rattle.lapin_history.specs.declared.broker_frames.Incoming.{Incoming}
 use Rattle.lapin_history.specs.declared.phases.ConnectionPhase.{ConnectionPhase}
 use Rattle.lapin_history.specs.declared.phases.ConnectionPhase.TheVariants as link
-use Rattle.lapin_history.specs.Calls.{asked}
 use Rattle.lapin_history.specs.Incoming.{incoming_of, frame_class, frame_method}
 use Rattle.lapin_history.specs.Phases.{is_up, is_lost}
 use Rattle.lapin_history.specs.Frames.{MethodEntry, RestEntry}
@@ -24,17 +23,17 @@ use Rattle.lapin_history.specs.Leaving.{handed_of, left_of}
 use Rattle.lapin_history.specs.Drops.{no_lists, frame_channel, is_on, is_rest_of, publish_channel, unbegun}
 use Rattle.lapin_history.specs.Readings.{Readings}
 use Rattle.lapin_history.specs.Unexpected.{refused}
-use Rattle.lapin_history.specs.Flow.{may_begin}
+use Rattle.lapin_history.specs.Flow.{begins_on}
 use Rattle.lapin_history.specs.Wire.{Wire, state_of, lists_of}
-use Rattle.lapin_history.specs.Asking.{is_allowed, after_asking}
+use Rattle.lapin_history.specs.Asking.{is_allowed, asked_by, after_asking}
 use Rattle.lapin_history.specs.Receiving.{incoming_record, after_incoming}
-use Rattle.lapin_history.specs.Handing.{frame_record, handed, sent}
+use Rattle.lapin_history.specs.Handing.{frame_record, began_on, handed_as, sent}
 use Rattle.lapin_history.specs.Events.{record_of, after_event, confirm_marks}
 use Rattle.lapin_history.specs.Ackers.{acker_asked, usable_at, acked_wire}
 use Rattle.lapin_history.specs.Consumers.{lets_go_of, cancel_noted, after_let_go}
 use Rattle.lapin_machine.specs.Stands.{IsShut}
 use Rattle.lapin_machine.specs.Tied.{is_live_on}
-use Rattle.lapin_machine.specs.World.{World, new_world, next, next_anew, told_by, readings_of}
+use Rattle.lapin_machine.specs.World.{World, new_world, next, next_anew, told_by, told_anew, readings_of, full_in}
 use Rattle.lapin_machine.proofs.Back.{next_keeps, told_none, next_none, still_none}
 use Rattle.lapin_machine.proofs.Shut.{shut-next}
 use Rattle.lapin_laws.specs.Runs.{world_after}
@@ -112,8 +111,8 @@ incoming_lost : (readings : Readings) (r : Record) (i : Incoming) (b : Wire) →
 incoming_lost readings r i b e = rw e refl
 
 lost-next : (b : Wire) (readings : Readings) (e : Event) → is_lost b.link ≡ true → is_lost (after_event b e (record_of b readings e)).link ≡ true
-lost-next b readings (event.Call c k) h = call_lost c (asked k) b (is_link_lost b.link h)
-lost-next b readings (event.Next flow) h = sent_lost (handed flow b) _ h
+lost-next b readings (event.Call c k) h = call_lost c (asked_by k (record_of b readings (event.Call c k))) b (is_link_lost b.link h)
+lost-next b readings (event.Next flow) h = sent_lost (handed_as (record_of b readings (event.Next flow)) b) _ h
 lost-next b readings (event.Receive f) h = incoming_lost readings (refused (frame_class f) (frame_method f)) (incoming_of f) b (is_link_lost b.link h)
 lost-next b readings (event.PollTicket n) h = h
 lost-next b readings (event.PollConfirm n) h = h
@@ -134,19 +133,17 @@ stays_lost w (e ∷ es) h = stays_lost (next w e) es (next_keeps (λ v. is_lost 
 
 -- ---- what waits, and what a frame request gives
 
-given_by : (t : Bool) (rest : List RestEntry) (methods : List MethodEntry) (publishes : List Publish) → rest ≡ [] → publishes ≡ [] → frame_record (handed_of t rest methods publishes) ≡ first_method methods
-given_by true rest [] publishes r p = rw (r, p) refl
-given_by false rest [] publishes r p = rw r refl
+given_by : (t : ℕ → Bool) (rest : List RestEntry) (methods : List MethodEntry) (publishes : List Publish) → rest ≡ [] → publishes ≡ [] → frame_record (handed_of t rest methods publishes) ≡ first_method methods
+given_by t rest [] publishes r p = rw (r, p) refl
 given_by t rest (m ∷ ms) publishes r p = rw r refl
 
 sent_methods : (o : Option Left) (b : Wire) → (sent o b).methods ≡ b.methods
 sent_methods None b = refl
 sent_methods (Some l) b = refl
 
-left_by : (frame_max : ℕ) (t : Bool) (rest : List RestEntry) (methods : List MethodEntry) (publishes : List Publish) → rest ≡ [] → publishes ≡ [] → (left_of frame_max t rest methods publishes).methods ≡ drop 1 methods
-left_by frame_max true rest [] publishes r p = rw (r, p) refl
-left_by frame_max false rest [] publishes r p = rw r refl
-left_by frame_max t rest (m ∷ ms) publishes r p = rw r refl
+left_by : (frame_max : ℕ) (t : ℕ → Bool) (rest : List RestEntry) (methods : List MethodEntry) (publishes : List Publish) → rest ≡ [] → (left_of frame_max t rest methods publishes).methods ≡ drop 1 methods
+left_by frame_max t rest [] publishes r = rw r refl
+left_by frame_max t rest (m ∷ ms) publishes r = rw r refl
 
 module _ (n : ℕ) (w : World) (s : Sound n w.wire) where
   pub no_rest : is_up w.wire.link ≡ false → w.wire.rest ≡ []
@@ -159,13 +156,15 @@ module _ (n : ℕ) (w : World) (s : Sound n w.wire) where
   nothing h = let d : is_up w.wire.link ≡ false = lost_not_up w.wire.link h in rw (no_rest d, s.lost h, no_publishes d) refl
 
   pub gives : w.returned ≡ None → (flow : Bool) → is_up w.wire.link ≡ false → told_by w (event.Next flow) ≡ first_method w.wire.methods
-  gives none flow d = told_none w (event.Next flow) none ∙ given_by (may_begin flow w.wire) w.wire.rest w.wire.methods w.wire.publishes (no_rest d) (no_publishes d)
+  gives none flow d = told_none w (event.Next flow) none ∙ given_by (begins_on flow (full_in w.post) w.wire) w.wire.rest w.wire.methods w.wire.publishes (no_rest d) (no_publishes d)
 
   pub gives_none : w.returned ≡ None → (flow : Bool) → is_lost w.wire.link ≡ true → told_by w (event.Next flow) ≡ record_.NoFrame
   gives_none none flow h = gives none flow (lost_not_up w.wire.link h) ∙ ap first_method (s.lost h)
 
   pub leaves : w.returned ≡ None → (flow : Bool) → is_up w.wire.link ≡ false → (next w (event.Next flow)).wire.methods ≡ drop 1 w.wire.methods
-  leaves none flow d = ap (λ (v : World). v.wire.methods) (next_none w (event.Next flow) none) ∙ sent_methods (handed flow w.wire) _ ∙ left_by w.wire.frame_max (may_begin flow w.wire) w.wire.rest w.wire.methods w.wire.publishes (no_rest d) (no_publishes d)
+  leaves none flow d =
+      let r : Record = told_anew w (event.Next flow) in
+      ap (λ (v : World). v.wire.methods) (next_none w (event.Next flow) none) ∙ sent_methods (handed_as r w.wire) _ ∙ left_by w.wire.frame_max (began_on r) w.wire.rest w.wire.methods w.wire.publishes (no_rest d)
 
   -- ---- what waits has a live opening
 

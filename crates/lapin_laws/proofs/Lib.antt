@@ -1,6 +1,7 @@
 pub mod Traces
 pub mod Parts
 pub mod Alive
+pub mod Places
 pub mod Closes
 pub mod Rows
 pub mod Cuts
@@ -26,3 +27,4 @@ pub mod Rosters
 pub mod Topologies
 pub mod Once
 pub mod Debts
+pub mod Within

@@ -33,18 +33,15 @@ use Rattle.lapin_history.specs.declared.broker_frames.ContentPart.{ContentPart}
 use Rattle.lapin_history.specs.declared.broker_frames.ContentPart.TheVariants as part
 use Rattle.lapin_history.specs.Content.{after_part}
 use Rattle.lapin_history.specs.Phases.{is_lost}
-use Rattle.lapin_history.specs.Calls.{asked}
 use Rattle.lapin_history.specs.Incoming.{incoming_of, frame_class, frame_method}
-use Rattle.lapin_history.specs.Leaving.{handed_of}
 use Rattle.lapin_history.specs.Wire.{Wire, state_of, phase_of, is_open, noted}
 use Rattle.lapin_history.specs.ChannelClose.{closing, after_close_ok}
 use Rattle.lapin_history.specs.ConnectionClose.{after_connection_close}
 use Rattle.lapin_history.specs.Settlement.{session_close}
 use Rattle.lapin_history.specs.Unexpected.{refused}
-use Rattle.lapin_history.specs.Flow.{may_begin}
 use Rattle.lapin_history.specs.Readings.{Readings}
-use Rattle.lapin_history.specs.Asking.{is_allowed, after_call, call_tickets}
-use Rattle.lapin_history.specs.Handing.{handed, sent}
+use Rattle.lapin_history.specs.Asking.{is_allowed, asked_by, after_call, call_tickets}
+use Rattle.lapin_history.specs.Handing.{handed_out, handed_as, began_on, sent}
 use Rattle.lapin_history.specs.Receiving.{after_received, after_failed, after_refused, after_incoming, incoming_record, incoming_tickets}
 use Rattle.lapin_history.specs.declared.broker_frames.ConsumerPart.{ConsumerPart}
 use Rattle.lapin_history.specs.declared.broker_frames.ConsumerPart.TheVariants as consumer
@@ -56,7 +53,7 @@ use Rattle.lapin_history.specs.Loss.{lost_tickets}
 use Rattle.lapin_ticket.specs.declared.Slot.{Slot}
 use Rattle.lapin_ticket.specs.declared.Slot.TheVariants as slot
 use Rattle.lapin_ticket.specs.Slots.{answered_slot, after_mark, is_awaited}
-use Rattle.lapin_machine.specs.World.{World, new_world, next, readings_of, next_anew}
+use Rattle.lapin_machine.specs.World.{World, new_world, next, readings_of, next_anew, told_anew}
 use Rattle.lapin_machine.proofs.Back.{next_none, still_none}
 use Rattle.lapin_laws.specs.Runs.{world_after}
 use Rattle.lapin_laws.proofs.Moving.{Sound, allowed_up, start_sound, lost_not_up}
@@ -114,6 +111,8 @@ called c (ask.CloseConnection code text) b e = refl
 called c (ask.Publish exchange key o payload properties) b e = rw e refl
 called c (ask.Method row) b e = rw e refl
 called c (ask.Consume m tag queue o) b e = rw e refl
+called c (ask.Limit limit) b e = rw e refl
+called c ask.Nothing b e = rw e refl
 
 close_answered : (c : ℕ) (p : ChannelPhase) (b : Wire) → NotLost b → NotLost (after_close_ok c p b)
 close_answered c phase.Closed b h = h
@@ -199,23 +198,24 @@ ended_all ms e slots = subst NoneOpen (sym (fold-append after_mark slots ms (tic
 lost_answered : (b : Wire) (slots : List (Option Slot)) → Answered b slots → NoneOpen (fold after_mark slots (lost_tickets b))
 lost_answered b slots h = elim (is_lost b.link) as (λ t. is_lost b.link ≡ t → NoneOpen (fold after_mark slots (cond t [] (ends.all_failed error.ConnectionLost b)))) [ true ↦ λ e. h e | false ↦ λ e. ended_all (cancels_on (live_channels b.phases) b.requests) error.ConnectionLost slots ] refl
 
-handed_none : (n : ℕ) (flow : Bool) (w : World) → Sound n w.wire → is_lost w.wire.link ≡ true → handed flow w.wire ≡ None
-handed_none n flow w s l =
+handed_none : (n : ℕ) (t : ℕ → Bool) (w : World) → Sound n w.wire → is_lost w.wire.link ≡ true → handed_out t w.wire ≡ None
+handed_none n t w s l =
     let d = lost_not_up w.wire.link l in
     let rest : w.wire.rest ≡ [] = no_rest n w s d in
     let methods : w.wire.methods ≡ [] = s.lost l in
     let publishes : w.wire.publishes ≡ [] = no_publishes n w s d in
-    rw (rest, methods, publishes) (elim (may_begin flow w.wire) as (λ t. handed_of t [] [] [] ≡ None) [ true ↦ refl | false ↦ refl ])
+    rw (rest, methods, publishes) refl
 
 sent_back : (o : Option Left) (b : Wire) → is_lost (sent o b).link ≡ true → is_lost b.link ≡ true
 sent_back None b l = l
 sent_back (Some x) b l = sym (lost_sent x.frame b.link) ∙ l
 
 answered-anew : (n : ℕ) (w : World) (e : Event) → Sound n w.wire → Answered w.wire w.slots → Answered (next_anew w e).wire (next_anew w e).slots
-answered-anew n w (event.Call c k) s h = call_answered c (asked k) w.wire w.slots h
+answered-anew n w (event.Call c k) s h = call_answered c (asked_by k (told_anew w (event.Call c k))) w.wire w.slots h
 answered-anew n w (event.Next flow) s h = λ l.
-    let was : is_lost w.wire.link ≡ true = sent_back (handed flow w.wire) _ l in
-    let none : handed flow w.wire ≡ None = handed_none n flow w s was in
+    let r : Record = told_anew w (event.Next flow) in
+    let was : is_lost w.wire.link ≡ true = sent_back (handed_as r w.wire) _ l in
+    let none : handed_as r w.wire ≡ None = handed_none n (began_on r) w s was in
     rw none (h was)
 answered-anew n w (event.Receive f) s h = incoming_answered (incoming_of f) (readings_of w.post w.slots) (refused (frame_class f) (frame_method f)) w.wire w.slots h
 answered-anew n w (event.PollTicket m) s h = λ l. polled_none _ m (ticket.Collected m) w.slots refl (h l)

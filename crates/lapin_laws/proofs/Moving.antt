@@ -1,5 +1,5 @@
 -- What calls, frames of the broker and a loss do to the lists that wait, to the openings and to the connection.
-use Rattle.std.proofs.Common.{◌≡◌, ℕ, Bool, true, false, cond, ◌==◌, ◌||◌, List, [], ◌∷◌, ◌++◌, refl, sym, ◌∙◌, ap, subst, inl, inr, Option, None}
+use Rattle.std.proofs.Common.{◌≡◌, ℕ, ◌+◌, Bool, true, false, cond, ◌==◌, ◌||◌, List, [], ◌∷◌, ◌++◌, refl, sym, ◌∙◌, ap, subst, inl, inr, Option, None}
 use Rattle.std.specs.List.{filter, list_any}
 use Rattle.std.proofs.lemmas.Bool.Decides.{eqb_tells}
 use Rattle.lapin_types.specs.declared.record.Record.TheVariants as record_
@@ -69,6 +69,8 @@ shut_refuses (ask.CloseConnection code text) = refl
 shut_refuses (ask.Publish exchange key o payload properties) = refl
 shut_refuses (ask.Method row) = refl
 shut_refuses (ask.Consume m tag queue o) = refl
+shut_refuses (ask.Limit limit) = refl
+shut_refuses ask.Nothing = refl
 
 pub lost_not_up : (l : ConnectionPhase) → is_lost l ≡ true → is_up l ≡ false
 lost_not_up link.Open h = cc
@@ -271,6 +273,10 @@ queued_quiet false c = refl
 pub queued_up : (n c : ℕ) (m : Method) (o : Option Reply) (b : Wire) → b.link ≡ link.Open → IsPlain c m → Sound n b → Moves n b (queued c m o b) [] []
 queued_up n c m o b e plain s = keeps n b _ e refl refl refl refl (plain-push b.methods _ plain.0) (same_grows b.link b.phases) (marks_noted b.phases b.methods _ plain.1) s
 
+-- a ticket is given, and nothing is queued
+given_up : (n : ℕ) (b : Wire) → b.link ≡ link.Open → Sound n b → Moves n b (record b { tickets = b.tickets + 1 }) [] []
+given_up n b e s = keeps n b _ e refl refl refl refl (λ h. h) (same_grows b.link b.phases) (λ h. h) s
+
 abbrev CallMoves : ℕ → ℕ → Asked → Wire → Type 0
 CallMoves n c k b = Moves n b (after_call c k b) (ended_in (call_marks c k b)) (published_by c k (accepted_record k b))
 
@@ -280,15 +286,19 @@ call_up n c (ask.CloseChannel code text) b e a plain s = closes n c closer.Appli
 call_up n c (ask.CloseConnection code text) b e a plain s = falls n _ b _ refl refl refl refl refl (refl, tt) (λ h. cc) s
 call_up n c (ask.Publish exchange key o payload properties) b e a plain s = joins n b _ _ e refl refl refl refl refl refl (open_here (c == 0) (phase_of c b) a) s
 call_up n c (ask.Consume m tag queue o) b e a plain s = queued_up n c m None b e plain s
+call_up n c (ask.Limit limit) b e a plain s = given_up n b e s
+call_up n c ask.Nothing b e a plain s = given_up n b e s
 call_up n c (ask.Method row) b e a plain s = subst (λ cs. Moves n b (after_call c (ask.Method row) b) cs []) (sym (queued_quiet (is_select row.method) c)) (queued_up n c row.method (awaited_by row.answered) b e plain.0 s)
 
-refused_none : (c : ℕ) (k : Asked) (x : Error) → published_by c k (record_.Refused x) ≡ []
+pub refused_none : (c : ℕ) (k : Asked) (x : Error) → published_by c k (record_.Refused x) ≡ []
 refused_none c ask.Open x = refl
 refused_none c (ask.CloseChannel code text) x = refl
 refused_none c (ask.CloseConnection code text) x = refl
 refused_none c (ask.Publish exchange key o payload properties) x = refl
 refused_none c (ask.Method row) x = refl
 refused_none c (ask.Consume m tag queue o) x = refl
+refused_none c (ask.Limit limit) x = refl
+refused_none c ask.Nothing x = refl
 
 pub asked_moves : (n c : ℕ) (k : Asked) (b : Wire) → IsLine c k → Sound n b → Moves n b (asked_wire c k b) (ended_in (asking_marks c k b)) (published_by c k (call_record c k b))
 asked_moves n c k b plain s = elim (is_allowed k (state_of c b)) as (λ t. is_allowed k (state_of c b) ≡ t → Moves n b (cond t (after_call c k b) b) (ended_in (cond t (call_marks c k b) [])) (published_by c k (cond t (accepted_record k b) (record_.Refused (error.InvalidChannelState (state_of c b)))))) [

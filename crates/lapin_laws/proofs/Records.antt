@@ -2,6 +2,7 @@
 use Rattle.std.proofs.Common.{◌≡◌, ℕ, Bool, true, false, cond, ◌||◌, List, refl, Option, Some, None, Result, Ok, Err}
 use Rattle.lapin_types.specs.declared.event.Event.{Event}
 use Rattle.lapin_types.specs.declared.event.Event.TheVariants as event
+use Rattle.lapin_types.specs.declared.call.Call.{Call}
 use Rattle.lapin_types.specs.declared.record.Record.{Record}
 use Rattle.lapin_types.specs.declared.record.Record.TheVariants as record_
 use Rattle.lapin_types.specs.declared.answer.Answer.{Answer}
@@ -31,7 +32,7 @@ use Rattle.lapin_history.specs.Reply.{receives_reply}
 use Rattle.lapin_history.specs.Content.{receives_part}
 use Rattle.lapin_history.specs.Unexpected.{refused}
 use Rattle.lapin_history.specs.Polls.{confirmed, is_waited_on}
-use Rattle.lapin_history.specs.Asking.{is_allowed, accepted_record, call_record}
+use Rattle.lapin_history.specs.Asking.{is_allowed, is_held, accepted_record, call_record, call_told}
 use Rattle.lapin_history.specs.Receiving.{incoming_up}
 use Rattle.lapin_history.specs.Events.{record_of}
 use Rattle.lapin_history.specs.History.{polled_outcome, confirm_poll, confirm_aside, polled_answer, was_given, ticket_poll, ticket_aside, readings_of}
@@ -60,6 +61,8 @@ accepted_none (ask.CloseConnection code text) b = refl
 accepted_none (ask.Publish exchange key o payload properties) b = refl
 accepted_none (ask.Method row) b = refl
 accepted_none (ask.Consume m tag queue o) b = refl
+accepted_none (ask.Limit limit) b = refl
+accepted_none ask.Nothing b = refl
 
 incoming_none : (b : Wire) (readings : Readings) (class number : ℕ) (i : Incoming) → IsOther (incoming_up b readings (refused class number) i)
 incoming_none b readings class number (incoming.Reply c k a) = either (receives_reply c k b) record_.Received (refused class number) refl refl
@@ -75,6 +78,9 @@ incoming_none b readings class number incoming.Other = refl
 
 call_none : (c : ℕ) (k : Asked) (b : Wire) → IsOther (call_record c k b)
 call_none c k b = either (is_allowed k (state_of c b)) (accepted_record k b) _ (accepted_none k b) refl
+
+told_none : (c : ℕ) (k : Call) (b : Wire) (readings : Readings) → IsOther (call_told c k b readings)
+told_none c k b readings = either (is_held c k b readings) _ (call_record c (asked k) b) refl (call_none c (asked k) b)
 
 -- consumers and ackers
 acked_none : (o : Option (ℕ × ℕ)) (k : AckerCall) (b : Wire) → IsOther (acked_record o k b)
@@ -127,7 +133,7 @@ asks_other event.NextJob = false
 asks_other _ = true
 
 record_other : (b : Wire) (ms : List ConfirmMark) (ts : List TicketMark) (e : Event) → asks_other e ≡ true → IsOther (record_of b (readings_of ms ts) e)
-record_other b ms ts (event.Call c k) h = call_none c (asked k) b
+record_other b ms ts (event.Call c k) h = told_none c k b (readings_of ms ts)
 record_other b ms ts (event.Next flow) h = absurd cc
 record_other b ms ts (event.Receive f) h =
     either (is_up b.link) _ _ (incoming_none b (readings_of ms ts) (frame_class f) (frame_method f) (incoming_of f)) (either (receives_down b.link (incoming_of f)) record_.Received record_.Passed refl refl)

@@ -136,7 +136,7 @@ module _ (b : Wire) (confirms : List ConfirmMark) (tickets : List TicketMark) wh
 
   event_holds : (e : Event) (given : List Job) (ms : List ConsumerMark) → Holds given ms b.inbox.roster → Holds (given ++ jobs_in (told e ∷ [])) (ms ++ all_consumer_marks (inbox_marks b e (told e))) (fold after_consumer_mark b.inbox.roster (all_consumer_marks (inbox_marks b e (told e))))
   event_holds event.NextJob given ms h = job_holds given ms b.inbox.roster (slice_get b.inbox.roster.jobs 0) refl h
-  event_holds (event.Next flow) given ms h = quiet_holds given ms b.inbox.roster [] (told (event.Next flow)) (frame_no_job (handed flow b)) refl h
+  event_holds (event.Next flow) given ms h = quiet_holds given ms b.inbox.roster [] (told (event.Next flow)) (frame_no_job (handed flow (readings_of confirms tickets).full b)) refl h
   event_holds e given ms h = quiet_holds given ms b.inbox.roster (all_consumer_marks (inbox_marks b e (told e))) (told e) (other_job b confirms tickets e refl) (marks_steady b e (told e) refl) h
 
 record Known (given : List Job) (b : Wire) (ms : List InboxMark) : Type 0 where

@@ -1,20 +1,27 @@
 -- What stands in a line of the table of calls: a method that is no publish and no close of a channel, and how its ticket is answered.
 -- The search closes each line as a case of its own, so a new line touches nothing here: the case that is named makes it tell them apart.
-use Rattle.std.proofs.Common.{◌≡◌, ℕ, Bool, true, false, rules}
+use Rattle.std.proofs.Common.{◌≡◌, ℕ, Bool, true, false, cond, ◌&&◌, refl, sym, subst, rules}
 use Rattle.lapin_types.specs.declared.acker_call.AckerCall.{AckerCall}
 use Rattle.lapin_types.specs.declared.acker_call.AckerCall.TheVariants as acker_call
 use Rattle.lapin_types.specs.declared.call.Call.{Call}
 use Rattle.lapin_types.specs.declared.call.Call.TheVariants as call
+use Rattle.lapin_types.specs.declared.record.Record.{Record}
+use Rattle.lapin_types.specs.declared.record.Record.TheVariants as record_
 use Rattle.lapin_types.specs.Types.{Method}
 use Rattle.lapin_types.specs.Types.frame
+use Rattle.lapin_types.specs.Types.error
 use Rattle.lapin_history.specs.declared.calls.Answered.{Answered}
 use Rattle.lapin_history.specs.declared.calls.Answered.TheVariants as answered
 use Rattle.lapin_history.specs.declared.calls.Asked.{Asked}
 use Rattle.lapin_history.specs.declared.calls.Asked.TheVariants as ask
 use Rattle.lapin_history.specs.TicketReadings.{answer_at}
 use Rattle.lapin_history.specs.Words.{is_some}
-use Rattle.lapin_history.specs.Calls.{asked}
+use Rattle.lapin_history.specs.Calls.{asked, is_try}
+use Rattle.lapin_history.specs.Readings.{Readings}
+use Rattle.lapin_history.specs.Wire.{Wire, state_of, is_open}
+use Rattle.lapin_history.specs.Asking.{asked_by, is_outstanding, is_held, call_told, call_record}
 use Rattle.lapin_history.specs.Ackers.{acker_asked}
+use Rattle.lapin_machine.proofs.Limited.{asked_plain}
 use Rattle.lapin_laws.specs.Closes.{is_channel_close}
 use Rattle.lapin_laws.specs.Unbroken.{is_publish}
 
@@ -35,6 +42,24 @@ IsLine c _ = Unit {0}
 pub call_line : (c : ℕ) (k : Call) → IsLine c (asked k)
 call_line c call.OpenChannel = tt
 call_line c k = search rules
+
+-- ---- what a call with a record asks for
+
+first_true : (x y : Bool) → (x && y) ≡ true → x ≡ true
+first_true true y h = refl
+first_true false y h = cc
+
+-- nothing, where it is refused by its channel's limit; else its line
+pub told_as : (c : ℕ) (k : Call) (b : Wire) (readings : Readings) (D : Asked → Record → Type 0) → D ask.Nothing (record_.Refused (error.ConfirmsOutstanding (readings.limit c))) → D (asked k) (call_record c (asked k) b) → D (asked_by k (call_told c k b readings)) (call_told c k b readings)
+told_as c k b readings D held free =
+    let no : Record = record_.Refused (error.ConfirmsOutstanding (readings.limit c)) in
+    elim (is_held c k b readings) as (λ t. is_held c k b readings ≡ t → D (asked_by k (cond t no (call_record c (asked k) b))) (cond t no (call_record c (asked k) b))) [
+      | true ↦ λ h. let P : Bool → Type 0 = λ t. D (cond (t && true) ask.Nothing (asked k)) no in subst P (sym (first_true (is_try k) (is_open (state_of c b) && readings.at_limit c) h)) held
+      | false ↦ λ h. let P : Asked → Type 0 = λ a. D a (call_record c (asked k) b) in subst P (sym (asked_plain c k b)) free
+    ] refl
+
+pub told_line : (c : ℕ) (k : Call) (r : Record) → IsLine c (asked_by k r)
+told_line c k r = elim (is_try k && is_outstanding r) as (λ t. IsLine c (cond t ask.Nothing (asked k))) [ true ↦ tt | false ↦ call_line c k ]
 
 pub acker_line : (c tag : ℕ) (k : AckerCall) → IsLine c (acker_asked k tag)
 acker_line c tag (acker_call.Ack o) = search rules

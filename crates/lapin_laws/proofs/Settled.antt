@@ -31,7 +31,7 @@ use Rattle.lapin_history.specs.declared.phases.ConnectionPhase.TheVariants as li
 use Rattle.lapin_history.specs.declared.phases.Closer.TheVariants as closer
 use Rattle.lapin_history.specs.declared.broker_frames.Incoming.{Incoming}
 use Rattle.lapin_history.specs.declared.broker_frames.Incoming.TheVariants as incoming
-use Rattle.lapin_history.specs.Calls.{asked, awaited_by}
+use Rattle.lapin_history.specs.Calls.{awaited_by}
 use Rattle.lapin_history.specs.Incoming.{incoming_of, frame_class, frame_method}
 use Rattle.lapin_history.specs.Words.{is_some, without_first, with_channel}
 use Rattle.lapin_history.specs.Phases.{is_up, is_lost, is_live, channel_state}
@@ -49,9 +49,9 @@ use Rattle.lapin_history.specs.Settlement.{settlement_record, session_close}
 use Rattle.lapin_history.specs.Loss.{after_lost}
 use Rattle.lapin_history.specs.Reply.{receives, receives_reply, after_reply}
 use Rattle.lapin_history.specs.Unexpected.{refused}
-use Rattle.lapin_history.specs.Asking.{is_allowed, after_call, after_asking}
+use Rattle.lapin_history.specs.Asking.{is_allowed, asked_by, after_call, after_asking}
 use Rattle.lapin_history.specs.Receiving.{when, incoming_up, incoming_record, after_incoming}
-use Rattle.lapin_history.specs.Handing.{sent, handed}
+use Rattle.lapin_history.specs.Handing.{sent, handed_as}
 use Rattle.lapin_history.specs.Events.{record_of, after_event}
 use Rattle.lapin_history.specs.declared.broker_frames.ConsumerPart.{ConsumerPart}
 use Rattle.lapin_history.specs.declared.broker_frames.ConsumerPart.TheVariants as consumer
@@ -158,6 +158,8 @@ call_up c (ask.CloseConnection code text) b e a h = λ d z dead.
 call_up c (ask.Publish exchange key o payload properties) b e a h = h
 call_up c (ask.Method row) b e a h = of_live c b.link b.phases b.requests _ e (open_here (c == 0) (phase_of c b) a) (awaits_away c (b.tickets + 1) (awaited_by row.answered) b.requests) h
 call_up c (ask.Consume m tag queue o) b e a h = h
+call_up c (ask.Limit limit) b e a h = h
+call_up c ask.Nothing b e a h = h
 
 call_settled : (c : ℕ) (k : Asked) (b : Wire) → Settled b → Settled (after_asking c k b)
 call_settled c k b h = elim (is_allowed k (state_of c b)) as (λ t. is_allowed k (state_of c b) ≡ t → Settled (cond t (after_call c k b) b)) [
@@ -327,8 +329,8 @@ lost_settled : (b : Wire) → Settled b → Settled (after_lost b)
 lost_settled b h = elim (is_lost b.link) as (λ t. Settled (cond t b (down link.Lost b))) [ true ↦ h | false ↦ λ c z dead. refl ]
 
 settled-next : (b : Wire) (readings : Readings) (e : Event) → Settled b → Settled (after_event b e (record_of b readings e))
-settled-next b readings (event.Call c k) h = call_settled c (asked k) b h
-settled-next b readings (event.Next flow) h = sent_settled (handed flow b) _ h
+settled-next b readings (event.Call c k) h = call_settled c (asked_by k (record_of b readings (event.Call c k))) b h
+settled-next b readings (event.Next flow) h = sent_settled (handed_as (record_of b readings (event.Next flow)) b) _ h
 settled-next b readings (event.Receive f) h = incoming_settled (frame_class f) (frame_method f) b.link b readings (incoming_of f) refl h
 settled-next b readings (event.PollTicket k) h = h
 settled-next b readings (event.PollConfirm k) h = h

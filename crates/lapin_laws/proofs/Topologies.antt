@@ -1,9 +1,9 @@
 -- The registries after the marks of a history are what the history says of each channel.
-use Rattle.std.proofs.Common.{◌≡◌, ◌≢◌, ℕ, ◌==◌, Bool, true, false, cond, ◌||◌, List, [], ◌∷◌, ◌++◌, zip, Option, Some, None, refl, sym, ◌∙◌, ap, inl, inr, ne_eqb, eq-eqb}
+use Rattle.std.proofs.Common.{◌≡◌, ◌≢◌, ℕ, ◌==◌, true, false, cond, List, [], ◌∷◌, ◌++◌, zip, Option, Some, None, refl, sym, ◌∙◌, ap, inl, inr, ne_eqb, eq-eqb}
 use Rattle.std.specs.List.{fold, list_any}
 use Rattle.std.specs.Option.{option_map, option_or}
 use Rattle.std.proofs.lemmas.Bool.Decides.{eqb_tells}
-use Rattle.lapin_tables.specs.ByChannel.{at_channel, on_channel}
+use Rattle.lapin_tables.specs.ByChannel.{at_channel}
 use Rattle.lapin_tables.proofs.Channels.{at-push, at-on_same, at-on_other}
 use Rattle.lapin_types.specs.declared.answer.Answer.{Answer}
 use Rattle.lapin_types.specs.declared.event.Event.{Event}
@@ -13,7 +13,7 @@ use Rattle.lapin_registry.specs.Marks.{RegistryMark}
 use Rattle.lapin_registry.specs.Completed.{recorded}
 use Rattle.lapin_registry.specs.Topology.{empty_definition, after_mark as after_registry_mark, after_marks, topology}
 use Rattle.lapin_registry.specs.Topologies.{Topologies, with_completed, completed_on, emptied, begun_at, begun_on}
-use Rattle.lapin_inbox.specs.Inbox.{Inbox, empty_inbox, after_mark, topologies_after}
+use Rattle.lapin_inbox.specs.Inbox.{Inbox, empty_inbox, topologies_after}
 use Rattle.lapin_inbox.specs.Marks.{InboxMark}
 use Rattle.lapin_inbox.specs.Marks as inbox
 use Rattle.lapin_inbox.proofs.Histories.{registries-follow}

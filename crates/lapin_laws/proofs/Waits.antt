@@ -1,6 +1,7 @@
 -- What waits in the publishes is what is queued in the confirms.
 use Rattle.std.proofs.Common.{◌≡◌, ℕ, ◌+◌, Bool, true, false, cond, not, List, [], ◌∷◌, ◌++◌, length, refl, sym, subst, ◌∙◌, ap, Option, Some, None, Err, ◌&&◌}
-use Rattle.std.specs.List.{fold}
+use Rattle.std.specs.List.{fold, find}
+use Rattle.std.specs.Option.{option_map}
 use Rattle.lapin_tables.specs.Numbered.{under}
 use Rattle.lapin_types.specs.declared.event.Event.{Event}
 use Rattle.lapin_types.specs.declared.event.Event.TheVariants as event
@@ -23,11 +24,10 @@ use Rattle.lapin_history.specs.declared.broker_frames.Incoming.{Incoming}
 use Rattle.lapin_history.specs.declared.broker_frames.Incoming.TheVariants as incoming
 use Rattle.lapin_history.specs.ConfirmMarks.{ConfirmMark}
 use Rattle.lapin_history.specs.ConfirmMarks as mark
-use Rattle.lapin_history.specs.Words.{with_channel}
-use Rattle.lapin_history.specs.Frames.{MethodEntry, RestEntry}
-use Rattle.lapin_history.specs.Leaving.{handed_of, left_of}
+use Rattle.lapin_history.specs.Words.{with_channel, without_first}
+use Rattle.lapin_history.specs.Frames.{MethodEntry, RestEntry, left_publish}
+use Rattle.lapin_history.specs.Leaving.{may_begin, handed_of, left_of}
 use Rattle.lapin_history.specs.Phases.{is_up, is_lost}
-use Rattle.lapin_history.specs.Calls.{asked}
 use Rattle.lapin_history.specs.Incoming.{incoming_of}
 use Rattle.lapin_history.specs.Select.{is_select}
 use Rattle.lapin_history.specs.Ends.{ends_all, end_with, live_channels, down}
@@ -35,11 +35,10 @@ use Rattle.lapin_history.specs.Wire.{Wire, state_of, phase_of, is_open, noted, q
 use Rattle.lapin_history.specs.ChannelClose.{closing, close_marks, close_ok_end, after_close_ok}
 use Rattle.lapin_history.specs.ConnectionClose.{after_connection_close, after_connection_close_ok}
 use Rattle.lapin_history.specs.Settlement.{session_close}
-use Rattle.lapin_history.specs.Flow.{may_begin}
 use Rattle.lapin_history.specs.Loss.{after_lost, lost_marks}
 use Rattle.lapin_history.specs.Polls.{is_confirmed, is_returned, is_aside}
-use Rattle.lapin_history.specs.Asking.{is_allowed, after_call, after_asking, call_marks, asking_marks}
-use Rattle.lapin_history.specs.Handing.{sent, handed, left_marks}
+use Rattle.lapin_history.specs.Asking.{is_allowed, asked_by, after_call, after_asking, call_marks, asking_marks}
+use Rattle.lapin_history.specs.Handing.{sent, handed_as, began_on, left_marks}
 use Rattle.lapin_history.specs.Receiving.{after_received, received_marks, after_failed, failed_marks, after_refused, refused_marks, after_incoming, incoming_marks}
 use Rattle.lapin_history.specs.History.{History}
 use Rattle.lapin_confirm.specs.Answers.{answer_in, answer_with, is_unknown}
@@ -66,11 +65,13 @@ use Rattle.lapin_confirm.specs.declared.cell.Cell.{Cell}
 use Rattle.lapin_confirm.specs.declared.cell.Cell.TheVariants as cell
 use Rattle.lapin_machine.specs.Stands.{Stands}
 use Rattle.lapin_machine.specs.World.{World, new_world, next, told_by, outcome_record, next_anew, told_anew}
+use Rattle.lapin_machine.proofs.Brought.{none_begins}
 use Rattle.lapin_machine.proofs.Back.{given_none, next_none, still_none as still_unreturned}
 use Rattle.lapin_laws.specs.Runs.{world_after}
 use Rattle.lapin_laws.specs.Queue.{queued_in, waiting}
 use Rattle.lapin_laws.proofs.Alive.{AreAlive, none_alive}
 use Rattle.lapin_laws.proofs.Cuts.{live-in}
+use Rattle.lapin_laws.proofs.Places.{Place, place_of, waiting-both}
 use Rattle.lapin_laws.proofs.Moving.{lost_not_up, start_sound}
 use Rattle.lapin_laws.proofs.Queue.{still, gone_queue, less_queue, out, joined, settled_queue, closed_queue, ended_queue, AreOn, ends_queue}
 use Rattle.lapin_laws.proofs.Traces.{stands_new, stands_next}
@@ -111,6 +112,8 @@ module _ (b : Wire) (k : Post) (alive : AreAlive b.link b.phases b.publishes) (c
   called c (ask.CloseConnection code text) = falls _
   called c (ask.Publish exchange key o payload properties) = joined k.book.cells b.publishes _ (ap (λ n. n + 1) count) h
   called c (ask.Consume m tag queue o) = h
+  called c (ask.Limit limit) = h
+  called c ask.Nothing = h
   called c (ask.Method row) = select_waits (is_select row.method) (mark.SelectCalled c) b.publishes k refl h
 
   asked_waits : (c : ℕ) (a : Asked) → Waits (after_asking c a b).publishes (fold after_mark k (asking_marks c a b))
@@ -220,12 +223,17 @@ sent_publishes : (o : Option Left) (b : Wire) → (sent o b).publishes ≡ b.pub
 sent_publishes None b = refl
 sent_publishes (Some l) b = refl
 
-left_waits : (n : ℕ) (t : Bool) (rest : List RestEntry) (methods : List MethodEntry) (publishes : List Publish) (k : Post) → Waits publishes k → Waits (left_of n t rest methods publishes).publishes (fold after_mark k (left_marks (handed_of t rest methods publishes)))
+left_waits : (n : ℕ) (t : ℕ → Bool) (rest : List RestEntry) (methods : List MethodEntry) (publishes : List Publish) (k : Post) → Waits publishes k → Waits (left_of n t rest methods publishes).publishes (fold after_mark k (left_marks (handed_of t rest methods publishes)))
 left_waits n t (f ∷ fs) methods publishes k h = h
 left_waits n t [] (m ∷ ms) publishes k h = select_waits (is_select m.method) (mark.SelectLeft m.channel) publishes k refl h
-left_waits n true [] [] (p ∷ ps) k h = out p.confirm p.channel k.book.cells [] (waiting ps) _ (tagged_queued p.channel _) h
-left_waits n true [] [] [] k h = h
-left_waits n false [] [] publishes k h = h
+left_waits n t [] [] publishes k h = at (find (may_begin t) publishes) refl
+  where
+    at : (o : Option Publish) → find (may_begin t) publishes ≡ o → Waits (without_first (may_begin t) publishes) (fold after_mark k (left_marks (option_map left_publish o)))
+    at None e = h ∙ ap waiting (sym (none_begins (may_begin t) publishes e))
+    at (Some p) e =
+        let place : Place (may_begin t) p publishes = place_of (may_begin t) p publishes e in
+        out p.confirm p.channel k.book.cells (waiting place.before) (waiting place.behind) _ (tagged_queued p.channel _) (h ∙ ap waiting place.all ∙ waiting-both place.before (p ∷ place.behind))
+        ∙ sym (ap waiting place.stay ∙ waiting-both place.before place.behind)
 
 -- ---- a poll, a wait, or setting aside: of what is queued all is kept
 
@@ -257,10 +265,11 @@ laid_waits false n ps k h = h
 -- ---- every event
 
 waits-anew : (n : ℕ) (w : World) (e : Event) → Kept n w.wire → w.wire.published ≡ length w.post.book.cells → Waits w.wire.publishes w.post → Waits (next_anew w e).wire.publishes (next_anew w e).post
-waits-anew n w (event.Call c x) kept count h = asked_waits w.wire w.post kept.sound.publishes count h c (asked x)
+waits-anew n w (event.Call c x) kept count h = asked_waits w.wire w.post kept.sound.publishes count h c (asked_by x (told_anew w (event.Call c x)))
 waits-anew n w (event.Next flow) kept count h =
-    let o : Option Left = handed flow w.wire in
-    let left : Waits (left_of w.wire.frame_max (may_begin flow w.wire) w.wire.rest w.wire.methods w.wire.publishes).publishes (fold after_mark w.post (left_marks o)) = left_waits w.wire.frame_max (may_begin flow w.wire) w.wire.rest w.wire.methods w.wire.publishes w.post h in
+    let t : ℕ → Bool = began_on (told_anew w (event.Next flow)) in
+    let o : Option Left = handed_as (told_anew w (event.Next flow)) w.wire in
+    let left : Waits (left_of w.wire.frame_max t w.wire.rest w.wire.methods w.wire.publishes).publishes (fold after_mark w.post (left_marks o)) = left_waits w.wire.frame_max t w.wire.rest w.wire.methods w.wire.publishes w.post h in
     left ∙ ap waiting (sym (sent_publishes o _))
 waits-anew n w (event.Receive f) kept count h = incoming_waits w.wire w.post kept.sound.publishes count h (incoming_of f) (told_anew w (event.Receive f))
 waits-anew n w (event.PollTicket m) kept count h = h

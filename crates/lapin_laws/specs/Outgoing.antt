@@ -9,7 +9,7 @@ use Rattle.lapin_types.specs.declared.leaving.Publish.{Publish}
 use Rattle.lapin_types.specs.Types.{Frame}
 use Rattle.lapin_history.specs.declared.calls.Asked.{Asked}
 use Rattle.lapin_history.specs.declared.calls.Asked.TheVariants as ask
-use Rattle.lapin_history.specs.Calls.{asked}
+use Rattle.lapin_history.specs.Asking.{asked_by}
 use Rattle.lapin_history.specs.ConfirmMarks.{ConfirmMark}
 use Rattle.lapin_history.specs.ConfirmMarks as mark
 use Rattle.lapin_history.specs.Events.{confirm_marks}
@@ -40,7 +40,7 @@ published_by c (ask.Publish exchange key o payload properties) (record_.Publish 
 published_by c _ _ = []
 
 abbrev pub called_by : Event → Record → List Publish
-called_by (event.Call c k) r = published_by c (asked k) r
+called_by (event.Call c k) r = published_by c (asked_by k r) r
 called_by _ _ = []
 
 -- ---- frames

@@ -1,12 +1,13 @@
 -- When the frames handed out are unbroken: they parse from the start as methods other than `basic.publish` and as publishes,
 -- each on one channel. A publish is cut short only where its opening ended before the next frame was requested, or at the end.
 use Rattle.std.specs.Prelude.{◌≡◌, ℕ, ◌==◌, ◌⊎◌, Bool, true, false, if◌then◌else◌, List, [], ◌∷◌, ◌++◌, map, Some, None}
+use Rattle.std.specs.List.{filter}
 use Rattle.lapin_types.specs.declared.leaving.Publish.{Publish}
 use Rattle.lapin_types.specs.Types.{Frame}
 use Rattle.lapin_types.specs.Types.frame
 use Rattle.lapin_types.specs.Types.method
 use Rattle.lapin_types.specs.Types.basic
-use Rattle.lapin_history.specs.Drops.{frame_channel}
+use Rattle.lapin_history.specs.Drops.{frame_channel, is_off, publish_channel}
 use Rattle.lapin_history.specs.Frames.{publish_method, content_header, room_for_body}
 use Rattle.lapin_outbox.specs.Cut.{IsCut}
 use Rattle.lapin_laws.specs.Outgoing.{Point, Called, Requested, Ended}
@@ -19,12 +20,15 @@ pub record AreContents (frame_max : ℕ) (p : Publish) (frames : List Frame) : T
   pub cut : IsCut (room_for_body frame_max) p.payload bodies
   pub are : frames ≡ content_header p ∷ map (frame.Body p.channel) bodies
 
--- The frame begins a publish of an accepted call, `rest` are the frames to come behind it, and `later` the calls behind that
--- one. Publishes begin in order of call, so what was called before leaves no more.
+-- The frame begins a publish of an accepted call, `rest` are the frames to come behind it, and `later` the calls that may begin
+-- yet. Publishes of one channel begin in order of call, so what was called before on its channel leaves no more; one that was called
+-- before on another channel may have been held back there, by the limit of that channel, and may begin yet.
 pub record Begins (frame_max : ℕ) (f : Frame) (rest : List Frame) (calls later : List Publish) : Type 0 where
   pub publish : Publish
   pub passed : List Publish
-  pub called : calls ≡ passed ++ publish ∷ later
+  pub behind : List Publish
+  pub called : calls ≡ passed ++ publish ∷ behind
+  pub stay : later ≡ filter (is_off publish_channel publish.channel) passed ++ behind
   pub method : f ≡ frame.Method publish.channel (publish_method publish)
   pub contents : AreContents frame_max publish rest
 

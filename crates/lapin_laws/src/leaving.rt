@@ -13,8 +13,8 @@ ghost use Rattle.lapin_laws.specs.Runs.{world_after};
 ghost use Rattle.lapin_laws.specs.Unbroken.{Unbroken};
 
 /// The frames handed out in a run are unbroken (`unbroken`): methods, and publishes with nothing between their frames, cut short
-/// only by the end of their opening or of the run. The bodies of one that isn't cut join to the payload of its call. A frame is
-/// longer than its own 8 bytes.
+/// only by the end of their opening or of the run. The bodies of one that isn't cut join to the payload of its call, and those of
+/// one channel begin in order of call. A frame is longer than its own 8 bytes.
 ///
 /// The frames that are judged are those of the run's records, all of them and in order (`frames`). Where an event ends a
 /// channel's opening, the channel has no live one behind it (`ended`), so none of its publishes goes on.

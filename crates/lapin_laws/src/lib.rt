@@ -10,6 +10,7 @@
 mod consuming;
 mod down;
 mod leaving;
+mod limits;
 mod messages;
 mod owed;
 mod registry;
@@ -19,6 +20,7 @@ mod waiting;
 pub use consuming::{an_acker_is_used_once, consumers_are_of_the_history};
 pub use down::down_for_good;
 pub use leaving::frames_are_unbroken;
+pub use limits::{a_full_channel_holds_back, at_most_the_limit_is_pending};
 pub use messages::contents_are_of_the_history;
 pub use owed::awaited_replies_are_requested;
 pub use registry::topologies_are_of_the_history;

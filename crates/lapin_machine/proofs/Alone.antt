@@ -3,7 +3,6 @@ use Rattle.std.proofs.Common.{◌≡◌, ℕ, Bool, true, false, cond, ◌&&◌,
 use Rattle.std.specs.List.{fold}
 use Rattle.lapin_history.specs.declared.calls.Asked.{Asked}
 use Rattle.lapin_history.specs.declared.calls.Asked.TheVariants as ask
-use Rattle.lapin_history.specs.Calls.{asked}
 use Rattle.lapin_types.specs.declared.event.Event.{Event}
 use Rattle.lapin_types.specs.declared.event.Event.TheVariants as event
 use Rattle.lapin_types.specs.declared.record.Record.{Record}
@@ -32,13 +31,12 @@ use Rattle.lapin_history.specs.Readings.{Readings}
 use Rattle.lapin_history.specs.Unexpected.{refused}
 use Rattle.lapin_history.specs.Receiving.{incoming_record}
 use Rattle.lapin_history.specs.Wire.{Wire, state_of, phase_of, is_open, lists_of}
-use Rattle.lapin_history.specs.Asking.{is_allowed, after_call}
-use Rattle.lapin_history.specs.Flow.{may_begin}
+use Rattle.lapin_history.specs.Asking.{asked_by, is_allowed, after_call}
 use Rattle.lapin_history.specs.Receiving.{after_incoming, after_received, after_failed, after_refused}
 use Rattle.lapin_history.specs.ChannelClose.{after_close_ok}
-use Rattle.lapin_history.specs.Handing.{after_next, handed, sent}
+use Rattle.lapin_history.specs.Handing.{after_next, sent, handed_as, began_on}
 use Rattle.lapin_history.specs.ConnectionClose.{link_sent, has_sent}
-use Rattle.lapin_machine.specs.World.{World, next, next_anew, new_world, readings_of}
+use Rattle.lapin_machine.specs.World.{World, next, next_anew, told_anew, new_world, readings_of}
 use Rattle.lapin_history.specs.declared.broker_frames.ContentPart.{ContentPart}
 use Rattle.lapin_history.specs.declared.broker_frames.ContentPart.TheVariants as part
 use Rattle.lapin_history.specs.Content.{after_part}
@@ -65,6 +63,8 @@ call_up c (ask.CloseChannel code text) b e = rw e tt
 call_up c (ask.CloseConnection code text) b e = record { close = refl; rest = refl; publishes = refl }
 call_up c (ask.Method row) b e = rw e tt
 call_up c (ask.Consume m tag queue o) b e = rw e tt
+call_up c (ask.Limit limit) b e = rw e tt
+call_up c ask.Nothing b e = rw e tt
 call_up c (ask.Publish exchange key o payload properties) b e = rw e tt
 
 -- no call is allowed once the connection is not open
@@ -78,18 +78,24 @@ down_refuses (link.Closing s h) c (ask.CloseChannel code text) b e = inr (rw e r
 down_refuses (link.Closing s h) c (ask.CloseConnection code text) b e = inr (rw e refl)
 down_refuses (link.Closing s h) c (ask.Method row) b e = inr (rw e refl)
 down_refuses (link.Closing s h) c (ask.Consume m tag queue o) b e = inr (rw e refl)
+down_refuses (link.Closing s h) c (ask.Limit limit) b e = inr (rw e refl)
+down_refuses (link.Closing s h) c ask.Nothing b e = inr refl
 down_refuses (link.Closing s h) c (ask.Publish exchange key o payload properties) b e = inr (rw e refl)
 down_refuses link.Closed c ask.Open b e = inr (rw e refl)
 down_refuses link.Closed c (ask.CloseChannel code text) b e = inr (rw e refl)
 down_refuses link.Closed c (ask.CloseConnection code text) b e = inr (rw e refl)
 down_refuses link.Closed c (ask.Method row) b e = inr (rw e refl)
 down_refuses link.Closed c (ask.Consume m tag queue o) b e = inr (rw e refl)
+down_refuses link.Closed c (ask.Limit limit) b e = inr (rw e refl)
+down_refuses link.Closed c ask.Nothing b e = inr refl
 down_refuses link.Closed c (ask.Publish exchange key o payload properties) b e = inr (rw e refl)
 down_refuses link.Lost c ask.Open b e = inr (rw e refl)
 down_refuses link.Lost c (ask.CloseChannel code text) b e = inr (rw e refl)
 down_refuses link.Lost c (ask.CloseConnection code text) b e = inr (rw e refl)
 down_refuses link.Lost c (ask.Method row) b e = inr (rw e refl)
 down_refuses link.Lost c (ask.Consume m tag queue o) b e = inr (rw e refl)
+down_refuses link.Lost c (ask.Limit limit) b e = inr (rw e refl)
+down_refuses link.Lost c ask.Nothing b e = inr refl
 down_refuses link.Lost c (ask.Publish exchange key o payload properties) b e = inr (rw e refl)
 
 call_alone : (c : ℕ) (k : Asked) (b : Wire) → Alone b → Alone (cond (is_allowed k (state_of c b)) (after_call c k b) b)
@@ -123,7 +129,7 @@ sent_quiet (Some x) l b e h k = rw e (elim (link_moves x.frame l) [
 ])
 
 -- the close that waits alone is what leaves
-sent_close : (received flow : Bool) (d : Wire) (rest : List RestEntry) (methods : List MethodEntry) (publishes : List Publish) → d.link ≡ link.Closing false received → rest ≡ [] → IsOneClose methods → Alone (sent (handed_of flow rest methods publishes) d)
+sent_close : (received : Bool) (flow : ℕ → Bool) (d : Wire) (rest : List RestEntry) (methods : List MethodEntry) (publishes : List Publish) → d.link ≡ link.Closing false received → rest ≡ [] → IsOneClose methods → Alone (sent (handed_of flow rest methods publishes) d)
 sent_close received flow d rest [] publishes e none c = absurd c
 sent_close received flow d rest (m ∷ m' ∷ ms) publishes e none c = absurd c
 sent_close received flow d rest (m ∷ []) publishes e none c = rw none (rw e (moved m.channel m.method c))
@@ -139,12 +145,12 @@ sent_close received flow d rest (m ∷ []) publishes e none c = rw none (rw e (m
     moved channel (method.Confirm x) t = cc
     moved channel (method.Tx x) t = cc
 
-next_alone : (flow : Bool) (l : ConnectionPhase) (b : Wire) → b.link ≡ l → WaitsAlone l (lists_of b) → Alone (after_next flow b)
-next_alone flow link.Open b e h = sent_quiet (handed flow b) link.Open _ e (λ ls. tt) (λ ls. tt)
-next_alone flow (link.Closing true received) b e h = sent_quiet (handed flow b) (link.Closing true received) _ e (λ ls. tt) (λ ls. tt)
-next_alone flow (link.Closing false received) b e h = sent_close received (may_begin flow b) _ b.rest b.methods b.publishes e h.rest h.close
-next_alone flow link.Closed b e h = sent_quiet (handed flow b) link.Closed _ e (λ ls. tt) (λ ls. tt)
-next_alone flow link.Lost b e h = sent_quiet (handed flow b) link.Lost _ e (λ ls. tt) (λ ls. tt)
+next_alone : (r : Record) (l : ConnectionPhase) (b : Wire) → b.link ≡ l → WaitsAlone l (lists_of b) → Alone (after_next r b)
+next_alone r link.Open b e h = sent_quiet (handed_as r b) link.Open _ e (λ ls. tt) (λ ls. tt)
+next_alone r (link.Closing true received) b e h = sent_quiet (handed_as r b) (link.Closing true received) _ e (λ ls. tt) (λ ls. tt)
+next_alone r (link.Closing false received) b e h = sent_close received (began_on r) _ b.rest b.methods b.publishes e h.rest h.close
+next_alone r link.Closed b e h = sent_quiet (handed_as r b) link.Closed _ e (λ ls. tt) (λ ls. tt)
+next_alone r link.Lost b e h = sent_quiet (handed_as r b) link.Lost _ e (λ ls. tt) (λ ls. tt)
 
 -- ---- frames of the broker
 
@@ -202,6 +208,7 @@ refused_alone i (error.UnexpectedFrame class number) b e = record { close = refl
 refused_alone i (error.PreconditionFailed tag current) b e = failed_alone i b e
 refused_alone i error.AlreadyTaken b e = rw e tt
 refused_alone i error.UnknownTicket b e = rw e tt
+refused_alone i (error.ConfirmsOutstanding limit) b e = rw e tt
 
 up_alone : (i : Incoming) (r : Record) (b : Wire) → b.link ≡ link.Open → Alone (after_incoming i r b)
 up_alone i (record_.Refused x) b e = refused_alone i x b e
@@ -246,8 +253,8 @@ let_go_alone (Some x) b h = elim (down_shuts b.link x.channel b refl) [
 -- ---- every event
 
 alone-anew : (w : World) (e : Event) → Alone w.wire → Alone (next_anew w e).wire
-alone-anew w (event.Call c k) h = call_alone c (asked k) w.wire h
-alone-anew w (event.Next flow) h = next_alone flow w.wire.link w.wire refl h
+alone-anew w (event.Call c k) h = call_alone c (asked_by k (told_anew w (event.Call c k))) w.wire h
+alone-anew w (event.Next flow) h = next_alone (told_anew w (event.Next flow)) w.wire.link w.wire refl h
 alone-anew w (event.Receive f) h = incoming_alone w.wire.link (readings_of w.post w.slots) (refused (frame_class f) (frame_method f)) (incoming_of f) w.wire refl h
 alone-anew w (event.PollTicket n) h = h
 alone-anew w (event.PollConfirm n) h = h

@@ -14,12 +14,11 @@ use Rattle.lapin_history.specs.declared.calls.Asked.{Asked}
 use Rattle.lapin_history.specs.declared.calls.Asked.TheVariants as ask
 use Rattle.lapin_history.specs.declared.phases.ConnectionPhase.{ConnectionPhase}
 use Rattle.lapin_history.specs.declared.phases.ConnectionPhase.TheVariants as link
-use Rattle.lapin_history.specs.Calls.{asked}
 use Rattle.lapin_history.specs.Incoming.{incoming_of}
 use Rattle.lapin_history.specs.Phases.{is_lost}
 use Rattle.lapin_history.specs.Leaving.{handed_of, left_lists}
 use Rattle.lapin_history.specs.Wire.{Wire, state_of, phase_of}
-use Rattle.lapin_history.specs.Asking.{is_allowed}
+use Rattle.lapin_history.specs.Asking.{asked_by, is_allowed}
 use Rattle.lapin_history.specs.Handing.{frame_record}
 use Rattle.lapin_history.specs.ChannelClose.{close_ok_end}
 use Rattle.lapin_history.specs.ConnectionClose.{has_sent}
@@ -35,10 +34,10 @@ none_is : (r : Option Left) → is_retried r ≡ false → r ≡ None
 none_is None h = refl
 none_is (Some l) h = cc
 
-pub popped_anew : (t : Bool) (o : OutboxState) → is_retried o.returned ≡ false → popped t o ≡ handed_of t o.lists.rest o.lists.methods o.lists.publishes
+pub popped_anew : (t : ℕ → Bool) (o : OutboxState) → is_retried o.returned ≡ false → popped t o ≡ handed_of t o.lists.rest o.lists.methods o.lists.publishes
 popped_anew t o h = ap (λ r. given r (handed_of t o.lists.rest o.lists.methods o.lists.publishes)) (none_is o.returned h)
 
-pub popped_left : (t : Bool) (o : OutboxState) → is_retried o.returned ≡ false → after_pop t o ≡ with_lists (left_lists o.frame_max t o.lists) o
+pub popped_left : (t : ℕ → Bool) (o : OutboxState) → is_retried o.returned ≡ false → after_pop t o ≡ with_lists (left_lists o.frame_max t o.lists) o
 popped_left t o h = left o.returned (none_is o.returned h)
   where
     left : (r : Option Left) → r ≡ None → outbox.with_returned None (with_lists (outbox.popped_lists r (left_lists o.frame_max t o.lists) o.lists) o) ≡ outbox.with_returned r (with_lists (left_lists o.frame_max t o.lists) o)
@@ -50,7 +49,7 @@ pub given_any : (r : Option Left) (x y : Option Left) → is_retried r ≡ true 
 given_any None x y h = cc
 given_any (Some l) x y h = refl
 
-pub popped_again : (t : Bool) (o : OutboxState) → is_retried o.returned ≡ true → after_pop t o ≡ outbox.with_returned None o
+pub popped_again : (t : ℕ → Bool) (o : OutboxState) → is_retried o.returned ≡ true → after_pop t o ≡ outbox.with_returned None o
 popped_again t o h = left o.returned h
   where
     left : (r : Option Left) → is_retried r ≡ true → outbox.with_returned None (with_lists (outbox.popped_lists r (left_lists o.frame_max t o.lists) o.lists) o) ≡ outbox.with_returned None o
@@ -82,6 +81,8 @@ asked_none c (ask.CloseChannel code text) b = refl
 asked_none c (ask.CloseConnection code text) b = choose_none (is_allowed (ask.CloseConnection code text) (state_of c b))
 asked_none c (ask.Method row) b = refl
 asked_none c (ask.Consume m tag queue o) b = refl
+asked_none c (ask.Limit limit) b = refl
+asked_none c ask.Nothing b = refl
 asked_none c (ask.Publish exchange key o payload properties) b = refl
 
 crossed_none : (c : ℕ) (e : Option Error) → unless_crossed c e None ≡ None
@@ -117,6 +118,7 @@ refused_none error.ConnectionLost = refl
 refused_none (error.PreconditionFailed tag current) = refl
 refused_none error.AlreadyTaken = refl
 refused_none error.UnknownTicket = refl
+refused_none (error.ConfirmsOutstanding limit) = refl
 
 incoming_none : (i : Incoming) (r : Record) (b : Wire) → after_incoming i r b None ≡ None
 incoming_none i (record_.Refused e) b = refused_none e
@@ -124,7 +126,7 @@ incoming_none i record_.Received b = received_none i b
 incoming_none i _ b = refl
 
 event_none : (b : Wire) (e : Event) (r : Record) → after_event b e r None ≡ None
-event_none b (event.Call c k) r = asked_none c (asked k) b
+event_none b (event.Call c k) r = asked_none c (asked_by k r) b
 event_none b (event.Next flow) r = refl
 event_none b (event.Receive f) r = incoming_none (incoming_of f) r b
 event_none b (event.PollTicket n) r = refl

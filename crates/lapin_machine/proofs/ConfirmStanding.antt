@@ -1,7 +1,8 @@
 -- Confirms stand for the longer history after each event.
 use Rattle.std.proofs.Common.{◌≡◌, ◌≢◌, ℕ, suc, ◌+◌, ◌<◌, ◌≤◌, nat_lt, nat_le, Bool, true, false, cond, ◌&&◌, List, [], ◌∷◌, ◌++◌, Option, Some, None, refl, sym, ◌∙◌, ap, subst, arith, append-nil, append_assoc, add-one, ne_eqb, ltb-true}
 use Rattle.std.specs.Prelude.{◌==◌, not, IsSome}
-use Rattle.std.specs.List.{fold, filter, AllByRecursion}
+use Rattle.std.specs.List.{fold, filter, find, AllByRecursion}
+use Rattle.std.specs.Option.{option_map}
 use Rattle.std.proofs.lemmas.Bool.{leb-true}
 use Rattle.lapin_history.specs.declared.calls.Asked.{Asked}
 use Rattle.lapin_history.specs.declared.calls.Asked.TheVariants as ask
@@ -24,8 +25,9 @@ use Rattle.lapin_history.specs.ConfirmReadings.{leaves, has_left, is_begun, is_s
 use Rattle.lapin_history.specs.ReturnReadings.{is_gone, message_of}
 use Rattle.lapin_tables.specs.ByChannel.{at_channel}
 use Rattle.lapin_history.specs.TicketReadings.{TicketMark}
-use Rattle.lapin_history.specs.Frames.{RestEntry, MethodEntry}
-use Rattle.lapin_history.specs.Leaving.{left_of, handed_of}
+use Rattle.lapin_history.specs.Frames.{RestEntry, MethodEntry, left_publish}
+use Rattle.lapin_history.specs.Words.{without_first}
+use Rattle.lapin_history.specs.Leaving.{may_begin, begun_rest, left_of, handed_of}
 use Rattle.lapin_history.specs.declared.phases.ChannelPhase.{ChannelPhase}
 use Rattle.lapin_history.specs.declared.phases.ChannelPhase.TheVariants as phase
 use Rattle.lapin_history.specs.declared.phases.ConnectionPhase.{ConnectionPhase}
@@ -42,13 +44,12 @@ use Rattle.lapin_consumer.specs.Roster.{Consumer, consumer_at}
 use Rattle.lapin_inbox.specs.Marks.{InboxMark}
 use Rattle.lapin_history.specs.Consumers.{after_consumer, lets_go_of, cancel_noted, after_let_go}
 use Rattle.lapin_history.specs.Ackers.{acker_asked, usable_at, acked_wire}
-use Rattle.lapin_history.specs.Asking.{is_allowed, after_call, asked_wire, asking_inbox}
-use Rattle.lapin_history.specs.Flow.{may_begin}
+use Rattle.lapin_history.specs.Asking.{asked_by, is_allowed, after_call, asked_wire, asking_inbox}
 use Rattle.lapin_history.specs.Events.{after_event}
 use Rattle.lapin_history.specs.Receiving.{incoming_wire, after_received, after_refused, after_failed}
 use Rattle.lapin_history.specs.ChannelClose.{after_close_ok}
 use Rattle.lapin_history.specs.ConnectionClose.{after_connection_close, unless_sent, has_sent}
-use Rattle.lapin_history.specs.Handing.{handed, sent}
+use Rattle.lapin_history.specs.Handing.{sent, handed_as, began_on}
 use Rattle.lapin_history.specs.Events.{confirm_marks}
 use Rattle.lapin_history.specs.Asking.{call_marks}
 use Rattle.lapin_history.specs.Select.{queued_marks, is_select, method_marks}
@@ -76,6 +77,7 @@ use Rattle.lapin_confirm.proofs.Facts.{facts, and_split, leaving-stays}
 use Rattle.lapin_confirm.proofs.Reading.{may-begin}
 use Rattle.lapin_confirm.proofs.Following.{follows-push}
 use Rattle.lapin_machine.specs.Tied.{IsTied}
+use Rattle.lapin_machine.proofs.Brought.{none_begins, fresh_brought}
 use Rattle.lapin_machine.proofs.HeardParts.{IsHeard, is_heard}
 use Rattle.lapin_machine.proofs.Openings.{closed_over, open_ledger, heard_ledger}
 use Rattle.lapin_machine.specs.Stands.{AreFresh, ConfirmsStand, IsShut}
@@ -248,6 +250,8 @@ stand_call c (ask.CloseChannel code text) b ms bk t s h = stand_closed c _ b _ m
 stand_call c (ask.CloseConnection code text) b ms bk t s h = stand_down _ b _ ms bk s refl refl
 stand_call c (ask.Method row) b ms bk t s h = stand_queued b _ ms bk c row.method (begun_by c ms bk s.post (open_ledger b.link c b.phases b.publishes bk.book h t)) s refl refl
 stand_call c (ask.Consume m tag queue o) b ms bk t s h = stand_still b _ ms bk s refl refl
+stand_call c (ask.Limit limit) b ms bk t s h = stand_quiet b _ ms bk (mark.LimitSet c limit) s tt (spares_all (mark.LimitSet c limit) b.publishes (λ k. refl) (λ d. refl)) (added-push ms (mark.LimitSet c limit)) refl refl
+stand_call c ask.Nothing b ms bk t s h = stand_still b _ ms bk s refl refl
 stand_call c (ask.Publish exchange key o payload properties) b ms bk t s h =
     let begun : is_begun c ms ≡ true = begun_by c ms bk s.post (open_ledger b.link c b.phases b.publishes bk.book h t) in
     stand-push b _ ms bk (mark.Added c) s begun (ap (λ n. n + 1) s.published ∙ sym (added-push ms (mark.Added c)))
@@ -268,20 +272,26 @@ others c j (p ∷ ps) h = ((ne_eqb j p.confirm h.0, refl), others c j ps h.1)
 abbrev base_with : Wire → List RestEntry → List MethodEntry → List Publish → Wire
 base_with b rest methods publishes = record b { rest = rest; methods = methods; publishes = publishes }
 
-abbrev NextStands : Bool → Wire → List ConfirmMark → Post → List RestEntry → List MethodEntry → List Publish → Type 0
+abbrev NextStands : (ℕ → Bool) → Wire → List ConfirmMark → Post → List RestEntry → List MethodEntry → List Publish → Type 0
 NextStands flow b ms bk rest methods publishes =
     ConfirmsStand (with_lists (left_of b.frame_max flow rest methods publishes) b) (ms ++ left_marks (handed_of flow rest methods publishes)) (fold after_mark bk (left_marks (handed_of flow rest methods publishes)))
 
-stand_next : (flow : Bool) (b : Wire) (ms : List ConfirmMark) (bk : Post) (rest : List RestEntry) (methods : List MethodEntry) (publishes : List Publish) → ConfirmsStand (base_with b rest methods publishes) ms bk → NextStands flow b ms bk rest methods publishes
+stand_next : (flow : ℕ → Bool) (b : Wire) (ms : List ConfirmMark) (bk : Post) (rest : List RestEntry) (methods : List MethodEntry) (publishes : List Publish) → ConfirmsStand (base_with b rest methods publishes) ms bk → NextStands flow b ms bk rest methods publishes
 stand_next flow b ms bk (f ∷ fs) methods publishes s = stand_still (base_with b (f ∷ fs) methods publishes) _ ms bk s refl refl
 stand_next flow b ms bk [] (m ∷ more) publishes s = stand_method (base_with b [] (m ∷ more) publishes) _ ms bk m.channel m.method s refl refl
-stand_next true b ms bk [] [] [] s = stand_still (base_with b [] [] []) _ ms bk s refl refl
-stand_next true b ms bk [] [] (p ∷ ps) s =
-    let m : ConfirmMark = mark.Left p.channel p.confirm in
-    let same : added (ms ++ m ∷ []) ≡ added ms = added-push ms m in
-    stand-push (base_with b [] [] (p ∷ ps)) _ ms bk m s s.queue.0 (s.published ∙ sym same)
-    (fresh_kept ms m ps s.queue.0 (others p.channel p.confirm ps s.queue.1) s.queue.2)
-stand_next false b ms bk [] [] publishes s = stand_still (base_with b [] [] publishes) _ ms bk s refl refl
+stand_next flow b ms bk [] [] ps s = at (find (may_begin flow) ps) refl
+  where
+    stay : List Publish
+    stay = without_first (may_begin flow) ps
+
+    at : (o : Option Publish) → find (may_begin flow) ps ≡ o → ConfirmsStand (with_lists (record { rest = begun_rest b.frame_max o; methods = []; publishes = stay }) b) (ms ++ left_marks (option_map left_publish o)) (fold after_mark bk (left_marks (option_map left_publish o)))
+    at None e = stand_still (base_with b [] [] ps) _ ms bk s refl (none_begins (may_begin flow) ps e)
+    at (Some p) e =
+        let fresh : AreFresh ms (p ∷ stay) = fresh_brought (may_begin flow) ms ps p e s.queue in
+        let m : ConfirmMark = mark.Left p.channel p.confirm in
+        let same : added (ms ++ m ∷ []) ≡ added ms = added-push ms m in
+        stand-push (base_with b [] [] ps) _ ms bk m s fresh.0 (s.published ∙ sym same)
+        (fresh_kept ms m stay fresh.0 (others p.channel p.confirm stay fresh.1) fresh.2)
 
 -- ---- frames of the broker
 
@@ -371,6 +381,7 @@ stand_refused i (error.ProtocolError code) b ms bk s = stand_still b b ms bk s r
 stand_refused i error.ConnectionLost b ms bk s = stand_still b b ms bk s refl refl
 stand_refused i error.AlreadyTaken b ms bk s = stand_still b b ms bk s refl refl
 stand_refused i error.UnknownTicket b ms bk s = stand_still b b ms bk s refl refl
+stand_refused i (error.ConfirmsOutstanding limit) b ms bk s = stand_still b b ms bk s refl refl
 
 stand_incoming : (i : Incoming) (r : Record) (b : Wire) (ms : List ConfirmMark) (bk : Post) → IsHeard i r b → IsShut b → T b bk → ConfirmsStand b ms bk → HeardStands b (incoming_wire i r b) ms (incoming_marks i r b) bk
 stand_incoming i (record_.Refused e) b ms bk heard shut t s = stand_refused i e b ms bk s
@@ -451,9 +462,10 @@ let_go_publishes (Some x) b = choose_publishes (lets_go_of x b) (cancel_noted x 
 pub confirms-next : (b : Wire) (ms : List ConfirmMark) (tms : List TicketMark) (bk : Post) (e : Event) (r : Record) → r ≡ record_of b (readings_of ms tms) e → IsShut b → T b bk → ConfirmsStand b ms bk
     → ConfirmsStand (after_event b e r) (ms ++ confirm_marks b e r) (fold after_mark bk (confirm_marks b e r))
 confirms-next b ms tms bk (event.Call c k) r is shut t s =
-    stand_boxed (asking_inbox c (asked k) b) (asked_wire c (asked k) b) _ _
-    (choose_mark (is_allowed (asked k) (state_of c b)) (after_call c (asked k) b) b ms bk (call_marks c (asked k) b) (stand_call c (asked k) b ms bk t s) s)
-confirms-next b ms tms bk (event.Next flow) r is shut t s = stand_sent (handed flow b) _ _ _ (stand_next (may_begin flow b) b ms bk b.rest b.methods b.publishes s)
+    let a : Asked = asked_by k r in
+    stand_boxed (asking_inbox c a b) (asked_wire c a b) _ _
+    (choose_mark (is_allowed a (state_of c b)) (after_call c a b) b ms bk (call_marks c a b) (stand_call c a b ms bk t s) s)
+confirms-next b ms tms bk (event.Next flow) r is shut t s = stand_sent (handed_as r b) _ _ _ (stand_next (began_on r) b ms bk b.rest b.methods b.publishes s)
 confirms-next b ms tms bk (event.Receive f) r is shut t s =
     stand_boxed (incoming_inbox (incoming_of f) r b) (incoming_wire (incoming_of f) r b) _ _
     (stand_incoming (incoming_of f) r b ms bk (is_heard (incoming_of f) r b (readings_of ms tms) (frame_class f) (frame_method f) is) shut t s)

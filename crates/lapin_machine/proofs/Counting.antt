@@ -21,14 +21,13 @@ use Rattle.lapin_history.specs.declared.phases.ConnectionPhase.TheVariants as li
 use Rattle.lapin_history.specs.Phases.{is_lost}
 use Rattle.lapin_history.specs.Leaving.{left_lists}
 use Rattle.lapin_history.specs.Wire.{Wire, state_of, phase_of, is_open, with_lists, lists_of}
-use Rattle.lapin_history.specs.Asking.{is_allowed, after_call, asked_wire}
-use Rattle.lapin_history.specs.Flow.{may_begin}
+use Rattle.lapin_history.specs.Asking.{asked_by, is_allowed, after_call, asked_wire}
 use Rattle.lapin_history.specs.Events.{after_event}
 use Rattle.lapin_history.specs.Receiving.{after_incoming, after_received, after_failed, after_refused}
 use Rattle.lapin_history.specs.ChannelClose.{after_close_ok}
 use Rattle.lapin_history.specs.ConnectionClose.{after_connection_close}
 use Rattle.lapin_history.specs.Loss.{after_lost}
-use Rattle.lapin_history.specs.Handing.{after_next, handed, sent}
+use Rattle.lapin_history.specs.Handing.{after_next, sent, handed_as, began_on}
 use Rattle.lapin_history.specs.History.{History, Past, longer, past_on, past}
 use Rattle.lapin_machine.specs.World.{World, next, told_anew, IsLonger}
 use Rattle.lapin_machine.proofs.Back.{next_keeps}
@@ -54,6 +53,8 @@ tickets_call c (ask.CloseChannel code text) b = omega arith
 tickets_call c (ask.CloseConnection code text) b = omega arith
 tickets_call c (ask.Method row) b = omega arith
 tickets_call c (ask.Consume m tag queue o) b = omega arith
+tickets_call c (ask.Limit limit) b = omega arith
+tickets_call c ask.Nothing b = omega arith
 tickets_call c (ask.Publish exchange key o payload properties) b = omega arith
 
 published_call : (c : ℕ) (k : Asked) (b : Wire) → (after_call c k b).published ≤ b.published + 1
@@ -62,6 +63,8 @@ published_call c (ask.CloseChannel code text) b = omega arith
 published_call c (ask.CloseConnection code text) b = omega arith
 published_call c (ask.Method row) b = omega arith
 published_call c (ask.Consume m tag queue o) b = omega arith
+published_call c (ask.Limit limit) b = omega arith
+published_call c ask.Nothing b = omega arith
 published_call c (ask.Publish exchange key o payload properties) b = omega arith
 
 tickets_asked : (c : ℕ) (k : Asked) (b : Wire) → (asked_wire c k b).tickets ≤ b.tickets + 1
@@ -126,10 +129,10 @@ incoming_counts i _ b = (refl, refl)
 pub lost_counts : (b : Wire) → SameCounts (after_lost b) b
 lost_counts b = choose_counts (is_lost b.link) b _ b (refl, refl) (refl, refl)
 
-pub next_counts : (flow : Bool) (b : Wire) → SameCounts (after_next flow b) b
-next_counts flow b = at (handed flow b)
+pub next_counts : (r : Record) (b : Wire) → SameCounts (after_next r b) b
+next_counts r b = at (handed_as r b)
   where
-    at : (o : Option Left) → SameCounts (sent o (with_lists (left_lists b.frame_max (may_begin flow b) (lists_of b)) b)) b
+    at : (o : Option Left) → SameCounts (sent o (with_lists (left_lists b.frame_max (began_on r) (lists_of b)) b)) b
     at None = (refl, refl)
     at (Some l) = (refl, refl)
 
@@ -138,8 +141,8 @@ let_go_counts None b = (refl, refl)
 let_go_counts (Some x) b = choose_counts (lets_go_of x b) (cancel_noted x b) b b (refl, refl) (refl, refl)
 
 tickets-next : (b : Wire) (e : Event) (r : Record) → (after_event b e r).tickets ≤ b.tickets + 1
-tickets-next b (event.Call c k) r = tickets_asked c (asked k) b
-tickets-next b (event.Next flow) r = let same : (after_next flow b).tickets ≡ b.tickets = (next_counts flow b).0 in omega arith
+tickets-next b (event.Call c k) r = tickets_asked c (asked_by k r) b
+tickets-next b (event.Next flow) r = let same : (after_next r b).tickets ≡ b.tickets = (next_counts r b).0 in omega arith
 tickets-next b (event.Receive f) r = let same : (after_incoming (incoming_of f) r b).tickets ≡ b.tickets = (incoming_counts (incoming_of f) r b).0 in omega arith
 tickets-next b (event.Acker n k) r = tickets_acked (usable_at n b) k b
 tickets-next b (event.DropConsumer n) r = let same : (after_drop n b).tickets ≡ b.tickets = (let_go_counts (consumer_at n b.inbox.roster) b).0 in omega arith
@@ -147,8 +150,8 @@ tickets-next b event.Lost r = let same : (after_lost b).tickets ≡ b.tickets = 
 tickets-next b _ r = omega arith
 
 published-next : (b : Wire) (e : Event) (r : Record) → (after_event b e r).published ≤ b.published + 1
-published-next b (event.Call c k) r = published_asked c (asked k) b
-published-next b (event.Next flow) r = let same : (after_next flow b).published ≡ b.published = (next_counts flow b).1 in omega arith
+published-next b (event.Call c k) r = published_asked c (asked_by k r) b
+published-next b (event.Next flow) r = let same : (after_next r b).published ≡ b.published = (next_counts r b).1 in omega arith
 published-next b (event.Receive f) r = let same : (after_incoming (incoming_of f) r b).published ≡ b.published = (incoming_counts (incoming_of f) r b).1 in omega arith
 published-next b (event.Acker n k) r = published_acked (usable_at n b) k b
 published-next b (event.DropConsumer n) r = let same : (after_drop n b).published ≡ b.published = (let_go_counts (consumer_at n b.inbox.roster) b).1 in omega arith

@@ -25,7 +25,6 @@ use Rattle.lapin_history.specs.declared.phases.ConnectionPhase.TheVariants as li
 use Rattle.lapin_history.specs.declared.phases.ChannelPhase.{ChannelPhase}
 use Rattle.lapin_history.specs.declared.phases.ChannelPhase.TheVariants as phase
 use Rattle.lapin_history.specs.Readings.{Readings}
-use Rattle.lapin_history.specs.Calls.{asked}
 use Rattle.lapin_history.specs.Incoming.{incoming_of, frame_class, frame_method}
 use Rattle.lapin_history.specs.Phases.{is_up, is_lost}
 use Rattle.lapin_history.specs.Polls.{is_confirmed, is_returned, is_aside}
@@ -43,14 +42,14 @@ use Rattle.lapin_history.specs.Consumers.{receives_consumer, lets_go_of, cancel_
 use Rattle.lapin_history.specs.Ackers.{acker_asked, acked_wire, usable_at}
 use Rattle.lapin_history.specs.Words.{with_channel}
 use Rattle.lapin_history.specs.Wire.{Wire, state_of, phase_of, is_open, is_base, receives_on, noted}
-use Rattle.lapin_history.specs.Asking.{is_allowed, after_call, call_marks}
+use Rattle.lapin_history.specs.Asking.{asked_by, is_allowed, after_call, call_marks}
 use Rattle.lapin_history.specs.Ends.{ends, live_channels, end_with}
 use Rattle.lapin_history.specs.Reply.{receives_reply}
 use Rattle.lapin_history.specs.ChannelClose.{closing, failed_at_close, receives_close, receives_close_ok, close_ok_end, after_close_ok}
 use Rattle.lapin_history.specs.Unexpected.{refused}
 use Rattle.lapin_history.specs.Settlement.{settlement_record, session_close}
 use Rattle.lapin_history.specs.Receiving.{incoming_up, incoming_record, after_incoming, incoming_marks}
-use Rattle.lapin_history.specs.Handing.{left_marks, handed}
+use Rattle.lapin_history.specs.Handing.{left_marks, handed_as}
 use Rattle.lapin_history.specs.Loss.{after_lost, lost_marks}
 use Rattle.lapin_history.specs.Events.{confirm_marks}
 use Rattle.lapin_machine.specs.Returned.{given_back, is_emptied, without_ended, after_ends}
@@ -119,6 +118,10 @@ called c (ask.Method row) b r true h = quiet_marks b.link (call_marks c (ask.Met
 called c (ask.Method row) b r false h = quiet b.link r
 called c (ask.Consume m tag queue o) b r true h = quiet b.link r
 called c (ask.Consume m tag queue o) b r false h = quiet b.link r
+called c (ask.Limit limit) b r true h = quiet_marks b.link (mark.LimitSet c limit ∷ []) r refl
+called c (ask.Limit limit) b r false h = quiet b.link r
+called c ask.Nothing b r true h = quiet b.link r
+called c ask.Nothing b r false h = quiet b.link r
 called c (ask.Publish exchange key o payload properties) b r true h = quiet_marks b.link (mark.Added c ∷ []) r refl
 called c (ask.Publish exchange key o payload properties) b r false h = quiet b.link r
 
@@ -246,11 +249,14 @@ let_go_link (Some x) b = choose_link (lets_go_of x b) (cancel_noted x b) b b.lin
 -- ---- every event
 
 goes_anew : (w : World) (e : Event) → given_back w.returned e ≡ None → IsShut w.wire → (next_anew w e).returned ≡ after_ends w.wire.link (next_anew w e).wire.link (confirm_marks w.wire e (told_anew w e)) w.returned
-goes_anew w (event.Call c k) step shut = called c (asked k) w.wire w.returned (is_allowed (asked k) (state_of c w.wire)) refl
+goes_anew w (event.Call c k) step shut =
+    let a : Asked = asked_by k (told_anew w (event.Call c k)) in
+    called c a w.wire w.returned (is_allowed a (state_of c w.wire)) refl
 goes_anew w (event.Next flow) step shut =
     let L : ConnectionPhase = (next_anew w (event.Next flow)).wire.link in
-    let P : Option Left → Type 0 = λ r. r ≡ after_ends w.wire.link L (left_marks (handed flow w.wire)) r in
-    subst P (sym step) (none_goes w.wire.link L (left_marks (handed flow w.wire)))
+    let marks : List ConfirmMark = left_marks (handed_as (told_anew w (event.Next flow)) w.wire) in
+    let P : Option Left → Type 0 = λ r. r ≡ after_ends w.wire.link L marks r in
+    subst P (sym step) (none_goes w.wire.link L marks)
 goes_anew w (event.Receive f) step shut = incoming_goes w.wire.link (readings_of w.post w.slots) (frame_class f) (frame_method f) (incoming_of f) w.wire w.returned refl shut
 goes_anew w (event.PollTicket n) step shut = quiet w.wire.link w.returned
 goes_anew w (event.PollConfirm n) step shut = quiet_marks w.wire.link (confirm_marks w.wire (event.PollConfirm n) (told_anew w (event.PollConfirm n))) w.returned (select_quiet (is_confirmed (told_anew w (event.PollConfirm n))) (mark.Taken n) w.returned refl)

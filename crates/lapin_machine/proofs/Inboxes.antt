@@ -42,13 +42,11 @@ use Rattle.lapin_history.specs.declared.phases.ChannelPhase.{ChannelPhase}
 use Rattle.lapin_history.specs.declared.phases.ChannelPhase.TheVariants as phase
 use Rattle.lapin_history.specs.declared.phases.ConnectionPhase.{ConnectionPhase}
 use Rattle.lapin_history.specs.declared.phases.ConnectionPhase.TheVariants as link
-use Rattle.lapin_history.specs.Calls.{asked}
 use Rattle.lapin_history.specs.Incoming.{incoming_of}
 use Rattle.lapin_history.specs.Phases.{is_lost}
 use Rattle.lapin_history.specs.Leaving.{left_lists}
 use Rattle.lapin_history.specs.Wire.{Wire, state_of, phase_of, requests_of, is_open, lists_of, with_lists, with_inbox}
 use Rattle.lapin_history.specs.Ends.{inbox_ends, live_channels}
-use Rattle.lapin_history.specs.Flow.{may_begin}
 use Rattle.lapin_history.specs.ChannelClose.{after_close_ok, close_ok_inbox_in}
 use Rattle.lapin_history.specs.ConnectionClose.{after_connection_close, failed_at_connection_close}
 use Rattle.lapin_history.specs.Content.{after_part, whole_on, start_inbox, whole_inbox}
@@ -57,9 +55,9 @@ use Rattle.lapin_history.specs.declared.calls.Answered.{Answered}
 use Rattle.lapin_history.specs.declared.calls.Answered.TheVariants as answered
 use Rattle.lapin_history.specs.Requests.{first_request}
 use Rattle.lapin_history.specs.Registry.{line_inbox, at_once_inbox, request_inbox}
-use Rattle.lapin_history.specs.Asking.{is_allowed, after_call, asked_wire, call_inbox, asking_inbox}
+use Rattle.lapin_history.specs.Asking.{asked_by, is_allowed, after_call, asked_wire, call_inbox, asking_inbox}
 use Rattle.lapin_history.specs.Ackers.{acker_asked, usable_at, acked_wire, acked_inbox}
-use Rattle.lapin_history.specs.Handing.{after_next, handed, sent}
+use Rattle.lapin_history.specs.Handing.{after_next, sent, handed_as, began_on}
 use Rattle.lapin_history.specs.Receiving.{after_received, after_failed, after_refused, incoming_wire, received_inbox, refused_inbox, incoming_inbox}
 use Rattle.lapin_history.specs.Unexpected.{failed_at_unexpected}
 use Rattle.lapin_history.specs.Loss.{after_lost}
@@ -82,10 +80,10 @@ acked_box : (o : Option (ℕ × ℕ)) (k : AckerCall) (b : Wire) → (acked_wire
 acked_box None k b = refl
 acked_box (Some x) k b = asked_box x.0 (acker_asked k x.1) b
 
-next_box : (flow : Bool) (b : Wire) → (after_next flow b).inbox ≡ b.inbox
-next_box flow b = at (handed flow b)
+next_box : (r : Record) (b : Wire) → (after_next r b).inbox ≡ b.inbox
+next_box r b = at (handed_as r b)
   where
-    at : (o : Option Left) → (sent o (with_lists (left_lists b.frame_max (may_begin flow b) (lists_of b)) b)).inbox ≡ b.inbox
+    at : (o : Option Left) → (sent o (with_lists (left_lists b.frame_max (began_on r) (lists_of b)) b)).inbox ≡ b.inbox
     at None = refl
     at (Some l) = refl
 
@@ -138,8 +136,8 @@ boxed : (ms : List InboxMark) (x b : Wire) → x.inbox ≡ b.inbox → (with_inb
 boxed ms x b same = ap (λ i. fold after_mark i ms) same
 
 pub inbox-next : (b : Wire) (e : Event) (r : Record) → (after_event b e r).inbox ≡ fold after_mark b.inbox (inbox_marks b e r)
-inbox-next b (event.Call c k) r = boxed (asking_inbox c (asked k) b) (asked_wire c (asked k) b) b (asked_box c (asked k) b)
-inbox-next b (event.Next flow) r = next_box flow b
+inbox-next b (event.Call c k) r = boxed (asking_inbox c (asked_by k r) b) (asked_wire c (asked_by k r) b) b (asked_box c (asked_by k r) b)
+inbox-next b (event.Next flow) r = next_box r b
 inbox-next b (event.Receive f) r = boxed (incoming_inbox (incoming_of f) r b) (incoming_wire (incoming_of f) r b) b (incoming_box (incoming_of f) r b)
 inbox-next b (event.Acker n k) r = boxed (acked_inbox n (usable_at n b) k b) (acked_wire (usable_at n b) k b) b (acked_box (usable_at n b) k b)
 inbox-next b (event.DropConsumer n) r = boxed (let_go_marks n (consumer_at n b.inbox.roster) b) (after_let_go (consumer_at n b.inbox.roster) b) b (let_go_box (consumer_at n b.inbox.roster) b)
@@ -355,7 +353,7 @@ job_few None = tt
 job_few (Some j) = tt
 
 event_few : (b : Wire) (e : Event) (r : Record) → AreFew (inbox_marks b e r)
-event_few b (event.Call c k) r = asking_few c (asked k) b
+event_few b (event.Call c k) r = asking_few c (asked_by k r) b
 event_few b (event.Receive f) r = incoming_few (incoming_of f) r b
 event_few b (event.Acker n k) r = acked_few n (usable_at n b) k b
 event_few b (event.Delegate n) r = delegate_few n (consumer_at n b.inbox.roster)

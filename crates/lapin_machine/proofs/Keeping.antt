@@ -1,7 +1,7 @@
 -- What ties a session's parts together holds after each change.
 use Rattle.std.proofs.Common.{◌≡◌, ◌≢◌, ℕ, zero, suc, ◌+◌, ◌<◌, ◌==◌, nat_lt, ltb-true, ltb-false, Bool, true, false, cond, not, ◌||◌, ◌&&◌, List, [], ◌∷◌, ◌++◌, map, length, Option, Some, None, refl, sym, ◌∙◌, ap, subst, arith, slice_set, get_or, inl, inr, ne_eqb, eq-eqb}
 use Rattle.std.specs.Prelude.{IsSome}
-use Rattle.std.specs.List.{list_any, fold}
+use Rattle.std.specs.List.{find, list_any, fold}
 use Rattle.std.specs.Option.{option_map}
 use Rattle.std.proofs.lemmas.Bool.Decides.{eqb_tells}
 use Rattle.lapin_types.specs.declared.leaving.Publish.{Publish}
@@ -27,8 +27,9 @@ use Rattle.lapin_history.specs.Phases.{is_live, is_up, phase_in}
 use Rattle.lapin_history.specs.ChannelClose.{close_sent}
 use Rattle.lapin_history.specs.ConnectionClose.{link_close_sent}
 use Rattle.lapin_history.specs.ConfirmReadings.{covers, outcome_of}
-use Rattle.lapin_history.specs.Frames.{RestEntry, MethodEntry}
-use Rattle.lapin_history.specs.Leaving.{left_of, handed_of}
+use Rattle.lapin_history.specs.Frames.{RestEntry, MethodEntry, left_publish}
+use Rattle.lapin_history.specs.Words.{without_first}
+use Rattle.lapin_history.specs.Leaving.{may_begin, left_of, handed_of}
 use Rattle.lapin_history.specs.ChannelClose.{phases_sent}
 use Rattle.lapin_history.specs.ConnectionClose.{link_sent}
 use Rattle.lapin_history.specs.Select.{is_select, queued_marks, method_marks}
@@ -39,7 +40,7 @@ use Rattle.lapin_history.proofs.ChannelLaws.{at-on, at-with}
 use Rattle.lapin_history.proofs.ListLaws.{any-push}
 use Rattle.lapin_confirm.specs.declared.cell.Cell.{Cell}
 use Rattle.lapin_confirm.specs.declared.cell.Cell.TheVariants as cell
-use Rattle.lapin_confirm.specs.Book.{Book, LedgerState, empty_book, fresh_ledger, selected_ledger, asked_ledger, next_ledger, ended_ledger, tag_for, ledgers_with, cell_with, settled_cell, closed_cell, is_queued_on, is_open_on, is_resolved, begun, with_publish, select_left, left, settled, closed_here, ended, taken}
+use Rattle.lapin_confirm.specs.Book.{Book, LedgerState, empty_book, fresh_ledger, selected_ledger, asked_ledger, next_ledger, limited_ledger, ended_ledger, tag_for, ledgers_with, cell_with, settled_cell, closed_cell, is_queued_on, is_open_on, is_resolved, begun, with_publish, select_left, left, limited, settled, closed_here, ended, taken}
 use Rattle.lapin_confirm.specs.Post.{Post, letters_at}
 use Rattle.lapin_confirm.specs.Machine.{after_mark}
 use Rattle.lapin_confirm.specs.Aside.{is_set_aside, is_giving, kept_by as kept_aside, laid_by}
@@ -47,9 +48,11 @@ use Rattle.lapin_confirm.specs.Drain.{Remains, remaining, is_over, less_one, les
 use Rattle.lapin_confirm.proofs.Ended.{any-ended}
 use Rattle.lapin_desk.specs.Queued.{AreQueued}
 use Rattle.lapin_desk.proofs.Ends.{ends-join}
+use Rattle.lapin_desk.proofs.Queueing.{taken-out}
 use Rattle.lapin_desk.proofs.Waiting.{queue-push, queue-left, queue-settled, queue-taken, queue-none}
 use Rattle.lapin_outbox.specs.Outgoing.{OutboxState}
 use Rattle.lapin_outbox.specs.Poison.{poison_on}
+use Rattle.lapin_machine.proofs.Brought.{none_begins, tied_brought}
 use Rattle.lapin_machine.specs.Tied.{IsTied, NotPoisoned, IsKept, is_live_on, CanRegister}
 
 -- ---- nothing opens on a channel that has no live opening
@@ -298,12 +301,14 @@ tied_called l c m phases ps p t = elim (is_select m) as (λ s. IsTied l phases p
   | false ↦ t
 ]
 
-pub tied_leaves : (frame_max : ℕ) (flow : Bool) (rest : List RestEntry) (methods : List MethodEntry) (ps : List Publish) (l : ConnectionPhase) (phases : List (ℕ × ChannelPhase)) (b : Post) → IsTied l phases ps b.book → IsTied l phases (left_of frame_max flow rest methods ps).publishes (fold after_mark b (left_marks (handed_of flow rest methods ps))).book
+pub tied_leaves : (frame_max : ℕ) (flow : ℕ → Bool) (rest : List RestEntry) (methods : List MethodEntry) (ps : List Publish) (l : ConnectionPhase) (phases : List (ℕ × ChannelPhase)) (b : Post) → IsTied l phases ps b.book → IsTied l phases (left_of frame_max flow rest methods ps).publishes (fold after_mark b (left_marks (handed_of flow rest methods ps))).book
 tied_leaves frame_max flow (f ∷ fs) methods ps l phases b t = t
 tied_leaves frame_max flow [] (m ∷ ms) ps l phases b t = tied_method l m.channel m.method phases ps b t
-tied_leaves frame_max true [] [] [] l phases b t = t
-tied_leaves frame_max true [] [] (p ∷ ps) l phases b t = tied_left l phases p ps b.book t
-tied_leaves frame_max false [] [] ps l phases b t = t
+tied_leaves frame_max flow [] [] ps l phases b t = at (find (may_begin flow) ps) refl
+  where
+    at : (o : Option Publish) → find (may_begin flow) ps ≡ o → IsTied l phases (without_first (may_begin flow) ps) (fold after_mark b (left_marks (option_map left_publish o))).book
+    at None e = let P : List Publish → Type 0 = λ qs. IsTied l phases qs b.book in subst P (sym (none_begins (may_begin flow) ps e)) t
+    at (Some q) e = tied_left l phases q (without_first (may_begin flow) ps) b.book (tied_brought (may_begin flow) l phases ps q b.book e t)
 
 -- a close of this side that left changes no opening
 some-mapped : {X : Type 0} (f : X → X) (o : Option X) → is_some (option_map f o) ≡ is_some o
@@ -363,23 +368,25 @@ tied_sent (frame.Header c h) l phases ps b t = t
 tied_sent (frame.Body c bytes) l phases ps b t = t
 
 -- a frame leaves
-pub tied_handed : (frame_max : ℕ) (flow : Bool) (rest : List RestEntry) (methods : List MethodEntry) (ps : List Publish) (l : ConnectionPhase) (phases : List (ℕ × ChannelPhase)) (b : Post) (x : Left) → IsTied l phases ps b.book → IsTied (link_sent x.frame l) (phases_sent x.frame phases) (left_of frame_max flow rest methods ps).publishes (fold after_mark b (left_marks (handed_of flow rest methods ps))).book
+pub tied_handed : (frame_max : ℕ) (flow : ℕ → Bool) (rest : List RestEntry) (methods : List MethodEntry) (ps : List Publish) (l : ConnectionPhase) (phases : List (ℕ × ChannelPhase)) (b : Post) (x : Left) → IsTied l phases ps b.book → IsTied (link_sent x.frame l) (phases_sent x.frame phases) (left_of frame_max flow rest methods ps).publishes (fold after_mark b (left_marks (handed_of flow rest methods ps))).book
 tied_handed frame_max flow rest methods ps l phases b x t = tied_sent x.frame l phases _ _ (tied_leaves frame_max flow rest methods ps l phases b t)
 
 -- the publish that leaves is queued
-pub can_register : (flow : Bool) (rest : List RestEntry) (methods : List MethodEntry) (ps : List Publish) (cells : List (Option Cell)) (l : Left) → handed_of flow rest methods ps ≡ Some l → AreQueued cells ps → CanRegister l cells
+pub can_register : (flow : ℕ → Bool) (rest : List RestEntry) (methods : List MethodEntry) (ps : List Publish) (cells : List (Option Cell)) (l : Left) → handed_of flow rest methods ps ≡ Some l → AreQueued cells ps → CanRegister l cells
 can_register flow rest methods ps cells l e q = let P : Option Left → Type 0 = λ o. registers o in subst P e (at flow rest methods ps q)
   where
     registers : Option Left → Type 0
     registers None = Unit {0}
     registers (Some l) = CanRegister l cells
 
-    at : (flow : Bool) (rest : List RestEntry) (methods : List MethodEntry) (ps : List Publish) → AreQueued cells ps → registers (handed_of flow rest methods ps)
+    at : (flow : ℕ → Bool) (rest : List RestEntry) (methods : List MethodEntry) (ps : List Publish) → AreQueued cells ps → registers (handed_of flow rest methods ps)
     at flow (f ∷ fs) methods ps q = tt
     at flow [] (m ∷ ms) ps q = tt
-    at true [] [] [] q = tt
-    at true [] [] (p ∷ ps) q = q.each.0
-    at false [] [] ps q = tt
+    at flow [] [] ps q = by (find (may_begin flow) ps) refl
+      where
+        by : (o : Option Publish) → find (may_begin flow) ps ≡ o → registers (option_map left_publish o)
+        by None e = tt
+        by (Some x) e = (taken-out cells (may_begin flow) ps x e q.each).queued
 
 pub tied_settled : (l : ConnectionPhase) (c : ℕ) (s : Settlement) (phases : List (ℕ × ChannelPhase)) (ps : List Publish) (b : Book) → IsTied l phases ps b → IsTied l phases ps (settled c s b)
 tied_settled l c s phases ps b t = record {
@@ -388,6 +395,9 @@ tied_settled l c s phases ps b t = record {
   done = λ d h. any-mapped (is_open_on d) (option_map (settled_cell c (covers s) (outcome_of s))) b.cells (settled-closed d c (covers s) (outcome_of s)) (t.done d h);
   down = t.down;
 }
+
+pub tied_limited : (l : ConnectionPhase) (c n : ℕ) (phases : List (ℕ × ChannelPhase)) (ps : List Publish) (b : Book) → IsTied l phases ps b → IsTied l phases ps (limited c n b)
+tied_limited l c n phases ps b t = record { queued = t.queued; ledgers = λ d h. some_on c d (limited_ledger n) b.ledgers (t.ledgers d h); done = t.done; down = t.down }
 
 pub tied_taken : (n : ℕ) (l : ConnectionPhase) (phases : List (ℕ × ChannelPhase)) (ps : List Publish) (b : Book) → is_resolved (under n b.cells) ≡ true → IsTied l phases ps b → IsTied l phases ps (taken n b)
 tied_taken n l phases ps b h t = record {

@@ -14,6 +14,9 @@ pub mod Cancelled
 pub mod Ended
 pub mod Seen
 pub mod Worlds
+pub mod Handed
+pub mod Brought
+pub mod Limited
 pub mod Counting
 pub mod Alone
 pub mod Shut

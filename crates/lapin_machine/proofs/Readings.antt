@@ -1,5 +1,5 @@
 -- Confirms and tickets that follow the marks show what the marks show.
-use Rattle.std.proofs.Common.{◌≡◌, ℕ, zero, suc, ◌<◌, ◌≤◌, nat_lt, nat_le, true, false, cond, ◌&&◌, List, length, Option, Some, None, Ok, Err, refl, ◌∙◌, ap, arith}
+use Rattle.std.proofs.Common.{◌≡◌, ℕ, zero, suc, ◌<◌, ◌≤◌, nat_lt, nat_le, Bool, true, false, not, cond, ◌&&◌, List, length, Option, Some, None, Ok, Err, refl, sym, ◌∙◌, ap, arith}
 use Rattle.std.specs.List.{list_any}
 use Rattle.std.proofs.lemmas.Bool.{leb-true}
 use Rattle.std.proofs.lemmas.Option.{get_or_from_slice_get}
@@ -26,12 +26,21 @@ use Rattle.lapin_confirm.specs.Follows.{Follows}
 use Rattle.lapin_confirm.proofs.Polling.{polled-read}
 use Rattle.lapin_confirm.proofs.LetterFollowing.{drained-read}
 use Rattle.lapin_confirm.proofs.Asking.{asked-read}
-use Rattle.lapin_confirm.proofs.Reading.{waits-read}
+use Rattle.lapin_confirm.proofs.Reading.{waits-read, full-read, limit-read, at-limit-read, unbegun_unlimited}
 use Rattle.lapin_ticket.specs.declared.Slot.{Slot}
 use Rattle.lapin_ticket.specs.Slots.{polled, polled_slot, laid, laid_slot}
 use Rattle.lapin_ticket.specs.Follows.{held, slot_in, slot_of}
 use Rattle.lapin_ticket.specs.Follows as tickets
-use Rattle.lapin_machine.specs.World.{outcome_record, poll_record, aside_record, readings_of}
+use Rattle.lapin_types.specs.declared.call.Call.{Call}
+use Rattle.lapin_history.specs.ConfirmReadings.{is_begun, is_full, is_at_limit}
+use Rattle.lapin_history.specs.Calls.{is_try}
+use Rattle.lapin_history.specs.Wire.{is_open, state_of}
+use Rattle.lapin_history.specs.Asking.{call_told}
+use Rattle.lapin_history.specs.Flow.{is_flowing, begins_on}
+use Rattle.lapin_history.specs.Handing.{handed}
+use Rattle.lapin_confirm.specs.Book.{at_limit_on}
+use Rattle.lapin_machine.proofs.Brought.{handed_same}
+use Rattle.lapin_machine.specs.World.{outcome_record, poll_record, aside_record, readings_of, full_in}
 
 -- ---- polls of confirms
 
@@ -74,6 +83,28 @@ wait_shown c b ms tms p slots f = rw (waits-read c ms p f, asked-read c ms p f, 
 -- whether a number is one of so many, from 1
 within_count : (k n : ℕ) → (nat_lt 0 (suc k) && nat_le (suc k) n) ≡ true → k < n
 within_count k n h = elim (nat_lt 0 (suc k)) as (λ a. (a && nat_le (suc k) n) ≡ true → k < n) [ true ↦ λ e. let le : suc k ≤ n = leb-true (suc k) n e in omega arith | false ↦ λ e. cc ] h
+
+-- ---- the limit of outstanding confirms
+
+both_none : (x y : Bool) → (x && (y && false)) ≡ false
+both_none true true = refl
+both_none true false = refl
+both_none false y = refl
+
+-- a call is refused at the limit that the history says, or is not
+pub call_shown : (c : ℕ) (k : Call) (b : Wire) (ms : List ConfirmMark) (tms : List TicketMark) (p : Post) (slots : List (Option Slot)) → Follows ms p → call_told c k b (readings_of p slots) ≡ call_told c k b (history.readings_of ms tms)
+call_shown c k b ms tms p slots f =
+    elim (is_begun c ms) as (λ t. is_begun c ms ≡ t → call_told c k b (readings_of p slots) ≡ call_told c k b (history.readings_of ms tms)) [
+      | true ↦ λ begun. rw (at-limit-read c ms p f, limit-read c ms p f begun) refl
+      | false ↦ λ none.
+          let here : at_limit_on c p.book ≡ false = unbegun_unlimited c ms p f none in
+          let there : is_at_limit c ms ≡ false = sym (at-limit-read c ms p f) ∙ here in
+          rw (here, there, both_none (is_try k) (is_open (state_of c b))) refl
+    ] refl
+
+-- the same channels are full, so the same frame leaves
+pub handed_shown : (flow : Bool) (b : Wire) (ms : List ConfirmMark) (p : Post) → Follows ms p → handed flow (full_in p) b ≡ handed flow (λ c. is_full c ms) b
+handed_shown flow b ms p f = handed_same (begins_on flow (full_in p) b) (begins_on flow (λ c. is_full c ms) b) b (λ c. ap (λ x. is_flowing flow b && not x) (full-read c ms p f))
 
 -- ---- polls of tickets
 

@@ -2,7 +2,6 @@
 use Rattle.std.proofs.Common.{◌≡◌, ℕ, Bool, true, false, cond, not, ◌||◌, ◌&&◌, subst, [], Option, Some, None, refl, sym, ◌∙◌, ap, inl, inr}
 use Rattle.lapin_history.specs.declared.calls.Asked.{Asked}
 use Rattle.lapin_history.specs.declared.calls.Asked.TheVariants as ask
-use Rattle.lapin_history.specs.Calls.{asked}
 use Rattle.lapin_types.specs.declared.event.Event.{Event}
 use Rattle.lapin_types.specs.declared.event.Event.TheVariants as event
 use Rattle.lapin_types.specs.declared.record.Record.{Record}
@@ -33,13 +32,13 @@ use Rattle.lapin_history.specs.declared.phases.Closer.TheVariants as closer
 use Rattle.lapin_history.specs.Words.{with_channel}
 use Rattle.lapin_history.specs.Leaving.{left_lists}
 use Rattle.lapin_history.specs.Ends.{down}
-use Rattle.lapin_history.specs.Flow.{may_begin, after_flow}
+use Rattle.lapin_history.specs.Flow.{after_flow}
 use Rattle.lapin_history.specs.Reply.{receives_reply, after_reply}
 use Rattle.lapin_history.specs.Wire.{Wire, state_of, phase_of, is_open, receives_on, noted, lists_of, with_lists}
-use Rattle.lapin_history.specs.Asking.{is_allowed, after_call}
+use Rattle.lapin_history.specs.Asking.{call_told, asked_by, is_allowed, after_call}
 use Rattle.lapin_history.specs.Receiving.{incoming_up, incoming_record, after_incoming}
 use Rattle.lapin_history.specs.ChannelClose.{receives_close, receives_close_ok, phases_sent, closing, after_channel_close, after_close_ok}
-use Rattle.lapin_history.specs.Handing.{handed, sent}
+use Rattle.lapin_history.specs.Handing.{sent, handed_as, began_on}
 use Rattle.lapin_history.specs.Events.{record_of, after_event}
 use Rattle.lapin_history.specs.declared.broker_frames.ContentPart.{ContentPart}
 use Rattle.lapin_history.specs.declared.broker_frames.ContentPart.TheVariants as part
@@ -68,6 +67,8 @@ call_up c (ask.CloseChannel code text) b e = up_shut (after_call c (ask.CloseCha
 call_up c (ask.CloseConnection code text) b e = λ _. refl
 call_up c (ask.Method row) b e = up_shut (after_call c (ask.Method row) b) e
 call_up c (ask.Consume m tag queue o) b e = up_shut (after_call c (ask.Consume m tag queue o) b) e
+call_up c (ask.Limit limit) b e = up_shut (after_call c (ask.Limit limit) b) e
+call_up c ask.Nothing b e = up_shut (after_call c ask.Nothing b) e
 call_up c (ask.Publish exchange key o payload properties) b e = up_shut (after_call c (ask.Publish exchange key o payload properties) b) e
 
 call_shut : (c : ℕ) (k : Asked) (b : Wire) → IsShut b → IsShut (cond (is_allowed k (state_of c b)) (after_call c k b) b)
@@ -187,8 +188,10 @@ let_go_shut (Some x) b h = choose_shut (lets_go_of x b) (cancel_noted x b) b h h
 -- ---- every event
 
 pub shut-next : (b : Wire) (readings : Readings) (e : Event) → IsShut b → IsShut (after_event b e (record_of b readings e))
-shut-next b readings (event.Call c k) h = call_shut c (asked k) b h
-shut-next b readings (event.Next flow) h = sent_shut (handed flow b) (with_lists (left_lists b.frame_max (may_begin flow b) (lists_of b)) b) h
+shut-next b readings (event.Call c k) h = call_shut c (asked_by k (call_told c k b readings)) b h
+shut-next b readings (event.Next flow) h =
+    let r : Record = record_of b readings (event.Next flow) in
+    sent_shut (handed_as r b) (with_lists (left_lists b.frame_max (began_on r) (lists_of b)) b) h
 shut-next b readings (event.Receive f) h = incoming_shut b.link readings (frame_class f) (frame_method f) (incoming_of f) b refl h
 shut-next b readings (event.PollTicket n) h = h
 shut-next b readings (event.PollConfirm n) h = h

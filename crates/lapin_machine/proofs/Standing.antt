@@ -12,6 +12,7 @@ use Rattle.lapin_history.specs.TicketReadings.{TicketMark}
 use Rattle.lapin_history.specs.Incoming.{incoming_of, frame_class, frame_method}
 use Rattle.lapin_history.specs.Phases.{is_up}
 use Rattle.lapin_history.specs.Wire.{Wire}
+use Rattle.lapin_history.specs.Handing.{frame_record}
 use Rattle.lapin_history.specs.Events.{after_event}
 use Rattle.lapin_history.specs.ConnectionClose.{receives_down}
 use Rattle.lapin_history.specs.Events.{confirm_marks, ticket_marks}
@@ -32,7 +33,7 @@ use Rattle.lapin_machine.specs.Returned.{given_back}
 use Rattle.lapin_machine.specs.World.{World, next, told_by, told_anew, told_or, next_anew, next_or, with_returned, outputs, new_world, readings_of}
 use Rattle.lapin_machine.proofs.Back.{told_step, next_step, given_none, still_none, still_unretried}
 use Rattle.lapin_machine.specs.Stands.{ConfirmsStand, TicketsStand, IsShut, Stands}
-use Rattle.lapin_machine.proofs.Readings.{confirm_shown, confirm_aside_shown, wait_shown, ticket_shown, aside_shown}
+use Rattle.lapin_machine.proofs.Readings.{call_shown, handed_shown, confirm_shown, confirm_aside_shown, wait_shown, ticket_shown, aside_shown}
 use Rattle.lapin_machine.specs.Tied.{IsTied}
 use Rattle.lapin_machine.proofs.Keeping.{tied_new}
 use Rattle.lapin_machine.proofs.Ties.{tied_anew}
@@ -58,8 +59,8 @@ incoming_same : (b : Wire) (ms : List ConfirmMark) (tms : List TicketMark) (bk :
 incoming_same b ms tms bk slots f i h = ap (λ r. cond (is_up b.link) r (cond (receives_down b.link i) record_.Received record_.Passed)) (up_same b ms tms bk slots f i h)
 
 record_same : (b : Wire) (ms : List ConfirmMark) (tms : List TicketMark) (bk : Post) (slots : List (Option Slot)) (e : Event) → confirms.Follows ms bk → tickets.Follows tms slots → record_of b (readings_of bk slots) e ≡ record_of b (history.readings_of ms tms) e
-record_same b ms tms bk slots (event.Call c k) h t = refl
-record_same b ms tms bk slots (event.Next flow) h t = refl
+record_same b ms tms bk slots (event.Call c k) h t = call_shown c k b ms tms bk slots h
+record_same b ms tms bk slots (event.Next flow) h t = ap frame_record (handed_shown flow b ms bk h)
 record_same b ms tms bk slots (event.Receive f) h t = incoming_same b ms tms bk slots (refused (frame_class f) (frame_method f)) (incoming_of f) h
 record_same b ms tms bk slots (event.PollTicket n) h t = ticket_shown n tms slots t
 record_same b ms tms bk slots (event.PollConfirm n) h t = confirm_shown n ms bk h

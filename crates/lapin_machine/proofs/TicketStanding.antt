@@ -4,7 +4,6 @@ use Rattle.std.specs.List.{fold, filter}
 use Rattle.lapin_types.specs.declared.answer.Answer.{Answer}
 use Rattle.lapin_history.specs.declared.calls.Asked.{Asked}
 use Rattle.lapin_history.specs.declared.calls.Asked.TheVariants as ask
-use Rattle.lapin_history.specs.Calls.{asked}
 use Rattle.lapin_types.specs.declared.event.Event.{Event}
 use Rattle.lapin_types.specs.declared.event.Event.TheVariants as event
 use Rattle.lapin_types.specs.declared.acker_call.AckerCall.{AckerCall}
@@ -30,10 +29,10 @@ use Rattle.lapin_content.specs.declared.start.Start.TheVariants as start
 use Rattle.lapin_content.specs.declared.start.Whole.{Whole}
 use Rattle.lapin_history.specs.Content.{next_acker, start_tickets, whole_tickets, whole_on}
 use Rattle.lapin_history.specs.Wire.{Wire, state_of, phase_of, is_open, with_inbox}
-use Rattle.lapin_history.specs.Asking.{is_allowed, after_call}
+use Rattle.lapin_history.specs.Asking.{asked_by, is_allowed, after_call}
 use Rattle.lapin_history.specs.Events.{after_event}
 use Rattle.lapin_history.specs.Receiving.{after_incoming}
-use Rattle.lapin_history.specs.Handing.{handed}
+use Rattle.lapin_history.specs.Handing.{handed_as}
 use Rattle.lapin_history.specs.declared.marks.AtLeaving.{AtLeaving}
 use Rattle.lapin_history.specs.Events.{ticket_marks}
 use Rattle.lapin_history.specs.Asking.{made_answer, made_marks, leaving_answer, call_tickets}
@@ -128,6 +127,8 @@ call_none c (ask.CloseChannel code text) b = (refl, tt)
 call_none c (ask.CloseConnection code text) b = failed_all_none failed_at_connection_close b
 call_none c (ask.Method row) b = tt
 call_none c (ask.Consume m tag queue o) b = tt
+call_none c (ask.Limit limit) b = tt
+call_none c ask.Nothing b = tt
 call_none c (ask.Publish exchange key o payload properties) b = tt
 
 end_none : (c : ℕ) (e : Option Error) (b : Wire) → gives_none (end_tickets c e b)
@@ -187,6 +188,7 @@ refused_none i (error.ProtocolError code) b = tt
 refused_none i error.ConnectionLost b = tt
 refused_none i error.AlreadyTaken b = tt
 refused_none i error.UnknownTicket b = tt
+refused_none i (error.ConfirmsOutstanding limit) b = tt
 
 incoming_none : (i : Incoming) (r : Record) (b : Wire) → gives_none (incoming_tickets i r b)
 incoming_none i (record_.Refused e) b = refused_none i e b
@@ -203,6 +205,8 @@ call_tickets_more c (ask.CloseChannel code text) b = refl
 call_tickets_more c (ask.CloseConnection code text) b = refl
 call_tickets_more c (ask.Method row) b = refl
 call_tickets_more c (ask.Consume m tag queue o) b = refl
+call_tickets_more c (ask.Limit limit) b = refl
+call_tickets_more c ask.Nothing b = refl
 call_tickets_more c (ask.Publish exchange key o payload properties) b = refl
 
 -- marks that give one ticket
@@ -239,8 +243,8 @@ stand_acked None k b ms slots s = stand_quiet b b ms [] slots s tt refl
 stand_acked (Some x) k b ms slots s = stand_asked x.0 (acker_asked k x.1) b ms slots s
 
 pub tickets-next : (b : Wire) (ms : List TicketMark) (slots : List (Option Slot)) (e : Event) (r : Record) → TicketsStand b ms slots → TicketsStand (after_event b e r) (ms ++ ticket_marks b e r) (fold after_mark slots (ticket_marks b e r))
-tickets-next b ms slots (event.Call c k) r s = stand_boxed (asking_inbox c (asked k) b) (asked_wire c (asked k) b) _ _ (stand_asked c (asked k) b ms slots s)
-tickets-next b ms slots (event.Next flow) r s = stand_quiet b (after_event b (event.Next flow) r) ms (left_tickets (handed flow b)) slots s (left_none (handed flow b)) (next_counts flow b).0
+tickets-next b ms slots (event.Call c k) r s = stand_boxed (asking_inbox c (asked_by k r) b) (asked_wire c (asked_by k r) b) _ _ (stand_asked c (asked_by k r) b ms slots s)
+tickets-next b ms slots (event.Next flow) r s = stand_quiet b (after_event b (event.Next flow) r) ms (left_tickets (handed_as r b)) slots s (left_none (handed_as r b)) (next_counts r b).0
 tickets-next b ms slots (event.Receive f) r s = stand_quiet b (after_incoming (incoming_of f) r b) ms (incoming_tickets (incoming_of f) r b) slots s (incoming_none (incoming_of f) r b) (incoming_counts (incoming_of f) r b).0
 tickets-next b ms slots (event.PollTicket n) r s = stand_quiet b b ms (cond (is_answer r) (Collected n ∷ []) []) slots s (choose_none (is_answer r) (Collected n ∷ []) [] (refl, tt) tt) refl
 tickets-next b ms slots (event.AsideTicket n) r s = stand_quiet b b ms (cond (is_aside r) (SetAside n ∷ []) []) slots s (choose_none (is_aside r) (SetAside n ∷ []) [] (refl, tt) tt) refl

@@ -28,24 +28,22 @@ use Rattle.lapin_history.specs.declared.phases.ChannelPhase.{ChannelPhase}
 use Rattle.lapin_history.specs.declared.phases.ChannelPhase.TheVariants as phase
 use Rattle.lapin_history.specs.Words.{is_some, with_channel}
 use Rattle.lapin_history.specs.Readings.{Readings}
-use Rattle.lapin_history.specs.Calls.{asked}
 use Rattle.lapin_history.specs.Incoming.{incoming_of, frame_class, frame_method}
 use Rattle.lapin_history.specs.Phases.{is_up}
 use Rattle.lapin_history.specs.Polls.{is_confirmed, is_returned, is_aside}
 use Rattle.lapin_history.specs.Leaving.{left_lists}
 use Rattle.lapin_history.specs.Drops.{is_off, publish_channel}
 use Rattle.lapin_history.specs.Wire.{Wire, state_of, phase_of, is_open, receives_on, lists_of, with_lists}
-use Rattle.lapin_history.specs.Asking.{is_allowed, after_call, call_marks}
+use Rattle.lapin_history.specs.Asking.{asked_by, is_allowed, after_call, call_marks}
 use Rattle.lapin_history.specs.Ends.{ends, live_channels, end_with}
 use Rattle.lapin_history.specs.Loss.{after_lost}
-use Rattle.lapin_history.specs.Flow.{may_begin}
 use Rattle.lapin_history.specs.Reply.{receives, receives_reply}
 use Rattle.lapin_history.specs.ChannelClose.{failed_at_close, receives_close, receives_close_ok, after_broker_close, close_ok_end, after_close_ok, failed_at_close_ok}
 use Rattle.lapin_history.specs.ConnectionClose.{failed_at_connection_close, unless_sent}
 use Rattle.lapin_history.specs.Unexpected.{refused, failed_at_unexpected}
 use Rattle.lapin_history.specs.Settlement.{settlement_record}
 use Rattle.lapin_history.specs.Receiving.{incoming_up, incoming_record, after_incoming, incoming_marks}
-use Rattle.lapin_history.specs.Handing.{handed, sent, left_marks}
+use Rattle.lapin_history.specs.Handing.{sent, left_marks, handed_as, began_on}
 use Rattle.lapin_confirm.specs.declared.cell.Cell.{Cell}
 use Rattle.lapin_confirm.specs.declared.cell.Cell.TheVariants as cell
 use Rattle.lapin_content.specs.declared.start.Start.{Start}
@@ -69,7 +67,7 @@ use Rattle.lapin_desk.proofs.Waiting.{queue-closed, queue-ended, end-closed}
 use Rattle.lapin_machine.specs.Tied.{IsTied}
 use Rattle.lapin_machine.specs.World.{World, next, next_anew, readings_of, outcome_record, told_anew}
 use Rattle.lapin_machine.proofs.Back.{next_keeps}
-use Rattle.lapin_machine.proofs.Keeping.{tied_opened, tied_closing, tied_ended, tied_closed, tied_down, tied_further, tied_dropped, tied_publish, tied_called, tied_leaves, tied_sent, tied_settled, tied_taken, tied_drained, tied_aside}
+use Rattle.lapin_machine.proofs.Keeping.{tied_opened, tied_closing, tied_ended, tied_closed, tied_down, tied_further, tied_dropped, tied_publish, tied_called, tied_leaves, tied_sent, tied_settled, tied_limited, tied_taken, tied_drained, tied_aside}
 use Rattle.lapin_machine.proofs.Openings.{open_opening, receives_opening, reply_opening, tied_replied, tied_paused, close_ok_some, closed_over, crossed_over}
 
 abbrev T : Wire → Post → Type 0
@@ -103,6 +101,8 @@ call_tied c (ask.CloseChannel code text) b k n t h = closing_tied c closer.Appli
 call_tied c (ask.CloseConnection code text) b k n t h = tied_down b.link (link.Closing false false) failed_at_connection_close b.phases b.publishes k t
 call_tied c (ask.Method row) b k n t h = tied_called b.link c row.method b.phases b.publishes k t
 call_tied c (ask.Consume m tag queue o) b k n t h = t
+call_tied c (ask.Limit limit) b k n t h = tied_limited b.link c limit b.phases b.publishes k.book t
+call_tied c ask.Nothing b k n t h = t
 call_tied c (ask.Publish exchange key o payload properties) b k n t h =
     let p : Publish = record { confirm = b.published + 1; ticket = b.tickets + 1; channel = c; exchange = exchange; routing_key = key; options = o; payload = payload; properties = properties } in
     tied_publish b.link c b.phases b.publishes k.book p (open_opening b.link c b.phases h).live (ap (λ i. i + 1) n) refl t
@@ -287,10 +287,13 @@ let_go_tied (Some x) b k t = choose_base (lets_go_of x b) (cancel_noted x b) b k
 -- ---- every event
 
 pub tied_anew : (w : World) (e : Event) → w.wire.published ≡ length w.post.book.cells → T w.wire w.post → T (next_anew w e).wire (next_anew w e).post
-tied_anew w (event.Call c k) n t = choose_marks (is_allowed (asked k) (state_of c w.wire)) (after_call c (asked k) w.wire) w.wire (call_marks c (asked k) w.wire) w.post (call_tied c (asked k) w.wire w.post n t) t
+tied_anew w (event.Call c k) n t =
+    let a : Asked = asked_by k (told_anew w (event.Call c k)) in
+    choose_marks (is_allowed a (state_of c w.wire)) (after_call c a w.wire) w.wire (call_marks c a w.wire) w.post (call_tied c a w.wire w.post n t) t
 tied_anew w (event.Next flow) n t =
-    sent_tied (handed flow w.wire) (with_lists (left_lists w.wire.frame_max (may_begin flow w.wire) (lists_of w.wire)) w.wire) (fold after_mark w.post (left_marks (handed flow w.wire)))
-    (tied_leaves w.wire.frame_max (may_begin flow w.wire) w.wire.rest w.wire.methods w.wire.publishes w.wire.link w.wire.phases w.post t)
+    let r : Record = told_anew w (event.Next flow) in
+    sent_tied (handed_as r w.wire) (with_lists (left_lists w.wire.frame_max (began_on r) (lists_of w.wire)) w.wire) (fold after_mark w.post (left_marks (handed_as r w.wire)))
+    (tied_leaves w.wire.frame_max (began_on r) w.wire.rest w.wire.methods w.wire.publishes w.wire.link w.wire.phases w.post t)
 tied_anew w (event.Receive f) n t = incoming_tied w.wire.link (readings_of w.post w.slots) (frame_class f) (frame_method f) (incoming_of f) w.wire w.post refl t
 tied_anew w (event.PollTicket k) n t = t
 tied_anew w (event.PollConfirm k) n t = poll_tied k w.wire w.post t

@@ -464,7 +464,7 @@ module _ (l : ConnectionPhase) (p : List (ℕ × ChannelPhase)) (o : OutboxState
 
   -- ---- a frame that leaves
 
-  pub handing_seen : (t : Bool) (a : Left) (l2 : ConnectionPhase) (P : List (ℕ × ChannelPhase)) (O : OutboxState) (S : List (Option Slot)) (B : Post)
+  pub handing_seen : (t : ℕ → Bool) (a : Left) (l2 : ConnectionPhase) (P : List (ℕ × ChannelPhase)) (O : OutboxState) (S : List (Option Slot)) (B : Post)
       → handed_of t o.lists.rest o.lists.methods o.lists.publishes ≡ Some a
       → l2 ≡ link_sent a.frame l
       → P ≡ phases_sent a.frame p

@@ -18,8 +18,9 @@ use Rattle.lapin_history.specs.Content.{receives_part, whole_on, takes_acker, ne
 use Rattle.lapin_history.specs.Consumers.{receives_consumer, next_consumer}
 use Rattle.lapin_history.specs.Ackers.{usable_at, acker_asked}
 use Rattle.lapin_history.specs.Wire.{Wire, state_of}
-use Rattle.lapin_history.specs.Asking.{is_allowed}
-use Rattle.lapin_machine.specs.World.{World}
+use Rattle.lapin_history.specs.Asking.{is_allowed, is_held}
+use Rattle.lapin_confirm.specs.Book.{limit_on}
+use Rattle.lapin_machine.specs.World.{World, readings_of}
 
 -- each counter has n further numbers
 pub record HasNumbersFor (n : ℕ) (w : World) : Type 0 where
@@ -83,6 +84,12 @@ AskCause (Err _) c k b = ⊥
 
 abbrev pub CallCause : {T : Type 0} → Result T Error → ℕ → Call → Wire → Type 0
 CallCause r c k b = AskCause r c (asked k) b
+
+-- a try publish: it is refused by the limit only where the limit holds it back, and then for nothing else
+abbrev pub TryCause : {T : Type 0} → Result T Error → ℕ → Call → World → Type 0
+TryCause (Err (error.ConfirmsOutstanding limit)) c k w = (is_held c k w.wire (readings_of w.post w.slots) ≡ true) × (limit ≡ limit_on c w.post.book)
+TryCause (Err error.NoMemory) c k w = Unit {0}
+TryCause r c k w = (is_held c k w.wire (readings_of w.post w.slots) ≡ false) × CallCause r c k w.wire
 
 -- want of memory is the only error
 abbrev pub OnlyMemory : {T : Type 0} → Result T Error → Type 0

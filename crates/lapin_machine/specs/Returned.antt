@@ -15,13 +15,12 @@ use Rattle.lapin_history.specs.declared.broker_frames.Incoming.{Incoming}
 use Rattle.lapin_history.specs.declared.broker_frames.Incoming.TheVariants as incoming
 use Rattle.lapin_history.specs.declared.phases.ConnectionPhase.{ConnectionPhase}
 use Rattle.lapin_history.specs.declared.phases.ConnectionPhase.TheVariants as link
-use Rattle.lapin_history.specs.Calls.{asked}
 use Rattle.lapin_history.specs.Incoming.{incoming_of}
 use Rattle.lapin_history.specs.ConfirmMarks.{ConfirmMark}
 use Rattle.lapin_history.specs.ConfirmMarks as mark
 use Rattle.lapin_history.specs.Phases.{is_up, is_lost}
 use Rattle.lapin_history.specs.Wire.{Wire, state_of, phase_of}
-use Rattle.lapin_history.specs.Asking.{is_allowed}
+use Rattle.lapin_history.specs.Asking.{is_allowed, asked_by}
 use Rattle.lapin_history.specs.ChannelClose.{close_ok_end}
 use Rattle.lapin_history.specs.ConnectionClose.{has_sent}
 use Rattle.lapin_outbox.specs.Returned.{returned_off}
@@ -73,7 +72,7 @@ after_incoming i _ b r = r
 
 -- a loss drops all that waits
 abbrev pub after_event : Wire → Event → Record → Option Left → Option Left
-after_event b (event.Call c k) told r = after_asked c (asked k) b r
+after_event b (event.Call c k) told r = after_asked c (asked_by k told) b r
 after_event b (event.Receive f) told r = after_incoming (incoming_of f) told b r
 after_event b event.Lost told r = if is_lost b.link then r else None
 after_event b _ told r = r

@@ -24,7 +24,7 @@ use Rattle.lapin_history.specs.Readings.{Readings}
 use Rattle.lapin_history.specs.Events.{record_of}
 use Rattle.lapin_history.specs.Settlement.{settlement_record}
 use Rattle.lapin_confirm.specs.Aside.{taken_answer, set_answer}
-use Rattle.lapin_confirm.specs.Book.{selected_on, last_on, is_pending, asked_on}
+use Rattle.lapin_confirm.specs.Book.{selected_on, last_on, is_pending, asked_on, limit_on, full_on, at_limit_on}
 use Rattle.lapin_confirm.specs.Drain.{drained_on}
 use Rattle.lapin_confirm.specs.Post.{Post, empty_post, waits_on}
 use Rattle.lapin_confirm.specs.Machine as post
@@ -64,6 +64,10 @@ abbrev pub aside_record : Result (Unit {0}) Error → Record
 aside_record (Ok x) = record_.Aside
 aside_record (Err e) = record_.Refused e
 
+-- which channels are full
+abbrev pub full_in : Post → ℕ → Bool
+full_in p c = full_on c p.book
+
 -- what is seen of confirms and tickets
 abbrev pub readings_of : Post → List (Option Slot) → Readings
 readings_of p slots = record {
@@ -76,6 +80,9 @@ readings_of p slots = record {
   ticket_aside = λ n. aside_record (desk.laid n slots);
   asked = λ c. asked_on c p.book;
   waited = λ c. waits_on c p.book;
+  full = full_in p;
+  limit = λ c. limit_on c p.book;
+  at_limit = λ c. at_limit_on c p.book;
   returned = λ c. drained_on c p;
 }
 
@@ -125,8 +132,8 @@ asking c k w = record {
 abbrev pub spending : ℕ → World → World
 spending n w = record w { wire = with_inbox (inbox.Spent n ∷ []) w.wire }
 
--- what a frame request leaves where no frame was given back, and t tells whether a publish may begin
-abbrev pub handing : Bool → World → World
+-- what a frame request leaves where no frame was given back, and t tells on which channels a publish may begin
+abbrev pub handing : (ℕ → Bool) → World → World
 handing t w = record {
   wire = after_handing t w.wire;
   post = fold post.after_mark w.post (left_marks (handed_out t w.wire));

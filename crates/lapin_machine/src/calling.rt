@@ -2,31 +2,33 @@
 //!
 //! Each is refused by the channel's state, then for want of numbers; then it is queued whole, or nothing changes.
 
-ghost use Rattle.std.specs.Prelude.{◌≡◌, false, IfOk, OnOk, OnErr};
+ghost use Rattle.std.specs.Prelude.{◌≡◌, ◌&&◌, false, IfOk, OnOk, OnErr};
 ghost use Rattle.std.specs.List.{fold};
 ghost use Rattle.lapin_types.specs.declared.event.Event.TheVariants.{Call as CallEvent};
-ghost use Rattle.lapin_types.specs.declared.call.Call.TheVariants.{OpenChannel, BasicPublish};
+ghost use Rattle.lapin_types.specs.declared.call.Call.TheVariants.{OpenChannel, BasicPublish, TryBasicPublish};
 ghost use Rattle.lapin_history.specs.declared.calls.Asked.TheVariants as ask;
 ghost use Rattle.lapin_history.specs.Calls.{asked as asked_lem, publishes};
-ghost use Rattle.lapin_history.specs.Asking.{call_record};
+ghost use Rattle.lapin_history.specs.Asking.{call_record, is_held};
+ghost use Rattle.lapin_history.specs.Wire.{state_of, is_open as is_open_lem};
+ghost use Rattle.lapin_confirm.specs.Book.{at_limit_on};
 ghost use Rattle.lapin_history.specs.Select.{queued_marks};
 ghost use Rattle.lapin_history.specs.Consumers.{called_inbox, cancel_inbox, all_inbox};
 ghost use Rattle.lapin_history.specs.Registry.{line_inbox, at_once_inbox};
 ghost use Rattle.lapin_inbox.specs.Held.{what};
 ghost use Rattle.lapin_inbox.specs.Inbox.{after_mark as after_inbox_mark};
 ghost use Rattle.lapin_confirm.specs.Machine as post;
-ghost use Rattle.lapin_machine.specs.World.{told_by, next, asking};
+ghost use Rattle.lapin_machine.specs.World.{told_by, next, asking, readings_of};
 ghost use Rattle.lapin_machine.specs.Told.{TicketTold, PublishTold, ticket_told, publish_told};
-ghost use Rattle.lapin_machine.specs.Numbers.{HasCause, CallCause, AskCause};
+ghost use Rattle.lapin_machine.specs.Numbers.{HasCause, CallCause, TryCause, AskCause};
 
 use crate::channel::{Published, PublisherConfirm, Ticket};
 use crate::session::{Session, is_closed, is_open};
 use lapin_confirm::Confirms;
-use lapin_history::{Answered, Asked, AtLeaving, ChannelPhase, Row, sort_call};
+use lapin_history::{Answered, Asked, AtLeaving, ChannelPhase, Row, is_try, sort_call};
 use lapin_inbox::Inbox;
 use lapin_types::{
-    BasicMethod, BasicProperties, BasicPublishOptions, Call, ChannelMethod, ConfirmMethod, Error,
-    Method, NoMemory, Payload, Publish, Record, Reply, ShortString,
+    Answer, BasicMethod, BasicProperties, BasicPublishOptions, Call, ChannelMethod, ConfirmMethod,
+    Error, Method, NoMemory, Payload, Publish, Record, Reply, ShortString,
 };
 use std::alloc::Global;
 
@@ -103,7 +105,9 @@ impl Session {
                 queue,
                 options,
             } => self.consume_at_once(alloc, channel, method, consumer_tag, queue, options),
+            Asked::Limit(limit) => self.limit_confirms(alloc, channel, limit),
             Asked::Publish { .. } => unreachable!(),
+            Asked::Nothing => Err(Error::InvalidChannelState(self.channel_state(channel))),
         }
     }
 
@@ -185,6 +189,66 @@ impl Session {
         })
     }
 
+    /// Publishes a message, unless as many publishes of the channel wait or are outstanding as its limit allows, as
+    /// `Channel::try_basic_publish`.
+    pub fn try_basic_publish(
+        &mut self,
+        alloc: Global,
+        channel: u16,
+        exchange: ShortString,
+        routing_key: ShortString,
+        options: BasicPublishOptions,
+        payload: Payload,
+        properties: BasicProperties,
+    ) -> Result<Published, Error>
+        ensures told { PublishTold result (told_by self.old (CallEvent channel (TryBasicPublish exchange routing_key options payload properties))) }
+        ensures ok { OnOk result (self.new ≡ next self.old (CallEvent channel (TryBasicPublish exchange routing_key options payload properties))) }
+        ensures err { OnErr result (self.new ≡ self.old) }
+        ensures cause { TryCause result channel (TryBasicPublish exchange routing_key options payload properties) self.old }
+    {
+        if self.is_at_limit(channel) {
+            let limit = self.confirms.limit(channel);
+            return Err(Error::ConfirmsOutstanding { limit });
+        }
+        self.basic_publish(
+            alloc,
+            channel,
+            exchange,
+            routing_key,
+            options,
+            payload,
+            properties,
+        )
+    }
+
+    // Whether a channel is open and at its limit, so that a try publish is refused.
+    fn is_at_limit(&self, channel: u16) -> bool
+        ensures { result ≡ (is_open_lem (state_of channel self.now.wire) && at_limit_on channel self.now.post.book) }
+    {
+        is_open(self.channel_state(channel)) && self.confirms.at_limit(channel)
+    }
+
+    // A limit of outstanding confirms: it is set, and the ticket answered, in the call, and nothing is queued.
+    fn limit_confirms(&mut self, alloc: Global, channel: u16, limit: u64) -> Result<Ticket, Error>
+        ensures told { TicketTold result (call_record channel (ask.Limit limit) self.old.wire) }
+        ensures ok { OnOk result (self.new ≡ asking channel (ask.Limit limit) self.old) }
+        ensures err { OnErr result (self.new ≡ self.old) }
+        ensures cause { AskCause result channel (ask.Limit limit) self.old.wire }
+    {
+        let state = self.channel_state(channel);
+        if !is_open(state) {
+            return Err(Error::InvalidChannelState(state));
+        }
+        if self.desk.tickets.next_number().is_none() {
+            return Err(Error::NumbersUsedUp);
+        }
+        self.desk.tickets.reserve(alloc, channel)?;
+        let number = self.desk.tickets.give(channel, AtLeaving::Nothing);
+        self.desk.tickets.answer(number, Ok(Answer::Done));
+        self.confirms.set_limit(channel, limit);
+        Ok(Ticket { number })
+    }
+
     pub(crate) fn step_call(
         &mut self,
         alloc: Global,
@@ -193,6 +257,22 @@ impl Session {
     ) -> Result<Record, Error>
         ensures told { IfOk result (λ r. r ≡ told_by self.old (CallEvent channel call)) }
         ensures ok { OnOk result (self.new ≡ next self.old (CallEvent channel call)) }
+        ensures err { OnErr result (self.new ≡ self.old) }
+        ensures cause { HasCause result (CallEvent channel call) self.old.wire }
+    {
+        if is_try(&call) && self.is_at_limit(channel) {
+            drop(call);
+            let limit = self.confirms.limit(channel);
+            return Ok(Record::Refused(Error::ConfirmsOutstanding { limit }));
+        }
+        self.step_asked(alloc, channel, call)
+    }
+
+    // A call that no limit refuses.
+    fn step_asked(&mut self, alloc: Global, channel: u16, call: Call) -> Result<Record, Error>
+        requires { is_held channel call self.old.wire (readings_of self.old.post self.old.slots) ≡ false }
+        ensures told { IfOk result (λ r. r ≡ call_record channel (asked_lem call) self.old.wire) }
+        ensures ok { OnOk result (self.new ≡ asking channel (asked_lem call) self.old) }
         ensures err { OnErr result (self.new ≡ self.old) }
         ensures cause { HasCause result (CallEvent channel call) self.old.wire }
     {

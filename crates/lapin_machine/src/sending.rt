@@ -4,7 +4,7 @@ ghost use Rattle.std.specs.Prelude.{◌≡◌, ◌&&◌, ℕ, true, false, Optio
 ghost use Rattle.std.specs.List.{fold, list_any};
 ghost use Rattle.lapin_types.specs.declared.event.Event.TheVariants as event;
 ghost use Rattle.lapin_history.specs.Handing.{handed, handed_out};
-ghost use Rattle.lapin_history.specs.Flow.{is_paused_on};
+ghost use Rattle.lapin_history.specs.Flow.{is_flowing, unless_full};
 ghost use Rattle.lapin_history.specs.ConnectionClose.{link_sent};
 ghost use Rattle.lapin_history.specs.ChannelClose.{phases_sent};
 ghost use Rattle.lapin_history.specs.Handing.{frame_record as frame_record_lem};
@@ -19,7 +19,7 @@ ghost use Rattle.lapin_outbox.specs.Returned.{is_retried, given};
 ghost use Rattle.lapin_machine.specs.Stands.{Stands};
 ghost use Rattle.lapin_history.specs.Wire.{is_closing as is_closing_lem};
 ghost use Rattle.lapin_history.specs.Phases.{channel_state};
-ghost use Rattle.lapin_machine.specs.World.{told_by, next, handing, with_returned};
+ghost use Rattle.lapin_machine.specs.World.{told_by, next, next_anew, full_in, handing, with_returned};
 ghost use Rattle.lapin_machine.specs.Numbers.{HasCause, OnlyMemory};
 ghost use Rattle.lapin_machine.specs.Tied.{CanRegister};
 
@@ -34,14 +34,14 @@ use std::alloc::Global;
 
 impl Session {
     /// Hands out the next frame: the one that was given back, marked as handed out again; else the first of what follows the
-    /// begun publish, else the first method, else, where `flow` is true, the method frame of the first publish. None exactly
-    /// where none of these is there. A publish whose method frame leaves after its channel's first `confirm.select` takes the
+    /// begun publish, else the first method, else, where `flow` is true and no open channel is paused, the method frame of the first
+    /// publish whose channel is not full. None exactly where none of these is there. A publish whose method frame leaves after its channel's first `confirm.select` takes the
     /// next delivery tag (RabbitMQ, publisher confirms).
     ///
     /// # Errors
     /// `NoMemory` alone. Nothing changes then.
     pub fn next_frame(&mut self, alloc: Global, flow: bool) -> Result<Option<Left>, Error>
-        ensures told { IfOk result (λ left. left ≡ given self.old.returned (handed flow self.old.wire)) }
+        ensures told { IfOk result (λ left. left ≡ given self.old.returned (handed flow (full_in self.old.post) self.old.wire)) }
         ensures ok { OnOk result (self.new ≡ next self.old (event.Next flow)) }
         ensures err { OnErr result (self.new ≡ self.old) }
         ensures cause { OnlyMemory result }
@@ -49,8 +49,7 @@ impl Session {
         if self.retrying() {
             return self.hand_again(alloc);
         }
-        let may_begin = flow && !self.phases.is_any_paused();
-        self.hand_out(alloc, may_begin)
+        self.hand_next(alloc, flow)
     }
 
     /// Gives the frame back that was handed out last: the next frame request hands it out once more. It counts as left, so no
@@ -83,18 +82,37 @@ impl Session {
         ensures err { OnErr result (self.new ≡ self.old) }
         ensures cause { OnlyMemory result }
     {
-        Ok(self.desk.outbox.pop(alloc, false)?)
+        Ok(self.desk.outbox.pop(alloc, false, &[])?)
     }
 
-    // Hands out the next frame, where none was given back and it is known whether a publish may begin.
-    fn hand_out(&mut self, alloc: Global, may_begin: bool) -> Result<Option<Left>, Error>
+    // Hands out the next frame, where none was given back.
+    fn hand_next(&mut self, alloc: Global, flow: bool) -> Result<Option<Left>, Error>
         requires { is_retried self.old.returned ≡ false }
-        ensures told { IfOk result (λ left. left ≡ handed_out may_begin self.old.wire) }
-        ensures ok { OnOk result (self.new ≡ handing may_begin self.old) }
+        ensures told { IfOk result (λ left. left ≡ handed flow (full_in self.old.post) self.old.wire) }
+        ensures ok { OnOk result (self.new ≡ next_anew self.old (event.Next flow)) }
         ensures err { OnErr result (self.new ≡ self.old) }
         ensures cause { OnlyMemory result }
     {
-        match self.desk.outbox.pop(alloc, may_begin)? {
+        let flowing = self.flows(flow);
+        self.hand_out(alloc, flowing)
+    }
+
+    // Whether content flows: the request says so, and no open channel is paused.
+    fn flows(&self, flow: bool) -> bool
+        ensures { result ≡ is_flowing flow self.now.wire }
+    {
+        flow && !self.phases.is_any_paused()
+    }
+
+    // Hands out the next frame, where none was given back and it is known whether content flows.
+    fn hand_out(&mut self, alloc: Global, flowing: bool) -> Result<Option<Left>, Error>
+        requires { is_retried self.old.returned ≡ false }
+        ensures told { IfOk result (λ left. left ≡ handed_out (unless_full flowing (full_in self.old.post)) self.old.wire) }
+        ensures ok { OnOk result (self.new ≡ handing (unless_full flowing (full_in self.old.post)) self.old) }
+        ensures err { OnErr result (self.new ≡ self.old) }
+        ensures cause { OnlyMemory result }
+    {
+        match self.desk.outbox.pop_unless(alloc, flowing, &self.confirms)? {
             Some(left) => {
                 confirms_left(&mut self.confirms, &left);
                 self.desk.leave(&left);

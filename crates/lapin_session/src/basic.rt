@@ -8,7 +8,7 @@ ghost use Rattle.lapin_types.specs.declared.event.Event.TheVariants.{Call as Cal
 ghost use Rattle.lapin_types.specs.declared.call.Call.TheVariants as call;
 ghost use Rattle.lapin_machine.specs.World.{told_by, next};
 ghost use Rattle.lapin_machine.specs.Told.{PublishTold, TicketTold};
-ghost use Rattle.lapin_machine.specs.Numbers.{CallCause};
+ghost use Rattle.lapin_machine.specs.Numbers.{CallCause, TryCause};
 
 use crate::channel::Channel;
 use lapin_machine::{Published, Session, Ticket};
@@ -131,6 +131,41 @@ impl Channel {
             routing_key,
             options,
             payload,
+            properties,
+        )
+    }
+
+    /// Publishes a message as `basic_publish` does, unless the channel has a limit of outstanding confirms (`confirm_limit`) and its
+    /// publishes that have not begun to leave and its outstanding confirms are together at least as many. It is then refused, and
+    /// may be called again once a confirm has come.
+    ///
+    /// # Errors
+    /// `InvalidChannelState` where the channel is not open, `ConfirmsOutstanding` with the limit where so many wait or are
+    /// outstanding, `NumbersUsedUp` where the next ticket or confirm would pass the greatest `u64`, `NoMemory`. Nothing changes
+    /// then.
+    pub fn try_basic_publish(
+        &self,
+        alloc: Global,
+        session: &mut Session,
+        exchange: ShortString,
+        routing_key: ShortString,
+        options: BasicPublishOptions,
+        payload: &[u8],
+        properties: BasicProperties,
+    ) -> Result<Published, Error>
+        ensures told { PublishTold result (told_by session.old (CallEvent self.now.id (call.TryBasicPublish exchange routing_key options payload.now properties))) }
+        ensures ok { OnOk result (session.new ≡ next session.old (CallEvent self.now.id (call.TryBasicPublish exchange routing_key options payload.now properties))) }
+        ensures err { OnErr result (session.new ≡ session.old) }
+        ensures cause { TryCause result self.now.id (call.TryBasicPublish exchange routing_key options payload.now properties) session.old }
+    {
+        let content = Payload::new(alloc, payload)?;
+        session.try_basic_publish(
+            alloc,
+            self.id,
+            exchange,
+            routing_key,
+            options,
+            content,
             properties,
         )
     }

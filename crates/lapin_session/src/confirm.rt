@@ -1,4 +1,4 @@
-//! A channel's call of the class confirm (class 85, RabbitMQ's publisher confirms).
+//! A channel's calls on publisher confirms: that of the class confirm (class 85, RabbitMQ), and the limit of outstanding ones.
 //!
 //! A line each over the session's calls. Nothing is kept here, and nothing is decided: which method a call queues and what its ticket
 //! is answered with stands in the table of calls.
@@ -36,5 +36,28 @@ impl Channel {
     {
         let call = Call::ConfirmSelect { options };
         session.call(alloc, self.id, call)
+    }
+
+    /// Limits how many confirms of this opening of the channel may be outstanding: publishes that have a number, since their method
+    /// frame left after that of `confirm.select`, and that the broker has neither acked nor nacked. 0 stands for no limit, as at the
+    /// beginning of an opening. While as many are outstanding, the next publish of the channel waits and does not begin to leave;
+    /// publishes of other channels leave meanwhile. `try_basic_publish` is refused at the limit. Nothing is sent, and the ticket is
+    /// `Done` at once.
+    ///
+    /// # Errors
+    /// `InvalidChannelState` where the channel is not open, `NumbersUsedUp` where the next ticket would pass the greatest
+    /// `u64`, `NoMemory`. Nothing changes then.
+    pub fn confirm_limit(
+        &self,
+        alloc: Global,
+        session: &mut Session,
+        limit: u64,
+    ) -> Result<Ticket, Error>
+        ensures told { TicketTold result (told_by session.old (CallEvent self.now.id (call.ConfirmLimit limit))) }
+        ensures ok { OnOk result (session.new ≡ next session.old (CallEvent self.now.id (call.ConfirmLimit limit))) }
+        ensures err { OnErr result (session.new ≡ session.old) }
+        ensures cause { CallCause result self.now.id (call.ConfirmLimit limit) session.old.wire }
+    {
+        session.call(alloc, self.id, Call::ConfirmLimit { limit })
     }
 }

@@ -111,6 +111,37 @@ impl<L: Crew> Caller<L> {
         self.step(rt, alloc, Event::Call(channel, call))
     }
 
+    /// Publishes a message, unless as many of the channel wait or are outstanding as its limit allows. Where there is no memory for
+    /// the payload's copy no step is made.
+    pub fn try_basic_publish<R: Wait>(
+        &mut self,
+        rt: &R,
+        alloc: Global,
+        channel: u16,
+        exchange: ShortString,
+        routing_key: ShortString,
+        options: BasicPublishOptions,
+        payload: &[u8],
+        properties: BasicProperties,
+    ) -> Result<&Told, StepError>
+        ensures* after { sem 𝓛 (follows_so (the_row L.row L.Ledger) (the_row L.row L.Ledger) self.entry.ghost_name none (λ _ _. ⊤) (λ new. IsStep result (λ t. t.now) self.old (event.Call channel (call.TryBasicPublish exchange routing_key options payload.now properties)) new)) }
+    {
+        let Ok(payload) = Payload::new(alloc, payload) else {
+            drop(exchange);
+            drop(routing_key);
+            drop(properties);
+            return Err(StepError::NoMemory);
+        };
+        let call = Call::TryBasicPublish {
+            exchange,
+            routing_key,
+            options,
+            payload,
+            properties,
+        };
+        self.step(rt, alloc, Event::Call(channel, call))
+    }
+
     /// Asks for one message of a queue (AMQP 0-9-1, `basic.get`).
     pub fn basic_get<R: Wait>(
         &mut self,

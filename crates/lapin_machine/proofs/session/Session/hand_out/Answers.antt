@@ -2,16 +2,17 @@ use Rattle.std.proofs.Common.{◌∙◌, sym, ap, refl, Option}
 use Rattle.std.specs.List.{fold}
 use Rattle.lapin_inbox.specs.Held.{what}
 use Rattle.lapin_types.specs.declared.leaving.Left.{Left}
-use Rattle.lapin_history.specs.Handing.{left_marks}
+use Rattle.lapin_history.specs.Flow.{unless_full}
+use Rattle.lapin_history.specs.Handing.{left_marks, handed_out}
 use Rattle.lapin_confirm.specs.Post.{Post}
 use Rattle.lapin_confirm.specs.Machine.{after_mark}
 use Rattle.lapin_outbox.specs.Open.{OpenRequests}
 use Rattle.lapin_outbox.specs.Outgoing.{Outgoing}
 use Rattle.lapin_outbox.specs.Returned.{is_retried}
-use Rattle.lapin_machine.specs.World.{World, handing}
+use Rattle.lapin_machine.specs.World.{World, handing, full_in}
 use Rattle.lapin_machine.proofs.Seen.{seen_is}
 use Rattle.lapin_machine.proofs.Worlds.{handing_seen}
-use Rattle.lapin_machine.proofs.Keeping.{tied_handed, can_register, kept_by}
+use Rattle.lapin_machine.proofs.Keeping.{tied_leaves, tied_handed, can_register, kept_by}
 use Rattle.lapin_machine.proofs.Back.{popped_anew, popped_left}
 use Rattle.lapin_machine.proofs.session.Session.hand_out.Goals as goal
 
@@ -20,15 +21,15 @@ confirms_left-requires c =
     let o = c.self.inside.desk.outbox.what in
     let none = ap (λ (w : World). is_retried w.returned) c.self.view_is ∙ c.requires in
     can_register _ o.lists.rest o.lists.methods o.lists.publishes c.self.inside.confirms.what.book.cells c.in-Some.left
-    (sym (popped_anew c.args.may_begin o none) ∙ sym c.in_ok-left.ensures.told ∙ c.in-Some.is) c.self.invariant.tied.queued
+    (sym (popped_anew (unless_full c.args.flowing (full_in c.self.inside.confirms.what)) o none) ∙ sym c.in_ok-left.ensures.told ∙ c.in-Some.is) c.self.invariant.tied.queued
 
 pub invariant_of-self-in-Some : goal.invariant_of-self-in-Some
 invariant_of-self-in-Some c =
     let o = c.self.inside.desk.outbox.what in
     let none = ap (λ (w : World). is_retried w.returned) c.self.view_is ∙ c.requires in
-    let told = sym c.in-Some.is ∙ c.in_ok-left.ensures.told ∙ popped_anew c.args.may_begin o none in
+    let told = sym c.in-Some.is ∙ c.in_ok-left.ensures.told ∙ popped_anew (unless_full c.args.flowing (full_in c.self.inside.confirms.what)) o none in
     kept_by _ _ _ _ _ _ _ _ c.link_left.ensures c.phases_left.ensures
-    (ap (λ (x : Outgoing). x.what) c.leave.ensures.outbox ∙ c.in_ok-left.ensures.ok ∙ popped_left c.args.may_begin o none)
+    (ap (λ (x : Outgoing). x.what) c.leave.ensures.outbox ∙ c.in_ok-left.ensures.ok ∙ popped_left (unless_full c.args.flowing (full_in c.self.inside.confirms.what)) o none)
     (ap (λ (p : Post). p.book) (c.confirms_left.ensures ∙ ap (λ (h : Option Left). fold after_mark c.self.inside.confirms.what (left_marks h)) told))
     (tied_handed o.frame_max _ o.lists.rest o.lists.methods o.lists.publishes _ _ c.self.inside.confirms.what c.in-Some.left c.self.invariant.tied)
     c.self.invariant.unpoisoned
@@ -38,7 +39,25 @@ returns-in-Some-clause-ok c =
     let o = c.self.inside.desk.outbox.what in
     let none = ap (λ (w : World). is_retried w.returned) c.self.view_is ∙ c.requires in
     seen_is _ _ _ _ c.leave.new.self.outbox.what _ _ _ _ _ _ _ _ _ _ _ refl refl refl (ap (λ (r : OpenRequests). r.what) c.leave.ensures.replies) refl refl refl refl
-    ∙ handing_seen c.self.inside.link c.self.inside.phases.entries o c.self.inside.desk.replies.what c.self.inside.contents (what c.self.inside.inbox) c.self.inside.desk.tickets.slots c.self.inside.confirms.what c.args.may_begin c.in-Some.left _ _ _ _ _
-    (sym (popped_anew c.args.may_begin o none) ∙ sym c.in_ok-left.ensures.told ∙ c.in-Some.is) c.link_left.ensures c.phases_left.ensures
-    (ap (λ (x : Outgoing). x.what) c.leave.ensures.outbox ∙ c.in_ok-left.ensures.ok ∙ popped_left c.args.may_begin o none) c.leave.ensures.slots c.confirms_left.ensures
-    ∙ ap (handing c.args.may_begin) c.self.view_is
+    ∙ handing_seen c.self.inside.link c.self.inside.phases.entries o c.self.inside.desk.replies.what c.self.inside.contents (what c.self.inside.inbox) c.self.inside.desk.tickets.slots c.self.inside.confirms.what (unless_full c.args.flowing (full_in c.self.inside.confirms.what)) c.in-Some.left _ _ _ _ _
+    (sym (popped_anew (unless_full c.args.flowing (full_in c.self.inside.confirms.what)) o none) ∙ sym c.in_ok-left.ensures.told ∙ c.in-Some.is) c.link_left.ensures c.phases_left.ensures
+    (ap (λ (x : Outgoing). x.what) c.leave.ensures.outbox ∙ c.in_ok-left.ensures.ok ∙ popped_left (unless_full c.args.flowing (full_in c.self.inside.confirms.what)) o none) c.leave.ensures.slots c.confirms_left.ensures
+    ∙ ap (λ (w : World). handing (unless_full c.args.flowing (full_in w.post)) w) c.self.view_is
+
+pub invariant_of-self-in-None : goal.invariant_of-self-in-None
+invariant_of-self-in-None c =
+    let o = c.self.inside.desk.outbox.what in
+    let none = ap (λ (w : World). is_retried w.returned) c.self.view_is ∙ c.requires in
+    let told = sym c.in-None.is ∙ c.in_ok-left.ensures.told ∙ popped_anew (unless_full c.args.flowing (full_in c.self.inside.confirms.what)) o none in
+    kept_by _ _ _ _ _ _ _ _ refl refl
+    (c.in_ok-left.ensures.ok ∙ popped_left (unless_full c.args.flowing (full_in c.self.inside.confirms.what)) o none)
+    (ap (λ (h : Option Left). (fold after_mark c.self.inside.confirms.what (left_marks h)).book) told)
+    (tied_leaves o.frame_max (unless_full c.args.flowing (full_in c.self.inside.confirms.what)) o.lists.rest o.lists.methods o.lists.publishes _ _ c.self.inside.confirms.what c.self.invariant.tied)
+    c.self.invariant.unpoisoned
+
+pub returns-in-Some-clause-told : goal.returns-in-Some-clause-told
+returns-in-Some-clause-told c =
+    let o = c.self.inside.desk.outbox.what in
+    let none = ap (λ (w : World). is_retried w.returned) c.self.view_is ∙ c.requires in
+    sym c.in-Some.is ∙ c.in_ok-left.ensures.told ∙ popped_anew (unless_full c.args.flowing (full_in c.self.inside.confirms.what)) o none
+    ∙ ap (λ (w : World). handed_out (unless_full c.args.flowing (full_in w.post)) w.wire) c.self.view_is
