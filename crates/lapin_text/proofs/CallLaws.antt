@@ -17,7 +17,7 @@ use Rattle.lapin_types.specs.Types.tx as tx_method
 use Rattle.lapin_types.specs.declared.exchange_kind.ExchangeKind.{ExchangeKind}
 use Rattle.lapin_types.specs.declared.exchange_kind.ExchangeKind.TheVariants as exchange_kind
 use Rattle.lapin_types.specs.ExchangeKinds.{kind_text}
-use Rattle.lapin_tokens.specs.Fields.{tokens}
+use Rattle.lapin_tokens.specs.Fields.{Field, Values, tokens, AllFit}
 use Rattle.lapin_tokens.specs.Reading.{◌>>=◌, fields_at}
 use Rattle.lapin_tokens.proofs.FieldLaws.{bind_some, some_is, fields_again, fields_found}
 use Rattle.lapin_tokens.proofs.Plain.{AllPlain, plain_append}
@@ -26,7 +26,7 @@ use Rattle.lapin_method_text.specs.Methods.{method_tokens, MethodFits}
 use Rattle.lapin_method_text.specs.MethodReading.{method_at}
 use Rattle.lapin_method_text.proofs.MethodLaws.{plain_method, method_again, method_found}
 use Rattle.lapin_text.specs.Calls.{is_standard, IsNamed, kind_named, method_of, call_of}
-use Rattle.lapin_text.specs.CallText.{close_fields, content_fields, call_tokens, CallFits, call_with, call_named, call_at}
+use Rattle.lapin_text.specs.CallText.{close_fields, content_fields, try_publish_fields, limit_fields, queued_tokens, call_tokens, QueuedFits, CallFits, call_with, try_publish_of, call_named, call_at}
 
 -- ---- kinds of exchanges
 
@@ -62,18 +62,27 @@ kind_found name = picked_found (bytes_eq name (codes "direct")) (bytes_eq name (
 
 -- ---- what was written is read
 
-as_method : (c : Call) (rest : List (List ℕ)) → MethodFits (method_of c) → call_at (method_tokens (method_of c) ++ rest) ≡ (method_at (method_tokens (method_of c) ++ rest) >>= λ m. call_with m.0 m.1) → call_with (method_of c) rest ≡ Some (c, rest) → call_at (method_tokens (method_of c) ++ rest) ≡ Some (c, rest)
-as_method c rest h is made = is ∙ rw (method_again (method_of c) rest h) made
+-- the method's call is read behind it; nothing says so where there is no method
+abbrev IsMade : Option Method → Call → List (List ℕ) → Type 0
+IsMade None c rest = ⊥
+IsMade (Some m) c rest = call_with m rest ≡ Some (c, rest)
+
+as_method : (queued : Option Method) (c : Call) (rest : List (List ℕ)) → QueuedFits queued → call_at (queued_tokens queued ++ rest) ≡ (method_at (queued_tokens queued ++ rest) >>= λ m. call_with m.0 m.1) → IsMade queued c rest → call_at (queued_tokens queued ++ rest) ≡ Some (c, rest)
+as_method None c rest h is made = absurd h
+as_method (Some m) c rest h is made = is ∙ rw (method_again m rest h) made
 
 pub call_again : (c : Call) (rest : List (List ℕ)) → CallFits c → call_at (call_tokens c ++ rest) ≡ Some (c, rest)
 unfolding call_at call_named
 call_again (call.ChannelClose reply_code reply_text) rest h = fields_again close_fields (λ v. call.ChannelClose v.0 v.1.0) (reply_code, (reply_text, tt)) rest h
 call_again (call.ConnectionClose reply_code reply_text) rest h = fields_again close_fields (λ v. call.ConnectionClose v.0 v.1.0) (reply_code, (reply_text, tt)) rest h
+call_again (call.TryBasicPublish exchange routing_key options payload properties) rest h =
+    fields_again try_publish_fields try_publish_of (exchange, (routing_key, (options.mandatory, (options.immediate, (payload, (properties, tt)))))) rest h
+call_again (call.ConfirmLimit limit) rest h = fields_again limit_fields (λ v. call.ConfirmLimit v.0) (limit, tt) rest h
 call_again (call.BasicPublish exchange routing_key options payload properties) rest h =
-    let m : Method = method_of (call.BasicPublish exchange routing_key options payload properties) in
+    let m : Method = method.Basic (basic_method.Publish exchange routing_key options.mandatory options.immediate) in
     rw (method_again m (tokens content_fields (payload, (properties, tt)) ++ rest) h.0) (fields_again content_fields (λ v. call.BasicPublish exchange routing_key options v.0 v.1.0) (payload, (properties, tt)) rest h.1)
-call_again (call.ExchangeDeclare exchange kind options arguments) rest h = as_method (call.ExchangeDeclare exchange kind options arguments) rest h.0 refl (rw (kind_again kind h.1) refl)
-call_again c rest h = as_method c rest h refl refl
+call_again (call.ExchangeDeclare exchange kind options arguments) rest h = as_method (method_of (call.ExchangeDeclare exchange kind options arguments)) (call.ExchangeDeclare exchange kind options arguments) rest h.0 refl (rw (kind_again kind h.1) refl)
+call_again c rest h = as_method (method_of c) c rest h refl refl
 
 -- ---- what was read is spelled so
 
@@ -120,15 +129,19 @@ with_found m rest x e fit =
     let p = call_of_found m a.0 a.1 fit in
     subst (λ (y : Call × List (List ℕ)). IsCall (method_tokens m ++ rest) y) (some_is (a.0, rest) x a.2) (ap (λ (t : List (List ℕ)). t ++ rest) p.0, p.1)
 
--- by whether the name is that of one of the two closes
-named_found : (channel connection : Bool) (name : List ℕ) (rest : List (List ℕ)) (x : Call × List (List ℕ)) → (channel ≡ true → name ≡ codes "channel.close") → (connection ≡ true → name ≡ codes "connection.close") → (if channel then fields_at close_fields (λ v. call.ChannelClose v.0 v.1.0) rest else if connection then fields_at close_fields (λ v. call.ConnectionClose v.0 v.1.0) rest else (method_at (name ∷ rest) >>= λ m. call_with m.0 m.1)) ≡ Some x → IsCall (name ∷ rest) x
-named_found true connection name rest x p q e =
-    let r = fields_found close_fields (λ v. call.ChannelClose v.0 v.1.0) rest x e in
-    subst (λ (c : Call). IsCall (name ∷ rest) (c, x.1)) (sym r.is) (ap (λ (t : List (List ℕ)). name ∷ t) r.spelled ∙ ap (λ (n : List ℕ). n ∷ tokens close_fields r.vs ++ x.1) (p refl), r.fit)
-named_found false true name rest x p q e =
-    let r = fields_found close_fields (λ v. call.ConnectionClose v.0 v.1.0) rest x e in
-    subst (λ (c : Call). IsCall (name ∷ rest) (c, x.1)) (sym r.is) (ap (λ (t : List (List ℕ)). name ∷ t) r.spelled ∙ ap (λ (n : List ℕ). n ∷ tokens close_fields r.vs ++ x.1) (q refl), r.fit)
-named_found false false name rest x p q e =
+-- a call with a text of its own: its name, and the tokens of its fields
+own_found : (word : List ℕ) (fs : List Field) (made : Values fs → Call) (name : List ℕ) (rest : List (List ℕ)) (x : Call × List (List ℕ)) → ((v : Values fs) → call_tokens (made v) ≡ word ∷ tokens fs v) → ((v : Values fs) → AllFit fs v → CallFits (made v)) → name ≡ word → fields_at fs made rest ≡ Some x → IsCall (name ∷ rest) x
+own_found word fs made name rest x spelled fit is e =
+    let r = fields_found fs made rest x e in
+    subst (λ (c : Call). IsCall (name ∷ rest) (c, x.1)) (sym r.is) (ap (λ (t : List (List ℕ)). name ∷ t) r.spelled ∙ ap (λ (n : List ℕ). n ∷ tokens fs r.vs ++ x.1) is ∙ ap (λ (t : List (List ℕ)). t ++ x.1) (sym (spelled r.vs)), fit r.vs r.fit)
+
+-- by whether the name is that of one of the calls with a text of their own
+named_found : (channel connection publish limit : Bool) (name : List ℕ) (rest : List (List ℕ)) (x : Call × List (List ℕ)) → (channel ≡ true → name ≡ codes "channel.close") → (connection ≡ true → name ≡ codes "connection.close") → (publish ≡ true → name ≡ codes "basic.try-publish") → (limit ≡ true → name ≡ codes "confirm.limit") → (if channel then fields_at close_fields (λ v. call.ChannelClose v.0 v.1.0) rest else if connection then fields_at close_fields (λ v. call.ConnectionClose v.0 v.1.0) rest else if publish then fields_at try_publish_fields try_publish_of rest else if limit then fields_at limit_fields (λ v. call.ConfirmLimit v.0) rest else (method_at (name ∷ rest) >>= λ m. call_with m.0 m.1)) ≡ Some x → IsCall (name ∷ rest) x
+named_found true connection publish limit name rest x p q r s e = own_found (codes "channel.close") close_fields (λ v. call.ChannelClose v.0 v.1.0) name rest x (λ v. refl) (λ v h. h) (p refl) e
+named_found false true publish limit name rest x p q r s e = own_found (codes "connection.close") close_fields (λ v. call.ConnectionClose v.0 v.1.0) name rest x (λ v. refl) (λ v h. h) (q refl) e
+named_found false false true limit name rest x p q r s e = own_found (codes "basic.try-publish") try_publish_fields try_publish_of name rest x (λ v. refl) (λ v h. h) (r refl) e
+named_found false false false true name rest x p q r s e = own_found (codes "confirm.limit") limit_fields (λ v. call.ConfirmLimit v.0) name rest x (λ v. refl) (λ v h. h) (s refl) e
+named_found false false false false name rest x p q r s e =
     let a = bind_some (method_at (name ∷ rest)) (λ m. call_with m.0 m.1) x e in
     let f = method_found (name ∷ rest) a.0 a.1 in
     let g = with_found a.0.0 a.0.1 x a.2 f.1 in
@@ -137,15 +150,22 @@ named_found false false name rest x p q e =
 pub call_found : (pieces : List (List ℕ)) (x : Call × List (List ℕ)) → call_at pieces ≡ Some x → IsCall pieces x
 unfolding call_at call_named
 call_found [] x e = absurd cc
-call_found (name ∷ rest) x e = named_found (bytes_eq name (codes "channel.close")) (bytes_eq name (codes "connection.close")) name rest x (bytes_eq-Decides name (codes "channel.close")).0 (bytes_eq-Decides name (codes "connection.close")).0 e
+call_found (name ∷ rest) x e = named_found (bytes_eq name (codes "channel.close")) (bytes_eq name (codes "connection.close")) (bytes_eq name (codes "basic.try-publish")) (bytes_eq name (codes "confirm.limit")) name rest x (bytes_eq-Decides name (codes "channel.close")).0 (bytes_eq-Decides name (codes "connection.close")).0 (bytes_eq-Decides name (codes "basic.try-publish")).0 (bytes_eq-Decides name (codes "confirm.limit")).0 e
 
 -- ---- no token has a space
+
+plain_queued : (queued : Option Method) → QueuedFits queued → AllPlain (queued_tokens queued)
+plain_queued None h = absurd h
+plain_queued (Some m) h = plain_method m h
 
 pub plain_call : (c : Call) → CallFits c → AllPlain (call_tokens c)
 plain_call (call.ChannelClose reply_code reply_text) h = (refl, plain_tokens close_fields (reply_code, (reply_text, tt)) h)
 plain_call (call.ConnectionClose reply_code reply_text) h = (refl, plain_tokens close_fields (reply_code, (reply_text, tt)) h)
+plain_call (call.TryBasicPublish exchange routing_key options payload properties) h =
+    (refl, plain_tokens try_publish_fields (exchange, (routing_key, (options.mandatory, (options.immediate, (payload, (properties, tt)))))) h)
+plain_call (call.ConfirmLimit limit) h = (refl, plain_tokens limit_fields (limit, tt) h)
 plain_call (call.BasicPublish exchange routing_key options payload properties) h =
-    let m : Method = method_of (call.BasicPublish exchange routing_key options payload properties) in
+    let m : Method = method.Basic (basic_method.Publish exchange routing_key options.mandatory options.immediate) in
     plain_append (method_tokens m) (tokens content_fields (payload, (properties, tt))) (plain_method m h.0) (plain_tokens content_fields (payload, (properties, tt)) h.1)
-plain_call (call.ExchangeDeclare exchange kind options arguments) h = plain_method (method_of (call.ExchangeDeclare exchange kind options arguments)) h.0
-plain_call c h = plain_method (method_of c) h
+plain_call (call.ExchangeDeclare exchange kind options arguments) h = plain_queued (method_of (call.ExchangeDeclare exchange kind options arguments)) h.0
+plain_call c h = plain_queued (method_of c) h

@@ -39,36 +39,39 @@ kind_named name =
 
 -- ---- the method that a call queues
 
--- the method that a call queues: the one of its name, with the arguments as fields; a close names no class and no method
-abbrev pub method_of : Call → Method
-method_of call.OpenChannel = method.Channel channel_method.Open
-method_of (call.ConnectionClose reply_code reply_text) = method.Connection (connection_method.Close reply_code reply_text 0 0)
-method_of (call.ChannelClose reply_code reply_text) = method.Channel (channel_method.Close reply_code reply_text 0 0)
-method_of (call.ChannelFlow options) = method.Channel (channel_method.Flow options.active)
-method_of (call.AccessRequest realm options) = method.Access (access_method.Request realm options.exclusive options.passive options.active options.write options.read)
-method_of (call.ExchangeDeclare exchange kind options arguments) = method.Exchange (exchange_method.Declare exchange (kind_text kind) options.passive options.durable options.auto_delete options.internal options.nowait arguments)
-method_of (call.ExchangeDelete exchange options) = method.Exchange (exchange_method.Delete exchange options.if_unused options.nowait)
-method_of (call.ExchangeBind destination source routing_key options arguments) = method.Exchange (exchange_method.Bind destination source routing_key options.nowait arguments)
-method_of (call.ExchangeUnbind destination source routing_key options arguments) = method.Exchange (exchange_method.Unbind destination source routing_key options.nowait arguments)
-method_of (call.QueueDeclare queue options arguments) = method.Queue (queue_method.Declare queue options.passive options.durable options.exclusive options.auto_delete options.nowait arguments)
-method_of (call.QueueBind queue exchange routing_key options arguments) = method.Queue (queue_method.Bind queue exchange routing_key options.nowait arguments)
-method_of (call.QueuePurge queue options) = method.Queue (queue_method.Purge queue options.nowait)
-method_of (call.QueueDelete queue options) = method.Queue (queue_method.Delete queue options.if_unused options.if_empty options.nowait)
-method_of (call.QueueUnbind queue exchange routing_key arguments) = method.Queue (queue_method.Unbind queue exchange routing_key arguments)
-method_of (call.BasicQos prefetch_count options) = method.Basic (basic_method.Qos prefetch_count options.global)
-method_of (call.BasicConsume queue consumer_tag options arguments) = method.Basic (basic_method.Consume queue consumer_tag options.no_local options.no_ack options.exclusive options.nowait arguments)
-method_of (call.BasicCancel consumer_tag options) = method.Basic (basic_method.Cancel consumer_tag options.nowait)
-method_of (call.BasicPublish exchange routing_key options payload properties) = method.Basic (basic_method.Publish exchange routing_key options.mandatory options.immediate)
-method_of (call.BasicGet queue options) = method.Basic (basic_method.Get queue options.no_ack)
-method_of (call.BasicAck delivery_tag options) = method.Basic (basic_method.Ack delivery_tag options.multiple)
-method_of (call.BasicNack delivery_tag options) = method.Basic (basic_method.Nack delivery_tag options.multiple options.requeue)
-method_of (call.BasicReject delivery_tag options) = method.Basic (basic_method.Reject delivery_tag options.requeue)
-method_of (call.BasicRecoverAsync options) = method.Basic (basic_method.RecoverAsync options.requeue)
-method_of (call.BasicRecover options) = method.Basic (basic_method.Recover options.requeue)
-method_of (call.ConfirmSelect options) = method.Confirm (confirm_method.Select options.nowait)
-method_of call.TxSelect = method.Tx tx_method.Select
-method_of call.TxCommit = method.Tx tx_method.Commit
-method_of call.TxRollback = method.Tx tx_method.Rollback
+-- The method that a call queues: the one of its name, with the arguments as fields. A close names no class and no method, a publish that
+-- may be refused at the limit queues the method of a publish, and a call that sets the limit queues none.
+abbrev pub method_of : Call → Option Method
+method_of call.OpenChannel = Some (method.Channel channel_method.Open)
+method_of (call.ConnectionClose reply_code reply_text) = Some (method.Connection (connection_method.Close reply_code reply_text 0 0))
+method_of (call.ChannelClose reply_code reply_text) = Some (method.Channel (channel_method.Close reply_code reply_text 0 0))
+method_of (call.ChannelFlow options) = Some (method.Channel (channel_method.Flow options.active))
+method_of (call.AccessRequest realm options) = Some (method.Access (access_method.Request realm options.exclusive options.passive options.active options.write options.read))
+method_of (call.ExchangeDeclare exchange kind options arguments) = Some (method.Exchange (exchange_method.Declare exchange (kind_text kind) options.passive options.durable options.auto_delete options.internal options.nowait arguments))
+method_of (call.ExchangeDelete exchange options) = Some (method.Exchange (exchange_method.Delete exchange options.if_unused options.nowait))
+method_of (call.ExchangeBind destination source routing_key options arguments) = Some (method.Exchange (exchange_method.Bind destination source routing_key options.nowait arguments))
+method_of (call.ExchangeUnbind destination source routing_key options arguments) = Some (method.Exchange (exchange_method.Unbind destination source routing_key options.nowait arguments))
+method_of (call.QueueDeclare queue options arguments) = Some (method.Queue (queue_method.Declare queue options.passive options.durable options.exclusive options.auto_delete options.nowait arguments))
+method_of (call.QueueBind queue exchange routing_key options arguments) = Some (method.Queue (queue_method.Bind queue exchange routing_key options.nowait arguments))
+method_of (call.QueuePurge queue options) = Some (method.Queue (queue_method.Purge queue options.nowait))
+method_of (call.QueueDelete queue options) = Some (method.Queue (queue_method.Delete queue options.if_unused options.if_empty options.nowait))
+method_of (call.QueueUnbind queue exchange routing_key arguments) = Some (method.Queue (queue_method.Unbind queue exchange routing_key arguments))
+method_of (call.BasicQos prefetch_count options) = Some (method.Basic (basic_method.Qos prefetch_count options.global))
+method_of (call.BasicConsume queue consumer_tag options arguments) = Some (method.Basic (basic_method.Consume queue consumer_tag options.no_local options.no_ack options.exclusive options.nowait arguments))
+method_of (call.BasicCancel consumer_tag options) = Some (method.Basic (basic_method.Cancel consumer_tag options.nowait))
+method_of (call.BasicPublish exchange routing_key options payload properties) = Some (method.Basic (basic_method.Publish exchange routing_key options.mandatory options.immediate))
+method_of (call.TryBasicPublish exchange routing_key options payload properties) = Some (method.Basic (basic_method.Publish exchange routing_key options.mandatory options.immediate))
+method_of (call.BasicGet queue options) = Some (method.Basic (basic_method.Get queue options.no_ack))
+method_of (call.BasicAck delivery_tag options) = Some (method.Basic (basic_method.Ack delivery_tag options.multiple))
+method_of (call.BasicNack delivery_tag options) = Some (method.Basic (basic_method.Nack delivery_tag options.multiple options.requeue))
+method_of (call.BasicReject delivery_tag options) = Some (method.Basic (basic_method.Reject delivery_tag options.requeue))
+method_of (call.BasicRecoverAsync options) = Some (method.Basic (basic_method.RecoverAsync options.requeue))
+method_of (call.BasicRecover options) = Some (method.Basic (basic_method.Recover options.requeue))
+method_of (call.ConfirmSelect options) = Some (method.Confirm (confirm_method.Select options.nowait))
+method_of (call.ConfirmLimit limit) = None
+method_of call.TxSelect = Some (method.Tx tx_method.Select)
+method_of call.TxCommit = Some (method.Tx tx_method.Commit)
+method_of call.TxRollback = Some (method.Tx tx_method.Rollback)
 
 -- ---- the call that queues a method, a class at a time; none where no call does
 

@@ -52,6 +52,7 @@ error_tokens (error.UnexpectedFrame class method) = codes "UnexpectedFrame" ∷ 
 error_tokens (error.PreconditionFailed tag current) = codes "PreconditionFailed" ∷ token wide_number tag ∷ token wide_number current ∷ []
 error_tokens error.AlreadyTaken = codes "AlreadyTaken" ∷ []
 error_tokens error.UnknownTicket = codes "UnknownTicket" ∷ []
+error_tokens (error.ConfirmsOutstanding limit) = codes "ConfirmsOutstanding" ∷ token wide_number limit ∷ []
 
 -- a delivery: its tag, exchange, routing key, whether it came before, properties, bytes, and its acker's number
 abbrev pub delivery_tokens : Delivery → List (List ℕ)

@@ -1,16 +1,17 @@
 //! Calls as text: the name and the fields of the method that the call queues.
 //!
-//! A close has its code and its text alone, and a publish is followed by its bytes and its properties. Which call queues which
-//! method stands in `queued`; what calls do stands in the session.
+//! A close has its code and its text alone, and a publish is followed by its bytes and its properties. A publish that may be refused
+//! has a name that is no method's, and so has the limit of outstanding confirms, which queues none. Which call queues which method
+//! stands in `queued`; what calls do stands in the session.
 
 ghost use Rattle.std.specs.Prelude.{◌≡◌};
 ghost use Rattle.lapin_types.specs.declared.call.Call.TheVariants as call;
 ghost use Rattle.lapin_tokens.specs.Reading.{Gives, fields_at};
-ghost use Rattle.lapin_text.specs.CallText.{close_fields, content_fields, call_with as call_with_lem, call_named as call_named_lem, call_at};
+ghost use Rattle.lapin_text.specs.CallText.{close_fields, content_fields, try_publish_fields, limit_fields, try_publish_of, call_with as call_with_lem, call_named as call_named_lem, call_at};
 
 use crate::queued::call_of;
 use lapin_method_text::read_named;
-use lapin_tokens::{ReadError, Tokens, is_word, payload, properties, text, u16_at};
+use lapin_tokens::{ReadError, Tokens, flag, is_word, payload, properties, text, u16_at, u64_at};
 use lapin_types::{BasicMethod, BasicPublishOptions, Call, Method, ShortString};
 use std::alloc::Global;
 
@@ -56,6 +57,34 @@ fn publish(
     })
 }
 
+fn try_publish(alloc: Global, tokens: &mut Tokens) -> Result<Call, ReadError>
+    ensures { Gives result tokens.new (fields_at try_publish_fields try_publish_of tokens.old) }
+{
+    let exchange = text(alloc, tokens)?;
+    let routing_key = text(alloc, tokens)?;
+    let mandatory = flag(tokens)?;
+    let immediate = flag(tokens)?;
+    let payload = payload(alloc, tokens)?;
+    let properties = properties(alloc, tokens)?;
+    Ok(Call::TryBasicPublish {
+        exchange,
+        routing_key,
+        options: BasicPublishOptions {
+            mandatory,
+            immediate,
+        },
+        payload,
+        properties,
+    })
+}
+
+fn confirm_limit(tokens: &mut Tokens) -> Result<Call, ReadError>
+    ensures { Gives result tokens.new (fields_at limit_fields (λ v. call.ConfirmLimit v.0) tokens.old) }
+{
+    let limit = u64_at(tokens)?;
+    Ok(Call::ConfirmLimit { limit })
+}
+
 // The call of a method that was read; what follows a publish is read too.
 fn call_with(alloc: Global, method: Method, tokens: &mut Tokens) -> Result<Call, ReadError>
     ensures { Gives result tokens.new (call_with_lem method tokens.old) }
@@ -91,6 +120,10 @@ fn call_named(alloc: Global, name: &[u8], tokens: &mut Tokens) -> Result<Call, R
         channel_close(alloc, tokens)
     } else if is_word(name, b"connection.close") {
         connection_close(alloc, tokens)
+    } else if is_word(name, b"basic.try-publish") {
+        try_publish(alloc, tokens)
+    } else if is_word(name, b"confirm.limit") {
+        confirm_limit(tokens)
     } else {
         match read_named(alloc, name, tokens) {
             Ok(method) => call_with(alloc, method, tokens),

@@ -102,6 +102,7 @@ fn put_error(alloc: Global, out: &mut Vec<u8>, error: Error) -> Result<(), Alloc
         }
         Error::AlreadyTaken => put_tokens(alloc, out, &[Token::Word(b"AlreadyTaken")]),
         Error::UnknownTicket => put_tokens(alloc, out, &[Token::Word(b"UnknownTicket")]),
+        Error::ConfirmsOutstanding { limit } => put_number(out, b"ConfirmsOutstanding", limit),
     }
 }
 
