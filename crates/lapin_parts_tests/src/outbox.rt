@@ -22,7 +22,7 @@ impl Part for Letterbox {
         match call.name {
             "method" => self.method(alloc, channel(call.first)?, optional(call.second)?),
             "publish" => self.publish(alloc, call),
-            "pop" => self.pop(alloc, call.first == "1"),
+            "pop" => self.pop(alloc, call.first == "1", named(alloc, call)?.as_slice()),
             "retry" => self.retry(alloc),
             "drop-unbegun" => dropped(alloc, self.outbox.drop_unbegun(channel(call.first)?)),
             "drop-channel" => dropped(alloc, self.outbox.drop_channel(channel(call.first)?)),
@@ -54,8 +54,8 @@ impl Letterbox {
         pushed_text(alloc, pushed)
     }
 
-    fn pop(&mut self, alloc: Global, flow: bool) -> Result<String, Fail> {
-        put(&mut self.held, self.outbox.pop(alloc, flow)?);
+    fn pop(&mut self, alloc: Global, flow: bool, full: &[u16]) -> Result<String, Fail> {
+        put(&mut self.held, self.outbox.pop(alloc, flow, full)?);
         match &self.held {
             Some(left) => left_text(alloc, left),
             None => said(alloc, "none"),
@@ -103,6 +103,17 @@ impl Letterbox {
         }
         said(alloc, "done")
     }
+}
+
+// The full channels that a request names.
+fn named(alloc: Global, call: &Words) -> Result<Vec<u16>, Fail> {
+    let mut full = Vec::new(alloc);
+    for word in [call.second, call.third, call.fourth] {
+        if !word.is_empty() {
+            full.push(channel(word)?)?;
+        }
+    }
+    Ok(full)
 }
 
 // A publish whose ticket is its confirm's number and 10, of so many bytes.
@@ -264,6 +275,78 @@ const RETRIES: &str = "\
     let-go-all -> done
     pending -> no";
 
+// Publishes of full channels wait, and the first of a channel that isn't full goes, however many wait in front of it. One that
+// was passed over goes before all behind it as soon as its channel is full no more.
+const FULL: &str = "\
+    publish 1 1 0 -> queued
+    publish 2 2 0 -> queued
+    publish 1 3 0 -> queued
+    publish 3 4 0 -> queued
+    publish 2 5 0 -> queued
+    publish 3 6 0 -> queued
+    pop 1 1 2 3 -> none
+    pop 0 -> none
+    pop 0 1 2 -> none
+    method 1 7 -> queued
+    pop 1 1 2 3 -> method 1 90.10 7 - first last
+    pop 1 1 2 -> method 3 60.40 14 4 first
+    pop 1 1 2 3 -> header 3 0 14 4 last
+    pop 1 1 2 -> method 3 60.40 16 6 first
+    retry -> done
+    pop 0 1 2 3 -> method 3 60.40 16 6 first again
+    pop 1 3 -> header 3 0 16 6 last
+    pop 1 1 -> method 2 60.40 12 2 first
+    pop 1 -> header 2 0 12 2 last
+    publish 3 8 0 -> queued
+    pop 1 1 2 -> method 3 60.40 18 8 first
+    pop 1 -> header 3 0 18 8 last
+    pop 1 2 -> method 1 60.40 11 1 first
+    pop 1 -> header 1 0 11 1 last
+    pop 1 2 -> method 1 60.40 13 3 first
+    pop 1 -> header 1 0 13 3 last
+    pop 1 2 -> none
+    pending -> yes
+    pop 1 -> method 2 60.40 15 5 first
+    pop 1 2 -> header 2 0 15 5 last
+    pop 1 -> none
+    pending -> no";
+
+// Drops take publishes that were passed over as they take others, and what joins behind them is found.
+const FULL_DROPS: &str = "\
+    publish 1 1 0 -> queued
+    publish 2 2 0 -> queued
+    publish 1 3 0 -> queued
+    publish 3 4 0 -> queued
+    pop 1 1 2 3 -> none
+    drop-unbegun 1 -> 11 1
+    pop 1 2 3 -> method 1 60.40 13 3 first
+    pop 1 -> header 1 0 13 3 last
+    publish 1 5 0 -> queued
+    drop-channel 2 -> 12 2
+    drop-channel 2 -> none
+    publish 2 6 0 -> queued
+    pop 1 3 -> method 1 60.40 15 5 first
+    pop 1 -> header 1 0 15 5 last
+    pop 1 3 2 -> none
+    drop-unbegun 3 -> 14 4
+    publish 3 7 0 -> queued
+    publish 2 8 0 -> queued
+    pop 1 3 -> method 2 60.40 16 6 first
+    pop 1 -> header 2 0 16 6 last
+    pop 1 2 -> method 3 60.40 17 7 first
+    pop 1 -> header 3 0 17 7 last
+    pop 1 2 -> none
+    drop-all -> 18 8
+    pop 1 2 -> none
+    publish 4 9 0 -> queued
+    publish 2 10 0 -> queued
+    pop 1 4 2 -> none
+    drop-all -> 19 9
+    pop 1 4 -> method 2 60.40 20 10 first
+    pop 1 -> header 2 0 20 10 last
+    pop 1 -> none
+    pending -> no";
+
 // A drop of a channel tells of the frame that was given back, of what is left of a begun publish as one, of methods, of publishes.
 const DROPS: &str = "\
     drop-all -> none
@@ -327,7 +410,7 @@ const POISON: &str = "\
 
 #[test]
 fn frames_leave_in_order(rt: HostRuntime) -> Result<(), Fail> {
-    for script in [ORDER, CUTS, RETRIES, DROPS, POISON] {
+    for script in [ORDER, CUTS, RETRIES, FULL, FULL_DROPS, DROPS, POISON] {
         runs(&rt, rt.alloc(), Letterbox::new(rt.alloc())?, script)?;
     }
     Ok(())

@@ -80,6 +80,44 @@ lost -> lost
 confirm 4 -> error ConnectionLost
 confirm 5 -> error ConnectionLost
 next 1 -> noframe
+
+# examples/limited-publisher.txt
+call 1 channel.open -> ticket 1
+next 1 -> frame method 1 channel.open
+recv method 1 channel.open-ok -> received
+call 1 confirm.select 0 -> ticket 2
+next 1 -> frame method 1 confirm.select 0
+recv method 1 confirm.select-ok -> received
+call 1 confirm.limit 2 -> ticket 3
+ticket 3 -> answer done
+next 1 -> noframe
+call 1 basic.try-publish x x6f7264657273 0 0 x6f726465722d31 [delivery_mode=2,message_id=x31] -> publish 4 1
+call 1 basic.try-publish x x6f7264657273 0 0 x6f726465722d32 [delivery_mode=2,message_id=x32] -> publish 5 2
+call 1 basic.try-publish x x6f7264657273 0 0 x6f726465722d33 [delivery_mode=2,message_id=x33] -> refused ConfirmsOutstanding 2
+next 1 -> frame method 1 basic.publish x x6f7264657273 0 0
+next 1 -> frame header 1 60 7 [delivery_mode=2,message_id=x31]
+next 1 -> frame body 1 x6f726465722d31
+next 1 -> frame method 1 basic.publish x x6f7264657273 0 0
+next 1 -> frame header 1 60 7 [delivery_mode=2,message_id=x32]
+next 1 -> frame body 1 x6f726465722d32
+ticket 4 -> answer confirm 1
+call 1 basic.try-publish x x6f7264657273 0 0 x6f726465722d33 [delivery_mode=2,message_id=x33] -> refused ConfirmsOutstanding 2
+recv method 1 basic.ack 1 0 -> received
+confirm 1 -> confirmed ack -
+call 1 basic.try-publish x x6f7264657273 0 0 x6f726465722d33 [delivery_mode=2,message_id=x33] -> publish 6 3
+next 1 -> frame method 1 basic.publish x x6f7264657273 0 0
+next 1 -> frame header 1 60 7 [delivery_mode=2,message_id=x33]
+next 1 -> frame body 1 x6f726465722d33
+call 1 basic.publish x x6f7264657273 0 0 x6f726465722d34 [delivery_mode=2,message_id=x34] -> publish 7 4
+next 1 -> noframe
+recv method 1 basic.ack 3 1 -> received
+confirm 2 -> confirmed ack -
+confirm 3 -> confirmed ack -
+next 1 -> frame method 1 basic.publish x x6f7264657273 0 0
+next 1 -> frame header 1 60 7 [delivery_mode=2,message_id=x34]
+next 1 -> frame body 1 x6f726465722d34
+recv method 1 basic.ack 4 0 -> received
+confirm 4 -> confirmed ack -
 ";
 
 /// Those that declare what they publish to.

@@ -3,8 +3,8 @@ use crate::driver::{shows, shows_all};
 use crate::{
     ackers, asides, broker_close, calls, channel_close, confirms, connection_close, consumer_ends,
     consumers, content_ends, content_faults, contents, crossed, deliveries, discards, examples,
-    flow, gets, letting_go, loss, methods_table, open_cancels, returned, session_close, tutorials,
-    unexpected, waits,
+    flow, full_channels, gets, letting_go, limits, loss, methods_table, open_cancels, returned,
+    session_close, tutorials, unexpected, waits,
 };
 use std::alloc::{AllocError, Global};
 use std::test::Fail;
@@ -19,6 +19,8 @@ fn histories_have_their_records(rt: HostRuntime) -> Result<(), Fail> {
         calls::HISTORIES,
         flow::HISTORIES,
         confirms::HISTORIES,
+        limits::HISTORIES,
+        full_channels::HISTORIES,
         channel_close::HISTORIES,
         broker_close::HISTORIES,
         crossed::HISTORIES,

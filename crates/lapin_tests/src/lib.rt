@@ -48,11 +48,15 @@ mod faults;
 #[cfg(test)]
 mod flow;
 #[cfg(test)]
+mod full_channels;
+#[cfg(test)]
 mod gets;
 #[cfg(test)]
 mod histories;
 #[cfg(test)]
 mod letting_go;
+#[cfg(test)]
+mod limits;
 #[cfg(test)]
 mod lines;
 #[cfg(test)]

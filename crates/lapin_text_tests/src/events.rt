@@ -2,7 +2,8 @@
 use lapin_text::read_event;
 use lapin_types::{
     AckerCall, BasicAckOptions, BasicCancelOptions, BasicGetOptions, BasicNackOptions,
-    BasicRejectOptions, Call, Event, NoMemory, ShortString,
+    BasicProperties, BasicPublishOptions, BasicRejectOptions, Call, Event, NoMemory, Payload,
+    ShortString,
 };
 use std::alloc::Global;
 use std::test::Fail;
@@ -63,6 +64,45 @@ fn a_line_says_its_cancel(rt: HostRuntime) -> Result<(), Fail> {
     );
     assert!(rt; says(alloc, "call 1 basic.cancel x74 1", cancel)?);
     Ok(())
+}
+
+#[test]
+fn a_line_says_its_limit(rt: HostRuntime) -> Result<(), Fail> {
+    let alloc = rt.alloc();
+    let limit = Event::Call(2, Call::ConfirmLimit { limit: 70000 });
+    assert!(rt; says(alloc, "call 2 confirm.limit 70000", limit)?);
+    Ok(())
+}
+
+// Texts and marks that differ show which of them is which. A publish that can't be refused is another call.
+#[test]
+fn a_line_says_its_publish_that_may_be_refused(rt: HostRuntime) -> Result<(), Fail> {
+    let alloc = rt.alloc();
+    let publish = publish_that_may_be_refused(alloc)?;
+    assert!(rt;
+        says(
+            alloc,
+            "call 1 basic.try-publish x65 x6b 1 0 x6869 []",
+            publish
+        )?
+    );
+    let publish = publish_that_may_be_refused(alloc)?;
+    assert!(rt; !says(alloc, "call 1 basic.publish x65 x6b 1 0 x6869 []", publish)?);
+    Ok(())
+}
+
+fn publish_that_may_be_refused(alloc: Global) -> Result<Event, Fail> {
+    let call = Call::TryBasicPublish {
+        exchange: ShortString::new(alloc, "e")?,
+        routing_key: ShortString::new(alloc, "k")?,
+        options: BasicPublishOptions {
+            mandatory: true,
+            immediate: false,
+        },
+        payload: Payload::new(alloc, b"hi")?,
+        properties: BasicProperties::default(),
+    };
+    Ok(Event::Call(1, call))
 }
 
 // Whether a line says this event.

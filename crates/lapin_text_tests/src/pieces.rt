@@ -116,6 +116,8 @@ method channel.flow 0 -> kept
 method access.request x2f 0 1 0 1 1 -> kept
 method confirm.select 0 -> kept
 method tx.rollback-ok -> kept
+method confirm.limit 1 -> none
+method basic.try-publish x x68656c6c6f 0 0 -> none
 method exchange.declare x6c x66 0 1 0 0 0 {} -> kept
 method exchange.unbind-ok -> kept
 method queue.declare x71 0 0 0 0 0 {x61=I-1,x62=F{}} -> kept
@@ -137,9 +139,16 @@ frame body 1 x  -> none
 frame header 1 60 [] -> none
 frame method 1 -> none
 frame Body 1 x -> none
+frame method 1 confirm.limit 1 -> none
+frame method 1 basic.try-publish x x68656c6c6f 0 0 -> none
+frame method 1 basic.try-publish x x68656c6c6f 0 0 x [] -> none
 frame  -> none
 
 event call 1 basic.publish x x68656c6c6f 1 0 x6869 [] -> read
+event call 1 basic.try-publish x x68656c6c6f 1 0 x6869 [] -> read
+event call 65535 basic.try-publish x65 x6b 0 1 x [headers={},delivery_mode=2] -> read
+event call 1 confirm.limit 0 -> read
+event call 65535 confirm.limit 18446744073709551615 -> read
 event call 0 channel.open -> read
 event call 65535 confirm.select 1 -> read
 event call 1 channel.close 65535 x676f6e65 -> read
@@ -185,6 +194,34 @@ event call 1 channel.close 65536 x -> none
 event call 1 channel.close 200 x 0 0 -> none
 event call 65536 channel.open -> none
 event call 1 basic.publish x x 0 0 x -> none
+event call 1 basic.try-publish -> none
+event call 1 basic.try-publish x x 0 0 -> none
+event call 1 basic.try-publish x x 0 0 x -> none
+event call 1 basic.try-publish x x 0 0 [] x -> none
+event call 1 basic.try-publish x x 0 0 x [] 0 -> none
+event call 1 basic.try-publish x x 0 2 x [] -> none
+event call 1 basic.try-publish x x 0 x [] -> none
+event call 1 basic.try-publish x 68 0 0 x [] -> none
+event call 1 basic.try-publish xff x 0 0 x [] -> none
+event call 65536 basic.try-publish x x 0 0 x [] -> none
+event call 1 basic.try_publish x x 0 0 x [] -> none
+event call 1 basic.Try-publish x x 0 0 x [] -> none
+event call 1 try-publish x x 0 0 x [] -> none
+event call 1 confirm.limit -> none
+event call 1 confirm.limit x -> none
+event call 1 confirm.limit 01 -> none
+event call 1 confirm.limit -1 -> none
+event call 1 confirm.limit 18446744073709551616 -> none
+event call 1 confirm.limit 1 1 -> none
+event call 1 confirm.limit  1 -> none
+event call 65536 confirm.limit 1 -> none
+event call 1 confirm.limits 1 -> none
+event call 1 Confirm.limit 1 -> none
+event call 1 confirm.limit-ok -> none
+event confirm.limit 1 -> none
+event recv method 1 confirm.limit 1 -> none
+event recv method 1 basic.try-publish x x 0 0 -> none
+event recv method 1 basic.try-publish x x 0 0 x [] -> none
 event call 1 basic.get x71 -> none
 event call 1 basic.get x71 2 -> none
 event call 1 basic.get 71 0 -> none

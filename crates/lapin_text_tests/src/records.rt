@@ -1,6 +1,6 @@
 //! Lists of records and of events: what is printed, and where parsing stops.
 use lapin_text::{parse_events, print_records};
-use lapin_types::{ChannelState, ConnectionState, Record};
+use lapin_types::{ChannelState, ConnectionState, Error, Record};
 use std::test::Fail;
 
 // Each state of the connection and of a channel has its word.
@@ -8,6 +8,10 @@ use std::test::Fail;
 fn records_are_printed_a_line_each(rt: HostRuntime) -> Result<(), Fail> {
     let records = [
         Record::Ticket(1),
+        Record::Refused(Error::ConfirmsOutstanding { limit: 1 }),
+        Record::Refused(Error::ConfirmsOutstanding {
+            limit: 18446744073709551615,
+        }),
         Record::NoFrame,
         Record::State(ConnectionState::Open, ChannelState::Base),
         Record::State(ConnectionState::Closing, ChannelState::Down),
@@ -19,7 +23,8 @@ fn records_are_printed_a_line_each(rt: HostRuntime) -> Result<(), Fail> {
         Record::Lost,
     ];
     let printed = print_records(rt.alloc(), &records)?;
-    let wanted = b"ticket 1\nnoframe\nstate open base\nstate closing down\nstate closed opening\n\
+    let wanted = b"ticket 1\nrefused ConfirmsOutstanding 1\n\
+        refused ConfirmsOutstanding 18446744073709551615\nnoframe\nstate open base\nstate closing down\nstate closed opening\n\
         state lost crossed\nstate open closed\nstate open open\nstate open closing\nlost\n";
     assert_eq!(rt; printed.as_slice(), wanted.as_slice());
     Ok(())
