@@ -67,6 +67,30 @@ def held(count):
         yield "next 1"
 
 
+def limited(count, full=0):
+    """Publishes of one channel in turn, each settled and polled, while as many other channels are full and hold back what waits."""
+    yield from opened(full + 1)
+    for channel in range(2, full + 2):
+        yield f"call {channel} confirm.limit 1"
+        yield from publish(channel)
+        for _ in range(3):
+            yield f"call {channel} basic.publish x x6b6579 0 0 x []"
+    yield "call 1 confirm.limit 1"
+    for number in range(count):
+        yield from publish(1)
+        yield from settled(1, number + 1, 4 * full + number + 1)
+
+
+def piled_up(count):
+    """A full channel on which ever more publishes wait, and each time a request that gives none."""
+    yield from opened(1)
+    yield "call 1 confirm.limit 1"
+    yield from publish(1)
+    for _ in range(count):
+        yield "call 1 basic.publish x x6b6579 0 0 x []"
+        yield "next 1"
+
+
 def polls(count):
     """Polls of a confirm that is outstanding, and of a ticket."""
     yield from opened(1)
@@ -142,6 +166,9 @@ WORKLOADS = [
     ("window of 1,000 outstanding", lambda n: published(n, window=1_000), 2_000, 20_000),
     ("publish and confirm on 1,000 channels", lambda n: published(n, channels=1_000), 2_000, 20_000),
     ("publishes held, then sent", held, 2_000, 20_000),
+    ("publish and confirm, limit of 1", limited, 2_000, 20_000),
+    ("publish and confirm behind 100 full channels", lambda n: limited(n, full=100), 2_000, 20_000),
+    ("publishes that pile up on a full channel", piled_up, 2_000, 20_000),
     ("polls", polls, 10_000, 50_000),
     ("closes", closes, 500, 5_000),
     ("closes on 1,000 channels", lambda n: closes(n, channels=1_000), 2_000, 7_000),
