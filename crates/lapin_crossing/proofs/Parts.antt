@@ -2,9 +2,8 @@
 use denote.Param.Send.{IsSend, recorded_send, sendable}
 use Rattle.std.proofs.Crossing.{crosses}
 use Rattle.std.proofs.MapsCrossing as maps
-use Rattle.lapin_values.proofs.text.ShortString.TheSendSync as text
 use Rattle.lapin_values.proofs.payload.Payload.TheSendSync as payload
-use Rattle.lapin_crossing.proofs.Types.{table_send, method_field_send, header_field_send, publish_field_send, left_field_send, request_field_send, answer_send, returned_send, properties_send, delivery_send, job_send}
+use Rattle.lapin_crossing.proofs.Types.{text_send, table_send, method_field_send, header_field_send, publish_field_send, left_field_send, request_field_send, answer_send, returned_send, properties_send, delivery_send, job_send}
 use Rattle.lapin_outbox.specs.contracts.order.Order as order_
 use Rattle.lapin_outbox.specs.contracts.queues.Waiting as waiting_
 use Rattle.lapin_outbox.specs.contracts.begun.Begun as begun_
@@ -75,7 +74,7 @@ pub confirms_send : IsSend confirms_.the_row
 confirms_send = search (tray_send, crosses, sendable) depth 400 fits 200000
 
 pub entry_send : IsSend entry_.the_row
-entry_send = search (properties_send, text.the_send, crosses, sendable) depth 400 fits 200000
+entry_send = search (properties_send, text_send, crosses, sendable) depth 400 fits 200000
 
 pub contents_send : IsSend contents_.the_row
 contents_send = search (entry_send, crosses, sendable) depth 400 fits 200000
@@ -84,7 +83,7 @@ pub switches_send : IsSend switches_.the_row
 switches_send = search (crosses, sendable) depth 400 fits 200000
 
 pub seat_send : IsSend seat_.the_row
-seat_send = search (delivery_send, text.the_send, crosses, sendable) depth 400 fits 200000
+seat_send = search (delivery_send, text_send, crosses, sendable) depth 400 fits 200000
 
 pub hall_send : IsSend hall_.the_row
 hall_send = search (seat_send, job_send, crosses, sendable) depth 400 fits 200000
@@ -96,7 +95,7 @@ pub consumers_send : IsSend consumers_.the_row
 consumers_send = search (hall_send, line_send, crosses, sendable) depth 400 fits 200000
 
 pub binding_field_send : IsSend (binding_.the_field).row
-binding_field_send = search (table_send, text.the_send, crosses, sendable) depth 400 fits 200000
+binding_field_send = search (table_send, text_send, crosses, sendable) depth 400 fits 200000
 
 pub binding_send : IsSend binding_.the_row
 binding_send = recorded_send (binding_.the_field).row _ _ (binding_.the_type).to_one binding_field_send
@@ -105,7 +104,7 @@ pub bindings_send : IsSend bindings_.the_row
 bindings_send = search (binding_send, crosses, sendable) depth 400 fits 200000
 
 pub exchange_field_send : IsSend (exchange_.the_field).row
-exchange_field_send = search (bindings_send, table_send, text.the_send, crosses, sendable) depth 400 fits 200000
+exchange_field_send = search (bindings_send, table_send, text_send, crosses, sendable) depth 400 fits 200000
 
 pub exchange_send : IsSend exchange_.the_row
 exchange_send = recorded_send (exchange_.the_field).row _ _ (exchange_.the_type).to_one exchange_field_send
@@ -114,7 +113,7 @@ pub exchanges_send : IsSend exchanges_.the_row
 exchanges_send = search (exchange_send, crosses, sendable) depth 400 fits 200000
 
 pub queue_field_send : IsSend (queue_.the_field).row
-queue_field_send = search (bindings_send, table_send, text.the_send, crosses, sendable) depth 400 fits 200000
+queue_field_send = search (bindings_send, table_send, text_send, crosses, sendable) depth 400 fits 200000
 
 pub queue_send : IsSend queue_.the_row
 queue_send = recorded_send (queue_.the_field).row _ _ (queue_.the_type).to_one queue_field_send

@@ -1,11 +1,8 @@
 -- The values that events and records hold, from tables up: which of them may cross threads.
 use denote.Param.Send.{IsSend, IsSync, recorded_send, recorded_sync, sendable}
 use Rattle.std.proofs.Crossing.{crosses}
-use Rattle.lapin_values.proofs.value.FieldArray.TheLaws.TheKnot as knot
-use Rattle.lapin_values.proofs.text.ShortString.TheSendSync as text
+pub use Rattle.lapin_values.proofs.Crosses.{text_send, text_sync, table_send, table_sync, properties_send, properties_sync}
 use Rattle.lapin_values.proofs.payload.Payload.TheSendSync as payload
-use Rattle.lapin_values.specs.contracts.value.FieldTable as table_
-use Rattle.lapin_values.specs.contracts.properties.BasicProperties as properties_
 use Rattle.lapin_methods.specs.contracts.frame.ContentHeader as header_
 use Rattle.lapin_methods.specs.contracts.basic.BasicMethod as basic_
 use Rattle.lapin_methods.specs.contracts.queue.QueueMethod as queue_
@@ -28,18 +25,6 @@ use Rattle.lapin_types.specs.contracts.leaving.Publish as publish_
 use Rattle.lapin_types.specs.contracts.request.Reply as reply_
 use Rattle.lapin_types.specs.contracts.request.Request as request_
 
-pub table_send : IsSend table_.the_row
-table_send = search (knot.crosses, crosses, sendable) depth 400 fits 200000
-
-pub table_sync : IsSync table_.the_row
-table_sync = search (knot.crosses, crosses, sendable) depth 400 fits 200000
-
-pub properties_send : IsSend properties_.the_row
-properties_send = search (table_send, text.the_send, crosses, sendable) depth 400 fits 200000
-
-pub properties_sync : IsSync properties_.the_row
-properties_sync = search (table_sync, text.the_sync, crosses, sendable) depth 400 fits 200000
-
 pub header_field_send : IsSend (header_.the_field).row
 header_field_send = search (properties_send, crosses, sendable) depth 400 fits 200000
 
@@ -47,28 +32,28 @@ pub header_field_sync : IsSync (header_.the_field).row
 header_field_sync = search (properties_sync, crosses, sendable) depth 400 fits 200000
 
 pub basic_field_send : IsSend (basic_.the_field).row
-basic_field_send = search (table_send, text.the_send, crosses, sendable) depth 400 fits 200000
+basic_field_send = search (table_send, text_send, crosses, sendable) depth 400 fits 200000
 
 pub basic_field_sync : IsSync (basic_.the_field).row
-basic_field_sync = search (table_sync, text.the_sync, crosses, sendable) depth 400 fits 200000
+basic_field_sync = search (table_sync, text_sync, crosses, sendable) depth 400 fits 200000
 
 pub queue_field_send : IsSend (queue_.the_field).row
-queue_field_send = search (table_send, text.the_send, crosses, sendable) depth 400 fits 200000
+queue_field_send = search (table_send, text_send, crosses, sendable) depth 400 fits 200000
 
 pub queue_field_sync : IsSync (queue_.the_field).row
-queue_field_sync = search (table_sync, text.the_sync, crosses, sendable) depth 400 fits 200000
+queue_field_sync = search (table_sync, text_sync, crosses, sendable) depth 400 fits 200000
 
 pub exchange_field_send : IsSend (exchange_.the_field).row
-exchange_field_send = search (table_send, text.the_send, crosses, sendable) depth 400 fits 200000
+exchange_field_send = search (table_send, text_send, crosses, sendable) depth 400 fits 200000
 
 pub exchange_field_sync : IsSync (exchange_.the_field).row
-exchange_field_sync = search (table_sync, text.the_sync, crosses, sendable) depth 400 fits 200000
+exchange_field_sync = search (table_sync, text_sync, crosses, sendable) depth 400 fits 200000
 
 pub method_field_send : IsSend (method_.the_field).row
-method_field_send = search (basic_field_send, queue_field_send, exchange_field_send, text.the_send, crosses, sendable) depth 400 fits 200000
+method_field_send = search (basic_field_send, queue_field_send, exchange_field_send, text_send, crosses, sendable) depth 400 fits 200000
 
 pub method_field_sync : IsSync (method_.the_field).row
-method_field_sync = search (basic_field_sync, queue_field_sync, exchange_field_sync, text.the_sync, crosses, sendable) depth 400 fits 200000
+method_field_sync = search (basic_field_sync, queue_field_sync, exchange_field_sync, text_sync, crosses, sendable) depth 400 fits 200000
 
 pub frame_field_send : IsSend (frame_.the_field).row
 frame_field_send = search (method_field_send, header_field_send, payload.the_send, crosses, sendable) depth 400 fits 200000
@@ -77,19 +62,19 @@ pub frame_field_sync : IsSync (frame_.the_field).row
 frame_field_sync = search (method_field_sync, header_field_sync, payload.the_sync, crosses, sendable) depth 400 fits 200000
 
 pub call_field_send : IsSend (call_.the_field).row
-call_field_send = search (table_send, properties_send, text.the_send, payload.the_send, crosses, sendable) depth 400 fits 200000
+call_field_send = search (table_send, properties_send, text_send, payload.the_send, crosses, sendable) depth 400 fits 200000
 
 pub call_field_sync : IsSync (call_.the_field).row
-call_field_sync = search (table_sync, properties_sync, text.the_sync, payload.the_sync, crosses, sendable) depth 400 fits 200000
+call_field_sync = search (table_sync, properties_sync, text_sync, payload.the_sync, crosses, sendable) depth 400 fits 200000
 
 pub delivery_field_send : IsSend (delivery_.the_field).row
-delivery_field_send = search (properties_send, text.the_send, payload.the_send, crosses, sendable) depth 400 fits 200000
+delivery_field_send = search (properties_send, text_send, payload.the_send, crosses, sendable) depth 400 fits 200000
 
 pub delivery_send : IsSend delivery_.the_row
 delivery_send = recorded_send (delivery_.the_field).row _ _ (delivery_.the_type).to_one delivery_field_send
 
 pub returned_field_send : IsSend (returned_.the_field).row
-returned_field_send = search (delivery_field_send, text.the_send, crosses, sendable) depth 400 fits 200000
+returned_field_send = search (delivery_field_send, text_send, crosses, sendable) depth 400 fits 200000
 
 pub returned_send : IsSend returned_.the_row
 returned_send = recorded_send (returned_.the_field).row _ _ (returned_.the_type).to_one returned_field_send
@@ -110,7 +95,7 @@ pub confirmation_send : IsSend confirmation_.the_row
 confirmation_send = recorded_send (confirmation_.the_field).row _ _ (confirmation_.the_type).to_one confirmation_field_send
 
 pub answer_field_send : IsSend (answer_.the_field).row
-answer_field_send = search (got_send, text.the_send, crosses, sendable) depth 400 fits 200000
+answer_field_send = search (got_send, text_send, crosses, sendable) depth 400 fits 200000
 
 pub answer_send : IsSend answer_.the_row
 answer_send = recorded_send (answer_.the_field).row _ _ (answer_.the_type).to_one answer_field_send
@@ -146,10 +131,10 @@ pub left_field_send : IsSend (left_.the_field).row
 left_field_send = search (frame_field_send, crosses, sendable) depth 400 fits 200000
 
 pub publish_field_send : IsSend (publish_.the_field).row
-publish_field_send = search (properties_send, text.the_send, payload.the_send, crosses, sendable) depth 400 fits 200000
+publish_field_send = search (properties_send, text_send, payload.the_send, crosses, sendable) depth 400 fits 200000
 
 pub reply_field_send : IsSend (reply_.the_field).row
-reply_field_send = search (table_send, text.the_send, crosses, sendable) depth 400 fits 200000
+reply_field_send = search (table_send, text_send, crosses, sendable) depth 400 fits 200000
 
 pub request_field_send : IsSend (request_.the_field).row
 request_field_send = search (reply_field_send, crosses, sendable) depth 400 fits 200000

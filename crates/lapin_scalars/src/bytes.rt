@@ -1,12 +1,12 @@
 //! Bytes as pairs of hexadecimal digits in lower case, and short texts, whose bytes are written so.
 
-ghost use Rattle.std.specs.Prelude.{◌≡◌, ◌∷◌, ℕ, List, true, IfSome, IfNone, IfOk};
+ghost use Rattle.std.specs.Prelude.{◌≡◌, ◌≤◌, ◌∷◌, ℕ, List, true, Some, length, IfSome, IfNone, IfOk};
 ghost use Rattle.lapin_scalars.specs.Scalars.{scalar_text, scalar_fits};
 ghost use Rattle.lapin_scalars.specs.Scalars.Scalar.{text as a_text, bytes as some_bytes, pairs as some_pairs};
 ghost use Rattle.lapin_scalars.specs.Reading.{GivesValue, scalar_of};
 
 use crate::fault::ReadError;
-use crate::hexadecimal::{are_digits, decode};
+use crate::hexadecimal::{are_digits, decode, decode_few};
 use crate::marks::behind;
 use lapin_values::{NoMemory, Payload, ShortString, ShortStringError};
 use std::alloc::Global;
@@ -35,20 +35,57 @@ pub fn bytes_of(alloc: Global, piece: &[u8]) -> Result<Vec<u8>, ReadError>
     }
 }
 
+// The short text of the bytes that a piece says.
+fn text_of(alloc: Global, bytes: &[u8]) -> Result<ShortString, ReadError>
+    ensures { (piece : List ℕ) → scalar_of some_bytes piece ≡ Some bytes.now → GivesValue (λ s. s) result (scalar_of a_text piece) }
+{
+    match str::from_utf8(bytes) {
+        Ok(text) => match ShortString::new(alloc, text) {
+            Ok(short) => Ok(short),
+            Err(ShortStringError::TooLong { .. }) => Err(ReadError::Bad),
+            Err(ShortStringError::NoMemory) => Err(ReadError::Memory),
+        },
+        Err(_) => Err(ReadError::Bad),
+    }
+}
+
+// The short text that pairs of digits say behind an x. Few are decoded in place, so that only the text takes memory.
+fn few_of(alloc: Global, digits: &[u8]) -> Result<ShortString, ReadError>
+    requires { length digits.now ≤ 64 }
+    ensures { GivesValue (λ s. s) result (scalar_of a_text (120 ∷ digits.now)) }
+{
+    if digits.len() % 2 != 0 {
+        return Err(ReadError::Bad);
+    }
+    if !are_digits(digits) {
+        return Err(ReadError::Bad);
+    }
+    let bytes = decode_few(digits);
+    text_of(alloc, bytes.as_slice())
+}
+
+#[inline(never)]
+fn many_of(alloc: Global, digits: &[u8]) -> Result<ShortString, ReadError>
+    ensures { GivesValue (λ s. s) result (scalar_of a_text (120 ∷ digits.now)) }
+{
+    match pairs_of(alloc, digits) {
+        Ok(bytes) => text_of(alloc, &bytes),
+        Err(error) => Err(error),
+    }
+}
+
 /// The short text that an x and pairs of digits say.
 pub fn short_of(alloc: Global, piece: &[u8]) -> Result<ShortString, ReadError>
     ensures { GivesValue (λ s. s) result (scalar_of a_text piece.now) }
 {
-    match bytes_of(alloc, piece) {
-        Ok(bytes) => match str::from_utf8(&bytes) {
-            Ok(text) => match ShortString::new(alloc, text) {
-                Ok(short) => Ok(short),
-                Err(ShortStringError::TooLong { .. }) => Err(ReadError::Bad),
-                Err(ShortStringError::NoMemory) => Err(ReadError::Memory),
-            },
-            Err(_) => Err(ReadError::Bad),
-        },
-        Err(error) => Err(error),
+    match behind(b'x', piece) {
+        Some(digits) => {
+            if digits.len() > 64 {
+                return many_of(alloc, digits);
+            }
+            few_of(alloc, digits)
+        }
+        None => Err(ReadError::Bad),
     }
 }
 

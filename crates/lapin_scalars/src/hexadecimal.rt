@@ -5,6 +5,7 @@ ghost use Rattle.std.specs.Vec.{vec_len, vec_capacity};
 ghost use Rattle.hex.specs.Hex.{encode_lower, lower_digits};
 ghost use Rattle.lapin_scalars.specs.Digits.{is_digit as is_a_digit, all_digits};
 
+use arrayvec::ArrayVec;
 use std::alloc::{AllocError, Global};
 
 #[inline(always)]
@@ -51,6 +52,22 @@ pub fn decode(alloc: Global, digits: &[u8]) -> Result<Vec<u8>, AllocError>
         bytes.push_reserved(byte_of(u16::from_le_bytes(*pair)));
     }
     Ok(bytes)
+}
+
+/// The bytes that few pairs of digits say, in place.
+#[inline(always)]
+pub fn decode_few(digits: &[u8]) -> ArrayVec<u8, 32>
+    requires pairs { length digits.now % 2 ≡ 0 }
+    requires few { length digits.now ≤ 64 }
+    requires digits { all_digits digits.now ≡ true }
+    ensures { encode_lower result.items ≡ digits.now }
+{
+    let mut bytes = ArrayVec::new();
+    let (pairs, _) = digits.as_chunks::<2>();
+    for pair in pairs {
+        bytes.push(byte_of(u16::from_le_bytes(*pair)));
+    }
+    bytes
 }
 
 // The digit that says a value. Between the last number and the first letter stand 39 other bytes.

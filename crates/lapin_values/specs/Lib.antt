@@ -6,4 +6,6 @@ pub mod Table
 pub mod Falls
 pub mod ValueOf
 pub mod Properties
+pub mod Chain
+pub mod Kept
 pub mod Texts

@@ -1,42 +1,17 @@
--- The texts of properties as they are held: in a row, by a mask of which are set.
-use Rattle.std.specs.Prelude.{◌≡◌, Bool, Some, ℕ, suc, zero, ◌+◌, ◌==◌, List, [], Option, None, slice_get, slice_range, length, take, drop, ◌++◌, ◌-◌, if◌then◌else◌}
-use Rattle.std.specs.Int.{bit_at}
+-- The texts of properties, as pairs of a property's number and its text.
+use Rattle.std.specs.Prelude.{Bool, Some, ℕ, ◌==◌, List, [], ◌∷◌, Option, None, if◌then◌else◌}
 use Rattle.lapin_values.specs.Data.{Data}
 use Rattle.lapin_values.specs.Properties.{Properties}
-use Rattle.lapin_values.specs.declared.properties.texts.Texts.{Texts}
-use Rattle.lapin_values.specs.declared.properties.texts.Texts.TheVariants as V
-
--- the texts, in a row
-abbrev pub items : Texts → List (List ℕ)
-items V.T0 = []
-items (V.T1 ts) = ts
-items (V.T2 ts) = ts
-items (V.T3 ts) = ts
-items (V.T4 ts) = ts
-items (V.T5 ts) = ts
-items (V.T6 ts) = ts
-items (V.T7 ts) = ts
-items (V.T8 ts) = ts
-items (V.T9 ts) = ts
-items (V.T10 ts) = ts
-
--- how many of the properties before k are set
-unfoldable pub below : ℕ → ℕ → ℕ
-below m zero = 0
-below m (suc k) = below m k + bit_at m k
 
 -- the text of property k, where it is set
-unfoldable pub slot : ℕ → List (List ℕ) → ℕ → Option (List ℕ)
-unfolding below
-slot m ts k = if bit_at m k == 1 then slice_get ts (below m k) else None
+abbrev pub text_of : ℕ → List (ℕ × List ℕ) → Option (List ℕ)
+text_of k [] = None
+text_of k (t ∷ ts) = if k == t.0 then Some t.1 else text_of k ts
 
--- the last item moved down to the place p
-abbrev pub settled : {A : Type 0} → List A → ℕ → List A
-settled xs p = take p xs ++ (drop (length (drop p xs) - 1) (drop p xs) ++ take (length (drop p xs) - 1) (drop p xs))
-
--- there is a text for each property that is set
-abbrev pub counted : ℕ → Texts → Type 0
-counted m t = length (items t) ≡ below m 10
+-- the texts without that of property k
+abbrev pub without : ℕ → List (ℕ × List ℕ) → List (ℕ × List ℕ)
+without k [] = []
+without k (t ∷ ts) = if k == t.0 then without k ts else t ∷ without k ts
 
 -- the properties whose texts are given by number
 abbrev pub by_slots : (ℕ → Option (List ℕ)) → Option (List (List ℕ × Data)) → Option ℕ → Option ℕ → Option ℕ → Properties
@@ -58,6 +33,6 @@ by_slots f headers mode priority time = record {
 }
 
 -- the properties as they are held
-abbrev pub seen : ℕ → Texts → Bool → List (List ℕ × Data) → Option ℕ → Option ℕ → Bool → ℕ → Properties
-seen m t headed headers mode priority timed time =
-    by_slots (slot m (items t)) (if headed then Some headers else None) mode priority (if timed then Some time else None)
+abbrev pub seen : List (ℕ × List ℕ) → Bool → List (List ℕ × Data) → Option ℕ → Option ℕ → Bool → ℕ → Properties
+seen ts headed headers mode priority timed time =
+    by_slots (λ k. text_of k ts) (if headed then Some headers else None) mode priority (if timed then Some time else None)

@@ -1,6 +1,7 @@
 //! The values that methods, contents and records carry: short texts, bytes, field values, tables and properties.
 #![tactic(auto)]
 
+mod kept;
 pub mod memory;
 pub mod payload;
 pub mod properties;

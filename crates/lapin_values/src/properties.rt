@@ -11,18 +11,17 @@ use std::alloc::Global;
 use std::marker::Model;
 
 mod fields;
-mod texts;
+pub(crate) mod texts;
 
 /// The fourteen properties of a message, each set or not. They are opaque to the protocol: a broker hands
 /// them on as they were published. A contract sees them as the record `Properties`.
 ///
-/// It is handed on by value, so it is kept narrow: the texts that are set stand in a row, and `set` says by a bit a property which they are.
+/// It is handed on by value, so it is kept narrow: the texts that are set stand in a chain, behind one pointer.
 #[derive(Debug, Drop)]
 pub struct BasicProperties {
     texts: Texts,
     headers: FieldTable,
     timestamp: u64,
-    set: u16,
     has_headers: bool,
     has_timestamp: bool,
     delivery_mode: Option<u8>,
@@ -36,11 +35,9 @@ impl Model for BasicProperties {
 
     ghost coded = { properties_code };
 
-    ghost use Rattle.lapin_values.specs.Texts.{counted, seen};
+    ghost use Rattle.lapin_values.specs.Texts.{seen};
 
-    ghost view = { λ p. seen p.set p.texts p.has_headers p.headers p.delivery_mode p.priority p.has_timestamp p.timestamp };
-
-    ghost invariant = { λ p. counted p.set p.texts };
+    ghost view = { λ p. seen p.texts p.has_headers p.headers p.delivery_mode p.priority p.has_timestamp p.timestamp };
 }
 
 impl Default for BasicProperties {
@@ -52,10 +49,9 @@ impl Default for BasicProperties {
     /// No property is set.
     fn default() -> BasicProperties {
         BasicProperties {
-            texts: Texts::T0,
+            texts: Texts::none(),
             headers: FieldTable::empty(),
             timestamp: 0,
-            set: 0,
             has_headers: false,
             has_timestamp: false,
             delivery_mode: None,
@@ -89,7 +85,6 @@ impl BasicProperties {
             texts,
             headers,
             timestamp: self.timestamp,
-            set: self.set,
             has_headers: self.has_headers,
             has_timestamp: self.has_timestamp,
             delivery_mode: self.delivery_mode,
@@ -101,8 +96,14 @@ impl BasicProperties {
     pub fn same(&self, other: &BasicProperties) -> bool
         ensures { Decides result (self.now ≡ other.now) }
     {
-        same_texts(self.set, &self.texts, other.set, &other.texts)
-            && same_headers(self.headers(), other.headers())
+        same_texts(&self.texts, &other.texts) && self.same_others(other)
+    }
+
+    /// Whether the properties that are no texts are the same.
+    fn same_others(&self, other: &BasicProperties) -> bool
+        ensures { Decides result ((self.now.headers ≡ other.now.headers) × ((self.now.delivery_mode ≡ other.now.delivery_mode) × ((self.now.priority ≡ other.now.priority) × (self.now.timestamp ≡ other.now.timestamp)))) }
+    {
+        same_headers(self.headers(), other.headers())
             && self.delivery_mode == other.delivery_mode
             && self.priority == other.priority
             && self.timestamp() == other.timestamp()

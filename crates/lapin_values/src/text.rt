@@ -1,12 +1,15 @@
 //! Short texts and long strings, the two kinds of string of the protocol (AMQP 0-9-1, section 4.2.5.3).
 //! Their limits are kept here, so that no crate above has to test a length again.
 
-ghost use Rattle.std.specs.Prelude.{◌≡◌, ◌<◌, ◌≤◌, ◌↔◌, length, IfOk, IsErrOf, nat_eq};
+ghost use Rattle.std.specs.Prelude.{◌≡◌, ◌<◌, ◌≤◌, ◌↔◌, length, IfOk, IsErrOf, nat_eq, box_value};
+ghost use Rattle.lapin_values.specs.Kept.{kept};
 ghost use Rattle.std.specs.Cmp.Lexicographic.{pointwise, nat_list_eq_equiv};
 ghost use Rattle.std.specs.Cmp.{partial_equiv_from_equiv};
 ghost use Rattle.std.specs.Str.{IsUtf8};
 
+use crate::kept::Kept;
 use crate::memory::NoMemory;
+use crate::properties::texts::{Link, Place};
 use std::alloc::{AllocError, AllocFailed, Global};
 use std::marker::Model;
 use thiserror::Error;
@@ -47,21 +50,22 @@ impl<T: Drop> From<AllocFailed<T>> for ShortStringError {
 /// A text of at most 255 bytes in UTF-8 (AMQP 0-9-1, section 4.2.5.3, "short strings"): a name, a key or
 /// a tag. A contract sees it as the list of its bytes.
 ///
-/// It is one pointer wide: a message has ten short strings among its properties, most of which are not set, and is handed on by
-/// value.
+/// It is one pointer wide, since it is handed on by value. What it points to has room for its place among the texts of a message's
+/// properties, so that to set one takes no memory.
 #[derive(Debug, Drop)]
 pub struct ShortString {
-    text: Box<String>,
+    link: Box<Link>,
 }
 
 impl Model for ShortString {
-    ghost use Rattle.std.specs.Prelude.{ℕ, List, string_bytes, box_value, length, ◌≤◌};
+    ghost use Rattle.std.specs.Prelude.{ℕ, List, box_value, length, ◌≤◌};
+    ghost use Rattle.lapin_values.specs.Kept.{kept};
 
     ghost Value = { List ℕ };
 
-    ghost view = { λ s. string_bytes (box_value s.text) };
+    ghost view = { λ s. kept (box_value s.link).text };
 
-    ghost invariant = { λ s. length (string_bytes (box_value s.text)) ≤ 255 };
+    ghost invariant = { λ s. length (kept (box_value s.link).text) ≤ 255 };
 }
 
 impl ShortString {
@@ -77,9 +81,9 @@ impl ShortString {
         if text.len() > 255 {
             return Err(ShortStringError::TooLong { length: text.len() });
         }
-        let text = String::from_str(alloc, text)?;
+        let text = Kept::new(alloc, text)?;
         Ok(ShortString {
-            text: Box::new(alloc, text)?,
+            link: Box::new(alloc, Link::alone(text))?,
         })
     }
 
@@ -89,7 +93,7 @@ impl ShortString {
         ensures short { length self.now ≤ 255 }
         ensures utf8 { IsUtf8 self.now }
     {
-        self.text.as_str()
+        self.link.text.as_str()
     }
 
     /// A text equal to this one.
@@ -100,11 +104,28 @@ impl ShortString {
     pub fn try_clone(&self, alloc: Global) -> Result<ShortString, NoMemory>
         ensures { IfOk result (λ copy. copy ≡ self.now) }
     {
-        let text = String::from_str(alloc, self.as_str())?;
+        let text = self.link.text.try_clone(alloc)?;
         Ok(ShortString {
-            text: Box::new(alloc, text)?,
+            link: Box::new(alloc, Link::alone(text))?,
         })
     }
+}
+
+/// A short string as it lies in memory, to be chained.
+pub(crate) fn into_place(text: ShortString) -> Place
+    ensures text { kept (box_value result.link).text ≡ text }
+    ensures short { length text ≤ 255 }
+{
+    Place { link: text.link }
+}
+
+/// The short string that lies at a place. A short string lies in memory as a place does, and only what contracts see of the two
+/// differs.
+pub(crate) fn at(place: &Place) -> &ShortString
+    requires { length (kept (box_value place.now.link).text) ≤ 255 }
+    ensures { result.now ≡ kept (box_value place.now.link).text }
+{
+    unsafe { &*(place as *const Place as *const ShortString) }
 }
 
 impl PartialEq for ShortString {
@@ -128,8 +149,10 @@ impl Clone for ShortString {
     ghost is_clone = { λ text copy. copy ≡ text };
 
     fn clone(&self) -> Result<ShortString, AllocError> {
+        let alloc = *Box::allocator(&self.link);
+        let text = self.link.text.try_clone(alloc)?;
         Ok(ShortString {
-            text: self.text.clone()?,
+            link: Box::new(alloc, Link::alone(text))?,
         })
     }
 }

@@ -3,7 +3,7 @@
 ghost use Rattle.std.specs.Prelude.{◌≡◌, Some, option_map};
 
 use crate::properties::BasicProperties;
-use crate::properties::texts::{self, put_text, text_at};
+use crate::properties::texts::{self, put_text};
 use crate::text::ShortString;
 use crate::value::FieldTable;
 
@@ -12,14 +12,14 @@ impl BasicProperties {
     pub fn content_type(&self) -> Option<&ShortString>
         ensures { option_map (λ value. value.now) result ≡ self.now.content_type }
     {
-        text_at(self.set, &self.texts, texts::CONTENT_TYPE)
+        self.texts.get(texts::CONTENT_TYPE)
     }
 
     /// These properties with `content_type` set to the value.
     pub fn with_content_type(mut self, value: ShortString) -> BasicProperties
         ensures { result ≡ record self { content_type = Some value } }
     {
-        put_text(&mut self.set, &mut self.texts, texts::CONTENT_TYPE, value);
+        put_text(&mut self.texts, texts::CONTENT_TYPE, value);
         self
     }
 
@@ -27,19 +27,14 @@ impl BasicProperties {
     pub fn content_encoding(&self) -> Option<&ShortString>
         ensures { option_map (λ value. value.now) result ≡ self.now.content_encoding }
     {
-        text_at(self.set, &self.texts, texts::CONTENT_ENCODING)
+        self.texts.get(texts::CONTENT_ENCODING)
     }
 
     /// These properties with `content_encoding` set to the value.
     pub fn with_content_encoding(mut self, value: ShortString) -> BasicProperties
         ensures { result ≡ record self { content_encoding = Some value } }
     {
-        put_text(
-            &mut self.set,
-            &mut self.texts,
-            texts::CONTENT_ENCODING,
-            value,
-        );
+        put_text(&mut self.texts, texts::CONTENT_ENCODING, value);
         self
     }
 
@@ -97,14 +92,14 @@ impl BasicProperties {
     pub fn correlation_id(&self) -> Option<&ShortString>
         ensures { option_map (λ value. value.now) result ≡ self.now.correlation_id }
     {
-        text_at(self.set, &self.texts, texts::CORRELATION_ID)
+        self.texts.get(texts::CORRELATION_ID)
     }
 
     /// These properties with `correlation_id` set to the value.
     pub fn with_correlation_id(mut self, value: ShortString) -> BasicProperties
         ensures { result ≡ record self { correlation_id = Some value } }
     {
-        put_text(&mut self.set, &mut self.texts, texts::CORRELATION_ID, value);
+        put_text(&mut self.texts, texts::CORRELATION_ID, value);
         self
     }
 
@@ -112,14 +107,14 @@ impl BasicProperties {
     pub fn reply_to(&self) -> Option<&ShortString>
         ensures { option_map (λ value. value.now) result ≡ self.now.reply_to }
     {
-        text_at(self.set, &self.texts, texts::REPLY_TO)
+        self.texts.get(texts::REPLY_TO)
     }
 
     /// These properties with `reply_to` set to the value.
     pub fn with_reply_to(mut self, value: ShortString) -> BasicProperties
         ensures { result ≡ record self { reply_to = Some value } }
     {
-        put_text(&mut self.set, &mut self.texts, texts::REPLY_TO, value);
+        put_text(&mut self.texts, texts::REPLY_TO, value);
         self
     }
 
@@ -127,14 +122,14 @@ impl BasicProperties {
     pub fn expiration(&self) -> Option<&ShortString>
         ensures { option_map (λ value. value.now) result ≡ self.now.expiration }
     {
-        text_at(self.set, &self.texts, texts::EXPIRATION)
+        self.texts.get(texts::EXPIRATION)
     }
 
     /// These properties with `expiration` set to the value.
     pub fn with_expiration(mut self, value: ShortString) -> BasicProperties
         ensures { result ≡ record self { expiration = Some value } }
     {
-        put_text(&mut self.set, &mut self.texts, texts::EXPIRATION, value);
+        put_text(&mut self.texts, texts::EXPIRATION, value);
         self
     }
 
@@ -142,14 +137,14 @@ impl BasicProperties {
     pub fn message_id(&self) -> Option<&ShortString>
         ensures { option_map (λ value. value.now) result ≡ self.now.message_id }
     {
-        text_at(self.set, &self.texts, texts::MESSAGE_ID)
+        self.texts.get(texts::MESSAGE_ID)
     }
 
     /// These properties with `message_id` set to the value.
     pub fn with_message_id(mut self, value: ShortString) -> BasicProperties
         ensures { result ≡ record self { message_id = Some value } }
     {
-        put_text(&mut self.set, &mut self.texts, texts::MESSAGE_ID, value);
+        put_text(&mut self.texts, texts::MESSAGE_ID, value);
         self
     }
 
@@ -177,14 +172,14 @@ impl BasicProperties {
     pub fn kind(&self) -> Option<&ShortString>
         ensures { option_map (λ value. value.now) result ≡ self.now.kind }
     {
-        text_at(self.set, &self.texts, texts::KIND)
+        self.texts.get(texts::KIND)
     }
 
     /// These properties with `kind` set to the value.
     pub fn with_kind(mut self, value: ShortString) -> BasicProperties
         ensures { result ≡ record self { kind = Some value } }
     {
-        put_text(&mut self.set, &mut self.texts, texts::KIND, value);
+        put_text(&mut self.texts, texts::KIND, value);
         self
     }
 
@@ -192,14 +187,14 @@ impl BasicProperties {
     pub fn user_id(&self) -> Option<&ShortString>
         ensures { option_map (λ value. value.now) result ≡ self.now.user_id }
     {
-        text_at(self.set, &self.texts, texts::USER_ID)
+        self.texts.get(texts::USER_ID)
     }
 
     /// These properties with `user_id` set to the value.
     pub fn with_user_id(mut self, value: ShortString) -> BasicProperties
         ensures { result ≡ record self { user_id = Some value } }
     {
-        put_text(&mut self.set, &mut self.texts, texts::USER_ID, value);
+        put_text(&mut self.texts, texts::USER_ID, value);
         self
     }
 
@@ -207,14 +202,14 @@ impl BasicProperties {
     pub fn app_id(&self) -> Option<&ShortString>
         ensures { option_map (λ value. value.now) result ≡ self.now.app_id }
     {
-        text_at(self.set, &self.texts, texts::APP_ID)
+        self.texts.get(texts::APP_ID)
     }
 
     /// These properties with `app_id` set to the value.
     pub fn with_app_id(mut self, value: ShortString) -> BasicProperties
         ensures { result ≡ record self { app_id = Some value } }
     {
-        put_text(&mut self.set, &mut self.texts, texts::APP_ID, value);
+        put_text(&mut self.texts, texts::APP_ID, value);
         self
     }
 
@@ -222,14 +217,14 @@ impl BasicProperties {
     pub fn cluster_id(&self) -> Option<&ShortString>
         ensures { option_map (λ value. value.now) result ≡ self.now.cluster_id }
     {
-        text_at(self.set, &self.texts, texts::CLUSTER_ID)
+        self.texts.get(texts::CLUSTER_ID)
     }
 
     /// These properties with `cluster_id` set to the value.
     pub fn with_cluster_id(mut self, value: ShortString) -> BasicProperties
         ensures { result ≡ record self { cluster_id = Some value } }
     {
-        put_text(&mut self.set, &mut self.texts, texts::CLUSTER_ID, value);
+        put_text(&mut self.texts, texts::CLUSTER_ID, value);
         self
     }
 }

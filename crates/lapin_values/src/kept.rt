@@ -1,0 +1,72 @@
+//! How a short string keeps its text: in place where the text is short, so that it takes no memory beside the link that it stands in.
+
+ghost use Rattle.std.specs.Prelude.{◌≡◌, ◌≤◌, length, IfOk};
+ghost use Rattle.std.specs.Str.{IsUtf8};
+ghost use Rattle.lapin_values.specs.Kept.{kept};
+
+use arrayvec::ArrayString;
+use std::alloc::{AllocError, Global};
+use std::fmt;
+
+/// The bytes that stand in place: exchanges, queues, keys and tags mostly have no more.
+const IN_PLACE: usize = 16;
+
+/// A text, in place where it has at most 16 bytes.
+#[derive(Drop)]
+pub(crate) enum Kept {
+    Short(ArrayString<16>),
+    Long(String),
+}
+
+impl Kept {
+    /// A copy of the text. It takes memory where the text has more bytes than stand in place.
+    #[inline(always)]
+    pub(crate) fn new(alloc: Global, text: &str) -> Result<Kept, AllocError>
+        ensures { IfOk result (λ it. kept it ≡ text.now) }
+    {
+        if text.len() > IN_PLACE {
+            return Ok(Kept::Long(String::from_str(alloc, text)?));
+        }
+        Ok(Kept::Short(in_place(text)))
+    }
+
+    /// The text.
+    #[inline(always)]
+    pub(crate) fn as_str(&self) -> &str
+        ensures value { result.now ≡ kept self.now }
+        ensures utf8 { IsUtf8 (kept self.now) }
+    {
+        match self {
+            Kept::Short(text) => text.as_str(),
+            Kept::Long(text) => text.as_str(),
+        }
+    }
+
+    /// A text equal to this one.
+    #[inline(always)]
+    pub(crate) fn try_clone(&self, alloc: Global) -> Result<Kept, AllocError>
+        ensures { IfOk result (λ it. kept it ≡ kept self.now) }
+    {
+        match self {
+            Kept::Short(text) => Ok(Kept::Short(*text)),
+            Kept::Long(text) => Ok(Kept::Long(String::from_str(alloc, text.as_str())?)),
+        }
+    }
+}
+
+/// The text alone is shown, wherever it stands.
+impl fmt::Debug for Kept {
+    fn fmt<W: fmt::Write>(&self, f: &mut fmt::Formatter<W>) -> fmt::Result {
+        fmt::Debug::fmt(self.as_str(), f)
+    }
+}
+
+#[inline(always)]
+fn in_place(text: &str) -> ArrayString<16>
+    requires { length text.now ≤ 16 }
+    ensures { result.bytes ≡ text.now }
+{
+    let mut short = ArrayString::new();
+    short.push_str(text);
+    short
+}
