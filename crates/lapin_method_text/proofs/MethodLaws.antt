@@ -327,6 +327,9 @@ named : (k : MethodKind) → kind_at (method_name k) ≡ Some k
 named k = the_same k (kind_at (method_name k)) refl (has_kind k)
 
 -- the method of a name
+pub kind_of : (name : List ℕ) (k : MethodKind) → name ≡ method_name k → Some k ≡ kind_at name
+kind_of name k e = sym (named k) ∙ ap kind_at (sym e)
+
 pub kind_is : (name : List ℕ) (k : MethodKind) → bytes_eq (method_name k) name ≡ true → Some k ≡ kind_at name
 kind_is name k same = sym (named k) ∙ ap kind_at ((bytes_eq-Decides (method_name k) name).0 same)
 

@@ -2,9 +2,10 @@
 //!
 //! Here stands which name is which method's. The fields stand in a file a class; what methods do stands in the crates above.
 
-ghost use Rattle.std.specs.Prelude.{◌≡◌, ◌≤◌, length};
+ghost use Rattle.std.specs.Prelude.{◌≡◌, ◌≤◌, length, IsTrue};
 ghost use Rattle.std.specs.List.{slice_get};
 ghost use Rattle.lapin_method_text.specs.MethodReading.{kind_at};
+ghost use Rattle.lapin_method_text.specs.declared.kinds.BasicKind.TheVariants as basic_kind;
 ghost use Rattle.lapin_method_text.specs.Slots.{slot, candidate as candidate_lem};
 ghost use Rattle.lapin_method_text.specs.Methods.{method_name, connection_name, channel_name, access_name, exchange_name, queue_name, basic_name, confirm_name, tx_name};
 
@@ -344,8 +345,8 @@ fn candidate(name: &[u8]) -> Option<MethodKind>
     kind_in(&KINDS, PLACES[slot_of(name)] as usize)
 }
 
-/// The method of which the bytes are the name.
-pub fn kind_named(name: &[u8]) -> Option<MethodKind>
+// The method of which the bytes are the name, by the name's slot.
+fn kind_found(name: &[u8]) -> Option<MethodKind>
     ensures { result ≡ kind_at name.now }
 {
     match candidate(name) {
@@ -358,4 +359,29 @@ pub fn kind_named(name: &[u8]) -> Option<MethodKind>
         }
         None => None,
     }
+}
+
+fn is_publish(name: &[u8]) -> bool
+    ensures { IsTrue result → name.now ≡ basic_name basic_kind.Publish }
+{
+    matches!(name, b"basic.publish")
+}
+
+fn is_ack(name: &[u8]) -> bool
+    ensures { IsTrue result → name.now ≡ basic_name basic_kind.Ack }
+{
+    matches!(name, b"basic.ack")
+}
+
+/// The method of which the bytes are the name. Those of a publish and of its confirmation are told apart before a search.
+pub fn kind_named(name: &[u8]) -> Option<MethodKind>
+    ensures { result ≡ kind_at name.now }
+{
+    if is_publish(name) {
+        return Some(MethodKind::Basic(BasicKind::Publish));
+    }
+    if is_ack(name) {
+        return Some(MethodKind::Basic(BasicKind::Ack));
+    }
+    kind_found(name)
 }

@@ -86,13 +86,31 @@ fn text_of_word(word: Word) -> &'static [u8]
     }
 }
 
-/// The word of which the bytes are the text.
+// The word of which the bytes are the text, by a search through all words.
 #[tactic(auto, unfolding(crate::specs::LineReading::word_at))]
-pub fn word_named(piece: &[u8]) -> Option<Word>
+fn word_found(piece: &[u8]) -> Option<Word>
     ensures { result ≡ word_at piece.now }
 {
     WORDS
         .iter()
         .copied()
         .find(|word| is_word(text_of_word(*word), piece))
+}
+
+/// The word of which the bytes are the text. The words that most lines begin with are told apart before a search.
+#[tactic(auto, unfolding(crate::specs::LineReading::word_at))]
+pub fn word_named(piece: &[u8]) -> Option<Word>
+    ensures { result ≡ word_at piece.now }
+{
+    match piece {
+        b"next" => Some(Word::Next),
+        b"call" => Some(Word::Call),
+        b"recv" => Some(Word::Recv),
+        b"confirm" => Some(Word::Confirm),
+        b"ticket" => Some(Word::Ticket),
+        b"method" => Some(Word::Method),
+        b"header" => Some(Word::Header),
+        b"body" => Some(Word::Body),
+        _ => word_found(piece),
+    }
 }

@@ -12,10 +12,11 @@ use Rattle.lapin_values.specs.declared.value.AMQPValue.{AMQPValue}
 use Rattle.lapin_values.specs.declared.value.AMQPValue.TheVariants as V
 use Rattle.lapin_tokens.specs.declared.names.Property.{Property}
 use Rattle.lapin_tokens.specs.declared.names.TheConstants.{PROPERTIES}
-use Rattle.lapin_tokens.specs.Values.{leaf_text, value_text, item_texts, pair_texts, array_text, table_text}
+use Rattle.lapin_tokens.specs.Values.{bracketed, leaf_text, value_text, item_texts, pair_texts, array_text, table_text}
 use Rattle.lapin_tokens.specs.Properties.{KindValue, kind, given, part_text, with_part, part_texts, properties_text}
-use Rattle.lapin_tokens.specs.Writing.{leaf_part, comma, member_text, members_text, pair_text, marked, stays, parts_text}
+use Rattle.lapin_tokens.specs.Writing.{leaf_part, comma, member_text, members_text, pair_text, marked, stays, parts_text, is_missing, all_missing}
 use Rattle.lapin_tokens.proofs.PropertyLaws.{commas, opened, bracketed_is}
+use Rattle.lapin_scalars.proofs.ScalarLaws.{both_true}
 
 -- ---- members
 
@@ -159,3 +160,18 @@ part_written ps i d v first still out new all lt ahead s w =
     rw (add-one, w, s)
     (append_assoc out (marked p (given p v) first) (parts_text (drop (suc i) ps) v (stays (given p v) first))
     ∙ ap (λ (l : List Property). out ++ parts_text l v first) (sym (drop-cons ps i d lt)) ∙ ahead)
+
+-- where no property is given
+
+passed_over : (p : Property) (x : Option (KindValue (kind p))) (ts : List (List ℕ)) → is_missing x ≡ true → with_part p x ts ≡ ts
+passed_over p None ts e = refl
+passed_over p (Some y) ts e = absurd cc
+
+no_parts : (ps : List Property) (v : Properties) → all_missing ps v ≡ true → part_texts ps v ≡ []
+no_parts [] v e = refl
+no_parts (p ∷ ps) v e =
+    let both = both_true (is_missing (given p v)) (all_missing ps v) e in
+    passed_over p (given p v) (part_texts ps v) both.0 ∙ no_parts ps v both.1
+
+pub bare_text : (v : Properties) → all_missing PROPERTIES v ≡ true → properties_text v ≡ 91 ∷ 93 ∷ []
+bare_text v e = ap (bracketed 91 93) (no_parts PROPERTIES v e)

@@ -1,5 +1,5 @@
 -- What is written one after another: the members of an array or a table, and the properties that are given.
-use Rattle.std.specs.Prelude.{ℕ, zero, suc, ◌==◌, Bool, true, false, List, [], ◌∷◌, ◌++◌, slice_get, Option, Some, None, if◌then◌else◌}
+use Rattle.std.specs.Prelude.{ℕ, zero, suc, ◌==◌, ◌&&◌, Bool, true, false, List, [], ◌∷◌, ◌++◌, slice_get, Option, Some, None, if◌then◌else◌}
 use Rattle.lapin_values.specs.Properties.{Properties}
 use Rattle.lapin_values.specs.Data.{Data, leaf, array, table}
 use Rattle.lapin_scalars.specs.Scalars.{scalar_text}
@@ -55,3 +55,13 @@ ending_of false = 93 ∷ []
 abbrev pub parts_text : List Property → Properties → Bool → List ℕ
 parts_text [] v first = ending_of first
 parts_text (p ∷ ps) v first = marked p (given p v) first ++ parts_text ps v (stays (given p v) first)
+
+-- whether a value isn't given
+abbrev pub is_missing : {A : Type 0} → Option A → Bool
+is_missing None = true
+is_missing (Some x) = false
+
+-- whether none of the properties is given
+abbrev pub all_missing : List Property → Properties → Bool
+all_missing [] v = true
+all_missing (p ∷ ps) v = is_missing (given p v) && all_missing ps v

@@ -32,6 +32,7 @@ fn put_token(alloc: Global, out: &mut Vec<u8>, token: &Token) -> Result<(), Allo
 }
 
 /// Adds a word behind a space. A line of few tokens is written sooner so than from a list of them.
+#[inline(always)]
 pub fn put_word(out: &mut Vec<u8>, word: &[u8]) -> Result<(), AllocError>
     ensures { OnOk result (out.new.items ≡ out.old.items ++ 32 ∷ word.now) }
 {

@@ -9,7 +9,7 @@ ghost use Rattle.lapin_scalars.specs.Scalars.Scalar.{text as a_text, number as a
 ghost use Rattle.lapin_tokens.specs.Values.{table_text};
 ghost use Rattle.lapin_tokens.specs.Properties.{name, given, properties_text};
 ghost use Rattle.lapin_tokens.specs.PropertyReading.{mark};
-ghost use Rattle.lapin_tokens.specs.Writing.{marked, stays, ending_of, named, parts_text};
+ghost use Rattle.lapin_tokens.specs.Writing.{marked, stays, ending_of, named, parts_text, is_missing, all_missing};
 
 use crate::names::{PROPERTIES, Property, name_of};
 use crate::value_writing::put_table;
@@ -151,8 +151,8 @@ fn put_end(out: &mut Vec<u8>, first: bool) -> Result<(), AllocError>
     out.extend_from_slice(if first { b"[]" } else { b"]" })
 }
 
-/// Adds the text of the properties.
-pub fn put_properties(
+// Adds the text of properties of which some may be given.
+fn put_each(
     alloc: Global,
     out: &mut Vec<u8>,
     properties: &BasicProperties,
@@ -161,4 +161,54 @@ pub fn put_properties(
 {
     let first = put_parts(alloc, out, properties)?;
     put_end(out, first)
+}
+
+fn text_is_missing(value: Option<&ShortString>) -> bool
+    ensures { let v : Option (List ℕ) = option_map (λ s. s.now) value.entry in result ≡ is_missing v }
+{
+    value.is_none()
+}
+
+fn headers_are_missing(value: Option<&FieldTable>) -> bool
+    ensures { let v : Option (List (List ℕ × Data)) = option_map (λ t. t.now) value.entry in result ≡ is_missing v }
+{
+    value.is_none()
+}
+
+// Whether no property is given. All are asked for at once: the compiler makes one question of those for texts.
+fn none_is_given(properties: &BasicProperties) -> bool
+    ensures { result ≡ all_missing PROPERTIES properties.now }
+{
+    text_is_missing(properties.content_type())
+        & (text_is_missing(properties.content_encoding())
+            & (headers_are_missing(properties.headers())
+                & (properties.delivery_mode().is_none()
+                    & (properties.priority().is_none()
+                        & (text_is_missing(properties.correlation_id())
+                            & (text_is_missing(properties.reply_to())
+                                & (text_is_missing(properties.expiration())
+                                    & (text_is_missing(properties.message_id())
+                                        & (properties.timestamp().is_none()
+                                            & (text_is_missing(properties.kind())
+                                                & (text_is_missing(properties.user_id())
+                                                    & (text_is_missing(properties.app_id())
+                                                        & text_is_missing(
+                                                            properties.cluster_id(),
+                                                        )))))))))))))
+}
+
+/// Adds the text of the properties.
+#[tactic(auto, using(crate::proofs::WritingLaws::bare_text))]
+pub fn put_properties(
+    alloc: Global,
+    out: &mut Vec<u8>,
+    properties: &BasicProperties,
+) -> Result<(), AllocError>
+    ensures { OnOk result (out.new.items ≡ out.old.items ++ properties_text properties.now) }
+{
+    // Most messages have none.
+    if none_is_given(properties) {
+        return out.extend_from_slice(b"[]");
+    }
+    put_each(alloc, out, properties)
 }

@@ -37,6 +37,9 @@ fn first_space(line: &[u8]) -> Option<usize>
         }
         place += 1;
     }
+    if place == line.len() {
+        return None;
+    }
     match memchr(b' ', &line[place..]) {
         Some(more) => Some(place + more),
         None => None,
