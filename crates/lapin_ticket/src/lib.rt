@@ -181,7 +181,7 @@ impl Tickets {
         if self.slots.get(number).is_none() {
             return Err(Error::AlreadyTaken);
         }
-        let _ = self.slots.take(number);
+        drop(self.slots.take(number));
         Ok(())
     }
 }

@@ -2,12 +2,15 @@
 
 ghost use Rattle.std.specs.Prelude.{◌≡◌, IfOk};
 ghost use Rattle.std.specs.Bool.{Decides};
+ghost use Rattle.lapin_methods.specs.declared.frame.Frame.TheVariants as frame_;
+ghost use Rattle.lapin_methods.specs.declared.method.Method.TheVariants as method_;
+ghost use Rattle.lapin_types.specs.declared.call.Call.TheVariants as variant;
 ghost use Rattle.lapin_types.specs.declared.event.Event.TheVariants as event;
 
 use crate::acker_call::AckerCall;
 use crate::call::Call;
-use lapin_methods::Frame;
-use lapin_values::NoMemory;
+use lapin_methods::{BasicMethod, BasicPublishOptions, Frame, Method};
+use lapin_values::{BasicProperties, NoMemory, Payload, ShortString};
 use std::alloc::Global;
 
 /// What happens to a session.
@@ -97,11 +100,82 @@ impl Event {
 fn copied_call(channel: u16, call: &Call, alloc: Global) -> Result<Event, NoMemory>
     ensures { IfOk result (λ copy. copy ≡ event.Call channel call.now) }
 {
+    match call {
+        Call::BasicPublish {
+            exchange,
+            routing_key,
+            options,
+            payload,
+            properties,
+        } => copied_publish(
+            channel,
+            exchange,
+            routing_key,
+            options,
+            payload,
+            properties,
+            alloc,
+        ),
+        _ => copied_other_call(channel, call, alloc),
+    }
+}
+
+#[inline(never)]
+fn copied_publish(
+    channel: u16,
+    exchange: &ShortString,
+    routing_key: &ShortString,
+    options: &BasicPublishOptions,
+    payload: &Payload,
+    properties: &BasicProperties,
+    alloc: Global,
+) -> Result<Event, NoMemory>
+    ensures { IfOk result (λ copy. copy ≡ event.Call channel (variant.BasicPublish exchange.now routing_key.now options.now payload.now properties.now)) }
+{
+    Ok(Event::Call(
+        channel,
+        Call::BasicPublish {
+            exchange: exchange.try_clone(alloc)?,
+            routing_key: routing_key.try_clone(alloc)?,
+            options: *options,
+            payload: payload.try_clone(alloc)?,
+            properties: properties.try_clone(alloc)?,
+        },
+    ))
+}
+
+#[inline(never)]
+fn copied_other_call(channel: u16, call: &Call, alloc: Global) -> Result<Event, NoMemory>
+    ensures { IfOk result (λ copy. copy ≡ event.Call channel call.now) }
+{
     Ok(Event::Call(channel, call.try_clone(alloc)?))
 }
 
 fn copied_frame(frame: &Frame, alloc: Global) -> Result<Event, NoMemory>
     ensures { IfOk result (λ copy. copy ≡ event.Receive frame.now) }
 {
-    Ok(Event::Receive(frame.try_clone(alloc)?))
+    match frame {
+        Frame::Method(channel, Method::Basic(method)) => copied_basic(*channel, method, alloc),
+        _ => copied_other_frame(frame, alloc),
+    }
+}
+
+#[inline(never)]
+fn copied_basic(channel: u16, method: &BasicMethod, alloc: Global) -> Result<Event, NoMemory>
+    ensures { IfOk result (λ copy. copy ≡ event.Receive (frame_.Method channel (method_.Basic method.now))) }
+{
+    let Ok(method) = method.try_clone(alloc) else {
+        return Err(NoMemory);
+    };
+    Ok(Event::Receive(Frame::Method(channel, Method::Basic(method))))
+}
+
+#[inline(never)]
+fn copied_other_frame(frame: &Frame, alloc: Global) -> Result<Event, NoMemory>
+    ensures { IfOk result (λ copy. copy ≡ event.Receive frame.now) }
+{
+    let Ok(frame) = frame.try_clone(alloc) else {
+        return Err(NoMemory);
+    };
+    Ok(Event::Receive(frame))
 }

@@ -2,6 +2,8 @@
 
 ghost use Rattle.std.specs.Prelude.{◌≡◌, IfOk};
 ghost use Rattle.std.specs.Bool.{Decides};
+ghost use Rattle.lapin_methods.specs.declared.frame.Frame.TheVariants as frame_;
+ghost use Rattle.lapin_methods.specs.declared.method.Method.TheVariants as method_;
 ghost use Rattle.lapin_types.specs.declared.record.Record.TheVariants as told;
 
 use crate::answer::Answer;
@@ -9,7 +11,9 @@ use crate::confirmation::Confirmation;
 use crate::job::Job;
 use crate::message::{DeliveryResult, copied_result, same_result};
 use crate::returned::ReturnedList;
-use lapin_methods::{ChannelState, ConnectionState, Error, Frame};
+use lapin_methods::{
+    BasicMethod, ChannelState, ConnectionState, ContentHeader, Error, Frame, Method,
+};
 use lapin_values::NoMemory;
 use std::alloc::Global;
 
@@ -136,27 +140,74 @@ impl Record {
 fn copied_frame(frame: &Frame, alloc: Global) -> Result<Record, NoMemory>
     ensures { IfOk result (λ copy. copy ≡ told.Frame frame.now) }
 {
-    Ok(Record::Frame(frame.try_clone(alloc)?))
+    match frame {
+        Frame::Method(channel, Method::Basic(method)) => copied_basic(*channel, method, alloc),
+        Frame::Header(channel, header) => copied_header(*channel, header, alloc),
+        _ => copied_other_frame(frame, alloc),
+    }
 }
 
+#[inline(never)]
+fn copied_basic(channel: u16, method: &BasicMethod, alloc: Global) -> Result<Record, NoMemory>
+    ensures { IfOk result (λ copy. copy ≡ told.Frame (frame_.Method channel (method_.Basic method.now))) }
+{
+    let Ok(method) = method.try_clone(alloc) else {
+        return Err(NoMemory);
+    };
+    Ok(Record::Frame(Frame::Method(channel, Method::Basic(method))))
+}
+
+#[inline(never)]
+fn copied_header(channel: u16, header: &ContentHeader, alloc: Global) -> Result<Record, NoMemory>
+    ensures { IfOk result (λ copy. copy ≡ told.Frame (frame_.Header channel header.now)) }
+{
+    let Ok(header) = header.try_clone(alloc) else {
+        return Err(NoMemory);
+    };
+    Ok(Record::Frame(Frame::Header(channel, header)))
+}
+
+#[inline(never)]
+fn copied_other_frame(frame: &Frame, alloc: Global) -> Result<Record, NoMemory>
+    ensures { IfOk result (λ copy. copy ≡ told.Frame frame.now) }
+{
+    let Ok(frame) = frame.try_clone(alloc) else {
+        return Err(NoMemory);
+    };
+    Ok(Record::Frame(frame))
+}
+
+#[inline(never)]
 fn copied_item(given: &DeliveryResult, alloc: Global) -> Result<Record, NoMemory>
     ensures { IfOk result (λ copy. copy ≡ told.Item given.now) }
 {
-    Ok(Record::Item(copied_result(given, alloc)?))
+    let Ok(given) = copied_result(given, alloc) else {
+        return Err(NoMemory);
+    };
+    Ok(Record::Item(given))
 }
 
+#[inline(never)]
 fn copied_job(job: &Job, alloc: Global) -> Result<Record, NoMemory>
     ensures { IfOk result (λ copy. copy ≡ told.Job job.now) }
 {
-    Ok(Record::Job(job.try_clone(alloc)?))
+    let Ok(job) = job.try_clone(alloc) else {
+        return Err(NoMemory);
+    };
+    Ok(Record::Job(job))
 }
 
+#[inline(never)]
 fn copied_messages(messages: &ReturnedList, alloc: Global) -> Result<Record, NoMemory>
     ensures { IfOk result (λ copy. copy ≡ told.Returned messages.now) }
 {
-    Ok(Record::Returned(messages.try_clone(alloc)?))
+    let Ok(messages) = messages.try_clone(alloc) else {
+        return Err(NoMemory);
+    };
+    Ok(Record::Returned(messages))
 }
 
+#[inline(never)]
 fn copied_answer(answer: &Result<Answer, Error>, alloc: Global) -> Result<Record, NoMemory>
     ensures { IfOk result (λ copy. copy ≡ told.Answer answer.now) }
 {
@@ -176,6 +227,7 @@ fn same_answer(left: &Result<Answer, Error>, right: &Result<Answer, Error>) -> b
     }
 }
 
+#[inline(never)]
 fn copied_outcome(outcome: &Result<Confirmation, Error>, alloc: Global) -> Result<Record, NoMemory>
     ensures { IfOk result (λ copy. copy ≡ told.Confirmed outcome.now) }
 {
