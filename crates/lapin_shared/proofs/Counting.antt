@@ -1,3 +1,4 @@
+-- The entries of a caller in a history are those of its log: logs that rise and stand in it, and together are as long as it is.
 use Rattle.std.proofs.Common.{◌≡◌, ◌≢◌, ℕ, ◌+◌, ◌-◌, ◌<◌, ◌≤◌, ◌==◌, ◌⊎◌, inl, inr, Bool, true, false, List, [], ◌∷◌, Some, length, map, refl, ◌∙◌, ap, arith, subst}
 use Rattle.std.specs.Prelude.{slice_get, zero, suc, All}
 use Rattle.std.proofs.lemmas.List.{length-map}

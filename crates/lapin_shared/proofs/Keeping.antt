@@ -1,3 +1,4 @@
+-- What lies under the lock goes on to stand for the history that is stored, step by step.
 use Rattle.std.proofs.Common.{◌≡◌, ℕ, ◌+◌, ◌<◌, ◌^◌, ◌++◌, List, [], ◌∷◌, None, length, map, sym, ◌∙◌, ap, arith, length-append, append-nil, append_assoc, subst}
 use Rattle.std.proofs.lemmas.List.{map-append, length-map}
 use Rattle.lapin_types.specs.declared.event.Event.{Event}

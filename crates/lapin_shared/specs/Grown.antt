@@ -5,14 +5,17 @@ use Rattle.lapin_types.specs.declared.record.Record.{Record}
 use Rattle.lapin_machine.specs.Told.{is_pending_record}
 use Rattle.lapin_shared.specs.declared.entry.Told.{Told}
 
+-- what is seen of a caller
 pub record Seen : Type 0 where
   pub number : ℕ
   pub log : List Told
 
+-- what is seen of a client
 pub record Made : Type 0 where
   pub frame_max : ℕ
   pub made : ℕ
 
+-- an entry of a log, with an answer or without
 abbrev pub told : ℕ → Event → Option Record → Told
 told p e r = record { place = p; event = e; answer = r }
 

@@ -7,11 +7,13 @@ use Rattle.lapin_machine.specs.Stands.{Stands}
 use Rattle.lapin_shared.specs.declared.entry.Entry.{Entry}
 use Rattle.lapin_shared.specs.Lawful.{history_of, IsLawful}
 
+-- a history, and the session that stands for it
 pub record Kept : Type 0 where
   pub frame_max : ℕ
   pub entries : List Entry
   pub world : World
 
+-- a stored step of caller c
 abbrev pub entry : ℕ → Event → Record → Entry
 entry c e r = record { caller = c; event = e; answer = r }
 

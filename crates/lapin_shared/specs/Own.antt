@@ -11,6 +11,7 @@ abbrev pub own : ℕ → List Entry → List Event
 own i [] = []
 own i (x ∷ xs) = if x.caller == i then x.event ∷ own i xs else own i xs
 
+-- what a step of a log asked for
 abbrev pub event_of : Told → Event
 event_of t = t.event
 
@@ -19,6 +20,7 @@ abbrev pub AreBack : List Entry → ℕ → List Seen → Type 0
 AreBack h n [] = Unit {0}
 AreBack h n (c ∷ cs) = (c.number ≡ n) × Rise 0 c.log × AllAt h c × AreBack h (n + 1) cs
 
+-- how many entries all logs have
 abbrev pub logged : List Seen → ℕ
 logged [] = 0
 logged (c ∷ cs) = length c.log + logged cs

@@ -138,6 +138,16 @@ impl<L: Crew> Caller<L> {
         self.hand.log()
     }
 
+    /// Makes room in the log for so many steps more. Without it each step looks for room itself.
+    ///
+    /// # Errors
+    /// `NoMemory`. The log is the same in any case.
+    pub fn reserve(&mut self, steps: usize) -> Result<(), NoMemory>
+        ensures { self.new ≡ self.old }
+    {
+        self.hand.reserve(steps)
+    }
+
     pub(crate) fn into_share(self) -> Share<L>
         ensures parts { result.parts ≡ 1 }
         ensures amount { result.amount ≡ length self.log }

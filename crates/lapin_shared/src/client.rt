@@ -1,6 +1,11 @@
+//! The client: it makes the callers over one lock, and takes them back at the end. A caller's steps stand in `caller`, what lies under the
+//! lock in `locked`.
+
 ghost use Rattle.std.specs.Prelude.{◌≡◌, ℕ, ◌+◌, ◌-◌, ◌<◌, ◌≤◌, [], ◌∷◌, ◌++◌, length, IfOk, OnOk, OnErr, IfErr, true, All, ◌↔◌};
 ghost use Rattle.std.specs.List.{sum_by};
 ghost use Rattle.std.specs.Sync.Mutex.{mutex_guard_value};
+ghost use Rattle.lapin_machine.specs.World.{new_world};
+ghost use Rattle.lapin_machine.specs.Stands.{Stands};
 ghost use Rattle.lapin_shared.specs.Lawful.{IsLawful};
 ghost use Rattle.lapin_shared.specs.Checked.{IsAt, AllAt};
 ghost use Rattle.lapin_shared.specs.Grown.{AreFresh, Rise};
@@ -8,18 +13,27 @@ ghost use Rattle.lapin_shared.specs.Finished.{IsOut};
 
 use crate::caller::{Caller, Shared};
 use crate::entry::Entry;
-use crate::history::{History, are_at, copied};
+use crate::history::{History, are_at, stored};
 use crate::locked::{Crew, Locked};
+use lapin_session::Session;
 use lapin_types::NoMemory;
 use std::alloc::Global;
 use std::marker::Model;
 use std::sync::ledger::{Blank, Share};
 use std::sync::{Arc, Condvar, Mutex, MutexGuard, Wait};
 
+/// Why the callers were not taken back. The list of them is then as it was.
 #[derive(Clone, Copy, Debug, PartialEq, Eq)]
 pub enum FinishError {
+    /// There was no memory.
     NoMemory,
-    StillOut { made: u64, given: u64 },
+    /// Fewer callers were given than were made.
+    StillOut {
+        /// How many were made.
+        made: u64,
+        /// How many were given.
+        given: u64,
+    },
 }
 
 /// The session that its callers share.
@@ -31,23 +45,25 @@ pub struct Client<L: Crew> {
 }
 
 impl<L: Crew> Model for Client<L> {
-    ghost use Rattle.std.specs.Prelude.{◌≡◌, ◌<◌, ℕ};
+    ghost use Rattle.std.specs.Prelude.{◌≡◌, ◌<◌, ◌≤◌, ℕ};
     ghost use Rattle.lapin_shared.specs.Grown.{Made};
 
     ghost Value = { Made };
 
     ghost view = { λ a. record { frame_max = a.frame_max; made = a.made } };
 
-    ghost invariant = { λ a. (a.made ≡ L.parts) × (0 < a.made) };
+    ghost invariant = { λ a. (a.made ≡ L.parts) × (0 < a.made) × (4096 ≤ a.frame_max) };
 }
 
 impl<L: Crew> Client<L> {
+    /// How many callers were made.
     pub fn made(&self) -> u64
         ensures { result ≡ self.now.made }
     {
         self.made
     }
 
+    /// The greatest size of a frame in bytes (AMQP 0-9-1, section 4.2.3).
     pub fn frame_max(&self) -> u32
         ensures { result ≡ self.now.frame_max }
     {
@@ -89,7 +105,20 @@ impl<L: Crew> Client<L> {
         Ok((client, all))
     }
 
-    /// Takes all callers back, and gives a copy of the history.
+    /// Makes room in the history for so many steps more, of all callers together. Without it each step looks for room itself.
+    ///
+    /// # Errors
+    /// `NoMemory`. The history is the same in any case.
+    pub fn reserve<R: Wait>(&self, rt: &R, steps: usize) -> Result<(), NoMemory> {
+        let mut guard = self.shared.lock.lock(rt);
+        guard.reserve(steps)
+    }
+
+    /// Takes all callers back, and gives the history. Under the lock stays a new session with an empty one, which no caller is left to
+    /// ask. The callers are this client's.
+    ///
+    /// # Errors
+    /// `StillOut` exactly where the list is shorter than `made`; `NoMemory`. The list is unchanged then.
     pub fn finish<R: Wait>(
         &self,
         rt: &R,
@@ -111,8 +140,11 @@ impl<L: Crew> Client<L> {
                 given,
             });
         }
+        let Ok(session) = Session::new(alloc, self.frame_max) else {
+            return Err(FinishError::NoMemory);
+        };
         let mut guard = lock_checked(rt, &self.shared, self.frame_max, callers.as_slice());
-        close(alloc, &mut guard, callers)
+        Ok(closed(alloc, &mut guard, session, callers))
     }
 }
 
@@ -152,26 +184,23 @@ fn is_back<L: Crew>(entries: &[Entry], caller: &Caller<L>) -> bool
     are_at(entries, caller.number(), caller.log())
 }
 
-/// Copies the history and takes the callers' shares back, which count its entries.
-fn close<L: Crew>(
+/// Takes the callers' shares back, and gives the history, whose entries they count.
+fn closed<L: Crew>(
     alloc: Global,
     locked: &mut Locked<L>,
+    session: Session,
     callers: &mut Vec<Caller<L>>,
-) -> Result<History, FinishError>
-    requires { (0 < length callers.old.items) × (L.parts ≤ length callers.old.items) }
-    ensures history { IfOk result (λ h. h ≡ locked.old.entries) }
+) -> History
+    requires every { (0 < length callers.old.items) × (L.parts ≤ length callers.old.items) }
+    requires session { session ≡ new_world locked.old.frame_max }
+    requires stands { Stands locked.old.frame_max [] session }
+    ensures history { result ≡ locked.old.entries }
     ensures lawful { IsLawful locked.old.frame_max locked.old.entries }
-    ensures count { IfOk result (λ h. length h ≡ sum_by (λ c. length c.log) callers.old.items) }
-    ensures emptied { OnOk result (callers.new.items ≡ []) }
-    ensures err { OnErr result (callers.new.items ≡ callers.old.items) }
-    ensures no_memory { IfErr result (λ e. e ≡ FinishError.NoMemory) }
+    ensures count { length result ≡ sum_by (λ c. length c.log) callers.old.items }
+    ensures emptied { callers.new.items ≡ [] }
 {
-    let Ok(history) = copied(alloc, locked.entries()) else {
-        return Err(FinishError::NoMemory);
-    };
-    let mut all = gathered(callers);
-    locked.audit(&mut all);
-    Ok(history)
+    let all = gathered(callers);
+    stored(locked.taken(alloc, all, session))
 }
 
 /// The shares of all callers.

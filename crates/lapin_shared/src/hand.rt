@@ -88,6 +88,17 @@ impl<L: Crew> Hand<L> {
         share
     }
 
+    /// Makes room for so many steps, without which each step looks for room itself.
+    ///
+    /// # Errors
+    /// `NoMemory`. Nothing changes then either.
+    pub fn reserve(&mut self, steps: usize) -> Result<(), NoMemory>
+        ensures { self.new ≡ self.old }
+    {
+        self.log.reserve(steps)?;
+        Ok(())
+    }
+
     /// Makes one step on the lock's value, and answers its place.
     ///
     /// # Errors
@@ -113,11 +124,12 @@ impl<L: Crew> Hand<L> {
             drop(event);
             return Err(StepError::NoMemory);
         };
-        let Ok((place, answer)) = locked.make(alloc, self.number, &mut self.share, event) else {
+        let Ok(place) = locked.step(alloc, self.number, &mut self.share, event) else {
             drop(kept);
             return Err(StepError::NoMemory);
         };
         self.last = place;
+        let answer = locked.copy_at(alloc, place).ok();
         let read = answer.is_some();
         self.log.push_reserved(Told {
             place,

@@ -1,11 +1,9 @@
 //! The history that a client gave at its end, and how a log is compared with what is stored.
 
-ghost use Rattle.std.specs.Prelude.{◌≡◌, ℕ, ◌-◌, ◌<◌, ◌≤◌, length, IfOk, true, All, take, slice_get, IfSome, MatchOption, Some, None, ◌⊎◌};
+ghost use Rattle.std.specs.Prelude.{◌≡◌, ℕ, ◌-◌, ◌<◌, ◌≤◌, length, true, All, take, slice_get, IfSome, MatchOption, Some, None, ◌⊎◌};
 ghost use Rattle.lapin_shared.specs.Checked.{IsAt};
 
 use crate::entry::{Entry, Told};
-use lapin_types::NoMemory;
-use std::alloc::Global;
 use std::marker::Model;
 
 /// A history that was stored under the lock of a client. `Client::finish` alone makes one.
@@ -52,16 +50,11 @@ impl History {
     }
 }
 
-/// A copy of the entries.
-pub fn copied(alloc: Global, entries: &[Entry]) -> Result<History, NoMemory>
-    ensures { IfOk result (λ h. h ≡ entries.now) }
+/// The entries as a history.
+pub fn stored(entries: Vec<Entry>) -> History
+    ensures { result ≡ entries.items }
 {
-    let mut all = Vec::new(alloc);
-    all.reserve(entries.len())?;
-    for entry in entries {
-        all.push_reserved(entry.try_clone(alloc)?);
-    }
-    Ok(History { entries: all })
+    History { entries }
 }
 
 // Whether an entry of a log stands in the history at its place.

@@ -5,7 +5,7 @@
 ghost use Rattle.std.specs.Prelude.{◌≡◌, ℕ, None, ◌+◌, ◌<◌, [], ◌∷◌, ◌++◌, length, ◌-◌, ◌≤◌, IfOk, IfSome, OnOk, OnErr, not, slice_get};
 ghost use Rattle.lapin_types.specs.declared.event.Event.TheVariants as event;
 ghost use Rattle.lapin_history.specs.History.{History, rec};
-ghost use Rattle.lapin_machine.specs.World.{told_by};
+ghost use Rattle.lapin_machine.specs.World.{new_world, told_by};
 ghost use Rattle.lapin_machine.specs.Told.{is_pending_record};
 ghost use Rattle.lapin_machine.specs.Numbers.{HasNumbersFor};
 ghost use Rattle.lapin_machine.specs.Stands.{Stands};
@@ -17,6 +17,7 @@ use lapin_session::Session;
 use lapin_types::{Error, Event, NoMemory, Record};
 use std::alloc::Global;
 use std::marker::{Brand, Model};
+use std::mem::replace;
 use std::sync::ledger::{Book, Ledger, Share};
 
 /// One ledger, with as many parts as there are callers: what ties callers to their client.
@@ -92,10 +93,29 @@ impl<L: Crew> Locked<L> {
             drop(event);
             return Err(NoMemory);
         };
-        let entry = told_entry(alloc, &mut self.session, caller, event)?;
-        self.history.push_reserved(entry);
+        let Ok(kept) = event.try_clone(alloc) else {
+            drop(event);
+            return Err(NoMemory);
+        };
+        let Ok(answer) = step_session(alloc, &mut self.session, event) else {
+            drop(kept);
+            return Err(NoMemory);
+        };
+        self.history.push_reserved(Entry {
+            caller,
+            event: kept,
+            answer,
+        });
         self.book.add(share, 1);
         Ok(self.history.len() as u64)
+    }
+
+    // Makes room for so many steps, without which each step looks for room itself.
+    pub(crate) fn reserve(&mut self, steps: usize) -> Result<(), NoMemory>
+        ensures { self.new ≡ self.old }
+    {
+        self.history.reserve(steps)?;
+        Ok(())
     }
 
     /// How many steps are stored.
@@ -120,15 +140,21 @@ impl<L: Crew> Locked<L> {
         self.history.as_slice()
     }
 
-    // A share with every part has the length of the history as its amount.
-    pub(crate) fn audit(&mut self, all: &mut Share<L>)
-        requires { all.old.parts ≡ L.parts }
-        ensures counted { all.old.amount ≡ length self.old.entries }
-        ensures same { self.new ≡ self.old }
-        ensures parts { all.new.parts ≡ all.old.parts }
-        ensures amount { all.new.amount ≡ all.old.amount }
+    // Gives the history, whose length is the amount of a share with every part. The new session stays behind, with an empty history.
+    pub(crate) fn taken(&mut self, alloc: Global, all: Share<L>, session: Session) -> Vec<Entry>
+        requires every { all.parts ≡ L.parts }
+        requires session { session ≡ new_world self.old.frame_max }
+        requires stands { Stands self.old.frame_max [] session }
+        ensures history { result.items ≡ self.old.entries }
+        ensures lawful { IsLawful self.old.frame_max self.old.entries }
+        ensures counted { all.amount ≡ length self.old.entries }
     {
-        self.book.audit(all);
+        let count = self.history.len() as u64;
+        let mut all = all;
+        self.book.audit(&mut all);
+        self.book.sub(&mut all, count);
+        self.session = session;
+        replace(&mut self.history, Vec::new(alloc))
     }
 
     // Whether a poll of the ticket would not be pending.
@@ -138,29 +164,6 @@ impl<L: Crew> Locked<L> {
         self.session.ticket_ready(ticket)
     }
 
-    // Makes one step as `step` does, and gives a copy of its record, or `None` where there was no memory for one.
-    pub(crate) fn make(
-        &mut self,
-        alloc: Global,
-        caller: u64,
-        share: &mut Share<L>,
-        event: Event,
-    ) -> Result<(u64, Option<Record>), NoMemory>
-        requires { 0 < share.old.parts }
-        ensures place { IfOk result (λ p. p.0 ≡ length self.old.entries + 1) }
-        ensures history { OnOk result (self.new.entries ≡ self.old.entries ++ entry caller event (rec self.old.frame_max (history_of self.old.entries) event) ∷ []) }
-        ensures answer { IfOk result (λ p. IfSome p.1 (λ r. r ≡ rec self.old.frame_max (history_of self.old.entries) event)) }
-        ensures machine { OnOk result (rec self.old.frame_max (history_of self.old.entries) event ≡ told_by self.old.world event) }
-        ensures amount { OnOk result (share.new.amount ≡ share.old.amount + 1) }
-        ensures frame_max { self.new.frame_max ≡ self.old.frame_max }
-        ensures parts { share.new.parts ≡ share.old.parts }
-        ensures err { OnErr result ((self.new ≡ self.old) × (share.new.amount ≡ share.old.amount)) }
-    {
-        let place = self.step(alloc, caller, share, event)?;
-        let answer = self.copy_at(alloc, place).ok();
-        Ok((place, answer))
-    }
-
     // A copy of the record at a place.
     pub(crate) fn copy_at(&self, alloc: Global, place: u64) -> Result<Record, NoMemory>
         requires { (0 < place) × (place ≤ length self.now.entries) }
@@ -168,37 +171,6 @@ impl<L: Crew> Locked<L> {
     {
         self.history[(place - 1) as usize].answer.try_clone(alloc)
     }
-}
-
-// A step of a session that has numbers left and no frame given back, as the entry that is stored.
-fn told_entry(
-    alloc: Global,
-    session: &mut Session,
-    caller: u64,
-    event: Event,
-) -> Result<Entry, NoMemory>
-    requires numbers { HasNumbersFor 1 session.old }
-    requires steady { session.old.returned ≡ None }
-    ensures entry { IfOk result (λ x. x ≡ entry caller event x.answer) }
-    ensures told { IfOk result (λ x. x.answer ≡ told_by session.old event) }
-    ensures stands { IfOk result (λ x. (frame_max : ℕ) (h : History) → Stands frame_max h session.old →
-        (x.answer ≡ rec frame_max h event) × Stands frame_max (h ++ (event, x.answer) ∷ []) session.new) }
-    ensures steady { OnOk result (session.new.returned ≡ None) }
-    ensures err { OnErr result (session.new ≡ session.old) }
-{
-    let Ok(kept) = event.try_clone(alloc) else {
-        drop(event);
-        return Err(NoMemory);
-    };
-    let Ok(answer) = step_session(alloc, session, event) else {
-        drop(kept);
-        return Err(NoMemory);
-    };
-    Ok(Entry {
-        caller,
-        event: kept,
-        answer,
-    })
 }
 
 // A step of a session that has numbers left and no frame given back.

@@ -1,31 +1,32 @@
 -- What the callers made is the history that a finished client gives.
-use Rattle.std.proofs.Common.{◌≡◌, ◌≢◌, ℕ, ◌+◌, ◌<◌, ◌≤◌, List, [], ◌∷◌, ◌++◌, map, length, take, refl, sym, ◌∙◌, ap, subst, arith, Bool, true, false, ◌⊎◌, inl, inr}
-use Rattle.std.specs.Prelude.{All, zero, suc, Err}
+use Rattle.std.proofs.Common.{◌≡◌, ℕ, ◌+◌, ◌<◌, ◌≤◌, List, [], ◌∷◌, ◌++◌, map, length, take, refl, sym, ◌∙◌, ap, arith, true, inl, inr}
+use Rattle.std.specs.Prelude.{All, reverse, zero, suc}
 use Rattle.std.specs.List.{sum_by}
 use Rattle.std.proofs.lemmas.List.{length-map}
 use Rattle.std.proofs.lemmas.List.Sums.{sum_by-cons}
 use Rattle.std.proofs.lemmas.List.Elements.{All-head, All-tail}
 use Rattle.lapin_types.specs.declared.event.Event.{Event}
 use Rattle.lapin_shared.specs.declared.entry.Entry.{Entry}
-use Rattle.lapin_shared.specs.declared.client.FinishError.{FinishError}
-use Rattle.lapin_shared.specs.Grown.{Seen, Rise, AreFresh}
+use Rattle.lapin_shared.specs.Grown.{Seen, Rise}
 use Rattle.lapin_shared.specs.Checked.{AllAt}
 use Rattle.lapin_shared.specs.Lawful.{IsLawful}
 use Rattle.lapin_shared.specs.Own.{own, event_of, AreBack, logged, AreOwn}
 use Rattle.lapin_shared.proofs.Counting.{interleaves}
 use Rattle.lapin_threads.specs.Each.{EachLeft}
-use Rattle.lapin_shared_commands.specs.Dealt.{dealt, MadeOwn, AreDone, IsDealt}
+use Rattle.lapin_shared_commands.specs.declared.shifts.Shift.{Shift}
+use Rattle.lapin_shared_commands.specs.Dealt.{dealt, caller_of, AreDealt, MadeOwn, AreDone, IsDealt}
 use Rattle.lapin_shared_commands.proofs.Shares.{test, spread, all_spread}
 
--- fresh callers that made their own
-pub left_done : (n : ℕ) (es : List Event) (i : ℕ) (xs ys : List Seen) → EachLeft (λ x y. MadeOwn n es x true y) xs ys → AreFresh i xs → AreDone n es i ys
-left_done n es i [] [] p f = tt
-left_done n es i [] (y ∷ ys) p f = absurd p
-left_done n es i (x ∷ xs) [] p f = absurd p
-left_done n es i (x ∷ xs) (y ∷ ys) p f =
-    let made : map event_of y.log ≡ map event_of x.log ++ dealt n x.number 0 es = p.0.1 refl in
-    let fresh : map event_of x.log ++ dealt n x.number 0 es ≡ dealt n i 0 es = ap (λ l. map event_of l ++ dealt n x.number 0 es) f.1 ∙ ap (λ j. dealt n j 0 es) f.0 in
-    (p.0.0 ∙ f.0, made ∙ fresh, left_done n es (i + 1) xs ys p.1 f.2)
+-- callers that made all that was dealt to them
+pub left_done : {L : Type 0} (n : ℕ) (es : List Event) (i : ℕ) (xs ys : List (Shift L)) → EachLeft (λ x y. MadeOwn x true y) xs ys → AreDealt n 0 es i xs
+    → AreDone n es i (map caller_of ys)
+left_done n es i [] [] p d = tt
+left_done n es i [] (y ∷ ys) p d = absurd p
+left_done n es i (x ∷ xs) [] p d = absurd p
+left_done n es i (x ∷ xs) (y ∷ ys) p d =
+    let made : map event_of y.caller.log ≡ map event_of x.caller.log ++ reverse x.events.items = p.0.1 refl in
+    let fresh : map event_of x.caller.log ++ reverse x.events.items ≡ dealt n i 0 es = ap (λ l. map event_of l ++ reverse x.events.items) d.1 ∙ d.2 in
+    (p.0.0 ∙ d.0, made ∙ fresh, left_done n es (i + 1) xs ys p.1 d.3)
 
 pub left_count : {T : Type 0} (P : T → T → Type 0) (xs ys : List T) → EachLeft P xs ys → length ys ≡ length xs
 left_count P [] [] p = refl

@@ -6,10 +6,10 @@ use Rattle.std.proofs.lemmas.Nat.{mod_below}
 use Rattle.lapin_types.specs.declared.event.Event.{Event}
 use Rattle.lapin_shared_commands.specs.Dealt.{dealt}
 
-dealt_hit : (n i k : ℕ) (e : Event) (es : List Event) → k % n + 1 ≡ i → dealt n i k (e ∷ es) ≡ e ∷ dealt n i (k + 1) es
+pub dealt_hit : (n i k : ℕ) (e : Event) (es : List Event) → k % n + 1 ≡ i → dealt n i k (e ∷ es) ≡ e ∷ dealt n i (k + 1) es
 dealt_hit n i k e es is = let t : (k % n + 1 == i) ≡ true = grind (arith, nat_tests) in rw t
 
-dealt_miss : (n i k : ℕ) (e : Event) (es : List Event) → k % n + 1 ≢ i → dealt n i k (e ∷ es) ≡ dealt n i (k + 1) es
+pub dealt_miss : (n i k : ℕ) (e : Event) (es : List Event) → k % n + 1 ≢ i → dealt n i k (e ∷ es) ≡ dealt n i (k + 1) es
 dealt_miss n i k e es miss = let t : (k % n + 1 == i) ≡ false = grind (arith, nat_tests) in rw t
 
 decide : (a b : ℕ) (t : Bool) → (a == b) ≡ t → (a ≡ b) ⊎ (a ≢ b)

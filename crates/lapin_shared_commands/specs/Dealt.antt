@@ -1,10 +1,11 @@
 -- How the events of an input fall to callers, and what a history of them says.
-use Rattle.std.specs.Prelude.{◌≡◌, ℕ, ◌+◌, ◌%◌, ◌==◌, ◌≤◌, Bool, true, List, [], ◌∷◌, ◌++◌, map, length, if◌then◌else◌}
+use Rattle.std.specs.Prelude.{◌≡◌, ℕ, ◌+◌, ◌%◌, ◌==◌, ◌≤◌, Bool, true, List, [], ◌∷◌, ◌++◌, map, length, reverse, if◌then◌else◌}
 use Rattle.lapin_types.specs.declared.event.Event.{Event}
 use Rattle.lapin_shared.specs.declared.entry.Entry.{Entry}
 use Rattle.lapin_shared.specs.Grown.{Seen}
 use Rattle.lapin_shared.specs.Lawful.{IsLawful}
 use Rattle.lapin_shared.specs.Own.{own, event_of}
+use Rattle.lapin_shared_commands.specs.declared.shifts.Shift.{Shift}
 
 -- event number k + 1, where it falls to caller i of n callers: event number p falls to caller ((p - 1) mod n) + 1
 abbrev pub falls : ℕ → ℕ → ℕ → Event → List Event
@@ -15,10 +16,25 @@ abbrev pub dealt : ℕ → ℕ → ℕ → List Event → List Event
 dealt n i k [] = []
 dealt n i k (e ∷ es) = falls n i k e ++ dealt n i (k + 1) es
 
--- where all were made, a caller's log grew by the events that fall to it
-abbrev pub MadeOwn : ℕ → List Event → Seen → Bool → Seen → Type 0
-MadeOwn n es old made new =
-    (new.number ≡ old.number) × (made ≡ true → map event_of new.log ≡ map event_of old.log ++ dealt n old.number 0 es)
+abbrev pub caller_of : {L : Type 0} → Shift L → Seen
+caller_of s = s.caller
+
+-- no events
+abbrev pub AreIdle : {L : Type 0} → List (Shift L) → Type 0
+AreIdle [] = Unit {0}
+AreIdle (s ∷ ss) = (s.events.items ≡ []) × AreIdle ss
+
+-- callers numbered from i that made no step, each with the events that fall to it, the last one first
+abbrev pub AreDealt : {L : Type 0} → ℕ → ℕ → List Event → ℕ → List (Shift L) → Type 0
+AreDealt n k es i [] = Unit {0}
+AreDealt n k es i (s ∷ ss) =
+    (s.caller.number ≡ i) × (s.caller.log ≡ []) × (reverse s.events.items ≡ dealt n i k es) × AreDealt n k es (i + 1) ss
+
+-- where all were made, a caller's log grew by the events that were left to it
+abbrev pub MadeOwn : {L : Type 0} → Shift L → Bool → Shift L → Type 0
+MadeOwn old made new =
+    (new.caller.number ≡ old.caller.number)
+    × (made ≡ true → map event_of new.caller.log ≡ map event_of old.caller.log ++ reverse old.events.items)
 
 -- callers numbered from i, each of which made just the events that fall to it
 abbrev pub AreDone : ℕ → List Event → ℕ → List Seen → Type 0

@@ -73,7 +73,7 @@ fn run_input<G: Gate, R: Threads + Wait + Sync>(
     };
     let blank = Blank::new(callers as u64);
     let history = shared_history::<Brand, _, _>(
-        rt, alloc, gate, frame_max, callers, &events, blank,
+        rt, alloc, gate, frame_max, callers, events, blank,
     )?;
     Ok((Some(history), bad))
 }

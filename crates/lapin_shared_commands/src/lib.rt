@@ -8,6 +8,7 @@ mod answer;
 mod printing;
 mod program;
 mod running;
+mod shifts;
 mod turns;
 mod words;
 

@@ -1,20 +1,22 @@
-use denote.Exit.{no}
-use denote.Param.Send.{param_sync, arg_sync, sendable}
-use Rattle.std.proofs.Common.{rules, ◌≡◌, length}
-use Rattle.std.proofs.Crossing.{crosses}
-use Rattle.lapin_crossing.proofs.Callers.{caller_send}
-use Rattle.lapin_threads.proofs.Sides.{left_map}
-use Rattle.lapin_shared_commands.proofs.Captured.{captured_sync}
-use Rattle.lapin_shared_commands.proofs.Finishing.{left_done}
+use Rattle.std.proofs.Common.{◌≡◌, ◌∙◌, List, length, drop, refl, map, sym, ap, subst, arith, true}
+use Rattle.lapin_shared.specs.Grown.{Seen}
+use Rattle.lapin_shared_commands.specs.declared.shifts.Shift.{Shift}
+use Rattle.lapin_shared_commands.specs.Dealt.{AreDealt, AreDone, MadeOwn, caller_of}
+use Rattle.lapin_shared_commands.proofs.Finishing.{left_done, left_count, written_back}
 use Rattle.lapin_shared_commands.proofs.running.make_all.Goals as goal
 
 pub returns-clause-done : goal.returns-clause-done
-returns-clause-done g c = λ is.
-    left_done (length c.args.all.now) c.args.events.now 1 c.args.all.now c.each_mut.new.s
-    (left_map (λ x y p. rw (← p.argument_is, ← p.left) p.call) c.args.all.now c.each_mut.new.s (c.each_mut.ensures is)) c.requires.fresh
-
-pub each_mut-requires-send-T : goal.each_mut-requires-send-T
-each_mut-requires-send-T g c = λ κs b. search (caller_send, crosses, sendable) depth 60 fits 20000
-
-pub each_mut-requires-sync-F : goal.each_mut-requires-sync-F
-each_mut-requires-sync-F g c = λ κs b. param_sync 2 _ (arg_sync _ no _ (captured_sync _ _ _ _ _ _ _ _ _ _ _ _ _ c.type_bounds.sync-R c.type_bounds.sync-G))
+returns-clause-done g c =
+    let n = length c.args.all.items in
+    let es = c.args.events.items in
+    let ss = c.in_ok-shifts.shifts.items in
+    let xs = c.as_mut_slice.result.now in
+    let ys = c.work_all.new.shifts in
+    let each = c.if-not-work_all.ensures refl in
+    let Dealt : List (Shift g.row.L.Denot) → Type 0 = λ l. AreDealt n 0 es 1 l in
+    let Done : List Seen → Type 0 = λ l. AreDone n es 1 l in
+    let same : length ys ≡ length xs = left_count (λ x y. MadeOwn x true y) xs ys each in
+    let many : length ys ≡ c.in_ok-shifts.shifts.len = omega (arith, same, ap length c.as_mut_slice.ensures.value, c.in_ok-shifts.shifts.ok) in
+    let back = written_back ys (drop (length ys) ss) c.in_ok-shifts.shifts.len many in
+    let made = left_done n es 1 xs ys each (subst Dealt (sym c.as_mut_slice.ensures.value) c.in_ok-shifts.ensures.dealt) in
+    subst Done (sym (c.in_ok-back.ensures ∙ ap (map caller_of) back)) made

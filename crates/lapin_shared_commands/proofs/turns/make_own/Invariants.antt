@@ -1,11 +1,14 @@
-use Rattle.std.proofs.Common.{◌≡◌, ◌++◌, map, take}
+use Rattle.std.proofs.Common.{◌≡◌, ◌++◌, map, vec_len}
+use Rattle.std.specs.Prelude.{reverse}
 use Rattle.lapin_shared.specs.Own.{event_of}
-use Rattle.lapin_shared_commands.specs.Dealt.{dealt}
 use Rattle.lapin_shared_commands.proofs.turns.make_own.Given as goal
 
--- of the first k events the caller made its own
-abbrev pub invariant-loop-k : goal.invariant-loop-k
-invariant-loop-k g l = record {
+-- the caller made the events that are no longer left
+abbrev pub invariant-loop-event : goal.invariant-loop-event
+invariant-loop-event g l = record {
   number : l.caller.number ≡ l.fn.caller.number;
-  done : map event_of l.caller.log ≡ map event_of l.fn.caller.log ++ dealt l.callers l.fn.caller.number 0 (take l.k l.events);
+  done : map event_of l.caller.log ++ reverse l.events.items ≡ map event_of l.fn.caller.log ++ reverse l.fn.events.items;
 }
+
+abbrev pub decreases-loop-event : goal.decreases-loop-event
+decreases-loop-event g l = vec_len l.events
