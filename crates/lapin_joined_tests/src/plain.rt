@@ -5,7 +5,7 @@ use lapin_broker::PlainBroker;
 use lapin_joint::{Joined, Reported, Step};
 use lapin_joint_text::{put_report, read_step};
 use lapin_text::write_frame;
-use lapin_types::{Frame, NoMemory, RunError};
+use lapin_types::{ChannelState, Frame, NoMemory, RunError};
 use std::alloc::Global;
 
 // So many steps a table has at most.
@@ -73,11 +73,34 @@ fn three_publishes_come_to_their_acks(rt: HostRuntime) -> Result<(), NoMemory> {
     Ok(())
 }
 
-// The first line of a table that doesn't hold, if any, in a new run.
+// The first line of a table that doesn't hold, if any, in a new run; or what is wrong with the run at its end.
 fn first_failure(alloc: Global, table: &str) -> Result<Option<&str>, NoMemory> {
     match Joined::new(alloc, 4096) {
-        Ok(mut run) => first_line(alloc, &mut run, table),
+        Ok(mut run) => flaw_or_line(alloc, &mut run, table),
         Err(error) => Err(error),
+    }
+}
+
+// The same of a run that is new.
+fn flaw_or_line<'a>(
+    alloc: Global,
+    run: &mut Joined,
+    table: &'a str,
+) -> Result<Option<&'a str>, NoMemory> {
+    match first_line(alloc, run, table) {
+        Ok(None) => Ok(flaw(run)),
+        failed => failed,
+    }
+}
+
+// What is wrong with a run that made its steps, if anything: it makes no more, or channel 1 of its session isn't open.
+fn flaw(run: &Joined) -> Option<&'static str> {
+    if run.stopped() {
+        return Some("the run is stopped");
+    }
+    match run.session().channel_state(1) {
+        ChannelState::Open => None,
+        _ => Some("channel 1 is not open"),
     }
 }
 

@@ -15,4 +15,6 @@ pub use publisher::{Message, Publisher, Settled, Waiting};
 pub use reconnect::{after_loss, open_again};
 
 #[cfg(test)]
+mod mock;
+#[cfg(test)]
 mod topology;
