@@ -31,6 +31,7 @@ ackers_from i [] = []
 ackers_from i (mark.Added c o t ∷ ms) = switch_by (suc i) c t ms ∷ ackers_from (suc i) ms
 ackers_from i (m ∷ ms) = ackers_from i ms
 
+-- all ackers that the marks of a whole history give, in order of their numbers, each as it is at the end of the history
 abbrev pub ackers : List AckerMark → List Switch
 ackers ms = ackers_from 0 ms
 

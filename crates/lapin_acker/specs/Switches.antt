@@ -22,6 +22,7 @@ abbrev pub usable_as : Option Switch → Option (ℕ × ℕ)
 usable_as (Some (switch.Usable c t)) = Some (c, t)
 usable_as _ = None
 
+-- the number was given, and its acker is usable: its opening lives, and it is neither used nor void
 abbrev pub is_usable : Option Switch → Bool
 is_usable (Some (switch.Usable c t)) = true
 is_usable _ = false
@@ -33,15 +34,18 @@ is_over _ = false
 
 -- ---- what becomes of an acker
 
+-- an acker that was called or whose message is void: a usable one is used up, any other stays as it is
 abbrev pub used : Switch → Switch
 used (switch.Usable c t) = switch.Used c
 used s = s
 
+-- an acker after the end of an opening on the channel: over where it is of that channel, and else as before
 abbrev pub over_on : ℕ → Switch → Switch
 over_on c (switch.Usable d t) = if d == c then switch.Over else switch.Usable d t
 over_on c (switch.Used d) = if d == c then switch.Over else switch.Used d
 over_on c switch.Over = switch.Over
 
+-- the number is one of the list
 abbrev pub names : List ℕ → ℕ → Bool
 names [] n = false
 names (k ∷ ks) n = k == n || names ks n
@@ -63,6 +67,7 @@ abbrev pub joined : AckerMark → List Switch → List Switch
 joined (mark.Added c o t) ss = ss ++ switch.Usable c t ∷ []
 joined _ ss = ss
 
+-- all ackers after a mark, in order of their numbers
 abbrev pub after_mark : List Switch → AckerMark → List Switch
 after_mark ss m = joined m (map_numbered 0 (moved m) ss)
 

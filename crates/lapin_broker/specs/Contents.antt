@@ -23,6 +23,7 @@ abbrev pub takes_body : ℕ → Content → Bool
 takes_body n (content.Left m) = nat_lt 0 n && nat_le n m
 takes_body n _ = false
 
+-- no content is begun, or the last one came whole
 abbrev pub is_idle : Content → Bool
 is_idle content.Idle = true
 is_idle _ = false

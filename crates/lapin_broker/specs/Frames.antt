@@ -20,6 +20,7 @@ use Rattle.lapin_broker.specs.declared.frames.ClientFrame.TheVariants as client
 use Rattle.lapin_broker.specs.declared.frames.BrokerFrame.{BrokerFrame}
 use Rattle.lapin_broker.specs.declared.frames.BrokerFrame.TheVariants as broker
 
+-- the number of the channel that a frame is on (AMQP 0-9-1, section 4.2.3)
 abbrev pub channel_of : Frame → ℕ
 channel_of (frame.Method c m) = c
 channel_of (frame.Header c h) = c
@@ -34,6 +35,7 @@ tag_in (basic.CancelOk tag) = tag
 tag_in (basic.Deliver tag delivery redelivered exchange key) = tag
 tag_in _ = []
 
+-- the same of a whole frame, where methods of class basic alone name one
 abbrev pub tag_of : Frame → List ℕ
 tag_of (frame.Method c (method.Basic m)) = tag_in m
 tag_of _ = []
@@ -46,6 +48,7 @@ echo_in (method.Basic (basic.Consume name tag no_local no_ack exclusive nowait a
 echo_in (method.Basic (basic.Cancel tag nowait)) = echo.Name tag
 echo_in _ = echo.Nothing
 
+-- the same of a whole frame, where a header and a body have nothing that is repeated
 abbrev pub echo_of : Frame → Echo
 echo_of (frame.Method c m) = echo_in m
 echo_of _ = echo.Nothing
@@ -65,6 +68,7 @@ client_channel c (channel.Close code text class number) = client.Close
 client_channel c channel.CloseOk = client.CloseOk
 client_channel c channel.OpenOk = client.Other
 
+-- of class exchange declare, delete, bind and unbind ask, unless they are without wait
 abbrev pub client_exchange : ExchangeMethod → ClientFrame
 client_exchange (exchange.Declare name k passive durable auto_delete internal nowait arguments) = ask_unless nowait kind.ExchangeDeclare
 client_exchange (exchange.Delete name if_unused nowait) = ask_unless nowait kind.ExchangeDelete
@@ -72,6 +76,7 @@ client_exchange (exchange.Bind destination source key nowait arguments) = ask_un
 client_exchange (exchange.Unbind destination source key nowait arguments) = ask_unless nowait kind.ExchangeUnbind
 client_exchange _ = client.Other
 
+-- of class queue declare, bind, purge and delete ask, unless they are without wait; unbind, which has no such bit, always asks
 abbrev pub client_queue : QueueMethod → ClientFrame
 client_queue (queue.Declare name passive durable exclusive auto_delete nowait arguments) = ask_unless nowait kind.QueueDeclare
 client_queue (queue.Bind name from key nowait arguments) = ask_unless nowait kind.QueueBind
@@ -80,6 +85,8 @@ client_queue (queue.Delete name if_unused if_empty nowait) = ask_unless nowait k
 client_queue (queue.Unbind name from key arguments) = client.Ask kind.QueueUnbind
 client_queue _ = client.Other
 
+-- of class basic publish begins a content; qos, get, recover, and consume and cancel with wait, ask; consume and cancel without wait
+-- have kinds of their own; settlements of deliveries, recover-async and cancel-ok are read and change nothing
 abbrev pub client_basic : BasicMethod → ClientFrame
 client_basic (basic.Qos count global) = client.Ask kind.Qos
 client_basic (basic.Consume name tag no_local no_ack exclusive nowait arguments) = if nowait then client.Consume else client.Ask kind.Consume
@@ -94,16 +101,19 @@ client_basic (basic.RecoverAsync requeue) = client.Tell
 client_basic (basic.CancelOk tag) = client.Tell
 client_basic _ = client.Other
 
+-- of class confirm select, with whether it awaits its reply (RabbitMQ's publisher confirms)
 abbrev pub client_confirm : ConfirmMethod → ClientFrame
 client_confirm (confirm.Select nowait) = client.Select (not nowait)
 client_confirm confirm.SelectOk = client.Other
 
+-- of class tx select, commit and rollback ask
 abbrev pub client_tx : TxMethod → ClientFrame
 client_tx tx.Select = client.Ask kind.TxSelect
 client_tx tx.Commit = client.Ask kind.TxCommit
 client_tx tx.Rollback = client.Ask kind.TxRollback
 client_tx _ = client.Other
 
+-- what a client's method on that channel is; the connection's close and close-ok are such on channel 0 alone
 abbrev pub client_method : ℕ → Method → ClientFrame
 client_method c (method.Connection (connection.Close code text class number)) = if c == 0 then client.ConnectionClose else client.Other
 client_method c (method.Connection connection.CloseOk) = if c == 0 then client.ConnectionCloseOk else client.Other
@@ -116,6 +126,7 @@ client_method c (method.Basic m) = client_basic m
 client_method c (method.Confirm m) = client_confirm m
 client_method c (method.Tx m) = client_tx m
 
+-- what a client's frame is: a method by its kind, a header by its class and size, a body by its length
 abbrev pub client_frame : Frame → ClientFrame
 client_frame (frame.Method c m) = client_method c m
 client_frame (frame.Header c h) = client.Header h.class_id h.body_size
@@ -123,6 +134,7 @@ client_frame (frame.Body c bytes) = client.Body (length bytes)
 
 -- ---- Frames of the broker. Those that only a client sends are Other.
 
+-- of class channel open-ok, close, close-ok and flow have kinds of their own, and flow-ok is a reply
 abbrev pub broker_channel : ChannelMethod → BrokerFrame
 broker_channel channel.OpenOk = broker.OpenOk
 broker_channel (channel.Close code text class number) = broker.Close
@@ -131,6 +143,7 @@ broker_channel (channel.Flow active) = broker.Flow
 broker_channel (channel.FlowOk active) = broker.Reply kind.Flow
 broker_channel channel.Open = broker.Other
 
+-- of class exchange the four replies
 abbrev pub broker_exchange : ExchangeMethod → BrokerFrame
 broker_exchange exchange.DeclareOk = broker.Reply kind.ExchangeDeclare
 broker_exchange exchange.DeleteOk = broker.Reply kind.ExchangeDelete
@@ -138,6 +151,7 @@ broker_exchange exchange.BindOk = broker.Reply kind.ExchangeBind
 broker_exchange exchange.UnbindOk = broker.Reply kind.ExchangeUnbind
 broker_exchange _ = broker.Other
 
+-- of class queue the five replies, whatever names and counts they tell
 abbrev pub broker_queue : QueueMethod → BrokerFrame
 broker_queue (queue.DeclareOk name messages consumers) = broker.Reply kind.QueueDeclare
 broker_queue queue.BindOk = broker.Reply kind.QueueBind
@@ -146,6 +160,8 @@ broker_queue (queue.DeleteOk messages) = broker.Reply kind.QueueDelete
 broker_queue queue.UnbindOk = broker.Reply kind.QueueUnbind
 broker_queue _ = broker.Other
 
+-- of class basic qos-ok, recover-ok and get-empty are replies like others; ack and nack both are settlements; consume-ok, cancel-ok,
+-- get-ok, deliver, return and cancel have kinds of their own
 abbrev pub broker_basic : BasicMethod → BrokerFrame
 broker_basic basic.QosOk = broker.Reply kind.Qos
 broker_basic basic.RecoverOk = broker.Reply kind.Recover
@@ -160,12 +176,14 @@ broker_basic (basic.Return code text from key) = broker.Return
 broker_basic (basic.Cancel tag nowait) = broker.Cancel
 broker_basic _ = broker.Other
 
+-- of class tx the three replies
 abbrev pub broker_tx : TxMethod → BrokerFrame
 broker_tx tx.SelectOk = broker.Reply kind.TxSelect
 broker_tx tx.CommitOk = broker.Reply kind.TxCommit
 broker_tx tx.RollbackOk = broker.Reply kind.TxRollback
 broker_tx _ = broker.Other
 
+-- what the broker's method on that channel is; the connection's close and close-ok are such on channel 0 alone
 abbrev pub broker_method : ℕ → Method → BrokerFrame
 broker_method c (method.Connection (connection.Close code text class number)) = if c == 0 then broker.ConnectionClose else broker.Other
 broker_method c (method.Connection connection.CloseOk) = if c == 0 then broker.ConnectionCloseOk else broker.Other
@@ -179,6 +197,7 @@ broker_method c (method.Confirm confirm.SelectOk) = broker.Reply kind.Select
 broker_method c (method.Confirm (confirm.Select nowait)) = broker.Other
 broker_method c (method.Tx m) = broker_tx m
 
+-- what the broker's frame is: a method by its kind, a header by its class and size, a body by its length
 abbrev pub broker_frame : Frame → BrokerFrame
 broker_frame (frame.Method c m) = broker_method c m
 broker_frame (frame.Header c h) = broker.Header h.class_id h.body_size

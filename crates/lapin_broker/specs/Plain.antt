@@ -29,13 +29,16 @@ use Rattle.lapin_broker.specs.States.{Channel, Broker, channel_at, is_up, is_sen
 -- ---- Replies have the asked names and tags (`amq.gen` for an empty one) and counts 0; a get is answered by get-empty; flow-ok
 -- repeats the asked value.
 
+-- the name that a reply tells: the asked one, and `amq.gen` for an empty one
 abbrev pub given_name : List ℕ → List ℕ
 given_name n = if is_empty n then codes "amq.gen" else n
 
+-- the value that flow-ok repeats, and true where none was asked
 abbrev pub echo_active : Echo → Bool
 echo_active (echo.Active active) = active
 echo_active _ = true
 
+-- the reply to a request of this kind, with what of the request it repeats
 abbrev pub reply_by : RequestKind → Echo → Method
 reply_by kind.Flow a = method.Channel (channel.FlowOk (echo_active a))
 reply_by kind.Access a = method.Access access.RequestOk
@@ -62,18 +65,22 @@ reply_by kind.TxRollback a = method.Tx tx.RollbackOk
 -- ---- One channel: the close-ok that is owed; else, on Asked, open-ok; else the reply to the first waiting request; else a single
 -- `basic.ack` of the lowest read number that isn't settled; else, on Leaving, close-ok.
 
+-- a single `basic.ack` of the number, if there is one (RabbitMQ's publisher confirms)
 abbrev pub plain_ack : Option ℕ → Option Method
 plain_ack None = None
 plain_ack (Some n) = Some (method.Basic (basic.Ack n false))
 
+-- the reply to the first of the waiting requests; where none waits, the ack of the lowest read number that isn't settled, if any
 abbrev pub plain_open : List Request → Channel → Option Method
 plain_open [] x = plain_ack (first_kept x.numbers)
 plain_open (r ∷ rs) x = Some (reply_by r.kind r.echo)
 
+-- `channel.close-ok` where there is nothing else to send
 abbrev pub or_close_ok : Option Method → Option Method
 or_close_ok None = Some (method.Channel channel.CloseOk)
 or_close_ok (Some m) = Some m
 
+-- the method that is given on a channel in this state, if any
 abbrev pub plain_in : Peer → Channel → Option Method
 plain_in peer.StoppingOwes x = Some (method.Channel channel.CloseOk)
 plain_in peer.StoppingAnswered x = Some (method.Channel channel.CloseOk)
@@ -82,26 +89,32 @@ plain_in peer.Open x = plain_open x.waiting x
 plain_in peer.Leaving x = or_close_ok (plain_open x.waiting x)
 plain_in _ x = None
 
+-- some method is given on the channel
 abbrev pub has_plain : Channel → Bool
 has_plain x = is_some (plain_in x.peer x)
 
 -- ---- The lowest channel that has something.
 
+-- the lower one of two channel numbers, the first of which may be missing
 abbrev pub least : Option ℕ → ℕ → ℕ
 least None c = c
 least (Some d) c = if nat_lt c d then c else d
 
+-- the lowest channel so far, once this one was looked at, which counts where it has something
 abbrev pub lower : Option ℕ → ℕ × Channel → Option ℕ
 lower best e = if has_plain e.1 then Some (least best e.0) else best
 
+-- the lowest channel that has something, among these and the lowest so far; none where none has
 abbrev pub lowest_from : Option ℕ → List (ℕ × Channel) → Option ℕ
 lowest_from best [] = best
 lowest_from best (e ∷ es) = lowest_from (lower best e) es
 
+-- the frame that is given on that channel, if any
 abbrev pub plain_at : Broker → Option ℕ → Option Frame
 plain_at b None = None
 plain_at b (Some c) = option_map (λ m. frame.Method c m) (plain_in (channel_at b c).peer (channel_at b c))
 
+-- a content is being sent on this channel of the list
 abbrev pub is_sending_on : ℕ × Channel → Bool
 is_sending_on e = is_sending e.1
 

@@ -19,18 +19,22 @@ use Rattle.lapin_broker.specs.Frames.{channel_of, client_frame, tag_of, echo_of}
 use Rattle.lapin_broker.specs.Tags.{with_tag, without_tag}
 use Rattle.lapin_broker.specs.States.{Channel, Broker, free_channel, channel_at, with_channel, after_break, is_up, is_leaving}
 
+-- the client closes the connection
 abbrev pub is_connection_close : ClientFrame → Bool
 is_connection_close client.ConnectionClose = true
 is_connection_close _ = false
 
+-- the client answers the close of the connection
 abbrev pub is_connection_close_ok : ClientFrame → Bool
 is_connection_close_ok client.ConnectionCloseOk = true
 is_connection_close_ok _ = false
 
+-- the client opens a channel
 abbrev pub is_open : ClientFrame → Bool
 is_open client.Open = true
 is_open _ = false
 
+-- the client begins a publish
 abbrev pub is_publish : ClientFrame → Bool
 is_publish client.Publish = true
 is_publish _ = false
@@ -54,12 +58,15 @@ content_after x _ = x
 abbrev pub with_next_number : Channel → Channel
 with_next_number x = if x.selected then record x { numbers = x.numbers ++ Some tt ∷ [] } else x
 
+-- The broker once a publish came whole on that channel.
 abbrev pub number_on : ℕ → Broker → Broker
 number_on c b = record b { channels = on_channel c with_next_number b.channels }
 
+-- After a piece of the content on that channel: whole, it takes its number and is read no more; else this is what is left to read.
 abbrev pub with_piece : ℕ → Content → Broker → Broker
 with_piece c x b = if is_idle x then record (number_on c b) { reading = None } else record b { reading = Some (c, x) }
 
+-- A frame on the channel whose content is being read: its next piece; anything else is Broken.
 abbrev pub read_piece : ℕ → Content → ClientFrame → Broker → Broker
 read_piece c x u b = if admits b.frame_max x u then with_piece c (content_after x u) b else after_break b
 
@@ -85,6 +92,7 @@ begins_in _ u = false
 abbrev pub request_of : RequestKind → Frame → Request
 request_of k f = record { kind = k; echo = echo_of f }
 
+-- The request joins those that wait on the channel, at the back.
 abbrev pub with_request : RequestKind → Frame → Channel → Channel
 with_request k f x = record x { waiting = x.waiting ++ request_of k f ∷ [] }
 
@@ -109,6 +117,7 @@ read_stopping x client.Close = record x { peer = peer.StoppingOwes }
 read_stopping x client.CloseOk = free_channel
 read_stopping x _ = x
 
+-- The same where close-ok is owed already: `channel.close-ok` sets the mark has read, all else is passed over.
 abbrev pub read_owing : Channel → ClientFrame → Channel
 read_owing x client.CloseOk = record x { peer = peer.StoppingAnswered }
 read_owing x _ = x
@@ -131,9 +140,11 @@ read_in peer.Stopping f x u = read_stopping x u
 read_in peer.StoppingOwes f x u = read_owing x u
 read_in _ f x u = x
 
+-- The channel after the frame, in its place among the broker's.
 abbrev pub read_channel : ℕ → Frame → ClientFrame → Broker → Broker
 read_channel c f u b = record b { channels = with_channel c (read_in (channel_at b c).peer f (channel_at b c) u) b.channels }
 
+-- While no content is being read: a frame that breaks its channel is Broken; else the channel reads it, and a publish begins a content.
 abbrev pub read_on : ℕ → Frame → ClientFrame → Broker → Broker
 read_on c f u b =
     if breaks_in (channel_at b c).peer u then after_break b
@@ -167,11 +178,13 @@ after_client_close_ok connection.StoppedOwes = connection.LeavingStopped
 after_client_close_ok connection.Done = connection.Done
 after_client_close_ok _ = connection.Broken
 
+-- The close and close-ok of the connection move the connection alone; any other frame counts as it is Up or not.
 abbrev pub read_sorted : ℕ → Frame → ClientFrame → Broker → Broker
 read_sorted c f u b =
     if is_connection_close u then record b { connection = after_client_close b.connection }
     else (if is_connection_close_ok u then record b { connection = after_client_close_ok b.connection }
     else (if is_up b.connection then read_up b.reading c f u b else read_down b))
 
+-- The broker after it has read the frame.
 abbrev pub read : Broker → Frame → Broker
 read b f = read_sorted (channel_of f) f (client_frame f) b

@@ -5,6 +5,7 @@ use Rattle.lapin_broker.specs.declared.request.Echo.{Echo}
 use Rattle.lapin_broker.specs.declared.request.Echo.TheVariants as echo
 use Rattle.lapin_broker.specs.contracts.request.RequestKindPartialEq.TheImpl as it
 
+-- the two kinds are the same
 abbrev pub same_kind : RequestKind → RequestKind → Bool
 same_kind a b = it.ghosts.eq a b
 

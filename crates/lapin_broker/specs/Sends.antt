@@ -20,28 +20,34 @@ use Rattle.lapin_broker.specs.Numbers.{may_settle, after_settlement}
 use Rattle.lapin_broker.specs.Tags.{same_text, is_empty, has_tag, with_tag, without_tag}
 use Rattle.lapin_broker.specs.States.{Channel, Broker, free_channel, channel_at, is_up, owes_connection}
 
+-- the broker closes the connection
 abbrev pub is_connection_close : BrokerFrame → Bool
 is_connection_close broker.ConnectionClose = true
 is_connection_close _ = false
 
+-- the broker answers the close of the connection
 abbrev pub is_connection_close_ok : BrokerFrame → Bool
 is_connection_close_ok broker.ConnectionCloseOk = true
 is_connection_close_ok _ = false
 
+-- the broker answers the open of a channel
 abbrev pub is_open_ok : BrokerFrame → Bool
 is_open_ok broker.OpenOk = true
 is_open_ok _ = false
 
+-- the broker closes a channel
 abbrev pub is_close : BrokerFrame → Bool
 is_close broker.Close = true
 is_close _ = false
 
+-- the broker answers the close of a channel
 abbrev pub is_close_ok : BrokerFrame → Bool
 is_close_ok broker.CloseOk = true
 is_close_ok _ = false
 
 -- ---- What may be sent on a channel that is Open or Leaving.
 
+-- no request waits
 abbrev pub none_waits : List Request → Bool
 none_waits [] = true
 none_waits (r ∷ rs) = false
@@ -105,6 +111,7 @@ may_sorted c t d b =
     else (if is_connection_close_ok d then owes_connection b.connection
     else is_up b.connection && may_in (channel_at b c).peer (channel_at b c) t d)
 
+-- the broker may send the frame now
 abbrev pub may : Broker → Frame → Bool
 may b f = may_sorted (channel_of f) (tag_of f) (broker_frame f) b
 
@@ -138,6 +145,7 @@ after_send t (broker.Header class size) x = record x { sending = of_size size }
 after_send t (broker.Body n) x = record x { sending = without_bytes n x.sending }
 after_send t _ x = x
 
+-- That channel after the frame was sent, in its place among the broker's.
 abbrev pub send_on : ℕ → List ℕ → BrokerFrame → Broker → Broker
 send_on c t d b = record b { channels = on_channel c (after_send t d) b.channels }
 
@@ -151,11 +159,13 @@ abbrev pub after_own_close_ok : Connection → Connection
 after_own_close_ok connection.StoppedOwes = connection.Stopped
 after_own_close_ok _ = connection.Done
 
+-- The close and close-ok of the connection move the connection alone, any other frame its channel.
 abbrev pub send_sorted : ℕ → List ℕ → BrokerFrame → Broker → Broker
 send_sorted c t d b =
     if is_connection_close d then record b { connection = connection.Stopped }
     else (if is_connection_close_ok d then record b { connection = after_own_close_ok b.connection }
     else record (send_on c t d b) { reading = if is_close d && is_read_on c b.reading then None else b.reading })
 
+-- The broker after it has sent the frame.
 abbrev pub send : Broker → Frame → Broker
 send b f = send_sorted (channel_of f) (tag_of f) (broker_frame f) b

@@ -5,6 +5,7 @@ use Rattle.lapin_broker.specs.declared.content.Content.{Content}
 use Rattle.lapin_broker.specs.declared.peer.Peer.TheVariants as peer
 use Rattle.lapin_broker.specs.States.{Channel, Broker, channel_in}
 
+-- the one of these channels whose content is being read, if there is one, is open
 abbrev pub IsReadOpen : List (ℕ × Channel) → Option (ℕ × Content) → Type 0
 IsReadOpen all None = ⊤
 IsReadOpen all (Some r) = (channel_in (at_channel r.0 all)).peer ≡ peer.Open

@@ -44,10 +44,12 @@ free_channel = record { peer = peer.Free; selected = false; numbers = []; waitin
 abbrev pub new_broker : ℕ → Broker
 new_broker most = record { frame_max = most; connection = connection.Up; channels = []; reading = None }
 
+-- the channel that was found, and a free one where none was
 abbrev pub channel_in : Option Channel → Channel
 channel_in None = free_channel
 channel_in (Some x) = x
 
+-- the broker's channel of that number, free where it was never asked for
 abbrev pub channel_at : Broker → ℕ → Channel
 channel_at b c = channel_in (at_channel c b.channels)
 
@@ -57,6 +59,7 @@ with_channel c x all = if is_some (at_channel c all) then on_channel c (λ _. x)
 
 -- ---- What the readers tell.
 
+-- the state of the connection alone, without the mark of what it owes (AMQP 0-9-1, `connection.close`)
 abbrev pub state_of_connection : Connection → BrokerState
 state_of_connection connection.Up = broker_state.Up
 state_of_connection connection.Leaving = broker_state.Leaving
@@ -66,6 +69,7 @@ state_of_connection connection.StoppedOwes = broker_state.Stopped
 state_of_connection connection.Done = broker_state.Done
 state_of_connection connection.Broken = broker_state.Broken
 
+-- the state of a channel alone, without its marks (AMQP 0-9-1, class channel)
 abbrev pub state_of_peer : Peer → PeerState
 state_of_peer peer.Free = peer_state.Free
 state_of_peer peer.Asked = peer_state.Asked
@@ -75,15 +79,18 @@ state_of_peer peer.Stopping = peer_state.Stopping
 state_of_peer peer.StoppingOwes = peer_state.Stopping
 state_of_peer peer.StoppingAnswered = peer_state.Stopping
 
+-- the connection is Up: both sides may speak
 abbrev pub is_up : Connection → Bool
 is_up connection.Up = true
 is_up _ = false
 
+-- the connection is Leaving: the client's close was read, and close-ok is owed
 abbrev pub is_leaving : Connection → Bool
 is_leaving connection.Leaving = true
 is_leaving connection.LeavingStopped = true
 is_leaving _ = false
 
+-- the connection is Broken: the client sent what it may not send
 abbrev pub is_broken : Connection → Bool
 is_broken connection.Broken = true
 is_broken _ = false
@@ -110,6 +117,7 @@ abbrev pub reading_on : Option (ℕ × Content) → Option ℕ
 reading_on None = None
 reading_on (Some r) = Some r.0
 
+-- a content is being sent on the channel
 abbrev pub is_sending : Channel → Bool
 is_sending x = not (is_idle x.sending)
 
@@ -128,5 +136,6 @@ abbrev pub connection_after_loss : Connection → Connection
 connection_after_loss connection.Broken = connection.Broken
 connection_after_loss _ = connection.Done
 
+-- the broker after a loss: what it reads changes nothing, and it may send nothing
 abbrev pub after_loss : Broker → Broker
 after_loss b = record b { connection = connection_after_loss b.connection }

@@ -25,6 +25,7 @@ use Rattle.lapin_commands.specs.Joined.{JoinedGoesOn}
 
 -- ---- events
 
+-- lines, whatever they are, say some events up to a first bad line, if they have one
 some_events : (n : ℕ) (lines : List (List ℕ)) → (events : List Event) × (bad : Option ℕ) × AreEvents n lines events bad
 some_events n [] = ([], None, refl)
 some_events n (line ∷ lines) = with_line (line_at line) refl (some_events (n + 1) lines)
@@ -35,6 +36,7 @@ some_events n (line ∷ lines) = with_line (line_at line) refl (some_events (n +
         let found = line_found line event e in
         (event ∷ rest.0, rest.1, (found.1, found.0, rest.2))
 
+-- for lines, whatever they are, a session that goes on prints some text
 pub session_goes : (w : World) (n : ℕ) (lines : List (List ℕ)) → (bad : Option ℕ) × (text : List ℕ) × SessionGoesOn w n lines bad text
 session_goes w n lines =
     let some = some_events n lines in
@@ -50,9 +52,11 @@ begins word line = with_front (bytes_eq (take (length word) line) word) refl
     with_front true e = inl (drop (length word) line, sym (take-append-drop (length word) line) ∙ ap (λ (t : List ℕ). t ++ drop (length word) line) ((bytes_eq-Decides (take (length word) line) word).0 e))
     with_front false e = inr (λ rest is. true≢false (sym ((bytes_eq-Decides (take (length word) line) word).1 (ap (take (length word)) is ∙ take-append_seam word rest)) ∙ e))
 
+-- the line is the line of some step, or it is none's
 abbrev Step? : List ℕ → Type 0
 Step? line = ((s : Step) × IsLineOf line s) ⊎ NoLine line
 
+-- a line that begins with `client ` is the line of a step or none's
 a_client : (line rest : List ℕ) → line ≡ codes "client " ++ rest → Step? line
 a_client line rest is = with_event (line_at rest) refl
   where
@@ -60,6 +64,7 @@ a_client line rest is = with_event (line_at rest) refl
     with_event None e = inr (client_none line rest is (λ event fit same. refused rest event fit same e))
     with_event (Some event) e = inl (step.Client event, client_found line rest event is (line_found rest event e))
 
+-- a line that begins with `send ` is the line of a step or none's
 a_send : (line rest : List ℕ) → line ≡ codes "send " ++ rest → Step? line
 a_send line rest is = with_frame (frame_text_at rest) refl
   where
@@ -67,6 +72,7 @@ a_send line rest is = with_frame (frame_text_at rest) refl
     with_frame None e = inr (send_none line rest is (λ frame fit same. text_refused rest frame fit same e))
     with_frame (Some frame) e = inl (step.Send frame, send_found line rest frame is (text_found rest frame e))
 
+-- a line is a word or it isn't
 is_word : (word line : List ℕ) → (line ≡ word) ⊎ (line ≢ word)
 is_word word line = decided (bytes_eq line word) refl
   where
@@ -74,6 +80,7 @@ is_word word line = decided (bytes_eq line word) refl
     decided true e = inl ((bytes_eq-Decides line word).0 e)
     decided false e = inr (λ is. true≢false (sym ((bytes_eq-Decides line word).1 is) ∙ e))
 
+-- a line that begins with neither is the line of a step or none's
 a_bare : (line : List ℕ) → ((rest : List ℕ) → line ≢ codes "client " ++ rest) → ((rest : List ℕ) → line ≢ codes "send " ++ rest) → Step? line
 a_bare line client send = read_first (is_word (codes "read") line)
   where
@@ -89,6 +96,7 @@ a_bare line client send = read_first (is_word (codes "read") line)
     read_first (inl is) = inl (step.Read, bare_found line step.Read is)
     read_first (inr read) = deliver_second read (is_word (codes "deliver") line)
 
+-- a line is the line of a step or none's
 step_of : (line : List ℕ) → Step? line
 step_of line = client_first (begins (codes "client ") line)
   where
@@ -100,6 +108,7 @@ step_of line = client_first (begins (codes "client ") line)
     client_first (inl client) = a_client line client.0 client.1
     client_first (inr client) = send_second client (begins (codes "send ") line)
 
+-- lines, whatever they are, say some steps up to a first bad line, if they have one
 some_steps : (n : ℕ) (lines : List (List ℕ)) → (steps : List Step) × (bad : Option ℕ) × AreSteps n lines steps bad
 some_steps n [] = ([], None, refl)
 some_steps n (line ∷ lines) = with_line (step_of line) (some_steps (n + 1) lines)
@@ -108,6 +117,7 @@ some_steps n (line ∷ lines) = with_line (step_of line) (some_steps (n + 1) lin
     with_line (inl found) rest = (found.0 ∷ rest.0, rest.1, (found.1.1, found.1.0, rest.2))
     with_line (inr none) rest = ([], Some n, (refl, none))
 
+-- for lines, whatever they are, a joined run that goes on prints some text
 pub joined_goes : (k : Kept) (n : ℕ) (lines : List (List ℕ)) → (bad : Option ℕ) × (text : List ℕ) × JoinedGoesOn k n lines bad text
 joined_goes k n lines =
     let some = some_steps n lines in

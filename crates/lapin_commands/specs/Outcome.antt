@@ -70,5 +70,6 @@ Prints command.Session input bad text = (length input ≤ longest_input) × Prin
 Prints command.Joined input bad text = (length input ≤ longest_input) × PrintsJoined input bad text
 Prints (command.Generate n) input bad text = PrintsGenerated n bad text
 
+-- what a command prints for an input that has a bad line; `generate` reads none
 abbrev pub PrintsToBadLine : Command → List ℕ → List ℕ → Type 0
 PrintsToBadLine c input text = (line : ℕ) × Prints c input (Some line) text

@@ -3,6 +3,7 @@ use Rattle.std.specs.Prelude.{ℕ}
 use Rattle.lapin_commands.specs.declared.status.Status.{Status}
 use Rattle.lapin_commands.specs.declared.status.Status.TheVariants.{Fine, BadWords, BadLine, NoMemory, ReadFault, WriteFault, InputTooLong}
 
+-- 0 where the whole text was written, and a number of its own for each other end
 abbrev pub code_of : Status → ℕ
 code_of Fine = 0
 code_of BadWords = 1

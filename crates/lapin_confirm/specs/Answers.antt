@@ -30,20 +30,24 @@ answer_in (Some (cell.Resolved o)) = Ok (Some (result_of o))
 abbrev pub is_unknown : ℕ → Book → Bool
 is_unknown n b = n == 0 || nat_lt (length b.cells) n
 
+-- what is answered for confirm n, without a returned message; a number that was never given is refused as `UnknownTicket`
 abbrev pub answer_at : ℕ → Book → Result (Option (Result Confirmation Error)) Error
 answer_at n b = if is_unknown n b then Err error.UnknownTicket else answer_in (under n b.cells)
 
 -- ---- with the message that the confirm took
 
+-- the confirmation with the message that its confirm took, if it took one; one that was not requested has no message
 abbrev pub with_letter : Option BasicReturnMessage → Confirmation → Confirmation
 with_letter m (confirmation.Ack x) = confirmation.Ack m
 with_letter m (confirmation.Nack x) = confirmation.Nack m
 with_letter m confirmation.NotRequested = confirmation.NotRequested
 
+-- the result with that message in its confirmation; a failure has no message
 abbrev pub result_with : Option BasicReturnMessage → Result Confirmation Error → Result Confirmation Error
 result_with m (Ok c) = Ok (with_letter m c)
 result_with m (Err e) = Err e
 
+-- what is answered, with that message in the result where one is given; while none is there, or at a refusal, the same
 abbrev pub answer_with : Option BasicReturnMessage → Result (Option (Result Confirmation Error)) Error → Result (Option (Result Confirmation Error)) Error
 answer_with m (Ok None) = Ok None
 answer_with m (Ok (Some r)) = Ok (Some (result_with m r))

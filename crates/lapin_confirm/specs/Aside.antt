@@ -10,6 +10,7 @@ use Rattle.lapin_confirm.specs.Book.{is_resolved, is_unresolved, taken}
 use Rattle.lapin_confirm.specs.Post.{Post, on_home, message_of}
 use Rattle.lapin_confirm.specs.Answers.{answer_at, answer_with}
 
+-- what is kept of the publish says that it was set aside; nothing says so where nothing is kept
 abbrev pub is_aside_in : Option Home → Bool
 is_aside_in None = false
 is_aside_in (Some h) = h.aside
@@ -30,6 +31,7 @@ is_waiting n p = not (is_set_aside n p) && is_unresolved (under n p.book.cells)
 abbrev pub taken_answer : ℕ → Post → Result (Option (Result Confirmation Error)) Error
 taken_answer n p = if is_set_aside n p then Err error.AlreadyTaken else answer_with (message_of n p) (answer_at n p.book)
 
+-- setting aside is refused with the error with which a poll would be, and else it is done
 abbrev pub refused_as : Result (Option (Result Confirmation Error)) Error → Result (Unit {0}) Error
 refused_as (Ok o) = Ok tt
 refused_as (Err e) = Err e
@@ -44,6 +46,7 @@ set_answer n p = refused_as (taken_answer n p)
 abbrev pub kept_by : ℕ → Post → Post
 kept_by n p = record { book = taken n p.book; trays = on_home (under n p.homes) (set_by n true) p.trays; homes = with_under n None p.homes }
 
+-- the homes with publish n set aside, where this is its home; the same where it has none
 abbrev pub marked : ℕ → Option Home → List (Option Home) → List (Option Home)
 marked n None hs = hs
 marked n (Some h) hs = with_under n (Some (record h { aside = true })) hs
@@ -52,5 +55,6 @@ marked n (Some h) hs = with_under n (Some (record h { aside = true })) hs
 abbrev pub laid_by : ℕ → Post → Post
 laid_by n p = record { book = p.book; trays = on_home (under n p.homes) (set_by n false) p.trays; homes = marked n (under n p.homes) p.homes }
 
+-- confirm n is set aside: where it is resolved its message, if it took one, is kept; else its number stands aside
 abbrev pub put_aside : ℕ → Post → Post
 put_aside n p = if is_resolved (under n p.book.cells) then kept_by n p else laid_by n p

@@ -7,8 +7,6 @@ use Rattle.lapin_history.specs.declared.marks.SettleKind.{SettleKind}
 use Rattle.lapin_history.specs.declared.marks.Settlement.{Settlement}
 use Rattle.lapin_history.specs.declared.marks.Outcome.{Outcome}
 use Rattle.lapin_history.specs.declared.marks.Outcome.TheVariants as outcome
-use Rattle.lapin_history.specs.ConfirmMarks.{ConfirmMark}
-use Rattle.lapin_history.specs.ConfirmMarks as mark
 use Rattle.lapin_history.specs.ConfirmReadings.{covers, outcome_of}
 use Rattle.lapin_history.specs.Words.{with_channel}
 use Rattle.lapin_tables.specs.ByChannel.{at_channel, on_channel}
@@ -29,6 +27,7 @@ pub record Book : Type 0 where
   pub ledgers : List (ℕ × LedgerState)
   pub cells : List (Option Cell)
 
+-- the book at first: no channel had an opening, and no publish was accepted
 abbrev pub empty_book : Book
 empty_book = record { ledgers = []; cells = [] }
 
@@ -38,12 +37,15 @@ empty_book = record { ledgers = []; cells = [] }
 abbrev pub fresh_ledger : LedgerState
 fresh_ledger = record { selected = false; last = 0; asked = false; limit = 0 }
 
+-- a `confirm.select` frame of the opening has left: it is selected (RabbitMQ publisher confirms)
 abbrev pub selected_ledger : LedgerState → LedgerState
 selected_ledger l = record l { selected = true }
 
+-- the live opening accepted a `confirm.select` call
 abbrev pub asked_ledger : LedgerState → LedgerState
 asked_ledger l = record l { asked = true }
 
+-- the limit of the live opening is n from now on, 0 for none
 abbrev pub limited_ledger : ℕ → LedgerState → LedgerState
 limited_ledger n l = record l { limit = n }
 
@@ -51,6 +53,7 @@ limited_ledger n l = record l { limit = n }
 abbrev pub ended_ledger : LedgerState → LedgerState
 ended_ledger l = record l { asked = false; limit = 0 }
 
+-- the opening's next tag is taken
 abbrev pub next_ledger : LedgerState → LedgerState
 next_ledger l = record l { last = l.last + 1 }
 
@@ -65,6 +68,7 @@ abbrev pub cell_with : ℕ → Option ℕ → Cell
 cell_with c None = cell.Resolved outcome.NotRequested
 cell_with c (Some t) = cell.Pending c t
 
+-- the ledgers as a publish of channel c leaves with this tag: its opening has taken one more; without a tag the same
 abbrev pub ledgers_with : ℕ → Option ℕ → List (ℕ × LedgerState) → List (ℕ × LedgerState)
 ledgers_with c None ls = ls
 ledgers_with c (Some t) ls = on_channel c next_ledger ls
@@ -75,6 +79,7 @@ ledgers_with c (Some t) ls = on_channel c next_ledger ls
 abbrev pub single_of : SettleKind → ℕ → Settlement
 single_of kind tag = record { kind = kind; tag = tag; multiple = false }
 
+-- the settlement of every tag up to this one, of 0 of every tag (AMQP 0-9-1, basic.ack; RabbitMQ, basic.nack)
 abbrev pub multiple_of : SettleKind → ℕ → Settlement
 multiple_of kind tag = record { kind = kind; tag = tag; multiple = true }
 
@@ -151,6 +156,7 @@ pending_count c b = count_by (is_pending_on c) b.cells
 abbrev pub queued_count : ℕ → Book → ℕ
 queued_count c b = count_by (is_queued_on c) b.cells
 
+-- the last tag that was taken by this ledger's opening, 0 if none, and 0 where there is no ledger
 abbrev pub last_in : Option LedgerState → ℕ
 last_in None = 0
 last_in (Some l) = l.last
@@ -159,6 +165,7 @@ last_in (Some l) = l.last
 abbrev pub last_on : ℕ → Book → ℕ
 last_on c b = last_in (at_channel c b.ledgers)
 
+-- this ledger's opening is selected; where there is no ledger none is
 abbrev pub selected_in : Option LedgerState → Bool
 selected_in None = false
 selected_in (Some l) = l.selected
@@ -167,6 +174,7 @@ selected_in (Some l) = l.selected
 abbrev pub selected_on : ℕ → Book → Bool
 selected_on c b = selected_in (at_channel c b.ledgers)
 
+-- this ledger's live opening accepted a `confirm.select` call; where there is no ledger none did
 abbrev pub asked_in : Option LedgerState → Bool
 asked_in None = false
 asked_in (Some l) = l.asked
@@ -175,6 +183,7 @@ asked_in (Some l) = l.asked
 abbrev pub asked_on : ℕ → Book → Bool
 asked_on c b = asked_in (at_channel c b.ledgers)
 
+-- the limit of this ledger's live opening, 0 for none, and 0 where there is no ledger
 abbrev pub limit_in : Option LedgerState → ℕ
 limit_in None = 0
 limit_in (Some l) = l.limit
@@ -191,51 +200,61 @@ full_on c b = selected_on c b && (nat_lt 0 (limit_on c b) && nat_le (limit_on c 
 abbrev pub at_limit_on : ℕ → Book → Bool
 at_limit_on c b = nat_lt 0 (limit_on c b) && nat_le (limit_on c b) (queued_count c b + pending_count c b)
 
--- The last tag taken less the least pending one, plus 1; 0 where none is pending.
+-- the tag of a cell that is pending on channel c
 abbrev pub tag_on : ℕ → Option Cell → Option ℕ
 tag_on c (Some (cell.Pending d t)) = if d == c then Some t else None
 tag_on c _ = None
 
--- the least tag that is pending on channel c
+-- the lesser of two tags, each of which may be missing
 abbrev pub least_of : Option ℕ → Option ℕ → Option ℕ
 least_of None o = o
 least_of (Some t) None = Some t
 least_of (Some t) (Some u) = if nat_le t u then Some t else Some u
 
+-- the least tag that is pending on channel c among these cells, if any is
 abbrev pub least_in : ℕ → List (Option Cell) → Option ℕ
 least_in c [] = None
 least_in c (o ∷ cells) = least_of (tag_on c o) (least_in c cells)
 
+-- how many tags there are from the least pending one to the last taken, both counted; 0 where none is pending
 abbrev pub span_from : ℕ → Option ℕ → ℕ
 span_from last None = 0
 span_from last (Some t) = last + 1 - t
 
+-- how many tags of channel c there are from its least pending one to the last taken, both counted; 0 where none is pending
 abbrev pub span_on : ℕ → Book → ℕ
 span_on c b = span_from (last_on c b) (least_in c b.cells)
 
 -- ---- what happens to a book. A publish is named by its confirm number, from 1.
 
+-- an opening of channel c begins: it is not selected, has no limit and has taken no tag
 abbrev pub begun : ℕ → Book → Book
 begun c b = record { ledgers = with_channel c fresh_ledger b.ledgers; cells = b.cells }
 
+-- a publish is accepted on channel c: it gets the next confirm number and is queued
 abbrev pub with_publish : ℕ → Book → Book
 with_publish c b = record { ledgers = b.ledgers; cells = b.cells ++ Some (cell.Queued c) ∷ [] }
 
+-- a `confirm.select` frame leaves on channel c: the channel's opening is selected
 abbrev pub select_left : ℕ → Book → Book
 select_left c b = record { ledgers = on_channel c selected_ledger b.ledgers; cells = b.cells }
 
+-- a call of `confirm.select` is accepted on channel c
 abbrev pub select_called : ℕ → Book → Book
 select_called c b = record { ledgers = on_channel c asked_ledger b.ledgers; cells = b.cells }
 
+-- the limit of channel c is set to n
 abbrev pub limited : ℕ → ℕ → Book → Book
 limited c n b = record { ledgers = on_channel c (limited_ledger n) b.ledgers; cells = b.cells }
 
+-- the method frame of publish n leaves on channel c: it is pending with the next tag, or not requested before the selection
 abbrev pub left : ℕ → ℕ → Book → Book
 left c n b = record {
   ledgers = ledgers_with c (tag_for (at_channel c b.ledgers)) b.ledgers;
   cells = with_under n (Some (cell_with c (tag_for (at_channel c b.ledgers)))) b.cells;
 }
 
+-- a settlement of channel c resolves what is pending there with a tag that it covers, as Ack or Nack by its kind
 abbrev pub settled : ℕ → Settlement → Book → Book
 settled c s b = record { ledgers = b.ledgers; cells = map (option_map (settled_cell c (covers s) (outcome_of s))) b.cells }
 
@@ -247,22 +266,10 @@ closed_here c e b = record { ledgers = b.ledgers; cells = map (option_map (close
 abbrev pub rejected : ℕ → Error → Book → Book
 rejected n e b = record { ledgers = b.ledgers; cells = with_under n (Some (cell.Resolved (outcome.Failed e))) b.cells }
 
+-- the opening of channel c ends: what is unresolved there fails with this error, and its `confirm.select` call and limit are gone
 abbrev pub ended : ℕ → Error → Book → Book
 ended c e b = record { ledgers = on_channel c ended_ledger b.ledgers; cells = map (option_map (ended_cell c e)) b.cells }
 
+-- of the outcome of publish n nothing is kept any more
 abbrev pub taken : ℕ → Book → Book
 taken n b = record { ledgers = b.ledgers; cells = with_under n None b.cells }
-
--- The book after a mark. What only returned messages have to do with changes nothing here.
-abbrev pub after_mark : Book → ConfirmMark → Book
-after_mark b (mark.Begun c) = begun c b
-after_mark b (mark.SelectCalled c) = select_called c b
-after_mark b (mark.LimitSet c n) = limited c n b
-after_mark b (mark.Added c) = with_publish c b
-after_mark b (mark.SelectLeft c) = select_left c b
-after_mark b (mark.Left c n) = left c n b
-after_mark b (mark.Settled c s) = settled c s b
-after_mark b (mark.ClosedHere c e) = closed_here c e b
-after_mark b (mark.Ended c e) = ended c e b
-after_mark b (mark.Taken n) = taken n b
-after_mark b _ = b

@@ -20,10 +20,12 @@ drained_on c p = drained_messages (is_over p.book.cells) (letters_at c p)
 
 -- ---- what is kept of confirms
 
+-- what is kept of confirms, by number: what became of each, and where it belongs
 pub record Remains : Type 0 where
   pub cells : List (Option Cell)
   pub homes : List (Option Home)
 
+-- these cells and these homes are what is kept of confirms
 abbrev pub remaining : List (Option Cell) → List (Option Home) → Remains
 remaining cells homes = record { cells = cells; homes = homes }
 
@@ -31,6 +33,7 @@ remaining cells homes = record { cells = cells; homes = homes }
 abbrev pub less_one : ℕ → Remains → Remains
 less_one n r = if is_over r.cells n then record { cells = with_under n None r.cells; homes = with_under n None r.homes } else r
 
+-- of each of these confirms nothing is kept any more, if it is resolved
 abbrev pub less_all : List ℕ → Remains → Remains
 less_all [] r = r
 less_all (n ∷ ns) r = less_all ns (less_one n r)
@@ -39,6 +42,7 @@ less_all (n ∷ ns) r = less_all ns (less_one n r)
 abbrev pub over_aside : ℕ → Post → List ℕ
 over_aside c p = filter (is_over p.book.cells) (letters_at c p).aside
 
+-- this is what is kept of confirms; openings and letters stay
 abbrev pub with_remains : Remains → Post → Post
 with_remains r p = record { book = record { ledgers = p.book.ledgers; cells = r.cells }; trays = p.trays; homes = r.homes }
 
@@ -59,12 +63,14 @@ pub record Swept : Type 0 where
   pub given : List BasicReturnMessage
   pub attached : List (ℕ × BasicReturnMessage)
 
+-- the walk comes to confirm n: where it is over the message that it took, if any, is given; else it goes on to stand aside
 abbrev pub sweep_one : (ℕ → Bool) → ℕ → Swept → Swept
 sweep_one done n s =
     if done n
     then record { left = s.left; over = s.over ++ n ∷ []; given = s.given ++ opt_list (message_at n s.attached); attached = without n s.attached }
     else record s { left = s.left ++ n ∷ [] }
 
+-- the walk has come past each of these confirms, in this order
 abbrev pub sweep_all : (ℕ → Bool) → List ℕ → Swept → Swept
 sweep_all done [] s = s
 sweep_all done (n ∷ ns) s = sweep_all done ns (sweep_one done n s)

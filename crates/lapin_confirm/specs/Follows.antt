@@ -19,10 +19,12 @@ use Rattle.lapin_confirm.specs.Post.{Post, letters_at}
 abbrev pub ledger_in : ℕ → List ConfirmMark → Option LedgerState
 ledger_in c ms = if is_begun c ms then Some (record { selected = is_selected c ms; last = place c ms; asked = is_asked c ms; limit = limit_of c ms }) else None
 
+-- the cell of a publish that left on channel c with tag t: pending, or resolved where it has this outcome by now
 abbrev pub pending_cell : ℕ → ℕ → Option Outcome → Cell
 pending_cell c t None = cell.Pending c t
 pending_cell c t (Some o) = cell.Resolved o
 
+-- the cell of a publish of channel c that has not left: queued, or resolved where it has this outcome by now
 abbrev pub queued_cell : ℕ → Option Outcome → Cell
 queued_cell c None = cell.Queued c
 queued_cell c (Some o) = cell.Resolved o
@@ -77,6 +79,7 @@ CameAfter before (m ∷ ms) = MayCome before m × CameAfter (before ++ m ∷ [])
 
 -- ---- what is kept is what the marks say
 
+-- each mark came as it may, and ledgers, cells, homes and letters are those that the readings give
 pub record Follows (ms : List ConfirmMark) (p : Post) : Type 0 where
   pub came : CameAfter [] ms
   pub ledgers : (c : ℕ) → at_channel c p.book.ledgers ≡ ledger_in c ms

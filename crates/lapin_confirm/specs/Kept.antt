@@ -8,6 +8,7 @@ pub record Kept : Type 0 where
   pub what : Post
   pub spare : List (ℕ × Bool)
 
+-- for how many more publishes or messages there is room: one where it is promised, none else or on an unknown channel
 abbrev pub spare_in : Option Bool → ℕ
 spare_in None = 0
 spare_in (Some b) = if b then 1 else 0

@@ -20,9 +20,11 @@ pub record Post : Type 0 where
 abbrev pub new_home : ℕ → Home
 new_home c = record { channel = c; aside = false }
 
+-- the confirms at first: no channel had an opening, and no publish was accepted
 abbrev pub empty_post : Post
 empty_post = record { book = empty_book; trays = []; homes = [] }
 
+-- the letters of a channel, empty ones where it had no opening
 abbrev pub letters_in : Option Letters → Letters
 letters_in None = no_letters
 letters_in (Some l) = l
@@ -33,10 +35,12 @@ letters_at c p = letters_in (at_channel c p.trays)
 
 -- ---- a publish, and the letters of its channel
 
+-- the letters of the channel where a publish belongs, empty ones where nothing is kept of the publish
 abbrev pub home_letters : Option Home → List (ℕ × Letters) → Letters
 home_letters None ts = no_letters
 home_letters (Some h) ts = letters_in (at_channel h.channel ts)
 
+-- the letters of each channel, changed by f on the channel where a publish belongs, and nowhere where nothing is kept of it
 abbrev pub on_home : Option Home → (Letters → Letters) → List (ℕ × Letters) → List (ℕ × Letters)
 on_home None f ts = ts
 on_home (Some h) f ts = on_channel h.channel f ts
@@ -56,6 +60,7 @@ abbrev pub number_from : ℕ → ℕ → ℕ → List (Option Cell) → Option �
 number_from c t n [] = None
 number_from c t n (o ∷ cells) = if is_pending_as c t o then Some n else number_from c t (suc n) cells
 
+-- the publishes that are pending on channel c with the tags that p covers, in rising order of their tags
 abbrev pub covered_in : ℕ → (ℕ → Bool) → Book → List ℕ
 covered_in c p b = taking p (λ t. number_from c t 1 b.cells) (range_with_len 1 (last_on c b))
 

@@ -25,9 +25,11 @@ ledger_after (Some t) l = next_ledger l
 abbrev pub KeepsTags : Ledger → Ledger → Type 0
 KeepsTags l k = l.tags.spare + k.queued ≤ k.tags.spare + l.queued
 
+-- each channel with what a caller sees of its ledger
 abbrev pub ledger_states : List (ℕ × Ledger) → List (ℕ × LedgerState)
 ledger_states es = map (λ e. (e.0, ledger_state e.1)) es
 
+-- each channel with its letters, without the room for more
 abbrev pub trays_of : List (ℕ × Tray) → List (ℕ × Letters)
 trays_of ts = map (λ e. (e.0, e.1.letters)) ts
 
@@ -55,6 +57,7 @@ pub record Untouched (c : ℕ) (cells : List (Option Cell)) : Type 0 where
   pub queued : count_by (is_queued_on c) cells ≡ 0
   pub pending : count_by (is_pending_on c) cells ≡ 0
 
+-- the ledger of channel c, if it has one, agrees with the cells; without a ledger it has nothing open
 abbrev pub TiedAt : ℕ → Option Ledger → List (Option Cell) → Type 0
 TiedAt c None cells = Untouched c cells
 TiedAt c (Some l) cells = Tied c l cells
@@ -79,9 +82,11 @@ abbrev pub MessageFits : ℕ → Option Tray → Type 0
 MessageFits n None = Unit {0}
 MessageFits n (Some t) = 0 < n → HasPlace t
 
+-- each ledger has room for the tags of its queued publishes, and on a channel where room is promised for one tag more
 abbrev pub TagsFit : List (ℕ × Bool) → List (ℕ × Ledger) → Type 0
 TagsFit rooms es = (c : ℕ) → TagFits (spare_in (at_channel c rooms)) (at_channel c es)
 
+-- on each channel with a promise of room one more message finds its place
 abbrev pub MessagesFit : List (ℕ × Bool) → List (ℕ × Tray) → Type 0
 MessagesFit rooms ts = (c : ℕ) → MessageFits (spare_in (at_channel c rooms)) (at_channel c ts)
 

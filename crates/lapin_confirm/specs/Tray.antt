@@ -19,9 +19,11 @@ pub record Tray : Type 0 where
 abbrev pub HasPlace : Tray → Type 0
 HasPlace t = (0 < t.to_wait) × (0 < t.to_attach) × (0 < t.to_stay)
 
+-- a returned message, stored by its fields
 abbrev pub message_code : Coded BasicReturnMessage
 message_code = message_row.the_row.coded
 
+-- the letters of a channel, stored as the pairs of their lists
 abbrev pub letters_code : Coded Letters
 letters_code =
     code_by
@@ -31,6 +33,7 @@ letters_code =
     (λ p. record { attached = p.0; waiting = p.1.0; unconfirmed = p.1.1.0; kept = p.1.1.1.0; aside = p.1.1.1.1 })
     (λ _. refl)
 
+-- the letters with their room, stored as the pairs of their parts
 abbrev pub tray_code : Coded Tray
 tray_code =
     code_by
@@ -45,6 +48,7 @@ abbrev pub place_in : ℕ → List (ℕ × BasicReturnMessage) → Option ℕ
 place_in n [] = None
 place_in n (x ∷ xs) = if x.0 == n then Some 0 else option_map suc (place_in n xs)
 
+-- the message, if there is one, is that of confirm n
 abbrev pub is_of : ℕ → Option (ℕ × BasicReturnMessage) → Bool
 is_of n None = false
 is_of n (Some x) = x.0 == n
@@ -53,5 +57,6 @@ is_of n (Some x) = x.0 == n
 abbrev pub pending_from : ℕ → ℕ → List (Option ℕ) → List ℕ
 pending_from t n tags = taking (λ _. true) (λ u. under u tags) (range_with_len t n)
 
+-- the publishes that are pending with the tags from 1 up to a limit, in rising order; by tag stands who is pending with it
 abbrev pub pending_through : ℕ → List (Option ℕ) → List ℕ
 pending_through limit tags = pending_from 1 limit tags

@@ -15,6 +15,7 @@ pub record Line : Type 0 where
   pub places : List ℕ
   pub spare : ℕ
 
+-- the places that a channel's line names; none where the channel has no line
 abbrev pub places_in : Option Line → List ℕ
 places_in None = []
 places_in (Some l) = l.places

@@ -9,6 +9,7 @@ pub record Kept : Type 0 where
   pub rooms : List ℕ
   pub spare : ℕ
 
+-- for how many more items the consumer of this number has room; None where no consumer has the number
 abbrev pub room_at : ℕ → List ℕ → Option ℕ
 room_at zero rs = None
 room_at (suc p) rs = slice_get rs p
@@ -22,6 +23,7 @@ BothFit k jobs (Some items) = (k ≤ jobs) × (k ≤ items)
 abbrev pub HasRoom : ℕ → Kept → Type 0
 HasRoom n k = BothFit 1 k.spare (room_at n k.rooms)
 
+-- the consumer is registered
 abbrev pub is_registered_one : Consumer → Bool
 is_registered_one x = x.registered
 

@@ -36,6 +36,7 @@ arrivals (Given y ∷ es) = y ∷ arrivals es
 arrivals (MadeJob y ∷ es) = y ∷ arrivals es
 arrivals (Void y ∷ es) = y ∷ arrivals es
 
+-- what came as items: what waits for a poll and what polls gave, but no job and nothing void
 abbrev pub items : List Entry → List Handed
 items [] = []
 items (Waiting y ∷ es) = y ∷ items es
@@ -43,6 +44,7 @@ items (Given y ∷ es) = y ∷ items es
 items (MadeJob y ∷ es) = items es
 items (Void y ∷ es) = items es
 
+-- what waits for a poll
 abbrev pub waiting : List Entry → List Handed
 waiting [] = []
 waiting (Waiting y ∷ es) = y ∷ waiting es
@@ -60,16 +62,20 @@ made (Void y ∷ es) = made es
 
 -- ---- what becomes of a log
 
+-- what becomes of a thing as it is handed to a consumer in this state: a job where it has a delegate, else it waits for a poll
 abbrev pub arrived_one : ConsumerState → Handed → Entry
 arrived_one s y = if is_marked s then MadeJob y else Waiting y
 
+-- the log once these were handed to a consumer in this state
 abbrev pub arrived : ConsumerState → List Handed → List Entry → List Entry
 arrived s ys es = es ++ map (arrived_one s) ys
 
+-- a thing that waited has become a job; any other stays what it was
 abbrev pub turned_job : Entry → Entry
 turned_job (Waiting y) = MadeJob y
 turned_job e = e
 
+-- a thing that waited is void; any other stays what it was
 abbrev pub turned_void : Entry → Entry
 turned_void (Waiting y) = Void y
 turned_void e = e
@@ -82,6 +88,7 @@ poll_first (e ∷ es) = e ∷ poll_first es
 
 -- ---- what a mark does to whom it is about
 
+-- what a mark does to a consumer that it is about; a new one under the same tag ends its registration
 abbrev pub told : ConsumerMark → Story → Story
 told (mark.Registered c t q) s = record s { registered = false }
 told (mark.Completed k d) s = record s { log = arrived s.state (Ok (Some d) ∷ []) s.log }
@@ -99,21 +106,26 @@ told mark.JobAsked s = s
 abbrev pub seen : Story → Consumer
 seen s = record { channel = s.channel; tag = s.tag; queue = s.queue; state = s.state; registered = s.registered; items = waiting s.log }
 
+-- what a mark does to the consumer at a place, whose number is one more; nothing where it isn't about that one
 abbrev pub told_at : ConsumerMark → ℕ → Story → Story
 told_at m i s = if concerns m (suc i) (seen s) then told m s else s
 
+-- a consumer that was just registered: active, and nothing was handed to it
 abbrev pub newcomer_story : ℕ → List ℕ → List ℕ → Story
 newcomer_story c t q = record { channel = c; tag = t; queue = q; state = state.Active; registered = true; log = [] }
 
+-- a registration adds its consumer at the back
 abbrev pub joined_story : ConsumerMark → List Story → List Story
 joined_story (mark.Registered c t q) ss = ss ++ newcomer_story c t q ∷ []
 joined_story _ ss = ss
 
+-- the consumers after one more mark
 abbrev pub next_stories : ConsumerMark → List Story → List Story
 next_stories m ss = joined_story m (map_at (told_at m) ss)
 
 -- ---- the readings of a history
 
+-- the consumers after the marks, where these were there before
 abbrev pub stories_from : List Story → List ConsumerMark → List Story
 stories_from ss [] = ss
 stories_from ss (m ∷ ms) = stories_from (next_stories m ss) ms
@@ -122,6 +134,7 @@ stories_from ss (m ∷ ms) = stories_from (next_stories m ss) ms
 abbrev pub stories : List ConsumerMark → List Story
 stories ms = stories_from [] ms
 
+-- the log of a consumer; nothing where there is none
 abbrev pub log_in : Option Story → List Entry
 log_in None = []
 log_in (Some s) = s.log
@@ -135,6 +148,7 @@ log (suc p) ms = log_in (slice_get (stories ms) p)
 abbrev pub jobs_by : ConsumerMark → List Story → List Job
 jobs_by m ss = gather_at (owed m) (map seen ss)
 
+-- the jobs that the marks make, in order, where these consumers were there before
 abbrev pub jobs_from : List Story → List ConsumerMark → List Job
 jobs_from ss [] = []
 jobs_from ss (m ∷ ms) = jobs_by m ss ++ jobs_from (next_stories m ss) ms
@@ -143,6 +157,7 @@ jobs_from ss (m ∷ ms) = jobs_by m ss ++ jobs_from (next_stories m ss) ms
 abbrev pub jobs_made : List ConsumerMark → List Job
 jobs_made ms = jobs_from [] ms
 
+-- the mark says that a job was asked for
 abbrev pub asks : ConsumerMark → Bool
 asks mark.JobAsked = true
 asks _ = false
@@ -157,6 +172,7 @@ abbrev pub given_by : ℕ → ConsumerMark → List Story → List Handed
 given_by p (mark.Polled k) ss = if suc p == k then take 1 (waiting (log_in (slice_get ss p))) else []
 given_by p _ ss = []
 
+-- the items that polls of consumer suc p gave over the marks, in order, where these consumers were there before
 abbrev pub given_from : ℕ → List Story → List ConsumerMark → List Handed
 given_from p ss [] = []
 given_from p ss (m ∷ ms) = given_by p m ss ++ given_from p (next_stories m ss) ms
@@ -187,5 +203,6 @@ abbrev pub handed_one : ConsumerMark → ℕ → Option Story → List Handed
 handed_one m n None = []
 handed_one m n (Some s) = if concerns m n (seen s) then words m else []
 
+-- what a mark that comes after these hands to consumer suc p; nothing where there is none or the mark isn't about it
 abbrev pub handed_by : ConsumerMark → ℕ → List ConsumerMark → List Handed
 handed_by m p ms = handed_one m (suc p) (slice_get (stories ms) p)

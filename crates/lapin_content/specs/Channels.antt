@@ -10,6 +10,7 @@ use Rattle.lapin_content.specs.Marks as mark
 abbrev pub Channels : Type 0
 Channels = List (ℕ × List Expected)
 
+-- what a channel's entry lists; nothing where the channel has no entry
 abbrev pub listed : Option (List Expected) → List Expected
 listed None = []
 listed (Some es) = es
@@ -23,6 +24,7 @@ abbrev pub joined_at : Option (List Expected) → ℕ → Expected → Channels 
 joined_at None c e all = all ++ (c, e ∷ []) ∷ []
 joined_at (Some es) c e all = on_channel c (λ es. es ++ e ∷ []) all
 
+-- one more content is expected on the channel, behind the others
 abbrev pub joined : ℕ → Expected → Channels → Channels
 joined c e all = joined_at (at_channel c all) c e all
 

@@ -38,6 +38,7 @@ for_consumer k s = s
 
 -- ---- what a content waits for
 
+-- no header came
 abbrev pub is_unbegun : Option Begun → Bool
 is_unbegun None = true
 is_unbegun (Some b) = false
@@ -46,6 +47,7 @@ is_unbegun (Some b) = false
 abbrev pub waits_for : ℕ → Expected → Bool
 waits_for k e = is_unbegun e.begun && (e.class_id == k)
 
+-- how many bytes are lacking, if the header came
 abbrev pub lacked : Option Begun → Option ℕ
 lacked None = None
 lacked (Some b) = Some b.left
@@ -54,6 +56,7 @@ lacked (Some b) = Some b.left
 abbrev pub left_of : Expected → Option ℕ
 left_of e = lacked e.begun
 
+-- the header came, and at least as many bytes as these are lacking
 abbrev pub has_left : List ℕ → Option Begun → Bool
 has_left bytes None = false
 has_left bytes (Some b) = nat_le (length bytes) b.left
@@ -72,9 +75,11 @@ begun_by q n e = record e { begun = Some (record { properties = q; left = n; byt
 abbrev pub grown : List ℕ → Begun → Begun
 grown bytes b = record b { left = b.left - length bytes; bytes = b.bytes ++ bytes }
 
+-- the expected content once the bytes joined those that came; one without a header stays as it was
 abbrev pub grown_by : List ℕ → Expected → Expected
 grown_by bytes e = record e { begun = option_map (grown bytes) e.begun }
 
+-- the message of a content, from what began it and what came of it; None where no header came
 abbrev pub whole_with : Start → Option Begun → Option Whole
 whole_with s None = None
 whole_with s (Some b) = Some (record { start = s; properties = b.properties; payload = b.bytes })
@@ -83,6 +88,7 @@ whole_with s (Some b) = Some (record { start = s; properties = b.properties; pay
 abbrev pub whole_of : Expected → Option Whole
 whole_of e = whole_with e.start e.begun
 
+-- a number of lacking bytes is known, and it is zero
 abbrev pub is_zero : Option ℕ → Bool
 is_zero None = false
 is_zero (Some n) = n == 0
@@ -93,9 +99,11 @@ is_whole e = is_zero (left_of e)
 
 -- ---- a header comes: it is for the front, which has to wait for one of its class
 
+-- the refusal of a header that no front waits for: an unexpected frame of the header's class, with 0 as its method
 abbrev pub refused_header : ContentHeader → Error
 refused_header h = error.UnexpectedFrame h.class_id 0
 
+-- this header came: the content has its properties and lacks as many bytes as it announces
 abbrev pub begun_with : ContentHeader → Expected → Expected
 begun_with h e = begun_by h.properties h.body_size e
 
@@ -107,6 +115,8 @@ if_whole e = if is_whole e then whole_of e else None
 abbrev pub unless_whole : Expected → List Expected → List Expected
 unless_whole e es = if is_whole e then es else e ∷ es
 
+-- what a header answers (AMQP 0-9-1, section 4.2.6): the message where its size is 0, nothing yet where bytes are to come,
+-- and the refusal where no front waits for a header of its class
 abbrev pub heard_header : ContentHeader → List Expected → Result (Option Whole) Error
 heard_header h [] = Err (refused_header h)
 heard_header h (e ∷ es) = if waits_for h.class_id e then Ok (if_whole (begun_with h e)) else Err (refused_header h)
@@ -118,9 +128,12 @@ after_header h (e ∷ es) = if waits_for h.class_id e then unless_whole (begun_w
 
 -- ---- a body comes: it is for the front, which has to have had its header and to lack as many bytes
 
+-- the refusal of a body that no front takes: an unexpected frame with 0 as its class and method
 abbrev pub refused_body : Error
 refused_body = error.UnexpectedFrame 0 0
 
+-- what a body answers (AMQP 0-9-1, section 4.2.6): the message where no byte is lacking any more, nothing yet where some are,
+-- and the refusal where there is no front, or it has had no header, or it lacks fewer bytes
 abbrev pub heard_body : List ℕ → List Expected → Result (Option Whole) Error
 heard_body bytes [] = Err refused_body
 heard_body bytes (e ∷ es) = if takes_body bytes e then Ok (if_whole (grown_by bytes e)) else Err refused_body
@@ -152,28 +165,34 @@ abbrev pub front_waits : ℕ → List Expected → Bool
 front_waits k [] = false
 front_waits k (e ∷ es) = waits_for k e
 
+-- a body of these bytes would be received
 abbrev pub front_takes : List ℕ → List Expected → Bool
 front_takes bytes [] = false
 front_takes bytes (e ∷ es) = takes_body bytes e
 
 -- the rest of this file is the words of the code's steps, which no public clause cites
 
+-- the list once the front's header came, with these properties and this size
 abbrev pub front_begun : Properties → ℕ → List Expected → List Expected
 front_begun q n [] = []
 front_begun q n (e ∷ es) = begun_by q n e ∷ es
 
+-- the list once the bytes joined those of the front
 abbrev pub front_grown : List ℕ → List Expected → List Expected
 front_grown bytes [] = []
 front_grown bytes (e ∷ es) = grown_by bytes e ∷ es
 
+-- the message of the front with these properties and no byte, if there is a front
 abbrev pub empty_whole : Properties → List Expected → Option Whole
 empty_whole q [] = None
 empty_whole q (e ∷ es) = Some (record { start = e.start; properties = q; payload = [] })
 
+-- the message of the front, where the front is whole
 abbrev pub front_whole : List Expected → Option Whole
 front_whole [] = None
 front_whole (e ∷ es) = if_whole e
 
+-- the list without its front, where the front is whole
 abbrev pub without_whole : List Expected → List Expected
 without_whole [] = []
 without_whole (e ∷ es) = unless_whole e es
@@ -182,24 +201,30 @@ without_whole (e ∷ es) = unless_whole e es
 abbrev pub lacks_only : List ℕ → Begun → Bool
 lacks_only bytes b = (length b.bytes == 0) && (b.left == length bytes)
 
+-- the header came, and these bytes alone are the content
 abbrev pub is_alone_in : List ℕ → Option Begun → Bool
 is_alone_in bytes None = false
 is_alone_in bytes (Some b) = lacks_only bytes b
 
+-- these bytes alone are the whole of an expected content whose header came
 abbrev pub is_alone : List ℕ → Expected → Bool
 is_alone bytes e = is_alone_in bytes e.begun
 
+-- these bytes alone are the whole of the front, whose header came
 abbrev pub front_is_alone : List ℕ → List Expected → Bool
 front_is_alone bytes [] = false
 front_is_alone bytes (e ∷ es) = is_alone bytes e
 
+-- the message whose payload is these bytes alone, with the header's properties; None where no header came
 abbrev pub alone_with : List ℕ → Start → Option Begun → Option Whole
 alone_with bytes s None = None
 alone_with bytes s (Some b) = Some (record { start = s; properties = b.properties; payload = bytes })
 
+-- the message of an expected content whose payload is these bytes alone; None where no header came
 abbrev pub whole_alone : List ℕ → Expected → Option Whole
 whole_alone bytes e = alone_with bytes e.start e.begun
 
+-- the message of the front with these bytes alone as its payload; None without a front or where its header didn't come
 abbrev pub front_alone : List ℕ → List Expected → Option Whole
 front_alone bytes [] = None
 front_alone bytes (e ∷ es) = whole_alone bytes e

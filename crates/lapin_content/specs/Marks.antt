@@ -4,6 +4,7 @@ use Rattle.std.specs.Prelude.{ℕ, List}
 use Rattle.lapin_methods.specs.declared.frame.ContentHeader.{ContentHeader}
 use Rattle.lapin_content.specs.declared.start.Start.{Start}
 
+-- what happened to the contents that a channel expects
 pub data ContentMark : Type 0 where
   -- a method that carries a content of a class came on a channel
   Awaited : (channel class_id : ℕ) (start : Start) → ContentMark

@@ -34,9 +34,11 @@ fits bytes (Some h) bodies = nat_le (came bodies + length bytes) h.body_size
 
 -- ---- what comes for the content at the front
 
+-- it is expected no more
 abbrev pub given_up : Content → Content
 given_up x = record x { over = true }
 
+-- no header came
 abbrev pub lacks_header : Option ContentHeader → Bool
 lacks_header None = true
 lacks_header (Some h) = false
@@ -62,9 +64,11 @@ on_front f (x ∷ xs) = if x.over then x ∷ on_front f xs else f x ∷ xs
 
 -- ---- the contents of a channel, in order of their starts
 
+-- a content that was just announced: nothing came for it yet
 abbrev pub newcomer : ℕ → Start → Content
 newcomer k s = record { class_id = k; start = s; header = None; bodies = []; over = false }
 
+-- the contents of channel c after one more mark; a mark of another channel changes none of them
 abbrev pub next_contents : ℕ → ContentMark → List Content → List Content
 next_contents c (mark.Awaited d k s) xs = if d == c then xs ++ newcomer k s ∷ [] else xs
 next_contents c (mark.Header d h) xs = if d == c then on_front (with_header h) xs else xs
@@ -72,15 +76,18 @@ next_contents c (mark.Body d bytes) xs = if d == c then on_front (with_body byte
 next_contents c (mark.Reset d) xs = if d == c then on_front given_up xs else xs
 next_contents c (mark.Dropped d) xs = if d == c then map given_up xs else xs
 
+-- the contents of channel c after the marks, where these were announced before
 abbrev pub contents_from : ℕ → List Content → List ContentMark → List Content
 contents_from c xs [] = xs
 contents_from c xs (m ∷ ms) = contents_from c (next_contents c m xs) ms
 
+-- the contents that were ever announced on channel c in this history
 abbrev pub contents : ℕ → List ContentMark → List Content
 contents c ms = contents_from c [] ms
 
 -- ---- what is expected of them
 
+-- what came of a content with this header and these bodies: its properties, the bytes that it lacks, its bodies joined
 abbrev pub begun_of : List (List ℕ) → ContentHeader → Begun
 begun_of bodies h = record { properties = h.properties; left = h.body_size - came bodies; bytes = concat bodies }
 

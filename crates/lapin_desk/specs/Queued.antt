@@ -23,6 +23,7 @@ is_publish_of c n p = p.channel == c && p.confirm == n
 abbrev pub AllWait : List (Option Cell) → List Publish → Type 0
 AllWait cells ps = (c n : ℕ) → is_queued_on c (under n cells) ≡ true → list_any (is_publish_of c n) ps ≡ true
 
+-- the publishes that wait are those that were accepted and have not left, each once
 pub record AreQueued (cells : List (Option Cell)) (ps : List Publish) : Type 0 where
   pub each : EachQueued cells ps
   pub all : AllWait cells ps

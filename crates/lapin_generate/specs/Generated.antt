@@ -13,6 +13,7 @@ use Rattle.lapin_values.specs.Properties.{no_properties}
 use Rattle.lapin_joint.specs.declared.step.Step.{Step}
 use Rattle.lapin_joint.specs.declared.step.Step.TheVariants as step
 
+-- the most publishes that a generated run is asked to make
 abbrev pub most_publishes : ℕ
 most_publishes = 10000
 
@@ -32,9 +33,11 @@ frames_of i = 2 + (i * 37 % 9000 + longest_body - 1) / longest_body
 abbrev pub answered : Method → List Step
 answered m = step.Client (event.Next true) ∷ step.Read ∷ step.Send (frame.Method 1 m) ∷ step.Deliver ∷ []
 
+-- channel 1 is opened: `channel.open` is called, leaves and is read; open-ok is sent and delivered
 abbrev pub opening : List Step
 opening = step.Client (event.Call 1 call.OpenChannel) ∷ answered (method.Channel channel.OpenOk)
 
+-- `confirm.select` is called on channel 1 with wait, leaves and is read; select-ok is sent and delivered
 abbrev pub selecting : List Step
 selecting = step.Client (event.Call 1 (call.ConfirmSelect (record { nowait = false }))) ∷ answered (method.Confirm confirm.SelectOk)
 
@@ -42,6 +45,7 @@ selecting = step.Client (event.Call 1 (call.ConfirmSelect (record { nowait = fal
 abbrev pub publish_call : ℕ → Call
 publish_call i = call.BasicPublish (codes "") (codes "hello") (record { mandatory = false; immediate = false }) (payload_of i) no_properties
 
+-- the broker sends a single `basic.ack` of i, which is delivered, and the confirm i is polled
 abbrev pub acked : ℕ → List Step
 acked i = step.Send (frame.Method 1 (method.Basic (basic.Ack i false))) ∷ step.Deliver ∷ step.Client (event.PollConfirm i) ∷ []
 
@@ -54,5 +58,6 @@ abbrev pub published : ℕ → List Step
 published zero = []
 published (suc n) = published n ++ publish_steps (suc n)
 
+-- the steps of a generated run: channel 1 is opened, confirms are asked for, and the publishes from 1 to n are made
 abbrev pub generated : ℕ → List Step
 generated n = opening ++ selecting ++ published n

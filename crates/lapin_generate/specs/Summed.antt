@@ -30,6 +30,7 @@ abbrev pub acks_told : Record → ℕ
 acks_told (record_.Confirmed (Ok (confirmation.Ack message))) = 1
 acks_told _ = 0
 
+-- 1 for the report of a poll whose confirm gave an ack
 abbrev pub ack_count : Reported → ℕ
 ack_count (reported.Client r) = acks_told r
 ack_count _ = 0

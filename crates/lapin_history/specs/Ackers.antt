@@ -22,6 +22,7 @@ use Rattle.lapin_history.specs.Asking.{call_record, asked_wire, asking_inbox, as
 
 -- ---- the call that it makes
 
+-- the method that an acker's call makes: `basic.ack`, `basic.nack` or `basic.reject`, with its message's delivery tag and the call's options
 abbrev pub acker_method : AckerCall → ℕ → Method
 acker_method (acker_call.Ack o) tag = method.Basic (basic.Ack tag o.multiple)
 acker_method (acker_call.Nack o) tag = method.Basic (basic.Nack tag o.multiple o.requeue)
@@ -37,30 +38,38 @@ usable_at n b = usable_as (switch_at n b.inbox.switches)
 
 -- ---- its record, what it leaves, and its marks: the acker is used up whatever becomes of the call
 
+-- the record of an acker's call: No where the acker is not usable, and else what the call on the acker's channel answers
 abbrev pub acked_record : Option (ℕ × ℕ) → AckerCall → Wire → Record
 acked_record None k b = record_.No
 acked_record (Some x) k b = call_record x.0 (acker_asked k x.1) b
 
+-- the record of a call of the acker of number n
 abbrev pub acker_told : ℕ → AckerCall → Wire → Record
 acker_told n k b = acked_record (usable_at n b) k b
 
+-- the states, lists and requests after an acker's call: as before where the acker is not usable, else as the call on its channel leaves them
 abbrev pub acked_wire : Option (ℕ × ℕ) → AckerCall → Wire → Wire
 acked_wire None k b = b
 acked_wire (Some x) k b = asked_wire x.0 (acker_asked k x.1) b
 
+-- what a call of acker n does to consumers and ackers: nothing where it is not usable; else what the call on its channel does, and it is used up
 abbrev pub acked_inbox : ℕ → Option (ℕ × ℕ) → AckerCall → Wire → List InboxMark
 acked_inbox n None k b = []
 acked_inbox n (Some x) k b = asking_inbox x.0 (acker_asked k x.1) b ++ inbox.Spent n ∷ []
 
+-- what a call of the acker of number n does to consumers and ackers
 abbrev pub acker_inbox : ℕ → AckerCall → Wire → List InboxMark
 acker_inbox n k b = acked_inbox n (usable_at n b) k b
 
+-- all that a call of the acker of number n leaves: the states, lists and requests, and the consumers and ackers
 abbrev pub after_acker : ℕ → AckerCall → Wire → Wire
 after_acker n k b = with_inbox (acker_inbox n k b) (acked_wire (usable_at n b) k b)
 
+-- what an acker's call does to tickets: nothing where the acker is not usable, and else what the call on its channel does
 abbrev pub acked_tickets : Option (ℕ × ℕ) → AckerCall → Wire → List TicketMark
 acked_tickets None k b = []
 acked_tickets (Some x) k b = asking_tickets x.0 (acker_asked k x.1) b
 
+-- what a call of the acker of number n does to tickets
 abbrev pub acker_tickets : ℕ → AckerCall → Wire → List TicketMark
 acker_tickets n k b = acked_tickets (usable_at n b) k b

@@ -57,12 +57,15 @@ call_record c k b =
 abbrev pub is_held : ℕ → Call → Wire → Readings → Bool
 is_held c k b readings = is_try k && (is_open (state_of c b) && readings.at_limit c)
 
+-- the record of a call: a publish that its channel's limit refuses is refused as `ConfirmsOutstanding` with the limit,
+-- every other call goes by the state of its channel
 abbrev pub call_told : ℕ → Call → Wire → Readings → Record
 call_told c k b readings =
     if is_held c k b readings
     then record_.Refused (error.ConfirmsOutstanding (readings.limit c))
     else call_record c (asked k) b
 
+-- the record is a refusal by the channel's limit of outstanding confirms
 abbrev pub is_outstanding : Record → Bool
 is_outstanding (record_.Refused (error.ConfirmsOutstanding limit)) = true
 is_outstanding _ = false
@@ -102,6 +105,7 @@ asked_wire c k b = if is_allowed k (state_of c b) then after_call c k b else b
 
 -- ---- consumers, and what is declared
 
+-- what an accepted call does to consumers and ackers, and to what is declared
 abbrev pub call_inbox : ℕ → Asked → Wire → List InboxMark
 call_inbox c ask.Open b = inbox.Opened c ∷ []
 call_inbox c (ask.CloseChannel code text) b = close_call_inbox c
@@ -110,16 +114,19 @@ call_inbox c (ask.Consume m tag queue o) b = inbox.Consumed c tag queue ∷ []
 call_inbox c (ask.Method row) b = line_inbox c row.method row.answered
 call_inbox c _ b = []
 
+-- what a call does to consumers and ackers, and to what is declared: nothing where it is not allowed
 abbrev pub asking_inbox : ℕ → Asked → Wire → List InboxMark
 asking_inbox c k b = if is_allowed k (state_of c b) then call_inbox c k b else []
 
 -- ---- all that it leaves
 
+-- all that a call leaves: the states, lists and requests, the consumers and ackers, and what is declared
 abbrev pub after_asking : ℕ → Asked → Wire → Wire
 after_asking c k b = with_inbox (asking_inbox c k b) (asked_wire c k b)
 
 -- ---- confirms
 
+-- what an accepted call does to confirms: it begins, closes or ends openings, asks for confirms, sets the limit, or adds a publish
 abbrev pub call_marks : ℕ → Asked → Wire → List ConfirmMark
 call_marks c ask.Open b = open_marks c
 call_marks c (ask.CloseChannel code text) b = close_marks c closer.Application
@@ -129,6 +136,7 @@ call_marks c (ask.Method row) b = queued_marks c row.method
 call_marks c (ask.Limit limit) b = mark.LimitSet c limit ∷ []
 call_marks c _ b = []
 
+-- what a call does to confirms: nothing where it is not allowed
 abbrev pub asking_marks : ℕ → Asked → Wire → List ConfirmMark
 asking_marks c k b = if is_allowed k (state_of c b) then call_marks c k b else []
 
@@ -153,6 +161,7 @@ made_answer (ask.Consume m tag queue o) b = Some (answer.Consumer (next_consumer
 made_answer (ask.Limit limit) b = Some answer.Done
 made_answer _ b = None
 
+-- ticket n was answered by its call, if that makes its answer itself
 abbrev pub made_marks : ℕ → Option Answer → List TicketMark
 made_marks n None = []
 made_marks n (Some a) = ticket.Answered n (Ok a) ∷ []
@@ -161,5 +170,6 @@ made_marks n (Some a) = ticket.Answered n (Ok a) ∷ []
 abbrev pub call_tickets : ℕ → Asked → Wire → List TicketMark
 call_tickets c k b = closing_tickets c k b ++ (ticket.Given c (leaving_answer k b) ∷ made_marks (b.tickets + 1) (made_answer k b))
 
+-- what a call does to tickets: nothing where it is not allowed
 abbrev pub asking_tickets : ℕ → Asked → Wire → List TicketMark
 asking_tickets c k b = if is_allowed k (state_of c b) then call_tickets c k b else []

@@ -46,10 +46,12 @@ abbrev pub awaited_by : Answered → Option Reply
 awaited_by (answered.ByReply r) = Some r
 awaited_by _ = None
 
+-- the answer that a line makes itself: that of a call without wait
 abbrev pub made_by : Answered → Option Answer
 made_by (answered.AtOnce r a) = Some a
 made_by _ = None
 
+-- the answer that the leaving of a line's frame gives: nothing where a reply or the call itself answers
 abbrev pub leaving_by : Answered → AtLeaving
 leaving_by (answered.AsItLeaves l) = l
 leaving_by _ = leaving.Nothing
@@ -63,10 +65,12 @@ abbrev pub is_try : Call → Bool
 is_try (call.TryBasicPublish exchange key o payload properties) = true
 is_try _ = false
 
+-- the call is a publish, `basic.try-publish` too
 abbrev pub publishes : Asked → Bool
 publishes (ask.Publish exchange key o payload properties) = true
 publishes _ = false
 
+-- the table of calls, a line a call: the method that the call queues and how its ticket is answered, or what else the call does
 abbrev pub asked : Call → Asked
 asked call.OpenChannel = ask.Open
 asked (call.ChannelClose code text) = ask.CloseChannel code text

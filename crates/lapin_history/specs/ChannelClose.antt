@@ -38,9 +38,11 @@ failed_at_close closer.Session = error.ProtocolError 406
 abbrev pub closing : ℕ → Closer → Wire → Wire
 closing c who b = record (with_lists (without_publishes_of c (lists_of b)) b) { phases = with_channel c (phase.Closing who false) b.phases }
 
+-- this side closes the channel's opening: the confirms of its publishes that have not begun fail with that error
 abbrev pub close_marks : ℕ → Closer → List ConfirmMark
 close_marks c who = mark.ClosedHere c (failed_at_close who) ∷ []
 
+-- this side closes the channel's opening: the tickets of its publishes that have not begun fail with that error
 abbrev pub close_tickets : ℕ → Closer → List TicketMark
 close_tickets c who = ticket.ClosedHere c (failed_at_close who) ∷ []
 
@@ -60,10 +62,12 @@ after_close_call c code text b = queued c (own_close code text) (Some reply.Chan
 
 -- ---- this side's `channel.close` leaves
 
+-- where a channel stands as this side's `channel.close` leaves: on a closing one the close has left now, any other is as it was
 abbrev pub close_sent : ChannelPhase → ChannelPhase
 close_sent (phase.Closing who sent) = phase.Closing who true
 close_sent p = p
 
+-- where the channels stand as a frame leaves: a `channel.close` has left on its channel, and any other frame moves none
 abbrev pub phases_sent : Frame → List (ℕ × ChannelPhase) → List (ℕ × ChannelPhase)
 phases_sent (frame.Method c (method.Channel (channel.Close code text class number))) all = on_channel c close_sent all
 phases_sent _ all = all
@@ -79,6 +83,7 @@ close_ticket c b = ticket_of (first_request reply_kind.ChannelCloseOk (requests_
 
 -- ---- the broker's `channel.close`: it is received on a channel with a live opening, which ends
 
+-- the broker's `channel.close` is received on an opening, an open and a closing channel
 abbrev pub receives_close : ChannelState → Bool
 receives_close s = is_opening s || receives_on s
 
@@ -88,6 +93,7 @@ abbrev pub after_broker_close : ChannelPhase → ChannelPhase
 after_broker_close (phase.Closing who true) = phase.Crossed
 after_broker_close p = phase.Closed
 
+-- which of the channel's requests stay open: where this side's close has left, that of the close alone, and else none
 abbrev pub kept_at : ChannelPhase → List Request → List Request
 kept_at p rs = if has_sent_close p then close_alone rs else no_requests rs
 
@@ -95,9 +101,11 @@ kept_at p rs = if has_sent_close p then close_alone rs else no_requests rs
 abbrev pub after_channel_close : ℕ → ChannelPhase → Wire → Wire
 after_channel_close c p b = noted c (method.Channel channel.CloseOk) (ended c (after_broker_close p) (kept_at p) b)
 
+-- the broker's `channel.close` ended the channel's opening: what is unresolved of its confirms fails with the broker's code
 abbrev pub broker_close_marks : ℕ → ℕ → List ConfirmMark
 broker_close_marks c code = mark.Ended c (error.ProtocolError code) ∷ []
 
+-- the broker's `channel.close` ended the opening with the broker's code: its consumers get the error and their end, its ackers are over
 abbrev pub broker_close_inbox : ℕ → ℕ → List InboxMark
 broker_close_inbox c code = inbox.Ended c (Some (error.ProtocolError code)) ∷ []
 
@@ -105,11 +113,14 @@ broker_close_inbox c code = inbox.Ended c (Some (error.ProtocolError code)) ∷ 
 abbrev pub kept_ticket : ℕ → ChannelPhase → Wire → Option ℕ
 kept_ticket c p b = if has_sent_close p then close_ticket c b else None
 
+-- what the broker's `channel.close` does to tickets: an open `basic.cancel` of the channel is done, every other open ticket fails
+-- with the broker's code, but that of this side's close where the two cross
 abbrev pub broker_close_tickets : ℕ → ℕ → Wire → List TicketMark
 broker_close_tickets c code b = cancels_done c b ++ ticket.OpeningFailed c (kept_ticket c (phase_of c b) b) (error.ProtocolError code) ∷ []
 
 -- ---- the broker's `channel.close-ok`: it is received where a close of this side is under way
 
+-- `channel.close-ok` is received on a closing and a crossed channel
 abbrev pub receives_close_ok : ChannelState → Bool
 receives_close_ok s = is_closing s || is_crossed s
 
@@ -128,6 +139,7 @@ abbrev pub after_close_ok : ℕ → ChannelPhase → Wire → Wire
 after_close_ok c (phase.Closing who sent) b = ended c phase.Closed no_requests b
 after_close_ok c p b = record b { phases = with_channel c phase.Closed b.phases; requests = on_channel c (without_kind reply_kind.ChannelCloseOk) b.requests }
 
+-- what `channel.close-ok` does to confirms: the opening ends where a crossed close did not end it before
 abbrev pub close_ok_marks : ℕ → Wire → List ConfirmMark
 close_ok_marks c b = end_with c (close_ok_end (phase_of c b))
 
@@ -136,10 +148,13 @@ abbrev pub consumers_end : ChannelPhase → Option Error
 consumers_end (phase.Closing closer.Session sent) = Some (error.ProtocolError 406)
 consumers_end _ = None
 
+-- what `channel.close-ok` does to consumers and ackers, by where its channel stands: on a closing one the opening ends,
+-- on a crossed one it has ended before
 abbrev pub close_ok_inbox_in : ℕ → ChannelPhase → List InboxMark
 close_ok_inbox_in c (phase.Closing who sent) = inbox.Ended c (consumers_end (phase.Closing who sent)) ∷ []
 close_ok_inbox_in c _ = []
 
+-- what `channel.close-ok` does to consumers and ackers
 abbrev pub close_ok_inbox : ℕ → Wire → List InboxMark
 close_ok_inbox c b = close_ok_inbox_in c (phase_of c b)
 

@@ -5,6 +5,7 @@ use Rattle.lapin_types.specs.Types.{Error}
 use Rattle.lapin_types.specs.declared.message.BasicReturnMessage.{BasicReturnMessage}
 use Rattle.lapin_history.specs.declared.marks.Settlement.{Settlement}
 
+-- one thing that happened to a channel's opening, to a publish or to returned messages; a history gives a list of these, oldest first
 pub data ConfirmMark : Type 0 where
   -- an opening of the channel began
   Begun : (channel : ℕ) → ConfirmMark

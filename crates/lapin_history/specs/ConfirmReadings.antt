@@ -71,6 +71,7 @@ limit_after c l _ = l
 abbrev pub covers : Settlement → ℕ → Bool
 covers s t = if s.multiple then s.tag == 0 || nat_le t s.tag else s.tag == t
 
+-- the outcome that a settlement of this kind gives: Ack for `basic.ack`, Nack for `basic.nack`
 abbrev pub kind_outcome : SettleKind → Outcome
 kind_outcome kind.Ack = outcome.Ack
 kind_outcome kind.Nack = outcome.Nack
@@ -85,6 +86,7 @@ outcome_of s = kind_outcome s.kind
 abbrev pub opening : ℕ → List ConfirmMark → List ConfirmMark
 opening c ms = since (begins c) ms
 
+-- an opening of channel c has begun, whether or not it has ended
 abbrev pub is_begun : ℕ → List ConfirmMark → Bool
 is_begun c ms = list_any (begins c) ms
 
@@ -96,9 +98,11 @@ is_selected c ms = list_any (selects c) (opening c ms)
 abbrev pub place : ℕ → List ConfirmMark → ℕ
 place c ms = count_by (leaves_on c) (after (selects c) (opening c ms))
 
+-- the method frame of publish k has left
 abbrev pub has_left : ℕ → List ConfirmMark → Bool
 has_left k ms = list_any (leaves k) ms
 
+-- the channel of the publish that was accepted by this mark, 0 where none was
 abbrev pub channel_in : Option ConfirmMark → ℕ
 channel_in (Some (mark.Added d)) = d
 channel_in _ = 0
@@ -111,6 +115,7 @@ added ms = many adds ms
 abbrev pub accepted : ℕ → List ConfirmMark → Option ConfirmMark
 accepted n ms = nth adds n ms
 
+-- the marks after publish n was accepted
 abbrev pub life : ℕ → List ConfirmMark → List ConfirmMark
 life n ms = after_nth adds n ms
 
@@ -126,10 +131,6 @@ tag_on c ms = if is_selected c ms then Some (place c ms) else None
 -- the tag that a publish which left has taken
 abbrev pub tag_of : ℕ → List ConfirmMark → Option ℕ
 tag_of k ms = tag_on (channel_of k ms) (through (leaves k) ms)
-
--- the tag of any publish: none before its method frame left
-abbrev pub tag_at : ℕ → List ConfirmMark → Option ℕ
-tag_at k ms = if has_left k ms then tag_of k ms else None
 
 -- ---- outcomes
 
@@ -168,9 +169,11 @@ outcome_at n ms =
     then outcome_after (channel_of n ms) (tag_of n ms) (after (leaves n) ms)
     else first_rejected (channel_of n ms) (life n ms)
 
+-- the result of publish n was given
 abbrev pub is_taken : ℕ → List ConfirmMark → Bool
 is_taken n ms = list_any (takes n) ms
 
+-- publish n was set aside
 abbrev pub is_aside : ℕ → List ConfirmMark → Bool
 is_aside n ms = list_any (lays n) ms
 
@@ -184,10 +187,12 @@ is_finished n ms = is_taken n ms || is_aside n ms
 
 -- ---- pending tags
 
+-- a tag was taken, and it is t
 abbrev pub is_tag : ℕ → Option ℕ → Bool
 is_tag t None = false
 is_tag t (Some u) = u == t
 
+-- no outcome is there yet
 abbrev pub is_open_outcome : Option Outcome → Bool
 is_open_outcome None = true
 is_open_outcome (Some o) = false
@@ -204,23 +209,25 @@ numbers ms = range_with_len 1 (added ms)
 abbrev pub is_pending : ℕ → ℕ → List ConfirmMark → Bool
 is_pending c t ms = list_any (is_pending_as c t ms) (numbers ms)
 
--- how many tags are pending on channel c
+-- publish n has left on channel c, and has no outcome yet
 abbrev pub is_pending_on : ℕ → List ConfirmMark → ℕ → Bool
 is_pending_on c ms n = has_left n ms && (channel_of n ms == c && is_open_outcome (outcome_at n ms))
 
+-- the number of tags that are pending on channel c: its publishes whose method frame left and that have no outcome yet
 abbrev pub pending_count : ℕ → List ConfirmMark → ℕ
 pending_count c ms = count_by (is_pending_on c ms) (numbers ms)
 
--- publish n is of channel c, and its method frame has neither left nor will leave no more
+-- publish n is of channel c, has not left, and has no outcome yet
 abbrev pub is_queued_on : ℕ → List ConfirmMark → ℕ → Bool
 is_queued_on c ms n = not (has_left n ms) && (channel_of n ms == c && is_open_outcome (outcome_at n ms))
 
+-- how many publishes of channel c are queued: their method frame has not left, and they have no outcome yet
 abbrev pub queued_count : ℕ → List ConfirmMark → ℕ
 queued_count c ms = count_by (is_queued_on c ms) (numbers ms)
 
 -- ---- what an opening has beside its tags: it is there from the opening's begin to its end
 
--- the marks since the channel's opening began, none where it has ended
+-- the marks since the channel's opening began or ended, whichever came last
 abbrev pub present : ℕ → List ConfirmMark → List ConfirmMark
 present c ms = since (turns c) ms
 
@@ -233,6 +240,7 @@ abbrev pub last_limit : ℕ → ℕ → List ConfirmMark → ℕ
 last_limit c l [] = l
 last_limit c l (m ∷ ms) = last_limit c (limit_after c l m) ms
 
+-- the limit of outstanding confirms of channel c's live opening, 0 for none
 abbrev pub limit_of : ℕ → List ConfirmMark → ℕ
 limit_of c ms = last_limit c 0 (present c ms)
 

@@ -38,21 +38,26 @@ own_connection_close code text = method.Connection (connection.Close code text 0
 abbrev pub after_connection_close_call : ℕ → ℕ → List ℕ → Wire → Wire
 after_connection_close_call c code text b = queued c (own_connection_close code text) (Some reply.ConnectionCloseOk) (down (link.Closing false false) b)
 
+-- what the call does to confirms: every live opening ends with that error
 abbrev pub connection_close_call_marks : Wire → List ConfirmMark
 connection_close_call_marks b = ends_all failed_at_connection_close b
 
+-- what the call does to consumers and ackers: every live opening ends with that error
 abbrev pub connection_close_call_inbox : Wire → List InboxMark
 connection_close_call_inbox b = inbox_ends_all failed_at_connection_close b
 
+-- what the call does to older tickets: an open `basic.cancel` is done, and every other open one fails with that error
 abbrev pub connection_close_call_tickets : Wire → List TicketMark
 connection_close_call_tickets b = all_failed failed_at_connection_close b
 
 -- ---- this side's `connection.close` leaves
 
+-- where the connection stands as this side's `connection.close` leaves: where it is closing the close has left now, else it is as it was
 abbrev pub link_close_sent : ConnectionPhase → ConnectionPhase
 link_close_sent (link.Closing sent received) = link.Closing true received
 link_close_sent l = l
 
+-- where the connection stands as a frame leaves: `connection.close` has left, and any other frame does not move it
 abbrev pub link_sent : Frame → ConnectionPhase → ConnectionPhase
 link_sent (frame.Method c (method.Connection (connection.Close code text class number))) l = link_close_sent l
 link_sent _ l = l
@@ -60,6 +65,7 @@ link_sent _ l = l
 -- ---- what is received once the connection is not open: while this side closes it, `connection.close-ok`, and the first
 -- `connection.close`
 
+-- the frame is received though the connection is not open: that is closing, and it is close-ok or the broker's first `connection.close`
 abbrev pub receives_down : ConnectionPhase → Incoming → Bool
 receives_down (link.Closing sent received) incoming.ConnectionCloseOk = true
 receives_down (link.Closing sent received) (incoming.ConnectionClose code) = not received
@@ -73,9 +79,11 @@ abbrev pub after_connection_close : ConnectionPhase → Wire → Wire
 after_connection_close (link.Closing true received) b = noted 0 (method.Connection connection.CloseOk) (record b { link = link.Closing true true })
 after_connection_close l b = noted 0 (method.Connection connection.CloseOk) (down link.Closed b)
 
+-- what the broker's `connection.close` does to confirms: every live opening ends with the broker's code
 abbrev pub connection_close_marks : ℕ → Wire → List ConfirmMark
 connection_close_marks code b = ends_all (error.ProtocolError code) b
 
+-- what the broker's `connection.close` does to consumers and ackers: every live opening ends with the broker's code
 abbrev pub connection_close_inbox : ℕ → Wire → List InboxMark
 connection_close_inbox code b = inbox_ends_all (error.ProtocolError code) b
 
@@ -90,10 +98,12 @@ connection_close_tickets l code b = all_failed (error.ProtocolError code) b
 abbrev pub unless_sent : Bool → Lists → Lists
 unless_sent sent l = if sent then l else no_lists
 
+-- no close of this side waits to leave: it has left, or none is under way
 abbrev pub has_sent : ConnectionPhase → Bool
 has_sent (link.Closing sent received) = sent
 has_sent _ = true
 
+-- the connection is closed, and the request of this side's close is gone; a close that has not left is dropped
 abbrev pub after_connection_close_ok : Wire → Wire
 after_connection_close_ok b = record (with_lists (unless_sent (has_sent b.link) (lists_of b)) b) { link = link.Closed; requests = on_channel 0 (without_kind reply_kind.ConnectionCloseOk) b.requests }
 

@@ -41,6 +41,7 @@ expecting c s b = record b { contents = after_mark b.contents (mark.Awaited c co
 abbrev pub get_ticket : ℕ → Wire → Option ℕ
 get_ticket c b = ticket_of (first_request reply_kind.BasicGetOk (requests_of c b))
 
+-- get-ok takes the oldest open get of its channel, and one more content is expected, for that get's ticket
 abbrev pub after_get_ok : ℕ → Start → Wire → Wire
 after_get_ok c s b = expecting c (for_ticket (get_ticket c b) s) (after_reply c reply_kind.BasicGetOk b)
 
@@ -50,6 +51,8 @@ after_deliver c tag s b = expecting c (for_consumer (found c tag b.inbox.roster)
 
 -- ---- when one is received: get-ok where a get is open, a header or a body where the content at the front of its channel waits for it
 
+-- a frame about contents is received on an open and on a closing channel: get-ok where a get is open, a return and a delivery always,
+-- a header and a body where the front waits for them
 abbrev pub receives_part : ℕ → ContentPart → Wire → Bool
 receives_part c (part.GetOk s) b = receives_reply c reply_kind.BasicGetOk b
 receives_part c (part.Return s) b = receives_on (state_of c b)
@@ -62,11 +65,13 @@ abbrev pub whole_in : Result (Option Whole) Error → Option Whole
 whole_in (Ok w) = w
 whole_in (Err e) = None
 
+-- the content that a header or a body makes whole, of these that its channel expects; a method that begins one makes none whole
 abbrev pub whole_by : ContentPart → List Expected → Option Whole
 whole_by (part.Header h) es = whole_in (heard_header h es)
 whole_by (part.Body bytes) es = whole_in (heard_body bytes es)
 whole_by _ es = None
 
+-- the content of the channel that a header or a body makes whole, if it does
 abbrev pub whole_on : ℕ → ContentPart → Wire → Option Whole
 whole_on c p b = whole_by p (expected_on c b.contents)
 
@@ -83,6 +88,7 @@ for_acker i (start.Get ticket tag exchange key redelivered count) = true
 for_acker i (start.Deliver (Some k) tag exchange key redelivered) = is_registered k i.roster
 for_acker i _ = false
 
+-- the content that became whole, if one did, takes an acker
 abbrev pub takes_acker : Inbox → Option Whole → Bool
 takes_acker i None = false
 takes_acker i (Some w) = for_acker i w.start
@@ -115,6 +121,7 @@ returned_delivery exchange key properties payload = record {
   acker = record { channel_id = 0; delivery_tag = 0; number = 0; used = true };
 }
 
+-- a message that came back: its delivery, with the broker's reply code and text (AMQP 0-9-1, basic.return)
 abbrev pub returned_message : ℕ → List ℕ → List ℕ → List ℕ → Whole → BasicReturnMessage
 returned_message code text exchange key w = record { delivery = returned_delivery exchange key w.properties w.payload; reply_code = code; reply_text = text }
 
@@ -123,6 +130,7 @@ abbrev pub start_marks : ℕ → Start → Whole → List ConfirmMark
 start_marks c (start.Return code text exchange key) w = confirm.Arrived c (returned_message code text exchange key w) ∷ []
 start_marks c _ w = []
 
+-- what the content that became whole does to confirms, nothing where none did
 abbrev pub whole_marks : ℕ → Option Whole → List ConfirmMark
 whole_marks c None = []
 whole_marks c (Some w) = start_marks c w.start w
@@ -132,6 +140,7 @@ abbrev pub start_tickets : ℕ → ℕ → Start → Whole → List TicketMark
 start_tickets c n (start.Get ticket tag exchange key redelivered count) w = resolved_with (Ok (answer.Got (Some (got_message c n tag exchange key redelivered count w)))) ticket
 start_tickets c n _ w = []
 
+-- what the content that became whole does to tickets, nothing where none did
 abbrev pub whole_tickets : ℕ → ℕ → Option Whole → List TicketMark
 whole_tickets c n None = []
 whole_tickets c n (Some w) = start_tickets c n w.start w
@@ -140,17 +149,20 @@ whole_tickets c n (Some w) = start_tickets c n w.start w
 abbrev pub arrival : ℕ → Delivery → Inbox → List InboxMark
 arrival k d i = if is_registered k i.roster then inbox.Delivered k d ∷ [] else []
 
+-- what a whole content does to consumers and ackers: a get's message takes the next acker, a delivery arrives at its consumer, if any
 abbrev pub start_inbox : ℕ → Inbox → Start → Whole → List InboxMark
 start_inbox c i (start.Get ticket tag exchange key redelivered count) w = inbox.Got c tag ∷ []
 start_inbox c i (start.Deliver (Some k) tag exchange key redelivered) w = arrival k (delivered_message c (next_acker i) tag exchange key redelivered w) i
 start_inbox c i _ w = []
 
+-- what the content that became whole does to consumers and ackers, nothing where none did
 abbrev pub whole_inbox : ℕ → Inbox → Option Whole → List InboxMark
 whole_inbox c i None = []
 whole_inbox c i (Some w) = start_inbox c i w.start w
 
 -- ---- what it leaves, and what it does to confirms, tickets, consumers and ackers
 
+-- what a frame about contents leaves: a method begins one, get-ok takes its request too, a header or a body is for the front
 abbrev pub after_part : ℕ → ContentPart → Wire → Wire
 after_part c (part.GetOk s) b = after_get_ok c s b
 after_part c (part.Return s) b = expecting c s b
@@ -158,11 +170,14 @@ after_part c (part.Deliver tag s) b = after_deliver c tag s b
 after_part c (part.Header h) b = record b { contents = after_mark b.contents (mark.Header c h) }
 after_part c (part.Body bytes) b = record b { contents = after_mark b.contents (mark.Body c bytes) }
 
+-- what a frame about contents does to confirms: what the content does that it makes whole, if it does
 abbrev pub part_marks : ℕ → ContentPart → Wire → List ConfirmMark
 part_marks c p b = whole_marks c (whole_on c p b)
 
+-- what a frame about contents does to tickets: what the content does that it makes whole, if it does
 abbrev pub part_tickets : ℕ → ContentPart → Wire → List TicketMark
 part_tickets c p b = whole_tickets c (next_acker b.inbox) (whole_on c p b)
 
+-- what a frame about contents does to consumers and ackers: what the content does that it makes whole, if it does
 abbrev pub part_inbox : ℕ → ContentPart → Wire → List InboxMark
 part_inbox c p b = whole_inbox c b.inbox (whole_on c p b)

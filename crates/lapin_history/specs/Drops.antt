@@ -9,6 +9,7 @@ use Rattle.lapin_types.specs.Types.frame
 use Rattle.lapin_history.specs.Frames.{MethodEntry, RestEntry}
 use Rattle.lapin_history.specs.Leaving.{Lists}
 
+-- the channel that a frame is on
 abbrev pub frame_channel : Frame → ℕ
 frame_channel (frame.Method c m) = c
 frame_channel (frame.Header c h) = c
@@ -24,9 +25,11 @@ is_on f c x = f x == c
 abbrev pub is_off : {X : Type 0} → (X → ℕ) → ℕ → X → Bool
 is_off f c x = not (is_on f c x)
 
+-- the channel of a method that waits
 abbrev pub method_channel : MethodEntry → ℕ
 method_channel m = m.channel
 
+-- the channel of a publish that waits
 abbrev pub publish_channel : Publish → ℕ
 publish_channel p = p.channel
 
@@ -37,6 +40,7 @@ is_rest_of c (f ∷ fs) = frame_channel f.frame == c
 
 -- ---- the publishes of a channel that have not begun
 
+-- of the publishes that have not begun, those of channel c
 abbrev pub unbegun : ℕ → List Publish → List Publish
 unbegun c ps = filter (is_on publish_channel c) ps
 
@@ -65,6 +69,7 @@ abbrev pub rest_tickets : List RestEntry → List (Option ℕ)
 rest_tickets [] = []
 rest_tickets (f ∷ fs) = Some f.ticket ∷ []
 
+-- the ticket of the begun publish where it is of this channel, else none
 abbrev pub rest_tickets_of : ℕ → List RestEntry → List (Option ℕ)
 rest_tickets_of c fs = if is_rest_of c fs then rest_tickets fs else []
 
@@ -72,5 +77,6 @@ rest_tickets_of c fs = if is_rest_of c fs then rest_tickets fs else []
 abbrev pub method_tickets_of : ℕ → List MethodEntry → List (Option ℕ)
 method_tickets_of c ms = map (λ m. m.ticket) (filter (is_on method_channel c) ms)
 
+-- the tickets of the channel's publishes that have not begun
 abbrev pub publish_tickets_of : ℕ → List Publish → List (Option ℕ)
 publish_tickets_of c ps = map (λ p. Some p.ticket) (unbegun c ps)

@@ -51,6 +51,7 @@ abbrev pub live_below : ℕ → List (ℕ × ChannelPhase) → List ℕ
 live_below zero all = []
 live_below (suc c) all = live_below c all ++ (if is_live (phase_in (at_channel c all)) then c ∷ [] else [])
 
+-- the channels that have a live opening, in rising number
 abbrev pub live_channels : List (ℕ × ChannelPhase) → List ℕ
 live_channels all = live_below (beyond all) all
 
@@ -70,6 +71,7 @@ end_with c (Some e) = mark.Ended c e ∷ []
 
 -- ---- consumers: each registered one of the channel gets the error and its end, and the ackers of the opening are over
 
+-- the opening ends for the consumers and ackers of the channel, if there is an error with which it does
 abbrev pub inbox_end_with : ℕ → Option Error → List InboxMark
 inbox_end_with c None = []
 inbox_end_with c (Some e) = inbox.Ended c (Some e) ∷ []
@@ -79,6 +81,7 @@ abbrev pub inbox_ends : Error → List ℕ → List InboxMark
 inbox_ends e [] = []
 inbox_ends e (c ∷ cs) = inbox.Ended c (Some e) ∷ inbox_ends e cs
 
+-- each live opening ends for its consumers and ackers, in rising number of its channel
 abbrev pub inbox_ends_all : Error → Wire → List InboxMark
 inbox_ends_all e b = inbox_ends e (live_channels b.phases)
 
@@ -89,12 +92,15 @@ abbrev pub done_with : List Request → List TicketMark
 done_with [] = []
 done_with (r ∷ rs) = resolved_with (Ok answer.Done) r.ticket ++ done_with rs
 
+-- every open `basic.cancel` among these requests is done
 abbrev pub cancels_in : List Request → List TicketMark
 cancels_in rs = done_with (filter (is_kind reply_kind.BasicCancelOk) rs)
 
+-- every open `basic.cancel` of channel c is done, where these are the open requests of each channel
 abbrev pub cancels_at : ℕ → List (ℕ × List Request) → List TicketMark
 cancels_at c all = cancels_in (requests_in (at_channel c all))
 
+-- every open `basic.cancel` of channel c is done, as the opening of its channel ends
 abbrev pub cancels_done : ℕ → Wire → List TicketMark
 cancels_done c b = cancels_at c b.requests
 

@@ -25,8 +25,10 @@ is_paused_on x = is_paused x.1
 abbrev pub is_flowing : Bool → Wire → Bool
 is_flowing flow b = flow && not (list_any is_paused_on b.phases)
 
+-- whether a publish may begin on channel c: publishes may begin at all, and the channel is not full
 abbrev pub unless_full : Bool → (ℕ → Bool) → ℕ → Bool
 unless_full flowing full c = flowing && not (full c)
 
+-- the channels on which a publish may begin at a frame request with this flow, where full tells the full channels
 abbrev pub begins_on : Bool → (ℕ → Bool) → Wire → ℕ → Bool
 begins_on flow full b = unless_full (is_flowing flow b) full

@@ -7,6 +7,7 @@ use Rattle.lapin_types.specs.Types.frame
 use Rattle.lapin_types.specs.Types.method
 use Rattle.lapin_types.specs.Types.basic
 
+-- the list has no element
 abbrev pub is_empty : {X : Type 0} → List X → Bool
 is_empty [] = true
 is_empty (x ∷ xs) = false
@@ -25,9 +26,11 @@ cut n bytes = pieces (length bytes) n bytes
 abbrev pub room_for_body : ℕ → ℕ
 room_for_body frame_max = frame_max - 8
 
+-- the body frames of a payload on channel c; an empty payload has none (AMQP 0-9-1, section 4.2.6, content framing)
 abbrev pub bodies : ℕ → ℕ → List ℕ → List Frame
 bodies frame_max c bytes = map (λ piece. frame.Body c piece) (cut (room_for_body frame_max) bytes)
 
+-- the method of a publish: `basic.publish` with its exchange, its routing key and its options (AMQP 0-9-1, basic.publish)
 abbrev pub publish_method : Publish → Method
 publish_method p = method.Basic (basic.Publish p.exchange p.routing_key p.options.mandatory p.options.immediate)
 
@@ -76,5 +79,6 @@ abbrev pub behind : Publish → List Frame → List RestEntry
 behind p [] = []
 behind p (f ∷ fs) = record { frame = f; ticket = p.ticket; publish = p.confirm; last = is_empty fs } ∷ behind p fs
 
+-- the rest that a publish leaves as it begins: its header and its bodies, the last of them marked
 abbrev pub rest_of : ℕ → Publish → List RestEntry
 rest_of frame_max p = behind p (contents frame_max p)

@@ -27,6 +27,7 @@ pub record Past : Type 0 where
   pub confirms : List ConfirmMark
   pub tickets : List TicketMark
 
+-- what a history comes to with one more event and its record
 abbrev pub longer : Past → Event → Record → Past
 longer p e r = record {
   wire = after_event p.wire e r;
@@ -34,10 +35,12 @@ longer p e r = record {
   tickets = p.tickets ++ ticket_marks p.wire e r;
 }
 
+-- what a history comes to with these further events and their records
 abbrev pub past_on : Past → History → Past
 past_on p [] = p
 past_on p (x ∷ h) = past_on (longer p x.0 x.1) h
 
+-- what the history of a session with this greatest frame comes to
 abbrev pub past : ℕ → History → Past
 past frame_max h = past_on (record { wire = start frame_max; confirms = []; tickets = [] }) h
 
@@ -46,6 +49,7 @@ abbrev pub polled_outcome : Option BasicReturnMessage → Option Outcome → Rec
 polled_outcome m None = record_.Pending
 polled_outcome m (Some o) = confirmed m o
 
+-- the record of a poll of confirm n: refused where no publish has this number, or where its result is asked for no more
 abbrev pub confirm_poll : List ConfirmMark → ℕ → Record
 confirm_poll ms n =
     if was_added n ms
@@ -64,9 +68,11 @@ abbrev pub polled_answer : Option (Result Answer Error) → Record
 polled_answer None = record_.Pending
 polled_answer (Some a) = record_.Answer a
 
+-- n is the number of a ticket that was given
 abbrev pub was_given : ℕ → List TicketMark → Bool
 was_given n ms = nat_lt 0 n && nat_le n (given ms)
 
+-- the record of a poll of ticket n: refused where it was never given, or where its answer was given or the ticket was set aside
 abbrev pub ticket_poll : List TicketMark → ℕ → Record
 ticket_poll ms n =
     if was_given n ms
@@ -98,6 +104,7 @@ readings_of confirms tickets = record {
   returned = λ c. drained c confirms;
 }
 
+-- the record of the next event, as what the history comes to determines it
 abbrev pub record_after : Past → Event → Record
 record_after p e = record_of p.wire (readings_of p.confirms p.tickets) e
 
@@ -105,6 +112,7 @@ record_after p e = record_of p.wire (readings_of p.confirms p.tickets) e
 abbrev pub rec : ℕ → History → Event → Record
 rec frame_max h e = record_after (past frame_max h) e
 
+-- the records of these events after a history, one record an event
 abbrev pub run_from : ℕ → History → List Event → List Record
 run_from frame_max h [] = []
 run_from frame_max h (e ∷ es) = rec frame_max h e ∷ run_from frame_max (h ++ (e, rec frame_max h e) ∷ []) es

@@ -29,11 +29,13 @@ frame_class (frame.Method c m) = class_number m
 frame_class (frame.Header c h) = h.class_id
 frame_class (frame.Body c bytes) = 0
 
+-- the number of a frame's method in its class: 0 for a header and for a body
 abbrev pub frame_method : Frame → ℕ
 frame_method (frame.Method c m) = method_number m
 frame_method (frame.Header c h) = 0
 frame_method (frame.Body c bytes) = 0
 
+-- a settlement of the broker: `basic.ack` or `basic.nack`, its tag, and whether it is multiple
 abbrev pub settlement : SettleKind → ℕ → Bool → Settlement
 settlement kind tag multiple = record { kind = kind; tag = tag; multiple = multiple }
 
@@ -90,6 +92,7 @@ tells_all (basic.Nack tag multiple requeue) = true
 tells_all basic.RecoverOk = true
 tells_all _ = false
 
+-- what a frame of the broker is to its channel: a method by the table above, a header and a body as a part of a content
 abbrev pub incoming_of : Frame → Incoming
 incoming_of (frame.Method c m) = incoming_method c m
 incoming_of (frame.Header c h) = incoming.Content c (part.Header h)

@@ -24,6 +24,7 @@ abbrev pub handed_method : (ℕ → Bool) → List MethodEntry → List Publish 
 handed_method t (m ∷ ms) ps = Some (left_method m)
 handed_method t [] ps = option_map left_publish (find (may_begin t) ps)
 
+-- what a frame request gives: the first of the rest, else a method, else the method of a publish that may begin, else none
 abbrev pub handed_of : (ℕ → Bool) → List RestEntry → List MethodEntry → List Publish → Option Left
 handed_of t (f ∷ fs) ms ps = Some (left_rest f)
 handed_of t [] ms ps = handed_method t ms ps
@@ -33,10 +34,12 @@ abbrev pub begun_rest : ℕ → Option Publish → List RestEntry
 begun_rest frame_max None = []
 begun_rest frame_max (Some p) = rest_of frame_max p
 
+-- what a frame request leaves where the rest is empty: the first method is gone, or else the first publish that may begin has begun
 abbrev pub left_methods : ℕ → (ℕ → Bool) → List MethodEntry → List Publish → Lists
 left_methods frame_max t (m ∷ ms) ps = record { rest = []; methods = ms; publishes = ps }
 left_methods frame_max t [] ps = record { rest = begun_rest frame_max (find (may_begin t) ps); methods = []; publishes = without_first (may_begin t) ps }
 
+-- what a frame request leaves of the rest, the methods and the publishes
 abbrev pub left_of : ℕ → (ℕ → Bool) → List RestEntry → List MethodEntry → List Publish → Lists
 left_of frame_max t (f ∷ fs) ms ps = record { rest = fs; methods = ms; publishes = ps }
 left_of frame_max t [] ms ps = left_methods frame_max t ms ps

@@ -13,6 +13,7 @@ pub record Letters : Type 0 where
   pub kept : List BasicReturnMessage
   pub aside : List ℕ
 
+-- a channel that no message came back to, and of which no confirm stands aside
 abbrev pub no_letters : Letters
 no_letters = record { attached = []; waiting = []; unconfirmed = []; kept = []; aside = [] }
 
@@ -25,9 +26,11 @@ abbrev pub given_first : ℕ → List BasicReturnMessage → Letters → Letters
 given_first n [] l = l
 given_first n (m ∷ ms) l = record l { attached = l.attached ++ (n, m) ∷ []; waiting = ms }
 
+-- confirm n, which a settlement resolves, takes the oldest message that waits, if there is one
 abbrev pub attached_to : ℕ → Letters → Letters
 attached_to n l = given_first n l.waiting l
 
+-- these confirms, which a settlement resolves, take the messages that wait: each in turn the oldest, while there is one
 abbrev pub attached_to_all : List ℕ → Letters → Letters
 attached_to_all [] l = l
 attached_to_all (n ∷ ns) l = attached_to_all ns (attached_to n l)
@@ -37,13 +40,16 @@ abbrev pub message_at : ℕ → List (ℕ × BasicReturnMessage) → Option Basi
 message_at n [] = None
 message_at n (x ∷ xs) = if x.0 == n then Some x.1 else message_at n xs
 
+-- the messages that confirms took, without that of confirm n
 abbrev pub without : ℕ → List (ℕ × BasicReturnMessage) → List (ℕ × BasicReturnMessage)
 without n [] = []
 without n (x ∷ xs) = if x.0 == n then xs else x ∷ without n xs
 
+-- the message that confirm n took and still has, if there is one
 abbrev pub letter_of : ℕ → Letters → Option BasicReturnMessage
 letter_of n l = message_at n l.attached
 
+-- confirm n has its message no more, as where it was given
 abbrev pub taken_out : ℕ → Letters → Letters
 taken_out n l = record l { attached = without n l.attached }
 
@@ -52,11 +58,13 @@ abbrev pub kept_of : Option BasicReturnMessage → Letters → Letters
 kept_of None l = l
 kept_of (Some m) l = record l { kept = l.kept ++ m ∷ [] }
 
+-- confirm n is set aside, resolved or not by then
 abbrev pub set_by : ℕ → Bool → Letters → Letters
 set_by n resolved l = if resolved then kept_of (letter_of n l) (taken_out n l) else record l { aside = l.aside ++ n ∷ [] }
 
 -- ---- the confirms that were set aside and are resolved by now
 
+-- the message alone, if there is one
 abbrev pub opt_list : Option BasicReturnMessage → List BasicReturnMessage
 opt_list None = []
 opt_list (Some m) = m ∷ []
@@ -66,6 +74,7 @@ abbrev pub messages_of : List ℕ → List (ℕ × BasicReturnMessage) → List 
 messages_of [] a = []
 messages_of (n ∷ ns) a = opt_list (message_at n a) ++ messages_of ns (without n a)
 
+-- the messages that confirms took, without those of these confirms
 abbrev pub without_all : List ℕ → List (ℕ × BasicReturnMessage) → List (ℕ × BasicReturnMessage)
 without_all [] a = a
 without_all (n ∷ ns) a = without_all ns (without n a)
@@ -74,6 +83,7 @@ without_all (n ∷ ns) a = without_all ns (without n a)
 abbrev pub drained_messages : (ℕ → Bool) → Letters → List BasicReturnMessage
 drained_messages done l = l.unconfirmed ++ (l.kept ++ messages_of (filter done l.aside) l.attached)
 
+-- what a drain leaves: the messages that wait, those of all other confirms, and the unresolved confirms that stand aside
 abbrev pub drained_letters : (ℕ → Bool) → Letters → Letters
 drained_letters done l = record {
   attached = without_all (filter done l.aside) l.attached;

@@ -17,6 +17,7 @@ after_lost b = if is_lost b.link then b else down link.Lost b
 abbrev pub lost_marks : Wire → List ConfirmMark
 lost_marks b = ends_all error.ConnectionLost b
 
+-- the consumers of every live opening get `ConnectionLost` and their end, and the ackers of the opening are over
 abbrev pub lost_inbox : Wire → List InboxMark
 lost_inbox b = inbox_ends_all error.ConnectionLost b
 

@@ -19,6 +19,7 @@ is_ticket (record_.Ticket t) = true
 is_ticket (record_.Publish t n) = true
 is_ticket _ = false
 
+-- the event was given a ticket
 abbrev pub has_ticket : Event × Record → Bool
 has_ticket x = is_ticket x.1
 
@@ -36,6 +37,7 @@ is_known (call.BasicPublish exchange key o payload properties) = true
 is_known (call.TryBasicPublish exchange key o payload properties) = true
 is_known _ = false
 
+-- the event is a call whose answer the machine knows
 abbrev pub is_known_call : Event → Bool
 is_known_call (event.Call c k) = is_known k
 is_known_call _ = false
@@ -54,6 +56,7 @@ without_message (record_.Confirmed (Ok (confirmation.Nack m))) = record_.Confirm
 without_message (record_.Returned messages) = record_.Returned []
 without_message r = r
 
+-- what is kept of the record of a poll of ticket n, or of setting it aside: all where the ticket is the machine's, else nothing
 abbrev pub kept_of_ticket : ℕ → History → Record → Option Record
 kept_of_ticket n h r = if is_known_in (given_by n h) then Some r else None
 

@@ -14,14 +14,17 @@ use Rattle.lapin_history.specs.Wire.{Wire, queued}
 
 -- ---- the call: an opening begins on a closed channel
 
+-- the call queues `channel.open` and awaits its open-ok, and the channel is opening (AMQP 0-9-1, channel.open)
 abbrev pub after_open_call : ℕ → Wire → Wire
 after_open_call c b = record (queued c (method.Channel channel.Open) (Some reply.ChannelOpenOk) b) { phases = with_channel c phase.Opening b.phases }
 
+-- an opening of channel c begins
 abbrev pub open_marks : ℕ → List ConfirmMark
 open_marks c = mark.Begun c ∷ []
 
 -- ---- the broker's `channel.open-ok`: of all replies it alone is received on an opening channel, and opens it
 
+-- the reply is `channel.open-ok`
 abbrev pub opens : ReplyKind → Bool
 opens reply_kind.ChannelOpenOk = true
 opens _ = false

@@ -16,6 +16,7 @@ channel_state (phase.Open paused) = state.Open
 channel_state (phase.Closing closer sent) = state.Closing
 channel_state phase.Crossed = state.Crossed
 
+-- the state of the connection as a question for the states gives it
 abbrev pub connection_state : ConnectionPhase → ConnectionState
 connection_state link.Open = link_state.Open
 connection_state (link.Closing sent received) = link_state.Closing
@@ -34,10 +35,12 @@ abbrev pub is_paused : ChannelPhase → Bool
 is_paused (phase.Open paused) = paused
 is_paused _ = false
 
+-- the connection is open: neither side has closed it, and it is not lost
 abbrev pub is_up : ConnectionPhase → Bool
 is_up link.Open = true
 is_up _ = false
 
+-- the connection is lost, whatever it was before
 abbrev pub is_lost : ConnectionPhase → Bool
 is_lost link.Lost = true
 is_lost _ = false

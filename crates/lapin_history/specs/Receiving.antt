@@ -25,6 +25,7 @@ use Rattle.lapin_history.specs.Registry.{reply_inbox}
 
 -- ---- its record: received, passed over, or refused, where r is the refusal
 
+-- received where the condition holds, and else the refusal
 abbrev pub when : Bool → Record → Record
 when b r = if b then record_.Received else r
 
@@ -47,6 +48,7 @@ incoming_record b readings r i = if is_up b.link then incoming_up b readings r i
 
 -- ---- what it leaves, by its record; one that is passed over changes nothing
 
+-- what a received frame leaves; a settlement moves no state and no list
 abbrev pub after_received : Incoming → Wire → Wire
 after_received (incoming.Reply c k a) b = after_reply c k b
 after_received (incoming.Content c p) b = after_part c p b
@@ -59,15 +61,18 @@ after_received (incoming.ConnectionClose code) b = after_connection_close b.link
 after_received incoming.ConnectionCloseOk b = after_connection_close_ok b
 after_received incoming.Other b = b
 
+-- what a settlement that is refused as `PreconditionFailed` leaves; no other frame is refused so
 abbrev pub after_failed : Incoming → Wire → Wire
 after_failed (incoming.Settlement c s) b = after_failed_on c s b
 after_failed _ b = b
 
+-- what a refused frame leaves, by the error: one that no rule hears closes the connection, a settlement its open channel
 abbrev pub after_refused : Incoming → Error → Wire → Wire
 after_refused i (error.UnexpectedFrame class number) b = after_unexpected class number b
 after_refused i (error.PreconditionFailed tag current) b = after_failed i b
 after_refused i _ b = b
 
+-- what a frame of the broker leaves of states, lists and requests, by its record
 abbrev pub incoming_wire : Incoming → Record → Wire → Wire
 incoming_wire i (record_.Refused e) b = after_refused i e b
 incoming_wire i record_.Received b = after_received i b
@@ -75,6 +80,7 @@ incoming_wire i _ b = b
 
 -- ---- consumers, and what is declared
 
+-- what a received frame does to consumers and ackers, and to what is declared
 abbrev pub received_inbox : Incoming → Wire → List InboxMark
 received_inbox (incoming.Reply c k a) b = reply_inbox c k a b
 received_inbox (incoming.Content c p) b = part_inbox c p b
@@ -84,10 +90,12 @@ received_inbox (incoming.ChannelCloseOk c) b = close_ok_inbox c b
 received_inbox (incoming.ConnectionClose code) b = connection_close_inbox code b
 received_inbox _ b = []
 
+-- what a refused frame does to them: one that no rule hears ends every opening, every other does nothing
 abbrev pub refused_inbox : Error → Wire → List InboxMark
 refused_inbox (error.UnexpectedFrame class number) b = unexpected_inbox b
 refused_inbox _ b = []
 
+-- what a frame of the broker does to them, by its record
 abbrev pub incoming_inbox : Incoming → Record → Wire → List InboxMark
 incoming_inbox i (record_.Refused e) b = refused_inbox e b
 incoming_inbox i record_.Received b = received_inbox i b
@@ -95,11 +103,13 @@ incoming_inbox i _ b = []
 
 -- ---- all that it leaves
 
+-- what a frame of the broker leaves, by its record, consumers and ackers and what is declared with it
 abbrev pub after_incoming : Incoming → Record → Wire → Wire
 after_incoming i r b = with_inbox (incoming_inbox i r b) (incoming_wire i r b)
 
 -- ---- confirms
 
+-- what a received frame does to confirms and returned messages
 abbrev pub received_marks : Incoming → Wire → List ConfirmMark
 received_marks (incoming.Settlement c s) b = settlement_marks c s
 received_marks (incoming.Content c p) b = part_marks c p b
@@ -108,15 +118,18 @@ received_marks (incoming.ChannelCloseOk c) b = close_ok_marks c b
 received_marks (incoming.ConnectionClose code) b = connection_close_marks code b
 received_marks _ b = []
 
+-- what a settlement that is refused as `PreconditionFailed` does to confirms; no other frame is refused so
 abbrev pub failed_marks : Incoming → Wire → List ConfirmMark
 failed_marks (incoming.Settlement c s) b = failed_marks_on c b
 failed_marks _ b = []
 
+-- what a refused frame does to confirms, by the error
 abbrev pub refused_marks : Incoming → Error → Wire → List ConfirmMark
 refused_marks i (error.UnexpectedFrame class number) b = unexpected_marks b
 refused_marks i (error.PreconditionFailed tag current) b = failed_marks i b
 refused_marks i _ b = []
 
+-- what a frame of the broker does to confirms and returned messages, by its record
 abbrev pub incoming_marks : Incoming → Record → Wire → List ConfirmMark
 incoming_marks i (record_.Refused e) b = refused_marks i e b
 incoming_marks i record_.Received b = received_marks i b
@@ -124,6 +137,7 @@ incoming_marks i _ b = []
 
 -- ---- tickets
 
+-- what a received frame does to tickets; settlements and flow answer none
 abbrev pub received_tickets : Incoming → Wire → List TicketMark
 received_tickets (incoming.Reply c k a) b = reply_tickets c k a b
 received_tickets (incoming.Content c p) b = part_tickets c p b
@@ -134,15 +148,18 @@ received_tickets (incoming.ConnectionClose code) b = connection_close_tickets b.
 received_tickets incoming.ConnectionCloseOk b = connection_close_ok_tickets b
 received_tickets _ b = []
 
+-- what a settlement that is refused as `PreconditionFailed` does to tickets; no other frame is refused so
 abbrev pub failed_tickets : Incoming → Wire → List TicketMark
 failed_tickets (incoming.Settlement c s) b = failed_tickets_on c b
 failed_tickets _ b = []
 
+-- what a refused frame does to tickets, by the error
 abbrev pub refused_tickets : Incoming → Error → Wire → List TicketMark
 refused_tickets i (error.UnexpectedFrame class number) b = unexpected_tickets b
 refused_tickets i (error.PreconditionFailed tag current) b = failed_tickets i b
 refused_tickets i _ b = []
 
+-- what a frame of the broker does to tickets, by its record
 abbrev pub incoming_tickets : Incoming → Record → Wire → List TicketMark
 incoming_tickets i (record_.Refused e) b = refused_tickets i e b
 incoming_tickets i record_.Received b = received_tickets i b

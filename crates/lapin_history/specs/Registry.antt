@@ -28,9 +28,11 @@ line_inbox c _ a = at_once_inbox c a
 
 -- ---- the broker's replies: the oldest open request of the kind gets its answer
 
+-- this request of channel c gets this answer, if there is such a request
 abbrev pub request_inbox : ℕ → Answer → Option Request → List InboxMark
 request_inbox c a None = []
 request_inbox c a (Some r) = inbox.Completed c r.reply a ∷ []
 
+-- a reply of this kind came with this answer: the oldest open request of the kind on channel c gets it
 abbrev pub reply_inbox : ℕ → ReplyKind → Answer → Wire → List InboxMark
 reply_inbox c k a b = request_inbox c a (first_request k (requests_of c b))

@@ -27,5 +27,6 @@ after_reply c k b = record b { phases = phases_with c k b.phases; requests = wit
 abbrev pub reply_marks : Answer → Option Request → List TicketMark
 reply_marks a r = resolved_with (Ok a) (ticket_of r)
 
+-- the ticket of the oldest open request of the kind on channel c gets the answer, if somebody holds it
 abbrev pub reply_tickets : ℕ → ReplyKind → Answer → Wire → List TicketMark
 reply_tickets c k a b = reply_marks a (first_request k (requests_of c b))

@@ -13,13 +13,16 @@ use Rattle.lapin_history.specs.TicketReadings.{TicketMark}
 use Rattle.lapin_history.specs.TicketReadings as ticket
 use Rattle.lapin_history.specs.Words.{without_first, with_channel}
 
+-- the open requests of a channel's entry, none where it has no entry
 abbrev pub requests_in : Option (List Request) → List Request
 requests_in None = []
 requests_in (Some rs) = rs
 
+-- the two are replies of one kind
 abbrev pub same_kind : ReplyKind → ReplyKind → Bool
 same_kind a b = it.ghosts.eq a b
 
+-- the request awaits a reply of this kind
 abbrev pub is_kind : ReplyKind → Request → Bool
 is_kind k r = same_kind (kind_of r.reply) k
 
@@ -31,9 +34,11 @@ first_request k rs = find (is_kind k) rs
 abbrev pub without_kind : ReplyKind → List Request → List Request
 without_kind k rs = without_first (is_kind k) rs
 
+-- none of these requests stays open
 abbrev pub no_requests : List Request → List Request
 no_requests rs = []
 
+-- the request alone, if there is one
 abbrev pub request_alone : Option Request → List Request
 request_alone None = []
 request_alone (Some r) = r ∷ []
@@ -47,9 +52,11 @@ abbrev pub ticket_of : Option Request → Option ℕ
 ticket_of None = None
 ticket_of (Some r) = r.ticket
 
+-- one more request is open on channel c, behind its others
 abbrev pub with_request : ℕ → Request → List (ℕ × List Request) → List (ℕ × List Request)
 with_request c r all = with_channel c (requests_in (at_channel c all) ++ r ∷ []) all
 
+-- the oldest open request of this kind on channel c is open no more, if there is one
 abbrev pub without_request : ℕ → ReplyKind → List (ℕ × List Request) → List (ℕ × List Request)
 without_request c k all = with_channel c (without_first (is_kind k) (requests_in (at_channel c all))) all
 

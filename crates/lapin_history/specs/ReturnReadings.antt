@@ -15,6 +15,7 @@ is_done ms n = not (is_open_outcome (outcome_at n ms))
 
 -- ---- which confirms a settlement resolves, in rising order of their tags
 
+-- these publishes with one more at their front, if there is one
 abbrev pub joined : Option ℕ → List ℕ → List ℕ
 joined None ns = ns
 joined (Some n) ns = n ∷ ns
@@ -28,6 +29,7 @@ taking p f (t ∷ ts) = if p t then joined (f t) (taking p f ts) else taking p f
 abbrev pub pending_with : ℕ → List ConfirmMark → ℕ → Option ℕ
 pending_with c ms t = find (is_pending_as c t ms) (numbers ms)
 
+-- the publishes of channel c that a settlement resolves: those that are pending with a tag that it covers, in rising order of their tags
 abbrev pub covered : ℕ → Settlement → List ConfirmMark → List ℕ
 covered c s ms = taking (covers s) (pending_with c ms) (range_with_len 1 (place c ms))
 
@@ -43,6 +45,7 @@ letters_step c before (mark.SetAside n) l = if channel_of n before == c then set
 letters_step c before (mark.Drained d) l = if d == c then drained_letters (is_done before) l else l
 letters_step c before _ l = l
 
+-- the lists of channel c after these further marks, where before are all marks that came earlier
 abbrev pub letters_from : ℕ → List ConfirmMark → Letters → List ConfirmMark → Letters
 letters_from c before l [] = l
 letters_from c before l (m ∷ ms) = letters_from c (before ++ m ∷ []) (letters_step c before m l) ms
@@ -75,9 +78,11 @@ goes n before (mark.Drained c) = channel_of n before == c && (is_aside n before 
 goes n before (mark.Begun c) = channel_of n before == c && (is_aside n before && is_done before n)
 goes n before _ = false
 
+-- whether nothing is kept of publish n from one of these further marks on, where before are all marks that came earlier
 abbrev pub goes_from : ℕ → List ConfirmMark → List ConfirmMark → Bool
 goes_from n before [] = false
 goes_from n before (m ∷ ms) = goes n before m || goes_from n (before ++ m ∷ []) ms
 
+-- nothing is kept of publish n any more
 abbrev pub is_gone : ℕ → List ConfirmMark → Bool
 is_gone n ms = goes_from n [] ms

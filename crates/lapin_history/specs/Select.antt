@@ -7,6 +7,7 @@ use Rattle.lapin_types.specs.Types.confirm
 use Rattle.lapin_history.specs.ConfirmMarks.{ConfirmMark}
 use Rattle.lapin_history.specs.ConfirmMarks as mark
 
+-- the method is `confirm.select`, with or without wait
 abbrev pub is_select : Method → Bool
 is_select (method.Confirm (confirm.Select nowait)) = true
 is_select _ = false

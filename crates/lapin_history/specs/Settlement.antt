@@ -34,6 +34,7 @@ settlement_marks c s = mark.Settled c s ∷ []
 
 -- ---- one that is refused: the session closes the channel, if that is open
 
+-- the number of the settlement's method in class basic: 80 for an ack, 120 for a nack (AMQP 0-9-1, basic.ack; RabbitMQ, basic.nack)
 abbrev pub settle_method : SettleKind → ℕ
 settle_method settle.Ack = 80
 settle_method settle.Nack = 120
@@ -42,11 +43,14 @@ settle_method settle.Nack = 120
 abbrev pub session_close : SettleKind → Method
 session_close kind = method.Channel (channel.Close 406 (codes "PRECONDITION_FAILED") 60 (settle_method kind))
 
+-- what the refusal leaves: an open channel is closing, and the session's `channel.close` is queued
 abbrev pub after_failed_on : ℕ → Settlement → Wire → Wire
 after_failed_on c s b = if is_open (state_of c b) then noted c (session_close s.kind) (closing c closer.Session b) else b
 
+-- what the refusal does to confirms: the close rejects the publishes of an open channel that have not begun
 abbrev pub failed_marks_on : ℕ → Wire → List ConfirmMark
 failed_marks_on c b = if is_open (state_of c b) then close_marks c closer.Session else []
 
+-- what the refusal does to tickets: the close rejects those of an open channel's publishes that have not begun
 abbrev pub failed_tickets_on : ℕ → Wire → List TicketMark
 failed_tickets_on c b = if is_open (state_of c b) then close_tickets c closer.Session else []

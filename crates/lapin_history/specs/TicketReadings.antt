@@ -30,6 +30,7 @@ pub data TicketMark : Type 0 where
   -- the ticket was set aside: its answer is dropped
   SetAside : (ticket : ℕ) → TicketMark
 
+-- an accepted call is given a ticket
 abbrev pub gives : TicketMark → Bool
 gives (Given c a) = true
 gives _ = false
@@ -38,10 +39,12 @@ gives _ = false
 abbrev pub given : List TicketMark → ℕ
 given ms = many gives ms
 
+-- the channel of the call that a mark gave a ticket, 0 for every other mark
 abbrev pub channel_in : Option TicketMark → ℕ
 channel_in (Some (Given c a)) = c
 channel_in _ = 0
 
+-- what the leaving of the last frame answers to the ticket that a mark gave, nothing for every other mark
 abbrev pub leaving_in : Option TicketMark → AtLeaving
 leaving_in (Some (Given c a)) = a
 leaving_in _ = leaving.Nothing
@@ -50,6 +53,7 @@ leaving_in _ = leaving.Nothing
 abbrev pub channel_of : ℕ → List TicketMark → ℕ
 channel_of n ms = channel_in (nth gives n ms)
 
+-- the answer that the leaving of the last frame gives to ticket n, or that it gives none
 abbrev pub leaving_of : ℕ → List TicketMark → AtLeaving
 leaving_of n ms = leaving_in (nth gives n ms)
 
@@ -69,10 +73,12 @@ answer_at leaving.Done = Some answer.Done
 answer_at (leaving.Confirm n) = Some (answer.Confirm n)
 answer_at leaving.Yes = Some answer.Yes
 
+-- the method frame of the publish of ticket n leaves
 abbrev pub begins : ℕ → TicketMark → Bool
 begins n (Begun j) = j == n
 begins n _ = false
 
+-- ticket n is the one that is kept where its channel's opening ends
 abbrev pub is_spared : ℕ → Option ℕ → Bool
 is_spared n None = false
 is_spared n (Some k) = k == n
@@ -86,6 +92,7 @@ answer_by n c l b (OpeningFailed d spared e) = if d == c && not (is_spared n spa
 answer_by n c l b (AllFailed e) = Some (Err e)
 answer_by n c l b _ = None
 
+-- the first answer that these marks give to ticket n of channel c, where b tells whether its publish has begun
 abbrev pub first_answer : ℕ → ℕ → AtLeaving → Bool → List TicketMark → Option (Result Answer Error)
 first_answer n c l b [] = None
 first_answer n c l b (m ∷ ms) = option_or (answer_by n c l b m) (first_answer n c l (b || begins n m) ms)
@@ -100,6 +107,7 @@ closes n (Collected j) = j == n
 closes n (SetAside j) = j == n
 closes n _ = false
 
+-- the answer of ticket n is asked for no more: it was given, or the ticket was set aside
 abbrev pub is_collected : ℕ → List TicketMark → Bool
 is_collected n ms = list_any (closes n) (life n ms)
 

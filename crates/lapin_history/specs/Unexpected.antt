@@ -29,11 +29,14 @@ unexpected_close class number = method.Connection (connection.Close 505 (codes "
 abbrev pub after_unexpected : ℕ → ℕ → Wire → Wire
 after_unexpected class number b = noted 0 (unexpected_close class number) (down (link.Closing false false) b)
 
+-- every live opening ends with `ProtocolError 505`
 abbrev pub unexpected_marks : Wire → List ConfirmMark
 unexpected_marks b = ends_all failed_at_unexpected b
 
+-- the consumers of every live opening get the error and their end, and the ackers of the opening are over
 abbrev pub unexpected_inbox : Wire → List InboxMark
 unexpected_inbox b = inbox_ends_all failed_at_unexpected b
 
+-- every open ticket fails, but an open `basic.cancel` of a live opening is done
 abbrev pub unexpected_tickets : Wire → List TicketMark
 unexpected_tickets b = all_failed failed_at_unexpected b

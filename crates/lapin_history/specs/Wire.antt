@@ -19,6 +19,7 @@ use Rattle.lapin_history.specs.Leaving.{Lists}
 use Rattle.lapin_history.specs.Phases.{channel_state, is_up, phase_in}
 use Rattle.lapin_history.specs.Requests.{requests_in, with_request}
 
+-- what a history comes to beside confirms and answers
 pub record Wire : Type 0 where
   pub frame_max : ℕ
   -- where the connection stands
@@ -41,6 +42,7 @@ pub record Wire : Type 0 where
   -- the consumers with what waits for them, the jobs, the ackers, and what each channel declared
   pub inbox : Inbox
 
+-- a new session with this greatest frame: the connection is open, no channel was opened yet, and nothing waits
 abbrev pub start : ℕ → Wire
 start frame_max = record { frame_max = frame_max; link = link.Open; phases = []; rest = []; methods = []; publishes = []; requests = []; contents = []; tickets = 0; published = 0; inbox = empty_inbox }
 
@@ -55,26 +57,32 @@ phase_of c b = phase_in (at_channel c b.phases)
 abbrev pub state_of : ℕ → Wire → ChannelState
 state_of c b = if is_up b.link then (if c == 0 then state.Base else channel_state (phase_of c b)) else state.Down
 
+-- the channel is closed: `channel.open` is allowed on it
 abbrev pub is_closed : ChannelState → Bool
 is_closed state.Closed = true
 is_closed _ = false
 
+-- `channel.open` was called on the channel, and its open-ok has not come
 abbrev pub is_opening : ChannelState → Bool
 is_opening state.Opening = true
 is_opening _ = false
 
+-- open-ok has come on the channel, and no close of either side since
 abbrev pub is_open : ChannelState → Bool
 is_open state.Open = true
 is_open _ = false
 
+-- this side closes the channel, and neither close-ok nor a close of the broker has come
 abbrev pub is_closing : ChannelState → Bool
 is_closing state.Closing = true
 is_closing _ = false
 
+-- the closes of both sides crossed on the channel, and the broker's close-ok has not come
 abbrev pub is_crossed : ChannelState → Bool
 is_crossed state.Crossed = true
 is_crossed _ = false
 
+-- it is the connection's own channel 0, while the connection is open
 abbrev pub is_base : ChannelState → Bool
 is_base state.Base = true
 is_base _ = false
@@ -85,14 +93,17 @@ receives_on s = is_open s || is_closing s
 
 -- ---- requests
 
+-- the open requests of channel c, the oldest first
 abbrev pub requests_of : ℕ → Wire → List Request
 requests_of c b = requests_in (at_channel c b.requests)
 
 -- ---- frames that wait
 
+-- the three lists of frames that wait
 abbrev pub lists_of : Wire → Lists
 lists_of b = record { rest = b.rest; methods = b.methods; publishes = b.publishes }
 
+-- the three lists are these, and all else is as it was
 abbrev pub with_lists : Lists → Wire → Wire
 with_lists l b = record b { rest = l.rest; methods = l.methods; publishes = l.publishes }
 

@@ -28,6 +28,7 @@ abbrev pub without_first : {X : Type 0} → (X → Bool) → List X → List X
 without_first p [] = []
 without_first p (x ∷ xs) = if p x then xs else x ∷ without_first p xs
 
+-- there is a value
 abbrev pub is_some : {X : Type 0} → Option X → Bool
 is_some None = false
 is_some (Some x) = true
@@ -47,6 +48,7 @@ one_after p k [] = None
 one_after p zero (x ∷ xs) = if p x then Some x else one_after p zero xs
 one_after p (suc k) (x ∷ xs) = if p x then one_after p k xs else one_after p (suc k) xs
 
+-- what stands after the element that passes after so many that do, none where there is no such element
 abbrev pub rest_after : {X : Type 0} → (X → Bool) → ℕ → List X → List X
 rest_after p k [] = []
 rest_after p zero (x ∷ xs) = if p x then xs else rest_after p zero xs
@@ -57,6 +59,7 @@ abbrev pub nth : {X : Type 0} → (X → Bool) → ℕ → List X → Option X
 nth p zero xs = None
 nth p (suc k) xs = one_after p k xs
 
+-- what stands after the n-th element that passes, counted from 1, none where there is no such element
 abbrev pub after_nth : {X : Type 0} → (X → Bool) → ℕ → List X → List X
 after_nth p zero xs = []
 after_nth p (suc k) xs = rest_after p k xs

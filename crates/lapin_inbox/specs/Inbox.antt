@@ -21,6 +21,7 @@ pub record Inbox : Type 0 where
   pub switches : List Switch
   pub topologies : Topologies
 
+-- as a session begins: no consumer is registered, no acker was given, no channel had an opening
 abbrev pub empty_inbox : Inbox
 empty_inbox = record { roster = empty_roster; switches = []; topologies = [] }
 
@@ -71,10 +72,12 @@ after_mark i m = record {
 
 -- ---- what the marks of a history are, to each part
 
+-- what the marks of a history are to the consumers, oldest first
 abbrev pub all_consumer_marks : List InboxMark → List ConsumerMark
 all_consumer_marks [] = []
 all_consumer_marks (m ∷ ms) = consumer_marks m ++ all_consumer_marks ms
 
+-- what the marks of a history are to the ackers, oldest first, the inbox being the one before the first of them
 abbrev pub all_acker_marks : Inbox → List InboxMark → List AckerMark
 all_acker_marks i [] = []
 all_acker_marks i (m ∷ ms) = acker_marks i m ++ all_acker_marks (after_mark i m) ms

@@ -7,6 +7,7 @@ use Rattle.lapin_types.specs.declared.message.Delivery.{Delivery}
 use Rattle.lapin_types.specs.declared.request.Reply.{Reply}
 use Rattle.lapin_types.specs.Types.{Error}
 
+-- one thing that happens to a consumer, to an acker or to the registry of a channel
 pub data InboxMark : Type 0 where
   -- consume-ok, or the call without wait, registered the next consumer under a tag
   Consumed : (channel : ℕ) (tag queue : List ℕ) → InboxMark

@@ -12,6 +12,7 @@ use Rattle.lapin_broker.specs.contracts.broker.Broker as broker_row
 use Rattle.lapin_joint.specs.Joint.{Joint}
 use Rattle.lapin_joint.specs.Kept.{Kept}
 
+-- a joined run of the machine, stored as its session, its broker, its link up and its link down
 abbrev pub joint_code : Coded (Joint World)
 joint_code =
     code_by
@@ -21,6 +22,7 @@ joint_code =
     (λ p. record { session = p.0; broker = p.1.0; up = p.1.1.0; down = p.1.1.1 })
     (λ _. refl)
 
+-- a joined run as contracts see it, stored as its parts, its count of steps and whether it stopped
 abbrev pub kept_code : Coded Kept
 kept_code =
     code_by

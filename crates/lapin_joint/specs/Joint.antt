@@ -23,6 +23,7 @@ use Rattle.lapin_joint.specs.declared.step.Reported.TheVariants as reported
 
 -- ---- How a session goes on: the record of an event, what the event leaves, and the session's states, lists and full channels.
 
+-- the way of a session in S: what it tells of an event, what the event leaves, its states and lists, and which channels are full
 pub record Way (S : Type 0) : Type 0 where
   pub told : S → Event → Record
   pub next : S → Event → S
@@ -39,6 +40,7 @@ by_machine = record { told = λ w e. told_by w e; next = λ w e. world.next w e;
 
 -- ---- The two sides and the frames on the way between them, oldest first.
 
+-- a joined run: the session, the broker, what is on the way up to the broker, and what is on the way down to the session
 pub record Joint (S : Type 0) : Type 0 where
   pub session : S
   pub broker : Broker
@@ -57,6 +59,7 @@ is_lawful (event.Receive f) = false
 is_lawful event.Lost = false
 is_lawful _ = true
 
+-- the frame that leaves, alone in a list, which is empty where none leaves
 abbrev pub left_alone : Option Left → List Left
 left_alone None = []
 left_alone (Some l) = l ∷ []
@@ -98,14 +101,17 @@ after m step.Lose j = lose m j
 
 -- ---- What it reports.
 
+-- a read reports that it was made; nothing where the link up is empty
 abbrev pub read_report : List Left → Reported
 read_report [] = reported.Nothing
 read_report (l ∷ ls) = reported.Read
 
+-- a delivery reports the session's record of the frame that it receives; nothing where the link down is empty
 abbrev pub deliver_report : {S : Type 0} → Way S → List Frame → S → Reported
 deliver_report m [] s = reported.Nothing
 deliver_report m (f ∷ fs) s = reported.Delivered (m.told s (event.Receive f))
 
+-- the report of a step; one that reports nothing, or that it isn't lawful, changes nothing
 abbrev pub report : {S : Type 0} → Way S → Step → Joint S → Reported
 report m (step.Client e) j = if is_lawful e then reported.Client (m.told j.session e) else reported.NotLawful
 report m step.Read j = read_report j.up
@@ -115,10 +121,12 @@ report m step.Lose j = reported.Lost
 
 -- ---- Whole runs.
 
+-- the report of each step of a run, in order
 abbrev pub reports : {S : Type 0} → Way S → List Step → Joint S → List Reported
 reports m [] j = []
 reports m (s ∷ ss) j = report m s j ∷ reports m ss (after m s j)
 
+-- where a list of steps leads from this joined run
 abbrev pub run : {S : Type 0} → Way S → List Step → Joint S → Joint S
 run m [] j = j
 run m (s ∷ ss) j = run m ss (after m s j)

@@ -8,6 +8,7 @@ use Rattle.lapin_joint.specs.declared.step.Step.{Step}
 use Rattle.lapin_joint.specs.declared.step.Reported.{Reported}
 use Rattle.lapin_joint.specs.Joint.{Joint, joined_to}
 
+-- a joined run of the machine, the number of steps that were made, and whether a step found no memory
 pub record Kept : Type 0 where
   pub joint : Joint World
   pub steps : ℕ

@@ -8,6 +8,7 @@ use Rattle.lapin_joint.specs.declared.step.Step.{Step}
 use Rattle.lapin_joint.specs.declared.step.Step.TheVariants as step
 use Rattle.lapin_joint.specs.Joint.{Way, Joint, by_history, handed_by, is_lawful, after, new_joint}
 
+-- any step but lose, so that the links lose nothing in it
 abbrev pub is_no_loss : Step → Bool
 is_no_loss step.Lose = false
 is_no_loss _ = true
@@ -17,6 +18,7 @@ abbrev pub nothing_lost : List Step → Bool
 nothing_lost [] = true
 nothing_lost (s ∷ ss) = is_no_loss s && nothing_lost ss
 
+-- the first of a list, alone in a list; none where the list is empty
 abbrev pub front : {A : Type 0} → List A → List A
 front [] = []
 front (x ∷ xs) = x ∷ []
@@ -45,9 +47,11 @@ delivered_in _ j = []
 
 -- ---- all steps of a run: what the given one of the four tells of each, in order
 
+-- what part tells of each step of a run from this joined run on, in order
 abbrev pub along : {S A : Type 0} → Way S → (Step → Joint S → List A) → List Step → Joint S → List A
 along m part [] j = []
 along m part (s ∷ ss) j = part s j ++ along m part ss (after m s j)
 
+-- the same of a run of a new session, by its history, a new broker and two empty links
 abbrev pub along_joined : {A : Type 0} → ℕ → (Step → Joint History → List A) → List Step → List A
 along_joined frame_max part steps = along (by_history frame_max) part steps (new_joint [] frame_max)

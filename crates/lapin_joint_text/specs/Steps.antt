@@ -20,6 +20,7 @@ HasLine (step.Client e) = events.HasLine e
 HasLine (step.Send f) = FrameFits f
 HasLine _ = Unit {0}
 
+-- the line is that of this step, which has one
 abbrev pub IsLineOf : List ℕ → Step → Type 0
 IsLineOf line s = (line ≡ step_line s) × HasLine s
 
@@ -33,5 +34,6 @@ IsBare line (step.Client e) = ⊥
 IsBare line (step.Send f) = ⊥
 IsBare line s = line ≡ step_line s
 
+-- the line is no step that is a word alone
 abbrev pub NoBare : List ℕ → Type 0
 NoBare line = (line ≢ codes "read") × (line ≢ codes "deliver") × (line ≢ codes "lose")

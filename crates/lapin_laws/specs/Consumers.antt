@@ -12,6 +12,7 @@ use Rattle.lapin_inbox.specs.Marks.{InboxMark}
 use Rattle.lapin_history.specs.Events.{inbox_marks}
 use Rattle.lapin_history.specs.History.{History, Past, longer, past}
 
+-- what happens to consumers and ackers, and to what was declared, in a history that goes on from this past
 abbrev pub inbox_on : Past → History → List InboxMark
 inbox_on p [] = []
 inbox_on p (x ∷ h) = inbox_marks p.wire x.0 x.1 ++ inbox_on (longer p x.0 x.1) h
@@ -30,6 +31,7 @@ acker_history frame_max h = all_acker_marks empty_inbox (inbox_history frame_max
 
 -- ---- jobs that were given
 
+-- the job that a record gives, if it gives one
 abbrev pub job_in : Record → Option Job
 job_in (record_.Job j) = Some j
 job_in _ = None
@@ -45,6 +47,7 @@ abbrev pub calls_acker : ℕ → Event → Bool
 calls_acker n (event.Acker m k) = m == n
 calls_acker n _ = false
 
+-- the record is the answer `no` of an acker that isn't usable
 abbrev pub is_no : Record → Bool
 is_no record_.No = true
 is_no _ = false

@@ -28,14 +28,17 @@ part_contents c (part.Deliver tag s) b = content.Awaited c content_class (for_co
 part_contents c (part.Header h) b = content.Header c h ∷ []
 part_contents c (part.Body bytes) b = content.Body c bytes ∷ []
 
+-- what a received frame of the broker does to contents: only a part of a content does something
 abbrev pub received_contents : Incoming → Wire → List ContentMark
 received_contents (incoming.Content c p) b = part_contents c p b
 received_contents i b = []
 
+-- what a frame of the broker does to contents, by its record: nothing where it was not received
 abbrev pub heard_contents : Record → Incoming → Wire → List ContentMark
 heard_contents record_.Received i b = received_contents i b
 heard_contents r i b = []
 
+-- what an event does to contents, but for ends of openings: only a frame of the broker does something
 abbrev pub begun_contents : Event → Record → Wire → List ContentMark
 begun_contents (event.Receive f) r b = heard_contents r (incoming_of f) b
 begun_contents e r b = []
@@ -44,6 +47,7 @@ begun_contents e r b = []
 abbrev pub content_marks : Wire → Event → Record → List ContentMark
 content_marks b e r = map content.Dropped (ended_in (confirm_marks b e r)) ++ begun_contents e r b
 
+-- what happens to contents in a history that goes on from this past
 abbrev pub contents_on : Past → History → List ContentMark
 contents_on p [] = []
 contents_on p (x ∷ h) = content_marks p.wire x.0 x.1 ++ contents_on (longer p x.0 x.1) h

@@ -24,6 +24,7 @@ is_publish_on c _ = false
 abbrev pub IsWithinLimit : ℕ → Book → Type 0
 IsWithinLimit c b = selected_on c b ≡ true → 0 < limit_on c b → pending_count c b ≤ limit_on c b
 
+-- the same as the history shows it: on a selected opening with a limit at most that many tags are pending
 abbrev pub AreWithinLimit : ℕ → List ConfirmMark → Type 0
 AreWithinLimit c ms = is_selected c ms ≡ true → 0 < limit_of c ms → read.pending_count c ms ≤ limit_of c ms
 
@@ -33,6 +34,7 @@ is_free_in k p = not (full_in k p.channel)
 
 -- ---- the history of a run
 
+-- the events of a run of a new session, each with its record
 abbrev pub history_of : ℕ → List Event → History
 history_of frame_max events = zip events (run frame_max events)
 
@@ -40,8 +42,10 @@ history_of frame_max events = zip events (run frame_max events)
 abbrev pub told_behind : ℕ → List Event → Event → Record
 told_behind frame_max events e = rec frame_max (history_of frame_max events) e
 
+-- all that happened to confirms in the run of these events
 abbrev pub confirms_of : ℕ → List Event → List ConfirmMark
 confirms_of frame_max events = (past frame_max (history_of frame_max events)).confirms
 
+-- all that happened to confirms in the run of these events and of one more
 abbrev pub confirms_behind : ℕ → List Event → Event → List ConfirmMark
 confirms_behind frame_max events e = (longer (past frame_max (history_of frame_max events)) e (told_behind frame_max events e)).confirms

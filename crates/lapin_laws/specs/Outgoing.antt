@@ -15,6 +15,7 @@ use Rattle.lapin_history.specs.ConfirmMarks as mark
 use Rattle.lapin_history.specs.Events.{confirm_marks}
 use Rattle.lapin_history.specs.History.{History, Past, longer, past}
 
+-- one thing that matters to the frames handed out
 pub data Point : Type 0 where
   -- a publish was accepted
   Called : (publish : Publish) → Point
@@ -39,22 +40,26 @@ published_by c (ask.Publish exchange key o payload properties) (record_.Publish 
 } ∷ []
 published_by c _ _ = []
 
+-- the publish that an event brings, if it is an accepted call of one
 abbrev pub called_by : Event → Record → List Publish
 called_by (event.Call c k) r = published_by c (asked_by k r) r
 called_by _ _ = []
 
 -- ---- frames
 
+-- the frame that a record hands out, if it is one
 abbrev pub given_by : Record → Option Frame
 given_by (record_.Frame f) = Some f
 given_by _ = None
 
+-- the request for a frame with what it gave, if the event is one
 abbrev pub requested_by : Event → Record → List Point
 requested_by (event.Next flow) r = Requested (given_by r) ∷ []
 requested_by _ _ = []
 
 -- ---- ends of openings
 
+-- the channel whose opening a mark ends, if it ends one
 abbrev pub ended_by : ConfirmMark → Option ℕ
 ended_by (mark.Ended c e) = Some c
 ended_by _ = None
@@ -69,6 +74,7 @@ is_channel c d = d == c
 
 -- ---- a history
 
+-- the points of a history that goes on from this past: of each event the ends, then the accepted publish, then the frame request
 abbrev pub points_on : Past → History → List Point
 points_on p [] = []
 points_on p (x ∷ h) = map Ended (ended_in (confirm_marks p.wire x.0 x.1)) ++ (map Called (called_by x.0 x.1) ++ (requested_by x.0 x.1 ++ points_on (longer p x.0 x.1) h))

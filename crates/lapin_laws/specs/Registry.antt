@@ -20,6 +20,7 @@ abbrev pub recorded_on : ℕ → InboxMark → List RegistryMark
 recorded_on c (inbox.Completed d r a) = if d == c then recorded r a else []
 recorded_on c _ = []
 
+-- what is recorded on the channel by all of these, in order
 abbrev pub all_recorded_on : ℕ → List InboxMark → List RegistryMark
 all_recorded_on c [] = []
 all_recorded_on c (m ∷ ms) = recorded_on c m ++ all_recorded_on c ms

@@ -32,10 +32,12 @@ pub record Begins (frame_max : ℕ) (f : Frame) (rest : List Frame) (calls later
   pub method : f ≡ frame.Method publish.channel (publish_method publish)
   pub contents : AreContents frame_max publish rest
 
+-- the frame is a `basic.publish` (AMQP 0-9-1, class basic), with which a publish begins
 abbrev pub is_publish : Frame → Bool
 is_publish (frame.Method c (method.Basic (basic.Publish exchange key mandatory immediate))) = true
 is_publish _ = false
 
+-- the frame is a method frame (AMQP 0-9-1, section 4.2.3)
 abbrev pub is_method : Frame → Bool
 is_method (frame.Method c m) = true
 is_method _ = false
@@ -57,5 +59,6 @@ Parses frame_max (Requested (Some f) ∷ ps) [] calls =
     ((is_method f ≡ true) × (is_publish f ≡ false) × Parses frame_max ps [] calls)
     ⊎ ((rest : List Frame) × (later : List Publish) × Begins frame_max f rest calls later × Parses frame_max ps rest later)
 
+-- the frames handed out parse from the start, where no publish has begun and none was accepted yet
 abbrev pub Unbroken : ℕ → List Point → Type 0
 Unbroken frame_max ps = Parses frame_max ps [] []

@@ -10,10 +10,12 @@ use Rattle.lapin_history.specs.declared.phases.ConnectionPhase.TheVariants as li
 use Rattle.lapin_history.specs.Frames.{MethodEntry}
 use Rattle.lapin_history.specs.Leaving.{Lists}
 
+-- the method is a `connection.close` (AMQP 0-9-1, connection class, `close`)
 abbrev pub is_connection_close : Method → Bool
 is_connection_close (method.Connection (connection.Close code text class number)) = true
 is_connection_close _ = false
 
+-- the method that waits is a `connection.close`
 abbrev pub entry_closes : MethodEntry → Bool
 entry_closes m = is_connection_close m.method
 
@@ -22,6 +24,7 @@ abbrev pub IsOneClose : List MethodEntry → Type 0
 IsOneClose (m ∷ []) = entry_closes m ≡ true
 IsOneClose _ = ⊥
 
+-- all that waits is one `connection.close`: no frame of a begun publish, no other method, no publish
 pub record IsCloseAlone (l : Lists) : Type 0 where
   pub close : IsOneClose l.methods
   pub rest : l.rest ≡ []

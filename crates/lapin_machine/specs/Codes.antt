@@ -29,6 +29,7 @@ use Rattle.lapin_confirm.specs.Post.{Post}
 use Rattle.lapin_ticket.specs.declared.Slot.{Slot}
 use Rattle.lapin_machine.specs.World.{World}
 
+-- the consumers with their jobs, the ackers, and what each channel declared
 abbrev pub inbox_code : Coded Inbox
 inbox_code =
     code_by
@@ -38,6 +39,7 @@ inbox_code =
     (λ p. record { roster = p.0; switches = p.1.0; topologies = p.1.1 })
     (λ _. refl)
 
+-- states, lists, requests, contents and counters, with the inbox
 abbrev pub base_code : Coded Wire
 base_code =
     code_by
@@ -47,6 +49,7 @@ base_code =
     (λ p. record { frame_max = p.0; link = p.1.0; phases = p.1.1.0; rest = p.1.1.1.0; methods = p.1.1.1.1.0; publishes = p.1.1.1.1.1.0; requests = p.1.1.1.1.1.1.0; contents = p.1.1.1.1.1.1.1.0; tickets = p.1.1.1.1.1.1.1.1.0; published = p.1.1.1.1.1.1.1.1.1.0; inbox = p.1.1.1.1.1.1.1.1.1.1 })
     (λ _. refl)
 
+-- the whole value of a session
 abbrev pub world_code : Coded World
 world_code =
     code_by

@@ -8,6 +8,7 @@ abbrev pub let_go_on : Option Consumer → Wire → Option ℕ
 let_go_on None b = None
 let_go_on (Some x) b = if is_open (state_of x.channel b) then Some x.channel else None
 
+-- the tag under which the consumer's cancel goes, empty where there is no such consumer
 abbrev pub let_go_tag : Option Consumer → List ℕ
 let_go_tag None = []
 let_go_tag (Some x) = x.tag

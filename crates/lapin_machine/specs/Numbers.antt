@@ -33,12 +33,15 @@ pub record HasNumbersFor (n : ℕ) (w : World) : Type 0 where
 abbrev pub NoTicket : Wire → Type 0
 NoTicket b = b.tickets + 1 ≡ 2 ^ 64
 
+-- the next confirm would pass the greatest u64
 abbrev pub NoConfirm : Wire → Type 0
 NoConfirm b = b.published + 1 ≡ 2 ^ 64
 
+-- the next consumer would pass the greatest u64
 abbrev pub NoConsumer : Wire → Type 0
 NoConsumer b = next_consumer b.inbox ≡ 2 ^ 64
 
+-- the next acker would pass the greatest u64
 abbrev pub NoAcker : Wire → Type 0
 NoAcker b = next_acker b.inbox ≡ 2 ^ 64
 
@@ -57,16 +60,18 @@ abbrev pub AckUsedUp : Option (ℕ × ℕ) → AckerCall → Wire → Type 0
 AckUsedUp None k b = ⊥
 AckUsedUp (Some x) k b = UsedUp x.0 (acker_asked k x.1) b
 
--- or where a frame makes a message whole that lacks its acker, or a consumer's reply lacks its number
+-- a consumer's reply that is heard lacks the number of its consumer
 abbrev pub LacksConsumer : ℕ → ConsumerPart → Wire → Type 0
 LacksConsumer c (part.ConsumeOk tag) b = (receives_consumer c (part.ConsumeOk tag) b ≡ true) × NoConsumer b
 LacksConsumer c _ b = ⊥
 
+-- numbers are used up at a frame of the broker: it makes a message whole that lacks its acker, or a consumer lacks its number
 abbrev pub FrameUsedUp : Incoming → Wire → Type 0
 FrameUsedUp (incoming.Content c p) b = (receives_part c p b ≡ true) × (takes_acker b.inbox (whole_on c p b) ≡ true) × NoAcker b
 FrameUsedUp (incoming.Consumer c p) b = LacksConsumer c p b
 FrameUsedUp _ b = ⊥
 
+-- numbers are used up at an event: a call, a frame of the broker or an acker's call lacks one
 abbrev pub EventUsedUp : Event → Wire → Type 0
 EventUsedUp (event.Call c k) b = UsedUp c (asked k) b
 EventUsedUp (event.Receive f) b = FrameUsedUp (incoming_of f) b
@@ -82,6 +87,7 @@ AskCause (Err error.NumbersUsedUp) c k b = UsedUp c k b
 AskCause (Err (error.InvalidChannelState s)) c k b = (is_allowed k (state_of c b) ≡ false) × (s ≡ state_of c b)
 AskCause (Err _) c k b = ⊥
 
+-- an error of a public call: the same of what the call asks
 abbrev pub CallCause : {T : Type 0} → Result T Error → ℕ → Call → Wire → Type 0
 CallCause r c k b = AskCause r c (asked k) b
 

@@ -65,6 +65,7 @@ abbrev pub after_refused : Error → Option Left → Option Left
 after_refused (error.UnexpectedFrame class number) r = None
 after_refused _ r = r
 
+-- which frame stays given back after a frame of the broker, by the record that it got; one that is passed over changes nothing
 abbrev pub after_incoming : Incoming → Record → Wire → Option Left → Option Left
 after_incoming i (record_.Refused e) b r = after_refused e r
 after_incoming i record_.Received b r = after_received i b r

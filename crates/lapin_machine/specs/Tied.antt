@@ -43,5 +43,6 @@ abbrev pub MayRegister : Frame → Option ℕ → Bool → List (Option Cell) �
 MayRegister f (Some n) true cells = under n cells ≡ Some (cell.Queued (frame_channel f))
 MayRegister f _ _ cells = Unit {0}
 
+-- where a frame that leaves is the first of a publish, that publish is queued on the frame's channel
 abbrev pub CanRegister : Left → List (Option Cell) → Type 0
 CanRegister l cells = MayRegister l.frame l.publish l.first cells

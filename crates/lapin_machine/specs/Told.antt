@@ -49,6 +49,7 @@ ticket_record (Ok (poll.Ready a)) = record_.Answer a
 ticket_record (Ok poll.Pending) = record_.Pending
 ticket_record (Err e) = record_.Refused e
 
+-- what a poll of a confirm answers
 abbrev pub confirm_record : Result (Poll (Result Confirmation Error)) Error → Record
 confirm_record (Ok (poll.Ready o)) = record_.Confirmed o
 confirm_record (Ok poll.Pending) = record_.Pending
@@ -75,6 +76,7 @@ abbrev pub DelegateTold : Result (Unit {0}) Error → Record → Type 0
 DelegateTold (Ok x) r = r ≡ record_.Delegated
 DelegateTold (Err e) r = IsRefusal e r
 
+-- letting go of a consumer: whether its cancel was queued; want of memory has no record
 abbrev pub DropTold : Result Bool Error → Record → Type 0
 DropTold (Ok b) r = r ≡ record_.Dropped b
 DropTold (Err e) r = IsRefusal e r
@@ -91,6 +93,7 @@ WasMade (Err error.NoMemory) p q = q
 WasMade (Err error.NumbersUsedUp) p q = q
 WasMade _ p q = p
 
+-- the record of an acker's call, where it has one: its ticket, no, or the error that refused it
 abbrev pub ack_told : Result (Option Ticket) Error → Result Record Error
 ack_told (Ok None) = Ok record_.No
 ack_told (Ok (Some t)) = Ok (record_.Ticket t.number)
@@ -105,12 +108,14 @@ ticket_told (Err error.NoMemory) = Err error.NoMemory
 ticket_told (Err error.NumbersUsedUp) = Err error.NumbersUsedUp
 ticket_told (Err e) = Ok (record_.Refused e)
 
+-- the record of a publish, where it has one: its ticket and its confirm, or the error that refused it
 abbrev pub publish_told : Result Published Error → Result Record Error
 publish_told (Ok p) = Ok (record_.Publish p.ticket.number p.confirm.number)
 publish_told (Err error.NoMemory) = Err error.NoMemory
 publish_told (Err error.NumbersUsedUp) = Err error.NumbersUsedUp
 publish_told (Err e) = Ok (record_.Refused e)
 
+-- the record says that nothing is there yet
 abbrev pub is_pending_record : Record → Bool
 is_pending_record record_.Pending = true
 is_pending_record _ = false

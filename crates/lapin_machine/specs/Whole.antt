@@ -32,6 +32,7 @@ FitsFront (Some s) c h k = Fits s c h k
 abbrev pub NoAcker : Inbox → Type 0
 NoAcker i = next_acker i ≡ 2 ^ 64
 
+-- the content at the front is one whose message is given an acker, and the next one would pass the greatest u64
 abbrev pub LacksAcker : Option Start → Inbox → Type 0
 LacksAcker None i = ⊥
 LacksAcker (Some s) i = (for_acker i s ≡ true) × NoAcker i

@@ -42,6 +42,7 @@ pub record World : Type 0 where
   pub slots : List (Option Slot)
   pub returned : Option Left
 
+-- a new session with this greatest frame: nothing was asked for yet, and nothing waits
 abbrev pub new_world : ℕ → World
 new_world frame_max = record { wire = start frame_max; post = empty_post; slots = []; returned = None }
 
@@ -95,6 +96,7 @@ abbrev pub told_or : Option Left → Record → Record
 told_or None r = r
 told_or (Some l) r = record_.Frame l.frame
 
+-- the record of an event: a frame request gives the frame that was given back, if there is one, and else all is answered anew
 abbrev pub told_by : World → Event → Record
 told_by w e = told_or (given_back w.returned e) (told_anew w e)
 
@@ -116,6 +118,7 @@ abbrev pub next_or : Option Left → World → World → World
 next_or None new w = new
 next_or (Some l) new w = with_returned None w
 
+-- the session after an event; where a frame is handed out once more it is no longer given back, and nothing else changes
 abbrev pub next : World → Event → World
 next w e = next_or (given_back w.returned e) (next_anew w e) w
 

@@ -4,6 +4,7 @@ use Rattle.std.specs.List.{slice_get}
 use Rattle.lapin_method_text.specs.declared.kinds.MethodKind.{MethodKind}
 use Rattle.lapin_method_text.specs.declared.kinds.TheConstants.{KINDS, PLACES}
 
+-- the slot of a name: a number below 128, made of its length, its fourth byte, its last and the fifth from the end
 abbrev pub slot : List ℕ → ℕ
 slot name = (17 * length name + 8 * (slice_index name 3 + slice_index name (length name - 1)) + 31 * slice_index name (length name - 5)) % 128
 

@@ -22,6 +22,7 @@ abbrev pub told_rest : List RestEntry → List Dropped
 told_rest [] = []
 told_rest (f ∷ fs) = record { ticket = Some f.ticket; publish = Some f.publish } ∷ []
 
+-- what is told of the begun publish where the entries of channel c are dropped: nothing where it is of another channel
 abbrev pub told_rest_of : ℕ → List RestEntry → List Dropped
 told_rest_of c fs = if is_rest_of c fs then told_rest fs else []
 
@@ -77,5 +78,6 @@ behind_first (f ∷ fs) ms ps = record { rest = []; methods = ms; publishes = ps
 behind_first [] (m ∷ ms) ps = record { rest = []; methods = ms; publishes = ps }
 behind_first [] [] ps = record { rest = []; methods = []; publishes = drop 1 ps }
 
+-- the first entry over all channels is gone from the three lists
 abbrev pub without_entry : Lists → Lists
 without_entry l = behind_first l.rest l.methods l.publishes

@@ -5,5 +5,6 @@ use denote.Enum.Declared.{tag_of}
 use Rattle.lapin_types.specs.declared.request.ReplyKind.{ReplyKind}
 use Rattle.lapin_types.specs.contracts.request.ReplyKind.{the_type}
 
+-- the place of a kind of reply in the declaration
 abbrev pub kind_number : ReplyKind → ℕ
 kind_number k = tag_of the_type k

@@ -4,6 +4,7 @@ use Rattle.std.specs.Option.{option_map}
 use Rattle.lapin_outbox.specs.declared.order.Link.{Link}
 use Rattle.lapin_outbox.specs.declared.order.Ends.{Ends}
 
+-- the key of the number under which a link stands
 abbrev pub link_key : Link → ℕ
 link_key l = l.key
 

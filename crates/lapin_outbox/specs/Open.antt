@@ -26,6 +26,7 @@ waiting_in entries = map (λ e. (e.0, e.1.open_requests)) entries
 abbrev pub rooms_in : List (ℕ × OpenOnChannel) → List (ℕ × ℕ)
 rooms_in entries = map (λ e. (e.0, e.1.spare)) entries
 
+-- the room of a channel, none where it has no entry
 abbrev pub room_of : Option ℕ → ℕ
 room_of None = 0
 room_of (Some n) = n

@@ -30,17 +30,21 @@ abbrev pub unless_poisoned : Option Error → OutboxState → OutboxState → Ou
 unless_poisoned None queued old = queued
 unless_poisoned (Some e) queued old = old
 
+-- what the push of a method leaves: it is queued behind the other methods, unless it meets poison
 abbrev pub method_pushed : MethodEntry → OutboxState → OutboxState
 method_pushed m o = unless_poisoned (poison_on m.channel o) (with_lists (with_method m o.lists) o) o
 
+-- what the push of a publish leaves: it is queued behind the other publishes, unless it meets poison
 abbrev pub publish_pushed : Publish → OutboxState → OutboxState
 publish_pushed p o = unless_poisoned (poison_on p.channel o) (with_lists (with_publish p o.lists) o) o
 
 -- ---- poison is set and cleared
 
+-- the outbox with this as its own poison, which holds for every channel, or with none of its own
 abbrev pub with_poison : Option Error → OutboxState → OutboxState
 with_poison e o = record { frame_max = o.frame_max; lists = o.lists; returned = o.returned; poison = e; errors = o.errors }
 
+-- the outbox with these as the poisons of its channels
 abbrev pub with_errors : List (ℕ × Option Error) → OutboxState → OutboxState
 with_errors errors o = record { frame_max = o.frame_max; lists = o.lists; returned = o.returned; poison = o.poison; errors = errors }
 

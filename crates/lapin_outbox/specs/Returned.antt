@@ -38,6 +38,7 @@ abbrev pub given : Option Left → Option Left → Option Left
 given None handed = handed
 given (Some l) handed = Some (again l)
 
+-- what a frame request gives of an outbox, if anything, where t tells on which channels a publish may begin
 abbrev pub popped : (ℕ → Bool) → OutboxState → Option Left
 popped t o = given o.returned (handed_of t o.lists.rest o.lists.methods o.lists.publishes)
 
@@ -46,6 +47,7 @@ abbrev pub popped_lists : Option Left → Lists → Lists → Lists
 popped_lists None left old = left
 popped_lists (Some l) left old = old
 
+-- what a frame request leaves of an outbox: no frame is given back any more, and what it gave of the three lists has left them
 abbrev pub after_pop : (ℕ → Bool) → OutboxState → OutboxState
 after_pop t o = with_returned None (with_lists (popped_lists o.returned (left_lists o.frame_max t o.lists) o.lists) o)
 
@@ -65,6 +67,7 @@ abbrev pub told_returned : Option Left → List Dropped
 told_returned None = []
 told_returned (Some l) = record { ticket = l.ticket; publish = l.publish } ∷ []
 
+-- what a drop of channel c tells of the frame that was given back: nothing where it is of another channel
 abbrev pub told_returned_on : ℕ → Option Left → List Dropped
 told_returned_on c r = if is_returned_on c r then told_returned r else []
 
@@ -72,6 +75,7 @@ told_returned_on c r = if is_returned_on c r then told_returned r else []
 abbrev pub channel_entries : ℕ → OutboxState → List Dropped
 channel_entries c o = told_returned_on c o.returned ++ entries_of c o.lists
 
+-- what drops over all channels tell: the frame that was given back, then the entries in the order in which they would leave
 abbrev pub outbox_entries : OutboxState → List Dropped
 outbox_entries o = told_returned o.returned ++ all_entries o.lists
 

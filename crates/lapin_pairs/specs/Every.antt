@@ -33,6 +33,7 @@ pub record Channel : Type 1 where
 
 -- ---- one channel
 
+-- one channel: the session's side and its unsent frames, the link up, the broker's side and the link down; each list oldest first
 pub record One (m : Channel) : Type 0 where
   pub sess : m.S
   pub unsent : List m.U
@@ -40,15 +41,18 @@ pub record One (m : Channel) : Type 0 where
   pub broker : m.B
   pub down : List m.D
 
+-- what can happen: a call, the broker sends a frame, a frame leaves (Next1), the broker reads one, and the session receives one
 pub data Step1 (m : Channel) : Type 0 where
   Call1 : (call : m.K) → Step1 m
   Send1 : (frame : m.D) → Step1 m
   Next1 Read1 Deliver1 : Step1 m
 
+-- the list is not empty
 abbrev pub has_any : {A : Type 0} → List A → Bool
 has_any [] = false
 has_any (x ∷ xs) = true
 
+-- a channel's unsent frames after that: none but the given ones, or those behind the rest
 abbrev pub left_one : {U : Type 0} → Left U → List U → List U
 left_one (Drop us) vs = us
 left_one (Push us) vs = vs ++ us
@@ -86,19 +90,23 @@ module _ (m : Channel) where
 
 -- ---- all channels
 
+-- frames up of a connection: one on a channel, and the connection's own close and close-ok
 pub data UpOn (U : Type 0) : Type 0 where
   OnU : (channel : ℕ) (frame : U) → UpOn U
   CloseU CloseOkU : UpOn U
 
+-- frames down of a connection: one to a channel, and the connection's own close and close-ok
 pub data DownOn (D : Type 0) : Type 0 where
   ToD : (channel : ℕ) (frame : D) → DownOn D
   CloseD CloseOkD : DownOn D
 
+-- the kind of a frame up to the connection: one on a channel is none of its own
 abbrev pub conn_u : {U : Type 0} → UpOn U → Up
 conn_u (OnU c u) = UOther
 conn_u CloseU = UClose
 conn_u CloseOkU = UCloseOk
 
+-- the kind of a frame down to the connection: one to a channel is none of its own
 abbrev pub conn_d : {D : Type 0} → DownOn D → Down
 conn_d (ToD c d) = DOther
 conn_d CloseD = DClose
@@ -110,24 +118,30 @@ of_u c [] = []
 of_u c (OnU d u ∷ fs) = if d == c then u ∷ of_u c fs else of_u c fs
 of_u c (_ ∷ fs) = of_u c fs
 
+-- the frames down to the channel
 abbrev pub of_d : {D : Type 0} → ℕ → List (DownOn D) → List D
 of_d c [] = []
 of_d c (ToD d u ∷ fs) = if d == c then u ∷ of_d c fs else of_d c fs
 of_d c (_ ∷ fs) = of_d c fs
 
+-- the frames up that aren't on the channel: the other channels' and the connection's
 abbrev pub off_u : {U : Type 0} → ℕ → List (UpOn U) → List (UpOn U)
 off_u c [] = []
 off_u c (OnU d u ∷ fs) = if d == c then off_u c fs else OnU d u ∷ off_u c fs
 off_u c (f ∷ fs) = f ∷ off_u c fs
 
+-- the frames, each on the channel
 abbrev pub on_all : {U : Type 0} → ℕ → List U → List (UpOn U)
 on_all c [] = []
 on_all c (u ∷ us) = OnU c u ∷ on_all c us
 
+-- the unsent frames of all channels after that: of this channel none but the given ones, or those behind the rest
 abbrev pub left_all : {U : Type 0} → ℕ → Left U → List (UpOn U) → List (UpOn U)
 left_all c (Drop us) fs = off_u c fs ++ on_all c us
 left_all c (Push us) fs = fs ++ on_all c us
 
+-- what a frame leaves unsent of a connection: the broker's close drops all for a close-ok, which goes behind the rest
+-- where the own close has left; close-ok for the own close drops all
 abbrev pub conn_left : {U D : Type 0} → Sess → List (UpOn U) → DownOn D → List (UpOn U)
 conn_left Opening fs CloseD = CloseOkU ∷ []
 conn_left Opened fs CloseD = CloseOkU ∷ []
@@ -135,6 +149,8 @@ conn_left Closing fs CloseD = if has_close (map conn_u fs) then CloseOkU ∷ [] 
 conn_left Closing fs CloseOkD = []
 conn_left _ fs d = fs
 
+-- all channels: the connection's state and the session's side of each channel, the broker's state and its side of each, the unsent
+-- frames and the two links that the channels share; each list oldest first
 pub record All (m : Channel) : Type 0 where
   pub conn : Sess
   pub chans : ℕ → m.S
@@ -144,6 +160,8 @@ pub record All (m : Channel) : Type 0 where
   pub sides : ℕ → m.B
   pub down : List (DownOn m.D)
 
+-- what can happen: a call on a channel, the broker sends a frame, the session closes the connection (HangUpA), a frame leaves (NextA),
+-- the broker reads one, the session receives one, and the connection is lost
 pub data StepA (m : Channel) : Type 0 where
   CallA : (channel : ℕ) (call : m.K) → StepA m
   SendA : (frame : DownOn m.D) → StepA m

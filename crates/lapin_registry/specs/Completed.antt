@@ -10,10 +10,12 @@ use Rattle.lapin_types.specs.declared.request.Reply.TheVariants as reply
 use Rattle.lapin_registry.specs.Marks.{Arguments, RegistryMark}
 use Rattle.lapin_registry.specs.Marks as mark
 
+-- what a completed queue.declare records: its options and arguments, under the name that the answer gives
 abbrev pub queue_recorded : QueueDeclareOptions → Arguments → Answer → List RegistryMark
 queue_recorded options arguments (answer.Queue queue) = mark.QueueDeclared queue.name options arguments ∷ []
 queue_recorded options arguments _ = []
 
+-- what a completed request records, by its reply: a declare, bind, unbind or delete what it asked for, any other nothing
 abbrev pub recorded : Reply → Answer → List RegistryMark
 recorded (reply.ExchangeDeclareOk name kind options arguments) a = mark.ExchangeDeclared name kind options arguments ∷ []
 recorded (reply.ExchangeDeleteOk name) a = mark.ExchangeDeleted name ∷ []

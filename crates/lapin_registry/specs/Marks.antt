@@ -9,6 +9,7 @@ use Rattle.lapin_types.specs.declared.exchange_kind.ExchangeKind.{ExchangeKind}
 abbrev pub Arguments : Type 0
 Arguments = List (List ℕ × Data)
 
+-- one completed declare, delete, bind or unbind of a channel: of an exchange or of a queue, by name
 pub data RegistryMark : Type 0 where
   ExchangeDeclared : (name : List ℕ) (kind : ExchangeKind) (options : ExchangeDeclareOptions) (arguments : Arguments) → RegistryMark
   ExchangeDeleted : (name : List ℕ) → RegistryMark

@@ -8,6 +8,7 @@ use Rattle.lapin_registry.specs.declared.registry.ChannelDefinition.{ChannelDefi
 use Rattle.lapin_registry.specs.Topology.{empty_definition, after_marks}
 use Rattle.lapin_registry.specs.Completed.{recorded}
 
+-- a registry for each channel that ever had an opening, by the number of the channel
 abbrev pub Topologies : Type 0
 Topologies = List (ℕ × ChannelDefinition)
 
@@ -19,6 +20,7 @@ with_completed r a d = after_marks d (recorded r a)
 abbrev pub completed_on : ℕ → Reply → Answer → Topologies → Topologies
 completed_on c r a all = on_channel c (with_completed r a) all
 
+-- a registry as a new opening of its channel begins: nothing is recorded, whatever was before
 abbrev pub emptied : ChannelDefinition → ChannelDefinition
 emptied d = empty_definition
 
@@ -27,5 +29,6 @@ abbrev pub begun_at : Option ChannelDefinition → ℕ → Topologies → Topolo
 begun_at None c all = all ++ (c, empty_definition) ∷ []
 begun_at (Some d) c all = on_channel c emptied all
 
+-- an opening of the channel begins: its registry is empty, and is there if it was not before
 abbrev pub begun_on : ℕ → Topologies → Topologies
 begun_on c all = begun_at (at_channel c all) c all

@@ -17,6 +17,7 @@ use Rattle.lapin_registry.specs.Marks as mark
 
 -- ---- bindings
 
+-- the binding of a source, a routing key and arguments, as its destination keeps it
 abbrev pub binding : List ℕ → List ℕ → Arguments → BindingDefinition
 binding source key arguments = record { source = source; routing_key = key; arguments = arguments }
 
@@ -24,6 +25,7 @@ binding source key arguments = record { source = source; routing_key = key; argu
 abbrev pub is_binding : List ℕ → List ℕ → Arguments → BindingDefinition → Bool
 is_binding source key arguments b = pointwise nat_eq b.source source && pointwise nat_eq b.routing_key key && same_by table_code b.arguments arguments
 
+-- its source, its key or its arguments are others
 abbrev pub isnt_binding : List ℕ → List ℕ → Arguments → BindingDefinition → Bool
 isnt_binding source key arguments b = not (is_binding source key arguments b)
 
@@ -33,6 +35,7 @@ without_binding source key arguments bs = filter (isnt_binding source key argume
 
 -- ---- exchanges
 
+-- the name under which an exchange is recorded
 abbrev pub exchange_name : ExchangeDefinition → List ℕ
 exchange_name x = x.name
 
@@ -44,14 +47,17 @@ undeclared_exchange name = record { name = name; kind = None; options = None; ar
 abbrev pub declared_exchange : ExchangeKind → ExchangeDeclareOptions → Arguments → ExchangeDefinition → ExchangeDefinition
 declared_exchange kind options arguments x = record x { kind = Some kind; options = Some options; arguments = Some arguments; is_declared = true }
 
+-- an exchange with one more binding behind the others, also where an equal one is there
 abbrev pub bound_exchange : BindingDefinition → ExchangeDefinition → ExchangeDefinition
 bound_exchange b x = record x { bindings = x.bindings ++ b ∷ [] }
 
+-- an exchange without any binding of this source, key and arguments
 abbrev pub unbound_exchange : List ℕ → List ℕ → Arguments → ExchangeDefinition → ExchangeDefinition
 unbound_exchange source key arguments x = record x { bindings = without_binding source key arguments x.bindings }
 
 -- ---- queues
 
+-- the name under which a queue is recorded
 abbrev pub queue_name : QueueDefinition → List ℕ
 queue_name q = q.name
 
@@ -63,9 +69,11 @@ undeclared_queue name = record { name = name; options = None; arguments = None; 
 abbrev pub declared_queue : QueueDeclareOptions → Arguments → QueueDefinition → QueueDefinition
 declared_queue options arguments q = record q { options = Some options; arguments = Some arguments; is_declared = true }
 
+-- a queue with one more binding behind the others, also where an equal one is there
 abbrev pub bound_queue : BindingDefinition → QueueDefinition → QueueDefinition
 bound_queue b q = record q { bindings = q.bindings ++ b ∷ [] }
 
+-- a queue without any binding of this source, key and arguments
 abbrev pub unbound_queue : List ℕ → List ℕ → Arguments → QueueDefinition → QueueDefinition
 unbound_queue source key arguments q = record q { bindings = without_binding source key arguments q.bindings }
 
@@ -92,6 +100,7 @@ queues_after (mark.QueueBound n s k a) qs = amended queue_name n (undeclared_que
 queues_after (mark.QueueUnbound n s k a) qs = changed queue_name n (unbound_queue s k a) qs
 queues_after _ qs = qs
 
+-- the registry of a channel after a mark: its exchanges and its queues
 abbrev pub after_mark : ChannelDefinition → RegistryMark → ChannelDefinition
 after_mark d m = record { exchanges = exchanges_after m d.exchanges; queues = queues_after m d.queues }
 
@@ -100,21 +109,26 @@ abbrev pub after_marks : ChannelDefinition → List RegistryMark → ChannelDefi
 after_marks d [] = d
 after_marks d (m ∷ ms) = after_marks (after_mark d m) ms
 
+-- the registry of a channel that completed these since its last opening began, oldest first
 abbrev pub topology : List RegistryMark → ChannelDefinition
 topology ms = after_marks empty_definition ms
 
 -- ---- what is recorded under a name
 
+-- the bindings of an exchange; none where no exchange is recorded
 abbrev pub bindings_of_exchange : Option ExchangeDefinition → List BindingDefinition
 bindings_of_exchange None = []
 bindings_of_exchange (Some x) = x.bindings
 
+-- the bindings that are recorded for the exchange of the name, in the order of their binds
 abbrev pub exchange_bindings : List ℕ → ChannelDefinition → List BindingDefinition
 exchange_bindings n d = bindings_of_exchange (named exchange_name n d.exchanges)
 
+-- the bindings of a queue; none where no queue is recorded
 abbrev pub bindings_of_queue : Option QueueDefinition → List BindingDefinition
 bindings_of_queue None = []
 bindings_of_queue (Some q) = q.bindings
 
+-- the bindings that are recorded for the queue of the name, in the order of their binds
 abbrev pub queue_bindings : List ℕ → ChannelDefinition → List BindingDefinition
 queue_bindings n d = bindings_of_queue (named queue_name n d.queues)

@@ -19,6 +19,7 @@ pub data Scalar : Type 0 where
   -- a number from minus a limit to below it, in decimal
   signed : ℕ → Scalar
 
+-- what a value of each kind is: bytes, a truth, or a number with or without a sign
 abbrev pub ScalarValue : Scalar → Type 0
 ScalarValue text = List ℕ
 ScalarValue bytes = List ℕ
@@ -36,6 +37,7 @@ scalar_text flag b = if b then 49 ∷ [] else 48 ∷ []
 scalar_text (number limit) n = decimal n
 scalar_text (signed limit) z = signed_decimal z
 
+-- whether each of the numbers is a byte, that is, below 256
 abbrev pub are_bytes : List ℕ → Bool
 are_bytes [] = true
 are_bytes (b ∷ bs) = nat_lt b 256 && are_bytes bs
@@ -58,6 +60,7 @@ scalar_fits (signed limit) z = in_range limit z
 abbrev pub is_plain : ℕ → Bool
 is_plain b = (nat_lt 44 b && nat_lt b 61) || (nat_lt 96 b && nat_lt b 123)
 
+-- whether every byte of a text is plain
 abbrev pub all_plain : List ℕ → Bool
 all_plain [] = true
 all_plain (b ∷ bs) = is_plain b && all_plain bs

@@ -18,9 +18,11 @@ use Rattle.lapin_session.specs.declared.acker.Acked.TheVariants as acked
 
 -- ---- an acker without a number: its first call answers yes, each later one no
 
+-- what an acker without a number answers: yes while it is unused, then no
 abbrev pub mock_answer : Bool → Acked
 mock_answer used = if used then acked.No else acked.Yes
 
+-- the acker is used, and nothing else of it changes
 abbrev pub used_up : Acker → Acker
 used_up a = record a { used = true }
 
@@ -48,18 +50,22 @@ pub record IsNumbered (n : ℕ) (k : AckerCall) (a b : Acker) (r : Result Acked 
 
 -- ---- a call of either, on an acker a that is b afterwards, in a session v that is w afterwards
 
+-- what the call comes to, by the acker's number: 0 stands for one without a number, any other for an acker of the session
 abbrev pub IsAcked : ℕ → AckerCall → Acker → Acker → Result Acked Error → World → World → Type 0
 IsAcked zero k a b r v w = IsMock a b r v w
 IsAcked (suc n) k a b r v w = IsNumbered (suc n) k a b r v w
 
 -- ---- what may be asked of it
 
+-- the opening of the acker's message has ended; never so of an acker without a number
 abbrev pub is_poisoned : Acker → List Switch → Bool
 is_poisoned a ss = is_over (switch_at a.number ss)
 
+-- by its number: an acker without one is usable while it is unused, another where the session says so
 abbrev pub usable_by : ℕ → Bool → List Switch → Bool
 usable_by zero used ss = not used
 usable_by (suc n) used ss = is_usable_as (switch_at (suc n) ss)
 
+-- the acker is usable: its next call would not be answered no
 abbrev pub is_usable : Acker → List Switch → Bool
 is_usable a ss = usable_by a.number a.used ss

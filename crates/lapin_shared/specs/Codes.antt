@@ -11,9 +11,11 @@ use Rattle.lapin_shared.specs.contracts.entry.Told as told_row
 use Rattle.lapin_shared.specs.Kept.{Kept}
 use Rattle.lapin_shared.specs.Grown.{Seen}
 
+-- the entries of a history, stored as the list of their tuples
 abbrev pub entries_code : Coded (List Entry)
 entries_code = coded_list entry_row.the_row.coded
 
+-- what lies under the lock, stored as its greatest frame size, its entries and its session
 abbrev pub kept_code : Coded Kept
 kept_code =
     code_by
@@ -23,6 +25,7 @@ kept_code =
     (λ p. record { frame_max = p.0; entries = p.1.0; world = p.1.1 })
     (λ _. refl)
 
+-- what is seen of a caller, stored as its number and its log
 abbrev pub seen_code : Coded Seen
 seen_code =
     code_by

@@ -5,6 +5,7 @@ use Rattle.lapin_types.specs.declared.record.Record.{Record}
 use Rattle.lapin_history.specs.History.{History, run}
 use Rattle.lapin_shared.specs.declared.entry.Entry.{Entry}
 
+-- the event of an entry with its record
 abbrev pub told_in : Entry → Event × Record
 told_in x = (x.event, x.answer)
 
@@ -12,9 +13,11 @@ told_in x = (x.event, x.answer)
 abbrev pub history_of : List Entry → History
 history_of es = map told_in es
 
+-- what the step of an entry asked of the session
 abbrev pub event_of : Entry → Event
 event_of x = x.event
 
+-- the session's record of the step of an entry
 abbrev pub answer_of : Entry → Record
 answer_of x = x.answer
 

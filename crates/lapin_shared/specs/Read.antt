@@ -11,6 +11,7 @@ pub record IsPlaceAt (log : List Told) (k place : ℕ) : Type 0 where
   pub stands : slice_get log k ≡ Some entry
   pub is : entry.place ≡ place
 
+-- some entry of the log has that place
 abbrev pub HasPlace : ℕ → List Told → Type 0
 HasPlace place log = (k : ℕ) × IsPlaceAt log k place
 

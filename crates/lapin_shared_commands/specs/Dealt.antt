@@ -16,6 +16,7 @@ abbrev pub dealt : ℕ → ℕ → ℕ → List Event → List Event
 dealt n i k [] = []
 dealt n i k (e ∷ es) = falls n i k e ++ dealt n i (k + 1) es
 
+-- the caller that has these events left to it
 abbrev pub caller_of : {L : Type 0} → Shift L → Seen
 caller_of s = s.caller
 

@@ -75,15 +75,18 @@ method_of call.TxRollback = Some (method.Tx tx_method.Rollback)
 
 -- ---- the call that queues a method, a class at a time; none where no call does
 
+-- the call that queues a method of class channel: an open or a flow; a close has a text of its own, and a reply no call
 abbrev pub channel_call : ChannelMethod → Option Call
 channel_call channel_method.Open = Some call.OpenChannel
 channel_call (channel_method.Flow active) = Some (call.ChannelFlow (record { active = active }))
 channel_call _ = None
 
+-- the call that queues a method of class access: a request
 abbrev pub access_call : AccessMethod → Option Call
 access_call (access_method.Request realm exclusive passive active write read) = Some (call.AccessRequest realm (record { exclusive = exclusive; passive = passive; active = active; write = write; read = read }))
 access_call _ = None
 
+-- the call that queues a method of class exchange: a declare, a delete, a bind or an unbind
 abbrev pub exchange_call : ExchangeMethod → Option Call
 exchange_call (exchange_method.Declare exchange kind passive durable auto_delete internal nowait arguments) = Some (call.ExchangeDeclare exchange (kind_named kind) (record { passive = passive; durable = durable; auto_delete = auto_delete; internal = internal; nowait = nowait }) arguments)
 exchange_call (exchange_method.Delete exchange if_unused nowait) = Some (call.ExchangeDelete exchange (record { if_unused = if_unused; nowait = nowait }))
@@ -91,6 +94,7 @@ exchange_call (exchange_method.Bind destination source routing_key nowait argume
 exchange_call (exchange_method.Unbind destination source routing_key nowait arguments) = Some (call.ExchangeUnbind destination source routing_key (record { nowait = nowait }) arguments)
 exchange_call _ = None
 
+-- the call that queues a method of class queue: a declare, a bind, a purge, a delete or an unbind
 abbrev pub queue_call : QueueMethod → Option Call
 queue_call (queue_method.Declare queue passive durable exclusive auto_delete nowait arguments) = Some (call.QueueDeclare queue (record { passive = passive; durable = durable; exclusive = exclusive; auto_delete = auto_delete; nowait = nowait }) arguments)
 queue_call (queue_method.Bind queue exchange routing_key nowait arguments) = Some (call.QueueBind queue exchange routing_key (record { nowait = nowait }) arguments)
@@ -99,6 +103,7 @@ queue_call (queue_method.Delete queue if_unused if_empty nowait) = Some (call.Qu
 queue_call (queue_method.Unbind queue exchange routing_key arguments) = Some (call.QueueUnbind queue exchange routing_key arguments)
 queue_call _ = None
 
+-- the call that queues a method of class basic and has its fields alone: none for a publish, which has a content besides
 abbrev pub basic_call : BasicMethod → Option Call
 basic_call (basic_method.Qos prefetch_count global) = Some (call.BasicQos prefetch_count (record { global = global }))
 basic_call (basic_method.Consume queue consumer_tag no_local no_ack exclusive nowait arguments) = Some (call.BasicConsume queue consumer_tag (record { no_local = no_local; no_ack = no_ack; exclusive = exclusive; nowait = nowait }) arguments)
@@ -111,10 +116,12 @@ basic_call (basic_method.RecoverAsync requeue) = Some (call.BasicRecoverAsync (r
 basic_call (basic_method.Recover requeue) = Some (call.BasicRecover (record { requeue = requeue }))
 basic_call _ = None
 
+-- the call that queues a method of class confirm: a select
 abbrev pub confirm_call : ConfirmMethod → Option Call
 confirm_call (confirm_method.Select nowait) = Some (call.ConfirmSelect (record { nowait = nowait }))
 confirm_call _ = None
 
+-- the call that queues a method of class tx: a select, a commit or a rollback
 abbrev pub tx_call : TxMethod → Option Call
 tx_call tx_method.Select = Some call.TxSelect
 tx_call tx_method.Commit = Some call.TxCommit

@@ -4,6 +4,7 @@ use Rattle.std.specs.List.{slice_split, flat_map}
 use Rattle.lapin_types.specs.declared.event.Event.{Event}
 use Rattle.lapin_text.specs.Events.{line_of, HasLine}
 
+-- the pieces of a text, but for the last one where that is empty
 abbrev pub without_empty_end : List (List ℕ) → List (List ℕ)
 without_empty_end [] = []
 without_empty_end (x ∷ []) = if length x == 0 then [] else x ∷ []

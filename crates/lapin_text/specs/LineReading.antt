@@ -49,6 +49,7 @@ word_at piece = find (λ w. bytes_eq (word_text w) piece) WORDS
 
 -- ---- frames
 
+-- the frame that a word and the pieces behind it make, and the pieces that are left
 abbrev pub frame_of_word : Word → List (List ℕ) → Option (Frame × List (List ℕ))
 frame_of_word word.Method pieces = do
   channel ← field_at short_number pieces
@@ -64,6 +65,7 @@ frame_at (piece ∷ rest) = word_at piece >>= λ w. frame_of_word w rest
 
 -- ---- calls of an acker
 
+-- the acker's call that a word and the pieces behind it make, and the pieces that are left
 abbrev pub acker_call_of_word : Word → List (List ℕ) → Option (AckerCall × List (List ℕ))
 acker_call_of_word word.Ack pieces = fields_at (flag ∷ []) (λ v. acker_call.Ack (record { multiple = v.0 })) pieces
 acker_call_of_word word.Nack pieces = fields_at (flag ∷ flag ∷ []) (λ v. acker_call.Nack (record { multiple = v.0; requeue = v.1.0 })) pieces

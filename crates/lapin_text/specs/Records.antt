@@ -76,6 +76,7 @@ abbrev pub got_tokens : Option BasicGetMessage → List (List ℕ)
 got_tokens None = codes "-" ∷ []
 got_tokens (Some message) = delivery_tokens message.delivery ++ token long_number message.message_count ∷ []
 
+-- an answer: its word, and what it carries
 abbrev pub answer_tokens : Answer → List (List ℕ)
 answer_tokens answer.Done = codes "done" ∷ []
 answer_tokens (answer.Channel channel) = codes "channel" ∷ token short_number channel ∷ []
@@ -87,6 +88,7 @@ answer_tokens (answer.Count count) = codes "count" ∷ token long_number count �
 answer_tokens (answer.Flow active) = codes "flow" ∷ token flag active ∷ []
 answer_tokens answer.Yes = codes "yes" ∷ []
 
+-- the outcome of a confirm: ack or nack with the message that came back, or a dash for none; or that none was requested
 abbrev pub confirmation_tokens : Confirmation → List (List ℕ)
 confirmation_tokens (confirmation.Ack message) = codes "ack" ∷ held_tokens message
 confirmation_tokens (confirmation.Nack message) = codes "nack" ∷ held_tokens message

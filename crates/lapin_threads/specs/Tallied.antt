@@ -16,5 +16,6 @@ pub record Tallied {T : Type 0} (P : T → Tally → T → Type 0) (olds : List 
   pub each : TalliedAll P olds total sum.short news
   pub count : sum.count ≡ min total (2 ^ 64 - 1)
 
+-- the tally of two together: the sum of their counts, at most the greatest of 64 bits, and short where either was
 abbrev pub both_of : Tally → Tally → Tally
 both_of x y = record { count = min (x.count + y.count) (2 ^ 64 - 1); short = x.short || y.short }

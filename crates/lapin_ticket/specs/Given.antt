@@ -20,6 +20,7 @@ pub record GivenNumbers : Type 0 where
 abbrev pub on_channel_code : Coded GivenOnChannel
 on_channel_code = code_by (List ℕ × ℕ) (coded× (coded_list coded_ℕ) coded_ℕ) (λ g. (g.numbers, g.spare)) (λ p. record { numbers = p.0; spare = p.1 }) (λ _. refl)
 
+-- the numbers of all channels, and the channel whose next number has room
 abbrev pub given_code : Coded GivenNumbers
 given_code = code_by (List (ℕ × GivenOnChannel) × Option ℕ) (coded× (coded_list (coded× coded_ℕ on_channel_code)) (coded_option coded_ℕ)) (λ g. (g.channels, g.ready)) (λ p. record { channels = p.0; ready = p.1 }) (λ _. refl)
 
@@ -28,6 +29,7 @@ abbrev pub numbers_in : Option GivenOnChannel → List ℕ
 numbers_in None = []
 numbers_in (Some g) = g.numbers
 
+-- the numbers of channel c, the oldest first
 abbrev pub numbers_on : ℕ → List (ℕ × GivenOnChannel) → List ℕ
 numbers_on c all = numbers_in (at_channel c all)
 
@@ -36,6 +38,7 @@ abbrev pub HasRoomIn : Option GivenOnChannel → Type 0
 HasRoomIn None = ⊥
 HasRoomIn (Some g) = 0 < g.spare
 
+-- the channel that is named, if one is, has room for one more number
 abbrev pub IsReady : Option ℕ → List (ℕ × GivenOnChannel) → Type 0
 IsReady None all = Unit {0}
 IsReady (Some c) all = HasRoomIn (at_channel c all)

@@ -24,6 +24,7 @@ abbrev pub held_or : Slot → Option Answer → Slot
 held_or s None = s
 held_or s (Some a) = slot.Held (Ok a)
 
+-- the last frame of a ticket's call leaves: an open one holds the answer that is given then, if any; another stays as it is
 abbrev pub left_slot : Option Slot → Option Slot
 left_slot (Some (slot.Open c l b)) = Some (held_or (slot.Open c l b) (answer_at l))
 left_slot o = o
@@ -48,6 +49,7 @@ abbrev pub keeping : Option ℕ → List (Option Slot) → List (Option Slot) �
 keeping None old new = new
 keeping (Some n) old new = with_under n (under n old) new
 
+-- the opening of channel c ends: its open tickets fail with this error, but for the spared one
 abbrev pub failed : ℕ → Option ℕ → Error → List (Option Slot) → List (Option Slot)
 failed c spared e slots = keeping spared slots (map (failed_slot c e) slots)
 
@@ -67,10 +69,12 @@ after_mark slots (mark.SetAside n) = with_under n None slots
 abbrev pub is_given : ℕ → List (Option Slot) → Bool
 is_given n slots = nat_lt 0 n && nat_le n (length slots)
 
+-- the ticket is open: it has no answer yet
 abbrev pub is_awaited : Option Slot → Bool
 is_awaited (Some (slot.Open c l b)) = true
 is_awaited o = false
 
+-- the ticket has its answer, which was not given out yet
 abbrev pub is_held : Option Slot → Bool
 is_held (Some (slot.Held a)) = true
 is_held o = false
@@ -86,6 +90,7 @@ polled_slot None = Err error.AlreadyTaken
 polled_slot (Some (slot.Open c l b)) = Ok None
 polled_slot (Some (slot.Held a)) = Ok (Some a)
 
+-- what a poll of ticket n answers; a number that was never given is refused as `UnknownTicket`
 abbrev pub polled : ℕ → List (Option Slot) → Result (Option (Result Answer Error)) Error
 polled n slots = if is_given n slots then polled_slot (under n slots) else Err error.UnknownTicket
 
@@ -98,5 +103,6 @@ abbrev pub laid_slot : Option Slot → Result (Unit {0}) Error
 laid_slot None = Err error.AlreadyTaken
 laid_slot (Some s) = Ok tt
 
+-- what setting ticket n aside answers; a number that was never given is refused as `UnknownTicket`
 abbrev pub laid : ℕ → List (Option Slot) → Result (Unit {0}) Error
 laid n slots = if is_given n slots then laid_slot (under n slots) else Err error.UnknownTicket

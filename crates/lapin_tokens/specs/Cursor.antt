@@ -5,6 +5,7 @@ use Rattle.lapin_scalars.specs.declared.fault.ReadError.TheVariants as errors
 use Rattle.lapin_scalars.specs.Reading.{Fails}
 
 infixl 10 ◌>>=◌
+-- what the next step answers with what was read, and nothing where nothing was read
 abbrev pub ◌>>=◌ : {A B : Type 0} → Option A → (A → Option B) → Option B
 (Some x) >>= f = f x
 None >>= f = None
@@ -28,6 +29,7 @@ abbrev pub word_of : List ℕ → List ℕ
 word_of [] = []
 word_of (b ∷ bs) = if is_separator b then [] else b ∷ word_of bs
 
+-- the bytes from the first that ends a value on; none where no byte ends it
 abbrev pub after_word : List ℕ → List ℕ
 after_word [] = []
 after_word (b ∷ bs) = if is_separator b then b ∷ bs else after_word bs

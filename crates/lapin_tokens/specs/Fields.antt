@@ -20,12 +20,15 @@ pub data Field : Type 0 where
 abbrev pub short_number : Field
 short_number = number (2 ^ 16)
 
+-- a number of 32 bits
 abbrev pub long_number : Field
 long_number = number (2 ^ 32)
 
+-- a number of 64 bits
 abbrev pub wide_number : Field
 wide_number = number (2 ^ 64)
 
+-- what a value of each kind of field is
 abbrev pub Value : Field → Type 0
 Value text = List ℕ
 Value bytes = List ℕ
@@ -34,6 +37,7 @@ Value props = Properties
 Value flag = Bool
 Value (number limit) = ℕ
 
+-- the token of a field's value: the one text that stands for it in a line
 abbrev pub token : (f : Field) → Value f → List ℕ
 token text s = scalar_text a_text s
 token bytes s = scalar_text some_bytes s
@@ -57,10 +61,12 @@ abbrev pub Values : List Field → Type 0
 Values [] = Unit {0}
 Values (f ∷ fs) = Value f × Values fs
 
+-- the tokens of the values of fields in a row, one for each
 abbrev pub tokens : (fs : List Field) → Values fs → List (List ℕ)
 tokens [] v = []
 tokens (f ∷ fs) v = token f v.0 ∷ tokens fs v.1
 
+-- each of the values of fields in a row has a token
 abbrev pub AllFit : (fs : List Field) → Values fs → Type 0
 AllFit [] v = Unit {0}
 AllFit (f ∷ fs) v = (fits f v.0 ≡ true) × AllFit fs v.1

@@ -5,6 +5,7 @@ use Rattle.lapin_tokens.specs.declared.letters.TheConstants.{LETTERS}
 use Rattle.lapin_tokens.specs.declared.letters.Letter.{Letter}
 use Rattle.lapin_tokens.specs.declared.letters.Letter.TheVariants as letter
 
+-- the byte that says in a text of which kind a field value is
 abbrev pub letter_byte : Letter → ℕ
 letter_byte letter.Boolean = 116  -- t
 letter_byte letter.ShortShortInt = 98  -- b

@@ -16,12 +16,14 @@ pub data Kind : Type 0 where
   octet : Kind
   moment : Kind
 
+-- what a value of each kind is
 abbrev pub KindValue : Kind → Type 0
 KindValue short = List ℕ
 KindValue headers = List (List ℕ × Data)
 KindValue octet = ℕ
 KindValue moment = ℕ
 
+-- the text of a value of a kind
 abbrev pub kind_text : (k : Kind) → KindValue k → List ℕ
 kind_text short s = scalar_text a_text s
 kind_text headers ps = table_text ps
@@ -35,6 +37,7 @@ kind_fits headers ps = table_fits 8 ps
 kind_fits octet n = scalar_fits (a_number (2 ^ 8)) n
 kind_fits moment n = scalar_fits (a_number (2 ^ 64)) n
 
+-- the name of a property in the text
 abbrev pub name : Property → List ℕ
 name property.ContentType = codes "content_type"
 name property.ContentEncoding = codes "content_encoding"
@@ -51,6 +54,7 @@ name property.UserId = codes "user_id"
 name property.AppId = codes "app_id"
 name property.ClusterId = codes "cluster_id"
 
+-- the kind of value that a property has
 abbrev pub kind : Property → Kind
 kind property.ContentType = short
 kind property.ContentEncoding = short
@@ -88,10 +92,12 @@ given property.ClusterId v = v.cluster_id
 abbrev pub part_text : (p : Property) → KindValue (kind p) → List ℕ
 part_text p x = name p ++ 61 ∷ kind_text (kind p) x
 
+-- the texts behind that of one more property, where its value is given, and else as they are
 abbrev pub with_part : (p : Property) → Option (KindValue (kind p)) → List (List ℕ) → List (List ℕ)
 with_part p None texts = texts
 with_part p (Some x) texts = part_text p x ∷ texts
 
+-- the texts NAME=VALUE of those of the listed properties that are given, in the order of the list
 abbrev pub part_texts : List Property → Properties → List (List ℕ)
 part_texts [] v = []
 part_texts (p ∷ ps) v = with_part p (given p v) (part_texts ps v)
@@ -100,13 +106,16 @@ part_texts (p ∷ ps) v = with_part p (given p v) (part_texts ps v)
 abbrev pub properties_text : Properties → List ℕ
 properties_text v = bracketed 91 93 (part_texts PROPERTIES v)
 
+-- whether a property's value has a text, where one is given; true where none is
 abbrev pub part_fits : (p : Property) → Option (KindValue (kind p)) → Bool
 part_fits p None = true
 part_fits p (Some x) = kind_fits (kind p) x
 
+-- whether all that is given of the listed properties has a text
 abbrev pub parts_fit : List Property → Properties → Bool
 parts_fit [] v = true
 parts_fit (p ∷ ps) v = part_fits p (given p v) && parts_fit ps v
 
+-- the properties that have a text: each value that is given has one
 abbrev pub properties_fit : Properties → Bool
 properties_fit v = parts_fit PROPERTIES v

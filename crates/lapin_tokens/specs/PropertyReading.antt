@@ -32,6 +32,7 @@ put_text property.AppId x v = record v { app_id = Some x }
 put_text property.ClusterId x v = record v { cluster_id = Some x }
 put_text _ x v = v
 
+-- the properties with the short text that stands next for one more, and the bytes behind it
 abbrev pub text_at : Property → Properties → List ℕ → Option (Properties × List ℕ)
 text_at p v text = kind_at short text >>= λ x. Some (put_text p x.0 v, x.1)
 
@@ -64,6 +65,8 @@ value_behind p (Some rest) v first text = set_at p v rest >>= λ x. Some (x.0, f
 unfoldable pub part_at : Property → Properties → Bool → List ℕ → Option (Properties × Bool × List ℕ)
 part_at p v first text = value_behind p (after_text (mark first ∷ name p ++ 61 ∷ []) text) v first text
 
+-- the properties with those of the listed ones that stand next, in the order of the list, whether none was given yet,
+-- and the bytes behind them
 abbrev pub parts_at : List Property → Properties → Bool → List ℕ → Option (Properties × Bool × List ℕ)
 parts_at [] v first text = Some (v, first, text)
 parts_at (p ∷ ps) v first text = part_at p v first text >>= λ x. parts_at ps x.0 x.1 x.2

@@ -5,6 +5,7 @@ use Rattle.lapin_tokens.specs.declared.token.Token.TheVariants as a_token
 use Rattle.lapin_tokens.specs.Fields.{token, wide_number}
 use Rattle.lapin_tokens.specs.Fields.Field.{text, bytes, table, props, flag}
 
+-- the text of a token: a word as it is, and a value as the token of its kind of field, a number as one of 64 bits
 abbrev pub text_of : Token → List ℕ
 text_of (a_token.Word word) = word.now
 text_of (a_token.Text s) = token text s.now

@@ -47,6 +47,7 @@ abbrev pub ending : {S : Type 0} → Option (List ℕ) → S → Option (S × Li
 ending (Some rest) found others = Some (found, rest)
 ending None found others = others
 
+-- one member or more up to the closing mark, all added to what was found, and the bytes behind the mark
 abbrev pub members_at : {S : Type 0} → (S → List ℕ → Option (S × List ℕ)) → ℕ → ℕ → S → List ℕ → Option (S × List ℕ)
 members_at read closing zero found text = None
 members_at read closing (suc n) found text = read found text >>= λ x. ending (after_mark closing x.1) x.0 (after_mark 44 x.1 >>= λ rest. members_at read closing n x.0 rest)
@@ -90,6 +91,7 @@ value_at (suc level) text = next_letter text >>= λ x. by_letter (λ t. listed (
 abbrev pub items_at : ℕ → List ℕ → Option (List Data × List ℕ)
 items_at level text = members_at (item_at (value_at level)) 93 (length text) [] text
 
+-- the pairs of a table up to the closing brace, whose values nest at most so many levels, and the bytes behind it
 abbrev pub pairs_at : ℕ → List ℕ → Option (List (List ℕ × Data) × List ℕ)
 pairs_at level text = members_at (pair_at (value_at level)) 125 (length text) [] text
 

@@ -38,6 +38,7 @@ abbrev pub named : {A : Type 0} → (A → List ℕ) → Property → Bool → O
 named text p first None = []
 named text p first (Some x) = mark first ∷ name p ++ 61 ∷ text x
 
+-- a property behind its mark, with the text of its value, and nothing where it isn't given
 abbrev pub marked : (p : Property) → Option (KindValue (kind p)) → Bool → List ℕ
 marked p x first = named (kind_text (kind p)) p first x
 

@@ -44,6 +44,7 @@ from_sum (inr (inr (inr (inr (inr (inr (inr (inr (inr (inl x)))))))))) = long_st
 from_sum (inr (inr (inr (inr (inr (inr (inr (inr (inr (inr (inl x))))))))))) = byte_array x
 from_sum (inr (inr (inr (inr (inr (inr (inr (inr (inr (inr (inr _))))))))))) = void
 
+-- a leaf is the leaf of its summand
 pub from_sum-to_sum : (l : Leaf) → from_sum (to_sum l) ≡ l
 from_sum-to_sum (boolean x) = refl
 from_sum-to_sum (short_short_int x) = refl
@@ -62,19 +63,23 @@ from_sum-to_sum void = refl
 abbrev pub leaf_code : Coded Leaf
 leaf_code = code_by Sum (coded⊎ coded_bool (coded⊎ coded_ℤ (coded⊎ coded_ℕ (coded⊎ coded_ℤ (coded⊎ coded_ℕ (coded⊎ coded_ℤ (coded⊎ coded_ℕ (coded⊎ coded_ℤ (coded⊎ coded_ℕ (coded⊎ bytes_code (coded⊎ bytes_code (coded_unit)))))))))))) to_sum from_sum from_sum-to_sum
 
+-- the first part of a stored pair; nothing of what is no pair
 abbrev head : Gv → Gv
 head gnil = gnil
 head (gnum n) = gnil
 head (gcons a b) = a
 
+-- the second part of a stored pair; nothing of what is no pair
 abbrev tail : Gv → Gv
 tail gnil = gnil
 tail (gnum n) = gnil
 tail (gcons a b) = b
 
+-- stored pairs that begin with different numbers are not the same
 pub apart : (m n : ℕ) {a b : Gv} → gcons (gnum m) a ≡ gcons (gnum n) b → m ≢ n → ⊥
 apart m n p other = other (cc)
 
+-- a stored pair is not the same as nothing
 pub nil_cons : {a b : Gv} → gnil ≡ gcons a b → ⊥
 nil_cons p = cc
 
@@ -122,8 +127,10 @@ mutual
 abbrev pub data_code : Coded Data
 data_code = record { code = data_to_gv; inj = data_inj }
 
+-- an array as the list of its values, each as it is stored
 abbrev pub array_code : Coded (List Data)
 array_code = coded_list data_code
 
+-- a table as the list of its pairs, each a key's bytes and a value as they are stored
 abbrev pub table_code : Coded (List (List ℕ × Data))
 table_code = coded_list (coded× bytes_code data_code)

@@ -4,6 +4,7 @@ use Rattle.std.specs.Prelude.{ℕ, List}
 use Rattle.lapin_values.specs.declared.value.AMQPValue.{AMQPValue}
 use Rattle.lapin_values.specs.declared.value.AMQPValue.TheVariants as V
 
+-- the tree of a value: a leaf of the same kind, or the array or the table of what it holds
 abbrev pub data_of : AMQPValue → Data
 data_of (V.Boolean b) = leaf (boolean b)
 data_of (V.ShortShortInt z) = leaf (short_short_int z)

@@ -17,21 +17,25 @@ gv_eq (gcons a b) gnil = false
 gv_eq (gcons a b) (gnum n) = false
 gv_eq (gcons a b) (gcons c d) = gv_eq a c && gv_eq b d
 
+-- where two tests are true together, each of them is
 both_true : (p q : Bool) → p && q ≡ true → (p ≡ true) × (q ≡ true)
 both_true true true e = (refl, refl)
 both_true true false e = cc
 both_true false q e = cc
 
+-- where each of two tests is true, they are true together
 and_true : (p q : Bool) → p ≡ true → q ≡ true → p && q ≡ true
 and_true true true e f = refl
 and_true true false e f = f
 and_true false q e f = e
 
+-- a stored value is tested to be the same as itself
 pub gv_eq-refl : (g : Gv) → gv_eq g g ≡ true
 gv_eq-refl gnil = refl
 gv_eq-refl (gnum n) = (unsigned_Decides n n).1 refl
 gv_eq-refl (gcons a b) = and_true (gv_eq a a) (gv_eq b b) (gv_eq-refl a) (gv_eq-refl b)
 
+-- stored values that are tested to be the same are equal
 pub gv_eq-same : (g h : Gv) → gv_eq g h ≡ true → g ≡ h
 gv_eq-same gnil gnil e = refl
 gv_eq-same gnil (gnum n) e = cc
@@ -49,6 +53,7 @@ gv_eq-same (gcons a b) (gcons c d) e =
 unfoldable pub same_by : {A : Type 0} → Coded A → A → A → Bool
 same_by c x y = gv_eq (c.code x) (c.code y)
 
+-- `same_by` is true exactly where x and y are equal
 pub same_by-Decides : {A : Type 0} (c : Coded A) (x y : A) → Decides (same_by c x y) (x ≡ y)
 unfolding same_by
 same_by-Decides c x y =
@@ -63,9 +68,11 @@ module _ {A : Type 0} (E : A → A → Bool) (d : (x y : A) → Decides (E x y) 
     congr = λ x y z e. ap (λ w. E w z) ((d x y).0 e);
   }
 
+-- `same_by` is an equivalence
 pub same_by_equiv : {A : Type 0} (c : Coded A) → IsEquivalence (same_by c)
 same_by_equiv c = equiv_from_Decides (same_by c) (same_by-Decides c)
 
+-- `same_by` is a partial equivalence
 pub same_by_per : {A : Type 0} (c : Coded A) → IsPartialEquivalence (same_by c)
 same_by_per c = partial_equiv_from_equiv (same_by_equiv c)
 

@@ -17,10 +17,12 @@ abbrev pub pairs_list : Pairs → List (List ℕ × Data)
 pairs_list no_pairs = []
 pairs_list (pair k d ps) = (k, d) ∷ pairs_list ps
 
+-- a list is what is read back from the elements of its array
 pub items_list-items_of : (ds : List Data) → items_list (items_of ds) ≡ ds
 items_list-items_of [] = refl
 items_list-items_of (d ∷ ds) = ap (λ es. d ∷ es) (items_list-items_of ds)
 
+-- a list is what is read back from the pairs of its table
 pub pairs_list-pairs_of : (ps : List (List ℕ × Data)) → pairs_list (pairs_of ps) ≡ ps
 pairs_list-pairs_of [] = refl
 pairs_list-pairs_of (p ∷ ps) = ap (λ qs. p ∷ qs) (pairs_list-pairs_of ps)
@@ -42,6 +44,7 @@ value_of (leaf void) = V.Void
 value_of (array ds) = V.FieldArray (items_list ds)
 value_of (table ps) = V.FieldTable (pairs_list ps)
 
+-- a value is the one that its tree stands for
 pub value_of-data_of : (v : AMQPValue) → value_of (data_of v) ≡ v
 value_of-data_of (V.Boolean b) = refl
 value_of-data_of (V.ShortShortInt z) = refl
@@ -58,10 +61,12 @@ value_of-data_of (V.FieldArray ds) = ap V.FieldArray (items_list-items_of ds)
 value_of-data_of (V.FieldTable ps) = ap V.FieldTable (pairs_list-pairs_of ps)
 value_of-data_of V.Void = refl
 
+-- values are those that their trees stand for
 values_back : (vs : List AMQPValue) → map value_of (map data_of vs) ≡ vs
 values_back [] = refl
 values_back (v ∷ vs) = λ i. value_of-data_of v i ∷ values_back vs i
 
+-- values in a row with the same trees are the same
 pub values_same : (vs ws : List AMQPValue) → map data_of vs ≡ map data_of ws → vs ≡ ws
 values_same vs ws e = sym (values_back vs) ∙ ap (map value_of) e ∙ values_back ws
 
@@ -69,10 +74,12 @@ values_same vs ws e = sym (values_back vs) ∙ ap (map value_of) e ∙ values_ba
 abbrev pub from_pair : List ℕ × Data → List ℕ × AMQPValue
 from_pair p = (p.0, value_of p.1)
 
+-- entries are those that their pairs of plain data stand for
 entries_back : (es : List (List ℕ × AMQPValue)) → map from_pair (map to_pair es) ≡ es
 entries_back [] = refl
 entries_back (e ∷ es) = λ i. (e.0, value_of-data_of e.1 i) ∷ entries_back es i
 
+-- entries in a row with the same pairs of plain data are the same
 pub entries_same : (es fs : List (List ℕ × AMQPValue)) → map to_pair es ≡ map to_pair fs → es ≡ fs
 entries_same es fs e = sym (entries_back es) ∙ ap (map from_pair) e ∙ entries_back fs
 

@@ -15,6 +15,7 @@ IsJudged may (Some d) (decision.Judged a v) = (a ≡ d.acker.number) × may (Ok 
 IsJudged may None decision.Handled = Unit {0}
 IsJudged may _ _ = ⊥
 
+-- what a delegate may say to a kind of job: a verdict where it is handed a delivery, and else none
 abbrev pub IsHandled : (Handed → Verdict → Type 0) → JobKind → Decision → Type 0
 IsHandled may k x = IsJudged may (delivery_of k) x
 

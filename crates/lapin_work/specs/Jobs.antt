@@ -23,6 +23,7 @@ job p j = told p event.NextJob (Some (record_.Job j))
 abbrev pub no_job : ℕ → Told
 no_job p = told p event.NextJob (Some record_.NoJob)
 
+-- the job that a record tells, if it tells one
 abbrev pub job_in_record : Record → Option Job
 job_in_record (record_.Job j) = Some j
 job_in_record _ = None
@@ -38,6 +39,7 @@ delivery_in (Ok (Some d)) = Some d
 delivery_in (Ok None) = None
 delivery_in (Err e) = None
 
+-- the delivery that a kind of job hands over; none with an end or an error, and none with a discard
 abbrev pub delivery_of : JobKind → Option Delivery
 delivery_of (job_kind.Deliver y) = delivery_in y
 delivery_of job_kind.Discard = None

@@ -19,5 +19,6 @@ abbrev pub Ended : (ℕ → Type 0) → (ℕ → Handed → Verdict → Type 0) 
 Ended none may turns a n false c = (Ran none may n a c × (n ≡ turns)) ⊎ ((b : Seen) × Ran none may n a b × Worked none may b (Ok work.NoJob) c)
 Ended none may turns a n true c = (b : Seen) × (e : StepError) × Ran none may n a b × Worked none may b (Err e) c
 
+-- the same with a tally, which counts the jobs that were taken and says whether memory was wanting
 abbrev pub EndedSo : (ℕ → Type 0) → (ℕ → Handed → Verdict → Type 0) → ℕ → Seen → Tally → Seen → Type 0
 EndedSo none may turns a r c = Ended none may turns a r.count r.short c
