@@ -2,6 +2,7 @@
 
 ghost use Rattle.std.specs.Prelude.{◌≡◌};
 
+use crate::stepping::{answer_of, finished};
 use lapin_shared::{Caller, Client, Crew, FinishError, History};
 use lapin_threads::each_mut;
 use lapin_types::{Answer, ChannelMethod, Event, Frame, Method, Record};
@@ -9,6 +10,7 @@ use std::alloc::Global;
 use std::marker::Brand;
 use std::process::Abort;
 use std::sync::Wait;
+use std::sync::atomic::{AtomicU64, Ordering};
 use std::sync::ledger::Blank;
 use std::test::Fail;
 use std::thread::Threads;
@@ -17,7 +19,7 @@ fn missing<L: Crew, R: Wait + Abort>(rt: &R, alloc: Global, blank: Blank) -> Res
     requires name { blank.name ≡ L.name }
     requires parts { (blank.parts ≡ 2) × (blank.parts ≡ L.parts) }
 {
-    let (client, mut callers) = Client::<L>::new(alloc, 4096, 2, blank).map_err(|_| "memory")?;
+    let (client, mut callers) = Client::<L>::new(alloc, 4096, 2, blank)?;
     let first = callers.pop();
     match client.finish(rt, alloc, &mut callers) {
         Ok(_) => assert!(rt; false),
@@ -33,10 +35,24 @@ fn all_callers_have_to_come_back(rt: HostRuntime) -> Result<(), Fail> {
     missing::<Brand, _>(&rt, rt.alloc(), Blank::new(2))
 }
 
-// Caller 1 waits for ticket 1, caller 2 hands in the frame that answers it.
-fn wait_or_receive<L: Crew, R: Wait>(rt: &R, alloc: Global, caller: &mut Caller<L>) -> bool {
+/// The most looks for a wait that begins.
+const LOOKS: u64 = 10_000_000;
+
+// Caller 1 waits for ticket 1, caller 2 hands in the frame that answers it, once caller 1 has come to its wait.
+fn wait_or_receive<L: Crew, R: Wait>(
+    rt: &R,
+    alloc: Global,
+    begun: &AtomicU64,
+    caller: &mut Caller<L>,
+) -> bool {
     if caller.number() == 1 {
+        begun.store(1, Ordering::SeqCst);
         return caller.wait(rt, alloc, 1).is_ok();
+    }
+    for _ in 0..LOOKS {
+        if begun.load(Ordering::SeqCst) > 0 {
+            break;
+        }
     }
     let reply = Frame::Method(1, Method::Channel(ChannelMethod::OpenOk));
     caller.make(rt, alloc, Event::Receive(reply)).is_ok()
@@ -50,18 +66,15 @@ fn waiting<L: Crew + Send + Sync, R: Threads + Wait + Abort + Sync>(
     requires name { blank.name ≡ L.name }
     requires parts { (blank.parts ≡ 2) × (blank.parts ≡ L.parts) }
 {
-    let (client, mut callers) = Client::<L>::new(alloc, 4096, 2, blank).map_err(|_| "memory")?;
-    callers[0].open_channel(rt, alloc, 1).map_err(|_| "memory")?;
-    callers[0]
-        .next_frame(rt, alloc, true)
-        .map_err(|_| "memory")?;
-    let job = |caller: &mut Caller<L>| wait_or_receive(rt, alloc, caller);
+    let (client, mut callers) = Client::<L>::new(alloc, 4096, 2, blank)?;
+    let _opening = answer_of(callers[0].open_channel(rt, alloc, 1))?;
+    let _frame = answer_of(callers[0].next_frame(rt, alloc, true))?;
+    let begun = AtomicU64::new(0);
+    let job = |caller: &mut Caller<L>| wait_or_receive(rt, alloc, &begun, caller);
     assert!(rt; each_mut(rt, &job, callers.as_mut_slice()));
     let told = callers[0].log().last().ok_or("an entry")?;
     assert!(rt; matches!(&told.answer, Some(Record::Answer(Ok(Answer::Channel(1))))));
-    let history = client
-        .finish(rt, alloc, &mut callers)
-        .map_err(|_| "memory")?;
+    let history = finished(client.finish(rt, alloc, &mut callers))?;
     assert_eq!(rt; history.len(), 4);
     let third = history.at(3).ok_or("an entry")?;
     assert_eq!(rt; third.caller, 2);
@@ -108,12 +121,10 @@ fn many<L: Crew + Send + Sync, R: Threads + Wait + Abort + Sync>(
     requires name { blank.name ≡ L.name }
     requires parts { (blank.parts ≡ 4) × (blank.parts ≡ L.parts) }
 {
-    let (client, mut callers) = Client::<L>::new(alloc, 4096, 4, blank).map_err(|_| "memory")?;
+    let (client, mut callers) = Client::<L>::new(alloc, 4096, 4, blank)?;
     let job = |caller: &mut Caller<L>| make_many(rt, alloc, caller);
     assert!(rt; each_mut(rt, &job, callers.as_mut_slice()));
-    let history = client
-        .finish(rt, alloc, &mut callers)
-        .map_err(|_| "memory")?;
+    let history = finished(client.finish(rt, alloc, &mut callers))?;
     assert_eq!(rt; history.len(), 4_000);
     for caller in 1..5 {
         assert!(rt; are_in_order(&history, caller));

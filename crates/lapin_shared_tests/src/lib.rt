@@ -10,9 +10,13 @@ mod command;
 #[cfg(test)]
 mod driver;
 #[cfg(test)]
+mod faults;
+#[cfg(test)]
 mod meeting;
 #[cfg(test)]
 mod stepping;
+#[cfg(test)]
+mod table;
 #[cfg(test)]
 mod work;
 #[cfg(test)]

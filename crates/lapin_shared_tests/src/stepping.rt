@@ -1,6 +1,6 @@
 //! Steps of a caller as text: events that it makes, and the entries that its log then has. The other modules call it.
 
-use lapin_shared::{Caller, Crew, Told};
+use lapin_shared::{Caller, Crew, FinishError, History, StepError, Told};
 use lapin_text::{parse_events, read_event, write_record};
 use lapin_types::{Event, Record};
 use std::alloc::Global;
@@ -14,6 +14,22 @@ call 1 channel.open\nnext 1\nrecv method 1 channel.open-ok\n\
 call 1 basic.consume x71 x74 0 0 0 1 {}\nnext 1\ndelegate 1\n\
 call 1 basic.consume x71 x75 0 0 0 1 {}\nnext 1\ndelegate 2\n";
 
+/// What a step answers. The test fails where there was no memory.
+pub fn answer_of<T>(step: Result<T, StepError>) -> Result<T, Fail> {
+    match step {
+        Ok(answer) => Ok(answer),
+        Err(_) => Err(Fail::from("memory")),
+    }
+}
+
+/// The history of a client that ended. The test fails where a caller is missing, and where there was no memory.
+pub fn finished(end: Result<History, FinishError>) -> Result<History, Fail> {
+    match end {
+        Ok(history) => Ok(history),
+        Err(_) => Err(Fail::from("the history")),
+    }
+}
+
 /// Makes the events of that beginning and those of these lines.
 pub fn make_lines<L: Crew, R: Wait + Abort>(
     rt: &R,
@@ -23,10 +39,10 @@ pub fn make_lines<L: Crew, R: Wait + Abort>(
 ) -> Result<(), Fail> {
     let mut text = String::from_str(alloc, CONSUMING)?;
     text.push_str(lines)?;
-    let parsed = parse_events(alloc, text.as_bytes()).map_err(|_| "memory")?;
+    let parsed = parse_events(alloc, text.as_bytes())?;
     assert_eq!(rt; parsed.bad, None);
     for event in parsed.events {
-        caller.make(rt, alloc, event).map_err(|_| "memory")?;
+        let _place = answer_of(caller.make(rt, alloc, event))?;
     }
     Ok(())
 }

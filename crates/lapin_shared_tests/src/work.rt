@@ -2,7 +2,7 @@
 
 ghost use Rattle.std.specs.Prelude.{◌≡◌};
 
-use crate::stepping::{are_steps, make_lines};
+use crate::stepping::{answer_of, are_steps, make_lines};
 use lapin_acker::{BoxedDelegate, ConsumerDelegate, Delegates, Verdict};
 use lapin_shared::{Client, Crew};
 use lapin_types::DeliveryResult;
@@ -72,7 +72,7 @@ fn delegates_of(
             counts: Arc::try_clone(counts)?,
         };
         let boxed: BoxedDelegate = Box::new(alloc, counting)?;
-        all.add(alloc, *consumer, boxed).map_err(|_| "memory")?;
+        all.add(alloc, *consumer, boxed)?;
     }
     Ok(all)
 }
@@ -94,14 +94,12 @@ fn works<L: Crew, R: Wait + Abort>(
         },
     )?;
     let delegates = delegates_of(alloc, &counts, row.delegates)?;
-    let (client, mut callers) = Client::<L>::new(alloc, 4096, 1, blank).map_err(|_| "memory")?;
+    let (client, mut callers) = Client::<L>::new(alloc, 4096, 1, blank)?;
     let mut caller = callers.pop().ok_or("a caller")?;
     make_lines(rt, alloc, &mut caller, row.before)?;
     let made = caller.log().len();
     for end in row.ends {
-        let done = caller
-            .work_one(rt, alloc, &delegates)
-            .map_err(|_| "memory")?;
+        let done = answer_of(caller.work_one(rt, alloc, &delegates))?;
         assert_eq!(rt; done, *end, "at {}", row.steps);
     }
     are_steps(rt, alloc, caller.log(), made, row.steps)?;

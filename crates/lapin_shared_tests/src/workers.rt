@@ -2,7 +2,7 @@
 
 ghost use Rattle.std.specs.Prelude.{◌≡◌};
 
-use crate::stepping::{are_steps, make_lines};
+use crate::stepping::{are_steps, finished, make_lines};
 use lapin_acker::{BoxedDelegate, ConsumerDelegate, Delegates, Verdict};
 use lapin_shared::{Client, Crew, Gate, OpenGate};
 use lapin_types::DeliveryResult;
@@ -51,10 +51,18 @@ impl Gate for Meeting {
     }
 }
 
+/// How often delegates were called, and how many of the calls saw the other one while they waited. Where one call comes after the
+/// other, only the second can have seen it.
+#[derive(Drop)]
+struct Counts {
+    calls: AtomicU64,
+    met: AtomicU64,
+}
+
 /// Acknowledges each delivery. A call waits, for at most so many looks, until there was a second one.
 #[derive(Drop)]
 struct Waiting {
-    calls: Arc<AtomicU64, Global>,
+    counts: Arc<Counts, Global>,
     most: u64,
 }
 
@@ -66,9 +74,10 @@ impl ConsumerDelegate for Waiting {
 
     fn on_new_delivery(&self, given: &DeliveryResult) -> Verdict {
         let _ = given;
-        self.calls.fetch_add(1, Ordering::SeqCst);
+        self.counts.calls.fetch_add(1, Ordering::SeqCst);
         for _ in 0..self.most {
-            if self.calls.load(Ordering::SeqCst) > 1 {
+            if self.counts.calls.load(Ordering::SeqCst) > 1 {
+                self.counts.met.fetch_add(1, Ordering::SeqCst);
                 break;
             }
         }
@@ -76,20 +85,28 @@ impl ConsumerDelegate for Waiting {
     }
 }
 
+fn no_counts(alloc: Global) -> Result<Arc<Counts, Global>, Fail> {
+    let counts = Counts {
+        calls: AtomicU64::new(0),
+        met: AtomicU64::new(0),
+    };
+    Ok(Arc::new(alloc, counts)?)
+}
+
 fn waiting_delegates(
     alloc: Global,
     consumers: &[u64],
-    calls: &Arc<AtomicU64, Global>,
+    counts: &Arc<Counts, Global>,
     most: u64,
 ) -> Result<Delegates, Fail> {
     let mut all = Delegates::new(alloc);
     for consumer in consumers {
         let waiting = Waiting {
-            calls: Arc::try_clone(calls)?,
+            counts: Arc::try_clone(counts)?,
             most,
         };
         let boxed: BoxedDelegate = Box::new(alloc, waiting)?;
-        all.add(alloc, *consumer, boxed).map_err(|_| "memory")?;
+        all.add(alloc, *consumer, boxed)?;
     }
     Ok(all)
 }
@@ -99,24 +116,24 @@ fn meet<G: Gate, L: Crew + Send + Sync, R: Threads + Wait + Abort + Sync>(
     alloc: Global,
     gate: &G,
     most: u64,
+    met: u64,
     blank: Blank,
 ) -> Result<(), Fail>
     requires name { blank.name ≡ L.name }
     requires parts { (blank.parts ≡ 2) × (blank.parts ≡ L.parts) }
 {
-    let calls = Arc::new(alloc, AtomicU64::new(0))?;
-    let delegates = waiting_delegates(alloc, &[1, 2], &calls, most)?;
-    let (client, mut callers) = Client::<L>::new(alloc, 4096, 2, blank).map_err(|_| "memory")?;
+    let counts = no_counts(alloc)?;
+    let delegates = waiting_delegates(alloc, &[1, 2], &counts, most)?;
+    let (client, mut callers) = Client::<L>::new(alloc, 4096, 2, blank)?;
     make_lines(rt, alloc, &mut callers[0], DELIVERED)?;
     let made = callers[0].log().len();
-    let jobs = run_workers(rt, alloc, gate, &delegates, &mut callers, 1).map_err(|_| "memory")?;
+    let jobs = run_workers(rt, alloc, gate, &delegates, &mut callers, 1)?;
     assert_eq!(rt; jobs, 2);
-    assert_eq!(rt; calls.load(Ordering::SeqCst), 2);
+    assert_eq!(rt; counts.calls.load(Ordering::SeqCst), 2);
+    assert_eq!(rt; counts.met.load(Ordering::SeqCst), met);
     assert_eq!(rt; callers[0].log().len(), made.saturating_add(2));
     assert_eq!(rt; callers[1].log().len(), 2);
-    let history = client
-        .finish(rt, alloc, &mut callers)
-        .map_err(|_| "memory")?;
+    let history = finished(client.finish(rt, alloc, &mut callers))?;
     assert_eq!(rt; history.len(), made.saturating_add(4));
     Ok(())
 }
@@ -128,14 +145,14 @@ fn two_workers_meet_at_the_gate(rt: HostRuntime) -> Result<(), Fail> {
         left: AtomicU64::new(0),
         met: AtomicU64::new(0),
     };
-    meet::<Meeting, Brand, _>(&rt, rt.alloc(), &gate, 0, Blank::new(2))?;
+    meet::<Meeting, Brand, _>(&rt, rt.alloc(), &gate, 0, 0, Blank::new(2))?;
     assert_eq!(&rt; gate.met.load(Ordering::SeqCst), 1);
     Ok(())
 }
 
 #[test]
 fn two_workers_meet_in_their_delegates(rt: HostRuntime) -> Result<(), Fail> {
-    meet::<OpenGate, Brand, _>(&rt, rt.alloc(), &OpenGate, TURNS, Blank::new(2))
+    meet::<OpenGate, Brand, _>(&rt, rt.alloc(), &OpenGate, TURNS, 2, Blank::new(2))
 }
 
 /// Adds up what the gate is told: a thousand times the caller's number, and the place.
@@ -184,13 +201,13 @@ fn works_alone<L: Crew + Send + Sync, R: Threads + Wait + Abort + Sync>(
     requires name { blank.name ≡ L.name }
     requires parts { (blank.parts ≡ 1) × (blank.parts ≡ L.parts) }
 {
-    let calls = Arc::new(alloc, AtomicU64::new(0))?;
-    let delegates = waiting_delegates(alloc, row.consumers, &calls, 0)?;
+    let counts = no_counts(alloc)?;
+    let delegates = waiting_delegates(alloc, row.consumers, &counts, 0)?;
     let gate = Sums {
         before: AtomicU64::new(0),
         after: AtomicU64::new(0),
     };
-    let (client, mut callers) = Client::<L>::new(alloc, 4096, 1, blank).map_err(|_| "memory")?;
+    let (client, mut callers) = Client::<L>::new(alloc, 4096, 1, blank)?;
     make_lines(rt, alloc, &mut callers[0], DELIVERED)?;
     let jobs = run_workers(rt, alloc, &gate, &delegates, &mut callers, row.turns);
     assert_eq!(rt; jobs, Ok(row.jobs));
