@@ -69,6 +69,7 @@ fn run_input<G: Gate, R: Threads + Wait + Sync>(
         bad,
     } = parse_events(alloc, input)?;
     let Some(frame_max) = frame_max else {
+        drop(events);
         return Ok((None, bad));
     };
     let blank = Blank::new(callers as u64);

@@ -30,8 +30,14 @@ pub fn shared_history<L: Crew + Send + Sync, G: Gate, R: Threads + Wait + Sync>(
     requires parts { (blank.parts ≡ callers) × (blank.parts ≡ L.parts) }
     ensures { IfOk result (λ history. IsDealt frame_max callers events.items history) }
 {
-    let (client, all) = Client::<L>::new(alloc, frame_max, callers, blank)?;
-    client.reserve(rt, events.len())?;
+    let Ok((client, all)) = Client::<L>::new(alloc, frame_max, callers, blank) else {
+        drop(events);
+        return Err(NoMemory);
+    };
+    if client.reserve(rt, events.len()).is_err() {
+        drop(events);
+        return Err(NoMemory);
+    }
     let mut back = make_all(rt, alloc, gate, events, all)?;
     match client.finish(rt, alloc, &mut back) {
         Ok(history) => Ok(history),
