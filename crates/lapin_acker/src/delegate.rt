@@ -62,10 +62,15 @@ impl ConsumerDelegate for FnDelegate {
 pub type BoxedDelegate = Box<dyn ConsumerDelegate + Send + Sync>;
 
 /// The delegates of a session, each under the number of its consumer.
-#[derive(Drop)]
 pub struct Delegates {
     /// By number of the consumer.
     pub by_consumer: BTreeMap<u64, BoxedDelegate>,
+}
+
+impl Drop for Delegates {
+    fn drop(self) {
+        let Delegates { by_consumer: _ } = self;
+    }
 }
 
 impl Delegates {

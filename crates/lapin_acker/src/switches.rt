@@ -21,13 +21,22 @@ use std::marker::Model;
 const CHANNELS: usize = 65536;
 
 /// The ackers of a session, numbered from 1. Contracts see one switch a number, and the room beside them.
-#[derive(Drop)]
 pub struct Switches {
     // How many at the front were let go: the openings of all of them ended.
     let_go: u64,
     cells: VecDeque<Switch>,
     // By channel: an acker of the channel with a number up to this one is over. It is made with the first acker, or room for one.
     ends: Vec<u64>,
+}
+
+impl Drop for Switches {
+    fn drop(self) {
+        let Switches {
+            let_go: _,
+            cells: _,
+            ends: _,
+        } = self;
+    }
 }
 
 impl Model for Switches {

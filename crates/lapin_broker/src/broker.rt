@@ -27,13 +27,23 @@ use std::marker::Model;
 /// number waits to be settled by an ack or a nack. Contracts see the state as a record of plain lists.
 ///
 /// A step's cost doesn't grow with what was read, sent or settled before, nor with the number of channels.
-#[derive(Drop)]
 pub struct Broker {
     frame_max: u32,
     connection: Connection,
     channels: ByChannel<BrokerChannel>,
     // The content that is being read, with its channel.
     reading: Option<(u16, Content)>,
+}
+
+impl Drop for Broker {
+    fn drop(self) {
+        let Broker {
+            frame_max: _,
+            connection: _,
+            channels: _,
+            reading: _,
+        } = self;
+    }
 }
 
 impl Model for Broker {

@@ -29,13 +29,24 @@ use std::alloc::Global;
 use std::marker::Model;
 
 /// The outcome of every confirm number, and the ledger and the tray of every channel. Contracts see a `Post`, and the room beside it.
-#[derive(Drop)]
 pub struct Confirms {
     pub(crate) ledgers: ByChannel<Ledger>,
     pub(crate) cells: Numbered<Cell>,
     pub(crate) homes: Numbered<Home>,
     pub(crate) trays: ByChannel<Returned>,
     pub(crate) rooms: ByChannel<bool>,
+}
+
+impl Drop for Confirms {
+    fn drop(self) {
+        let Confirms {
+            ledgers: _,
+            cells: _,
+            homes: _,
+            trays: _,
+            rooms: _,
+        } = self;
+    }
 }
 
 impl Model for Confirms {

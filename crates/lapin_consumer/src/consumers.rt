@@ -23,11 +23,16 @@ use std::alloc::Global;
 use std::marker::Model;
 
 /// All consumers of a session, and the jobs of their delegates. Contracts see a `Roster`, and the room beside it.
-#[derive(Drop)]
 pub struct Consumers {
     hall: Hall,
     // By channel: the places of its registered consumers, rising.
     lines: ByChannel<Line>,
+}
+
+impl Drop for Consumers {
+    fn drop(self) {
+        let Consumers { hall: _, lines: _ } = self;
+    }
 }
 
 impl Model for Consumers {

@@ -21,9 +21,14 @@ use std::marker::Model;
 
 /// The contents that all channels expect. Contracts see the channels that ever expected one, each with its list. A channel is
 /// found in the same time with one and with sixty thousand.
-#[derive(Drop)]
 pub struct Contents {
     channels: ByChannel<Queue>,
+}
+
+impl Drop for Contents {
+    fn drop(self) {
+        let Contents { channels: _ } = self;
+    }
 }
 
 impl Model for Contents {

@@ -25,11 +25,20 @@ use lapin_types::{Answer, Error, Left, Method, NoMemory, Reply, Request};
 use std::alloc::Global;
 
 /// Frames that wait, open requests and tickets. Nobody poisons the outbox of a desk: what is queued is queued.
-#[derive(Drop)]
 pub struct Desk {
     pub outbox: Outbox,
     pub replies: Replies,
     pub tickets: Tickets,
+}
+
+impl Drop for Desk {
+    fn drop(self) {
+        let Desk {
+            outbox: _,
+            replies: _,
+            tickets: _,
+        } = self;
+    }
 }
 
 impl Desk {

@@ -15,7 +15,6 @@ use lapin_types::{BasicConsumeOptions, DeliveryResult, Error, Job, NoMemory, Sho
 use std::alloc::Global;
 
 /// The consumers of a connection, the ackers of what it delivered and what its channels declared. Contracts see an `Inbox` by `what`, and the room beside it.
-#[derive(Drop)]
 pub struct Inbox {
     /// The consumers, and the jobs of their delegates.
     pub consumers: Consumers,
@@ -23,6 +22,16 @@ pub struct Inbox {
     pub switches: Switches,
     /// What each channel declared and bound.
     pub topologies: Topologies,
+}
+
+impl Drop for Inbox {
+    fn drop(self) {
+        let Inbox {
+            consumers: _,
+            switches: _,
+            topologies: _,
+        } = self;
+    }
 }
 
 impl Inbox {

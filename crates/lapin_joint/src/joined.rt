@@ -17,11 +17,20 @@ use std::marker::Model;
 
 /// A new session and a new free broker, joined by two links that keep order and lose nothing but at `Lose`. It stands for the list of
 /// its steps.
-#[derive(Drop)]
 pub struct Joined {
     links: Links,
     steps: u64,
     stopped: bool,
+}
+
+impl Drop for Joined {
+    fn drop(self) {
+        let Joined {
+            links: _,
+            steps: _,
+            stopped: _,
+        } = self;
+    }
 }
 
 impl Model for Joined {

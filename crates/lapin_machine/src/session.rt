@@ -39,7 +39,6 @@ use std::marker::Model;
 
 /// One connection's channels, calls and confirms, without a socket. Contracts see it as a `World`: where the connection and
 /// its channels stand, lists, requests and counters, the confirms and the tickets.
-#[derive(Drop)]
 pub struct Session {
     pub(crate) link: ConnectionPhase,
     pub(crate) phases: Phases,
@@ -47,6 +46,19 @@ pub struct Session {
     pub(crate) confirms: Confirms,
     pub(crate) contents: Contents,
     pub(crate) inbox: Inbox,
+}
+
+impl Drop for Session {
+    fn drop(self) {
+        let Session {
+            link: _,
+            phases: _,
+            desk: _,
+            confirms: _,
+            contents: _,
+            inbox: _,
+        } = self;
+    }
 }
 
 impl Model for Session {

@@ -32,7 +32,6 @@ pub enum Pushed {
 }
 
 /// The frames that wait to leave. A contract sees what the outbox holds, and for how many more entries there is room.
-#[derive(Drop)]
 pub struct Outbox {
     frame_max: u32,
     queues: Queues,
@@ -41,6 +40,18 @@ pub struct Outbox {
     poison: Option<Error>,
     // By channel that ever was poisoned.
     errors: ByChannel<Option<Error>>,
+}
+
+impl Drop for Outbox {
+    fn drop(self) {
+        let Outbox {
+            frame_max: _,
+            queues: _,
+            returned: _,
+            poison: _,
+            errors: _,
+        } = self;
+    }
 }
 
 impl Model for Outbox {

@@ -19,11 +19,19 @@ use std::marker::Model;
 
 /// The open requests of all channels. A contract sees the list of the channels that ever had one, each with its requests,
 /// and by channel for how many more there is room.
-#[derive(Drop)]
 pub struct Replies {
     channels: ByChannel<Requests>,
     // By channel that has no entry yet: an empty queue, with room for its first request.
     aside: HashMap<u16, Requests>,
+}
+
+impl Drop for Replies {
+    fn drop(self) {
+        let Replies {
+            channels: _,
+            aside: _,
+        } = self;
+    }
 }
 
 impl Model for Replies {

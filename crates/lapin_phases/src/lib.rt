@@ -17,10 +17,18 @@ use std::alloc::{AllocError, Global};
 use std::marker::Model;
 
 /// Where each channel stands that was ever opened. Contracts see the table alone.
-#[derive(Drop)]
 pub struct Phases {
     table: ByChannel<ChannelPhase>,
     paused: usize,
+}
+
+impl Drop for Phases {
+    fn drop(self) {
+        let Phases {
+            table: _,
+            paused: _,
+        } = self;
+    }
 }
 
 impl Model for Phases {

@@ -81,9 +81,15 @@ impl ExchangeDefinition {
 }
 
 /// Exchanges, one a name. A contract sees them as a list, in rising order of the names' bytes.
-#[derive(Debug, Drop)]
+#[derive(Debug)]
 pub struct Exchanges {
     exchanges: Vec<ExchangeDefinition>,
+}
+
+impl Drop for Exchanges {
+    fn drop(self) {
+        let Exchanges { exchanges: _ } = self;
+    }
 }
 
 impl Model for Exchanges {

@@ -72,9 +72,15 @@ impl QueueDefinition {
 }
 
 /// Queues, one a name. A contract sees them as a list, in rising order of the names' bytes.
-#[derive(Debug, Drop)]
+#[derive(Debug)]
 pub struct Queues {
     queues: Vec<QueueDefinition>,
+}
+
+impl Drop for Queues {
+    fn drop(self) {
+        let Queues { queues: _ } = self;
+    }
 }
 
 impl Model for Queues {

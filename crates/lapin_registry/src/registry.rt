@@ -23,9 +23,15 @@ pub struct ChannelDefinition {
 }
 
 /// The registry of a channel. A contract sees what it recorded.
-#[derive(Debug, Drop)]
+#[derive(Debug)]
 pub struct Registry {
     definition: ChannelDefinition,
+}
+
+impl Drop for Registry {
+    fn drop(self) {
+        let Registry { definition: _ } = self;
+    }
 }
 
 impl Model for Registry {

@@ -14,9 +14,14 @@ use std::alloc::Global;
 use std::marker::Model;
 
 /// The registry of each channel that ever had an opening. A contract sees the table of what they recorded.
-#[derive(Drop)]
 pub struct Topologies {
     by_channel: ByChannel<Registry>,
+}
+
+impl Drop for Topologies {
+    fn drop(self) {
+        let Topologies { by_channel: _ } = self;
+    }
 }
 
 impl Model for Topologies {

@@ -38,10 +38,15 @@ pub enum Slot {
 
 /// The tickets of a session, numbered from 1. Contracts see one slot per ticket, `None` where its answer was given, and the
 /// channel for whose next ticket there is room.
-#[derive(Drop)]
 pub struct Tickets {
     slots: Numbered<Slot>,
     given: Given,
+}
+
+impl Drop for Tickets {
+    fn drop(self) {
+        let Tickets { slots: _, given: _ } = self;
+    }
 }
 
 impl Model for Tickets {

@@ -7,11 +7,21 @@ use lapin_values::{NoMemory, ShortString};
 use std::alloc::Global;
 
 /// A declared queue with the counts of that moment (AMQP 0-9-1, `queue.declare-ok`).
-#[derive(Debug, Drop)]
+#[derive(Debug)]
 pub struct Queue {
     name: ShortString,
     message_count: u32,
     consumer_count: u32,
+}
+
+impl Drop for Queue {
+    fn drop(self) {
+        let Queue {
+            name: _,
+            message_count: _,
+            consumer_count: _,
+        } = self;
+    }
 }
 
 impl Queue {

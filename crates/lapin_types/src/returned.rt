@@ -9,9 +9,15 @@ use std::alloc::Global;
 use std::marker::Model;
 
 /// Returned messages, in order. A contract sees them as a list.
-#[derive(Debug, Drop)]
+#[derive(Debug)]
 pub struct ReturnedList {
     messages: Vec<BasicReturnMessage>,
+}
+
+impl Drop for ReturnedList {
+    fn drop(self) {
+        let ReturnedList { messages: _ } = self;
+    }
 }
 
 impl Model for ReturnedList {

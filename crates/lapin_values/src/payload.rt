@@ -11,9 +11,15 @@ use std::marker::Model;
 
 /// The bytes of a message's body, a piece of one, or a field value that is a byte array. A contract sees
 /// them as a list.
-#[derive(Debug, Drop)]
+#[derive(Debug)]
 pub struct Payload {
     bytes: Vec<u8>,
+}
+
+impl Drop for Payload {
+    fn drop(self) {
+        let Payload { bytes: _ } = self;
+    }
 }
 
 impl Model for Payload {

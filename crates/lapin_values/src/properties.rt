@@ -17,7 +17,7 @@ pub(crate) mod texts;
 /// them on as they were published. A contract sees them as the record `Properties`.
 ///
 /// It is handed on by value, so it is kept narrow: the texts that are set stand in a chain, behind one pointer.
-#[derive(Debug, Drop)]
+#[derive(Debug)]
 pub struct BasicProperties {
     texts: Texts,
     headers: FieldTable,
@@ -26,6 +26,20 @@ pub struct BasicProperties {
     has_timestamp: bool,
     delivery_mode: Option<u8>,
     priority: Option<u8>,
+}
+
+impl Drop for BasicProperties {
+    fn drop(self) {
+        let BasicProperties {
+            texts: _,
+            headers: _,
+            timestamp: _,
+            has_headers: _,
+            has_timestamp: _,
+            delivery_mode: _,
+            priority: _,
+        } = self;
+    }
 }
 
 impl Model for BasicProperties {

@@ -52,9 +52,15 @@ impl<T: Drop> From<AllocFailed<T>> for ShortStringError {
 ///
 /// It is one pointer wide, since it is handed on by value. What it points to has room for its place among the texts of a message's
 /// properties, so that to set one takes no memory.
-#[derive(Debug, Drop)]
+#[derive(Debug)]
 pub struct ShortString {
     link: Box<Link>,
+}
+
+impl Drop for ShortString {
+    fn drop(self) {
+        let ShortString { link: _ } = self;
+    }
 }
 
 impl Model for ShortString {
@@ -109,14 +115,15 @@ impl ShortString {
             link: Box::new(alloc, Link::alone(text))?,
         })
     }
-}
 
-/// A short string as it lies in memory, to be chained.
-pub(crate) fn into_place(text: ShortString) -> Place
-    ensures text { kept (box_value result.link).text ≡ text }
-    ensures short { length text ≤ 255 }
-{
-    Place { link: text.link }
+    /// This short string as it lies in memory, to be chained.
+    pub(crate) fn into_place(self) -> Place
+        ensures text { kept (box_value result.link).text ≡ self }
+        ensures short { length self ≤ 255 }
+    {
+        let ShortString { link } = self;
+        Place { link }
+    }
 }
 
 /// The short string that lies at a place. A short string lies in memory as a place does, and only what contracts see of the two
@@ -159,9 +166,15 @@ impl Clone for ShortString {
 
 /// The bytes of a string value (AMQP 0-9-1, section 4.2.5.3, "long strings"), which need not be text.
 /// A contract sees it as the list of its bytes.
-#[derive(Debug, Drop)]
+#[derive(Debug)]
 pub struct LongString {
     bytes: Vec<u8>,
+}
+
+impl Drop for LongString {
+    fn drop(self) {
+        let LongString { bytes: _ } = self;
+    }
 }
 
 impl Model for LongString {

@@ -65,9 +65,16 @@ impl Model for FieldArray {
 /// pairs, in rising order of the names' bytes. It is two words wide, since properties, which hold one, are handed on by value; a table
 /// with no entries takes no memory.
 #[cycle(value)]
-#[derive(Debug, Drop)]
+#[derive(Debug)]
 pub struct FieldTable {
     entries: Option<Box<Vec<(ShortString, AMQPValue)>>>,
+}
+
+impl Drop for FieldTable {
+    #[cycle(let_go)]
+    fn drop(self) {
+        let FieldTable { entries: _ } = self;
+    }
 }
 
 impl Model for FieldTable {

@@ -168,7 +168,7 @@ impl Texts {
     fn with(self, property: u8, text: ShortString) -> Texts
         ensures { result ≡ (property, text) ∷ self }
     {
-        let mut place = text::into_place(text);
+        let mut place = text.into_place();
         place.link.property = property;
         place.link.next = self;
         Texts { first: Some(place) }
