@@ -1,9 +1,9 @@
 -- Slots whose front was let go.
-use Rattle.std.proofs.Common.{◌≡◌, ℕ, zero, suc, ◌+◌, ◌<◌, ◌≤◌, List, [], ◌∷◌, ◌++◌, length, replicate, Option, Some, None, refl, ◌∙◌, ap, arith, slice_set, get_or, inl, inr, true, false}
+use Rattle.std.proofs.Common.{◌≡◌, ℕ, zero, suc, ◌+◌, ◌<◌, ◌≤◌, List, [], ◌∷◌, ◌++◌, length, replicate, Option, Some, None, refl, sym, ◌∙◌, ap, arith, slice_set, get_or, inl, inr, true, false}
 use Rattle.std.specs.Option.{IsSome, option_map}
 use Rattle.std.specs.Prelude.{is_some, is_none}
 use Rattle.std.proofs.lemmas.Bool.{cases_lt}
-use Rattle.std.proofs.lemmas.List.{get_or_past, set_past}
+use Rattle.std.proofs.lemmas.List.{get_or_past, get_or-set_same, set_past, set-get_or}
 use Rattle.lapin_tables.specs.Numbered.{under, with_under, first_kept, starts_taken}
 
 module _ {T : Type 0} where
@@ -12,6 +12,13 @@ module _ {T : Type 0} where
   under-kept zero p (suc k) xs h = let same : k ≡ p = omega arith in ap (λ i. get_or xs i None) same
   under-kept (suc g) p (suc zero) xs h = absurd (omega arith)
   under-kept (suc g) p (suc (suc k)) xs h = under-kept g p (suc k) xs (omega arith)
+
+  -- a slot that was read, put back at its place
+  pub put-back : (p : ℕ) (xs : List (Option T)) (now : Option T) → now ≡ get_or xs p now → slice_set xs p now ≡ xs
+  put-back p xs now read = ap (slice_set xs p) read ∙ set-get_or xs p now
+
+  pub under-read : (g p n : ℕ) (xs : List (Option T)) (now : Option T) → n ≡ g + p + 1 → p < length xs → now ≡ get_or xs p now → under n (replicate g None ++ xs) ≡ now
+  under-read g p n xs now place within read = under-kept g p n xs place ∙ ap (λ (ys : List (Option T)). get_or ys p None) (sym (put-back p xs now read)) ∙ get_or-set_same xs p now None within
 
   pub under-let_go : (g n : ℕ) (xs : List (Option T)) → n ≤ g → under n (replicate g None ++ xs) ≡ None
   under-let_go g zero xs h = refl

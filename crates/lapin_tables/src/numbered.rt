@@ -5,8 +5,10 @@
 
 ghost use Rattle.std.specs.Prelude.{◌≡◌, ℕ, ◌+◌, ◌^◌, ◌≤◌, ◌<◌, ◌∷◌, ◌++◌, [], length, OnOk, IsOk, IsSome, MatchOption, None, Some, replicate, false, ◌-◌};
 ghost use Rattle.std.specs.VecDeque.{deque_len, deque_capacity};
-ghost use Rattle.std.specs.Option.{option_copied};
+ghost use Rattle.std.specs.Option.{option_copied, option_copied_mut};
+ghost use Rattle.std.specs.Borrow.{sem};
 ghost use Rattle.lapin_tables.specs.Numbered.{Slots, under, with_under, first_kept, starts_taken};
+ghost use Rattle.lapin_tables.specs.Lends.{LendsUnder};
 
 use std::alloc::{AllocError, Global};
 use std::collections::VecDeque;
@@ -72,6 +74,18 @@ impl<T> Numbered<T> {
         let place = place_of(self.let_go, number)?;
         match self.slots.get(place) {
             Some(Some(value)) => Some(value),
+            _ => None,
+        }
+    }
+
+    /// The value under a number, to be changed in place: `None` where the number was never given or its value was taken.
+    /// Every other number keeps its value.
+    pub fn get_mut(&mut self, number: u64) -> Option<&mut T>
+        ensures* writes_back { sem 𝓛 (LendsUnder T.row self.entry number result) }
+        ensures value { option_copied_mut result ≡ under number self.old.slots }
+    {
+        match place_of(self.let_go, number) {
+            Some(place) if place < self.slots.len() => self.slots[place].as_mut(),
             _ => None,
         }
     }

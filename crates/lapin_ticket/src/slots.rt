@@ -1,12 +1,10 @@
 //! One ticket's slot, and what becomes of it: its publish begins, its last frame leaves, it is answered.
 //!
-//! What many tickets get at once stands in `ends`.
+//! What many tickets get at once stands in `ends`. A slot is changed where it stands, since it is wide to move.
 
-ghost use Rattle.std.specs.Prelude.{◌≡◌};
-ghost use Rattle.lapin_history.specs.TicketReadings.{answer_at};
+ghost use Rattle.std.specs.Prelude.{◌≡◌, Some};
 ghost use Rattle.lapin_history.specs.TicketReadings as mark;
-ghost use Rattle.lapin_ticket.specs.declared.Slot.TheVariants as slot;
-ghost use Rattle.lapin_ticket.specs.Slots.{after_mark, held_or};
+ghost use Rattle.lapin_ticket.specs.Slots.{after_mark, left_slot};
 
 use crate::Slot;
 use lapin_history::AtLeaving;
@@ -18,9 +16,10 @@ pub(crate) fn begin(slots: &mut Numbered<Slot>, number: u64)
     ensures slots { slots.new.slots ≡ after_mark slots.old.slots (mark.Begun number) }
     ensures room { slots.new.spare ≡ slots.old.spare }
 {
-    if let Some(Slot::Open(channel, at_leaving, _)) = slots.get(number) {
-        let begun = Slot::Open(*channel, *at_leaving, true);
-        slots.set(number, begun);
+    if let Some(slot) = slots.get_mut(number) {
+        if let Slot::Open(_, _, begun) = slot {
+            *begun = true;
+        }
     }
 }
 
@@ -29,9 +28,8 @@ pub(crate) fn leave(slots: &mut Numbered<Slot>, number: u64)
     ensures slots { slots.new.slots ≡ after_mark slots.old.slots (mark.LastLeft number) }
     ensures room { slots.new.spare ≡ slots.old.spare }
 {
-    if let Some(Slot::Open(channel, at_leaving, begun)) = slots.get(number) {
-        let left = left(*channel, *at_leaving, *begun);
-        slots.set(number, left);
+    if let Some(slot) = slots.get_mut(number) {
+        leave_slot(slot);
     }
 }
 
@@ -40,19 +38,23 @@ pub(crate) fn answer(slots: &mut Numbered<Slot>, number: u64, answer: Result<Ans
     ensures slots { slots.new.slots ≡ after_mark slots.old.slots (mark.Answered number answer) }
     ensures room { slots.new.spare ≡ slots.old.spare }
 {
-    if let Some(Slot::Open(..)) = slots.get(number) {
-        slots.set(number, Slot::Held(answer));
+    if let Some(slot) = slots.get_mut(number) {
+        if let Slot::Open(..) = slot {
+            *slot = Slot::Held(answer);
+        }
     }
 }
 
-// What is kept of an open ticket as its last frame leaves.
-fn left(channel: u16, at_leaving: AtLeaving, begun: bool) -> Slot
-    ensures { result ≡ held_or (slot.Open channel at_leaving begun) (answer_at at_leaving) }
+// An open slot holds the answer that its last frame's leaving gives, if it gives one.
+fn leave_slot(slot: &mut Slot)
+    ensures { Some slot.new ≡ left_slot (Some slot.old) }
 {
-    match at_leaving {
-        AtLeaving::Nothing => Slot::Open(channel, at_leaving, begun),
-        AtLeaving::Done => Slot::Held(Ok(Answer::Done)),
-        AtLeaving::Confirm(number) => Slot::Held(Ok(Answer::Confirm(number))),
-        AtLeaving::Yes => Slot::Held(Ok(Answer::Yes)),
+    if let Slot::Open(_, at_leaving, _) = slot {
+        match *at_leaving {
+            AtLeaving::Nothing => {}
+            AtLeaving::Done => *slot = Slot::Held(Ok(Answer::Done)),
+            AtLeaving::Confirm(number) => *slot = Slot::Held(Ok(Answer::Confirm(number))),
+            AtLeaving::Yes => *slot = Slot::Held(Ok(Answer::Yes)),
+        }
     }
 }
