@@ -1,7 +1,7 @@
 -- A confirm of which nothing is kept any more, or that stands aside: ledgers, cells and homes still agree.
-use Rattle.std.proofs.Common.{◌≡◌, ℕ, zero, suc, Bool, true, false, cond, ◌||◌, [], ◌∷◌, slice_set, List, Option, Some, None, length, refl}
+use Rattle.std.proofs.Common.{◌≡◌, ◌∙◌, ◌≤◌, ℕ, zero, suc, Bool, true, false, cond, ◌||◌, [], ◌∷◌, slice_set, List, Option, Some, None, length, ap, sym, refl, arith}
 use Rattle.lapin_tables.specs.ByChannel.{at_channel}
-use Rattle.lapin_tables.specs.Numbered.{under, with_under}
+use Rattle.lapin_tables.specs.Numbered.{Slots, under, with_under}
 use Rattle.lapin_tables.proofs.SlotLaws.{length-with}
 use Rattle.lapin_confirm.specs.declared.cell.Cell.{Cell}
 use Rattle.lapin_confirm.specs.declared.cell.Cell.TheVariants as cell
@@ -11,7 +11,8 @@ use Rattle.lapin_confirm.specs.Book.{is_resolved, is_open_on}
 use Rattle.lapin_confirm.specs.Drain.{Remains, is_over, remaining, less_one, less_all}
 use Rattle.std.specs.List.{list_any}
 use Rattle.lapin_confirm.specs.Aside.{marked}
-use Rattle.lapin_confirm.specs.Ties.{AllTied}
+use Rattle.lapin_confirm.specs.Tray.{Tray}
+use Rattle.lapin_confirm.specs.Ties.{AllTied, AllKept, MessagesFit, promised}
 use Rattle.lapin_confirm.proofs.Tying.{tied_at-other}
 
 -- a resolved confirm is forgotten
@@ -23,6 +24,19 @@ forget-tied n es cells over tied = by (under n cells) refl over
     by (Some (cell.Queued d)) is h = cc
     by (Some (cell.Pending d t)) is h = cc
     by (Some (cell.Resolved x)) is h = λ d. tied_at-other d n (cell.Resolved x) None (at_channel d es) cells is refl refl (tied d)
+
+-- so all that is kept agrees still, whatever became of its message
+pub forget-kept : (n : ℕ) (rooms : List (ℕ × Bool)) (es : List (ℕ × Ledger)) (old-trays trays : List (ℕ × Tray)) (old-cells cells : Slots Cell) (old-homes homes : Slots Home) → is_resolved (under n old-cells.slots) ≡ true → cells.slots ≡ with_under n None old-cells.slots → old-cells.spare ≤ cells.spare → homes.slots ≡ with_under n None old-homes.slots → old-homes.spare ≤ homes.spare → (MessagesFit rooms old-trays → MessagesFit rooms trays) → AllKept rooms es old-trays old-cells old-homes → AllKept rooms es trays cells homes
+forget-kept n rooms es old-trays trays old-cells cells old-homes homes over cell more home places fit kept =
+    let room : promised rooms ≤ cells.spare = omega (arith, kept.room.cells, more) in
+    record {
+      tied = rw cell (forget-tied n es old-cells.slots over kept.tied);
+      room = record { cells = room; tags = kept.room.tags; messages = fit kept.room.messages };
+      homes = record {
+        count = ap length home ∙ length-with n None old-homes.slots ∙ kept.homes.count ∙ sym (ap length cell ∙ length-with n None old-cells.slots);
+        room = omega (arith, kept.homes.room, places);
+      };
+    }
 
 pub length-marked : (n : ℕ) (o : Option Home) (hs : List (Option Home)) → length (marked n o hs) ≡ length hs
 length-marked n None hs = refl

@@ -1,5 +1,5 @@
 -- Where the message of a confirm stands among those that were taken.
-use Rattle.std.proofs.Common.{◌≡◌, ℕ, zero, suc, ◌<◌, ◌==◌, true, false, cond, List, [], ◌∷◌, length, Option, Some, None, option_map, refl, ◌∙◌, ap, arith, slice_get, slice_index_or}
+use Rattle.std.proofs.Common.{◌≡◌, ℕ, zero, suc, ◌<◌, ◌==◌, true, false, cond, List, [], ◌∷◌, length, Option, Some, None, is_some, option_map, refl, ◌∙◌, ap, arith, slice_get, slice_index_or}
 use Rattle.std.specs.List.{remove}
 use Rattle.lapin_types.specs.declared.message.BasicReturnMessage.{BasicReturnMessage}
 use Rattle.lapin_history.specs.Letters.{message_at, without}
@@ -29,6 +29,28 @@ place-none n (x ∷ xs) h =
     nowhere-later : (o : Option ℕ) → option_map suc o ≡ None → o ≡ None
     nowhere-later None h = refl
     nowhere-later (Some q) h = cc
+
+-- there is a place exactly where there is a message
+pub place-held : (n : ℕ) (xs : List (ℕ × BasicReturnMessage)) → is_some (place_in n xs) ≡ is_some (message_at n xs)
+place-held n [] = refl
+place-held n (x ∷ xs) =
+    elim (x.0 == n) as (λ b. is_some (cond b (Some 0) (option_map suc (place_in n xs))) ≡ is_some (cond b (Some x.1) (message_at n xs))) [
+      | true ↦ refl
+      | false ↦ some_later (place_in n xs) ∙ place-held n xs
+    ]
+  where
+    some_later : (o : Option ℕ) → is_some (option_map suc o) ≡ is_some o
+    some_later None = refl
+    some_later (Some q) = refl
+
+-- nothing goes where there is none
+pub without-none : (n : ℕ) (xs : List (ℕ × BasicReturnMessage)) → is_some (message_at n xs) ≡ false → without n xs ≡ xs
+without-none n [] none = refl
+without-none n (x ∷ xs) none =
+    elim (x.0 == n) as (λ b. is_some (cond b (Some x.1) (message_at n xs)) ≡ false → cond b xs (x ∷ without n xs) ≡ x ∷ xs) [
+      | true ↦ λ none. cc
+      | false ↦ λ none. ap (λ ys. x ∷ ys) (without-none n xs none)
+    ] none
 
 pub record StandsAt (n p : ℕ) (xs : List (ℕ × BasicReturnMessage)) : Type 0 where
   pub within : p < length xs

@@ -1,14 +1,18 @@
 -- What callers see of the trays of returned messages, as one channel's changes.
-use Rattle.std.proofs.Common.{◌≡◌, ℕ, ◌==◌, cond, true, false, List, [], ◌∷◌, ◌++◌, Option, Some, None, refl, sym, ◌∙◌, ap}
+use Rattle.std.proofs.Common.{◌≡◌, ℕ, ◌==◌, cond, true, false, List, [], ◌∷◌, ◌++◌, Option, Some, None, is_some, refl, sym, ◌∙◌, ap}
 use Rattle.std.specs.Option.{option_map, IsSome}
 use Rattle.std.proofs.lemmas.List.{map_push}
-use Rattle.lapin_history.specs.Letters.{Letters, no_letters, renewed}
+use Rattle.lapin_history.specs.Letters.{Letters, no_letters, letter_of, taken_out, renewed}
 use Rattle.lapin_history.specs.Words.{with_channel}
-use Rattle.lapin_confirm.specs.Post.{letters_in}
+use Rattle.lapin_confirm.specs.declared.home.Home.{Home}
+use Rattle.lapin_confirm.specs.Book.{taken}
+use Rattle.lapin_confirm.specs.Post.{Post, letters_in, home_letters, on_home, message_of, given}
+use Rattle.lapin_tables.specs.Numbered.{under, with_under}
 use Rattle.lapin_tables.specs.ByChannel.{at_channel, on_channel}
 use Rattle.lapin_tables.proofs.Channels.{at-values, on-values, on-absent, on-known, on-same}
 use Rattle.lapin_confirm.specs.Tray.{Tray}
 use Rattle.lapin_confirm.specs.Ties.{trays_of}
+use Rattle.lapin_confirm.proofs.Places.{without-none}
 
 pub tray-at : (c : ℕ) (es : List (ℕ × Tray)) (o : Option Tray) → at_channel c es ≡ o → at_channel c (trays_of es) ≡ option_map (λ t. t.letters) o
 tray-at c es o is = at-values (λ (t : Tray). t.letters) c es ∙ ap (option_map (λ (t : Tray). t.letters)) is
@@ -48,3 +52,21 @@ trays-new c t ts none fresh = rw (tray-at c ts None none) (map_push (λ (e : ℕ
 -- a tray that is renewed
 pub trays-again : (c : ℕ) (t k : Tray) (ts : List (ℕ × Tray)) → at_channel c ts ≡ Some t → k.letters ≡ renewed t.letters → trays_of (on_channel c (λ _. k) ts) ≡ with_channel c (renewed (letters_in (at_channel c (trays_of ts)))) (trays_of ts)
 trays-again c t k ts is letters = rw (tray-at c ts (Some t) is) (trays-on c (λ _. renewed t.letters) t k ts is letters)
+
+-- ---- a confirm that took no message
+
+-- the letters stay as its message is taken out
+untaken : (n : ℕ) (h : Option Home) (ts : List (ℕ × Letters)) → is_some (letter_of n (home_letters h ts)) ≡ false → on_home h (taken_out n) ts ≡ ts
+untaken n None ts none = refl
+untaken n (Some h) ts none = by (at_channel h.channel ts) refl none
+  where
+    by : (o : Option Letters) → at_channel h.channel ts ≡ o → is_some (letter_of n (letters_in o)) ≡ false → on_channel h.channel (taken_out n) ts ≡ ts
+    by None is none = on-absent h.channel (taken_out n) ts is
+    by (Some l) is none =
+        on-known h.channel (taken_out n) l ts is
+        ∙ ap (λ left. on_channel h.channel (λ _. record l { attached = left }) ts) (without-none n l.attached none)
+        ∙ on-same h.channel l ts is
+
+-- its result is given without a message
+pub given-bare : (n : ℕ) (p : Post) → is_some (message_of n p) ≡ false → record { book = taken n p.book; trays = p.trays; homes = with_under n None p.homes } ≡ given n p
+given-bare n p none = ap (λ (ts : List (ℕ × Letters)). record { book = taken n p.book; trays = ts; homes = with_under n None p.homes }) (sym (untaken n (under n p.homes) p.trays none))

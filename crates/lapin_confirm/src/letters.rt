@@ -1,6 +1,6 @@
 //! The message of one confirm, found by where the confirm belongs.
 
-ghost use Rattle.std.specs.Prelude.{◌≡◌, ℕ, ◌≤◌, Bool, List, None, OnOk, OnErr};
+ghost use Rattle.std.specs.Prelude.{◌≡◌, ℕ, ◌≤◌, Bool, List, None, OnOk, OnErr, is_some};
 ghost use Rattle.lapin_history.specs.Letters.{letter_of, taken_out, set_by};
 ghost use Rattle.lapin_tables.specs.Numbered.{under, with_under};
 ghost use Rattle.lapin_confirm.specs.Post.{home_letters, on_home};
@@ -32,6 +32,19 @@ pub fn take_message(
         return None;
     };
     tray.take(number)
+}
+
+/// Whether a confirm took a message, and still has it.
+pub fn has_message(homes: &Numbered<Home>, trays: &ByChannel<Returned>, number: u64) -> bool
+    ensures { result ≡ is_some (letter_of number (home_letters (under number homes.now.slots) (trays_of trays.now.entries))) }
+{
+    let Some(home) = homes.get(number) else {
+        return false;
+    };
+    match trays.get(home.channel) {
+        Some(tray) => tray.holds(number),
+        None => false,
+    }
 }
 
 /// Whether a confirm was set aside.

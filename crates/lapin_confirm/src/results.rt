@@ -1,14 +1,15 @@
 //! Results: each is given once, with the returned message that its confirm took; or its confirm is set aside.
 
-ghost use Rattle.std.specs.Prelude.{◌≡◌, ◌⊎◌, not, Err, OnOk, OnErr, if◌then◌else◌};
+ghost use Rattle.std.specs.Prelude.{◌≡◌, ◌⊎◌, not, true, false, Ok, Err, Some, OnOk, OnErr, IfSome, IfNone, is_some, if◌then◌else◌};
 ghost use Rattle.lapin_history.specs.ConfirmMarks as mark;
 ghost use Rattle.lapin_confirm.specs.Machine.{after_mark};
+ghost use Rattle.lapin_confirm.specs.Post.{message_of};
 ghost use Rattle.lapin_confirm.specs.Aside.{is_waiting, is_giving, taken_answer, set_answer};
 ghost use Rattle.lapin_confirm.specs.Answers.{result_with, result_of as result_of_lem};
 
 use crate::cell::Cell;
 use crate::confirms::Confirms;
-use crate::letters::{is_aside, mark_aside, put_by, take_message};
+use crate::letters::{has_message, is_aside, mark_aside, put_by, take_message};
 use crate::returned::let_go_any;
 use crate::sweep::is_over;
 use lapin_history::Outcome;
@@ -53,6 +54,27 @@ impl Confirms {
             }
             Some(_) => Ok(None),
         }
+    }
+
+    /// Gives the outcome of a publish that has one and took no returned message, as `take` would give it: once, and not where the
+    /// confirm was set aside. None else, and nothing changes then. No place for a message is moved.
+    pub fn take_bare(&mut self, number: u64) -> Option<Outcome>
+        ensures some { IfSome result (λ o. taken_answer number self.old.what ≡ Ok (Some (result_of_lem o))) }
+        ensures taken { IfSome result (λ _. self.new.what ≡ after_mark self.old.what (mark.Taken number)) }
+        ensures none { IfNone result (self.new.what ≡ self.old.what) }
+        ensures only { IfNone result ((is_giving number self.old.what ≡ false) ⊎ (is_some (message_of number self.old.what) ≡ true)) }
+        ensures spare { self.new.spare ≡ self.old.spare }
+    {
+        let Some(Cell::Resolved(outcome)) = self.cells.get(number) else {
+            return None;
+        };
+        let outcome = *outcome;
+        if is_aside(&self.homes, number) || has_message(&self.homes, &self.trays, number) {
+            return None;
+        }
+        let _ = self.cells.take(number);
+        let _ = self.homes.take(number);
+        Some(outcome)
     }
 
     /// Sets a confirm aside: its result is asked for no more. Where it is resolved its message is kept, else its number stands

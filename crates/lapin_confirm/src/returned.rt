@@ -3,7 +3,7 @@
 //! A message is moved from list to list, never copied. Where one waits for a settlement there is room for it to be attached to
 //! a confirm, so that a settlement takes no memory.
 
-ghost use Rattle.std.specs.Prelude.{List, ◌≡◌, ℕ, ◌+◌, ◌<◌, ◌≤◌, [], true, false, OnOk, OnErr, IsOk, IfOk, length, slice_get};
+ghost use Rattle.std.specs.Prelude.{List, ◌≡◌, ℕ, ◌+◌, ◌<◌, ◌≤◌, [], true, false, OnOk, OnErr, IsOk, IfOk, length, slice_get, is_some};
 ghost use Rattle.std.specs.Bool.{Decides};
 ghost use Rattle.std.specs.VecDeque.{deque_len, deque_capacity};
 ghost use Rattle.lapin_history.specs.Letters.{no_letters, arrived_in, attached_to, message_at, without, without_all, letter_of, taken_out, set_by, renewed, drained_messages, drained_letters};
@@ -145,6 +145,13 @@ impl Returned {
         ensures room { HasPlace self.old → HasPlace self.new }
     {
         taken_from(&mut self.attached, number)
+    }
+
+    /// Whether a confirm took a message, and still has it.
+    pub fn holds(&self, number: u64) -> bool
+        ensures { result ≡ is_some (letter_of number self.now.letters) }
+    {
+        place_of(number, &self.attached).is_some()
     }
 
     /// The number of a confirm that was set aside unresolved joins those that stand aside.

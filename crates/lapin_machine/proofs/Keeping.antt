@@ -1,6 +1,6 @@
 -- What ties a session's parts together holds after each change.
 use Rattle.std.proofs.Common.{◌≡◌, ◌≢◌, ℕ, zero, suc, ◌+◌, ◌<◌, ◌==◌, nat_lt, ltb-true, ltb-false, Bool, true, false, cond, not, ◌||◌, ◌&&◌, List, [], ◌∷◌, ◌++◌, map, length, Option, Some, None, refl, sym, ◌∙◌, ap, subst, arith, slice_set, get_or, inl, inr, ne_eqb, eq-eqb}
-use Rattle.std.specs.Prelude.{IsSome}
+use Rattle.std.specs.Prelude.{IsSome, IfSome, IfNone, Ok}
 use Rattle.std.specs.List.{find, list_any, fold}
 use Rattle.std.specs.Option.{option_map}
 use Rattle.std.proofs.lemmas.Bool.Decides.{eqb_tells}
@@ -42,10 +42,13 @@ use Rattle.lapin_confirm.specs.declared.cell.Cell.{Cell}
 use Rattle.lapin_confirm.specs.declared.cell.Cell.TheVariants as cell
 use Rattle.lapin_confirm.specs.Book.{Book, LedgerState, empty_book, fresh_ledger, selected_ledger, asked_ledger, next_ledger, limited_ledger, ended_ledger, tag_for, ledgers_with, cell_with, settled_cell, closed_cell, is_queued_on, is_open_on, is_resolved, begun, with_publish, select_left, left, limited, settled, closed_here, ended, taken}
 use Rattle.lapin_confirm.specs.Post.{Post, letters_at}
+use Rattle.lapin_confirm.specs.Answers.{result_of}
+use Rattle.lapin_confirm.specs.Polled.{gives_result}
 use Rattle.lapin_confirm.specs.Machine.{after_mark}
-use Rattle.lapin_confirm.specs.Aside.{is_set_aside, is_giving, kept_by as kept_aside, laid_by}
+use Rattle.lapin_confirm.specs.Aside.{is_set_aside, is_giving, taken_answer, kept_by as kept_aside, laid_by}
 use Rattle.lapin_confirm.specs.Drain.{Remains, remaining, is_over, less_one, less_all, over_aside, renewed_on}
 use Rattle.lapin_confirm.proofs.Ended.{any-ended}
+use Rattle.lapin_confirm.proofs.Polling.{giving-told}
 use Rattle.lapin_desk.specs.Queued.{AreQueued}
 use Rattle.lapin_desk.proofs.Ends.{ends-join}
 use Rattle.lapin_desk.proofs.Queueing.{taken-out}
@@ -418,6 +421,14 @@ pub tied_given : (n : ℕ) (l : ConnectionPhase) (phases : List (ℕ × ChannelP
 tied_given n l phases ps p t =
     elim (is_giving n p) as (λ g. is_giving n p ≡ g → IsTied l phases ps (cond g (after_mark p (mark.Taken n)) p).book)
     [ true ↦ λ h. tied_taken n l phases ps p.book (and_right (not (is_set_aside n p)) (is_resolved (under n p.book.cells)) h) t | false ↦ λ h. t ] refl
+
+-- so does one that gives an outcome without a message
+pub tied_bare : (n : ℕ) (r : Option Outcome) (l : ConnectionPhase) (phases : List (ℕ × ChannelPhase)) (ps : List Publish) (p q : Post) → IfSome r (λ o. taken_answer n p ≡ Ok (Some (result_of o))) → IfSome r (λ _. q ≡ after_mark p (mark.Taken n)) → IfNone r (q ≡ p) → IsTied l phases ps p.book → IsTied l phases ps q.book
+tied_bare n None l phases ps p q told gave same t = let P : Post → Type 0 = λ x. IsTied l phases ps x.book in subst P (sym same) t
+tied_bare n (Some o) l phases ps p q told gave same t =
+    let P : Post → Type 0 = λ x. IsTied l phases ps x.book in
+    let giving : is_giving n p ≡ true = giving-told n p ∙ ap gives_result told in
+    subst P (sym gave) (tied_taken n l phases ps p.book (and_right (not (is_set_aside n p)) (is_resolved (under n p.book.cells)) giving) t)
 
 pub tied_aside : (n : ℕ) (l : ConnectionPhase) (phases : List (ℕ × ChannelPhase)) (ps : List Publish) (p : Post) → IsTied l phases ps p.book → IsTied l phases ps (after_mark p (mark.SetAside n)).book
 tied_aside n l phases ps p t =

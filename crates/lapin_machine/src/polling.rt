@@ -1,13 +1,18 @@
 //! Polls: the answer of a ticket and the outcome of a confirm, each given once; the wait for all confirms of a channel; and the states.
 
-ghost use Rattle.std.specs.Prelude.{◌≡◌, OnOk, OnErr, IfOk, not};
+ghost use Rattle.std.specs.Prelude.{◌≡◌, ◌⊎◌, true, false, OnOk, OnErr, IfOk, IfSome, IfNone, is_some, not};
 ghost use Rattle.lapin_types.specs.declared.event.Event.TheVariants as event;
+ghost use Rattle.lapin_types.specs.declared.record.Record.TheVariants as record_;
 ghost use Rattle.lapin_history.specs.Polls.{is_waited_on};
+ghost use Rattle.lapin_confirm.specs.Answers.{result_of};
+ghost use Rattle.lapin_confirm.specs.Aside.{is_giving};
+ghost use Rattle.lapin_confirm.specs.Post.{message_of};
 ghost use Rattle.lapin_machine.specs.World.{told_by, next, readings_of, aside_record as aside_record_lem};
 ghost use Rattle.lapin_machine.specs.Told.{AsideTold, wait_told, ticket_record as ticket_record_lem, confirm_record as confirm_record_lem, is_pending_record};
 ghost use Rattle.lapin_machine.specs.Numbers.{HasCause, HasNumbers, OnlyMemory};
 
 use crate::session::Session;
+use lapin_history::Outcome;
 use lapin_types::{Answer, Confirmation, Error, NoMemory, Poll, Record, ReturnedList};
 use std::alloc::Global;
 
@@ -42,6 +47,17 @@ impl Session {
             Ok(None) => Ok(Poll::Pending),
             Err(error) => Err(error),
         }
+    }
+
+    /// The outcome of a publish, where it is there and no message came back with it: what `poll_confirm` would give, without the
+    /// place for a message. None else, and nothing changes then.
+    pub fn poll_bare_confirm(&mut self, number: u64) -> Option<Outcome>
+        ensures told { IfSome result (λ o. told_by self.old (event.PollConfirm number) ≡ record_.Confirmed (result_of o)) }
+        ensures ok { IfSome result (λ _. self.new ≡ next self.old (event.PollConfirm number)) }
+        ensures none { IfNone result (self.new ≡ self.old) }
+        ensures only { IfNone result ((is_giving number self.old.post ≡ false) ⊎ (is_some (message_of number self.old.post) ≡ true)) }
+    {
+        self.confirms.take_bare(number)
     }
 
     /// Sets a ticket aside: its answer, there or to come, is dropped. It takes no memory.

@@ -28,7 +28,7 @@ use lapin_confirm::Confirms;
 use lapin_history::{ChannelPhase, ConnectionPhase, close_sent, link_close_sent};
 use lapin_phases::Phases;
 use lapin_types::{
-    ChannelMethod, ConfirmMethod, ConnectionMethod, Error, Frame, Left, Method, Record,
+    ChannelMethod, ConfirmMethod, ConnectionMethod, Error, Frame, Left, Method, NoMemory, Record,
 };
 use std::alloc::Global;
 
@@ -104,7 +104,8 @@ impl Session {
         flow && !self.phases.is_any_paused()
     }
 
-    // Hands out the next frame, where none was given back and it is known whether content flows.
+    // Hands out the next frame, where none was given back and it is known whether content flows. The frame is given on whole, as the
+    // outbox handed it out: taken apart it would be moved once more.
     fn hand_out(&mut self, alloc: Global, flowing: bool) -> Result<Option<Left>, Error>
         requires { is_retried self.old.returned ≡ false }
         ensures told { IfOk result (λ left. left ≡ handed_out (unless_full flowing (full_in self.old.post)) self.old.wire) }
@@ -112,15 +113,18 @@ impl Session {
         ensures err { OnErr result (self.new ≡ self.old) }
         ensures cause { OnlyMemory result }
     {
-        match self.desk.outbox.pop_unless(alloc, flowing, &self.confirms)? {
-            Some(left) => {
-                confirms_left(&mut self.confirms, &left);
-                self.desk.leave(&left);
+        match self.desk.outbox.pop_unless(alloc, flowing, &self.confirms) {
+            Ok(handed) => {
+                let Some(left) = &handed else {
+                    return Ok(handed);
+                };
+                confirms_left(&mut self.confirms, left);
+                self.desk.leave(left);
                 link_left(&mut self.link, &left.frame);
                 phases_left(&mut self.phases, &left.frame);
-                Ok(Some(left))
+                Ok(handed)
             }
-            None => Ok(None),
+            Err(NoMemory) => Err(Error::NoMemory),
         }
     }
 

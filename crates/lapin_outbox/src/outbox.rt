@@ -11,7 +11,7 @@ ghost use Rattle.lapin_history.specs.Flow.{unless_full};
 ghost use Rattle.lapin_tables.specs.ByChannel.{on_channel};
 ghost use Rattle.lapin_outbox.specs.Outgoing.{empty};
 ghost use Rattle.lapin_outbox.specs.Poison.{error_at, poison_on, push_told, method_pushed, publish_pushed, with_poison, channel_poisoned, channel_cleared};
-ghost use Rattle.lapin_outbox.specs.Returned.{with_returned, is_retried, is_pending, again as again_lem, is_named, popped, after_pop, is_returned_on, returned_off, channel_entries, outbox_entries, after_drop_unbegun, after_drop_channel, after_drop};
+ghost use Rattle.lapin_outbox.specs.Returned.{with_returned, is_retried, is_pending, again as again_lem, given, is_named, popped, after_pop, is_returned_on, returned_off, channel_entries, outbox_entries, after_drop_unbegun, after_drop_channel, after_drop};
 ghost use Rattle.lapin_outbox.specs.Drops.{AreOn, unbegun_of};
 
 use crate::dropped::Dropped;
@@ -193,10 +193,24 @@ impl Outbox {
         ensures err { OnErr result (self.new.what ≡ self.old.what) }
         ensures room { self.old.spare ≤ self.new.spare }
     {
-        if let Some(left) = self.returned.take() {
-            return Ok(Some(retried(left)));
+        if self.retrying() {
+            return Ok(self.take_returned());
         }
         self.queues.pop(alloc, self.frame_max, flow, full)
+    }
+
+    // Takes out the frame that was given back, marked as handed out once more. It stands apart, so that a request that finds none
+    // moves no empty place.
+    #[inline(never)]
+    fn take_returned(&mut self) -> Option<Left>
+        ensures told { result ≡ given self.old.what.returned None }
+        ensures what { self.new.what ≡ with_returned None self.old.what }
+        ensures room { self.new.spare ≡ self.old.spare }
+    {
+        match self.returned.take() {
+            Some(left) => Some(retried(left)),
+            None => None,
+        }
     }
 
     /// Gives a frame back: the next `pop` hands it out once more, unless a drop takes it out before. It counts as left already,

@@ -10,6 +10,7 @@ use crate::texts::{
     bit, channel, digits, done, error, failed, number, refused, returned, said, unread, unused,
 };
 use lapin_confirm::{Confirms, SettleKind};
+use lapin_history::Outcome;
 use lapin_types::{BasicReturnMessage, Confirmation, Error, NoMemory, ReturnedList};
 use std::alloc::Global;
 use std::test::Fail;
@@ -25,6 +26,7 @@ impl Part for Office {
     fn answer(&mut self, alloc: Global, call: &Words) -> Result<String, Fail> {
         match call.name {
             "take" => self.take(alloc, number(call.first)?),
+            "bare" => bare(alloc, self.confirms.take_bare(number(call.first)?)),
             "aside" => done(alloc, self.confirms.set_aside(alloc, number(call.first)?)),
             "ready" => bit(alloc, self.confirms.ready(number(call.first)?)),
             _ => self.on_channel(alloc, channel(call.first)?, call),
@@ -219,6 +221,17 @@ fn settle_to(
 }
 
 // ---- messages and results in words
+
+// An outcome alone, if one was given so.
+fn bare(alloc: Global, given: Option<Outcome>) -> Result<String, Fail> {
+    match given {
+        Some(Outcome::Ack) => said(alloc, "ack"),
+        Some(Outcome::Nack) => said(alloc, "nack"),
+        Some(Outcome::NotRequested) => said(alloc, "not requested"),
+        Some(Outcome::Failed(error)) => failed(alloc, error),
+        None => said(alloc, "none"),
+    }
+}
 
 fn outcome(alloc: Global, word: &str, text: &str) -> Result<String, Fail> {
     Ok(format!(in alloc; "{word} {text}")?)
@@ -464,6 +477,41 @@ const REJECTS: &str = "\
     ack 2 1 -> done
     take 3 -> ack -";
 
+// An outcome alone is given once, and `take` then says so; it isn't given while there is none, of a confirm that was set aside, of a number
+// that was never given, or where a message came back, which `take` gives with it.
+const BARE: &str = "\
+    begin 1 -> done
+    called 1 -> done
+    publish 1 -> 1 -
+    bare 1 -> not requested
+    bare 1 -> none
+    take 1 -> AlreadyTaken
+    select 1 -> done
+    publish 1 -> 2 1
+    publish 1 -> 3 2
+    publish 1 -> 4 3
+    publish 1 -> 5 4
+    bare 0 -> none
+    bare 9 -> none
+    bare 2 -> none
+    ack 1 1 -> done
+    bare 2 -> ack
+    take 2 -> AlreadyTaken
+    bare 2 -> none
+    nack 1 2 -> done
+    bare 3 -> nack
+    arrived 1 back -> done
+    ack 1 3 -> done
+    bare 4 -> none
+    take 4 -> ack back
+    aside 5 -> done
+    ack 1 4 -> done
+    bare 5 -> none
+    publish 1 -> 6 5
+    end 1 lost -> done
+    bare 6 -> failed ConnectionLost
+    take 6 -> AlreadyTaken";
+
 #[test]
 fn confirms_take_tags_and_are_settled(rt: HostRuntime) -> Result<(), Fail> {
     for script in [
@@ -474,6 +522,7 @@ fn confirms_take_tags_and_are_settled(rt: HostRuntime) -> Result<(), Fail> {
         RETURNED,
         EMPTIED,
         REJECTS,
+        BARE,
     ] {
         runs(&rt, rt.alloc(), Office::new(rt.alloc())?, script)?;
     }

@@ -21,15 +21,15 @@ confirms_left-requires c =
     let o = c.self.inside.desk.outbox.what in
     let none = ap (λ (w : World). is_retried w.returned) c.self.view_is ∙ c.requires in
     can_register _ o.lists.rest o.lists.methods o.lists.publishes c.self.inside.confirms.what.book.cells c.in-Some.left
-    (sym (popped_anew (unless_full c.args.flowing (full_in c.self.inside.confirms.what)) o none) ∙ sym c.in_ok-left.ensures.told ∙ c.in-Some.is) c.self.invariant.tied.queued
+    (sym (popped_anew (unless_full c.args.flowing (full_in c.self.inside.confirms.what)) o none) ∙ sym c.in-Ok.ensures.told ∙ c.in-Some.is) c.self.invariant.tied.queued
 
-pub invariant_of-self-in-Some : goal.invariant_of-self-in-Some
-invariant_of-self-in-Some c =
+pub invariant_of-self-in-Ok : goal.invariant_of-self-in-Ok
+invariant_of-self-in-Ok c =
     let o = c.self.inside.desk.outbox.what in
     let none = ap (λ (w : World). is_retried w.returned) c.self.view_is ∙ c.requires in
-    let told = sym c.in-Some.is ∙ c.in_ok-left.ensures.told ∙ popped_anew (unless_full c.args.flowing (full_in c.self.inside.confirms.what)) o none in
+    let told = sym c.in-Some.is ∙ c.in-Ok.ensures.told ∙ popped_anew (unless_full c.args.flowing (full_in c.self.inside.confirms.what)) o none in
     kept_by _ _ _ _ _ _ _ _ c.link_left.ensures c.phases_left.ensures
-    (ap (λ (x : Outgoing). x.what) c.leave.ensures.outbox ∙ c.in_ok-left.ensures.ok ∙ popped_left (unless_full c.args.flowing (full_in c.self.inside.confirms.what)) o none)
+    (ap (λ (x : Outgoing). x.what) c.leave.ensures.outbox ∙ c.in-Ok.ensures.ok ∙ popped_left (unless_full c.args.flowing (full_in c.self.inside.confirms.what)) o none)
     (ap (λ (p : Post). p.book) (c.confirms_left.ensures ∙ ap (λ (h : Option Left). fold after_mark c.self.inside.confirms.what (left_marks h)) told))
     (tied_handed o.frame_max _ o.lists.rest o.lists.methods o.lists.publishes _ _ c.self.inside.confirms.what c.in-Some.left c.self.invariant.tied)
     c.self.invariant.unpoisoned
@@ -40,17 +40,17 @@ returns-in-Some-clause-ok c =
     let none = ap (λ (w : World). is_retried w.returned) c.self.view_is ∙ c.requires in
     seen_is _ _ _ _ c.leave.new.self.outbox.what _ _ _ _ _ _ _ _ _ _ _ refl refl refl (ap (λ (r : OpenRequests). r.what) c.leave.ensures.replies) refl refl refl refl
     ∙ handing_seen c.self.inside.link c.self.inside.phases.entries o c.self.inside.desk.replies.what c.self.inside.contents (what c.self.inside.inbox) c.self.inside.desk.tickets.slots c.self.inside.confirms.what (unless_full c.args.flowing (full_in c.self.inside.confirms.what)) c.in-Some.left _ _ _ _ _
-    (sym (popped_anew (unless_full c.args.flowing (full_in c.self.inside.confirms.what)) o none) ∙ sym c.in_ok-left.ensures.told ∙ c.in-Some.is) c.link_left.ensures c.phases_left.ensures
-    (ap (λ (x : Outgoing). x.what) c.leave.ensures.outbox ∙ c.in_ok-left.ensures.ok ∙ popped_left (unless_full c.args.flowing (full_in c.self.inside.confirms.what)) o none) c.leave.ensures.slots c.confirms_left.ensures
+    (sym (popped_anew (unless_full c.args.flowing (full_in c.self.inside.confirms.what)) o none) ∙ sym c.in-Ok.ensures.told ∙ c.in-Some.is) c.link_left.ensures c.phases_left.ensures
+    (ap (λ (x : Outgoing). x.what) c.leave.ensures.outbox ∙ c.in-Ok.ensures.ok ∙ popped_left (unless_full c.args.flowing (full_in c.self.inside.confirms.what)) o none) c.leave.ensures.slots c.confirms_left.ensures
     ∙ ap (λ (w : World). handing (unless_full c.args.flowing (full_in w.post)) w) c.self.view_is
 
-pub invariant_of-self-in-None : goal.invariant_of-self-in-None
-invariant_of-self-in-None c =
+pub invariant_of-self : goal.invariant_of-self
+invariant_of-self c =
     let o = c.self.inside.desk.outbox.what in
     let none = ap (λ (w : World). is_retried w.returned) c.self.view_is ∙ c.requires in
-    let told = sym c.in-None.is ∙ c.in_ok-left.ensures.told ∙ popped_anew (unless_full c.args.flowing (full_in c.self.inside.confirms.what)) o none in
+    let told = sym c.in_default.is ∙ c.in-Ok.ensures.told ∙ popped_anew (unless_full c.args.flowing (full_in c.self.inside.confirms.what)) o none in
     kept_by _ _ _ _ _ _ _ _ refl refl
-    (c.in_ok-left.ensures.ok ∙ popped_left (unless_full c.args.flowing (full_in c.self.inside.confirms.what)) o none)
+    (c.in-Ok.ensures.ok ∙ popped_left (unless_full c.args.flowing (full_in c.self.inside.confirms.what)) o none)
     (ap (λ (h : Option Left). (fold after_mark c.self.inside.confirms.what (left_marks h)).book) told)
     (tied_leaves o.frame_max (unless_full c.args.flowing (full_in c.self.inside.confirms.what)) o.lists.rest o.lists.methods o.lists.publishes _ _ c.self.inside.confirms.what c.self.invariant.tied)
     c.self.invariant.unpoisoned
@@ -59,5 +59,5 @@ pub returns-in-Some-clause-told : goal.returns-in-Some-clause-told
 returns-in-Some-clause-told c =
     let o = c.self.inside.desk.outbox.what in
     let none = ap (λ (w : World). is_retried w.returned) c.self.view_is ∙ c.requires in
-    sym c.in-Some.is ∙ c.in_ok-left.ensures.told ∙ popped_anew (unless_full c.args.flowing (full_in c.self.inside.confirms.what)) o none
+    c.in-Ok.ensures.told ∙ popped_anew (unless_full c.args.flowing (full_in c.self.inside.confirms.what)) o none
     ∙ ap (λ (w : World). handed_out (unless_full c.args.flowing (full_in w.post)) w.wire) c.self.view_is
