@@ -9,9 +9,9 @@ ghost use Rattle.lapin_method_text.specs.Methods.{access_tokens};
 ghost use Rattle.lapin_method_text.specs.MethodReading.{access_at};
 
 use crate::kinds::AccessKind;
-use crate::rows::{put_row, read_row, token_of, value_at};
+use crate::rows::{put_field, put_row, read_row, value_at};
 use lapin_methods::AccessMethod;
-use lapin_tokens::{ReadError, Token, Tokens, flag, put_tokens, text};
+use lapin_tokens::{ReadError, Tokens, flag, put_flag, put_text, put_word, text};
 use std::alloc::{AllocError, Global};
 
 macro_rules! access_table {

@@ -9,10 +9,11 @@ ghost use Rattle.lapin_method_text.specs.Methods.{basic_tokens};
 ghost use Rattle.lapin_method_text.specs.MethodReading.{basic_at};
 
 use crate::kinds::BasicKind;
-use crate::rows::{put_row, read_row, token_of, value_at};
+use crate::rows::{put_field, put_row, read_row, value_at};
 use lapin_methods::BasicMethod;
 use lapin_tokens::{
-    ReadError, Token, Tokens, flag, put_tokens, table, text, u16_at, u32_at, u64_at,
+    ReadError, Tokens, flag, put_count, put_flag, put_table, put_text, put_word, table, text,
+    u16_at, u32_at, u64_at,
 };
 use std::alloc::{AllocError, Global};
 

@@ -9,9 +9,11 @@ ghost use Rattle.lapin_method_text.specs.Methods.{channel_tokens};
 ghost use Rattle.lapin_method_text.specs.MethodReading.{channel_at};
 
 use crate::kinds::ChannelKind;
-use crate::rows::{put_row, read_row, token_of, value_at};
+use crate::rows::{put_field, put_row, read_row, value_at};
 use lapin_methods::ChannelMethod;
-use lapin_tokens::{ReadError, Token, Tokens, flag, put_tokens, text, u16_at};
+use lapin_tokens::{
+    ReadError, Tokens, flag, put_count, put_flag, put_text, put_word, text, u16_at,
+};
 use std::alloc::{AllocError, Global};
 
 macro_rules! channel_table {

@@ -9,9 +9,9 @@ ghost use Rattle.lapin_method_text.specs.Methods.{confirm_tokens};
 ghost use Rattle.lapin_method_text.specs.MethodReading.{confirm_at};
 
 use crate::kinds::ConfirmKind;
-use crate::rows::{put_row, read_row, token_of, value_at};
+use crate::rows::{put_field, put_row, read_row, value_at};
 use lapin_methods::ConfirmMethod;
-use lapin_tokens::{ReadError, Token, Tokens, flag, put_tokens};
+use lapin_tokens::{ReadError, Tokens, flag, put_flag, put_word};
 use std::alloc::{AllocError, Global};
 
 macro_rules! confirm_table {

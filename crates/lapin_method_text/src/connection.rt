@@ -9,9 +9,9 @@ ghost use Rattle.lapin_method_text.specs.Methods.{connection_tokens};
 ghost use Rattle.lapin_method_text.specs.MethodReading.{connection_at};
 
 use crate::kinds::ConnectionKind;
-use crate::rows::{put_row, read_row, token_of, value_at};
+use crate::rows::{put_field, put_row, read_row, value_at};
 use lapin_methods::ConnectionMethod;
-use lapin_tokens::{ReadError, Token, Tokens, put_tokens, text, u16_at};
+use lapin_tokens::{ReadError, Tokens, put_count, put_text, put_word, text, u16_at};
 use std::alloc::{AllocError, Global};
 
 macro_rules! connection_table {

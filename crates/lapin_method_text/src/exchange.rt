@@ -9,9 +9,9 @@ ghost use Rattle.lapin_method_text.specs.Methods.{exchange_tokens};
 ghost use Rattle.lapin_method_text.specs.MethodReading.{exchange_at};
 
 use crate::kinds::ExchangeMethodKind;
-use crate::rows::{put_row, read_row, token_of, value_at};
+use crate::rows::{put_field, put_row, read_row, value_at};
 use lapin_methods::ExchangeMethod;
-use lapin_tokens::{ReadError, Token, Tokens, flag, put_tokens, table, text};
+use lapin_tokens::{ReadError, Tokens, flag, put_flag, put_table, put_text, put_word, table, text};
 use std::alloc::{AllocError, Global};
 
 macro_rules! exchange_table {

@@ -2,7 +2,7 @@
 //!
 //! Here stands which name is which method's. The fields stand in a file a class; what methods do stands in the crates above.
 
-ghost use Rattle.std.specs.Prelude.{◌≡◌, ◌≤◌, length, IsTrue};
+ghost use Rattle.std.specs.Prelude.{◌≡◌, ◌≤◌, length, codes, IsTrue};
 ghost use Rattle.std.specs.List.{slice_get};
 ghost use Rattle.lapin_method_text.specs.MethodReading.{kind_at};
 ghost use Rattle.lapin_method_text.specs.declared.kinds.BasicKind.TheVariants as basic_kind;
@@ -361,27 +361,46 @@ fn kind_found(name: &[u8]) -> Option<MethodKind>
     }
 }
 
-fn is_publish(name: &[u8]) -> bool
+/// Whether the name is that of a publish.
+pub fn is_publish(name: &[u8]) -> bool
     ensures { IsTrue result → name.now ≡ basic_name basic_kind.Publish }
 {
     matches!(name, b"basic.publish")
 }
 
-fn is_ack(name: &[u8]) -> bool
+/// Whether the name is that of a confirmation.
+pub fn is_ack(name: &[u8]) -> bool
     ensures { IsTrue result → name.now ≡ basic_name basic_kind.Ack }
 {
     matches!(name, b"basic.ack")
 }
 
-/// The method of which the bytes are the name. Those of a publish and of its confirmation are told apart before a search.
+// Whether the bytes are what a delivery's name has behind its class.
+fn is_deliver_behind(rest: &[u8]) -> bool
+    ensures { IsTrue result → rest.now ≡ codes "deliver" }
+{
+    matches!(rest, b"deliver")
+}
+
+// The class and the rest are told one by one: of so many bytes at once a proof finds no end.
+fn is_deliver(name: &[u8]) -> bool
+    ensures { IsTrue result → name.now ≡ basic_name basic_kind.Deliver }
+{
+    match name {
+        [b'b', b'a', b's', b'i', b'c', b'.', rest @ ..] => is_deliver_behind(rest),
+        _ => false,
+    }
+}
+
+/// The method of which the bytes are the name. Those of a confirmation and of a delivery are told apart before a search.
 pub fn kind_named(name: &[u8]) -> Option<MethodKind>
     ensures { result ≡ kind_at name.now }
 {
-    if is_publish(name) {
-        return Some(MethodKind::Basic(BasicKind::Publish));
-    }
     if is_ack(name) {
         return Some(MethodKind::Basic(BasicKind::Ack));
+    }
+    if is_deliver(name) {
+        return Some(MethodKind::Basic(BasicKind::Deliver));
     }
     kind_found(name)
 }

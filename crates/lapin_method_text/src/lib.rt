@@ -15,4 +15,5 @@ pub mod queue;
 pub mod rows;
 pub mod tx;
 
+pub use kinds::is_publish;
 pub use methods::{put_method, read_method, read_named};

@@ -4,7 +4,9 @@ ghost use Rattle.std.specs.Prelude.{◌≡◌, ◌∷◌, OnOk};
 ghost use Rattle.lapin_tokens.specs.Reading.{Gives};
 ghost use Rattle.lapin_tokens.specs.TokenText.{onto};
 ghost use Rattle.lapin_method_text.specs.Methods.{method_tokens};
-ghost use Rattle.lapin_method_text.specs.MethodReading.{method_at};
+ghost use Rattle.lapin_method_text.specs.MethodReading.{method_at, of_kind};
+ghost use Rattle.lapin_method_text.specs.declared.kinds.BasicKind.TheVariants as basic_kind;
+ghost use Rattle.lapin_method_text.specs.declared.kinds.MethodKind.TheVariants as kind;
 
 use crate::access::{put_access, read_access};
 use crate::basic::{put_basic, read_basic};
@@ -12,11 +14,11 @@ use crate::channel::{put_channel, read_channel};
 use crate::confirm::{put_confirm, read_confirm};
 use crate::connection::{put_connection, read_connection};
 use crate::exchange::{put_exchange, read_exchange};
-use crate::kinds::{MethodKind, kind_named};
+use crate::kinds::{MethodKind, is_ack, kind_named};
 use crate::queue::{put_queue, read_queue};
 use crate::tx::{put_tx, read_tx};
-use lapin_methods::Method;
-use lapin_tokens::{ReadError, Tokens};
+use lapin_methods::{BasicMethod, Method};
+use lapin_tokens::{ReadError, Tokens, flag, u64_at};
 use std::alloc::{AllocError, Global};
 
 /// The method of this name, whose fields are the next tokens.
@@ -41,14 +43,33 @@ pub fn read_named(alloc: Global, name: &[u8], tokens: &mut Tokens) -> Result<Met
     }
 }
 
-/// The method whose name and fields are the next tokens.
+// A confirmation, whose fields are the next tokens.
+#[tactic(auto, unfolding(crate::specs::MethodReading::basic_at))]
+fn read_ack(tokens: &mut Tokens) -> Result<Method, ReadError>
+    ensures { Gives result tokens.new (of_kind (kind.Basic basic_kind.Ack) tokens.old) }
+{
+    let delivery_tag = u64_at(tokens)?;
+    let multiple = flag(tokens)?;
+    Ok(Method::Basic(BasicMethod::Ack {
+        delivery_tag,
+        multiple,
+    }))
+}
+
+/// The method whose name and fields are the next tokens. A confirmation is told apart first, and read without a search.
 #[tactic(auto, unfolding(crate::specs::MethodReading::method_at))]
 pub fn read_method(alloc: Global, tokens: &mut Tokens) -> Result<Method, ReadError>
     ensures { Gives result tokens.new (method_at tokens.old) }
 {
     match tokens.next() {
         None => Err(ReadError::Bad),
-        Some(name) => read_named(alloc, name, tokens),
+        Some(name) => {
+            if is_ack(name) {
+                read_ack(tokens)
+            } else {
+                read_named(alloc, name, tokens)
+            }
+        }
     }
 }
 

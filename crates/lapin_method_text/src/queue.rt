@@ -9,9 +9,12 @@ ghost use Rattle.lapin_method_text.specs.Methods.{queue_tokens};
 ghost use Rattle.lapin_method_text.specs.MethodReading.{queue_at};
 
 use crate::kinds::QueueKind;
-use crate::rows::{put_row, read_row, token_of, value_at};
+use crate::rows::{put_field, put_row, read_row, value_at};
 use lapin_methods::QueueMethod;
-use lapin_tokens::{ReadError, Token, Tokens, flag, put_tokens, table, text, u32_at};
+use lapin_tokens::{
+    ReadError, Tokens, flag, put_count, put_flag, put_table, put_text, put_word, table, text,
+    u32_at,
+};
 use std::alloc::{AllocError, Global};
 
 macro_rules! queue_table {

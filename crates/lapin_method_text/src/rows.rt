@@ -13,13 +13,13 @@ macro_rules! value_at {
     (wide, $alloc:ident, $tokens:ident) => { u64_at($tokens)? };
 }
 
-/// The token of a value of the kind.
-macro_rules! token_of {
-    (text, $value:ident) => { Token::Text($value) };
-    (table, $value:ident) => { Token::Table($value) };
-    (flag, $value:ident) => { Token::Flag(*$value) };
-    (wide, $value:ident) => { Token::Number(*$value) };
-    ($kind:ident, $value:ident) => { Token::Number(u64::from(*$value)) };
+/// The value of the kind, as a token at the end of the text.
+macro_rules! put_field {
+    (text, $alloc:ident, $out:ident, $value:ident) => { put_text($alloc, $out, $value)? };
+    (table, $alloc:ident, $out:ident, $value:ident) => { put_table($alloc, $out, $value)? };
+    (flag, $alloc:ident, $out:ident, $value:ident) => { put_flag($out, *$value)? };
+    (wide, $alloc:ident, $out:ident, $value:ident) => { put_count($out, *$value)? };
+    ($kind:ident, $alloc:ident, $out:ident, $value:ident) => { put_count($out, u64::from(*$value))? };
 }
 
 /// A method of the kind, from the next tokens.
@@ -35,19 +35,21 @@ macro_rules! read_row {
     };
 }
 
-/// The name and the fields of the method, at the end of the text.
+/// The name and the fields of the method, at the end of the text: a call a token, sooner than from a list of them.
 macro_rules! put_row {
     ($method:ident, $alloc:ident, $out:ident; $kinds:ident, $methods:ident;
         $($name:ident $text:literal { $($field:ident: $of:ident),* },)*) => {
         match $method {
             $($methods::$name { $($field),* } => {
-                put_tokens($alloc, $out, &[Token::Word($text), $(token_of!($of, $field)),*])
+                put_word($out, $text)?;
+                $(put_field!($of, $alloc, $out, $field);)*
+                Ok(())
             })*
         }
     };
 }
 
+pub(crate) use put_field;
 pub(crate) use put_row;
 pub(crate) use read_row;
-pub(crate) use token_of;
 pub(crate) use value_at;

@@ -9,9 +9,9 @@ ghost use Rattle.lapin_method_text.specs.Methods.{tx_tokens};
 ghost use Rattle.lapin_method_text.specs.MethodReading.{tx_at};
 
 use crate::kinds::TxKind;
-use crate::rows::{put_row, read_row, token_of, value_at};
+use crate::rows::{put_field, put_row, read_row, value_at};
 use lapin_methods::TxMethod;
-use lapin_tokens::{ReadError, Token, Tokens, put_tokens};
+use lapin_tokens::{ReadError, Tokens, put_word};
 use std::alloc::{AllocError, Global};
 
 macro_rules! tx_table {

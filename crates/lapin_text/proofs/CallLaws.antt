@@ -18,15 +18,18 @@ use Rattle.lapin_types.specs.declared.exchange_kind.ExchangeKind.{ExchangeKind}
 use Rattle.lapin_types.specs.declared.exchange_kind.ExchangeKind.TheVariants as exchange_kind
 use Rattle.lapin_types.specs.ExchangeKinds.{kind_text}
 use Rattle.lapin_tokens.specs.Fields.{Field, Values, tokens, AllFit}
-use Rattle.lapin_tokens.specs.Reading.{◌>>=◌, fields_at}
+use Rattle.lapin_tokens.specs.Fields.Field.{text, flag}
+use Rattle.lapin_tokens.specs.Reading.{◌>>=◌, field_at, fields_at}
 use Rattle.lapin_tokens.proofs.FieldLaws.{bind_some, some_is, fields_again, fields_found}
 use Rattle.lapin_tokens.proofs.Plain.{AllPlain, plain_append}
 use Rattle.lapin_tokens.proofs.PlainFields.{plain_tokens}
 use Rattle.lapin_method_text.specs.Methods.{method_tokens, MethodFits}
-use Rattle.lapin_method_text.specs.MethodReading.{method_at}
-use Rattle.lapin_method_text.proofs.MethodLaws.{plain_method, method_again, method_found}
+use Rattle.lapin_method_text.specs.declared.kinds.MethodKind.TheVariants as kind
+use Rattle.lapin_method_text.specs.declared.kinds.BasicKind.TheVariants as basic_kind
+use Rattle.lapin_method_text.specs.MethodReading.{kind_at, basic_at, method_at}
+use Rattle.lapin_method_text.proofs.MethodLaws.{kind_of, plain_method, method_again, method_found}
 use Rattle.lapin_text.specs.Calls.{is_standard, IsNamed, kind_named, method_of, call_of}
-use Rattle.lapin_text.specs.CallText.{close_fields, content_fields, try_publish_fields, limit_fields, queued_tokens, call_tokens, QueuedFits, CallFits, call_with, try_publish_of, call_named, call_at}
+use Rattle.lapin_text.specs.CallText.{close_fields, content_fields, publish_fields, limit_fields, queued_tokens, call_tokens, QueuedFits, CallFits, call_with, publish_of, try_publish_of, call_named, call_at}
 
 -- ---- kinds of exchanges
 
@@ -76,7 +79,7 @@ unfolding call_at call_named
 call_again (call.ChannelClose reply_code reply_text) rest h = fields_again close_fields (λ v. call.ChannelClose v.0 v.1.0) (reply_code, (reply_text, tt)) rest h
 call_again (call.ConnectionClose reply_code reply_text) rest h = fields_again close_fields (λ v. call.ConnectionClose v.0 v.1.0) (reply_code, (reply_text, tt)) rest h
 call_again (call.TryBasicPublish exchange routing_key options payload properties) rest h =
-    fields_again try_publish_fields try_publish_of (exchange, (routing_key, (options.mandatory, (options.immediate, (payload, (properties, tt)))))) rest h
+    fields_again publish_fields try_publish_of (exchange, (routing_key, (options.mandatory, (options.immediate, (payload, (properties, tt)))))) rest h
 call_again (call.ConfirmLimit limit) rest h = fields_again limit_fields (λ v. call.ConfirmLimit v.0) (limit, tt) rest h
 call_again (call.BasicPublish exchange routing_key options payload properties) rest h =
     let m : Method = method.Basic (basic_method.Publish exchange routing_key options.mandatory options.immediate) in
@@ -136,10 +139,10 @@ own_found word fs made name rest x spelled fit is e =
     subst (λ (c : Call). IsCall (name ∷ rest) (c, x.1)) (sym r.is) (ap (λ (t : List (List ℕ)). name ∷ t) r.spelled ∙ ap (λ (n : List ℕ). n ∷ tokens fs r.vs ++ x.1) is ∙ ap (λ (t : List (List ℕ)). t ++ x.1) (sym (spelled r.vs)), fit r.vs r.fit)
 
 -- by whether the name is that of one of the calls with a text of their own
-named_found : (channel connection publish limit : Bool) (name : List ℕ) (rest : List (List ℕ)) (x : Call × List (List ℕ)) → (channel ≡ true → name ≡ codes "channel.close") → (connection ≡ true → name ≡ codes "connection.close") → (publish ≡ true → name ≡ codes "basic.try-publish") → (limit ≡ true → name ≡ codes "confirm.limit") → (if channel then fields_at close_fields (λ v. call.ChannelClose v.0 v.1.0) rest else if connection then fields_at close_fields (λ v. call.ConnectionClose v.0 v.1.0) rest else if publish then fields_at try_publish_fields try_publish_of rest else if limit then fields_at limit_fields (λ v. call.ConfirmLimit v.0) rest else (method_at (name ∷ rest) >>= λ m. call_with m.0 m.1)) ≡ Some x → IsCall (name ∷ rest) x
+named_found : (channel connection publish limit : Bool) (name : List ℕ) (rest : List (List ℕ)) (x : Call × List (List ℕ)) → (channel ≡ true → name ≡ codes "channel.close") → (connection ≡ true → name ≡ codes "connection.close") → (publish ≡ true → name ≡ codes "basic.try-publish") → (limit ≡ true → name ≡ codes "confirm.limit") → (if channel then fields_at close_fields (λ v. call.ChannelClose v.0 v.1.0) rest else if connection then fields_at close_fields (λ v. call.ConnectionClose v.0 v.1.0) rest else if publish then fields_at publish_fields try_publish_of rest else if limit then fields_at limit_fields (λ v. call.ConfirmLimit v.0) rest else (method_at (name ∷ rest) >>= λ m. call_with m.0 m.1)) ≡ Some x → IsCall (name ∷ rest) x
 named_found true connection publish limit name rest x p q r s e = own_found (codes "channel.close") close_fields (λ v. call.ChannelClose v.0 v.1.0) name rest x (λ v. refl) (λ v h. h) (p refl) e
 named_found false true publish limit name rest x p q r s e = own_found (codes "connection.close") close_fields (λ v. call.ConnectionClose v.0 v.1.0) name rest x (λ v. refl) (λ v h. h) (q refl) e
-named_found false false true limit name rest x p q r s e = own_found (codes "basic.try-publish") try_publish_fields try_publish_of name rest x (λ v. refl) (λ v h. h) (r refl) e
+named_found false false true limit name rest x p q r s e = own_found (codes "basic.try-publish") publish_fields try_publish_of name rest x (λ v. refl) (λ v h. h) (r refl) e
 named_found false false false true name rest x p q r s e = own_found (codes "confirm.limit") limit_fields (λ v. call.ConfirmLimit v.0) name rest x (λ v. refl) (λ v h. h) (s refl) e
 named_found false false false false name rest x p q r s e =
     let a = bind_some (method_at (name ∷ rest)) (λ m. call_with m.0 m.1) x e in
@@ -152,6 +155,27 @@ unfolding call_at call_named
 call_found [] x e = absurd cc
 call_found (name ∷ rest) x e = named_found (bytes_eq name (codes "channel.close")) (bytes_eq name (codes "connection.close")) (bytes_eq name (codes "basic.try-publish")) (bytes_eq name (codes "confirm.limit")) name rest x (bytes_eq-Decides name (codes "channel.close")).0 (bytes_eq-Decides name (codes "connection.close")).0 (bytes_eq-Decides name (codes "basic.try-publish")).0 (bytes_eq-Decides name (codes "confirm.limit")).0 e
 
+-- ---- a plain publish
+
+-- three steps in a row, whichever two of them are taken together
+steps : {A B C : Type 0} (r : Option A) (f : A → Option B) (g : B → Option C) (h : A → Option C) → ((x : A) → (f x >>= g) ≡ h x) → ((r >>= f) >>= g) ≡ (r >>= h)
+steps None f g h e = refl
+steps (Some x) f g h e = e x
+
+-- the fields of a publish's method, and then what follows them, are read in a row
+publish_row : (pieces : List (List ℕ)) → (basic_at basic_kind.Publish pieces >>= λ m. call_with (method.Basic m.0) m.1) ≡ fields_at publish_fields publish_of pieces
+unfolding basic_at
+publish_row pieces =
+    steps (field_at text pieces) _ _ _ (λ exchange. steps (field_at text exchange.1) _ _ _ (λ routing_key. steps (field_at flag routing_key.1) _ _ _ (λ mandatory. steps (field_at flag mandatory.1) _ _ _ (λ immediate. refl))))
+
+-- the call of the name of a publish: its method's fields and what follows them, in a row
+pub publish_named : (name : List ℕ) (pieces : List (List ℕ)) → name ≡ codes "basic.publish" → call_named name pieces ≡ fields_at publish_fields publish_of pieces
+unfolding call_named method_at
+publish_named name pieces e =
+    let at_name : call_named name pieces ≡ call_named (codes "basic.publish") pieces = ap (λ (n : List ℕ). call_named n pieces) e in
+    let kind_is : kind_at (codes "basic.publish") ≡ Some (kind.Basic basic_kind.Publish) = sym (kind_of (codes "basic.publish") (kind.Basic basic_kind.Publish) refl) in
+    at_name ∙ rw kind_is (steps (basic_at basic_kind.Publish pieces) _ _ _ (λ m. refl) ∙ publish_row pieces)
+
 -- ---- no token has a space
 
 plain_queued : (queued : Option Method) → QueuedFits queued → AllPlain (queued_tokens queued)
@@ -162,7 +186,7 @@ pub plain_call : (c : Call) → CallFits c → AllPlain (call_tokens c)
 plain_call (call.ChannelClose reply_code reply_text) h = (refl, plain_tokens close_fields (reply_code, (reply_text, tt)) h)
 plain_call (call.ConnectionClose reply_code reply_text) h = (refl, plain_tokens close_fields (reply_code, (reply_text, tt)) h)
 plain_call (call.TryBasicPublish exchange routing_key options payload properties) h =
-    (refl, plain_tokens try_publish_fields (exchange, (routing_key, (options.mandatory, (options.immediate, (payload, (properties, tt)))))) h)
+    (refl, plain_tokens publish_fields (exchange, (routing_key, (options.mandatory, (options.immediate, (payload, (properties, tt)))))) h)
 plain_call (call.ConfirmLimit limit) h = (refl, plain_tokens limit_fields (limit, tt) h)
 plain_call (call.BasicPublish exchange routing_key options payload properties) h =
     let m : Method = method.Basic (basic_method.Publish exchange routing_key options.mandatory options.immediate) in

@@ -25,9 +25,9 @@ close_fields = short_number ∷ text ∷ []
 abbrev pub content_fields : List Field
 content_fields = bytes ∷ props ∷ []
 
--- what the line of a publish that may be refused has: the fields of a publish, and what follows them
-abbrev pub try_publish_fields : List Field
-try_publish_fields = text ∷ text ∷ flag ∷ flag ∷ content_fields
+-- what the line of a publish has: the fields of its method, and what follows them
+abbrev pub publish_fields : List Field
+publish_fields = text ∷ text ∷ flag ∷ flag ∷ content_fields
 
 -- what the line of a limit has: how many confirms may be outstanding
 abbrev pub limit_fields : List Field
@@ -45,7 +45,7 @@ call_tokens (call.ConnectionClose reply_code reply_text) = codes "connection.clo
 call_tokens (call.BasicPublish exchange routing_key options payload properties) =
     queued_tokens (method_of (call.BasicPublish exchange routing_key options payload properties)) ++ tokens content_fields (payload, (properties, tt))
 call_tokens (call.TryBasicPublish exchange routing_key options payload properties) =
-    codes "basic.try-publish" ∷ tokens try_publish_fields (exchange, (routing_key, (options.mandatory, (options.immediate, (payload, (properties, tt))))))
+    codes "basic.try-publish" ∷ tokens publish_fields (exchange, (routing_key, (options.mandatory, (options.immediate, (payload, (properties, tt))))))
 call_tokens (call.ConfirmLimit limit) = codes "confirm.limit" ∷ tokens limit_fields (limit, tt)
 call_tokens c = queued_tokens (method_of c)
 
@@ -61,7 +61,7 @@ CallFits (call.ConnectionClose reply_code reply_text) = AllFit close_fields (rep
 CallFits (call.BasicPublish exchange routing_key options payload properties) =
     QueuedFits (method_of (call.BasicPublish exchange routing_key options payload properties)) × AllFit content_fields (payload, (properties, tt))
 CallFits (call.TryBasicPublish exchange routing_key options payload properties) =
-    AllFit try_publish_fields (exchange, (routing_key, (options.mandatory, (options.immediate, (payload, (properties, tt))))))
+    AllFit publish_fields (exchange, (routing_key, (options.mandatory, (options.immediate, (payload, (properties, tt))))))
 CallFits (call.ConfirmLimit limit) = AllFit limit_fields (limit, tt)
 CallFits (call.ExchangeDeclare exchange kind options arguments) =
     QueuedFits (method_of (call.ExchangeDeclare exchange kind options arguments)) × IsNamed kind
@@ -75,8 +75,12 @@ call_with (method.Basic (basic_method.Publish exchange routing_key mandatory imm
     fields_at content_fields (λ v. call.BasicPublish exchange routing_key (record { mandatory = mandatory; immediate = immediate }) v.0 v.1.0) pieces
 call_with m pieces = call_of m >>= λ c. Some (c, pieces)
 
+-- the plain publish, of the values of its line
+abbrev pub publish_of : Values publish_fields → Call
+publish_of v = call.BasicPublish v.0 v.1.0 (record { mandatory = v.1.1.0; immediate = v.1.1.1.0 }) v.1.1.1.1.0 v.1.1.1.1.1.0
+
 -- the publish that may be refused, of the values of its line
-abbrev pub try_publish_of : Values try_publish_fields → Call
+abbrev pub try_publish_of : Values publish_fields → Call
 try_publish_of v = call.TryBasicPublish v.0 v.1.0 (record { mandatory = v.1.1.0; immediate = v.1.1.1.0 }) v.1.1.1.1.0 v.1.1.1.1.1.0
 
 -- the call of this name: one of those with a text of their own, else the one that queues the method of this name
@@ -84,7 +88,7 @@ unfoldable pub call_named : List ℕ → List (List ℕ) → Option (Call × Lis
 call_named name pieces =
     if bytes_eq name (codes "channel.close") then fields_at close_fields (λ v. call.ChannelClose v.0 v.1.0) pieces else
     if bytes_eq name (codes "connection.close") then fields_at close_fields (λ v. call.ConnectionClose v.0 v.1.0) pieces else
-    if bytes_eq name (codes "basic.try-publish") then fields_at try_publish_fields try_publish_of pieces else
+    if bytes_eq name (codes "basic.try-publish") then fields_at publish_fields try_publish_of pieces else
     if bytes_eq name (codes "confirm.limit") then fields_at limit_fields (λ v. call.ConfirmLimit v.0) pieces else
     (method_at (name ∷ pieces) >>= λ m. call_with m.0 m.1)
 

@@ -7,10 +7,10 @@
 ghost use Rattle.std.specs.Prelude.{◌≡◌};
 ghost use Rattle.lapin_types.specs.declared.call.Call.TheVariants as call;
 ghost use Rattle.lapin_tokens.specs.Reading.{Gives, fields_at};
-ghost use Rattle.lapin_text.specs.CallText.{close_fields, content_fields, try_publish_fields, limit_fields, try_publish_of, call_with as call_with_lem, call_named as call_named_lem, call_at};
+ghost use Rattle.lapin_text.specs.CallText.{close_fields, content_fields, publish_fields, limit_fields, publish_of, try_publish_of, call_with as call_with_lem, call_named as call_named_lem, call_at};
 
 use crate::queued::call_of;
-use lapin_method_text::read_named;
+use lapin_method_text::{is_publish, read_named};
 use lapin_tokens::{ReadError, Tokens, flag, is_word, payload, properties, text, u16_at, u64_at};
 use lapin_types::{BasicMethod, BasicPublishOptions, Call, Method, ShortString};
 use std::alloc::Global;
@@ -37,6 +37,7 @@ fn connection_close(alloc: Global, tokens: &mut Tokens) -> Result<Call, ReadErro
     })
 }
 
+// The publish of a method that was read; its bytes and its properties are the next tokens.
 fn publish(
     alloc: Global,
     exchange: ShortString,
@@ -57,8 +58,32 @@ fn publish(
     })
 }
 
+// The publish whose fields, bytes and properties are the next tokens. It is read in a row, so that neither a method is made nor the
+// properties are moved again.
+fn plain_publish(alloc: Global, tokens: &mut Tokens) -> Result<Call, ReadError>
+    ensures { Gives result tokens.new (fields_at publish_fields publish_of tokens.old) }
+{
+    let exchange = text(alloc, tokens)?;
+    let routing_key = text(alloc, tokens)?;
+    let mandatory = flag(tokens)?;
+    let immediate = flag(tokens)?;
+    let payload = payload(alloc, tokens)?;
+    let properties = properties(alloc, tokens)?;
+    Ok(Call::BasicPublish {
+        exchange,
+        routing_key,
+        options: BasicPublishOptions {
+            mandatory,
+            immediate,
+        },
+        payload,
+        properties,
+    })
+}
+
+// The same, of a publish that may be refused.
 fn try_publish(alloc: Global, tokens: &mut Tokens) -> Result<Call, ReadError>
-    ensures { Gives result tokens.new (fields_at try_publish_fields try_publish_of tokens.old) }
+    ensures { Gives result tokens.new (fields_at publish_fields try_publish_of tokens.old) }
 {
     let exchange = text(alloc, tokens)?;
     let routing_key = text(alloc, tokens)?;
@@ -111,12 +136,14 @@ fn call_with(alloc: Global, method: Method, tokens: &mut Tokens) -> Result<Call,
     }
 }
 
-// The call of this name, whose arguments are the next tokens.
-#[tactic(auto, unfolding(crate::specs::CallText::call_named))]
+// The call of this name, whose arguments are the next tokens. A publish, which most calls are, is told apart first.
+#[tactic(auto, using(crate::proofs::CallLaws::publish_named), unfolding(crate::specs::CallText::call_named))]
 fn call_named(alloc: Global, name: &[u8], tokens: &mut Tokens) -> Result<Call, ReadError>
     ensures { Gives result tokens.new (call_named_lem name.now tokens.old) }
 {
-    if is_word(name, b"channel.close") {
+    if is_publish(name) {
+        plain_publish(alloc, tokens)
+    } else if is_word(name, b"channel.close") {
         channel_close(alloc, tokens)
     } else if is_word(name, b"connection.close") {
         connection_close(alloc, tokens)

@@ -10,50 +10,46 @@ ghost use Rattle.lapin_text.specs.LineReading.{event_at};
 use crate::ackers::read_acker_call;
 use crate::calls::read_call;
 use crate::frames::read_frame_tokens;
-use crate::words::{Word, word_named};
+use crate::words::{Word, first_word};
 use lapin_tokens::{ReadError, Tokens, flag, u16_at, u64_at};
 use lapin_types::Event;
 use std::alloc::Global;
 
 /// The event whose tokens come next.
-#[tactic(auto, unfolding(crate::specs::LineReading::event_at))]
 pub fn read_event_tokens(alloc: Global, tokens: &mut Tokens) -> Result<Event, ReadError>
     ensures { Gives result tokens.new (event_at tokens.old) }
 {
-    match tokens.next() {
-        None => Err(ReadError::Bad),
-        Some(piece) => match word_named(piece) {
-            Some(Word::Call) => {
-                let channel = u16_at(tokens)?;
-                match read_call(alloc, tokens) {
-                    Ok(call) => Ok(Event::Call(channel, call)),
-                    Err(error) => Err(error),
-                }
-            }
-            Some(Word::Next) => Ok(Event::Next(flag(tokens)?)),
-            Some(Word::Recv) => match read_frame_tokens(alloc, tokens) {
-                Ok(frame) => Ok(Event::Receive(frame)),
+    match first_word(tokens) {
+        Some(Word::Call) => {
+            let channel = u16_at(tokens)?;
+            match read_call(alloc, tokens) {
+                Ok(call) => Ok(Event::Call(channel, call)),
                 Err(error) => Err(error),
-            },
-            Some(Word::Ticket) => Ok(Event::PollTicket(u64_at(tokens)?)),
-            Some(Word::Confirm) => Ok(Event::PollConfirm(u64_at(tokens)?)),
-            Some(Word::Consumer) => Ok(Event::PollConsumer(u64_at(tokens)?)),
-            Some(Word::Wait) => Ok(Event::PollWait(u16_at(tokens)?)),
-            Some(Word::AsideTicket) => Ok(Event::AsideTicket(u64_at(tokens)?)),
-            Some(Word::AsideConfirm) => Ok(Event::AsideConfirm(u64_at(tokens)?)),
-            Some(Word::Acker) => {
-                let number = u64_at(tokens)?;
-                match read_acker_call(tokens) {
-                    Ok(call) => Ok(Event::Acker(number, call)),
-                    Err(error) => Err(error),
-                }
             }
-            Some(Word::Delegate) => Ok(Event::Delegate(u64_at(tokens)?)),
-            Some(Word::Drop) => Ok(Event::DropConsumer(u64_at(tokens)?)),
-            Some(Word::Job) => Ok(Event::NextJob),
-            Some(Word::State) => Ok(Event::State(u16_at(tokens)?)),
-            Some(Word::Lost) => Ok(Event::Lost),
-            _ => Err(ReadError::Bad),
+        }
+        Some(Word::Next) => Ok(Event::Next(flag(tokens)?)),
+        Some(Word::Recv) => match read_frame_tokens(alloc, tokens) {
+            Ok(frame) => Ok(Event::Receive(frame)),
+            Err(error) => Err(error),
         },
+        Some(Word::Ticket) => Ok(Event::PollTicket(u64_at(tokens)?)),
+        Some(Word::Confirm) => Ok(Event::PollConfirm(u64_at(tokens)?)),
+        Some(Word::Consumer) => Ok(Event::PollConsumer(u64_at(tokens)?)),
+        Some(Word::Wait) => Ok(Event::PollWait(u16_at(tokens)?)),
+        Some(Word::AsideTicket) => Ok(Event::AsideTicket(u64_at(tokens)?)),
+        Some(Word::AsideConfirm) => Ok(Event::AsideConfirm(u64_at(tokens)?)),
+        Some(Word::Acker) => {
+            let number = u64_at(tokens)?;
+            match read_acker_call(tokens) {
+                Ok(call) => Ok(Event::Acker(number, call)),
+                Err(error) => Err(error),
+            }
+        }
+        Some(Word::Delegate) => Ok(Event::Delegate(u64_at(tokens)?)),
+        Some(Word::Drop) => Ok(Event::DropConsumer(u64_at(tokens)?)),
+        Some(Word::Job) => Ok(Event::NextJob),
+        Some(Word::State) => Ok(Event::State(u16_at(tokens)?)),
+        Some(Word::Lost) => Ok(Event::Lost),
+        _ => Err(ReadError::Bad),
     }
 }

@@ -8,50 +8,75 @@ ghost use Rattle.lapin_tokens.specs.Fields.Field.{props};
 ghost use Rattle.lapin_tokens.specs.Reading.{Gives};
 ghost use Rattle.lapin_tokens.specs.TokenText.{onto};
 ghost use Rattle.lapin_text.specs.Frames.{frame_tokens};
-ghost use Rattle.lapin_text.specs.LineReading.{frame_at};
+ghost use Rattle.lapin_text.specs.declared.words.Word.TheVariants as word;
+ghost use Rattle.lapin_text.specs.LineReading.{frame_at, frame_of_word};
 
-use crate::words::{Word, word_named};
+use crate::words::{Word, first_word};
 use lapin_method_text::{put_method, read_method};
 use lapin_tokens::{
-    ReadError, Token, Tokens, payload, properties, put_count, put_tokens, put_word, u16_at, u64_at,
+    ReadError, Tokens, payload, properties, put_bytes, put_count, put_properties, put_word, u16_at,
+    u64_at,
 };
 use lapin_types::{ContentHeader, Frame};
 use std::alloc::{AllocError, Global};
 
+/// The method frame whose channel and method are the next tokens: what stands behind the word `method`.
+///
+/// # Errors
+/// `Bad` where the tokens are no such frame's, or `Memory`.
+#[inline(never)]
+pub fn read_method_frame(alloc: Global, tokens: &mut Tokens) -> Result<Frame, ReadError>
+    ensures { Gives result tokens.new (frame_of_word word.Method tokens.old) }
+{
+    let channel = u16_at(tokens)?;
+    match read_method(alloc, tokens) {
+        Ok(method) => Ok(Frame::Method(channel, method)),
+        Err(error) => Err(error),
+    }
+}
+
+/// The content header whose channel and fields are the next tokens: what stands behind the word `header`.
+///
+/// # Errors
+/// `Bad` where the tokens are no such frame's, or `Memory`.
+#[inline(never)]
+pub fn read_header_frame(alloc: Global, tokens: &mut Tokens) -> Result<Frame, ReadError>
+    ensures { Gives result tokens.new (frame_of_word word.Header tokens.old) }
+{
+    let channel = u16_at(tokens)?;
+    let class_id = u16_at(tokens)?;
+    let body_size = u64_at(tokens)?;
+    let properties = properties(alloc, tokens)?;
+    let header = ContentHeader {
+        class_id,
+        body_size,
+        properties,
+    };
+    Ok(Frame::Header(channel, header))
+}
+
+/// The body frame whose channel and bytes are the next tokens: what stands behind the word `body`.
+///
+/// # Errors
+/// `Bad` where the tokens are no such frame's, or `Memory`.
+#[inline(never)]
+pub fn read_body_frame(alloc: Global, tokens: &mut Tokens) -> Result<Frame, ReadError>
+    ensures { Gives result tokens.new (frame_of_word word.Body tokens.old) }
+{
+    let channel = u16_at(tokens)?;
+    let payload = payload(alloc, tokens)?;
+    Ok(Frame::Body(channel, payload))
+}
+
 /// The frame whose tokens come next.
-#[tactic(auto, unfolding(crate::specs::LineReading::frame_at))]
 pub fn read_frame_tokens(alloc: Global, tokens: &mut Tokens) -> Result<Frame, ReadError>
     ensures { Gives result tokens.new (frame_at tokens.old) }
 {
-    match tokens.next() {
-        None => Err(ReadError::Bad),
-        Some(piece) => match word_named(piece) {
-            Some(Word::Method) => {
-                let channel = u16_at(tokens)?;
-                match read_method(alloc, tokens) {
-                    Ok(method) => Ok(Frame::Method(channel, method)),
-                    Err(error) => Err(error),
-                }
-            }
-            Some(Word::Header) => {
-                let channel = u16_at(tokens)?;
-                let class_id = u16_at(tokens)?;
-                let body_size = u64_at(tokens)?;
-                let properties = properties(alloc, tokens)?;
-                let header = ContentHeader {
-                    class_id,
-                    body_size,
-                    properties,
-                };
-                Ok(Frame::Header(channel, header))
-            }
-            Some(Word::Body) => {
-                let channel = u16_at(tokens)?;
-                let payload = payload(alloc, tokens)?;
-                Ok(Frame::Body(channel, payload))
-            }
-            _ => Err(ReadError::Bad),
-        },
+    match first_word(tokens) {
+        Some(Word::Method) => read_method_frame(alloc, tokens),
+        Some(Word::Header) => read_header_frame(alloc, tokens),
+        Some(Word::Body) => read_body_frame(alloc, tokens),
+        _ => Err(ReadError::Bad),
     }
 }
 
@@ -60,7 +85,7 @@ fn put_content(alloc: Global, out: &mut Vec<u8>, header: &ContentHeader) -> Resu
 {
     put_count(out, u64::from(header.class_id))?;
     put_count(out, header.body_size)?;
-    put_tokens(alloc, out, &[Token::Properties(&header.properties)])
+    put_properties(alloc, out, &header.properties)
 }
 
 /// Adds the frame's tokens, each behind a space. Where memory runs out, the text may end within the frame.
@@ -81,7 +106,7 @@ pub fn put_frame(alloc: Global, out: &mut Vec<u8>, frame: &Frame) -> Result<(), 
         Frame::Body(channel, payload) => {
             put_word(out, b"body")?;
             put_count(out, u64::from(*channel))?;
-            put_tokens(alloc, out, &[Token::Hex(payload.as_bytes())])
+            put_bytes(alloc, out, payload.as_bytes())
         }
     }
 }

@@ -2,7 +2,8 @@
 //!
 //! A line is tokens with one space between them. What the tokens of single values are stands in `lapin_tokens`, and the tables of
 //! methods in `lapin_method_text`. Here stand frames, calls, events, records, whole inputs and whole outputs; no rule of a session
-//! stands here. The program's commands call this crate.
+//! stands here. The program's commands call this crate: they read a line by its first word, and write an answer with no record in
+//! between, by the functions for what follows a word and for one kind of answer.
 #![tactic(auto)]
 
 mod ackers;
@@ -18,10 +19,17 @@ mod reading;
 mod records;
 mod words;
 
+pub use ackers::read_acker_call;
+pub use calls::read_call;
+pub use frames::{read_body_frame, read_header_frame, read_method_frame};
 pub use lapin_tokens::{read_bytes, read_num, read_short};
 pub use laws::{one_line, one_reading, one_text, parsed_as_printed};
 pub use lines::Lines;
 pub use parsing::{Parsed, parse_events, read_max};
 pub use printing::{print_records, write_frame, write_record};
 pub use reading::{read_event, read_frame};
-pub use records::put_record;
+pub use records::{
+    put_answered, put_confirmed, put_handed, put_item, put_published, put_record, put_refused,
+    put_ticket,
+};
+pub use words::{Word, first_word, word_named};

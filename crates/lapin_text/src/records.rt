@@ -1,6 +1,7 @@
 //! Records as tokens.
 //!
-//! A record is an arm here and a row in the definitions. Whole lines and texts of records are written in `printing`.
+//! A record is an arm here and a row in the definitions, and the answers that most events have are functions of their own, for those who
+//! have the answer and no record. Whole lines and texts of records are written in `printing`.
 //! Where memory runs out, the text may end within the record.
 
 ghost use Rattle.std.specs.Prelude.{◌≡◌, ◌+◌, ◌++◌, ◌∷◌, [], drop, OnOk};
@@ -13,10 +14,12 @@ ghost use Rattle.lapin_text.specs.Frames.{frame_tokens};
 ghost use Rattle.lapin_text.specs.Records.{connection_name, state_name, error_tokens, delivery_tokens, message_tokens, held_tokens, returned_tokens, got_tokens, answer_tokens, confirmation_tokens, item_word, carried_tokens, job_tokens, record_tokens, line_onto};
 
 use crate::frames::put_frame;
-use lapin_tokens::{Token, put_count, put_tokens, put_word};
+use lapin_tokens::{
+    Token, put_bytes, put_count, put_flag, put_properties, put_text, put_tokens, put_word,
+};
 use lapin_types::{
     Answer, BasicGetMessage, BasicReturnMessage, ChannelState, Confirmation, ConnectionState,
-    Delivery, DeliveryResult, Error, Job, JobKind, Queue, Record, ReturnedList,
+    Delivery, DeliveryResult, Error, Frame, Job, JobKind, Queue, Record, ReturnedList,
 };
 use std::alloc::{AllocError, Global};
 
@@ -109,19 +112,13 @@ fn put_error(alloc: Global, out: &mut Vec<u8>, error: Error) -> Result<(), Alloc
 fn put_delivery(alloc: Global, out: &mut Vec<u8>, delivery: &Delivery) -> Result<(), AllocError>
     ensures { OnOk result (out.new.items ≡ onto out.old.items (delivery_tokens delivery.now)) }
 {
-    put_tokens(
-        alloc,
-        out,
-        &[
-            Token::Number(delivery.delivery_tag),
-            Token::Text(&delivery.exchange),
-            Token::Text(&delivery.routing_key),
-            Token::Flag(delivery.redelivered),
-            Token::Properties(&delivery.properties),
-            Token::Hex(delivery.payload.as_bytes()),
-            Token::Number(delivery.acker.number),
-        ],
-    )
+    put_count(out, delivery.delivery_tag)?;
+    put_text(alloc, out, &delivery.exchange)?;
+    put_text(alloc, out, &delivery.routing_key)?;
+    put_flag(out, delivery.redelivered)?;
+    put_properties(alloc, out, &delivery.properties)?;
+    put_bytes(alloc, out, delivery.payload.as_bytes())?;
+    put_count(out, delivery.acker.number)
 }
 
 fn put_message(
@@ -310,14 +307,6 @@ fn put_job(alloc: Global, out: &mut Vec<u8>, job: &Job) -> Result<(), AllocError
     }
 }
 
-fn put_published(out: &mut Vec<u8>, ticket: u64, confirm: u64) -> Result<(), AllocError>
-    ensures { OnOk result (out.new.items ≡ line_onto out.old.items (record_tokens (told.Publish ticket confirm))) }
-{
-    out.extend_from_slice(b"publish")?;
-    put_count(out, ticket)?;
-    put_count(out, confirm)
-}
-
 fn put_error_line(
     alloc: Global,
     out: &mut Vec<u8>,
@@ -348,39 +337,96 @@ fn put_states(
     )
 }
 
+/// Adds the line of a ticket: `ticket N`, without a line end.
+pub fn put_ticket(out: &mut Vec<u8>, number: u64) -> Result<(), AllocError>
+    ensures { OnOk result (out.new.items ≡ line_onto out.old.items (record_tokens (told.Ticket number))) }
+{
+    out.extend_from_slice(b"ticket")?;
+    put_count(out, number)
+}
+
+/// Adds the line of a publish's ticket and confirm: `publish N N`, without a line end.
+pub fn put_published(out: &mut Vec<u8>, ticket: u64, confirm: u64) -> Result<(), AllocError>
+    ensures { OnOk result (out.new.items ≡ line_onto out.old.items (record_tokens (told.Publish ticket confirm))) }
+{
+    out.extend_from_slice(b"publish")?;
+    put_count(out, ticket)?;
+    put_count(out, confirm)
+}
+
+/// Adds the line of a refusal: `refused ERROR`, without a line end.
+pub fn put_refused(alloc: Global, out: &mut Vec<u8>, error: Error) -> Result<(), AllocError>
+    ensures { OnOk result (out.new.items ≡ line_onto out.old.items (record_tokens (told.Refused error))) }
+{
+    put_error_line(alloc, out, b"refused", error)
+}
+
+/// Adds the line of a frame that is handed out: `frame FRAME`, without a line end.
+pub fn put_handed(alloc: Global, out: &mut Vec<u8>, frame: &Frame) -> Result<(), AllocError>
+    ensures { OnOk result (out.new.items ≡ line_onto out.old.items (record_tokens (told.Frame frame.now))) }
+{
+    out.extend_from_slice(b"frame")?;
+    put_frame(alloc, out, frame)
+}
+
+/// Adds the line of a call's outcome: `answer ANSWER` or `error ERROR`, without a line end.
+pub fn put_answered(
+    alloc: Global,
+    out: &mut Vec<u8>,
+    answer: &Result<Answer, Error>,
+) -> Result<(), AllocError>
+    ensures { OnOk result (out.new.items ≡ line_onto out.old.items (record_tokens (told.Answer answer.now))) }
+{
+    match answer {
+        Ok(answer) => {
+            out.extend_from_slice(b"answer")?;
+            put_answer(alloc, out, answer)
+        }
+        Err(error) => put_error_line(alloc, out, b"error", *error),
+    }
+}
+
+/// Adds the line of a publish's outcome: `confirmed CONFIRMATION` or `error ERROR`, without a line end.
+pub fn put_confirmed(
+    alloc: Global,
+    out: &mut Vec<u8>,
+    outcome: &Result<Confirmation, Error>,
+) -> Result<(), AllocError>
+    ensures { OnOk result (out.new.items ≡ line_onto out.old.items (record_tokens (told.Confirmed outcome.now))) }
+{
+    match outcome {
+        Ok(confirmation) => {
+            out.extend_from_slice(b"confirmed")?;
+            put_confirmation(alloc, out, confirmation)
+        }
+        Err(error) => put_error_line(alloc, out, b"error", *error),
+    }
+}
+
+/// Adds the line of a consumer's item: `item DELIVERY`, `end` or `failed ERROR`, without a line end.
+pub fn put_item(alloc: Global, out: &mut Vec<u8>, given: &DeliveryResult) -> Result<(), AllocError>
+    ensures { OnOk result (out.new.items ≡ line_onto out.old.items (record_tokens (told.Item given.now))) }
+{
+    out.extend_from_slice(word_of_item(given))?;
+    put_carried(alloc, out, given)
+}
+
 /// Adds the record's line, without a line end.
 pub fn put_record(alloc: Global, out: &mut Vec<u8>, record: &Record) -> Result<(), AllocError>
     ensures { OnOk result (out.new.items ≡ line_onto out.old.items (record_tokens «record».now)) }
 {
     match record {
-        Record::Ticket(number) => {
-            out.extend_from_slice(b"ticket")?;
-            put_count(out, *number)
-        }
+        Record::Ticket(number) => put_ticket(out, *number),
         Record::Publish { ticket, confirm } => put_published(out, *ticket, *confirm),
-        Record::Refused(error) => put_error_line(alloc, out, b"refused", *error),
-        Record::Frame(frame) => {
-            out.extend_from_slice(b"frame")?;
-            put_frame(alloc, out, frame)
-        }
+        Record::Refused(error) => put_refused(alloc, out, *error),
+        Record::Frame(frame) => put_handed(alloc, out, frame),
         Record::NoFrame => out.extend_from_slice(b"noframe"),
         Record::Received => out.extend_from_slice(b"received"),
         Record::Passed => out.extend_from_slice(b"passed"),
         Record::Pending => out.extend_from_slice(b"pending"),
-        Record::Answer(Ok(answer)) => {
-            out.extend_from_slice(b"answer")?;
-            put_answer(alloc, out, answer)
-        }
-        Record::Confirmed(Ok(confirmation)) => {
-            out.extend_from_slice(b"confirmed")?;
-            put_confirmation(alloc, out, confirmation)
-        }
-        Record::Answer(Err(error)) => put_error_line(alloc, out, b"error", *error),
-        Record::Confirmed(Err(error)) => put_error_line(alloc, out, b"error", *error),
-        Record::Item(given) => {
-            out.extend_from_slice(word_of_item(given))?;
-            put_carried(alloc, out, given)
-        }
+        Record::Answer(answer) => put_answered(alloc, out, answer),
+        Record::Confirmed(outcome) => put_confirmed(alloc, out, outcome),
+        Record::Item(given) => put_item(alloc, out, given),
         Record::Returned(messages) => {
             out.extend_from_slice(b"returned")?;
             put_returned(alloc, out, messages)

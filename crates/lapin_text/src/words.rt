@@ -1,11 +1,13 @@
 //! The words that begin a frame, an event or the call of an acker.
 //!
-//! Here stands which word is whose text. What follows a word is read in `frames`, `events` and `ackers`.
+//! Here stands which word is whose text, and which one a line begins with. What follows a word is read in `frames`, `events` and
+//! `ackers`.
 
 ghost use Rattle.std.specs.Prelude.{◌≡◌};
-ghost use Rattle.lapin_text.specs.LineReading.{word_at, word_text};
+ghost use Rattle.lapin_tokens.specs.Reading.{◌>>=◌ as and_then};
+ghost use Rattle.lapin_text.specs.LineReading.{word_at, word_text, frame_of_word, frame_at, event_of_word, event_at};
 
-use lapin_tokens::is_word;
+use lapin_tokens::{Tokens, is_word};
 
 /// The words that begin a frame, an event or the call of an acker.
 #[derive(Clone, Copy, Debug, PartialEq, Eq)]
@@ -111,6 +113,22 @@ pub fn word_named(piece: &[u8]) -> Option<Word>
         b"method" => Some(Word::Method),
         b"header" => Some(Word::Header),
         b"body" => Some(Word::Body),
+        b"consumer" => Some(Word::Consumer),
+        b"acker" => Some(Word::Acker),
+        b"ack" => Some(Word::Ack),
         _ => word_found(piece),
+    }
+}
+
+/// The word of which the next piece is the text, or `None` where it is no word's or all were read. An event, and a frame, is this word and
+/// what follows it.
+#[tactic(auto, unfolding(crate::specs::LineReading::event_at, crate::specs::LineReading::frame_at))]
+pub fn first_word(tokens: &mut Tokens) -> Option<Word>
+    ensures event { event_at tokens.old ≡ and_then result (λ w. event_of_word w tokens.new) }
+    ensures frame { frame_at tokens.old ≡ and_then result (λ w. frame_of_word w tokens.new) }
+{
+    match tokens.next() {
+        None => None,
+        Some(piece) => word_named(piece),
     }
 }

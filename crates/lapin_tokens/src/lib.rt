@@ -21,6 +21,8 @@ pub use fields::{
     flag, payload, properties, properties_of, table, table_of, text, u16_at, u32_at, u64_at,
 };
 pub use lapin_scalars::{ReadError, read_bytes, read_num, read_short};
-pub use pieces::{put_count, put_tokens, put_word};
+pub use pieces::{
+    put_bytes, put_count, put_flag, put_properties, put_table, put_text, put_tokens, put_word,
+};
 pub use token::Token;
 pub use tokens::{Tokens, is_word};
