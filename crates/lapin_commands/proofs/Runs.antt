@@ -1,5 +1,5 @@
 -- What a session and a joined run owe as runs that an input drives.
-use Rattle.std.proofs.Common.{◌≡◌, ℕ, suc, ◌+◌, ◌-◌, ◌<◌, ◌≤◌, ◌^◌, List, [], ◌∷◌, ◌++◌, Option, Some, None, false, refl, sym, ap, subst, ◌∙◌, append_assoc, arith}
+use Rattle.std.proofs.Common.{◌≡◌, ℕ, suc, Bool, true, true≢false, ◌+◌, ◌-◌, ◌<◌, ◌≤◌, ◌^◌, List, [], ◌∷◌, ◌++◌, Option, Some, None, false, refl, sym, ap, subst, ◌∙◌, append_assoc, arith}
 use Rattle.std.specs.Prelude.{Result, Ok, Err, IfOk}
 use Rattle.std.specs.List.{join_with_byte}
 use Rattle.lapin_types.specs.declared.event.Event.{Event}
@@ -10,7 +10,10 @@ use Rattle.lapin_machine.proofs.Counting.{numbers-next}
 use Rattle.lapin_text.specs.Events.{line_of, HasLine}
 use Rattle.lapin_text.specs.Input.{lines_of, max_line, IsMax, NoLine, AreEvents, AreParsed}
 use Rattle.lapin_text.specs.Records.{record_tokens, record_line, line_onto, records_text}
+use Rattle.lapin_text.specs.LineReading.{line_at}
 use Rattle.lapin_text.proofs.Printed.{line_onto_is}
+use Rattle.lapin_text.proofs.LineLaws.{line_found, refused}
+use Rattle.lapin_lines.specs.Lines.{IsTaken}
 use Rattle.lapin_joint.specs.declared.step.Step.{Step}
 use Rattle.lapin_joint.specs.Joint.{Joint, by_machine, new_joint, after, report, reports, joined}
 use Rattle.lapin_joint.specs.Kept.{Kept}
@@ -38,6 +41,41 @@ session_adds w v e line old new fit is stepped grown =
 pub session_stops : (w : World) (n : ℕ) (lines : List (List ℕ)) (line : List ℕ) → NoLine line → SessionGoesOn w n (line ∷ lines) (Some n) []
 session_stops w n lines line none = record { steps = []; are = (refl, none); printed = refl }
 
+pub numbers_one : (n : ℕ) (w : World) → HasNumbersFor (suc n) w → HasNumbersFor 1 w
+numbers_one n w h = numbers_fewer (suc n) 1 w h (omega arith)
+
+pub numbers_rest : (n : ℕ) (w v : World) (e : Event) → v ≡ next w e → HasNumbersFor (suc n) w → HasNumbersFor n v
+numbers_rest n w v e stepped h = subst (HasNumbersFor n) (sym stepped) (numbers-next n w e h)
+
+-- a line that says an event adds what is printed for it
+pub taken_adds : (w v : World) (line old new : List ℕ) (good : Bool) → IsTaken (line_at line) w v old new good → good ≡ true → Adds (SessionGoesOn w) (SessionGoesOn v) line old new
+taken_adds w v line old new good taken is_good = said (line_at line) refl taken
+  where
+    said : (o : Option Event) → line_at line ≡ o → IsTaken o w v old new good → Adds (SessionGoesOn w) (SessionGoesOn v) line old new
+    said None says h = absurd (true≢false (sym is_good ∙ h.0))
+    said (Some e) says h = let found = line_found line e says in session_adds w v e line old new found.1 found.0 h.1.0 h.1.1
+
+-- and it uses up no more than one number of each counter
+pub taken_takes : (w v : World) (line old new : List ℕ) (good : Bool) → IsTaken (line_at line) w v old new good → good ≡ true → (n : ℕ) → HasNumbersFor (suc n) w → HasNumbersFor n v
+taken_takes w v line old new good taken is_good n few = said (line_at line) taken
+  where
+    said : (o : Option Event) → IsTaken o w v old new good → HasNumbersFor n v
+    said None h = absurd (true≢false (sym is_good ∙ h.0))
+    said (Some e) h = numbers_rest n w v e h.1.0 few
+
+-- a line that says none is where a run stops
+pub taken_stops : (w v : World) (line old new : List ℕ) (good : Bool) → IsTaken (line_at line) w v old new good → good ≡ false → (n : ℕ) (lines : List (List ℕ)) → SessionGoesOn w n (line ∷ lines) (Some n) []
+taken_stops w v line old new good taken is_bad n lines = said (line_at line) refl taken
+  where
+    said : (o : Option Event) → line_at line ≡ o → IsTaken o w v old new good → SessionGoesOn w n (line ∷ lines) (Some n) []
+    said None says h = session_stops w n lines line (λ e fit is. refused line e fit is says)
+    said (Some e) says h = absurd (true≢false (sym h.0 ∙ is_bad))
+
+-- what a result says of its value, where it has one, says what follows from it
+pub if_ok : {A E : Type 0} (r : Result A E) (P Q : A → Type 0) → ((a : A) → P a → Q a) → IfOk r P → IfOk r Q
+if_ok (Ok a) P Q so h = so a h
+if_ok (Err e) P Q so h = h
+
 session_whole : (m : ℕ) (w : World) (input : List ℕ) (lines : List (List ℕ)) (bad : Option ℕ) (text : List ℕ) → w ≡ new_world m → IsMax m → lines_of input ≡ max_line m ∷ lines → SessionGoesOn w 2 lines bad text → PrintsSession input bad (text ++ bad_line_text bad)
 session_whole m w input lines bad text new ok is p =
     prints_by AreParsed AreEvents session_text (λ es. records_text (outputs w es)) m input lines bad text
@@ -57,12 +95,6 @@ numbers_first m n w new few =
 pub session_takes : {E : Type 0} (r : Result World E) (m : ℕ) → IfOk r (λ w. w ≡ new_world m) → IfOk r (λ w. (n : ℕ) → n < 2 ^ 63 → HasNumbersFor n w)
 session_takes (Ok w) m new = λ n few. numbers_first m n w new few
 session_takes (Err e) m new = tt
-
-pub numbers_one : (n : ℕ) (w : World) → HasNumbersFor (suc n) w → HasNumbersFor 1 w
-numbers_one n w h = numbers_fewer (suc n) 1 w h (omega arith)
-
-pub numbers_rest : (n : ℕ) (w v : World) (e : Event) → v ≡ next w e → HasNumbersFor (suc n) w → HasNumbersFor n v
-numbers_rest n w v e stepped h = subst (HasNumbersFor n) (sym stepped) (numbers-next n w e h)
 
 -- ---- a joined run
 

@@ -76,6 +76,73 @@ fn inputs_are_read_by_their_lines(rt: HostRuntime) -> Result<(), Fail> {
     Ok(())
 }
 
+// Lines that begin with a word of the format and are not in it: too little stands behind the word, too much, or something else.
+const BAD_LINES: [&str; 48] = [
+    "next",
+    "next 1 1",
+    "next x31",
+    "confirm",
+    "confirm -1",
+    "confirm 1 1",
+    "confirm 18446744073709551616",
+    "ticket",
+    "ticket 1 0",
+    "consumer",
+    "consumer x1",
+    "consumer 1 1",
+    "acker",
+    "acker 1",
+    "acker 1 ack",
+    "acker 1 ack 2",
+    "acker 1 ack 0 0",
+    "acker 1 nack 0",
+    "acker 1 take 0",
+    "acker 1 reject 1 x",
+    "recv",
+    "recv method",
+    "recv method 1",
+    "recv method 65536 basic.ack 1 0",
+    "recv method 1 basic.ack 1",
+    "recv method 1 basic.ack 1 0 0",
+    "recv method 1 basic.ack 1 2",
+    "recv method 1 basic.acks 1 0",
+    "recv method 1 basic.deliver x74 1 0 x",
+    "recv header 1 60 0",
+    "recv header 1 60 0 [] []",
+    "recv header 1 65536 0 []",
+    "recv body 1",
+    "recv body 1 61",
+    "recv body 1 x6",
+    "recv body 1 x61 x61",
+    "recv frame 1",
+    "call",
+    "call 1",
+    "call 1 basic.publish",
+    "call 1 basic.publish x x 0 0 x",
+    "call 1 basic.publish x x 0 0 x [] []",
+    "call 1 basic.publish x x 0 2 x []",
+    "call 1 basic.publish x x 0 0 x {}",
+    "call 1 basic.publishes x x 0 0 x []",
+    "call 65536 channel.open",
+    "call 1 channel.open 1",
+    "call 1 basic.deliver x 1 0 x x",
+];
+
+// Nothing is done for such a line, and nothing behind it is read.
+#[test]
+fn a_word_alone_makes_no_line(rt: HostRuntime) -> Result<(), Fail> {
+    let alloc = rt.alloc();
+    for line in BAD_LINES {
+        let mut input = String::from_str(alloc, "frame_max 4096\n")?;
+        input.push_str(line)?;
+        input.push_str("\nnext 1\n")?;
+        let (status, sink) = session(alloc, input.as_str())?;
+        assert_eq!(rt; status, Status::BadLine, "at {line}");
+        assert_eq!(rt; sink.bytes(), "badline 2\n".as_bytes(), "at {line}");
+    }
+    Ok(())
+}
+
 // Behind the first line and a thousand others the next has the number 1002.
 #[test]
 fn lines_are_counted_from_one(rt: HostRuntime) -> Result<(), Fail> {

@@ -1,10 +1,32 @@
-use Rattle.lapin_commands.proofs.Runs.{session_adds, numbers_rest}
+use Rattle.std.proofs.Common.{◌≡◌, ℕ, suc, true, false, Bool, List, [], ◌∷◌, Some}
+use Rattle.lapin_machine.specs.Numbers.{HasNumbersFor}
+use Rattle.lapin_text.specs.LineReading.{line_at}
+use Rattle.lapin_lines.specs.Lines.{IsTaken}
+use Rattle.lapin_commands.specs.Printing.{Adds}
+use Rattle.lapin_commands.specs.Session.{SessionGoesOn}
+use Rattle.lapin_commands.proofs.Runs.{if_ok, taken_adds, taken_takes, taken_stops}
 use Rattle.lapin_commands.proofs.session.SessionRun.take_line.Goals as goal
 
-pub returns-in_ok-print_step-in-Some-clause-good : goal.returns-in_ok-print_step-in-Some-clause-good
-returns-in_ok-print_step-in-Some-clause-good c =
-    let found = rw c.in-Some.is at c.in_ok-event.ensures.found in
-    λ _. session_adds c.args.self.now c.print_step.new.session c.in-Some.event c.args.line.now c.args.text.now.items c.print_step.new.text.items found.1 found.0 c.in_ok-print_step-in-Some.ensures.session c.in_ok-print_step-in-Some.ensures.text
+pub returns-clause-good : goal.returns-clause-good
+returns-clause-good c =
+    let w = c.args.self.now in
+    let v = c.take_line.new.session in
+    let taken : Bool → Type 0 = IsTaken (line_at c.args.line.now) w v c.args.text.now.items c.take_line.new.text.items in
+    if_ok c.take_line.result taken (λ good. good ≡ true → Adds (SessionGoesOn w) (SessionGoesOn v) c.args.line.now c.args.text.now.items c.take_line.new.text.items)
+    (taken_adds w v c.args.line.now c.args.text.now.items c.take_line.new.text.items) c.take_line.ensures
 
-pub returns-in_ok-print_step-in-Some-clause-takes : goal.returns-in_ok-print_step-in-Some-clause-takes
-returns-in_ok-print_step-in-Some-clause-takes c = λ _ n h. numbers_rest n c.args.self.now c.print_step.new.session c.in-Some.event c.in_ok-print_step-in-Some.ensures.session h
+pub returns-clause-takes : goal.returns-clause-takes
+returns-clause-takes c =
+    let w = c.args.self.now in
+    let v = c.take_line.new.session in
+    let taken : Bool → Type 0 = IsTaken (line_at c.args.line.now) w v c.args.text.now.items c.take_line.new.text.items in
+    if_ok c.take_line.result taken (λ good. good ≡ true → (n : ℕ) → HasNumbersFor (suc n) w → HasNumbersFor n v)
+    (taken_takes w v c.args.line.now c.args.text.now.items c.take_line.new.text.items) c.take_line.ensures
+
+pub returns-clause-bad : goal.returns-clause-bad
+returns-clause-bad c =
+    let w = c.args.self.now in
+    let v = c.take_line.new.session in
+    let taken : Bool → Type 0 = IsTaken (line_at c.args.line.now) w v c.args.text.now.items c.take_line.new.text.items in
+    if_ok c.take_line.result taken (λ good. good ≡ false → (n : ℕ) (lines : List (List ℕ)) → SessionGoesOn w n (c.args.line.now ∷ lines) (Some n) [])
+    (taken_stops w v c.args.line.now c.args.text.now.items c.take_line.new.text.items) c.take_line.ensures

@@ -1,0 +1,187 @@
+//! Calls of the application and of ackers: `call C NAME ARGS` and `acker N CALL`.
+ghost use Rattle.std.specs.Prelude.{◌≡◌, ◌++◌, ◌∷◌, [], Some, IfOk, IsOk, OnOk};
+ghost use Rattle.lapin_types.specs.declared.call.Call.TheVariants.{BasicPublish};
+ghost use Rattle.lapin_types.specs.declared.event.Event.TheVariants as event;
+ghost use Rattle.lapin_machine.specs.Numbers.{HasNumbersFor};
+ghost use Rattle.lapin_text.specs.LineReading.{whole, event_of_word};
+ghost use Rattle.lapin_text.specs.declared.words.Word.TheVariants as word;
+ghost use Rattle.lapin_lines.specs.Lines.{IsMet, IsTaken};
+
+use crate::steps::{last, print_step, put_refusal};
+use lapin_machine::Session;
+use lapin_text::{put_published, put_ticket, read_acker_call, read_call};
+use lapin_tokens::{ReadError, Tokens, u16_at, u64_at};
+use lapin_types::{
+    AckerCall, BasicProperties, BasicPublishOptions, Call, Error, Event, NoMemory, Payload,
+    ShortString,
+};
+use std::alloc::Global;
+
+// Takes a line that began with `call`.
+#[inline(never)]
+pub(crate) fn take_call(
+    alloc: Global,
+    session: &mut Session,
+    tokens: &mut Tokens,
+    text: &mut Vec<u8>,
+) -> Result<bool, NoMemory>
+    requires { HasNumbersFor 1 session.old }
+    ensures { IfOk result (IsTaken (whole (event_of_word word.Call tokens.old)) session.old session.new text.old.items text.new.items) }
+{
+    let channel = match u16_at(tokens) {
+        Ok(channel) => channel,
+        Err(ReadError::Bad) => return Ok(false),
+        Err(ReadError::Memory) => return Err(NoMemory),
+    };
+    match read_call(alloc, tokens) {
+        Ok(call) => call_last(alloc, session, channel, call, tokens, text),
+        Err(ReadError::Bad) => Ok(false),
+        Err(ReadError::Memory) => Err(NoMemory),
+    }
+}
+
+// Makes a call, where it is the last of its line.
+#[inline(always)]
+fn call_last(
+    alloc: Global,
+    session: &mut Session,
+    channel: u16,
+    call: Call,
+    tokens: &mut Tokens,
+    text: &mut Vec<u8>,
+) -> Result<bool, NoMemory>
+    requires { HasNumbersFor 1 session.old }
+    ensures { IfOk result (IsTaken (whole (Some (event.Call channel call, tokens.old))) session.old session.new text.old.items text.new.items) }
+{
+    match tokens.next() {
+        Some(_) => {
+            drop(call);
+            Ok(false)
+        }
+        None => {
+            print_call(alloc, session, channel, call, text)?;
+            Ok(true)
+        }
+    }
+}
+
+// Makes a call, and appends the line of its answer. Most calls publish.
+#[inline(always)]
+fn print_call(
+    alloc: Global,
+    session: &mut Session,
+    channel: u16,
+    call: Call,
+    text: &mut Vec<u8>,
+) -> Result<(), NoMemory>
+    requires { HasNumbersFor 1 session.old }
+    ensures { OnOk result (IsMet (event.Call channel call) session.old session.new text.old.items text.new.items) }
+{
+    match call {
+        Call::BasicPublish {
+            exchange,
+            routing_key,
+            options,
+            payload,
+            properties,
+        } => print_publish(
+            alloc,
+            session,
+            channel,
+            exchange,
+            routing_key,
+            options,
+            payload,
+            properties,
+            text,
+        ),
+        other => print_step(alloc, session, Event::Call(channel, other), text),
+    }
+}
+
+// Publishes, and appends the line of the ticket and the confirm, or of the refusal.
+#[inline(always)]
+fn print_publish(
+    alloc: Global,
+    session: &mut Session,
+    channel: u16,
+    exchange: ShortString,
+    routing_key: ShortString,
+    options: BasicPublishOptions,
+    payload: Payload,
+    properties: BasicProperties,
+    text: &mut Vec<u8>,
+) -> Result<(), NoMemory>
+    requires { HasNumbersFor 1 session.old }
+    ensures { OnOk result (IsMet (event.Call channel (BasicPublish exchange routing_key options payload properties)) session.old session.new text.old.items text.new.items) }
+{
+    match session.basic_publish(
+        alloc,
+        channel,
+        exchange,
+        routing_key,
+        options,
+        payload,
+        properties,
+    ) {
+        Ok(published) => {
+            put_published(text, published.ticket.number, published.confirm.number)?;
+            text.push(b'\n')?;
+            Ok(())
+        }
+        Err(Error::NumbersUsedUp) => unreachable!(),
+        Err(error) => put_refusal(alloc, text, error),
+    }
+}
+
+// Takes a line that began with `acker`.
+#[inline(never)]
+pub(crate) fn take_acker(
+    alloc: Global,
+    session: &mut Session,
+    tokens: &mut Tokens,
+    text: &mut Vec<u8>,
+) -> Result<bool, NoMemory>
+    requires { HasNumbersFor 1 session.old }
+    ensures { IfOk result (IsTaken (whole (event_of_word word.Acker tokens.old)) session.old session.new text.old.items text.new.items) }
+{
+    let number = match u64_at(tokens) {
+        Ok(number) => number,
+        Err(ReadError::Bad) => return Ok(false),
+        Err(ReadError::Memory) => return Err(NoMemory),
+    };
+    let call = read_acker_call(tokens);
+    match last(tokens, call)? {
+        Some(call) => {
+            print_acker(alloc, session, number, call, text)?;
+            Ok(true)
+        }
+        None => Ok(false),
+    }
+}
+
+// Calls an acker, and appends the line of its answer.
+fn print_acker(
+    alloc: Global,
+    session: &mut Session,
+    number: u64,
+    call: AckerCall,
+    text: &mut Vec<u8>,
+) -> Result<(), NoMemory>
+    requires { HasNumbersFor 1 session.old }
+    ensures { OnOk result (IsMet (event.Acker number call) session.old session.new text.old.items text.new.items) }
+{
+    match session.acker_call(alloc, number, call) {
+        Ok(Some(ticket)) => {
+            put_ticket(text, ticket.number)?;
+            text.push(b'\n')?;
+            Ok(())
+        }
+        Ok(None) => {
+            text.extend_from_slice(b"no\n")?;
+            Ok(())
+        }
+        Err(Error::NumbersUsedUp) => unreachable!(),
+        Err(error) => put_refusal(alloc, text, error),
+    }
+}
