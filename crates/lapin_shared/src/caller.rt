@@ -41,12 +41,17 @@ pub enum StepError {
 }
 
 /// What all callers of a client share.
-#[derive(Drop)]
 pub struct Shared<L: Crew> {
     /// The one lock.
     pub lock: Mutex<Locked<L>>,
     /// Told after each step: those that wait for an answer look again.
     pub moved: Condvar,
+}
+
+impl<L: Crew> Drop for Shared<L> {
+    fn drop(self) {
+        let Shared { lock: _, moved: _ } = self;
+    }
 }
 
 // The lock's value, with a history of at least that many entries: no step of a caller comes before its last one. With the callers of
@@ -89,10 +94,15 @@ pub fn lock_ready<'a, L: Crew, R: Wait>(
 }
 
 /// One thread's end of a client. Contracts see its number and its log.
-#[derive(Drop)]
 pub struct Caller<L: Crew> {
     shared: Arc<Shared<L>, Global>,
     hand: Hand<L>,
+}
+
+impl<L: Crew> Drop for Caller<L> {
+    fn drop(self) {
+        let Caller { shared: _, hand: _ } = self;
+    }
 }
 
 impl<L: Crew> Model for Caller<L> {

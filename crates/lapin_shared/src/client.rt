@@ -37,11 +37,20 @@ pub enum FinishError {
 }
 
 /// The session that its callers share.
-#[derive(Drop)]
 pub struct Client<L: Crew> {
     shared: Arc<Shared<L>, Global>,
     frame_max: u32,
     made: u64,
+}
+
+impl<L: Crew> Drop for Client<L> {
+    fn drop(self) {
+        let Client {
+            shared: _,
+            frame_max: _,
+            made: _,
+        } = self;
+    }
 }
 
 impl<L: Crew> Model for Client<L> {

@@ -3,7 +3,6 @@
 use lapin_types::{Event, Record};
 
 /// An entry of the history: a step of a caller, with its record.
-#[derive(Drop)]
 pub struct Entry {
     /// The number of the caller.
     pub caller: u64,
@@ -13,8 +12,17 @@ pub struct Entry {
     pub answer: Record,
 }
 
+impl Drop for Entry {
+    fn drop(self) {
+        let Entry {
+            caller: _,
+            event: _,
+            answer: _,
+        } = self;
+    }
+}
+
 /// An entry of a log: what a caller knows of one of its steps.
-#[derive(Drop)]
 pub struct Told {
     /// Where the step stands in the history, from 1.
     pub place: u64,
@@ -22,4 +30,14 @@ pub struct Told {
     pub event: Event,
     /// What the session answered. `None` where there was no memory for the copy; the record then stands in the history alone.
     pub answer: Option<Record>,
+}
+
+impl Drop for Told {
+    fn drop(self) {
+        let Told {
+            place: _,
+            event: _,
+            answer: _,
+        } = self;
+    }
 }

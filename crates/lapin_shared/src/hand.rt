@@ -20,12 +20,22 @@ use std::marker::Model;
 use std::sync::ledger::Share;
 
 /// What a caller holds: its number, its log, and a share of one part whose amount is the log's length.
-#[derive(Drop)]
 pub struct Hand<L: Crew> {
     number: u64,
     last: u64,
     log: Vec<Told>,
     share: Share<L>,
+}
+
+impl<L: Crew> Drop for Hand<L> {
+    fn drop(self) {
+        let Hand {
+            number: _,
+            last: _,
+            log: _,
+            share: _,
+        } = self;
+    }
 }
 
 impl<L: Crew> Model for Hand<L> {
@@ -84,7 +94,12 @@ impl<L: Crew> Hand<L> {
         ensures parts { result.parts ≡ 1 }
         ensures amount { result.amount ≡ length self.log }
     {
-        let Hand { share, .. } = self;
+        let Hand {
+            number: _,
+            last: _,
+            log: _,
+            share,
+        } = self;
         share
     }
 

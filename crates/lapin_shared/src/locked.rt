@@ -27,12 +27,22 @@ impl Crew for Brand {}
 
 /// What lies under the lock. The history is lawful, the session stands for it, and the book counts its entries. The session has no
 /// frame that was given back.
-#[derive(Drop)]
 pub struct Locked<L: Crew> {
     session: Session,
     frame_max: u32,
     history: Vec<Entry>,
     book: Book<L>,
+}
+
+impl<L: Crew> Drop for Locked<L> {
+    fn drop(self) {
+        let Locked {
+            session: _,
+            frame_max: _,
+            history: _,
+            book: _,
+        } = self;
+    }
 }
 
 impl<L: Crew> Model for Locked<L> {
