@@ -3,8 +3,9 @@
 //! First all room is made, which may fail and changes nothing that a contract of the session sees; then the call is queued,
 //! which cannot fail.
 
-ghost use Rattle.std.specs.Prelude.{◌≡◌, ◌+◌, ◌^◌, ◌<◌, Some, None, OnOk, length};
+ghost use Rattle.std.specs.Prelude.{◌≡◌, ◌+◌, ◌^◌, ◌<◌, Some, None, Ok, OnOk, length};
 ghost use Rattle.std.specs.List.{fold};
+ghost use Rattle.lapin_types.specs.declared.answer.Answer.TheVariants as answer;
 ghost use Rattle.lapin_outbox.specs.Outgoing.{with_method, with_lists};
 ghost use Rattle.lapin_outbox.specs.Poison.{poison_on};
 ghost use Rattle.lapin_outbox.specs.Open.{spare_on};
@@ -12,16 +13,15 @@ ghost use Rattle.lapin_history.specs.Wire.{requests_with};
 ghost use Rattle.lapin_history.specs.TicketReadings as mark;
 ghost use Rattle.lapin_history.specs.Asking.{made_marks};
 ghost use Rattle.lapin_history.specs.declared.marks.AtLeaving.TheVariants as leaving;
-ghost use Rattle.lapin_history.specs.Calls.{awaited_by, made_by, leaving_by};
 ghost use Rattle.lapin_history.specs.Requests.{with_request, resolved_with};
 ghost use Rattle.lapin_history.specs.Handing.{left_tickets, begun_ticket, last_ticket};
 ghost use Rattle.lapin_ticket.specs.Slots.{after_mark};
 ghost use Rattle.lapin_desk.specs.Rooms.{HasRoom, SameDesk};
 
-use lapin_history::{Answered, AtLeaving, Row};
+use lapin_history::AtLeaving;
 use lapin_outbox::{Outbox, Replies};
-use lapin_ticket::Tickets;
-use lapin_types::{Answer, Error, Left, Method, NoMemory, Reply, Request};
+use lapin_ticket::{Held, Place, Tickets};
+use lapin_types::{Answer, Left, Method, NoMemory, Reply, Request};
 use std::alloc::Global;
 
 /// Frames that wait, open requests and tickets. Nobody poisons the outbox of a desk: what is queued is queued.
@@ -53,30 +53,45 @@ impl Desk {
         Ok(())
     }
 
-    /// Queues the method of a call under the next ticket, opens the request of the reply that it awaits, and answers the
-    /// ticket where the call makes its own answer.
-    pub fn queue(&mut self, alloc: Global, channel: u16, row: Row) -> u64
+    /// Makes room for one call on a channel, and for the answer that the call makes itself.
+    pub fn reserve_answered(&mut self, alloc: Global, channel: u16) -> Result<Place, NoMemory>
+        ensures room { OnOk result (HasRoom channel self.new) }
+        ensures same { SameDesk self.old self.new }
+    {
+        self.reserve(alloc, channel)?;
+        Place::new(alloc)
+    }
+
+    /// Queues the method of a call under the next ticket, and opens the request of the reply that it awaits.
+    pub fn queue_awaiting(
+        &mut self,
+        alloc: Global,
+        channel: u16,
+        method: Method,
+        reply: Reply,
+    ) -> u64
         requires room { HasRoom channel self.old }
         requires numbers { length self.old.tickets.slots + 1 < 2 ^ 64 }
         requires unpoisoned { poison_on channel self.old.outbox.what ≡ None }
         ensures ticket { result ≡ length self.old.tickets.slots + 1 }
-        ensures outbox { self.new.outbox.what ≡ with_lists (with_method (record { channel = channel; method = row.method; ticket = Some (length self.old.tickets.slots + 1) }) self.old.outbox.what.lists) self.old.outbox.what }
-        ensures requests { self.new.replies.what ≡ requests_with channel (length self.old.tickets.slots + 1) (awaited_by row.answered) self.old.replies.what }
-        ensures slots { self.new.tickets.slots ≡ fold after_mark (after_mark self.old.tickets.slots (mark.Given channel (leaving_by row.answered))) (made_marks (length self.old.tickets.slots + 1) (made_by row.answered)) }
+        ensures outbox { self.new.outbox.what ≡ with_lists (with_method (record { channel = channel; method = method; ticket = Some (length self.old.tickets.slots + 1) }) self.old.outbox.what.lists) self.old.outbox.what }
+        ensures requests { self.new.replies.what ≡ requests_with channel (length self.old.tickets.slots + 1) (Some reply) self.old.replies.what }
+        ensures slots { self.new.tickets.slots ≡ after_mark self.old.tickets.slots (mark.Given channel leaving.Nothing) }
     {
-        let Row { method, answered } = row;
-        let ticket = self.queue_method(alloc, channel, method, at_leaving(&answered));
-        self.begin_answer(alloc, channel, ticket, answered);
+        let ticket = self.queue(alloc, channel, method, AtLeaving::Nothing);
+        self.open_request(alloc, channel, Some(ticket), reply);
         ticket
     }
 
-    /// Queues the method of a call that has its answer already, under the next ticket, and answers the ticket.
+    /// Queues the method of a call that has its answer already, under the next ticket, and answers the ticket, in the room
+    /// that was made for the answer.
     pub fn queue_answered(
         &mut self,
         alloc: Global,
         channel: u16,
         method: Method,
         answer: Answer,
+        place: Place,
     ) -> u64
         requires room { HasRoom channel self.old }
         requires numbers { length self.old.tickets.slots + 1 < 2 ^ 64 }
@@ -86,13 +101,13 @@ impl Desk {
         ensures requests { self.new.replies.what ≡ self.old.replies.what }
         ensures slots { self.new.tickets.slots ≡ fold after_mark (after_mark self.old.tickets.slots (mark.Given channel leaving.Nothing)) (made_marks (length self.old.tickets.slots + 1) (Some answer)) }
     {
-        let ticket = self.queue_method(alloc, channel, method, AtLeaving::Nothing);
-        self.tickets.answer(ticket, Ok(answer));
+        let ticket = self.queue(alloc, channel, method, AtLeaving::Nothing);
+        self.tickets.answer(ticket, Held::in_place(place, answer));
         ticket
     }
 
-    // Queues the method of a call under the next ticket.
-    fn queue_method(
+    /// Queues the method of a call under the next ticket, with the answer that the leaving of its frame gives, if it gives one.
+    pub fn queue(
         &mut self,
         alloc: Global,
         channel: u16,
@@ -113,24 +128,6 @@ impl Desk {
             .push_method(alloc, channel, method, Some(ticket))
             .unwrap();
         ticket
-    }
-
-    // What a call that was queued does for the answer of its ticket: it opens the request of a reply that it awaits, or makes
-    // the answer itself.
-    fn begin_answer(&mut self, alloc: Global, channel: u16, ticket: u64, answered: Answered)
-        requires room { 0 < spare_on channel self.old.replies }
-        ensures requests { self.new.replies.what ≡ requests_with channel ticket (awaited_by answered) self.old.replies.what }
-        ensures slots { self.new.tickets.slots ≡ fold after_mark self.old.tickets.slots (made_marks ticket (made_by answered)) }
-        ensures outbox { self.new.outbox ≡ self.old.outbox }
-    {
-        match answered {
-            Answered::ByReply(reply) => self.open_request(alloc, channel, Some(ticket), reply),
-            Answered::AtOnce(reply, answer) => {
-                drop(reply);
-                self.tickets.answer(ticket, Ok(answer));
-            }
-            Answered::AsItLeaves(_) => (),
-        }
     }
 
     // Opens a request on a channel, in the room that was made.
@@ -171,8 +168,28 @@ impl Desk {
         self.open_request(alloc, channel, None, reply);
     }
 
-    /// Resolves a ticket, if somebody holds it.
-    pub fn resolve(&mut self, ticket: Option<u64>, answer: Result<Answer, Error>)
+    /// Resolves a ticket with an answer, in the room that was made for it, if somebody holds the ticket.
+    pub fn resolve(&mut self, ticket: Option<u64>, answer: Answer, place: Place)
+        ensures slots { self.new.tickets.slots ≡ fold after_mark self.old.tickets.slots (resolved_with (Ok answer) ticket) }
+        ensures outbox { self.new.outbox ≡ self.old.outbox }
+        ensures replies { self.new.replies ≡ self.old.replies }
+        ensures room { self.new.tickets.ready ≡ self.old.tickets.ready }
+    {
+        self.answer(ticket, Held::in_place(place, answer));
+    }
+
+    /// The call of a ticket is done and has nothing to tell, if somebody holds the ticket. It takes no room.
+    pub fn done(&mut self, ticket: Option<u64>)
+        ensures slots { self.new.tickets.slots ≡ fold after_mark self.old.tickets.slots (resolved_with (Ok answer.Done) ticket) }
+        ensures outbox { self.new.outbox ≡ self.old.outbox }
+        ensures replies { self.new.replies ≡ self.old.replies }
+        ensures room { self.new.tickets.ready ≡ self.old.tickets.ready }
+    {
+        self.answer(ticket, Held::done());
+    }
+
+    // Answers a ticket, if somebody holds it.
+    fn answer(&mut self, ticket: Option<u64>, answer: Held)
         ensures slots { self.new.tickets.slots ≡ fold after_mark self.old.tickets.slots (resolved_with answer ticket) }
         ensures outbox { self.new.outbox ≡ self.old.outbox }
         ensures replies { self.new.replies ≡ self.old.replies }
@@ -193,16 +210,6 @@ impl Desk {
     {
         first_left(&mut self.tickets, left);
         last_left(&mut self.tickets, left);
-    }
-}
-
-// The answer that the leaving of its last frame gives a call.
-fn at_leaving(answered: &Answered) -> AtLeaving
-    ensures { result ≡ leaving_by answered.now }
-{
-    match answered {
-        Answered::AsItLeaves(at_leaving) => *at_leaving,
-        _ => AtLeaving::Nothing,
     }
 }
 

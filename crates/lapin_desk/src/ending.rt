@@ -25,7 +25,7 @@ use lapin_confirm::Confirms;
 use lapin_history::is_kind;
 use lapin_outbox::Replies;
 use lapin_phases::Phases;
-use lapin_types::{Answer, Error, ReplyKind, Request};
+use lapin_types::{Error, ReplyKind, Request};
 
 impl Desk {
     /// A close of this side: the publishes of a channel that have not begun are taken out, and their tickets and confirms fail
@@ -164,7 +164,7 @@ impl Desk {
         ensures room { self.new.tickets.ready ≡ self.old.tickets.ready }
     {
         if is_kind(ReplyKind::BasicCancelOk, &request) {
-            self.resolve(request.ticket, Ok(Answer::Done));
+            self.done(request.ticket);
         }
     }
 

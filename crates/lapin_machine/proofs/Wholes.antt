@@ -5,6 +5,7 @@ use Rattle.lapin_types.specs.Types.{Error}
 use Rattle.lapin_types.specs.Types.error
 use Rattle.lapin_confirm.specs.Kept.{Kept}
 use Rattle.lapin_inbox.specs.declared.inbox.Inbox.{Inbox as Held}
+use Rattle.lapin_ticket.specs.declared.held.Place.{Place}
 use Rattle.lapin_machine.specs.Whole.{Fits, FitsFront}
 use Rattle.lapin_methods.specs.declared.frame.ContentHeader.{ContentHeader}
 use Rattle.lapin_content.specs.declared.start.Start.{Start}
@@ -68,12 +69,12 @@ and_right true y h = h
 and_right false y h = cc
 
 -- there is room for it where there is room for what stands at the front
-pub fits_whole : (es : List Expected) (r : Result (Option Whole) Error) (w : Whole) (c : ℕ) (h : Held) (k : Kept) → Ends es r → r ≡ Ok (Some w) → FitsFront (front_start es) c h k → Fits w.start c h k
-fits_whole es r w c h k e is room =
+pub fits_whole : (es : List Expected) (r : Result (Option Whole) Error) (w : Whole) (c : ℕ) (h : Held) (k : Kept) (p : Option Place) → Ends es r → r ≡ Ok (Some w) → FitsFront (front_start es) c h k p → Fits w.start c h k p
+fits_whole es r w c h k p e is room =
     let at_end : r ≡ Ok (Some e.whole) = e.is in
     let same : e.whole ≡ w = cc in
-    let P : Option Start → Type 0 = λ s. FitsFront s c h k in
-    let Q : Whole → Type 0 = λ x. Fits x.start c h k in
+    let P : Option Start → Type 0 = λ s. FitsFront s c h k p in
+    let Q : Whole → Type 0 = λ x. Fits x.start c h k p in
     subst Q same (subst P e.front room)
 
 -- what a body is answered by, where it is not for want of memory

@@ -2,6 +2,7 @@ pub mod World
 pub mod Consumers
 pub mod Told
 pub mod Numbers
+pub mod Places
 pub mod Whole
 pub mod Tied
 pub mod Stands

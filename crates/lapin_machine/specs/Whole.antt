@@ -1,6 +1,6 @@
--- The room that a whole content needs: a get's message takes the next acker, a delivery the next acker and a place with its consumer, a
--- returned message a place with the confirms.
-use Rattle.std.specs.Prelude.{◌≡◌, ℕ, ◌+◌, ◌<◌, ◌^◌, true, Option, Some, None, Result, Ok, Err, length}
+-- The room that a whole content needs: a get's message takes the next acker and a place for the answer, a delivery the next acker and a
+-- place with its consumer, a returned message a place with the confirms.
+use Rattle.std.specs.Prelude.{◌≡◌, ℕ, ◌+◌, ◌<◌, ◌^◌, true, Option, Some, None, IsSome, Result, Ok, Err, length}
 use Rattle.lapin_types.specs.Types.{Error}
 use Rattle.lapin_types.specs.Types.error
 use Rattle.lapin_content.specs.declared.start.Start.{Start}
@@ -10,6 +10,7 @@ use Rattle.lapin_consumer.specs.Roster.{is_registered}
 use Rattle.lapin_inbox.specs.declared.inbox.Inbox.{Inbox as Held}
 use Rattle.lapin_inbox.specs.Held.{HasAckerRoom, HasDeliveryRoom}
 use Rattle.lapin_inbox.specs.Inbox.{Inbox}
+use Rattle.lapin_ticket.specs.declared.held.Place.{Place}
 use Rattle.lapin_history.specs.Content.{next_acker, for_acker}
 
 -- there is room for a delivery of this consumer, if it is registered
@@ -18,15 +19,15 @@ FitsAt None h = Unit {0}
 FitsAt (Some k) h = is_registered k h.consumers.roster ≡ true → HasDeliveryRoom k h
 
 -- there is room for a content on channel c that began so
-abbrev pub Fits : Start → ℕ → Held → Kept → Type 0
-Fits (start.Get ticket tag exchange key redelivered count) c h k = HasAckerRoom h
-Fits (start.Deliver consumer tag exchange key redelivered) c h k = FitsAt consumer h
-Fits (start.Return code text exchange key) c h k = 0 < spare_on c k
+abbrev pub Fits : Start → ℕ → Held → Kept → Option Place → Type 0
+Fits (start.Get ticket tag exchange key redelivered count) c h k p = HasAckerRoom h × IsSome p
+Fits (start.Deliver consumer tag exchange key redelivered) c h k p = FitsAt consumer h
+Fits (start.Return code text exchange key) c h k p = 0 < spare_on c k
 
 -- for the content at the front, if there is one
-abbrev pub FitsFront : Option Start → ℕ → Held → Kept → Type 0
-FitsFront None c h k = Unit {0}
-FitsFront (Some s) c h k = Fits s c h k
+abbrev pub FitsFront : Option Start → ℕ → Held → Kept → Option Place → Type 0
+FitsFront None c h k p = Unit {0}
+FitsFront (Some s) c h k p = Fits s c h k p
 
 -- the next acker would pass the greatest u64
 abbrev pub NoAcker : Inbox → Type 0
@@ -38,7 +39,7 @@ LacksAcker None i = ⊥
 LacksAcker (Some s) i = (for_acker i s ≡ true) × NoAcker i
 
 -- why there is no room: want of memory, or a message for which the next acker would pass the greatest u64
-abbrev pub MakesRoom : Result (Unit {0}) Error → Option Start → Inbox → Type 0
+abbrev pub MakesRoom : Result (Option Place) Error → Option Start → Inbox → Type 0
 MakesRoom (Ok x) s i = Unit {0}
 MakesRoom (Err error.NoMemory) s i = Unit {0}
 MakesRoom (Err error.NumbersUsedUp) s i = LacksAcker s i

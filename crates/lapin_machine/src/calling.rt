@@ -2,14 +2,19 @@
 //!
 //! Each is refused by the channel's state, then for want of numbers; then it is queued whole, or nothing changes.
 
-ghost use Rattle.std.specs.Prelude.{◌≡◌, ◌&&◌, false, IfOk, OnOk, OnErr};
+ghost use Rattle.std.specs.Prelude.{◌≡◌, ◌&&◌, ◌+◌, ◌^◌, ◌<◌, false, Some, None, IfOk, OnOk, OnErr, length};
 ghost use Rattle.std.specs.List.{fold};
 ghost use Rattle.lapin_types.specs.declared.event.Event.TheVariants.{Call as CallEvent};
 ghost use Rattle.lapin_types.specs.declared.call.Call.TheVariants.{OpenChannel, BasicPublish, TryBasicPublish};
 ghost use Rattle.lapin_history.specs.declared.calls.Asked.TheVariants as ask;
-ghost use Rattle.lapin_history.specs.Calls.{asked as asked_lem, publishes};
-ghost use Rattle.lapin_history.specs.Asking.{call_record, is_held};
-ghost use Rattle.lapin_history.specs.Wire.{state_of, is_open as is_open_lem};
+ghost use Rattle.lapin_history.specs.Calls.{asked as asked_lem, publishes, awaited_by, made_by, leaving_by};
+ghost use Rattle.lapin_history.specs.Asking.{call_record, is_held, made_marks};
+ghost use Rattle.lapin_history.specs.Wire.{state_of, is_open as is_open_lem, requests_with};
+ghost use Rattle.lapin_history.specs.TicketReadings as mark;
+ghost use Rattle.lapin_outbox.specs.Outgoing.{with_method, with_lists};
+ghost use Rattle.lapin_outbox.specs.Poison.{poison_on};
+ghost use Rattle.lapin_ticket.specs.Slots as answers;
+ghost use Rattle.lapin_desk.specs.Rooms.{HasRoom};
 ghost use Rattle.lapin_confirm.specs.Book.{at_limit_on};
 ghost use Rattle.lapin_history.specs.Select.{queued_marks};
 ghost use Rattle.lapin_history.specs.Consumers.{called_inbox, cancel_inbox, all_inbox};
@@ -20,15 +25,18 @@ ghost use Rattle.lapin_confirm.specs.Machine as post;
 ghost use Rattle.lapin_machine.specs.World.{told_by, next, asking, readings_of};
 ghost use Rattle.lapin_machine.specs.Told.{TicketTold, PublishTold, ticket_told, publish_told};
 ghost use Rattle.lapin_machine.specs.Numbers.{HasCause, CallCause, TryCause, AskCause};
+ghost use Rattle.lapin_machine.specs.Places.{HasPlace};
 
 use crate::channel::{Published, PublisherConfirm, Ticket};
 use crate::session::{Session, is_closed, is_open};
 use lapin_confirm::Confirms;
+use lapin_desk::Desk;
 use lapin_history::{Answered, Asked, AtLeaving, ChannelPhase, Row, is_try, sort_call};
 use lapin_inbox::Inbox;
+use lapin_ticket::Place;
 use lapin_types::{
-    Answer, BasicMethod, BasicProperties, BasicPublishOptions, Call, ChannelMethod, ConfirmMethod,
-    Error, Method, NoMemory, Payload, Publish, Record, Reply, ShortString,
+    BasicMethod, BasicProperties, BasicPublishOptions, Call, ChannelMethod, ConfirmMethod, Error,
+    Method, NoMemory, Payload, Publish, Record, Reply, ShortString,
 };
 use std::alloc::Global;
 
@@ -58,11 +66,10 @@ impl Session {
         self.confirms.begin(alloc, channel)?;
         self.inbox.begin(alloc, channel);
         self.phases.set(channel, ChannelPhase::Opening);
-        let row = Row {
-            method: Method::Channel(ChannelMethod::Open),
-            answered: Answered::ByReply(Reply::ChannelOpenOk),
-        };
-        let number = self.desk.queue(alloc, channel, row);
+        let method = Method::Channel(ChannelMethod::Open);
+        let number = self
+            .desk
+            .queue_awaiting(alloc, channel, method, Reply::ChannelOpenOk);
         Ok(Ticket { number })
     }
 
@@ -137,12 +144,16 @@ impl Session {
             drop(row);
             return Err(Error::NoMemory);
         }
+        let Ok(place) = place_at_once(alloc, &row.answered) else {
+            drop(row);
+            return Err(Error::NoMemory);
+        };
         if let Err(NoMemory) = line_called(&mut self.inbox, alloc, channel, &row) {
             drop(row);
             return Err(Error::NoMemory);
         }
         confirms_called(&mut self.confirms, channel, &row.method);
-        let number = self.desk.queue(alloc, channel, row);
+        let number = queue_line(&mut self.desk, alloc, channel, row, place);
         Ok(Ticket { number })
     }
 
@@ -244,7 +255,7 @@ impl Session {
         }
         self.desk.tickets.reserve(alloc, channel)?;
         let number = self.desk.tickets.give(channel, AtLeaving::Nothing);
-        self.desk.tickets.answer(number, Ok(Answer::Done));
+        self.desk.done(Some(number));
         self.confirms.set_limit(channel, limit);
         Ok(Ticket { number })
     }
@@ -295,6 +306,39 @@ impl Session {
             )),
             asked => ticket_record(self.ask(alloc, channel, asked)),
         }
+    }
+}
+
+// The room for the answer of a line that is answered at once; another needs none.
+fn place_at_once(alloc: Global, answered: &Answered) -> Result<Option<Place>, NoMemory>
+    ensures { IfOk result (λ place. HasPlace answered.now place) }
+{
+    match answered {
+        Answered::AtOnce(_, _) => Ok(Some(Place::new(alloc)?)),
+        _ => Ok(None),
+    }
+}
+
+// A line is queued under the next ticket, in the room that was made: it opens the request of the reply that it awaits, or answers
+// the ticket, or the leaving of its frame does.
+fn queue_line(desk: &mut Desk, alloc: Global, channel: u16, row: Row, place: Option<Place>) -> u64
+    requires room { HasRoom channel desk.old }
+    requires numbers { length desk.old.tickets.slots + 1 < 2 ^ 64 }
+    requires unpoisoned { poison_on channel desk.old.outbox.what ≡ None }
+    requires place { HasPlace row.answered place }
+    ensures ticket { result ≡ length desk.old.tickets.slots + 1 }
+    ensures outbox { desk.new.outbox.what ≡ with_lists (with_method (record { channel = channel; method = row.method; ticket = Some (length desk.old.tickets.slots + 1) }) desk.old.outbox.what.lists) desk.old.outbox.what }
+    ensures requests { desk.new.replies.what ≡ requests_with channel (length desk.old.tickets.slots + 1) (awaited_by row.answered) desk.old.replies.what }
+    ensures slots { desk.new.tickets.slots ≡ fold answers.after_mark (answers.after_mark desk.old.tickets.slots (mark.Given channel (leaving_by row.answered))) (made_marks (length desk.old.tickets.slots + 1) (made_by row.answered)) }
+{
+    let Row { method, answered } = row;
+    match answered {
+        Answered::ByReply(reply) => desk.queue_awaiting(alloc, channel, method, reply),
+        Answered::AtOnce(reply, answer) => {
+            drop(reply);
+            desk.queue_answered(alloc, channel, method, answer, place.unwrap())
+        }
+        Answered::AsItLeaves(at_leaving) => desk.queue(alloc, channel, method, at_leaving),
     }
 }
 

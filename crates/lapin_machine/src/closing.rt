@@ -33,7 +33,7 @@ use crate::session::{Session, is_base, is_open};
 use lapin_confirm::Confirms;
 use lapin_content::Contents;
 use lapin_desk::Desk;
-use lapin_history::{Answered, ChannelPhase, Closer, ConnectionPhase, Row, failed_at_close};
+use lapin_history::{ChannelPhase, Closer, ConnectionPhase, failed_at_close};
 use lapin_inbox::Inbox;
 use lapin_outbox::Replies;
 use lapin_phases::Phases;
@@ -73,16 +73,15 @@ impl Session {
             Closer::Application,
         );
         self.inbox.ask_close(channel);
-        let row = Row {
-            method: Method::Channel(ChannelMethod::Close {
-                reply_code,
-                reply_text,
-                class_id: 0,
-                method_id: 0,
-            }),
-            answered: Answered::ByReply(Reply::ChannelCloseOk),
-        };
-        let number = self.desk.queue(alloc, channel, row);
+        let method = Method::Channel(ChannelMethod::Close {
+            reply_code,
+            reply_text,
+            class_id: 0,
+            method_id: 0,
+        });
+        let number = self
+            .desk
+            .queue_awaiting(alloc, channel, method, Reply::ChannelCloseOk);
         Ok(Ticket { number })
     }
 
@@ -148,16 +147,15 @@ impl Session {
             to,
             error,
         );
-        let row = Row {
-            method: Method::Connection(ConnectionMethod::Close {
-                reply_code,
-                reply_text,
-                class_id: 0,
-                method_id: 0,
-            }),
-            answered: Answered::ByReply(Reply::ConnectionCloseOk),
-        };
-        let number = self.desk.queue(alloc, channel, row);
+        let method = Method::Connection(ConnectionMethod::Close {
+            reply_code,
+            reply_text,
+            class_id: 0,
+            method_id: 0,
+        });
+        let number = self
+            .desk
+            .queue_awaiting(alloc, channel, method, Reply::ConnectionCloseOk);
         Ok(Ticket { number })
     }
 

@@ -48,17 +48,19 @@ impl Session {
             drop(method);
             return Err(Error::NumbersUsedUp);
         }
-        if self.desk.reserve(alloc, channel).is_err() {
+        let Ok(place) = self.desk.reserve_answered(alloc, channel) else {
             drop(method);
             return Err(Error::NoMemory);
-        }
+        };
         match self
             .inbox
             .consume(alloc, channel, consumer_tag, queue, options)
         {
             Ok(consumer) => {
                 let answer = Answer::Consumer(consumer);
-                let number = self.desk.queue_answered(alloc, channel, method, answer);
+                let number = self
+                    .desk
+                    .queue_answered(alloc, channel, method, answer, place);
                 Ok(Ticket { number })
             }
             Err(error) => {

@@ -26,7 +26,7 @@ impl Session {
         ensures ok { self.new ≡ next self.old (event.PollTicket number) }
     {
         match self.desk.tickets.take(number) {
-            Ok(Some(answer)) => Ok(Poll::Ready(answer)),
+            Ok(Some(answer)) => Ok(Poll::Ready(answer.into_answer())),
             Ok(None) => Ok(Poll::Pending),
             Err(error) => Err(error),
         }

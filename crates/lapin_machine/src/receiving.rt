@@ -40,6 +40,7 @@ use lapin_history::{
 use lapin_inbox::Inbox;
 use lapin_outbox::Replies;
 use lapin_phases::Phases;
+use lapin_ticket::Place;
 use lapin_types::{Answer, ChannelMethod, Error, Frame, Method, NoMemory, Record, ReplyKind};
 use std::alloc::Global;
 
@@ -224,6 +225,10 @@ impl Session {
         ensures ok { WasHeard result (self.new ≡ receiving (ReplyFrame channel kind answer) Received self.old) (self.new ≡ self.old) }
         ensures numbers { HasNumbers result }
     {
+        let Ok(place) = Place::new(alloc) else {
+            drop(answer);
+            return Err(Error::NoMemory);
+        };
         let completed = complete_first(
             &mut self.inbox,
             &self.desk.replies,
@@ -237,7 +242,7 @@ impl Session {
             return Err(Error::NoMemory);
         }
         phase_replied(&mut self.phases, channel, kind);
-        answer_first(&mut self.desk, channel, kind, answer);
+        answer_first(&mut self.desk, channel, kind, answer, place);
         Ok(Heard::Received)
     }
 

@@ -30,7 +30,7 @@ use lapin_history::{
     ChannelPhase, ConnectionPhase, after_broker_close, close_ok_end, consumers_end, has_sent_close,
 };
 use lapin_outbox::Replies;
-use lapin_types::{Answer, ChannelMethod, ConnectionMethod, Error, Method, ReplyKind, Request};
+use lapin_types::{ChannelMethod, ConnectionMethod, Error, Method, ReplyKind, Request};
 use std::alloc::Global;
 
 impl Session {
@@ -95,7 +95,7 @@ impl Session {
         let due = consumers_end(self.phase(channel));
         self.inbox.end_channel(alloc, channel, due)?;
         let close = take_close(&mut self.desk.replies, channel);
-        self.desk.resolve(into_ticket(close), Ok(Answer::Done));
+        self.desk.done(into_ticket(close));
         self.desk
             .end_opening(&mut self.confirms, channel, None, error);
         self.contents.drop_channel(channel);
@@ -111,7 +111,7 @@ impl Session {
     {
         let close = take_request(&mut self.desk.replies, channel, ReplyKind::ChannelCloseOk);
         self.phases.set(channel, ChannelPhase::Closed);
-        self.desk.resolve(into_ticket(close), Ok(Answer::Done));
+        self.desk.done(into_ticket(close));
     }
 
     // The broker closes the connection, which is open, or which this side is closing: close-ok is queued. Where this side's close
@@ -163,7 +163,7 @@ impl Session {
         let close = take_request(&mut self.desk.replies, 0, ReplyKind::ConnectionCloseOk);
         drop_unsent(self.link, &mut self.desk);
         self.link = ConnectionPhase::Closed;
-        self.desk.resolve(into_ticket(close), Ok(Answer::Done));
+        self.desk.done(into_ticket(close));
     }
 }
 

@@ -25,6 +25,7 @@ use crate::channel::Heard;
 use crate::session::{Session, is_open};
 use lapin_desk::Desk;
 use lapin_history::{ConsumerPart, receives, receives_on};
+use lapin_ticket::Place;
 use lapin_types::{
     Answer, BasicConsumeOptions, BasicMethod, Error, Method, NoMemory, Reply, ReplyKind,
     ShortString,
@@ -108,11 +109,18 @@ impl Session {
         ensures ok { WasHeard result (self.new ≡ receiving (ConsumerFrame channel (ConsumeOk tag)) Received self.old) (self.new ≡ self.old) }
         ensures cause { ReceiveCause result (ConsumerFrame channel (ConsumeOk tag)) self.old.wire }
     {
+        let place = Place::new(alloc)?;
         let queue = self.queue_asked(alloc, channel)?;
         let options = BasicConsumeOptions::default();
         let number = self.inbox.consume(alloc, channel, tag, queue, options)?;
         let answer = Answer::Consumer(number);
-        answer_first(&mut self.desk, channel, ReplyKind::BasicConsumeOk, answer);
+        answer_first(
+            &mut self.desk,
+            channel,
+            ReplyKind::BasicConsumeOk,
+            answer,
+            place,
+        );
         Ok(Heard::Received)
     }
 
@@ -128,12 +136,14 @@ impl Session {
         ensures ok { WasHeard result (self.new ≡ receiving (ConsumerFrame channel (CancelOk tag)) Received self.old) (self.new ≡ self.old) }
         ensures numbers { HasNumbers result }
     {
+        let place = Place::new(alloc)?;
         self.inbox.cancel(alloc, channel, tag.as_str())?;
         answer_first(
             &mut self.desk,
             channel,
             ReplyKind::BasicCancelOk,
             Answer::Done,
+            place,
         );
         Ok(Heard::Received)
     }
@@ -145,12 +155,14 @@ impl Session {
         ensures ok { WasHeard result (self.new ≡ receiving (ConsumerFrame channel RecoverOk) Received self.old) (self.new ≡ self.old) }
         ensures numbers { HasNumbers result }
     {
+        let place = Place::new(alloc)?;
         self.inbox.discard(alloc, channel)?;
         answer_first(
             &mut self.desk,
             channel,
             ReplyKind::BasicRecoverOk,
             Answer::Done,
+            place,
         );
         Ok(Heard::Received)
     }
@@ -224,15 +236,22 @@ pub(crate) fn no_text(alloc: Global) -> Result<ShortString, NoMemory>
     }
 }
 
-// The oldest request of a kind on a channel is taken, and its ticket answered, if somebody holds it.
-pub(crate) fn answer_first(desk: &mut Desk, channel: u16, kind: ReplyKind, answer: Answer)
+// The oldest request of a kind on a channel is taken, and its ticket answered, if somebody holds it, in the room that was made for
+// the answer.
+pub(crate) fn answer_first(
+    desk: &mut Desk,
+    channel: u16,
+    kind: ReplyKind,
+    answer: Answer,
+    place: Place,
+)
     requires { is_some (first_request kind (requests_at channel desk.old.replies.what)) ≡ true }
     ensures requests { desk.new.replies.what ≡ without_request channel kind desk.old.replies.what }
     ensures slots { desk.new.tickets.slots ≡ fold answers.after_mark desk.old.tickets.slots (reply_marks answer (first_request kind (requests_at channel desk.old.replies.what))) }
     ensures outbox { desk.new.outbox ≡ desk.old.outbox }
 {
     match desk.replies.take_first(channel, kind) {
-        Some(request) => desk.resolve(request.into_ticket(), Ok(answer)),
+        Some(request) => desk.resolve(request.into_ticket(), answer, place),
         None => drop(answer),
     }
 }

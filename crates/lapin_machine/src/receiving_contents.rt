@@ -202,16 +202,20 @@ impl Session {
         ensures ok { WasHeard result (self.new ≡ receiving (Content channel (Header header)) Received self.old) (self.new ≡ self.old) }
         ensures cause { ReceiveCause result (Content channel (Header header)) self.old.wire }
     {
-        if let Err(error) = make_room(
+        let made = make_room(
             alloc,
             &self.contents,
             &mut self.confirms,
             &mut self.inbox,
             channel,
-        ) {
-            drop(header);
-            return Err(error);
-        }
+        );
+        let place = match made {
+            Ok(place) => place,
+            Err(error) => {
+                drop(header);
+                return Err(error);
+            }
+        };
         match self.contents.header(alloc, channel, header) {
             Ok(Some(whole)) => {
                 complete(
@@ -221,6 +225,7 @@ impl Session {
                     &mut self.inbox,
                     channel,
                     whole,
+                    place,
                 );
                 Ok(Heard::Received)
             }
@@ -295,16 +300,20 @@ impl Session {
         ensures ok { WasHeard result (self.new ≡ receiving (Content channel (Body payload)) Received self.old) (self.new ≡ self.old) }
         ensures cause { ReceiveCause result (Content channel (Body payload)) self.old.wire }
     {
-        if let Err(error) = make_room(
+        let made = make_room(
             alloc,
             &self.contents,
             &mut self.confirms,
             &mut self.inbox,
             channel,
-        ) {
-            drop(payload);
-            return Err(error);
-        }
+        );
+        let place = match made {
+            Ok(place) => place,
+            Err(error) => {
+                drop(payload);
+                return Err(error);
+            }
+        };
         match self.contents.body(alloc, channel, payload) {
             Ok(Some(whole)) => {
                 complete(
@@ -314,11 +323,15 @@ impl Session {
                     &mut self.inbox,
                     channel,
                     whole,
+                    place,
                 );
                 Ok(Heard::Received)
             }
             Ok(None) => unreachable!(),
-            Err(_) => Err(Error::NoMemory),
+            Err(_) => {
+                drop(place);
+                Err(Error::NoMemory)
+            }
         }
     }
 }

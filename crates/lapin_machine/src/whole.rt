@@ -3,7 +3,7 @@
 //! Which frame makes a content whole stands in `receiving_contents`, what becomes of a returned message in `lapin_confirm`, of a
 //! delivery in `lapin_consumer`.
 
-ghost use Rattle.std.specs.Prelude.{◌≡◌, Some, OnOk};
+ghost use Rattle.std.specs.Prelude.{◌≡◌, Some, IfOk, OnOk};
 ghost use Rattle.std.specs.List.{fold};
 ghost use Rattle.lapin_history.specs.Content.{next_acker, start_inbox, whole_inbox, whole_marks, whole_tickets, delivered_message, returned_message};
 ghost use Rattle.lapin_content.specs.declared.start.Start.TheVariants.{Deliver as DeliverStart};
@@ -20,6 +20,7 @@ use lapin_confirm::Confirms;
 use lapin_content::{Contents, Start, Whole};
 use lapin_desk::Desk;
 use lapin_inbox::Inbox;
+use lapin_ticket::Place;
 use lapin_types::{
     Acker, Answer, BasicGetMessage, BasicProperties, BasicReturnMessage, Delivery, Error, Payload,
     ShortString,
@@ -33,37 +34,43 @@ pub(crate) fn make_room(
     confirms: &mut Confirms,
     inbox: &mut Inbox,
     channel: u16,
-) -> Result<(), Error>
+) -> Result<Option<Place>, Error>
     ensures same { (confirms.new.what ≡ confirms.old.what) × (what inbox.new ≡ what inbox.old) }
-    ensures room { OnOk result (FitsFront (front_start (expected_on channel contents.now)) channel inbox.new confirms.new) }
+    ensures room { IfOk result (λ place. FitsFront (front_start (expected_on channel contents.now)) channel inbox.new confirms.new place) }
     ensures cause { MakesRoom result (front_start (expected_on channel contents.now)) (what inbox.old) }
 {
     match contents.front(channel) {
         Some(start) => make_room_for(alloc, start, confirms, inbox, channel),
-        None => Ok(()),
+        None => Ok(None),
     }
 }
 
-// The message of a get takes an acker, a delivery an acker and a place with its consumer, a returned message a place with the
-// confirms.
+// The message of a get takes an acker and a place for the answer, a delivery an acker and a place with its consumer, a returned
+// message a place with the confirms.
 fn make_room_for(
     alloc: Global,
     start: &Start,
     confirms: &mut Confirms,
     inbox: &mut Inbox,
     channel: u16,
-) -> Result<(), Error>
+) -> Result<Option<Place>, Error>
     ensures same { (confirms.new.what ≡ confirms.old.what) × (what inbox.new ≡ what inbox.old) }
-    ensures room { OnOk result (Fits start.now channel inbox.new confirms.new) }
+    ensures room { IfOk result (λ place. Fits start.now channel inbox.new confirms.new place) }
     ensures cause { MakesRoom result (Some start.now) (what inbox.old) }
 {
     match start {
-        Start::Get { .. } => inbox.reserve_acker(alloc),
+        Start::Get { .. } => {
+            inbox.reserve_acker(alloc)?;
+            Ok(Some(Place::new(alloc)?))
+        }
         Start::Return { .. } => {
             confirms.reserve(alloc, channel)?;
-            Ok(())
+            Ok(None)
         }
-        Start::Deliver { consumer, .. } => make_room_at(alloc, *consumer, inbox),
+        Start::Deliver { consumer, .. } => {
+            make_room_at(alloc, *consumer, inbox)?;
+            Ok(None)
+        }
     }
 }
 
@@ -91,8 +98,9 @@ pub(crate) fn complete(
     inbox: &mut Inbox,
     channel: u16,
     whole: Whole,
+    place: Option<Place>,
 )
-    requires { Fits whole.start channel inbox.old confirms.old }
+    requires { Fits whole.start channel inbox.old confirms.old place }
     ensures confirms { confirms.new.what ≡ fold post.after_mark confirms.old.what (whole_marks channel (Some whole)) }
     ensures slots { desk.new.tickets.slots ≡ fold answers.after_mark desk.old.tickets.slots (whole_tickets channel (next_acker (what inbox.old)) (Some whole)) }
     ensures inbox { what inbox.new ≡ fold after_inbox_mark (what inbox.old) (whole_inbox channel (what inbox.old) (Some whole)) }
@@ -128,7 +136,7 @@ pub(crate) fn complete(
                 delivery,
                 message_count,
             };
-            desk.resolve(ticket, Ok(Answer::Got(Some(message))));
+            desk.resolve(ticket, Answer::Got(Some(message)), place.unwrap());
         }
         Start::Return {
             reply_code,

@@ -53,7 +53,7 @@ fn fail_all(slots: &mut Numbered<Slot>, error: Error)
     };
     let mut number = slots.count();
     while number >= first {
-        slots::answer(slots, number, Err(error));
+        slots::fail(slots, number, error);
         number -= 1;
     }
 }
@@ -141,7 +141,7 @@ fn reject(slots: &mut Numbered<Slot>, number: u64, channel: u16, error: Error)
     ensures room { slots.new.spare ≡ slots.old.spare }
 {
     if is_unbegun(slots, number, channel) {
-        slots::answer(slots, number, Err(error));
+        slots::fail(slots, number, error);
     }
 }
 
@@ -152,7 +152,7 @@ fn fail(slots: &mut Numbered<Slot>, number: u64, channel: u16, spared: Option<u6
     ensures room { slots.new.spare ≡ slots.old.spare }
 {
     if is_open_on(slots, number, channel) && !is_spared(number, spared) {
-        slots::answer(slots, number, Err(error));
+        slots::fail(slots, number, error);
     }
 }
 

@@ -5,6 +5,7 @@
 
 mod ends;
 mod given;
+mod held;
 pub mod laws;
 mod slots;
 
@@ -20,9 +21,10 @@ ghost use Rattle.lapin_ticket.specs.Follows.{Follows, WasGiven};
 
 use crate::ends::let_go;
 use crate::given::Given;
+pub use held::{Held, Place};
 use lapin_history::AtLeaving;
 use lapin_tables::Numbered;
-use lapin_types::{Answer, Error, NoMemory};
+use lapin_types::{Error, NoMemory};
 use std::alloc::Global;
 use std::marker::Model;
 
@@ -33,7 +35,7 @@ pub enum Slot {
     /// publish has begun.
     Open(u16, AtLeaving, bool),
     /// Its answer, not given yet.
-    Held(Result<Answer, Error>),
+    Held(Held),
 }
 
 /// The tickets of a session, numbered from 1. Contracts see one slot per ticket, `None` where its answer was given, and the
@@ -129,7 +131,7 @@ impl Tickets {
     }
 
     /// Resolves a ticket. One that has an answer keeps it, and one whose answer was given drops this one.
-    pub fn answer(&mut self, number: u64, answer: Result<Answer, Error>)
+    pub fn answer(&mut self, number: u64, answer: Held)
         ensures slots { self.new.slots ≡ after_mark self.old.slots (mark.Answered number answer) }
         ensures room { self.new.ready ≡ self.old.ready }
     {
@@ -147,7 +149,7 @@ impl Tickets {
     ///
     /// # Errors
     /// `UnknownTicket` where the ticket was never given, `AlreadyTaken` where its answer was given.
-    pub fn take(&mut self, number: u64) -> Result<Option<Result<Answer, Error>>, Error>
+    pub fn take(&mut self, number: u64) -> Result<Option<Held>, Error>
         ensures told { result ≡ polled number self.old.slots }
         ensures slots { self.new.slots ≡ after_poll number self.old.slots }
     {
@@ -158,7 +160,7 @@ impl Tickets {
     }
 
     // The answer of a ticket that was given.
-    fn give_answer(&mut self, number: u64) -> Result<Option<Result<Answer, Error>>, Error>
+    fn give_answer(&mut self, number: u64) -> Result<Option<Held>, Error>
         ensures told { result ≡ polled_slot (under number self.old.slots) }
         ensures slots { self.new.slots ≡ after_poll number self.old.slots }
     {

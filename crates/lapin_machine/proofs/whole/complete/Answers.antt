@@ -31,7 +31,7 @@ returns-in-Get-clause-inbox c =
 
 pub returns-in-Return-clause-confirms : goal.returns-in-Return-clause-confirms
 returns-in-Return-clause-confirms c =
-    let Room : Start → Type 0 = λ s. Fits s c.args.channel c.args.inbox.now c.args.confirms.now in
+    let Room : Start → Type 0 = λ s. Fits s c.args.channel c.args.inbox.now c.args.confirms.now c.args.place in
     let arrived = ok_then c.arrived.result (c.arrived.new.self.what ≡ post.after_mark c.args.confirms.now.what (mark.Arrived c.args.channel c.returned-message.result)) (c.arrived.ensures.succeeds (subst Room c.in-Return.is c.requires)) c.arrived.ensures.ok in
     returned_marks c.args.channel c.args.whole c.in-Return.reply_code c.in-Return.reply_text c.in-Return.exchange c.in-Return.routing_key c.returned-message.result c.args.confirms.now.what c.arrived.new.self.what
     c.in-Return.is (c.returned-message.ensures c.args.whole.start) arrived

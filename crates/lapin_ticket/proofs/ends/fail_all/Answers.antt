@@ -24,10 +24,10 @@ loop-number-smaller c = let one : 1 ≤ c.in-Some.first = first-positive c.in-So
 
 pub loop-number-preserved : goal.loop-number-preserved
 loop-number-preserved c = record {
-  same = rw c.answer.ensures.slots (answered-before c.loop-number.number (Err c.args.error) c.loop-number.slots.slots) ∙ c.loop-number.invariant.same;
-  spare = c.answer.ensures.room ∙ c.loop-number.invariant.spare;
+  same = rw c.fail.ensures.slots (answered-before c.loop-number.number (Err c.args.error) c.loop-number.slots.slots) ∙ c.loop-number.invariant.same;
+  spare = c.fail.ensures.room ∙ c.loop-number.invariant.spare;
   open_left = λ n s there open_.
-      let was = still_open c.loop-number.number n (Err c.args.error) c.loop-number.slots.slots s (rw c.answer.ensures.slots at there) open_ in
+      let was = still_open c.loop-number.number n (Err c.args.error) c.loop-number.slots.slots s (rw c.fail.ensures.slots at there) open_ in
       let apart : n ≢ c.loop-number.number = was.0 in
       let within = c.loop-number.invariant.open_left n s was.1 open_ in
       (within.0, omega (arith, within.1));

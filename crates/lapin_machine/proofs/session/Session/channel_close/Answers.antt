@@ -33,7 +33,7 @@ invariant_of-self-2 c =
     let taken = c.begin_close.ensures.outbox ∙ ap (without_unbegun c.args.channel) c.reserve.ensures.same.outbox in
     let Q : Post → Type 0 = λ p. AreQueued p.book.cells c.begin_close.new.desk.outbox.what.lists.publishes in
     let R : OutboxState → Type 0 = λ o. AreQueued (post.after_mark c.self.inside.confirms.what (confirm.ClosedHere c.args.channel (failed_at_close closer.Application))).book.cells o.lists.publishes in
-    kept_by _ _ _ _ _ _ _ _ refl c.begin_close.ensures.phases (c.queue-number.ensures.outbox ∙ ap (with_entry entry) taken) (ap (λ (p : Post). p.book) c.begin_close.ensures.confirms)
+    kept_by _ _ _ _ _ _ _ _ refl c.begin_close.ensures.phases (c.queue_awaiting-number.ensures.outbox ∙ ap (with_entry entry) taken) (ap (λ (p : Post). p.book) c.begin_close.ensures.confirms)
     (tied_closing c.self.inside.link c.args.channel closer.Application (failed_at_close closer.Application) c.self.inside.phases.entries _ _ c.self.inside.confirms.what.book here.up here.some
     (subst R taken (subst Q c.begin_close.ensures.confirms c.begin_close.ensures.queued)) c.self.invariant.tied)
     c.self.invariant.unpoisoned
@@ -47,9 +47,9 @@ returns-clause-ok c =
     open_
     c.begin_close.ensures.phases
     (c.begin_close.ensures.slots ∙ ap (λ (y : List (Option Slot)). after_mark y (mark.ClosedHere c.args.channel (failed_at_close closer.Application))) c.reserve.ensures.same.slots)
-    (c.queue-number.ensures.outbox ∙ ap (with_entry entry) (c.begin_close.ensures.outbox ∙ ap (without_unbegun c.args.channel) c.reserve.ensures.same.outbox))
-    (c.queue-number.ensures.requests ∙ ap (requests_with c.args.channel number (Some reply.ChannelCloseOk)) (ap (λ (r : OpenRequests). r.what) c.begin_close.ensures.requests ∙ c.reserve.ensures.same.requests))
-    c.queue-number.ensures.slots
+    (c.queue_awaiting-number.ensures.outbox ∙ ap (with_entry entry) (c.begin_close.ensures.outbox ∙ ap (without_unbegun c.args.channel) c.reserve.ensures.same.outbox))
+    (c.queue_awaiting-number.ensures.requests ∙ ap (requests_with c.args.channel number (Some reply.ChannelCloseOk)) (ap (λ (r : OpenRequests). r.what) c.begin_close.ensures.requests ∙ c.reserve.ensures.same.requests))
+    c.queue_awaiting-number.ensures.slots
     c.begin_close.ensures.confirms
     c.ask_close.ensures
     ∙ ap (λ (w : World). next w (event.Call c.args.channel (call.ChannelClose c.args.reply_code c.args.reply_text))) c.self.view_is

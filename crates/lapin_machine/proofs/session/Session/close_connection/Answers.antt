@@ -31,7 +31,7 @@ use Rattle.lapin_machine.proofs.session.Session.close_connection.Goals as goal
 pub invariant_of-self-2 : goal.invariant_of-self-2
 invariant_of-self-2 c =
     let entry : MethodEntry = record { channel = c.args.channel; method = method.Connection (connection.Close c.args.reply_code c.args.reply_text 0 0); ticket = Some (length c.go_down.new.desk.tickets.slots + 1) } in
-    let outbox = c.queue-number.ensures.outbox ∙ ap (with_entry entry) (c.go_down.ensures.outbox ∙ ap emptied_outbox c.reserve-2.ensures.same.outbox) in
+    let outbox = c.queue_awaiting-number.ensures.outbox ∙ ap (with_entry entry) (c.go_down.ensures.outbox ∙ ap emptied_outbox c.reserve-2.ensures.same.outbox) in
     kept_by _ _ _ _ _ _ _ _ refl c.go_down.ensures.phases outbox (ap (λ (p : Post). p.book) c.go_down.ensures.confirms)
     (tied_down c.self.inside.link c.go_down.new.link failed_at_connection_close _ _ c.self.inside.confirms.what c.self.invariant.tied) c.self.invariant.unpoisoned
 
@@ -48,10 +48,10 @@ returns-clause-ok c =
     (c.go_down.ensures.slots
     ∙ ap (λ (y : List (Option Slot)). fold after_mark y (failed c.reserve-2.new.self.replies.what)) c.reserve-2.ensures.same.slots
     ∙ ap (λ (r : List (ℕ × List Request)). fold after_mark c.self.inside.desk.tickets.slots (failed r)) c.reserve-2.ensures.same.requests)
-    (c.queue-number.ensures.outbox ∙ ap (with_entry entry) (c.go_down.ensures.outbox ∙ ap emptied_outbox c.reserve-2.ensures.same.outbox))
-    (c.queue-number.ensures.requests ∙ ap (requests_with c.args.channel number (Some reply.ConnectionCloseOk)) (ap (λ (r : OpenRequests). r.what) c.go_down.ensures.requests ∙ c.reserve.ensures.same ∙ c.in_ok-replies.ensures.made))
+    (c.queue_awaiting-number.ensures.outbox ∙ ap (with_entry entry) (c.go_down.ensures.outbox ∙ ap emptied_outbox c.reserve-2.ensures.same.outbox))
+    (c.queue_awaiting-number.ensures.requests ∙ ap (requests_with c.args.channel number (Some reply.ConnectionCloseOk)) (ap (λ (r : OpenRequests). r.what) c.go_down.ensures.requests ∙ c.reserve.ensures.same ∙ c.in_ok-replies.ensures.made))
     c.go_down.ensures.contents
-    c.queue-number.ensures.slots
+    c.queue_awaiting-number.ensures.slots
     c.go_down.ensures.confirms
     (c.go_down.ensures.inbox ∙ ap (λ (x : Inbox). fold inbox.after_mark x (inbox_ends failed_at_connection_close (live_channels c.self.inside.phases.entries))) c.reserve_ends.ensures.same)
     ∙ ap (λ (w : World). next w (event.Call c.args.channel (call.ConnectionClose c.args.reply_code c.args.reply_text))) c.self.view_is

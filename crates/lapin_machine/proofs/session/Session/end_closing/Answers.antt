@@ -40,7 +40,7 @@ pub invariant_of-self-2 : goal.invariant_of-self-2
 invariant_of-self-2 c =
     let received = ap (λ (w : World). receives_close_ok (state_of c.args.channel w.wire)) c.self.view_is ∙ c.requires.received in
     let here = close_ok_some c.self.inside.link c.args.channel c.self.inside.phases.entries received in
-    let outbox = c.end_opening.ensures.outbox ∙ ap (λ (o : Outgoing). ended_outbox c.args.channel o.what) c.resolve.ensures.outbox in
+    let outbox = c.end_opening.ensures.outbox ∙ ap (λ (o : Outgoing). ended_outbox c.args.channel o.what) c.done.ensures.outbox in
     let Q : Post → Type 0 = λ p. AreQueued p.book.cells c.end_opening.new.self.outbox.what.lists.publishes in
     let R : OutboxState → Type 0 = λ o. AreQueued (post.after_mark c.self.inside.confirms.what (confirm.Ended c.args.channel c.args.error)).book.cells o.lists.publishes in
     kept_by _ _ _ _ _ _ _ _ refl c.set.ensures outbox (ap (λ (p : Post). p.book) c.end_opening.ensures.confirms)
@@ -49,18 +49,18 @@ invariant_of-self-2 c =
 
 pub returns-clause-ok : goal.returns-clause-ok
 returns-clause-ok c =
-    let waiting = ap (λ (r : OpenRequests). r.what) c.resolve.ensures.replies ∙ c.take_close-close.ensures.waiting in
+    let waiting = ap (λ (r : OpenRequests). r.what) c.done.ensures.replies ∙ c.take_close-close.ensures.waiting in
     closing_answered c.self.inside.link c.self.inside.phases.entries c.self.inside.desk.outbox.what c.self.inside.desk.replies.what c.self.inside.contents (what c.self.inside.inbox) c.self.inside.desk.tickets.slots c.self.inside.confirms.what c.args.channel c.args.error _ _ _ _ _ _ _
     (ap (λ (w : World). close_ok_end (phase_of c.args.channel w.wire)) c.self.view_is ∙ c.requires.end)
     c.set.ensures
-    (c.end_opening.ensures.outbox ∙ ap (λ (o : Outgoing). ended_outbox c.args.channel o.what) c.resolve.ensures.outbox)
+    (c.end_opening.ensures.outbox ∙ ap (λ (o : Outgoing). ended_outbox c.args.channel o.what) c.done.ensures.outbox)
     (c.end_opening.ensures.requests ∙ ap (on_channel c.args.channel no_requests) waiting ∙ on_twice c.args.channel (without_kind reply_kind.ChannelCloseOk) no_requests c.self.inside.desk.replies.what)
     c.drop_channel.ensures
     (c.end_opening.ensures.slots
-    ∙ ap (λ (rs : List (ℕ × List Request)). fold after_mark c.resolve.new.self.tickets.slots (cancels_at c.args.channel rs ++ mark.OpeningFailed c.args.channel None c.args.error ∷ [])) (ap (λ (r : OpenRequests). r.what) c.resolve.ensures.replies)
-    ∙ ap (λ (ms : List TicketMark). fold after_mark c.resolve.new.self.tickets.slots (ms ++ mark.OpeningFailed c.args.channel None c.args.error ∷ [])) c.take_close-close.ensures.cancels
+    ∙ ap (λ (rs : List (ℕ × List Request)). fold after_mark c.done.new.self.tickets.slots (cancels_at c.args.channel rs ++ mark.OpeningFailed c.args.channel None c.args.error ∷ [])) (ap (λ (r : OpenRequests). r.what) c.done.ensures.replies)
+    ∙ ap (λ (ms : List TicketMark). fold after_mark c.done.new.self.tickets.slots (ms ++ mark.OpeningFailed c.args.channel None c.args.error ∷ [])) c.take_close-close.ensures.cancels
     ∙ ap (λ (y : List (Option Slot)). fold after_mark y (cancels_at c.args.channel c.self.inside.desk.replies.what ++ mark.OpeningFailed c.args.channel None c.args.error ∷ []))
-    (c.resolve.ensures.slots ∙ ap (λ (t : Option ℕ). fold after_mark c.self.inside.desk.tickets.slots (resolved_with (Ok answer.Done) t)) (c.into_ticket.ensures ∙ ap ticket_of c.take_close-close.ensures.taken)))
+    (c.done.ensures.slots ∙ ap (λ (t : Option ℕ). fold after_mark c.self.inside.desk.tickets.slots (resolved_with (Ok answer.Done) t)) (c.into_ticket.ensures ∙ ap ticket_of c.take_close-close.ensures.taken)))
     c.end_opening.ensures.confirms
     (c.in_ok-end_channel.ensures.ok ∙ ap (λ (e : Option Error). inbox.after_mark (what c.self.inside.inbox) (inbox_mark.Ended c.args.channel e)) (c.consumers_end-due.ensures ∙ ap consumers_end (c.phase.ensures ∙ sym (ap (λ (w : World). phase_of c.args.channel w.wire) c.self.view_is))))
     ∙ ap (λ (w : World). receiving (incoming.ChannelCloseOk c.args.channel) record_.Received w) c.self.view_is

@@ -33,7 +33,7 @@ invariant_of-self-2 c =
     let entry : MethodEntry = record { channel = c.args.channel; method = method.Channel channel.Open; ticket = Some (length c.reserve-2.new.self.tickets.slots + 1) } in
     kept_by _ _ _ _ _ _ _ _ refl
     (c.set.ensures ∙ ap (with_channel c.args.channel phase.Opening) c.reserve.ensures.same)
-    (c.queue-number.ensures.outbox ∙ ap (with_entry entry) c.reserve-2.ensures.same.outbox)
+    (c.queue_awaiting-number.ensures.outbox ∙ ap (with_entry entry) c.reserve-2.ensures.same.outbox)
     (ap (λ (p : Post). p.book) c.in_ok-begin.ensures.ok)
     (tied_opened c.self.inside.link c.args.channel _ _ c.self.inside.confirms.what (closed_over c.self.inside.link c.args.channel c.self.inside.phases.entries closed).0 c.self.invariant.tied)
     c.self.invariant.unpoisoned
@@ -47,11 +47,11 @@ returns-clause-ok c =
     open_seen c.self.inside.link c.self.inside.phases.entries c.self.inside.desk.outbox.what c.self.inside.desk.replies.what c.self.inside.contents (what c.self.inside.inbox) c.self.inside.desk.tickets.slots c.self.inside.confirms.what c.args.channel _ _ _ _ _ _
     closed
     (c.set.ensures ∙ ap (with_channel c.args.channel phase.Opening) c.reserve.ensures.same)
-    (c.queue-number.ensures.outbox ∙ ap (λ n. with_entry (entry n) c.reserve-2.new.self.outbox.what) count ∙ ap (with_entry (entry (length c.self.inside.desk.tickets.slots))) c.reserve-2.ensures.same.outbox)
-    (c.queue-number.ensures.requests
+    (c.queue_awaiting-number.ensures.outbox ∙ ap (λ n. with_entry (entry n) c.reserve-2.new.self.outbox.what) count ∙ ap (with_entry (entry (length c.self.inside.desk.tickets.slots))) c.reserve-2.ensures.same.outbox)
+    (c.queue_awaiting-number.ensures.requests
     ∙ ap (λ n. requests_with c.args.channel (n + 1) (Some reply.ChannelOpenOk) c.reserve-2.new.self.replies.what) count
     ∙ ap (requests_with c.args.channel (length c.self.inside.desk.tickets.slots + 1) (Some reply.ChannelOpenOk)) c.reserve-2.ensures.same.requests)
-    (c.queue-number.ensures.slots ∙ ap (λ (y : List (Option Slot)). after_mark y (mark.Given c.args.channel leaving.Nothing)) slots)
+    (c.queue_awaiting-number.ensures.slots ∙ ap (λ (y : List (Option Slot)). after_mark y (mark.Given c.args.channel leaving.Nothing)) slots)
     c.in_ok-begin.ensures.ok
     (c.begin-2.ensures ∙ ap (λ (i : Inbox). after_inbox_mark i (inbox_mark.Opened c.args.channel)) c.reserve_opening.ensures.same)
     ∙ ap (λ (w : World). asking c.args.channel ask.Open w) c.self.view_is

@@ -21,7 +21,7 @@ use Rattle.lapin_machine.proofs.session.Session.queue_row.Goals as goal
 pub invariant_of-self-2 : goal.invariant_of-self-2
 invariant_of-self-2 c =
     let entry : MethodEntry = record { channel = c.args.channel; method = c.args.row.method; ticket = Some (length c.reserve.new.self.tickets.slots + 1) } in
-    kept_by _ _ _ _ _ _ _ _ refl refl (c.queue-number.ensures.outbox ∙ ap (with_entry entry) c.reserve.ensures.same.outbox) (ap (λ (p : Post). p.book) c.confirms_called.ensures)
+    kept_by _ _ _ _ _ _ _ _ refl refl (c.queue_line-number.ensures.outbox ∙ ap (with_entry entry) c.reserve.ensures.same.outbox) (ap (λ (p : Post). p.book) c.confirms_called.ensures)
     (tied_called c.self.inside.link c.args.channel c.args.row.method _ _ c.self.inside.confirms.what c.self.invariant.tied) c.self.invariant.unpoisoned
 
 pub returns-clause-ok : goal.returns-clause-ok
@@ -31,11 +31,11 @@ returns-clause-ok c =
     let count : length c.reserve.new.self.tickets.slots ≡ length c.self.inside.desk.tickets.slots = ap length c.reserve.ensures.same.slots in
     row_seen c.self.inside.link c.self.inside.phases.entries c.self.inside.desk.outbox.what c.self.inside.desk.replies.what c.self.inside.contents (what c.self.inside.inbox) c.self.inside.desk.tickets.slots c.self.inside.confirms.what c.args.channel c.args.row _ _ _ _ _
     open_
-    (c.queue-number.ensures.outbox ∙ ap (λ n. with_entry (entry n) c.reserve.new.self.outbox.what) count ∙ ap (with_entry (entry (length c.self.inside.desk.tickets.slots))) c.reserve.ensures.same.outbox)
-    (c.queue-number.ensures.requests
+    (c.queue_line-number.ensures.outbox ∙ ap (λ n. with_entry (entry n) c.reserve.new.self.outbox.what) count ∙ ap (with_entry (entry (length c.self.inside.desk.tickets.slots))) c.reserve.ensures.same.outbox)
+    (c.queue_line-number.ensures.requests
     ∙ ap (λ n. requests_with c.args.channel (n + 1) (awaited_by c.args.row.answered) c.reserve.new.self.replies.what) count
     ∙ ap (requests_with c.args.channel (length c.self.inside.desk.tickets.slots + 1) (awaited_by c.args.row.answered)) c.reserve.ensures.same.requests)
-    (c.queue-number.ensures.slots ∙ ap (λ (y : List (Option Slot)). fold after_mark (after_mark y (mark.Given c.args.channel (leaving_by c.args.row.answered))) (made_marks (length y + 1) (made_by c.args.row.answered))) c.reserve.ensures.same.slots)
+    (c.queue_line-number.ensures.slots ∙ ap (λ (y : List (Option Slot)). fold after_mark (after_mark y (mark.Given c.args.channel (leaving_by c.args.row.answered))) (made_marks (length y + 1) (made_by c.args.row.answered))) c.reserve.ensures.same.slots)
     c.confirms_called.ensures
-    c.in_default.ensures.ok
+    c.in_default-line_called.ensures.ok
     ∙ ap (λ (w : World). asking c.args.channel (ask.Method c.args.row) w) c.self.view_is

@@ -22,7 +22,7 @@ use Rattle.lapin_machine.proofs.session.Session.receive_connection_close_ok.Goal
 pub invariant_of-self : goal.invariant_of-self
 invariant_of-self c =
     let down = ap (λ (w : World). is_up w.wire.link) c.self.view_is ∙ c.requires in
-    let outbox = ap (λ (o : Outgoing). o.what) c.resolve.ensures.outbox ∙ c.drop_unsent.ensures.outbox in
+    let outbox = ap (λ (o : Outgoing). o.what) c.done.ensures.outbox ∙ c.drop_unsent.ensures.outbox in
     kept_by _ _ _ _ _ _ _ _ refl refl outbox refl
     (tied_unsent (has_sent c.self.inside.link) c.self.inside.desk.outbox.what c.self.inside.link _ _ _ down c.self.invariant.tied)
     (clean_unsent (has_sent c.self.inside.link) c.self.inside.desk.outbox.what c.self.invariant.unpoisoned)
@@ -31,9 +31,9 @@ pub returns : goal.returns
 returns c =
     connection_answered c.self.inside.link c.self.inside.phases.entries c.self.inside.desk.outbox.what c.self.inside.desk.replies.what c.self.inside.contents (what c.self.inside.inbox) c.self.inside.desk.tickets.slots c.self.inside.confirms.what _ _ _ _
     refl
-    (ap (λ (o : Outgoing). o.what) c.resolve.ensures.outbox ∙ c.drop_unsent.ensures.outbox)
-    (ap (λ (r : OpenRequests). r.what) (c.resolve.ensures.replies ∙ c.drop_unsent.ensures.requests) ∙ c.take_request-close.ensures.waiting)
-    (c.resolve.ensures.slots
+    (ap (λ (o : Outgoing). o.what) c.done.ensures.outbox ∙ c.drop_unsent.ensures.outbox)
+    (ap (λ (r : OpenRequests). r.what) (c.done.ensures.replies ∙ c.drop_unsent.ensures.requests) ∙ c.take_request-close.ensures.waiting)
+    (c.done.ensures.slots
     ∙ ap (λ (t : Option ℕ). fold answers.after_mark c.drop_unsent.new.desk.tickets.slots (resolved_with (Ok answer.Done) t)) (c.into_ticket.ensures ∙ ap ticket_of c.take_request-close.ensures.taken)
     ∙ ap (λ (y : Issued). fold answers.after_mark y.slots (resolved_with (Ok answer.Done) (ticket_of (first_request reply_kind.ConnectionCloseOk (requests_at 0 c.self.inside.desk.replies.what))))) c.drop_unsent.ensures.tickets)
     ∙ ap (λ (w : World). receiving incoming.ConnectionCloseOk record_.Received w) c.self.view_is

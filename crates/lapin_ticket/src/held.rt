@@ -1,0 +1,138 @@
+//! An answer that is held until it is given.
+//!
+//! An answer that is wide stands in a box, so that each slot is narrow, and the box is made before anything changes: a `Place`.
+//! Answers that many calls get need none. Nothing here says which call gets which answer.
+
+ghost use Rattle.std.specs.Prelude.{◌≡◌, Ok, Err};
+ghost use Rattle.lapin_types.specs.declared.answer.Answer.TheVariants as answer;
+
+use lapin_types::{Answer, Error, NoMemory};
+use std::alloc::Global;
+use std::marker::Model;
+
+/// Room for one answer, whichever it is.
+pub struct Place {
+    room: Box<Answer>,
+}
+
+impl Drop for Place {
+    fn drop(self) {
+        let Place { room: _ } = self;
+    }
+}
+
+impl Place {
+    /// Room for an answer.
+    ///
+    /// # Errors
+    /// `NoMemory` alone.
+    pub fn new(alloc: Global) -> Result<Place, NoMemory> {
+        Ok(Place {
+            room: Box::new(alloc, Answer::Done)?,
+        })
+    }
+
+    // The box, with an answer in it.
+    fn filled(self, answer: Answer) -> Box<Answer>
+        ensures { result.value ≡ answer }
+    {
+        let Place { mut room } = self;
+        *room = answer;
+        room
+    }
+}
+
+// Where an answer stands: in the slot itself, or in a box of its own.
+#[derive(Debug, Drop)]
+enum Kept {
+    Done,
+    Yes,
+    Confirm(u64),
+    Failed(Error),
+    Boxed(Box<Answer>),
+}
+
+/// An answer, or the error with which its call failed. A contract sees the result that it is.
+#[derive(Debug)]
+pub struct Held {
+    kept: Kept,
+}
+
+impl Drop for Held {
+    fn drop(self) {
+        let Held { kept: _ } = self;
+    }
+}
+
+impl Model for Held {
+    ghost use Rattle.std.specs.Prelude.{Result};
+    ghost use Rattle.std.specs.Coded.{coded_result};
+    ghost use Rattle.lapin_types.specs.declared.answer.Answer.{Answer as AnAnswer};
+    ghost use Rattle.lapin_types.specs.declared.Error.{Error as AnError};
+    ghost use Rattle.lapin_types.specs.contracts.answer.Answer as answer_row;
+    ghost use Rattle.lapin_types.specs.contracts.Error as error_row;
+    ghost use Rattle.lapin_ticket.specs.Kept.{held_by};
+
+    ghost Value = { Result AnAnswer AnError };
+
+    ghost coded = { coded_result answer_row.the_row.coded error_row.the_row.coded };
+
+    ghost view = { λ h. held_by h.kept };
+}
+
+impl Held {
+    /// A call that is done and has nothing to tell. It takes no memory.
+    pub fn done() -> Held
+        ensures { result ≡ Ok answer.Done }
+    {
+        Held { kept: Kept::Done }
+    }
+
+    /// An acknowledgement that has left. It takes no memory.
+    pub fn yes() -> Held
+        ensures { result ≡ Ok answer.Yes }
+    {
+        Held { kept: Kept::Yes }
+    }
+
+    /// The last frame of the publish with this confirm number has left. It takes no memory.
+    pub fn confirm(number: u64) -> Held
+        ensures { result ≡ Ok (answer.Confirm number) }
+    {
+        Held {
+            kept: Kept::Confirm(number),
+        }
+    }
+
+    /// A call that failed. It takes no memory.
+    pub fn failed(error: Error) -> Held
+        ensures { result ≡ Err error }
+    {
+        Held {
+            kept: Kept::Failed(error),
+        }
+    }
+
+    /// Any answer, in the room that was made for it.
+    pub fn in_place(place: Place, answer: Answer) -> Held
+        ensures { result ≡ Ok answer }
+    {
+        Held {
+            kept: Kept::Boxed(place.filled(answer)),
+        }
+    }
+
+    /// The answer itself.
+    pub fn into_answer(self) -> Result<Answer, Error>
+        ensures { result ≡ self }
+    {
+        let Held { kept } = self;
+        match kept {
+            Kept::Done => Ok(Answer::Done),
+            Kept::Yes => Ok(Answer::Yes),
+            Kept::Confirm(number) => Ok(Answer::Confirm(number)),
+            Kept::Failed(error) => Err(error),
+            Kept::Boxed(room) => Ok(Box::into_inner(room)),
+        }
+    }
+}
