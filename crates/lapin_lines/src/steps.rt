@@ -76,10 +76,10 @@ pub(crate) fn print_step(
 }
 
 // Appends the line of a record.
-fn put_line(alloc: Global, text: &mut Vec<u8>, record: &Record) -> Result<(), NoMemory>
-    ensures { OnOk result (text.new.items ≡ line_onto text.old.items (record_tokens record.now) ++ 10 ∷ []) }
+fn put_line(alloc: Global, text: &mut Vec<u8>, given: &Record) -> Result<(), NoMemory>
+    ensures { OnOk result (text.new.items ≡ line_onto text.old.items (record_tokens given.now) ++ 10 ∷ []) }
 {
-    put_record(alloc, text, record)?;
+    put_record(alloc, text, given)?;
     text.push(b'\n')?;
     Ok(())
 }
