@@ -179,11 +179,11 @@ WORKLOADS = [
     ("publish and confirm, empty, by shared 4", lambda n: published(n), 2_000, 10_000, ["shared", "4"]),
 ]
 
-# The same at other sizes: how an event's cost grows with the events before it.
+# The same at other sizes: how an event's cost grows with the events before it, and the memory of what is held.
 GROWTH = [
     (f"publish and confirm, empty, {few:,} to {many:,} events", lambda n: published(n), few // 5, many // 5)
     for few, many in [(10_000, 20_000), (100_000, 200_000), (400_000, 800_000)]
-]
+] + [("publishes held, then sent, 20,000 and 100,000", held, 20_000, 100_000)]
 
 
 def write_input(path, lines):
