@@ -9,6 +9,8 @@ mod ackers;
 #[cfg(test)]
 mod alike;
 #[cfg(test)]
+mod confirm_scripts;
+#[cfg(test)]
 mod confirms;
 #[cfg(test)]
 mod consumers;
