@@ -40,7 +40,7 @@ set-behind zero p q y xs e = let same : q ≡ p = omega arith in ap (λ k. slice
 set-behind (suc g) p zero y xs e = absurd (omega arith)
 set-behind (suc g) p (suc q) y xs e = ap (λ ys. switch.Over ∷ ys) (set-behind g p q y xs (omega arith))
 
-set-same : (xs : List Switch) (p : ℕ) (y : Switch) → slice_get xs p ≡ Some y → slice_set xs p y ≡ xs
+pub set-same : (xs : List Switch) (p : ℕ) (y : Switch) → slice_get xs p ≡ Some y → slice_set xs p y ≡ xs
 set-same [] p y at = refl
 set-same (x ∷ xs) zero y at = let same : x ≡ y = cc in ap (λ z. z ∷ xs) (sym same)
 set-same (x ∷ xs) (suc p) y at = ap (λ ys. x ∷ ys) (set-same xs p y at)
@@ -118,7 +118,7 @@ pushed g c t es cs le =
 
 -- ---- an opening ends
 
-is-over : (n m : ℕ) (x y : Switch) → n ≤ m → cond (nat_le n m) x y ≡ x
+pub is-over : (n m : ℕ) (x y : Switch) → n ≤ m → cond (nat_le n m) x y ≡ x
 is-over n m x y le = grind (arith, nat_tests)
 
 over-either : (b : Bool) (c : ℕ) (s : Switch) → over_on c s ≡ switch.Over → switch.Over ≡ over_on c (cond b switch.Over s)

@@ -1,5 +1,5 @@
 -- How ackers are stored. No public clause cites this module.
-use Rattle.std.specs.Prelude.{ℕ, ◌==◌, nat_le, if◌then◌else◌, List, ◌++◌, replicate, slice_index_or}
+use Rattle.std.specs.Prelude.{ℕ, ◌==◌, nat_le, if◌then◌else◌, List, [], ◌∷◌, ◌++◌, replicate, slice_index_or}
 use Rattle.lapin_acker.specs.declared.switch.Switch.{Switch}
 use Rattle.lapin_acker.specs.declared.switch.Switch.TheVariants as switch
 use Rattle.lapin_acker.specs.Switches.{map_numbered}
@@ -21,3 +21,13 @@ shown gone ends cells = replicate gone switch.Over ++ map_numbered gone (seen en
 -- there is room for cells where the table of ends is made
 abbrev pub room_of : ℕ → ℕ → ℕ
 room_of n spare = if n == 65536 then spare else 0
+
+-- the ackers at the front that have no cell: how many were let go, and the used ones behind them
+pub record Front : Type 0 where
+  pub gone : ℕ
+  pub used : List Switch
+
+-- used ackers, so many of a channel after so many of another
+abbrev pub spelled : List (ℕ × ℕ) → List Switch
+spelled [] = []
+spelled (r ∷ rs) = replicate r.0 (switch.Used r.1) ++ spelled rs

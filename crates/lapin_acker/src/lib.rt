@@ -6,6 +6,7 @@
 
 mod delegate;
 pub mod laws;
+mod passed;
 mod switch;
 mod switches;
 mod verdict;

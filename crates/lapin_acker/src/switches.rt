@@ -1,16 +1,18 @@
 //! The ackers of a session: each is used at most once, and not once its opening ended or what it acknowledges became void.
 //!
 //! What an end says of all ackers of its channel stands once, beside the ackers: each is seen with the last end of its channel. So an
-//! end costs the same whatever was given. Ackers at the front whose openings ended are let go, two as each further one is added, so
-//! that memory is held by the openings that live.
+//! end costs the same whatever was given. Used ackers at the front, and those whose openings ended, give up their cells, two as each
+//! further one is added, so that memory is held by what may still be used.
 
-ghost use Rattle.std.specs.Prelude.{◌≡◌, ℕ, ◌+◌, ◌-◌, ◌<◌, ◌≤◌, ◌^◌, ◌↔◌, ◌⊎◌, ◌∷◌, ◌++◌, [], Err, Some, None, IsTrue, if◌then◌else◌, slice_get, MatchOption, OnOk, OnErr, IsOk, IfOk, IfErr, length, map, vec_len};
+ghost use Rattle.std.specs.Prelude.{◌≡◌, ℕ, ◌+◌, ◌-◌, ◌<◌, ◌≤◌, ◌^◌, ◌↔◌, ◌⊎◌, ◌∷◌, ◌++◌, [], List, Err, Some, None, IsTrue, IsSome, IfSome, if◌then◌else◌, slice_get, MatchOption, OnOk, OnErr, IsOk, IfOk, IfErr, length, map, vec_len};
 ghost use Rattle.std.specs.VecDeque.{deque_len, deque_capacity};
 ghost use Rattle.lapin_acker.specs.Switches.{switch_at, usable_as, is_usable, is_over as is_over_of, after_mark, used as used_of, over_on as over_of};
 ghost use Rattle.lapin_acker.specs.Marks as mark;
 ghost use Rattle.lapin_acker.specs.Store.{end_of as end_of_lem, seen as seen_lem, shown, room_of};
+ghost use Rattle.lapin_acker.specs.declared.switch.Switch.{Switch as ASwitch};
 ghost use Rattle.lapin_acker.specs.declared.switch.Switch.TheVariants as switch;
 
+use crate::passed::Passed;
 use crate::switch::Switch;
 use lapin_types::{Error, NoMemory};
 use std::alloc::{AllocError, Global};
@@ -22,8 +24,8 @@ const CHANNELS: usize = 65536;
 
 /// The ackers of a session, numbered from 1. Contracts see one switch a number, and the room beside them.
 pub struct Switches {
-    // How many at the front were let go: the openings of all of them ended.
-    let_go: u64,
+    // Those at the front that have no cell.
+    passed: Passed,
     cells: VecDeque<Switch>,
     // By channel: an acker of the channel with a number up to this one is over. It is made with the first acker, or room for one.
     ends: Vec<u64>,
@@ -32,7 +34,7 @@ pub struct Switches {
 impl Drop for Switches {
     fn drop(self) {
         let Switches {
-            let_go: _,
+            passed: _,
             cells: _,
             ends: _,
         } = self;
@@ -40,7 +42,7 @@ impl Drop for Switches {
 }
 
 impl Model for Switches {
-    ghost use Rattle.std.specs.Prelude.{◌≡◌, ℕ, ◌+◌, ◌-◌, ◌<◌, ◌≤◌, ◌^◌, vec_len};
+    ghost use Rattle.std.specs.Prelude.{◌≡◌, ℕ, ◌+◌, ◌-◌, ◌<◌, ◌≤◌, ◌^◌, ◌++◌, length, vec_len};
     ghost use Rattle.std.specs.VecDeque.{deque_len, deque_capacity};
     ghost use Rattle.lapin_acker.specs.Switches.{Board};
     ghost use Rattle.lapin_acker.specs.Store.{end_of, shown, room_of};
@@ -48,11 +50,11 @@ impl Model for Switches {
     ghost Value = { Board };
 
     ghost view = { λ a. record {
-      switches = shown a.let_go a.ends.items a.cells.items;
+      switches = shown a.passed.gone a.ends.items (a.passed.used ++ a.cells.items);
       spare = room_of (vec_len a.ends) (deque_capacity a.cells - deque_len a.cells);
     } };
 
-    ghost invariant = { λ a. (a.let_go + deque_len a.cells < 2 ^ 64) × (0 < deque_len a.cells → vec_len a.ends ≡ 65536) × ((c : ℕ) → end_of c a.ends.items ≤ a.let_go + deque_len a.cells) };
+    ghost invariant = { λ a. (a.passed.gone + length (a.passed.used ++ a.cells.items) < 2 ^ 64) × (0 < length (a.passed.used ++ a.cells.items) → vec_len a.ends ≡ 65536) × ((c : ℕ) → end_of c a.ends.items ≤ a.passed.gone + length (a.passed.used ++ a.cells.items)) };
 }
 
 impl Switches {
@@ -62,7 +64,7 @@ impl Switches {
         ensures succeeds { IsOk result }
     {
         Ok(Switches {
-            let_go: 0,
+            passed: Passed::new(alloc),
             cells: VecDeque::new(alloc),
             ends: Vec::new(alloc),
         })
@@ -73,7 +75,7 @@ impl Switches {
         ensures room { OnOk result (0 < self.new.spare) }
         ensures same { self.new.switches ≡ self.old.switches }
     {
-        make_room(&mut self.let_go, &mut self.cells, &mut self.ends)?;
+        make_room(&mut self.passed, &mut self.cells, &mut self.ends)?;
         Ok(())
     }
 
@@ -103,7 +105,7 @@ impl Switches {
         if count == u64::MAX {
             return Err(Error::NumbersUsedUp);
         }
-        if make_room(&mut self.let_go, &mut self.cells, &mut self.ends).is_err() {
+        if make_room(&mut self.passed, &mut self.cells, &mut self.ends).is_err() {
             return Err(Error::NoMemory);
         }
         self.push(channel, delivery_tag);
@@ -148,7 +150,7 @@ impl Switches {
     pub fn void(&mut self, number: u64)
         ensures { self.new.switches ≡ after_mark self.old.switches (mark.Spent number) }
     {
-        let Some(place) = place_of(self.let_go, number) else {
+        let Some(place) = place_of(self.passed.up_to(), number) else {
             return;
         };
         if place >= self.cells.len() {
@@ -177,7 +179,7 @@ impl Switches {
     pub fn count(&self) -> u64
         ensures { result ≡ length self.now.switches }
     {
-        self.let_go + self.cells.len() as u64
+        self.passed.up_to() + self.cells.len() as u64
     }
 
     // Adds an acker, in the room that was made.
@@ -193,10 +195,11 @@ impl Switches {
     fn get(&self, number: u64) -> Option<Switch>
         ensures { result ≡ switch_at number self.now.switches }
     {
-        if number <= self.let_go {
-            return over_if(number > 0);
+        let up_to = self.passed.up_to();
+        if number <= up_to {
+            return seen_passed(&self.passed, &self.ends, number);
         }
-        let place = (number - self.let_go - 1) as usize;
+        let place = (number - up_to - 1) as usize;
         match self.cells.get(place) {
             Some(cell) => Some(seen(&self.ends, number, *cell)),
             None => None,
@@ -229,7 +232,7 @@ fn used(switch: Switch) -> Switch
 }
 
 // The last number that is over on a channel.
-fn end_of(ends: &[u64], channel: u16) -> u64
+pub(crate) fn end_of(ends: &[u64], channel: u16) -> u64
     ensures { result ≡ end_of_lem channel ends.now }
 {
     match ends.get(usize::from(channel)) {
@@ -250,28 +253,47 @@ fn seen(ends: &[u64], number: u64, cell: Switch) -> Switch
     }
 }
 
-// Lets the first go, where its opening ended.
-fn let_go_one(gone: &mut u64, cells: &mut VecDeque<Switch>, ends: &[u64])
-    requires { gone.old + deque_len cells.old < 2 ^ 64 }
-    ensures shown { shown gone.new ends.now cells.new.items ≡ shown gone.old ends.now cells.old.items }
-    ensures count { gone.new + deque_len cells.new ≡ gone.old + deque_len cells.old }
-    ensures fewer { deque_len cells.new ≤ deque_len cells.old }
-    ensures room { deque_capacity cells.old - deque_len cells.old ≤ deque_capacity cells.new - deque_len cells.new }
+// The acker of a number that has no cell any more; none has the number 0.
+fn seen_passed(passed: &Passed, ends: &[u64], number: u64) -> Option<Switch>
+    requires { number ≤ passed.now.gone + length passed.now.used }
+    ensures { (cells : List ASwitch) → result ≡ switch_at number (shown passed.now.gone ends.now (passed.now.used ++ cells)) }
 {
-    if is_first_over(*gone, cells, ends) {
-        let _ = cells.pop_front();
-        *gone += 1;
+    let gone = passed.gone();
+    if number <= gone {
+        return over_if(number > 0);
+    }
+    match passed.channel_at(number - gone - 1) {
+        Some(channel) => Some(seen(ends, number, Switch::Used(channel))),
+        None => None,
     }
 }
 
-fn is_first_over(gone: u64, cells: &VecDeque<Switch>, ends: &[u64]) -> bool
-    requires { gone + deque_len cells.now < 2 ^ 64 }
-    ensures over { IsTrue result → (s : _) → slice_get cells.now.items 0 ≡ Some s → seen_lem ends.now (gone + 1) s ≡ switch.Over }
-    ensures some { IsTrue result → 0 < deque_len cells.now }
+// Takes the first cell away, where it is seen as that of a used acker, in so far as there is memory.
+fn pass_one(passed: &mut Passed, cells: &mut VecDeque<Switch>, ends: &[u64])
+    requires { passed.old.gone + length (passed.old.used ++ cells.old.items) < 2 ^ 64 }
+    ensures shown { shown passed.new.gone ends.now (passed.new.used ++ cells.new.items) ≡ shown passed.old.gone ends.now (passed.old.used ++ cells.old.items) }
+    ensures count { passed.new.gone + length (passed.new.used ++ cells.new.items) ≡ passed.old.gone + length (passed.old.used ++ cells.old.items) }
+    ensures more { length (passed.new.used ++ cells.new.items) ≡ length (passed.old.used ++ cells.old.items) }
+    ensures room { deque_capacity cells.old - deque_len cells.old ≤ deque_capacity cells.new - deque_len cells.new }
+{
+    let Some(channel) = passable(passed.up_to(), cells, ends) else {
+        return;
+    };
+    if passed.add(channel) {
+        let _ = cells.pop_front();
+    }
+}
+
+// The channel of the first cell, where it is seen as that of a used acker with this number less one.
+fn passable(up_to: u64, cells: &VecDeque<Switch>, ends: &[u64]) -> Option<u16>
+    requires { up_to + deque_len cells.now < 2 ^ 64 }
+    ensures seen { IfSome result (λ c. (s : ASwitch) → slice_get cells.now.items 0 ≡ Some s → seen_lem ends.now (up_to + 1) s ≡ seen_lem ends.now (up_to + 1) (switch.Used c)) }
+    ensures some { IsSome result → 0 < deque_len cells.now }
 {
     match cells.front() {
-        Some(cell) => matches!(seen(ends, gone + 1, *cell), Switch::Over),
-        None => false,
+        Some(Switch::Used(channel)) => Some(*channel),
+        Some(Switch::Usable(channel, _)) if up_to < end_of(ends, *channel) => Some(*channel),
+        _ => None,
     }
 }
 
@@ -288,23 +310,25 @@ fn make_table(ends: &mut Vec<u64>) -> Result<(), AllocError>
     ends.resize(CHANNELS, 0)
 }
 
-// Makes room for one more, and lets two go where their openings ended.
+// Makes room for one more, and takes two cells away that are not needed.
 fn make_room(
-    gone: &mut u64,
+    passed: &mut Passed,
     cells: &mut VecDeque<Switch>,
     ends: &mut Vec<u64>,
 ) -> Result<(), AllocError>
-    requires fits { gone.old + deque_len cells.old < 2 ^ 64 }
-    requires table { 0 < deque_len cells.old → vec_len ends.old ≡ 65536 }
-    ensures shown { shown gone.new ends.new.items cells.new.items ≡ shown gone.old ends.old.items cells.old.items }
-    ensures count { gone.new + deque_len cells.new ≡ gone.old + deque_len cells.old }
-    ensures table { 0 < deque_len cells.new → vec_len ends.new ≡ 65536 }
+    requires fits { passed.old.gone + length (passed.old.used ++ cells.old.items) < 2 ^ 64 }
+    requires table { 0 < length (passed.old.used ++ cells.old.items) → vec_len ends.old ≡ 65536 }
+    ensures shown { shown passed.new.gone ends.new.items (passed.new.used ++ cells.new.items) ≡ shown passed.old.gone ends.old.items (passed.old.used ++ cells.old.items) }
+    ensures count { passed.new.gone + length (passed.new.used ++ cells.new.items) ≡ passed.old.gone + length (passed.old.used ++ cells.old.items) }
+    ensures table { 0 < length (passed.new.used ++ cells.new.items) → vec_len ends.new ≡ 65536 }
     ensures bound { (m : ℕ) → ((c : ℕ) → end_of_lem c ends.old.items ≤ m) → (c : ℕ) → end_of_lem c ends.new.items ≤ m }
     ensures room { OnOk result (0 < room_of (vec_len ends.new) (deque_capacity cells.new - deque_len cells.new)) }
     ensures succeeds { 0 < room_of (vec_len ends.old) (deque_capacity cells.old - deque_len cells.old) → IsOk result }
 {
     make_table(ends)?;
-    let_go_one(gone, cells, ends);
-    let_go_one(gone, cells, ends);
+    pass_one(passed, cells, ends);
+    pass_one(passed, cells, ends);
+    passed.let_go(ends);
+    passed.let_go(ends);
     cells.reserve(1)
 }

@@ -10,7 +10,7 @@ nowhere-later : (o : Option ℕ) → option_map suc o ≡ None → o ≡ None
 nowhere-later None h = refl
 nowhere-later (Some q) h = cc
 
-or-none : {X : Type 0} (o : Option X) → option_or o None ≡ o
+pub or-none : {X : Type 0} (o : Option X) → option_or o None ≡ o
 or-none None = refl
 or-none (Some x) = refl
 

@@ -1,3 +1,4 @@
+pub mod Behind
 pub mod ByChannel
 pub mod Index
 pub mod Lends

@@ -1,44 +1,55 @@
 //! Values that are numbered from 1 in order of adding, each until it is taken.
 //!
-//! What was taken at the front is let go, so that memory is held by what is outstanding. No other file knows what was
-//! let go: contracts see every number that was given.
+//! What was taken at the front is let go. A value at the front that many later ones were taken past is passed over: it
+//! stands beside its number in a list of its own. So memory is held by what is outstanding, whichever values stay. No other
+//! file knows what was let go or passed over: contracts see every number that was given.
 
-ghost use Rattle.std.specs.Prelude.{◌≡◌, ℕ, ◌+◌, ◌^◌, ◌≤◌, ◌<◌, ◌∷◌, ◌++◌, [], length, OnOk, IsOk, IsSome, MatchOption, None, Some, replicate, false, ◌-◌};
+ghost use Rattle.std.specs.Prelude.{◌≡◌, ◌≢◌, ℕ, ◌+◌, ◌^◌, ◌≤◌, ◌<◌, ◌∷◌, ◌++◌, [], length, OnOk, IsOk, IsSome, MatchOption, None, Some, replicate, false, ◌-◌};
 ghost use Rattle.std.specs.VecDeque.{deque_len, deque_capacity};
 ghost use Rattle.std.specs.Option.{option_copied, option_copied_mut};
 ghost use Rattle.std.specs.Borrow.{sem};
 ghost use Rattle.lapin_tables.specs.Numbered.{Slots, under, with_under, first_kept, starts_taken};
+ghost use Rattle.lapin_tables.specs.ByChannel.{at_channel, on_channel};
+ghost use Rattle.lapin_tables.specs.Index.{place_of as place_of_lem};
+ghost use Rattle.lapin_tables.specs.Behind.{spread, Rises, EndsBy};
 ghost use Rattle.lapin_tables.specs.Lends.{LendsUnder};
 
 use std::alloc::{AllocError, Global};
 use std::collections::VecDeque;
 use std::marker::Model;
 
+/// How far behind the first slot a value is taken before the first is passed over.
+const FAR: usize = 64;
+
 /// Values that are numbered from 1. Contracts see one slot per number that was given, `None` where its value was taken.
 #[derive(Drop)]
 pub struct Numbered<T> {
-    // How many numbers at the front were let go: all of them were taken.
+    // The values that were passed over, each beside its number, the numbers rising.
+    behind: VecDeque<(u64, T)>,
+    // How many numbers at the front have no slot any more: the value of each was taken or passed over.
     let_go: u64,
     slots: VecDeque<Option<T>>,
 }
 
 impl<T> Model for Numbered<T> {
-    ghost use Rattle.std.specs.Prelude.{◌≡◌, ◌-◌, ◌+◌, ◌<◌, ◌^◌, ◌++◌, None, replicate, false};
+    ghost use Rattle.std.specs.Prelude.{◌≡◌, ◌-◌, ◌+◌, ◌<◌, ◌^◌, ◌++◌, false};
     ghost use Rattle.std.specs.VecDeque.{deque_len, deque_capacity};
     ghost use Rattle.lapin_tables.specs.Numbered.{Slots, slots_code};
+    ghost use Rattle.lapin_tables.specs.Behind.{spread};
 
     ghost Value = { Slots T };
 
     ghost coded = { slots_code T.code };
 
     ghost view = { λ a. record {
-      slots = replicate a.let_go None ++ a.slots.items;
+      slots = spread 0 a.let_go a.behind.items ++ a.slots.items;
       spare = deque_capacity a.slots - deque_len a.slots;
     } };
 
     ghost use Rattle.lapin_tables.specs.Numbered.{starts_taken};
+    ghost use Rattle.lapin_tables.specs.Behind.{Rises, EndsBy};
 
-    ghost invariant = { λ a. (a.let_go + deque_len a.slots < 2 ^ 64) × (starts_taken a.slots.items ≡ false) };
+    ghost invariant = { λ a. (a.let_go + deque_len a.slots < 2 ^ 64) × (starts_taken a.slots.items ≡ false) × Rises 0 a.behind.items × EndsBy a.let_go a.behind.items };
 }
 
 impl<T> Numbered<T> {
@@ -47,6 +58,7 @@ impl<T> Numbered<T> {
         ensures { result.slots ≡ [] }
     {
         Numbered {
+            behind: VecDeque::new(alloc),
             let_go: 0,
             slots: VecDeque::new(alloc),
         }
@@ -67,15 +79,19 @@ impl<T> Numbered<T> {
     }
 
     /// The value under a number: `None` where the number was never given or its value was taken.
+    #[tactic(auto, using(crate::proofs::Slots::length_shown))]
     pub fn get(&self, number: u64) -> Option<&T>
         ensures value { option_copied result ≡ under number self.now.slots }
         ensures fits { length self.now.slots < 2 ^ 64 }
     {
-        let place = place_of(self.let_go, number)?;
-        match self.slots.get(place) {
-            Some(Some(value)) => Some(value),
-            _ => None,
-        }
+        let Some(place) = place_of(self.let_go, number) else {
+            if self.behind.is_empty() {
+                return None;
+            }
+            return value_behind(&self.behind, number);
+        };
+        let slot = self.slots.get(place)?;
+        slot.as_ref()
     }
 
     /// The value under a number, to be changed in place: `None` where the number was never given or its value was taken.
@@ -86,7 +102,14 @@ impl<T> Numbered<T> {
     {
         match place_of(self.let_go, number) {
             Some(place) if place < self.slots.len() => self.slots[place].as_mut(),
-            _ => None,
+            Some(_) => None,
+            None => match find(&self.behind, number) {
+                Some(place) => {
+                    let entry = &mut self.behind[place];
+                    Some(&mut entry.1)
+                }
+                None => None,
+            },
         }
     }
 
@@ -94,6 +117,9 @@ impl<T> Numbered<T> {
     pub fn first_number(&self) -> Option<u64>
         ensures { result ≡ first_kept self.now.slots }
     {
+        if let Some(entry) = self.behind.front() {
+            return Some(entry.0);
+        }
         if self.slots.is_empty() {
             None
         } else {
@@ -143,22 +169,134 @@ impl<T: Drop> Numbered<T> {
         ensures spare { self.new.spare ≡ self.old.spare }
     {
         let Some(place) = place_of(self.let_go, number) else {
+            set_behind(&mut self.behind, number, value);
             return;
         };
         self.slots[place] = Some(value);
     }
 
     /// Takes the value under a number out: `None` where the number was never given or its value was taken.
+    #[inline(always)]
     pub fn take(&mut self, number: u64) -> Option<T>
         ensures value { result ≡ under number self.old.slots }
         ensures slots { self.new.slots ≡ with_under number None self.old.slots }
         ensures kept { self.old.spare ≤ self.new.spare }
     {
-        let place = place_of(self.let_go, number)?;
+        let Some(place) = place_of(self.let_go, number) else {
+            return take_behind(&mut self.behind, number);
+        };
         let value = self.slots.get_mut(place)?.take();
         let_go(&mut self.let_go, &mut self.slots);
+        if place >= FAR {
+            pass_over(&mut self.behind, &mut self.let_go, &mut self.slots);
+        }
         value
     }
+}
+
+// Puts another value beside a number that was passed over.
+#[cold]
+fn set_behind<T: Drop>(behind: &mut VecDeque<(u64, T)>, number: u64, value: T)
+    requires { Rises 0 behind.old.items }
+    ensures { behind.new.items ≡ on_channel number (λ _. value) behind.old.items }
+{
+    let Some(place) = find(behind, number) else {
+        return;
+    };
+    behind[place] = (number, value);
+}
+
+// Takes out the value that was passed over with this number.
+#[cold]
+fn take_behind<T>(behind: &mut VecDeque<(u64, T)>, number: u64) -> Option<T>
+    requires { Rises 0 behind.old.items }
+    ensures value { result ≡ at_channel number behind.old.items }
+    ensures gone { at_channel number behind.new.items ≡ None }
+    ensures others { (n : ℕ) → n ≢ number → at_channel n behind.new.items ≡ at_channel n behind.old.items }
+    ensures rises { Rises 0 behind.new.items }
+{
+    let place = find(behind, number)?;
+    let (_, value) = behind.remove(place)?;
+    Some(value)
+}
+
+// Passes the first value over and lets go what was taken behind it. Where there is no memory, nothing changes.
+#[cold]
+fn pass_over<T: Drop>(
+    behind: &mut VecDeque<(u64, T)>,
+    gone: &mut u64,
+    slots: &mut VecDeque<Option<T>>,
+)
+    requires fits { gone.old + deque_len slots.old < 2 ^ 64 }
+    requires rises { Rises 0 behind.old.items }
+    requires ends { EndsBy gone.old behind.old.items }
+    requires start { starts_taken slots.old.items ≡ false }
+    ensures slots { spread 0 gone.new behind.new.items ++ slots.new.items ≡ spread 0 gone.old behind.old.items ++ slots.old.items }
+    ensures count { gone.new + deque_len slots.new ≡ gone.old + deque_len slots.old }
+    ensures start { starts_taken slots.new.items ≡ false }
+    ensures room { deque_capacity slots.old - deque_len slots.old ≤ deque_capacity slots.new - deque_len slots.new }
+    ensures rises { Rises 0 behind.new.items }
+    ensures ends { EndsBy gone.new behind.new.items }
+{
+    if behind.reserve(1).is_err() {
+        return;
+    }
+    let Some(first) = slots.pop_front() else {
+        return;
+    };
+    *gone += 1;
+    stand(behind, *gone, first);
+    let_go(gone, slots);
+}
+
+// Puts the value of a slot, if it has one, beside its number, which is above the others, in the room that was made.
+fn stand<T: Drop>(behind: &mut VecDeque<(u64, T)>, number: u64, slot: Option<T>)
+    requires room { deque_len behind.old < deque_capacity behind.old }
+    requires rises { Rises 0 behind.old.items }
+    requires first { 0 < number }
+    requires above { (n : ℕ) → number ≤ n → at_channel n behind.old.items ≡ None }
+    ensures value { at_channel number behind.new.items ≡ slot }
+    ensures others { (n : ℕ) → n ≢ number → at_channel n behind.new.items ≡ at_channel n behind.old.items }
+    ensures rises { Rises 0 behind.new.items }
+{
+    if let Some(value) = slot {
+        behind.push_back_reserved((number, value));
+    }
+}
+
+// The value that was passed over with this number.
+#[cold]
+fn value_behind<T>(behind: &VecDeque<(u64, T)>, number: u64) -> Option<&T>
+    requires { Rises 0 behind.now.items }
+    ensures { option_copied result ≡ at_channel number behind.now.items }
+{
+    match find(behind, number) {
+        Some(place) => Some(&behind[place].1),
+        None => None,
+    }
+}
+
+// The place of a number among those that were passed over.
+#[cold]
+fn find<T>(behind: &VecDeque<(u64, T)>, number: u64) -> Option<usize>
+    requires { Rises 0 behind.now.items }
+    ensures { result ≡ place_of_lem number behind.now.items }
+{
+    let mut low = 0;
+    let mut high = behind.len();
+    while low < high {
+        let middle = low + (high - low) / 2;
+        let at = behind[middle].0;
+        if at == number {
+            return Some(middle);
+        }
+        if at < number {
+            low = middle + 1;
+        } else {
+            high = middle;
+        }
+    }
+    None
 }
 
 // Lets go what was taken at the front.
@@ -166,6 +304,7 @@ fn let_go<T: Drop>(gone: &mut u64, slots: &mut VecDeque<Option<T>>)
     requires { gone.old + deque_len slots.old < 2 ^ 64 }
     ensures slots { replicate gone.new None ++ slots.new.items ≡ replicate gone.old None ++ slots.old.items }
     ensures count { gone.new + deque_len slots.new ≡ gone.old + deque_len slots.old }
+    ensures grows { gone.old ≤ gone.new }
     ensures start { starts_taken slots.new.items ≡ false }
     ensures room { deque_capacity slots.old - deque_len slots.old ≤ deque_capacity slots.new - deque_len slots.new }
 {
@@ -188,6 +327,8 @@ fn is_first_taken<T>(slots: &VecDeque<Option<T>>) -> bool
 fn place_of(let_go: u64, number: u64) -> Option<usize>
     ensures { MatchOption result (number ≤ let_go) (λ place. number ≡ let_go + place + 1) }
 {
-    let place = number.checked_sub(let_go)?.checked_sub(1)?;
-    Some(place as usize)
+    if number <= let_go {
+        return None;
+    }
+    Some((number - let_go - 1) as usize)
 }

@@ -10,4 +10,4 @@ pub returns-clause-ok : goal.returns-clause-ok
 returns-clause-ok c =
     c.push.ensures
     ∙ ap (λ (ss : List Switch). ss ++ switch.Usable c.args.channel c.args.delivery_tag ∷ []) c.make_room.ensures.shown
-    ∙ added-is c.args.channel c.args.opening c.args.delivery_tag c.args.self.now (shown c.self.inside.let_go c.self.inside.ends.items c.self.inside.cells.items) (ap (λ (b : Board). b.switches) c.self.view_is)
+    ∙ added-is c.args.channel c.args.opening c.args.delivery_tag c.args.self.now (shown c.self.inside.passed.gone c.self.inside.ends.items (c.self.inside.passed.used ++ c.self.inside.cells.items)) (ap (λ (b : Board). b.switches) c.self.view_is)

@@ -1,4 +1,4 @@
-use Rattle.std.proofs.Common.{◌+◌, ◌<◌, ◌≤◌, length, slice_set, ap, ◌∙◌, arith, inl, inr}
+use Rattle.std.proofs.Common.{◌++◌, ◌+◌, ◌<◌, ◌≤◌, length, slice_set, ap, ◌∙◌, arith, inl, inr}
 use Rattle.std.proofs.lemmas.Bool.{cases_lt}
 use Rattle.lapin_acker.specs.Switches.{Board}
 use Rattle.lapin_acker.specs.Store.{shown}
@@ -7,7 +7,7 @@ use Rattle.lapin_acker.proofs.switches.Switches.turn_over.Goals as goal
 
 pub invariant_of-self : goal.invariant_of-self
 invariant_of-self c =
-    let whole = length-shown c.self.inside.let_go c.self.inside.ends.items c.self.inside.cells.items in
+    let whole = length-shown c.self.inside.passed.gone c.self.inside.ends.items (c.self.inside.passed.used ++ c.self.inside.cells.items) in
     let view = ap (λ (b : Board). length b.switches) c.self.view_is in (
       c.self.invariant.0,
       c.self.invariant.1,
@@ -16,19 +16,19 @@ invariant_of-self c =
 
 pub returns-then-from-len : goal.returns-then-from-len
 returns-then-from-len c =
-    let whole = length-shown c.self.inside.let_go c.self.inside.ends.items c.self.inside.cells.items in
+    let whole = length-shown c.self.inside.passed.gone c.self.inside.ends.items (c.self.inside.passed.used ++ c.self.inside.cells.items) in
     let view = ap (λ (b : Board). length b.switches) c.self.view_is in
     let within : c.args.channel < length c.self.inside.ends.items = omega (arith, c.from.ensures, c.len.ensures, c.if-from-len.true) in
-    let all : c.self.inside.let_go + length c.self.inside.cells.items ≤ c.count-count.result = omega (arith, whole, view, c.count-count.ensures) in
+    let all : c.self.inside.passed.gone + length (c.self.inside.passed.used ++ c.self.inside.cells.items) ≤ c.count-count.result = omega (arith, whole, view, c.count-count.ensures) in
     rw (← c.self.view_is)
-    (ap (λ k. shown c.self.inside.let_go (slice_set c.self.inside.ends.items k c.count-count.result) c.self.inside.cells.items) c.from-then-from-len.ensures
-    ∙ ended c.args.channel c.count-count.result c.self.inside.let_go c.self.inside.ends.items c.self.inside.cells.items within all)
+    (ap (λ k. shown c.self.inside.passed.gone (slice_set c.self.inside.ends.items k c.count-count.result) (c.self.inside.passed.used ++ c.self.inside.cells.items)) c.from-then-from-len.ensures
+    ∙ ended c.args.channel c.count-count.result c.self.inside.passed.gone c.self.inside.ends.items (c.self.inside.passed.used ++ c.self.inside.cells.items) within all)
 
 pub returns-else-from-len : goal.returns-else-from-len
 returns-else-from-len c =
-    let none : length c.self.inside.cells.items ≤ 0 =
-    elim (cases_lt 0 (length c.self.inside.cells.items)) [
+    let none : length (c.self.inside.passed.used ++ c.self.inside.cells.items) ≤ 0 =
+    elim (cases_lt 0 (length (c.self.inside.passed.used ++ c.self.inside.cells.items))) [
       | inl more ↦ let table = c.self.invariant.1 (omega arith) in absurd (omega (arith, table, c.from.ensures, c.len.ensures, c.if-from-len.false, c.ranges.channel.fits))
       | inr none ↦ none
     ] in
-    rw (← c.self.view_is) (ended-none c.args.channel c.self.inside.let_go c.self.inside.ends.items c.self.inside.cells.items none)
+    rw (← c.self.view_is) (ended-none c.args.channel c.self.inside.passed.gone c.self.inside.ends.items (c.self.inside.passed.used ++ c.self.inside.cells.items) none)

@@ -1,23 +1,31 @@
-use Rattle.std.proofs.Common.{◌<◌, length, slice_set, ap, ◌∙◌, arith, inr}
+use Rattle.std.proofs.Common.{◌≡◌, ◌+◌, ◌<◌, ◌++◌, List, length, length-append, slice_set, sym, ap, ◌∙◌, arith, inr}
+use Rattle.lapin_acker.specs.declared.switch.Switch.{Switch}
 use Rattle.lapin_acker.specs.Switches.{Board}
 use Rattle.lapin_acker.specs.Store.{shown}
+use Rattle.lapin_acker.proofs.Front.{spent-passed, get-right, set-right}
 use Rattle.lapin_acker.proofs.Numbers.{none-spent, at-get_or}
-use Rattle.lapin_acker.proofs.Store.{length-shown, spent-gone, spent-cell}
+use Rattle.lapin_acker.proofs.Store.{length-shown, spent-cell}
 use Rattle.lapin_acker.proofs.switches.Switches.void.Goals as goal
 
 pub returns-in_default : goal.returns-in_default
-returns-in_default c = rw (← c.self.view_is) (spent-gone c.args.number c.self.inside.let_go c.self.inside.ends.items c.self.inside.cells.items c.in_default.ensures)
+returns-in_default c = rw (← c.self.view_is) (spent-passed c.args.number c.self.inside.passed.gone c.self.inside.ends.items c.self.inside.passed.used c.self.inside.cells.items (omega (arith, c.in_default.ensures, c.up_to.ensures.count)) c.up_to.ensures.used)
 
 pub returns-then-place-len : goal.returns-then-place-len
 returns-then-place-len c =
-    let whole = length-shown c.self.inside.let_go c.self.inside.ends.items c.self.inside.cells.items in
+    let us : List Switch = c.self.inside.passed.used in
+    let whole = length-shown c.self.inside.passed.gone c.self.inside.ends.items (us ++ c.self.inside.cells.items) in
+    let both : length (us ++ c.self.inside.cells.items) ≡ length us + length c.self.inside.cells.items = length-append us c.self.inside.cells.items in
     let view = ap (λ (b : Board). length b.switches) c.self.view_is in
-    none-spent c.args.number c.args.self.now (inr (omega (arith, whole, view, c.in-Some.ensures, c.len.ensures, c.if-place-len.true)))
+    none-spent c.args.number c.args.self.now (inr (omega (arith, whole, view, both, c.up_to.ensures.count, c.in-Some.ensures, c.len.ensures, c.if-place-len.true)))
 
 pub returns : goal.returns
 returns c =
-    let within : c.in-Some.place < length c.self.inside.cells.items = omega (arith, c.len.ensures, c.if-place-len.false) in
+    let us : List Switch = c.self.inside.passed.used in
+    let cs : List Switch = c.self.inside.cells.items in
+    let within : c.in-Some.place < length cs = omega (arith, c.len.ensures, c.if-place-len.false) in
+    let number : c.args.number ≡ c.self.inside.passed.gone + (length us + c.in-Some.place) + 1 = omega (arith, c.up_to.ensures.count, c.in-Some.ensures) in
+    let there = get-right us cs c.in-Some.place ∙ at-get_or cs c.in-Some.place c.index.result.now within c.index.ensures in
     rw (← c.self.view_is)
-    (ap (λ t. shown c.self.inside.let_go c.self.inside.ends.items (slice_set c.self.inside.cells.items c.in-Some.place t)) c.used.ensures
-    ∙ spent-cell c.args.number c.self.inside.let_go c.in-Some.place c.self.inside.ends.items c.self.inside.cells.items c.index.result.now c.in-Some.ensures
-    (at-get_or c.self.inside.cells.items c.in-Some.place c.index.result.now within c.index.ensures))
+    (ap (λ t. shown c.self.inside.passed.gone c.self.inside.ends.items (us ++ slice_set cs c.in-Some.place t)) c.used.ensures
+    ∙ ap (shown c.self.inside.passed.gone c.self.inside.ends.items) (sym (set-right us cs c.in-Some.place _))
+    ∙ spent-cell c.args.number c.self.inside.passed.gone (length us + c.in-Some.place) c.self.inside.ends.items (us ++ cs) c.index.result.now number there)
