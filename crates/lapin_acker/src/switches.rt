@@ -70,9 +70,10 @@ impl Switches {
         })
     }
 
-    /// Makes room for the next `add`. The ackers stay, also where there is no memory.
+    /// Makes room for the next `add`. The ackers stay, also where there is no memory, and so does all room that was made.
     pub fn reserve(&mut self, _alloc: Global) -> Result<(), NoMemory>
         ensures room { OnOk result (0 < self.new.spare) }
+        ensures kept { self.old.spare ≤ self.new.spare }
         ensures same { self.new.switches ≡ self.old.switches }
     {
         make_room(&mut self.passed, &mut self.cells, &mut self.ends)?;
@@ -99,6 +100,10 @@ impl Switches {
 
         // In the room that `reserve` made it doesn't answer want of memory.
         ensures succeeds { 0 < self.old.spare → length self.old.switches + 1 < 2 ^ 64 → IsOk result }
+
+        // It takes up one place at most, and none where it fails.
+        ensures kept { self.old.spare ≤ self.new.spare + 1 }
+        ensures unused { OnErr result (self.old.spare ≤ self.new.spare) }
     {
         let _ = opening;
         let count = self.count();
@@ -140,6 +145,7 @@ impl Switches {
     pub fn spend(&mut self, number: u64) -> Option<(u16, u64)>
         ensures given { result ≡ usable_as (switch_at number self.old.switches) }
         ensures spent { self.new.switches ≡ after_mark self.old.switches (mark.Spent number) }
+        ensures kept { self.new.spare ≡ self.old.spare }
     {
         let given = self.peek(number);
         self.void(number);
@@ -148,7 +154,8 @@ impl Switches {
 
     /// Makes an acker unusable: what it acknowledges is void.
     pub fn void(&mut self, number: u64)
-        ensures { self.new.switches ≡ after_mark self.old.switches (mark.Spent number) }
+        ensures spent { self.new.switches ≡ after_mark self.old.switches (mark.Spent number) }
+        ensures kept { self.new.spare ≡ self.old.spare }
     {
         let Some(place) = place_of(self.passed.up_to(), number) else {
             return;
@@ -161,13 +168,15 @@ impl Switches {
 
     /// The opening of a channel ended: its ackers are over.
     pub fn end(&mut self, channel: u16)
-        ensures { self.new.switches ≡ after_mark self.old.switches (mark.Ended channel) }
+        ensures ended { self.new.switches ≡ after_mark self.old.switches (mark.Ended channel) }
+        ensures kept { self.new.spare ≡ self.old.spare }
     {
         self.turn_over(channel);
     }
 
     fn turn_over(&mut self, channel: u16)
-        ensures { self.new.switches ≡ map (over_of channel) self.old.switches }
+        ensures over { self.new.switches ≡ map (over_of channel) self.old.switches }
+        ensures kept { self.new.spare ≡ self.old.spare }
     {
         let count = self.count();
         if usize::from(channel) < self.ends.len() {
@@ -186,7 +195,8 @@ impl Switches {
     fn push(&mut self, channel: u16, delivery_tag: u64)
         requires room { 0 < self.old.spare }
         requires fits { length self.old.switches + 1 < 2 ^ 64 }
-        ensures { self.new.switches ≡ self.old.switches ++ switch.Usable channel delivery_tag ∷ [] }
+        ensures added { self.new.switches ≡ self.old.switches ++ switch.Usable channel delivery_tag ∷ [] }
+        ensures kept { self.old.spare ≤ self.new.spare + 1 }
     {
         self.cells
             .push_back_reserved(Switch::Usable(channel, delivery_tag));
@@ -324,6 +334,8 @@ fn make_room(
     ensures bound { (m : ℕ) → ((c : ℕ) → end_of_lem c ends.old.items ≤ m) → (c : ℕ) → end_of_lem c ends.new.items ≤ m }
     ensures room { OnOk result (0 < room_of (vec_len ends.new) (deque_capacity cells.new - deque_len cells.new)) }
     ensures succeeds { 0 < room_of (vec_len ends.old) (deque_capacity cells.old - deque_len cells.old) → IsOk result }
+    ensures kept { room_of (vec_len ends.old) (deque_capacity cells.old - deque_len cells.old)
+        ≤ room_of (vec_len ends.new) (deque_capacity cells.new - deque_len cells.new) }
 {
     make_table(ends)?;
     pass_one(passed, cells, ends);

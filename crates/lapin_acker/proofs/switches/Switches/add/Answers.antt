@@ -8,6 +8,6 @@ use Rattle.lapin_acker.proofs.switches.Switches.add.Goals as goal
 
 pub returns-clause-ok : goal.returns-clause-ok
 returns-clause-ok c =
-    c.push.ensures
+    c.push.ensures.added
     ∙ ap (λ (ss : List Switch). ss ++ switch.Usable c.args.channel c.args.delivery_tag ∷ []) c.make_room.ensures.shown
     ∙ added-is c.args.channel c.args.opening c.args.delivery_tag c.args.self.now (shown c.self.inside.passed.gone c.self.inside.ends.items (c.self.inside.passed.used ++ c.self.inside.cells.items)) (ap (λ (b : Board). b.switches) c.self.view_is)

@@ -18,8 +18,8 @@ invariant_of-self c =
       λ k. omega (arith, c.self.invariant.2 k, c.push_back_reserved.ensures.len, old, new),
     )
 
-pub returns : goal.returns
-returns c =
+pub returns-clause-added : goal.returns-clause-added
+returns-clause-added c =
     let us : List Switch = c.self.inside.passed.used in
     let all : List Switch = us ++ c.self.inside.cells.items in
     let one : List Switch = switch.Usable c.args.channel c.args.delivery_tag ∷ [] in

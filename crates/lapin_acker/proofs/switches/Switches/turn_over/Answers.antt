@@ -14,8 +14,8 @@ invariant_of-self c =
       set-bound c.self.inside.ends.items c.from-then-from-len.result c.count-count.result _ c.self.invariant.2 (omega (arith, whole, view, c.count-count.ensures)),
     )
 
-pub returns-then-from-len : goal.returns-then-from-len
-returns-then-from-len c =
+pub returns-then-from-len-clause-over : goal.returns-then-from-len-clause-over
+returns-then-from-len-clause-over c =
     let whole = length-shown c.self.inside.passed.gone c.self.inside.ends.items (c.self.inside.passed.used ++ c.self.inside.cells.items) in
     let view = ap (λ (b : Board). length b.switches) c.self.view_is in
     let within : c.args.channel < length c.self.inside.ends.items = omega (arith, c.from.ensures, c.len.ensures, c.if-from-len.true) in
@@ -24,8 +24,8 @@ returns-then-from-len c =
     (ap (λ k. shown c.self.inside.passed.gone (slice_set c.self.inside.ends.items k c.count-count.result) (c.self.inside.passed.used ++ c.self.inside.cells.items)) c.from-then-from-len.ensures
     ∙ ended c.args.channel c.count-count.result c.self.inside.passed.gone c.self.inside.ends.items (c.self.inside.passed.used ++ c.self.inside.cells.items) within all)
 
-pub returns-else-from-len : goal.returns-else-from-len
-returns-else-from-len c =
+pub returns-else-from-len-clause-over : goal.returns-else-from-len-clause-over
+returns-else-from-len-clause-over c =
     let none : length (c.self.inside.passed.used ++ c.self.inside.cells.items) ≤ 0 =
     elim (cases_lt 0 (length (c.self.inside.passed.used ++ c.self.inside.cells.items))) [
       | inl more ↦ let table = c.self.invariant.1 (omega arith) in absurd (omega (arith, table, c.from.ensures, c.len.ensures, c.if-from-len.false, c.ranges.channel.fits))

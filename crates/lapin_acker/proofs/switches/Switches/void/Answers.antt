@@ -7,8 +7,8 @@ use Rattle.lapin_acker.proofs.Numbers.{none-spent, at-get_or}
 use Rattle.lapin_acker.proofs.Store.{length-shown, spent-cell}
 use Rattle.lapin_acker.proofs.switches.Switches.void.Goals as goal
 
-pub returns-in_default : goal.returns-in_default
-returns-in_default c = rw (← c.self.view_is) (spent-passed c.args.number c.self.inside.passed.gone c.self.inside.ends.items c.self.inside.passed.used c.self.inside.cells.items (omega (arith, c.in_default.ensures, c.up_to.ensures.count)) c.up_to.ensures.used)
+pub returns-in_default-clause-spent : goal.returns-in_default-clause-spent
+returns-in_default-clause-spent c = rw (← c.self.view_is) (spent-passed c.args.number c.self.inside.passed.gone c.self.inside.ends.items c.self.inside.passed.used c.self.inside.cells.items (omega (arith, c.in_default.ensures, c.up_to.ensures.count)) c.up_to.ensures.used)
 
 pub returns-then-place-len : goal.returns-then-place-len
 returns-then-place-len c =
@@ -18,8 +18,8 @@ returns-then-place-len c =
     let view = ap (λ (b : Board). length b.switches) c.self.view_is in
     none-spent c.args.number c.args.self.now (inr (omega (arith, whole, view, both, c.up_to.ensures.count, c.in-Some.ensures, c.len.ensures, c.if-place-len.true)))
 
-pub returns : goal.returns
-returns c =
+pub returns-clause-spent : goal.returns-clause-spent
+returns-clause-spent c =
     let us : List Switch = c.self.inside.passed.used in
     let cs : List Switch = c.self.inside.cells.items in
     let within : c.in-Some.place < length cs = omega (arith, c.len.ensures, c.if-place-len.false) in
