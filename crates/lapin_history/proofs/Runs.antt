@@ -13,7 +13,7 @@ length-run n es = length-run_from n [] es
 
 goes-run_from : (n : ℕ) (h : History) (es : List Event) → GoesOn n h es (run_from n h es)
 goes-run_from n h [] = tt
-goes-run_from n h (e ∷ es) = (refl, goes-run_from n (h ++ (e, rec n h e) ∷ []) es)
+goes-run_from n h (e ∷ es) = (refl, refl, goes-run_from n (h ++ (e, rec n h e) ∷ []) es)
 
 pub machines-run : (n : ℕ) (es : List Event) → IsTheMachines n es (run n es)
 machines-run n es = goes-run_from n [] es

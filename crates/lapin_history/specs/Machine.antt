@@ -1,5 +1,6 @@
 -- The wire machine: the part of a trace that states, lists and confirms determine, and when a trace is the machine's. It says
--- nothing of what the broker's data brings in: the answers that carry it are left out, and so are returned messages.
+-- nothing of what the broker's data brings in: the answers that carry it are left out, and so are items, jobs and returned messages.
+-- Of a call of an acker it reads only whether it gave a ticket, and of the drop of a consumer whether that one has to be cancelled.
 use Rattle.std.specs.Prelude.{◌≡◌, ℕ, Bool, true, false, if◌then◌else◌, List, [], ◌∷◌, ◌++◌, Option, Some, None, Ok}
 use Rattle.lapin_types.specs.declared.event.Event.{Event}
 use Rattle.lapin_types.specs.declared.record.Record.{Record}
@@ -60,23 +61,43 @@ without_message r = r
 abbrev pub kept_of_ticket : ℕ → History → Record → Option Record
 kept_of_ticket n h r = if is_known_in (given_by n h) then Some r else None
 
--- what the machine keeps of the record of an event after a history: all of it, but for a returned message, and nothing of the
--- polls of a ticket that it does not know
+-- what the machine keeps of the record of an event after a history: of calls, frame requests, frames of the broker, states and the
+-- loss all; of tickets where it knows them; of confirms and waits all but returned messages; and nothing of polls of consumers, calls of
+-- ackers, delegates, drops of consumers and jobs
 abbrev pub kept : History → Event → Record → Option Record
 kept h (event.PollTicket n) r = kept_of_ticket n h r
 kept h (event.AsideTicket n) r = kept_of_ticket n h r
 kept h (event.PollConfirm n) r = Some (without_message r)
 kept h (event.PollWait c) r = Some (without_message r)
+kept h (event.PollConsumer n) r = None
+kept h (event.Acker n k) r = None
+kept h (event.Delegate n) r = None
+kept h (event.DropConsumer n) r = None
+kept h event.NextJob r = None
 kept h _ r = Some r
+
+-- ---- truth values
+
+-- the record says that the consumer has to be cancelled
+abbrev pub is_dropped : Record → Bool
+is_dropped (record_.Dropped t) = t
+is_dropped _ = false
+
+-- what the machine reads of a record that it does not keep: of a call of an acker whether it gave a ticket, of the drop of a consumer
+-- whether that one has to be cancelled, and of no other record anything
+abbrev pub read : Event → Record → Bool
+read (event.Acker n k) r = is_ticket r
+read (event.DropConsumer n) r = is_dropped r
+read _ r = false
 
 -- ---- traces
 
--- each record is kept as the history of the records before it says
+-- each record is kept, and its truth value read, as the history of the records before it says
 abbrev pub GoesOn : ℕ → History → List Event → List Record → Type 0
 GoesOn frame_max h [] [] = Unit {0}
-GoesOn frame_max h (e ∷ es) (r ∷ rs) = (kept h e r ≡ kept h e (rec frame_max h e)) × GoesOn frame_max (h ++ (e, r) ∷ []) es rs
+GoesOn frame_max h (e ∷ es) (r ∷ rs) = (kept h e r ≡ kept h e (rec frame_max h e)) × (read e r ≡ read e (rec frame_max h e)) × GoesOn frame_max (h ++ (e, r) ∷ []) es rs
 GoesOn frame_max h _ _ = ⊥
 
--- the trace is the machine's for these events: one record an event, and its kept records are the machine's
+-- the trace is the machine's for these events: one record an event, and its kept records and truth values are the machine's
 abbrev pub IsTheMachines : ℕ → List Event → List Record → Type 0
 IsTheMachines frame_max es rs = GoesOn frame_max [] es rs
