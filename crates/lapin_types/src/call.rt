@@ -21,7 +21,7 @@ mod exchange;
 mod queue;
 
 /// A call with its arguments. Its channel stands in the event.
-#[derive(Debug, Drop)]
+#[derive(Debug, PartialEq, Drop)]
 pub enum Call {
     /// Opens the channel (`channel.open`).
     OpenChannel,

@@ -24,19 +24,6 @@ pub fn copied_connection_close(
     })
 }
 
-/// Whether a call is `Call::ConnectionClose` with these arguments.
-pub fn is_connection_close(call: &Call, reply_code: &u16, reply_text: &ShortString) -> bool
-    ensures { Decides result (call.now ≡ variant.ConnectionClose reply_code.now reply_text.now) }
-{
-    match call {
-        Call::ConnectionClose {
-            reply_code: a,
-            reply_text: b,
-        } => a == reply_code && b == reply_text,
-        _ => false,
-    }
-}
-
 /// A copy of `Call::ChannelClose`.
 pub fn copied_channel_close(
     reply_code: &u16,
@@ -51,29 +38,6 @@ pub fn copied_channel_close(
     })
 }
 
-/// Whether a call is `Call::ChannelClose` with these arguments.
-pub fn is_channel_close(call: &Call, reply_code: &u16, reply_text: &ShortString) -> bool
-    ensures { Decides result (call.now ≡ variant.ChannelClose reply_code.now reply_text.now) }
-{
-    match call {
-        Call::ChannelClose {
-            reply_code: a,
-            reply_text: b,
-        } => a == reply_code && b == reply_text,
-        _ => false,
-    }
-}
-
-/// Whether a call is `Call::ChannelFlow` with these arguments.
-pub fn is_channel_flow(call: &Call, options: &ChannelFlowOptions) -> bool
-    ensures { Decides result (call.now ≡ variant.ChannelFlow options.now) }
-{
-    match call {
-        Call::ChannelFlow { options: a } => a == options,
-        _ => false,
-    }
-}
-
 /// A copy of `Call::AccessRequest`.
 pub fn copied_access_request(
     realm: &ShortString,
@@ -86,48 +50,4 @@ pub fn copied_access_request(
         realm: realm.try_clone(alloc)?,
         options: *options,
     })
-}
-
-/// Whether a call is `Call::AccessRequest` with these arguments.
-pub fn is_access_request(call: &Call, realm: &ShortString, options: &AccessRequestOptions) -> bool
-    ensures { Decides result (call.now ≡ variant.AccessRequest realm.now options.now) }
-{
-    match call {
-        Call::AccessRequest {
-            realm: a,
-            options: b,
-        } => a == realm && same_options(b, options),
-        _ => false,
-    }
-}
-
-// Whether two requests have the same marks.
-fn same_options(left: &AccessRequestOptions, right: &AccessRequestOptions) -> bool
-    ensures { Decides result (left.now ≡ right.now) }
-{
-    left.exclusive == right.exclusive
-        && left.passive == right.passive
-        && left.active == right.active
-        && left.write == right.write
-        && left.read == right.read
-}
-
-/// Whether a call is `Call::ConfirmSelect` with these arguments.
-pub fn is_confirm_select(call: &Call, options: &ConfirmSelectOptions) -> bool
-    ensures { Decides result (call.now ≡ variant.ConfirmSelect options.now) }
-{
-    match call {
-        Call::ConfirmSelect { options: a } => a == options,
-        _ => false,
-    }
-}
-
-/// Whether a call is `Call::ConfirmLimit` with this limit.
-pub fn is_confirm_limit(call: &Call, limit: &u64) -> bool
-    ensures { Decides result (call.now ≡ variant.ConfirmLimit limit.now) }
-{
-    match call {
-        Call::ConfirmLimit { limit: a } => a == limit,
-        _ => false,
-    }
 }

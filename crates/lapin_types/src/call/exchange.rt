@@ -31,38 +31,6 @@ pub fn copied_exchange_declare(
     })
 }
 
-/// Whether a call is `Call::ExchangeDeclare` with these arguments.
-pub fn is_exchange_declare(
-    call: &Call,
-    exchange: &ShortString,
-    kind: &ExchangeKind,
-    options: &ExchangeDeclareOptions,
-    arguments: &FieldTable,
-) -> bool
-    ensures { Decides result (call.now ≡ variant.ExchangeDeclare exchange.now kind.now options.now arguments.now) }
-{
-    match call {
-        Call::ExchangeDeclare {
-            exchange: a,
-            kind: b,
-            options: c,
-            arguments: d,
-        } => a == exchange && b.same(kind) && same_options(c, options) && d.same(arguments),
-        _ => false,
-    }
-}
-
-// Whether two declares have the same marks.
-fn same_options(left: &ExchangeDeclareOptions, right: &ExchangeDeclareOptions) -> bool
-    ensures { Decides result (left.now ≡ right.now) }
-{
-    left.passive == right.passive
-        && left.durable == right.durable
-        && left.auto_delete == right.auto_delete
-        && left.internal == right.internal
-        && left.nowait == right.nowait
-}
-
 /// A copy of `Call::ExchangeDelete`.
 pub fn copied_exchange_delete(
     exchange: &ShortString,
@@ -75,23 +43,6 @@ pub fn copied_exchange_delete(
         exchange: exchange.try_clone(alloc)?,
         options: *options,
     })
-}
-
-/// Whether a call is `Call::ExchangeDelete` with these arguments.
-pub fn is_exchange_delete(
-    call: &Call,
-    exchange: &ShortString,
-    options: &ExchangeDeleteOptions,
-) -> bool
-    ensures { Decides result (call.now ≡ variant.ExchangeDelete exchange.now options.now) }
-{
-    match call {
-        Call::ExchangeDelete {
-            exchange: a,
-            options: b,
-        } => a == exchange && b == options,
-        _ => false,
-    }
 }
 
 /// A copy of `Call::ExchangeBind`.
@@ -114,33 +65,6 @@ pub fn copied_exchange_bind(
     })
 }
 
-/// Whether a call is `Call::ExchangeBind` with these arguments.
-pub fn is_exchange_bind(
-    call: &Call,
-    destination: &ShortString,
-    source: &ShortString,
-    routing_key: &ShortString,
-    options: &ExchangeBindOptions,
-    arguments: &FieldTable,
-) -> bool
-    ensures { Decides result (call.now ≡ variant.ExchangeBind destination.now source.now routing_key.now options.now arguments.now) }
-{
-    match call {
-        Call::ExchangeBind {
-            destination: a,
-            source: b,
-            routing_key: c,
-            options: d,
-            arguments: e,
-        } => a == destination
-            && b == source
-            && c == routing_key
-            && d == options
-            && e.same(arguments),
-        _ => false,
-    }
-}
-
 /// A copy of `Call::ExchangeUnbind`.
 pub fn copied_exchange_unbind(
     destination: &ShortString,
@@ -159,31 +83,4 @@ pub fn copied_exchange_unbind(
         options: *options,
         arguments: arguments.try_clone(alloc)?,
     })
-}
-
-/// Whether a call is `Call::ExchangeUnbind` with these arguments.
-pub fn is_exchange_unbind(
-    call: &Call,
-    destination: &ShortString,
-    source: &ShortString,
-    routing_key: &ShortString,
-    options: &ExchangeUnbindOptions,
-    arguments: &FieldTable,
-) -> bool
-    ensures { Decides result (call.now ≡ variant.ExchangeUnbind destination.now source.now routing_key.now options.now arguments.now) }
-{
-    match call {
-        Call::ExchangeUnbind {
-            destination: a,
-            source: b,
-            routing_key: c,
-            options: d,
-            arguments: e,
-        } => a == destination
-            && b == source
-            && c == routing_key
-            && d == options
-            && e.same(arguments),
-        _ => false,
-    }
 }

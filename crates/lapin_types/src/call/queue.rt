@@ -26,36 +26,6 @@ pub fn copied_queue_declare(
     })
 }
 
-/// Whether a call is `Call::QueueDeclare` with these arguments.
-pub fn is_queue_declare(
-    call: &Call,
-    queue: &ShortString,
-    options: &QueueDeclareOptions,
-    arguments: &FieldTable,
-) -> bool
-    ensures { Decides result (call.now ≡ variant.QueueDeclare queue.now options.now arguments.now) }
-{
-    match call {
-        Call::QueueDeclare {
-            queue: a,
-            options: b,
-            arguments: c,
-        } => a == queue && same_options(b, options) && c.same(arguments),
-        _ => false,
-    }
-}
-
-// Whether two declares have the same marks.
-fn same_options(left: &QueueDeclareOptions, right: &QueueDeclareOptions) -> bool
-    ensures { Decides result (left.now ≡ right.now) }
-{
-    left.passive == right.passive
-        && left.durable == right.durable
-        && left.exclusive == right.exclusive
-        && left.auto_delete == right.auto_delete
-        && left.nowait == right.nowait
-}
-
 /// A copy of `Call::QueueBind`.
 pub fn copied_queue_bind(
     queue: &ShortString,
@@ -76,29 +46,6 @@ pub fn copied_queue_bind(
     })
 }
 
-/// Whether a call is `Call::QueueBind` with these arguments.
-pub fn is_queue_bind(
-    call: &Call,
-    queue: &ShortString,
-    exchange: &ShortString,
-    routing_key: &ShortString,
-    options: &QueueBindOptions,
-    arguments: &FieldTable,
-) -> bool
-    ensures { Decides result (call.now ≡ variant.QueueBind queue.now exchange.now routing_key.now options.now arguments.now) }
-{
-    match call {
-        Call::QueueBind {
-            queue: a,
-            exchange: b,
-            routing_key: c,
-            options: d,
-            arguments: e,
-        } => a == queue && b == exchange && c == routing_key && d == options && e.same(arguments),
-        _ => false,
-    }
-}
-
 /// A copy of `Call::QueuePurge`.
 pub fn copied_queue_purge(
     queue: &ShortString,
@@ -113,19 +60,6 @@ pub fn copied_queue_purge(
     })
 }
 
-/// Whether a call is `Call::QueuePurge` with these arguments.
-pub fn is_queue_purge(call: &Call, queue: &ShortString, options: &QueuePurgeOptions) -> bool
-    ensures { Decides result (call.now ≡ variant.QueuePurge queue.now options.now) }
-{
-    match call {
-        Call::QueuePurge {
-            queue: a,
-            options: b,
-        } => a == queue && b == options,
-        _ => false,
-    }
-}
-
 /// A copy of `Call::QueueDelete`.
 pub fn copied_queue_delete(
     queue: &ShortString,
@@ -138,19 +72,6 @@ pub fn copied_queue_delete(
         queue: queue.try_clone(alloc)?,
         options: *options,
     })
-}
-
-/// Whether a call is `Call::QueueDelete` with these arguments.
-pub fn is_queue_delete(call: &Call, queue: &ShortString, options: &QueueDeleteOptions) -> bool
-    ensures { Decides result (call.now ≡ variant.QueueDelete queue.now options.now) }
-{
-    match call {
-        Call::QueueDelete {
-            queue: a,
-            options: b,
-        } => a == queue && b == options,
-        _ => false,
-    }
 }
 
 /// A copy of `Call::QueueUnbind`.
@@ -169,25 +90,4 @@ pub fn copied_queue_unbind(
         routing_key: routing_key.try_clone(alloc)?,
         arguments: arguments.try_clone(alloc)?,
     })
-}
-
-/// Whether a call is `Call::QueueUnbind` with these arguments.
-pub fn is_queue_unbind(
-    call: &Call,
-    queue: &ShortString,
-    exchange: &ShortString,
-    routing_key: &ShortString,
-    arguments: &FieldTable,
-) -> bool
-    ensures { Decides result (call.now ≡ variant.QueueUnbind queue.now exchange.now routing_key.now arguments.now) }
-{
-    match call {
-        Call::QueueUnbind {
-            queue: a,
-            exchange: b,
-            routing_key: c,
-            arguments: d,
-        } => a == queue && b == exchange && c == routing_key && d.same(arguments),
-        _ => false,
-    }
 }
