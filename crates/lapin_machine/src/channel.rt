@@ -3,10 +3,10 @@
 //! Nothing is kept here: every call is the session's, on the number that stands here. Channels stand in the surface crate.
 
 ghost use Rattle.std.specs.Prelude.{◌≡◌, OnOk, OnErr};
-ghost use Rattle.lapin_types.specs.declared.event.Event.TheVariants.{PollTicket, PollConfirm, PollConsumer, AsideConfirm, Delegate, DropConsumer};
+ghost use Rattle.lapin_types.specs.declared.event.Event.TheVariants.{PollTicket, AsideTicket, PollConfirm, PollConsumer, AsideConfirm, Delegate, DropConsumer};
 ghost use Rattle.std.specs.Option.{option_copied, option_map};
 ghost use Rattle.lapin_consumer.specs.Roster.{consumer_at};
-ghost use Rattle.lapin_machine.specs.World.{told_by, next};
+ghost use Rattle.lapin_machine.specs.World.{told_by, next, aside_record};
 ghost use Rattle.lapin_machine.specs.Told.{AsideTold, DelegateTold, DropTold, ticket_record, confirm_record, next_record};
 ghost use Rattle.lapin_machine.specs.Numbers.{HasNumbers};
 
@@ -56,6 +56,16 @@ impl Ticket {
         ensures ok { session.new ≡ next session.old (PollTicket self.now.number) }
     {
         session.poll_ticket(self.number)
+    }
+
+    /// The session's `set_aside_ticket` on this number. A ticket that is neither polled nor set aside is held, and all that were given
+    /// after it are too.
+    pub fn set_aside(&self, session: &mut Session) -> Result<(), Error>
+        ensures told { aside_record result ≡ told_by session.old (AsideTicket self.now.number) }
+        ensures ok { session.new ≡ next session.old (AsideTicket self.now.number) }
+        ensures err { OnErr result (session.new ≡ session.old) }
+    {
+        session.set_aside_ticket(self.number)
     }
 }
 
