@@ -3,3 +3,4 @@ pub mod Ending
 pub mod Known
 pub mod Runs
 pub mod Streaming
+pub mod Complete

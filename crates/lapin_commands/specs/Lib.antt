@@ -9,3 +9,5 @@ pub mod Session
 pub mod Status
 pub mod Words
 pub mod Writing
+pub mod Format
+pub mod OneReading

@@ -59,6 +59,18 @@ abbrev pub IsUnread : Status → Type 0
 IsUnread BadLine = ⊥
 IsUnread status = IsAnswer status
 
+-- all that was to be written was written
+abbrev pub IsWhole : Status → Type 0
+IsWhole Fine = Unit {0}
+IsWhole BadLine = Unit {0}
+IsWhole _ = ⊥
+
+-- nothing was amiss but want of memory
+abbrev pub IsComplete : Status → Type 0
+IsComplete Fine = Unit {0}
+IsComplete NoMemory = Unit {0}
+IsComplete _ = ⊥
+
 -- P holds of a command that reads nothing
 abbrev pub WhereUnread : Command → Type 0 → Type 0
 WhereUnread (command.Generate n) P = P

@@ -1,8 +1,9 @@
 //! The program over an input in memory, where no fault can come: what `program` promises of streams, said of values.
 //! Whoever drives the program without streams calls it, as the tests of worked histories do.
 ghost use Rattle.std.specs.Prelude.{◌≡◌, ◌≢◌, ◌<◌, ◌↔◌, Some, None, length};
+ghost use Rattle.lapin_commands.specs.Format.{IsInFormat};
 ghost use Rattle.lapin_commands.specs.Reading.{longest_input};
-ghost use Rattle.lapin_commands.specs.Outcome.{Prints, PrintsToBadLine};
+ghost use Rattle.lapin_commands.specs.Outcome.{IsComplete, Prints, PrintsToBadLine};
 ghost use Rattle.lapin_commands.specs.Words.{OfCommand, SayNothing, bytes_of};
 
 use crate::program::run_program;
@@ -15,6 +16,9 @@ pub fn run_in_memory(alloc: Global, words: &[String], input: Vec<u8>) -> (Status
     // Nothing fails by itself.
     ensures no_read_fault { result.0 ≢ Status.ReadFault }
     ensures no_write_fault { result.0 ≢ Status.WriteFault }
+
+    // Where the input is in the format, the whole text was written or memory ran out.
+    ensures complete { OfCommand words.now (λ c. IsInFormat c (Some input.items) → IsComplete result.0) }
 
     ensures bad_words { (result.0 ≡ Status.BadWords) ↔ SayNothing (bytes_of words.now) }
     ensures too_long { result.0 ≡ Status.InputTooLong → longest_input < length input.items }

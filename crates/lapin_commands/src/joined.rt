@@ -9,6 +9,7 @@ ghost use Rattle.lapin_joint_text.specs.Reports.{report_tokens};
 ghost use Rattle.lapin_commands.specs.Joined.{PrintsJoined, JoinedGoesOn};
 ghost use Rattle.lapin_commands.specs.Laws.{joined_ends, joined_first};
 ghost use Rattle.lapin_commands.specs.EveryLine.{joined_goes};
+ghost use Rattle.lapin_commands.specs.OneReading.{joined_one};
 
 use crate::run::Run;
 use lapin_joint::{Joined, Reported, Step};
@@ -45,6 +46,8 @@ impl Run for Joined {
     ghost ends = { λ k n. joined_ends k n };
 
     ghost goes = { λ k n lines. joined_goes k n lines };
+
+    ghost one = { λ input text other line all bad. joined_one input text other line all bad };
 
     ghost first = { λ input none. joined_first input none };
 }

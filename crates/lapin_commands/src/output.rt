@@ -1,7 +1,7 @@
 //! Writing a text: whole, or in pieces while more of it comes. `printing` and `program` call it.
 ghost use Rattle.std.specs.Prelude.{◌≡◌, ◌≤◌, ◌++◌, ℕ, List, OnOk, OnErr, IsErrOf};
 ghost use Rattle.std.specs.Io.KnownBytes.{Appends};
-ghost use Rattle.lapin_io.specs.Numbers.{Rose};
+ghost use Rattle.lapin_io.specs.Numbers.{Rose, Stayed};
 ghost use Rattle.lapin_commands.specs.Writing.{WritesPrefix};
 
 use lapin_io::{Sink, SinkError};
@@ -12,6 +12,7 @@ const PIECE: usize = 1 << 16;
 /// Writes the whole text. Each turn puts out a byte at least, or ends with a fault of the sink.
 pub fn write_all<K: Sink>(sink: &mut K, text: &[u8]) -> Result<(), SinkError>
     ensures whole { OnOk result (Appends (K.written sink.old) (K.written sink.new) text.now) }
+    ensures faultless { OnOk result (Stayed (K.faults sink.old) (K.faults sink.new)) }
     ensures prefix { WritesPrefix (K.written sink.old) (K.written sink.new) text.now }
     ensures fault { IsErrOf result SinkError.Failed → Rose (K.faults sink.old) (K.faults sink.new) }
     ensures faults { K.faults sink.old ≤ K.faults sink.new }
@@ -34,6 +35,7 @@ pub fn write_all<K: Sink>(sink: &mut K, text: &[u8]) -> Result<(), SinkError>
 pub fn put_out<K: Sink>(sink: &mut K, held: &mut Vec<u8>) -> Result<(), SinkError>
     // What was written and what is still held is what was held.
     ensures ok { OnOk result ((piece : List ℕ) × Appends (K.written sink.old) (K.written sink.new) piece × (held.old.items ≡ piece ++ held.new.items)) }
+    ensures faultless { OnOk result (Stayed (K.faults sink.old) (K.faults sink.new)) }
     ensures prefix { OnErr result (WritesPrefix (K.written sink.old) (K.written sink.new) held.old.items) }
     ensures fault { IsErrOf result SinkError.Failed → Rose (K.faults sink.old) (K.faults sink.new) }
     ensures faults { K.faults sink.old ≤ K.faults sink.new }

@@ -4,7 +4,7 @@
 //! is put out while the run goes on. So no list of steps or of what they answer is made, and no whole text.
 ghost use Rattle.std.specs.Prelude.{◌≡◌, ◌≤◌, ◌<◌, ◌^◌, ◌++◌, ◌∷◌, ◌⊎◌, [], ℕ, List, Some, None, length, IfOk, OnOk, OnErr, IfSome, IfNone, Option, IsErrOf};
 ghost use Rattle.std.specs.Io.KnownBytes.{Appends};
-ghost use Rattle.lapin_io.specs.Numbers.{Rose};
+ghost use Rattle.lapin_io.specs.Numbers.{Rose, Stayed};
 ghost use Rattle.lapin_text.specs.Input.{max_line, IsMax};
 ghost use Rattle.lapin_commands.specs.Outcome.{WroteSome};
 ghost use Rattle.lapin_commands.specs.Printing.{NoFirst, bad_line_text, number_line};
@@ -27,6 +27,7 @@ pub fn write_input<R: Run, K: Sink>(
     sink: &mut K,
 ) -> Result<Option<u64>, SinkError>
     ensures ok { IfOk result (λ bad. (text : List ℕ) × R.prints input.now bad text × Appends (K.written sink.old) (K.written sink.new) text) }
+    ensures faultless { OnOk result (Stayed (K.faults sink.old) (K.faults sink.new)) }
     ensures fault { IsErrOf result SinkError.Failed → Rose (K.faults sink.old) (K.faults sink.new) }
     ensures cut_short { IsErrOf result SinkError.Failed → WroteSome (K.written sink.old) (K.written sink.new) (R.prints input.now) }
     ensures no_memory { IsErrOf result SinkError.NoMemory → (sink.new ≡ sink.old)
@@ -64,6 +65,7 @@ fn write_lines<R: Run, K: Sink>(
     requires takes { R.takes (length lines.old) run.old }
     ensures ok { IfOk result (λ bad. (text : List ℕ) × R.goes_on run.old 2 lines.old bad text × Appends (K.written sink.old) (K.written sink.new) (text ++ bad_line_text bad)) }
     ensures err { OnErr result ((bad : Option ℕ) × (text : List ℕ) × R.goes_on run.old 2 lines.old bad text × WritesPrefix (K.written sink.old) (K.written sink.new) (text ++ bad_line_text bad)) }
+    ensures faultless { OnOk result (Stayed (K.faults sink.old) (K.faults sink.new)) }
     ensures fault { IsErrOf result SinkError.Failed → Rose (K.faults sink.old) (K.faults sink.new) }
 {
     let mut held = Vec::new(alloc);
@@ -84,6 +86,7 @@ fn put_lines<R: Run, K: Sink>(
     requires empty { held.old.items ≡ [] }
     ensures ok { IfOk result (λ bad. (piece : List ℕ) × Appends (K.written sink.old) (K.written sink.new) piece × R.goes_on run.old 2 lines.old bad (piece ++ held.new.items)) }
     ensures err { OnErr result ((bad : Option ℕ) × (text : List ℕ) × R.goes_on run.old 2 lines.old bad text × WritesPrefix (K.written sink.old) (K.written sink.new) text) }
+    ensures faultless { OnOk result (Stayed (K.faults sink.old) (K.faults sink.new)) }
     ensures fault { IsErrOf result SinkError.Failed → Rose (K.faults sink.old) (K.faults sink.new) }
     ensures faults { K.faults sink.old ≤ K.faults sink.new }
 {
@@ -110,6 +113,7 @@ fn write_rest<K: Sink>(
 ) -> Result<Option<u64>, SinkError>
     ensures ok { IfOk result (λ number. (number ≡ bad) × Appends (K.written sink.old) (K.written sink.new) (held.items ++ bad_line_text bad)) }
     ensures err { OnErr result (WritesPrefix (K.written sink.old) (K.written sink.new) (held.items ++ bad_line_text bad)) }
+    ensures faultless { OnOk result (Stayed (K.faults sink.old) (K.faults sink.new)) }
     ensures fault { IsErrOf result SinkError.Failed → Rose (K.faults sink.old) (K.faults sink.new) }
 {
     if put_bad_line(alloc, &mut held, bad).is_err() {

@@ -1,10 +1,11 @@
 //! The top call: what the program does with its words, its source and its sink. `main` calls it with the real ones,
 //! tests with some in memory.
-ghost use Rattle.std.specs.Prelude.{◌≡◌, ◌≢◌, ◌≤◌, ◌+◌, ◌↔◌, ◌⊎◌};
-ghost use Rattle.lapin_io.specs.Numbers.{Rose, RoseBy};
+ghost use Rattle.std.specs.Prelude.{◌≡◌, ◌≢◌, ◌≤◌, ◌+◌, ◌↔◌, ◌⊎◌, ℕ, List, None};
+ghost use Rattle.lapin_io.specs.Numbers.{Rose, RoseBy, Stayed};
 ghost use Rattle.lapin_generate.specs.Generated.{most_publishes};
 ghost use Rattle.lapin_commands.specs.Generate.{PrintsGenerated};
-ghost use Rattle.lapin_commands.specs.Outcome.{HasRead, HasRun, IsAnswer, IsUnread, WhereUnread, WroteAll, WroteToBadLine, WroteSome};
+ghost use Rattle.lapin_commands.specs.Outcome.{HasRead, HasRun, IsAnswer, IsComplete, IsUnread, IsWhole, WhereUnread, WroteAll, WroteToBadLine, WroteSome};
+ghost use Rattle.lapin_commands.specs.Format.{IsInFormat, Tells};
 ghost use Rattle.lapin_commands.specs.Reading.{longest_input, IsTooLong};
 ghost use Rattle.lapin_commands.specs.Words.{OfCommand, SayNothing, bytes_of};
 
@@ -52,6 +53,15 @@ pub fn run_program<S: Source, K: Sink>(
         HasRun c (S.left source.old) (S.left source.new) (S.given source.old) (S.given source.new)
         (WroteToBadLine (K.written sink.old) (K.written sink.new))) }
 
+    // In both cases no write failed.
+    ensures faultless { IsWhole result → Stayed (K.faults sink.old) (K.faults sink.new) }
+
+    // Where what is read is in the format, and neither count of faults rose, the whole text was written or memory ran out.
+    ensures complete { OfCommand words.now (λ c. IsInFormat c (S.left source.old)
+        → (Rose (S.faults source.old) (S.faults source.new) → ⊥)
+        → (Rose (K.faults sink.old) (K.faults sink.new) → ⊥)
+        → IsComplete result) }
+
     // The sink failed in this call.
     ensures write_fault { result ≡ Status.WriteFault → Rose (K.faults sink.old) (K.faults sink.new) }
     ensures cut_short { OfCommand words.now (λ c. result ≡ Status.WriteFault →
@@ -89,6 +99,11 @@ fn run_input<R: Run, S: Source, K: Sink>(alloc: Global, source: &mut S, sink: &m
     ensures bad_line { result ≡ Status.BadLine →
         HasRead (S.left source.old) (S.left source.new) (S.given source.old) (S.given source.new)
         (λ input. WroteToBadLine (K.written sink.old) (K.written sink.new) (R.prints input)) }
+    ensures faultless { IsWhole result → Stayed (K.faults sink.old) (K.faults sink.new) }
+    ensures complete { Tells (S.left source.old) (λ input. (text : List ℕ) × R.prints input None text)
+        → (Rose (S.faults source.old) (S.faults source.new) → ⊥)
+        → (Rose (K.faults sink.old) (K.faults sink.new) → ⊥)
+        → IsComplete result }
     ensures write_fault { result ≡ Status.WriteFault → Rose (K.faults sink.old) (K.faults sink.new) }
     ensures cut_short { result ≡ Status.WriteFault →
         HasRead (S.left source.old) (S.left source.new) (S.given source.old) (S.given source.new)
@@ -110,6 +125,8 @@ fn answer<R: Run, K: Sink>(alloc: Global, input: &[u8], sink: &mut K) -> Status
     ensures statuses { IsAnswer result }
     ensures fine { result ≡ Status.Fine → WroteAll (K.written sink.old) (K.written sink.new) (R.prints input.now) }
     ensures bad_line { result ≡ Status.BadLine → WroteToBadLine (K.written sink.old) (K.written sink.new) (R.prints input.now) }
+    ensures faultless { IsWhole result → Stayed (K.faults sink.old) (K.faults sink.new) }
+    ensures complete { (text : List ℕ) → R.prints input.now None text → (Rose (K.faults sink.old) (K.faults sink.new) → ⊥) → IsComplete result }
     ensures fault { result ≡ Status.WriteFault → Rose (K.faults sink.old) (K.faults sink.new) }
     ensures cut_short { result ≡ Status.WriteFault → WroteSome (K.written sink.old) (K.written sink.new) (R.prints input.now) }
     ensures no_memory { result ≡ Status.NoMemory → (sink.new ≡ sink.old)
@@ -128,6 +145,8 @@ fn run_generated<K: Sink>(alloc: Global, publishes: u64, sink: &mut K) -> Status
     requires { publishes ≤ most_publishes }
     ensures statuses { IsUnread result }
     ensures fine { result ≡ Status.Fine → WroteAll (K.written sink.old) (K.written sink.new) (PrintsGenerated publishes) }
+    ensures faultless { IsWhole result → Stayed (K.faults sink.old) (K.faults sink.new) }
+    ensures complete { (Rose (K.faults sink.old) (K.faults sink.new) → ⊥) → IsComplete result }
     ensures fault { result ≡ Status.WriteFault → Rose (K.faults sink.old) (K.faults sink.new) }
     ensures cut_short { result ≡ Status.WriteFault → WroteSome (K.written sink.old) (K.written sink.new) (PrintsGenerated publishes) }
     ensures no_memory { result ≡ Status.NoMemory → (sink.new ≡ sink.old)

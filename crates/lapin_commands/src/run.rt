@@ -49,6 +49,9 @@ pub trait Run: Drop + Sized {
     /// Whatever the lines are, something is printed for them.
     ghost goes: { (run : Self) (n : ℕ) (lines : List (List ℕ)) → (bad : Option ℕ) × (text : List ℕ) × goes_on run n lines bad text };
 
+    /// An input that is printed whole has no bad line.
+    ghost one: { (input text other : List ℕ) (line : ℕ) → prints input None text → prints input (Some line) other → ⊥ };
+
     /// Without a first line, that line is the bad one, and nothing is run.
     ghost first: { (input : List ℕ) → NoFirst (lines_of input) → prints input (Some 1) (bad_line_text (Some 1)) };
 }

@@ -5,6 +5,7 @@ ghost use Rattle.lapin_machine.specs.Numbers.{HasNumbersFor};
 ghost use Rattle.lapin_commands.specs.Session.{PrintsSession, SessionGoesOn};
 ghost use Rattle.lapin_commands.specs.Laws.{session_ends, session_first};
 ghost use Rattle.lapin_commands.specs.EveryLine.{session_goes};
+ghost use Rattle.lapin_commands.specs.OneReading.{session_one};
 
 use crate::run::Run;
 use lapin_lines::take_line;
@@ -35,6 +36,8 @@ impl Run for Session {
     ghost ends = { λ w n. session_ends w n };
 
     ghost goes = { λ w n lines. session_goes w n lines };
+
+    ghost one = { λ input text other line all bad. session_one input text other line all bad };
 
     ghost first = { λ input none. session_first input none };
 }

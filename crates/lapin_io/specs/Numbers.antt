@@ -1,5 +1,5 @@
 -- The numbers that a source or a sink tells of itself, as how often it has failed. Each is kept in a u64.
-use Rattle.std.specs.Prelude.{ℕ, ◌+◌, ◌-◌, ◌^◌, ◌<◌, ◌≤◌, min}
+use Rattle.std.specs.Prelude.{◌≡◌, ℕ, ◌+◌, ◌-◌, ◌^◌, ◌<◌, ◌≤◌, min}
 
 -- the number after n more: it stands still at the greatest u64
 abbrev pub counted : ℕ → ℕ → ℕ
@@ -12,6 +12,10 @@ RoseBy n before now = counted before n ≤ now
 -- it rose
 abbrev pub Rose : ℕ → ℕ → Type 0
 Rose before now = RoseBy 1 before now
+
+-- it is what it was
+abbrev pub Stayed : ℕ → ℕ → Type 0
+Stayed before now = now ≡ before
 
 -- it has not fallen, and is a u64
 pub record NeverFalls (before now : ℕ) : Type 0 where

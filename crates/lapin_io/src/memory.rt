@@ -1,10 +1,10 @@
 //! A source and a sink in memory that pass their bytes in pieces and fail at the calls that they are told: for tests
 //! of the code above, which is to stand whatever the pieces and the faults.
-ghost use Rattle.std.specs.Prelude.{Some, ◌≡◌, ◌≤◌, ◌<◌, ◌↔◌, [], length, take, min, true, is_err, IfOk, OnErr, IsErrOf, MatchResult};
+ghost use Rattle.std.specs.Prelude.{Some, ◌≡◌, ◌≤◌, ◌<◌, ◌↔◌, ◌⊎◌, [], length, take, min, true, is_err, IfOk, OnErr, IsErrOf, MatchResult};
 ghost use Rattle.std.specs.Io.{ReadsAtMost, WritesAtMost};
 ghost use Rattle.std.specs.Io.KnownBytes.{ReadConsumes, WriteAppends};
 ghost use Rattle.lapin_io.specs.Calls.{no_calls, fails_next, after_call};
-ghost use Rattle.lapin_io.specs.Numbers.{counted, Rose, NeverFalls};
+ghost use Rattle.lapin_io.specs.Numbers.{counted, Rose, Stayed, NeverFalls};
 
 use crate::calls::Calls;
 use crate::{Failed, Sink, SinkError, Source};
@@ -146,6 +146,7 @@ impl Sink for MemorySink {
         ensures faults { NeverFalls self.old.calls.faults self.new.calls.faults }
         ensures failed { IsErrOf result SinkError.Failed → Rose self.old.calls.faults self.new.calls.faults }
         ensures stuck { result ≡ Ok 0 → 0 < length bytes.now → Rose self.old.calls.faults self.new.calls.faults }
+        ensures sound { IfOk result (λ n. (length bytes.now ≡ 0) ⊎ (0 < n) → Stayed self.old.calls.faults self.new.calls.faults) }
 
         // It fails at the calls that it was told to, and else takes as many bytes as may be.
         ensures fails { IsErrOf result SinkError.Failed ↔ (fails_next self.old.calls ≡ true) }

@@ -1,8 +1,8 @@
 //! A source and a sink in memory that never fail: over them a program meets no fault at all.
-ghost use Rattle.std.specs.Prelude.{Some, ◌≡◌, ◌<◌, [], length, min, IfOk, IsOk, OnErr, IsErrOf, MatchResult};
+ghost use Rattle.std.specs.Prelude.{Some, ◌≡◌, ◌<◌, ◌⊎◌, [], length, min, IfOk, IsOk, OnErr, IsErrOf, MatchResult};
 ghost use Rattle.std.specs.Io.{ReadsAtMost, WritesAtMost};
 ghost use Rattle.std.specs.Io.KnownBytes.{ReadConsumes, WriteAppends};
-ghost use Rattle.lapin_io.specs.Numbers.{counted, Rose, NeverFalls};
+ghost use Rattle.lapin_io.specs.Numbers.{counted, Rose, Stayed, NeverFalls};
 
 use crate::memory::copy_front;
 use crate::{Failed, Sink, SinkError, Source};
@@ -111,6 +111,7 @@ impl Sink for SureSink {
         ensures faults { NeverFalls 0 0 }
         ensures failed { IsErrOf result SinkError.Failed → Rose 0 0 }
         ensures stuck { result ≡ Ok 0 → 0 < length bytes.now → Rose 0 0 }
+        ensures sound { IfOk result (λ n. (length bytes.now ≡ 0) ⊎ (0 < n) → Stayed 0 0) }
 
         // It takes the whole piece, unless memory runs out.
         ensures whole { IfOk result (λ n. n ≡ length bytes.now) }

@@ -8,6 +8,7 @@ ghost use Rattle.lapin_machine.specs.World.{new_world};
 ghost use Rattle.lapin_machine.specs.Stands.{Stands};
 ghost use Rattle.lapin_shared.specs.Lawful.{IsLawful};
 ghost use Rattle.lapin_shared.specs.Checked.{IsAt, AllAt};
+ghost use Rattle.lapin_shared.specs.Ackers.{UsesOnce};
 ghost use Rattle.lapin_shared.specs.Grown.{AreFresh, Rise};
 ghost use Rattle.lapin_shared.specs.Finished.{IsOut};
 
@@ -135,6 +136,10 @@ impl<L: Crew> Client<L> {
         callers: &mut Vec<Caller<L>>,
     ) -> Result<History, FinishError>
         ensures lawful { IfOk result (λ h. IsLawful self.now.frame_max h) }
+
+        // Of the calls of each acker, by whichever callers, at most one is answered otherwise than no.
+        ensures used_once { IfOk result UsesOnce }
+
         ensures count { IfOk result (λ h. length h ≡ sum_by (λ c. length c.log) callers.old.items) }
         ensures stand { IfOk result (λ h. All (λ c. AllAt h c) callers.old.items) }
         ensures rise { OnOk result (All (λ c. Rise 0 c.log) callers.old.items) }
@@ -205,6 +210,7 @@ fn closed<L: Crew>(
     requires stands { Stands locked.old.frame_max [] session }
     ensures history { result ≡ locked.old.entries }
     ensures lawful { IsLawful locked.old.frame_max locked.old.entries }
+    ensures used_once { UsesOnce locked.old.entries }
     ensures count { length result ≡ sum_by (λ c. length c.log) callers.old.items }
     ensures emptied { callers.new.items ≡ [] }
 {

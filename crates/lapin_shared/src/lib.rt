@@ -23,5 +23,5 @@ pub use client::{Client, FinishError};
 pub use entry::{Entry, Told};
 pub use gate::{Gate, OpenGate};
 pub use history::History;
-pub use laws::interleaves;
+pub use laws::{ackers_are_used_once, interleaves};
 pub use locked::{Crew, Locked};

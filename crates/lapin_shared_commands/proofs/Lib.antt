@@ -4,3 +4,4 @@ pub mod Dealing
 pub mod Finishing
 pub mod Places
 pub mod Shares
+pub mod Complete

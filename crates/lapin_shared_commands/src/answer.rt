@@ -1,7 +1,8 @@
 //! What follows once the input was read: it is parsed and run, the history is kept, and its text is written.
 ghost use Rattle.std.specs.Prelude.{◌≡◌, ◌≤◌, ◌⊎◌, None, IfOk};
-ghost use Rattle.lapin_io.specs.Numbers.{Rose};
-ghost use Rattle.lapin_commands.specs.Outcome.{IsAnswer};
+ghost use Rattle.lapin_io.specs.Numbers.{Rose, Stayed};
+ghost use Rattle.lapin_commands.specs.Format.{SaysEvents};
+ghost use Rattle.lapin_commands.specs.Outcome.{IsAnswer, IsComplete, IsWhole};
 ghost use Rattle.lapin_shared_commands.specs.Outcome.{IsRun, WroteAll, WroteSome, WroteToBadLine};
 
 use crate::printing::print_run;
@@ -32,6 +33,8 @@ pub fn answer<G: Gate, K: Sink, R: Threads + Wait + Sync>(
     ensures statuses { IsAnswer result }
     ensures fine { result ≡ Status.Fine → WroteAll callers kept.new (K.written sink.old) (K.written sink.new) input.now }
     ensures bad_line { result ≡ Status.BadLine → WroteToBadLine callers kept.new (K.written sink.old) (K.written sink.new) input.now }
+    ensures faultless { IsWhole result → Stayed (K.faults sink.old) (K.faults sink.new) }
+    ensures complete { SaysEvents input.now → (Rose (K.faults sink.old) (K.faults sink.new) → ⊥) → IsComplete result }
     ensures fault { result ≡ Status.WriteFault → Rose (K.faults sink.old) (K.faults sink.new) }
     ensures cut_short { result ≡ Status.WriteFault → WroteSome callers kept.new (K.written sink.old) (K.written sink.new) input.now }
     ensures no_memory { result ≡ Status.NoMemory → ((sink.new ≡ sink.old) × (kept.new ≡ None))

@@ -5,6 +5,7 @@
 #![tactic(auto)]
 
 mod answer;
+mod in_memory;
 mod printing;
 mod program;
 mod running;
@@ -12,4 +13,5 @@ mod shifts;
 mod turns;
 mod words;
 
+pub use in_memory::run_shared_in_memory;
 pub use program::run_shared;

@@ -1,7 +1,8 @@
 //! The top call of the words `shared N`. `main` calls it with the real source and sink, tests with some in memory.
 ghost use Rattle.std.specs.Prelude.{◌≡◌, ◌+◌, ◌↔◌, ◌⊎◌, ℕ, None};
-ghost use Rattle.lapin_io.specs.Numbers.{Rose, RoseBy};
-ghost use Rattle.lapin_commands.specs.Outcome.{HasRead};
+ghost use Rattle.lapin_io.specs.Numbers.{Rose, RoseBy, Stayed};
+ghost use Rattle.lapin_commands.specs.Format.{SaysEvents, Tells};
+ghost use Rattle.lapin_commands.specs.Outcome.{HasRead, IsComplete, IsWhole};
 ghost use Rattle.lapin_commands.specs.Reading.{longest_input, IsTooLong};
 ghost use Rattle.lapin_shared_commands.specs.Outcome.{WroteAll, WroteSome, WroteToBadLine};
 ghost use Rattle.lapin_shared_commands.specs.Words.{AreShared};
@@ -52,6 +53,16 @@ pub fn run_shared<G: Gate, S: Source, K: Sink, R: Threads + Wait + Sync>(
     ensures bad_line { result ≡ Status.BadLine → (n : ℕ) × AreShared words.now n
         × HasRead (S.left source.old) (S.left source.new) (S.given source.old) (S.given source.new)
         (WroteToBadLine n kept.new (K.written sink.old) (K.written sink.new)) }
+
+    // In both cases no write failed.
+    ensures faultless { IsWhole result → Stayed (K.faults sink.old) (K.faults sink.new) }
+
+    // Where the words are `shared N`, what is read is in the format, and neither count of faults rose, the whole text was written or
+    // memory ran out.
+    ensures complete { (n : ℕ) → AreShared words.now n → Tells (S.left source.old) SaysEvents
+        → (Rose (S.faults source.old) (S.faults source.new) → ⊥)
+        → (Rose (K.faults sink.old) (K.faults sink.new) → ⊥)
+        → IsComplete result }
 
     // The sink failed in this call.
     ensures write_fault { result ≡ Status.WriteFault → Rose (K.faults sink.old) (K.faults sink.new) }

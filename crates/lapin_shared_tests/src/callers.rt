@@ -1,11 +1,14 @@
-//! Callers without the command: one that waits for another's frame, many that make many steps, and one that isn't given back.
+//! Callers without the command: one that waits for another's frame, many that make many steps, two that use one acker, and one that
+//! isn't given back.
 
 ghost use Rattle.std.specs.Prelude.{◌≡◌};
 
-use crate::stepping::{answer_of, finished};
+use crate::stepping::{answer_of, finished, make_lines};
 use lapin_shared::{Caller, Client, Crew, FinishError, History};
 use lapin_threads::each_mut;
-use lapin_types::{Answer, ChannelMethod, Event, Frame, Method, Record};
+use lapin_types::{
+    AckerCall, Answer, BasicAckOptions, ChannelMethod, Event, Frame, Method, Record,
+};
 use std::alloc::Global;
 use std::marker::Brand;
 use std::process::Abort;
@@ -135,4 +138,57 @@ fn many<L: Crew + Send + Sync, R: Threads + Wait + Abort + Sync>(
 #[test]
 fn four_callers_make_a_thousand_steps_each(rt: HostRuntime) -> Result<(), Fail> {
     many::<Brand, _>(&rt, rt.alloc(), Blank::new(4))
+}
+
+/// A message of no bytes for consumer 1, whose acker is the first.
+const ONE_MESSAGE: &str = "recv method 1 basic.deliver x74 8 0 x x71\nrecv header 1 60 0 []\n";
+
+// A hundred calls of the first acker.
+fn ack_often<L: Crew, R: Wait>(rt: &R, alloc: Global, caller: &mut Caller<L>) -> bool {
+    for _ in 0..100 {
+        let ack = AckerCall::Ack(BasicAckOptions::default());
+        if caller.make(rt, alloc, Event::Acker(1, ack)).is_err() {
+            return false;
+        }
+    }
+    true
+}
+
+// How many calls of the first acker got a ticket, and how many the answer no.
+fn uses_of_the_first(history: &History) -> (u64, u64) {
+    let mut tickets: u64 = 0;
+    let mut noes: u64 = 0;
+    for place in 0..history.len() as u64 {
+        let Some(entry) = history.at(place + 1) else {
+            return (tickets, noes);
+        };
+        match (&entry.event, &entry.answer) {
+            (Event::Acker(1, _), Record::Ticket(_)) => tickets = tickets.saturating_add(1),
+            (Event::Acker(1, _), Record::No) => noes = noes.saturating_add(1),
+            _ => {}
+        }
+    }
+    (tickets, noes)
+}
+
+fn one_acker<L: Crew + Send + Sync, R: Threads + Wait + Abort + Sync>(
+    rt: &R,
+    alloc: Global,
+    blank: Blank,
+) -> Result<(), Fail>
+    requires name { blank.name ≡ L.name }
+    requires parts { (blank.parts ≡ 2) × (blank.parts ≡ L.parts) }
+{
+    let (client, mut callers) = Client::<L>::new(alloc, 4096, 2, blank)?;
+    make_lines(rt, alloc, &mut callers[0], ONE_MESSAGE)?;
+    let job = |caller: &mut Caller<L>| ack_often(rt, alloc, caller);
+    assert!(rt; each_mut(rt, &job, callers.as_mut_slice()));
+    let history = finished(client.finish(rt, alloc, &mut callers))?;
+    assert_eq!(rt; uses_of_the_first(&history), (1, 199));
+    Ok(())
+}
+
+#[test]
+fn two_callers_use_one_acker_once(rt: HostRuntime) -> Result<(), Fail> {
+    one_acker::<Brand, _>(&rt, rt.alloc(), Blank::new(2))
 }

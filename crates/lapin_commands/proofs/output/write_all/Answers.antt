@@ -1,10 +1,10 @@
-use Rattle.std.proofs.Common.{arith}
+use Rattle.std.proofs.Common.{arith, inr, ◌∙◌}
 use Rattle.lapin_commands.proofs.Known.{appends_more}
 use Rattle.lapin_commands.proofs.output.write_all.Goals as goal
 
 pub loop-done-preserved : goal.loop-done-preserved
 loop-done-preserved g c = record {
   written = appends_more _ _ _ c.args.text.now c.loop-done.done c.in_ok-count.count c.loop-done.invariant.written c.in_ok-count.ensures.bytes;
-  faults = omega (arith, c.in_ok-count.ensures.faults);
+  faults = c.in_ok-count.ensures.sound (inr (omega (arith, c.if-count-eq0.false))) ∙ c.loop-done.invariant.faults;
   within = omega (arith, c.in_ok-count.ensures.within);
 }

@@ -1,4 +1,4 @@
-use Rattle.std.proofs.Common.{◌≡◌, ◌+◌, ℕ, suc, List, ◌++◌, length, Some, subst, sym, ap, arith, rules}
+use Rattle.std.proofs.Common.{◌≡◌, ◌+◌, ℕ, suc, List, ◌++◌, length, Some, subst, sym, ap, ◌∙◌, arith, rules}
 use Rattle.std.specs.Io.KnownBytes.{Appends}
 use Rattle.lapin_commands.proofs.Ending.{on_err}
 use Rattle.lapin_commands.proofs.Known.{prefix_none}
@@ -29,5 +29,5 @@ loop-line-preserved g c =
       reaches = reaches_out g.R.Run.goes_on c.args.run.now c.take_line.new.self c.args.lines.now c.next.new.self _ _ _ (c.loop-line.number + 1) c.take_line.new.text.items out.0 c.put_out.new.held.items taken out.1 out.2;
       takes = c.in-Ok.ensures.takes (search rules) (length c.next.new.self) (can_take (λ (n : ℕ). g.R.Run.takes n c.loop-line.run) c.loop-line.lines c.next.new.self c.in-Some.line.now c.loop-line.invariant.takes c.in-Some.ensures.some);
       lines = omega (arith, c.loop-line.invariant.lines, one);
-      faults = omega (arith, c.loop-line.invariant.faults, c.in_ok-put_out.ensures.faults);
+      faults = c.in_ok-put_out.ensures.faultless ∙ c.loop-line.invariant.faults;
     }
