@@ -1,8 +1,10 @@
 -- A turn of work from its stages.
-use Rattle.std.proofs.Common.{◌≡◌, ℕ, ◌-◌, List, [], ◌∷◌, ◌++◌, length, refl, sym, subst, inr, arith, Option, Some, None, Result, Ok, Err, IfSome, MatchOption}
+use Rattle.std.proofs.Common.{◌≡◌, ℕ, ◌-◌, List, [], ◌∷◌, ◌++◌, length, refl, sym, ap, subst, inr, arith, Option, Some, None, Result, Ok, Err, IfSome, MatchOption}
 use Rattle.std.specs.Prelude.{slice_get, zero, suc}
 use Rattle.lapin_types.specs.declared.message.Delivery.{Delivery}
 use Rattle.lapin_types.specs.declared.job.Job.{Job}
+use Rattle.lapin_types.specs.declared.job.JobKind.{JobKind}
+use Rattle.lapin_types.specs.declared.job.JobKind.TheVariants as job_kind
 use Rattle.lapin_types.specs.declared.event.Event.TheVariants as event
 use Rattle.lapin_types.specs.declared.record.Record.TheVariants as record_
 use Rattle.lapin_history.specs.Consumers.{job_record}
@@ -16,8 +18,8 @@ use Rattle.lapin_work.specs.declared.work.Work.{Work}
 use Rattle.lapin_work.specs.declared.work.Work.TheVariants as work
 use Rattle.lapin_work.specs.declared.decision.Decision.{Decision}
 use Rattle.lapin_work.specs.declared.decision.Decision.TheVariants as decision
-use Rattle.lapin_work.specs.Jobs.{Handed, job, no_job, delivery_of, job_in_record, job_in}
-use Rattle.lapin_work.specs.Decided.{IsDecided, IsJudged}
+use Rattle.lapin_work.specs.Jobs.{Handed, job, no_job, delivery_in, job_in_record, job_in}
+use Rattle.lapin_work.specs.Decided.{IsDecided, IsHandled, IsJudged}
 use Rattle.lapin_work.specs.Worked.{Worked, TookJob, IsFollowed, IsCarriedOut, IsSettled}
 
 none_is : (o : Option Job) → job_in_record (job_record o) ≡ None → job_record o ≡ record_.NoJob
@@ -35,15 +37,36 @@ no_job_told w e = none_is _ e
 pub job_told : (w : World) (j : Job) → job_in (Some (told_by w event.NextJob)) ≡ Some j → told_by w event.NextJob ≡ record_.Job j
 job_told w j e = some_is _ j e
 
+-- what a delegate answered to a delivery, and to what is none
+pub judged_some : (may : Handed → Verdict → Type 0) (y : Handed) (d : Delivery) (v : Verdict) → Some d ≡ delivery_in y → may y v → IsJudged may y (decision.Judged d.acker.number v)
+judged_some may (Ok (Some e)) d v is answered = let same : d ≡ e = cc in (ap (λ (x : Delivery). x.acker.number) same, answered)
+judged_some may (Ok None) d v is answered = cc
+judged_some may (Err e) d v is answered = cc
+
+pub judged_none : (may : Handed → Verdict → Type 0) (y : Handed) (v : Verdict) → None ≡ delivery_in y → may y v → IsJudged may y decision.Handled
+judged_none may (Ok (Some e)) v is answered = cc
+judged_none may (Ok None) v is answered = (v, answered)
+judged_none may (Err e) v is answered = (v, answered)
+
 -- what follows a job, by what was decided
-followed : (may : Handed → Verdict → Type 0) (mid new : Seen) (n : ℕ) (o : Option Delivery) (x : Decision) (result : Result Work StepError) → IsJudged may o x
-    → IsCarriedOut mid n x result new → IsFollowed may mid n o result new
-followed may mid new n None decision.NoDelegate result j c = absurd j
-followed may mid new n None decision.Handled result j c = c
-followed may mid new n None (decision.Judged a v) result j c = absurd j
-followed may mid new n (Some d) decision.NoDelegate result j c = absurd j
-followed may mid new n (Some d) decision.Handled result j c = absurd j
-followed may mid new n (Some d) (decision.Judged a v) result j c = (v, j.1, subst (λ b. IsSettled mid n b v result new) j.0 c)
+judged_followed : (may : Handed → Verdict → Type 0) (mid new : Seen) (n : ℕ) (y : Handed) (x : Decision) (result : Result Work StepError) → IsJudged may y x
+    → IsCarriedOut mid n x result new → IsFollowed may mid n (job_kind.Deliver y) result new
+judged_followed may mid new n (Ok None) decision.NoDelegate result j c = absurd j
+judged_followed may mid new n (Ok None) decision.Handled result j c = (j, c.0, c.1)
+judged_followed may mid new n (Ok None) (decision.Judged a v) result j c = absurd j
+judged_followed may mid new n (Err e) decision.NoDelegate result j c = absurd j
+judged_followed may mid new n (Err e) decision.Handled result j c = (j, c.0, c.1)
+judged_followed may mid new n (Err e) (decision.Judged a v) result j c = absurd j
+judged_followed may mid new n (Ok (Some d)) decision.NoDelegate result j c = absurd j
+judged_followed may mid new n (Ok (Some d)) decision.Handled result j c = absurd j
+judged_followed may mid new n (Ok (Some d)) (decision.Judged a v) result j c = (v, j.1, subst (λ b. IsSettled mid n b v result new) j.0 c)
+
+followed : (may : Handed → Verdict → Type 0) (mid new : Seen) (n : ℕ) (k : JobKind) (x : Decision) (result : Result Work StepError) → IsHandled may k x
+    → IsCarriedOut mid n x result new → IsFollowed may mid n k result new
+followed may mid new n (job_kind.Deliver y) x result j c = judged_followed may mid new n y x result j c
+followed may mid new n job_kind.Discard decision.NoDelegate result j c = absurd j
+followed may mid new n job_kind.Discard decision.Handled result j c = c
+followed may mid new n job_kind.Discard (decision.Judged a v) result j c = absurd j
 
 -- how a turn may end behind its job
 abbrev EndsBehindJob : Result Work StepError → Type 0
@@ -60,10 +83,12 @@ settled_ends mid new n a v (Err failed.NoMemory) s = s
 settled_ends mid new n a v (Err (failed.Unread p)) s = tt
 settled_ends mid new n a v (Err (failed.Unsent b w)) s = tt
 
-followed_ends : (may : Handed → Verdict → Type 0) (mid new : Seen) (n : ℕ) (o : Option Delivery) (result : Result Work StepError) → IsFollowed may mid n o result new
+followed_ends : (may : Handed → Verdict → Type 0) (mid new : Seen) (n : ℕ) (k : JobKind) (result : Result Work StepError) → IsFollowed may mid n k result new
     → EndsBehindJob result
-followed_ends may mid new n None result f = subst EndsBehindJob (sym f.0) tt
-followed_ends may mid new n (Some d) result (v, m, s) = settled_ends mid new n d.acker.number v result s
+followed_ends may mid new n (job_kind.Deliver (Ok None)) result f = subst EndsBehindJob (sym f.1) tt
+followed_ends may mid new n (job_kind.Deliver (Err e)) result f = subst EndsBehindJob (sym f.1) tt
+followed_ends may mid new n (job_kind.Deliver (Ok (Some d))) result (v, m, s) = settled_ends mid new n d.acker.number v result s
+followed_ends may mid new n job_kind.Discard result f = subst EndsBehindJob (sym f.0) tt
 
 took : (none : ℕ → Type 0) (may : ℕ → Handed → Verdict → Type 0) (old new : Seen) (result : Result Work StepError) → TookJob none may old result new → EndsBehindJob result
     → Worked none may old result new
@@ -75,10 +100,10 @@ took none may old new (Err (failed.Unread p)) t e = inr t
 took none may old new (Err (failed.Unsent a v)) t e = t
 
 handled : (none : ℕ → Type 0) (may : ℕ → Handed → Verdict → Type 0) (old mid new : Seen) (p : ℕ) (j : Job) (x : Decision) (result : Result Work StepError)
-    → Grew old mid (job p j) → (none j.consumer → ⊥) → IsJudged (may j.consumer) (delivery_of j.kind) x → IsCarriedOut mid j.consumer x result new → Worked none may old result new
+    → Grew old mid (job p j) → (none j.consumer → ⊥) → IsHandled (may j.consumer) j.kind x → IsCarriedOut mid j.consumer x result new → Worked none may old result new
 handled none may old mid new p j x result grew some judged out =
-    let f = followed (may j.consumer) mid new j.consumer (delivery_of j.kind) x result judged out in
-    took none may old new result (p, j, mid, grew, some, f) (followed_ends (may j.consumer) mid new j.consumer (delivery_of j.kind) result f)
+    let f = followed (may j.consumer) mid new j.consumer j.kind x result judged out in
+    took none may old new result (p, j, mid, grew, some, f) (followed_ends (may j.consumer) mid new j.consumer j.kind result f)
 
 -- a job was taken, its delegate asked, and what was decided was done
 pub turn_is : (none : ℕ → Type 0) (may : ℕ → Handed → Verdict → Type 0) (old mid new : Seen) (p : ℕ) (j : Job) (x : Decision) (result : Result Work StepError)

@@ -2,10 +2,8 @@
 use Rattle.std.specs.Prelude.{ℕ, Option, Some, None, Result, Ok, Err}
 use Rattle.lapin_types.specs.declared.message.Delivery.{Delivery}
 use Rattle.lapin_types.specs.declared.job.Job.{Job}
-use Rattle.lapin_types.specs.declared.job.JobKind.{JobKind}
 use Rattle.lapin_types.specs.declared.record.Record.{Record}
 use Rattle.lapin_types.specs.Types.{Error}
-use Rattle.lapin_types.specs.declared.job.JobKind.TheVariants as job_kind
 use Rattle.lapin_types.specs.declared.event.Event.TheVariants as event
 use Rattle.lapin_types.specs.declared.record.Record.TheVariants as record_
 use Rattle.lapin_shared.specs.declared.entry.Told.{Told}
@@ -38,8 +36,3 @@ abbrev pub delivery_in : Handed → Option Delivery
 delivery_in (Ok (Some d)) = Some d
 delivery_in (Ok None) = None
 delivery_in (Err e) = None
-
--- the delivery that a kind of job hands over; none with an end or an error, and none with a discard
-abbrev pub delivery_of : JobKind → Option Delivery
-delivery_of (job_kind.Deliver y) = delivery_in y
-delivery_of job_kind.Discard = None

@@ -1,7 +1,8 @@
 -- How a log grows by a turn of work.
 use Rattle.std.specs.Prelude.{◌≡◌, ◌≢◌, ℕ, ◌⊎◌, Option, Some, None, Result, Ok, Err}
-use Rattle.lapin_types.specs.declared.message.Delivery.{Delivery}
 use Rattle.lapin_types.specs.declared.job.Job.{Job}
+use Rattle.lapin_types.specs.declared.job.JobKind.{JobKind}
+use Rattle.lapin_types.specs.declared.job.JobKind.TheVariants as job_kind
 use Rattle.lapin_types.specs.declared.acker_call.AckerCall.{AckerCall}
 use Rattle.lapin_types.specs.declared.record.Record.{Record}
 use Rattle.lapin_types.specs.declared.event.Event.TheVariants as event
@@ -14,7 +15,7 @@ use Rattle.lapin_work.specs.declared.work.Work.{Work}
 use Rattle.lapin_work.specs.declared.work.Work.TheVariants as work
 use Rattle.lapin_work.specs.declared.decision.Decision.{Decision}
 use Rattle.lapin_work.specs.declared.decision.Decision.TheVariants as decision
-use Rattle.lapin_work.specs.Jobs.{Handed, job, no_job, delivery_of}
+use Rattle.lapin_work.specs.Jobs.{Handed, job, no_job}
 
 -- the step of the acker that a verdict asks for, with its record; no step where it asks for none
 abbrev pub IsSent : Seen → ℕ → Option AckerCall → Seen → Type 0
@@ -35,16 +36,18 @@ IsCarriedOut old n decision.NoDelegate result new = (result ≡ Ok (work.NoDeleg
 IsCarriedOut old n decision.Handled result new = (result ≡ Ok (work.Done n)) × (new ≡ old)
 IsCarriedOut old n (decision.Judged a v) result new = IsSettled old n a v result new
 
--- What follows the job of a consumer that has a delegate: of a delivery its verdict decides, one that the delegate may answer; of another
--- job nothing follows.
-abbrev pub IsFollowed : (Handed → Verdict → Type 0) → Seen → ℕ → Option Delivery → Result Work StepError → Seen → Type 0
-IsFollowed may old n None result new = (result ≡ Ok (work.Done n)) × (new ≡ old)
-IsFollowed may old n (Some d) result new = (v : Verdict) × may (Ok (Some d)) v × IsSettled old n d.acker.number v result new
+-- What follows the job of a consumer that has a delegate: the delegate was called on what it is handed, and answered a verdict that it may
+-- answer to that. On a delivery the verdict decides the rest; behind an end, an error and a discard nothing follows.
+abbrev pub IsFollowed : (Handed → Verdict → Type 0) → Seen → ℕ → JobKind → Result Work StepError → Seen → Type 0
+IsFollowed may old n (job_kind.Deliver (Ok (Some d))) result new = (v : Verdict) × may (Ok (Some d)) v × IsSettled old n d.acker.number v result new
+IsFollowed may old n (job_kind.Deliver (Ok None)) result new = ((v : Verdict) × may (Ok None) v) × (result ≡ Ok (work.Done n)) × (new ≡ old)
+IsFollowed may old n (job_kind.Deliver (Err e)) result new = ((v : Verdict) × may (Err e) v) × (result ≡ Ok (work.Done n)) × (new ≡ old)
+IsFollowed may old n job_kind.Discard result new = (result ≡ Ok (work.Done n)) × (new ≡ old)
 
 -- a job was taken in one step, its consumer has a delegate, and what follows was done
 abbrev pub TookJob : (ℕ → Type 0) → (ℕ → Handed → Verdict → Type 0) → Seen → Result Work StepError → Seen → Type 0
 TookJob none may old result new =
-    (p : ℕ) × (j : Job) × (mid : Seen) × Grew old mid (job p j) × (none j.consumer → ⊥) × IsFollowed (may j.consumer) mid j.consumer (delivery_of j.kind) result new
+    (p : ℕ) × (j : Job) × (mid : Seen) × Grew old mid (job p j) × (none j.consumer → ⊥) × IsFollowed (may j.consumer) mid j.consumer j.kind result new
 
 -- How a turn of work ends. `none` says that a consumer has no delegate, `may` what the delegate of a consumer may answer.
 abbrev pub Worked : (ℕ → Type 0) → (ℕ → Handed → Verdict → Type 0) → Seen → Result Work StepError → Seen → Type 0

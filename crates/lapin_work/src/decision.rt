@@ -15,7 +15,7 @@ use lapin_types::{Delivery, DeliveryResult, Job, JobKind};
 pub enum Decision {
     /// No delegate is kept for its consumer.
     NoDelegate,
-    /// Its delegate was called, and it is no delivery.
+    /// Its delegate was called, on an end or an error, or told to discard.
     Handled,
     /// Its delegate answered a verdict on the delivery of this acker.
     Judged {
@@ -50,8 +50,9 @@ fn hand_job(delegate: &BoxedDelegate, kind: &JobKind) -> Decision
 }
 
 /// Hands a delivery, an end or an error to a delegate.
+#[tactic(auto, using(crate::proofs::Stages::judged_some, crate::proofs::Stages::judged_none))]
 fn judge(delegate: &BoxedDelegate, given: &DeliveryResult) -> Decision
-    ensures { IsJudged (λ y v. may delegate.now y v) (delivery_in given.now) result }
+    ensures { IsJudged (λ y v. may delegate.now y v) given.now result }
 {
     let verdict = delegate.on_new_delivery(given);
     match delivery_of(given) {
