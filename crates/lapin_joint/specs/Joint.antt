@@ -51,6 +51,11 @@ pub record Joint (S : Type 0) : Type 0 where
 abbrev pub new_joint : {S : Type 0} → S → ℕ → Joint S
 new_joint s frame_max = record { session = s; broker = new_broker frame_max; up = []; down = [] }
 
+-- the frame at the front of a link up, if there is one
+abbrev pub front_frame : List Left → Option Frame
+front_frame [] = None
+front_frame (l ∷ ls) = Some l.frame
+
 -- ---- What a step does.
 
 -- a broker's frame and a loss are no events of the client alone

@@ -4,14 +4,15 @@ ghost use Rattle.std.specs.Prelude.{◌≡◌, ◌↔◌, ◌≤◌, ◌<◌, �
 ghost use Rattle.lapin_machine.specs.Numbers.{HasNumbersFor};
 ghost use Rattle.lapin_machine.specs.World.{new_world};
 ghost use Rattle.lapin_joint.specs.declared.step.Step.{Step as AStep};
-ghost use Rattle.lapin_joint.specs.Joint.{by_machine, new_joint, report, after, joined};
+ghost use Rattle.std.specs.Option.{option_copied};
+ghost use Rattle.lapin_joint.specs.Joint.{by_machine, new_joint, report, after, joined, front_frame};
 ghost use Rattle.lapin_joint.specs.Kept.{StandsFor};
 
 use crate::links::Links;
 use crate::step::{Reported, Step};
 use lapin_broker::Broker;
 use lapin_machine::Session;
-use lapin_types::{NoMemory, RunError};
+use lapin_types::{Frame, NoMemory, RunError};
 use std::alloc::Global;
 use std::marker::Model;
 
@@ -133,6 +134,13 @@ impl Joined {
         ensures { result.now ≡ self.now.joint.broker }
     {
         &self.links.broker
+    }
+
+    /// The frame that the broker reads next: the front of the link up, if there is one.
+    pub fn next_up(&self) -> Option<&Frame>
+        ensures { option_copied result ≡ front_frame self.now.joint.up }
+    {
+        self.links.next_up()
     }
 
     /// How many steps were made, without one that found no memory and those after it.

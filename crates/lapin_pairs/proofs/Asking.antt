@@ -1,9 +1,9 @@
 -- The channel with requests and contents keeps its invariant.
 use Rattle.std.proofs.Common.{◌≡◌, Bool, true, false, cond, ◌&&◌, List, [], ◌∷◌, ◌++◌, map, refl, sym, ◌∙◌, ap, ap₂, subst, append_assoc, append-nil, Option, Some, None}
 use Rattle.lapin_pairs.specs.Machine.{Down, DOpenOk, DClose, DCloseOk, Sess, Closed, Opening, Opened, Closing, Crossed, Refused, Peer, Asked, Open, Leaving, Stopping, StoppingOwes, StoppingAnswered, Broken, has_close, read, may_send, is_broken, is_refused}
-use Rattle.lapin_pairs.specs.Channel.{Content, Idle, Begun, Left as Rest, UpF, FOpen, FClose, FCloseOk, FSelect, DownF, BClose, BCloseOk, kind_up, kind_down, publish_frames, reading_in, reading_after, World2, Step2, CallOpen2, CallClose2, CallSelect2, Next2, Read2, Deliver2, CallAsk2, Begin2, Send2, left_after, hands2, delivers2, sends2, happens2, run2, erase, is_none}
+use Rattle.lapin_pairs.specs.Channel.{Content, Idle, Begun, Left as Rest, UpF, FOpen, FClose, FCloseOk, FTell, FSelect, FAsk, DownF, BClose, BCloseOk, kind_up, kind_down, publish_frames, reading_in, reading_after, World2, Step2, CallOpen2, CallClose2, CallTell2, CallSelect2, Next2, Read2, Deliver2, CallAsk2, Begin2, Send2, left_after, hands2, delivers2, sends2, happens2, run2, erase, is_none}
 use Rattle.lapin_pairs.specs.Every.{One, Step1, Call1, Send1, Next1, Read1, Deliver1, has_any, left_one, called1, calls1, hands1, reads1, delivers1, happens1}
-use Rattle.lapin_pairs.specs.Asking.{U2, Plain, SelectAsk, flat, flats, plains, S2, B2, K2, KOpen, KClose, KSelect, KBegin, call_at, needs2, left_at, read_one, read_flat, reads2b, may2, gives2, asking, to2}
+use Rattle.lapin_pairs.specs.Asking.{U2, Plain, SelectAsk, flat, flats, plains, S2, B2, K2, KOpen, KClose, KTell, KAsk, KSelect, KBegin, call_at, needs2, left_at, read_one, read_flat, reads2b, may2, gives2, asking, to2}
 use Rattle.lapin_pairs.proofs.Pairs.{tight, reads, reads-append, broken-stays, may_star, sent_star, unbroken, whole, real, star, live, all_read, commutes, not_refused}
 use Rattle.lapin_pairs.proofs.Erase.{map-append, and_left}
 use Rattle.lapin_pairs.proofs.Data.{read_all, serves, read_still, still_on}
@@ -35,6 +35,8 @@ by_two w s t v e g = subst Whole e (whole_keeps (happens2 w s) t (whole_keeps w 
 call_asks : (w : One asking) (k : K2) (s : Sess) → w.sess.sess ≡ s → (needs2 k && has_any w.unsent) ≡ false → Asks w → Asks (called1 asking w (call_at k w.sess s))
 call_asks w KOpen Closed e n g = queued w (record w.sess { sess = Opening }) (Plain FOpen ∷ []) (by_step (to2 w) CallOpen2 _ (rw e refl) g)
 call_asks w KClose Opened e n g = queued w (record w.sess { sess = Closing }) (Plain FClose ∷ []) (by_step (to2 w) CallClose2 _ (rw e refl) g)
+call_asks w KTell Opened e n g = queued w (record w.sess { sess = Opened }) (Plain FTell ∷ []) (by_step (to2 w) CallTell2 _ (rw e refl) g)
+call_asks w (KAsk k) Opened e n g = queued w (record w.sess { sess = Opened; open_data = _ }) (Plain (FAsk k) ∷ []) (by_step (to2 w) (CallAsk2 k) _ (rw e refl) g)
 call_asks w (KSelect false) Opened e n g = queued w (record w.sess { sess = Opened }) (Plain FSelect ∷ []) (by_step (to2 w) CallSelect2 _ (rw e refl) g)
 call_asks w (KSelect true) Opened e n g = queued w (record w.sess { sess = Opened; open_data = _ }) (SelectAsk ∷ []) (by_two (to2 w) CallSelect2 (CallAsk2 0) _ (rw (e, append_assoc) refl) g)
 call_asks w (KBegin i ns) Opened e n g = queued w (record w.sess { sess = Opened }) (plains (publish_frames i ns)) (by_step (to2 w) (Begin2 i ns) _ (begins w.unsent refl n) g)
@@ -52,6 +54,16 @@ call_asks w KClose Closed e n g = g
 call_asks w KClose Closing e n g = g
 call_asks w KClose Crossed e n g = g
 call_asks w KClose Refused e n g = g
+call_asks w KTell Opening e n g = g
+call_asks w KTell Closed e n g = g
+call_asks w KTell Closing e n g = g
+call_asks w KTell Crossed e n g = g
+call_asks w KTell Refused e n g = g
+call_asks w (KAsk k) Opening e n g = g
+call_asks w (KAsk k) Closed e n g = g
+call_asks w (KAsk k) Closing e n g = g
+call_asks w (KAsk k) Crossed e n g = g
+call_asks w (KAsk k) Refused e n g = g
 call_asks w (KSelect false) Opening e n g = g
 call_asks w (KSelect false) Closed e n g = g
 call_asks w (KSelect false) Closing e n g = g

@@ -156,6 +156,9 @@ module _ (m : Channel) (P : One m → Type 0) (Fits : m.B → List m.U → Type 
     pub link : List m.U
     pub good : P (chan_a m c w side link)
     pub here : w.broker ≡ Open → (side ≡ w.sides c) × (link ≡ of_u c w.up)
+    -- what is still on the way is the end of that link
+    pub gone : List m.U
+    pub way : link ≡ gone ++ of_u c w.up
 
   pub record Joint (w : All m) : Type 0 where
     pub conn : Good (conn_a m w)
@@ -171,8 +174,8 @@ module _ (m : Channel) (P : One m → Type 0) (Fits : m.B → List m.U → Type 
             let x : m.call k (w.chans e) ≡ Some t = ap (λ i. m.call k (w.chans i)) (sym y.1) ∙ h in
             let here : P (record { sess = t.0; unsent = of_u e w.unsent ++ t.1; up = g.link; broker = g.side; down = of_d e w.down }) = p_call (chan_a m e w g.side g.link) k (Some t) (no_need (m.needs k) n) x g.good in
             let ways : of_u e (w.unsent ++ on_all c t.1) ≡ of_u e w.unsent ++ t.1 = ap (λ i. of_u e (w.unsent ++ on_all i t.1)) y.1 ∙ of_more e t.1 w.unsent in
-            record { side = g.side; link = g.link; good = rw (y.0, ways) here; here = g.here }
-        | inr x ↦ record { side = g.side; link = g.link; good = rw (x.0, of_away c e t.1 w.unsent x.0) g.good; here = g.here }
+            record { side = g.side; link = g.link; good = rw (y.0, ways) here; here = g.here; gone = g.gone; way = g.way }
+        | inr x ↦ record { side = g.side; link = g.link; good = rw (x.0, of_away c e t.1 w.unsent x.0) g.good; here = g.here; gone = g.gone; way = g.way }
       ]
     where
       no_need : (b : Bool) → (b && has_any w.unsent) ≡ false → (b && has_any (of_u e w.unsent)) ≡ false
@@ -191,7 +194,12 @@ module _ (m : Channel) (P : One m → Type 0) (Fits : m.B → List m.U → Type 
         link = g.link ++ of_u e (f ∷ []);
         good = shift (w.chans e) g.side g.link (of_u e (f ∷ [])) (of_u e fs) (of_d e w.down) (rw x at g.good);
         here = λ s. ((g.here s).0, ap (λ l. l ++ of_u e (f ∷ [])) (g.here s).1 ∙ sym (of-append e w.up (f ∷ [])));
+        gone = g.gone;
+        way = ap (λ l. l ++ of_u e (f ∷ [])) g.way ∙ (append_assoc g.gone (of_u e w.up) (of_u e (f ∷ [])) ∙ ap (λ l. g.gone ++ l) (sym (of-append e w.up (f ∷ []))));
       }
+
+  way_on : (w : All m) (f : UpOn m.U) (fs : List (UpOn m.U)) (e : ℕ) → w.up ≡ f ∷ fs → (g : Chan w e) → g.link ≡ (g.gone ++ of_u e (f ∷ [])) ++ of_u e fs
+  way_on w f fs e h g = g.way ∙ (ap (λ l. g.gone ++ of_u e l) h ∙ (ap (λ l. g.gone ++ l) (of-append e (f ∷ []) fs) ∙ sym (append_assoc g.gone (of_u e (f ∷ [])) (of_u e fs))))
 
   -- a frame is read
   chan_read : (w : All m) (f : UpOn m.U) (fs : List (UpOn m.U)) (e : ℕ) → w.up ≡ f ∷ fs → Chan w e → (b : Peer) → w.broker ≡ b → Chan (reads_a m w (f ∷ fs)) e
@@ -204,8 +212,10 @@ module _ (m : Channel) (P : One m → Type 0) (Fits : m.B → List m.U → Type 
               link = of_u e fs;
               good = p_read (chan_a m e w g.side g.link) (u ∷ of_u e fs) l g.good;
               here = λ s. (ap (λ b. m.reads b u) (g.here k).0 ∙ rw (k, y.0, y.1) refl, refl);
+              gone = [];
+              way = refl;
             }
-        | inr n ↦ record { side = g.side; link = g.link; good = g.good; here = λ s. ((g.here k).0 ∙ rw (k, n.0) refl, (g.here k).1 ∙ (ap (of_u e) h ∙ away n.0)) }
+        | inr n ↦ record { side = g.side; link = g.link; good = g.good; here = λ s. ((g.here k).0 ∙ rw (k, n.0) refl, (g.here k).1 ∙ (ap (of_u e) h ∙ away n.0)); gone = g.gone ++ of_u e (OnU c u ∷ []); way = way_on w (OnU c u) fs e h g }
       ]
     where
       one : (c == e) ≡ true → of_u e (OnU c u ∷ fs) ≡ u ∷ of_u e fs
@@ -213,7 +223,7 @@ module _ (m : Channel) (P : One m → Type 0) (Fits : m.B → List m.U → Type 
 
       away : (c == e) ≡ false → of_u e (OnU c u ∷ fs) ≡ of_u e fs
       away y = rw y refl
-  chan_read w f fs e h g b k = record { side = g.side; link = g.link; good = g.good; here = λ s. let j = serving_back w.broker (conn_u f) s in let x = j.0 in let y = j.1 in absurd cc }
+  chan_read w f fs e h g b k = record { side = g.side; link = g.link; good = g.good; here = λ s. let j = serving_back w.broker (conn_u f) s in let x = j.0 in let y = j.1 in absurd cc; gone = g.gone ++ of_u e (f ∷ []); way = way_on w f fs e h g }
 
   sides_read : (w : All m) (f : UpOn m.U) (fs : List (UpOn m.U)) (e : ℕ) → w.up ≡ f ∷ fs → Fits (w.sides e) (of_u e w.up) → (b : Peer) → w.broker ≡ b → read w.broker (conn_u f) ≡ Open → Fits (sides_after m w.broker w.sides f e) (of_u e fs)
   sides_read w (OnU c u) fs e h g Open k s =
@@ -243,16 +253,20 @@ module _ (m : Channel) (P : One m → Type 0) (Fits : m.B → List m.U → Type 
               link = g.link;
               good = rw (to-append e w.down (ToD c d ∷ []), y.0) (p_send (chan_a m e w g.side g.link) d x g.good);
               here = λ s. (ap (λ b. m.gives b d) (g.here k).0 ∙ rw (y.0, y.1) refl, (g.here k).1);
+              gone = g.gone;
+              way = g.way;
             }
         | inr x ↦ record {
           side = g.side;
           link = g.link;
           good = rw (to-append e w.down (ToD c d ∷ []), x.0, append-nil) g.good;
           here = λ s. ((g.here k).0 ∙ rw x.0 refl, (g.here k).1);
+          gone = g.gone;
+          way = g.way;
         }
       ]
-  chan_send w CloseD e Open k n g = record { side = g.side; link = g.link; good = rw (to-append e w.down (CloseD ∷ []), append-nil) g.good; here = λ s. let x : Stopping ≡ Open = rw k at s in absurd cc }
-  chan_send w CloseOkD e b k n g = record { side = g.side; link = g.link; good = rw (to-append e w.down (CloseOkD ∷ []), append-nil) g.good; here = λ s. absurd (not_back b n (rw k at s)) }
+  chan_send w CloseD e Open k n g = record { side = g.side; link = g.link; good = rw (to-append e w.down (CloseD ∷ []), append-nil) g.good; here = λ s. let x : Stopping ≡ Open = rw k at s in absurd cc; gone = g.gone; way = g.way }
+  chan_send w CloseOkD e b k n g = record { side = g.side; link = g.link; good = rw (to-append e w.down (CloseOkD ∷ []), append-nil) g.good; here = λ s. absurd (not_back b n (rw k at s)); gone = g.gone; way = g.way }
     where
       not_back : (b : Peer) → may_a m b w.sides CloseOkD ≡ true → sent b DCloseOk ≡ Open → ⊥
       not_back Leaving n h = cc
@@ -277,8 +291,8 @@ module _ (m : Channel) (P : One m → Type 0) (Fits : m.B → List m.U → Type 
       elim (eqb_tells c e) [
         | inl y ↦
             let l : of_d e w.down ≡ d ∷ of_d e fs = ap (of_d e) h ∙ one y.0 in
-            record { side = g.side; link = g.link; good = rw (y.0, y.1, left_same e (m.left (w.chans e) (of_u e w.unsent) d) w.unsent) (p_deliver (chan_a m e w g.side g.link) (d ∷ of_d e fs) l g.good); here = g.here }
-        | inr n ↦ record { side = g.side; link = g.link; good = rw (n.0, left_other c e (m.left (w.chans c) (of_u c w.unsent) d) w.unsent n.0) (rw (ap (of_d e) h ∙ away n.0) at g.good); here = g.here }
+            record { side = g.side; link = g.link; good = rw (y.0, y.1, left_same e (m.left (w.chans e) (of_u e w.unsent) d) w.unsent) (p_deliver (chan_a m e w g.side g.link) (d ∷ of_d e fs) l g.good); here = g.here; gone = g.gone; way = g.way }
+        | inr n ↦ record { side = g.side; link = g.link; good = rw (n.0, left_other c e (m.left (w.chans c) (of_u c w.unsent) d) w.unsent n.0) (rw (ap (of_d e) h ∙ away n.0) at g.good); here = g.here; gone = g.gone; way = g.way }
       ]
     where
       one : (c == e) ≡ true → of_d e (ToD c d ∷ fs) ≡ d ∷ of_d e fs
@@ -296,7 +310,7 @@ module _ (m : Channel) (P : One m → Type 0) (Fits : m.B → List m.U → Type 
   joint_call w c k g e n None h = g
   joint_call w c k g e n (Some t) h = record {
     conn = swapped w (w.unsent ++ on_all c t.1) e (others_more c t.1 w.unsent (opened_others (conn_a m w) e g.conn)) g.conn;
-    chans = λ x d. let a = chan_called w c d k t n h (g.chans x d) in record { side = a.side; link = a.link; good = a.good; here = a.here };
+    chans = λ x d. let a = chan_called w c d k t n h (g.chans x d) in record { side = a.side; link = a.link; good = a.good; here = a.here; gone = a.gone; way = a.way };
     sides = g.sides;
     quiet = λ x. absurd (x e);
   }
@@ -415,7 +429,7 @@ module _ (m : Channel) (P : One m → Type 0) (Fits : m.B → List m.U → Type 
       let l : Left m.U = m.left (w.chans c) (of_u c w.unsent) d in
       record {
         conn = rw k (swap (record { sess = Opened; unsent = map conn_u w.unsent; up = map conn_u w.up; peer = w.broker; down = map conn_d fs }) (map conn_u (left_all c l w.unsent)) refl (others_left c l w.unsent (opened_others (conn_a m w) k g.conn)) b);
-        chans = λ x i. let n = chan_deliver w c d fs i e (g.chans k i) in record { side = n.side; link = n.link; good = n.good; here = n.here };
+        chans = λ x i. let n = chan_deliver w c d fs i e (g.chans k i) in record { side = n.side; link = n.link; good = n.good; here = n.here; gone = n.gone; way = n.way };
         sides = g.sides;
         quiet = λ n. absurd (n k);
       }
@@ -454,7 +468,7 @@ module _ (m : Channel) (P : One m → Type 0) (Fits : m.B → List m.U → Type 
   pub joint_start : Joint (start_a m)
   joint_start = record {
     conn = record { pair = refl; clean = refl };
-    chans = λ x c. record { side = m.made; link = []; good = fact.first; here = λ s. (refl, refl) };
+    chans = λ x c. record { side = m.made; link = []; good = fact.first; here = λ s. (refl, refl); gone = []; way = refl };
     sides = λ s c. fact.none;
     quiet = λ n c. refl;
   }

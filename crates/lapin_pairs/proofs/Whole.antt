@@ -142,7 +142,7 @@ none_serving (FOpen ∷ us) a = let k = broken-stays (map kind_up us) in cc
 none_serving (FCloseOk ∷ us) a = let k = broken-stays (map kind_up us) in cc
 none_serving (u ∷ us) a = none_serving us a
 
-some_read : (p : Peer) (r : Option Content) (u : UpF) (us : List UpF) → is_none r ≡ false → is_broken (reads (tight p (kind_up u)) (map kind_up us)) ≡ false → read_all (tight p (kind_up u)) (reading_in p r u) us ≡ Some Idle → is_none (reading_in p r u) ≡ false
+pub some_read : (p : Peer) (r : Option Content) (u : UpF) (us : List UpF) → is_none r ≡ false → is_broken (reads (tight p (kind_up u)) (map kind_up us)) ≡ false → read_all (tight p (kind_up u)) (reading_in p r u) us ≡ Some Idle → is_none (reading_in p r u) ≡ false
 some_read Open r FClose [] n a h = rw h refl
 some_read Open r FClose (u ∷ us) n a h = let k = broken-stays (map kind_up us) in cc
 some_read Open r FOpen us n a h = let k = broken-stays (map kind_up us) in cc

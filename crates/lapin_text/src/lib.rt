@@ -29,7 +29,7 @@ pub use parsing::{Parsed, parse_events, read_max};
 pub use printing::{print_records, write_frame, write_record};
 pub use reading::{read_event, read_frame};
 pub use records::{
-    put_answered, put_confirmed, put_handed, put_item, put_published, put_record, put_refused,
-    put_ticket,
+    name_of_state, put_answered, put_confirmed, put_error_line, put_handed, put_item,
+    put_published, put_record, put_refused, put_ticket,
 };
 pub use words::{Word, first_word, word_named};

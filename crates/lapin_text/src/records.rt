@@ -34,7 +34,8 @@ fn name_of_connection(state: ConnectionState) -> &'static [u8]
     }
 }
 
-fn name_of_state(state: ChannelState) -> &'static [u8]
+/// The name of a channel's state.
+pub fn name_of_state(state: ChannelState) -> &'static [u8]
     ensures { result.now ≡ state_name state }
 {
     match state {
@@ -307,7 +308,8 @@ fn put_job(alloc: Global, out: &mut Vec<u8>, job: &Job) -> Result<(), AllocError
     }
 }
 
-fn put_error_line(
+/// Adds a line of a word and an error: `WORD ERROR`, without a line end.
+pub fn put_error_line(
     alloc: Global,
     out: &mut Vec<u8>,
     word: &[u8],
