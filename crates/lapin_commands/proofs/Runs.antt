@@ -15,10 +15,12 @@ use Rattle.lapin_text.proofs.Printed.{line_onto_is}
 use Rattle.lapin_text.proofs.LineLaws.{line_found, refused}
 use Rattle.lapin_lines.specs.Lines.{IsTaken}
 use Rattle.lapin_joint.specs.declared.step.Step.{Step}
-use Rattle.lapin_joint.specs.Joint.{Joint, by_machine, new_joint, after, report, reports, joined}
+use Rattle.lapin_joint.specs.Joint.{Joint, new_joint, after, report, reports, joined}
+use Rattle.lapin_machine.specs.Way.{by_machine}
 use Rattle.lapin_joint.specs.Kept.{Kept}
 use Rattle.lapin_joint.proofs.Alike.{reports_joined}
-use Rattle.lapin_joint.proofs.Steps.{new_goes_on, fewer as numbers_fewer}
+use Rattle.lapin_joint.proofs.Steps.{new_goes_on}
+use Rattle.lapin_machine.proofs.Ways.{fewer as numbers_fewer}
 use Rattle.lapin_joint_text.specs.Steps as steps
 use Rattle.lapin_joint_text.specs.Input as steps_input
 use Rattle.lapin_joint_text.specs.Reports.{report_tokens, report_line, reports_text}

@@ -14,7 +14,8 @@ use Rattle.lapin_text.specs.Records.{records_text}
 use Rattle.lapin_text.proofs.LineLaws.{line_found, refused, text_found, text_refused}
 use Rattle.lapin_joint.specs.declared.step.Step.{Step}
 use Rattle.lapin_joint.specs.declared.step.Step.TheVariants as step
-use Rattle.lapin_joint.specs.Joint.{by_machine, reports}
+use Rattle.lapin_joint.specs.Joint.{reports}
+use Rattle.lapin_machine.specs.Way.{by_machine}
 use Rattle.lapin_joint.specs.Kept.{Kept}
 use Rattle.lapin_joint_text.specs.Steps.{IsLineOf, NoLine}
 use Rattle.lapin_joint_text.specs.Input.{AreSteps}

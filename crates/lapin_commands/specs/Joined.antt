@@ -1,7 +1,8 @@
 -- What the command `joined` prints for an input.
 use Rattle.std.specs.Prelude.{ℕ, List, Option}
 use Rattle.lapin_joint.specs.declared.step.Step.{Step}
-use Rattle.lapin_joint.specs.Joint.{by_machine, reports, joined}
+use Rattle.lapin_joint.specs.Joint.{reports, joined}
+use Rattle.lapin_machine.specs.Way.{by_machine}
 use Rattle.lapin_joint.specs.Kept.{Kept}
 use Rattle.lapin_joint_text.specs.Input.{AreSteps, AreParsed}
 use Rattle.lapin_joint_text.specs.Reports.{reports_text}

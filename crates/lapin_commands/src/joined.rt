@@ -4,7 +4,8 @@
 //! What a line says and how a report is written stands in `lapin_joint_text`, what a step reports in `lapin_joint`.
 ghost use Rattle.std.specs.Prelude.{◌≡◌, ◌++◌, ◌∷◌, [], ◌+◌, ◌<◌, ◌^◌, false, OnOk};
 ghost use Rattle.lapin_text.specs.Records.{line_onto};
-ghost use Rattle.lapin_joint.specs.Joint.{by_machine, after, report};
+ghost use Rattle.lapin_joint.specs.Joint.{after, report};
+ghost use Rattle.lapin_machine.specs.Way.{by_machine};
 ghost use Rattle.lapin_joint_text.specs.Reports.{report_tokens};
 ghost use Rattle.lapin_commands.specs.Joined.{PrintsJoined, JoinedGoesOn};
 ghost use Rattle.lapin_commands.specs.Laws.{joined_ends, joined_first};

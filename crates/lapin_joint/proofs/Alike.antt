@@ -11,10 +11,11 @@ use Rattle.lapin_history.specs.History.{History, past, rec}
 use Rattle.lapin_machine.specs.World.{World, told_by, new_world}
 use Rattle.lapin_machine.specs.World as world
 use Rattle.lapin_machine.specs.Stands.{Stands}
-use Rattle.lapin_machine.proofs.Back.{given_none, still_none}
+use Rattle.lapin_machine.proofs.Back.{still_none}
+use Rattle.lapin_machine.proofs.Ways.{told_same, stands_on}
 use Rattle.lapin_history.specs.ConfirmReadings.{is_full}
 use Rattle.lapin_machine.proofs.Readings.{handed_shown}
-use Rattle.lapin_machine.proofs.Standing.{stands-next, new_stands}
+use Rattle.lapin_machine.proofs.Standing.{new_stands}
 use Rattle.lapin_broker.specs.States.{Broker, after_loss}
 use Rattle.lapin_broker.specs.Reads.{read}
 use Rattle.lapin_broker.specs.Sends.{may, send}
@@ -22,21 +23,11 @@ use Rattle.lapin_joint.specs.declared.step.Step.{Step}
 use Rattle.lapin_joint.specs.declared.step.Step.TheVariants as step
 use Rattle.lapin_joint.specs.declared.step.Reported.{Reported}
 use Rattle.lapin_joint.specs.declared.step.Reported.TheVariants as reported
-use Rattle.lapin_joint.specs.Joint.{Joint, by_history, by_machine, new_joint, is_lawful, left_alone, handed_by, read_first, deliver_first, after, report, reports, run, joined, joined_to}
+use Rattle.lapin_joint.specs.Joint.{Joint, new_joint, is_lawful, left_alone, handed_by, read_first, deliver_first, after, report, reports, run, joined, joined_to}
+use Rattle.lapin_machine.specs.Way.{by_history, by_machine}
 use Rattle.lapin_joint.specs.Kept.{AreAlike}
 
 -- ---- the session
-
--- the history grows by an event with its record
-abbrev with_event : ℕ → History → Event → History
-with_event n h e = h ++ (e, rec n h e) ∷ []
-
-told_same : (n : ℕ) (h : History) (w : World) (e : Event) → w.returned ≡ None → Stands n h w → told_by w e ≡ rec n h e
-told_same n h w e none s = (stands-next n h w (world.next w e) e (told_by w e) (given_none w.returned e none) s refl refl).0
-
-stands_on : (n : ℕ) (h : History) (w : World) (e : Event) → w.returned ≡ None → Stands n h w → Stands n (with_event n h e) (world.next w e)
-stands_on n h w e none s =
-    (stands-next n h w (world.next w e) e (rec n h e) (given_none w.returned e none) s (sym (told_same n h w e none s)) refl).1
 
 handed_same : (n : ℕ) (h : History) (w : World) (e : Event) → Stands n h w → handed_by by_machine e w ≡ handed_by (by_history n) e h
 handed_same n h w (event.Next flow) s =

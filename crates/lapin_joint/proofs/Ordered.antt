@@ -5,7 +5,8 @@ use Rattle.lapin_types.specs.Types.{Frame}
 use Rattle.lapin_broker.specs.Sends.{may}
 use Rattle.lapin_joint.specs.declared.step.Step.{Step}
 use Rattle.lapin_joint.specs.declared.step.Step.TheVariants as step
-use Rattle.lapin_joint.specs.Joint.{Way, Joint, by_history, new_joint, client, send_down, is_lawful, handed_by, read_first, deliver_first, after, run, joined_to}
+use Rattle.lapin_joint.specs.Joint.{Joint, new_joint, client, send_down, is_lawful, handed_by, read_first, deliver_first, after, run, joined_to}
+use Rattle.lapin_machine.specs.Way.{Way, by_history}
 use Rattle.lapin_joint.specs.Order.{is_no_loss, nothing_lost, front, handed_in, read_in, sent_in, delivered_in, along, along_joined}
 
 -- of what was on the way and what joins it, the first come and the rest is then on the way: so it is with all steps

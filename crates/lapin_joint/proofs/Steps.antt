@@ -10,21 +10,24 @@ use Rattle.lapin_machine.specs.World.{World, new_world}
 use Rattle.lapin_machine.specs.World as world
 use Rattle.lapin_machine.specs.Numbers.{HasNumbersFor}
 use Rattle.lapin_machine.proofs.Counting.{numbers-next}
+use Rattle.lapin_machine.proofs.Ways.{fewer}
 use Rattle.lapin_broker.specs.Sends.{may}
 use Rattle.lapin_joint.specs.declared.step.Step.{Step}
 use Rattle.lapin_joint.specs.declared.step.Step.TheVariants as step
 use Rattle.lapin_joint.specs.declared.step.Reported.{Reported}
-use Rattle.lapin_joint.specs.Joint.{Way, Joint, by_history, by_machine, new_joint, is_lawful, after, report, reports, run, joined, joined_to}
-use Rattle.lapin_joint.specs.Kept.{Kept, AreAlike, StandsFor, GoesOn, IsLonger}
+use Rattle.lapin_joint.specs.Joint.{Joint, new_joint, is_lawful, after, report, reports, run, joined, joined_to}
+use Rattle.lapin_machine.specs.Way.{Way, by_history, by_machine}
+use Rattle.lapin_joint.specs.Kept.{Kept, AreAlike, StandsFor, GoesOn}
 use Rattle.lapin_joint.proofs.Alike.{alike-next, unreturned-next, new_alike}
 
 -- ---- lists of steps
 
-run-push : {S : Type 0} (m : Way S) (ss : List Step) (s : Step) (j : Joint S) → run m (ss ++ s ∷ []) j ≡ after m s (run m ss j)
+-- one step more
+pub run-push : {S : Type 0} (m : Way S) (ss : List Step) (s : Step) (j : Joint S) → run m (ss ++ s ∷ []) j ≡ after m s (run m ss j)
 run-push m [] s j = refl
 run-push m (t ∷ ss) s j = run-push m ss s (after m t j)
 
-reports-push : {S : Type 0} (m : Way S) (ss : List Step) (s : Step) (j : Joint S) → reports m (ss ++ s ∷ []) j ≡ reports m ss j ++ report m s (run m ss j) ∷ []
+pub reports-push : {S : Type 0} (m : Way S) (ss : List Step) (s : Step) (j : Joint S) → reports m (ss ++ s ∷ []) j ≡ reports m ss j ++ report m s (run m ss j) ∷ []
 reports-push m [] s j = refl
 reports-push m (t ∷ ss) s j = ap (λ rs. report m t j ∷ rs) (reports-push m ss s (after m t j))
 
@@ -68,14 +71,6 @@ new_stands n k is =
     subst (λ (x : Kept). StandsFor n [] x) (sym is) first
 
 -- ---- numbers
-
-pub fewer : (n m : ℕ) (w : World) → HasNumbersFor n w → m ≤ n → HasNumbersFor m w
-fewer n m w h le =
-    let t : w.wire.tickets + n < 2 ^ 64 = h.tickets in
-    let p : w.wire.published + n < 2 ^ 64 = h.confirms in
-    let c : length w.wire.inbox.roster.consumers + n < 2 ^ 64 = h.consumers in
-    let a : length w.wire.inbox.switches + n < 2 ^ 64 = h.ackers in
-    record { tickets = omega arith; confirms = omega arith; consumers = omega arith; ackers = omega arith }
 
 chosen_numbers : (n : ℕ) (b : Bool) (j k : Joint World) → HasNumbersFor n j.session → HasNumbersFor n k.session → HasNumbersFor n (cond b j k).session
 chosen_numbers n true j k one other = one
@@ -122,13 +117,3 @@ new_numbers n w is =
 
 pub new_goes_on : (n : ℕ) (w : World) → w ≡ new_world n → GoesOn 0 w
 new_goes_on n w is = record { numbers = new_numbers n w is; unreturned = ap (λ (x : World). x.returned) is }
-
--- ---- lists of reports
-
--- the list of reports grows by one
-pub longer-push : (old new new' all rest : List Reported) (r : Reported) → IsLonger old new all (r ∷ rest) → new' ≡ new ++ r ∷ [] → IsLonger old new' all rest
-longer-push old new new' all rest r l e = record {
-  done = l.done ++ r ∷ [];
-  whole = append_assoc l.done (r ∷ []) rest ∙ l.whole;
-  new_is = e ∙ ap (λ xs. xs ++ r ∷ []) l.new_is ∙ append_assoc old l.done (r ∷ []);
-}

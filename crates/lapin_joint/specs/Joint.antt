@@ -4,15 +4,11 @@
 use Rattle.std.specs.Prelude.{ℕ, Bool, true, false, if◌then◌else◌, List, [], ◌∷◌, ◌++◌, Option, Some, None}
 use Rattle.lapin_types.specs.declared.event.Event.{Event}
 use Rattle.lapin_types.specs.declared.event.Event.TheVariants as event
-use Rattle.lapin_types.specs.declared.record.Record.{Record}
 use Rattle.lapin_types.specs.declared.leaving.Left.{Left}
 use Rattle.lapin_types.specs.Types.{Frame}
-use Rattle.lapin_history.specs.Wire.{Wire}
 use Rattle.lapin_history.specs.Handing.{handed}
-use Rattle.lapin_history.specs.ConfirmReadings.{is_full}
-use Rattle.lapin_history.specs.History.{History, past, rec}
-use Rattle.lapin_machine.specs.World.{World, told_by, full_in}
-use Rattle.lapin_machine.specs.World as world
+use Rattle.lapin_history.specs.History.{History}
+use Rattle.lapin_machine.specs.Way.{Way, by_history}
 use Rattle.lapin_broker.specs.States.{Broker, new_broker, after_loss}
 use Rattle.lapin_broker.specs.Reads.{read}
 use Rattle.lapin_broker.specs.Sends.{may, send}
@@ -20,23 +16,6 @@ use Rattle.lapin_joint.specs.declared.step.Step.{Step}
 use Rattle.lapin_joint.specs.declared.step.Step.TheVariants as step
 use Rattle.lapin_joint.specs.declared.step.Reported.{Reported}
 use Rattle.lapin_joint.specs.declared.step.Reported.TheVariants as reported
-
--- ---- How a session goes on: the record of an event, what the event leaves, and the session's states, lists and full channels.
-
--- the way of a session in S: what it tells of an event, what the event leaves, its states and lists, and which channels are full
-pub record Way (S : Type 0) : Type 0 where
-  pub told : S → Event → Record
-  pub next : S → Event → S
-  pub wire : S → Wire
-  pub full : S → ℕ → Bool
-
--- as its history determines it: the record is the history's, and the history grows by the event with its record
-abbrev pub by_history : ℕ → Way History
-by_history frame_max = record { told = λ h e. rec frame_max h e; next = λ h e. h ++ (e, rec frame_max h e) ∷ []; wire = λ h. (past frame_max h).wire; full = λ h c. is_full c (past frame_max h).confirms }
-
--- as the machine does it
-abbrev pub by_machine : Way World
-by_machine = record { told = λ w e. told_by w e; next = λ w e. world.next w e; wire = λ w. w.wire; full = λ w. full_in w.post }
 
 -- ---- The two sides and the frames on the way between them, oldest first.
 

@@ -1,11 +1,10 @@
 -- What contracts see of a joined run: the two sides and the links, how many steps were made, and whether one found no memory.
-use Rattle.std.specs.Prelude.{◌≡◌, ℕ, ◌-◌, ◌^◌, Bool, false, None, List, length, ◌++◌}
+use Rattle.std.specs.Prelude.{◌≡◌, ℕ, ◌-◌, ◌^◌, Bool, false, None, List, length}
 use Rattle.lapin_history.specs.History.{History}
 use Rattle.lapin_machine.specs.World.{World}
 use Rattle.lapin_machine.specs.Stands.{Stands}
 use Rattle.lapin_machine.specs.Numbers.{HasNumbersFor}
 use Rattle.lapin_joint.specs.declared.step.Step.{Step}
-use Rattle.lapin_joint.specs.declared.step.Reported.{Reported}
 use Rattle.lapin_joint.specs.Joint.{Joint, joined_to}
 
 -- a joined run of the machine, the number of steps that were made, and whether a step found no memory
@@ -35,13 +34,3 @@ pub record GoesOn (steps : ℕ) (w : World) : Type 0 where
 -- so it is as long as no step found that there is no memory
 abbrev pub IsKept : Bool → ℕ → World → Type 0
 IsKept stopped steps w = stopped ≡ false → GoesOn steps w
-
--- new is old with all of the reports but the rest at its end
-pub record IsLonger (old new all rest : List Reported) : Type 0 where
-  pub done : List Reported
-  pub whole : done ++ rest ≡ all
-  pub new_is : new ≡ old ++ done
-
--- a list that got the first of these reports at its end
-abbrev pub IsStarted : List Reported → List Reported → List Reported → Type 0
-IsStarted old new all = (rest : List Reported) × IsLonger old new all rest

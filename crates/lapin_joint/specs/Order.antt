@@ -6,7 +6,8 @@ use Rattle.lapin_history.specs.History.{History}
 use Rattle.lapin_broker.specs.Sends.{may}
 use Rattle.lapin_joint.specs.declared.step.Step.{Step}
 use Rattle.lapin_joint.specs.declared.step.Step.TheVariants as step
-use Rattle.lapin_joint.specs.Joint.{Way, Joint, by_history, handed_by, is_lawful, after, new_joint}
+use Rattle.lapin_joint.specs.Joint.{Joint, handed_by, is_lawful, after, new_joint}
+use Rattle.lapin_machine.specs.Way.{Way, by_history}
 
 -- any step but lose, so that the links lose nothing in it
 abbrev pub is_no_loss : Step → Bool

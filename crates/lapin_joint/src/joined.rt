@@ -5,7 +5,8 @@ ghost use Rattle.lapin_machine.specs.Numbers.{HasNumbersFor};
 ghost use Rattle.lapin_machine.specs.World.{new_world};
 ghost use Rattle.lapin_joint.specs.declared.step.Step.{Step as AStep};
 ghost use Rattle.std.specs.Option.{option_copied};
-ghost use Rattle.lapin_joint.specs.Joint.{by_machine, new_joint, report, after, joined, front_frame};
+ghost use Rattle.lapin_joint.specs.Joint.{new_joint, report, after, joined, front_frame};
+ghost use Rattle.lapin_machine.specs.Way.{by_machine};
 ghost use Rattle.lapin_joint.specs.Kept.{StandsFor};
 
 use crate::links::Links;

@@ -2,7 +2,8 @@
 
 ghost use Rattle.std.specs.Prelude.{◌≡◌, ℕ, true, List, ◌++◌};
 ghost use Rattle.lapin_joint.specs.declared.step.Step.{Step as AStep};
-ghost use Rattle.lapin_joint.specs.Joint.{by_history, joined_to};
+ghost use Rattle.lapin_joint.specs.Joint.{joined_to};
+ghost use Rattle.lapin_machine.specs.Way.{by_history};
 ghost use Rattle.lapin_joint.specs.Order.{nothing_lost, along_joined, handed_in, read_in, sent_in, delivered_in};
 
 /// The links keep order and lose nothing: while nothing was lost, the frames that the session handed out are those that the broker

@@ -6,7 +6,8 @@ ghost use Rattle.lapin_types.specs.declared.record.Record.TheVariants as record_
 ghost use Rattle.lapin_machine.specs.World.{told_by, next, new_world};
 ghost use Rattle.lapin_machine.specs.Numbers.{HasNumbersFor};
 ghost use Rattle.lapin_broker.specs.Sends.{may};
-ghost use Rattle.lapin_joint.specs.Joint.{by_machine, new_joint, client as client_lem, read_first, send_down, deliver_first, lose as lose_lem, read_report, deliver_report, report, after, front_frame};
+ghost use Rattle.lapin_joint.specs.Joint.{new_joint, client as client_lem, read_first, send_down, deliver_first, lose as lose_lem, read_report, deliver_report, report, after, front_frame};
+ghost use Rattle.lapin_machine.specs.Way.{by_machine};
 ghost use Rattle.std.specs.Option.{option_copied};
 ghost use Rattle.lapin_joint.specs.declared.step.Step.TheVariants as step;
 ghost use Rattle.lapin_joint.specs.declared.step.Reported.TheVariants as reported;

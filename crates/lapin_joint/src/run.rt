@@ -1,8 +1,9 @@
 //! A whole joined run: a new session and a new broker, and the report of each step.
 
 ghost use Rattle.std.specs.Prelude.{◌≡◌, ◌≤◌, ◌<◌, ◌+◌, ◌^◌, ◌++◌, ◌∷◌, [], false, length, OnOk, OnErr};
-ghost use Rattle.lapin_joint.specs.Joint.{by_machine, report as report_lem, after, joined, reports};
-ghost use Rattle.lapin_joint.specs.Kept.{IsStarted};
+ghost use Rattle.lapin_joint.specs.Joint.{report as report_lem, after, joined, reports};
+ghost use Rattle.lapin_machine.specs.Way.{by_machine};
+ghost use Rattle.lapin_machine.specs.Growing.{IsStarted};
 
 use crate::joined::Joined;
 use crate::step::{Reported, Step};

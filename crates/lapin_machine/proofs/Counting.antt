@@ -29,7 +29,7 @@ use Rattle.lapin_history.specs.ConnectionClose.{after_connection_close}
 use Rattle.lapin_history.specs.Loss.{after_lost}
 use Rattle.lapin_history.specs.Handing.{after_next, sent, handed_as, began_on}
 use Rattle.lapin_history.specs.History.{History, Past, longer, past_on, past}
-use Rattle.lapin_machine.specs.World.{World, next, told_anew, IsLonger}
+use Rattle.lapin_machine.specs.World.{World, next, told_anew}
 use Rattle.lapin_machine.proofs.Back.{next_keeps}
 use Rattle.lapin_machine.specs.Stands.{Stands}
 use Rattle.lapin_machine.specs.Numbers.{HasNumbersFor, EventUsedUp, LacksNumber, LacksConsumer, FrameUsedUp, AckUsedUp}
@@ -206,14 +206,6 @@ has_number n w (event.Call c k) h u = no_lack n w (asked k) h u.1
 has_number n w (event.Receive f) h u = no_frame n w (incoming_of f) h u
 has_number n w (event.Acker k call) h u = no_ack n w (usable_at k w.wire) call h u
 has_number n w _ h u = absurd u
-
--- the list of records grows by one
-pub longer-push : (old new records rest ends : List Record) (r : Record) → IsLonger old new records (r ∷ rest) → ends ≡ new ++ r ∷ [] → IsLonger old ends records rest
-longer-push old new records rest ends r h e = record {
-  done = h.done ++ r ∷ [];
-  all = append_assoc h.done (r ∷ []) rest ∙ h.all;
-  new_is = e ∙ ap (λ (xs : List Record). xs ++ r ∷ []) h.new_is ∙ append_assoc old h.done (r ∷ []);
-}
 
 -- ---- no counter is above the number of events
 

@@ -18,6 +18,8 @@ pub mod Handed
 pub mod Brought
 pub mod Limited
 pub mod Counting
+pub mod Growing
+pub mod Ways
 pub mod Alone
 pub mod Shut
 pub mod Inboxes

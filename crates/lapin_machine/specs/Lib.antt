@@ -1,4 +1,6 @@
 pub mod World
+pub mod Growing
+pub mod Way
 pub mod Consumers
 pub mod Told
 pub mod Numbers

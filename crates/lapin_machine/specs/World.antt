@@ -161,13 +161,3 @@ settlement_told c s w = settlement_record (readings_of w.post w.slots) c s
 abbrev pub outputs : World → List Event → List Record
 outputs w [] = []
 outputs w (e ∷ es) = told_by w e ∷ outputs (next w e) es
-
--- new is old with all of records but the rest at its end
-pub record IsLonger (old new records rest : List Record) : Type 0 where
-  pub done : List Record
-  pub all : done ++ rest ≡ records
-  pub new_is : new ≡ old ++ done
-
--- a list that got the first of these records at its end
-abbrev pub IsStarted : List Record → List Record → List Record → Type 0
-IsStarted old new records = (rest : List Record) × IsLonger old new records rest

@@ -2,7 +2,8 @@
 
 ghost use Rattle.std.specs.Prelude.{◌≡◌, ◌≤◌, ◌++◌, OnOk, OnErr, length};
 ghost use Rattle.lapin_history.specs.History.{run};
-ghost use Rattle.lapin_machine.specs.World.{outputs, IsStarted};
+ghost use Rattle.lapin_machine.specs.World.{outputs};
+ghost use Rattle.lapin_machine.specs.Growing.{IsStarted};
 ghost use Rattle.lapin_machine.specs.Numbers.{HasNumbersFor};
 
 use crate::session::Session;

@@ -1,15 +1,14 @@
-use Rattle.std.proofs.Common.{◌≡◌, ◌∙◌, sym, subst, refl, List, [], ◌++◌, append-nil}
+use Rattle.std.proofs.Common.{◌≡◌, ◌∙◌, sym, subst, List, ◌++◌}
 use Rattle.std.specs.Result.{OnOk, OnErr}
 use Rattle.std.specs.Prelude.{Result, Ok, Err}
 use Rattle.lapin_joint.specs.declared.step.Reported.{Reported}
-use Rattle.lapin_joint.specs.Joint.{Joint, by_machine, reports}
-use Rattle.lapin_joint.specs.Kept.{Kept, IsStarted}
+use Rattle.lapin_joint.specs.Joint.{Joint, reports}
+use Rattle.lapin_machine.specs.Way.{by_machine}
+use Rattle.lapin_joint.specs.Kept.{Kept}
+use Rattle.lapin_machine.specs.Growing.{IsStarted}
+use Rattle.lapin_machine.proofs.Growing.{not_started}
 use Rattle.lapin_joint.proofs.Alike.{reports_joined}
 use Rattle.lapin_joint.proofs.run.run_joined.Goals as goal
-
--- nothing was appended
-not_started : (old new all : List Reported) → new ≡ old → IsStarted old new all
-not_started old new all e = (all, record { done = []; whole = refl; new_is = e ∙ sym (append-nil old) })
 
 on_err : {T E : Type 0} (r : Result T E) (P : Type 0) → P → OnErr r P
 on_err (Ok x) P p = tt

@@ -1,6 +1,7 @@
 use Rattle.std.proofs.Common.{◌+◌, ◌<◌, ◌^◌, length}
-use Rattle.lapin_joint.specs.Joint.{by_machine, reports}
-use Rattle.lapin_joint.specs.Kept.{IsLonger}
+use Rattle.lapin_joint.specs.Joint.{reports}
+use Rattle.lapin_machine.specs.Way.{by_machine}
+use Rattle.lapin_machine.specs.Growing.{IsLonger}
 use Rattle.lapin_joint.proofs.run.run_steps.Given as goal
 
 abbrev pub invariant-loop-step : goal.invariant-loop-step

@@ -1,9 +1,11 @@
 use Rattle.std.proofs.Common.{◌∙◌, ap, sym, subst, List, ◌∷◌, ◌++◌, length, []}
 use Rattle.lapin_types.specs.declared.event.Event.{Event}
 use Rattle.lapin_types.specs.declared.record.Record.{Record}
-use Rattle.lapin_machine.specs.World.{World, outputs, IsLonger}
+use Rattle.lapin_machine.specs.World.{World, outputs}
+use Rattle.lapin_machine.specs.Growing.{IsLonger}
 use Rattle.lapin_machine.specs.Numbers.{HasNumbersFor}
-use Rattle.lapin_machine.proofs.Counting.{longer-push, numbers-next}
+use Rattle.lapin_machine.proofs.Counting.{numbers-next}
+use Rattle.lapin_machine.proofs.Growing.{longer-push}
 use Rattle.lapin_machine.proofs.run.run_events.Goals as goal
 
 pub loop-event-preserved : goal.loop-event-preserved

@@ -1,5 +1,6 @@
 use Rattle.std.proofs.Common.{length}
-use Rattle.lapin_machine.specs.World.{outputs, IsLonger}
+use Rattle.lapin_machine.specs.World.{outputs}
+use Rattle.lapin_machine.specs.Growing.{IsLonger}
 use Rattle.lapin_machine.specs.Numbers.{HasNumbersFor}
 use Rattle.lapin_machine.proofs.run.run_events.Given as goal
 

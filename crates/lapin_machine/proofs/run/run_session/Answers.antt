@@ -1,14 +1,12 @@
-use Rattle.std.proofs.Common.{◌≡◌, ◌∙◌, sym, subst, refl, List, [], ◌++◌, append-nil}
+use Rattle.std.proofs.Common.{◌≡◌, ◌∙◌, sym, subst, List, ◌++◌}
 use Rattle.std.specs.Result.{OnOk, OnErr}
 use Rattle.std.specs.Prelude.{Result, Ok, Err}
 use Rattle.lapin_types.specs.declared.record.Record.{Record}
-use Rattle.lapin_machine.specs.World.{World, outputs, IsStarted}
+use Rattle.lapin_machine.specs.World.{World, outputs}
+use Rattle.lapin_machine.specs.Growing.{IsStarted}
 use Rattle.lapin_machine.proofs.Standing.{outputs_run}
+use Rattle.lapin_machine.proofs.Growing.{not_started}
 use Rattle.lapin_machine.proofs.run.run_session.Goals as goal
-
--- nothing was appended
-not_started : (old new records : List Record) → new ≡ old → IsStarted old new records
-not_started old new records e = (records, record { done = []; all = refl; new_is = e ∙ sym (append-nil old) })
 
 on_err : {T E : Type 0} (r : Result T E) (P : Type 0) → P → OnErr r P
 on_err (Ok x) P p = tt
