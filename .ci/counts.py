@@ -1,0 +1,57 @@
+"""Hands on what the gate prints, a line behind, and puts before its last line what was done in this run and what was kept."""
+import re
+import sys
+
+# The kit's own words at the end, where all is well and not all was done in this run.
+SHARE = re.compile(r"done in this run: (\d+) of the (\d+) proofs")
+EDITS = re.compile(r"(\d+) of the (\d+) must-fail edits;")
+LINES = {
+    "proved": re.compile(r"^(?:rt: )?\w+(?:: its tests are)? proved$"),
+    "kept": re.compile(r"^(?:rt: )?\w+ is kept: "),
+    "refused": re.compile(r"^(?:rt: )?must-fail \S+: refused, as it must be"),
+    "runs": re.compile(r"^(?:rt: )?\w+ ran(?: \(|,)"),
+}
+TESTS = re.compile(r"^test result: .*?(\d+) passed; (\d+) failed")
+
+
+class Counts:
+    def __init__(self):
+        self.of = dict.fromkeys(LINES, 0)
+        self.passed = self.failed = self.programs = 0
+        self.proofs = self.edits = None
+
+    def read(self, line):
+        for name, form in LINES.items():
+            self.of[name] += bool(form.match(line))
+        if found := TESTS.match(line):
+            self.passed, self.failed, self.programs = self.passed + int(found[1]), self.failed + int(found[2]), self.programs + 1
+        if found := SHARE.search(line):
+            self.proofs = int(found[1]), int(found[2]) - int(found[1])
+            edits = EDITS.search(line)
+            self.edits = (int(edits[1]), int(edits[2]) - int(edits[1])) if edits else (0, 0)
+
+    def told(self):
+        proofs = self.proofs or (self.of["proved"], self.of["kept"])
+        edits = self.edits or (self.of["refused"], 0)
+        return (
+            f"gate: proofs of crates and of their tests: {proofs[0]} done, {proofs[1]} kept; "
+            f"wrong bodies: {edits[0]} tried, {edits[1]} kept; "
+            f"tests: {self.passed + self.failed} run in {self.programs} programs, {self.failed} failed, none kept; "
+            f"the program: {self.of['runs']} runs"
+        )
+
+
+def main():
+    counts, last = Counts(), None
+    sys.stdin.reconfigure(errors="replace")
+    sys.stdout.reconfigure(errors="replace")
+    for line in iter(sys.stdin.readline, ""):
+        if last is not None:
+            print(last, flush=True)
+        last = line.rstrip("\n")
+        counts.read(last)
+    print(counts.told())
+    print(last if last is not None else "0 passed, 1 failed", flush=True)
+
+
+main()
