@@ -384,6 +384,6 @@ fn phase_replied(phases: &mut Phases, channel: u16, kind: ReplyKind)
     ensures { phases.new.entries ≡ phases_with channel kind phases.old.entries }
 {
     if opens(kind) {
-        phases.set(channel, ChannelPhase::Opening);
+        phases.set(channel, ChannelPhase::Open { paused: false });
     }
 }
