@@ -10,8 +10,8 @@ use Rattle.lapin_acker.proofs.switches.Switches.void.Goals as goal
 pub returns-in_default-clause-spent : goal.returns-in_default-clause-spent
 returns-in_default-clause-spent c = rw (← c.self.view_is) (spent-passed c.args.number c.self.inside.passed.gone c.self.inside.ends.items c.self.inside.passed.used c.self.inside.cells.items (omega (arith, c.in_default.ensures, c.up_to.ensures.count)) c.up_to.ensures.used)
 
-pub returns-then-place-len : goal.returns-then-place-len
-returns-then-place-len c =
+pub returns-then-place-len-clause-spent : goal.returns-then-place-len-clause-spent
+returns-then-place-len-clause-spent c =
     let us : List Switch = c.self.inside.passed.used in
     let whole = length-shown c.self.inside.passed.gone c.self.inside.ends.items (us ++ c.self.inside.cells.items) in
     let both : length (us ++ c.self.inside.cells.items) ≡ length us + length c.self.inside.cells.items = length-append us c.self.inside.cells.items in
