@@ -1,5 +1,6 @@
 -- Room for open requests: by channel it stands in the channel's queue, or in the one that is set aside for it.
 use Rattle.std.proofs.Common.{◌≡◌, ◌≢◌, ℕ, ◌+◌, ◌<◌, ◌≤◌, ◌==◌, true, false, cond, nat_eq, List, [], ◌∷◌, ◌++◌, Option, Some, None, refl, sym, ◌∙◌, ap, arith, inl, inr, subst, ne_eqb, IsSome, is_some}
+use Rattle.std.specs.Prelude.{Result, Ok, Err, IsOk, IfOk, if◌then◌else◌}
 use Rattle.std.specs.Option.{option_map, option_or}
 use Rattle.std.specs.Map.{lookup}
 use Rattle.std.proofs.lemmas.Bool.{eq-eqb, true≢false}
@@ -186,3 +187,36 @@ aside-taken c old new t after n m are took count room reach = record {
       ];
   room = let was = are.room in omega (arith, count, room, was);
 }
+
+-- memory was taken, and nothing else was done
+pub aside-kept : (old new : ℕ → Option OpenOnChannel) (t after : Table OpenOnChannel) (n m : ℕ) → AreAside old n t → ((d : ℕ) → new d ≡ old d) → m ≡ n → t.spare ≤ after.spare → t.reach ≤ after.reach → AreAside new m after
+aside-kept old new t after n m are same count room reach = record {
+  each = λ d p h.
+      let was = are.each d p (sym (same d) ∙ h) in
+      let reached : d < t.reach = was.reached in
+      record { is_empty = was.is_empty; room = was.room; reached = omega arith };
+  room = let was : n ≤ t.spare = are.room in omega arith;
+}
+
+-- an empty queue with room is set aside for a channel that the table reaches, beside the others
+pub aside-put : (c : ℕ) (q : OpenOnChannel) (old new : ℕ → Option OpenOnChannel) (t after : Table OpenOnChannel) (n m : ℕ) → AreAside old n t → ((d : ℕ) → new d ≡ cond (nat_eq c d) (Some q) (old d)) → m ≤ n + 1 → n < after.spare → t.reach ≤ after.reach → IsAside after.reach c q → AreAside new m after
+aside-put c q old new t after n m are put count room reach is = record {
+  each = λ d p h.
+      elim (eqb_tells c d) [
+        | inl same ↦
+            let here : Some q ≡ Some p = sym (put d ∙ ap (λ b. cond b (Some q) (old d)) same.0) ∙ h in
+            let one : q ≡ p = cc in
+            subst (λ x. IsAside after.reach d x) one (subst (λ x. IsAside after.reach x q) same.1 is)
+        | inr other ↦
+            let was = are.each d p (sym (put d ∙ ap (λ b. cond b (Some q) (old d)) other.0) ∙ h) in
+            let reached : d < t.reach = was.reached in
+            record { is_empty = was.is_empty; room = was.room; reached = omega arith }
+      ];
+  room = omega arith;
+}
+
+-- an insertion makes a map longer by one at most
+pub one-more : {V E : Type 0} (r : Result (Option V) E) (n m : ℕ) → IsOk r → IfOk r (λ o. m ≡ n + (if is_some o then 0 else 1)) → m ≤ n + 1
+one-more (Ok None) n m ok h = omega (arith, h)
+one-more (Ok (Some x)) n m ok h = omega (arith, h)
+one-more (Err e) n m ok h = absurd cc
