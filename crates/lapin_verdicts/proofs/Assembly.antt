@@ -42,9 +42,9 @@ use Rattle.lapin_history.specs.ConfirmReadings.{is_full}
 use Rattle.lapin_consumer.specs.Roster.{Consumer, consumer_at, is_idle}
 use Rattle.lapin_inbox.specs.Marks as inbox
 use Rattle.lapin_verdicts.specs.Verdicts.{message_asked, message_by, messages_in}
-use Rattle.lapin_verdicts.proofs.Effects.{live, moves, Effect, Stays}
-use Rattle.lapin_verdicts.proofs.Happens.{phases_kept, inboxed, nothing, open_lives, queue_fit, call_line, acker_line, asked_happens, refused_none}
-use Rattle.lapin_verdicts.proofs.Comes.{incoming_happens, lost_happens}
+use Rattle.lapin_effects.specs.Effects.{is_next, publish_by, live}
+use Rattle.lapin_effects.proofs.Events.{has_effect}
+use Rattle.lapin_verdicts.proofs.Saying.{says_added}
 use Rattle.lapin_broker.specs.Sends.{may}
 use Rattle.lapin_joint.specs.declared.step.Step.{Step}
 use Rattle.lapin_joint.specs.declared.step.Step.TheVariants as step
@@ -59,90 +59,6 @@ use Rattle.lapin_verdicts.proofs.Whole.{messages-append}
 use Rattle.lapin_verdicts.proofs.Numbering.{Inv}
 use Rattle.lapin_verdicts.proofs.Keeping.{kept}
 use Rattle.lapin_verdicts.proofs.Begins.{left_frames, next_kept}
-
--- ---- what each event but a frame request is
-
-abbrev pub is_next : Event → Bool
-is_next (event.Next flow) = true
-is_next _ = false
-
-abbrev pub Happens : Wire → Readings → Event → Type 0
-Happens b readings e = Effect b (after_event b e (record_of b readings e)) (confirm_marks b e (record_of b readings e)) (message_by e (record_of b readings e))
-
-plain_record : (t : Bool) (k : Asked) (b : Wire) (e : Error) → is_outstanding (record_.Refused e) ≡ false → is_outstanding (cond t (accepted_record k b) (record_.Refused e)) ≡ false
-plain_record true ask.Open b e h = refl
-plain_record true (ask.CloseChannel code text) b e h = refl
-plain_record true (ask.CloseConnection code text) b e h = refl
-plain_record true (ask.Publish exchange key o payload properties) b e h = refl
-plain_record true (ask.Method row) b e h = refl
-plain_record true (ask.Consume m tag queue o) b e h = refl
-plain_record true (ask.Limit limit) b e h = refl
-plain_record true ask.Nothing b e h = refl
-plain_record false k b e h = h
-
-and_none : (v : Bool) → (v && false) ≡ false
-and_none true = refl
-and_none false = refl
-
-call_event : (c : ℕ) (k : Call) (b : Wire) (readings : Readings) → Happens b readings (event.Call c k)
-call_event c k b readings =
-    let no : Record = record_.Refused (error.ConfirmsOutstanding (readings.limit c)) in
-    let yes : Record = call_record c (asked k) b in
-    let E : Record → Asked → Type 0 = λ r a. Effect b (after_asking c a b) (asking_marks c a b) (message_asked (asked k) r) in
-    elim (is_held c k b readings) as (λ v. is_held c k b readings ≡ v → E (cond v no yes) (asked_by k (cond v no yes))) [
-      | true ↦ λ h.
-          let tries : is_try k ≡ true = (and_parts (is_try k) _ h).0 in
-          let none : asked_by k no ≡ ask.Nothing = ap (λ v. cond (v && true) ask.Nothing (asked k)) tries in
-          subst (E no) (sym none) (subst (Effect b (after_asking c ask.Nothing b) (asking_marks c ask.Nothing b)) (sym (refused_none (asked k) (error.ConfirmsOutstanding (readings.limit c)))) (inboxed (asking_inbox c ask.Nothing b) b (asked_wire c ask.Nothing b) _ _ (asked_happens c ask.Nothing b tt)))
-      | false ↦ λ h.
-          let plain : is_outstanding yes ≡ false = plain_record (is_allowed (asked k) (state_of c b)) (asked k) b (error.InvalidChannelState (state_of c b)) refl in
-          let same : asked_by k yes ≡ asked k = ap (λ v. cond (is_try k && v) ask.Nothing (asked k)) plain ∙ ap (λ v. cond v ask.Nothing (asked k)) (and_none (is_try k)) in
-          subst (E yes) (sym same) (inboxed (asking_inbox c (asked k) b) b (asked_wire c (asked k) b) _ _ (asked_happens c (asked k) b (call_line k)))
-    ] refl
-
-open_up : (c : ℕ) (b : Wire) → is_open (state_of c b) ≡ true → live c b ≡ true
-open_up c b h = by b.link refl
-  where
-    by : (l : ConnectionPhase) → b.link ≡ l → live c b ≡ true
-    by link.Open e = open_lives c b e (rw e at h)
-    by (link.Closing x y) e = let z : is_open (state_of c b) ≡ false = rw e refl in let w : true ≡ false = sym h ∙ z in absurd cc
-    by link.Closed e = let z : is_open (state_of c b) ≡ false = rw e refl in let w : true ≡ false = sym h ∙ z in absurd cc
-    by link.Lost e = let z : is_open (state_of c b) ≡ false = rw e refl in let w : true ≡ false = sym h ∙ z in absurd cc
-
-acked_event : (o : Option (ℕ × ℕ)) (k : AckerCall) (b : Wire) → Effect b (acked_wire o k b) [] []
-acked_event None k b = nothing b [] refl
-acked_event (Some x) k b = elim (is_open (state_of x.0 b)) as (λ v. is_open (state_of x.0 b) ≡ v → Effect b (cond v (queued x.0 (acker_method k x.1) None b) b) [] []) [
-  | true ↦ λ a. Stays (phases_kept b _ refl refl refl refl refl) refl _ refl (queue_fit x.0 _ b refl (acker_line x.1 k) (open_up x.0 b a), tt) refl refl
-  | false ↦ λ a. nothing b [] refl
-] refl
-
-let_go_event : (o : Option Consumer) (b : Wire) → Effect b (after_let_go o b) [] []
-let_go_event None b = nothing b [] refl
-let_go_event (Some x) b = elim (lets_go_of x b) as (λ v. lets_go_of x b ≡ v → Effect b (cond v (cancel_noted x b) b) [] []) [
-  | true ↦ λ a. Stays (phases_kept b _ refl refl refl refl refl) refl _ refl (queue_fit x.channel _ b refl refl (open_up x.channel b (and_parts (is_idle x) _ a).1), tt) refl refl
-  | false ↦ λ a. nothing b [] refl
-] refl
-
-still_if : (t : Bool) (m : ConfirmMark) → moves m ≡ false → list_any moves (cond t (m ∷ []) []) ≡ false
-still_if true m h = rw h refl
-still_if false m h = refl
-
-pub event_happens : (b : Wire) (readings : Readings) (e : Event) → is_next e ≡ false → Happens b readings e
-event_happens b readings (event.Call c k) h = call_event c k b readings
-event_happens b readings (event.Next flow) h = absurd cc
-event_happens b readings (event.Receive f) h = incoming_happens (frame_class f) (frame_method f) b.link b readings (incoming_of f) refl
-event_happens b readings (event.PollTicket n) h = nothing b [] refl
-event_happens b readings (event.PollConfirm n) h = nothing b _ (still_if (is_confirmed (readings.confirm n)) (mark.Taken n) refl)
-event_happens b readings (event.PollConsumer n) h = inboxed (inbox.Polled n ∷ []) b b [] [] (nothing b [] refl)
-event_happens b readings (event.PollWait c) h = nothing b _ (still_if (is_returned (wait_record c b readings)) (mark.Drained c) refl)
-event_happens b readings (event.AsideTicket n) h = nothing b [] refl
-event_happens b readings (event.AsideConfirm n) h = nothing b _ (still_if (is_aside (readings.confirm_aside n)) (mark.SetAside n) refl)
-event_happens b readings (event.Acker n k) h = inboxed (acker_inbox n k b) b (acked_wire (usable_at n b) k b) [] [] (acked_event (usable_at n b) k b)
-event_happens b readings (event.Delegate n) h = inboxed (delegate_inbox n b) b b [] [] (nothing b [] refl)
-event_happens b readings (event.DropConsumer n) h = inboxed (drop_inbox n b) b (after_drop n b) [] [] (let_go_event (consumer_at n b.inbox.roster) b)
-event_happens b readings event.NextJob h = inboxed (job_inbox b) b b [] [] (nothing b [] refl)
-event_happens b readings (event.State c) h = nothing b [] refl
-event_happens b readings event.Lost h = inboxed (lost_inbox b) b (after_lost b) _ [] (lost_happens b)
 
 -- ---- a frame request: the record tells what left
 
@@ -198,7 +114,8 @@ module _ (n c : ℕ) where
       subst (λ (p : Past). Inv n c (messages_in (on_event h e)) p.wire p.confirms fs) (sym there) (subst (λ v. Inv n c v (after_event (past n h).wire e (rec n h e)) ((past n h).confirms ++ confirm_marks (past n h).wire e (rec n h e)) fs) (sym says) i)
 
   pub other_kept : (h : History) (e : Event) (fs : List Frame) → is_next e ≡ false → At h fs → At (on_event h e) fs
-  other_kept h e fs apart i = grown h e fs (kept n c (messages_in h) (message_by e (rec n h e)) (past n h).wire (after_event (past n h).wire e (rec n h e)) (past n h).confirms (confirm_marks (past n h).wire e (rec n h e)) fs (event_happens (past n h).wire (see h) e apart) i)
+  other_kept h e fs apart i = grown h e fs (subst (λ v. Inv n c (messages_in h ++ v) (after_event (past n h).wire e (rec n h e)) ((past n h).confirms ++ confirm_marks (past n h).wire e (rec n h e)) fs) (says_added (past n h).wire (see h) e)
+      (kept n c (messages_in h) (publish_by (past n h).wire e (rec n h e)) (past n h).wire (after_event (past n h).wire e (rec n h e)) (past n h).confirms (confirm_marks (past n h).wire e (rec n h e)) fs (has_effect (past n h).wire (see h) e apart) i))
 
   pub next_event_kept : 8 < n → (h : History) (flow : Bool) (fs : List Frame) → At h fs → At (on_event h (event.Next flow)) (fs ++ left_frames (handed flow (λ d. is_full d (past n h).confirms) (past n h).wire))
   next_event_kept big h flow fs i =

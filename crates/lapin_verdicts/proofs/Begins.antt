@@ -23,7 +23,7 @@ use Rattle.lapin_verdicts.specs.Verdicts.{at_place}
 use Rattle.lapin_verdicts.specs.Session.{IsPending, whole_tally, rest_on, next_on}
 use Rattle.lapin_verdicts.proofs.Cutting.{message_in, publish_comes, behind_frames}
 use Rattle.lapin_verdicts.proofs.Marks.{pending_back, channel-append, many-append}
-use Rattle.lapin_verdicts.proofs.Effects.{hears, open_entry}
+use Rattle.lapin_effects.specs.Effects.{hears, open_entry}
 use Rattle.lapin_verdicts.proofs.Turns.{turns_on, turn_selected, turn_place, waits_one, opening-longer, after-quiet, after-never}
 use Rattle.lapin_verdicts.proofs.Numbering.{Queue, AreRest, Going, Inv, not_hears, place-more}
 use Rattle.lapin_verdicts.proofs.Keeping.{place-last}

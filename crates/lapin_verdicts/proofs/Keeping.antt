@@ -1,5 +1,5 @@
 -- Every event but a frame request keeps what a session keeps of a channel.
-use Rattle.std.proofs.Common.{◌≡◌, ◌∙◌, ℕ, zero, suc, ◌+◌, ◌≤◌, ◌<◌, ◌==◌, Bool, true, false, cond, not, List, [], ◌∷◌, ◌++◌, length, Some, None, inl, inr, refl, sym, ap, subst, append-nil, arith, eq-eqb, length-append}
+use Rattle.std.proofs.Common.{◌≡◌, ◌∙◌, ℕ, zero, suc, ◌+◌, ◌≤◌, ◌<◌, ◌==◌, Bool, true, false, cond, not, List, [], ◌∷◌, ◌++◌, map, length, Some, None, inl, inr, refl, sym, ap, subst, append-nil, arith, eq-eqb, length-append}
 use Rattle.std.specs.List.{list_any, filter}
 use Rattle.std.proofs.lemmas.Bool.{and_parts}
 use Rattle.std.proofs.lemmas.Bool.Decides.{eqb_tells}
@@ -20,9 +20,9 @@ use Rattle.lapin_verdicts.specs.Verdicts.{at_place}
 use Rattle.lapin_verdicts.specs.Session.{rest_on}
 use Rattle.lapin_verdicts.proofs.Cutting.{message_in}
 use Rattle.lapin_verdicts.proofs.Marks.{channel-append, many-append}
-use Rattle.lapin_verdicts.proofs.Effects.{live, hears, AreQuiet, grows, SameBut, Effect, Stays, Closes, Opens, Adds, Ends, Falls, Sinks}
+use Rattle.lapin_effects.specs.Effects.{live, hears, AreQuiet, grows, SameBut, Effect, Stays, Closes, Opens, Adds, Ends, Falls, Sinks}
 use Rattle.lapin_verdicts.proofs.Turns.{ends_on, still_grow, grow_unleft, grow_added, left-same, waits_back, live_ends}
-use Rattle.lapin_verdicts.proofs.Comes.{all_grow}
+use Rattle.lapin_effects.proofs.Comes.{all_grow}
 use Rattle.lapin_verdicts.proofs.Numbering.{ArePlain, is_own, own, Queue, AreRest, Inv, stands_more, same_kept, opens_kept, queue-more, queue-filter, quiet-append, quiet-filter, plain-append, plain-filter, quiet_plain, quiet_fit, fit_shut, any-filter, hears_live, hears_back, place-more}
 
 -- ---- a publish is accepted
@@ -230,18 +230,18 @@ down_kept n c msgs b b' ms xs fs max published down rest publishes quiet grow no
 
 -- ---- every event
 
-pub kept : (n c : ℕ) (msgs new : List Message) (b b' : Wire) (ms xs : List ConfirmMark) (fs : List Frame) → Effect b b' xs new → Inv n c msgs b ms fs → Inv n c (msgs ++ new) b' (ms ++ xs) fs
+pub kept : (n c : ℕ) (msgs : List Message) (new : List Publish) (b b' : Wire) (ms xs : List ConfirmMark) (fs : List Frame) → Effect b b' xs new → Inv n c msgs b ms fs → Inv n c (msgs ++ map message_in new) b' (ms ++ xs) fs
 kept n c msgs new b b' ms xs fs (Stays s p es m f still none) i =
-    subst (λ v. Inv n c (msgs ++ v) b' (ms ++ xs) fs) (sym none) (same_kept n c msgs b b' ms xs fs es s m f (still_grow xs still) (subst (Queue msgs ms 0) (sym p) i.queue) (λ h. ap (list_any (is_on publish_channel c)) p ∙ h) (λ h. p ∙ h) i)
+    subst (λ v. Inv n c (msgs ++ v) b' (ms ++ xs) fs) (sym (ap (map message_in) none)) (same_kept n c msgs b b' ms xs fs es s m f (still_grow xs still) (subst (Queue msgs ms 0) (sym p) i.queue) (λ h. ap (list_any (is_on publish_channel c)) p ∙ h) (λ h. p ∙ h) i)
 kept n c msgs new b b' ms xs fs (Closes d e s p m methods f marks none) i =
     let grow : list_any grows xs ≡ false = ap (list_any grows) marks in
-    subst (λ v. Inv n c (msgs ++ v) b' (ms ++ xs) fs) (sym none) (same_kept n c msgs b b' ms xs fs (m ∷ []) s methods (f, tt) grow (subst (Queue msgs ms 0) (sym p) (queue-filter msgs ms (is_off publish_channel d) 0 b.publishes i.queue)) (λ h. ap (list_any (is_on publish_channel c)) p ∙ any-filter (is_on publish_channel c) (is_off publish_channel d) b.publishes h) (λ h. p ∙ ap (filter (is_off publish_channel d)) h) i)
+    subst (λ v. Inv n c (msgs ++ v) b' (ms ++ xs) fs) (sym (ap (map message_in) none)) (same_kept n c msgs b b' ms xs fs (m ∷ []) s methods (f, tt) grow (subst (Queue msgs ms 0) (sym p) (queue-filter msgs ms (is_off publish_channel d) 0 b.publishes i.queue)) (λ h. ap (list_any (is_on publish_channel c)) p ∙ any-filter (is_on publish_channel c) (is_off publish_channel d) b.publishes h) (λ h. p ∙ ap (filter (is_off publish_channel d)) h) i)
 kept n c msgs new b b' ms xs fs (Opens d t s was now r p m marks none) i =
-    subst (λ v. Inv n c (msgs ++ v) b' (ms ++ xs) fs) (sym none) (subst (λ v. Inv n c (msgs ++ []) b' (ms ++ v) fs) (sym marks) (opens_kept n c msgs b b' ms fs d t s was now r p m i))
+    subst (λ v. Inv n c (msgs ++ v) b' (ms ++ xs) fs) (sym (ap (map message_in) none)) (subst (λ v. Inv n c (msgs ++ []) b' (ms ++ v) fs) (sym marks) (opens_kept n c msgs b b' ms fs d t s was now r p m i))
 kept n c msgs new b b' ms xs fs (Adds q up mx r l h p m here nm pb marks is) i =
-    subst (λ v. Inv n c (msgs ++ v) b' (ms ++ xs) fs) (sym is) (subst (λ v. Inv n c (msgs ++ message_in q ∷ []) b' (ms ++ v) fs) (sym marks) (adds_kept n c msgs b b' ms fs q up mx r l h p m here nm pb i))
+    subst (λ v. Inv n c (msgs ++ v) b' (ms ++ xs) fs) (sym (ap (map message_in) is)) (subst (λ v. Inv n c (msgs ++ message_in q ∷ []) b' (ms ++ v) fs) (sym marks) (adds_kept n c msgs b b' ms fs q up mx r l h p m here nm pb i))
 kept n c msgs new b b' ms xs fs (Ends d e s now r p es m q marks none) i =
-    subst (λ v. Inv n c (msgs ++ v) b' (ms ++ xs) fs) (sym none) (subst (λ v. Inv n c (msgs ++ []) b' (ms ++ v) fs) (sym marks) (ends_kept n c msgs b b' ms fs d e es s now r p m q i))
+    subst (λ v. Inv n c (msgs ++ v) b' (ms ++ xs) fs) (sym (ap (map message_in) none)) (subst (λ v. Inv n c (msgs ++ []) b' (ms ++ v) fs) (sym marks) (ends_kept n c msgs b b' ms fs d e es s now r p m q i))
 kept n c msgs new b b' ms xs fs (Falls e mx pb down r p q marks none) i =
     let grow : list_any grows xs ≡ false = ap (list_any grows) marks ∙ all_grow e b in
     let resolved : (k : ℕ) → 0 < k → k ≤ added ms → channel_of k ms ≡ c → outcome_at k (ms ++ xs) ≡ None → ⊥ = λ k z le on w.
@@ -249,11 +249,11 @@ kept n c msgs new b b' ms xs fs (Falls e mx pb down r p q marks none) i =
     let l = hears_live c b (i.opens k z le on was.before) in
     let lives : is_live (phase_of c b) ≡ true = (and_parts (is_up b.link) (is_live (phase_of c b)) l).1 in
     was.ends (ap (λ v. list_any (ends_on v) xs) on ∙ (ap (list_any (ends_on c)) marks ∙ live_ends e c b lives))) in
-    subst (λ v. Inv n c (msgs ++ v) b' (ms ++ xs) fs) (sym none) (down_kept n c msgs b b' ms xs fs mx pb down r p q grow resolved i)
+    subst (λ v. Inv n c (msgs ++ v) b' (ms ++ xs) fs) (sym (ap (map message_in) none)) (down_kept n c msgs b b' ms xs fs mx pb down r p q grow resolved i)
 kept n c msgs new b b' ms xs fs (Sinks mx pb was down r p q grow none) i =
     let x = i.shut_down was in
     let resolved : (k : ℕ) → 0 < k → k ≤ added ms → channel_of k ms ≡ c → outcome_at k (ms ++ xs) ≡ None → ⊥ = λ k z le on w.
     (let w' = waits_back k ms xs z le (grow_unleft xs grow) w in
     let l = hears_live c b (i.opens k z le on w'.before) in
     let z : true ≡ false = sym l ∙ no_live c b was in cc) in
-    subst (λ v. Inv n c (msgs ++ v) b' (ms ++ xs) fs) (sym none) (down_kept n c msgs b b' ms xs fs mx pb down (r x.1) (p x.0) (q x.2) grow resolved i)
+    subst (λ v. Inv n c (msgs ++ v) b' (ms ++ xs) fs) (sym (ap (map message_in) none)) (down_kept n c msgs b b' ms xs fs mx pb down (r x.1) (p x.0) (q x.2) grow resolved i)

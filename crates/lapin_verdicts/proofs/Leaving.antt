@@ -38,7 +38,7 @@ use Rattle.lapin_verdicts.specs.Publishes.{Message, Tally, no_tally, with_method
 use Rattle.lapin_verdicts.specs.Verdicts.{at_place}
 use Rattle.lapin_verdicts.specs.Session.{IsPending, whole_tally, rest_on, next_on}
 use Rattle.lapin_verdicts.proofs.Marks.{pending_back, channel-append, many-append}
-use Rattle.lapin_verdicts.proofs.Effects.{live, hears, AreQuiet, open_entry}
+use Rattle.lapin_effects.specs.Effects.{live, hears, AreQuiet, open_entry}
 use Rattle.lapin_verdicts.proofs.Turns.{is_left, turns_on, left-same, waits_back, opening-longer, count-append}
 use Rattle.lapin_verdicts.proofs.Numbering.{ArePlain, is_own, own, is_opener, is_publish, is_content, Queue, AreRest, Unsent, Going, Inv, stands_more, queue-more}
 

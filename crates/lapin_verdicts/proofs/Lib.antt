@@ -8,15 +8,13 @@ pub mod Settles
 pub mod Runs
 pub mod Verdict
 pub mod Cutting
-pub mod Effects
-pub mod Happens
-pub mod Comes
 pub mod Whole
 pub mod Turns
 pub mod Numbering
 pub mod Keeping
 pub mod Leaving
 pub mod Begins
+pub mod Saying
 pub mod Assembly
 pub mod Numbered
 pub mod Unread

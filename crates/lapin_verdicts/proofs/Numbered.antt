@@ -28,17 +28,18 @@ use Rattle.lapin_joint.specs.declared.step.Step.TheVariants as step
 use Rattle.lapin_joint.specs.Joint.{Joint, is_lawful, joined_to}
 use Rattle.lapin_verdicts.specs.Deeds.{deed_in}
 use Rattle.lapin_verdicts.specs.Publishes.{Message}
-use Rattle.lapin_verdicts.specs.Verdicts.{at_place, message_by, messages_in, opening_of}
+use Rattle.lapin_verdicts.specs.Verdicts.{at_place, messages_in, opening_of}
 use Rattle.lapin_verdicts.specs.InStep.{is_open_waiting}
 use Rattle.lapin_verdicts.specs.Session.{IsPending, Numbers, AreNumbered, IsOldOrNext, past_of, handed_frames, whole_tally}
 use Rattle.lapin_verdicts.proofs.Marks.{pending_back, channel-append, through-append, many-append}
-use Rattle.lapin_verdicts.proofs.Effects.{live, hears, open_entry, Effect, Stays, Closes, Opens, Adds, Ends, Falls, Sinks}
-use Rattle.lapin_verdicts.proofs.Comes.{all_grow}
+use Rattle.lapin_effects.specs.Effects.{is_next, publish_by, live, hears, open_entry, Effect, Stays, Closes, Opens, Adds, Ends, Falls, Sinks}
+use Rattle.lapin_effects.proofs.Comes.{all_grow}
 use Rattle.lapin_verdicts.proofs.Turns.{is_left, still_grow, grow_unleft, grow_turns, turn_parts, left-same, after-never, many-none}
 use Rattle.lapin_verdicts.proofs.Runs.{joined-push, past_at, delivered_marks, marks_in, marks_after}
 use Rattle.lapin_verdicts.proofs.Numbering.{Inv, is_own, is_opener, hears_live}
 use Rattle.lapin_verdicts.proofs.Begins.{find_taken, find_on, next_tag, through-new}
-use Rattle.lapin_verdicts.proofs.Assembly.{is_next, event_happens, in_run}
+use Rattle.lapin_effects.proofs.Events.{has_effect}
+use Rattle.lapin_verdicts.proofs.Assembly.{in_run}
 
 -- ---- what waits and opens
 
@@ -62,7 +63,7 @@ opener_in c t xs ys = list_any-append is_opener xs (open_entry c t ∷ ys) ∙ a
 
 -- ---- what marks an event brings
 
-effect_unleft : (b b' : Wire) (xs : List ConfirmMark) (new : List Message) → Effect b b' xs new → list_any is_left xs ≡ false
+effect_unleft : (b b' : Wire) (xs : List ConfirmMark) (new : List Publish) → Effect b b' xs new → list_any is_left xs ≡ false
 effect_unleft b b' xs new (Stays s p es m f still none) = grow_unleft xs (still_grow xs still)
 effect_unleft b b' xs new (Closes d e s p m ms f marks none) = ap (list_any is_left) marks
 effect_unleft b b' xs new (Opens d t s was now r p m marks none) = ap (list_any is_left) marks
@@ -71,7 +72,7 @@ effect_unleft b b' xs new (Ends d e s now r p es m q marks none) = ap (list_any 
 effect_unleft b b' xs new (Falls e mx pb down r p q marks none) = ap (list_any is_left) marks ∙ grow_unleft (ends_all e b) (all_grow e b)
 effect_unleft b b' xs new (Sinks mx pb was down r p q grow none) = grow_unleft xs grow
 
-effect_begins : (c : ℕ) (b b' : Wire) (xs : List ConfirmMark) (new : List Message) → live c b ≡ true → Effect b b' xs new → list_any (begins c) xs ≡ false
+effect_begins : (c : ℕ) (b b' : Wire) (xs : List ConfirmMark) (new : List Publish) → live c b ≡ true → Effect b b' xs new → list_any (begins c) xs ≡ false
 effect_begins c b b' xs new l (Stays s p es m f still none) = (turn_parts c xs (grow_turns c xs (still_grow xs still))).0
 effect_begins c b b' xs new l (Closes d e s p m ms f marks none) = ap (list_any (begins c)) marks
 effect_begins c b b' xs new l (Opens d t s was now r p m marks none) = ap (list_any (begins c)) marks ∙ elim (eqb_tells d c) as (λ _. ((d == c) || false) ≡ false) [
@@ -180,8 +181,8 @@ module _ (n : ℕ) (big : 8 < n) where
 
   quiet_says : (c k : ℕ) (s : Step) (j : Joint History) (e : Event) → is_next e ≡ false → marks_in n s j ≡ confirm_marks (past_at n j).wire e (rec n j.session e) → Says c k s j
   quiet_says c k s j e apart is = record {
-    begins_none = λ l. ap (list_any (begins c)) is ∙ effect_begins c (past_at n j).wire (after_event (past_at n j).wire e (rec n j.session e)) (confirm_marks (past_at n j).wire e (rec n j.session e)) (message_by e (rec n j.session e)) l (event_happens (past_at n j).wire (see j) e apart);
-    leaves_one = λ h. (let w : false ≡ true = sym (ap (has_left k) is ∙ no_leaves k (confirm_marks (past_at n j).wire e (rec n j.session e)) (effect_unleft (past_at n j).wire (after_event (past_at n j).wire e (rec n j.session e)) (confirm_marks (past_at n j).wire e (rec n j.session e)) (message_by e (rec n j.session e)) (event_happens (past_at n j).wire (see j) e apart))) ∙ h in absurd cc);
+    begins_none = λ l. ap (list_any (begins c)) is ∙ effect_begins c (past_at n j).wire (after_event (past_at n j).wire e (rec n j.session e)) (confirm_marks (past_at n j).wire e (rec n j.session e)) (publish_by (past_at n j).wire e (rec n j.session e)) l (has_effect (past_at n j).wire (see j) e apart);
+    leaves_one = λ h. (let w : false ≡ true = sym (ap (has_left k) is ∙ no_leaves k (confirm_marks (past_at n j).wire e (rec n j.session e)) (effect_unleft (past_at n j).wire (after_event (past_at n j).wire e (rec n j.session e)) (confirm_marks (past_at n j).wire e (rec n j.session e)) (publish_by (past_at n j).wire e (rec n j.session e)) (has_effect (past_at n j).wire (see j) e apart))) ∙ h in absurd cc);
   }
 
   none_says : (c k : ℕ) (s : Step) (j : Joint History) → marks_in n s j ≡ [] → Says c k s j

@@ -28,7 +28,7 @@ use Rattle.lapin_verdicts.specs.Verdicts.{at_place}
 use Rattle.lapin_verdicts.specs.Session.{IsPending, whole_tally, rest_on, next_on}
 use Rattle.lapin_verdicts.proofs.Cutting.{message_in}
 use Rattle.lapin_verdicts.proofs.Marks.{pending_back, channel-append, many-append}
-use Rattle.lapin_verdicts.proofs.Effects.{live, hears, is_special, AreFit, AreQuiet, grows, Same, SameBut, open_entry}
+use Rattle.lapin_effects.specs.Effects.{live, hears, is_special, AreFit, AreQuiet, grows, Same, SameBut, open_entry}
 use Rattle.lapin_verdicts.proofs.Turns.{is_left, turns_on, grow_unleft, grow_turns, grow_added, left-same, turn_selected, turn_place, waits_back}
 
 -- ---- what is kept

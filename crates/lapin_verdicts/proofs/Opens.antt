@@ -45,13 +45,11 @@ use Rattle.lapin_history.specs.Events.{after_event, confirm_marks}
 use Rattle.lapin_history.specs.Wire.{Wire, state_of, phase_of, is_open as is_open_state, with_lists, lists_of}
 use Rattle.lapin_joint.specs.Joint.{is_lawful, left_alone}
 use Rattle.lapin_verdicts.specs.Deeds.{is_open}
-use Rattle.lapin_verdicts.specs.Publishes.{Message}
 use Rattle.lapin_verdicts.specs.InStep.{is_frame_on, is_open_on, is_open_waiting}
 use Rattle.lapin_verdicts.proofs.Marks.{many-append}
-use Rattle.lapin_verdicts.proofs.Effects.{is_special, AreFit, AreQuiet, moves, open_entry, Effect, Stays, Closes, Opens, Adds, Ends, Falls, Sinks}
+use Rattle.lapin_effects.specs.Effects.{is_next, is_special, AreFit, AreQuiet, moves, open_entry, Effect, Stays, Closes, Opens, Adds, Ends, Falls, Sinks}
 use Rattle.lapin_verdicts.proofs.Turns.{any-less}
 use Rattle.lapin_verdicts.proofs.Numbering.{is_content, AreRest}
-use Rattle.lapin_verdicts.proofs.Assembly.{is_next}
 
 -- ---- counts
 
@@ -119,7 +117,7 @@ waits_more c b b' xs es e n = ap (many (is_open_waiting c)) e ∙ (many-append (
 opens_same : (c d t : ℕ) → many (is_open_waiting c) (open_entry d t ∷ []) ≡ many (begins c) (mark.Begun d ∷ [])
 opens_same c d t = elim (d == c) as (λ v. ◌≡◌ {A = ℕ} (cond (v && true) 1 0) (cond v 1 0)) [ true ↦ refl | false ↦ refl ]
 
-pub effect_waits : (c : ℕ) (b b' : Wire) (xs : List ConfirmMark) (new : List Message) → Effect b b' xs new → ((e : Error) → xs ≡ mark.Ended c e ∷ [] → unsent c b ≡ 0) → is_up b'.link ≡ true → Waits c b b' xs
+pub effect_waits : (c : ℕ) (b b' : Wire) (xs : List ConfirmMark) (new : List Publish) → Effect b b' xs new → ((e : Error) → xs ≡ mark.Ended c e ∷ [] → unsent c b ≡ 0) → is_up b'.link ≡ true → Waits c b b' xs
 effect_waits c b b' xs new (Stays s p es m fit still none) z u = (sym s.up ∙ u, waits_more c b b' xs es m (fit_none c b es fit ∙ sym (still_none c xs still)))
 effect_waits c b b' xs new (Closes d e s p m ms fit marks none) z u = (sym s.up ∙ u, waits_more c b b' xs (m ∷ []) ms (fit_none c b (m ∷ []) (fit, tt) ∙ ap (many (begins c)) (sym marks)))
 effect_waits c b b' xs new (Opens d t s was now r p ms marks none) z u = (sym s.up ∙ u, waits_more c b b' xs (open_entry d t ∷ []) ms (opens_same c d t ∙ ap (many (begins c)) (sym marks)))
@@ -141,7 +139,7 @@ effect_waits c b b' xs new (Falls e mx n dn r p q marks none) z u = let w : true
 effect_waits c b b' xs new (Sinks mx n was dn r p q still none) z u = let w : true ≡ false = sym u ∙ dn in absurd cc
 
 -- a connection that is open now was open
-pub stays_down : {b b' : Wire} {xs : List ConfirmMark} {new : List Message} → Effect b b' xs new → is_up b'.link ≡ true → is_up b.link ≡ true
+pub stays_down : {b b' : Wire} {xs : List ConfirmMark} {new : List Publish} → Effect b b' xs new → is_up b'.link ≡ true → is_up b.link ≡ true
 stays_down (Stays s p es m fit still none) u = sym s.up ∙ u
 stays_down (Closes d e s p m ms fit marks none) u = sym s.up ∙ u
 stays_down (Opens d t s was now r p ms marks none) u = sym s.up ∙ u

@@ -47,7 +47,9 @@ use Rattle.lapin_verdicts.proofs.Marks.{many-append}
 use Rattle.lapin_verdicts.proofs.Books.{sents-append, last-push, last-sent}
 use Rattle.lapin_verdicts.proofs.Runs.{past-push, joined-push, deeds-push}
 use Rattle.lapin_verdicts.proofs.Numbering.{AreRest}
-use Rattle.lapin_verdicts.proofs.Assembly.{is_next, event_happens, as_handed, in_run}
+use Rattle.lapin_effects.specs.Effects.{is_next}
+use Rattle.lapin_effects.proofs.Events.{has_effect}
+use Rattle.lapin_verdicts.proofs.Assembly.{as_handed, in_run}
 use Rattle.lapin_verdicts.proofs.Unread.{is_unread, unread_at, AllGo, goes-push, sent_goes, none_on, pairs}
 use Rattle.lapin_verdicts.proofs.Opens.{many-none, unsent, IsEnd, stays_down, effect_waits, client_ended, received_ended, next_waits, left_begins}
 
@@ -70,7 +72,7 @@ event_tied : (c : ℕ) (p : Past) (e : Event) (up : List Left) (down : List Fram
 event_tied c p e up down ds apart ended t =
     let b' : Wire = after_event p.wire e (record_after p e) in
     let xs : List ConfirmMark = confirm_marks p.wire e (record_after p e) in
-    let w : (is_up b'.link ≡ true) → (is_up p.wire.link ≡ true) × (unsent c b' ≡ unsent c p.wire + many (begins c) xs) = λ u. effect_waits c p.wire b' xs _ (event_happens p.wire (readings_of p.confirms p.tickets) e apart) (λ x h. ended x h u) u in
+    let w : (is_up b'.link ≡ true) → (is_up p.wire.link ≡ true) × (unsent c b' ≡ unsent c p.wire + many (begins c) xs) = λ u. effect_waits c p.wire b' xs _ (has_effect p.wire (readings_of p.confirms p.tickets) e apart) (λ x h. ended x h u) u in
     record {
       goes = t.goes;
       count = λ u. (let k = t.count (w u).0 in let more = (w u).1 in let m = many-append (begins c) p.confirms xs in omega (arith, k, more, m));
@@ -174,7 +176,7 @@ receive_tied c p up f fs ds q t = drop_tied c _ up f fs ds (event_tied c p (even
 ] refl) t)
   where
     not_up : is_up p.wire.link ≡ false → is_up (after_event p.wire (event.Receive f) (record_after p (event.Receive f))).link ≡ true → ⊥
-    not_up e u = let w : true ≡ false = sym (stays_down (event_happens p.wire (readings_of p.confirms p.tickets) (event.Receive f) refl) u) ∙ e in cc
+    not_up e u = let w : true ≡ false = sym (stays_down (has_effect p.wire (readings_of p.confirms p.tickets) (event.Receive f) refl) u) ∙ e in cc
 
 -- ---- a loss
 

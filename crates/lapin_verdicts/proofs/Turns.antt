@@ -20,7 +20,7 @@ use Rattle.lapin_history.specs.ConfirmReadings.{adds, begins, selects, leaves, l
 use Rattle.lapin_history.specs.Wire.{Wire, phase_of}
 use Rattle.lapin_tables.specs.ByChannel.{at_channel}
 use Rattle.lapin_verdicts.proofs.Marks.{after-append, channel-append, tag-append, settled-append, many-append, or-assoc}
-use Rattle.lapin_verdicts.proofs.Effects.{moves, grows}
+use Rattle.lapin_effects.specs.Effects.{moves, grows}
 
 -- the mark says that a frame of a publish left
 abbrev pub is_left : ConfirmMark → Bool

@@ -31,9 +31,9 @@ use Rattle.lapin_history.specs.ChannelClose.{failed_at_close}
 use Rattle.lapin_history.specs.ConnectionClose.{failed_at_connection_close}
 use Rattle.lapin_history.specs.Asking.{is_allowed, after_call, call_marks, accepted_record, call_record, asked_wire, asking_marks}
 use Rattle.lapin_inbox.specs.Marks.{InboxMark}
-use Rattle.lapin_verdicts.specs.Publishes.{Message}
-use Rattle.lapin_verdicts.specs.Verdicts.{message_asked}
-use Rattle.lapin_verdicts.proofs.Effects.{live, hears, is_special, IsFit, moves, Same, SameBut, Effect, Stays, Closes, Opens, Adds, Ends, Falls, Sinks, at-same, at-other}
+use Rattle.lapin_types.specs.declared.leaving.Publish.{Publish}
+use Rattle.lapin_effects.specs.Effects.{publish_asked, publish_asking, live, hears, is_special, IsFit, moves, Same, SameBut, Effect, Stays, Closes, Opens, Adds, Ends, Falls, Sinks}
+use Rattle.lapin_effects.proofs.Phases.{at-same, at-other}
 
 -- ---- what stays of the channels
 
@@ -87,7 +87,7 @@ moved c p b b' l e m r n alike hs =
     here u z h = rw (l, e) (subst (λ o. receives_on (cond (is_up b.link) (cond (c == 0) state.Base (channel_state (phase_in o))) state.Down) ≡ true) (sym (at-same c p b.phases)) (at (is_up b.link) (c == 0) h))
 
 -- consumers and ackers move nothing else
-pub inboxed : (ms : List InboxMark) (b b' : Wire) (xs : List ConfirmMark) (new : List Message) → Effect b b' xs new → Effect b (with_inbox ms b') xs new
+pub inboxed : (ms : List InboxMark) (b b' : Wire) (xs : List ConfirmMark) (new : List Publish) → Effect b b' xs new → Effect b (with_inbox ms b') xs new
 inboxed ms b b' xs new (Stays s p es m f i k) = Stays (record { up = s.up; max = s.max; rest = s.rest; lives = s.lives; hear = s.hear; published = s.published }) p es m f i k
 inboxed ms b b' xs new (Closes d e s p m ms' f i k) = Closes d e (record { up = s.up; max = s.max; rest = s.rest; lives = s.lives; hear = s.hear; published = s.published }) p m ms' f i k
 inboxed ms b b' xs new (Opens d t s was now r p m i k) = Opens d t (record { up = s.up; max = s.max; lives = s.lives; hear = s.hear; published = s.published }) was now r p m i k
@@ -143,7 +143,7 @@ quiet_select : (t : Bool) (c : ℕ) → list_any moves (cond t (mark.SelectCalle
 quiet_select true c = refl
 quiet_select false c = refl
 
-pub call_happens : (c : ℕ) (k : Asked) (b : Wire) → b.link ≡ link.Open → is_allowed k (At (c == 0) (phase_of c b)) ≡ true → IsLine k → Effect b (after_call c k b) (call_marks c k b) (message_asked k (accepted_record k b))
+pub call_happens : (c : ℕ) (k : Asked) (b : Wire) → b.link ≡ link.Open → is_allowed k (At (c == 0) (phase_of c b)) ≡ true → IsLine k → Effect b (after_call c k b) (call_marks c k b) (publish_asked c k b)
 call_happens c ask.Open b e a line = Opens c (b.tickets + 1) (but c phase.Opening b _ refl refl refl refl) (rw (e, closed_phase (c == 0) (phase_of c b) a) refl) (live_at c phase.Opening b (after_open_call c b) refl refl ∙ rw e refl) refl refl refl refl refl
 call_happens c (ask.CloseChannel code text) b e a line =
     let o = open_phase (c == 0) (phase_of c b) a in
@@ -171,18 +171,8 @@ allowed_up (link.Closing x y) k s h = let x = shut_refuses k in cc
 allowed_up link.Closed k s h = let x = shut_refuses k in cc
 allowed_up link.Lost k s h = let x = shut_refuses k in cc
 
-pub refused_none : (k : Asked) (x : Error) → message_asked k (record_.Refused x) ≡ []
-refused_none ask.Open x = refl
-refused_none (ask.CloseChannel code text) x = refl
-refused_none (ask.CloseConnection code text) x = refl
-refused_none (ask.Publish exchange key o payload properties) x = refl
-refused_none (ask.Method row) x = refl
-refused_none (ask.Consume m tag queue o) x = refl
-refused_none (ask.Limit limit) x = refl
-refused_none ask.Nothing x = refl
-
-pub asked_happens : (c : ℕ) (k : Asked) (b : Wire) → IsLine k → Effect b (asked_wire c k b) (asking_marks c k b) (message_asked k (call_record c k b))
-asked_happens c k b line = elim (is_allowed k (state_of c b)) as (λ t. is_allowed k (state_of c b) ≡ t → Effect b (cond t (after_call c k b) b) (cond t (call_marks c k b) []) (message_asked k (cond t (accepted_record k b) (record_.Refused (error.InvalidChannelState (state_of c b)))))) [
+pub asked_happens : (c : ℕ) (k : Asked) (b : Wire) → IsLine k → Effect b (asked_wire c k b) (asking_marks c k b) (publish_asking c k b)
+asked_happens c k b line = elim (is_allowed k (state_of c b)) as (λ t. is_allowed k (state_of c b) ≡ t → Effect b (cond t (after_call c k b) b) (cond t (call_marks c k b) []) (cond t (publish_asked c k b) [])) [
   | true ↦ λ a. let e = allowed_up b.link k (At (c == 0) (phase_of c b)) a in call_happens c k b e (rw e at a) line
-  | false ↦ λ a. subst (Effect b b []) (sym (refused_none k (error.InvalidChannelState (state_of c b)))) (nothing b [] refl)
+  | false ↦ λ a. nothing b [] refl
 ] refl

@@ -46,8 +46,8 @@ use Rattle.lapin_history.specs.Consumers.{receives_consumer}
 use Rattle.lapin_history.specs.Unexpected.{refused, failed_at_unexpected}
 use Rattle.lapin_history.specs.Loss.{after_lost}
 use Rattle.lapin_history.specs.Receiving.{when, incoming_up, incoming_record, incoming_wire, incoming_inbox, after_incoming, incoming_marks}
-use Rattle.lapin_verdicts.proofs.Effects.{live, IsFit, IsQuiet, AreQuiet, moves, grows, Same, Effect, Stays, Closes, Ends, Falls, Sinks}
-use Rattle.lapin_verdicts.proofs.Happens.{phases_kept, but, moved, inboxed, nothing, live_at}
+use Rattle.lapin_effects.specs.Effects.{live, IsFit, IsQuiet, AreQuiet, moves, grows, Same, Effect, Stays, Closes, Ends, Falls, Sinks}
+use Rattle.lapin_effects.proofs.Happens.{phases_kept, but, moved, inboxed, nothing, live_at}
 
 abbrev At : Bool → ChannelPhase → ChannelState
 At z p = cond z state.Base (channel_state p)
