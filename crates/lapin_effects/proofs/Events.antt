@@ -1,5 +1,5 @@
 -- Which of the seven kinds every event but a frame request is.
-use Rattle.std.proofs.Common.{◌≡◌, ◌∙◌, ℕ, ◌==◌, Bool, true, false, cond, ◌&&◌, List, [], ◌∷◌, Option, Some, None, refl, sym, ap, subst}
+use Rattle.std.proofs.Common.{◌≡◌, ◌∙◌, ℕ, Bool, true, false, cond, ◌&&◌, [], ◌∷◌, Option, Some, None, refl, sym}
 use Rattle.std.specs.List.{list_any}
 use Rattle.std.proofs.lemmas.Bool.{and_parts}
 use Rattle.lapin_types.specs.declared.acker_call.AckerCall.{AckerCall}
@@ -7,9 +7,6 @@ use Rattle.lapin_types.specs.declared.event.Event.{Event}
 use Rattle.lapin_types.specs.declared.event.Event.TheVariants as event
 use Rattle.lapin_types.specs.declared.call.Call.{Call}
 use Rattle.lapin_types.specs.declared.record.Record.{Record}
-use Rattle.lapin_types.specs.declared.record.Record.TheVariants as record_
-use Rattle.lapin_types.specs.Types.error
-use Rattle.lapin_history.specs.declared.calls.Asked.{Asked}
 use Rattle.lapin_history.specs.declared.calls.Asked.TheVariants as ask
 use Rattle.lapin_history.specs.declared.phases.ConnectionPhase.{ConnectionPhase}
 use Rattle.lapin_history.specs.declared.phases.ConnectionPhase.TheVariants as link
@@ -83,4 +80,3 @@ has_effect b readings (event.DropConsumer n) h = inboxed (drop_inbox n b) b (aft
 has_effect b readings event.NextJob h = inboxed (job_inbox b) b b [] [] (nothing b [] refl)
 has_effect b readings (event.State c) h = nothing b [] refl
 has_effect b readings event.Lost h = inboxed (lost_inbox b) b (after_lost b) _ [] (lost_happens b)
-

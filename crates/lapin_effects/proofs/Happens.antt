@@ -6,9 +6,7 @@ use Rattle.lapin_types.specs.declared.acker_call.AckerCall.{AckerCall}
 use Rattle.lapin_types.specs.declared.acker_call.AckerCall.TheVariants as acker_call
 use Rattle.lapin_types.specs.declared.call.Call.{Call}
 use Rattle.lapin_types.specs.declared.call.Call.TheVariants as call
-use Rattle.lapin_types.specs.declared.record.Record.TheVariants as record_
-use Rattle.lapin_types.specs.Types.{ChannelState, Error}
-use Rattle.lapin_types.specs.Types.error
+use Rattle.lapin_types.specs.Types.{ChannelState}
 use Rattle.lapin_types.specs.Types.channel_state as state
 use Rattle.lapin_history.specs.declared.calls.Asked.{Asked}
 use Rattle.lapin_history.specs.declared.calls.Asked.TheVariants as ask
@@ -29,7 +27,7 @@ use Rattle.lapin_history.specs.Calls.{asked}
 use Rattle.lapin_history.specs.Ackers.{acker_method}
 use Rattle.lapin_history.specs.ChannelClose.{failed_at_close}
 use Rattle.lapin_history.specs.ConnectionClose.{failed_at_connection_close}
-use Rattle.lapin_history.specs.Asking.{is_allowed, after_call, call_marks, accepted_record, call_record, asked_wire, asking_marks}
+use Rattle.lapin_history.specs.Asking.{is_allowed, after_call, call_marks, asked_wire, asking_marks}
 use Rattle.lapin_inbox.specs.Marks.{InboxMark}
 use Rattle.lapin_types.specs.declared.leaving.Publish.{Publish}
 use Rattle.lapin_effects.specs.Effects.{publish_asked, publish_asking, live, hears, is_special, IsFit, moves, Same, SameBut, Effect, Stays, Closes, Opens, Adds, Ends, Falls, Sinks}

@@ -203,7 +203,7 @@ ends_kept n c msgs b b' ms fs d e es s now rest publishes methods quiet i =
 
 -- ---- the connection is no longer open, or was not
 
-no_live : (c : ℕ) (b : Wire) → is_up b.link ≡ false → live c b ≡ false
+pub no_live : (c : ℕ) (b : Wire) → is_up b.link ≡ false → live c b ≡ false
 no_live c b h = rw h refl
 
 down_kept : (n c : ℕ) (msgs : List Message) (b b' : Wire) (ms xs : List ConfirmMark) (fs : List Frame) → b'.frame_max ≡ b.frame_max → b'.published ≡ b.published → is_up b'.link ≡ false → b'.rest ≡ [] → b'.publishes ≡ [] → AreQuiet b'.methods → list_any grows xs ≡ false → ((k : ℕ) → 0 < k → k ≤ added ms → channel_of k ms ≡ c → outcome_at k (ms ++ xs) ≡ None → ⊥) → Inv n c msgs b ms fs → Inv n c (msgs ++ []) b' (ms ++ xs) fs

@@ -56,14 +56,14 @@ pub record Alike (c : ℕ) (all other : List (ℕ × ChannelPhase)) : Type 0 whe
   pub lives : is_live (phase_in (at_channel c other)) ≡ is_live (phase_in (at_channel c all))
   pub state : channel_state (phase_in (at_channel c other)) ≡ channel_state (phase_in (at_channel c all))
 
-alike_same : (c : ℕ) (all : List (ℕ × ChannelPhase)) → Alike c all all
+pub alike_same : (c : ℕ) (all : List (ℕ × ChannelPhase)) → Alike c all all
 alike_same c all = record { lives = refl; state = refl }
 
 alike_in : (c : ℕ) (all : List (ℕ × ChannelPhase)) (o : Option ChannelPhase) → (is_live (phase_in (option_map close_sent o)) ≡ is_live (phase_in o)) × (channel_state (phase_in (option_map close_sent o)) ≡ channel_state (phase_in o))
 alike_in c all None = (refl, refl)
 alike_in c all (Some p) = closed_alike p
 
-alike_closed : (c d : ℕ) (all : List (ℕ × ChannelPhase)) → Alike c all (on_channel d close_sent all)
+pub alike_closed : (c d : ℕ) (all : List (ℕ × ChannelPhase)) → Alike c all (on_channel d close_sent all)
 alike_closed c d all = elim (eqb_tells d c) [
   | inl y ↦
       let at : at_channel c (on_channel d close_sent all) ≡ option_map close_sent (at_channel c all) = subst (λ v. at_channel c (on_channel v close_sent all) ≡ option_map close_sent (at_channel c all)) (sym y.1) (at-on_same c close_sent all) in

@@ -89,7 +89,7 @@ quiet_none : (c : ℕ) (es : List MethodEntry) → AreQuiet es → many (is_open
 quiet_none c [] h = refl
 quiet_none c (m ∷ es) h = rw (unwaiting c m h.0.plain) (quiet_none c es h.1)
 
-off_same : (c d : ℕ) (ms : List MethodEntry) → (d == c) ≡ false → many (is_open_waiting c) (filter (is_off method_channel d) ms) ≡ many (is_open_waiting c) ms
+pub off_same : (c d : ℕ) (ms : List MethodEntry) → (d == c) ≡ false → many (is_open_waiting c) (filter (is_off method_channel d) ms) ≡ many (is_open_waiting c) ms
 off_same c d [] h = refl
 off_same c d (m ∷ ms) h = elim (eqb_tells m.channel d) [
   | inl y ↦
@@ -241,7 +241,7 @@ received_ended c b i _ e h u = absurd cc
 
 -- ---- a frame request
 
-content_open : (f : Frame) → is_content f ≡ true → is_open f ≡ false
+pub content_open : (f : Frame) → is_content f ≡ true → is_open f ≡ false
 content_open (frame.Method c m) h = absurd cc
 content_open (frame.Header c h) e = refl
 content_open (frame.Body c bytes) e = refl
@@ -258,7 +258,7 @@ left_waits c m t [] [] ps d a = by (find (may_begin t) ps)
     by None = refl
     by (Some q) = elim (q.channel == c) as (λ v. 0 + cond (v && false) 1 0 ≡ 0) [ true ↦ refl | false ↦ refl ]
 
-sent_methods : (o : Option Left) (b : Wire) → (sent o b).methods ≡ b.methods
+pub sent_methods : (o : Option Left) (b : Wire) → (sent o b).methods ≡ b.methods
 sent_methods None b = refl
 sent_methods (Some l) b = refl
 
@@ -269,7 +269,7 @@ link_up (frame.Method c (method.Connection (connection.Close code text class num
 link_up (frame.Method c (method.Connection (connection.Close code text class number))) link.Lost = refl
 link_up _ l = refl
 
-sent_up : (o : Option Left) (b : Wire) → is_up (sent o b).link ≡ is_up b.link
+pub sent_up : (o : Option Left) (b : Wire) → is_up (sent o b).link ≡ is_up b.link
 sent_up None b = refl
 sent_up (Some l) b = link_up l.frame b.link
 
