@@ -30,7 +30,7 @@ use Rattle.lapin_history.specs.declared.phases.ConnectionPhase.{ConnectionPhase}
 use Rattle.lapin_history.specs.declared.phases.ConnectionPhase.TheVariants as link
 use Rattle.lapin_history.specs.declared.phases.Closer.TheVariants as closer
 use Rattle.lapin_history.specs.Words.{with_channel, is_some}
-use Rattle.lapin_history.specs.Phases.{is_up, is_lost, channel_state}
+use Rattle.lapin_history.specs.Phases.{is_up, is_live, is_lost, channel_state}
 use Rattle.lapin_history.specs.Frames.{MethodEntry, left_method}
 use Rattle.lapin_history.specs.Drops.{is_off, method_channel}
 use Rattle.lapin_history.specs.Requests.{first_request, without_request, without_kind, no_requests}
@@ -55,7 +55,7 @@ use Rattle.lapin_pairs.specs.Every.{ToD}
 use Rattle.lapin_concord.specs.Wires.{reply_number, is_asked}
 use Rattle.lapin_concord.specs.Incomes.{income_as}
 use Rattle.lapin_concord.proofs.Views.{phase_at, requests_at, requests_on_away}
-use Rattle.lapin_effects.specs.Effects.{hears}
+use Rattle.lapin_effects.specs.Effects.{live, hears}
 use Rattle.lapin_verdicts.specs.Answers.{awaits_as}
 use Rattle.lapin_answers.proofs.Rows.{is_reply_down, asked_comes, other_comes}
 use Rattle.lapin_answers.proofs.Lists.{asks, open_asks, is_ask_on, lefts_of, waiting_asks, without_other, without_away, without_here, on_other, ended_here, ended_none, quiet_ask, waits_same, waits_gone, waits_away}
@@ -125,7 +125,8 @@ module _ (c : ℕ) (e : Event) (x : Record) (class number : ℕ) where
             let o = opening_at (d == 0) (phase_of d b) h in
             let deaf : hears c b ≡ false = subst (λ v. hears v b ≡ false) y.1 (hears_at d b phase.Opening up o.1 ∙ ap (λ v. receives_on (At v phase.Opening)) o.0) in
             let now : hears c b' ≡ true = subst (λ v. hears v b' ≡ true) y.1 (hear_here d (phase.Open false) b b' up refl refl ∙ ap (λ v. receives_on (At v (phase.Open false))) o.0) in
-            Begins (ap (λ v. ToD v BOpenOk) y.1) deaf now rs refl
+            let alive : live c b ≡ true = subst (λ v. live v b ≡ true) y.1 (ap (λ v. is_up v && is_live (phase_of d b)) up ∙ ap is_live o.1) in
+            Begins (ap (λ v. ToD v BOpenOk) y.1) alive deaf now rs refl
         | inr n ↦ Stays refl (hear_away c d (phase.Open false) b b' refl refl n.0) rs refl
       ]
 

@@ -20,7 +20,11 @@ use Rattle.lapin_types.specs.Types.queue
 use Rattle.lapin_types.specs.Types.basic
 use Rattle.lapin_types.specs.Types.confirm
 use Rattle.lapin_types.specs.Types.tx
+use Rattle.lapin_types.specs.Types.channel_state as state
 use Rattle.lapin_history.specs.declared.broker_frames.Incoming.{Incoming}
+use Rattle.lapin_history.specs.declared.phases.ConnectionPhase.{ConnectionPhase}
+use Rattle.lapin_history.specs.declared.phases.ConnectionPhase.TheVariants as link
+use Rattle.lapin_history.specs.Ends.{down as fallen}
 use Rattle.lapin_history.specs.ConfirmReadings.{is_full}
 use Rattle.lapin_history.specs.Events.{record_of, after_event, confirm_marks}
 use Rattle.lapin_history.specs.Flow.{begins_on}
@@ -31,7 +35,7 @@ use Rattle.lapin_history.specs.Phases.{is_up, is_live, is_lost, channel_state}
 use Rattle.lapin_history.specs.Readings.{Readings}
 use Rattle.lapin_history.specs.Requests.{without_kind, is_kind}
 use Rattle.lapin_history.specs.Words.{many}
-use Rattle.lapin_history.specs.Wire.{Wire, phase_of}
+use Rattle.lapin_history.specs.Wire.{Wire, phase_of, receives_on}
 use Rattle.lapin_broker.specs.declared.frames.BrokerFrame.{BrokerFrame}
 use Rattle.lapin_broker.specs.declared.frames.BrokerFrame.TheVariants as broker
 use Rattle.lapin_broker.specs.Frames.{channel_of, broker_frame, broker_method}
@@ -49,7 +53,7 @@ use Rattle.lapin_concord.specs.Incomes.{income_as}
 use Rattle.lapin_concord.proofs.Incomes.{sorted}
 use Rattle.lapin_effects.specs.Effects.{is_next, live, hears}
 use Rattle.lapin_effects.proofs.Events.{has_effect}
-use Rattle.lapin_verdicts.specs.Answers.{replies, replies_in, is_open_ok, IsAnswer}
+use Rattle.lapin_verdicts.specs.Answers.{replies_as, replies, replies_in, is_open_ok, IsAnswer}
 use Rattle.lapin_verdicts.specs.Deeds.{Deed, Read, Sent, is_open, joined_opening, last_opening, lefts, sents, reads_of, deed_in, deeds}
 use Rattle.lapin_verdicts.specs.InStep.{is_frame_on, is_open_on, is_open_waiting, AreTogether}
 use Rattle.lapin_verdicts.specs.Session.{past_of}
@@ -57,6 +61,7 @@ use Rattle.lapin_verdicts.proofs.Answering.{answers_in}
 use Rattle.lapin_verdicts.proofs.Assembly.{as_handed, in_run}
 use Rattle.lapin_verdicts.proofs.Books.{sents-append, last-push, last-sent}
 use Rattle.lapin_verdicts.proofs.First.{first_in}
+use Rattle.lapin_verdicts.proofs.Keeping.{no_live}
 use Rattle.lapin_verdicts.proofs.Numbering.{AreRest, hears_live}
 use Rattle.lapin_verdicts.proofs.Opens.{unsent, many-none}
 use Rattle.lapin_verdicts.proofs.Owing.{lefts-append, replies-append}
@@ -168,7 +173,7 @@ module _ (n c : ℕ) where
   to_event h e ls down k s = subst (λ b. Standing c (on_event h e) b ls down k) (sym (wire-push h e)) s
 
   -- whatever but a frame request
-  other_kept : (h : History) (e : Event) (ls : List Left) (down down' : List Frame) (k : ℕ) → is_next e ≡ false → (Calm c (income_in e) → reply_count c down' ≡ reply_count c down) → ((r : ReplyKind) → Comes c r (income_in e) → is_asked r ≡ true → hears c (past n h).wire ≡ true → open_asks c (after_event (past n h).wire e (rec n h e)) ≡ without_kind r (open_asks c (past n h).wire) → waiting_asks c (after_event (past n h).wire e (rec n h e)) ≡ waiting_asks c (past n h).wire → Going c (on_event h e) (after_event (past n h).wire e (rec n h e)) ls down' k) → (turn.Opens c (income_in e) → hears c (past n h).wire ≡ false → open_asks c (after_event (past n h).wire e (rec n h e)) ≡ open_asks c (past n h).wire → waiting_asks c (after_event (past n h).wire e (rec n h e)) ≡ waiting_asks c (past n h).wire → Going c (on_event h e) (after_event (past n h).wire e (rec n h e)) ls down' k) → At h ls down k → At (on_event h e) ls down' k
+  other_kept : (h : History) (e : Event) (ls : List Left) (down down' : List Frame) (k : ℕ) → is_next e ≡ false → (Calm c (income_in e) → reply_count c down' ≡ reply_count c down) → ((r : ReplyKind) → Comes c r (income_in e) → is_asked r ≡ true → hears c (past n h).wire ≡ true → open_asks c (after_event (past n h).wire e (rec n h e)) ≡ without_kind r (open_asks c (past n h).wire) → waiting_asks c (after_event (past n h).wire e (rec n h e)) ≡ waiting_asks c (past n h).wire → Going c (on_event h e) (after_event (past n h).wire e (rec n h e)) ls down' k) → (turn.Opens c (income_in e) → live c (past n h).wire ≡ true → hears c (past n h).wire ≡ false → open_asks c (after_event (past n h).wire e (rec n h e)) ≡ open_asks c (past n h).wire → waiting_asks c (after_event (past n h).wire e (rec n h e)) ≡ waiting_asks c (past n h).wire → Going c (on_event h e) (after_event (past n h).wire e (rec n h e)) ls down' k) → At h ls down k → At (on_event h e) ls down' k
   other_kept h e ls down down' k apart counts takes starts s =
       let b : Wire = (past n h).wire in
       to_event h e ls down' k (turn_kept c h e (rec n h e) (income_in e) b (after_event b e (rec n h e)) ls down down' k (event_turn c b (see h) e apart) (begun_kept c (handed_asks c ls ≡ []) b (after_event b e (rec n h e)) _ _ (has_effect b (see h) e apart) s.begun) counts takes starts s)
@@ -321,8 +326,61 @@ module _ (n c : ℕ) where
             count = (let count = g.count in let long = length-append g.done (m.0.answer.request ∷ []) in omega (arith, count, long, one));
           }
 
-      starts : turn.Opens c (Some (incoming_of f)) → hears c b ≡ false → open_asks c b' ≡ open_asks c b → waiting_asks c b' ≡ waiting_asks c b → Going c (on_event j.session (event.Receive f)) b' (lefts ds ++ j.up) fs (sent_in ds)
-      starts on d o w = ?
+      starts : turn.Opens c (Some (incoming_of f)) → live c b ≡ true → hears c b ≡ false → open_asks c b' ≡ open_asks c b → waiting_asks c b' ≡ waiting_asks c b → Going c (on_event j.session (event.Receive f)) b' (lefts ds ++ j.up) fs (sent_in ds)
+      starts on alive d o w =
+          let up : is_up b.link ≡ true = (and_parts (is_up b.link) (is_live (phase_of c b)) alive).0 in
+          let ok = ok_comes c f on in
+          let q = s.quiet d in
+          let none : handed_asks c (lefts ds ++ j.up) ≡ [] = s.begun alive d (unread_none up on) in
+          let t = k.way up in
+          let x = cut_at ds f fs t.0 (t.1 ∙ ap (λ v. t.0 ++ v) (on_way f fs ok.0)) in
+          let came : t.0 ≡ [] = sym x.0.came_is ∙ k.first x.0.before x.0.behind f x.0.all ok.2 in
+          let sent : sents (last_opening c ds) ≡ f ∷ filter (is_frame_on c) fs = t.1 ∙ (ap (λ v. t.0 ++ v) (on_way f fs ok.0) ∙ ap (λ v. v ++ f ∷ filter (is_frame_on c) fs) came) in
+          let calm : replies f ≡ false = ap replies_as ok.1 in
+          record {
+            done = [];
+            rest = [];
+            all = ap (λ v. v ++ waiting_asks c b') none ∙ (w ∙ q.1);
+            are = subst (AreAsks (on_event j.session (event.Receive f)) c []) (sym (o ∙ q.0)) tt;
+            count = sym (ap (λ v. length (filter replies v)) sent ∙ ap (λ v. length (cond v (f ∷ filter replies (filter (is_frame_on c) fs)) (filter replies (filter (is_frame_on c) fs)))) calm);
+          }
+
+      unread_none : is_up b.link ≡ true → income_as (incoming_of f) ≡ ToD c BOpenOk → unsent c b ≡ 0
+      unread_none up on = elim (list_any (is_open_waiting c) b.methods) as (λ v. list_any (is_open_waiting c) b.methods ≡ v → unsent c b ≡ 0) [
+        | true ↦ λ h.
+            let none : of_d c (map down_frame (f ∷ fs)) ≡ [] = k.unread up (ap (λ v. list_any (is_open_on c) j.up || v) h ∙ or_true (list_any (is_open_on c) j.up)) in
+            let front : of_d c (ToD c BOpenOk ∷ map down_frame fs) ≡ [] = ap (λ v. of_d c (v ∷ map down_frame fs)) (sym (sorted f ∙ on)) ∙ none in
+            let there : BOpenOk ∷ of_d c (map down_frame fs) ≡ [] = ap (λ v. cond v (BOpenOk ∷ of_d c (map down_frame fs)) (of_d c (map down_frame fs))) (sym (eq-eqb c c refl)) ∙ front in
+            absurd cc
+        | false ↦ λ h. many-none (is_open_waiting c) b.methods h
+      ] refl
+
+      or_true : (v : Bool) → (v || true) ≡ true
+      or_true true = refl
+      or_true false = refl
+
+  -- a loss
+  lost_down : (b : Wire) (r : Record) → is_up (after_event b event.Lost r).link ≡ false
+  lost_down b r = by (is_lost b.link) refl
+    where
+      shut : (l : ConnectionPhase) → is_lost l ≡ true → is_up l ≡ false
+      shut link.Lost h = refl
+      shut _ h = absurd cc
+
+      by : (v : Bool) → is_lost b.link ≡ v → is_up (cond v b (fallen link.Lost b)).link ≡ false
+      by true e = shut b.link e
+      by false e = refl
+
+  lost_run : (j : Joint History) (ds : List Deed) → InRun j ds → At (on_event j.session event.Lost) (lefts (ds ++ []) ++ []) [] (sent_in (ds ++ []))
+  lost_run j ds i =
+      let b' : Wire = (past n (on_event j.session event.Lost)).wire in
+      let s = calm_kept j.session event.Lost (lefts ds ++ j.up) j.down (sent_in ds) refl refl i in
+      let dead : is_up b'.link ≡ false = ap (λ (v : Wire). is_up v.link) (wire-push j.session event.Lost) ∙ lost_down (past n j.session).wire (rec n j.session event.Lost) in
+      record {
+        quiet = s.quiet;
+        begun = λ l d z. (let w : true ≡ false = sym l ∙ no_live c b' dead in absurd cc);
+        going = λ u. (let w : true ≡ false = sym (hears_live c b' u) ∙ no_live c b' dead in absurd cc);
+      }
 
   step_run : (s : Step) (j : Joint History) (ds : List Deed) → Known j ds → InRun j ds → InRun (after (by_history n) s j) (ds ++ deed_in s j)
   step_run (step.Client e) j ds k i = elim (is_lawful e) as (λ v. is_lawful e ≡ v → InRun (cond v (client (by_history n) e j) j) (ds ++ [])) [
@@ -343,4 +401,47 @@ module _ (n c : ℕ) where
       by : (fs : List Frame) → Known (record j { down = fs }) ds → At j.session (lefts ds ++ j.up) fs (sent_in ds) → InRun (deliver_first (by_history n) fs (record j { down = fs })) (ds ++ [])
       by [] q t = subst (λ v. At j.session (lefts v ++ j.up) [] (sent_in v)) (sym (append-nil ds)) t
       by (f ∷ fs) q t = subst (λ v. At (on_event j.session (event.Receive f)) (lefts v ++ j.up) fs (sent_in v)) (sym (append-nil ds)) (deliver_run j f fs ds q t)
-  step_run step.Lose j ds k i = ?
+  step_run step.Lose j ds k i = lost_run j ds i
+
+  first_run : InRun (joined_to n []) (deeds n [])
+  first_run = record { quiet = λ d. (refl, refl); begun = λ l d z. absurd cc; going = λ u. absurd (deaf (c == 0) u) }
+    where
+      deaf : (z : Bool) → receives_on (cond z state.Base state.Closed) ≡ true → ⊥
+      deaf true h = cc
+      deaf false h = cc
+
+  known : 4096 ≤ n → (c == 0) ≡ false → (ss : List Step) → Known (joined_to n ss) (deeds n ss)
+  known r z ss = record {
+    rest = (in_run n c (omega (arith, r)) ss).contents;
+    shut = λ u. (let t = in_step n r ss c u in (many-none (is_open_waiting c) (past_of n ss).wire.methods t.left, t.read));
+    unread = λ up h. (unread_at c (past_of n ss).wire (joined_to n ss).broker (joined_to n ss).up (joined_to n ss).down (pairs n ss r) up z h).1;
+    way = λ up. way_down n r ss c z up;
+    answers = λ before behind f. answers_in n ss c before behind f;
+    first = λ before behind f. first_in n ss c before behind f;
+  }
+
+  from_run : 4096 ≤ n → (c == 0) ≡ false → (pre ss : List Step) → InRun (joined_to n pre) (deeds n pre) → InRun (joined_to n (pre ++ ss)) (deeds n (pre ++ ss))
+  from_run r z pre [] i = subst (λ v. InRun (joined_to n v) (deeds n v)) (sym (append-nil pre)) i
+  from_run r z pre (s ∷ ss) i =
+      let one : InRun (joined_to n (pre ++ s ∷ [])) (deeds n (pre ++ s ∷ [])) = subst (λ v. InRun (joined_to n (pre ++ s ∷ [])) v) (sym (deeds-push n pre s)) (subst (λ j. InRun j (deeds n pre ++ deed_in s (joined_to n pre))) (sym (joined-push n pre s)) (step_run s (joined_to n pre) (deeds n pre) (known r z pre) i)) in
+      subst (λ v. InRun (joined_to n v) (deeds n v)) (append_assoc pre (s ∷ []) ss) (from_run r z (pre ++ s ∷ []) ss one)
+
+  -- in every joined run
+  pub stands_in : 4096 ≤ n → (c == 0) ≡ false → (ss : List Step) → InRun (joined_to n ss) (deeds n ss)
+  stands_in r z ss = from_run r z [] ss first_run
+
+  -- the reply that comes next in a run meets its request
+  pub reply_meets : 4096 ≤ n → (ss : List Step) (f : Frame) (fs : List Frame) (r : ReplyKind) → (joined_to n ss).down ≡ f ∷ fs → hears c (past_of n ss).wire ≡ true → IsReplyOf c (reply_number r) (channel_of f) (broker_frame f) → Meets c (joined_to n ss).session (past_of n ss).wire r f fs (last_opening c (deeds n ss))
+  reply_meets big ss f fs r down u o =
+      let z : (c == 0) ≡ false = not_zero (c == 0) u in
+      let k : Known (record (joined_to n ss) { down = f ∷ fs }) (deeds n ss) = subst (λ v. Known (record (joined_to n ss) { down = v }) (deeds n ss)) down (known big z ss) in
+      let i : At (joined_to n ss).session (lefts (deeds n ss) ++ (joined_to n ss).up) (f ∷ fs) (sent_in (deeds n ss)) = subst (λ v. At (joined_to n ss).session (lefts (deeds n ss) ++ (joined_to n ss).up) v (sent_in (deeds n ss))) down (stands_in big z ss) in
+      (meeting (joined_to n ss) (deeds n ss) f fs r k u o (i.going u)).0
+    where
+      base_deaf : (u : Bool) → receives_on (cond u state.Base state.Down) ≡ true → ⊥
+      base_deaf true h = cc
+      base_deaf false h = cc
+
+      not_zero : (v : Bool) → receives_on (cond (is_up (past_of n ss).wire.link) (cond v state.Base (channel_state (phase_of c (past_of n ss).wire))) state.Down) ≡ true → v ≡ false
+      not_zero true h = absurd (base_deaf (is_up (past_of n ss).wire.link) h)
+      not_zero false h = refl

@@ -133,7 +133,7 @@ module _ (c : ℕ) (h : History) (e : Event) (x : Record) (i : Option Incoming) 
   not_both false t f = cc
 
   -- what stands after the event, where it is known what a reply and what open-ok do
-  pub turn_kept : Turns c e x i b b' → (live c b' ≡ true → hears c b' ≡ false → unsent c b' ≡ 0 → handed_asks c ls ≡ []) → (Calm c i → reply_count c down' ≡ reply_count c down) → ((k : ReplyKind) → Comes c k i → is_asked k ≡ true → hears c b ≡ true → open_asks c b' ≡ without_kind k (open_asks c b) → waiting_asks c b' ≡ waiting_asks c b → Going c h' b' ls down' sent) → (turn.Opens c i → hears c b ≡ false → open_asks c b' ≡ open_asks c b → waiting_asks c b' ≡ waiting_asks c b → Going c h' b' ls down' sent) → Standing c h b ls down sent → Standing c h' b' ls down' sent
+  pub turn_kept : Turns c e x i b b' → (live c b' ≡ true → hears c b' ≡ false → unsent c b' ≡ 0 → handed_asks c ls ≡ []) → (Calm c i → reply_count c down' ≡ reply_count c down) → ((k : ReplyKind) → Comes c k i → is_asked k ≡ true → hears c b ≡ true → open_asks c b' ≡ without_kind k (open_asks c b) → waiting_asks c b' ≡ waiting_asks c b → Going c h' b' ls down' sent) → (turn.Opens c i → live c b ≡ true → hears c b ≡ false → open_asks c b' ≡ open_asks c b → waiting_asks c b' ≡ waiting_asks c b → Going c h' b' ls down' sent) → Standing c h b ls down sent → Standing c h' b' ls down' sent
   turn_kept (turn.Stays calm hear o w) begun counts takes starts s = record {
     quiet = λ d. (let q = s.quiet (sym hear ∙ d) in (o ∙ q.0, w ∙ q.1));
     begun = begun;
@@ -149,10 +149,10 @@ module _ (c : ℕ) (h : History) (e : Event) (x : Record) (i : Option Incoming) 
     begun = begun;
     going = λ u. takes k on a heard o w;
   }
-  turn_kept (turn.Begins on heard hear o w) begun counts takes starts s = record {
+  turn_kept (turn.Begins on alive heard hear o w) begun counts takes starts s = record {
     quiet = λ d. absurd (not_both _ hear d);
     begun = begun;
-    going = λ u. starts on heard o w;
+    going = λ u. starts on alive heard o w;
   }
   turn_kept (turn.Ends over o w) begun counts takes starts s = record {
     quiet = λ d. (o, w);

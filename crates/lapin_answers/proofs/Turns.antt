@@ -57,7 +57,7 @@ use Rattle.lapin_concord.specs.Frames.{number}
 use Rattle.lapin_concord.specs.Wires.{reply_number, is_asked}
 use Rattle.lapin_concord.specs.Incomes.{income_as}
 use Rattle.lapin_concord.proofs.Views.{phase_at, phase_with, phase_away, requests_at}
-use Rattle.lapin_effects.specs.Effects.{hears}
+use Rattle.lapin_effects.specs.Effects.{live, hears}
 use Rattle.lapin_verdicts.specs.Answers.{awaits_as, kind_asked}
 use Rattle.lapin_answers.specs.Calls.{IsCall}
 use Rattle.lapin_answers.proofs.Rows.{Row, RowOf, row_of, acker_row, IsAskFor, asked_awaits, is_reply_down}
@@ -88,19 +88,19 @@ pub record IsFresh (c : ℕ) (e : Event) (x : Record) (l : Left) (r : Request) :
   pub same : number kind ≡ reply_number (kind_of r.reply)
   pub call : (n : ℕ) → r.ticket ≡ Some n → (m : Method) × IsCall n c m e x × (l.frame ≡ frame.Method c m)
 
--- What an event does that comes to the second of each pair: whether the session hears the channel, its open requests that ask, and the
+-- What an event does on a channel with a live opening or without one, that comes to the second of each pair: whether the session hears it, its open requests that ask, and the
 -- methods that wait on it and ask.
-pub data Turn (c : ℕ) (e : Event) (x : Record) (i : Option Incoming) (u v : Bool) (rs rs' : List Request) (ws ws' : List Left) : Type 0 where
-  Stays : (calm : Calm c i) (hear : v ≡ u) (open_ : rs' ≡ rs) (waits : ws' ≡ ws) → Turn c e x i u v rs rs' ws ws'
-  Grows : (calm : Calm c i) (heard : u ≡ true) (hear : v ≡ true) (l : Left) (r : Request) (open_ : rs' ≡ rs ++ r ∷ []) (waits : ws' ≡ ws ++ l ∷ []) (fresh : IsFresh c e x l r) → Turn c e x i u v rs rs' ws ws'
-  Shrinks : (k : ReplyKind) (comes : Comes c k i) (asked : is_asked k ≡ true) (heard : u ≡ true) (hear : v ≡ true) (open_ : rs' ≡ without_kind k rs) (waits : ws' ≡ ws) → Turn c e x i u v rs rs' ws ws'
-  Begins : (opens : Opens c i) (heard : u ≡ false) (hear : v ≡ true) (open_ : rs' ≡ rs) (waits : ws' ≡ ws) → Turn c e x i u v rs rs' ws ws'
-  Ends : (over : v ≡ false) (open_ : rs' ≡ []) (waits : ws' ≡ []) → Turn c e x i u v rs rs' ws ws'
-  Sinks : (heard : u ≡ false) (over : v ≡ false) (open_ : rs ≡ [] → rs' ≡ []) (waits : ws ≡ [] → ws' ≡ []) → Turn c e x i u v rs rs' ws ws'
+pub data Turn (c : ℕ) (e : Event) (x : Record) (i : Option Incoming) (alive u v : Bool) (rs rs' : List Request) (ws ws' : List Left) : Type 0 where
+  Stays : (calm : Calm c i) (hear : v ≡ u) (open_ : rs' ≡ rs) (waits : ws' ≡ ws) → Turn c e x i alive u v rs rs' ws ws'
+  Grows : (calm : Calm c i) (heard : u ≡ true) (hear : v ≡ true) (l : Left) (r : Request) (open_ : rs' ≡ rs ++ r ∷ []) (waits : ws' ≡ ws ++ l ∷ []) (fresh : IsFresh c e x l r) → Turn c e x i alive u v rs rs' ws ws'
+  Shrinks : (k : ReplyKind) (comes : Comes c k i) (asked : is_asked k ≡ true) (heard : u ≡ true) (hear : v ≡ true) (open_ : rs' ≡ without_kind k rs) (waits : ws' ≡ ws) → Turn c e x i alive u v rs rs' ws ws'
+  Begins : (opens : Opens c i) (lives : alive ≡ true) (heard : u ≡ false) (hear : v ≡ true) (open_ : rs' ≡ rs) (waits : ws' ≡ ws) → Turn c e x i alive u v rs rs' ws ws'
+  Ends : (over : v ≡ false) (open_ : rs' ≡ []) (waits : ws' ≡ []) → Turn c e x i alive u v rs rs' ws ws'
+  Sinks : (heard : u ≡ false) (over : v ≡ false) (open_ : rs ≡ [] → rs' ≡ []) (waits : ws ≡ [] → ws' ≡ []) → Turn c e x i alive u v rs rs' ws ws'
 
 -- the same of a session's states and lists
 abbrev pub Turns : ℕ → Event → Record → Option Incoming → Wire → Wire → Type 0
-Turns c e x i b b' = Turn c e x i (hears c b) (hears c b') (open_asks c b) (open_asks c b') (waiting_asks c b) (waiting_asks c b')
+Turns c e x i b b' = Turn c e x i (live c b) (hears c b) (hears c b') (open_asks c b) (open_asks c b') (waiting_asks c b) (waiting_asks c b')
 
 -- ---- states
 

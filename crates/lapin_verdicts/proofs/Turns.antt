@@ -183,7 +183,7 @@ turn_place c ms xs h b =
 
 -- ---- outcomes
 
-life-append : {X : Type 0} (p : X → Bool) (n : ℕ) (xs ys : List X) → n < many p xs → rest_after p n (xs ++ ys) ≡ rest_after p n xs ++ ys
+pub life-append : {X : Type 0} (p : X → Bool) (n : ℕ) (xs ys : List X) → n < many p xs → rest_after p n (xs ++ ys) ≡ rest_after p n xs ++ ys
 life-append p n [] ys h = let z : ⊥ = omega (arith, h) in absurd z
 life-append p zero (x ∷ xs) ys h = elim (p x) as (λ b. zero < cond b (many p xs + 1) (many p xs) → cond b (xs ++ ys) (rest_after p zero (xs ++ ys)) ≡ cond b xs (rest_after p zero xs) ++ ys) [ true ↦ λ _. refl | false ↦ λ e. life-append p zero xs ys e ] h
 life-append p (suc n) (x ∷ xs) ys h = elim (p x) as (λ b. suc n < cond b (many p xs + 1) (many p xs) → cond b (rest_after p n (xs ++ ys)) (rest_after p (suc n) (xs ++ ys)) ≡ cond b (rest_after p n xs) (rest_after p (suc n) xs) ++ ys) [ true ↦ λ e. life-append p n xs ys (omega (arith, e)) | false ↦ λ e. life-append p (suc n) xs ys e ] h
