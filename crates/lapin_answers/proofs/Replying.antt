@@ -44,7 +44,8 @@ use Rattle.lapin_concord.specs.Refusals.{is_refusal}
 use Rattle.lapin_concord.specs.Wires.{reply_number, is_asked}
 use Rattle.lapin_concord.specs.Incomes.{income_as}
 use Rattle.lapin_effects.specs.Effects.{hears}
-use Rattle.lapin_verdicts.specs.Answers.{replies, IsReplied}
+use Rattle.lapin_verdicts.specs.Answers.{replies}
+use Rattle.lapin_answers.specs.Replies.{IsReplied}
 use Rattle.lapin_verdicts.specs.Deeds.{deeds, last_opening, sents}
 use Rattle.lapin_verdicts.specs.InStep.{is_frame_on}
 use Rattle.lapin_verdicts.specs.Session.{past_of}

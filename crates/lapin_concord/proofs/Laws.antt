@@ -28,7 +28,7 @@ pub none_refused : (n : ℕ) (ts : List Step) → 4096 ≤ n → list_any report
 none_refused n ts r = ap (list_any reports_refusal) (sym (reports_joined n ts)) ∙ no_refusals ts (new_joint (new_world n) n) (new_sound n r)
 
 -- the tags of one opening
-pub tags_in : (n : ℕ) (ts : List Step) (k l t : ℕ) → has_left k (confirms_in n ts) ≡ true → has_left l (confirms_in n ts) ≡ true → channel_of_publish k (confirms_in n ts) ≡ channel_of_publish l (confirms_in n ts) → opening_of (channel_of_publish k (confirms_in n ts)) k (confirms_in n ts) ≡ opening_of (channel_of_publish l (confirms_in n ts)) l (confirms_in n ts) → tag_of_publish k (confirms_in n ts) ≡ Some t → tag_of_publish l (confirms_in n ts) ≡ Some t → k ≡ l
+pub tags_in : (n : ℕ) (ts : List Step) (k l t : ℕ) → has_left k (confirms_in n ts) ≡ true → has_left l (confirms_in n ts) ≡ true → channel_of_publish k (confirms_in n ts) ≡ channel_of_publish l (confirms_in n ts) → opening_of k (confirms_in n ts) ≡ opening_of l (confirms_in n ts) → tag_of_publish k (confirms_in n ts) ≡ Some t → tag_of_publish l (confirms_in n ts) ≡ Some t → k ≡ l
 tags_in n ts k l t =
     let a = alike_run n ts (new_joint [] n) (new_joint (new_world n) n) refl (new_alike n) in
     tags_differ k l t (confirms_in n ts) a.session.confirms.post.came

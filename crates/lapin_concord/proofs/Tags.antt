@@ -204,7 +204,7 @@ second_differs n t ms us vs ws x y came is l o a b =
     let longer : us ++ x ∷ (vs ++ y ∷ []) ≡ (us ++ x ∷ []) ++ (vs ++ y ∷ []) = sym (append_assoc us (x ∷ []) (vs ++ y ∷ [])) in
     later_greater (channel_of n ms) t (us ++ x ∷ []) vs y here (o ∙ ap (many (begins (channel_of n ms))) longer) a (ap (tag_on (channel_of n ms)) (sym longer) ∙ b)
 
-pub tags_differ : (m n t : ℕ) (ms : List ConfirmMark) → CameAfter [] ms → has_left m ms ≡ true → has_left n ms ≡ true → channel_of m ms ≡ channel_of n ms → opening_of (channel_of m ms) m ms ≡ opening_of (channel_of n ms) n ms → tag_of m ms ≡ Some t → tag_of n ms ≡ Some t → m ≡ n
+pub tags_differ : (m n t : ℕ) (ms : List ConfirmMark) → CameAfter [] ms → has_left m ms ≡ true → has_left n ms ≡ true → channel_of m ms ≡ channel_of n ms → opening_of m ms ≡ opening_of n ms → tag_of m ms ≡ Some t → tag_of n ms ≡ Some t → m ≡ n
 tags_differ m n t ms came hm hn c o a b = by_order (order (leaves m) (leaves n) ms hm hn)
   where
     both : (x : ConfirmMark) → leaves m x ≡ true → leaves n x ≡ true → m ≡ n

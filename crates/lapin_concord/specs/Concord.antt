@@ -20,5 +20,5 @@ IsUnbroken frame_max steps = is_broken (joined_to frame_max steps).broker.connec
 -- publishes that left on one channel, in the same opening of it and with the same tag, are one publish
 abbrev pub DifferByTags : List ConfirmMark → Type 0
 DifferByTags ms = (one other tag : ℕ) → has_left one ms ≡ true → has_left other ms ≡ true → channel_of one ms ≡ channel_of other ms
-    → opening_of (channel_of one ms) one ms ≡ opening_of (channel_of other ms) other ms
+    → opening_of one ms ≡ opening_of other ms
     → tag_of one ms ≡ Some tag → tag_of other ms ≡ Some tag → one ≡ other

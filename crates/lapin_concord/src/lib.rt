@@ -31,7 +31,7 @@ pub fn tags_of_an_opening_differ()
     ensures { (frame_max : ℕ) (steps : List AStep) (one other tag : ℕ) →
         has_left one (confirms_in frame_max steps) ≡ true → has_left other (confirms_in frame_max steps) ≡ true →
         channel_of one (confirms_in frame_max steps) ≡ channel_of other (confirms_in frame_max steps) →
-        opening_of (channel_of one (confirms_in frame_max steps)) one (confirms_in frame_max steps) ≡ opening_of (channel_of other (confirms_in frame_max steps)) other (confirms_in frame_max steps) →
+        opening_of one (confirms_in frame_max steps) ≡ opening_of other (confirms_in frame_max steps) →
         tag_of one (confirms_in frame_max steps) ≡ Some tag → tag_of other (confirms_in frame_max steps) ≡ Some tag → one ≡ other }
 {}
 

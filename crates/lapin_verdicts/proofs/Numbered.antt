@@ -28,7 +28,8 @@ use Rattle.lapin_joint.specs.declared.step.Step.TheVariants as step
 use Rattle.lapin_joint.specs.Joint.{Joint, is_lawful, joined_to}
 use Rattle.lapin_verdicts.specs.Deeds.{deed_in}
 use Rattle.lapin_verdicts.specs.Publishes.{Message}
-use Rattle.lapin_verdicts.specs.Verdicts.{at_place, messages_in, opening_of}
+use Rattle.lapin_concord.specs.Openings.{opening_of}
+use Rattle.lapin_verdicts.specs.Verdicts.{at_place, messages_in}
 use Rattle.lapin_verdicts.specs.InStep.{is_open_waiting}
 use Rattle.lapin_verdicts.specs.Session.{IsPending, Numbers, AreNumbered, IsOldOrNext, past_of, handed_frames, whole_tally}
 use Rattle.lapin_verdicts.proofs.Marks.{pending_back, channel-append, through-append, many-append}

@@ -26,7 +26,8 @@ use Rattle.lapin_joint.specs.Joint.{Joint, after as after_step, joined_to, is_la
 use Rattle.lapin_machine.specs.Way.{by_history}
 use Rattle.lapin_verdicts.specs.Deeds.{Deed, Sent, opens, until, on_channel, is_on, opening, joined_opening, last_opening, deeds, deed_in}
 use Rattle.lapin_verdicts.specs.Publishes.{Message}
-use Rattle.lapin_verdicts.specs.Verdicts.{at_place, opening_of, messages_in, message_by, IsVerdict}
+use Rattle.lapin_concord.specs.Openings.{opening_of}
+use Rattle.lapin_verdicts.specs.Verdicts.{at_place, messages_in, message_by, IsVerdict}
 use Rattle.lapin_verdicts.specs.InStep.{InStep}
 use Rattle.lapin_verdicts.specs.Session.{IsPending, Numbers, past_of}
 use Rattle.lapin_verdicts.proofs.Marks.{after-append, through-append, channel-append, tag-append, settled-append, only_settled, is_settlement, outcome_left, no_failure}

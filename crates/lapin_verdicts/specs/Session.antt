@@ -17,7 +17,8 @@ use Rattle.lapin_joint.specs.Joint.{joined_to}
 use Rattle.lapin_verdicts.specs.Deeds.{deeds, deed_in, reads, is_open}
 use Rattle.lapin_verdicts.specs.InStep.{is_open_waiting}
 use Rattle.lapin_verdicts.specs.Publishes.{Message, Tally, no_tally, tally_after}
-use Rattle.lapin_verdicts.specs.Verdicts.{at_place, messages_in, opening_of}
+use Rattle.lapin_concord.specs.Openings.{opening_of}
+use Rattle.lapin_verdicts.specs.Verdicts.{at_place, messages_in}
 
 -- publish k of channel c is pending with tag t
 pub record IsPending (c k t : ℕ) (ms : List ConfirmMark) : Type 0 where

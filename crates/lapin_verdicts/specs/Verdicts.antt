@@ -1,7 +1,6 @@
 -- What a confirm that is resolved as Ack or Nack says of the broker: which publish it read whole, and which settlement it sent.
 use Rattle.std.specs.Prelude.{◌≡◌, ℕ, zero, suc, Bool, true, false, List, [], ◌∷◌, ◌++◌, Option, Some, None}
 use Rattle.std.specs.List.{list_any}
-use Rattle.lapin_history.specs.Words.{many, through}
 use Rattle.lapin_types.specs.declared.event.Event.{Event}
 use Rattle.lapin_types.specs.declared.event.Event.TheVariants as event
 use Rattle.lapin_types.specs.declared.record.Record.{Record}
@@ -19,7 +18,7 @@ use Rattle.lapin_history.specs.declared.marks.SettleKind.{SettleKind}
 use Rattle.lapin_history.specs.declared.marks.SettleKind.TheVariants as settle
 use Rattle.lapin_history.specs.Incoming.{settlement}
 use Rattle.lapin_history.specs.ConfirmMarks.{ConfirmMark}
-use Rattle.lapin_history.specs.ConfirmReadings.{begins, leaves, channel_of, covers}
+use Rattle.lapin_history.specs.ConfirmReadings.{covers}
 use Rattle.lapin_verdicts.specs.Deeds.{Deed, Sent, reads, sents}
 use Rattle.lapin_verdicts.specs.Publishes.{Message, tally}
 
@@ -31,12 +30,6 @@ at_place n [] = None
 at_place zero (x ∷ xs) = None
 at_place (suc zero) (x ∷ xs) = Some x
 at_place (suc (suc n)) (x ∷ xs) = at_place (suc n) xs
-
--- ---- which opening a publish is of
-
--- the method frame of publish n left in the k-th opening of its channel: this is k
-abbrev pub opening_of : ℕ → List ConfirmMark → ℕ
-opening_of n ms = many (begins (channel_of n ms)) (through (leaves n) ms)
 
 -- ---- the messages of the accepted publishes, in the order of their numbers
 

@@ -8,7 +8,8 @@ ghost use Rattle.lapin_joint.specs.declared.step.Step.{Step as AStep};
 ghost use Rattle.lapin_joint.specs.Joint.{joined_to};
 ghost use Rattle.lapin_verdicts.specs.Deeds.{deeds, last_opening, opening};
 ghost use Rattle.lapin_verdicts.specs.Publishes.{Message};
-ghost use Rattle.lapin_verdicts.specs.Verdicts.{at_place, messages_in, opening_of, IsVerdict};
+ghost use Rattle.lapin_concord.specs.Openings.{opening_of};
+ghost use Rattle.lapin_verdicts.specs.Verdicts.{at_place, messages_in, IsVerdict};
 ghost use Rattle.lapin_verdicts.specs.InStep.{InStep};
 ghost use Rattle.lapin_verdicts.specs.Session.{IsPending, Numbers, past_of};
 

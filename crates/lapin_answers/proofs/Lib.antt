@@ -1,0 +1,12 @@
+pub mod Rows
+pub mod Lists
+pub mod Turns
+pub mod Heard
+pub mod Happens
+pub mod Standing
+pub mod Lets
+pub mod Answered
+pub mod Running
+pub mod Tickets
+pub mod Received
+pub mod Replying
