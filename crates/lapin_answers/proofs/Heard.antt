@@ -54,7 +54,7 @@ use Rattle.lapin_pairs.specs.Channel.{BOpenOk, BReply}
 use Rattle.lapin_pairs.specs.Every.{ToD}
 use Rattle.lapin_concord.specs.Wires.{reply_number, is_asked}
 use Rattle.lapin_concord.specs.Incomes.{income_as}
-use Rattle.lapin_concord.proofs.Views.{phase_at, requests_at, requests_on_away}
+use Rattle.lapin_concord.proofs.Views.{phase_at, requests_at, requests_on_away, contents_on_here}
 use Rattle.lapin_effects.specs.Effects.{live, hears}
 use Rattle.lapin_verdicts.specs.Answers.{awaits_as}
 use Rattle.lapin_answers.proofs.Rows.{is_reply_down, asked_comes, other_comes}
@@ -84,7 +84,7 @@ module _ (c : ℕ) (e : Event) (x : Record) (class number : ℕ) where
 
   -- a frame that no rule hears ends everything
   unreceived : (b : Wire) (i : Incoming) → Hears c e x b i no
-  unreceived b i = Ends refl refl (waits_same c [] (note 0 (unexpected_close class number)) (quiet_ask c (note 0 (unexpected_close class number)) refl))
+  unreceived b i = Ends refl refl (waits_same c [] (note 0 (unexpected_close class number)) (quiet_ask c (note 0 (unexpected_close class number)) refl)) refl
 
   received_if : (t : Bool) (b : Wire) (i : Incoming) → (t ≡ true → Hears c e x b i record_.Received) → Hears c e x b i (when t no)
   received_if true b i h = h refl
@@ -219,7 +219,8 @@ module _ (c : ℕ) (e : Event) (x : Record) (class number : ℕ) where
         | inl y ↦ subst (λ v. Turns c e x (Some (incoming.ChannelClose d code)) b (after_channel_close v (phase_of v b) b)) (sym y.1) (Ends
             (hear_here c (after_broker_close (phase_of c b)) b (after_channel_close c (phase_of c b) b) up refl refl ∙ over_deaf (c == 0) (phase_of c b))
             (ended_here c (phase_of c b) b.requests)
-            (waits_same c (filter (is_off method_channel c) b.methods) (note c (method.Channel channel.CloseOk)) (quiet_ask c (note c (method.Channel channel.CloseOk)) refl) ∙ waits_gone c b.methods))
+            (waits_same c (filter (is_off method_channel c) b.methods) (note c (method.Channel channel.CloseOk)) (quiet_ask c (note c (method.Channel channel.CloseOk)) refl) ∙ waits_gone c b.methods)
+            (contents_on_here c (λ _. []) b.contents refl))
         | inr n ↦ Stays refl (hear_away c d (after_broker_close (phase_of d b)) b b' refl refl n.0)
             (ap (filter asks) (requests_on_away d c (kept_at (phase_of d b)) b.requests n.0))
             (waits_same c (filter (is_off method_channel d) b.methods) (note d (method.Channel channel.CloseOk)) (quiet_ask c (note d (method.Channel channel.CloseOk)) refl) ∙ waits_away d c b.methods n.0)
@@ -234,7 +235,8 @@ module _ (c : ℕ) (e : Event) (x : Record) (class number : ℕ) where
     | inl y ↦ subst (λ v. Turns c e x (Some (incoming.ChannelCloseOk d)) b (after_close_ok v (phase.Closing who sent) b)) (sym y.1) (Ends
         (hear_here c phase.Closed b (after_close_ok c (phase.Closing who sent) b) up refl refl ∙ closed_deaf (c == 0))
         (ended_none c b.requests)
-        (waits_gone c b.methods))
+        (waits_gone c b.methods)
+        (contents_on_here c (λ _. []) b.contents refl))
     | inr n ↦ Stays refl (hear_away c d phase.Closed b (after_close_ok d (phase.Closing who sent) b) refl refl n.0)
         (ap (filter asks) (requests_on_away d c no_requests b.requests n.0))
         (waits_away d c b.methods n.0)
@@ -284,7 +286,7 @@ module _ (c : ℕ) (e : Event) (x : Record) (class number : ℕ) where
   -- ---- all frames
 
   fell : (i : Incoming) (b : Wire) → Turns c e x (Some i) b (noted 0 (method.Connection connection.CloseOk) (down link.Closed b))
-  fell i b = Ends refl refl (waits_same c [] (note 0 (method.Connection connection.CloseOk)) (quiet_ask c (note 0 (method.Connection connection.CloseOk)) refl))
+  fell i b = Ends refl refl (waits_same c [] (note 0 (method.Connection connection.CloseOk)) (quiet_ask c (note 0 (method.Connection connection.CloseOk)) refl)) refl
 
   up_receives : (b : Wire) (readings : Readings) (i : Incoming) → b.link ≡ link.Open → Hears c e x b i (incoming_up b readings no i)
   up_receives b readings (incoming.Reply d k a) up = received_if (receives_reply d k b) b (incoming.Reply d k a) (λ h. reply_receives d k a b up h)
@@ -338,7 +340,7 @@ module _ (c : ℕ) (e : Event) (x : Record) (class number : ℕ) where
 pub lost_turn : (c : ℕ) (e : Event) (x : Record) (b : Wire) → Turns c e x None b (after_lost b)
 lost_turn c e x b = elim (is_lost b.link) as (λ t. is_lost b.link ≡ t → Turns c e x None b (cond t b (down link.Lost b))) [
   | true ↦ λ h. Sinks (hears_down c b (lost_down b.link h)) (hears_down c b (lost_down b.link h)) (λ v. v) (λ v. v)
-  | false ↦ λ h. Ends refl refl refl
+  | false ↦ λ h. Ends refl refl refl refl
 ] refl
   where
     lost_down : (l : ConnectionPhase) → is_lost l ≡ true → is_up l ≡ false

@@ -80,7 +80,7 @@ pub record Standing (c : ℕ) (h : History) (b : Wire) (ls : List Left) (down : 
 
 -- ---- a history goes on
 
-call_more : (n c : ℕ) (m : Method) (h : History) (e : Event) (x : Record) → IsCallOf n c m h → IsCallOf n c m (h ++ (e, x) ∷ [])
+pub call_more : (n c : ℕ) (m : Method) (h : History) (e : Event) (x : Record) → IsCallOf n c m h → IsCallOf n c m (h ++ (e, x) ∷ [])
 call_more n c m h e x k = record { before = k.before; behind = k.behind ++ (e, x) ∷ []; event = k.event; told = k.told; all = ap (λ v. v ++ (e, x) ∷ []) k.all ∙ append_assoc k.before ((k.event, k.told) ∷ k.behind) ((e, x) ∷ []); is = k.is }
 
 call_last : (n c : ℕ) (m : Method) (h : History) (e : Event) (x : Record) → IsCall n c m e x → IsCallOf n c m (h ++ (e, x) ∷ [])
@@ -154,7 +154,7 @@ module _ (c : ℕ) (h : History) (e : Event) (x : Record) (i : Option Incoming) 
     begun = begun;
     going = λ u. starts on alive heard o w;
   }
-  turn_kept (turn.Ends over o w) begun counts takes starts s = record {
+  turn_kept (turn.Ends over o w es) begun counts takes starts s = record {
     quiet = λ d. (o, w);
     begun = begun;
     going = λ u. absurd (not_both _ u over);

@@ -46,6 +46,8 @@ use Rattle.lapin_history.specs.Asking.{is_allowed, is_held, is_outstanding, aske
 use Rattle.lapin_history.specs.Ackers.{acker_method, acked_wire}
 use Rattle.lapin_history.specs.Consumers.{lets_go_of, cancel_noted, after_let_go, let_go_cancel}
 use Rattle.lapin_history.specs.Readings.{Readings}
+use Rattle.lapin_content.specs.Contents.{Expected}
+use Rattle.lapin_content.specs.Channels.{expected_on}
 use Rattle.lapin_consumer.specs.Roster.{Consumer, is_idle}
 use Rattle.lapin_broker.specs.declared.request.RequestKind.{RequestKind}
 use Rattle.lapin_broker.specs.declared.request.RequestKind.TheVariants as kind
@@ -89,18 +91,18 @@ pub record IsFresh (c : ℕ) (e : Event) (x : Record) (l : Left) (r : Request) :
   pub call : (n : ℕ) → r.ticket ≡ Some n → (m : Method) × IsCall n c m e x × (l.frame ≡ frame.Method c m)
 
 -- What an event does on a channel with a live opening or without one, that comes to the second of each pair: whether the session hears it, its open requests that ask, and the
--- methods that wait on it and ask.
-pub data Turn (c : ℕ) (e : Event) (x : Record) (i : Option Incoming) (alive u v : Bool) (rs rs' : List Request) (ws ws' : List Left) : Type 0 where
-  Stays : (calm : Calm c i) (hear : v ≡ u) (open_ : rs' ≡ rs) (waits : ws' ≡ ws) → Turn c e x i alive u v rs rs' ws ws'
-  Grows : (calm : Calm c i) (heard : u ≡ true) (hear : v ≡ true) (l : Left) (r : Request) (open_ : rs' ≡ rs ++ r ∷ []) (waits : ws' ≡ ws ++ l ∷ []) (fresh : IsFresh c e x l r) → Turn c e x i alive u v rs rs' ws ws'
-  Shrinks : (k : ReplyKind) (comes : Comes c k i) (asked : is_asked k ≡ true) (heard : u ≡ true) (hear : v ≡ true) (open_ : rs' ≡ without_kind k rs) (waits : ws' ≡ ws) → Turn c e x i alive u v rs rs' ws ws'
-  Begins : (opens : Opens c i) (lives : alive ≡ true) (heard : u ≡ false) (hear : v ≡ true) (open_ : rs' ≡ rs) (waits : ws' ≡ ws) → Turn c e x i alive u v rs rs' ws ws'
-  Ends : (over : v ≡ false) (open_ : rs' ≡ []) (waits : ws' ≡ []) → Turn c e x i alive u v rs rs' ws ws'
-  Sinks : (heard : u ≡ false) (over : v ≡ false) (open_ : rs ≡ [] → rs' ≡ []) (waits : ws ≡ [] → ws' ≡ []) → Turn c e x i alive u v rs rs' ws ws'
+-- methods that wait on it and ask. What ends an opening drops the contents that were expected.
+pub data Turn (c : ℕ) (e : Event) (x : Record) (i : Option Incoming) (alive u v : Bool) (rs rs' : List Request) (ws ws' : List Left) (es' : List Expected) : Type 0 where
+  Stays : (calm : Calm c i) (hear : v ≡ u) (open_ : rs' ≡ rs) (waits : ws' ≡ ws) → Turn c e x i alive u v rs rs' ws ws' es'
+  Grows : (calm : Calm c i) (heard : u ≡ true) (hear : v ≡ true) (l : Left) (r : Request) (open_ : rs' ≡ rs ++ r ∷ []) (waits : ws' ≡ ws ++ l ∷ []) (fresh : IsFresh c e x l r) → Turn c e x i alive u v rs rs' ws ws' es'
+  Shrinks : (k : ReplyKind) (comes : Comes c k i) (asked : is_asked k ≡ true) (heard : u ≡ true) (hear : v ≡ true) (open_ : rs' ≡ without_kind k rs) (waits : ws' ≡ ws) → Turn c e x i alive u v rs rs' ws ws' es'
+  Begins : (opens : Opens c i) (lives : alive ≡ true) (heard : u ≡ false) (hear : v ≡ true) (open_ : rs' ≡ rs) (waits : ws' ≡ ws) → Turn c e x i alive u v rs rs' ws ws' es'
+  Ends : (over : v ≡ false) (open_ : rs' ≡ []) (waits : ws' ≡ []) (dropped : es' ≡ []) → Turn c e x i alive u v rs rs' ws ws' es'
+  Sinks : (heard : u ≡ false) (over : v ≡ false) (open_ : rs ≡ [] → rs' ≡ []) (waits : ws ≡ [] → ws' ≡ []) → Turn c e x i alive u v rs rs' ws ws' es'
 
 -- the same of a session's states and lists
 abbrev pub Turns : ℕ → Event → Record → Option Incoming → Wire → Wire → Type 0
-Turns c e x i b b' = Turn c e x i (live c b) (hears c b) (hears c b') (open_asks c b) (open_asks c b') (waiting_asks c b) (waiting_asks c b')
+Turns c e x i b b' = Turn c e x i (live c b) (hears c b) (hears c b') (open_asks c b) (open_asks c b') (waiting_asks c b) (waiting_asks c b') (expected_on c b'.contents)
 
 -- ---- states
 
@@ -209,7 +211,7 @@ row_turn c d k m (answered.AsItLeaves l) b is up al f = Stays tt refl refl (wait
 accepted_turn : (c d : ℕ) (k : Call) (a : Asked) (b : Wire) → asked k ≡ a → b.link ≡ link.Open → is_allowed a (At (d == 0) (phase_of d b)) ≡ true → RowOf d a → Turns c (event.Call d k) (accepted_record a b) None b (after_call d a b)
 accepted_turn c d k ask.Open b is up al f = opens_turn c d (event.Call d k) _ b up al
 accepted_turn c d k (ask.CloseChannel code text) b is up al f = Stays tt (moved_turn c d (phase.Closing closer.Application false) b (after_call d (ask.CloseChannel code text) b) up refl refl al refl) (with_other c d (wanted (Some (b.tickets + 1)) reply.ChannelCloseOk) b.requests refl) (waits_same c b.methods (entry d (own_close code text) (Some (b.tickets + 1))) (quiet_ask c (entry d (own_close code text) (Some (b.tickets + 1))) refl))
-accepted_turn c d k (ask.CloseConnection code text) b is up al f = Ends refl (lone_none c d (wanted (Some (b.tickets + 1)) reply.ConnectionCloseOk) refl) (waits_same c [] (entry d (own_connection_close code text) (Some (b.tickets + 1))) (quiet_ask c (entry d (own_connection_close code text) (Some (b.tickets + 1))) (close_quiet d code text)))
+accepted_turn c d k (ask.CloseConnection code text) b is up al f = Ends refl (lone_none c d (wanted (Some (b.tickets + 1)) reply.ConnectionCloseOk) refl) (waits_same c [] (entry d (own_connection_close code text) (Some (b.tickets + 1))) (quiet_ask c (entry d (own_connection_close code text) (Some (b.tickets + 1))) (close_quiet d code text))) refl
 accepted_turn c d k (ask.Publish exchange key o payload properties) b is up al f = Stays tt refl refl refl
 accepted_turn c d k (ask.Consume m tag queue o) b is up al f = Stays tt refl refl (waits_same c b.methods (entry d m (Some (b.tickets + 1))) (quiet_ask c (entry d m (Some (b.tickets + 1))) f))
 accepted_turn c d k (ask.Limit limit) b is up al f = Stays tt refl refl refl
