@@ -43,19 +43,19 @@ joined_asks c o l on = by (is_open l.frame) (awaits l) refl refl
 
 folds : (c : ℕ) (o ds : List Deed) → fold (next_ask c) (requests_in o) (lefts ds) ≡ requests_in (fold joined_opening o (on_channel c ds))
 folds c o [] = refl
-folds c o (Read l ∷ ds) = by (channel_of l.frame == c) refl
+folds c o (Read l ∷ ds) = by (folds c (joined_opening o (Read l)) ds) (folds c o ds) (channel_of l.frame == c) refl
   where
-    by : (v : Bool) → (channel_of l.frame == c) ≡ v → fold (next_ask c) (next_ask c (requests_in o) l) (lefts ds) ≡ requests_in (fold joined_opening o (cond (channel_of l.frame == c) (Read l ∷ on_channel c ds) (on_channel c ds)))
-    by true e = ap (λ v. fold (next_ask c) v (lefts ds)) (sym (joined_asks c o l e)) ∙ (folds c (joined_opening o (Read l)) ds ∙ ap (λ v. requests_in (fold joined_opening o (cond v (Read l ∷ on_channel c ds) (on_channel c ds)))) (sym e))
-    by false e = ap (λ v. fold (next_ask c) (cond v (cond (is_open l.frame) [] (cond (awaits l) (requests_in o ++ l ∷ []) (requests_in o))) (requests_in o)) (lefts ds)) e ∙ (folds c o ds ∙ ap (λ v. requests_in (fold joined_opening o (cond v (Read l ∷ on_channel c ds) (on_channel c ds)))) (sym e))
-folds c o (Sent f ∷ ds) = by (channel_of f == c)
+    by : fold (next_ask c) (requests_in (joined_opening o (Read l))) (lefts ds) ≡ requests_in (fold joined_opening (joined_opening o (Read l)) (on_channel c ds)) → fold (next_ask c) (requests_in o) (lefts ds) ≡ requests_in (fold joined_opening o (on_channel c ds)) → (v : Bool) → (channel_of l.frame == c) ≡ v → fold (next_ask c) (next_ask c (requests_in o) l) (lefts ds) ≡ requests_in (fold joined_opening o (cond (channel_of l.frame == c) (Read l ∷ on_channel c ds) (on_channel c ds)))
+    by here there true e = ap (λ v. fold (next_ask c) v (lefts ds)) (sym (joined_asks c o l e)) ∙ (here ∙ ap (λ v. requests_in (fold joined_opening o (cond v (Read l ∷ on_channel c ds) (on_channel c ds)))) (sym e))
+    by here there false e = ap (λ v. fold (next_ask c) (cond v (cond (is_open l.frame) [] (cond (awaits l) (requests_in o ++ l ∷ []) (requests_in o))) (requests_in o)) (lefts ds)) e ∙ (there ∙ ap (λ v. requests_in (fold joined_opening o (cond v (Read l ∷ on_channel c ds) (on_channel c ds)))) (sym e))
+folds c o (Sent f ∷ ds) = by (folds c (o ++ Sent f ∷ []) ds) (folds c o ds) (channel_of f == c)
   where
     same : requests_in (o ++ Sent f ∷ []) ≡ requests_in o
     same = requests-append o (Sent f ∷ []) ∙ append-nil (requests_in o)
 
-    by : (v : Bool) → fold (next_ask c) (requests_in o) (lefts ds) ≡ requests_in (fold joined_opening o (cond v (Sent f ∷ on_channel c ds) (on_channel c ds)))
-    by true = ap (λ v. fold (next_ask c) v (lefts ds)) (sym same) ∙ folds c (o ++ Sent f ∷ []) ds
-    by false = folds c o ds
+    by : fold (next_ask c) (requests_in (o ++ Sent f ∷ [])) (lefts ds) ≡ requests_in (fold joined_opening (o ++ Sent f ∷ []) (on_channel c ds)) → fold (next_ask c) (requests_in o) (lefts ds) ≡ requests_in (fold joined_opening o (on_channel c ds)) → (v : Bool) → fold (next_ask c) (requests_in o) (lefts ds) ≡ requests_in (fold joined_opening o (cond v (Sent f ∷ on_channel c ds) (on_channel c ds)))
+    by here there true = ap (λ v. fold (next_ask c) v (lefts ds)) (sym same) ∙ here
+    by here there false = there
 
 -- those that the broker read are the requests of its last opening
 read_asks : (c : ℕ) (ds : List Deed) → handed_asks c (lefts ds) ≡ requests_in (last_opening c ds)

@@ -5,6 +5,7 @@ use Rattle.std.proofs.lemmas.Bool.{and_parts}
 use Rattle.std.proofs.lemmas.Bool.Decides.{eqb_tells}
 use Rattle.std.proofs.lemmas.List.Sums.{fold-append}
 use Rattle.std.proofs.lemmas.List.Elements.{filter-append}
+use Rattle.lapin_types.specs.declared.answer.Answer.TheVariants as answer
 use Rattle.lapin_types.specs.declared.event.Event.{Event}
 use Rattle.lapin_types.specs.declared.event.Event.TheVariants as event
 use Rattle.lapin_types.specs.declared.leaving.Left.{Left}
@@ -44,6 +45,15 @@ use Rattle.lapin_answers.proofs.Standing.{call_more}
 
 -- ---- which frames are of a content
 
+-- a reply that brings a message
+abbrev pub brings_message : Incoming → Bool
+brings_message (incoming.Reply c k (answer.Got (Some m))) = true
+brings_message _ = false
+
+-- it is of no content, and no reply brings a message but with a content
+abbrev pub IsQuiet : ℕ → Incoming → Type 0
+IsQuiet c i = (is_content_on c i ≡ false) × (brings_message i ≡ false)
+
 -- a frame of the broker: a header, a body, get-ok, the start of another content, or none of a content
 pub data Kind (f : Frame) : Type 0 where
   AsHeader : (d : ℕ) (h : ContentHeader) (is : f ≡ frame.Header d h) → Kind f
@@ -51,47 +61,47 @@ pub data Kind (f : Frame) : Type 0 where
   AsGetOk : (d tag : ℕ) (redelivered : Bool) (exchange key : List ℕ) (count : ℕ) (is : f ≡ frame.Method d (method.Basic (basic.GetOk tag redelivered exchange key count))) → Kind f
   AsDeliver : (d : ℕ) (tag : List ℕ) (number : ℕ) (redelivered : Bool) (exchange key : List ℕ) (is : f ≡ frame.Method d (method.Basic (basic.Deliver tag number redelivered exchange key))) → Kind f
   AsReturn : (d code : ℕ) (text exchange key : List ℕ) (is : f ≡ frame.Method d (method.Basic (basic.Return code text exchange key))) → Kind f
-  AsOther : (none : start_in f ≡ None) (quiet : (c : ℕ) → is_content_on c (incoming_of f) ≡ false) (method_ : (d : ℕ) × (m : Method) × (f ≡ frame.Method d m)) → Kind f
+  AsOther : (none : start_in f ≡ None) (quiet : (c : ℕ) → IsQuiet c (incoming_of f)) (method_ : (d : ℕ) × (m : Method) × (f ≡ frame.Method d m)) → Kind f
 
-quiet_own : (c : ℕ) (t : Bool) (i : Incoming) → is_content_on c i ≡ false → is_content_on c (cond t i incoming.Other) ≡ false
+quiet_own : (c : ℕ) (t : Bool) (i : Incoming) → IsQuiet c i → IsQuiet c (cond t i incoming.Other)
 quiet_own c true i h = h
-quiet_own c false i h = refl
+quiet_own c false i h = (refl, refl)
 
-quiet_channel : (c d : ℕ) (m : ChannelMethod) → is_content_on c (incoming_method d (method.Channel m)) ≡ false
-quiet_channel c d channel.OpenOk = refl
-quiet_channel c d _ = refl
+quiet_channel : (c d : ℕ) (m : ChannelMethod) → IsQuiet c (incoming_method d (method.Channel m))
+quiet_channel c d channel.OpenOk = (refl, refl)
+quiet_channel c d _ = (refl, refl)
 
-quiet_exchange : (c d : ℕ) (m : ExchangeMethod) → is_content_on c (incoming_method d (method.Exchange m)) ≡ false
-quiet_exchange c d exchange.DeclareOk = refl
-quiet_exchange c d _ = refl
+quiet_exchange : (c d : ℕ) (m : ExchangeMethod) → IsQuiet c (incoming_method d (method.Exchange m))
+quiet_exchange c d exchange.DeclareOk = (refl, refl)
+quiet_exchange c d _ = (refl, refl)
 
-quiet_queue : (c d : ℕ) (m : QueueMethod) → is_content_on c (incoming_method d (method.Queue m)) ≡ false
-quiet_queue c d queue.BindOk = refl
-quiet_queue c d _ = refl
+quiet_queue : (c d : ℕ) (m : QueueMethod) → IsQuiet c (incoming_method d (method.Queue m))
+quiet_queue c d queue.BindOk = (refl, refl)
+quiet_queue c d _ = (refl, refl)
 
-quiet_tx : (c d : ℕ) (m : TxMethod) → is_content_on c (incoming_method d (method.Tx m)) ≡ false
-quiet_tx c d tx.SelectOk = refl
-quiet_tx c d _ = refl
+quiet_tx : (c d : ℕ) (m : TxMethod) → IsQuiet c (incoming_method d (method.Tx m))
+quiet_tx c d tx.SelectOk = (refl, refl)
+quiet_tx c d _ = (refl, refl)
 
 sort_basic : (d : ℕ) (m : BasicMethod) → Kind (frame.Method d (method.Basic m))
 sort_basic d (basic.GetOk tag redelivered exchange key count) = AsGetOk d tag redelivered exchange key count refl
 sort_basic d (basic.Deliver tag number redelivered exchange key) = AsDeliver d tag number redelivered exchange key refl
 sort_basic d (basic.Return code text exchange key) = AsReturn d code text exchange key refl
-sort_basic d m = AsOther refl (λ c. refl) (d, method.Basic m, refl)
+sort_basic d m = AsOther refl (λ c. (refl, refl)) (d, method.Basic m, refl)
 
 pub sort_kind : (f : Frame) → Kind f
 sort_kind (frame.Header d h) = AsHeader d h refl
 sort_kind (frame.Body d bytes) = AsBody d bytes refl
-sort_kind (frame.Method d (method.Connection (connection.Close code text class number))) = AsOther refl (λ c. quiet_own c (d == 0) (incoming.ConnectionClose code) refl) (d, method.Connection (connection.Close code text class number), refl)
-sort_kind (frame.Method d (method.Connection connection.CloseOk)) = AsOther refl (λ c. quiet_own c (d == 0) incoming.ConnectionCloseOk refl) (d, method.Connection connection.CloseOk, refl)
+sort_kind (frame.Method d (method.Connection (connection.Close code text class number))) = AsOther refl (λ c. quiet_own c (d == 0) (incoming.ConnectionClose code) (refl, refl)) (d, method.Connection (connection.Close code text class number), refl)
+sort_kind (frame.Method d (method.Connection connection.CloseOk)) = AsOther refl (λ c. quiet_own c (d == 0) incoming.ConnectionCloseOk (refl, refl)) (d, method.Connection connection.CloseOk, refl)
 sort_kind (frame.Method d (method.Channel m)) = AsOther refl (λ c. quiet_channel c d m) (d, method.Channel m, refl)
-sort_kind (frame.Method d (method.Access access.RequestOk)) = AsOther refl (λ c. refl) (d, method.Access access.RequestOk, refl)
-sort_kind (frame.Method d (method.Access (access.Request a b e g i j))) = AsOther refl (λ c. refl) (d, method.Access (access.Request a b e g i j), refl)
+sort_kind (frame.Method d (method.Access access.RequestOk)) = AsOther refl (λ c. (refl, refl)) (d, method.Access access.RequestOk, refl)
+sort_kind (frame.Method d (method.Access (access.Request a b e g i j))) = AsOther refl (λ c. (refl, refl)) (d, method.Access (access.Request a b e g i j), refl)
 sort_kind (frame.Method d (method.Exchange m)) = AsOther refl (λ c. quiet_exchange c d m) (d, method.Exchange m, refl)
 sort_kind (frame.Method d (method.Queue m)) = AsOther refl (λ c. quiet_queue c d m) (d, method.Queue m, refl)
 sort_kind (frame.Method d (method.Basic m)) = sort_basic d m
-sort_kind (frame.Method d (method.Confirm confirm.SelectOk)) = AsOther refl (λ c. refl) (d, method.Confirm confirm.SelectOk, refl)
-sort_kind (frame.Method d (method.Confirm (confirm.Select nowait))) = AsOther refl (λ c. refl) (d, method.Confirm (confirm.Select nowait), refl)
+sort_kind (frame.Method d (method.Confirm confirm.SelectOk)) = AsOther refl (λ c. (refl, refl)) (d, method.Confirm confirm.SelectOk, refl)
+sort_kind (frame.Method d (method.Confirm (confirm.Select nowait))) = AsOther refl (λ c. (refl, refl)) (d, method.Confirm (confirm.Select nowait), refl)
 sort_kind (frame.Method d (method.Tx m)) = AsOther refl (λ c. quiet_tx c d m) (d, method.Tx m, refl)
 
 -- ---- how far the content of a get is
@@ -121,7 +131,7 @@ pub getting_on : (c k : ℕ) (h : History) (v : Event) (x : Record) (s : Start) 
 getting_on c k h v x s o down opened g = record { method_ = g.method_; call = call_more k c g.method_ h v x g.call; reply = g.reply; replied = g.replied; starts = g.starts; came = g.came; way = g.way; far = g.far }
 
 -- a deed more in the opening: the broker reads
-replied_read : (c k : ℕ) (m : Method) (reply : Frame) (opened : List Deed) (d : Deed) → IsReplied c k m reply opened → IsReplied c k m reply (opened ++ d ∷ [])
+abbrev replied_read : (c k : ℕ) (m : Method) (reply : Frame) (opened : List Deed) (d : Deed) → IsReplied c k m reply opened → IsReplied c k m reply (opened ++ d ∷ [])
 replied_read c k m reply opened d r = record {
   before = r.before;
   behind = r.behind ++ d ∷ [];

@@ -31,8 +31,10 @@ whole_now s p bytes = record { wholes = record { start = s; properties = p; payl
 -- ---- a header
 
 zero_test : (n : ℕ) → (0 == n) ≡ (n == 0)
-zero_test zero = refl
-zero_test (suc n) = refl
+zero_test n = elim (eqb_tells n 0) [
+  | inl y ↦ eq-eqb 0 n (sym y.1) ∙ sym y.0
+  | inr y ↦ elim (eqb_tells 0 n) [ inl z ↦ absurd (y.1 (sym z.1)) | inr z ↦ z.0 ∙ sym y.0 ]
+]
 
 -- a header leaves bytes to come, or none
 pub header_on : (s : Start) (c : ℕ) (h : ContentHeader) → (h.body_size == 0) ≡ false → sent_after (on_way s None) (frame.Header c h) ≡ on_way s (Some (record { properties = h.properties; left = h.body_size; bytes = [] }))
@@ -79,12 +81,12 @@ bytes_grow : (n : ℕ) (w : Whole) (y : Sent_) → Grows y (with_bytes n w y)
 bytes_grow n w y = elim (length w.payload == n) as (λ b. Grows y (cond b (record { wholes = y.wholes ++ w ∷ []; sending = Nothing }) (record { wholes = y.wholes; sending = Headed n w }))) [ true ↦ record { more = w ∷ []; is = refl } | false ↦ grows_same _ _ refl ]
 
 header_grows : (h : ContentHeader) (s : Sending) (y : Sent_) → Grows y (with_header h s y)
-header_grows h (Started s) y = bytes_grow h.body_size _ y
+header_grows h (Started s) y = bytes_grow h.body_size (record { start = s; properties = h.properties; payload = [] }) y
 header_grows h Nothing y = grows_same _ _ refl
 header_grows h (Headed n w) y = grows_same _ _ refl
 
 body_grows : (bytes : List ℕ) (s : Sending) (y : Sent_) → Grows y (with_body bytes s y)
-body_grows bytes (Headed n w) y = bytes_grow n _ y
+body_grows bytes (Headed n w) y = bytes_grow n (record { start = w.start; properties = w.properties; payload = w.payload ++ bytes }) y
 body_grows bytes Nothing y = grows_same _ _ refl
 body_grows bytes (Started s) y = grows_same _ _ refl
 

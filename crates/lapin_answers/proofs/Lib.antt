@@ -10,3 +10,8 @@ pub mod Running
 pub mod Tickets
 pub mod Received
 pub mod Replying
+pub mod Carried
+pub mod Getting
+pub mod Gets
+pub mod GetRun
+pub mod GetLaw

@@ -84,24 +84,24 @@ asks-without k (r ∷ rs) a = elim (is_kind k r) as (λ v. is_kind k r ≡ v →
 -- the oldest of a kind that asks is open no more
 pub asks-taken : (k : ReplyKind) (rs : List Request) → is_asked k ≡ true → filter asks (without_kind k rs) ≡ without_kind k (filter asks rs)
 asks-taken k [] a = refl
-asks-taken k (r ∷ rs) a = by (is_kind k r) (asks r) refl refl
+asks-taken k (r ∷ rs) a = by (asks-taken k rs a) (is_kind k r) (asks r) refl refl
   where
-    by : (v w : Bool) → is_kind k r ≡ v → asks r ≡ w → filter asks (cond (is_kind k r) rs (r ∷ without_kind k rs)) ≡ without_kind k (cond (asks r) (r ∷ filter asks rs) (filter asks rs))
-    by true true e f = rw (e, f, e) refl
-    by true false e f = let w : true ≡ false = sym (kind_asks k r e ∙ a) ∙ f in absurd cc
-    by false true e f = rw (e, f, f, e) (ap (λ v. r ∷ v) (asks-taken k rs a))
-    by false false e f = rw (e, f, f) (asks-taken k rs a)
+    by : filter asks (without_kind k rs) ≡ without_kind k (filter asks rs) → (v w : Bool) → is_kind k r ≡ v → asks r ≡ w → filter asks (cond (is_kind k r) rs (r ∷ without_kind k rs)) ≡ without_kind k (cond (asks r) (r ∷ filter asks rs) (filter asks rs))
+    by i true true e f = rw (e, f, e) refl
+    by i true false e f = let w : true ≡ false = sym (kind_asks k r e ∙ a) ∙ f in absurd cc
+    by i false true e f = rw (e, f, e) (ap (λ v. r ∷ v) i)
+    by i false false e f = rw (e, f) i
 
 -- the oldest of a kind that asks stands among those that ask
 pub asks-first : (k : ReplyKind) (rs : List Request) → is_asked k ≡ true → first_request k rs ≡ first_request k (filter asks rs)
 asks-first k [] a = refl
-asks-first k (r ∷ rs) a = by (is_kind k r) (asks r) refl refl
+asks-first k (r ∷ rs) a = by (asks-first k rs a) (is_kind k r) (asks r) refl refl
   where
-    by : (v w : Bool) → is_kind k r ≡ v → asks r ≡ w → cond (is_kind k r) (Some r) (find (is_kind k) rs) ≡ first_request k (cond (asks r) (r ∷ filter asks rs) (filter asks rs))
-    by true true e f = rw (e, f, e) refl
-    by true false e f = let w : true ≡ false = sym (kind_asks k r e ∙ a) ∙ f in absurd cc
-    by false true e f = rw (e, f, e) (asks-first k rs a)
-    by false false e f = rw (e, f) (asks-first k rs a)
+    by : first_request k rs ≡ first_request k (filter asks rs) → (v w : Bool) → is_kind k r ≡ v → asks r ≡ w → cond (is_kind k r) (Some r) (find (is_kind k) rs) ≡ first_request k (cond (asks r) (r ∷ filter asks rs) (filter asks rs))
+    by i true true e f = rw (e, f, e) refl
+    by i true false e f = let w : true ≡ false = sym (kind_asks k r e ∙ a) ∙ f in absurd cc
+    by i false true e f = rw (e, f, e) i
+    by i false false e f = rw (e, f) i
 
 first_is : (k : ReplyKind) (rs : List Request) (r : Request) → first_request k rs ≡ Some r → is_kind k r ≡ true
 first_is k [] r h = absurd cc

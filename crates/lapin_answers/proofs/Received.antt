@@ -6,7 +6,7 @@ use Rattle.lapin_types.specs.declared.event.Event.{Event}
 use Rattle.lapin_types.specs.declared.event.Event.TheVariants as event
 use Rattle.lapin_types.specs.declared.record.Record.{Record}
 use Rattle.lapin_types.specs.Types.{Frame}
-use Rattle.lapin_history.specs.Events.{ticket_marks}
+use Rattle.lapin_history.specs.Events.{after_event, ticket_marks}
 use Rattle.lapin_history.specs.History.{History, Past, past, rec}
 use Rattle.lapin_history.specs.TicketReadings.{TicketMark}
 use Rattle.lapin_joint.specs.declared.step.Step.{Step}
@@ -46,3 +46,11 @@ module _ (n : ℕ) (ss : List Step) (f : Frame) (fs : List Frame) (down : (joine
   -- what it does to tickets
   pub tickets_after : (past_of n (ss ++ step.Deliver ∷ [])).tickets ≡ (past_of n ss).tickets ++ ticket_marks (past_of n ss).wire (event.Receive f) (rec n h (event.Receive f))
   tickets_after = ap (λ (j : Joint History). (past n j.session).tickets) delivered ∙ ap (λ (p : Past). p.tickets) (past-push n h (event.Receive f) (rec n h (event.Receive f)))
+
+  -- and to states and lists
+  pub wire_after : (past_of n (ss ++ step.Deliver ∷ [])).wire ≡ after_event (past_of n ss).wire (event.Receive f) (rec n h (event.Receive f))
+  wire_after = ap (λ (j : Joint History). (past n j.session).wire) delivered ∙ ap (λ (p : Past). p.wire) (past-push n h (event.Receive f) (rec n h (event.Receive f)))
+
+-- where nothing is on the way a delivery does nothing
+pub none_after : (n : ℕ) (ss : List Step) → (joined_to n ss).down ≡ [] → (past_of n (ss ++ step.Deliver ∷ [])).tickets ≡ (past_of n ss).tickets
+none_after n ss down = ap (λ (j : Joint History). (past n j.session).tickets) (joined-push n ss step.Deliver ∙ ap (λ v. deliver_first (by_history n) v (joined_to n ss)) down)

@@ -166,28 +166,22 @@ asked_closed : (k : ReplyKind) → is_asked k ≡ true → opens k ≡ false
 asked_closed reply_kind.ChannelOpenOk h = absurd cc
 asked_closed _ h = refl
 
-pub heard_reply : (c class number : ℕ) (b : Wire) (readings : Readings) (i : Incoming) → IsReply c i → is_refusal (incoming_record b readings (refused class number) i) ≡ false → Heard c b i (incoming_record b readings (refused class number) i) ⊎ (incoming_tickets i (incoming_record b readings (refused class number) i) b ≡ [])
-heard_reply c class number b readings i k r = by (is_up b.link) refl r
-  where
-    abbrev no : Record
-    no = refused class number
+-- heard, or it says nothing to tickets
+abbrev pub ReplyComes : ℕ → Wire → Incoming → Record → Type 0
+ReplyComes c b i x = Heard c b i x ⊎ (incoming_tickets i x b ≡ [])
 
-    abbrev R : Bool → Record
-    R v = cond v (incoming_up b readings no i) (cond (receives_down b.link i) record_.Received record_.Passed)
+reply_when : (c : ℕ) (b : Wire) (i : Incoming) (k : IsReply c i) (r : Record) (v : Bool) → is_refusal r ≡ true → receives_reply c k.kind b ≡ v → is_refusal (when v r) ≡ false → ReplyComes c b i (when v r)
+reply_when c b i k r true q e f = inl (record {
+  hears = ap (λ w. cond w (is_opening (state_of c b)) (receives_on (state_of c b))) (sym (asked_closed k.kind k.asked)) ∙ (and_parts (receives k.kind (state_of c b)) (is_some (first_request k.kind (requests_of c b))) e).0;
+  received = refl;
+})
+reply_when c b i k r false q e f = let w : true ≡ false = sym q ∙ f in absurd cc
 
-    abbrev P : Record → Type 0
-    P x = Heard c b i x ⊎ (incoming_tickets i x b ≡ [])
-
-    heard_if : (v : Bool) → receives_reply c k.kind b ≡ v → is_refusal (when v no) ≡ false → P (when v no)
-    heard_if true e f = inl (record {
-      hears = ap (λ w. cond w (is_opening (state_of c b)) (receives_on (state_of c b))) (sym (asked_closed k.kind k.asked)) ∙ (and_parts (receives k.kind (state_of c b)) (is_some (first_request k.kind (requests_of c b))) e).0;
-      received = refl;
-    })
-    heard_if false e f = absurd cc
-
-    by : (v : Bool) → is_up b.link ≡ v → is_refusal (R v) ≡ false → P (R v)
-    by true u f = subst P (sym (k.up b readings no)) (heard_if (receives_reply c k.kind b) refl (ap is_refusal (sym (k.up b readings no)) ∙ f))
-    by false u f = subst P (ap (λ w. cond w record_.Received record_.Passed) (sym (k.down b.link))) (inr refl)
+pub heard_reply : (c class number : ℕ) (b : Wire) (readings : Readings) (i : Incoming) → IsReply c i → is_refusal (incoming_record b readings (refused class number) i) ≡ false → ReplyComes c b i (incoming_record b readings (refused class number) i)
+heard_reply c class number b readings i k r = (elim (is_up b.link) as (λ v. is_refusal (cond v (incoming_up b readings (refused class number) i) (cond (receives_down b.link i) record_.Received record_.Passed)) ≡ false → ReplyComes c b i (cond v (incoming_up b readings (refused class number) i) (cond (receives_down b.link i) record_.Received record_.Passed))) [
+  | true ↦ λ f. subst (ReplyComes c b i) (sym (k.up b readings (refused class number))) (reply_when c b i k (refused class number) (receives_reply c k.kind b) refl refl (ap is_refusal (sym (k.up b readings (refused class number))) ∙ f))
+  | false ↦ λ f. subst (ReplyComes c b i) (ap (λ w. cond w record_.Received record_.Passed) (sym (k.down b.link))) (inr refl)
+]) r
 
 -- ---- the law
 
@@ -206,6 +200,26 @@ answered_is n (Some x) t y a = (resolved_is n t (Ok x) y a).0
 abbrev pub Replied : ℕ → ℕ → List Step → Frame → List Frame → Type 0
 Replied n k ss f fs = (m : Method) × IsCallOf k (channel_of f) m (joined_to n ss).session × (v : IsReplied (channel_of f) k m f (last_opening (channel_of f) (deeds n ss))) × (sents v.behind ≡ filter (is_frame_on (channel_of f)) fs)
 
+-- a reply that is heard is to the request that is open longest, and where somebody holds that one's ticket, to that very call
+pub met : (n : ℕ) → 4096 ≤ n → (k : ℕ) (ss : List Step) (f : Frame) (fs : List Frame) → (joined_to n ss).down ≡ f ∷ fs → replies f ≡ true → (q : IsReply (channel_of f) (incoming_of f)) → hears (channel_of f) (past_of n ss).wire ≡ true → ticket_of (first_request q.kind (requests_of (channel_of f) (past_of n ss).wire)) ≡ Some k → Replied n k ss f fs
+met n big k ss f fs down r q u t =
+    let c : ℕ = channel_of f in
+    let b : Wire = (past_of n ss).wire in
+    let m : Meets c (joined_to n ss).session b q.kind f fs (last_opening c (deeds n ss)) = reply_meets n c big ss f fs q.kind down u (reply_is c (reply_number q.kind) q.content f q.comes) in
+    let first : first_request q.kind (requests_of c b) ≡ Some m.request = asks-first q.kind (requests_of c b) q.asked ∙ (ap (first_request q.kind) m.open_is ∙ ap (λ v. cond v (Some m.request) (first_request q.kind m.rest)) m.kind) in
+    let ticket : m.request.ticket ≡ Some k = ap ticket_of (sym first) ∙ t in
+    let call = m.is.call k ticket in
+    (call.0, call.1, record {
+      before = m.before;
+      behind = m.behind;
+      request = m.answer.request;
+      all = m.all;
+      is_reply = r;
+      was_read = m.answer.was_read;
+      ticket = m.is.ticket ∙ ticket;
+      method = call.2;
+    }, m.way)
+
 pub replied : (n : ℕ) → 4096 ≤ n → (k : ℕ) (ss : List Step) (f : Frame) (fs : List Frame) (y : Result Answer Error) → (joined_to n ss).down ≡ f ∷ fs → replies f ≡ true → answer_of k (past_of n ss).tickets ≡ None → answer_of k (past_of n (ss ++ step.Deliver ∷ [])).tickets ≡ Some y → Replied n k ss f fs
 replied n big k ss f fs y down r was now =
     let c : ℕ = channel_of f in
@@ -219,20 +233,8 @@ replied n big k ss f fs y down r was now =
     elim (heard_reply c (frame_class f) (frame_method f) b (readings_of (past_of n ss).confirms ms) i q (unrefused n ss f fs down big)) [
       | inr none ↦ (let a : Answers k [] y = new_answer ms [] y refl k was (ap (λ v. answer_of k (ms ++ v)) (sym none) ∙ later) in absurd (none_answers k y a))
       | inl heard ↦
-          let m : Meets c (joined_to n ss).session b q.kind f fs (last_opening c (deeds n ss)) = reply_meets n c big ss f fs q.kind down heard.hears (reply_is c (reply_number q.kind) q.content f q.comes) in
-          let first : first_request q.kind (requests_of c b) ≡ Some m.request = asks-first q.kind (requests_of c b) q.asked ∙ (ap (first_request q.kind) m.open_is ∙ ap (λ v. cond v (Some m.request) (first_request q.kind m.rest)) m.kind) in
-          let marks = received_marks i x b heard.received ∙ ((q.tickets b).1 ∙ ap (λ v. answered_by (q.tickets b).0 (ticket_of v)) first) in
-          let a : Answers k (answered_by (q.tickets b).0 m.request.ticket) y = new_answer ms (answered_by (q.tickets b).0 m.request.ticket) y (answered_gives (q.tickets b).0 m.request.ticket) k was (ap (λ v. answer_of k (ms ++ v)) (sym marks) ∙ later) in
-          let ticket : m.request.ticket ≡ Some k = answered_is k (q.tickets b).0 m.request.ticket y a in
-          let call = m.is.call k ticket in
-          (call.0, call.1, record {
-            before = m.before;
-            behind = m.behind;
-            request = m.answer.request;
-            all = m.all;
-            is_reply = r;
-            was_read = m.answer.was_read;
-            ticket = m.is.ticket ∙ ticket;
-            method = call.2;
-          }, m.way)
+          let t : Option ℕ = ticket_of (first_request q.kind (requests_of c b)) in
+          let marks : incoming_tickets i x b ≡ answered_by (q.tickets b).0 t = received_marks i x b heard.received ∙ (q.tickets b).1 in
+          let a : Answers k (answered_by (q.tickets b).0 t) y = new_answer ms (answered_by (q.tickets b).0 t) y (answered_gives (q.tickets b).0 t) k was (ap (λ v. answer_of k (ms ++ v)) (sym marks) ∙ later) in
+          met n big k ss f fs down r q heard.hears (answered_is k (q.tickets b).0 t y a)
     ]

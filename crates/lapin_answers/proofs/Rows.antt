@@ -24,7 +24,7 @@ use Rattle.lapin_history.specs.declared.calls.Asked.TheVariants as ask
 use Rattle.lapin_history.specs.declared.broker_frames.Incoming.{Incoming}
 use Rattle.lapin_history.specs.declared.broker_frames.Incoming.TheVariants as incoming
 use Rattle.lapin_history.specs.Ackers.{acker_method}
-use Rattle.lapin_history.specs.Calls.{asked, awaited_by, unless_nowait, consuming}
+use Rattle.lapin_history.specs.Calls.{asked, awaited_by, awaiting, unless_nowait}
 use Rattle.lapin_history.specs.Incoming.{incoming_of}
 use Rattle.lapin_broker.specs.declared.request.RequestKind.{RequestKind}
 use Rattle.lapin_broker.specs.declared.request.RequestKind.TheVariants as kind
@@ -87,11 +87,11 @@ row_of c (call.QueuePurge name o) = unless c (λ t. method.Queue (queue.Purge na
 row_of c (call.QueueDelete name o) = unless c (λ t. method.Queue (queue.Delete name o.if_unused o.if_empty t)) o.nowait _ _ refl (for_kind _ _ kind.QueueDelete refl refl refl)
 row_of c (call.QueueUnbind name from key more) = for_kind _ (reply.QueueUnbindOk name from key more) kind.QueueUnbind refl refl refl
 row_of c (call.BasicQos most o) = for_kind _ reply.BasicQosOk kind.Qos refl refl refl
-row_of c (call.BasicConsume name tag o more) = consumes o.nowait refl
+row_of c (call.BasicConsume name tag o more) = consumes o.nowait
   where
-    consumes : (t : Bool) → o.nowait ≡ t → RowOf c (consuming (method.Basic (basic.Consume name tag o.no_local o.no_ack o.exclusive o.nowait more)) tag name o)
-    consumes true e = rw e refl
-    consumes false e = rw e (for_kind (client_frame (frame.Method c (method.Basic (basic.Consume name tag o.no_local o.no_ack o.exclusive false more)))) (reply.BasicConsumeOk name o) kind.Consume refl refl refl)
+    consumes : (t : Bool) → RowOf c (cond t (ask.Consume (method.Basic (basic.Consume name tag o.no_local o.no_ack o.exclusive t more)) tag name o) (awaiting (method.Basic (basic.Consume name tag o.no_local o.no_ack o.exclusive t more)) (reply.BasicConsumeOk name o)))
+    consumes true = refl
+    consumes false = for_kind _ (reply.BasicConsumeOk name o) kind.Consume refl refl refl
 row_of c (call.BasicCancel tag o) = unless c (λ t. method.Basic (basic.Cancel tag t)) o.nowait _ _ refl (for_kind _ _ kind.Cancel refl refl refl)
 row_of c (call.BasicGet name o) = for_kind _ reply.BasicGetOk kind.Get refl refl refl
 row_of c (call.BasicAck tag o) = refl

@@ -154,6 +154,18 @@ ok_kind c d _ h = absurd cc
 pub ok_comes : (c : ℕ) (f : Frame) → income_as (incoming_of f) ≡ ToD c BOpenOk → (channel_of f ≡ c) × (broker_frame f ≡ broker.OpenOk) × (is_open_ok f ≡ true)
 ok_comes c f h = let k = ok_kind c (channel_of f) (broker_frame f) (sorted f ∙ h) in (k.0, k.1, ok_frame f (ap is_ok k.1))
 
+-- a loss leaves no open connection
+pub lost_down : (b : Wire) (r : Record) → is_up (after_event b event.Lost r).link ≡ false
+lost_down b r = by (is_lost b.link) refl
+  where
+    shut : (l : ConnectionPhase) → is_lost l ≡ true → is_up l ≡ false
+    shut link.Lost h = refl
+    shut _ h = absurd cc
+
+    by : (v : Bool) → is_lost b.link ≡ v → is_up (cond v b (fallen link.Lost b)).link ≡ false
+    by true e = shut b.link e
+    by false e = refl
+
 -- ---- an event, which moves neither link nor deeds
 
 module _ (n c : ℕ) where
@@ -302,21 +314,21 @@ module _ (n c : ℕ) where
       let one : reply_count c (f ∷ fs) ≡ reply_count c fs + 1 = count_one c f fs ∙ ap (λ v. cond v (reply_count c fs + 1) (reply_count c fs)) (ap (λ v. v && replies f) (eq-eqb (channel_of f) c o.on) ∙ o.replies) in
       meets c j.session (past n j.session).wire r f fs ds j.up (record { before = x.0.before; behind = x.0.behind; all = x.0.all; way = x.1 }) (k.answers x.0.before x.0.behind f x.0.all o.replies) (k.shut u).1 o g one
 
+  abbrev before : Joint History → Wire
+  before j = (past n j.session).wire
+
+  abbrev after_receive : Joint History → Frame → Wire
+  after_receive j f = after_event (before j) (event.Receive f) (rec n j.session (event.Receive f))
+
   deliver_run : (j : Joint History) (f : Frame) (fs : List Frame) (ds : List Deed) → Known (record j { down = f ∷ fs }) ds → At j.session (lefts ds ++ j.up) (f ∷ fs) (sent_in ds) → At (on_event j.session (event.Receive f)) (lefts ds ++ j.up) fs (sent_in ds)
   deliver_run j f fs ds k s = other_kept j.session (event.Receive f) (lefts ds ++ j.up) (f ∷ fs) fs (sent_in ds) refl (calm_count c f fs) takes starts s
     where
-      abbrev b : Wire
-      b = (past n j.session).wire
-
-      abbrev b' : Wire
-      b' = after_event b (event.Receive f) (rec n j.session (event.Receive f))
-
-      takes : (r : ReplyKind) → Comes c r (Some (incoming_of f)) → is_asked r ≡ true → hears c b ≡ true → open_asks c b' ≡ without_kind r (open_asks c b) → waiting_asks c b' ≡ waiting_asks c b → Going c (on_event j.session (event.Receive f)) b' (lefts ds ++ j.up) fs (sent_in ds)
+      takes : (r : ReplyKind) → Comes c r (Some (incoming_of f)) → is_asked r ≡ true → hears c (before j) ≡ true → open_asks c (after_receive j f) ≡ without_kind r (open_asks c (before j)) → waiting_asks c (after_receive j f) ≡ waiting_asks c (before j) → Going c (on_event j.session (event.Receive f)) (after_receive j f) (lefts ds ++ j.up) fs (sent_in ds)
       takes r on a u o w =
           let is : IsReplyOf c (reply_number r) (channel_of f) (broker_frame f) = reply_is c (reply_number r) on.0 f on.1 in
           let g = s.going u in
           let m = meeting j ds f fs r k u is g in
-          let left : open_asks c b' ≡ m.0.rest = o ∙ (ap (without_kind r) m.0.open_is ∙ ap (λ v. cond v m.0.rest (m.0.request ∷ without_kind r m.0.rest)) m.0.kind) in
+          let left : open_asks c (after_receive j f) ≡ m.0.rest = o ∙ (ap (without_kind r) m.0.open_is ∙ ap (λ v. cond v m.0.rest (m.0.request ∷ without_kind r m.0.rest)) m.0.kind) in
           let one : reply_count c (f ∷ fs) ≡ reply_count c fs + 1 = count_one c f fs ∙ ap (λ v. cond v (reply_count c fs + 1) (reply_count c fs)) (ap (λ v. v && replies f) (eq-eqb (channel_of f) c is.on) ∙ is.replies) in
           record {
             done = g.done ++ m.0.answer.request ∷ [];
@@ -326,9 +338,9 @@ module _ (n c : ℕ) where
             count = (let count = g.count in let long = length-append g.done (m.0.answer.request ∷ []) in omega (arith, count, long, one));
           }
 
-      starts : turn.Opens c (Some (incoming_of f)) → live c b ≡ true → hears c b ≡ false → open_asks c b' ≡ open_asks c b → waiting_asks c b' ≡ waiting_asks c b → Going c (on_event j.session (event.Receive f)) b' (lefts ds ++ j.up) fs (sent_in ds)
+      starts : turn.Opens c (Some (incoming_of f)) → live c (before j) ≡ true → hears c (before j) ≡ false → open_asks c (after_receive j f) ≡ open_asks c (before j) → waiting_asks c (after_receive j f) ≡ waiting_asks c (before j) → Going c (on_event j.session (event.Receive f)) (after_receive j f) (lefts ds ++ j.up) fs (sent_in ds)
       starts on alive d o w =
-          let up : is_up b.link ≡ true = (and_parts (is_up b.link) (is_live (phase_of c b)) alive).0 in
+          let up : is_up (before j).link ≡ true = (and_parts (is_up (before j).link) (is_live (phase_of c (before j))) alive).0 in
           let ok = ok_comes c f on in
           let q = s.quiet d in
           let none : handed_asks c (lefts ds ++ j.up) ≡ [] = s.begun alive d (unread_none up on) in
@@ -340,19 +352,19 @@ module _ (n c : ℕ) where
           record {
             done = [];
             rest = [];
-            all = ap (λ v. v ++ waiting_asks c b') none ∙ (w ∙ q.1);
+            all = ap (λ v. v ++ waiting_asks c (after_receive j f)) none ∙ (w ∙ q.1);
             are = subst (AreAsks (on_event j.session (event.Receive f)) c []) (sym (o ∙ q.0)) tt;
             count = sym (ap (λ v. length (filter replies v)) sent ∙ ap (λ v. length (cond v (f ∷ filter replies (filter (is_frame_on c) fs)) (filter replies (filter (is_frame_on c) fs)))) calm);
           }
 
-      unread_none : is_up b.link ≡ true → income_as (incoming_of f) ≡ ToD c BOpenOk → unsent c b ≡ 0
-      unread_none up on = elim (list_any (is_open_waiting c) b.methods) as (λ v. list_any (is_open_waiting c) b.methods ≡ v → unsent c b ≡ 0) [
+      unread_none : is_up (before j).link ≡ true → income_as (incoming_of f) ≡ ToD c BOpenOk → unsent c (before j) ≡ 0
+      unread_none up on = elim (list_any (is_open_waiting c) (before j).methods) as (λ v. list_any (is_open_waiting c) (before j).methods ≡ v → unsent c (before j) ≡ 0) [
         | true ↦ λ h.
             let none : of_d c (map down_frame (f ∷ fs)) ≡ [] = k.unread up (ap (λ v. list_any (is_open_on c) j.up || v) h ∙ or_true (list_any (is_open_on c) j.up)) in
             let front : of_d c (ToD c BOpenOk ∷ map down_frame fs) ≡ [] = ap (λ v. of_d c (v ∷ map down_frame fs)) (sym (sorted f ∙ on)) ∙ none in
             let there : BOpenOk ∷ of_d c (map down_frame fs) ≡ [] = ap (λ v. cond v (BOpenOk ∷ of_d c (map down_frame fs)) (of_d c (map down_frame fs))) (sym (eq-eqb c c refl)) ∙ front in
             absurd cc
-        | false ↦ λ h. many-none (is_open_waiting c) b.methods h
+        | false ↦ λ h. many-none (is_open_waiting c) (before j).methods h
       ] refl
 
       or_true : (v : Bool) → (v || true) ≡ true
@@ -360,17 +372,6 @@ module _ (n c : ℕ) where
       or_true false = refl
 
   -- a loss
-  lost_down : (b : Wire) (r : Record) → is_up (after_event b event.Lost r).link ≡ false
-  lost_down b r = by (is_lost b.link) refl
-    where
-      shut : (l : ConnectionPhase) → is_lost l ≡ true → is_up l ≡ false
-      shut link.Lost h = refl
-      shut _ h = absurd cc
-
-      by : (v : Bool) → is_lost b.link ≡ v → is_up (cond v b (fallen link.Lost b)).link ≡ false
-      by true e = shut b.link e
-      by false e = refl
-
   lost_run : (j : Joint History) (ds : List Deed) → InRun j ds → At (on_event j.session event.Lost) (lefts (ds ++ []) ++ []) [] (sent_in (ds ++ []))
   lost_run j ds i =
       let b' : Wire = (past n (on_event j.session event.Lost)).wire in
