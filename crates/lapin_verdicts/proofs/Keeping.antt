@@ -33,11 +33,11 @@ one-last p (suc n) [] x h e = let z : ⊥ = omega (arith, e) in absurd z
 one-last p zero (y ∷ xs) x h e = elim (p y) as (λ b. zero ≡ cond b (many p xs + 1) (many p xs) → cond b (Some y) (one_after p zero (xs ++ x ∷ [])) ≡ Some x) [ true ↦ λ g. (let z : ⊥ = omega (arith, g) in absurd z) | false ↦ λ g. one-last p zero xs x h g ] e
 one-last p (suc n) (y ∷ xs) x h e = elim (p y) as (λ b. suc n ≡ cond b (many p xs + 1) (many p xs) → cond b (one_after p n (xs ++ x ∷ [])) (one_after p (suc n) (xs ++ x ∷ [])) ≡ Some x) [ true ↦ λ g. one-last p n xs x h (omega (arith, g)) | false ↦ λ g. one-last p (suc n) xs x h g ] e
 
-added-one : (ms : List ConfirmMark) (d : ℕ) → added (ms ++ mark.Added d ∷ []) ≡ added ms + 1
+pub added-one : (ms : List ConfirmMark) (d : ℕ) → added (ms ++ mark.Added d ∷ []) ≡ added ms + 1
 added-one ms d = let e = many-append adds ms (mark.Added d ∷ []) in omega (arith, e)
 
 -- the next publish is of the channel of its mark
-added_channel : (ms : List ConfirmMark) (d k : ℕ) → k ≡ added ms + 1 → channel_of k (ms ++ mark.Added d ∷ []) ≡ d
+pub added_channel : (ms : List ConfirmMark) (d k : ℕ) → k ≡ added ms + 1 → channel_of k (ms ++ mark.Added d ∷ []) ≡ d
 added_channel ms d zero e = let z : ⊥ = omega (arith, e) in absurd z
 added_channel ms d (suc k) e = ap channel_in (one-last adds k ms (mark.Added d) refl (omega (arith, e)))
 

@@ -23,3 +23,4 @@ pub mod Together
 pub mod Owing
 pub mod Answering
 pub mod First
+pub mod Called

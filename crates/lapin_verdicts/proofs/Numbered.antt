@@ -64,7 +64,7 @@ opener_in c t xs ys = list_any-append is_opener xs (open_entry c t ∷ ys) ∙ a
 
 -- ---- what marks an event brings
 
-effect_unleft : (b b' : Wire) (xs : List ConfirmMark) (new : List Publish) → Effect b b' xs new → list_any is_left xs ≡ false
+pub effect_unleft : (b b' : Wire) (xs : List ConfirmMark) (new : List Publish) → Effect b b' xs new → list_any is_left xs ≡ false
 effect_unleft b b' xs new (Stays s p es m f still none) = grow_unleft xs (still_grow xs still)
 effect_unleft b b' xs new (Closes d e s p m ms f marks none) = ap (list_any is_left) marks
 effect_unleft b b' xs new (Opens d t s was now r p m marks none) = ap (list_any is_left) marks
@@ -73,7 +73,7 @@ effect_unleft b b' xs new (Ends d e s now r p es m q marks none) = ap (list_any 
 effect_unleft b b' xs new (Falls e mx pb down r p q marks none) = ap (list_any is_left) marks ∙ grow_unleft (ends_all e b) (all_grow e b)
 effect_unleft b b' xs new (Sinks mx pb was down r p q grow none) = grow_unleft xs grow
 
-effect_begins : (c : ℕ) (b b' : Wire) (xs : List ConfirmMark) (new : List Publish) → live c b ≡ true → Effect b b' xs new → list_any (begins c) xs ≡ false
+pub effect_begins : (c : ℕ) (b b' : Wire) (xs : List ConfirmMark) (new : List Publish) → live c b ≡ true → Effect b b' xs new → list_any (begins c) xs ≡ false
 effect_begins c b b' xs new l (Stays s p es m f still none) = (turn_parts c xs (grow_turns c xs (still_grow xs still))).0
 effect_begins c b b' xs new l (Closes d e s p m ms f marks none) = ap (list_any (begins c)) marks
 effect_begins c b b' xs new l (Opens d t s was now r p m marks none) = ap (list_any (begins c)) marks ∙ elim (eqb_tells d c) as (λ _. ((d == c) || false) ≡ false) [
@@ -89,7 +89,7 @@ no_leaves : (k : ℕ) (xs : List ConfirmMark) → list_any is_left xs ≡ false 
 no_leaves k xs h = left-same k [] xs h
 
 -- a frame request brings the mark of a publish that begins, or none of a publish
-record Begun (k : ℕ) (b : Wire) (t : ℕ → Bool) (xs : List ConfirmMark) : Type 0 where
+pub record Begun (k : ℕ) (b : Wire) (t : ℕ → Bool) (xs : List ConfirmMark) : Type 0 where
   pub publish : Publish
   pub found : find (may_begin t) b.publishes ≡ Some publish
   pub number : publish.confirm ≡ k
@@ -100,7 +100,7 @@ frame_unleft (frame.Method c m) = elim (is_select m) as (λ v. list_any is_left 
 frame_unleft (frame.Header c h) = refl
 frame_unleft (frame.Body c bytes) = refl
 
-begun_in : (k : ℕ) (t : ℕ → Bool) (rs : List RestEntry) (es : List MethodEntry) (ps : List Publish) (b : Wire) → has_left k (left_marks (handed_of t rs es ps)) ≡ true → Begun k (record b { rest = rs; methods = es; publishes = ps }) t (left_marks (handed_of t rs es ps))
+pub begun_in : (k : ℕ) (t : ℕ → Bool) (rs : List RestEntry) (es : List MethodEntry) (ps : List Publish) (b : Wire) → has_left k (left_marks (handed_of t rs es ps)) ≡ true → Begun k (record b { rest = rs; methods = es; publishes = ps }) t (left_marks (handed_of t rs es ps))
 begun_in k t (f ∷ rs) es ps b h = absurd cc
 begun_in k t [] (m ∷ es) ps b h = let w : false ≡ true = sym (no_leaves k (frame_marks (frame.Method m.channel m.method)) (frame_unleft (frame.Method m.channel m.method))) ∙ h in absurd cc
 begun_in k t [] [] ps b h = by (find (may_begin t) ps) refl h

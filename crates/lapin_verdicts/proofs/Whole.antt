@@ -32,6 +32,7 @@ use Rattle.lapin_verdicts.specs.InStep.{InStep}
 use Rattle.lapin_verdicts.specs.Session.{IsPending, Numbers, past_of}
 use Rattle.lapin_verdicts.proofs.Marks.{after-append, through-append, channel-append, tag-append, settled-append, only_settled, is_settlement, outcome_left, no_failure}
 use Rattle.lapin_verdicts.proofs.Settles.{frame_settles, all_quiet}
+use Rattle.lapin_verdicts.proofs.Numbering.{place-more}
 use Rattle.lapin_verdicts.proofs.Runs.{joined-push, deeds-push, marks_in, delivered_marks}
 use Rattle.lapin_verdicts.proofs.Verdict.{Judged, verdict, confirms-push, client_none}
 
@@ -75,13 +76,7 @@ opening_last c (suc k) ds more z h =
 
 -- ---- what was accepted stays
 
-place-more : {X : Type 0} (k : ℕ) (xs ys : List X) (m : X) → at_place k xs ≡ Some m → at_place k (xs ++ ys) ≡ Some m
-place-more k [] ys m h = absurd cc
-place-more zero (x ∷ xs) ys m h = absurd cc
-place-more (suc zero) (x ∷ xs) ys m h = h
-place-more (suc (suc k)) (x ∷ xs) ys m h = place-more (suc k) xs ys m h
-
-opening-more : (k : ℕ) (ms xs : List ConfirmMark) → 0 < k → k ≤ added ms → has_left k ms ≡ true → opening_of k (ms ++ xs) ≡ opening_of k ms
+pub opening-more : (k : ℕ) (ms xs : List ConfirmMark) → 0 < k → k ≤ added ms → has_left k ms ≡ true → opening_of k (ms ++ xs) ≡ opening_of k ms
 opening-more k ms xs z h l = ap (λ d. many (begins d) (through (leaves k) (ms ++ xs))) (channel-append k ms xs z h) ∙ ap (many (begins (channel_of k ms))) (through-append (leaves k) ms xs l)
 
 pub messages-append : (h g : History) → messages_in (h ++ g) ≡ messages_in h ++ messages_in g

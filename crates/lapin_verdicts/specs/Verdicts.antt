@@ -1,5 +1,5 @@
 -- What a confirm that is resolved as Ack or Nack says of the broker: which publish it read whole, and which settlement it sent.
-use Rattle.std.specs.Prelude.{◌≡◌, ℕ, zero, suc, Bool, true, false, List, [], ◌∷◌, ◌++◌, Option, Some, None}
+use Rattle.std.specs.Prelude.{◌≡◌, ℕ, zero, suc, Bool, true, false, if◌then◌else◌, List, [], ◌∷◌, ◌++◌, Option, Some, None}
 use Rattle.std.specs.List.{list_any}
 use Rattle.lapin_types.specs.declared.event.Event.{Event}
 use Rattle.lapin_types.specs.declared.event.Event.TheVariants as event
@@ -18,7 +18,8 @@ use Rattle.lapin_history.specs.declared.marks.SettleKind.{SettleKind}
 use Rattle.lapin_history.specs.declared.marks.SettleKind.TheVariants as settle
 use Rattle.lapin_history.specs.Incoming.{settlement}
 use Rattle.lapin_history.specs.ConfirmMarks.{ConfirmMark}
-use Rattle.lapin_history.specs.ConfirmReadings.{covers}
+use Rattle.lapin_history.specs.ConfirmReadings.{adds, begins, channel_of, covers}
+use Rattle.lapin_history.specs.Words.{many}
 use Rattle.lapin_verdicts.specs.Deeds.{Deed, Sent, reads, sents}
 use Rattle.lapin_verdicts.specs.Publishes.{Message, tally}
 
@@ -30,6 +31,18 @@ at_place n [] = None
 at_place zero (x ∷ xs) = None
 at_place (suc zero) (x ∷ xs) = Some x
 at_place (suc (suc n)) (x ∷ xs) = at_place (suc n) xs
+
+-- ---- which opening a publish was accepted in
+
+-- what stands up to the n-th element that passes, counted from 1, and it; all where there is no such element
+abbrev pub through_nth : {X : Type 0} → (X → Bool) → ℕ → List X → List X
+through_nth p n [] = []
+through_nth p zero (x ∷ xs) = []
+through_nth p (suc n) (x ∷ xs) = x ∷ through_nth p (if p x then n else suc n) xs
+
+-- the call of publish n was accepted in the k-th opening of its channel: this is k
+abbrev pub called_in : ℕ → List ConfirmMark → ℕ
+called_in n ms = many (begins (channel_of n ms)) (through_nth adds n ms)
 
 -- ---- the messages of the accepted publishes, in the order of their numbers
 

@@ -1,15 +1,15 @@
 //! What a confirm means, over every joined run.
 
-ghost use Rattle.std.specs.Prelude.{◌≡◌, ◌<◌, ◌≤◌, ℕ, List, [], ◌∷◌, ◌++◌, Some};
+ghost use Rattle.std.specs.Prelude.{◌≡◌, ◌<◌, ◌≤◌, ℕ, List, [], ◌∷◌, ◌++◌, Some, true};
 ghost use Rattle.lapin_types.specs.Types.{Frame as AFrame};
 ghost use Rattle.lapin_history.specs.declared.marks.SettleKind.{SettleKind as AKind};
-ghost use Rattle.lapin_history.specs.ConfirmReadings.{channel_of, tag_of, outcome_at, kind_outcome};
+ghost use Rattle.lapin_history.specs.ConfirmReadings.{has_left, channel_of, tag_of, outcome_at, kind_outcome};
 ghost use Rattle.lapin_joint.specs.declared.step.Step.{Step as AStep};
 ghost use Rattle.lapin_joint.specs.Joint.{joined_to};
 ghost use Rattle.lapin_verdicts.specs.Deeds.{deeds, last_opening, opening};
 ghost use Rattle.lapin_verdicts.specs.Publishes.{Message};
 ghost use Rattle.lapin_concord.specs.Openings.{opening_of};
-ghost use Rattle.lapin_verdicts.specs.Verdicts.{at_place, messages_in, IsVerdict};
+ghost use Rattle.lapin_verdicts.specs.Verdicts.{at_place, messages_in, called_in, IsVerdict};
 ghost use Rattle.lapin_verdicts.specs.InStep.{InStep};
 ghost use Rattle.lapin_verdicts.specs.Session.{IsPending, Numbers, past_of};
 
@@ -32,4 +32,10 @@ pub fn a_confirm_is_a_verdict()
 /// their tags are, and the publish of that number is the message of the call that has the tag. A frame is longer than its own 8 bytes.
 pub fn publishes_are_numbered_as_their_tags()
     ensures { (frame_max : ℕ) → 8 < frame_max → Numbers frame_max }
+{}
+
+/// In every joined run, whatever the broker does: a publish whose method frame left has left in the opening of its channel in which its
+/// call was accepted. So the opening that a verdict speaks of is that of the call.
+pub fn a_publish_leaves_in_the_opening_of_its_call()
+    ensures { (frame_max : ℕ) → 8 < frame_max → (k : ℕ) (steps : List AStep) → has_left k (past_of frame_max steps).confirms ≡ true → opening_of k (past_of frame_max steps).confirms ≡ called_in k (past_of frame_max steps).confirms }
 {}
