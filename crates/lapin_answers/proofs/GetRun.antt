@@ -117,7 +117,7 @@ front_is e' e more es h = cc
 pub none_is : (e : Expected) (more : List Expected) → [] ≡ e ∷ more → ⊥
 none_is e more h = cc
 
-unbegun_none : (o : Option Begun) → is_unbegun o ≡ true → o ≡ None
+pub unbegun_none : (o : Option Begun) → is_unbegun o ≡ true → o ≡ None
 unbegun_none None h = refl
 unbegun_none (Some g) h = absurd cc
 

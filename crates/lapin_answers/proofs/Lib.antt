@@ -15,3 +15,5 @@ pub mod Getting
 pub mod Gets
 pub mod GetRun
 pub mod GetLaw
+pub mod GetMarks
+pub mod GetAnswer
