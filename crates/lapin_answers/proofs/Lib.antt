@@ -17,3 +17,4 @@ pub mod GetRun
 pub mod GetLaw
 pub mod GetMarks
 pub mod GetAnswer
+pub mod Truth
