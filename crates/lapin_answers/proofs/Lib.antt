@@ -17,4 +17,8 @@ pub mod GetRun
 pub mod GetLaw
 pub mod GetMarks
 pub mod GetAnswer
+pub mod Shuts
+pub mod Moving
+pub mod Moved
+pub mod Shutting
 pub mod Whole
