@@ -21,4 +21,5 @@ pub mod Shuts
 pub mod Moving
 pub mod Moved
 pub mod Shutting
+pub mod Okays
 pub mod Whole
