@@ -22,4 +22,5 @@ pub mod Moving
 pub mod Moved
 pub mod Shutting
 pub mod Okays
+pub mod Closings
 pub mod Whole

@@ -86,7 +86,7 @@ shut-first (r ∷ rs) = elim (shuts r) as (λ v. shuts r ≡ v → filter shuts 
   | false ↦ λ e. shut-first rs
 ] refl
 
-abbrev first_in : List Request → Option Request
+abbrev pub first_in : List Request → Option Request
 first_in [] = None
 first_in (r ∷ rs) = Some r
 
