@@ -1,24 +1,20 @@
 -- In every joined run what a channel closes stands so; so a close-ok that comes was sent for the close whose ticket it resolves.
-use Rattle.std.proofs.Common.{◌≡◌, ◌∙◌, ℕ, suc, ◌+◌, ◌≤◌, ◌==◌, Bool, true, false, cond, ◌&&◌, List, [], ◌∷◌, ◌++◌, length, length-append, Option, Some, None, refl, sym, ap, subst, append-nil, append_assoc, arith}
+use Rattle.std.proofs.Common.{◌≡◌, ◌∙◌, ℕ, ◌+◌, ◌≤◌, ◌==◌, Bool, true, false, cond, ◌&&◌, List, [], ◌∷◌, ◌++◌, length, length-append, Option, Some, None, refl, sym, ap, subst, append-nil, append_assoc, arith}
 use Rattle.std.specs.List.{filter}
 use Rattle.std.proofs.lemmas.List.Elements.{filter-append}
 use Rattle.lapin_types.specs.declared.event.Event.{Event}
 use Rattle.lapin_types.specs.declared.event.Event.TheVariants as event
 use Rattle.lapin_types.specs.declared.leaving.Left.{Left}
 use Rattle.lapin_types.specs.declared.record.Record.{Record}
-use Rattle.lapin_types.specs.declared.request.Request.{Request}
 use Rattle.lapin_types.specs.declared.request.ReplyKind.{ReplyKind}
 use Rattle.lapin_types.specs.declared.request.ReplyKind.TheVariants as reply_kind
-use Rattle.lapin_types.specs.Types.{Frame, Method}
-use Rattle.lapin_history.specs.declared.phases.ChannelPhase.{ChannelPhase}
-use Rattle.lapin_history.specs.declared.phases.ChannelPhase.TheVariants as phase
+use Rattle.lapin_types.specs.Types.{Frame}
 use Rattle.lapin_history.specs.declared.broker_frames.ConsumerPart.{ConsumerPart}
 use Rattle.lapin_history.specs.declared.broker_frames.ConsumerPart.TheVariants as consumer
 use Rattle.lapin_history.specs.declared.broker_frames.ContentPart.{ContentPart}
 use Rattle.lapin_history.specs.declared.broker_frames.ContentPart.TheVariants as part
 use Rattle.lapin_history.specs.declared.broker_frames.Incoming.{Incoming}
 use Rattle.lapin_history.specs.declared.broker_frames.Incoming.TheVariants as incoming
-use Rattle.lapin_history.specs.ChannelClose.{close_ticket}
 use Rattle.lapin_history.specs.ConfirmReadings.{is_full}
 use Rattle.lapin_history.specs.Events.{after_event}
 use Rattle.lapin_history.specs.Flow.{begins_on}
@@ -27,8 +23,7 @@ use Rattle.lapin_history.specs.History.{History, Past, past, rec, readings_of}
 use Rattle.lapin_history.specs.Incoming.{incoming_of}
 use Rattle.lapin_history.specs.Phases.{is_up}
 use Rattle.lapin_history.specs.Readings.{Readings}
-use Rattle.lapin_history.specs.Requests.{first_request, ticket_of}
-use Rattle.lapin_history.specs.Wire.{Wire, phase_of, requests_of}
+use Rattle.lapin_history.specs.Wire.{Wire}
 use Rattle.lapin_broker.specs.declared.frames.BrokerFrame.{BrokerFrame}
 use Rattle.lapin_broker.specs.declared.frames.BrokerFrame.TheVariants as broker
 use Rattle.lapin_broker.specs.Frames.{channel_of, broker_frame}
@@ -45,22 +40,19 @@ use Rattle.lapin_concord.specs.Incomes.{income_as}
 use Rattle.lapin_concord.proofs.Incomes.{sorted}
 use Rattle.lapin_effects.specs.Effects.{is_next}
 use Rattle.lapin_verdicts.specs.Deeds.{Deed, Read, Sent, lefts, sents, reads_of, deed_in, deeds}
-use Rattle.lapin_verdicts.specs.Session.{past_of}
-use Rattle.lapin_verdicts.specs.Verdicts.{at_place}
 use Rattle.lapin_verdicts.proofs.Assembly.{as_handed, in_run}
 use Rattle.lapin_verdicts.proofs.Books.{sents-append}
-use Rattle.lapin_verdicts.proofs.Keeping.{place-last}
 use Rattle.lapin_verdicts.proofs.Numbering.{AreRest}
 use Rattle.lapin_verdicts.proofs.Owing.{lefts-append}
-use Rattle.lapin_verdicts.proofs.Runs.{past-push, joined-push, deeds-push, split_at, at-first}
-use Rattle.lapin_answers.specs.Closes.{is_close_on, is_close_ok_as, is_close_ok_on, closes_in, close_oks_in, IsCloseOf, IsClosed}
+use Rattle.lapin_verdicts.proofs.Runs.{past-push, joined-push, deeds-push}
+use Rattle.lapin_answers.specs.Closes.{is_close_on, is_close_ok_as, is_close_ok_on, closes_in, close_oks_in}
 use Rattle.lapin_answers.proofs.Happens.{income_in}
-use Rattle.lapin_answers.proofs.Moving.{is_close_ok_in, place_of, place_in, place_down}
+use Rattle.lapin_answers.proofs.Moving.{is_close_ok_in, place_down}
 use Rattle.lapin_answers.proofs.Moved.{event_move}
-use Rattle.lapin_answers.proofs.Okays.{Okay, okay_in, owed_in}
+use Rattle.lapin_answers.proofs.Okays.{okay_in}
 use Rattle.lapin_answers.proofs.Running.{lost_down}
-use Rattle.lapin_answers.proofs.Shuts.{close_requests, waiting_closes, first_in, shut_found}
-use Rattle.lapin_answers.proofs.Shutting.{handed_closes, Held, HeldAt, Waits, Owed, AreShut, IsShutOf, Shutting, count_after, move_held, next_shutting}
+use Rattle.lapin_answers.proofs.Shuts.{close_requests, waiting_closes}
+use Rattle.lapin_answers.proofs.Shutting.{handed_closes, Held, Shutting, count_after, move_held, next_shutting}
 
 -- ---- a close-ok, as the session sorts it
 
@@ -122,14 +114,14 @@ count_is v c f came e = by v e ∙ sym (ap length (filter-append (is_close_ok_on
     by false e = let z : length (filter (is_close_ok_on c) (f ∷ [])) ≡ 0 = ap (λ (w : Bool). length (cond w (f ∷ []) [])) e in omega (arith, z)
 
 -- one that is on the way was sent
-one_sent : (c : ℕ) (f : Frame) (came fs sent : List Frame) → sent ≡ came ++ f ∷ fs → is_close_ok_on c f ≡ true → length (filter (is_close_ok_on c) came) + 1 ≤ length (filter (is_close_ok_on c) sent)
+pub one_sent : (c : ℕ) (f : Frame) (came fs sent : List Frame) → sent ≡ came ++ f ∷ fs → is_close_ok_on c f ≡ true → length (filter (is_close_ok_on c) came) + 1 ≤ length (filter (is_close_ok_on c) sent)
 one_sent c f came fs sent e h =
     let a : length (filter (is_close_ok_on c) sent) ≡ length (filter (is_close_ok_on c) came) + length (filter (is_close_ok_on c) (f ∷ fs)) = ap (λ v. length (filter (is_close_ok_on c) v)) e ∙ (ap length (filter-append (is_close_ok_on c) came (f ∷ fs)) ∙ length-append (filter (is_close_ok_on c) came) (filter (is_close_ok_on c) (f ∷ fs))) in
     let b : length (filter (is_close_ok_on c) (f ∷ fs)) ≡ length (f ∷ filter (is_close_ok_on c) fs) = ap (λ (w : Bool). length (cond w (f ∷ filter (is_close_ok_on c) fs) (filter (is_close_ok_on c) fs))) h in
     let d : length (f ∷ filter (is_close_ok_on c) fs) ≡ length (filter (is_close_ok_on c) fs) + 1 = omega arith in
     omega (arith, a, b, d)
 
-fewer_read : (c : ℕ) (ls ups : List Left) → length (filter (is_close_on c) ls) ≤ length (handed_closes c (ls ++ ups))
+pub fewer_read : (c : ℕ) (ls ups : List Left) → length (filter (is_close_on c) ls) ≤ length (handed_closes c (ls ++ ups))
 fewer_read c ls ups = let e : length (handed_closes c (ls ++ ups)) ≡ length (filter (is_close_on c) ls) + length (filter (is_close_on c) ups) = ap length (filter-append (is_close_on c) ls ups) ∙ length-append (filter (is_close_on c) ls) (filter (is_close_on c) ups) in omega (arith, e)
 
 -- ---- an event, which moves neither link nor deeds
@@ -235,10 +227,10 @@ module _ (n c : ℕ) where
   deliver_closing j f fs ds k s =
       let m : ℕ = length (filter (is_close_ok_on c) s.came) in
       let le : is_close_ok_in c (Some (incoming_of f)) ≡ true → m + 1 ≤ length (handed_closes c (lefts ds ++ j.up)) = λ t. (
-        let one = one_sent c f s.came fs (sents ds) s.order (sym (ok_comes c f) ∙ t) in
-        let most = k.most in
-        let read = fewer_read c (lefts ds) j.up in
-        omega (arith, one, most, read)) in
+      let one = one_sent c f s.came fs (sents ds) s.order (sym (ok_comes c f) ∙ t) in
+      let most = k.most in
+      let read = fewer_read c (lefts ds) j.up in
+      omega (arith, one, most, read)) in
       record {
         came = s.came ++ f ∷ [];
         order = s.order ∙ sym (append_assoc s.came (f ∷ []) fs);

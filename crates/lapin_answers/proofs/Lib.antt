@@ -23,4 +23,5 @@ pub mod Moved
 pub mod Shutting
 pub mod Okays
 pub mod Closings
+pub mod Closed
 pub mod Whole

@@ -1,5 +1,5 @@
 -- What a frame of the broker, and a loss, does to where a channel stands, to the request of its close, and to the closes that wait.
-use Rattle.std.proofs.Common.{◌≡◌, ◌∙◌, ℕ, ◌==◌, Bool, true, false, cond, not, ◌&&◌, ◌||◌, List, [], Some, None, inl, inr, refl, sym, ap, subst, eq-eqb}
+use Rattle.std.proofs.Common.{◌≡◌, ◌∙◌, ℕ, ◌==◌, Bool, true, false, cond, not, ◌&&◌, ◌||◌, List, Some, None, inl, inr, refl, sym, ap, subst, eq-eqb}
 use Rattle.std.specs.List.{filter}
 use Rattle.std.proofs.lemmas.Bool.{and_parts}
 use Rattle.std.proofs.lemmas.Bool.Decides.{eqb_tells}
@@ -30,27 +30,26 @@ use Rattle.lapin_history.specs.declared.phases.ConnectionPhase.{ConnectionPhase}
 use Rattle.lapin_history.specs.declared.phases.ConnectionPhase.TheVariants as link
 use Rattle.lapin_history.specs.declared.phases.Closer.TheVariants as closer
 use Rattle.lapin_history.specs.Words.{with_channel, is_some}
-use Rattle.lapin_history.specs.Phases.{is_up, is_live, is_lost}
+use Rattle.lapin_history.specs.Phases.{is_up, is_lost}
 use Rattle.lapin_history.specs.Frames.{MethodEntry, left_method}
 use Rattle.lapin_history.specs.Drops.{is_off, method_channel}
-use Rattle.lapin_history.specs.Requests.{first_request, without_request, without_kind, no_requests}
+use Rattle.lapin_history.specs.Requests.{first_request, without_kind, no_requests}
 use Rattle.lapin_history.specs.Ends.{down}
 use Rattle.lapin_history.specs.Readings.{Readings}
-use Rattle.lapin_history.specs.Wire.{Wire, requests_of, state_of, phase_of, is_open, is_opening, noted, lists_of, receives_on}
+use Rattle.lapin_history.specs.Wire.{Wire, requests_of, state_of, phase_of, is_open, is_opening, noted, receives_on}
 use Rattle.lapin_history.specs.Opening.{opens, phases_with}
 use Rattle.lapin_history.specs.ChannelClose.{kept_at, closing, after_close_ok, after_channel_close, after_broker_close, receives_close, receives_close_ok}
-use Rattle.lapin_history.specs.ConnectionClose.{unless_sent, has_sent, receives_down, after_connection_close}
+use Rattle.lapin_history.specs.ConnectionClose.{receives_down, after_connection_close}
 use Rattle.lapin_history.specs.Settlement.{settlement_record, session_close}
 use Rattle.lapin_history.specs.Reply.{receives, receives_reply, after_reply}
 use Rattle.lapin_history.specs.Flow.{after_flow}
 use Rattle.lapin_history.specs.Content.{receives_part, after_get_ok}
 use Rattle.lapin_history.specs.Consumers.{receives_consumer}
-use Rattle.lapin_history.specs.Unexpected.{refused, unexpected_close}
+use Rattle.lapin_history.specs.Unexpected.{refused}
 use Rattle.lapin_history.specs.Loss.{after_lost}
 use Rattle.lapin_history.specs.Receiving.{when, incoming_up, incoming_record, incoming_wire}
-use Rattle.lapin_broker.specs.Frames.{client_frame}
 use Rattle.lapin_concord.specs.Wires.{reply_number, is_asked}
-use Rattle.lapin_concord.proofs.Views.{phase_at, requests_at, requests_on_away, contents_on_here}
+use Rattle.lapin_concord.proofs.Views.{phase_at, requests_at}
 use Rattle.lapin_types.specs.Types.{ChannelMethod, ExchangeMethod, QueueMethod, BasicMethod, ConfirmMethod, TxMethod, Frame}
 use Rattle.lapin_types.specs.Types.access
 use Rattle.lapin_types.specs.Types.exchange
@@ -67,7 +66,7 @@ use Rattle.lapin_answers.specs.Closes.{is_close, is_close_on}
 use Rattle.lapin_answers.proofs.Happens.{income_in}
 use Rattle.lapin_answers.proofs.Lists.{lefts_of}
 use Rattle.lapin_answers.proofs.Shuts.{close_requests, waiting_closes, shuts, asked_apart, shut_without, shut_taken_here, shut_on_away, shut_kept, shut_none, closes_same, closes_grow, no_close, close_off, close_on, closes_gone, closes_away}
-use Rattle.lapin_answers.proofs.Moving.{Move, Moves, Stays, Passes, Breaks, Ends, Closes, Uncrosses, Falls, is_crossed_at, place_of, place_in, is_close_ok_in, place_up, place_down, place_here, place_away, open_is, call_move, acker_move, let_go_move}
+use Rattle.lapin_answers.proofs.Moving.{Moves, Stays, Passes, Breaks, Ends, Closes, Uncrosses, Falls, is_crossed_at, place_of, place_in, is_close_ok_in, place_up, place_down, place_here, place_away, open_is, call_move, acker_move, let_go_move}
 use Rattle.lapin_answers.proofs.Turns.{At, entry}
 
 -- no frame is sorted as a reply that is close-ok
@@ -164,13 +163,13 @@ module _ (c : ℕ) (e : Event) (x : Record) (class number : ℕ) where
       let to : Wire = noted d (session_close z.kind) (closing d closer.Session b) in
       elim (is_open (state_of d b)) as (λ t. is_open (state_of d b) ≡ t → Moves c e x (Some (incoming.Settlement d z)) b (cond t to b)) [
         | true ↦ λ a. elim (eqb_tells d c) [
-            | inl y ↦
-                let o = open_is (d == 0) (phase_of d b) (ap is_open (sym (state_up d b up)) ∙ a) in
-                let was : place_of c b ≡ Some (phase.Open o.0) = subst (λ v. place_of v b ≡ Some (phase.Open o.0)) y.1 (place_up d b up ∙ ap Some o.1) in
-                let now : place_of c to ≡ Some (phase.Closing closer.Session false) = subst (λ v. place_of v to ≡ Some (phase.Closing closer.Session false)) y.1 (place_here d (phase.Closing closer.Session false) b to up refl refl) in
-                Breaks refl o.0 (left_method (note d (session_close z.kind))) was now refl (closes_grow c b.methods (note d (session_close z.kind)) (close_on c (note d (session_close z.kind)) y.1 (own z)))
-            | inr n ↦ Stays refl (place_away c d (phase.Closing closer.Session false) b to refl refl n.0) refl (closes_same c b.methods (note d (session_close z.kind)) (close_off c (note d (session_close z.kind)) n.0))
-          ]
+          | inl y ↦
+              let o = open_is (d == 0) (phase_of d b) (ap is_open (sym (state_up d b up)) ∙ a) in
+              let was : place_of c b ≡ Some (phase.Open o.0) = subst (λ v. place_of v b ≡ Some (phase.Open o.0)) y.1 (place_up d b up ∙ ap Some o.1) in
+              let now : place_of c to ≡ Some (phase.Closing closer.Session false) = subst (λ v. place_of v to ≡ Some (phase.Closing closer.Session false)) y.1 (place_here d (phase.Closing closer.Session false) b to up refl refl) in
+              Breaks refl o.0 (left_method (note d (session_close z.kind))) was now refl (closes_grow c b.methods (note d (session_close z.kind)) (close_on c (note d (session_close z.kind)) y.1 (own z)))
+          | inr n ↦ Stays refl (place_away c d (phase.Closing closer.Session false) b to refl refl n.0) refl (closes_same c b.methods (note d (session_close z.kind)) (close_off c (note d (session_close z.kind)) n.0))
+        ]
         | false ↦ λ a. Stays refl refl refl refl
       ] refl
     where
@@ -195,13 +194,13 @@ module _ (c : ℕ) (e : Event) (x : Record) (class number : ℕ) where
       let ws : waiting_closes c to ≡ waiting_closes c b = noted_same c d (method.Channel (channel.FlowOk active)) b refl in
       elim (is_open (state_of d b)) as (λ t. is_open (state_of d b) ≡ t → Moves c e x (Some (incoming.Flow d active)) b (cond t to b)) [
         | true ↦ λ a. elim (eqb_tells d c) [
-            | inl y ↦
-                let o = open_is (d == 0) (phase_of d b) (ap is_open (sym (state_up d b up)) ∙ a) in
-                let was : place_of c b ≡ Some (phase.Open o.0) = subst (λ v. place_of v b ≡ Some (phase.Open o.0)) y.1 (place_up d b up ∙ ap Some o.1) in
-                let now : place_of c to ≡ Some (phase.Open (not active)) = subst (λ v. place_of v to ≡ Some (phase.Open (not active))) y.1 (place_here d (phase.Open (not active)) b to up refl refl) in
-                Passes refl (phase.Open o.0) (phase.Open (not active)) was now refl refl refl ws
-            | inr n ↦ Stays refl (place_away c d (phase.Open (not active)) b to refl refl n.0) refl ws
-          ]
+          | inl y ↦
+              let o = open_is (d == 0) (phase_of d b) (ap is_open (sym (state_up d b up)) ∙ a) in
+              let was : place_of c b ≡ Some (phase.Open o.0) = subst (λ v. place_of v b ≡ Some (phase.Open o.0)) y.1 (place_up d b up ∙ ap Some o.1) in
+              let now : place_of c to ≡ Some (phase.Open (not active)) = subst (λ v. place_of v to ≡ Some (phase.Open (not active))) y.1 (place_here d (phase.Open (not active)) b to up refl refl) in
+              Passes refl (phase.Open o.0) (phase.Open (not active)) was now refl refl refl ws
+          | inr n ↦ Stays refl (place_away c d (phase.Open (not active)) b to refl refl n.0) refl ws
+        ]
         | false ↦ λ a. Stays refl refl refl refl
       ] refl
 

@@ -1,7 +1,6 @@
 -- What an event but a frame request does to where a channel stands, to the request of its close, and to the closes that wait. First
 -- the calls.
-use Rattle.std.proofs.Common.{◌≡◌, ◌∙◌, ℕ, ◌+◌, ◌==◌, Bool, true, false, cond, ◌&&◌, List, [], ◌∷◌, ◌++◌, Option, Some, None, inl, inr, refl, sym, ap, subst, eq-eqb}
-use Rattle.std.specs.List.{filter}
+use Rattle.std.proofs.Common.{◌≡◌, ◌∙◌, ℕ, ◌+◌, ◌==◌, Bool, true, false, cond, ◌&&◌, List, [], ◌∷◌, ◌++◌, Option, Some, None, inl, inr, refl, sym, ap, subst}
 use Rattle.std.proofs.lemmas.Bool.{and_parts}
 use Rattle.std.proofs.lemmas.Bool.Decides.{eqb_tells}
 use Rattle.lapin_types.specs.declared.acker_call.AckerCall.{AckerCall}
@@ -25,28 +24,22 @@ use Rattle.lapin_types.specs.Types.method
 use Rattle.lapin_types.specs.Types.channel
 use Rattle.lapin_types.specs.Types.basic
 use Rattle.lapin_types.specs.Types.error
-use Rattle.lapin_types.specs.Types.channel_state as state
 use Rattle.lapin_history.specs.declared.broker_frames.Incoming.{Incoming}
 use Rattle.lapin_history.specs.declared.broker_frames.Incoming.TheVariants as incoming
-use Rattle.lapin_history.specs.declared.calls.Answered.{Answered}
-use Rattle.lapin_history.specs.declared.calls.Answered.TheVariants as answered
 use Rattle.lapin_history.specs.declared.calls.Asked.{Asked}
 use Rattle.lapin_history.specs.declared.calls.Asked.TheVariants as ask
 use Rattle.lapin_history.specs.declared.phases.ChannelPhase.{ChannelPhase}
 use Rattle.lapin_history.specs.declared.phases.ChannelPhase.TheVariants as phase
-use Rattle.lapin_history.specs.declared.phases.ConnectionPhase.{ConnectionPhase}
 use Rattle.lapin_history.specs.declared.phases.ConnectionPhase.TheVariants as link
 use Rattle.lapin_history.specs.declared.phases.Closer.{Closer}
 use Rattle.lapin_history.specs.declared.phases.Closer.TheVariants as closer
 use Rattle.lapin_history.specs.Words.{with_channel}
 use Rattle.lapin_history.specs.Frames.{MethodEntry, left_method}
 use Rattle.lapin_history.specs.Phases.{is_up}
-use Rattle.lapin_history.specs.Requests.{with_request}
 use Rattle.lapin_history.specs.Wire.{Wire, phase_of, state_of, is_open, is_closed, queued}
 use Rattle.lapin_history.specs.Opening.{after_open_call}
 use Rattle.lapin_history.specs.Calls.{asked, is_try, awaited_by, awaiting, unless_nowait}
 use Rattle.lapin_history.specs.ChannelClose.{own_close, after_broker_close, has_sent_close}
-use Rattle.lapin_history.specs.ConnectionClose.{own_connection_close}
 use Rattle.lapin_history.specs.Asking.{is_allowed, is_held, is_outstanding, asked_by, accepted_record, call_record, call_told, after_call, asked_wire}
 use Rattle.lapin_history.specs.Ackers.{acker_method, acked_wire}
 use Rattle.lapin_history.specs.Consumers.{lets_go_of, cancel_noted, after_let_go, let_go_cancel}

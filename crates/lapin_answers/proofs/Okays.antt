@@ -30,7 +30,7 @@ use Rattle.lapin_broker.specs.declared.peer.Peer.TheVariants as peer
 use Rattle.lapin_broker.specs.declared.peer.Connection.TheVariants as connection
 use Rattle.lapin_broker.specs.declared.request.RequestKind.{RequestKind}
 use Rattle.lapin_broker.specs.Contents.{is_idle}
-use Rattle.lapin_broker.specs.Frames.{channel_of, tag_of, client_frame, client_method, client_channel, client_exchange, client_queue, client_basic, client_confirm, client_tx, ask_unless, broker_frame}
+use Rattle.lapin_broker.specs.Frames.{channel_of, tag_of, client_frame, client_channel, client_exchange, client_queue, client_basic, client_confirm, client_tx, ask_unless, broker_frame}
 use Rattle.lapin_broker.specs.States.{Channel, Broker, channel_in, channel_at, with_channel, is_up, is_leaving, owes_connection, after_break}
 use Rattle.lapin_broker.specs.Reads.{is_open, read, read_up, read_channel, with_piece, read_in, read_open, breaks_in, begins_in, content_after, admits, is_connection_close, is_connection_close_ok, after_client_close, after_client_close_ok}
 use Rattle.lapin_broker.specs.Sends.{may, may_in, send, send_on, after_send, after_own_close_ok, is_close, is_read_on}

@@ -10,7 +10,6 @@ use Rattle.lapin_types.specs.declared.request.Request.{Request}
 use Rattle.lapin_types.specs.declared.request.ReplyKind.{ReplyKind}
 use Rattle.lapin_types.specs.declared.request.ReplyKind.TheVariants as reply_kind
 use Rattle.lapin_types.specs.Requests.{kind_of}
-use Rattle.lapin_types.specs.Types.frame
 use Rattle.lapin_history.specs.declared.phases.ChannelPhase.{ChannelPhase}
 use Rattle.lapin_history.specs.ChannelClose.{has_sent_close, kept_at}
 use Rattle.lapin_history.specs.Drops.{is_off, method_channel}

@@ -32,11 +32,11 @@ use Rattle.lapin_tables.specs.ByChannel.{on_channel}
 use Rattle.lapin_concord.proofs.Views.{phase_at, requests_at, phase_on_here, phase_on_away}
 use Rattle.lapin_verdicts.proofs.Numbering.{AreRest, is_content}
 use Rattle.lapin_verdicts.proofs.Opens.{sent_methods}
-use Rattle.lapin_answers.specs.Closes.{closes, is_close_on, IsClose, IsCloseOf}
+use Rattle.lapin_answers.specs.Closes.{closes, is_close_on, IsCloseOf}
 use Rattle.lapin_answers.proofs.Lets.{handing_still}
 use Rattle.lapin_answers.proofs.Lists.{lefts_of}
 use Rattle.lapin_answers.proofs.Shuts.{close_requests, waiting_closes, first_of, rest_of, shuts}
-use Rattle.lapin_answers.proofs.Moving.{Move, Moves, Stays, Passes, Shuts, Breaks, Ends, Closes, Uncrosses, Falls, is_crossed_at, is_unshut, is_close_ok_in, place_of, place_in}
+use Rattle.lapin_answers.proofs.Moving.{Move, Stays, Passes, Shuts, Breaks, Ends, Closes, Uncrosses, Falls, is_crossed_at, is_unshut, is_close_ok_in, place_of, place_in}
 
 -- ---- what is handed out
 

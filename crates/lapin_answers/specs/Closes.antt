@@ -1,12 +1,14 @@
 -- What a ticket says that close-ok resolved: to which of the client's closes the broker sent it.
-use Rattle.std.specs.Prelude.{◌≡◌, ℕ, suc, ◌==◌, Bool, true, false, ◌&&◌, List, [], ◌∷◌, ◌++◌, length, Some}
-use Rattle.std.specs.List.{filter}
+use Rattle.std.specs.Prelude.{◌≡◌, ℕ, suc, ◌==◌, Bool, true, false, ◌&&◌, List, ◌∷◌, ◌++◌, length, Option, Some, None}
+use Rattle.std.specs.List.{filter, list_any}
 use Rattle.lapin_types.specs.declared.event.Event.{Event}
 use Rattle.lapin_types.specs.declared.event.Event.TheVariants as event
 use Rattle.lapin_types.specs.declared.call.Call.{Call}
 use Rattle.lapin_types.specs.declared.leaving.Left.{Left}
 use Rattle.lapin_types.specs.declared.record.Record.{Record}
 use Rattle.lapin_types.specs.declared.record.Record.TheVariants as record_
+use Rattle.lapin_types.specs.declared.request.Request.{Request}
+use Rattle.lapin_types.specs.declared.request.ReplyKind.TheVariants as reply_kind
 use Rattle.lapin_types.specs.Types.{Frame, Method}
 use Rattle.lapin_types.specs.Types.frame
 use Rattle.lapin_types.specs.Types.method
@@ -15,6 +17,8 @@ use Rattle.lapin_history.specs.declared.calls.Asked.TheVariants as ask
 use Rattle.lapin_history.specs.Calls.{asked}
 use Rattle.lapin_history.specs.ChannelClose.{own_close}
 use Rattle.lapin_history.specs.History.{History}
+use Rattle.lapin_history.specs.Requests.{is_kind}
+use Rattle.lapin_history.specs.Wire.{Wire, requests_of}
 use Rattle.lapin_broker.specs.declared.frames.BrokerFrame.{BrokerFrame}
 use Rattle.lapin_broker.specs.declared.frames.BrokerFrame.TheVariants as broker
 use Rattle.lapin_broker.specs.Frames.{channel_of, broker_frame}
@@ -85,3 +89,13 @@ pub record IsClosed (c n : ℕ) (m : Method) (reply : Frame) (deeds : List Deed)
   pub was_read : at_place (suc (length (close_oks_in c before))) (closes_in c before) ≡ Some close
   pub ticket : close.ticket ≡ Some n
   pub method : close.frame ≡ frame.Method c m
+
+-- ---- what else an end of an opening resolves
+
+abbrev pub is_ticket : ℕ → Option ℕ → Bool
+is_ticket n None = false
+is_ticket n (Some t) = t == n
+
+-- a `basic.cancel` that is open on the channel has the ticket
+abbrev pub is_open_cancel : ℕ → ℕ → Wire → Bool
+is_open_cancel n c b = list_any (λ (r : Request). is_ticket n r.ticket) (filter (is_kind reply_kind.BasicCancelOk) (requests_of c b))
