@@ -322,7 +322,7 @@ module _ (n c : ℕ) (big : 4096 ≤ n) where
 
   -- where the session doesn't hear the channel there is nothing to say
   unheard : (h : History) (down down' : List Frame) (opened opened' : List Deed) → hears c (past n h).wire ≡ false → Carrying c h (past n h).wire down opened → Carrying c h (past n h).wire down' opened'
-  unheard h down down' opened opened' d s = record { silent = s.silent; gets = gets_none c h (expected_on c (past n h).wire.contents) down' opened' (s.silent d) }
+  unheard h down down' _ opened' d s = record { silent = s.silent; gets = gets_none c h (expected_on c (past n h).wire.contents) down' opened' (s.silent d) }
 
   read_carried : (j : Joint History) (l : Left) (ds : List Deed) → (hears c (past n j.session).wire ≡ true → is_open_on c l ≡ false) → For j ds → For j (ds ++ Read l ∷ [])
   read_carried j l ds none s = elim (hears c (past n j.session).wire) as (λ v. hears c (past n j.session).wire ≡ v → For j (ds ++ Read l ∷ [])) [

@@ -24,4 +24,7 @@ pub mod Shutting
 pub mod Okays
 pub mod Closings
 pub mod Closed
+pub mod Ending
+pub mod EndOks
+pub mod Ended
 pub mod Whole

@@ -48,7 +48,7 @@ use Rattle.lapin_consumer.specs.Roster.{Consumer}
 use Rattle.lapin_concord.proofs.Views.{phase_at, phase_with, phase_away}
 use Rattle.lapin_concord.specs.Wires.{is_asked}
 use Rattle.lapin_concord.proofs.Incomes.{kinds_tell}
-use Rattle.lapin_answers.specs.Closes.{is_close, IsClose}
+use Rattle.lapin_answers.specs.Closes.{is_close, is_end, IsClose}
 use Rattle.lapin_answers.proofs.Lists.{and_none}
 use Rattle.lapin_answers.proofs.Rows.{Row, RowOf, row_of}
 use Rattle.lapin_answers.proofs.Shuts.{asked_apart, close_requests, waiting_closes, first_of, rest_of, shuts, shut_with_here, shut_with_away, shut_with_other, closes_same, closes_grow, no_close, close_off, close_on}
@@ -115,13 +115,13 @@ place_away c d p b b' l ps n = ap (λ v. place_in (is_up v) (phase_of c b')) l �
 
 -- ---- calls
 
--- the method of a call that neither opens nor closes is no close
+-- the method of a call that neither opens nor closes is no close, of a channel or of the connection
 abbrev pub IsInner : Asked → Type 0
-IsInner (ask.Method row) = is_close row.method ≡ false
-IsInner (ask.Consume m tag queue o) = is_close m ≡ false
+IsInner (ask.Method row) = (is_close row.method ≡ false) × (is_end row.method ≡ false)
+IsInner (ask.Consume m tag queue o) = (is_close m ≡ false) × (is_end m ≡ false)
 IsInner _ = Unit {0}
 
-line_inner : (m : Method) (t : Bool) (r : Reply) (a : Answer) → is_close m ≡ false → IsInner (unless_nowait m t r a)
+line_inner : (m : Method) (t : Bool) (r : Reply) (a : Answer) → (is_close m ≡ false) × (is_end m ≡ false) → IsInner (unless_nowait m t r a)
 line_inner m true r a h = h
 line_inner m false r a h = h
 
@@ -132,22 +132,22 @@ inner (call.ConnectionClose code text) = tt
 inner (call.BasicPublish exchange key o payload properties) = tt
 inner (call.TryBasicPublish exchange key o payload properties) = tt
 inner (call.ConfirmLimit limit) = tt
-inner (call.ExchangeDeclare name k o more) = line_inner _ o.nowait _ _ refl
-inner (call.ExchangeDelete name o) = line_inner _ o.nowait _ _ refl
-inner (call.ExchangeBind to from key o more) = line_inner _ o.nowait _ _ refl
-inner (call.ExchangeUnbind to from key o more) = line_inner _ o.nowait _ _ refl
-inner (call.QueueDeclare name o more) = line_inner _ o.nowait _ _ refl
-inner (call.QueueBind name from key o more) = line_inner _ o.nowait _ _ refl
-inner (call.QueuePurge name o) = line_inner _ o.nowait _ _ refl
-inner (call.QueueDelete name o) = line_inner _ o.nowait _ _ refl
+inner (call.ExchangeDeclare name k o more) = line_inner _ o.nowait _ _ (refl, refl)
+inner (call.ExchangeDelete name o) = line_inner _ o.nowait _ _ (refl, refl)
+inner (call.ExchangeBind to from key o more) = line_inner _ o.nowait _ _ (refl, refl)
+inner (call.ExchangeUnbind to from key o more) = line_inner _ o.nowait _ _ (refl, refl)
+inner (call.QueueDeclare name o more) = line_inner _ o.nowait _ _ (refl, refl)
+inner (call.QueueBind name from key o more) = line_inner _ o.nowait _ _ (refl, refl)
+inner (call.QueuePurge name o) = line_inner _ o.nowait _ _ (refl, refl)
+inner (call.QueueDelete name o) = line_inner _ o.nowait _ _ (refl, refl)
 inner (call.BasicConsume name tag o more) = consumes o.nowait
   where
     consumes : (t : Bool) → IsInner (cond t (ask.Consume (method.Basic (basic.Consume name tag o.no_local o.no_ack o.exclusive t more)) tag name o) (awaiting (method.Basic (basic.Consume name tag o.no_local o.no_ack o.exclusive t more)) (reply.BasicConsumeOk name o)))
-    consumes true = refl
-    consumes false = refl
-inner (call.BasicCancel tag o) = line_inner _ o.nowait _ _ refl
-inner (call.ConfirmSelect o) = line_inner _ o.nowait _ _ refl
-inner _ = refl
+    consumes true = (refl, refl)
+    consumes false = (refl, refl)
+inner (call.BasicCancel tag o) = line_inner _ o.nowait _ _ (refl, refl)
+inner (call.ConfirmSelect o) = line_inner _ o.nowait _ _ (refl, refl)
+inner _ = (refl, refl)
 
 acker_inner : (tag : ℕ) (k : AckerCall) → is_close (acker_method k tag) ≡ false
 acker_inner tag (acker_call.Ack o) = refl
@@ -205,10 +205,10 @@ accepted_call c d k ask.Open b is up al n f = open_call c d (event.Call d k) (re
 accepted_call c d k (ask.CloseChannel code text) b is up al n f = close_call c d k code text b is up al
 accepted_call c d k (ask.CloseConnection code text) b is up al n f = Falls refl
 accepted_call c d k (ask.Publish exchange key o payload properties) b is up al n f = Stays refl refl refl refl
-accepted_call c d k (ask.Consume m tag queue o) b is up al n f = line_call c d (event.Call d k) _ m None b n f
+accepted_call c d k (ask.Consume m tag queue o) b is up al n f = line_call c d (event.Call d k) _ m None b n.0 f
 accepted_call c d k (ask.Limit limit) b is up al n f = Stays refl refl refl refl
 accepted_call c d k ask.Nothing b is up al n f = absurd cc
-accepted_call c d k (ask.Method row) b is up al n f = line_call c d (event.Call d k) _ row.method (awaited_by row.answered) b n f
+accepted_call c d k (ask.Method row) b is up al n f = line_call c d (event.Call d k) _ row.method (awaited_by row.answered) b n.0 f
 
 asked_move : (c d : ℕ) (k : Call) (b : Wire) (x : Error) → Moves c (event.Call d k) (cond (is_allowed (asked k) (state_of d b)) (accepted_record (asked k) b) (record_.Refused x)) None b (asked_wire d (asked k) b)
 asked_move c d k b x = elim (is_allowed (asked k) (state_of d b)) as (λ t. is_allowed (asked k) (state_of d b) ≡ t → Moves c (event.Call d k) (cond t (accepted_record (asked k) b) (record_.Refused x)) None b (cond t (after_call d (asked k) b) b)) [

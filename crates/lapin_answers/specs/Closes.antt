@@ -13,9 +13,11 @@ use Rattle.lapin_types.specs.Types.{Frame, Method}
 use Rattle.lapin_types.specs.Types.frame
 use Rattle.lapin_types.specs.Types.method
 use Rattle.lapin_types.specs.Types.channel
+use Rattle.lapin_types.specs.Types.connection
 use Rattle.lapin_history.specs.declared.calls.Asked.TheVariants as ask
 use Rattle.lapin_history.specs.Calls.{asked}
 use Rattle.lapin_history.specs.ChannelClose.{own_close}
+use Rattle.lapin_history.specs.ConnectionClose.{own_connection_close}
 use Rattle.lapin_history.specs.History.{History}
 use Rattle.lapin_history.specs.Requests.{is_kind}
 use Rattle.lapin_history.specs.Wire.{Wire, requests_of}
@@ -89,6 +91,59 @@ pub record IsClosed (c n : ℕ) (m : Method) (reply : Frame) (deeds : List Deed)
   pub was_read : at_place (suc (length (close_oks_in c before))) (closes_in c before) ≡ Some close
   pub ticket : close.ticket ≡ Some n
   pub method : close.frame ≡ frame.Method c m
+
+-- ---- the close of the connection
+
+-- the method is `connection.close` (AMQP 0-9-1, connection class)
+abbrev pub is_end : Method → Bool
+is_end (method.Connection (connection.Close code text class number)) = true
+is_end _ = false
+
+abbrev pub ends : Frame → Bool
+ends (frame.Method c m) = is_end m
+ends _ = false
+
+abbrev pub is_end_left : Left → Bool
+is_end_left l = ends l.frame
+
+-- the frame of the broker is `connection.close-ok`, on the connection's channel
+abbrev pub is_end_ok_as : BrokerFrame → Bool
+is_end_ok_as broker.ConnectionCloseOk = true
+is_end_ok_as _ = false
+
+-- the closes of the connection that the broker read
+abbrev pub ends_in : List Deed → List Left
+ends_in ds = filter is_end_left (lefts ds)
+
+-- the event is a close of the connection that was given this ticket, and that queues this method
+pub record IsEnd (ticket channel : ℕ) (method : Method) (e : Event) (r : Record) : Type 0 where
+  pub call : Call
+  pub code : ℕ
+  pub text : List ℕ
+  pub is : e ≡ event.Call channel call
+  pub given : r ≡ record_.Ticket ticket
+  pub asks : asked call ≡ ask.CloseConnection code text
+  pub queues : method ≡ own_connection_close code text
+
+-- such a call stands in the history
+pub record IsEndOf (ticket channel : ℕ) (method : Method) (h : History) : Type 0 where
+  pub before : History
+  pub behind : History
+  pub event : Event
+  pub told : Record
+  pub all : h ≡ before ++ (event, told) ∷ behind
+  pub is : IsEnd ticket channel method event told
+
+-- The broker had read the close of the connection that the call of this ticket made, the first that it read, and after that it sent this
+-- close-ok.
+pub record IsEnded (channel n : ℕ) (m : Method) (reply : Frame) (deeds : List Deed) : Type 0 where
+  pub before : List Deed
+  pub behind : List Deed
+  pub close : Left
+  pub all : deeds ≡ before ++ Sent reply ∷ behind
+  pub was_read : at_place 1 (ends_in before) ≡ Some close
+  pub ticket : close.ticket ≡ Some n
+  pub method : close.frame ≡ frame.Method channel m
 
 -- ---- what else an end of an opening resolves
 

@@ -20,7 +20,7 @@ use Rattle.lapin_verdicts.specs.Publishes.{Message}
 use Rattle.lapin_verdicts.specs.Session.{past_of}
 use Rattle.lapin_verdicts.specs.Verdicts.{at_place, messages_in, called_in, IsVerdict}
 use Rattle.lapin_answers.specs.Calls.{IsCallOf}
-use Rattle.lapin_answers.specs.Closes.{is_close_ok_as, IsCloseOf, IsClosed, is_open_cancel}
+use Rattle.lapin_answers.specs.Closes.{is_close_ok_as, IsCloseOf, IsClosed, is_end_ok_as, IsEndOf, IsEnded, is_open_cancel}
 use Rattle.lapin_answers.specs.Replies.{IsReplied, IsGot}
 
 -- Where a confirm is resolved as Ack or Nack, with its tag: the broker had read whole, as the number of that tag in the opening of its
@@ -53,6 +53,12 @@ ClosesAreAnswered frame_max steps = (n : ℕ) (a : Answer) (reply : Frame) (way 
     ((m : Method) × IsCloseOf n (channel_of reply) m (joined_to frame_max steps).session × IsClosed (channel_of reply) n m reply (deeds frame_max steps))
     ⊎ (is_open_cancel n (channel_of reply) (past_of frame_max steps).wire ≡ true)
 
+-- Where the connection's close-ok that is delivered next resolves a ticket with an answer, the broker sent it for the close of the
+-- connection of that very call.
+abbrev pub EndIsAnswered : ℕ → List Step → Type 0
+EndIsAnswered frame_max steps = (n : ℕ) (a : Answer) (reply : Frame) (way : List Frame) → (joined_to frame_max steps).down ≡ reply ∷ way → is_end_ok_as (broker_frame reply) ≡ true → answer_of n (past_of frame_max steps).tickets ≡ None → answer_of n (past_of frame_max (steps ++ step.Deliver ∷ [])).tickets ≡ Some (Ok a) →
+    (c : ℕ) × (m : Method) × IsEndOf n c m (joined_to frame_max steps).session × IsEnded c n m reply (deeds frame_max steps)
+
 -- all of it
 pub record IsTrue (frame_max : ℕ) (steps : List Step) : Type 0 where
   pub unrefused : NoneIsRefused frame_max steps
@@ -62,3 +68,4 @@ pub record IsTrue (frame_max : ℕ) (steps : List Step) : Type 0 where
   pub replies : RepliesAnswerCalls frame_max steps
   pub gets : GetsCarryContents frame_max steps
   pub closes : ClosesAreAnswered frame_max steps
+  pub end : EndIsAnswered frame_max steps

@@ -2,7 +2,7 @@
 
 ghost use Rattle.std.specs.Prelude.{◌≤◌, ℕ, List};
 ghost use Rattle.lapin_joint.specs.declared.step.Step.{Step as AStep};
-ghost use Rattle.lapin_answers.specs.Truth.{RepliesAnswerCalls, GetsCarryContents, ClosesAreAnswered};
+ghost use Rattle.lapin_answers.specs.Truth.{RepliesAnswerCalls, GetsCarryContents, ClosesAreAnswered, EndIsAnswered};
 
 /// In every joined run: where the reply that is delivered resolves ticket n, the call of that ticket was made on the reply's channel, the
 /// broker had read that very call's method, with that ticket, in the channel's last opening, and after that it sent this reply as the
@@ -24,4 +24,11 @@ pub fn a_get_carries_what_was_sent_after_its_answer()
 /// a `basic.cancel`, which the end of the opening resolves.
 pub fn a_close_ok_is_for_that_very_close()
     ensures { (frame_max : ℕ) → 4096 ≤ frame_max → (steps : List AStep) → ClosesAreAnswered frame_max steps }
+{}
+
+/// In every joined run: where the connection's close-ok that is delivered resolves ticket n with an answer, the call of that ticket was a
+/// close of the connection, the broker had read that very call's close, with that ticket, and after that it sent this close-ok, also where
+/// the two closes crossed.
+pub fn a_close_ok_of_the_connection_is_for_that_very_close()
+    ensures { (frame_max : ℕ) → 4096 ≤ frame_max → (steps : List AStep) → EndIsAnswered frame_max steps }
 {}
