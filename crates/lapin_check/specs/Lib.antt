@@ -1,0 +1,6 @@
+pub mod Account
+pub mod Finding
+pub mod Marks
+pub mod Openings
+pub mod Rules
+pub mod Settlements
