@@ -12,7 +12,8 @@ use Rattle.lapin_history.specs.Events.{after_event}
 use Rattle.lapin_machine.proofs.Standing.{past-push}
 use Rattle.lapin_joint.specs.declared.step.Step as joined_step
 use Rattle.lapin_joint.specs.declared.step.Step.TheVariants as joined
-use Rattle.lapin_joint.specs.Joint.{Way, Joint, by_history, new_joint, after, run, joined_to}
+use Rattle.lapin_joint.specs.Joint.{Joint, new_joint, after, run, joined_to}
+use Rattle.lapin_machine.specs.Way.{Way, by_history}
 use Rattle.lapin_resend.specs.declared.step.ResendStep.{ResendStep}
 use Rattle.lapin_resend.specs.Messages.{Standing, publish_of, waits, confirm_of}
 use Rattle.lapin_resend.specs.Publisher.{Publisher, Steps, Met, told, state_in, with_event, with_all, publishing, publish_one, each, after_polls, after_opening, after_selecting, after_publishing, tended}

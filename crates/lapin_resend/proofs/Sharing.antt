@@ -29,7 +29,8 @@ use Rattle.lapin_machine.proofs.Standing.{past-push}
 use Rattle.lapin_broker.specs.Sends.{may}
 use Rattle.lapin_joint.specs.declared.step.Step as joined_step
 use Rattle.lapin_joint.specs.declared.step.Step.TheVariants as joined
-use Rattle.lapin_joint.specs.Joint.{Joint, by_history, new_joint, after, is_lawful, client, read_first, send_down, deliver_first, joined_to}
+use Rattle.lapin_joint.specs.Joint.{Joint, new_joint, after, is_lawful, client, read_first, send_down, deliver_first, joined_to}
+use Rattle.lapin_machine.specs.Way.{by_history}
 use Rattle.lapin_resend.specs.declared.step.ResendStep.{ResendStep}
 use Rattle.lapin_resend.specs.declared.step.ResendStep.TheVariants as step
 use Rattle.lapin_resend.specs.Messages.{Standing, submitted, publish_of, polled, waits, confirm_of, forgotten}

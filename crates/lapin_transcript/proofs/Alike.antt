@@ -7,7 +7,8 @@ use Rattle.lapin_broker.specs.States.{Broker}
 use Rattle.lapin_broker.specs.Sends.{may}
 use Rattle.lapin_joint.specs.declared.step.Step.{Step}
 use Rattle.lapin_joint.specs.declared.step.Step.TheVariants as step
-use Rattle.lapin_joint.specs.Joint.{Joint, by_history, by_machine, new_joint, after}
+use Rattle.lapin_joint.specs.Joint.{Joint, new_joint, after}
+use Rattle.lapin_machine.specs.Way.{by_history, by_machine}
 use Rattle.lapin_joint.specs.Kept.{AreAlike}
 use Rattle.lapin_joint.specs.Order.{along}
 use Rattle.lapin_joint.proofs.Alike.{alike-next, unreturned-next, new_alike}

@@ -14,7 +14,8 @@ use Rattle.lapin_broker.specs.Sends.{may, may_sorted, send}
 use Rattle.lapin_broker.specs.States.{Broker, is_broken, is_up, is_leaving, owes_connection, connection_after_loss, channel_at, after_break}
 use Rattle.lapin_joint.specs.declared.step.Step.{Step}
 use Rattle.lapin_joint.specs.declared.step.Step.TheVariants as step
-use Rattle.lapin_joint.specs.Joint.{Way, Joint, by_history, new_joint, client, send_down, read_first, deliver_first, is_lawful, after, run, joined_to}
+use Rattle.lapin_joint.specs.Joint.{Joint, new_joint, client, send_down, read_first, deliver_first, is_lawful, after, run, joined_to}
+use Rattle.lapin_machine.specs.Way.{Way, by_history}
 use Rattle.lapin_joint.specs.Order.{is_no_loss, nothing_lost, along}
 use Rattle.lapin_check.specs.declared.seen.Seen.{Seen}
 use Rattle.lapin_check.specs.declared.seen.Seen.TheVariants as seen

@@ -1,7 +1,8 @@
 //! What the broker of a joined run read and sent.
 
 ghost use Rattle.std.specs.Prelude.{◌≡◌, ◌≤◌, ◌<◌, ◌+◌, ◌^◌, ◌++◌, false, length, IfOk, OnOk, OnErr, vec_len, vec_capacity};
-ghost use Rattle.lapin_joint.specs.Joint.{by_machine, after};
+ghost use Rattle.lapin_joint.specs.Joint.{after};
+ghost use Rattle.lapin_machine.specs.Way.{by_machine};
 ghost use Rattle.lapin_joint.specs.Order.{along};
 ghost use Rattle.lapin_transcript.specs.Transcript.{seen_in, as_list, transcript as transcript_lem, IsBegun};
 

@@ -1,6 +1,6 @@
 use Rattle.std.proofs.Common.{◌≡◌, ◌∙◌, sym, subst, refl, List, [], ◌++◌, append-nil}
 use Rattle.std.specs.Result.{OnOk, OnErr}
-use Rattle.lapin_joint.specs.Joint.{by_machine}
+use Rattle.lapin_machine.specs.Way.{by_machine}
 use Rattle.lapin_joint.specs.Kept.{Kept}
 use Rattle.lapin_joint.specs.Order.{along}
 use Rattle.lapin_check.specs.declared.seen.Seen.{Seen}
