@@ -1,9 +1,10 @@
 -- What a frame does to the broker that follows a transcript, to its count of opens, and to the account so far. The account is read
 -- off the frames alone in Account; here it goes on frame by frame.
-use Rattle.std.specs.Prelude.{ℕ, suc, Bool, ◌&&◌, not, nat_lt, if◌then◌else◌, List, [], ◌∷◌, ◌++◌, length, map, Option, Some, None}
+use Rattle.std.specs.Prelude.{◌≡◌, ℕ, suc, Bool, ◌&&◌, not, nat_lt, if◌then◌else◌, List, [], ◌∷◌, ◌++◌, length, map, Option, Some, None}
 use Rattle.std.specs.Option.{is_some}
 use Rattle.lapin_types.specs.Types.{Frame}
 use Rattle.lapin_tables.specs.ByChannel.{at_channel, on_channel}
+use Rattle.lapin_tables.specs.Numbered.{Slots}
 use Rattle.lapin_broker.specs.States.{Broker, new_broker, channel_at}
 use Rattle.lapin_broker.specs.Frames.{channel_of}
 use Rattle.lapin_broker.specs.Reads.{read}
@@ -16,14 +17,15 @@ use Rattle.lapin_check.specs.Openings.{opens}
 use Rattle.lapin_check.specs.Settlements.{settlement_in, covers}
 use Rattle.lapin_check.specs.Account.{numbered, told_of}
 
--- a broker, and how many opens of each channel it read
+-- a broker, how many opens of each channel it read, and where the publishes of each channel's present opening stand in the account
 pub record Watch : Type 0 where
   pub broker : Broker
   pub opens : List (ℕ × ℕ)
+  pub unsettled : List (ℕ × Slots ℕ)
 
 -- a new broker, which read nothing
 abbrev pub new_watch : ℕ → Watch
-new_watch frame_max = record { broker = new_broker frame_max; opens = [] }
+new_watch frame_max = record { broker = new_broker frame_max; opens = []; unsettled = [] }
 
 -- a count that was found, and 0 where none was
 abbrev pub count_in : Option ℕ → ℕ
@@ -43,9 +45,10 @@ abbrev pub opens_after : Seen → Watch → List (ℕ × ℕ)
 opens_after (seen.Up f) w = if opens w.broker f then with_count (channel_of f) w.opens else w.opens
 opens_after (seen.Down f) w = w.opens
 
--- the broker and its counts after what is seen
-abbrev pub watch_after : Seen → Watch → Watch
-watch_after x w = record { broker = after_seen x w.broker; opens = opens_after x w }
+-- the broker and its counts are those after what is seen
+pub record IsAfter (x : Seen) (old new : Watch) : Type 0 where
+  pub broker : new.broker ≡ after_seen x old.broker
+  pub opens : new.opens ≡ opens_after x old
 
 -- a settlement that was sent at this place, in this opening of its channel, settles a publish that it covers and that wasn't settled
 abbrev pub mark : ℕ → ℕ → Settlement → Counted → Counted

@@ -25,8 +25,10 @@ abbrev pub settlement_seen : Seen → Option Settlement
 settlement_seen (seen.Up f) = None
 settlement_seen (seen.Down f) = settlement_in f
 
--- A settlement that is sent while the channel has this opening covers a publish of that channel and opening: a single one the
--- publish of its own number, a multiple one each up to its own, and with 0 every one.
+-- a single settlement reaches its own number, a multiple one each number up to its own, and with 0 every number
+abbrev pub reaches : Settlement → ℕ → Bool
+reaches s n = if s.multiple then s.number == 0 || nat_le n s.number else s.number == n
+
+-- A settlement that is sent while the channel has this opening covers a publish of that channel and opening whose number it reaches.
 abbrev pub covers : Settlement → ℕ → Counted → Bool
-covers s o k =
-    s.channel == k.channel && o == k.opening && (if s.multiple then s.number == 0 || nat_le k.number s.number else s.number == k.number)
+covers s o k = s.channel == k.channel && o == k.opening && reaches s k.number

@@ -1,7 +1,7 @@
 //! The account: an entry for each whole publish that the broker numbered, with the settlement that covers it.
 
-ghost use Rattle.std.specs.Prelude.{◌≡◌, map};
-ghost use Rattle.lapin_check.specs.Settlements.{covers as covers_lem};
+ghost use Rattle.std.specs.Prelude.{◌≡◌};
+ghost use Rattle.lapin_check.specs.Settlements.{covers as covers_lem, reaches as reaches_lem};
 ghost use Rattle.lapin_check.specs.Marks.{mark as mark_lem};
 
 use crate::seen::Settlement;
@@ -31,8 +31,8 @@ pub struct Counted {
 }
 
 impl Counted {
-    // Settles it, where it isn't settled and the settlement, which was sent in that opening and at that place, covers it.
-    fn mark(&mut self, settlement: Settlement, opening: u64, place: u64)
+    /// Settles it, where it isn't settled and the settlement, which was sent in that opening and at that place, covers it.
+    pub(crate) fn mark(&mut self, settlement: Settlement, opening: u64, place: u64)
         ensures { self.new ≡ mark_lem place opening settlement self.old }
     {
         if self.settled.is_none() && covers(settlement, opening, *self) {
@@ -50,18 +50,16 @@ fn covers(settlement: Settlement, opening: u64, counted: Counted) -> bool
 {
     settlement.channel == counted.channel
         && opening == counted.opening
-        && if settlement.multiple {
-            settlement.number == 0 || counted.number <= settlement.number
-        } else {
-            settlement.number == counted.number
-        }
+        && reaches(settlement, counted.number)
 }
 
-/// Settles what a settlement covers, which was sent in this opening and at this place.
-pub(crate) fn mark_all(account: &mut Vec<Counted>, settlement: Settlement, opening: u64, place: u64)
-    ensures { account.new.items ≡ map (mark_lem place opening settlement) account.old.items }
+/// Whether a settlement reaches a number: a single one its own, a multiple one each up to its own, and with 0 every one.
+pub(crate) fn reaches(settlement: Settlement, number: u64) -> bool
+    ensures { result ≡ reaches_lem settlement number }
 {
-    for counted in account.iter_mut() {
-        counted.mark(settlement, opening, place);
+    if settlement.multiple {
+        settlement.number == 0 || number <= settlement.number
+    } else {
+        settlement.number == number
     }
 }

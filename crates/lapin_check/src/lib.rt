@@ -11,6 +11,7 @@ mod finding;
 mod refusing;
 mod seen;
 mod transcript;
+mod unsettled;
 mod watch;
 
 pub use account::{Counted, Settled};

@@ -1,20 +1,23 @@
 //! A broker that follows a transcript, frame by frame, with the account of what it numbered.
 
-ghost use Rattle.std.specs.Prelude.{◌≡◌, ◌≤◌, ◌<◌, ◌^◌, ◌+◌, ◌++◌, [], ◌∷◌, true, false, length, IfOk, OnOk, OnErr, IfSome, IfNone, Option, Some, None};
+ghost use Rattle.std.specs.Prelude.{◌≡◌, ◌≢◌, ◌≤◌, ◌<◌, ◌^◌, ◌+◌, ◌++◌, [], ◌∷◌, ℕ, suc, true, false, length, nat_lt, if◌then◌else◌, IfOk, OnOk, OnErr, IfSome, IfNone, Option, Some, None};
 ghost use Rattle.lapin_broker.specs.Reads.{read as read_lem};
 ghost use Rattle.lapin_broker.specs.Sends.{may, send as send_lem};
 ghost use Rattle.lapin_broker.specs.States.{is_broken, new_broker};
 ghost use Rattle.lapin_broker.specs.Frames.{channel_of as channel_of_lem};
 ghost use Rattle.lapin_check.specs.declared.seen.Seen.TheVariants as seen;
 ghost use Rattle.lapin_check.specs.Openings.{opens as opens_lem};
-ghost use Rattle.lapin_check.specs.Marks.{count_at, with_count, watch_after, account_after, opens_after};
+ghost use Rattle.lapin_check.specs.Account.{numbered as numbered_lem};
+ghost use Rattle.lapin_check.specs.Marks.{count_at, with_count, counted_by, account_after, new_watch, IsAfter};
+ghost use Rattle.lapin_check.specs.Pointing.{IsKept, AreFound, AreSettledBy, places_of, emptied, joined_by};
 ghost use Rattle.lapin_check.specs.Finding.{fits, fault};
 
-use crate::account::{Counted, mark_all};
+use crate::account::Counted;
 use crate::breaking::break_rule;
 use crate::finding::Finding;
 use crate::refusing::send_rule;
-use crate::seen::{Seen, settlement_of};
+use crate::seen::{Seen, Settlement, settlement_of};
+use crate::unsettled::{Unsettled, add, begin, settle};
 use lapin_broker::frames::{channel_of, client_frame};
 use lapin_broker::{Broker, BrokerState, PeerState};
 use lapin_tables::ByChannel;
@@ -22,10 +25,11 @@ use lapin_types::{Frame, NoMemory};
 use std::alloc::Global;
 use std::marker::Model;
 
-/// A broker, and how many `channel.open` of each channel it read.
+/// A broker, how many `channel.open` of each channel it read, and where the publishes of each one's present opening stand in the account.
 pub(crate) struct Watch {
     broker: Broker,
     opens: ByChannel<u64>,
+    unsettled: Unsettled,
 }
 
 impl Drop for Watch {
@@ -33,6 +37,7 @@ impl Drop for Watch {
         let Watch {
             broker: _,
             opens: _,
+            unsettled: _,
         } = self;
     }
 }
@@ -42,17 +47,18 @@ impl Model for Watch {
 
     ghost Value = { Watch };
 
-    ghost view = { λ a. record { broker = a.broker; opens = a.opens.entries } };
+    ghost view = { λ a. record { broker = a.broker; opens = a.opens.entries; unsettled = a.unsettled.entries } };
 }
 
 impl Watch {
     /// A new broker, which read nothing.
     pub(crate) fn new(alloc: Global, frame_max: u32) -> Result<Watch, NoMemory>
-        ensures { IfOk result (λ made. made ≡ record { broker = new_broker frame_max; opens = [] }) }
+        ensures { IfOk result (λ made. made ≡ new_watch frame_max) }
     {
         Ok(Watch {
             broker: Broker::new(alloc, frame_max)?,
             opens: ByChannel::new(alloc),
+            unsettled: ByChannel::new(alloc),
         })
     }
 
@@ -68,9 +74,11 @@ impl Watch {
         place: u64,
         account: &mut Vec<Counted>,
     ) -> Result<Option<Finding>, NoMemory>
+        requires { (p : ℕ) × (place ≡ suc p) × IsKept p self.old account.old.items }
         ensures fine { IfOk result (λ o. IfNone o (fits self.old.broker seen.now ≡ true)) }
-        ensures after { IfOk result (λ o. IfNone o (self.new ≡ watch_after seen.now self.old)) }
+        ensures after { IfOk result (λ o. IfNone o (IsAfter seen.now self.old self.new)) }
         ensures account { IfOk result (λ o. IfNone o (account.new.items ≡ account_after place seen.now self.old account.old.items)) }
+        ensures kept { IfOk result (λ o. IfNone o (IsKept place self.new account.new.items)) }
         ensures wrong { IfOk result (λ o. IfSome o (λ f. (fits self.old.broker seen.now ≡ false) × (f ≡ fault place self.old.broker seen.now))) }
         ensures same { IfOk result (λ o. IfSome o (λ f. account.new.items ≡ account.old.items)) }
     {
@@ -88,9 +96,11 @@ impl Watch {
         place: u64,
         account: &mut Vec<Counted>,
     ) -> Result<Option<Finding>, NoMemory>
+        requires { (p : ℕ) × (place ≡ suc p) × IsKept p self.old account.old.items }
         ensures fine { IfOk result (λ o. IfNone o (is_broken (read_lem self.old.broker frame.now).connection ≡ false)) }
-        ensures after { IfOk result (λ o. IfNone o (self.new ≡ watch_after (seen.Up frame.now) self.old)) }
+        ensures after { IfOk result (λ o. IfNone o (IsAfter (seen.Up frame.now) self.old self.new)) }
         ensures account { IfOk result (λ o. IfNone o (account.new.items ≡ account_after place (seen.Up frame.now) self.old account.old.items)) }
+        ensures kept { IfOk result (λ o. IfNone o (IsKept place self.new account.new.items)) }
         ensures wrong { IfOk result (λ o. IfSome o (λ f. (is_broken (read_lem self.old.broker frame.now).connection ≡ true) × (f ≡ fault place self.old.broker (seen.Up frame.now)))) }
         ensures same { IfOk result (λ o. IfSome o (λ f. account.new.items ≡ account.old.items)) }
     {
@@ -102,19 +112,8 @@ impl Watch {
         if self.broker.broken() {
             return Ok(Some(Finding::Broken { place, rule }));
         }
-        if opens {
-            self.count(channel)?;
-        }
-        let number = self.broker.numbered(channel);
-        if before < number {
-            account.push(Counted {
-                channel,
-                opening: self.opened(channel),
-                number,
-                place,
-                settled: None,
-            })?;
-        }
+        self.open_by(alloc, opens, channel, place)?;
+        self.number_by(alloc, before, channel, place, account)?;
         Ok(None)
     }
 
@@ -138,15 +137,73 @@ impl Watch {
         }
     }
 
-    // An open of a channel was read.
-    fn count(&mut self, channel: u16) -> Result<(), NoMemory>
-        ensures { OnOk result (self.new ≡ record self.old { opens = with_count channel self.old.opens }) }
+    // Where the channel was opened, that is counted, and nothing is kept of its opening before.
+    fn open_by(
+        &mut self,
+        alloc: Global,
+        opens: bool,
+        channel: u16,
+        place: u64,
+    ) -> Result<(), NoMemory>
+        requires { count_at channel self.old.opens < place }
+        ensures broker { OnOk result (self.new.broker ≡ self.old.broker) }
+        ensures opens { OnOk result (self.new.opens ≡ (if opens then with_count channel self.old.opens else self.old.opens)) }
+        ensures here { OnOk result (places_of channel self.new.unsettled ≡ emptied opens (places_of channel self.old.unsettled)) }
+        ensures others { OnOk result ((d : ℕ) → d ≢ channel → places_of d self.new.unsettled ≡ places_of d self.old.unsettled) }
+    {
+        if opens {
+            begin(alloc, &mut self.unsettled, channel);
+            self.count(channel, place)
+        } else {
+            Ok(())
+        }
+    }
+
+    // An open of a channel was read, at a place behind the others.
+    fn count(&mut self, channel: u16, place: u64) -> Result<(), NoMemory>
+        requires { count_at channel self.old.opens < place }
+        ensures broker { OnOk result (self.new.broker ≡ self.old.broker) }
+        ensures opens { OnOk result (self.new.opens ≡ with_count channel self.old.opens) }
+        ensures same { OnOk result (self.new.unsettled ≡ self.old.unsettled) }
     {
         if let Some(count) = self.opens.get_mut(channel) {
-            return add_one(count);
+            *count += 1;
+            return Ok(());
         }
         self.opens.insert(channel, 1)?;
         Ok(())
+    }
+
+    // Where the broker has numbered more publishes of the channel than these, the last one joins the account.
+    fn number_by(
+        &mut self,
+        alloc: Global,
+        before: u64,
+        channel: u16,
+        place: u64,
+        account: &mut Vec<Counted>,
+    ) -> Result<(), NoMemory>
+        requires { length (places_of channel self.old.unsettled) < place }
+        ensures broker { OnOk result (self.new.broker ≡ self.old.broker) }
+        ensures opens { OnOk result (self.new.opens ≡ self.old.opens) }
+        ensures account { OnOk result (account.new.items ≡ (if nat_lt before (numbered_lem channel self.old.broker) then account.old.items ++ counted_by place channel self.old.broker self.old.opens ∷ [] else account.old.items)) }
+        ensures here { OnOk result (places_of channel self.new.unsettled ≡ joined_by (nat_lt before (numbered_lem channel self.old.broker)) (length account.old.items) (places_of channel self.old.unsettled)) }
+        ensures others { OnOk result ((d : ℕ) → d ≢ channel → places_of d self.new.unsettled ≡ places_of d self.old.unsettled) }
+    {
+        let number = self.broker.numbered(channel);
+        if before < number {
+            add(alloc, &mut self.unsettled, channel, account.len())?;
+            account.push(Counted {
+                channel,
+                opening: self.opened(channel),
+                number,
+                place,
+                settled: None,
+            })?;
+            Ok(())
+        } else {
+            Ok(())
+        }
     }
 
     // The broker sends a frame, where it may. A settlement settles what it covers.
@@ -157,9 +214,11 @@ impl Watch {
         place: u64,
         account: &mut Vec<Counted>,
     ) -> Result<Option<Finding>, NoMemory>
+        requires { (p : ℕ) × (place ≡ suc p) × IsKept p self.old account.old.items }
         ensures fine { IfOk result (λ o. IfNone o (may self.old.broker frame.now ≡ true)) }
-        ensures after { IfOk result (λ o. IfNone o (self.new ≡ watch_after (seen.Down frame.now) self.old)) }
+        ensures after { IfOk result (λ o. IfNone o (IsAfter (seen.Down frame.now) self.old self.new)) }
         ensures account { IfOk result (λ o. IfNone o (account.new.items ≡ account_after place (seen.Down frame.now) self.old account.old.items)) }
+        ensures kept { IfOk result (λ o. IfNone o (IsKept place self.new account.new.items)) }
         ensures wrong { IfOk result (λ o. IfSome o (λ f. (may self.old.broker frame.now ≡ false) × (f ≡ fault place self.old.broker (seen.Down frame.now)))) }
         ensures same { IfOk result (λ o. IfSome o (λ f. account.new.items ≡ account.old.items)) }
     {
@@ -168,23 +227,20 @@ impl Watch {
             return Ok(Some(Finding::NotAllowed { place, rule }));
         }
         self.broker.send(alloc, frame)?;
-        if let Some(settlement) = settlement_of(frame) {
-            mark_all(account, settlement, self.opened(settlement.channel), place);
-        }
+        self.settle_by(settlement_of(frame), place, account);
         Ok(None)
     }
-}
 
-// One more. A number that can't be counted any more is no memory: none is ever counted that far.
-fn add_one(count: &mut u64) -> Result<(), NoMemory>
-    ensures ok { OnOk result (count.new ≡ count.old + 1) }
-    ensures err { OnErr result (count.new ≡ count.old) }
-{
-    match count.checked_add(1) {
-        Some(more) => {
-            *count = more;
-            Ok(())
+    // What a settlement covers is settled, if one was sent.
+    fn settle_by(&mut self, settlement: Option<Settlement>, place: u64, account: &mut Vec<Counted>)
+        requires { AreFound settlement self.old account.old.items }
+        ensures broker { self.new.broker ≡ self.old.broker }
+        ensures opens { self.new.opens ≡ self.old.opens }
+        ensures settled { AreSettledBy settlement place self.old self.new account.old.items account.new.items }
+    {
+        if let Some(settlement) = settlement {
+            let opening = self.opened(settlement.channel);
+            settle(&mut self.unsettled, settlement, opening, place, account);
         }
-        None => Err(NoMemory),
     }
 }
