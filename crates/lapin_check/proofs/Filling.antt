@@ -17,8 +17,10 @@ use Rattle.lapin_check.specs.Finding.{after_seen, fits, fault, finding_from, fin
 use Rattle.lapin_check.specs.Openings.{broker_after, opened}
 use Rattle.lapin_check.specs.Settlements.{settlement_in, covers}
 use Rattle.lapin_check.specs.Account.{numbered, place_after, told_of, first_covering, counted_at, with_settlement, account_from, account_of}
-use Rattle.lapin_check.specs.Marks.{Watch, count_at, opens_after, watch_after, mark, marked, counted_by, with_publish, account_after, new_watch}
+use Rattle.lapin_check.specs.Marks.{Watch, count_at, opens_after, IsAfter, mark, marked, counted_by, with_publish, account_after, new_watch}
+use Rattle.lapin_check.specs.Pointing.{IsKept}
 use Rattle.lapin_check.proofs.Following.{Follows, follows-next, follows-new}
+use Rattle.lapin_check.proofs.Keeping.{kept-new}
 
 -- a publish with the first settlement behind this past that covers it, where it isn't settled before
 abbrev pub fill : ℕ → List Seen → List Seen → Counted → Counted
@@ -89,10 +91,11 @@ pub account-next : (m : ℕ) (past xs : List Seen) (x : Seen) (w : Watch) (accou
     map (fill m (past ++ x ∷ []) xs) (account_after (place_after past) x w account) ++ account_from m (past ++ x ∷ []) xs
     ≡ map (fill m past (x ∷ xs)) account ++ account_from m past (x ∷ xs)
 account-next m past xs (seen.Up f) w account h =
-    let next = follows-next m past (seen.Up f) w h in
     let g : Counted → Counted = fill m (past ++ seen.Up f ∷ []) xs in
     let rest : List Counted = account_from m (past ++ seen.Up f ∷ []) xs in
     let c : ℕ = channel_of f in
+    let after : Watch = record w { broker = read w.broker f; opens = opens_after (seen.Up f) w } in
+    let next : Follows m (past ++ seen.Up f ∷ []) after = follows-next m past (seen.Up f) w after h (record { broker = refl; opens = refl }) in
     let entry : counted_by (place_after past) c (read w.broker f) (opens_after (seen.Up f) w) ≡ counted_at m past (seen.Up f) =
     ap (λ (o : ℕ). record { channel = c; opening = o; number = numbered c (read w.broker f); place = place_after past; settled = None }) (next.opens c)
     ∙ ap (λ (b : Broker). record { channel = c; opening = opened m (past ++ seen.Up f ∷ []) c; number = numbered c b; place = place_after past; settled = None }) next.broker in
@@ -109,28 +112,42 @@ account-next m past xs (seen.Down f) w account h =
 pub record AtPlace (m : ℕ) (all past rest : List Seen) (place : ℕ) (w : Watch) (account : List Counted) : Type 0 where
   pub place_is : place ≡ length past
   pub follows : Follows m past w
+  pub kept : IsKept place w account
   pub finds : finding_from place w.broker rest ≡ finding m all
   pub told : map (fill m past (fitting w.broker rest)) account ++ account_from m past (fitting w.broker rest) ≡ account_of m all
 
 pub at_start : (m : ℕ) (all : List Seen) → AtPlace m all [] all 0 (new_watch m) []
-at_start m all = record { place_is = refl; follows = follows-new m; finds = refl; told = refl }
+at_start m all = record { place_is = refl; follows = follows-new m; kept = kept-new m; finds = refl; told = refl }
 
 longer : (past : List Seen) (x : Seen) → length (past ++ x ∷ []) ≡ suc (length past)
 longer [] x = refl
 longer (y ∷ ys) x = ap suc (longer ys x)
 
-pub at_next : (m : ℕ) (all past rest : List Seen) (x : Seen) (place : ℕ) (w : Watch) (account : List Counted) → AtPlace m all past (x ∷ rest) place w account → fits w.broker x ≡ true → AtPlace m all (past ++ x ∷ []) rest (suc place) (watch_after x w) (account_after (suc place) x w account)
-at_next m all past rest x place w account h good =
+-- what a frame that fits leads to
+pub record Goes (place : ℕ) (x : Seen) (w v : Watch) (account new : List Counted) : Type 0 where
+  pub fits_so : fits w.broker x ≡ true
+  pub after : IsAfter x w v
+  pub account_is : new ≡ account_after place x w account
+  pub kept : IsKept place v new
+
+pub at_next : (m : ℕ) (all past rest : List Seen) (x : Seen) (place : ℕ) (w v : Watch) (account new : List Counted) → AtPlace m all past (x ∷ rest) place w account → Goes (suc place) x w v account new → AtPlace m all (past ++ x ∷ []) rest (suc place) v new
+at_next m all past rest x place w v account new h goes =
     let said : cond (fits w.broker x) (finding_from (suc place) (after_seen x w.broker) rest) (fault (suc place) w.broker x) ≡ finding m all = h.finds in
     let T : Bool → Type 0 = λ b. map (fill m past (cond b (x ∷ fitting (after_seen x w.broker) rest) [])) account ++ account_from m past (cond b (x ∷ fitting (after_seen x w.broker) rest) []) ≡ account_of m all in
-    let told : T true = subst T good h.told in
+    let told : T true = subst T goes.fits_so h.told in
+    let finds : finding_from (suc place) (after_seen x w.broker) rest ≡ finding m all = rw goes.fits_so at said in
+    let grown : map (fill m (past ++ x ∷ []) (fitting (after_seen x w.broker) rest)) (account_after (suc place) x w account) ++ account_from m (past ++ x ∷ []) (fitting (after_seen x w.broker) rest) ≡ account_of m all =
+    ap (λ (p : ℕ). map (fill m (past ++ x ∷ []) (fitting (after_seen x w.broker) rest)) (account_after p x w account) ++ account_from m (past ++ x ∷ []) (fitting (after_seen x w.broker) rest)) (ap suc h.place_is)
+    ∙ account-next m past (fitting (after_seen x w.broker) rest) x w account h.follows
+    ∙ told in
     record {
       place_is = ap suc h.place_is ∙ sym (longer past x);
-      follows = follows-next m past x w h.follows;
-      finds = rw good at said;
-      told = ap (λ (p : ℕ). map (fill m (past ++ x ∷ []) (fitting (after_seen x w.broker) rest)) (account_after p x w account) ++ account_from m (past ++ x ∷ []) (fitting (after_seen x w.broker) rest)) (ap suc h.place_is)
-          ∙ account-next m past (fitting (after_seen x w.broker) rest) x w account h.follows
-          ∙ told;
+      follows = follows-next m past x w v h.follows goes.after;
+      kept = goes.kept;
+      finds = ap (λ (b : Broker). finding_from (suc place) b rest) goes.after.broker ∙ finds;
+      told = ap (λ (b : Broker). map (fill m (past ++ x ∷ []) (fitting b rest)) new ++ account_from m (past ++ x ∷ []) (fitting b rest)) goes.after.broker
+          ∙ ap (λ (ks : List Counted). map (fill m (past ++ x ∷ []) (fitting (after_seen x w.broker) rest)) ks ++ account_from m (past ++ x ∷ []) (fitting (after_seen x w.broker) rest)) goes.account_is
+          ∙ grown;
     }
 
 -- a frame doesn't fit: that is found, and the account is whole
@@ -153,17 +170,13 @@ module _ (m : ℕ) (all : List Seen) (i place : ℕ) (w : Watch) (account : List
       let cut : drop i all ≡ x ∷ drop (i + 1) all = drop_more all i x lt ∙ ap (λ (y : Seen). y ∷ drop (i + 1) all) (sym is) in
       subst (λ (rest : List Seen). AtPlace m all (take i all) rest place w account) cut h
 
-  pub seen_next : (v : Watch) (new : List Counted) → fits w.broker x ≡ true → v ≡ watch_after x w → new ≡ account_after (place + 1) x w account → AtPlace m all (take (i + 1) all) (drop (i + 1) all) (place + 1) v new
-  seen_next v new good v_is new_is =
+  pub seen_next : (v : Watch) (new : List Counted) → Goes (place + 1) x w v account new → AtPlace m all (take (i + 1) all) (drop (i + 1) all) (place + 1) v new
+  seen_next v new goes =
       let grown : take (i + 1) all ≡ take i all ++ x ∷ [] = take_more all i x lt ∙ ap (λ (y : Seen). take i all ++ y ∷ []) (sym is) in
-      let next : AtPlace m all (take i all ++ x ∷ []) (drop (i + 1) all) (suc place) (watch_after x w) (account_after (suc place) x w account) = at_next m all (take i all) (drop (i + 1) all) x place w account here good in
-      let placed : AtPlace m all (take i all ++ x ∷ []) (drop (i + 1) all) (place + 1) (watch_after x w) (account_after (place + 1) x w account) =
-      subst (λ (p : ℕ). AtPlace m all (take i all ++ x ∷ []) (drop (i + 1) all) p (watch_after x w) (account_after p x w account)) (sym (add-one place)) next in
-      let past : AtPlace m all (take (i + 1) all) (drop (i + 1) all) (place + 1) (watch_after x w) (account_after (place + 1) x w account) =
-      subst (λ (xs : List Seen). AtPlace m all xs (drop (i + 1) all) (place + 1) (watch_after x w) (account_after (place + 1) x w account)) (sym grown) placed in
-      let watched : AtPlace m all (take (i + 1) all) (drop (i + 1) all) (place + 1) v (account_after (place + 1) x w account) =
-      subst (λ (u : Watch). AtPlace m all (take (i + 1) all) (drop (i + 1) all) (place + 1) u (account_after (place + 1) x w account)) (sym v_is) past in
-      subst (λ (ks : List Counted). AtPlace m all (take (i + 1) all) (drop (i + 1) all) (place + 1) v ks) (sym new_is) watched
+      let placed : Goes (suc place) x w v account new = subst (λ (p : ℕ). Goes p x w v account new) (add-one place) goes in
+      let next : AtPlace m all (take i all ++ x ∷ []) (drop (i + 1) all) (suc place) v new = at_next m all (take i all) (drop (i + 1) all) x place w v account new here placed in
+      let counted : AtPlace m all (take i all ++ x ∷ []) (drop (i + 1) all) (place + 1) v new = subst (λ (p : ℕ). AtPlace m all (take i all ++ x ∷ []) (drop (i + 1) all) p v new) (sym (add-one place)) next in
+      subst (λ (xs : List Seen). AtPlace m all xs (drop (i + 1) all) (place + 1) v new) (sym grown) counted
 
   pub seen_fault : fits w.broker x ≡ false → (fault (place + 1) w.broker x ≡ finding m all) × (account ≡ account_of m all)
   seen_fault bad =

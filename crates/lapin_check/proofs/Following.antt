@@ -6,7 +6,7 @@ use Rattle.lapin_check.specs.declared.seen.Seen.{Seen}
 use Rattle.lapin_check.specs.declared.seen.Seen.TheVariants as seen
 use Rattle.lapin_check.specs.Finding.{after_seen}
 use Rattle.lapin_check.specs.Openings.{opens, opens_channel, broker_from, broker_after, opened_from, opened}
-use Rattle.lapin_check.specs.Marks.{Watch, new_watch, count_at, opens_after, watch_after}
+use Rattle.lapin_check.specs.Marks.{Watch, new_watch, count_at, opens_after, IsAfter}
 use Rattle.lapin_check.proofs.Counts.{more_if, counted_if}
 
 pub record Follows (frame_max : ℕ) (past : List Seen) (w : Watch) : Type 0 where
@@ -33,11 +33,12 @@ opens-next c (seen.Down f) w = refl
 pub follows-new : (m : ℕ) → Follows m [] (new_watch m)
 follows-new m = record { broker = refl; opens = λ c. refl }
 
-pub follows-next : (m : ℕ) (past : List Seen) (x : Seen) (w : Watch) → Follows m past w → Follows m (past ++ x ∷ []) (watch_after x w)
-follows-next m past x w h = record {
-  broker = ap (after_seen x) h.broker ∙ sym (broker-push (new_broker m) past x);
+pub follows-next : (m : ℕ) (past : List Seen) (x : Seen) (w v : Watch) → Follows m past w → IsAfter x w v → Follows m (past ++ x ∷ []) v
+follows-next m past x w v h after = record {
+  broker = after.broker ∙ ap (after_seen x) h.broker ∙ sym (broker-push (new_broker m) past x);
   opens = λ c.
-      opens-next c x w
+      ap (count_at c) after.opens
+      ∙ opens-next c x w
       ∙ ap (more_if (opens_channel c w.broker x)) (h.opens c)
       ∙ ap (λ (b : Broker). more_if (opens_channel c b x) (opened m past c)) h.broker
       ∙ sym (opened-push c (new_broker m) past x);

@@ -1,6 +1,9 @@
-use Rattle.std.proofs.Common.{◌∙◌, arith}
+use Rattle.std.proofs.Common.{◌∙◌, refl, add-one, arith}
 use Rattle.lapin_check.proofs.Filling.{seen_next, seen_fault, seen_all}
 use Rattle.lapin_check.proofs.transcript.check_all.Goals as goal
+
+pub take-requires : goal.take-requires
+take-requires c = (c.loop-seen.place, add-one c.loop-seen.place, c.loop-seen.invariant.kept)
 
 pub returns-in-Some-clause-account : goal.returns-in-Some-clause-account
 returns-in-Some-clause-account c =
@@ -13,7 +16,9 @@ loop-seen-preserved c =
     let fine = rw c.in_default.is at c.in_ok-finding.ensures.fine in
     let after = rw c.in_default.is at c.in_ok-finding.ensures.after in
     let account = rw c.in_default.is at c.in_ok-finding.ensures.account in
-    seen_next c.args.frame_max c.args.transcript.now c.loop-seen.seen-index c.loop-seen.place c.loop-seen.watch c.loop-seen.account.items c.seen-item.result c.loop-seen.invariant (omega (arith, c.loop-seen-test.true, c.loop-seen.auto.seen-index-end)) c.seen-item.is c.take.new.self c.take.new.account.items fine after account
+    let kept = rw c.in_default.is at c.in_ok-finding.ensures.kept in
+    seen_next c.args.frame_max c.args.transcript.now c.loop-seen.seen-index c.loop-seen.place c.loop-seen.watch c.loop-seen.account.items c.seen-item.result c.loop-seen.invariant (omega (arith, c.loop-seen-test.true, c.loop-seen.auto.seen-index-end)) c.seen-item.is c.take.new.self c.take.new.account.items
+    (record { fits_so = fine; after = after; account_is = account; kept = kept })
 
 pub returns-clause-account : goal.returns-clause-account
 returns-clause-account c = (seen_all c.args.frame_max c.args.transcript.now c.loop-seen.seen-index c.loop-seen.place c.loop-seen.watch c.loop-seen.account.items c.loop-seen.invariant (omega (arith, c.loop-seen-test.false, c.loop-seen.auto.seen-index-end))).1
