@@ -107,6 +107,7 @@ module _ (f : Frame) (b : Broker) where
   -- it was opened, and has no number yet
   pub record IsOpened (y : Channel) : Type 0 where
     pub opened : opens b f ≡ true
+    pub after : rests y ≡ false
     pub numbers : y.numbers ≡ []
 
   abbrev pub Moves : Channel → Type 0
@@ -173,7 +174,7 @@ module _ (f : Frame) (b : Broker) where
     free_moves : x.peer ≡ peer.Free → is_up b.connection ≡ true → (t : Bool) → reads.is_open u ≡ t → Moves (cond t (record x { peer = peer.Asked }) x)
     free_moves is up true asks =
         let at_rest : rests x ≡ true = ap (λ q. is_free (state_of_peer q)) is in
-        inr (inr (inr (record { opened = all_true (reads.is_open u) (is_up b.connection) (rests x) asks up at_rest; numbers = ap (λ (y : Channel). y.numbers) (free at_rest) })))
+        inr (inr (inr (record { opened = all_true (reads.is_open u) (is_up b.connection) (rests x) asks up at_rest; after = refl; numbers = ap (λ (y : Channel). y.numbers) (free at_rest) })))
       where
         all_true : (p q r : Bool) → p ≡ true → q ≡ true → r ≡ true → p && q && r ≡ true
         all_true p q r a e i = rw (a, e, i) refl

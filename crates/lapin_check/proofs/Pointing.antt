@@ -26,7 +26,7 @@ get_front (z ∷ zs) x y zero h = h
 get_front (z ∷ zs) x y (suc i) h = get_front zs x y i h
 
 -- what stands in a longer list stood there, or is the last
-get_either : {X : Type 0} (xs : List X) (x y : X) (i : ℕ) → slice_get (xs ++ x ∷ []) i ≡ Some y → (slice_get xs i ≡ Some y) ⊎ ((i ≡ length xs) × (x ≡ y))
+pub get_either : {X : Type 0} (xs : List X) (x y : X) (i : ℕ) → slice_get (xs ++ x ∷ []) i ≡ Some y → (slice_get xs i ≡ Some y) ⊎ ((i ≡ length xs) × (x ≡ y))
 get_either [] x y zero h = inr (refl, cc)
 get_either [] x y (suc i) h = cc
 get_either (z ∷ zs) x y zero h = inl h
@@ -36,7 +36,7 @@ get_either (z ∷ zs) x y (suc i) h =
       | inr new ↦ inr (ap suc new.0, new.1)
     ]
 
-mapped : {X Y : Type 0} (f : X → Y) (o : Option X) (y : Y) → option_map f o ≡ Some y → (x : X) × (o ≡ Some x) × (f x ≡ y)
+pub mapped : {X Y : Type 0} (f : X → Y) (o : Option X) (y : Y) → option_map f o ≡ Some y → (x : X) × (o ≡ Some x) × (f x ≡ y)
 mapped f None y h = cc
 mapped f (Some x) y h = (x, refl, cc)
 
@@ -115,14 +115,14 @@ module _ (p o : ℕ) (s : Settlement) where
       at c d n q (Some x) is none = is
       at c d n q None is none = chosen (covers s o (record { channel = c; opening = d; number = n; place = q; settled = None })) _ _ refl is none
 
-  mark_channel : (k : Counted) → (mark p o s k).channel ≡ k.channel
+  pub mark_channel : (k : Counted) → (mark p o s k).channel ≡ k.channel
   mark_channel k = at (not (is_some k.settled) && covers s o k)
     where
       at : (b : Bool) → (cond b (record k { settled = Some (told_of p s) }) k).channel ≡ k.channel
       at true = refl
       at false = refl
 
-  mark_opening : (k : Counted) → (mark p o s k).opening ≡ k.opening
+  pub mark_opening : (k : Counted) → (mark p o s k).opening ≡ k.opening
   mark_opening k = at (not (is_some k.settled) && covers s o k)
     where
       at : (b : Bool) → (cond b (record k { settled = Some (told_of p s) }) k).opening ≡ k.opening
