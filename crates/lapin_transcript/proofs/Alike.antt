@@ -23,7 +23,7 @@ seen_same n (step.Send f) j k h = ap (λ (b : Broker). cond (may b f) (seen.Down
 seen_same n step.Deliver j k h = refl
 seen_same n step.Lose j k h = refl
 
-along_same : (n : ℕ) (ts : List Step) (j : Joint History) (k : Joint World) → k.session.returned ≡ None → AreAlike n j k → along by_machine seen_in ts k ≡ along (by_history n) seen_in ts j
+pub along_same : (n : ℕ) (ts : List Step) (j : Joint History) (k : Joint World) → k.session.returned ≡ None → AreAlike n j k → along by_machine seen_in ts k ≡ along (by_history n) seen_in ts j
 along_same n [] j k none h = refl
 along_same n (t ∷ ts) j k none h =
     let one = alike-next n t j k none h in
