@@ -1,5 +1,5 @@
 -- How the code's messages and joined runs stand for those of the definition.
-use Rattle.std.specs.Prelude.{◌≡◌, ℕ, List, map, Option, Some, None}
+use Rattle.std.specs.Prelude.{◌≡◌, ℕ, Bool, not, List, map, Option, Some, None}
 use Rattle.lapin_types.specs.declared.event.Event.{Event}
 use Rattle.lapin_joint.specs.declared.step.Reported.{Reported}
 use Rattle.lapin_joint.specs.declared.step.Reported.TheVariants as reported
@@ -8,9 +8,21 @@ use Rattle.lapin_resend.specs.declared.message.Submitted.{Submitted}
 use Rattle.lapin_resend.specs.Messages.{Standing, polled, confirm_of}
 use Rattle.lapin_resend.specs.Publisher.{Steps, Met, told, with_event, each}
 
+-- the place of a message among all
+abbrev pub place : Submitted → ℕ
+place s = s.place
+
+-- a message that isn't stored is kept
+abbrev pub is_kept : Submitted → Bool
+is_kept s = not s.stored
+
 -- how far a message came
 abbrev pub standing : Submitted → Standing
 standing s = record { message = s.message; stored = s.stored; outstanding = s.outstanding }
+
+-- a message with its place
+abbrev pub entry_of : Submitted → ℕ × Standing
+entry_of s = (s.place, standing s)
 
 -- what the report of a poll makes of a message
 abbrev pub polled_report : Reported → Standing → Standing

@@ -4,6 +4,7 @@ pub mod Resend
 pub mod Kept
 pub mod Follows
 pub mod Tending
+pub mod Keeping
 pub mod Sending
 pub mod Codes
 pub mod Running

@@ -4,7 +4,7 @@ use Rattle.std.specs.Prelude.{◌≡◌, ◌≤◌, ℕ, ◌+◌, ◌*◌, Bool,
 use Rattle.lapin_resend.specs.declared.step.ResendStep.{ResendStep}
 use Rattle.lapin_resend.specs.declared.publisher.Publisher as code
 use Rattle.lapin_resend.specs.Resend.{publisher_after}
-use Rattle.lapin_resend.specs.Tending.{Follows}
+use Rattle.lapin_resend.specs.Keeping.{FollowsBut}
 
 -- so many steps use no number up
 abbrev pub most_steps : ℕ
@@ -25,7 +25,7 @@ joined_steps s = s * s + (s + s + s + s + 2)
 pub record IsWithin (s : Sending) : Type 0 where
   pub max : 4096 ≤ s.frame_max
   pub messages : length s.publisher.messages.items ≤ s.steps
-  pub known : length s.known ≡ length s.publisher.messages.items
+  pub known : length s.known ≤ s.steps
   pub joined : s.publisher.joined.steps ≤ joined_steps s.steps
 
 -- so it is as long as no step found that there is no memory
@@ -38,4 +38,4 @@ pub record StandsForSteps (n : ℕ) (steps : List ResendStep) (s : Sending) : Ty
   pub max : s.frame_max ≡ n
   pub count : s.steps ≡ length steps
   pub known : s.known ≡ map (λ t. t.stored) (publisher_after n steps).messages
-  pub follows : s.stopped ≡ false → Follows n (publisher_after n steps) s.publisher
+  pub follows : s.stopped ≡ false → FollowsBut n s.known (publisher_after n steps) s.publisher

@@ -37,11 +37,13 @@ impl Message {
     }
 }
 
-/// A message that was submitted.
+/// A message that was submitted, and wasn't stored before the present step.
 #[derive(Drop)]
 pub(crate) struct Submitted {
+    // Its place among all messages, from 0.
+    pub(crate) place: usize,
     pub(crate) message: Message,
-    // Whether an ack of it was polled.
+    // Whether an ack of it was polled in the present step.
     pub(crate) stored: bool,
     // The number of its outstanding publish, if it has one.
     pub(crate) outstanding: Option<u64>,
@@ -64,7 +66,8 @@ impl Submitted {
 
     /// Takes what a poll of its publish reported: an ack stores it, a nack or an error leaves it waiting.
     pub(crate) fn poll(&mut self, report: &Reported)
-        ensures { standing self.new ≡ polled_report report.now (standing self.old) }
+        ensures came { standing self.new ≡ polled_report report.now (standing self.old) }
+        ensures place { self.new.place ≡ self.old.place }
     {
         if let Reported::Client(Record::Confirmed(outcome)) = report {
             self.outstanding = None;

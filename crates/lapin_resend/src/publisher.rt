@@ -1,7 +1,7 @@
 //! How the publisher tends channel 1 of the present session: it polls its outstanding publishes, opens the channel, selects confirms,
 //! and publishes what waits, each where the state allows it.
 
-ghost use Rattle.std.specs.Prelude.{◌≡◌, ◌+◌, ◌<◌, ◌≤◌, ◌^◌, true, false, IfOk, OnOk, length};
+ghost use Rattle.std.specs.Prelude.{◌≡◌, ◌+◌, ◌<◌, ◌≤◌, ◌^◌, true, false, IfOk, OnOk, length, map};
 ghost use Rattle.lapin_types.specs.declared.event.Event.TheVariants as event_;
 ghost use Rattle.lapin_joint.specs.Joint.{is_lawful};
 ghost use Rattle.lapin_resend.specs.Publisher.{poll_one as poll_one_lem, publish_one as publish_one_lem};
@@ -9,7 +9,7 @@ ghost use Rattle.lapin_resend.specs.Messages.{waits};
 ghost use Rattle.lapin_history.specs.Wire.{state_of, is_open as is_open_lem, is_closed as is_closed_lem};
 ghost use Rattle.lapin_resend.specs.Publisher.{after_polls, after_opening, after_selecting, after_publishing, tended};
 ghost use Rattle.lapin_resend.specs.Tending.{GoesTo};
-ghost use Rattle.lapin_resend.specs.Follows.{standing, confirm_report, Tells, Meets, MeetEach};
+ghost use Rattle.lapin_resend.specs.Follows.{standing, place as place_lem, confirm_report, Tells, Meets, MeetEach};
 
 use crate::message::Submitted;
 use lapin_joint::{Joined, Reported, Step};
@@ -19,7 +19,7 @@ use std::alloc::Global;
 /// The channel that messages are published on.
 const CHANNEL: u16 = 1;
 
-/// A joined run, and what was submitted.
+/// A joined run, and the messages that weren't stored before the present step, in rising number. So a step walks over those alone.
 #[derive(Drop)]
 pub(crate) struct Publisher {
     pub(crate) joined: Joined,
@@ -35,6 +35,7 @@ impl Publisher {
         ensures goes { OnOk result (GoesTo tended self.old self.new) }
         ensures steps { OnOk result (self.new.joined.steps ≤ self.old.joined.steps + (length self.old.messages.items + length self.old.messages.items + 2)) }
         ensures len { OnOk result (length self.new.messages.items ≡ length self.old.messages.items) }
+        ensures places { OnOk result (map place_lem self.new.messages.items ≡ map place_lem self.old.messages.items) }
     {
         self.poll(alloc)?;
         self.open(alloc)?;
@@ -48,6 +49,7 @@ impl Publisher {
         ensures goes { OnOk result (GoesTo after_polls self.old self.new) }
         ensures steps { OnOk result (self.new.joined.steps ≤ self.old.joined.steps + length self.old.messages.items) }
         ensures len { OnOk result (length self.new.messages.items ≡ length self.old.messages.items) }
+        ensures places { OnOk result (map place_lem self.new.messages.items ≡ map place_lem self.old.messages.items) }
     {
         poll_all(alloc, &mut self.joined, &mut self.messages)
     }
@@ -58,6 +60,7 @@ impl Publisher {
         ensures goes { OnOk result (GoesTo after_publishing self.old self.new) }
         ensures steps { OnOk result (self.new.joined.steps ≤ self.old.joined.steps + length self.old.messages.items) }
         ensures len { OnOk result (length self.new.messages.items ≡ length self.old.messages.items) }
+        ensures places { OnOk result (map place_lem self.new.messages.items ≡ map place_lem self.old.messages.items) }
     {
         if self.is_open() {
             publish_all(alloc, &mut self.joined, &mut self.messages)
@@ -151,6 +154,7 @@ fn poll_all(
     ensures steps { OnOk result (joined.new.steps ≤ joined.old.steps + length messages.old.items) }
     ensures running { OnOk result (joined.old.stopped ≡ false → joined.new.stopped ≡ false) }
     ensures len { OnOk result (length messages.new.items ≡ length messages.old.items) }
+    ensures places { OnOk result (map place_lem messages.new.items ≡ map place_lem messages.old.items) }
 {
     for submitted in messages.iter_mut() {
         poll_one(alloc, joined, submitted)?;
@@ -161,6 +165,7 @@ fn poll_all(
 fn poll_one(alloc: Global, joined: &mut Joined, submitted: &mut Submitted) -> Result<(), NoMemory>
     requires { joined.old.steps + 1 < 2 ^ 64 }
     ensures met { OnOk result (Meets poll_one_lem joined.old joined.new submitted.old submitted.new) }
+    ensures place { submitted.new.place ≡ submitted.old.place }
     ensures steps { OnOk result (joined.new.steps ≤ joined.old.steps + 1) }
     ensures running { OnOk result (joined.old.stopped ≡ false → joined.new.stopped ≡ false) }
 {
@@ -184,6 +189,7 @@ fn publish_all(
     ensures steps { OnOk result (joined.new.steps ≤ joined.old.steps + length messages.old.items) }
     ensures running { OnOk result (joined.old.stopped ≡ false → joined.new.stopped ≡ false) }
     ensures len { OnOk result (length messages.new.items ≡ length messages.old.items) }
+    ensures places { OnOk result (map place_lem messages.new.items ≡ map place_lem messages.old.items) }
 {
     for submitted in messages.iter_mut() {
         publish_waiting(alloc, joined, submitted)?;
@@ -198,6 +204,7 @@ fn publish_waiting(
 ) -> Result<(), NoMemory>
     requires { joined.old.steps + 1 < 2 ^ 64 }
     ensures met { OnOk result (Meets publish_one_lem joined.old joined.new submitted.old submitted.new) }
+    ensures place { submitted.new.place ≡ submitted.old.place }
     ensures steps { OnOk result (joined.new.steps ≤ joined.old.steps + 1) }
     ensures running { OnOk result (joined.old.stopped ≡ false → joined.new.stopped ≡ false) }
 {
@@ -216,6 +223,7 @@ fn publish_one(
     requires steps { joined.old.steps + 1 < 2 ^ 64 }
     requires waits { waits (standing submitted.old) ≡ true }
     ensures met { OnOk result (Meets publish_one_lem joined.old joined.new submitted.old submitted.new) }
+    ensures place { submitted.new.place ≡ submitted.old.place }
     ensures steps { OnOk result (joined.new.steps ≤ joined.old.steps + 1) }
     ensures running { OnOk result (joined.new.stopped ≡ false) }
 {

@@ -1,9 +1,11 @@
 //! A publisher that sends again, step by step: what a step does and reports, and which messages are stored.
 
-ghost use Rattle.std.specs.Prelude.{◌≡◌, ◌↔◌, ◌≤◌, ◌<◌, ◌+◌, ◌++◌, ◌∷◌, [], ℕ, List, length, map, vec_capacity, Err, true, IfOk, OnOk, OnErr};
+ghost use Rattle.std.specs.Prelude.{◌≡◌, ◌↔◌, ◌≤◌, ◌<◌, ◌+◌, ◌++◌, ◌∷◌, [], ℕ, List, length, map, slice_set, vec_len, vec_capacity, Err, true, IfOk, OnOk, OnErr};
+ghost use Rattle.std.specs.List.{filter};
 ghost use Rattle.lapin_resend.specs.declared.step.ResendStep.{ResendStep as AStep};
 ghost use Rattle.lapin_resend.specs.Resend.{resend, publisher_after, stored_in, whether_stored};
-ghost use Rattle.lapin_resend.specs.Follows.{standing};
+ghost use Rattle.lapin_resend.specs.Follows.{entry_of, is_kept};
+ghost use Rattle.lapin_resend.specs.Keeping.{noted, with_new, is_submit as is_submit_lem};
 ghost use Rattle.lapin_resend.specs.Sending.{StandsForSteps, most_steps};
 
 use crate::message::Submitted;
@@ -97,9 +99,13 @@ impl Resend {
             self.stopped = true;
             return Err(RunError::NoMemory);
         }
-        match self.publisher.make(alloc, self.frame_max, step) {
+        let submits = is_submit(&step);
+        match self
+            .publisher
+            .make(alloc, self.frame_max, step, &self.known)
+        {
             Ok(report) => {
-                note(&mut self.known, &self.publisher.messages);
+                note(&mut self.known, &mut self.publisher.messages, submits);
                 self.steps += 1;
                 Ok(report)
             }
@@ -138,13 +144,40 @@ impl Resend {
     }
 }
 
-// What is stored by now takes the place of what was known.
-fn note(known: &mut Vec<bool>, messages: &[Submitted])
-    requires { length messages.now ≤ vec_capacity known.old }
-    ensures { known.new.items ≡ map (λ s. s.stored) messages.now }
+// Whether a step submits a message.
+fn is_submit(step: &ResendStep) -> bool
+    ensures { result ≡ is_submit_lem step.now }
 {
-    known.clear();
+    matches!(step, ResendStep::Submit(_))
+}
+
+// What was stored by the step is known from now on, and is kept no more. A message that was submitted is new.
+fn note(known: &mut Vec<bool>, messages: &mut Vec<Submitted>, submits: bool)
+    requires { vec_len known.old < vec_capacity known.old }
+    ensures known { known.new.items ≡ noted (map entry_of messages.old.items) (with_new submits known.old.items) }
+    ensures messages { messages.new.items ≡ filter is_kept messages.old.items }
+{
+    if submits {
+        known.push_reserved(false);
+    }
+    note_all(known, messages);
+    messages.retain(|submitted| !submitted.stored);
+}
+
+// Of each of these messages it is noted whether it is stored.
+fn note_all(known: &mut Vec<bool>, messages: &[Submitted])
+    ensures { known.new.items ≡ noted (map entry_of messages.now) known.old.items }
+{
     for submitted in messages {
-        known.push_reserved(submitted.stored);
+        note_one(known, submitted.place, submitted.stored);
+    }
+}
+
+// The same of the message at a place, if it has one.
+fn note_one(known: &mut Vec<bool>, place: usize, stored: bool)
+    ensures { known.new.items ≡ slice_set known.old.items place stored }
+{
+    if place < known.len() {
+        known[place] = stored;
     }
 }
