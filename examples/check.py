@@ -1,8 +1,8 @@
 #!/usr/bin/env python3
 """See that the files of this folder are the runs of the tests, and that the built program prints their answers.
 
-The runs stand in files of two crates of tests, one crate for each command, with a line an event or a step and, behind an arrow, its
-record or report. The gate runs them there; this script, which stands outside it, compares the files beside it with
+The runs stand in files of crates of tests, one crate for each command, with a line an event or a step and, behind an arrow, its
+record or report; of `check`, whose answers come once all was read, with the lines and then the answers, an arrow before each. The gate runs them there; this script, which stands outside it, compares the files beside it with
 them. Where the program is built (`./lapin` builds it), it is run on each file too.
 
     examples/check.py
@@ -16,6 +16,8 @@ TOP = os.path.dirname(HERE)
 TABLES = {
     "session": ["lapin_tests/src/examples.rt", "lapin_tests/src/tutorials.rt"],
     "joined": ["lapin_joined_tests/src/examples.rt"],
+    "check": ["lapin_check_tests/src/examples.rt"],
+    "resend": ["lapin_resend_tests/src/examples.rt"],
 }
 PROGRAM = os.path.join(TOP, "crates", "lapin_run", "out", "lapin_run")
 NAME = "# examples/"
@@ -28,9 +30,19 @@ def runs(table):
         for line in lines.read().split("\n"):
             if NAME in line:
                 steps = found.setdefault(line.split(NAME)[1], [])
-            elif " -> " in line and steps is not None:
-                steps.append(line.rstrip("\";").split(" -> "))
+            elif steps is not None:
+                read_line(steps, line.rstrip("\";"))
     return found
+
+
+def read_line(steps, line):
+    """A line with its answer, or one of the two, to the lines and answers before it."""
+    if line.startswith("-> "):
+        steps.append([None, line[3:]])
+    elif " -> " in line:
+        steps.append(line.split(" -> "))
+    elif line.startswith(("up ", "down ")):
+        steps.append([line, None])
 
 
 def printed(word, name):
@@ -55,10 +67,10 @@ def main():
         word, steps = told[name]
         with open(os.path.join(HERE, name), encoding="utf-8") as text:
             lines = text.read()
-        if lines != "".join(f"{line}\n" for line in ["frame_max 4096"] + [step for step, _ in steps]):
+        if lines != "".join(f"{line}\n" for line in ["frame_max 4096"] + [step for step, _ in steps if step]):
             print(f"{name}: not the lines of its run")
             wrong += 1
-        elif os.path.exists(PROGRAM) and printed(word, name) != "".join(f"{answer}\n" for _, answer in steps):
+        elif os.path.exists(PROGRAM) and printed(word, name) != "".join(f"{answer}\n" for _, answer in steps if answer is not None):
             print(f"{name}: the program prints other answers")
             wrong += 1
         else:

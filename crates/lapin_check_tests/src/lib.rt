@@ -8,6 +8,8 @@
 #[cfg(test)]
 mod driver;
 #[cfg(test)]
+mod examples;
+#[cfg(test)]
 mod inputs;
 #[cfg(test)]
 mod rules;

@@ -1,5 +1,6 @@
 //! Each rule once, of frames that a broker doesn't read and of frames that it may not send; and accounts.
 use crate::driver::shows_all;
+use crate::examples::TRANSCRIPTS;
 use std::alloc::AllocError;
 
 #[test]
@@ -222,3 +223,8 @@ up method 1 basic.publish x x71 0 0
 up header 1 60 0 []
 -> publish 1 2 1 9 -
 -> fine";
+
+#[test]
+fn examples(rt: HostRuntime) -> Result<(), AllocError> {
+    shows_all(&rt, TRANSCRIPTS)
+}

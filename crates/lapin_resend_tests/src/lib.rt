@@ -7,4 +7,8 @@
 #[cfg(test)]
 mod driver;
 #[cfg(test)]
+mod examples;
+#[cfg(test)]
+mod inputs;
+#[cfg(test)]
 mod runs;
