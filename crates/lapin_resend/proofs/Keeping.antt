@@ -253,14 +253,11 @@ kept_then k [] (s ∷ ss) settled long = absurd (omega arith)
 kept_then k (b ∷ known) [] settled long = absurd settled
 kept_then k (true ∷ known) (s ∷ ss) settled long =
     kept_then (suc k) known ss settled.1 (omega arith) ∙ ap (λ (b : Bool). kept_from k (b ∷ map (λ (t : Standing). t.stored) ss) (s ∷ ss)) (sym (settled.0 refl).stored)
-kept_then k (false ∷ known) (s ∷ ss) settled long = at s.stored refl
+kept_then k (false ∷ known) (s ∷ ss) settled long = at s.stored (kept_then (suc k) known ss settled.1 (omega arith))
   where
-    rest : filter not_stored (kept_from (suc k) known ss) ≡ kept_from (suc k) (map (λ (t : Standing). t.stored) ss) ss
-    rest = kept_then (suc k) known ss settled.1 (omega arith)
-
-    at : (b : Bool) → s.stored ≡ b → filter not_stored ((k, s) ∷ kept_from (suc k) known ss) ≡ kept_from k (s.stored ∷ map (λ (t : Standing). t.stored) ss) (s ∷ ss)
-    at true is = rw is rest
-    at false is = rw is (ap (λ es. (k, s) ∷ es) rest)
+    at : (b : Bool) → filter not_stored (kept_from (suc k) known ss) ≡ kept_from (suc k) (map (λ (t : Standing). t.stored) ss) ss → cond (not b) ((k, s) ∷ filter not_stored (kept_from (suc k) known ss)) (filter not_stored (kept_from (suc k) known ss)) ≡ kept_from k (b ∷ map (λ (t : Standing). t.stored) ss) (s ∷ ss)
+    at true rest = rest
+    at false rest = ap (λ es. (k, s) ∷ es) rest
 
 pub kept_after : (known : List Bool) (ss : List Standing) → AreSettled known ss → length known ≡ length ss → filter not_stored (kept_from 0 known ss) ≡ kept_from 0 (map (λ s. s.stored) ss) ss
 kept_after known ss settled long = kept_then 0 known ss settled long
@@ -268,11 +265,11 @@ kept_after known ss settled long = kept_then 0 known ss settled long
 -- the code's entries through that
 pub entries_kept : (xs : List Submitted) → map entry_of (filter is_kept xs) ≡ filter not_stored (map entry_of xs)
 entries_kept [] = refl
-entries_kept (x ∷ xs) = at x.stored refl
+entries_kept (x ∷ xs) = at x.stored (entries_kept xs)
   where
-    at : (b : Bool) → x.stored ≡ b → map entry_of (filter is_kept (x ∷ xs)) ≡ filter not_stored (map entry_of (x ∷ xs))
-    at true is = rw is (entries_kept xs)
-    at false is = rw is (ap (λ es. entry_of x ∷ es) (entries_kept xs))
+    at : (b : Bool) → map entry_of (filter is_kept xs) ≡ filter not_stored (map entry_of xs) → map entry_of (cond (not b) (x ∷ filter is_kept xs) (filter is_kept xs)) ≡ cond (not b) (entry_of x ∷ filter not_stored (map entry_of xs)) (filter not_stored (map entry_of xs))
+    at true rest = rest
+    at false rest = ap (λ es. entry_of x ∷ es) rest
 
 -- entries by their parts
 pub entries_are : (xs : List Submitted) (es : List (ℕ × Standing)) → map place xs ≡ first es → map standing xs ≡ second es → map entry_of xs ≡ es

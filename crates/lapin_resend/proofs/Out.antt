@@ -64,7 +64,7 @@ publish_out : (n : ℕ) (made : Steps) (s : Standing) (w : Bool) → waits s ≡
 publish_out n made s true e opened h = (_, accepted (is_open (state_in n made)) _ _ _ opened)
 publish_out n made s false e opened h = has_some s.outstanding (not_waiting s.stored (is_some s.outstanding) e h)
 
-still_open : (n : ℕ) (made : Steps) (s : Standing) (t : Standing) (w : Bool) → is_open (state_in n made) ≡ true → is_open (state_in n (cond {A = Met} w (t, with_event (publishing s) made) (s, made)).1) ≡ true
+pub still_open : (n : ℕ) (made : Steps) (s : Standing) (t : Standing) (w : Bool) → is_open (state_in n made) ≡ true → is_open (state_in n (cond {A = Met} w (t, with_event (publishing s) made) (s, made)).1) ≡ true
 still_open n made s t true opened = ap is_open (publish_state n made s) ∙ opened
 still_open n made s t false opened = opened
 

@@ -130,11 +130,11 @@ stands_longer n ss s r b old new mid b_is running max count noted_is joined sele
 
 pub filter_short : (xs : List Submitted) → length (filter is_kept xs) ≤ length xs
 filter_short [] = omega arith
-filter_short (x ∷ xs) = at x.stored refl
+filter_short (x ∷ xs) = at x.stored (filter_short xs)
   where
-    at : (b : Bool) → x.stored ≡ b → length (filter is_kept (x ∷ xs)) ≤ length (x ∷ xs)
-    at true is = rw is (omega (arith, filter_short xs))
-    at false is = rw is (omega (arith, filter_short xs))
+    at : (b : Bool) → length (filter is_kept xs) ≤ length xs → length (cond (not b) (x ∷ filter is_kept xs) (filter is_kept xs)) ≤ length (x ∷ xs)
+    at true rest = omega arith
+    at false rest = omega arith
 
 pub noted_long : (es : List (ℕ × Standing)) (known : List Bool) → length (noted es known) ≡ length known
 noted_long [] known = refl
