@@ -20,7 +20,7 @@ use Rattle.lapin_joint.proofs.Steps.{run-push}
 use Rattle.lapin_resend.specs.declared.step.ResendStep.{ResendStep}
 use Rattle.lapin_resend.specs.declared.step.ResendStep.TheVariants as step
 use Rattle.lapin_resend.specs.Messages.{Standing, waits, confirm_of}
-use Rattle.lapin_resend.specs.Publisher.{Publisher, Steps, told, with_all, state_in, with_event, poll_at, poll_one, publishing, publish_one, each, after_polls, after_opening, after_selecting, after_publishing, tended}
+use Rattle.lapin_resend.specs.Publisher.{Publisher, Steps, Met, told, with_all, state_in, with_event, poll_at, poll_one, publishing, publish_one, each, after_polls, after_opening, after_selecting, after_publishing, tended}
 use Rattle.lapin_resend.specs.Resend.{begun, after_step, no_publisher, new_publisher, publisher_from, publisher_after, runs_of}
 use Rattle.lapin_resend.proofs.Out.{still_open}
 use Rattle.lapin_resend_laws.specs.Confirms.{confirms_in, NoneIsNotRequested}
@@ -29,14 +29,14 @@ use Rattle.lapin_resend_laws.proofs.Ready.{Ready, quiet_event, incoming_quiet, l
 
 -- ---- a history with one event more
 
-abbrev ReadyPast : Past → Bool → Type 0
+abbrev pub ReadyPast : Past → Bool → Type 0
 ReadyPast p asked = Ready p.wire p.confirms asked
 
 -- the session of a joined run
-abbrev IsReady : ℕ → History → Bool → Type 0
+abbrev pub IsReady : ℕ → History → Bool → Type 0
 IsReady n h asked = ReadyPast (past n h) asked
 
-abbrev IsRunReady : ℕ → Steps → Bool → Type 0
+abbrev pub IsRunReady : ℕ → Steps → Bool → Type 0
 IsRunReady n made asked = IsReady n (joined_to n made).session asked
 
 -- a frame of the broker, a poll and a loss
@@ -58,7 +58,7 @@ lost_ready n h asked r =
     subst (λ (x : Past). ReadyPast x asked) (sym (past-push (record { wire = start n; confirms = []; tickets = [] }) h event.Lost (rec n h event.Lost)))
     (quiet_event p.wire p.confirms (readings_of p.confirms p.tickets) event.Lost asked refl (lost_quiet _ p.wire) r)
 
-next_ready : (n : ℕ) (h : History) (asked : Bool) → IsReady n h asked → IsReady n (h ++ (event.Next true, rec n h (event.Next true)) ∷ []) asked
+pub next_ready : (n : ℕ) (h : History) (asked : Bool) → IsReady n h asked → IsReady n (h ++ (event.Next true, rec n h (event.Next true)) ∷ []) asked
 next_ready n h asked r =
     let p : Past = past n h in
     subst (λ (x : Past). ReadyPast x asked) (sym (past-push (record { wire = start n; confirms = []; tickets = [] }) h (event.Next true) (rec n h (event.Next true))))
@@ -66,27 +66,27 @@ next_ready n h asked r =
 
 -- ---- a joined run with one step more
 
-run_ready : (n : ℕ) (made : Steps) (s : joined_step.Step) (asked : Bool) → IsReady n (after (by_history n) s (joined_to n made)).session asked → IsRunReady n (made ++ s ∷ []) asked
+pub run_ready : (n : ℕ) (made : Steps) (s : joined_step.Step) (asked : Bool) → IsReady n (after (by_history n) s (joined_to n made)).session asked → IsRunReady n (made ++ s ∷ []) asked
 run_ready n made s asked r = subst (λ (j : Joint History). IsReady n j.session asked) (sym (run-push (by_history n) made s (new_joint [] n))) r
 
-read_ready : (n : ℕ) (j : Joint History) (asked : Bool) (ls : List Left) → IsReady n j.session asked → IsReady n (read_first ls j).session asked
+pub read_ready : (n : ℕ) (j : Joint History) (asked : Bool) (ls : List Left) → IsReady n j.session asked → IsReady n (read_first ls j).session asked
 read_ready n j asked [] r = r
 read_ready n j asked (l ∷ ls) r = r
 
-deliver_ready : (n : ℕ) (j : Joint History) (asked : Bool) (fs : List Frame) → IsReady n j.session asked → IsReady n (deliver_first (by_history n) fs j).session asked
+pub deliver_ready : (n : ℕ) (j : Joint History) (asked : Bool) (fs : List Frame) → IsReady n j.session asked → IsReady n (deliver_first (by_history n) fs j).session asked
 deliver_ready n j asked [] r = r
 deliver_ready n j asked (f ∷ fs) r = receive_ready n j.session f asked r
 
-send_ready : (n : ℕ) (j : Joint History) (f : Frame) (asked t : Bool) → IsReady n j.session asked → IsReady n (cond t (send_down f j) j).session asked
+pub send_ready : (n : ℕ) (j : Joint History) (f : Frame) (asked t : Bool) → IsReady n j.session asked → IsReady n (cond t (send_down f j) j).session asked
 send_ready n j f asked true r = r
 send_ready n j f asked false r = r
 
 -- ---- tending
 
-abbrev StandsReady : ℕ → Publisher → Type 0
+abbrev pub StandsReady : ℕ → Publisher → Type 0
 StandsReady n p = IsRunReady n p.present p.selects
 
-poll_runs : (n : ℕ) (made : Steps) (s : Standing) (o : Option ℕ) (asked : Bool) → IsRunReady n made asked → IsRunReady n (poll_at n made s o).1 asked
+pub poll_runs : (n : ℕ) (made : Steps) (s : Standing) (o : Option ℕ) (asked : Bool) → IsRunReady n made asked → IsRunReady n (poll_at n made s o).1 asked
 poll_runs n made s None asked r = r
 poll_runs n made s (Some k) asked r = run_ready n made (joined.Client (event.PollConfirm k)) asked (poll_ready n (joined_to n made).session k asked r)
 
@@ -94,7 +94,7 @@ polls_run : (n : ℕ) (made : Steps) (ss : List Standing) (asked : Bool) → IsR
 polls_run n made [] asked r = r
 polls_run n made (s ∷ ss) asked r = polls_run n (poll_one n made s).1 ss asked (poll_runs n made s s.outstanding asked r)
 
-opening_ready : (n : ℕ) (p : Publisher) (t : Bool) → is_closed (state_in n p.present) ≡ t → StandsReady n p → StandsReady n (cond t (record p { present = with_event (event.Call 1 call.OpenChannel) p.present; selects = false }) p)
+pub opening_ready : (n : ℕ) (p : Publisher) (t : Bool) → is_closed (state_in n p.present) ≡ t → StandsReady n p → StandsReady n (cond t (record p { present = with_event (event.Call 1 call.OpenChannel) p.present; selects = false }) p)
 opening_ready n p true closed r =
     let h : History = (joined_to n p.present).session in
     let q : Past = past n h in
@@ -103,7 +103,7 @@ opening_ready n p true closed r =
     (open_call q.wire q.confirms (readings_of q.confirms q.tickets) p.selects closed r))
 opening_ready n p false closed r = r
 
-selecting_ready : (n : ℕ) (p : Publisher) (t : Bool) → (not p.selects && is_open (state_in n p.present)) ≡ t → StandsReady n p → StandsReady n (cond t (record p { present = with_event (event.Call 1 (call.ConfirmSelect (record { nowait = true }))) p.present; selects = true }) p)
+pub selecting_ready : (n : ℕ) (p : Publisher) (t : Bool) → (not p.selects && is_open (state_in n p.present)) ≡ t → StandsReady n p → StandsReady n (cond t (record p { present = with_event (event.Call 1 (call.ConfirmSelect (record { nowait = true }))) p.present; selects = true }) p)
 selecting_ready n p true called r =
     let h : History = (joined_to n p.present).session in
     let q : Past = past n h in
@@ -117,7 +117,7 @@ selecting_ready n p true called r =
 selecting_ready n p false called r = r
 
 -- where the channel is open after that, its select was called
-selected_then : (n : ℕ) (p : Publisher) → is_open (state_in n (after_selecting n p).present) ≡ true → (after_selecting n p).selects ≡ true
+pub selected_then : (n : ℕ) (p : Publisher) → is_open (state_in n (after_selecting n p).present) ≡ true → (after_selecting n p).selects ≡ true
 selected_then n p opened = at (not p.selects && is_open (state_in n p.present)) p.selects refl refl
   where
     at : (t s : Bool) → (not p.selects && is_open (state_in n p.present)) ≡ t → p.selects ≡ s → (after_selecting n p).selects ≡ true
@@ -128,22 +128,24 @@ selected_then n p opened = at (not p.selects && is_open (state_in n p.present)) 
         let no : false ≡ true = sym called ∙ rw (is, now) refl in
         absurd (true≢false (sym no))
 
-publish_runs : (n : ℕ) (made : Steps) (s : Standing) (t : Bool) → waits s ≡ t → is_open (state_in n made) ≡ true → IsRunReady n made true → IsRunReady n (publish_one n made s).1 true
-publish_runs n made s true waiting opened r =
+pub publish_ready : (n : ℕ) (made : Steps) (s : Standing) → is_open (state_in n made) ≡ true → IsRunReady n made true → IsRunReady n (with_event (publishing s) made) true
+publish_ready n made s opened r =
     let h : History = (joined_to n made).session in
     let q : Past = past n h in
-    rw waiting
-    (run_ready n made (joined.Client (publishing s)) true
+    run_ready n made (joined.Client (publishing s)) true
     (subst (λ (x : Past). ReadyPast x true) (sym (past-push (record { wire = start n; confirms = []; tickets = [] }) h (publishing s) (rec n h (publishing s))))
-    (publish_call q.wire q.confirms (readings_of q.confirms q.tickets) s opened r)))
-publish_runs n made s false waiting opened r = rw waiting r
+    (publish_call q.wire q.confirms (readings_of q.confirms q.tickets) s opened r))
+
+publish_runs : (n : ℕ) (made : Steps) (s t : Standing) (w : Bool) → is_open (state_in n made) ≡ true → IsRunReady n made true → IsRunReady n (cond {A = Met} w (t, with_event (publishing s) made) (s, made)).1 true
+publish_runs n made s t true opened r = publish_ready n made s opened r
+publish_runs n made s t false opened r = r
 
 publishes_run : (n : ℕ) (made : Steps) (ss : List Standing) → is_open (state_in n made) ≡ true → IsRunReady n made true → IsRunReady n (each (publish_one n) made ss).1 true
 publishes_run n made [] opened r = r
 publishes_run n made (s ∷ ss) opened r =
     publishes_run n (publish_one n made s).1 ss
     (still_open n made s (record s { outstanding = confirm_of (told n made (publishing s)) }) (waits s) opened)
-    (publish_runs n made s (waits s) refl opened r)
+    (publish_runs n made s (record s { outstanding = confirm_of (told n made (publishing s)) }) (waits s) opened r)
 
 publishing_ready : (n : ℕ) (p : Publisher) (t : Bool) → is_open (state_in n p.present) ≡ t → (t ≡ true → p.selects ≡ true) → StandsReady n p → StandsReady n (cond t (with_all (each (publish_one n) p.present p.messages) p) p)
 publishing_ready n p true opened selects r =
@@ -164,7 +166,7 @@ tended_ready n p r =
 -- ---- steps
 
 -- a new session is ready
-new_ready : (n : ℕ) → IsRunReady n [] false
+pub new_ready : (n : ℕ) → IsRunReady n [] false
 new_ready n = record {
   requested = record { on = tt; right = tt };
   one = tt;
