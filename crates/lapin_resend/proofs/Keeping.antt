@@ -1,5 +1,6 @@
 -- What a step does with the messages that aren't known to be stored is what it does with all.
 use Rattle.std.proofs.Common.{◌≡◌, ◌∙◌, ℕ, zero, suc, ◌+◌, ◌≤◌, ◌<◌, Bool, true, false, true≢false, not, ◌&&◌, cond, List, [], ◌∷◌, ◌++◌, length, map, Option, Some, None, refl, sym, ap, subst, arith, slice_set, slice_get, ◌-◌}
+use Rattle.std.specs.Prelude.{nat_lt}
 use Rattle.std.specs.List.{filter}
 use Rattle.std.specs.Option.{is_some, option_map}
 use Rattle.std.proofs.lemmas.Option.{slice_get-map}
@@ -193,8 +194,11 @@ at_place (Some s) = at s.stored refl
     at false is = rw is refl
 
 pub status_known : (n : ℕ) (ss : List Standing) → status_of (message_at n ss) ≡ known_report (whether_stored n (map (λ s. s.stored) ss))
-status_known zero ss = refl
-status_known (suc k) ss = at_place (message_at (suc k) ss) ∙ ap known_report (sym (slice_get-map (λ (s : Standing). s.stored) ss (suc k - 1)))
+status_known n ss = at (nat_lt 0 n)
+  where
+    at : (b : Bool) → status_of (cond b (slice_get ss (n - 1)) None) ≡ known_report (cond b (slice_get (map (λ (s : Standing). s.stored) ss) (n - 1)) None)
+    at true = at_place (slice_get ss (n - 1)) ∙ ap known_report (sym (slice_get-map (λ (s : Standing). s.stored) ss (n - 1)))
+    at false = refl
 
 -- ---- what is noted after a step
 
@@ -280,7 +284,7 @@ entries_are (x ∷ xs) (e ∷ es) one other =
     let here : x.place ≡ e.0 = cc in
     let there : standing x ≡ e.1 = cc in
     let rest : map entry_of xs ≡ es = entries_are xs es (cc) (cc) in
-    cc
+    ap (λ (p : ℕ). (p, standing x) ∷ map entry_of xs) here ∙ ap (λ (s : Standing). (e.0, s) ∷ map entry_of xs) there ∙ ap (λ (fs : List (ℕ × Standing)). e ∷ fs) rest
 
 pub entry_parts : (xs : List Submitted) (es : List (ℕ × Standing)) → map entry_of xs ≡ es → (map place xs ≡ first es) × (map standing xs ≡ second es)
 entry_parts xs es is = (places xs ∙ ap first is, standings xs ∙ ap second is)

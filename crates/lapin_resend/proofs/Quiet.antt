@@ -2,6 +2,7 @@
 use Rattle.std.proofs.Common.{◌≡◌, ℕ, Bool, true, false, true≢false, ◌&&◌, not, cond, List, [], ◌∷◌, ◌++◌, map, Option, Some, None, refl, sym, ap, subst, ◌∙◌}
 use Rattle.std.specs.Prelude.{Ok, Err}
 use Rattle.std.specs.List.{AllByRecursion}
+use Rattle.lapin_types.specs.declared.event.Event.TheVariants as event
 use Rattle.lapin_types.specs.declared.record.Record.{Record}
 use Rattle.lapin_types.specs.declared.record.Record.TheVariants as record_
 use Rattle.lapin_types.specs.declared.confirmation.Confirmation.TheVariants as confirmation
@@ -28,7 +29,7 @@ polled_quiet _ s h = h
 
 poll_quiet : (n : ℕ) (made : Steps) (s : Standing) (o : Option ℕ) → IsQuiet s → IsQuiet (poll_at n made s o).0
 poll_quiet n made s None h = h
-poll_quiet n made s (Some k) h = polled_quiet (told n made _) s h
+poll_quiet n made s (Some k) h = polled_quiet (told n made (event.PollConfirm k)) s h
 
 waits_not : (s : Standing) → waits s ≡ true → s.stored ≡ true → ⊥
 waits_not s waiting stored =

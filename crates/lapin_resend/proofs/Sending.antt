@@ -1,5 +1,5 @@
 -- One step more at the end of a list of steps, and how many joined steps that makes at most.
-use Rattle.std.proofs.Common.{◌≡◌, ◌∙◌, ℕ, suc, ◌+◌, ◌*◌, ◌≤◌, ◌<◌, ◌^◌, Bool, List, [], ◌∷◌, ◌++◌, length, true, false, cond, map, refl, sym, ap, subst, arith, length-append, slice_set}
+use Rattle.std.proofs.Common.{◌≡◌, ◌∙◌, ℕ, suc, ◌+◌, ◌*◌, ◌≤◌, ◌<◌, ◌^◌, Bool, List, [], ◌∷◌, ◌++◌, length, true, false, not, cond, map, refl, sym, ap, subst, arith, length-append, slice_set}
 use Rattle.std.specs.List.{filter}
 use Rattle.std.proofs.Math.ListN.{length-set}
 use Rattle.lapin_resend.specs.declared.step.ResendStep.{ResendStep}

@@ -11,6 +11,7 @@ use Rattle.lapin_resend.specs.declared.message.Submitted.{Submitted}
 use Rattle.lapin_resend.specs.declared.publisher.Publisher as code
 use Rattle.lapin_resend.specs.declared.step.ResendReport.{ResendReport}
 use Rattle.lapin_resend.specs.declared.step.ResendReport.TheVariants as told
+use Rattle.lapin_resend.specs.declared.step.ResendStep.{ResendStep}
 use Rattle.lapin_resend.specs.declared.step.ResendStep.TheVariants as step_
 use Rattle.lapin_resend.specs.Messages.{Standing, submitted, forgotten}
 use Rattle.lapin_resend.specs.Publisher.{Publisher, Steps, after_polls, after_opening, after_selecting, after_publishing, tended}
@@ -50,6 +51,10 @@ joined_goes s old new r stands running messages selects n known p h = record {
   places = ap (λ ms. map place ms.items) messages ∙ h.places;
   settled = h.settled;
 }
+
+-- what a step does by itself, where it is known which step it is
+pub begun_by : (n : ℕ) (known : List Bool) (s t : ResendStep) (p : Publisher) (c : code.Publisher) → s ≡ t → FollowsBut n known (begun t p) c → FollowsBut n known (begun s p) c
+begun_by n known s t p c is h = subst (λ (x : ResendStep). FollowsBut n known (begun x p) c) (sym is) h
 
 -- ---- tending, over what isn't known to be stored
 
@@ -130,3 +135,14 @@ forgot_all k i xs ys le within done is =
     let f : Submitted → Submitted = λ (s : Submitted). record s { outstanding = None } in
     let all : ys ≡ map f xs = is ∙ ap (λ (zs : List Submitted). map f (take i xs) ++ zs) (drop_all i xs done) ∙ append-nil (map f (take i xs)) ∙ ap (map f) (take_all i xs done) in
     forgot xs (take k (ys ++ drop (length ys) xs)) (written_back k xs ys le within ∙ all)
+
+-- the places stay in it
+pub forgot_places : (k i : ℕ) (xs ys : List Submitted) → length xs ≤ length ys → length ys ≤ k → length xs ≤ i → ys ≡ map (λ (s : Submitted). record s { outstanding = None }) (take i xs) ++ drop i xs → map place (take k (ys ++ drop (length ys) xs)) ≡ map place xs
+forgot_places k i xs ys le within done is =
+    let f : Submitted → Submitted = λ (s : Submitted). record s { outstanding = None } in
+    let all : ys ≡ map f xs = is ∙ ap (λ (zs : List Submitted). map f (take i xs) ++ zs) (drop_all i xs done) ∙ append-nil (map f (take i xs)) ∙ ap (map f) (take_all i xs done) in
+    ap (map place) (written_back k xs ys le within ∙ all) ∙ same xs
+  where
+    same : (zs : List Submitted) → map place (map (λ (s : Submitted). record s { outstanding = None }) zs) ≡ map place zs
+    same [] = refl
+    same (z ∷ zs) = ap (λ (ps : List ℕ). z.place ∷ ps) (same zs)

@@ -22,7 +22,7 @@ loop-submitted-preserved c =
     record {
       going = going_next poll_one c.args.messages.now.items c.args.joined.now c.loop-submitted.joined c.poll_one.new.joined ys i x c.poll_one.new.submitted c.loop-submitted.invariant.going (omega (arith, c.loop-submitted-test.true, c.loop-submitted.auto.submitted-items)) (ap (get_or ys i) c.submitted-item.is) c.in_ok-poll_one.ensures.met;
       steps = omega (arith, c.loop-submitted.invariant.steps, c.in_ok-poll_one.ensures.steps);
-      places = map-set_same place ys i c.poll_one.new.submitted x (c.poll_one.ensures.place ∙ ap (λ (z : Submitted). z.place) (c.submitted-item.is)) ∙ c.loop-submitted.invariant.places;
+      places = map-set_same place ys i c.poll_one.new.submitted x (c.poll_one.ensures.place ∙ ap (λ (z : Submitted). (get_or ys i z).place) c.submitted-item.is) ∙ c.loop-submitted.invariant.places;
       running = λ h. c.in_ok-poll_one.ensures.running (c.loop-submitted.invariant.running h);
     }
 

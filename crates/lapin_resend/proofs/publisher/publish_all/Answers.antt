@@ -22,7 +22,7 @@ loop-submitted-preserved c =
     record {
       going = going_next publish_one c.args.messages.now.items c.args.joined.now c.loop-submitted.joined c.publish_waiting.new.joined ys i x c.publish_waiting.new.submitted c.loop-submitted.invariant.going (omega (arith, c.loop-submitted-test.true, c.loop-submitted.auto.submitted-items)) (ap (get_or ys i) c.submitted-item.is) c.in_ok-publish_waiting.ensures.met;
       steps = omega (arith, c.loop-submitted.invariant.steps, c.in_ok-publish_waiting.ensures.steps);
-      places = map-set_same place ys i c.publish_waiting.new.submitted x (c.publish_waiting.ensures.place ∙ ap (λ (z : Submitted). z.place) (c.submitted-item.is)) ∙ c.loop-submitted.invariant.places;
+      places = map-set_same place ys i c.publish_waiting.new.submitted x (c.publish_waiting.ensures.place ∙ ap (λ (z : Submitted). (get_or ys i z).place) c.submitted-item.is) ∙ c.loop-submitted.invariant.places;
       running = λ h. c.in_ok-publish_waiting.ensures.running (c.loop-submitted.invariant.running h);
     }
 

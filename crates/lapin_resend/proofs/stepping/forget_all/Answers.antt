@@ -1,7 +1,7 @@
 use Rattle.std.proofs.Common.{◌≡◌, ◌∙◌, ℕ, List, length, map, get_or, take, drop, None, ap, sym, subst, arith}
 use Rattle.std.proofs.lemmas.List.Edits.{map_over_more}
 use Rattle.lapin_resend.specs.declared.message.Submitted.{Submitted}
-use Rattle.lapin_resend.proofs.StepLaws.{forgot_all}
+use Rattle.lapin_resend.proofs.StepLaws.{forgot_all, forgot_places}
 use Rattle.lapin_resend.proofs.stepping.forget_all.Goals as goal
 
 pub loop-submitted-preserved : goal.loop-submitted-preserved
@@ -20,3 +20,10 @@ returns-clause-messages c =
     let ys : List Submitted = c.loop-submitted.submitted-items in
     let same : length c.deref_mut-submitted-items.result.now ≡ length xs = ap length c.deref_mut-submitted-items.ensures.value in
     forgot_all c.args.messages.now.len c.loop-submitted.submitted-index xs ys (omega (arith, same, c.loop-submitted.auto.submitted-items)) (omega (arith, same, c.deref_mut-submitted-items.ensures.len, c.loop-submitted.auto.submitted-items)) (omega (arith, same, c.loop-submitted-test.false)) c.loop-submitted.invariant
+
+pub returns-clause-places : goal.returns-clause-places
+returns-clause-places c =
+    let xs : List Submitted = c.args.messages.now.items in
+    let ys : List Submitted = c.loop-submitted.submitted-items in
+    let same : length c.deref_mut-submitted-items.result.now ≡ length xs = ap length c.deref_mut-submitted-items.ensures.value in
+    forgot_places c.args.messages.now.len c.loop-submitted.submitted-index xs ys (omega (arith, same, c.loop-submitted.auto.submitted-items)) (omega (arith, same, c.deref_mut-submitted-items.ensures.len, c.loop-submitted.auto.submitted-items)) (omega (arith, same, c.loop-submitted-test.false)) c.loop-submitted.invariant
