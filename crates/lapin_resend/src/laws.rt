@@ -21,8 +21,3 @@ pub fn waiting_is_outstanding()
 pub fn none_share()
     ensures { (frame_max : ℕ) (steps : List AStep) → NoneShare (publisher_after frame_max steps).messages }
 {}
-
-/// A trial.
-pub fn trial()
-    ensures { (n : ℕ) → n ≡ n }
-{}
