@@ -1,13 +1,11 @@
 -- What a step does with the messages that aren't known to be stored is what it does with all.
-use Rattle.std.proofs.Common.{◌≡◌, ◌∙◌, ℕ, zero, suc, ◌+◌, ◌≤◌, ◌<◌, Bool, true, false, true≢false, not, ◌&&◌, cond, List, [], ◌∷◌, ◌++◌, length, map, Option, Some, None, refl, sym, ap, subst, arith, slice_set, slice_get, ◌-◌}
+use Rattle.std.proofs.Common.{◌≡◌, ◌∙◌, ℕ, suc, ◌+◌, Bool, true, false, true≢false, not, ◌&&◌, cond, List, [], ◌∷◌, ◌++◌, length, map, Option, Some, None, refl, sym, ap, subst, arith, slice_set, slice_get, ◌-◌}
 use Rattle.std.specs.Prelude.{nat_lt}
 use Rattle.std.specs.List.{filter}
-use Rattle.std.specs.Option.{is_some, option_map}
+use Rattle.std.specs.Option.{option_map}
 use Rattle.std.proofs.lemmas.Option.{slice_get-map}
-use Rattle.lapin_resend.specs.declared.message.Message.{Message}
 use Rattle.lapin_resend.specs.declared.message.Submitted.{Submitted}
-use Rattle.lapin_resend.specs.declared.publisher.Publisher as code
-use Rattle.lapin_resend.specs.Messages.{Standing, submitted, waits, confirm_of, forgotten}
+use Rattle.lapin_resend.specs.Messages.{Standing, waits, confirm_of, forgotten}
 use Rattle.lapin_resend.specs.Publisher.{Publisher, Steps, Met, All, told, with_event, state_in, in_front, poll_at, poll_one, publishing, publish_one, each, with_all, after_polls, after_opening, after_selecting, after_publishing, tended}
 use Rattle.lapin_resend.specs.Resend.{after_loss, message_at, whether_stored, status_of}
 use Rattle.lapin_resend.specs.Follows.{standing, place, entry_of, is_kept}

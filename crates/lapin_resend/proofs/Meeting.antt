@@ -1,5 +1,5 @@
 -- One event, and one message: what the code does with them is what the definition says.
-use Rattle.std.proofs.Common.{◌≡◌, ◌∙◌, ℕ, Bool, true, false, cond, List, [], ◌∷◌, ◌++◌, Option, Some, None, refl, sym, ap, subst}
+use Rattle.std.proofs.Common.{◌≡◌, ◌∙◌, ℕ, Bool, true, cond, List, [], ◌∷◌, ◌++◌, Option, Some, None, refl, sym, ap, subst}
 use Rattle.lapin_types.specs.declared.event.Event.{Event}
 use Rattle.lapin_types.specs.declared.event.Event.TheVariants as event
 use Rattle.lapin_types.specs.declared.call.Call.{Call}
@@ -11,7 +11,7 @@ use Rattle.lapin_joint.specs.Joint.{Joint, new_joint, is_lawful, after, report, 
 use Rattle.lapin_machine.specs.Way.{Way, by_history}
 use Rattle.lapin_joint.specs.Kept.{Kept, StandsFor}
 use Rattle.lapin_resend.specs.declared.message.Submitted.{Submitted}
-use Rattle.lapin_resend.specs.Messages.{Standing, publish_of, waits, confirm_of}
+use Rattle.lapin_resend.specs.Messages.{publish_of, waits, confirm_of}
 use Rattle.lapin_resend.specs.Publisher.{Steps, Met, told, with_event, poll_at, poll_one, publishing, publish_one}
 use Rattle.lapin_resend.specs.Follows.{standing, polled_report, confirm_report, Tells, Meets}
 

@@ -1,13 +1,10 @@
 -- While channel 1 is open, each message that isn't stored has an outstanding publish: one that waits is published, and accepted.
-use Rattle.std.proofs.Common.{◌≡◌, ℕ, Bool, true, false, true≢false, ◌&&◌, not, cond, List, [], ◌∷◌, ◌++◌, Option, Some, None, refl, sym, ap, subst, ◌∙◌}
+use Rattle.std.proofs.Common.{◌≡◌, ℕ, Bool, true, false, true≢false, ◌&&◌, not, cond, List, [], ◌∷◌, ◌++◌, Option, Some, None, refl, sym, ap, ◌∙◌}
 use Rattle.std.specs.Option.{is_some}
-use Rattle.std.specs.List.{AllByRecursion}
-use Rattle.lapin_types.specs.Types.{ChannelState}
-use Rattle.lapin_types.specs.declared.event.Event.{Event}
 use Rattle.lapin_types.specs.declared.record.Record.{Record}
 use Rattle.lapin_types.specs.declared.record.Record.TheVariants as record_
 use Rattle.lapin_history.specs.Wire.{Wire, start, state_of, is_open}
-use Rattle.lapin_history.specs.History.{History, Past, past, rec}
+use Rattle.lapin_history.specs.History.{History, Past, past}
 use Rattle.lapin_history.specs.Events.{after_event}
 use Rattle.lapin_machine.proofs.Standing.{past-push}
 use Rattle.lapin_joint.specs.declared.step.Step as joined_step
@@ -15,8 +12,8 @@ use Rattle.lapin_joint.specs.declared.step.Step.TheVariants as joined
 use Rattle.lapin_joint.specs.Joint.{Joint, new_joint, after, run, joined_to}
 use Rattle.lapin_machine.specs.Way.{Way, by_history}
 use Rattle.lapin_resend.specs.declared.step.ResendStep.{ResendStep}
-use Rattle.lapin_resend.specs.Messages.{Standing, publish_of, waits, confirm_of}
-use Rattle.lapin_resend.specs.Publisher.{Publisher, Steps, Met, told, state_in, with_event, with_all, publishing, publish_one, each, after_polls, after_opening, after_selecting, after_publishing, tended}
+use Rattle.lapin_resend.specs.Messages.{Standing, waits, confirm_of}
+use Rattle.lapin_resend.specs.Publisher.{Publisher, Steps, Met, told, state_in, with_event, with_all, publishing, publish_one, each, after_polls, after_opening, after_selecting, tended}
 use Rattle.lapin_resend.specs.Resend.{begun, after_step, no_publisher, new_publisher, publisher_from, publisher_after}
 use Rattle.lapin_resend.specs.Kept.{IsOut, AreOut}
 

@@ -1,5 +1,5 @@
 -- One step more at the end of a list of steps, and how many joined steps that makes at most.
-use Rattle.std.proofs.Common.{◌≡◌, ◌∙◌, ℕ, suc, ◌+◌, ◌*◌, ◌≤◌, ◌<◌, ◌^◌, Bool, List, [], ◌∷◌, ◌++◌, length, true, false, not, cond, map, refl, sym, ap, subst, arith, length-append, slice_set}
+use Rattle.std.proofs.Common.{◌≡◌, ◌∙◌, ℕ, suc, ◌+◌, ◌≤◌, Bool, List, [], ◌∷◌, ◌++◌, length, true, false, not, cond, map, refl, sym, ap, subst, arith, length-append, slice_set}
 use Rattle.std.specs.List.{filter}
 use Rattle.std.proofs.Math.ListN.{length-set}
 use Rattle.lapin_resend.specs.declared.step.ResendStep.{ResendStep}
@@ -10,7 +10,7 @@ use Rattle.lapin_resend.specs.declared.step.ResendStep.TheVariants as step
 use Rattle.lapin_joint.specs.Kept.{Kept, StandsFor}
 use Rattle.lapin_resend.specs.Messages.{Standing, submitted, forgotten}
 use Rattle.lapin_resend.specs.Publisher.{Publisher, tended}
-use Rattle.lapin_resend.specs.Follows.{standing, entry_of, is_kept}
+use Rattle.lapin_resend.specs.Follows.{entry_of, is_kept}
 use Rattle.lapin_resend.specs.Keeping.{kept_from, AreSettled, FollowsBut, Knows, noted, with_new, is_submit}
 use Rattle.lapin_resend.specs.Resend.{begun, report_of, after_step, no_publisher, new_publisher, publisher_from, publisher_after, reports_from, resend}
 use Rattle.lapin_resend.specs.Sending.{Sending, StandsForSteps}

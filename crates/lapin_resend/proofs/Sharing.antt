@@ -1,5 +1,5 @@
 -- No two messages share one outstanding publish: each publish takes a number that is greater than all before it.
-use Rattle.std.proofs.Common.{◌≡◌, ◌⊎◌, inl, inr, ℕ, suc, ◌+◌, ◌<◌, ◌≤◌, Bool, true, false, true≢false, cond, not, ◌&&◌, List, [], ◌∷◌, ◌++◌, map, Option, Some, None, refl, sym, ap, subst, ◌∙◌, arith}
+use Rattle.std.proofs.Common.{◌≡◌, ◌⊎◌, inl, inr, ℕ, ◌+◌, ◌<◌, ◌≤◌, Bool, true, false, cond, List, [], ◌∷◌, ◌++◌, map, Option, Some, None, refl, ap, arith}
 use Rattle.std.specs.Prelude.{Ok, Err}
 use Rattle.std.specs.List.{AllByRecursion}
 use Rattle.lapin_types.specs.declared.acker_call.AckerCall.{AckerCall}
@@ -34,8 +34,8 @@ use Rattle.lapin_machine.specs.Way.{by_history}
 use Rattle.lapin_resend.specs.declared.step.ResendStep.{ResendStep}
 use Rattle.lapin_resend.specs.declared.step.ResendStep.TheVariants as step
 use Rattle.lapin_resend.specs.Messages.{Standing, submitted, publish_of, polled, waits, confirm_of, forgotten}
-use Rattle.lapin_resend.specs.Publisher.{Publisher, Steps, Met, All, told, state_in, with_event, poll_at, poll_one, publishing, publish_one, each, after_polls, after_opening, after_selecting, after_publishing, tended}
-use Rattle.lapin_resend.specs.Resend.{begun, with_step, after_step, no_publisher, new_publisher, publisher_from, publisher_after}
+use Rattle.lapin_resend.specs.Publisher.{Publisher, Steps, Met, told, state_in, with_event, poll_at, poll_one, publishing, publish_one, each, after_polls, after_opening, after_selecting, tended}
+use Rattle.lapin_resend.specs.Resend.{begun, after_step, no_publisher, new_publisher, publisher_from, publisher_after}
 use Rattle.lapin_resend.specs.Kept.{DoNotShare, NoneShare}
 use Rattle.lapin_resend.proofs.Out.{run-push, wire_in, published_wire}
 

@@ -2,7 +2,6 @@
 use Rattle.std.proofs.Common.{◌≡◌, ◌∙◌, ℕ, suc, ◌+◌, ◌≤◌, Bool, List, [], ◌∷◌, ◌++◌, length, map, take, drop, false, None, refl, sym, ap, subst, append-nil, add-one, zero-add}
 use Rattle.std.proofs.lemmas.List.{map-append, take_all, drop_all}
 use Rattle.lapin_joint.specs.declared.step.Step as joined_step
-use Rattle.lapin_joint.specs.declared.step.Step.TheVariants as joined
 use Rattle.lapin_joint.specs.declared.step.Reported.{Reported}
 use Rattle.lapin_joint.specs.Joint as joint
 use Rattle.lapin_joint.specs.Kept.{Kept, StandsFor}

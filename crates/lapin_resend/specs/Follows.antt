@@ -1,5 +1,5 @@
 -- How the code's messages and joined runs stand for those of the definition.
-use Rattle.std.specs.Prelude.{◌≡◌, ℕ, Bool, not, List, map, Option, Some, None}
+use Rattle.std.specs.Prelude.{◌≡◌, ℕ, Bool, not, List, map, Option, None}
 use Rattle.lapin_types.specs.declared.event.Event.{Event}
 use Rattle.lapin_joint.specs.declared.step.Reported.{Reported}
 use Rattle.lapin_joint.specs.declared.step.Reported.TheVariants as reported

@@ -1,5 +1,5 @@
 -- A message that was submitted, how far it came, and the call that publishes it.
-use Rattle.std.specs.Prelude.{ℕ, Bool, true, false, ◌&&◌, not, Option, Some, None, Result, Ok, Err}
+use Rattle.std.specs.Prelude.{ℕ, Bool, true, false, ◌&&◌, not, Option, Some, None, Ok}
 use Rattle.std.specs.Option.{is_some}
 use Rattle.lapin_values.specs.Properties.{no_properties}
 use Rattle.lapin_types.specs.declared.call.Call.{Call}

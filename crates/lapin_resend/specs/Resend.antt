@@ -3,7 +3,6 @@ use Rattle.std.specs.Prelude.{ℕ, suc, ◌-◌, nat_lt, Bool, true, false, if�
 use Rattle.lapin_types.specs.declared.event.Event.TheVariants as event
 use Rattle.lapin_joint.specs.declared.step.Step as joined_step
 use Rattle.lapin_joint.specs.declared.step.Step.TheVariants as joined
-use Rattle.lapin_joint.specs.declared.step.Reported.TheVariants as reported
 use Rattle.lapin_joint.specs.Joint.{report, joined_to}
 use Rattle.lapin_machine.specs.Way.{by_history}
 use Rattle.lapin_resend.specs.declared.step.ResendStep.{ResendStep}

@@ -1,4 +1,4 @@
-use Rattle.std.proofs.Common.{◌≡◌, ◌∙◌, [], false, map, refl, ap}
+use Rattle.std.proofs.Common.{◌∙◌, [], false, map, refl, ap}
 use Rattle.lapin_joint.specs.Kept.{Kept}
 use Rattle.lapin_resend.specs.declared.publisher.Publisher as code
 use Rattle.lapin_resend.specs.Follows.{standing, place}
