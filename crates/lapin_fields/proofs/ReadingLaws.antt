@@ -1,15 +1,13 @@
 -- What was written is read: the fields that hold no other.
-use Rattle.std.proofs.Common.{◌≡◌, ℕ, ◌+◌, ◌≤◌, ◌<◌, ◌^◌, ◌%◌, ◌/◌, Bool, true, false, List, [], ◌∷◌, ◌++◌, length, take, drop, Option, Some, None, refl, sym, ap, ◌∙◌, arith, append_assoc}
-use Rattle.std.specs.Prelude.{nat_lt, ◌*◌, ◌==◌}
-use Rattle.std.specs.Str.{is_utf8}
+use Rattle.std.proofs.Common.{◌≡◌, ℕ, ◌<◌, ◌^◌, Bool, true, false, List, [], ◌∷◌, ◌++◌, length, Option, Some, refl, ap, ◌∙◌, arith, append_assoc}
 use Rattle.std.proofs.lemmas.Nat.{from_be_bytes-to_be_bytes_2, from_be_bytes-to_be_bytes_4, from_be_bytes-to_be_bytes_8}
 use Rattle.std.proofs.lemmas.Bool.{le-ltb}
 use Rattle.std.proofs.lemmas.List.{length-append}
 use Rattle.std.proofs.Math.Seq.{take-append_seam, drop-append_seam}
-use Rattle.lapin_fields.specs.Around.{around, around_at, ended, wanted_behind}
-use Rattle.lapin_fields.specs.Fields.{octet, short, long, wide, text, counted, bit, bits, flags}
+use Rattle.lapin_fields.specs.Around.{around, around_at, ended}
+use Rattle.lapin_fields.specs.Fields.{octet, short, long, wide, text, counted}
 use Rattle.lapin_fields.specs.Fits.{TextFits, StringFits}
-use Rattle.lapin_fields.specs.Reading.{◌>>=◌, octet_at, short_at, long_at, wide_at, piece_at, counted_at, string_at, as_text, text_at, bit_at}
+use Rattle.lapin_fields.specs.Reading.{◌>>=◌, octet_at, short_at, long_at, wide_at, piece_at, counted_at, string_at, text_at}
 
 pub no_true : (b : Bool) → (b ≡ true → ⊥) → b ≡ false
 no_true true f = absurd (f refl)
@@ -50,8 +48,8 @@ pub around_back : (kind channel : ℕ) (payload rest : List ℕ) → channel < 2
 around_back kind channel payload rest lt fits =
     ap (λ (t : List ℕ). around_at ((octet kind ++ short channel) ++ (long (length payload) ++ t))) (append_assoc payload (206 ∷ []) rest)
     ∙ then_on (short_at (short channel ++ (counted payload ++ 206 ∷ rest))) (channel, counted payload ++ 206 ∷ rest)
-      (λ c. counted_at c.1 >>= λ p. octet_at p.1 >>= λ mark. ended mark.0 (kind, c.0, p.0) mark.1) _
-      (short_back channel (counted payload ++ 206 ∷ rest) lt)
-      (then_on (counted_at (counted payload ++ 206 ∷ rest)) (payload, 206 ∷ rest)
-        (λ p. octet_at p.1 >>= λ mark. ended mark.0 (kind, channel, p.0) mark.1) _
-        (counted_back payload (206 ∷ rest) fits) refl)
+    (λ c. counted_at c.1 >>= λ p. octet_at p.1 >>= λ mark. ended mark.0 (kind, c.0, p.0) mark.1) _
+    (short_back channel (counted payload ++ 206 ∷ rest) lt)
+    (then_on (counted_at (counted payload ++ 206 ∷ rest)) (payload, 206 ∷ rest)
+    (λ p. octet_at p.1 >>= λ mark. ended mark.0 (kind, channel, p.0) mark.1) _
+    (counted_back payload (206 ∷ rest) fits) refl)

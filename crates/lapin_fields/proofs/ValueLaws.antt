@@ -1,5 +1,5 @@
 -- What was written is read: field values, arrays and tables.
-use Rattle.std.proofs.Common.{◌≡◌, ℕ, zero, suc, ◌+◌, ◌≤◌, ◌<◌, ◌^◌, Bool, true, false, List, [], ◌∷◌, ◌++◌, length, Option, Some, None, refl, sym, ap, subst, ◌∙◌, arith, append_assoc, to_z}
+use Rattle.std.proofs.Common.{◌≡◌, ℕ, zero, suc, ◌≤◌, ◌<◌, ◌^◌, true, false, List, [], ◌∷◌, ◌++◌, length, Option, Some, refl, sym, ap, subst, ◌∙◌, arith, append_assoc, to_z}
 use Rattle.std.specs.Int.{w8, w16, w32, w64, cast_unsigned}
 use Rattle.std.specs.Int.RustNames.{FitsSigned}
 use Rattle.std.specs.FinMap.Entries.{is_sorted}
@@ -9,9 +9,9 @@ use Rattle.std.proofs.lemmas.Nat.{from_be_bytes-to_be_bytes_2, from_be_bytes-to_
 use Rattle.lapin_values.specs.Data.{Leaf, boolean, short_short_int, short_short_uint, short_int, short_uint, long_int, long_uint, long_long_int, timestamp, long_string, byte_array, void, Data, leaf, array, table, Items, no_items, item, Pairs, no_pairs, pair, items_of, pairs_of}
 use Rattle.lapin_values.specs.Table.{key_cmp, put}
 use Rattle.lapin_values.specs.ValueOf.{items_list, pairs_list, pairs_list-pairs_of}
-use Rattle.lapin_fields.specs.Fields.{octet, short, long, wide, text, counted}
-use Rattle.lapin_fields.specs.Fits.{TextFits, StringFits, LeafFits, ValueFits, ItemsFit, PairsFit, TableFits}
-use Rattle.lapin_fields.specs.Reading.{◌>>=◌, octet_at, counted_at, text_at}
+use Rattle.lapin_fields.specs.Fields.{text, counted}
+use Rattle.lapin_fields.specs.Fits.{StringFits, LeafFits, ValueFits, ItemsFit, PairsFit, TableFits}
+use Rattle.lapin_fields.specs.Reading.{◌>>=◌, counted_at, text_at}
 use Rattle.lapin_fields.specs.ValueReading.{one_of, items_in, pairs_in, value_at, array_in, table_in, table_at}
 use Rattle.lapin_fields.specs.Values.{leaf_bytes, value_bytes, items_bytes, pairs_bytes, table_bytes}
 use Rattle.lapin_fields.proofs.ReadingLaws.{then_on, text_back, counted_back}
@@ -114,8 +114,8 @@ module _ (l : ℕ) (back : Back l) where
       pair_step (value_at l) n found ((text k ++ value_bytes d) ++ pairs_bytes ps) (λ e. cc)
       ∙ ap (λ (t : List ℕ). text_at (length k ∷ t) >>= λ key. value_at l key.1 >>= λ x. pairs_in (value_at l) n (put key.0 x.0 found) x.1) (append_assoc k (value_bytes d) (pairs_bytes ps))
       ∙ then_on (text_at (text k ++ (value_bytes d ++ pairs_bytes ps))) (k, value_bytes d ++ pairs_bytes ps) (λ key. value_at l key.1 >>= λ x. pairs_in (value_at l) n (put key.0 x.0 found) x.1) _ (text_back k (value_bytes d ++ pairs_bytes ps) fit.0)
-        (then_on (value_at l (value_bytes d ++ pairs_bytes ps)) (d, pairs_bytes ps) (λ x. pairs_in (value_at l) n (put k x.0 found) x.1) _ (back d (pairs_bytes ps) fit.1)
-          (ap (λ (f : List (List ℕ × Data)). pairs_in (value_at l) n f (pairs_bytes ps)) last ∙ pairs_run ps (found ++ (k, d) ∷ []) n fit.2 on m))
+      (then_on (value_at l (value_bytes d ++ pairs_bytes ps)) (d, pairs_bytes ps) (λ x. pairs_in (value_at l) n (put k x.0 found) x.1) _ (back d (pairs_bytes ps) fit.1)
+      (ap (λ (f : List (List ℕ × Data)). pairs_in (value_at l) n f (pairs_bytes ps)) last ∙ pairs_run ps (found ++ (k, d) ∷ []) n fit.2 on m))
       ∙ ap Some more
 
   array_again : (is : Items) → ItemsFit l is → array_in (suc l) (items_bytes is) ≡ Some (items_list is)

@@ -1,5 +1,5 @@
 -- Reading field values from left to right, by the letters of their types.
-use Rattle.std.specs.Prelude.{◌≡◌, ℕ, zero, suc, ◌==◌, List, [], ◌∷◌, ◌++◌, length, Result, Ok, Err, Option, Some, None, if◌then◌else◌, nat_lt}
+use Rattle.std.specs.Prelude.{ℕ, zero, suc, ◌==◌, List, [], ◌∷◌, ◌++◌, length, Option, Some, None, if◌then◌else◌, nat_lt}
 use Rattle.std.specs.Int.{w8, w16, w32, w64, cast_signed}
 use Rattle.lapin_values.specs.Data.{boolean, short_short_int, short_short_uint, short_int, short_uint, long_int, long_uint, long_long_int, timestamp, long_string, byte_array, void, Data, leaf, array, table, items_of, pairs_of}
 use Rattle.lapin_values.specs.Table.{put}

@@ -11,7 +11,7 @@ use lapin_values::{AMQPValue, LongString, Payload};
 use std::alloc::Global;
 
 /// A value that has no kind of its own here, as a byte array: the letter of its type, and its octets as they stand.
-pub fn as_bytes(alloc: Global, letter: u8, piece: &[u8]) -> Result<AMQPValue, ReadFault>
+pub(crate) fn as_bytes(alloc: Global, letter: u8, piece: &[u8]) -> Result<AMQPValue, ReadFault>
     ensures { GivesOne data_of result (as_octets letter piece.now) }
 {
     let mut bytes = Vec::new(alloc);
@@ -38,7 +38,11 @@ fn take_bytes(
 }
 
 /// The value of a type that holds no other, which stands next behind the letter of its type.
-pub fn take_leaf(alloc: Global, octets: &mut Octets, letter: u8) -> Result<AMQPValue, ReadFault>
+pub(crate) fn take_leaf(
+    alloc: Global,
+    octets: &mut Octets,
+    letter: u8,
+) -> Result<AMQPValue, ReadFault>
     ensures { GivesAs data_of result octets.new (leaf_at letter octets.old) }
 {
     match letter {

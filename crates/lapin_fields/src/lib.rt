@@ -4,19 +4,22 @@
 //! Here stand layouts alone. Which fields a method or a content header has stands in the crate above.
 #![tactic(auto)]
 
-pub mod around;
-pub mod fault;
-pub mod flags;
-pub mod laws;
-pub mod leaves;
-pub mod octets;
-pub mod texts;
-pub mod value_reading;
-pub mod value_writing;
+mod around;
+mod fault;
+mod flags;
+mod laws;
+mod leaves;
+mod octets;
+mod texts;
+mod value_reading;
+mod value_writing;
 
 pub use around::{Around, put_around, take_around, wanted};
 pub use fault::{ReadFault, WriteFault};
 pub use flags::{bit, packed, packed_whole, unpacked, unpacked_whole};
+pub use laws::{
+    packed_flags_are_bits, written_payload_is_read, written_texts_are_read, written_values_are_read,
+};
 pub use octets::{Octets, put_counted, put_long, put_octet, put_short, put_wide};
 pub use texts::{put_text, short_text, skip_text, take_string, take_text};
 pub use value_reading::{LEVELS, table_of, take_table};

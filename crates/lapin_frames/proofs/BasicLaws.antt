@@ -1,10 +1,9 @@
 -- What was written is read: methods of the class basic.
-use Rattle.std.proofs.Common.{◌≡◌, ℕ, Bool, List, [], ◌∷◌, ◌++◌, Option, Some, None, refl, ap, ◌∙◌, arith}
-use Rattle.lapin_fields.specs.Fields.{octet, short, long, wide, text, counted, flags}
+use Rattle.std.proofs.Common.{◌≡◌, ℕ, List, [], ◌∷◌, ◌++◌, Some, refl, ap, ◌∙◌}
+use Rattle.lapin_fields.specs.Fields.{short, long, wide, text, flags}
 use Rattle.lapin_fields.specs.Values.{table_bytes}
-use Rattle.lapin_fields.specs.Reading.{◌>>=◌, short_at}
-use Rattle.lapin_fields.proofs.FlagLaws.{flag_1, flag_2, flag_4, flag_8, flag_16}
-use Rattle.lapin_fields.proofs.ReadingLaws.{then_on, text_back, string_back, counted_back}
+use Rattle.lapin_fields.proofs.FlagLaws.{flag_1, flag_2, flag_4, flag_8}
+use Rattle.lapin_fields.proofs.ReadingLaws.{then_on, text_back, string_back}
 use Rattle.std.proofs.lemmas.Nat.{from_be_bytes-to_be_bytes_2, from_be_bytes-to_be_bytes_4, from_be_bytes-to_be_bytes_8}
 use Rattle.lapin_fields.proofs.ValueLaws.{table_back}
 use Rattle.lapin_methods.specs.declared.basic.BasicMethod.{BasicMethod}
@@ -12,7 +11,7 @@ use Rattle.lapin_methods.specs.declared.basic.BasicMethod.TheVariants as basic_m
 use Rattle.lapin_frames.specs.FrameFits.{BasicFits}
 use Rattle.lapin_frames.specs.Methods.{basic_bytes}
 use Rattle.lapin_frames.specs.MethodReading.{basic_at}
-use Rattle.lapin_frames.proofs.Joined.{numbered, joined_2, joined_3, joined_4, joined_5, joined_6, joined_7, joined_8}
+use Rattle.lapin_frames.proofs.Joined.{numbered, joined_2, joined_3, joined_4, joined_5, joined_6}
 
 -- a method of the class basic, from its number on
 pub basic_back : (m : BasicMethod) (rest : List ℕ) → BasicFits m → numbered basic_at (basic_bytes m ++ rest) ≡ Some (m, rest)

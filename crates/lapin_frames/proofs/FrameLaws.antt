@@ -1,15 +1,13 @@
 -- What was written is read: methods of all classes, and frames.
-use Rattle.std.proofs.Common.{◌≡◌, ℕ, ◌+◌, ◌-◌, ◌<◌, ◌^◌, List, [], ◌∷◌, ◌++◌, length, Option, Some, None, refl, sym, ap, ◌∙◌, append_assoc, arith}
-use Rattle.std.specs.Int.{w32, from_be_bytes}
+use Rattle.std.proofs.Common.{◌≡◌, ℕ, ◌+◌, ◌-◌, ◌<◌, ◌^◌, List, [], ◌∷◌, ◌++◌, length, Option, Some, None, refl, sym, ap, ◌∙◌, arith}
 use Rattle.std.proofs.lemmas.List.{append-nil, length-append}
 use Rattle.std.proofs.lemmas.Nat.{from_be_bytes-to_be_bytes_4}
 use Rattle.lapin_methods.specs.declared.frame.Frame.{Frame}
 use Rattle.lapin_methods.specs.declared.frame.Frame.TheVariants as frame
 use Rattle.lapin_methods.specs.declared.method.Method.{Method}
 use Rattle.lapin_methods.specs.declared.method.Method.TheVariants as method
-use Rattle.lapin_methods.specs.Numbers.{class_number}
 use Rattle.lapin_fields.specs.Around.{around, around_at, wanted_behind}
-use Rattle.lapin_fields.specs.Fields.{octet, short, long, counted}
+use Rattle.lapin_fields.specs.Fields.{long}
 use Rattle.lapin_fields.specs.Fits.{StringFits}
 use Rattle.lapin_fields.specs.Reading.{◌>>=◌, short_at}
 use Rattle.lapin_fields.proofs.ReadingLaws.{then_on, around_back}

@@ -1,23 +1,22 @@
 -- What was written is read: content headers.
-use Rattle.std.proofs.Common.{◌≡◌, ℕ, ◌<◌, ◌^◌, Bool, true, false, List, [], ◌∷◌, ◌++◌, Option, Some, None, refl, sym, ap, ◌∙◌, append_assoc}
+use Rattle.std.proofs.Common.{◌≡◌, ℕ, ◌<◌, ◌^◌, Bool, true, false, List, [], ◌∷◌, ◌++◌, Option, Some, None, refl, sym, ap, ◌∙◌}
 use Rattle.std.specs.Prelude.{is_some}
-use Rattle.std.specs.Str.{is_utf8}
 use Rattle.std.proofs.lemmas.List.{append-nil}
 use Rattle.std.proofs.lemmas.Nat.{from_be_bytes-to_be_bytes_2, from_be_bytes-to_be_bytes_8}
 use Rattle.lapin_values.specs.Data.{Data, pairs_of}
-use Rattle.lapin_values.specs.Properties.{Properties, no_properties}
+use Rattle.lapin_values.specs.Properties.{Properties}
 use Rattle.lapin_methods.specs.declared.frame.ContentHeader.{ContentHeader}
 use Rattle.lapin_fields.specs.Fields.{octet, short, wide, text, bits}
 use Rattle.lapin_fields.specs.Fits.{TextFits, TableFits}
 use Rattle.lapin_fields.specs.Values.{table_bytes, pairs_bytes}
-use Rattle.lapin_fields.specs.Reading.{◌>>=◌, octet_at, short_at, wide_at, counted_at, string_at, bit_at}
+use Rattle.lapin_fields.specs.Reading.{wide_at, counted_at, string_at}
 use Rattle.lapin_fields.specs.ValueReading.{table_in}
 use Rattle.lapin_fields.proofs.FlagLaws.{flag_1, flag_2, flag_4, flag_8, flag_16, flag_32, flag_64, flag_128}
-use Rattle.lapin_fields.proofs.ReadingLaws.{then_on, short_back, wide_back, string_back}
+use Rattle.lapin_fields.proofs.ReadingLaws.{then_on, wide_back, string_back}
 use Rattle.lapin_fields.proofs.ValueLaws.{table_inside, table_string_back}
 use Rattle.lapin_frames.specs.FrameFits.{GivenFits, FirstFit, NextFit, LastFit, PropertiesFit, HeaderFits}
-use Rattle.lapin_frames.specs.Headers.{given, first_properties, next_properties, last_properties, property_flags, properties_bytes, header_front, header_bytes}
-use Rattle.lapin_frames.specs.HeaderReading.{put_text, with_string, with_table, text_given, headers_given, mode_given, priority_given, time_given, none_listed, first_at, next_at, later_at, last_at, listed_at, settled, whole, properties_in, header_in}
+use Rattle.lapin_frames.specs.Headers.{given, first_properties, next_properties, last_properties, property_flags, properties_bytes, header_bytes}
+use Rattle.lapin_frames.specs.HeaderReading.{put_text, with_string, with_table, text_given, headers_given, mode_given, priority_given, time_given, first_at, next_at, later_at, last_at, listed_at, properties_in, header_in}
 use Rattle.lapin_frames.specs.declared.listed.Listed.{Listed}
 use Rattle.lapin_frames.specs.declared.listed.TextProperty.{TextProperty}
 use Rattle.lapin_frames.specs.declared.listed.TextProperty.TheVariants as property
@@ -71,31 +70,31 @@ module _ (p : Properties) where
   first_back rest fit =
       ap (first_at high (listed None None None None None None None None None None None None None None)) (joined_4 (given text p.content_type) (given text p.content_encoding) (given table_bytes p.headers) (given octet p.delivery_mode) rest)
       ∙ then_on _ _ _ _ (ap (λ (b : Bool). text_given property.ContentType b (listed None None None None None None None None None None None None None None) ((given text p.content_type) ++ ((given text p.content_encoding) ++ ((given table_bytes p.headers) ++ ((given octet p.delivery_mode) ++ rest))))) (flag_128 (is_some p.expiration) (is_some p.reply_to) (is_some p.correlation_id) (is_some p.priority) (is_some p.delivery_mode) (is_some p.headers) (is_some p.content_encoding) (is_some p.content_type) []) ∙ text_step property.ContentType (λ o. (listed o None None None None None None None None None None None None None)) p.content_type ((given text p.content_encoding) ++ ((given table_bytes p.headers) ++ ((given octet p.delivery_mode) ++ rest))) (λ t. refl) fit.0)
-      ( then_on _ _ _ _ (ap (λ (b : Bool). text_given property.ContentEncoding b (listed p.content_type None None None None None None None None None None None None None) ((given text p.content_encoding) ++ ((given table_bytes p.headers) ++ ((given octet p.delivery_mode) ++ rest)))) (flag_64 (is_some p.expiration) (is_some p.reply_to) (is_some p.correlation_id) (is_some p.priority) (is_some p.delivery_mode) (is_some p.headers) (is_some p.content_encoding) (is_some p.content_type ∷ [])) ∙ text_step property.ContentEncoding (λ o. (listed p.content_type o None None None None None None None None None None None None)) p.content_encoding ((given table_bytes p.headers) ++ ((given octet p.delivery_mode) ++ rest)) (λ t. refl) fit.1)
-      ( then_on _ _ _ _ (ap (λ (b : Bool). headers_given b (listed p.content_type p.content_encoding None None None None None None None None None None None None) ((given table_bytes p.headers) ++ ((given octet p.delivery_mode) ++ rest))) (flag_32 (is_some p.expiration) (is_some p.reply_to) (is_some p.correlation_id) (is_some p.priority) (is_some p.delivery_mode) (is_some p.headers) (is_some p.content_encoding ∷ is_some p.content_type ∷ [])) ∙ headers_step (λ o. (listed p.content_type p.content_encoding o None None None None None None None None None None None)) p.headers ((given octet p.delivery_mode) ++ rest) (λ t. refl) fit.2)
-      ( (ap (λ (b : Bool). mode_given b (listed p.content_type p.content_encoding p.headers None None None None None None None None None None None) ((given octet p.delivery_mode) ++ rest)) (flag_16 (is_some p.expiration) (is_some p.reply_to) (is_some p.correlation_id) (is_some p.priority) (is_some p.delivery_mode) (is_some p.headers ∷ is_some p.content_encoding ∷ is_some p.content_type ∷ [])) ∙ mode_step (λ o. (listed p.content_type p.content_encoding p.headers o None None None None None None None None None None)) p.delivery_mode rest (λ t. refl)))))
+      (then_on _ _ _ _ (ap (λ (b : Bool). text_given property.ContentEncoding b (listed p.content_type None None None None None None None None None None None None None) ((given text p.content_encoding) ++ ((given table_bytes p.headers) ++ ((given octet p.delivery_mode) ++ rest)))) (flag_64 (is_some p.expiration) (is_some p.reply_to) (is_some p.correlation_id) (is_some p.priority) (is_some p.delivery_mode) (is_some p.headers) (is_some p.content_encoding) (is_some p.content_type ∷ [])) ∙ text_step property.ContentEncoding (λ o. (listed p.content_type o None None None None None None None None None None None None)) p.content_encoding ((given table_bytes p.headers) ++ ((given octet p.delivery_mode) ++ rest)) (λ t. refl) fit.1)
+      (then_on _ _ _ _ (ap (λ (b : Bool). headers_given b (listed p.content_type p.content_encoding None None None None None None None None None None None None) ((given table_bytes p.headers) ++ ((given octet p.delivery_mode) ++ rest))) (flag_32 (is_some p.expiration) (is_some p.reply_to) (is_some p.correlation_id) (is_some p.priority) (is_some p.delivery_mode) (is_some p.headers) (is_some p.content_encoding ∷ is_some p.content_type ∷ [])) ∙ headers_step (λ o. (listed p.content_type p.content_encoding o None None None None None None None None None None None)) p.headers ((given octet p.delivery_mode) ++ rest) (λ t. refl) fit.2)
+      ((ap (λ (b : Bool). mode_given b (listed p.content_type p.content_encoding p.headers None None None None None None None None None None None) ((given octet p.delivery_mode) ++ rest)) (flag_16 (is_some p.expiration) (is_some p.reply_to) (is_some p.correlation_id) (is_some p.priority) (is_some p.delivery_mode) (is_some p.headers ∷ is_some p.content_encoding ∷ is_some p.content_type ∷ [])) ∙ mode_step (λ o. (listed p.content_type p.content_encoding p.headers o None None None None None None None None None None)) p.delivery_mode rest (λ t. refl)))))
 
   next_back : (rest : List ℕ) → NextFit p → next_at high (listed p.content_type p.content_encoding p.headers p.delivery_mode None None None None None None None None None None) (next_properties p ++ rest) ≡ Some ((listed p.content_type p.content_encoding p.headers p.delivery_mode p.priority p.correlation_id p.reply_to p.expiration None None None None None None), rest)
   next_back rest fit =
       ap (next_at high (listed p.content_type p.content_encoding p.headers p.delivery_mode None None None None None None None None None None)) (joined_4 (given octet p.priority) (given text p.correlation_id) (given text p.reply_to) (given text p.expiration) rest)
       ∙ then_on _ _ _ _ (ap (λ (b : Bool). priority_given b (listed p.content_type p.content_encoding p.headers p.delivery_mode None None None None None None None None None None) ((given octet p.priority) ++ ((given text p.correlation_id) ++ ((given text p.reply_to) ++ ((given text p.expiration) ++ rest))))) (flag_8 (is_some p.expiration) (is_some p.reply_to) (is_some p.correlation_id) (is_some p.priority) (is_some p.delivery_mode ∷ is_some p.headers ∷ is_some p.content_encoding ∷ is_some p.content_type ∷ [])) ∙ priority_step (λ o. (listed p.content_type p.content_encoding p.headers p.delivery_mode o None None None None None None None None None)) p.priority ((given text p.correlation_id) ++ ((given text p.reply_to) ++ ((given text p.expiration) ++ rest))) (λ t. refl))
-      ( then_on _ _ _ _ (ap (λ (b : Bool). text_given property.CorrelationId b (listed p.content_type p.content_encoding p.headers p.delivery_mode p.priority None None None None None None None None None) ((given text p.correlation_id) ++ ((given text p.reply_to) ++ ((given text p.expiration) ++ rest)))) (flag_4 (is_some p.expiration) (is_some p.reply_to) (is_some p.correlation_id) (is_some p.priority ∷ is_some p.delivery_mode ∷ is_some p.headers ∷ is_some p.content_encoding ∷ is_some p.content_type ∷ [])) ∙ text_step property.CorrelationId (λ o. (listed p.content_type p.content_encoding p.headers p.delivery_mode p.priority o None None None None None None None None)) p.correlation_id ((given text p.reply_to) ++ ((given text p.expiration) ++ rest)) (λ t. refl) fit.1)
-      ( then_on _ _ _ _ (ap (λ (b : Bool). text_given property.ReplyTo b (listed p.content_type p.content_encoding p.headers p.delivery_mode p.priority p.correlation_id None None None None None None None None) ((given text p.reply_to) ++ ((given text p.expiration) ++ rest))) (flag_2 (is_some p.expiration) (is_some p.reply_to) (is_some p.correlation_id ∷ is_some p.priority ∷ is_some p.delivery_mode ∷ is_some p.headers ∷ is_some p.content_encoding ∷ is_some p.content_type ∷ [])) ∙ text_step property.ReplyTo (λ o. (listed p.content_type p.content_encoding p.headers p.delivery_mode p.priority p.correlation_id o None None None None None None None)) p.reply_to ((given text p.expiration) ++ rest) (λ t. refl) fit.2)
-      ( (ap (λ (b : Bool). text_given property.Expiration b (listed p.content_type p.content_encoding p.headers p.delivery_mode p.priority p.correlation_id p.reply_to None None None None None None None) ((given text p.expiration) ++ rest)) (flag_1 (is_some p.expiration) (is_some p.reply_to ∷ is_some p.correlation_id ∷ is_some p.priority ∷ is_some p.delivery_mode ∷ is_some p.headers ∷ is_some p.content_encoding ∷ is_some p.content_type ∷ [])) ∙ text_step property.Expiration (λ o. (listed p.content_type p.content_encoding p.headers p.delivery_mode p.priority p.correlation_id p.reply_to o None None None None None None)) p.expiration rest (λ t. refl) fit.3))))
+      (then_on _ _ _ _ (ap (λ (b : Bool). text_given property.CorrelationId b (listed p.content_type p.content_encoding p.headers p.delivery_mode p.priority None None None None None None None None None) ((given text p.correlation_id) ++ ((given text p.reply_to) ++ ((given text p.expiration) ++ rest)))) (flag_4 (is_some p.expiration) (is_some p.reply_to) (is_some p.correlation_id) (is_some p.priority ∷ is_some p.delivery_mode ∷ is_some p.headers ∷ is_some p.content_encoding ∷ is_some p.content_type ∷ [])) ∙ text_step property.CorrelationId (λ o. (listed p.content_type p.content_encoding p.headers p.delivery_mode p.priority o None None None None None None None None)) p.correlation_id ((given text p.reply_to) ++ ((given text p.expiration) ++ rest)) (λ t. refl) fit.1)
+      (then_on _ _ _ _ (ap (λ (b : Bool). text_given property.ReplyTo b (listed p.content_type p.content_encoding p.headers p.delivery_mode p.priority p.correlation_id None None None None None None None None) ((given text p.reply_to) ++ ((given text p.expiration) ++ rest))) (flag_2 (is_some p.expiration) (is_some p.reply_to) (is_some p.correlation_id ∷ is_some p.priority ∷ is_some p.delivery_mode ∷ is_some p.headers ∷ is_some p.content_encoding ∷ is_some p.content_type ∷ [])) ∙ text_step property.ReplyTo (λ o. (listed p.content_type p.content_encoding p.headers p.delivery_mode p.priority p.correlation_id o None None None None None None None)) p.reply_to ((given text p.expiration) ++ rest) (λ t. refl) fit.2)
+      ((ap (λ (b : Bool). text_given property.Expiration b (listed p.content_type p.content_encoding p.headers p.delivery_mode p.priority p.correlation_id p.reply_to None None None None None None None) ((given text p.expiration) ++ rest)) (flag_1 (is_some p.expiration) (is_some p.reply_to ∷ is_some p.correlation_id ∷ is_some p.priority ∷ is_some p.delivery_mode ∷ is_some p.headers ∷ is_some p.content_encoding ∷ is_some p.content_type ∷ [])) ∙ text_step property.Expiration (λ o. (listed p.content_type p.content_encoding p.headers p.delivery_mode p.priority p.correlation_id p.reply_to o None None None None None None)) p.expiration rest (λ t. refl) fit.3))))
 
   later_back : (rest : List ℕ) → LastFit p → later_at low (listed p.content_type p.content_encoding p.headers p.delivery_mode p.priority p.correlation_id p.reply_to p.expiration None None None None None None) ((given text p.message_id ++ given wide p.timestamp ++ given text p.kind) ++ rest) ≡ Some ((listed p.content_type p.content_encoding p.headers p.delivery_mode p.priority p.correlation_id p.reply_to p.expiration p.message_id p.timestamp p.kind None None None), rest)
   later_back rest fit =
       ap (later_at low (listed p.content_type p.content_encoding p.headers p.delivery_mode p.priority p.correlation_id p.reply_to p.expiration None None None None None None)) (joined_3 (given text p.message_id) (given wide p.timestamp) (given text p.kind) rest)
       ∙ then_on _ _ _ _ (ap (λ (b : Bool). text_given property.MessageId b (listed p.content_type p.content_encoding p.headers p.delivery_mode p.priority p.correlation_id p.reply_to p.expiration None None None None None None) ((given text p.message_id) ++ ((given wide p.timestamp) ++ ((given text p.kind) ++ rest)))) (flag_128 (false) (false) (is_some p.cluster_id) (is_some p.app_id) (is_some p.user_id) (is_some p.kind) (is_some p.timestamp) (is_some p.message_id) []) ∙ text_step property.MessageId (λ o. (listed p.content_type p.content_encoding p.headers p.delivery_mode p.priority p.correlation_id p.reply_to p.expiration o None None None None None)) p.message_id ((given wide p.timestamp) ++ ((given text p.kind) ++ rest)) (λ t. refl) fit.0)
-      ( then_on _ _ _ _ (ap (λ (b : Bool). time_given b (listed p.content_type p.content_encoding p.headers p.delivery_mode p.priority p.correlation_id p.reply_to p.expiration p.message_id None None None None None) ((given wide p.timestamp) ++ ((given text p.kind) ++ rest))) (flag_64 (false) (false) (is_some p.cluster_id) (is_some p.app_id) (is_some p.user_id) (is_some p.kind) (is_some p.timestamp) (is_some p.message_id ∷ [])) ∙ time_step (λ o. (listed p.content_type p.content_encoding p.headers p.delivery_mode p.priority p.correlation_id p.reply_to p.expiration p.message_id o None None None None)) p.timestamp ((given text p.kind) ++ rest) (λ t. refl) fit.1)
-      ( (ap (λ (b : Bool). text_given property.Kind b (listed p.content_type p.content_encoding p.headers p.delivery_mode p.priority p.correlation_id p.reply_to p.expiration p.message_id p.timestamp None None None None) ((given text p.kind) ++ rest)) (flag_32 (false) (false) (is_some p.cluster_id) (is_some p.app_id) (is_some p.user_id) (is_some p.kind) (is_some p.timestamp ∷ is_some p.message_id ∷ [])) ∙ text_step property.Kind (λ o. (listed p.content_type p.content_encoding p.headers p.delivery_mode p.priority p.correlation_id p.reply_to p.expiration p.message_id p.timestamp o None None None)) p.kind rest (λ t. refl) fit.2)))
+      (then_on _ _ _ _ (ap (λ (b : Bool). time_given b (listed p.content_type p.content_encoding p.headers p.delivery_mode p.priority p.correlation_id p.reply_to p.expiration p.message_id None None None None None) ((given wide p.timestamp) ++ ((given text p.kind) ++ rest))) (flag_64 (false) (false) (is_some p.cluster_id) (is_some p.app_id) (is_some p.user_id) (is_some p.kind) (is_some p.timestamp) (is_some p.message_id ∷ [])) ∙ time_step (λ o. (listed p.content_type p.content_encoding p.headers p.delivery_mode p.priority p.correlation_id p.reply_to p.expiration p.message_id o None None None None)) p.timestamp ((given text p.kind) ++ rest) (λ t. refl) fit.1)
+      ((ap (λ (b : Bool). text_given property.Kind b (listed p.content_type p.content_encoding p.headers p.delivery_mode p.priority p.correlation_id p.reply_to p.expiration p.message_id p.timestamp None None None None) ((given text p.kind) ++ rest)) (flag_32 (false) (false) (is_some p.cluster_id) (is_some p.app_id) (is_some p.user_id) (is_some p.kind) (is_some p.timestamp ∷ is_some p.message_id ∷ [])) ∙ text_step property.Kind (λ o. (listed p.content_type p.content_encoding p.headers p.delivery_mode p.priority p.correlation_id p.reply_to p.expiration p.message_id p.timestamp o None None None)) p.kind rest (λ t. refl) fit.2)))
 
   last_back : (rest : List ℕ) → LastFit p → last_at low (listed p.content_type p.content_encoding p.headers p.delivery_mode p.priority p.correlation_id p.reply_to p.expiration p.message_id p.timestamp p.kind None None None) ((given text p.user_id ++ given text p.app_id ++ given text p.cluster_id) ++ rest) ≡ Some ((listed p.content_type p.content_encoding p.headers p.delivery_mode p.priority p.correlation_id p.reply_to p.expiration p.message_id p.timestamp p.kind p.user_id p.app_id p.cluster_id), rest)
   last_back rest fit =
       ap (last_at low (listed p.content_type p.content_encoding p.headers p.delivery_mode p.priority p.correlation_id p.reply_to p.expiration p.message_id p.timestamp p.kind None None None)) (joined_3 (given text p.user_id) (given text p.app_id) (given text p.cluster_id) rest)
       ∙ then_on _ _ _ _ (ap (λ (b : Bool). text_given property.UserId b (listed p.content_type p.content_encoding p.headers p.delivery_mode p.priority p.correlation_id p.reply_to p.expiration p.message_id p.timestamp p.kind None None None) ((given text p.user_id) ++ ((given text p.app_id) ++ ((given text p.cluster_id) ++ rest)))) (flag_16 (false) (false) (is_some p.cluster_id) (is_some p.app_id) (is_some p.user_id) (is_some p.kind ∷ is_some p.timestamp ∷ is_some p.message_id ∷ [])) ∙ text_step property.UserId (λ o. (listed p.content_type p.content_encoding p.headers p.delivery_mode p.priority p.correlation_id p.reply_to p.expiration p.message_id p.timestamp p.kind o None None)) p.user_id ((given text p.app_id) ++ ((given text p.cluster_id) ++ rest)) (λ t. refl) fit.3)
-      ( then_on _ _ _ _ (ap (λ (b : Bool). text_given property.AppId b (listed p.content_type p.content_encoding p.headers p.delivery_mode p.priority p.correlation_id p.reply_to p.expiration p.message_id p.timestamp p.kind p.user_id None None) ((given text p.app_id) ++ ((given text p.cluster_id) ++ rest))) (flag_8 (false) (false) (is_some p.cluster_id) (is_some p.app_id) (is_some p.user_id ∷ is_some p.kind ∷ is_some p.timestamp ∷ is_some p.message_id ∷ [])) ∙ text_step property.AppId (λ o. (listed p.content_type p.content_encoding p.headers p.delivery_mode p.priority p.correlation_id p.reply_to p.expiration p.message_id p.timestamp p.kind p.user_id o None)) p.app_id ((given text p.cluster_id) ++ rest) (λ t. refl) fit.4)
-      ( (ap (λ (b : Bool). text_given property.ClusterId b (listed p.content_type p.content_encoding p.headers p.delivery_mode p.priority p.correlation_id p.reply_to p.expiration p.message_id p.timestamp p.kind p.user_id p.app_id None) ((given text p.cluster_id) ++ rest)) (flag_4 (false) (false) (is_some p.cluster_id) (is_some p.app_id ∷ is_some p.user_id ∷ is_some p.kind ∷ is_some p.timestamp ∷ is_some p.message_id ∷ [])) ∙ text_step property.ClusterId (λ o. (listed p.content_type p.content_encoding p.headers p.delivery_mode p.priority p.correlation_id p.reply_to p.expiration p.message_id p.timestamp p.kind p.user_id p.app_id o)) p.cluster_id rest (λ t. refl) fit.5)))
+      (then_on _ _ _ _ (ap (λ (b : Bool). text_given property.AppId b (listed p.content_type p.content_encoding p.headers p.delivery_mode p.priority p.correlation_id p.reply_to p.expiration p.message_id p.timestamp p.kind p.user_id None None) ((given text p.app_id) ++ ((given text p.cluster_id) ++ rest))) (flag_8 (false) (false) (is_some p.cluster_id) (is_some p.app_id) (is_some p.user_id ∷ is_some p.kind ∷ is_some p.timestamp ∷ is_some p.message_id ∷ [])) ∙ text_step property.AppId (λ o. (listed p.content_type p.content_encoding p.headers p.delivery_mode p.priority p.correlation_id p.reply_to p.expiration p.message_id p.timestamp p.kind p.user_id o None)) p.app_id ((given text p.cluster_id) ++ rest) (λ t. refl) fit.4)
+      ((ap (λ (b : Bool). text_given property.ClusterId b (listed p.content_type p.content_encoding p.headers p.delivery_mode p.priority p.correlation_id p.reply_to p.expiration p.message_id p.timestamp p.kind p.user_id p.app_id None) ((given text p.cluster_id) ++ rest)) (flag_4 (false) (false) (is_some p.cluster_id) (is_some p.app_id ∷ is_some p.user_id ∷ is_some p.kind ∷ is_some p.timestamp ∷ is_some p.message_id ∷ [])) ∙ text_step property.ClusterId (λ o. (listed p.content_type p.content_encoding p.headers p.delivery_mode p.priority p.correlation_id p.reply_to p.expiration p.message_id p.timestamp p.kind p.user_id p.app_id o)) p.cluster_id rest (λ t. refl) fit.5)))
 
   -- the last group is read in two
   halves : (rest : List ℕ) → last_properties p ++ rest ≡ (given text p.message_id ++ given wide p.timestamp ++ given text p.kind) ++ ((given text p.user_id ++ given text p.app_id ++ given text p.cluster_id) ++ rest)
@@ -108,8 +107,8 @@ module _ (p : Properties) where
   list_back rest fit =
       ap (λ (t : List ℕ). listed_at high low (first_properties p ++ (next_properties p ++ t))) (halves rest)
       ∙ then_on _ _ _ _ (first_back (next_properties p ++ ((given text p.message_id ++ given wide p.timestamp ++ given text p.kind) ++ ((given text p.user_id ++ given text p.app_id ++ given text p.cluster_id) ++ rest))) fit.0)
-      ( then_on _ _ _ _ (next_back ((given text p.message_id ++ given wide p.timestamp ++ given text p.kind) ++ ((given text p.user_id ++ given text p.app_id ++ given text p.cluster_id) ++ rest)) fit.1)
-      ( then_on _ _ _ _ (later_back ((given text p.user_id ++ given text p.app_id ++ given text p.cluster_id) ++ rest) fit.2)
+      (then_on _ _ _ _ (next_back ((given text p.message_id ++ given wide p.timestamp ++ given text p.kind) ++ ((given text p.user_id ++ given text p.app_id ++ given text p.cluster_id) ++ rest)) fit.1)
+      (then_on _ _ _ _ (later_back ((given text p.user_id ++ given text p.app_id ++ given text p.cluster_id) ++ rest) fit.2)
       (last_back rest fit.2)))
 
   list_alone : first_properties p ++ (next_properties p ++ last_properties p) ≡ first_properties p ++ (next_properties p ++ (last_properties p ++ []))

@@ -1,5 +1,5 @@
 -- Pieces that were added one behind another stand before what is behind them.
-use Rattle.std.proofs.Common.{◌≡◌, ℕ, List, ◌++◌, Option, Some, None, ap, ◌∙◌, append_assoc}
+use Rattle.std.proofs.Common.{◌≡◌, ℕ, List, ◌++◌, Option, ◌∙◌, append_assoc}
 use Rattle.lapin_fields.specs.Reading.{◌>>=◌, short_at}
 
 -- a reading behind a number in two octets

@@ -1,11 +1,10 @@
 -- What was written is read: methods of the classes exchange and queue.
-use Rattle.std.proofs.Common.{◌≡◌, ℕ, Bool, List, [], ◌∷◌, ◌++◌, Option, Some, None, refl, ap, ◌∙◌, arith}
-use Rattle.lapin_fields.specs.Fields.{octet, short, long, wide, text, counted, flags}
+use Rattle.std.proofs.Common.{◌≡◌, ℕ, List, [], ◌∷◌, ◌++◌, Some, refl, ap, ◌∙◌}
+use Rattle.lapin_fields.specs.Fields.{short, long, text, flags}
 use Rattle.lapin_fields.specs.Values.{table_bytes}
-use Rattle.lapin_fields.specs.Reading.{◌>>=◌, short_at}
 use Rattle.lapin_fields.proofs.FlagLaws.{flag_1, flag_2, flag_4, flag_8, flag_16}
-use Rattle.lapin_fields.proofs.ReadingLaws.{then_on, text_back, string_back, counted_back}
-use Rattle.std.proofs.lemmas.Nat.{from_be_bytes-to_be_bytes_2, from_be_bytes-to_be_bytes_4, from_be_bytes-to_be_bytes_8}
+use Rattle.lapin_fields.proofs.ReadingLaws.{then_on, text_back}
+use Rattle.std.proofs.lemmas.Nat.{from_be_bytes-to_be_bytes_4}
 use Rattle.lapin_fields.proofs.ValueLaws.{table_back}
 use Rattle.lapin_methods.specs.declared.exchange.ExchangeMethod.{ExchangeMethod}
 use Rattle.lapin_methods.specs.declared.exchange.ExchangeMethod.TheVariants as exchange_method
@@ -14,7 +13,7 @@ use Rattle.lapin_methods.specs.declared.queue.QueueMethod.TheVariants as queue_m
 use Rattle.lapin_frames.specs.FrameFits.{ExchangeFits, QueueFits}
 use Rattle.lapin_frames.specs.Methods.{exchange_bytes, queue_bytes}
 use Rattle.lapin_frames.specs.MethodReading.{exchange_at, queue_at}
-use Rattle.lapin_frames.proofs.Joined.{numbered, joined_2, joined_3, joined_4, joined_5, joined_6, joined_7, joined_8}
+use Rattle.lapin_frames.proofs.Joined.{numbered, joined_2, joined_4, joined_5, joined_6, joined_7}
 
 -- a method of the class exchange, from its number on
 pub exchange_back : (m : ExchangeMethod) (rest : List ℕ) → ExchangeFits m → numbered exchange_at (exchange_bytes m ++ rest) ≡ Some (m, rest)

@@ -1,12 +1,9 @@
 -- What was written is read: methods of the classes connection, channel, access, confirm and tx.
-use Rattle.std.proofs.Common.{◌≡◌, ℕ, Bool, List, [], ◌∷◌, ◌++◌, Option, Some, None, refl, ap, ◌∙◌, arith}
-use Rattle.lapin_fields.specs.Fields.{octet, short, long, wide, text, counted, flags}
-use Rattle.lapin_fields.specs.Values.{table_bytes}
-use Rattle.lapin_fields.specs.Reading.{◌>>=◌, short_at}
+use Rattle.std.proofs.Common.{◌≡◌, ℕ, List, [], ◌∷◌, ◌++◌, Some, refl, ap, ◌∙◌, arith}
+use Rattle.lapin_fields.specs.Fields.{short, text, counted, flags}
 use Rattle.lapin_fields.proofs.FlagLaws.{flag_1, flag_2, flag_4, flag_8, flag_16}
 use Rattle.lapin_fields.proofs.ReadingLaws.{then_on, text_back, string_back, counted_back}
-use Rattle.std.proofs.lemmas.Nat.{from_be_bytes-to_be_bytes_2, from_be_bytes-to_be_bytes_4, from_be_bytes-to_be_bytes_8}
-use Rattle.lapin_fields.proofs.ValueLaws.{table_back}
+use Rattle.std.proofs.lemmas.Nat.{from_be_bytes-to_be_bytes_2}
 use Rattle.lapin_methods.specs.declared.connection.ConnectionMethod.{ConnectionMethod}
 use Rattle.lapin_methods.specs.declared.connection.ConnectionMethod.TheVariants as connection_method
 use Rattle.lapin_methods.specs.declared.channel.ChannelMethod.{ChannelMethod}
@@ -20,7 +17,7 @@ use Rattle.lapin_methods.specs.declared.tx.TxMethod.TheVariants as tx_method
 use Rattle.lapin_frames.specs.FrameFits.{ConnectionFits, ChannelFits, AccessFits, ConfirmFits, TxFits}
 use Rattle.lapin_frames.specs.Methods.{connection_bytes, channel_bytes, access_bytes, confirm_bytes, tx_bytes}
 use Rattle.lapin_frames.specs.MethodReading.{connection_at, channel_at, access_at, confirm_at, tx_at}
-use Rattle.lapin_frames.proofs.Joined.{numbered, joined_2, joined_3, joined_4, joined_5, joined_6, joined_7, joined_8}
+use Rattle.lapin_frames.proofs.Joined.{numbered, joined_2, joined_3, joined_5}
 
 -- a method of the class connection, from its number on
 pub connection_back : (m : ConnectionMethod) (rest : List ℕ) → ConnectionFits m → numbered connection_at (connection_bytes m ++ rest) ≡ Some (m, rest)

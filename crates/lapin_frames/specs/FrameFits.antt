@@ -1,5 +1,5 @@
 -- What a frame has room for: numbers in their widths, short texts, and tables that nest at most eight levels, all with their lengths.
-use Rattle.std.specs.Prelude.{ℕ, ◌^◌, ◌<◌, Option, Some, None, Result, Ok, Err}
+use Rattle.std.specs.Prelude.{◌^◌, ◌<◌, Option, Some, None, Result, Ok, Err}
 use Rattle.lapin_values.specs.Properties.{Properties}
 use Rattle.lapin_methods.specs.declared.frame.ContentHeader.{ContentHeader}
 use Rattle.lapin_methods.specs.declared.frame.Frame.{Frame}

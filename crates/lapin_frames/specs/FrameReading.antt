@@ -1,5 +1,5 @@
 -- What stands at the head of octets: the frame whose octets they are, up to what reading passes over, or a heartbeat, and in how many.
-use Rattle.std.specs.Prelude.{◌≡◌, ℕ, ◌+◌, ◌==◌, ◌&&◌, List, [], ◌∷◌, length, Option, Some, None, Result, Ok, Err, if◌then◌else◌}
+use Rattle.std.specs.Prelude.{ℕ, ◌+◌, ◌==◌, List, [], ◌∷◌, length, Option, Some, None, if◌then◌else◌}
 use Rattle.lapin_methods.specs.declared.frame.Frame.{Frame}
 use Rattle.lapin_methods.specs.declared.frame.Frame.TheVariants as frame
 use Rattle.lapin_fields.specs.Around.{around_at}

@@ -1,6 +1,6 @@
 -- Reading content headers: a property where its flag says that it is given. One that can't be given, a text that is no UTF-8 or a table
 -- that can't be read, is left out, and then the headers hold the property list as it stands, as a byte array under the empty name.
-use Rattle.std.specs.Prelude.{ℕ, ◌==◌, Bool, true, false, List, [], ◌∷◌, Option, Some, None, if◌then◌else◌}
+use Rattle.std.specs.Prelude.{ℕ, Bool, true, false, List, [], ◌∷◌, Option, Some, None, if◌then◌else◌}
 use Rattle.std.specs.Str.{is_utf8}
 use Rattle.lapin_values.specs.Data.{Data, leaf, byte_array}
 use Rattle.lapin_values.specs.Properties.{Properties, no_properties}

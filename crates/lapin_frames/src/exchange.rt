@@ -10,7 +10,10 @@ ghost use Rattle.lapin_fields.specs.Reading.{Gives};
 use crate::rows::{
     put_field, put_flags, put_reserved, put_row, skip_reserved, take_field, take_flags, take_row,
 };
-use lapin_fields::{Octets, ReadFault, WriteFault, packed, put_octet, put_short, put_table, put_text, take_table, take_text, unpacked};
+use lapin_fields::{
+    Octets, ReadFault, WriteFault, packed, put_octet, put_short, put_table, put_text, take_table,
+    take_text, unpacked,
+};
 use lapin_methods::ExchangeMethod;
 use std::alloc::Global;
 

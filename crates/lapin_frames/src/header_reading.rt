@@ -188,7 +188,13 @@ fn take_first(
 {
     let [_, _, _, _, mode, headers, encoding, kind] = unpacked_whole(marks);
     let listed = take_text(alloc, TextProperty::ContentType, kind, listed, octets)?;
-    let listed = take_text(alloc, TextProperty::ContentEncoding, encoding, listed, octets)?;
+    let listed = take_text(
+        alloc,
+        TextProperty::ContentEncoding,
+        encoding,
+        listed,
+        octets,
+    )?;
     let listed = take_headers(alloc, headers, listed, octets)?;
     take_mode(mode, listed, octets)
 }
@@ -203,7 +209,13 @@ fn take_next(
 {
     let [expiration, reply_to, correlation_id, priority, _, _, _, _] = unpacked_whole(marks);
     let listed = take_priority(priority, listed, octets)?;
-    let listed = take_text(alloc, TextProperty::CorrelationId, correlation_id, listed, octets)?;
+    let listed = take_text(
+        alloc,
+        TextProperty::CorrelationId,
+        correlation_id,
+        listed,
+        octets,
+    )?;
     let listed = take_text(alloc, TextProperty::ReplyTo, reply_to, listed, octets)?;
     take_text(alloc, TextProperty::Expiration, expiration, listed, octets)
 }

@@ -14,12 +14,10 @@ use crate::frames::Read;
 pub fn written_frames_are_read()
     ensures read { (f : AnyFrame) (rest : List ℕ) → FrameFits f → read_at (bytes_of f ++ rest) ≡ Some (Read.Frame f (length (bytes_of f))) }
     ensures whole { (f : AnyFrame) (rest : List ℕ) → FrameFits f → wanted_behind (bytes_of f ++ rest) ≡ 0 }
-{
-}
+{}
 
 /// A heartbeat is read from what was written of it.
 #[tactic(auto, using(crate::proofs::FrameLaws::heartbeat_back))]
 pub fn written_heartbeats_are_read()
     ensures { (rest : List ℕ) → read_at (around 8 0 [] ++ rest) ≡ Some (Read.Heartbeat 8) }
-{
-}
+{}

@@ -13,8 +13,8 @@ mod exchange;
 mod frames;
 mod header_reading;
 mod headers;
-pub mod laws;
-pub mod listed;
+mod laws;
+mod listed;
 mod methods;
 mod queue;
 mod rows;
@@ -22,3 +22,4 @@ mod tx;
 
 pub use frames::{Read, put_frame, put_frame_within, put_heartbeat, read_frame};
 pub use lapin_fields::{ReadFault, WriteFault, wanted};
+pub use laws::{written_frames_are_read, written_heartbeats_are_read};

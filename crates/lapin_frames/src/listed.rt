@@ -4,7 +4,7 @@ use lapin_values::BasicProperties;
 
 /// The properties that are texts.
 #[derive(Clone, Copy)]
-pub enum TextProperty {
+pub(crate) enum TextProperty {
     ContentType,
     ContentEncoding,
     CorrelationId,
@@ -19,7 +19,7 @@ pub enum TextProperty {
 
 /// The properties so far, and whether none of those that are given was left out.
 #[derive(Drop)]
-pub struct Listed {
-    pub properties: BasicProperties,
-    pub is_whole: bool,
+pub(crate) struct Listed {
+    pub(crate) properties: BasicProperties,
+    pub(crate) is_whole: bool,
 }

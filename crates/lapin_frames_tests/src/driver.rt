@@ -36,7 +36,12 @@ fn read(alloc: Global, bytes: &[u8]) -> Result<String, Fail> {
             with_used(alloc, text?, used, bytes.len())
         }
         Ok(Read::Heartbeat(used)) => {
-            with_used(alloc, String::from_str(alloc, "heartbeat")?, used, bytes.len())
+            with_used(
+                alloc,
+                String::from_str(alloc, "heartbeat")?,
+                used,
+                bytes.len(),
+            )
         }
         Ok(Read::Part) => {
             let more = wanted(bytes);

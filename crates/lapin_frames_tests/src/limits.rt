@@ -1,6 +1,8 @@
 //! What is refused: a frame above the limit, and tables that nest too deep.
 use lapin_frames::{WriteFault, put_frame, put_frame_within};
-use lapin_types::{AMQPValue, BasicProperties, ContentHeader, FieldTable, Frame, NoMemory, Payload, ShortString};
+use lapin_types::{
+    AMQPValue, BasicProperties, ContentHeader, FieldTable, Frame, NoMemory, Payload, ShortString,
+};
 use std::alloc::Global;
 use std::test::Fail;
 

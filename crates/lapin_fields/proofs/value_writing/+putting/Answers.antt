@@ -1,4 +1,4 @@
-use Rattle.std.proofs.Common.{◌≡◌, ◌++◌, ◌∷◌, ◌∙◌, ℕ, List, [], length, arith, ap, sym, ◌<◌, ◌-◌}
+use Rattle.std.proofs.Common.{◌≡◌, ◌++◌, ◌∙◌, ℕ, List, length, arith, ap, sym, ◌<◌, ◌-◌}
 use Rattle.std.proofs.lemmas.Result.{on_ok_weaker, err_from_is_err_and}
 use Rattle.lapin_values.specs.Data.{items_of, pairs_of}
 use Rattle.lapin_values.specs.DataOf.{data_of}
@@ -6,7 +6,6 @@ use Rattle.lapin_values.specs.declared.value.AMQPValue.{AMQPValue}
 use Rattle.lapin_fields.specs.Fields.{counted}
 use Rattle.lapin_fields.specs.Values.{value_bytes, items_bytes, pairs_bytes, array_bytes, table_bytes}
 use Rattle.std.specs.Prelude.{Err}
-use Rattle.lapin_fields.specs.Fits.{StringFits}
 use Rattle.lapin_fields.proofs.WritingLaws.{next_item_fits, next_pair_fits, array_fits, table_fits, leaf_alone_fits, refused_as, array_too_deep, table_too_deep, array_member, table_member, array_long, table_long, leaf_part_fits, item_written, pair_written, items_written, pairs_written, array_behind, table_behind, leaf_alone}
 use Rattle.lapin_fields.proofs.value_writing.+putting.Goals as goal
 

@@ -1,4 +1,4 @@
-use Rattle.std.proofs.Common.{◌≡◌, ◌++◌, ◌∷◌, ◌∙◌, ℕ, [], ap, sym}
+use Rattle.std.proofs.Common.{◌++◌, ◌∷◌, ◌∙◌, ℕ, [], ap, sym}
 use Rattle.lapin_methods.specs.declared.basic.BasicMethod.{BasicMethod}
 use Rattle.lapin_fields.specs.Fields.{short, long, wide, text, flags}
 use Rattle.lapin_frames.specs.Methods.{basic_bytes}
