@@ -8,10 +8,10 @@ use Rattle.lapin_types.specs.declared.record.Record.TheVariants as record_
 use Rattle.lapin_history.specs.Phases.{is_lost}
 use Rattle.lapin_outbox.specs.Returned.{is_retried}
 use Rattle.lapin_machine.specs.World.{World, told_by, next, with_returned}
-use Rattle.lapin_loop.specs.declared.drive.Turn.{Turn}
-use Rattle.lapin_loop.specs.declared.drive.Turn.TheVariants as turn
-use Rattle.lapin_loop.specs.declared.drive.Rest.{Rest}
-use Rattle.lapin_loop.specs.declared.drive.Rest.TheVariants as rest
+use Rattle.lapin_loop.specs.declared.turns.Turn.{Turn}
+use Rattle.lapin_loop.specs.declared.turns.Turn.TheVariants as turn
+use Rattle.lapin_loop.specs.declared.turns.Rest.{Rest}
+use Rattle.lapin_loop.specs.declared.turns.Rest.TheVariants as rest
 
 -- a frame is given back, but not where the connection is lost or another is given back
 abbrev pub given_back_in : Left → World → World

@@ -12,7 +12,8 @@ pub fn free_channel(session: &Session, most: u16) -> Option<u16>
     ensures lowest { IfSome result (λ c. (d : ℕ) → 0 < d → d < c → is_closed_lem (state_of d session.now.wire) ≡ false) }
     ensures none { IfNone result ((d : ℕ) → 0 < d → d ≤ most → is_closed_lem (state_of d session.now.wire) ≡ false) }
 {
-    for channel in 1..=most {
+    for passed in 0..most {
+        let channel = passed + 1;
         if is_closed(session.channel_state(channel)) {
             return Some(channel);
         }

@@ -6,9 +6,9 @@
 
 mod answers;
 mod channels;
-mod drive;
 mod given_back;
 mod names;
+mod turns;
 mod waiting;
 mod watch;
 
@@ -17,8 +17,8 @@ pub use answers::{
     poll_queue,
 };
 pub use channels::free_channel;
-pub use drive::{Rest, Turn, Wire, drive, turn};
 pub use given_back::give_back;
 pub use names::{no_name, short};
+pub use turns::{Rest, Turn, Wire, drive, make_turn};
 pub use waiting::has_frames;
 pub use watch::{Ready, Watch};

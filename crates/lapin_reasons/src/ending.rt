@@ -38,7 +38,9 @@ fn reason(status: Status) -> &'static str {
         Status::BadWords => {
             "the words behind the program's name are no command; docs/FORMAT.md lists them, as `session`"
         }
-        Status::BadLine => "a line is not in the format of docs/FORMAT.md",
+        Status::BadLine => {
+            "a line is not in the format of docs/FORMAT.md; the last line of the output has its number"
+        }
         Status::NoMemory => "there was no memory; the output is the beginning of the text",
         Status::ReadFault => "standard input could not be read",
         Status::WriteFault =>

@@ -63,7 +63,11 @@ pub enum Rest {
 /// # Errors
 /// `NoMemory`: either no frame was handed out, and nothing changed; or a frame that came was not taken, and is gone, so give the
 /// connection up.
-pub fn turn<W: Wire>(alloc: Global, session: &mut Session, wire: &mut W) -> Result<Turn, NoMemory>
+pub fn make_turn<W: Wire>(
+    alloc: Global,
+    session: &mut Session,
+    wire: &mut W,
+) -> Result<Turn, NoMemory>
     ensures { IsTurn W.takes W.gives result session.old session.new wire.old wire.new }
 {
     match session.next_frame(alloc, true) {
@@ -102,7 +106,7 @@ fn hear<W: Wire>(alloc: Global, session: &mut Session, wire: &mut W) -> Result<T
 /// Makes turns until nothing waits and nothing came, or one ends otherwise.
 ///
 /// # Errors
-/// Those of `turn`. What was done before stands.
+/// Those of `make_turn`. What was done before stands.
 pub fn drive<W: Wire, R: Wait>(
     rt: &R,
     alloc: Global,
@@ -112,8 +116,9 @@ pub fn drive<W: Wire, R: Wait>(
     ensures { IsDriven W.takes W.gives result session.old session.new wire.old wire.new }
 {
     for _ in rt.forever() {
-        match turn(alloc, session, wire) {
-            Ok(Turn::Sent | Turn::Heard) => {}
+        match make_turn(alloc, session, wire) {
+            Ok(Turn::Sent) => {}
+            Ok(Turn::Heard) => {}
             Ok(Turn::Quiet) => return Ok(Rest::Quiet),
             Ok(Turn::Broken) => return Ok(Rest::Broken),
             Ok(Turn::Refused(error)) => return Ok(Rest::Refused(error)),
