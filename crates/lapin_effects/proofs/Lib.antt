@@ -1,0 +1,4 @@
+pub mod Phases
+pub mod Happens
+pub mod Comes
+pub mod Events
