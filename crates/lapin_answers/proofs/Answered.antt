@@ -1,8 +1,7 @@
 -- A reply that comes is to the request that is open longest on its channel; open-ok comes where nothing was asked yet.
-use Rattle.std.proofs.Common.{◌≡◌, ◌∙◌, ℕ, suc, ◌+◌, ◌≤◌, ◌==◌, Bool, true, false, cond, ◌&&◌, ◌||◌, List, [], ◌∷◌, ◌++◌, length, drop, Option, Some, None, inl, inr, refl, sym, ap, subst, append-nil, append_assoc, length-append, arith, eq-eqb}
+use Rattle.std.proofs.Common.{◌≡◌, ◌∙◌, ℕ, suc, ◌+◌, ◌==◌, Bool, true, false, cond, ◌||◌, List, [], ◌∷◌, ◌++◌, length, drop, Option, Some, inl, inr, refl, sym, ap, subst, append-nil, append_assoc, length-append, arith}
 use Rattle.std.specs.List.{filter, fold, list_any}
 use Rattle.std.proofs.lemmas.Bool.Decides.{eqb_tells}
-use Rattle.std.proofs.lemmas.List.Elements.{filter-append}
 use Rattle.std.proofs.lemmas.List.Sums.{fold-append}
 use Rattle.lapin_types.specs.declared.leaving.Left.{Left}
 use Rattle.lapin_types.specs.declared.request.Request.{Request}
@@ -10,23 +9,22 @@ use Rattle.lapin_types.specs.declared.request.ReplyKind.{ReplyKind}
 use Rattle.lapin_types.specs.Requests.{kind_of}
 use Rattle.lapin_types.specs.Types.{Frame}
 use Rattle.lapin_history.specs.History.{History}
-use Rattle.lapin_history.specs.Requests.{is_kind, first_request, without_kind}
+use Rattle.lapin_history.specs.Requests.{is_kind}
 use Rattle.lapin_history.specs.Wire.{Wire}
 use Rattle.lapin_broker.specs.declared.request.RequestKind.{RequestKind}
 use Rattle.lapin_broker.specs.Frames.{channel_of, client_frame, broker_frame}
 use Rattle.lapin_broker.specs.Requests.{same_kind}
 use Rattle.lapin_concord.specs.Frames.{number}
-use Rattle.lapin_concord.specs.Wires.{reply_number, is_asked}
+use Rattle.lapin_concord.specs.Wires.{reply_number}
 use Rattle.lapin_concord.proofs.Sending.{same_number}
 use Rattle.lapin_verdicts.specs.Answers.{awaits, replies, requests_in, replies_in, kind_asked, kind_answered, are_same, IsAnswer}
-use Rattle.lapin_verdicts.specs.Deeds.{Deed, Read, Sent, is_open, is_on, on_channel, joined_opening, last_opening, lefts, sents}
+use Rattle.lapin_verdicts.specs.Deeds.{Deed, Read, Sent, is_open, on_channel, joined_opening, last_opening, lefts, sents}
 use Rattle.lapin_verdicts.specs.InStep.{is_frame_on, is_open_on}
 use Rattle.lapin_verdicts.specs.Verdicts.{at_place}
 use Rattle.lapin_verdicts.proofs.Numbering.{place-more}
-use Rattle.lapin_verdicts.proofs.Owing.{lefts-append, requests-append, replies-append}
-use Rattle.lapin_verdicts.proofs.Books.{sents-append}
+use Rattle.lapin_verdicts.proofs.Owing.{requests-append, replies-append}
 use Rattle.lapin_answers.proofs.Rows.{IsReplyOf}
-use Rattle.lapin_answers.proofs.Lists.{asks, is_ask_on, open_asks, waiting_asks, kind_same}
+use Rattle.lapin_answers.proofs.Lists.{is_ask_on, open_asks, waiting_asks, kind_same}
 use Rattle.lapin_answers.proofs.Standing.{next_ask, handed_asks, reply_count, IsAsk, AreAsks, Going}
 use Rattle.lapin_answers.proofs.Lets.{next_more}
 
@@ -145,16 +143,20 @@ module _ (c : ℕ) (h : History) (b : Wire) (k : ReplyKind) (f : Frame) (fs : Li
       let cut : g.rest ≡ r ∷ drop 1 g.rest = place_cut g.done g.rest r in_parts in
       let ask = heads r (drop 1 g.rest) (open_asks c b) (subst (λ v. AreAsks h c v (open_asks c b)) cut g.are) in
       let same : same_kind ask.3.kind o.kind ≡ true = kinds_meet (kind_asked (client_frame r.frame)) (kind_answered (broker_frame f)) ask.3.kind o.kind ask.3.kind_is o.kind_is a.kind in
-      let numbers : reply_number (kind_of ask.0.reply) ≡ reply_number k = sym ask.3.same ∙ (numbers_meet ask.3.kind o.kind same ∙ o.same) in
-      (record {
-        before = x.before;
-        behind = x.behind;
-        all = x.all;
-        way = x.way;
-        answer = a;
-        request = ask.0;
-        rest = ask.1;
-        open_is = ask.2;
-        is = ask.3;
-        kind = kind_same (kind_of ask.0.reply) k numbers;
-      }, drop 1 g.rest, cut, ask.4)
+      let numbers : reply_number (kind_of ask.0.reply) ≡ reply_number k = sym ask.3.same ∙ (numbers_meet ask.3.kind o.kind same ∙ o.same) in (
+        record {
+          before = x.before;
+          behind = x.behind;
+          all = x.all;
+          way = x.way;
+          answer = a;
+          request = ask.0;
+          rest = ask.1;
+          open_is = ask.2;
+          is = ask.3;
+          kind = kind_same (kind_of ask.0.reply) k numbers;
+        },
+        drop 1 g.rest,
+        cut,
+        ask.4,
+      )

@@ -1,5 +1,5 @@
 -- What an event does to the contents that a channel expects, where no frame of a content comes on it: they stay, or are dropped.
-use Rattle.std.proofs.Common.{◌≡◌, ◌∙◌, ℕ, ◌==◌, Bool, true, false, cond, not, ◌&&◌, ◌||◌, List, [], ◌∷◌, ◌++◌, Option, Some, None, ◌⊎◌, inl, inr, refl, sym, ap, subst, eq-eqb}
+use Rattle.std.proofs.Common.{◌≡◌, ◌∙◌, ℕ, ◌==◌, Bool, true, false, cond, not, ◌&&◌, List, [], ◌∷◌, ◌++◌, Option, Some, None, ◌⊎◌, inl, inr, refl, sym, ap, subst, eq-eqb}
 use Rattle.std.specs.Option.{option_or}
 use Rattle.std.proofs.lemmas.Bool.Decides.{eqb_tells}
 use Rattle.lapin_tables.specs.ByChannel.{at_channel, on_channel}
@@ -14,8 +14,7 @@ use Rattle.lapin_types.specs.Types.error
 use Rattle.lapin_types.specs.Types.method
 use Rattle.lapin_types.specs.Types.basic
 use Rattle.lapin_types.specs.Types.channel
-use Rattle.lapin_content.specs.declared.start.Start.{Start}
-use Rattle.lapin_content.specs.Contents.{Expected, expected}
+use Rattle.lapin_content.specs.Contents.{Expected}
 use Rattle.lapin_content.specs.Channels.{Channels, expected_on, listed, joined, joined_at}
 use Rattle.lapin_history.specs.declared.broker_frames.ContentPart.{ContentPart}
 use Rattle.lapin_history.specs.declared.broker_frames.ContentPart.TheVariants as part
@@ -30,16 +29,16 @@ use Rattle.lapin_history.specs.declared.phases.ChannelPhase.TheVariants as phase
 use Rattle.lapin_history.specs.declared.phases.ConnectionPhase.{ConnectionPhase}
 use Rattle.lapin_history.specs.declared.phases.ConnectionPhase.TheVariants as link
 use Rattle.lapin_history.specs.Ackers.{acker_asked, acked_wire, usable_at}
-use Rattle.lapin_history.specs.Asking.{is_allowed, after_call, asked_wire, asked_by}
-use Rattle.lapin_history.specs.ChannelClose.{closing, after_channel_close, after_close_ok}
+use Rattle.lapin_history.specs.Asking.{is_allowed, after_call, asked_by}
+use Rattle.lapin_history.specs.ChannelClose.{closing, after_close_ok}
 use Rattle.lapin_history.specs.ConnectionClose.{after_connection_close}
-use Rattle.lapin_history.specs.Consumers.{lets_go_of, cancel_noted, after_let_go, after_cancel, after_consumer}
+use Rattle.lapin_history.specs.Consumers.{lets_go_of, cancel_noted, after_let_go, after_consumer}
 use Rattle.lapin_history.specs.Content.{after_part}
 use Rattle.lapin_history.specs.Ends.{down}
 use Rattle.lapin_history.specs.Words.{with_channel}
 use Rattle.lapin_history.specs.declared.marks.Settlement.{Settlement}
 use Rattle.lapin_history.specs.declared.phases.Closer.TheVariants as closer
-use Rattle.lapin_history.specs.Events.{record_of, after_event}
+use Rattle.lapin_history.specs.Events.{after_event}
 use Rattle.lapin_history.specs.Flow.{after_flow}
 use Rattle.lapin_history.specs.Incoming.{incoming_of}
 use Rattle.lapin_history.specs.Loss.{after_lost}

@@ -1,5 +1,5 @@
 -- The message of a get's ticket is the content that the broker sent after its answer to that very get.
-use Rattle.std.proofs.Common.{◌≡◌, ◌∙◌, ℕ, ◌-◌, ◌≤◌, ◌==◌, nat_le, Bool, true, false, cond, ◌&&◌, List, [], ◌∷◌, ◌++◌, length, Option, Some, None, Result, Ok, Err, ◌⊎◌, inl, inr, refl, sym, ap, subst, eq-eqb}
+use Rattle.std.proofs.Common.{◌≡◌, ◌∙◌, ℕ, ◌-◌, ◌≤◌, ◌==◌, Bool, true, false, cond, List, [], ◌∷◌, ◌++◌, length, Option, Some, None, Result, Ok, Err, inl, inr, refl, sym, ap, subst, eq-eqb}
 use Rattle.std.specs.List.{list_any, filter, fold}
 use Rattle.std.specs.Option.{option_map}
 use Rattle.std.proofs.lemmas.Bool.{and_parts}
@@ -14,19 +14,17 @@ use Rattle.lapin_types.specs.declared.record.Record.{Record}
 use Rattle.lapin_types.specs.declared.record.Record.TheVariants as record_
 use Rattle.lapin_types.specs.Types.{Frame, Method, Error}
 use Rattle.lapin_types.specs.Types.frame
-use Rattle.lapin_types.specs.Types.method
-use Rattle.lapin_types.specs.Types.basic
 use Rattle.lapin_content.specs.declared.start.Start.{Start as Beginning}
 use Rattle.lapin_content.specs.declared.start.Start.TheVariants as start
 use Rattle.lapin_content.specs.declared.start.Whole.{Whole as Arrived}
-use Rattle.lapin_content.specs.Contents.{Begun, Expected, front_waits, front_takes, waits_for, takes_body, has_left, is_unbegun, begun_with, grown_by, grown, if_whole, is_whole, is_zero, lacked, whole_of, whole_with, heard_header, heard_body, refused_header, refused_body}
+use Rattle.lapin_content.specs.Contents.{Begun, Expected, front_waits, front_takes, waits_for, takes_body, has_left, is_unbegun, begun_with, grown_by, grown, if_whole, is_zero, lacked, whole_with, heard_header, heard_body, refused_header, refused_body}
 use Rattle.lapin_content.specs.Channels.{expected_on}
 use Rattle.lapin_history.specs.declared.broker_frames.ContentPart.{ContentPart}
 use Rattle.lapin_history.specs.declared.broker_frames.ContentPart.TheVariants as part
 use Rattle.lapin_history.specs.declared.broker_frames.Incoming.{Incoming}
 use Rattle.lapin_history.specs.declared.broker_frames.Incoming.TheVariants as incoming
 use Rattle.lapin_history.specs.Content.{next_acker, got_message, start_tickets, whole_tickets, whole_in, part_tickets, receives_part}
-use Rattle.lapin_history.specs.History.{History, past, rec, readings_of}
+use Rattle.lapin_history.specs.History.{rec, readings_of}
 use Rattle.lapin_history.specs.Incoming.{incoming_of, frame_class, frame_method}
 use Rattle.lapin_history.specs.Readings.{Readings}
 use Rattle.lapin_history.specs.Receiving.{incoming_record, incoming_tickets}
@@ -38,9 +36,9 @@ use Rattle.lapin_joint.specs.declared.step.Step.{Step}
 use Rattle.lapin_joint.specs.declared.step.Step.TheVariants as step
 use Rattle.lapin_joint.specs.Joint.{joined_to}
 use Rattle.lapin_concord.specs.Refusals.{is_refusal}
-use Rattle.lapin_verdicts.specs.Deeds.{Deed, deeds, last_opening, sents}
+use Rattle.lapin_verdicts.specs.Deeds.{deeds, last_opening, sents}
 use Rattle.lapin_verdicts.specs.InStep.{is_frame_on}
-use Rattle.lapin_verdicts.specs.Messages.{Start, Get, Whole, got, sent_after, sendings}
+use Rattle.lapin_verdicts.specs.Messages.{Start, Get, Whole, got, sent_after}
 use Rattle.lapin_verdicts.specs.Session.{past_of}
 use Rattle.lapin_verdicts.specs.Verdicts.{at_place}
 use Rattle.lapin_answers.specs.Calls.{IsCallOf}
@@ -49,7 +47,7 @@ use Rattle.lapin_answers.proofs.Getting.{on_way, whole_now, header_whole, body_w
 use Rattle.lapin_answers.proofs.Gets.{Kind, AsHeader, AsBody, AsGetOk, AsDeliver, AsReturn, AsOther, sort_kind, Getting, nothing_sent}
 use Rattle.lapin_answers.proofs.GetLaw.{carried_in}
 use Rattle.lapin_answers.proofs.GetMarks.{WholeGet, whole_get, message_comes, tickets_plain, plain_gives}
-use Rattle.lapin_answers.proofs.GetRun.{PartHeard, PartComes, part_heard, unbegun_none}
+use Rattle.lapin_answers.proofs.GetRun.{PartComes, part_heard, unbegun_none}
 use Rattle.lapin_answers.proofs.Received.{unrefused, tickets_after, none_after}
 use Rattle.lapin_answers.proofs.Tickets.{Answers, new_answer, none_answers, resolved_gives}
 
@@ -64,17 +62,21 @@ got_whole n k c acker ss e p bytes f fs message on w g step =
     let whole : Whole = record { start = s; properties = p; payload = bytes } in
     let way : sents g.replied.behind ≡ g.came ++ f ∷ filter (is_frame_on c) fs = g.way ∙ ap (λ v. g.came ++ cond v (f ∷ filter (is_frame_on c) fs) (filter (is_frame_on c) fs)) (eq-eqb (channel_of f) c on) in
     let sent : fold sent_after nothing_sent (g.reply ∷ sents g.replied.behind) ≡ fold sent_after (whole_now s p bytes) (filter (is_frame_on c) fs) =
-    ap (λ v. fold sent_after nothing_sent (g.reply ∷ v)) way ∙ (fold-append sent_after (sent_after nothing_sent g.reply) g.came (f ∷ filter (is_frame_on c) fs) ∙ (ap (λ v. fold sent_after (sent_after v f) (filter (is_frame_on c) fs)) g.far ∙ ap (λ v. fold sent_after v (filter (is_frame_on c) fs)) (step s))) in
-    (c, g.method_, g.call, record {
-      reply = g.reply;
-      replied = g.replied;
-      start = s;
-      starts = g.starts;
-      is_its = refl;
-      whole = whole;
-      content = ap (λ v. at_place 1 v.wholes) sent ∙ first_stays (filter (is_frame_on c) fs) s p bytes;
-      carries = w.is ∙ ap (λ (v : BasicGetMessage). got v.delivery.acker whole) (sym w.is);
-    })
+    ap (λ v. fold sent_after nothing_sent (g.reply ∷ v)) way ∙ (fold-append sent_after (sent_after nothing_sent g.reply) g.came (f ∷ filter (is_frame_on c) fs) ∙ (ap (λ v. fold sent_after (sent_after v f) (filter (is_frame_on c) fs)) g.far ∙ ap (λ v. fold sent_after v (filter (is_frame_on c) fs)) (step s))) in (
+      c,
+      g.method_,
+      g.call,
+      record {
+        reply = g.reply;
+        replied = g.replied;
+        start = s;
+        starts = g.starts;
+        is_its = refl;
+        whole = whole;
+        content = ap (λ v. at_place 1 v.wholes) sent ∙ first_stays (filter (is_frame_on c) fs) s p bytes;
+        carries = w.is ∙ ap (λ (v : BasicGetMessage). got v.delivery.acker whole) (sym w.is);
+      },
+    )
 
 -- ---- what a part does to tickets
 

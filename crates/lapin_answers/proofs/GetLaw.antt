@@ -1,16 +1,12 @@
 -- In every joined run; and what a get's ticket that is resolved with a message says.
-use Rattle.std.proofs.Common.{◌≡◌, ◌∙◌, ℕ, ◌≤◌, ◌==◌, Bool, true, false, cond, not, ◌&&◌, ◌||◌, List, [], ◌∷◌, ◌++◌, length, Option, Some, None, Result, Ok, ◌⊎◌, inl, inr, refl, sym, ap, subst, append-nil, append_assoc, arith, eq-eqb}
-use Rattle.std.specs.List.{filter, fold, list_any}
+use Rattle.std.proofs.Common.{◌≡◌, ◌∙◌, ℕ, ◌≤◌, ◌==◌, Bool, true, false, cond, ◌&&◌, ◌||◌, List, [], ◌∷◌, ◌++◌, Option, Some, None, inl, inr, refl, sym, ap, subst, append-nil, append_assoc}
+use Rattle.std.specs.List.{filter, list_any}
 use Rattle.std.proofs.lemmas.Bool.{and_parts}
 use Rattle.std.proofs.lemmas.Bool.Decides.{eqb_tells}
 use Rattle.std.proofs.lemmas.List.Elements.{filter-append}
-use Rattle.lapin_methods.specs.declared.frame.ContentHeader.{ContentHeader}
-use Rattle.lapin_types.specs.declared.answer.Answer.{Answer}
-use Rattle.lapin_types.specs.declared.answer.Answer.TheVariants as answer
 use Rattle.lapin_types.specs.declared.event.Event.{Event}
 use Rattle.lapin_types.specs.declared.event.Event.TheVariants as event
 use Rattle.lapin_types.specs.declared.leaving.Left.{Left}
-use Rattle.lapin_types.specs.declared.message.BasicGetMessage.{BasicGetMessage}
 use Rattle.lapin_types.specs.declared.record.Record.{Record}
 use Rattle.lapin_types.specs.declared.record.Record.TheVariants as record_
 use Rattle.lapin_types.specs.declared.request.ReplyKind.TheVariants as reply_kind
@@ -28,42 +24,37 @@ use Rattle.lapin_history.specs.declared.broker_frames.Incoming.{Incoming}
 use Rattle.lapin_history.specs.declared.broker_frames.Incoming.TheVariants as incoming
 use Rattle.lapin_history.specs.declared.phases.ConnectionPhase.{ConnectionPhase}
 use Rattle.lapin_history.specs.declared.phases.ConnectionPhase.TheVariants as link
-use Rattle.lapin_history.specs.ConfirmReadings.{is_full}
 use Rattle.lapin_consumer.specs.Roster.{found}
 use Rattle.lapin_history.specs.Content.{get_ticket, receives_part, after_part}
 use Rattle.lapin_history.specs.Events.{after_event}
-use Rattle.lapin_history.specs.Flow.{begins_on}
-use Rattle.lapin_history.specs.Handing.{handed, handed_out, began_on, after_handing, sent}
+use Rattle.lapin_history.specs.Handing.{handed_out, began_on, after_handing, sent}
 use Rattle.lapin_history.specs.History.{History, Past, past, rec, readings_of}
 use Rattle.lapin_history.specs.Incoming.{incoming_of, frame_class, frame_method}
 use Rattle.lapin_history.specs.Leaving.{left_lists}
 use Rattle.lapin_history.specs.Phases.{is_up, is_live}
 use Rattle.lapin_history.specs.Readings.{Readings}
 use Rattle.lapin_history.specs.Receiving.{incoming_record, incoming_wire}
-use Rattle.lapin_history.specs.Reply.{receives_reply}
 use Rattle.lapin_history.specs.Unexpected.{refused}
 use Rattle.lapin_history.specs.Wire.{Wire, phase_of, state_of, receives_on, lists_of, with_lists}
 use Rattle.lapin_broker.specs.Frames.{channel_of}
 use Rattle.lapin_broker.specs.Sends.{may}
 use Rattle.lapin_joint.specs.declared.step.Step.{Step}
 use Rattle.lapin_joint.specs.declared.step.Step.TheVariants as step
-use Rattle.lapin_joint.specs.Joint.{Joint, new_joint, is_lawful, handed_by, left_alone, client, read_first, send_down, deliver_first, after, run, joined_to}
+use Rattle.lapin_joint.specs.Joint.{Joint, new_joint, is_lawful, client, read_first, send_down, deliver_first, after, joined_to}
 use Rattle.lapin_joint.specs.Order.{front}
 use Rattle.lapin_joint.proofs.Alike.{new_alike}
-use Rattle.lapin_machine.specs.Way.{by_history, by_machine}
-use Rattle.lapin_machine.specs.World.{World, new_world}
+use Rattle.lapin_machine.specs.Way.{by_history}
+use Rattle.lapin_machine.specs.World.{new_world}
 use Rattle.lapin_concord.specs.Held.{Held, IsOneContent}
 use Rattle.lapin_concord.specs.Refusals.{is_refusal}
 use Rattle.lapin_concord.proofs.Laws.{alike_run}
 use Rattle.lapin_concord.proofs.Running.{new_sound, sound_run}
 use Rattle.lapin_concord.proofs.Views.{contents_on_here}
 use Rattle.lapin_effects.specs.Effects.{is_next, hears}
-use Rattle.lapin_verdicts.specs.Answers.{replies}
-use Rattle.lapin_verdicts.specs.Deeds.{Deed, Read, Sent, is_open, joined_opening, last_opening, sents, reads_of, deed_in, deeds}
+use Rattle.lapin_verdicts.specs.Deeds.{Deed, Read, Sent, is_open, joined_opening, last_opening, reads_of, deed_in, deeds}
 use Rattle.lapin_verdicts.specs.InStep.{is_frame_on, is_open_on}
 use Rattle.lapin_verdicts.specs.Messages.{Start, Get, with_start, sent_after, start_in}
 use Rattle.lapin_verdicts.specs.Session.{past_of}
-use Rattle.lapin_verdicts.proofs.Assembly.{as_handed}
 use Rattle.lapin_verdicts.proofs.Books.{last-push, last-sent}
 use Rattle.lapin_verdicts.proofs.Leaving.{still_hears}
 use Rattle.lapin_verdicts.proofs.Numbering.{hears_live}
@@ -72,10 +63,10 @@ use Rattle.lapin_verdicts.proofs.Together.{in_step}
 use Rattle.lapin_answers.proofs.Turns as turn
 use Rattle.lapin_answers.proofs.Turns.{Turns, hears_down}
 use Rattle.lapin_answers.proofs.Happens.{income_in, event_turn}
-use Rattle.lapin_answers.proofs.Carried.{is_content_on, brings_content, Kept, event_kept}
+use Rattle.lapin_answers.proofs.Carried.{is_content_on, brings_content, event_kept}
 use Rattle.lapin_answers.proofs.Getting.{on_way}
-use Rattle.lapin_answers.proofs.Gets.{Kind, AsHeader, AsBody, AsGetOk, AsDeliver, AsReturn, AsOther, sort_kind, Getting, Gets, gets_none, getting_comes, nothing_sent}
-use Rattle.lapin_answers.proofs.GetRun.{Steps, content_down, Carrying, silent_kept, gets_on, quiet_carried, carried_read, carried_send, carried_away, further, header_steps, body_steps, one_new, joined_here, PartHeard, PartComes, part_heard, front_is, none_is}
+use Rattle.lapin_answers.proofs.Gets.{Kind, AsHeader, AsBody, AsGetOk, AsDeliver, AsReturn, AsOther, sort_kind, Getting, Gets, gets_none, getting_comes}
+use Rattle.lapin_answers.proofs.GetRun.{Steps, content_down, Carrying, gets_on, quiet_carried, carried_read, carried_send, carried_away, further, header_steps, body_steps, one_new, joined_here, PartComes, part_heard, front_is}
 use Rattle.lapin_answers.proofs.Lets.{handing_still}
 use Rattle.lapin_answers.proofs.Running.{lost_down}
 use Rattle.lapin_answers.proofs.Received.{unrefused, wire_after}
@@ -118,7 +109,7 @@ silent_heard c e x i b b' (turn.Sinks heard over o w) u d = absurd (not_both _ u
 
 -- ---- get-ok, as the session sorts it
 
-get_reply : (c : ℕ) (s : Beginning) → IsReply c (incoming.Content c (part.GetOk s))
+abbrev get_reply : (c : ℕ) (s : Beginning) → IsReply c (incoming.Content c (part.GetOk s))
 get_reply c s = record {
   kind = reply_kind.BasicGetOk;
   asked = refl;

@@ -1,26 +1,18 @@
 -- So it is in every joined run; and the message of a get's ticket is the content that was sent after its answer.
-use Rattle.std.proofs.Common.{◌≡◌, ◌∙◌, ℕ, ◌≤◌, ◌==◌, Bool, true, false, cond, not, ◌&&◌, ◌||◌, nat_le, ◌-◌, List, [], ◌∷◌, ◌++◌, length, Option, Some, None, Result, Ok, ◌⊎◌, inl, inr, refl, sym, ap, subst, append-nil, append_assoc, arith, eq-eqb}
-use Rattle.std.specs.List.{filter, fold, list_any}
+use Rattle.std.proofs.Common.{◌≡◌, ◌∙◌, ℕ, ◌==◌, Bool, true, false, cond, nat_le, ◌-◌, List, [], ◌∷◌, ◌++◌, length, Option, Some, None, ◌⊎◌, inl, inr, refl, sym, ap, subst, eq-eqb}
+use Rattle.std.specs.List.{filter}
 use Rattle.std.proofs.lemmas.Bool.{and_parts}
-use Rattle.std.proofs.lemmas.Bool.Decides.{eqb_tells}
-use Rattle.std.proofs.lemmas.List.Elements.{filter-append}
-use Rattle.lapin_tables.specs.ByChannel.{at_channel, on_channel as on_table}
+use Rattle.lapin_tables.specs.ByChannel.{at_channel}
 use Rattle.lapin_tables.proofs.Channels.{at-push, at-on_same}
 use Rattle.std.specs.Option.{option_map, option_or}
 use Rattle.lapin_types.specs.declared.event.Event.{Event}
-use Rattle.lapin_types.specs.declared.event.Event.TheVariants as event
 use Rattle.lapin_methods.specs.declared.frame.ContentHeader.{ContentHeader}
 use Rattle.lapin_types.specs.declared.leaving.Left.{Left}
 use Rattle.lapin_types.specs.declared.record.Record.{Record}
 use Rattle.lapin_types.specs.declared.record.Record.TheVariants as record_
-use Rattle.lapin_types.specs.declared.request.ReplyKind.TheVariants as reply_kind
-use Rattle.lapin_types.specs.Types.{Frame, Method}
+use Rattle.lapin_types.specs.Types.{Frame}
 use Rattle.lapin_types.specs.Types.frame
-use Rattle.lapin_types.specs.Types.method
-use Rattle.lapin_types.specs.Types.basic
-use Rattle.lapin_content.specs.declared.start.Start.{Start as Beginning}
-use Rattle.lapin_content.specs.declared.start.Start.TheVariants as start
-use Rattle.lapin_content.specs.Contents.{Begun, Expected, expected, front_waits, front_takes, waits_for, takes_body, has_left, is_unbegun, begun_with, grown_by, grown, unless_whole, after_header, after_body, is_whole, is_zero, lacked}
+use Rattle.lapin_content.specs.Contents.{Begun, Expected, front_waits, front_takes, has_left, is_unbegun, begun_with, grown_by, grown, unless_whole, after_header, after_body, is_whole, is_zero, lacked}
 use Rattle.lapin_content.specs.Channels.{Channels, expected_on, listed, joined, joined_at}
 use Rattle.lapin_history.specs.declared.broker_frames.ContentPart.{ContentPart}
 use Rattle.lapin_history.specs.declared.broker_frames.ContentPart.TheVariants as part
@@ -29,32 +21,26 @@ use Rattle.lapin_history.specs.declared.broker_frames.Incoming.TheVariants as in
 use Rattle.lapin_history.specs.declared.phases.ConnectionPhase.{ConnectionPhase}
 use Rattle.lapin_history.specs.declared.phases.ConnectionPhase.TheVariants as link
 use Rattle.lapin_history.specs.ConnectionClose.{receives_down}
-use Rattle.lapin_history.specs.ConfirmReadings.{is_full}
-use Rattle.lapin_history.specs.Content.{get_ticket, expecting, receives_part, after_part}
-use Rattle.lapin_history.specs.Events.{after_event}
-use Rattle.lapin_history.specs.Handing.{handed, handed_out, after_handing, sent}
-use Rattle.lapin_history.specs.History.{History, Past, past, rec, readings_of}
-use Rattle.lapin_history.specs.Incoming.{incoming_of, frame_class, frame_method}
-use Rattle.lapin_history.specs.Leaving.{left_lists}
+use Rattle.lapin_history.specs.Content.{receives_part}
+use Rattle.lapin_history.specs.History.{History}
 use Rattle.lapin_history.specs.Phases.{is_up}
 use Rattle.lapin_history.specs.Readings.{Readings}
-use Rattle.lapin_history.specs.Receiving.{incoming_up, incoming_record, incoming_wire, when}
+use Rattle.lapin_history.specs.Receiving.{incoming_record, when}
 use Rattle.lapin_history.specs.Unexpected.{refused}
-use Rattle.lapin_history.specs.Wire.{Wire, state_of, receives_on, lists_of, with_lists}
+use Rattle.lapin_history.specs.Wire.{Wire, state_of, receives_on}
 use Rattle.lapin_broker.specs.Frames.{channel_of}
-use Rattle.lapin_effects.specs.Effects.{is_next, hears}
+use Rattle.lapin_effects.specs.Effects.{hears}
 use Rattle.lapin_concord.specs.Refusals.{is_refusal}
-use Rattle.lapin_verdicts.specs.Deeds.{Deed, Read, Sent, sents}
+use Rattle.lapin_verdicts.specs.Deeds.{Deed, Read, Sent}
 use Rattle.lapin_verdicts.specs.InStep.{is_frame_on}
-use Rattle.lapin_verdicts.specs.Messages.{Start, Get, sent_after, start_in}
+use Rattle.lapin_verdicts.specs.Messages.{Start, Get, sent_after}
 use Rattle.lapin_answers.proofs.Turns as turn
 use Rattle.lapin_answers.proofs.Turns.{Turns}
-use Rattle.lapin_answers.proofs.Happens.{income_in, event_turn}
-use Rattle.lapin_answers.proofs.Carried.{is_content_on, brings_content, Kept, event_kept, joined_away}
+use Rattle.lapin_answers.proofs.Happens.{income_in}
+use Rattle.lapin_answers.proofs.Carried.{Kept}
 use Rattle.lapin_answers.proofs.Getting.{on_way, header_on, body_on}
-use Rattle.lapin_answers.proofs.Gets.{Getting, Gets, gets_none, getting_on, getting_read, getting_send, getting_away, getting_comes, nothing_sent}
+use Rattle.lapin_answers.proofs.Gets.{Gets, gets_none, getting_on, getting_read, getting_send, getting_away, getting_comes}
 use Rattle.lapin_concord.specs.Held.{IsOneContent}
-use Rattle.lapin_concord.proofs.Views.{contents_on_here}
 
 -- ---- what is kept
 

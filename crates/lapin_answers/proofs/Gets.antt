@@ -1,13 +1,10 @@
 -- In every joined run: while the content of a get is expected, what came since the answer to that very get is as far as the content.
-use Rattle.std.proofs.Common.{◌≡◌, ◌∙◌, ℕ, ◌≤◌, ◌==◌, Bool, true, false, cond, not, ◌&&◌, ◌||◌, List, [], ◌∷◌, ◌++◌, Option, Some, None, ◌⊎◌, inl, inr, refl, sym, ap, subst, append-nil, append_assoc, eq-eqb}
-use Rattle.std.specs.List.{filter, fold, list_any}
-use Rattle.std.proofs.lemmas.Bool.{and_parts}
-use Rattle.std.proofs.lemmas.Bool.Decides.{eqb_tells}
+use Rattle.std.proofs.Common.{◌≡◌, ◌∙◌, ℕ, ◌==◌, Bool, true, false, cond, List, [], ◌∷◌, ◌++◌, Option, Some, None, refl, sym, ap, append-nil, append_assoc}
+use Rattle.std.specs.List.{filter, fold}
 use Rattle.std.proofs.lemmas.List.Sums.{fold-append}
 use Rattle.std.proofs.lemmas.List.Elements.{filter-append}
 use Rattle.lapin_types.specs.declared.answer.Answer.TheVariants as answer
 use Rattle.lapin_types.specs.declared.event.Event.{Event}
-use Rattle.lapin_types.specs.declared.event.Event.TheVariants as event
 use Rattle.lapin_types.specs.declared.leaving.Left.{Left}
 use Rattle.lapin_types.specs.declared.record.Record.{Record}
 use Rattle.lapin_types.specs.Types.{Frame, Method, ChannelMethod, ExchangeMethod, QueueMethod, BasicMethod, TxMethod}
@@ -23,19 +20,15 @@ use Rattle.lapin_types.specs.Types.confirm
 use Rattle.lapin_types.specs.Types.tx
 use Rattle.lapin_methods.specs.declared.frame.ContentHeader.{ContentHeader}
 use Rattle.lapin_content.specs.declared.start.Start.TheVariants as start
-use Rattle.lapin_content.specs.declared.start.Start.{Start as Beginning}
 use Rattle.lapin_content.specs.Contents.{Begun, Expected}
-use Rattle.lapin_content.specs.Channels.{expected_on}
 use Rattle.lapin_history.specs.declared.broker_frames.Incoming.{Incoming}
 use Rattle.lapin_history.specs.declared.broker_frames.Incoming.TheVariants as incoming
 use Rattle.lapin_history.specs.History.{History}
 use Rattle.lapin_history.specs.Incoming.{incoming_of, incoming_method}
-use Rattle.lapin_history.specs.Wire.{Wire}
 use Rattle.lapin_broker.specs.Frames.{channel_of}
-use Rattle.lapin_effects.specs.Effects.{hears}
 use Rattle.lapin_verdicts.specs.Deeds.{Deed, Read, Sent, sents}
 use Rattle.lapin_verdicts.specs.InStep.{is_frame_on}
-use Rattle.lapin_verdicts.specs.Messages.{Start, Deliver, Get, Return, Nothing, Sent_, sent_after, start_in}
+use Rattle.lapin_verdicts.specs.Messages.{Start, Get, Nothing, Sent_, sent_after, start_in}
 use Rattle.lapin_verdicts.proofs.Books.{sents-append}
 use Rattle.lapin_answers.specs.Calls.{IsCallOf}
 use Rattle.lapin_answers.specs.Replies.{IsReplied}

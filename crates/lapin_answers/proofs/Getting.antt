@@ -1,16 +1,13 @@
 -- The content that the answer to a get began, as far as it came: what was sent on the channel since that answer.
-use Rattle.std.proofs.Common.{◌≡◌, ◌∙◌, ℕ, zero, suc, ◌+◌, ◌-◌, ◌≤◌, ◌==◌, nat_le, Bool, true, false, cond, ◌&&◌, List, [], ◌∷◌, ◌++◌, length, Option, Some, None, inl, inr, refl, sym, ap, subst, append-nil, append_assoc, length-append, arith, eq-eqb}
+use Rattle.std.proofs.Common.{◌≡◌, ◌∙◌, ℕ, ◌+◌, ◌-◌, ◌≤◌, ◌==◌, nat_le, true, false, cond, List, [], ◌∷◌, ◌++◌, length, Option, Some, None, inl, inr, refl, sym, ap, append-nil, append_assoc, length-append, arith, eq-eqb}
 use Rattle.std.specs.List.{fold}
-use Rattle.std.specs.Option.{option_map}
-use Rattle.std.proofs.lemmas.Bool.{and_parts}
 use Rattle.std.proofs.lemmas.Bool.Decides.{eqb_tells, nat_tests}
 use Rattle.lapin_values.specs.Properties.{Properties}
 use Rattle.lapin_methods.specs.declared.frame.ContentHeader.{ContentHeader}
 use Rattle.lapin_types.specs.Types.{Frame}
 use Rattle.lapin_types.specs.Types.frame
-use Rattle.lapin_content.specs.Contents.{Begun, Expected, front_waits, front_takes, has_left, waits_for, is_unbegun, takes_body, begun_with, grown_by, grown, is_whole, if_whole, whole_of, unless_whole, after_header, after_body, heard_header, heard_body}
-use Rattle.lapin_content.specs.declared.start.Whole.{Whole as Arrived}
-use Rattle.lapin_verdicts.specs.Messages.{Start, Get, Whole, Sending, Nothing, Started, Headed, Sent_, with_bytes, with_header, with_body, with_start, sent_after, start_in, sendings}
+use Rattle.lapin_content.specs.Contents.{Begun, grown}
+use Rattle.lapin_verdicts.specs.Messages.{Start, Whole, Sending, Nothing, Started, Headed, Sent_, with_bytes, with_header, with_body, with_start, sent_after, start_in}
 use Rattle.lapin_verdicts.specs.Verdicts.{at_place}
 
 -- ---- how far a content is

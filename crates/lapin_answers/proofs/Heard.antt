@@ -1,5 +1,5 @@
 -- What a frame of the broker, and a loss, does to what a channel asks for.
-use Rattle.std.proofs.Common.{◌≡◌, ◌∙◌, ℕ, ◌==◌, Bool, true, false, cond, not, ◌&&◌, ◌||◌, List, [], ◌∷◌, Option, Some, None, inl, inr, refl, sym, ap, subst, eq-eqb}
+use Rattle.std.proofs.Common.{◌≡◌, ◌∙◌, ℕ, ◌==◌, Bool, true, false, cond, not, ◌&&◌, ◌||◌, List, [], Some, None, inl, inr, refl, sym, ap, subst}
 use Rattle.std.specs.List.{filter}
 use Rattle.std.proofs.lemmas.Bool.{and_parts}
 use Rattle.std.proofs.lemmas.Bool.Decides.{eqb_tells}
@@ -9,7 +9,7 @@ use Rattle.lapin_types.specs.declared.record.Record.{Record}
 use Rattle.lapin_types.specs.declared.record.Record.TheVariants as record_
 use Rattle.lapin_types.specs.declared.request.ReplyKind.{ReplyKind}
 use Rattle.lapin_types.specs.declared.request.ReplyKind.TheVariants as reply_kind
-use Rattle.lapin_types.specs.Types.{Method, ChannelState, Error}
+use Rattle.lapin_types.specs.Types.{Method}
 use Rattle.lapin_types.specs.Types.frame
 use Rattle.lapin_types.specs.Types.method
 use Rattle.lapin_types.specs.Types.basic
@@ -30,8 +30,8 @@ use Rattle.lapin_history.specs.declared.phases.ConnectionPhase.{ConnectionPhase}
 use Rattle.lapin_history.specs.declared.phases.ConnectionPhase.TheVariants as link
 use Rattle.lapin_history.specs.declared.phases.Closer.TheVariants as closer
 use Rattle.lapin_history.specs.Words.{with_channel, is_some}
-use Rattle.lapin_history.specs.Phases.{is_up, is_live, is_lost, channel_state}
-use Rattle.lapin_history.specs.Frames.{MethodEntry, left_method}
+use Rattle.lapin_history.specs.Phases.{is_up, is_live, is_lost}
+use Rattle.lapin_history.specs.Frames.{MethodEntry}
 use Rattle.lapin_history.specs.Drops.{is_off, method_channel}
 use Rattle.lapin_history.specs.Requests.{first_request, without_request, without_kind, no_requests}
 use Rattle.lapin_history.specs.Ends.{down}
@@ -39,16 +39,15 @@ use Rattle.lapin_history.specs.Readings.{Readings}
 use Rattle.lapin_history.specs.Wire.{Wire, requests_of, state_of, phase_of, is_open, is_opening, noted, lists_of, receives_on}
 use Rattle.lapin_history.specs.Opening.{opens, phases_with}
 use Rattle.lapin_history.specs.ChannelClose.{kept_at, closing, after_close_ok, after_channel_close, after_broker_close, receives_close, receives_close_ok}
-use Rattle.lapin_history.specs.ConnectionClose.{unless_sent, has_sent, receives_down, after_connection_close, after_connection_close_ok}
-use Rattle.lapin_history.specs.Settlement.{settlement_record, session_close, after_failed_on}
+use Rattle.lapin_history.specs.ConnectionClose.{unless_sent, has_sent, receives_down, after_connection_close}
+use Rattle.lapin_history.specs.Settlement.{settlement_record, session_close}
 use Rattle.lapin_history.specs.Reply.{receives, receives_reply, after_reply}
 use Rattle.lapin_history.specs.Flow.{after_flow}
-use Rattle.lapin_history.specs.Content.{receives_part, after_part, after_get_ok}
-use Rattle.lapin_history.specs.Consumers.{receives_consumer, after_consumer, after_cancel}
-use Rattle.lapin_history.specs.Unexpected.{refused, unexpected_close, after_unexpected}
+use Rattle.lapin_history.specs.Content.{receives_part, after_get_ok}
+use Rattle.lapin_history.specs.Consumers.{receives_consumer}
+use Rattle.lapin_history.specs.Unexpected.{refused, unexpected_close}
 use Rattle.lapin_history.specs.Loss.{after_lost}
 use Rattle.lapin_history.specs.Receiving.{when, incoming_up, incoming_record, incoming_wire}
-use Rattle.lapin_broker.specs.declared.frames.ClientFrame.TheVariants as client
 use Rattle.lapin_broker.specs.Frames.{client_frame}
 use Rattle.lapin_pairs.specs.Channel.{BOpenOk, BReply}
 use Rattle.lapin_pairs.specs.Every.{ToD}
@@ -57,9 +56,9 @@ use Rattle.lapin_concord.specs.Incomes.{income_as}
 use Rattle.lapin_concord.proofs.Views.{phase_at, requests_at, requests_on_away, contents_on_here}
 use Rattle.lapin_effects.specs.Effects.{live, hears}
 use Rattle.lapin_verdicts.specs.Answers.{awaits_as}
-use Rattle.lapin_answers.proofs.Rows.{is_reply_down, asked_comes, other_comes}
+use Rattle.lapin_answers.proofs.Rows.{is_reply_down, asked_comes}
 use Rattle.lapin_answers.proofs.Lists.{asks, open_asks, is_ask_on, lefts_of, waiting_asks, without_other, without_away, without_here, on_other, ended_here, ended_none, quiet_ask, waits_same, waits_gone, waits_away}
-use Rattle.lapin_answers.proofs.Turns.{Calm, Comes, Turn, Stays, Shrinks, Begins, Ends, Sinks, Turns, At, entry, hears_at, hears_down, hear_away, hear_here, moved_turn, open_heard}
+use Rattle.lapin_answers.proofs.Turns.{Stays, Shrinks, Begins, Ends, Sinks, Turns, At, entry, hears_at, hears_down, hear_away, hear_here, moved_turn}
 
 -- ---- what is queued by no call
 

@@ -1,39 +1,36 @@
 -- A frame request: what leaves goes from what waits to what was handed out.
-use Rattle.std.proofs.Common.{◌≡◌, ◌∙◌, ℕ, ◌+◌, ◌==◌, Bool, true, false, cond, ◌&&◌, ◌||◌, List, [], ◌∷◌, ◌++◌, length, Option, Some, None, inl, inr, refl, sym, ap, subst, append-nil, append_assoc, length-append, arith}
-use Rattle.std.specs.List.{filter, fold, find, list_any}
+use Rattle.std.proofs.Common.{◌≡◌, ◌∙◌, ℕ, ◌+◌, ◌==◌, Bool, true, false, cond, ◌&&◌, ◌||◌, List, [], ◌∷◌, ◌++◌, Option, Some, None, refl, sym, ap, subst, append-nil, append_assoc, arith}
+use Rattle.std.specs.List.{filter, find, list_any}
 use Rattle.std.specs.Option.{option_map}
 use Rattle.std.proofs.lemmas.List.Sums.{fold-append}
 use Rattle.lapin_types.specs.declared.event.Event.{Event}
 use Rattle.lapin_types.specs.declared.leaving.Left.{Left}
 use Rattle.lapin_types.specs.declared.leaving.Publish.{Publish}
 use Rattle.lapin_types.specs.declared.record.Record.{Record}
-use Rattle.lapin_types.specs.Types.{Frame, Method, ChannelState}
+use Rattle.lapin_types.specs.Types.{Frame}
 use Rattle.lapin_types.specs.Types.frame
 use Rattle.lapin_types.specs.Types.method
 use Rattle.lapin_types.specs.Types.channel
-use Rattle.lapin_types.specs.Types.channel_state as state
-use Rattle.lapin_tables.specs.ByChannel.{at_channel, on_channel}
 use Rattle.lapin_history.specs.declared.phases.ChannelPhase.{ChannelPhase}
-use Rattle.lapin_history.specs.declared.phases.ChannelPhase.TheVariants as phase
 use Rattle.lapin_history.specs.Frames.{MethodEntry, RestEntry, left_method, left_rest, left_publish}
 use Rattle.lapin_history.specs.ChannelClose.{phases_sent}
 use Rattle.lapin_history.specs.Handing.{after_handing, handed_out, sent}
 use Rattle.lapin_history.specs.History.{History}
 use Rattle.lapin_history.specs.Leaving.{left_of, left_lists, handed_of, may_begin}
 use Rattle.lapin_history.specs.Words.{many}
-use Rattle.lapin_history.specs.Wire.{Wire, lists_of, with_lists, requests_of}
+use Rattle.lapin_history.specs.Wire.{Wire, lists_of, with_lists}
 use Rattle.lapin_broker.specs.Frames.{channel_of, client_frame}
 use Rattle.lapin_joint.specs.Joint.{left_alone}
 use Rattle.lapin_concord.proofs.Views.{requests_at}
 use Rattle.lapin_effects.specs.Effects.{live, hears}
 use Rattle.lapin_verdicts.specs.Answers.{awaits, awaits_as}
 use Rattle.lapin_verdicts.specs.Deeds.{is_open}
-use Rattle.lapin_verdicts.specs.InStep.{is_open_on, is_open_waiting}
+use Rattle.lapin_verdicts.specs.InStep.{is_open_on}
 use Rattle.lapin_verdicts.proofs.Leaving.{Alike, alike_same, alike_closed, Still, still_live, still_hears}
 use Rattle.lapin_verdicts.proofs.Numbering.{AreRest, is_content}
 use Rattle.lapin_verdicts.proofs.Opens.{many-none, unsent, content_open, sent_methods, sent_up, next_waits}
 use Rattle.lapin_answers.proofs.Lists.{asks, open_asks, is_ask_on, lefts_of, waiting_asks}
-use Rattle.lapin_answers.proofs.Standing.{next_ask, handed_asks, reply_count, AreAsks, asks_more, Going, Standing}
+use Rattle.lapin_answers.proofs.Standing.{next_ask, handed_asks, AreAsks, asks_more, Standing}
 
 -- ---- frames
 

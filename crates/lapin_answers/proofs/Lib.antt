@@ -17,4 +17,4 @@ pub mod GetRun
 pub mod GetLaw
 pub mod GetMarks
 pub mod GetAnswer
-pub mod Truth
+pub mod Whole

@@ -1,14 +1,11 @@
 -- What a delivered frame is to the session in a joined run: it isn't refused, and what it does to tickets.
-use Rattle.std.proofs.Common.{◌≡◌, ◌∙◌, ℕ, ◌≤◌, ◌==◌, Bool, true, false, cond, ◌||◌, List, [], ◌∷◌, ◌++◌, refl, sym, ap, subst}
+use Rattle.std.proofs.Common.{◌≡◌, ◌∙◌, ℕ, ◌≤◌, Bool, true, false, ◌||◌, List, [], ◌∷◌, ◌++◌, refl, sym, ap}
 use Rattle.std.specs.List.{list_any}
 use Rattle.std.proofs.lemmas.List.Folds.{list_any-append}
-use Rattle.lapin_types.specs.declared.event.Event.{Event}
 use Rattle.lapin_types.specs.declared.event.Event.TheVariants as event
-use Rattle.lapin_types.specs.declared.record.Record.{Record}
 use Rattle.lapin_types.specs.Types.{Frame}
 use Rattle.lapin_history.specs.Events.{after_event, ticket_marks}
 use Rattle.lapin_history.specs.History.{History, Past, past, rec}
-use Rattle.lapin_history.specs.TicketReadings.{TicketMark}
 use Rattle.lapin_joint.specs.declared.step.Step.{Step}
 use Rattle.lapin_joint.specs.declared.step.Step.TheVariants as step
 use Rattle.lapin_joint.specs.declared.step.Reported.TheVariants as reported

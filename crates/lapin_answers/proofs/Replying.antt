@@ -21,15 +21,14 @@ use Rattle.lapin_history.specs.declared.phases.ConnectionPhase.{ConnectionPhase}
 use Rattle.lapin_history.specs.declared.phases.ConnectionPhase.TheVariants as link
 use Rattle.lapin_history.specs.ConnectionClose.{receives_down}
 use Rattle.lapin_history.specs.Consumers.{next_consumer}
-use Rattle.lapin_history.specs.Events.{record_of}
-use Rattle.lapin_history.specs.History.{History, past, rec, readings_of}
+use Rattle.lapin_history.specs.History.{rec, readings_of}
 use Rattle.lapin_history.specs.Incoming.{incoming_of, frame_class, frame_method}
 use Rattle.lapin_history.specs.Opening.{opens}
 use Rattle.lapin_history.specs.Phases.{is_up}
 use Rattle.lapin_history.specs.Readings.{Readings}
 use Rattle.lapin_history.specs.Receiving.{when, incoming_up, incoming_record, received_tickets, incoming_tickets}
 use Rattle.lapin_history.specs.Reply.{receives, receives_reply}
-use Rattle.lapin_history.specs.Requests.{is_kind, first_request, ticket_of, resolved_with}
+use Rattle.lapin_history.specs.Requests.{first_request, ticket_of, resolved_with}
 use Rattle.lapin_history.specs.TicketReadings.{TicketMark, gives, answer_of}
 use Rattle.lapin_history.specs.Unexpected.{refused}
 use Rattle.lapin_history.specs.Words.{is_some}
@@ -51,7 +50,7 @@ use Rattle.lapin_verdicts.specs.InStep.{is_frame_on}
 use Rattle.lapin_verdicts.specs.Session.{past_of}
 use Rattle.lapin_answers.specs.Calls.{IsCallOf}
 use Rattle.lapin_answers.proofs.Rows.{is_reply_down, reply_comes, reply_is, asked_comes, other_comes}
-use Rattle.lapin_answers.proofs.Lists.{open_asks, asks-first}
+use Rattle.lapin_answers.proofs.Lists.{asks-first}
 use Rattle.lapin_answers.proofs.Answered.{Meets}
 use Rattle.lapin_answers.proofs.Running.{reply_meets}
 use Rattle.lapin_answers.proofs.Received.{unrefused, tickets_after}
@@ -208,17 +207,21 @@ met n big k ss f fs down r q u t =
     let m : Meets c (joined_to n ss).session b q.kind f fs (last_opening c (deeds n ss)) = reply_meets n c big ss f fs q.kind down u (reply_is c (reply_number q.kind) q.content f q.comes) in
     let first : first_request q.kind (requests_of c b) ≡ Some m.request = asks-first q.kind (requests_of c b) q.asked ∙ (ap (first_request q.kind) m.open_is ∙ ap (λ v. cond v (Some m.request) (first_request q.kind m.rest)) m.kind) in
     let ticket : m.request.ticket ≡ Some k = ap ticket_of (sym first) ∙ t in
-    let call = m.is.call k ticket in
-    (call.0, call.1, record {
-      before = m.before;
-      behind = m.behind;
-      request = m.answer.request;
-      all = m.all;
-      is_reply = r;
-      was_read = m.answer.was_read;
-      ticket = m.is.ticket ∙ ticket;
-      method = call.2;
-    }, m.way)
+    let call = m.is.call k ticket in (
+      call.0,
+      call.1,
+      record {
+        before = m.before;
+        behind = m.behind;
+        request = m.answer.request;
+        all = m.all;
+        is_reply = r;
+        was_read = m.answer.was_read;
+        ticket = m.is.ticket ∙ ticket;
+        method = call.2;
+      },
+      m.way,
+    )
 
 pub replied : (n : ℕ) → 4096 ≤ n → (k : ℕ) (ss : List Step) (f : Frame) (fs : List Frame) (y : Result Answer Error) → (joined_to n ss).down ≡ f ∷ fs → replies f ≡ true → answer_of k (past_of n ss).tickets ≡ None → answer_of k (past_of n (ss ++ step.Deliver ∷ [])).tickets ≡ Some y → Replied n k ss f fs
 replied n big k ss f fs y down r was now =

@@ -21,7 +21,6 @@ use Rattle.lapin_types.specs.Types.basic
 use Rattle.lapin_types.specs.Types.confirm
 use Rattle.lapin_history.specs.declared.calls.Asked.{Asked}
 use Rattle.lapin_history.specs.declared.calls.Asked.TheVariants as ask
-use Rattle.lapin_history.specs.declared.broker_frames.Incoming.{Incoming}
 use Rattle.lapin_history.specs.declared.broker_frames.Incoming.TheVariants as incoming
 use Rattle.lapin_history.specs.Ackers.{acker_method}
 use Rattle.lapin_history.specs.Calls.{asked, awaited_by, awaiting, unless_nowait}
@@ -33,9 +32,9 @@ use Rattle.lapin_broker.specs.declared.frames.BrokerFrame.TheVariants as broker
 use Rattle.lapin_broker.specs.declared.frames.ClientFrame.{ClientFrame}
 use Rattle.lapin_broker.specs.declared.frames.ClientFrame.TheVariants as client
 use Rattle.lapin_broker.specs.Frames.{channel_of, client_frame, broker_frame}
-use Rattle.lapin_pairs.specs.Channel.{DownF, BOpenOk, BClose, BCloseOk, BTell, BStart, BReply, BHeader, BBody, BSettle}
-use Rattle.lapin_pairs.specs.Every.{DownOn, ToD, CloseD, CloseOkD}
-use Rattle.lapin_concord.specs.Frames.{number, down_kind, down_frame}
+use Rattle.lapin_pairs.specs.Channel.{DownF, BReply}
+use Rattle.lapin_pairs.specs.Every.{DownOn, ToD}
+use Rattle.lapin_concord.specs.Frames.{number, down_kind}
 use Rattle.lapin_concord.specs.Wires.{reply_number, is_asked}
 use Rattle.lapin_concord.specs.Incomes.{income_as}
 use Rattle.lapin_concord.proofs.Incomes.{sorted}

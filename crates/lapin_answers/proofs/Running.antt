@@ -1,8 +1,7 @@
 -- In every joined run what a channel asks for stands so.
-use Rattle.std.proofs.Common.{◌≡◌, ◌∙◌, ℕ, suc, ◌+◌, ◌≤◌, ◌<◌, ◌==◌, Bool, true, false, cond, ◌&&◌, ◌||◌, List, [], ◌∷◌, ◌++◌, map, length, Option, Some, None, inl, inr, refl, sym, ap, subst, append-nil, append_assoc, length-append, arith, eq-eqb}
-use Rattle.std.specs.List.{filter, fold, list_any}
+use Rattle.std.proofs.Common.{◌≡◌, ◌∙◌, ℕ, ◌+◌, ◌≤◌, ◌==◌, Bool, true, false, cond, ◌&&◌, ◌||◌, List, [], ◌∷◌, ◌++◌, map, length, Option, Some, None, refl, sym, ap, subst, append-nil, append_assoc, length-append, arith, eq-eqb}
+use Rattle.std.specs.List.{filter, list_any}
 use Rattle.std.proofs.lemmas.Bool.{and_parts}
-use Rattle.std.proofs.lemmas.Bool.Decides.{eqb_tells}
 use Rattle.std.proofs.lemmas.List.Elements.{filter-append}
 use Rattle.lapin_types.specs.declared.event.Event.{Event}
 use Rattle.lapin_types.specs.declared.event.Event.TheVariants as event
@@ -21,20 +20,18 @@ use Rattle.lapin_types.specs.Types.basic
 use Rattle.lapin_types.specs.Types.confirm
 use Rattle.lapin_types.specs.Types.tx
 use Rattle.lapin_types.specs.Types.channel_state as state
-use Rattle.lapin_history.specs.declared.broker_frames.Incoming.{Incoming}
 use Rattle.lapin_history.specs.declared.phases.ConnectionPhase.{ConnectionPhase}
 use Rattle.lapin_history.specs.declared.phases.ConnectionPhase.TheVariants as link
 use Rattle.lapin_history.specs.Ends.{down as fallen}
 use Rattle.lapin_history.specs.ConfirmReadings.{is_full}
-use Rattle.lapin_history.specs.Events.{record_of, after_event, confirm_marks}
+use Rattle.lapin_history.specs.Events.{after_event}
 use Rattle.lapin_history.specs.Flow.{begins_on}
 use Rattle.lapin_history.specs.Handing.{handed, handed_out, began_on, after_handing}
-use Rattle.lapin_history.specs.History.{History, Past, past, rec, longer, readings_of}
+use Rattle.lapin_history.specs.History.{History, Past, past, rec, readings_of}
 use Rattle.lapin_history.specs.Incoming.{incoming_of}
 use Rattle.lapin_history.specs.Phases.{is_up, is_live, is_lost, channel_state}
 use Rattle.lapin_history.specs.Readings.{Readings}
-use Rattle.lapin_history.specs.Requests.{without_kind, is_kind}
-use Rattle.lapin_history.specs.Words.{many}
+use Rattle.lapin_history.specs.Requests.{without_kind}
 use Rattle.lapin_history.specs.Wire.{Wire, phase_of, receives_on}
 use Rattle.lapin_broker.specs.declared.frames.BrokerFrame.{BrokerFrame}
 use Rattle.lapin_broker.specs.declared.frames.BrokerFrame.TheVariants as broker
@@ -45,8 +42,8 @@ use Rattle.lapin_joint.specs.declared.step.Step.TheVariants as step
 use Rattle.lapin_joint.specs.Joint.{Joint, is_lawful, handed_by, left_alone, client, read_first, send_down, deliver_first, after, joined_to}
 use Rattle.lapin_machine.specs.Way.{by_history}
 use Rattle.lapin_joint.specs.Order.{front}
-use Rattle.lapin_pairs.specs.Channel.{DownF, BOpenOk, BReply}
-use Rattle.lapin_pairs.specs.Every.{DownOn, ToD, of_d}
+use Rattle.lapin_pairs.specs.Channel.{BOpenOk}
+use Rattle.lapin_pairs.specs.Every.{ToD, of_d}
 use Rattle.lapin_concord.specs.Frames.{down_kind, down_frame}
 use Rattle.lapin_concord.specs.Wires.{reply_number, is_asked}
 use Rattle.lapin_concord.specs.Incomes.{income_as}
@@ -55,7 +52,7 @@ use Rattle.lapin_effects.specs.Effects.{is_next, live, hears}
 use Rattle.lapin_effects.proofs.Events.{has_effect}
 use Rattle.lapin_verdicts.specs.Answers.{replies_as, replies, replies_in, is_open_ok, IsAnswer}
 use Rattle.lapin_verdicts.specs.Deeds.{Deed, Read, Sent, is_open, joined_opening, last_opening, lefts, sents, reads_of, deed_in, deeds}
-use Rattle.lapin_verdicts.specs.InStep.{is_frame_on, is_open_on, is_open_waiting, AreTogether}
+use Rattle.lapin_verdicts.specs.InStep.{is_frame_on, is_open_on, is_open_waiting}
 use Rattle.lapin_verdicts.specs.Session.{past_of}
 use Rattle.lapin_verdicts.proofs.Answering.{answers_in}
 use Rattle.lapin_verdicts.proofs.Assembly.{as_handed, in_run}
@@ -75,7 +72,7 @@ use Rattle.lapin_answers.proofs.Turns.{Calm, Comes}
 use Rattle.lapin_answers.proofs.Happens.{income_in, event_turn}
 use Rattle.lapin_answers.proofs.Standing.{handed_asks, reply_count, AreAsks, asks_more, Going, Standing, turn_kept, begun_kept}
 use Rattle.lapin_answers.proofs.Lets.{next_kept}
-use Rattle.lapin_answers.proofs.Answered.{Cut, Meets, meets}
+use Rattle.lapin_answers.proofs.Answered.{Meets, meets}
 
 -- ---- frames on the way down
 
@@ -210,7 +207,7 @@ module _ (n c : ℕ) where
   InRun j ds = At j.session (lefts ds ++ j.up) j.down (sent_in ds)
 
   -- what is known of the run before the step
-  record Known (j : Joint History) (ds : List Deed) : Type 0 where
+  pub record Known (j : Joint History) (ds : List Deed) : Type 0 where
     pub rest : (d : ℕ) × AreRest d (past n j.session).wire.rest
     pub shut : hears c (past n j.session).wire ≡ true → (unsent c (past n j.session).wire ≡ 0) × (list_any (is_open_on c) j.up ≡ false)
     pub unread : is_up (past n j.session).wire.link ≡ true → is_unread c (past n j.session).wire j.up ≡ true → of_d c (map down_frame j.down) ≡ []
@@ -338,6 +335,23 @@ module _ (n c : ℕ) where
             count = (let count = g.count in let long = length-append g.done (m.0.answer.request ∷ []) in omega (arith, count, long, one));
           }
 
+      none_more : (k : ℕ) → 0 + k ≡ k
+      none_more k = omega arith
+
+      or_true : (v : Bool) → (v || true) ≡ true
+      or_true true = refl
+      or_true false = refl
+
+      unread_none : is_up (before j).link ≡ true → income_as (incoming_of f) ≡ ToD c BOpenOk → unsent c (before j) ≡ 0
+      unread_none up on = elim (list_any (is_open_waiting c) (before j).methods) as (λ v. list_any (is_open_waiting c) (before j).methods ≡ v → unsent c (before j) ≡ 0) [
+        | true ↦ λ h.
+            let none : of_d c (map down_frame (f ∷ fs)) ≡ [] = k.unread up (ap (λ v. list_any (is_open_on c) j.up || v) h ∙ or_true (list_any (is_open_on c) j.up)) in
+            let front : of_d c (ToD c BOpenOk ∷ map down_frame fs) ≡ [] = ap (λ v. of_d c (v ∷ map down_frame fs)) (sym (sorted f ∙ on)) ∙ none in
+            let there : BOpenOk ∷ of_d c (map down_frame fs) ≡ [] = ap (λ v. cond v (BOpenOk ∷ of_d c (map down_frame fs)) (of_d c (map down_frame fs))) (sym (eq-eqb c c refl)) ∙ front in
+            absurd cc
+        | false ↦ λ h. many-none (is_open_waiting c) (before j).methods h
+      ] refl
+
       starts : turn.Opens c (Some (incoming_of f)) → live c (before j) ≡ true → hears c (before j) ≡ false → open_asks c (after_receive j f) ≡ open_asks c (before j) → waiting_asks c (after_receive j f) ≡ waiting_asks c (before j) → Going c (on_event j.session (event.Receive f)) (after_receive j f) (lefts ds ++ j.up) fs (sent_in ds)
       starts on alive d o w =
           let up : is_up (before j).link ≡ true = (and_parts (is_up (before j).link) (is_live (phase_of c (before j))) alive).0 in
@@ -354,22 +368,8 @@ module _ (n c : ℕ) where
             rest = [];
             all = ap (λ v. v ++ waiting_asks c (after_receive j f)) none ∙ (w ∙ q.1);
             are = subst (AreAsks (on_event j.session (event.Receive f)) c []) (sym (o ∙ q.0)) tt;
-            count = sym (ap (λ v. length (filter replies v)) sent ∙ ap (λ v. length (cond v (f ∷ filter replies (filter (is_frame_on c) fs)) (filter replies (filter (is_frame_on c) fs)))) calm);
+            count = none_more (reply_count c fs) ∙ sym (ap (λ v. length (filter replies v)) sent ∙ ap (λ v. length (cond v (f ∷ filter replies (filter (is_frame_on c) fs)) (filter replies (filter (is_frame_on c) fs)))) calm);
           }
-
-      unread_none : is_up (before j).link ≡ true → income_as (incoming_of f) ≡ ToD c BOpenOk → unsent c (before j) ≡ 0
-      unread_none up on = elim (list_any (is_open_waiting c) (before j).methods) as (λ v. list_any (is_open_waiting c) (before j).methods ≡ v → unsent c (before j) ≡ 0) [
-        | true ↦ λ h.
-            let none : of_d c (map down_frame (f ∷ fs)) ≡ [] = k.unread up (ap (λ v. list_any (is_open_on c) j.up || v) h ∙ or_true (list_any (is_open_on c) j.up)) in
-            let front : of_d c (ToD c BOpenOk ∷ map down_frame fs) ≡ [] = ap (λ v. of_d c (v ∷ map down_frame fs)) (sym (sorted f ∙ on)) ∙ none in
-            let there : BOpenOk ∷ of_d c (map down_frame fs) ≡ [] = ap (λ v. cond v (BOpenOk ∷ of_d c (map down_frame fs)) (of_d c (map down_frame fs))) (sym (eq-eqb c c refl)) ∙ front in
-            absurd cc
-        | false ↦ λ h. many-none (is_open_waiting c) (before j).methods h
-      ] refl
-
-      or_true : (v : Bool) → (v || true) ≡ true
-      or_true true = refl
-      or_true false = refl
 
   -- a loss
   lost_run : (j : Joint History) (ds : List Deed) → InRun j ds → At (on_event j.session event.Lost) (lefts (ds ++ []) ++ []) [] (sent_in (ds ++ []))

@@ -1,6 +1,6 @@
 -- What holds of a channel's requests: those that were handed out since its open, and those that wait, are the answered ones and then the
 -- open ones, each with the ticket of its call.
-use Rattle.std.proofs.Common.{◌≡◌, ◌∙◌, ℕ, suc, ◌+◌, ◌==◌, Bool, true, false, cond, ◌&&◌, List, [], ◌∷◌, ◌++◌, length, Option, Some, None, inl, inr, refl, sym, ap, subst, append-nil, append_assoc, length-append, arith, eq-eqb}
+use Rattle.std.proofs.Common.{◌≡◌, ◌∙◌, ℕ, ◌+◌, ◌==◌, Bool, true, false, cond, ◌&&◌, List, [], ◌∷◌, ◌++◌, length, Option, Some, inl, inr, refl, sym, ap, subst, append_assoc, arith, eq-eqb}
 use Rattle.std.specs.List.{filter, fold}
 use Rattle.std.proofs.lemmas.Bool.Decides.{eqb_tells}
 use Rattle.lapin_types.specs.declared.event.Event.{Event}
@@ -16,7 +16,6 @@ use Rattle.lapin_history.specs.ConfirmMarks.{ConfirmMark}
 use Rattle.lapin_history.specs.Drops.{is_off, method_channel}
 use Rattle.lapin_history.specs.Frames.{MethodEntry}
 use Rattle.lapin_history.specs.History.{History}
-use Rattle.lapin_history.specs.Phases.{is_up}
 use Rattle.lapin_history.specs.Requests.{without_kind}
 use Rattle.lapin_history.specs.Words.{many}
 use Rattle.lapin_history.specs.Wire.{Wire}

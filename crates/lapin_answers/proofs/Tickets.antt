@@ -1,5 +1,5 @@
 -- Which marks answer a ticket that was open before.
-use Rattle.std.proofs.Common.{◌≡◌, ◌∙◌, ℕ, zero, suc, ◌+◌, ◌≤◌, ◌<◌, ◌==◌, Bool, true, false, cond, ◌||◌, List, [], ◌∷◌, ◌++◌, Option, Some, None, Result, Ok, Err, inl, inr, refl, sym, ap, subst, append-nil, arith}
+use Rattle.std.proofs.Common.{◌≡◌, ◌∙◌, ℕ, zero, suc, ◌+◌, ◌≤◌, ◌<◌, Bool, true, false, cond, ◌||◌, List, [], ◌∷◌, ◌++◌, Option, Some, None, Result, inl, inr, refl, sym, ap, arith}
 use Rattle.std.specs.List.{list_any}
 use Rattle.std.specs.Option.{option_or}
 use Rattle.std.proofs.lemmas.Bool.{cases_lt}
@@ -7,10 +7,9 @@ use Rattle.std.proofs.lemmas.Bool.Decides.{eqb_tells}
 use Rattle.lapin_types.specs.declared.answer.Answer.{Answer}
 use Rattle.lapin_types.specs.Types.{Error}
 use Rattle.lapin_history.specs.declared.marks.AtLeaving.{AtLeaving}
-use Rattle.lapin_history.specs.TicketReadings.{TicketMark, gives, given, answer_by, first_answer, answer_of, begins, channel_of, channel_in, leaving_of, leaving_in, life}
-use Rattle.lapin_history.specs.TicketReadings as ticket
+use Rattle.lapin_history.specs.TicketReadings.{TicketMark, gives, answer_by, first_answer, answer_of, begins, channel_of, channel_in, leaving_of, leaving_in, life}
 use Rattle.lapin_history.specs.Requests.{resolved_with}
-use Rattle.lapin_history.specs.Words.{many, one_after, rest_after, nth, after_nth}
+use Rattle.lapin_history.specs.Words.{many, one_after, rest_after, nth}
 use Rattle.lapin_verdicts.proofs.Turns.{life-append}
 
 -- ---- lists

@@ -19,7 +19,6 @@ use Rattle.lapin_types.specs.Types.{Method, ChannelState, Error}
 use Rattle.lapin_types.specs.Types.frame
 use Rattle.lapin_types.specs.Types.method
 use Rattle.lapin_types.specs.Types.channel
-use Rattle.lapin_types.specs.Types.connection
 use Rattle.lapin_types.specs.Types.error
 use Rattle.lapin_types.specs.Types.channel_state as state
 use Rattle.lapin_history.specs.declared.broker_frames.Incoming.{Incoming}
@@ -37,7 +36,7 @@ use Rattle.lapin_history.specs.Frames.{MethodEntry, left_method}
 use Rattle.lapin_history.specs.Phases.{is_up, channel_state}
 use Rattle.lapin_tables.specs.ByChannel.{at_channel}
 use Rattle.lapin_history.specs.Requests.{requests_in, with_request, without_kind}
-use Rattle.lapin_history.specs.Wire.{Wire, phase_of, state_of, receives_on, is_open, is_closed, queued, requests_of}
+use Rattle.lapin_history.specs.Wire.{Wire, phase_of, state_of, receives_on, is_open, is_closed, queued}
 use Rattle.lapin_history.specs.Opening.{after_open_call}
 use Rattle.lapin_history.specs.Calls.{asked, is_try, awaited_by}
 use Rattle.lapin_history.specs.ChannelClose.{own_close}
@@ -53,7 +52,7 @@ use Rattle.lapin_broker.specs.declared.request.RequestKind.{RequestKind}
 use Rattle.lapin_broker.specs.declared.request.RequestKind.TheVariants as kind
 use Rattle.lapin_broker.specs.declared.frames.ClientFrame.TheVariants as client
 use Rattle.lapin_broker.specs.Frames.{client_frame}
-use Rattle.lapin_pairs.specs.Channel.{DownF, BOpenOk, BReply}
+use Rattle.lapin_pairs.specs.Channel.{BOpenOk, BReply}
 use Rattle.lapin_pairs.specs.Every.{ToD}
 use Rattle.lapin_concord.specs.Frames.{number}
 use Rattle.lapin_concord.specs.Wires.{reply_number, is_asked}
@@ -63,7 +62,7 @@ use Rattle.lapin_effects.specs.Effects.{live, hears}
 use Rattle.lapin_verdicts.specs.Answers.{awaits_as, kind_asked}
 use Rattle.lapin_answers.specs.Calls.{IsCall}
 use Rattle.lapin_answers.proofs.Rows.{Row, RowOf, row_of, acker_row, IsAskFor, asked_awaits, is_reply_down}
-use Rattle.lapin_answers.proofs.Lists.{asks, open_asks, is_ask_on, lefts_of, waiting_asks, with_other, with_away, with_here, quiet_ask, away_ask, waits_same, waits_grow, and_none}
+use Rattle.lapin_answers.proofs.Lists.{asks, open_asks, is_ask_on, waiting_asks, with_other, with_away, with_here, quiet_ask, away_ask, waits_same, waits_grow, and_none}
 
 -- ---- the kinds
 

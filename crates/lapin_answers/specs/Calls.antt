@@ -1,5 +1,5 @@
 -- The call that was given a ticket, as the history of a session shows it.
-use Rattle.std.specs.Prelude.{◌≡◌, ℕ, List, ◌∷◌, ◌++◌}
+use Rattle.std.specs.Prelude.{◌≡◌, ℕ, ◌∷◌, ◌++◌}
 use Rattle.lapin_types.specs.declared.event.Event.{Event}
 use Rattle.lapin_types.specs.declared.event.Event.TheVariants as event
 use Rattle.lapin_types.specs.declared.call.Call.{Call}

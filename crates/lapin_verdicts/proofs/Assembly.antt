@@ -1,31 +1,16 @@
 -- Every event of a session, and every step of a joined run, keeps the numbering.
 use Rattle.std.proofs.Common.{◌≡◌, ◌∙◌, ℕ, ◌<◌, ◌==◌, Bool, true, false, cond, ◌&&◌, List, [], ◌∷◌, ◌++◌, Option, Some, None, inl, inr, refl, sym, ap, subst, append-nil, append_assoc, arith, eq-eqb}
-use Rattle.std.specs.List.{list_any, find}
+use Rattle.std.specs.List.{find}
 use Rattle.std.specs.Option.{option_map}
-use Rattle.std.proofs.lemmas.Bool.{and_parts}
 use Rattle.std.proofs.lemmas.Bool.Decides.{eqb_tells}
-use Rattle.lapin_types.specs.declared.acker_call.AckerCall.{AckerCall}
 use Rattle.lapin_types.specs.declared.event.Event.{Event}
 use Rattle.lapin_types.specs.declared.event.Event.TheVariants as event
-use Rattle.lapin_types.specs.declared.call.Call.{Call}
 use Rattle.lapin_types.specs.declared.record.Record.{Record}
-use Rattle.lapin_types.specs.declared.record.Record.TheVariants as record_
 use Rattle.lapin_types.specs.declared.leaving.Left.{Left}
 use Rattle.lapin_types.specs.declared.leaving.Publish.{Publish}
-use Rattle.lapin_types.specs.Types.{Frame, Error}
-use Rattle.lapin_types.specs.Types.error
-use Rattle.lapin_history.specs.declared.calls.Asked.{Asked}
-use Rattle.lapin_history.specs.declared.calls.Asked.TheVariants as ask
+use Rattle.lapin_types.specs.Types.{Frame}
 use Rattle.lapin_history.specs.declared.phases.ConnectionPhase.{ConnectionPhase}
 use Rattle.lapin_history.specs.declared.phases.ConnectionPhase.TheVariants as link
-use Rattle.lapin_history.specs.ConfirmMarks.{ConfirmMark}
-use Rattle.lapin_history.specs.ConfirmMarks as mark
-use Rattle.lapin_history.specs.Calls.{asked, is_try}
-use Rattle.lapin_history.specs.Asking.{is_allowed, accepted_record, call_record, is_held, asked_by, is_outstanding, asking_inbox, after_asking, asked_wire, asking_marks}
-use Rattle.lapin_history.specs.Ackers.{acker_method, usable_at, acked_wire, acker_inbox}
-use Rattle.lapin_history.specs.Incoming.{incoming_of, frame_class, frame_method}
-use Rattle.lapin_history.specs.Consumers.{delegate_inbox, job_inbox, drop_inbox, lets_go_of, cancel_noted, after_let_go, after_drop}
-use Rattle.lapin_history.specs.Loss.{lost_inbox, after_lost}
 use Rattle.lapin_history.specs.Phases.{is_up, is_lost, is_live, phase_in}
 use Rattle.lapin_history.specs.Ends.{down}
 use Rattle.lapin_tables.specs.ByChannel.{at_channel}
@@ -33,15 +18,12 @@ use Rattle.lapin_history.specs.Leaving.{handed_of, may_begin}
 use Rattle.lapin_history.specs.Frames.{left_publish, MethodEntry, RestEntry}
 use Rattle.lapin_history.specs.Handing.{handed, handed_out, began_on, frame_record, after_handing, left_marks}
 use Rattle.lapin_history.specs.Flow.{begins_on}
-use Rattle.lapin_history.specs.Polls.{is_confirmed, is_returned, is_aside, wait_record}
 use Rattle.lapin_history.specs.Readings.{Readings}
-use Rattle.lapin_history.specs.Wire.{Wire, state_of, is_open, queued}
-use Rattle.lapin_history.specs.Events.{record_of, after_event, confirm_marks}
+use Rattle.lapin_history.specs.Wire.{Wire}
+use Rattle.lapin_history.specs.Events.{after_event, confirm_marks}
 use Rattle.lapin_history.specs.History.{History, Past, past, rec, longer, readings_of}
 use Rattle.lapin_history.specs.ConfirmReadings.{is_full}
-use Rattle.lapin_consumer.specs.Roster.{Consumer, consumer_at, is_idle}
-use Rattle.lapin_inbox.specs.Marks as inbox
-use Rattle.lapin_verdicts.specs.Verdicts.{message_asked, message_by, messages_in}
+use Rattle.lapin_verdicts.specs.Verdicts.{message_by, messages_in}
 use Rattle.lapin_effects.specs.Effects.{is_next, publish_by, live}
 use Rattle.lapin_effects.proofs.Events.{has_effect}
 use Rattle.lapin_verdicts.proofs.Saying.{says_added}

@@ -1,27 +1,22 @@
 -- Every publish leaves in the opening of its channel in which its call was accepted: no opening begins between.
-use Rattle.std.proofs.Common.{◌≡◌, ◌∙◌, ℕ, zero, suc, ◌+◌, ◌≤◌, ◌<◌, ◌==◌, Bool, true, false, cond, ◌&&◌, ◌||◌, List, [], ◌∷◌, ◌++◌, Option, Some, None, inl, inr, refl, sym, ap, subst, append-nil, append_assoc, arith, eq-eqb}
+use Rattle.std.proofs.Common.{◌≡◌, ◌∙◌, ℕ, zero, suc, ◌+◌, ◌≤◌, ◌<◌, Bool, true, false, cond, ◌||◌, List, [], ◌∷◌, ◌++◌, Option, Some, None, refl, sym, ap, subst, append-nil, append_assoc, arith, eq-eqb}
 use Rattle.std.specs.List.{list_any, filter, find}
-use Rattle.std.specs.Option.{option_map}
-use Rattle.std.proofs.lemmas.Bool.Decides.{eqb_tells}
 use Rattle.std.proofs.lemmas.List.Folds.{list_any-append}
 use Rattle.lapin_types.specs.declared.event.Event.{Event}
 use Rattle.lapin_types.specs.declared.event.Event.TheVariants as event
 use Rattle.lapin_types.specs.declared.leaving.Left.{Left}
 use Rattle.lapin_types.specs.declared.leaving.Publish.{Publish}
-use Rattle.lapin_types.specs.declared.record.Record.{Record}
 use Rattle.lapin_types.specs.Types.{Frame}
-use Rattle.lapin_types.specs.Types.frame
 use Rattle.lapin_history.specs.ConfirmMarks.{ConfirmMark}
 use Rattle.lapin_history.specs.ConfirmMarks as mark
-use Rattle.lapin_history.specs.ConfirmReadings.{adds, begins, leaves, added, channel_of, has_left, is_full}
+use Rattle.lapin_history.specs.ConfirmReadings.{adds, begins, leaves, added, channel_of, has_left}
 use Rattle.lapin_history.specs.Drops.{is_off, is_on, publish_channel}
 use Rattle.lapin_history.specs.Events.{after_event, confirm_marks}
-use Rattle.lapin_history.specs.Frames.{MethodEntry, RestEntry, left_publish}
-use Rattle.lapin_history.specs.Handing.{handed_out, handed_as, began_on, after_handing, sent, left_marks}
+use Rattle.lapin_history.specs.Frames.{MethodEntry, RestEntry}
+use Rattle.lapin_history.specs.Handing.{handed_out, began_on, after_handing, sent, left_marks}
 use Rattle.lapin_history.specs.History.{History, Past, past, rec, readings_of}
-use Rattle.lapin_history.specs.Leaving.{left_of, left_lists, handed_of, may_begin}
+use Rattle.lapin_history.specs.Leaving.{left_of, left_lists, may_begin}
 use Rattle.lapin_history.specs.Phases.{is_up}
-use Rattle.lapin_history.specs.Readings.{Readings}
 use Rattle.lapin_history.specs.Words.{many, through, without_first}
 use Rattle.lapin_history.specs.Wire.{Wire, lists_of, with_lists}
 use Rattle.lapin_joint.specs.declared.step.Step.{Step}
@@ -29,7 +24,7 @@ use Rattle.lapin_joint.specs.declared.step.Step.TheVariants as step
 use Rattle.lapin_joint.specs.Joint.{Joint, is_lawful, client, read_first, send_down, deliver_first, after, joined_to}
 use Rattle.lapin_machine.specs.Way.{by_history}
 use Rattle.lapin_broker.specs.Sends.{may}
-use Rattle.lapin_effects.specs.Effects.{is_next, publish_by, live, hears, Effect, Stays, Closes, Opens, Adds, Ends, Falls, Sinks}
+use Rattle.lapin_effects.specs.Effects.{is_next, publish_by, hears, Effect, Stays, Closes, Opens, Adds, Ends, Falls, Sinks}
 use Rattle.lapin_effects.proofs.Events.{has_effect}
 use Rattle.lapin_concord.specs.Openings.{opening_of}
 use Rattle.lapin_verdicts.specs.Publishes.{Message}

@@ -1,5 +1,5 @@
 -- Which request of an opening a reply of the broker is to: the one at its place.
-use Rattle.std.specs.Prelude.{◌≡◌, ℕ, suc, Bool, true, false, List, [], ◌∷◌, length, filter, Option, Some, None}
+use Rattle.std.specs.Prelude.{◌≡◌, suc, Bool, true, false, List, length, filter, Option, Some, None}
 use Rattle.lapin_types.specs.Types.{Frame}
 use Rattle.lapin_types.specs.Types.frame
 use Rattle.lapin_types.specs.Types.method

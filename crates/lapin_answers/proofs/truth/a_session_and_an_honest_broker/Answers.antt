@@ -1,4 +1,4 @@
-use Rattle.lapin_answers.proofs.Truth.{all_true}
+use Rattle.lapin_answers.proofs.Whole.{all_true}
 use Rattle.lapin_answers.proofs.truth.a_session_and_an_honest_broker.Goals as goal
 
 pub returns : goal.returns
