@@ -1,11 +1,11 @@
 //! Frames: a method, a content header or a body with what stands around it (AMQP 0-9-1, section 4.2.3).
 
-ghost use Rattle.std.specs.Prelude.{◌≡◌, ◌++◌, ◌<◌, ◌≤◌, [], length, OnOk, OnErr, Ok};
+ghost use Rattle.std.specs.Prelude.{◌≡◌, ◌++◌, ◌<◌, ◌≤◌, [], length, OnOk, OnErr, IfOk, Ok};
 ghost use Rattle.lapin_fields.specs.Around.{around, wanted_behind};
 ghost use Rattle.lapin_fields.specs.Fits.{Refused};
 ghost use Rattle.lapin_fields.specs.Reading.{GivesWhole};
 ghost use Rattle.lapin_frames.specs.FrameFits.{FrameFits, RefusedWithin};
-ghost use Rattle.lapin_frames.specs.FrameReading.{frame_in, heartbeat_in, read_in, read_at};
+ghost use Rattle.lapin_frames.specs.FrameReading.{frame_in, heartbeat_in, read_in, read_at, used};
 ghost use Rattle.lapin_frames.specs.Frames.{bytes_of};
 ghost use Rattle.lapin_frames.specs.HeaderReading.{whole};
 ghost use Rattle.lapin_frames.specs.MethodReading.{method_at};
@@ -182,9 +182,11 @@ fn read_around(alloc: Global, around: &Around) -> Result<Read, ReadFault>
 ///
 /// # Errors
 /// `Malformed` where it is no frame that a broker sends behind the handshake, and `NoMemory`.
+
 pub fn read_frame(alloc: Global, bytes: &[u8]) -> Result<Read, ReadFault>
     ensures part { 0 < wanted_behind bytes.now → result ≡ Ok Read.Part }
     ensures found { wanted_behind bytes.now ≡ 0 → GivesWhole result (read_at bytes.now) }
+    ensures used { IfOk result (λ read. used read ≤ length bytes.now) }
 {
     if wanted(bytes) > 0 {
         return Ok(Read::Part);
