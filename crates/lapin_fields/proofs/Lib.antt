@@ -1,4 +1,5 @@
 pub mod FlagLaws
+pub mod PartLaws
 pub mod ReadingLaws
 pub mod RisingLaws
 pub mod Turns

@@ -17,6 +17,11 @@ ended mark found rest = if mark == 206 then Some (found, rest) else None
 abbrev pub around_at : List ℕ → Option ((ℕ × ℕ × List ℕ) × List ℕ)
 around_at bytes = octet_at bytes >>= λ kind. short_at kind.1 >>= λ channel. counted_at channel.1 >>= λ payload. octet_at payload.1 >>= λ mark. ended mark.0 (kind.0, channel.0, payload.0) mark.1
 
+-- what is found, with more left behind it
+abbrev pub and_more : {A : Type 0} → List ℕ → Option (A × List ℕ) → Option (A × List ℕ)
+and_more more None = None
+and_more more (Some x) = Some (x.0, x.1 ++ more)
+
 -- How many octets are wanted at least behind these before a frame stands at their head: those of the seven that tell its size; then
 -- those of its payload and the one that ends it.
 abbrev pub wanted_behind : List ℕ → ℕ

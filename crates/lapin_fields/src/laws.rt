@@ -1,8 +1,8 @@
-//! Laws of the layout: what is written is read.
+//! Laws of the layout: what is written is read, and what is wanted is wanted.
 
-ghost use Rattle.std.specs.Prelude.{◌≡◌, ◌++◌, ◌∷◌, ◌<◌, ◌^◌, Bool, ℕ, List, Some};
+ghost use Rattle.std.specs.Prelude.{◌≡◌, ◌++◌, ◌∷◌, ◌<◌, ◌^◌, Bool, ℕ, List, length, Some};
 ghost use Rattle.lapin_values.specs.Data.{Data};
-ghost use Rattle.lapin_fields.specs.Around.{around, around_at};
+ghost use Rattle.lapin_fields.specs.Around.{around, around_at, and_more, wanted_behind};
 ghost use Rattle.lapin_fields.specs.Fields.{text, counted, bits};
 ghost use Rattle.lapin_fields.specs.Fits.{TextFits, StringFits, TableFits, ValueFits};
 ghost use Rattle.lapin_fields.specs.Reading.{text_at, counted_at, bit_at};
@@ -40,4 +40,13 @@ pub fn packed_flags_are_bits()
     ensures sixth { (a b c d e f : Bool) (bs : List Bool) → bit_at 32 (bits (a ∷ b ∷ c ∷ d ∷ e ∷ f ∷ bs)) ≡ f }
     ensures seventh { (a b c d e f g : Bool) (bs : List Bool) → bit_at 64 (bits (a ∷ b ∷ c ∷ d ∷ e ∷ f ∷ g ∷ bs)) ≡ g }
     ensures eighth { (a b c d e f g h : Bool) (bs : List Bool) → bit_at 128 (bits (a ∷ b ∷ c ∷ d ∷ e ∷ f ∷ g ∷ h ∷ bs)) ≡ h }
+{}
+
+/// A beginning of a frame stays one until it has at least as many bytes more as are wanted (`part`). Where nothing is wanted, the frame is
+/// there as a whole, and what follows changes neither that (`whole`) nor what is found (`found`).
+#[tactic(auto, using(crate::proofs::PartLaws::part_more, crate::proofs::PartLaws::whole_more, crate::proofs::PartLaws::around_more))]
+pub fn what_is_wanted_is_wanted()
+    ensures part { (bytes more : List ℕ) → length more < wanted_behind bytes → 0 < wanted_behind (bytes ++ more) }
+    ensures whole { (bytes more : List ℕ) → wanted_behind bytes ≡ 0 → wanted_behind (bytes ++ more) ≡ 0 }
+    ensures found { (bytes more : List ℕ) → wanted_behind bytes ≡ 0 → around_at (bytes ++ more) ≡ and_more more (around_at bytes) }
 {}

@@ -4,4 +4,5 @@ pub mod HeaderLaws
 pub mod Joined
 pub mod QueueLaws
 pub mod SmallClassLaws
+pub mod UsedLaws
 pub mod WritingLaws

@@ -31,3 +31,9 @@ read_in kind channel payload =
 -- what stands at the head of the octets, where it is there as a whole
 abbrev pub read_at : List ℕ → Option Read
 read_at bytes = around_at bytes >>= λ a. read_in a.0.0 a.0.1 a.0.2
+
+-- how many octets of those that were given it takes
+abbrev pub used : Read → ℕ
+used (read.Frame f n) = n
+used (read.Heartbeat n) = n
+used read.Part = 0

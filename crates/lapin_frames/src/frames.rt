@@ -1,11 +1,11 @@
 //! Frames: a method, a content header or a body with what stands around it (AMQP 0-9-1, section 4.2.3).
 
-ghost use Rattle.std.specs.Prelude.{◌≡◌, ◌++◌, ◌<◌, ◌≤◌, [], length, OnOk, OnErr, Ok};
+ghost use Rattle.std.specs.Prelude.{◌≡◌, ◌++◌, ◌<◌, ◌≤◌, [], length, OnOk, OnErr, IfOk, Ok};
 ghost use Rattle.lapin_fields.specs.Around.{around, wanted_behind};
 ghost use Rattle.lapin_fields.specs.Fits.{Refused};
 ghost use Rattle.lapin_fields.specs.Reading.{GivesWhole};
 ghost use Rattle.lapin_frames.specs.FrameFits.{FrameFits, RefusedWithin};
-ghost use Rattle.lapin_frames.specs.FrameReading.{frame_in, heartbeat_in, read_in, read_at};
+ghost use Rattle.lapin_frames.specs.FrameReading.{frame_in, heartbeat_in, read_in, read_at, used};
 ghost use Rattle.lapin_frames.specs.Frames.{bytes_of};
 ghost use Rattle.lapin_frames.specs.HeaderReading.{whole};
 ghost use Rattle.lapin_frames.specs.MethodReading.{method_at};
@@ -29,6 +29,9 @@ const HEARTBEAT: u8 = 8;
 // The bytes of a frame beside what is in it.
 const AROUND: usize = 8;
 
+// Room for a method or a header, of which most need no more.
+const USUAL: usize = 128;
+
 /// What stands at the head of bytes.
 #[derive(Drop)]
 pub enum Read {
@@ -40,6 +43,14 @@ pub enum Read {
     Part,
 }
 
+// How much room to make at first for the bytes of a frame: more is made where it does not suffice.
+fn room_of(frame: &Frame) -> usize {
+    match frame {
+        Frame::Body(_, payload) => payload.as_bytes().len().saturating_add(AROUND),
+        _ => USUAL,
+    }
+}
+
 // Adds the bytes of a frame, or a part of them where that fails.
 fn put_parts(alloc: Global, out: &mut Vec<u8>, frame: &Frame) -> Result<(), WriteFault>
     ensures bytes { OnOk result (out.new.items ≡ out.old.items ++ bytes_of frame.now) }
@@ -48,12 +59,12 @@ fn put_parts(alloc: Global, out: &mut Vec<u8>, frame: &Frame) -> Result<(), Writ
 {
     match frame {
         Frame::Method(channel, method) => {
-            let mut payload = Vec::new(alloc);
+            let mut payload = Vec::with_capacity(alloc, USUAL)?;
             put_method(alloc, &mut payload, method)?;
             put_around(out, METHOD, *channel, &payload)
         }
         Frame::Header(channel, header) => {
-            let mut payload = Vec::new(alloc);
+            let mut payload = Vec::with_capacity(alloc, USUAL)?;
             put_header(alloc, &mut payload, header)?;
             put_around(out, HEADER, *channel, &payload)
         }
@@ -71,7 +82,7 @@ pub fn put_frame(alloc: Global, out: &mut Vec<u8>, frame: &Frame) -> Result<(), 
     ensures err { OnErr result (out.new.items ≡ out.old.items) }
     ensures refused { Refused result (FrameFits frame.now) }
 {
-    let mut whole = Vec::new(alloc);
+    let mut whole = Vec::with_capacity(alloc, room_of(frame))?;
     put_parts(alloc, &mut whole, frame)?;
     out.extend_from_slice(&whole)?;
     Ok(())
@@ -105,7 +116,7 @@ pub fn put_frame_within(
     ensures err { OnErr result (out.new.items ≡ out.old.items) }
     ensures refused { RefusedWithin result (FrameFits frame.now) (limit < length (bytes_of frame.now)) }
 {
-    let mut whole = Vec::new(alloc);
+    let mut whole = Vec::with_capacity(alloc, room_of(frame))?;
     match put_parts(alloc, &mut whole, frame) {
         Ok(()) => put_within(out, &whole, limit),
         Err(fault) => Err(fault),
@@ -182,9 +193,11 @@ fn read_around(alloc: Global, around: &Around) -> Result<Read, ReadFault>
 ///
 /// # Errors
 /// `Malformed` where it is no frame that a broker sends behind the handshake, and `NoMemory`.
+
 pub fn read_frame(alloc: Global, bytes: &[u8]) -> Result<Read, ReadFault>
     ensures part { 0 < wanted_behind bytes.now → result ≡ Ok Read.Part }
     ensures found { wanted_behind bytes.now ≡ 0 → GivesWhole result (read_at bytes.now) }
+    ensures used { IfOk result (λ read. used read ≤ length bytes.now) }
 {
     if wanted(bytes) > 0 {
         return Ok(Read::Part);

@@ -21,3 +21,9 @@ pub fn written_frames_are_read()
 pub fn written_heartbeats_are_read()
     ensures { (rest : List ℕ) → read_at (around 8 0 [] ++ rest) ≡ Some (Read.Heartbeat 8) }
 {}
+
+/// What is read of a frame that is there as a whole is the same whatever follows it.
+#[tactic(auto, using(crate::proofs::UsedLaws::read_more))]
+pub fn what_follows_changes_nothing()
+    ensures { (bytes more : List ℕ) → wanted_behind bytes ≡ 0 → read_at (bytes ++ more) ≡ read_at bytes }
+{}

@@ -22,4 +22,6 @@ mod tx;
 
 pub use frames::{Read, put_frame, put_frame_within, put_heartbeat, read_frame};
 pub use lapin_fields::{ReadFault, WriteFault, wanted};
-pub use laws::{written_frames_are_read, written_heartbeats_are_read};
+pub use laws::{
+    what_follows_changes_nothing, written_frames_are_read, written_heartbeats_are_read,
+};
