@@ -1,0 +1,6 @@
+pub mod Items
+pub mod Collected
+pub mod Alike
+pub mod Steps
+pub mod Outcomes
+pub mod Requests

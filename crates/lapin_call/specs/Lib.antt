@@ -1,0 +1,6 @@
+pub mod Fates
+pub mod Calls
+pub mod Kept
+pub mod Codes
+pub mod Serving
+pub mod Outcome
