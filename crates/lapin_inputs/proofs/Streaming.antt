@@ -9,9 +9,10 @@ use Rattle.std.proofs.lemmas.List.Concat.{flat_map-cons}
 use Rattle.std.proofs.lemmas.List.Splits.{length-slice_split}
 use Rattle.std.proofs.lemmas.List.Sums.{count_by-le-length}
 use Rattle.lapin_text.specs.Input.{lines_of, without_empty_end}
-use Rattle.lapin_commands.specs.Printing.{PrintsBy, GoesOnBy, Adds, bad_line_text}
-use Rattle.lapin_commands.specs.Writing.{WritesPrefix}
-use Rattle.lapin_commands.proofs.Known.{appends_both}
+use Rattle.lapin_inputs.specs.Printing.{PrintsBy, GoesOnBy, Adds, bad_line_text}
+use Rattle.lapin_inputs.specs.Reading.{longest_input}
+use Rattle.lapin_inputs.specs.Writing.{WritesPrefix}
+use Rattle.lapin_inputs.proofs.Known.{appends_both, appends_none}
 
 -- ---- how many lines there are
 
@@ -29,7 +30,7 @@ pub lines_within : (bytes : List ℕ) → length (lines_of bytes) ≤ length byt
 unfolding lines_of
 lines_within bytes = omega (arith, fewer (slice_split (λ b. b == 10) bytes), length-slice_split (λ b. b == 10) bytes, count_by-le-length (λ b. b == 10) bytes)
 
-pub few_behind : (bytes : List ℕ) (lines rest : List (List ℕ)) (l : List ℕ) → lines ≡ lines_of bytes → lines ≡ l ∷ rest → length bytes < 2 ^ 63 → length rest < 2 ^ 63
+pub few_behind : (bytes : List ℕ) (lines rest : List (List ℕ)) (l : List ℕ) → lines ≡ lines_of bytes → lines ≡ l ∷ rest → length bytes ≤ longest_input → length rest ≤ 2 ^ 31
 few_behind bytes lines rest l all is few =
     let one : length lines ≡ suc (length rest) = ap length is in
     let same : length lines ≡ length (lines_of bytes) = ap length all in
@@ -52,6 +53,14 @@ pub record Reaches {R : Type 0} (goes_on : R → ℕ → List (List ℕ) → Opt
   pub piece : List ℕ
   pub out : Appends before after piece
   pub leads : Leads goes_on start all run n lines (piece ++ held)
+
+-- nothing was written, and nothing is held
+pub reaches_first : {R : Type 0} (goes_on : R → ℕ → List (List ℕ) → Option ℕ → List ℕ → Type 0) (start : R) (all : List (List ℕ)) (before : Option (List ℕ)) (held : List ℕ) → held ≡ [] → Reaches goes_on start all before before start 2 all held
+reaches_first goes_on start all before held none = record {
+  piece = [];
+  out = appends_none before;
+  leads = λ bad rest p. subst (λ (t : List ℕ). goes_on start 2 all bad (t ++ rest)) (sym none) p;
+}
 
 -- a line is taken
 pub reaches_next : {R : Type 0} (goes_on : R → ℕ → List (List ℕ) → Option ℕ → List ℕ → Type 0) (start run new : R) (all lines rest : List (List ℕ)) (before after : Option (List ℕ)) (n : ℕ) (l held more : List ℕ) → Reaches goes_on start all before after run n lines held → lines ≡ l ∷ rest → Adds (goes_on run) (goes_on new) l held more → Reaches goes_on start all before after new (n + 1) rest more

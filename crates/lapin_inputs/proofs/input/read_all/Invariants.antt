@@ -1,8 +1,8 @@
 use Rattle.std.proofs.Common.{◌≡◌, ◌+◌, ◌-◌, ◌^◌, ◌≤◌, length, vec_len}
 use Rattle.std.specs.Io.KnownBytes.{Consumes}
 use Rattle.lapin_io.specs.Numbers.{RoseBy}
-use Rattle.lapin_commands.specs.Reading.{longest_input}
-use Rattle.lapin_commands.proofs.input.read_all.Given as goal
+use Rattle.lapin_inputs.specs.Reading.{longest_input}
+use Rattle.lapin_inputs.proofs.input.read_all.Given as goal
 
 -- what was taken stands in `bytes`, and the source counted it
 abbrev pub invariant-loop-bytes : goal.invariant-loop-bytes

@@ -3,7 +3,7 @@ use Rattle.std.proofs.Common.{◌≡◌, ℕ, ◌+◌, List, [], ◌++◌, take,
 use Rattle.std.proofs.lemmas.List.{take_all, take-append-drop}
 use Rattle.std.proofs.Math.Seq.{take-add, take-append-add, take-append_seam}
 use Rattle.std.specs.Io.KnownBytes.{Appends, Consumes}
-use Rattle.lapin_commands.specs.Writing.{WritesPrefix}
+use Rattle.lapin_inputs.specs.Writing.{WritesPrefix}
 
 -- nothing was written
 pub appends_none : (a : Option (List ℕ)) → Appends a a []

@@ -1,9 +1,9 @@
-//! Reading the whole input, up to the limit on its length. `program` calls it once.
+//! Reading the whole input, up to the limit on its length. `answer` calls it once.
 ghost use Rattle.std.specs.Prelude.{◌≡◌, ◌+◌, ◌≤◌, ◌<◌, ◌++◌, ℕ, List, length, vec_len, IfOk, IsErrOf};
 ghost use Rattle.std.specs.Io.KnownBytes.{Consumes, IsAtEnd};
 ghost use Rattle.lapin_io.specs.Numbers.{counted, Rose, RoseBy};
-ghost use Rattle.lapin_commands.specs.declared.input.InputError.TheVariants.{Fault, NoMemory};
-ghost use Rattle.lapin_commands.specs.Reading.{longest_input, ReadsAll, IsTooLong};
+ghost use Rattle.lapin_inputs.specs.declared.input.InputError.TheVariants.{Fault, NoMemory};
+ghost use Rattle.lapin_inputs.specs.Reading.{longest_input, ReadsAll, IsTooLong};
 
 use lapin_io::{Failed, Source};
 use std::alloc::{AllocError, Global};

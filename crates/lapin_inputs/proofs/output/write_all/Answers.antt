@@ -1,6 +1,6 @@
 use Rattle.std.proofs.Common.{arith, inr, ◌∙◌}
-use Rattle.lapin_commands.proofs.Known.{appends_more}
-use Rattle.lapin_commands.proofs.output.write_all.Goals as goal
+use Rattle.lapin_inputs.proofs.Known.{appends_more}
+use Rattle.lapin_inputs.proofs.output.write_all.Goals as goal
 
 pub loop-done-preserved : goal.loop-done-preserved
 loop-done-preserved g c = record {

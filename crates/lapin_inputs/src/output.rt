@@ -1,8 +1,8 @@
-//! Writing a text: whole, or in pieces while more of it comes. `printing` and `program` call it.
+//! Writing a text: whole, or in pieces while more of it comes. `printing` calls it, and who has the whole text.
 ghost use Rattle.std.specs.Prelude.{◌≡◌, ◌≤◌, ◌++◌, ℕ, List, OnOk, OnErr, IsErrOf};
 ghost use Rattle.std.specs.Io.KnownBytes.{Appends};
 ghost use Rattle.lapin_io.specs.Numbers.{Rose, Stayed};
-ghost use Rattle.lapin_commands.specs.Writing.{WritesPrefix};
+ghost use Rattle.lapin_inputs.specs.Writing.{WritesPrefix};
 
 use lapin_io::{Sink, SinkError};
 

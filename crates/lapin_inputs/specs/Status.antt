@@ -1,7 +1,7 @@
 -- The exit status of the process for each end of a run.
 use Rattle.std.specs.Prelude.{ℕ}
-use Rattle.lapin_commands.specs.declared.status.Status.{Status}
-use Rattle.lapin_commands.specs.declared.status.Status.TheVariants.{Fine, BadWords, BadLine, NoMemory, ReadFault, WriteFault, InputTooLong}
+use Rattle.lapin_inputs.specs.declared.status.Status.{Status}
+use Rattle.lapin_inputs.specs.declared.status.Status.TheVariants.{Fine, BadWords, BadLine, NoMemory, ReadFault, WriteFault, InputTooLong}
 
 -- 0 where the whole text was written, and a number of its own for each other end
 abbrev pub code_of : Status → ℕ

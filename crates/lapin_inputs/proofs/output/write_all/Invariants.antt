@@ -1,6 +1,6 @@
 use Rattle.std.proofs.Common.{◌≡◌, ◌-◌, ◌≤◌, length, take}
 use Rattle.std.specs.Io.KnownBytes.{Appends}
-use Rattle.lapin_commands.proofs.output.write_all.Given as goal
+use Rattle.lapin_inputs.proofs.output.write_all.Given as goal
 
 -- the first `done` bytes are written
 abbrev pub invariant-loop-done : goal.invariant-loop-done

@@ -1,0 +1,6 @@
+pub mod Format
+pub mod Outcome
+pub mod Printing
+pub mod Reading
+pub mod Status
+pub mod Writing
