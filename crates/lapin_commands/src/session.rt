@@ -15,7 +15,12 @@ use lapin_machine::Session;
 use lapin_types::NoMemory;
 use std::alloc::Global;
 
-impl Run for Session {
+/// The command.
+pub enum OfSession {}
+
+impl Run for OfSession {
+    type State = Session;
+
     ghost admits = { λ none. Unit {0} };
 
     ghost prints = { λ none input bad text. PrintsSession input bad text };
@@ -33,12 +38,12 @@ impl Run for Session {
     }
 
     fn take_line(
-        &mut self,
         alloc: Global,
+        run: &mut Session,
         line: &[u8],
         text: &mut Vec<u8>,
     ) -> Result<bool, NoMemory> {
-        take_line(alloc, self, line, text)
+        take_line(alloc, run, line, text)
     }
 
     ghost ends = { λ w n. session_ends w n };

@@ -1,4 +1,6 @@
 pub mod Format
+pub mod LineLaws
+pub mod Lines
 pub mod Outcome
 pub mod Printing
 pub mod Reading
