@@ -4,3 +4,4 @@ pub mod Kept
 pub mod Codes
 pub mod Serving
 pub mod Outcome
+pub mod Heard
