@@ -335,3 +335,33 @@ step_counts m step.Collect d =
     let here : counted_in (collect_report t ∷ []) ≡ sum_of t = omega arith in
     record { more = g.more; session = g.session; counted = here ∙ all ∙ omega arith ∙ ap deliveries (sym g.are) }
 step_counts m (step.Take n) d = counts_quiet _ d _ (take_counts (fate_at n d.fates)) (record { more = []; session = sym (append-nil d.session); silent = refl; fates = refl })
+
+counted_in-cons : (r : CallReport) (rs : List CallReport) → counted_in (r ∷ rs) ≡ counted_in (r ∷ []) + counted_in rs
+counted_in-cons (reported.Session x) rs = omega arith
+counted_in-cons (reported.Asked n) rs = omega arith
+counted_in-cons (reported.NotOpen s) rs = omega arith
+counted_in-cons (reported.Collected a b c) rs = omega arith
+counted_in-cons reported.Waiting rs = omega arith
+counted_in-cons (reported.Reply p) rs = omega arith
+counted_in-cons (reported.Ended e) rs = omega arith
+counted_in-cons reported.Taken rs = omega arith
+counted_in-cons reported.Unknown rs = omega arith
+
+run_counts : (m : ℕ) (ss : List CallStep) (d : Desk History) → Counts (reports (by_history m) ss d) d (run (by_history m) ss d)
+run_counts m [] d = record { more = []; session = sym (append-nil d.session); counted = refl }
+run_counts m (s ∷ ss) d =
+    let one = step_counts m s d in
+    let rest = run_counts m ss (after (by_history m) s d) in
+    let both : counted_in (report (by_history m) s d ∷ reports (by_history m) ss (after (by_history m) s d)) ≡ deliveries (heard_in one.more) + deliveries (heard_in rest.more) =
+    omega (arith, counted_in-cons (report (by_history m) s d) (reports (by_history m) ss (after (by_history m) s d)), one.counted, rest.counted) in
+    record {
+      more = one.more ++ rest.more;
+      session = rest.session ∙ ap (λ (h : History). h ++ rest.more) one.session ∙ append_assoc d.session one.more rest.more;
+      counted = both ∙ sym (deliveries-append (heard_in one.more) (heard_in rest.more)) ∙ ap deliveries (sym (heard_in-append one.more rest.more));
+    }
+
+pub all_counted : (m : ℕ) (q : List ℕ) (ss : List CallStep) → counted_in (calls m q ss) ≡ deliveries (heard_in (calls_to m q ss).session)
+all_counted m q ss =
+    let start : Desk History = new_desk (by_history m) [] q in
+    let all = run_counts m ss start in
+    all.counted ∙ ap deliveries (sym (ap heard_in all.session ∙ heard_in-append start.session all.more))

@@ -4,3 +4,5 @@ pub mod Alike
 pub mod Steps
 pub mod Outcomes
 pub mod Requests
+pub mod Heard
+pub mod Turns

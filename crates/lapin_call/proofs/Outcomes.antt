@@ -42,11 +42,11 @@ get_other (z ∷ zs) zero (suc q) y ne = refl
 get_other (z ∷ zs) (suc p) zero y ne = refl
 get_other (z ∷ zs) (suc p) (suc q) y ne = get_other zs p q y (λ e. ne (ap suc e))
 
-put_same : (n : ℕ) (fates : List Fate) (x y : Fate) → fate_at n fates ≡ Some x → fate_at n (with_fate n y fates) ≡ Some y
+pub put_same : (n : ℕ) (fates : List Fate) (x y : Fate) → fate_at n fates ≡ Some x → fate_at n (with_fate n y fates) ≡ Some y
 put_same zero fates x y there = absurd cc
 put_same (suc p) fates x y there = get_same fates p x y there
 
-put_other : (n m : ℕ) (fates : List Fate) (y : Fate) → m ≢ n → fate_at n (with_fate m y fates) ≡ fate_at n fates
+pub put_other : (n m : ℕ) (fates : List Fate) (y : Fate) → m ≢ n → fate_at n (with_fate m y fates) ≡ fate_at n fates
 put_other n zero fates y ne = refl
 put_other zero (suc p) fates y ne = refl
 put_other (suc q) (suc p) fates y ne = get_other fates p q y (λ e. ne (ap suc e))
@@ -72,7 +72,7 @@ other_named n m (Some (fate.Given true)) p fates ne = refl
 other_named n m (Some (fate.Given false)) p fates ne = refl
 
 -- it has its result, or had it
-abbrev is_settled : Fate → Bool
+abbrev pub is_settled : Fate → Bool
 is_settled fate.Waiting = false
 is_settled _ = true
 

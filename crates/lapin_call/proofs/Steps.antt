@@ -23,7 +23,7 @@ use Rattle.lapin_call.proofs.Items.{numbers_polled}
 
 -- ---- lists of steps
 
-run-push : {S : Type 0} (m : Way S) (ss : List CallStep) (s : CallStep) (j : Desk S) → run m (ss ++ s ∷ []) j ≡ after m s (run m ss j)
+pub run-push : {S : Type 0} (m : Way S) (ss : List CallStep) (s : CallStep) (j : Desk S) → run m (ss ++ s ∷ []) j ≡ after m s (run m ss j)
 run-push m [] s j = refl
 run-push m (t ∷ ss) s j = run-push m ss s (after m t j)
 

@@ -3,5 +3,6 @@ pub mod Calls
 pub mod Kept
 pub mod Codes
 pub mod Serving
+pub mod Turns
 pub mod Outcome
 pub mod Heard

@@ -1,16 +1,18 @@
 //! The calls that a caller makes of its session: the open of channel 1, the consume of the replies, and the publish of a request.
 
-ghost use Rattle.std.specs.Prelude.{◌≡◌, decimal, IfOk, OnOk};
+ghost use Rattle.std.specs.Prelude.{◌≡◌, decimal, true, IfOk, OnOk};
 ghost use Rattle.lapin_types.specs.declared.event.Event.TheVariants as event;
 ghost use Rattle.lapin_types.specs.declared.call.Call.TheVariants as call;
+ghost use Rattle.lapin_history.specs.Wire.{state_of, is_closed};
+ghost use Rattle.lapin_machine.specs.Numbers.{HasNumbersFor};
 ghost use Rattle.lapin_machine.specs.World.{next};
 ghost use Rattle.lapin_call.specs.Calls.{consuming, requesting, request_properties, is_ready as is_ready_lem};
 
 use itoa::Buffer;
 use lapin_machine::Session;
 use lapin_types::{
-    BasicConsumeOptions, BasicProperties, BasicPublishOptions, Call, ChannelState, FieldTable,
-    NoMemory, Payload, ShortString,
+    BasicConsumeOptions, BasicProperties, BasicPublishOptions, Call, ChannelState, Error, FieldTable,
+    NoMemory, Payload, ShortString, ShortStringError,
 };
 use std::alloc::Global;
 
@@ -24,22 +26,27 @@ pub(crate) fn is_ready(session: &Session) -> bool
     matches!(session.channel_state(CHANNEL), ChannelState::Open)
 }
 
-/// Asks for channel 1.
+/// Asks for channel 1, which is closed.
 pub(crate) fn open(alloc: Global, session: &mut Session) -> Result<(), NoMemory>
+    requires closed { is_closed (state_of 1 session.old.wire) ≡ true }
+    requires numbers { HasNumbersFor 1 session.old }
     ensures { OnOk result (session.new ≡ next session.old (event.Call 1 call.OpenChannel)) }
 {
     match session.open_channel(alloc, CHANNEL) {
         Ok(_) => Ok(()),
-        Err(_) => Err(NoMemory),
+        Err(Error::NoMemory) => Err(NoMemory),
+        Err(_) => unreachable!(),
     }
 }
 
-/// Consumes from the queue of the replies, under its own name as tag.
+/// Consumes from the queue of the replies, under its own name as tag. Channel 1 is open.
 pub(crate) fn consume(
     alloc: Global,
     session: &mut Session,
     queue: &ShortString,
 ) -> Result<(), NoMemory>
+    requires ready { is_ready_lem session.old.wire ≡ true }
+    requires numbers { HasNumbersFor 1 session.old }
     ensures { OnOk result (session.new ≡ next session.old (consuming queue.now)) }
 {
     let options = BasicConsumeOptions {
@@ -58,11 +65,12 @@ pub(crate) fn consume(
     };
     match session.call(alloc, CHANNEL, call) {
         Ok(_) => Ok(()),
-        Err(_) => Err(NoMemory),
+        Err(Error::NoMemory) => Err(NoMemory),
+        Err(_) => unreachable!(),
     }
 }
 
-/// Publishes a request under its number, with the queue to which its reply goes.
+/// Publishes a request under its number, with the queue to which its reply goes. Channel 1 is open.
 pub(crate) fn request(
     alloc: Global,
     session: &mut Session,
@@ -72,6 +80,8 @@ pub(crate) fn request(
     routing_key: ShortString,
     payload: Payload,
 ) -> Result<(), NoMemory>
+    requires ready { is_ready_lem session.old.wire ≡ true }
+    requires numbers { HasNumbersFor 1 session.old }
     ensures { OnOk result (session.new ≡ next session.old (requesting number queue.now exchange routing_key payload)) }
 {
     let options = BasicPublishOptions {
@@ -89,7 +99,8 @@ pub(crate) fn request(
         properties,
     ) {
         Ok(_) => Ok(()),
-        Err(_) => Err(NoMemory),
+        Err(Error::NoMemory) => Err(NoMemory),
+        Err(_) => unreachable!(),
     }
 }
 
@@ -115,6 +126,7 @@ fn decimal_of(alloc: Global, number: u64) -> Result<ShortString, NoMemory>
     let mut buffer = Buffer::new();
     match ShortString::new(alloc, buffer.format(number)) {
         Ok(text) => Ok(text),
-        Err(_) => Err(NoMemory),
+        Err(ShortStringError::NoMemory) => Err(NoMemory),
+        Err(ShortStringError::TooLong { .. }) => unreachable!(),
     }
 }

@@ -128,7 +128,7 @@ impl Calls {
 
 // Each kind of step has a method of the desk.
 fn make(alloc: Global, desk: &mut Desk, step: CallStep) -> Result<CallReport, NoMemory>
-    requires numbers { HasNumbersFor 1 desk.old.session }
+    requires numbers { HasNumbersFor 2 desk.old.session }
     ensures told { IfOk result (λ r. r ≡ report by_machine step desk.old) }
     ensures ok { OnOk result (desk.new ≡ after by_machine step desk.old) }
 {

@@ -68,7 +68,7 @@ impl Desk {
     /// An event of the session: a frame request, a frame of the broker, or the loss. The first time that channel 1 is then open, the
     /// queue of the replies is consumed from.
     pub(crate) fn meet(&mut self, alloc: Global, event: Event) -> Result<CallReport, NoMemory>
-        requires { HasNumbersFor 1 self.old.session }
+        requires { HasNumbersFor 2 self.old.session }
         ensures told { IfOk result (λ r. r ≡ reported.Session (told_by self.old.session event)) }
         ensures ok { OnOk result (self.new ≡ begun by_machine (met by_machine event self.old)) }
     {
@@ -88,6 +88,7 @@ impl Desk {
 
     // Consumes from the queue of the replies, where channel 1 is open for the first time.
     fn begin(&mut self, alloc: Global) -> Result<(), NoMemory>
+        requires { HasNumbersFor 1 self.old.session }
         ensures { OnOk result (self.new ≡ begun by_machine self.old) }
     {
         if self.consumes || !is_ready(&self.session) {
@@ -107,6 +108,7 @@ impl Desk {
         routing_key: ShortString,
         payload: Payload,
     ) -> Result<CallReport, NoMemory>
+        requires { HasNumbersFor 1 self.old.session }
         ensures told { IfOk result (λ r. r ≡ report by_machine (step.Ask exchange routing_key payload) self.old) }
         ensures ok { OnOk result (self.new ≡ after by_machine (step.Ask exchange routing_key payload) self.old) }
     {

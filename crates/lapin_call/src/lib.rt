@@ -17,7 +17,11 @@ mod step;
 
 pub use calls::Calls;
 pub use fates::{Fate, Tally};
-pub use laws::{a_delivery_is_counted_once, the_first_reply_answers};
+pub use laws::{
+    a_delivery_is_counted_once, a_run_counts_each_delivery_once,
+    a_server_is_done_with_each_request_once, the_first_reply_answers,
+    the_first_reply_of_a_run_answers,
+};
 pub use run::run_calls;
 pub use server::{Held, Polled, Sent, Served, Server};
 pub use step::{CallReport, CallStep};

@@ -13,6 +13,7 @@ use lapin_machine::{Published, Session};
 use lapin_types::{
     AckerCall, BasicAckOptions, BasicProperties, BasicPublishOptions, BasicRejectOptions,
     ChannelState, Delivery, Error, NoMemory, Payload, Poll, ShortString,
+    ShortStringError,
 };
 use std::alloc::Global;
 
@@ -323,7 +324,8 @@ fn no_text(alloc: Global) -> Result<ShortString, NoMemory>
 {
     match ShortString::new(alloc, "") {
         Ok(text) => Ok(text),
-        Err(_) => Err(NoMemory),
+        Err(ShortStringError::NoMemory) => Err(NoMemory),
+        Err(ShortStringError::TooLong { .. }) => unreachable!(),
     }
 }
 
