@@ -11,8 +11,8 @@ ghost use Rattle.lapin_call.specs.Calls.{consuming, requesting, request_properti
 use itoa::Buffer;
 use lapin_machine::Session;
 use lapin_types::{
-    BasicConsumeOptions, BasicProperties, BasicPublishOptions, Call, ChannelState, Error, FieldTable,
-    NoMemory, Payload, ShortString, ShortStringError,
+    BasicConsumeOptions, BasicProperties, BasicPublishOptions, Call, ChannelState, Error,
+    FieldTable, NoMemory, Payload, ShortString, ShortStringError,
 };
 use std::alloc::Global;
 
@@ -114,9 +114,11 @@ fn properties_of(
 {
     let id = decimal_of(alloc, number)?;
     let address = queue.try_clone(alloc)?;
-    Ok(BasicProperties::default()
-        .with_correlation_id(id)
-        .with_reply_to(address))
+    Ok(
+        BasicProperties::default()
+            .with_correlation_id(id)
+            .with_reply_to(address),
+    )
 }
 
 // A number in decimal.

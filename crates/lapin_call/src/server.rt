@@ -12,8 +12,7 @@ ghost use Rattle.lapin_call.specs.Serving.{IsServed, IsNext, IsTried, IsDone, Is
 use lapin_machine::{Published, Session};
 use lapin_types::{
     AckerCall, BasicAckOptions, BasicProperties, BasicPublishOptions, BasicRejectOptions,
-    ChannelState, Delivery, Error, NoMemory, Payload, Poll, ShortString,
-    ShortStringError,
+    ChannelState, Delivery, Error, NoMemory, Payload, Poll, ShortString, ShortStringError,
 };
 use std::alloc::Global;
 
@@ -27,9 +26,13 @@ pub enum Served {
     /// The error that ended the consumer's channel.
     Failed(Error),
     /// The request is void: its acker was used, its channel has ended, or a recover came. Nothing is queued for it.
-    Stale { delivery_tag: u64 },
+    Stale {
+        delivery_tag: u64,
+    },
     /// The request says no queue for its answer, or no id: it is rejected, and not queued again.
-    NoAddress { delivery_tag: u64 },
+    NoAddress {
+        delivery_tag: u64,
+    },
     /// The answer was published, with this ticket and this confirm, and the request is acknowledged.
     Answered {
         delivery_tag: u64,
@@ -247,12 +250,7 @@ fn address_in(alloc: Global, request: &BasicProperties) -> Result<Option<Address
 }
 
 // A request without an address is rejected, and not queued again.
-fn reject(
-    alloc: Global,
-    session: &mut Session,
-    channel: u16,
-    held: &Held,
-) -> Result<Served, Error>
+fn reject(alloc: Global, session: &mut Session, channel: u16, held: &Held) -> Result<Served, Error>
     requires taken { is_taken_on channel held.now.delivery.acker.number session.old.wire ≡ true }
     requires open { is_open_lem (state_of channel session.old.wire) ≡ true }
     ensures { IsRejected held.now result held.now session.old session.new }
@@ -309,7 +307,9 @@ fn publish(
         immediate: false,
     };
     let properties = BasicProperties::default().with_correlation_id(id);
-    match session.basic_publish(alloc, channel, exchange, queue, options, payload, properties) {
+    match session.basic_publish(
+        alloc, channel, exchange, queue, options, payload, properties,
+    ) {
         Ok(Published { ticket, confirm }) => Ok(Sent {
             ticket: ticket.number,
             confirm: confirm.number,

@@ -65,8 +65,7 @@ serve => end
 
 // The answer is the request.
 fn echo(alloc: Global, session: &mut Session, server: &mut Server) -> Result<Served, Error> {
-    let answer =
-        |bytes: &[u8]| -> Result<Payload, NoMemory> { Payload::new(alloc, bytes) };
+    let answer = |bytes: &[u8]| -> Result<Payload, NoMemory> { Payload::new(alloc, bytes) };
     server.serve_one(alloc, session, &answer)
 }
 
@@ -77,10 +76,16 @@ fn tell(alloc: Global, served: &Result<Served, Error>) -> Result<String, NoMemor
         Ok(Served::End) => Ok(format!(in alloc; "end")?),
         Ok(Served::Failed(_)) => Ok(format!(in alloc; "failed")?),
         Ok(Served::Stale { delivery_tag }) => Ok(format!(in alloc; "stale {delivery_tag}")?),
-        Ok(Served::NoAddress { delivery_tag }) => Ok(format!(in alloc; "noaddress {delivery_tag}")?),
-        Ok(Served::Answered { delivery_tag, ticket, confirm }) => {
-            Ok(format!(in alloc; "answered {delivery_tag} {ticket} {confirm}")?)
-        }
+        Ok(Served::NoAddress { delivery_tag }) => Ok(format!(in alloc;
+            "noaddress {delivery_tag}"
+        )?),
+        Ok(
+            Served::Answered {
+                delivery_tag,
+                ticket,
+                confirm,
+            },
+        ) => { Ok(format!(in alloc; "answered {delivery_tag} {ticket} {confirm}")?) }
         Err(Error::InvalidChannelState(_)) => Ok(format!(in alloc; "closing")?),
         Err(_) => Ok(format!(in alloc; "refused")?),
     }
@@ -128,12 +133,18 @@ fn first_other(alloc: Global, history: &'static str) -> Result<Option<&'static s
 
 #[test]
 fn three_are_answered_and_a_fourth_is_rejected(rt: HostRuntime) -> Result<(), Fail> {
-    assert_eq!(rt; first_other(rt.alloc(), FOUR).unwrap_or(Some("no memory")), None);
+    assert_eq!(rt;
+        first_other(rt.alloc(), FOUR).unwrap_or(Some("no memory")),
+        None
+    );
     Ok(())
 }
 
 #[test]
 fn a_void_request_is_stale(rt: HostRuntime) -> Result<(), Fail> {
-    assert_eq!(rt; first_other(rt.alloc(), STALE).unwrap_or(Some("no memory")), None);
+    assert_eq!(rt;
+        first_other(rt.alloc(), STALE).unwrap_or(Some("no memory")),
+        None
+    );
     Ok(())
 }

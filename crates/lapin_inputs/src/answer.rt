@@ -123,12 +123,7 @@ pub fn answer_input<A: Answers, S: Source, K: Sink>(
 }
 
 // Answers the input that was read.
-fn answer<A: Answers, K: Sink>(
-    alloc: Global,
-    argument: &str,
-    input: &[u8],
-    sink: &mut K,
-) -> Status
+fn answer<A: Answers, K: Sink>(alloc: Global, argument: &str, input: &[u8], sink: &mut K) -> Status
     requires argument { A.admits argument.now }
     requires short { length input.now ≤ longest_input }
     ensures statuses { IsAnswer result }

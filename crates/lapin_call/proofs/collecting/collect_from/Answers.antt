@@ -23,7 +23,7 @@ loop-item-preserved-in-Ok c =
     let before : Gathered World = record { session = c.loop-item.session; fates = c.loop-item.fates.items; tally = c.loop-item.tally } in
     let after : Gathered World = record { session = c.next_item.new.session; fates = c.deliver.new.fates.items; tally = c.in_ok-tally-in-Ok.tally } in
     let same : heard (Some (Ok c.in-Ok.delivery)) c.next_item.new.session before ≡ after =
-        λ i. record { session = c.next_item.new.session; fates = sym c.deliver.ensures.fates i; tally = sym (c.in_ok-tally-in-Ok.ensures ∙ ap (λ m. counted m c.loop-item.tally) c.deliver.ensures.told) i } in
+    λ i. record { session = c.next_item.new.session; fates = sym c.deliver.ensures.fates i; tally = sym (c.in_ok-tally-in-Ok.ensures ∙ ap (λ m. counted m c.loop-item.tally) c.deliver.ensures.told) i } in
     c.loop-item.invariant
     ∙ poll_item c.args.consumer (Some (Ok c.in-Ok.delivery)) c.next_item.new.session before (ap Some (sym c.in-Ok.is) ∙ c.in-Some.ensures.told) c.in-Some.ensures.ok refl
     ∙ ap (polls by_machine c.args.consumer (suc (waiting_for c.args.consumer c.next_item.new.session.wire))) same
@@ -33,7 +33,7 @@ loop-item-preserved c =
     let before : Gathered World = record { session = c.loop-item.session; fates = c.loop-item.fates.items; tally = c.loop-item.tally } in
     let after : Gathered World = record { session = c.next_item.new.session; fates = c.end_waiting.new.fates.items; tally = c.loop-item.tally } in
     let same : heard (Some (Err c.in-Err.error)) c.next_item.new.session before ≡ after =
-        λ i. record { session = c.next_item.new.session; fates = sym c.end_waiting.ensures i; tally = c.loop-item.tally } in
+    λ i. record { session = c.next_item.new.session; fates = sym c.end_waiting.ensures i; tally = c.loop-item.tally } in
     c.loop-item.invariant
     ∙ poll_item c.args.consumer (Some (Err c.in-Err.error)) c.next_item.new.session before (ap Some (sym c.in-Err.is) ∙ c.in-Some.ensures.told) c.in-Some.ensures.ok refl
     ∙ ap (polls by_machine c.args.consumer (suc (waiting_for c.args.consumer c.next_item.new.session.wire))) same

@@ -1,4 +1,4 @@
-use Rattle.std.proofs.Common.{◌≡◌, ◌+◌, ◌<◌, ◌≤◌, ◌^◌, length}
+use Rattle.std.proofs.Common.{◌≡◌, ◌+◌, ◌≤◌, ◌^◌, length}
 use Rattle.lapin_inputs.proofs.Streaming.{Reaches}
 use Rattle.lapin_inputs.proofs.printing.put_lines.Given as goal
 
