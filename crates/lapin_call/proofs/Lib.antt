@@ -6,3 +6,4 @@ pub mod Outcomes
 pub mod Requests
 pub mod Heard
 pub mod Turns
+pub mod Logs

@@ -85,7 +85,7 @@ next_leaves may s polled.End r t v w is = ap (λ (x : Result Served Error). done
 next_leaves may s (polled.Failed e) r t v w is = ap (λ (x : Result Served Error). done_tags x ++ kept_tags t.held) is.0 ∙ ap kept_tags is.1.2
 next_leaves may s (polled.Request d) r t v w is = tried_leaves may s (record { delivery = d; sent = None }) r t v w is
 
-turn_leaves : (may : List ℕ → List ℕ → Type 0) (o : Option Held) (s : Server) (r : Result Served Error) (t : Server) (v w : World) → IsTaken may o s r t v w → Leaves (kept_tags o ++ handed_tags o (item_polled (told_by v (event.PollConsumer s.consumer)))) r t
+pub turn_leaves : (may : List ℕ → List ℕ → Type 0) (o : Option Held) (s : Server) (r : Result Served Error) (t : Server) (v w : World) → IsTaken may o s r t v w → Leaves (kept_tags o ++ handed_tags o (item_polled (told_by v (event.PollConsumer s.consumer)))) r t
 turn_leaves may None s r t v w is = next_leaves may s (item_polled (told_by v (event.PollConsumer s.consumer))) r t (next v (event.PollConsumer s.consumer)) w is
 turn_leaves may (Some h) s r t v w is = tried_leaves may s h r t v w is
 

@@ -4,5 +4,6 @@ pub mod Kept
 pub mod Codes
 pub mod Serving
 pub mod Turns
+pub mod Log
 pub mod Outcome
 pub mod Heard

@@ -1,12 +1,15 @@
 //! The other side of calls over queues: a server that takes a request from a consumer, publishes its answer, and acknowledges it.
 //!
 //! When to serve again, as after a frame came in, is for the caller to know. What is queued leaves by `Session::next_frame`.
-ghost use Rattle.std.specs.Prelude.{◌≡◌, [], true, Ok, None, Some, IfOk};
+ghost use Rattle.std.specs.Prelude.{◌≡◌, ℕ, [], true, Ok, None, Some, IfOk};
 ghost use Rattle.std.specs.Fn.{FnReturnsAt};
 ghost use Rattle.std.specs.Option.{option_map};
 ghost use Rattle.lapin_types.specs.declared.event.Event.TheVariants as event;
 ghost use Rattle.lapin_history.specs.Wire.{state_of, is_open as is_open_lem};
+ghost use Rattle.lapin_history.specs.History.{History};
+ghost use Rattle.lapin_machine.specs.Stands.{Stands};
 ghost use Rattle.lapin_machine.specs.World.{told_by, next};
+ghost use Rattle.lapin_call.specs.Log.{IsLogged};
 ghost use Rattle.lapin_call.specs.Serving.{IsServed, IsNext, IsTried, IsDone, IsQueued, IsPublished, IsServedTo, IsRejected, IsAnswered, IsAcknowledged, answering, is_taken_on, address_of, item_polled};
 
 use lapin_machine::{Published, Session};
@@ -93,6 +96,23 @@ impl Server {
     /// `InvalidChannelState` exactly where the channel isn't open, `NumbersUsedUp` exactly where a number that is needed would pass the
     /// greatest `u64`, and `NoMemory`. The request is then kept for the next call, and what was queued for it isn't queued twice.
     pub fn serve_one<F: Fn(&[u8]) -> Result<Payload, NoMemory>>(
+        &mut self,
+        alloc: Global,
+        session: &mut Session,
+        answer: &F,
+    ) -> Result<Served, Error>
+        requires { F.IsAlwaysCallable answer.now }
+        ensures served { IsServed (λ bytes payload. FnReturnsAt F.Fn answer.now bytes (Ok payload)) self.old result self.new session.old session.new }
+
+        // In the words of a history, where no frame was given back: the session stands for a longer one, and the requests that the consumer
+        // handed out there, behind the one that was kept, are the one that the call was done with and the one that is kept.
+        ensures logged { (frame_max : ℕ) (h : History) → Stands frame_max h session.old → session.old.returned ≡ None → IsLogged frame_max h self.old result self.new session.new }
+    {
+        self.serve_machine(alloc, session, answer)
+    }
+
+    // The same by the machine.
+    fn serve_machine<F: Fn(&[u8]) -> Result<Payload, NoMemory>>(
         &mut self,
         alloc: Global,
         session: &mut Session,
