@@ -1,7 +1,8 @@
 //! Laws of calls over queues, on functions that do nothing: the first two of every list of items that the consumer of the replies gives, the
 //! next two of whole runs, the last of a server's calls in a row.
 
-ghost use Rattle.std.specs.Prelude.{◌≡◌, ◌+◌, ◌++◌, ◌∷◌, [], ℕ, List, Some};
+ghost use Rattle.std.specs.Prelude.{◌≡◌, ◌+◌, ◌++◌, ◌∷◌, [], ℕ, List, Some, Ok};
+ghost use Rattle.std.specs.Fn.{FnReturnsAt};
 ghost use Rattle.lapin_machine.specs.Way.{by_history};
 ghost use Rattle.lapin_call.specs.declared.step.CallStep.{CallStep as AStep};
 ghost use Rattle.lapin_call.specs.declared.step.CallStep.TheVariants as step;
@@ -15,6 +16,8 @@ ghost use Rattle.lapin_call.specs.Outcome.{Item, outcome, after_items, counted_i
 ghost use Rattle.lapin_call.specs.declared.server.Server.{Server as AServer};
 ghost use Rattle.lapin_call.specs.Turns.{Turn, AreTurns, kept_tags, all_handed, all_done};
 ghost use Rattle.lapin_call.specs.Heard.{heard_in, counted_in, WaitedAtTakes, HasFirstReply};
+
+use lapin_types::{NoMemory, Payload};
 
 /// A call that waits is answered by the first delivery with its id, or ended by the first error, whichever comes first: strangers,
 /// repeats and the order of other replies change nothing of it.
@@ -41,8 +44,12 @@ pub fn a_run_counts_each_delivery_once()
     ensures { (frame_max : ℕ) (queue : List ℕ) (steps : List AStep) → counted_in (calls frame_max queue steps) ≡ deliveries (heard_in (calls_to frame_max queue steps).session) }
 {}
 
-/// Over any calls of a server in a row: it is done with the requests that the consumer hands it in their order, each once, the void ones
-/// too; and one that it was handed and is not done with is the one that it keeps.
-pub fn a_server_is_done_with_each_request_once()
-    ensures { (may : List ℕ → List ℕ → Type 0) (s t : AServer) (turns : List Turn) → AreTurns may s turns t → kept_tags s.held ++ all_handed turns ≡ all_done turns ++ kept_tags t.held }
-{}
+/// Over any calls of a server in a row with one way to answer: it is done with the requests that the consumer hands it in their order, each
+/// once, the void ones too; and one that it was handed and is not done with is the one that it keeps.
+pub fn a_server_is_done_with_each_request_once<F: Fn(&[u8]) -> Result<Payload, NoMemory>>(
+    answer: &F,
+)
+    ensures { (s t : AServer) (turns : List Turn) → AreTurns (λ bytes payload. FnReturnsAt F.Fn answer.now bytes (Ok payload)) s turns t → kept_tags s.held ++ all_handed turns ≡ all_done turns ++ kept_tags t.held }
+{
+    let _ = answer;
+}

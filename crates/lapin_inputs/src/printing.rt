@@ -127,7 +127,10 @@ fn write_rest<K: Sink>(
     Ok(bad)
 }
 
-// Appends the line that names the first bad line of the input, where there is one.
+/// Appends the line that names the first bad line of the input, where there is one.
+///
+/// # Errors
+/// `NoMemory` alone.
 pub fn put_bad_line(alloc: Global, text: &mut Vec<u8>, bad: Option<u64>) -> Result<(), NoMemory>
     ensures { OnOk result (text.new.items ≡ text.old.items ++ bad_line_text bad) }
 {
