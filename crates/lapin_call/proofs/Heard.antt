@@ -148,20 +148,20 @@ get_last (z ∷ zs) x = get_last zs x
 outcome_waits : (n : ℕ) (xs ys : List Item) → outcome n xs ≡ fate.Waiting → outcome n (xs ++ ys) ≡ outcome n ys
 outcome_waits n [] ys waits = refl
 outcome_waits n (Err e ∷ xs) ys waits = absurd cc
-outcome_waits n (Ok d ∷ xs) ys waits = by_name (is_number n (named_by d)) waits
+outcome_waits n (Ok d ∷ xs) ys waits = by_name (λ h. outcome_waits n xs ys h) (is_number n (named_by d)) waits
   where
-    by_name : (b : Bool) → cond b (fate.Answered d.payload) (outcome n xs) ≡ fate.Waiting → cond b (fate.Answered d.payload) (outcome n (xs ++ ys)) ≡ outcome n ys
-    by_name true h = absurd cc
-    by_name false h = outcome_waits n xs ys h
+    by_name : (outcome n xs ≡ fate.Waiting → outcome n (xs ++ ys) ≡ outcome n ys) → (b : Bool) → cond b (fate.Answered d.payload) (outcome n xs) ≡ fate.Waiting → cond b (fate.Answered d.payload) (outcome n (xs ++ ys)) ≡ outcome n ys
+    by_name rest true h = absurd cc
+    by_name rest false h = rest h
 
 outcome_settled : (n : ℕ) (xs ys : List Item) → is_settled (outcome n xs) ≡ true → outcome n (xs ++ ys) ≡ outcome n xs
 outcome_settled n [] ys settled = absurd cc
 outcome_settled n (Err e ∷ xs) ys settled = refl
-outcome_settled n (Ok d ∷ xs) ys settled = by_name (is_number n (named_by d)) settled
+outcome_settled n (Ok d ∷ xs) ys settled = by_name (λ h. outcome_settled n xs ys h) (is_number n (named_by d)) settled
   where
-    by_name : (b : Bool) → is_settled (cond b (fate.Answered d.payload) (outcome n xs)) ≡ true → cond b (fate.Answered d.payload) (outcome n (xs ++ ys)) ≡ cond b (fate.Answered d.payload) (outcome n xs)
-    by_name true h = refl
-    by_name false h = outcome_settled n xs ys h
+    by_name : (is_settled (outcome n xs) ≡ true → outcome n (xs ++ ys) ≡ outcome n xs) → (b : Bool) → is_settled (cond b (fate.Answered d.payload) (outcome n xs)) ≡ true → cond b (fate.Answered d.payload) (outcome n (xs ++ ys)) ≡ cond b (fate.Answered d.payload) (outcome n xs)
+    by_name rest true h = refl
+    by_name rest false h = rest h
 
 -- more items come
 outcome_on : (n : ℕ) (xs ys : List Item) (fates : List Fate) → fate_at n fates ≡ Some (outcome n xs) → fate_at n (after_items ys fates) ≡ Some (outcome n (xs ++ ys))
@@ -334,7 +334,7 @@ step_counts m step.Collect d =
     let all : sum_of t ≡ 0 + deliveries g.items = ap sum_of g.tally ∙ counted_once g.items d.fates no_tally in
     let here : counted_in (collect_report t ∷ []) ≡ sum_of t = omega arith in
     record { more = g.more; session = g.session; counted = here ∙ all ∙ omega arith ∙ ap deliveries (sym g.are) }
-step_counts m (step.Take n) d = counts_quiet _ d _ (take_counts (fate_at n d.fates)) (record { more = []; session = sym (append-nil d.session); silent = refl; fates = refl })
+step_counts m (step.Take n) d = record { more = []; session = sym (append-nil d.session); counted = take_counts (fate_at n d.fates) }
 
 counted_in-cons : (r : CallReport) (rs : List CallReport) → counted_in (r ∷ rs) ≡ counted_in (r ∷ []) + counted_in rs
 counted_in-cons (reported.Session x) rs = omega arith

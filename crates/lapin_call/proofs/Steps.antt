@@ -11,6 +11,7 @@ use Rattle.lapin_machine.specs.World.{World, told_by, new_world}
 use Rattle.lapin_machine.specs.World as world
 use Rattle.lapin_machine.specs.Numbers.{HasNumbersFor}
 use Rattle.lapin_machine.proofs.Back.{still_none}
+use Rattle.lapin_machine.proofs.Counting.{numbers-next}
 use Rattle.lapin_machine.proofs.Ways.{fewer, Goes, goes_fewer, goes_next}
 use Rattle.lapin_call.specs.declared.step.CallStep.{CallStep}
 use Rattle.lapin_call.specs.declared.step.CallStep.TheVariants as step
@@ -117,6 +118,10 @@ step_goes n (step.Take m) d h = goes_fewer (suc (suc n)) n d.session h (omega ar
 -- the next step has its numbers
 pub numbers_left : (steps : ℕ) (w : World) → HasNumbersFor (2 ^ 64 - 2 - 2 * steps) w → steps < 2 ^ 31 → HasNumbersFor 2 w
 numbers_left steps w h lt = fewer (2 ^ 64 - 2 - 2 * steps) 2 w h (omega arith)
+
+-- behind an event there is one fewer
+pub numbers_after : (d : Desk World) (w v : World) (e : Event) → d.session ≡ w → v ≡ world.next w e → HasNumbersFor 2 d.session → HasNumbersFor 1 v
+numbers_after d w v e same stepped h = subst (HasNumbersFor 1) (sym stepped) (numbers-next 1 w e (subst (HasNumbersFor 2) same h))
 
 -- and so has each that may follow it
 pub goes_on : (s : CallStep) (d k : Desk World) (steps more : ℕ) → GoesOn steps d.session → steps < 2 ^ 31 → k ≡ after by_machine s d → more ≡ steps + 1 → GoesOn more k.session
