@@ -1,7 +1,7 @@
 #!/usr/bin/env python3
 """See that the files of this folder are the runs of the tests, and that the built program prints their answers.
 
-The runs stand in files of two crates of tests, one crate for each command, with a line an event or a step and, behind an arrow, its
+The runs stand in files of crates of tests, one crate for each command, with a line an event or a step and, behind an arrow, its
 record or report. The gate runs them there; this script, which stands outside it, compares the files beside it with
 them. Where the program is built (`./lapin` builds it), it is run on each file too.
 
@@ -16,6 +16,7 @@ TOP = os.path.dirname(HERE)
 TABLES = {
     "session": ["lapin_tests/src/examples.rt", "lapin_tests/src/tutorials.rt"],
     "joined": ["lapin_joined_tests/src/examples.rt"],
+    "call replies": ["lapin_call_tests/src/examples.rt"],
 }
 PROGRAM = os.path.join(TOP, "crates", "lapin_run", "out", "lapin_run")
 NAME = "# examples/"
@@ -33,9 +34,9 @@ def runs(table):
     return found
 
 
-def printed(word, name):
+def printed(words, name):
     with open(os.path.join(HERE, name), "rb") as given:
-        return subprocess.run([PROGRAM, word], stdin=given, capture_output=True, check=False).stdout.decode()
+        return subprocess.run([PROGRAM, *words.split()], stdin=given, capture_output=True, check=False).stdout.decode()
 
 
 def main():

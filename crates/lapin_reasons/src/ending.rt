@@ -2,7 +2,7 @@
 
 use crate::lines::{Bad, Kind, first_bad};
 use crate::telling::{put, put_stumble};
-use lapin_commands::Status;
+use lapin_inputs::Status;
 use lapin_scalars::put_number;
 use lapin_types::NoMemory;
 use std::alloc::{AllocError, Global};
