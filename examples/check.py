@@ -2,8 +2,8 @@
 """See that the files of this folder are the runs of the tests, and that the built program prints their answers.
 
 The runs stand in files of crates of tests, one crate for each command, with a line an event or a step and, behind an arrow, its
-record or report; of `check`, whose answers come once all was read, with the lines and then the answers, an arrow before each. The gate runs them there; this script, which stands outside it, compares the files beside it with
-them. Where the program is built (`./lapin` builds it), it is run on each file too.
+record or report; of `check`, whose answers come once all was read, with the lines and then the answers, an arrow before each. The gate
+runs them there; this script, which stands outside it, compares the files beside it with them. Where the program is built (`./lapin` builds it), it is run on each file too.
 
     examples/check.py
 """
@@ -18,6 +18,7 @@ TABLES = {
     "joined": ["lapin_joined_tests/src/examples.rt"],
     "check": ["lapin_check_tests/src/examples.rt"],
     "resend": ["lapin_resend_tests/src/examples.rt"],
+    "call replies": ["lapin_call_tests/src/examples.rt"],
 }
 PROGRAM = os.path.join(TOP, "crates", "lapin_run", "out", "lapin_run")
 NAME = "# examples/"
@@ -45,9 +46,9 @@ def read_line(steps, line):
         steps.append([line, None])
 
 
-def printed(word, name):
+def printed(words, name):
     with open(os.path.join(HERE, name), "rb") as given:
-        return subprocess.run([PROGRAM, word], stdin=given, capture_output=True, check=False).stdout.decode()
+        return subprocess.run([PROGRAM, *words.split()], stdin=given, capture_output=True, check=False).stdout.decode()
 
 
 def main():

@@ -2,7 +2,9 @@
 //! way.
 //!
 //! Here stand what each side does with a kind of frame, and that over every interleaving neither side meets a kind that it
-//! doesn't await. Names, payloads and all code stand in the crates above, which tie their states to these.
+//! doesn't await. Names, payloads and all code stand in the crates above. `lapin_concord` ties them to these: it reads the states of a
+//! joined run as states of this pair, and shows each step of it to be a run of the pair (`proofs/Running` there), so that what is
+//! proved here holds of every session and every free broker.
 #![tactic(auto)]
 
 ghost use Rattle.std.specs.Prelude.{◌≡◌, ℕ, List, false};

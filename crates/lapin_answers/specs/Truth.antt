@@ -1,0 +1,55 @@
+-- What holds of a session and an honest broker, whatever they do and in whatever order: of every joined run, in one place.
+use Rattle.std.specs.Prelude.{◌≡◌, ℕ, List, [], ◌∷◌, ◌++◌, filter, true, Some, None, Ok}
+use Rattle.lapin_types.specs.declared.answer.Answer.{Answer}
+use Rattle.lapin_types.specs.declared.answer.Answer.TheVariants as answer
+use Rattle.lapin_types.specs.declared.message.BasicGetMessage.{BasicGetMessage}
+use Rattle.lapin_types.specs.Types.{Frame, Method}
+use Rattle.lapin_history.specs.declared.marks.SettleKind.{SettleKind}
+use Rattle.lapin_history.specs.ConfirmReadings.{channel_of as publish_channel, tag_of, outcome_at, kind_outcome}
+use Rattle.lapin_history.specs.TicketReadings.{answer_of}
+use Rattle.lapin_broker.specs.Frames.{channel_of}
+use Rattle.lapin_joint.specs.declared.step.Step.{Step}
+use Rattle.lapin_joint.specs.declared.step.Step.TheVariants as step
+use Rattle.lapin_joint.specs.Joint.{joined_to}
+use Rattle.lapin_concord.specs.Concord.{NoneIsRefused, IsUnbroken, DifferByTags}
+use Rattle.lapin_concord.specs.Openings.{opening_of}
+use Rattle.lapin_verdicts.specs.Answers.{replies}
+use Rattle.lapin_verdicts.specs.Deeds.{deeds, last_opening, opening, sents}
+use Rattle.lapin_verdicts.specs.InStep.{is_frame_on}
+use Rattle.lapin_verdicts.specs.Publishes.{Message}
+use Rattle.lapin_verdicts.specs.Session.{past_of}
+use Rattle.lapin_verdicts.specs.Verdicts.{at_place, messages_in, called_in, IsVerdict}
+use Rattle.lapin_answers.specs.Calls.{IsCallOf}
+use Rattle.lapin_answers.specs.Replies.{IsReplied, IsGot}
+
+-- Where a confirm is resolved as Ack or Nack, with its tag: the broker had read whole, as the number of that tag in the opening of its
+-- channel in which it was called and left, the message of that very call, and after that it sent the settlement that resolved the
+-- confirm, which is the first of the opening that covers the tag, and has that kind.
+abbrev pub ConfirmsAreVerdicts : ℕ → List Step → Type 0
+ConfirmsAreVerdicts frame_max steps = (k t : ℕ) (kind : SettleKind) → tag_of k (past_of frame_max steps).confirms ≡ Some t → outcome_at k (past_of frame_max steps).confirms ≡ Some (kind_outcome kind) →
+    (m : Message) × (at_place k (messages_in (joined_to frame_max steps).session) ≡ Some m)
+    × IsVerdict t kind m (opening (publish_channel k (past_of frame_max steps).confirms) (opening_of k (past_of frame_max steps).confirms) (deeds frame_max steps))
+    × (opening_of k (past_of frame_max steps).confirms ≡ called_in k (past_of frame_max steps).confirms)
+
+-- Where the reply that is delivered next resolves a ticket, the broker sent it as the answer to the request that the frame of that
+-- very call made.
+abbrev pub RepliesAnswerCalls : ℕ → List Step → Type 0
+RepliesAnswerCalls frame_max steps = (n : ℕ) (a : Answer) (reply : Frame) (way : List Frame) → (joined_to frame_max steps).down ≡ reply ∷ way → replies reply ≡ true → answer_of n (past_of frame_max steps).tickets ≡ None → answer_of n (past_of frame_max (steps ++ step.Deliver ∷ [])).tickets ≡ Some (Ok a) →
+    (m : Method) × IsCallOf n (channel_of reply) m (joined_to frame_max steps).session
+    × (v : IsReplied (channel_of reply) n m reply (last_opening (channel_of reply) (deeds frame_max steps)))
+    × (sents v.behind ≡ filter (is_frame_on (channel_of reply)) way)
+
+-- Where a delivery resolves a ticket with the message of a get, the broker had answered that very get by get-ok, and the message is the
+-- content that it sent after that answer.
+abbrev pub GetsCarryContents : ℕ → List Step → Type 0
+GetsCarryContents frame_max steps = (n : ℕ) (message : BasicGetMessage) → answer_of n (past_of frame_max steps).tickets ≡ None → answer_of n (past_of frame_max (steps ++ step.Deliver ∷ [])).tickets ≡ Some (Ok (answer.Got (Some message))) →
+    (c : ℕ) × (m : Method) × IsCallOf n c m (joined_to frame_max steps).session × IsGot c n m message (last_opening c (deeds frame_max steps))
+
+-- all of it
+pub record IsTrue (frame_max : ℕ) (steps : List Step) : Type 0 where
+  pub unrefused : NoneIsRefused frame_max steps
+  pub unbroken : IsUnbroken frame_max steps
+  pub verdicts : ConfirmsAreVerdicts frame_max steps
+  pub apart : DifferByTags (past_of frame_max steps).confirms
+  pub replies : RepliesAnswerCalls frame_max steps
+  pub gets : GetsCarryContents frame_max steps

@@ -1,0 +1,11 @@
+//! What the answers to a client's calls say of an honest broker, over every joined run: to which of its frames the broker sent them.
+//!
+//! Laws alone stand here. What the broker read and sent, opening by opening, is read off the run in `lapin_verdicts`. A reader finds in
+//! `truth` all that holds of a session and an honest broker in one place.
+#![tactic(auto)]
+
+mod replies;
+mod truth;
+
+pub use replies::{a_get_carries_what_was_sent_after_its_answer, a_reply_answers_that_very_call};
+pub use truth::a_session_and_an_honest_broker;

@@ -1,0 +1,10 @@
+pub mod Frames
+pub mod Peers
+pub mod Wires
+pub mod Held
+pub mod Incomes
+pub mod Refusals
+pub mod Sound
+pub mod Openings
+pub mod Concord
+pub mod Numbering
