@@ -93,13 +93,13 @@ fn send<W: Wire>(session: &mut Session, wire: &mut W, left: Left) -> Turn
 fn hear<W: Wire>(alloc: Global, session: &mut Session, wire: &mut W) -> Result<Turn, NoMemory>
     ensures { IsHeard W.gives result session.old session.new wire.old wire.new }
 {
-    let Some(frame) = wire.hear() else {
-        return Ok(Turn::Quiet);
-    };
-    match session.receive(alloc, frame) {
-        Ok(_) => Ok(Turn::Heard),
-        Err(Error::NoMemory) => Err(NoMemory),
-        Err(error) => Ok(Turn::Refused(error)),
+    match wire.hear() {
+        None => Ok(Turn::Quiet),
+        Some(frame) => match session.receive(alloc, frame) {
+            Ok(_) => Ok(Turn::Heard),
+            Err(Error::NoMemory) => Err(NoMemory),
+            Err(error) => Ok(Turn::Refused(error)),
+        },
     }
 }
 
