@@ -4,11 +4,11 @@ use lapin_loop::{
     Typed, answer_of, free_channel, has_frames, no_name, poll_channel, poll_consumer, poll_count,
     poll_done, poll_flow, poll_got, poll_queue, short,
 };
-use lapin_session::{Channel, Session};
+use lapin_session::{Channel, Consumer, Session};
 use lapin_text::read_frame;
 use lapin_types::{
-    BasicConsumeOptions, BasicGetOptions, ChannelFlowOptions, ConfirmSelectOptions, Error,
-    FieldTable, QueueDeclareOptions, QueuePurgeOptions,
+    Answer, BasicConsumeOptions, BasicGetMessage, BasicGetOptions, ChannelFlowOptions,
+    ConfirmSelectOptions, Error, FieldTable, Queue, QueueDeclareOptions, QueuePurgeOptions,
 };
 use std::alloc::Global;
 use std::test::Fail;
@@ -32,13 +32,87 @@ fn sent(alloc: Global, session: &mut Session) -> Result<(), Error> {
     Ok(())
 }
 
+// What a ticket tells, in a word.
+fn word<T: Drop>(typed: Typed<T>) -> &'static str {
+    let word = match &typed {
+        Typed::Pending => "pending",
+        Typed::Ready(_) => "ready",
+        Typed::Other(_) => "other",
+    };
+    drop(typed);
+    word
+}
+
+// The number that it tells, if it is ready.
+fn number(typed: Typed<u32>) -> Option<u32> {
+    let number = match &typed {
+        Typed::Ready(number) => Some(*number),
+        _ => None,
+    };
+    drop(typed);
+    number
+}
+
+fn mark(typed: Typed<bool>) -> Option<bool> {
+    let mark = match &typed {
+        Typed::Ready(mark) => Some(*mark),
+        _ => None,
+    };
+    drop(typed);
+    mark
+}
+
+fn channel(typed: Typed<u16>) -> Option<u16> {
+    let channel = match &typed {
+        Typed::Ready(channel) => Some(*channel),
+        _ => None,
+    };
+    drop(typed);
+    channel
+}
+
+fn messages(typed: Typed<Queue>) -> Option<u32> {
+    let count = match &typed {
+        Typed::Ready(queue) => Some(queue.message_count()),
+        _ => None,
+    };
+    drop(typed);
+    count
+}
+
+fn consumer(typed: Typed<Consumer>) -> Option<u64> {
+    let number = match &typed {
+        Typed::Ready(consumer) => Some(consumer.number),
+        _ => None,
+    };
+    drop(typed);
+    number
+}
+
+fn refusal(answer: Result<Option<Answer>, Error>) -> Option<Error> {
+    match answer {
+        Ok(answer) => {
+            drop(answer);
+            None
+        }
+        Err(error) => Some(error),
+    }
+}
+
+// Whether it tells that a get found no message.
+fn is_empty(typed: Typed<Option<BasicGetMessage>>) -> bool {
+    let empty = matches!(&typed, Typed::Ready(None));
+    drop(typed);
+    empty
+}
+
 fn opened(alloc: Global, session: &mut Session) -> Result<Channel, Error> {
     let ticket = session.open_channel(alloc, 1)?;
     sent(alloc, session)?;
     heard(alloc, session, "method 1 channel.open-ok")?;
-    match poll_channel(&ticket, session)? {
-        Typed::Ready(id) => Ok(Channel { id }),
-        _ => Err(Error::UnknownTicket),
+    match channel(poll_channel(&ticket, session)?) {
+        Some(id) => Ok(Channel { id }),
+        None => Err(Error::UnknownTicket),
     }
 }
 
@@ -68,7 +142,7 @@ fn each_answer_by_its_kind(rt: HostRuntime) -> Result<(), Fail> {
         options,
         FieldTable::new(alloc),
     )?;
-    assert!(rt; matches!(poll_done(&select, session)?, Typed::Pending));
+    assert_eq!(rt; word(poll_done(&select, session)?), "pending");
     sent(alloc, session)?;
     heard(alloc, session, "method 1 confirm.select-ok")?;
     heard(alloc, session, "method 1 queue.declare-ok x71 5 2")?;
@@ -76,19 +150,16 @@ fn each_answer_by_its_kind(rt: HostRuntime) -> Result<(), Fail> {
     heard(alloc, session, "method 1 channel.flow-ok 1")?;
     heard(alloc, session, "method 1 basic.get-empty")?;
     heard(alloc, session, "method 1 basic.consume-ok x74")?;
-    assert!(rt; matches!(poll_done(&select, session)?, Typed::Ready(())));
-    match poll_queue(&declare, session)? {
-        Typed::Ready(queue) => assert_eq!(rt; queue.message_count(), 5),
-        _ => return Err(Fail::from(Error::UnknownTicket)),
-    }
-    assert!(rt; matches!(poll_count(&purge, session)?, Typed::Ready(3)));
-    assert!(rt; matches!(poll_flow(&flow, session)?, Typed::Ready(true)));
-    assert!(rt; matches!(poll_got(&get, session)?, Typed::Ready(None)));
-    match poll_consumer(&consume, session)? {
-        Typed::Ready(consumer) => assert_eq!(rt; consumer.number, 1),
-        _ => return Err(Fail::from(Error::UnknownTicket)),
-    }
-    assert!(rt; matches!(answer_of(&consume, session), Err(Error::AlreadyTaken)));
+    assert_eq!(rt; word(poll_done(&select, session)?), "ready");
+    assert_eq!(rt; messages(poll_queue(&declare, session)?), Some(5));
+    assert_eq!(rt; number(poll_count(&purge, session)?), Some(3));
+    assert_eq!(rt; mark(poll_flow(&flow, session)?), Some(true));
+    assert!(rt; is_empty(poll_got(&get, session)?));
+    assert_eq!(rt; consumer(poll_consumer(&consume, session)?), Some(1));
+    assert_eq!(rt;
+        refusal(answer_of(&consume, session)),
+        Some(Error::AlreadyTaken)
+    );
     Ok(())
 }
 
@@ -100,7 +171,7 @@ fn another_answer_is_not_lost(rt: HostRuntime) -> Result<(), Fail> {
     let channel = opened(alloc, &mut session)?;
     let options = ConfirmSelectOptions { nowait: true };
     let select = channel.confirm_select(alloc, &mut session, options)?;
-    assert!(rt; matches!(poll_count(&select, &mut session)?, Typed::Other(_)));
+    assert_eq!(rt; word(poll_count(&select, &mut session)?), "other");
     Ok(())
 }
 

@@ -76,12 +76,17 @@ fn failure_at<'a>(
 
 // The line of the record of an event.
 fn told(alloc: Global, session: &mut Session, event: &str) -> Result<String, Error> {
-    match read_event(alloc, event.as_bytes())? {
-        Some(event) => {
-            let record = made(alloc, session, event)?;
-            line_of(alloc, &record)
-        }
-        None => Ok(String::from_str(alloc, "no event")?),
+    match read_event(alloc, event.as_bytes()) {
+        Ok(Some(event)) => match made(alloc, session, event) {
+            Ok(record) => {
+                let line = line_of(alloc, &record);
+                drop(record);
+                line
+            }
+            Err(error) => Err(error),
+        },
+        Ok(None) => Ok(String::from_str(alloc, "no event")?),
+        Err(_) => Err(Error::NoMemory),
     }
 }
 

@@ -8,12 +8,22 @@ use std::alloc::Global;
 use std::test::Fail;
 
 /// A wire in memory: the text of the frames that it took, a line each, and the frames that are to come, last first. It takes only so many.
-#[derive(Drop)]
 struct Script {
     alloc: Global,
     sent: Vec<u8>,
     room: u64,
     coming: Vec<Frame>,
+}
+
+impl Drop for Script {
+    fn drop(self) {
+        let Script {
+            alloc: _,
+            sent: _,
+            room: _,
+            coming: _,
+        } = self;
+    }
 }
 
 impl Wire for Script {

@@ -24,7 +24,11 @@ fn show(rt: &HostRuntime, alloc: Global, way: &str, frame: &Frame) -> Result<()>
 fn send_all(rt: &HostRuntime, alloc: Global, session: &mut Session) -> Result<()> {
     for _ in 0..u64::MAX {
         match session.next_frame(alloc, true)? {
-            Some(left) => show(rt, alloc, "->", &left.frame)?,
+            Some(left) => {
+                let shown = show(rt, alloc, "->", &left.frame);
+                drop(left);
+                shown?;
+            }
             None => return Ok(()),
         }
     }
@@ -34,9 +38,9 @@ fn send_all(rt: &HostRuntime, alloc: Global, session: &mut Session) -> Result<()
 // Hands in a frame that the broker sent on channel 1.
 fn hear(rt: &HostRuntime, alloc: Global, session: &mut Session, method: Method) -> Result<()> {
     let frame = Frame::Method(1, method);
-    show(rt, alloc, "<-", &frame)?;
+    let shown = show(rt, alloc, "<-", &frame);
     session.receive(alloc, frame)?;
-    Ok(())
+    shown
 }
 
 fn main(rt: HostRuntime) -> Result<()> {

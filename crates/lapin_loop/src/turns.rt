@@ -3,8 +3,8 @@
 //!
 //! So two rules are kept by themselves: a publish that has begun leaves whole before a frame of the broker is handed in, and the frame
 //! that is given back is the one that was handed out last.
-ghost use Rattle.std.specs.Prelude.{◌≡◌, OnErr};
-ghost use Rattle.lapin_loop.specs.Driving.{IsTurn, IsDriven, IsSent, IsHeard};
+ghost use Rattle.std.specs.Prelude.{IfOk, OnErr};
+ghost use Rattle.lapin_loop.specs.Driving.{IsTurn, IsCut, IsDriven, IsCutShort, IsSent, IsHeard, IsUnheard};
 
 use crate::given_back::give_back;
 use lapin_session::Session;
@@ -68,7 +68,8 @@ pub fn make_turn<W: Wire>(
     session: &mut Session,
     wire: &mut W,
 ) -> Result<Turn, NoMemory>
-    ensures { IsTurn W.takes W.gives result session.old session.new wire.old wire.new }
+    ensures ok { IfOk result (λ turn. IsTurn W.takes W.gives turn session.old session.new wire.old wire.new) }
+    ensures err { OnErr result (IsCut W.gives session.old session.new wire.old wire.new) }
 {
     match session.next_frame(alloc, true) {
         Ok(Some(left)) => Ok(send(session, wire, left)),
@@ -91,15 +92,16 @@ fn send<W: Wire>(session: &mut Session, wire: &mut W, left: Left) -> Turn
 
 // Asks the wire for a frame, and hands it in.
 fn hear<W: Wire>(alloc: Global, session: &mut Session, wire: &mut W) -> Result<Turn, NoMemory>
-    ensures { IsHeard W.gives result session.old session.new wire.old wire.new }
+    ensures ok { IfOk result (λ turn. IsHeard W.gives turn session.old session.new wire.old wire.new) }
+    ensures err { OnErr result (IsUnheard W.gives session.old session.new wire.old wire.new) }
 {
-    let Some(frame) = wire.hear() else {
-        return Ok(Turn::Quiet);
-    };
-    match session.receive(alloc, frame) {
-        Ok(_) => Ok(Turn::Heard),
-        Err(Error::NoMemory) => Err(NoMemory),
-        Err(error) => Ok(Turn::Refused(error)),
+    match wire.hear() {
+        None => Ok(Turn::Quiet),
+        Some(frame) => match session.receive(alloc, frame) {
+            Ok(_) => Ok(Turn::Heard),
+            Err(Error::NoMemory) => Err(NoMemory),
+            Err(error) => Ok(Turn::Refused(error)),
+        },
     }
 }
 
@@ -113,7 +115,8 @@ pub fn drive<W: Wire, R: Wait>(
     session: &mut Session,
     wire: &mut W,
 ) -> Result<Rest, NoMemory>
-    ensures { IsDriven W.takes W.gives result session.old session.new wire.old wire.new }
+    ensures ok { IfOk result (λ rest. IsDriven W.takes W.gives rest session.old session.new wire.old wire.new) }
+    ensures err { OnErr result (IsCutShort W.takes W.gives session.old session.new wire.old wire.new) }
 {
     for _ in rt.forever() {
         match make_turn(alloc, session, wire) {

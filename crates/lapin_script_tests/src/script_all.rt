@@ -4,7 +4,7 @@ use crate::script::SCRIPT;
 use crate::seen::seen;
 use lapin_session::Session;
 use lapin_text::{read_event, write_record};
-use lapin_types::{Error, NoMemory};
+use lapin_types::{Error, Event, NoMemory, Record};
 use std::alloc::Global;
 use std::process::Abort;
 use std::test::Fail;
@@ -24,33 +24,42 @@ enum Tried {
 
 // Makes the event of a line, and compares its record.
 fn tried(alloc: Global, session: &mut Session, event: &str, record: &str) -> Tried {
-    let Ok(read) = read_event(alloc, event.as_bytes()) else {
-        return Tried::NoMemory;
-    };
-    let Some(event) = read else {
-        return Tried::Wrong;
-    };
+    match read_event(alloc, event.as_bytes()) {
+        Ok(Some(event)) => stepped(alloc, session, event, record),
+        Ok(None) => Tried::Wrong,
+        Err(_) => Tried::NoMemory,
+    }
+}
+
+fn stepped(alloc: Global, session: &mut Session, event: Event, record: &str) -> Tried {
     match session.step(alloc, event) {
         Ok(found) => {
-            let mut text = Vec::new(alloc);
-            match write_record(alloc, &mut text, &found) {
-                Ok(()) => {
-                    if text.as_slice() == record.as_bytes() {
-                        Tried::Right
-                    } else {
-                        Tried::Wrong
-                    }
-                }
-                Err(NoMemory) => Tried::Unread,
-            }
+            let compared = compared(alloc, &found, record);
+            drop(found);
+            compared
         }
         Err(Error::NoMemory) => Tried::NoMemory,
         Err(_) => Tried::Wrong,
     }
 }
 
+// Compares the line of a record.
+fn compared(alloc: Global, found: &Record, record: &str) -> Tried {
+    let mut text = Vec::new(alloc);
+    match write_record(alloc, &mut text, found) {
+        Ok(()) => {
+            if text.as_slice() == record.as_bytes() {
+                Tried::Right
+            } else {
+                Tried::Wrong
+            }
+        }
+        Err(NoMemory) => Tried::Unread,
+    }
+}
+
 // Makes a line of the script, once more where it found no memory.
-fn stepped(rt: &(impl Abort + AllocGlobal), session: &mut Session, line: &str) {
+fn shows(rt: &(impl Abort + AllocGlobal), session: &mut Session, line: &str) {
     let Some((event, record)) = line.split_once(" -> ") else {
         return;
     };
@@ -61,7 +70,10 @@ fn stepped(rt: &(impl Abort + AllocGlobal), session: &mut Session, line: &str) {
         Tried::NoMemory => {
             assert!(rt; seen(session) == before, "changed without memory at {line}");
             let again = tried(rt.alloc(), session, event, record);
-            assert!(rt; matches!(again, Tried::Right | Tried::Unread), "after no memory at {line}");
+            assert!(rt;
+                matches!(again, Tried::Right | Tried::Unread),
+                "after no memory at {line}"
+            );
         }
     }
 }
@@ -74,7 +86,7 @@ fn script_all(rt: HostRuntime) -> Result<(), Fail> {
         Err(NoMemory) => Session::new(alloc, 4096)?,
     };
     for line in SCRIPT.lines() {
-        stepped(&rt, &mut session, line);
+        shows(&rt, &mut session, line);
     }
     Ok(())
 }
