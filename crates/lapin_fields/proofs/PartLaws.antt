@@ -1,11 +1,11 @@
 -- Beginnings of frames: how many octets are wanted behind them, and what more octets change.
-use Rattle.std.proofs.Common.{◌≡◌, ℕ, zero, suc, ◌+◌, ◌-◌, ◌≤◌, ◌<◌, Bool, true, false, List, [], ◌∷◌, ◌++◌, length, take, drop, Option, Some, None, refl, sym, ap, ◌∙◌, arith, cond}
+use Rattle.std.proofs.Common.{◌≡◌, ℕ, ◌+◌, ◌-◌, ◌≤◌, ◌<◌, true, false, List, [], ◌∷◌, ◌++◌, length, take, drop, Some, None, refl, arith, cond}
 use Rattle.std.specs.Prelude.{◌==◌}
 use Rattle.std.specs.Int.{w16, w32, from_be_bytes}
 use Rattle.std.proofs.lemmas.Bool.{le-ltb}
 use Rattle.std.proofs.lemmas.List.{length-append, length-drop, take-append-le, drop-append-le}
 use Rattle.lapin_fields.specs.Around.{around_at, and_more, ended, wanted_behind}
-use Rattle.lapin_fields.specs.Reading.{◌>>=◌, octet_at, short_at, counted_at, piece_at}
+use Rattle.lapin_fields.specs.Reading.{◌>>=◌, octet_at, piece_at}
 
 -- ---- before the size is known
 

@@ -29,6 +29,9 @@ const HEARTBEAT: u8 = 8;
 // The bytes of a frame beside what is in it.
 const AROUND: usize = 8;
 
+// Room for a method or a header, of which most need no more.
+const USUAL: usize = 128;
+
 /// What stands at the head of bytes.
 #[derive(Drop)]
 pub enum Read {
@@ -40,6 +43,14 @@ pub enum Read {
     Part,
 }
 
+// How much room to make at first for the bytes of a frame: more is made where it does not suffice.
+fn room_of(frame: &Frame) -> usize {
+    match frame {
+        Frame::Body(_, payload) => payload.as_bytes().len().saturating_add(AROUND),
+        _ => USUAL,
+    }
+}
+
 // Adds the bytes of a frame, or a part of them where that fails.
 fn put_parts(alloc: Global, out: &mut Vec<u8>, frame: &Frame) -> Result<(), WriteFault>
     ensures bytes { OnOk result (out.new.items ≡ out.old.items ++ bytes_of frame.now) }
@@ -48,12 +59,12 @@ fn put_parts(alloc: Global, out: &mut Vec<u8>, frame: &Frame) -> Result<(), Writ
 {
     match frame {
         Frame::Method(channel, method) => {
-            let mut payload = Vec::new(alloc);
+            let mut payload = Vec::with_capacity(alloc, USUAL)?;
             put_method(alloc, &mut payload, method)?;
             put_around(out, METHOD, *channel, &payload)
         }
         Frame::Header(channel, header) => {
-            let mut payload = Vec::new(alloc);
+            let mut payload = Vec::with_capacity(alloc, USUAL)?;
             put_header(alloc, &mut payload, header)?;
             put_around(out, HEADER, *channel, &payload)
         }
@@ -71,7 +82,7 @@ pub fn put_frame(alloc: Global, out: &mut Vec<u8>, frame: &Frame) -> Result<(), 
     ensures err { OnErr result (out.new.items ≡ out.old.items) }
     ensures refused { Refused result (FrameFits frame.now) }
 {
-    let mut whole = Vec::new(alloc);
+    let mut whole = Vec::with_capacity(alloc, room_of(frame))?;
     put_parts(alloc, &mut whole, frame)?;
     out.extend_from_slice(&whole)?;
     Ok(())
@@ -105,7 +116,7 @@ pub fn put_frame_within(
     ensures err { OnErr result (out.new.items ≡ out.old.items) }
     ensures refused { RefusedWithin result (FrameFits frame.now) (limit < length (bytes_of frame.now)) }
 {
-    let mut whole = Vec::new(alloc);
+    let mut whole = Vec::with_capacity(alloc, room_of(frame))?;
     match put_parts(alloc, &mut whole, frame) {
         Ok(()) => put_within(out, &whole, limit),
         Err(fault) => Err(fault),
