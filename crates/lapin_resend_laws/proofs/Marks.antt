@@ -168,7 +168,7 @@ added_few k ms h = few k (many adds ms) h
     few : (k n : ℕ) → (nat_lt 0 (suc k) && nat_le (suc k) n) ≡ true → k < n
     few k n h = grind (arith, nat_tests)
 
-on_channel : (k : ℕ) (ms : List ConfirmMark) → AllByRecursion IsOnOne ms → was_added k ms ≡ true → channel_of k ms ≡ 1
+pub on_channel : (k : ℕ) (ms : List ConfirmMark) → AllByRecursion IsOnOne ms → was_added k ms ≡ true → channel_of k ms ≡ 1
 on_channel zero ms h added = absurd (true≢false (sym added))
 on_channel (suc k) ms h added = on_one k ms h (added_few k ms added)
 

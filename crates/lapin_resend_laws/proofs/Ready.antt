@@ -29,8 +29,8 @@ use Rattle.lapin_history.specs.Ends.{ends, ends_all, live_channels, end_with}
 use Rattle.lapin_history.specs.Events.{record_of, after_event, confirm_marks}
 use Rattle.lapin_history.specs.Frames.{MethodEntry, RestEntry, left_rest, left_method, left_publish, publish_method, rest_of}
 use Rattle.lapin_history.specs.History.{Past, longer, record_after, readings_of}
-use Rattle.lapin_history.specs.Handing.{handed_out, began_on, after_handing, left_marks}
-use Rattle.lapin_history.specs.Leaving.{may_begin}
+use Rattle.lapin_history.specs.Handing.{handed_out, began_on, after_handing, left_marks, sent}
+use Rattle.lapin_history.specs.Leaving.{may_begin, begun_rest}
 use Rattle.lapin_history.specs.Words.{without_first}
 use Rattle.lapin_history.specs.Phases.{is_up, is_live, channel_state, phase_in}
 use Rattle.lapin_history.specs.ChannelClose.{phases_sent}
@@ -43,10 +43,11 @@ use Rattle.lapin_content.specs.declared.start.Start.{Start}
 use Rattle.lapin_content.specs.declared.start.Start.TheVariants as start
 use Rattle.lapin_content.specs.declared.Whole.{Whole}
 use Rattle.lapin_history.specs.Select.{is_select, method_marks}
-use Rattle.lapin_history.specs.Wire.{Wire, state_of, phase_of, is_closed, is_open}
+use Rattle.lapin_history.specs.Wire.{Wire, state_of, phase_of, is_closed, is_open, with_lists}
 use Rattle.lapin_effects.specs.Effects.{Effect, Stays, Closes, Opens, Adds, Ends, Falls, Sinks, live, grows, moves, is_next, HasEffect}
 use Rattle.lapin_effects.proofs.Events.{has_effect}
-use Rattle.lapin_laws.proofs.Going.{up_sent, live_sent, handed_begun, next_publish, next_none}
+use Rattle.lapin_machine.proofs.Brought.{none_begins}
+use Rattle.lapin_laws.proofs.Going.{up_sent, live_sent, handed_begun, next_publish}
 use Rattle.lapin_resend.specs.Messages.{Standing}
 use Rattle.lapin_resend.specs.Publisher.{publishing}
 use Rattle.lapin_resend_laws.proofs.Marks.{one_still, Requested, requested-push, IsOnOne, IsRight, Still, quiet_still, begun-push, selected_stays, selected-push}
@@ -444,15 +445,29 @@ method_armed ms m hs has begun = at (is_select m.method) (m.channel == 1) refl r
     at true true s_is c_is =
         let selected : is_selected 1 (ms ++ mark.SelectLeft m.channel ∷ []) ≡ true = selected-push ms (mark.SelectLeft m.channel) refl begun ∙ ap (λ (t : Bool). is_selected 1 ms || t) c_is ∙ or_true (is_selected 1 ms) in
         inl (rw s_is selected)
-    at true false s_is c_is = let later : has_select hs ≡ true = rw (c_is, s_is) at has in inr (later, (method_still ms m).begun begun)
-    at false true s_is c_is = let later : has_select hs ≡ true = rw (c_is, s_is) at has in inr (later, (method_still ms m).begun begun)
-    at false false s_is c_is = let later : has_select hs ≡ true = rw (c_is, s_is) at has in inr (later, (method_still ms m).begun begun)
+    at s false s_is c_is = inr (subst (λ (x : Bool). ((x && is_select m.method) || has_select hs) ≡ true) c_is has, (method_still ms m).begun begun)
+    at false true s_is c_is =
+        let here : (is_select m.method || has_select hs) ≡ true = subst (λ (x : Bool). ((x && is_select m.method) || has_select hs) ≡ true) c_is has in
+        inr (subst (λ (x : Bool). (x || has_select hs) ≡ true) s_is here, (method_still ms m).begun begun)
 
 -- a publish begins only where its opening is selected
 begun_selected : (b : Wire) (ms : List ConfirmMark) (t : ℕ → Bool) (p : Publish) → b.methods ≡ [] → find (may_begin t) b.publishes ≡ Some p → (b.publishes ≡ []) ⊎ Armed b ms → is_selected 1 ms ≡ true
 begun_selected b ms t p none here (inl empty) = let no : None ≡ Some p = ap (find (may_begin t)) (sym empty) ∙ here in absurd (cc)
 begun_selected b ms t p none here (inr (inl selected)) = selected
 begun_selected b ms t p none here (inr (inr both)) = let no : false ≡ true = ap has_select (sym none) ∙ both.0 in absurd (true≢false (sym no))
+
+-- where no publish may begin, a frame request leaves all as it is
+none_left : (t : ℕ → Bool) (b : Wire) → b.rest ≡ [] → b.methods ≡ [] → find (may_begin t) b.publishes ≡ None → after_handing t b ≡ b
+none_left t b r m q = begun ∙ ap next q ∙ same (without_first (may_begin t) b.publishes) (sym (none_begins (may_begin t) b.publishes q))
+  where
+    next : Option Publish → Wire
+    next o = sent (option_map left_publish o) (with_lists (record { rest = begun_rest b.frame_max o; methods = []; publishes = without_first (may_begin t) b.publishes }) b)
+
+    begun : after_handing t b ≡ next (find (may_begin t) b.publishes)
+    begun = rw (r, m) refl
+
+    same : (ps : List Publish) → b.publishes ≡ ps → record b { rest = []; methods = []; publishes = ps } ≡ b
+    same ps e = λ i. record b { rest = sym r i; methods = sym m i; publishes = sym e i }
 
 -- a frame request leaves it ready, whichever publish it lets begin
 pub handing_ready : (t : ℕ → Bool) (b : Wire) (ms : List ConfirmMark) (asked : Bool) → Ready b ms asked → Ready (after_handing t b) (ms ++ left_marks (handed_out t b)) asked
@@ -466,7 +481,7 @@ handing_ready t b ms asked r = by b.rest b.methods (find (may_begin t) b.publish
     by : (rs : List RestEntry) (hs : List MethodEntry) (o : Option Publish) → b.rest ≡ rs → b.methods ≡ hs → find (may_begin t) b.publishes ≡ o → Ready (after_handing t b) (ms ++ left_marks (handed_out t b)) asked
     by (f ∷ fs) hs o rest_is methods_is found =
         told (Some (left_rest f)) (left_wire b ms [] asked f.frame r (quiet_still [] ms refl) fs b.methods b.publishes) (rw rest_is refl) (rw rest_is refl)
-        (left_ready b ms [] asked f.frame r (quiet_still [] ms refl) fs b.methods b.publishes r.one (λ e. e) (λ a. armed_on b _ ms [] (quiet_still [] ms refl) (λ h. h) a))
+        (left_ready b ms [] asked f.frame r (quiet_still [] ms refl) fs b.methods b.publishes r.one (λ e. e) (λ a. armed_on b (left_wire b ms [] asked f.frame r (quiet_still [] ms refl) fs b.methods b.publishes) ms [] (quiet_still [] ms refl) (λ h. h) a))
     by [] (m ∷ hs) o rest_is methods_is found =
         told (Some (left_method m)) (left_wire b ms (method_marks m.channel m.method) asked (frame.Method m.channel m.method) r (method_still ms m) [] hs b.publishes) (rw (rest_is, methods_is) refl) (rw (rest_is, methods_is) refl)
         (left_ready b ms (method_marks m.channel m.method) asked (frame.Method m.channel m.method) r (method_still ms m) [] hs b.publishes r.one (λ e. e) goes)
@@ -481,7 +496,7 @@ handing_ready t b ms asked r = by b.rest b.methods (find (may_begin t) b.publish
         (handed_begun t b rest_is methods_is ∙ ap (option_map left_publish) found) (next_publish t b p rest_is methods_is found)
         (left_ready b ms (mark.Left p.channel p.confirm ∷ []) asked (frame.Method p.channel (publish_method p)) r still (rest_of b.frame_max p) [] (without_first (may_begin t) b.publishes) (one_first (may_begin t) b.publishes r.one) (λ e. ap (without_first (may_begin t)) e) (λ _. inl (still.selected selected)))
     by [] [] None rest_is methods_is found =
-        told None b (handed_begun t b rest_is methods_is ∙ ap (option_map left_publish) found) (next_none t b rest_is methods_is found)
+        told None b (handed_begun t b rest_is methods_is ∙ ap (option_map left_publish) found) (none_left t b rest_is methods_is found)
         (subst (λ (xs : List ConfirmMark). Ready b xs asked) (sym (append-nil ms)) r)
 
 pub next_event : (b : Wire) (ms : List ConfirmMark) (readings : Readings) (flow asked : Bool) → Ready b ms asked → ReadyAfter b ms readings (event.Next flow) asked

@@ -10,7 +10,9 @@ use Rattle.lapin_history.specs.Handing.{handed}
 use Rattle.lapin_history.specs.History.{History}
 use Rattle.lapin_history.specs.Leaving.{Lists, handed_of}
 use Rattle.lapin_history.specs.Flow.{begins_on}
+use Rattle.lapin_history.specs.declared.phases.ConnectionPhase.TheVariants as link
 use Rattle.lapin_history.specs.Phases.{is_lost}
+use Rattle.lapin_history.specs.Ends.{down}
 use Rattle.lapin_history.specs.Wire.{Wire, lists_of}
 use Rattle.lapin_machine.specs.World.{World, new_world, next}
 use Rattle.lapin_machine.specs.Way.{by_history, by_machine}
@@ -161,7 +163,11 @@ module _ (stays : IsForGood) (nothing : LeavesNothing) (n : ℕ) where
   alike_run (s ∷ ss) j k none h = alike_run ss (after (by_history n) s j) (after by_machine s k) (unreturned-next s k none) (alike-next n s j k none h).1
 
   lost_now : (w : World) → is_lost (next w event.Lost).wire.link ≡ true
-  lost_now w = ?
+  lost_now w = at_link (is_lost w.wire.link) refl
+    where
+      at_link : (b : Bool) → is_lost w.wire.link ≡ b → is_lost (cond b w.wire (down link.Lost w.wire)).link ≡ true
+      at_link true e = e
+      at_link false e = refl
 
   -- what is seen after a loss
   pub none_after_loss : (made ss : List Step) → along (by_history n) seen_in ss (after (by_history n) step.Lose (joined_to n made)) ≡ []
