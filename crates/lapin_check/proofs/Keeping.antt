@@ -316,8 +316,7 @@ module _ (p : ℕ) (f : Frame) (w v : Watch) (account new : List Counted) (h : I
   entries_down (Some s) are i k found =
       let m : Counted → Counted = mark (suc p) (count_at s.channel w.opens) s in
       let there : slice_get (map m account) i ≡ Some k = subst (λ (ks : List Counted). slice_get ks i ≡ Some k) are.marked found in
-      let old = mapped m (slice_get account i) k (sym (slice_get-map m account i) ∙ there) in
-      (
+      let old = mapped m (slice_get account i) k (sym (slice_get-map m account i) ∙ there) in (
         old.0,
         old.1,
         sym (mark_channel (suc p) (count_at s.channel w.opens) s old.0) ∙ ap (λ (z : Counted). z.channel) old.2,
