@@ -17,4 +17,11 @@ pub mod GetRun
 pub mod GetLaw
 pub mod GetMarks
 pub mod GetAnswer
+pub mod Shuts
+pub mod Moving
+pub mod Moved
+pub mod Shutting
+pub mod Okays
+pub mod Closings
+pub mod Closed
 pub mod Whole

@@ -37,7 +37,7 @@ or-assoc None b d = refl
 or-assoc (Some x) b d = refl
 
 -- the marks behind, with what they find
-answers-append : (n c : ℕ) (l : AtLeaving) (b : Bool) (xs ys : List TicketMark) → (v : Bool) × (first_answer n c l b (xs ++ ys) ≡ option_or (first_answer n c l b xs) (first_answer n c l v ys))
+pub answers-append : (n c : ℕ) (l : AtLeaving) (b : Bool) (xs ys : List TicketMark) → (v : Bool) × (first_answer n c l b (xs ++ ys) ≡ option_or (first_answer n c l b xs) (first_answer n c l v ys))
 answers-append n c l b [] ys = (b, refl)
 answers-append n c l b (m ∷ xs) ys = let r = answers-append n c l (b || begins n m) xs ys in (r.0, ap (option_or (answer_by n c l b m)) r.1 ∙ sym (or-assoc (answer_by n c l b m) (first_answer n c l (b || begins n m) xs) (first_answer n c l r.0 ys)))
 

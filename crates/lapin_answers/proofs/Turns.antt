@@ -227,7 +227,7 @@ shut_refuses (ask.Consume m tag queue o) = refl
 shut_refuses (ask.Limit limit) = refl
 shut_refuses ask.Nothing = refl
 
-allowed_up : (l : ConnectionPhase) (a : Asked) (s : ChannelState) → is_allowed a (cond (is_up l) s state.Down) ≡ true → l ≡ link.Open
+pub allowed_up : (l : ConnectionPhase) (a : Asked) (s : ChannelState) → is_allowed a (cond (is_up l) s state.Down) ≡ true → l ≡ link.Open
 allowed_up link.Open a s h = refl
 allowed_up (link.Closing x y) a s h = let x = shut_refuses a in cc
 allowed_up link.Closed a s h = let x = shut_refuses a in cc
@@ -239,7 +239,7 @@ asked_turn c d k b x = elim (is_allowed (asked k) (state_of d b)) as (λ t. is_a
   | false ↦ λ a. Stays tt refl refl refl
 ] refl
 
-plain_record : (t : Bool) (a : Asked) (b : Wire) (e : Error) → is_outstanding (record_.Refused e) ≡ false → is_outstanding (cond t (accepted_record a b) (record_.Refused e)) ≡ false
+pub plain_record : (t : Bool) (a : Asked) (b : Wire) (e : Error) → is_outstanding (record_.Refused e) ≡ false → is_outstanding (cond t (accepted_record a b) (record_.Refused e)) ≡ false
 plain_record true ask.Open b e h = refl
 plain_record true (ask.CloseChannel code text) b e h = refl
 plain_record true (ask.CloseConnection code text) b e h = refl

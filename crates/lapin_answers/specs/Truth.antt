@@ -1,5 +1,5 @@
 -- What holds of a session and an honest broker, whatever they do and in whatever order: of every joined run, in one place.
-use Rattle.std.specs.Prelude.{◌≡◌, ℕ, List, [], ◌∷◌, ◌++◌, filter, true, Some, None, Ok}
+use Rattle.std.specs.Prelude.{◌≡◌, ◌⊎◌, ℕ, List, [], ◌∷◌, ◌++◌, filter, true, Some, None, Ok}
 use Rattle.lapin_types.specs.declared.answer.Answer.{Answer}
 use Rattle.lapin_types.specs.declared.answer.Answer.TheVariants as answer
 use Rattle.lapin_types.specs.declared.message.BasicGetMessage.{BasicGetMessage}
@@ -7,7 +7,7 @@ use Rattle.lapin_types.specs.Types.{Frame, Method}
 use Rattle.lapin_history.specs.declared.marks.SettleKind.{SettleKind}
 use Rattle.lapin_history.specs.ConfirmReadings.{channel_of as publish_channel, tag_of, outcome_at, kind_outcome}
 use Rattle.lapin_history.specs.TicketReadings.{answer_of}
-use Rattle.lapin_broker.specs.Frames.{channel_of}
+use Rattle.lapin_broker.specs.Frames.{channel_of, broker_frame}
 use Rattle.lapin_joint.specs.declared.step.Step.{Step}
 use Rattle.lapin_joint.specs.declared.step.Step.TheVariants as step
 use Rattle.lapin_joint.specs.Joint.{joined_to}
@@ -20,6 +20,7 @@ use Rattle.lapin_verdicts.specs.Publishes.{Message}
 use Rattle.lapin_verdicts.specs.Session.{past_of}
 use Rattle.lapin_verdicts.specs.Verdicts.{at_place, messages_in, called_in, IsVerdict}
 use Rattle.lapin_answers.specs.Calls.{IsCallOf}
+use Rattle.lapin_answers.specs.Closes.{is_close_ok_as, IsCloseOf, IsClosed, is_open_cancel}
 use Rattle.lapin_answers.specs.Replies.{IsReplied, IsGot}
 
 -- Where a confirm is resolved as Ack or Nack, with its tag: the broker had read whole, as the number of that tag in the opening of its
@@ -45,6 +46,13 @@ abbrev pub GetsCarryContents : ℕ → List Step → Type 0
 GetsCarryContents frame_max steps = (n : ℕ) (message : BasicGetMessage) → answer_of n (past_of frame_max steps).tickets ≡ None → answer_of n (past_of frame_max (steps ++ step.Deliver ∷ [])).tickets ≡ Some (Ok (answer.Got (Some message))) →
     (c : ℕ) × (m : Method) × IsCallOf n c m (joined_to frame_max steps).session × IsGot c n m message (last_opening c (deeds frame_max steps))
 
+-- Where the close-ok that is delivered next resolves a ticket with an answer, the broker sent it for the close of that very call; or the
+-- ticket is that of a `basic.cancel`, which the end of the opening resolves.
+abbrev pub ClosesAreAnswered : ℕ → List Step → Type 0
+ClosesAreAnswered frame_max steps = (n : ℕ) (a : Answer) (reply : Frame) (way : List Frame) → (joined_to frame_max steps).down ≡ reply ∷ way → is_close_ok_as (broker_frame reply) ≡ true → answer_of n (past_of frame_max steps).tickets ≡ None → answer_of n (past_of frame_max (steps ++ step.Deliver ∷ [])).tickets ≡ Some (Ok a) →
+    ((m : Method) × IsCloseOf n (channel_of reply) m (joined_to frame_max steps).session × IsClosed (channel_of reply) n m reply (deeds frame_max steps))
+    ⊎ (is_open_cancel n (channel_of reply) (past_of frame_max steps).wire ≡ true)
+
 -- all of it
 pub record IsTrue (frame_max : ℕ) (steps : List Step) : Type 0 where
   pub unrefused : NoneIsRefused frame_max steps
@@ -53,3 +61,4 @@ pub record IsTrue (frame_max : ℕ) (steps : List Step) : Type 0 where
   pub apart : DifferByTags (past_of frame_max steps).confirms
   pub replies : RepliesAnswerCalls frame_max steps
   pub gets : GetsCarryContents frame_max steps
+  pub closes : ClosesAreAnswered frame_max steps

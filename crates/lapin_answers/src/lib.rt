@@ -7,5 +7,8 @@
 mod replies;
 mod truth;
 
-pub use replies::{a_get_carries_what_was_sent_after_its_answer, a_reply_answers_that_very_call};
+pub use replies::{
+    a_close_ok_is_for_that_very_close, a_get_carries_what_was_sent_after_its_answer,
+    a_reply_answers_that_very_call,
+};
 pub use truth::a_session_and_an_honest_broker;

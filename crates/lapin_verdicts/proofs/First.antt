@@ -120,7 +120,7 @@ table_peer c d b = elim (eqb_tells d c) [
   | inr z ↦ ap (λ v. (channel_in v).peer) (at-on_other d c with_next_number b.channels (λ e. not_both (d == c) (eq-eqb d c e) z.0))
 ]
 
-piece_peer : (c d : ℕ) (x : Content) (b : Broker) → (channel_at (with_piece d x b) c).peer ≡ (channel_at b c).peer
+pub piece_peer : (c d : ℕ) (x : Content) (b : Broker) → (channel_at (with_piece d x b) c).peer ≡ (channel_at b c).peer
 piece_peer c d x b = elim (is_idle x) as (λ v. (channel_at (cond v (record (number_on d b) { reading = None }) (record b { reading = Some (d, x) })) c).peer ≡ (channel_at b c).peer) [ true ↦ table_peer c d b | false ↦ refl ]
 
 down_news : (c : ℕ) (b : Broker) (o : List Deed) → is_up b.connection ≡ false → News c b o
