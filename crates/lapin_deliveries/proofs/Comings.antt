@@ -34,7 +34,9 @@ use Rattle.lapin_verdicts.specs.Messages.{Start, Deliver, Get, Return, Started, 
 use Rattle.lapin_deliveries.specs.Openings.{begins}
 use Rattle.lapin_deliveries.proofs.Bringing.{Brings, piece_brings}
 use Rattle.lapin_deliveries.proofs.Channel.{IsKnown, Channel}
-use Rattle.lapin_deliveries.proofs.Contents.{expected-here, expected-away, joined-here, joined-away}
+use Rattle.lapin_laws.proofs.Expecting.{expected-here}
+use Rattle.lapin_concord.proofs.Coming.{joined_here, joined_away}
+use Rattle.lapin_deliveries.proofs.Contents.{expected-away}
 use Rattle.lapin_deliveries.proofs.Deals.{no}
 use Rattle.lapin_deliveries.proofs.Dealing.{is_content}
 use Rattle.lapin_deliveries.proofs.Lists.{Longer}
@@ -137,7 +139,7 @@ module _ (b : Wire) (ms : List InboxMark) (ds : List Deed) (came : List Frame) (
       let k : Option ℕ = found c tag b.inbox.roster in
       let bg : Begin = begin.Deliver k number exchange key redelivered in
       let es : List Expected = expected_on c b.contents in
-      let now : expected_on c (after_received (incoming_of f) b).contents ≡ es ++ expected 60 bg ∷ [] = joined-here c (expected 60 bg) b.contents in
+      let now : expected_on c (after_received (incoming_of f) b).contents ≡ es ++ expected 60 bg ∷ [] = joined_here c (expected 60 bg) b.contents in
       let empty : es ≡ [] = alone es (expected 60 bg) (subst IsOneContent now one) in
       let to : expected_on c (after_received (incoming_of f) b).contents ≡ expected 60 bg ∷ [] = now ∙ ap (λ v. v ++ expected 60 bg ∷ []) empty in
       begun c f _ (subst (λ v. Channel c ms v (came ++ f ∷ [])) (sym to) (begin_channel c ms came f (Deliver tag number redelivered exchange key) bg refl (k, refl) known answers
@@ -145,9 +147,9 @@ module _ (b : Wire) (ms : List InboxMark) (ds : List Deed) (came : List Frame) (
       (λ j e. let w = who ms ds b.inbox.roster l shows c j tag e in (w.0, w.1, w.2, w.3, w.5, text-same tag w.1.tag (sym w.6)))
       (subst (λ v. Channel c ms v came) empty h)))
   content_comes (frame.Method c (method.Basic (basic.GetOk number redelivered exchange key count))) r one known answers sent h =
-      other c (frame.Method c (method.Basic (basic.GetOk number redelivered exchange key count))) (Get number redelivered exchange key count) (begin.Get (get_ticket c b) number exchange key redelivered count) refl tt (λ t. refl) refl (λ t. refl) (λ t. refl) (expected_on c b.contents) _ (joined-here c (expected 60 (begin.Get (get_ticket c b) number exchange key redelivered count)) b.contents) one h
+      other c (frame.Method c (method.Basic (basic.GetOk number redelivered exchange key count))) (Get number redelivered exchange key count) (begin.Get (get_ticket c b) number exchange key redelivered count) refl tt (λ t. refl) refl (λ t. refl) (λ t. refl) (expected_on c b.contents) _ (joined_here c (expected 60 (begin.Get (get_ticket c b) number exchange key redelivered count)) b.contents) one h
   content_comes (frame.Method c (method.Basic (basic.Return code text exchange key))) r one known answers sent h =
-      other c (frame.Method c (method.Basic (basic.Return code text exchange key))) (Return code text exchange key) (begin.Return code text exchange key) refl tt (λ t. refl) refl (λ t. refl) (λ t. refl) (expected_on c b.contents) _ (joined-here c (expected 60 (begin.Return code text exchange key)) b.contents) one h
+      other c (frame.Method c (method.Basic (basic.Return code text exchange key))) (Return code text exchange key) (begin.Return code text exchange key) refl tt (λ t. refl) refl (λ t. refl) (λ t. refl) (expected_on c b.contents) _ (joined_here c (expected 60 (begin.Return code text exchange key)) b.contents) one h
   content_comes (frame.Method c (method.Basic m)) r one known answers sent h = absurd cc
   content_comes (frame.Method c (method.Connection m)) r one known answers sent h = absurd (no_connection b c m r)
   content_comes (frame.Method c (method.Channel m)) r one known answers sent h = absurd (no_channel b c m r)
@@ -160,9 +162,9 @@ module _ (b : Wire) (ms : List InboxMark) (ds : List Deed) (came : List Frame) (
 -- ---- the other channels
 
 part_away : (a c : ℕ) (p : ContentPart) (b : Wire) → (c == a) ≡ false → expected_on a (after_part c p b).contents ≡ expected_on a b.contents
-part_away a c (part.GetOk s) b off = joined-away c a (expected 60 (for_ticket (get_ticket c b) s)) b.contents off
-part_away a c (part.Return s) b off = joined-away c a (expected 60 s) b.contents off
-part_away a c (part.Deliver tag s) b off = joined-away c a (expected 60 (for_consumer (found c tag b.inbox.roster) s)) b.contents off
+part_away a c (part.GetOk s) b off = joined_away c a (expected 60 (for_ticket (get_ticket c b) s)) b.contents off
+part_away a c (part.Return s) b off = joined_away c a (expected 60 s) b.contents off
+part_away a c (part.Deliver tag s) b off = joined_away c a (expected 60 (for_consumer (found c tag b.inbox.roster) s)) b.contents off
 part_away a c (part.Header h) b off = expected-away c a (after_header h) b.contents off
 part_away a c (part.Body bytes) b off = expected-away c a (after_body bytes) b.contents off
 

@@ -1,5 +1,5 @@
 -- What every event but a frame request leaves of the contents that are expected, where it brings no part of one.
-use Rattle.std.proofs.Common.{◌≡◌, ◌∙◌, ℕ, ◌==◌, Bool, true, false, cond, not, ◌&&◌, ◌||◌, List, [], ◌∷◌, ◌++◌, Option, Some, None, inl, inr, refl, sym, ap, subst, eq-eqb}
+use Rattle.std.proofs.Common.{◌≡◌, ◌∙◌, ℕ, ◌==◌, Bool, true, false, cond, not, ◌&&◌, ◌||◌, List, [], ◌∷◌, Option, Some, None, inl, inr, refl, sym, ap, subst, eq-eqb}
 use Rattle.std.specs.List.{list_any}
 use Rattle.std.proofs.lemmas.Bool.Decides.{eqb_tells}
 use Rattle.lapin_types.specs.declared.acker_call.AckerCall.{AckerCall}
@@ -46,15 +46,14 @@ use Rattle.lapin_history.specs.Settlement.{session_close}
 use Rattle.lapin_effects.specs.Effects.{is_next}
 use Rattle.lapin_effects.specs.Effects.{moves}
 use Rattle.lapin_verdicts.proofs.Turns.{any-less}
-use Rattle.lapin_deliveries.proofs.Deals.{no}
-use Rattle.lapin_content.specs.Channels.{Channels, listed, expected_on, joined_at, joined as joined_on, after_mark}
+use Rattle.lapin_laws.proofs.Expecting.{expected-here}
+use Rattle.lapin_deliveries.proofs.Deals.{no, ends_on, moves_end}
+use Rattle.lapin_content.specs.Channels.{Channels, listed, expected_on, after_mark}
 use Rattle.lapin_content.specs.Contents.{Expected}
 use Rattle.lapin_content.specs.Marks as content
-use Rattle.lapin_deliveries.proofs.Dealing.{brings, is_content}
-use Rattle.lapin_deliveries.proofs.Deals.{ends_on}
-use Rattle.lapin_tables.specs.ByChannel.{at_channel, on_channel}
-use Rattle.lapin_tables.proofs.Channels.{at-push, at-on_same, at-on_other}
-use Rattle.std.specs.Option.{option_map, option_or}
+use Rattle.lapin_deliveries.proofs.Dealing.{brings, is_content, still_if}
+use Rattle.lapin_tables.specs.ByChannel.{on_channel}
+use Rattle.lapin_tables.proofs.Channels.{at-on_other}
 
 pub data Leaves (b b' : Wire) (xs : List ConfirmMark) : Type 0 where
   -- what is expected stays, and no opening ends
@@ -151,10 +150,6 @@ lost_leaves b xs = elim (is_lost b.link) as (λ v. is_lost b.link ≡ v → Leav
     shut link.Lost h = refl
     shut _ h = absurd cc
 
-still_if : (v : Bool) (m : ConfirmMark) → moves m ≡ false → list_any moves (cond v (m ∷ []) []) ≡ false
-still_if true m h = rw h refl
-still_if false m h = refl
-
 event_leaves : (b : Wire) (e : Event) (r : Record) → is_next e ≡ false → brings e ≡ false → Leaves b (after_event b e r) (confirm_marks b e r)
 event_leaves b (event.Call c k) r h n = inboxed (asking_inbox c (asked_by k r) b) (asking_leaves c (asked_by k r) b)
 event_leaves b (event.Next flow) r h n = absurd cc
@@ -175,33 +170,8 @@ event_leaves b event.Lost r h n = inboxed (inbox_ends_all error.ConnectionLost b
 -- ---- one channel
 
 -- what is expected on a channel after a write
-mapped : (g : List Expected → List Expected) (o : Option (List Expected)) → g [] ≡ [] → listed (option_map g o) ≡ g (listed o)
-mapped g None none = sym none
-mapped g (Some es) none = refl
-
-pub expected-here : (c : ℕ) (g : List Expected → List Expected) (cs : Channels) → g [] ≡ [] → expected_on c (on_channel c g cs) ≡ g (expected_on c cs)
-expected-here c g cs none = ap listed (at-on_same c g cs) ∙ mapped g (at_channel c cs) none
-
 pub expected-away : (c d : ℕ) (g : List Expected → List Expected) (cs : Channels) → (c == d) ≡ false → expected_on d (on_channel c g cs) ≡ expected_on d cs
 expected-away c d g cs off = ap listed (at-on_other c d g cs (λ e. no (c == d) off (eq-eqb c d e)))
-
-or_none : (o : Option (List Expected)) → option_or o None ≡ o
-or_none None = refl
-or_none (Some es) = refl
-
-joined_here : (c : ℕ) (e : Expected) (cs : Channels) (o : Option (List Expected)) → at_channel c cs ≡ o → expected_on c (joined_at o c e cs) ≡ expected_on c cs ++ e ∷ []
-joined_here c e cs None is = ap listed (at-push c c (e ∷ []) cs) ∙ rw (is, eq-eqb c c refl) refl
-joined_here c e cs (Some es) is = ap listed (at-on_same c (λ xs. xs ++ e ∷ []) cs) ∙ rw is refl
-
-pub joined-here : (c : ℕ) (e : Expected) (cs : Channels) → expected_on c (joined_on c e cs) ≡ expected_on c cs ++ e ∷ []
-joined-here c e cs = joined_here c e cs (at_channel c cs) refl
-
-joined_away : (c d : ℕ) (e : Expected) (cs : Channels) (o : Option (List Expected)) → (c == d) ≡ false → expected_on d (joined_at o c e cs) ≡ expected_on d cs
-joined_away c d e cs None off = ap listed (at-push c d (e ∷ []) cs) ∙ rw off (ap listed (or_none (at_channel d cs)))
-joined_away c d e cs (Some es) off = expected-away c d (λ xs. xs ++ e ∷ []) cs off
-
-pub joined-away : (c d : ℕ) (e : Expected) (cs : Channels) → (c == d) ≡ false → expected_on d (joined_on c e cs) ≡ expected_on d cs
-joined-away c d e cs off = joined_away c d e cs (at_channel c cs) off
 
 -- it stays where its opening doesn't end, and where that ends nothing is expected
 pub contents_same : (c : ℕ) (b : Wire) (e : Event) (r : Record) → is_next e ≡ false → brings e ≡ false → is_up (after_event b e r).link ≡ true → list_any (ends_on c) (confirm_marks b e r) ≡ false → expected_on c (after_event b e r).contents ≡ expected_on c b.contents
@@ -219,10 +189,6 @@ contents_same c b e r h n u none = by (event_leaves b e r h n)
 pub contents_gone : (c : ℕ) (b : Wire) (e : Event) (r : Record) → is_next e ≡ false → brings e ≡ false → is_up (after_event b e r).link ≡ true → list_any (ends_on c) (confirm_marks b e r) ≡ true → expected_on c (after_event b e r).contents ≡ []
 contents_gone c b e r h n u ends = by (event_leaves b e r h n)
   where
-    moves_end : (c : ℕ) (m : ConfirmMark) → moves m ≡ false → ends_on c m ≡ false
-    moves_end c (mark.Ended d e) h = absurd cc
-    moves_end c _ h = refl
-
     by : Leaves b (after_event b e r) (confirm_marks b e r) → expected_on c (after_event b e r).contents ≡ []
     by (Still s k) = absurd (no _ (any-less moves (ends_on c) (moves_end c) (confirm_marks b e r) k) ends)
     by (Stays s k) = absurd (no _ (k c) ends)

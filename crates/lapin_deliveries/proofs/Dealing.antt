@@ -250,7 +250,7 @@ lost_deals b = elim (is_lost b.link) as (λ v. is_lost b.link ≡ v → Deals fa
     shut link.Lost h = refl
     shut _ h = absurd cc
 
-still_if : (v : Bool) (m : ConfirmMark) → moves m ≡ false → list_any moves (cond v (m ∷ []) []) ≡ false
+pub still_if : (v : Bool) (m : ConfirmMark) → moves m ≡ false → list_any moves (cond v (m ∷ []) []) ≡ false
 still_if true m h = rw h refl
 still_if false m h = refl
 

@@ -87,11 +87,11 @@ pub record Deals (brings : Bool) (b b' : Wire) (xs : List ConfirmMark) (X : List
 
 -- ---- marks that move no opening
 
-moves_end : (c : ℕ) (m : ConfirmMark) → moves m ≡ false → ends_on c m ≡ false
+pub moves_end : (c : ℕ) (m : ConfirmMark) → moves m ≡ false → ends_on c m ≡ false
 moves_end c (mark.Ended d e) h = absurd cc
 moves_end c _ h = refl
 
-moves_begin : (c : ℕ) (m : ConfirmMark) → moves m ≡ false → confirms.begins c m ≡ false
+pub moves_begin : (c : ℕ) (m : ConfirmMark) → moves m ≡ false → confirms.begins c m ≡ false
 moves_begin c (mark.Begun d) h = absurd cc
 moves_begin c _ h = refl
 

@@ -5,7 +5,6 @@ use Rattle.std.proofs.lemmas.Bool.{and_parts}
 use Rattle.std.proofs.lemmas.Bool.Decides.{eqb_tells}
 use Rattle.lapin_types.specs.Types.{Error}
 use Rattle.lapin_history.specs.ConfirmMarks.{ConfirmMark}
-use Rattle.lapin_history.specs.ConfirmMarks as mark
 use Rattle.lapin_history.specs.ConfirmReadings as confirms
 use Rattle.lapin_history.specs.Ends.{ends, live_channels}
 use Rattle.lapin_history.specs.Phases.{is_up, is_live}
@@ -17,17 +16,9 @@ use Rattle.lapin_types.specs.declared.leaving.Publish.{Publish}
 use Rattle.lapin_effects.specs.Effects.{live, moves, Effect, Stays, Closes, Opens, Adds, Ends, Falls, Sinks}
 use Rattle.lapin_verdicts.proofs.Opens.{many-none, unsent, effect_waits}
 use Rattle.lapin_verdicts.proofs.Turns.{any-less}
-use Rattle.lapin_deliveries.proofs.Deals.{ends_on, no}
+use Rattle.lapin_deliveries.proofs.Deals.{ends_on, no, moves_end, moves_begin}
 
 -- ---- marks of the kinds
-
-moves_end : (c : ℕ) (m : ConfirmMark) → moves m ≡ false → ends_on c m ≡ false
-moves_end c (mark.Ended d e) h = absurd cc
-moves_end c _ h = refl
-
-moves_begin : (c : ℕ) (m : ConfirmMark) → moves m ≡ false → confirms.begins c m ≡ false
-moves_begin c (mark.Begun d) h = absurd cc
-moves_begin c _ h = refl
 
 pub still_ends : (c : ℕ) (xs : List ConfirmMark) → list_any moves xs ≡ false → list_any (ends_on c) xs ≡ false
 still_ends c xs h = any-less moves (ends_on c) (moves_end c) xs h

@@ -16,9 +16,10 @@ use Rattle.lapin_history.specs.Events.{inbox_marks}
 use Rattle.lapin_history.specs.History.{History, Past, longer, past_on, past, rec, run_from, run}
 use Rattle.lapin_history.specs.Phases.{is_up}
 use Rattle.lapin_history.specs.Wire.{Wire}
-use Rattle.lapin_machine.specs.Way.{Way, by_history}
+use Rattle.lapin_machine.specs.Way.{by_history}
 use Rattle.lapin_machine.specs.World.{new_world}
 use Rattle.lapin_joint.proofs.Alike.{new_alike}
+use Rattle.lapin_joint.proofs.Steps.{reports-push}
 use Rattle.lapin_joint.specs.declared.step.Step.{Step}
 use Rattle.lapin_joint.specs.declared.step.Step.TheVariants as step
 use Rattle.lapin_joint.specs.Joint.{Joint, new_joint, is_lawful, client, read_first, send_down, deliver_first, after, run as run_joint, reports, report, deliver_report, joined_to}
@@ -88,10 +89,6 @@ shows_at n ss =
     (subst Q (sym a.is) (subst P (stands_after n a.events).wire (consumers_after n a.events))).consumers
 
 -- ---- no frame that comes is refused
-
-reports-push : {S : Type 0} (m : Way S) (ss : List Step) (s : Step) (j : Joint S) → reports m (ss ++ s ∷ []) j ≡ reports m ss j ++ report m s (run_joint m ss j) ∷ []
-reports-push m [] s j = refl
-reports-push m (t ∷ ss) s j = ap (λ v. report m t j ∷ v) (reports-push m ss s (after m t j))
 
 pub unrefused : (n : ℕ) → 4096 ≤ n → (ss : List Step) (f : Frame) (way : List Frame) → (joined_to n ss).down ≡ f ∷ way → is_refusal (rec n (joined_to n ss).session (event.Receive f)) ≡ false
 unrefused n most ss f way down =

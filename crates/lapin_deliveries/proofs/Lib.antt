@@ -21,3 +21,4 @@ pub mod Arrives
 pub mod Facts
 pub mod Running
 pub mod Runs
+pub mod Laws

@@ -35,7 +35,7 @@ use Rattle.lapin_verdicts.specs.Session.{frames_of}
 use Rattle.lapin_effects.specs.Effects.{live}
 use Rattle.lapin_verdicts.proofs.Marks.{many-append}
 use Rattle.lapin_verdicts.proofs.Numbering.{is_content, AreRest}
-use Rattle.lapin_verdicts.proofs.Opens.{many-none, unsent, next_waits, left_begins}
+use Rattle.lapin_verdicts.proofs.Opens.{many-none, unsent, next_waits, left_begins, sent_methods}
 use Rattle.lapin_verdicts.proofs.Unread.{is_unread}
 use Rattle.lapin_deliveries.proofs.Channel.{IsKnown, Channel}
 use Rattle.lapin_deliveries.proofs.Deals.{is_waiting, waits_on, no}
@@ -72,10 +72,6 @@ sent_phases (Some l) b d = frame_live l.frame d b.phases
 sent_contents : (o : Option Left) (b : Wire) → (sent o b).contents ≡ b.contents
 sent_contents None b = refl
 sent_contents (Some l) b = refl
-
-sent_methods : (o : Option Left) (b : Wire) → (sent o b).methods ≡ b.methods
-sent_methods None b = refl
-sent_methods (Some l) b = refl
 
 -- ---- the frame that leaves
 
