@@ -1,10 +1,9 @@
 -- Calls by the machine tell what calls by the history tell, step by step.
-use Rattle.std.proofs.Common.{◌≡◌, ◌∙◌, ℕ, zero, suc, Bool, true, false, cond, not, ◌&&◌, List, [], ◌∷◌, ◌++◌, Option, Some, None, refl, sym, ap, subst}
+use Rattle.std.proofs.Common.{◌≡◌, ◌∙◌, ℕ, zero, suc, Bool, true, false, cond, not, ◌&&◌, List, [], ◌∷◌, Option, Some, None, refl, sym, ap, subst}
 use Rattle.std.specs.Prelude.{Result, Ok, Err}
 use Rattle.lapin_types.specs.declared.event.Event.{Event}
 use Rattle.lapin_types.specs.declared.event.Event.TheVariants as event
 use Rattle.lapin_types.specs.declared.call.Call.TheVariants as call
-use Rattle.lapin_types.specs.declared.record.Record.{Record}
 use Rattle.lapin_types.specs.declared.message.Delivery.{Delivery}
 use Rattle.lapin_types.specs.Types.{Error}
 use Rattle.lapin_consumer.specs.Roster.{found}
@@ -20,11 +19,9 @@ use Rattle.lapin_call.specs.declared.step.CallStep.{CallStep}
 use Rattle.lapin_call.specs.declared.step.CallStep.TheVariants as step
 use Rattle.lapin_call.specs.declared.step.CallReport.{CallReport}
 use Rattle.lapin_call.specs.declared.step.CallReport.TheVariants as reported
-use Rattle.lapin_call.specs.declared.fates.Fate.{Fate}
-use Rattle.lapin_call.specs.declared.fates.Tally.{Tally}
 use Rattle.lapin_machine.specs.Way.{by_history, by_machine}
-use Rattle.lapin_call.specs.Fates.{no_tally, match_in, counted, after_delivery, after_error}
-use Rattle.lapin_call.specs.Calls.{Desk, met, is_ready, consuming, consumed, begun, next_call, requesting, asked, item_of, is_item, Gathered, heard, polled, polls, waiting_for, gather_from, gathered, collect_report, new_desk, after, report, reports, calls, calls_to}
+use Rattle.lapin_call.specs.Fates.{match_in, counted, after_delivery, after_error}
+use Rattle.lapin_call.specs.Calls.{Desk, met, is_ready, consuming, consumed, begun, next_call, requesting, asked, item_of, is_item, Gathered, heard, polled, polls, waiting_for, gather_from, gathered, collect_report, new_desk, after, report, reports, calls}
 use Rattle.lapin_call.specs.Kept.{AreAlike}
 
 -- ---- a desk of the machine that is alike one of the history, and to whose session no frame was given back

@@ -1,12 +1,10 @@
 -- What a step adds to the history of its session, and what becomes of a call by what is heard there.
-use Rattle.std.proofs.Common.{◌≡◌, ◌≢◌, ◌∙◌, ℕ, zero, suc, ◌+◌, Bool, true, false, cond, not, ◌&&◌, List, [], ◌∷◌, ◌++◌, length, Option, Some, None, refl, sym, ap, subst, arith, append_assoc, append-nil, add-one, slice_get, inl, inr}
-use Rattle.std.specs.Prelude.{Result, Ok, Err}
+use Rattle.std.proofs.Common.{◌≡◌, ◌≢◌, ◌∙◌, ℕ, zero, suc, ◌+◌, Bool, true, false, cond, not, ◌&&◌, List, [], ◌∷◌, ◌++◌, length, Option, Some, None, refl, sym, ap, arith, append_assoc, append-nil, add-one, slice_get, inl, inr}
+use Rattle.std.specs.Prelude.{Ok, Err}
 use Rattle.std.proofs.lemmas.Bool.Decides.{eqb_tells}
 use Rattle.lapin_types.specs.declared.event.Event.{Event}
 use Rattle.lapin_types.specs.declared.event.Event.TheVariants as event
-use Rattle.lapin_types.specs.declared.call.Call.TheVariants as call
 use Rattle.lapin_types.specs.declared.record.Record.{Record}
-use Rattle.lapin_types.specs.declared.message.Delivery.{Delivery}
 use Rattle.lapin_history.specs.Wire.{state_of}
 use Rattle.lapin_history.specs.History.{History, past, rec}
 use Rattle.lapin_machine.specs.Way.{Way, by_history}

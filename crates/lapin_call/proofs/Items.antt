@@ -1,18 +1,14 @@
 -- What waits for a consumer: a poll that gives an item takes one from it, and uses no number of a counter.
-use Rattle.std.proofs.Common.{◌≡◌, ◌∙◌, ℕ, zero, suc, ◌+◌, ◌<◌, ◌^◌, Bool, true, false, cond, List, [], ◌∷◌, length, Option, Some, None, refl, sym, ap, subst, arith, slice_get, drop}
-use Rattle.std.specs.Prelude.{Result, Ok, Err}
+use Rattle.std.proofs.Common.{◌≡◌, ◌∙◌, ℕ, zero, suc, ◌+◌, ◌<◌, ◌^◌, true, List, [], ◌∷◌, length, Option, Some, None, refl, sym, ap, arith, slice_get, drop}
 use Rattle.std.specs.Option.{option_map}
 use Rattle.std.proofs.lemmas.Bool.{eq-eqb}
 use Rattle.lapin_types.specs.declared.event.Event.TheVariants as event
-use Rattle.lapin_types.specs.declared.message.Delivery.{Delivery}
-use Rattle.lapin_types.specs.Types.{Error}
 use Rattle.lapin_consumer.specs.Roster.{Consumer, Handed, Roster, consumer_at, polled, answered, moved, after_mark}
 use Rattle.lapin_consumer.specs.declared.state.ConsumerState.{ConsumerState}
 use Rattle.lapin_consumer.specs.declared.state.ConsumerState.TheVariants as state
 use Rattle.lapin_consumer.specs.Marks as mark
 use Rattle.lapin_consumer.specs.Words.{map_at}
 use Rattle.lapin_consumer.proofs.Places.{get-map_at, length-map_at}
-use Rattle.lapin_history.specs.Wire.{Wire}
 use Rattle.lapin_history.specs.Consumers.{item_record}
 use Rattle.lapin_machine.specs.World.{World, told_by, next}
 use Rattle.lapin_machine.specs.Numbers.{HasNumbersFor}

@@ -1,5 +1,5 @@
 -- A call of a server, in the words of its session's history.
-use Rattle.std.proofs.Common.{◌≡◌, ◌∙◌, ℕ, Bool, true, false, cond, eqb, List, [], ◌∷◌, ◌++◌, Option, Some, None, refl, sym, ap, subst, append_assoc, append-nil, ◌⊎◌, inl, inr}
+use Rattle.std.proofs.Common.{◌≡◌, ◌∙◌, ℕ, Bool, true, false, cond, List, [], ◌∷◌, ◌++◌, Option, Some, None, refl, sym, ap, subst, append_assoc, append-nil, inl, inr}
 use Rattle.std.specs.Prelude.{Result, Ok, Err}
 use Rattle.std.proofs.lemmas.Bool.{eq-eqb}
 use Rattle.lapin_types.specs.Types.{Error}
@@ -20,7 +20,7 @@ use Rattle.lapin_call.specs.declared.server.Polled.{Polled}
 use Rattle.lapin_call.specs.declared.server.Polled.TheVariants as polled
 use Rattle.lapin_call.specs.declared.server.Server.{Server}
 use Rattle.lapin_call.specs.Serving.{address_of, is_taken_on, item_polled, answering, acknowledging, rejecting, IsQueued, IsPublished, IsAcknowledged, IsAnswered, IsRejected, IsServedTo, IsServedOn, IsDoneWith, IsTried, IsNext, IsTaken, IsServed}
-use Rattle.lapin_call.specs.Turns.{kept_tags, given_tags, handed_tags, done_tags}
+use Rattle.lapin_call.specs.Turns.{kept_tags, given_tags, handed_tags}
 use Rattle.lapin_call.specs.Log.{handed_at, handed_in, IsLogged}
 use Rattle.lapin_call.proofs.Turns.{turn_leaves}
 

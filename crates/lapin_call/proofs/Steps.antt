@@ -1,5 +1,5 @@
 -- One step more at the end of a list of steps, and the numbers that it uses.
-use Rattle.std.proofs.Common.{◌≡◌, ◌∙◌, ℕ, zero, suc, ◌+◌, ◌-◌, ◌*◌, ◌^◌, ◌≤◌, ◌<◌, Bool, true, false, cond, not, ◌&&◌, Option, Some, None, List, [], ◌∷◌, ◌++◌, length, refl, sym, ap, subst, arith, length-append}
+use Rattle.std.proofs.Common.{◌≡◌, ◌∙◌, ℕ, zero, suc, ◌+◌, ◌-◌, ◌*◌, ◌^◌, ◌<◌, Bool, true, false, cond, not, ◌&&◌, Option, Some, None, List, [], ◌∷◌, ◌++◌, length, refl, sym, ap, subst, arith, length-append}
 use Rattle.std.specs.Prelude.{Result, Ok, Err, IfOk, OnOk, OnErr}
 use Rattle.lapin_types.specs.declared.event.Event.{Event}
 use Rattle.lapin_types.specs.declared.event.Event.TheVariants as event
@@ -17,8 +17,8 @@ use Rattle.lapin_call.specs.declared.step.CallStep.{CallStep}
 use Rattle.lapin_call.specs.declared.step.CallStep.TheVariants as step
 use Rattle.lapin_call.specs.declared.step.CallReport.{CallReport}
 use Rattle.lapin_machine.specs.Way.{Way, by_history, by_machine}
-use Rattle.lapin_call.specs.Calls.{Desk, met, begun, is_ready, consuming, requesting, next_call, item_of, is_item, Gathered, heard, polled, polls, waiting_for, gather_from, gathered, new_desk, after, report, reports, run, calls, calls_to}
-use Rattle.lapin_call.specs.Kept.{Kept, AreAlike, StandsFor, GoesOn, IsKept}
+use Rattle.lapin_call.specs.Calls.{Desk, met, begun, is_ready, consuming, requesting, next_call, item_of, is_item, Gathered, heard, polled, polls, waiting_for, gather_from, new_desk, after, report, reports, run, calls, calls_to}
+use Rattle.lapin_call.specs.Kept.{Kept, AreAlike, StandsFor, GoesOn}
 use Rattle.lapin_call.proofs.Alike.{alike-next, new_alike}
 use Rattle.lapin_call.proofs.Items.{numbers_polled}
 

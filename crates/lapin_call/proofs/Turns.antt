@@ -1,8 +1,7 @@
 -- A server is done with the requests that it is handed in their order, each once.
-use Rattle.std.proofs.Common.{◌≡◌, ◌∙◌, ℕ, Bool, true, false, List, [], ◌∷◌, ◌++◌, Option, Some, None, refl, sym, ap, append_assoc, append-nil, ◌⊎◌, inl, inr}
+use Rattle.std.proofs.Common.{◌≡◌, ◌∙◌, ℕ, Bool, true, false, List, [], ◌∷◌, ◌++◌, Option, Some, None, sym, ap, append_assoc, append-nil, inl, inr}
 use Rattle.std.specs.Prelude.{Result, Ok, Err}
 use Rattle.lapin_types.specs.Types.{Error}
-use Rattle.lapin_types.specs.declared.message.Delivery.{Delivery}
 use Rattle.lapin_types.specs.declared.event.Event.TheVariants as event
 use Rattle.lapin_history.specs.Wire.{state_of, is_open}
 use Rattle.lapin_machine.specs.World.{World, told_by, next}
@@ -13,7 +12,7 @@ use Rattle.lapin_call.specs.declared.server.Held.{Held}
 use Rattle.lapin_call.specs.declared.server.Polled.{Polled}
 use Rattle.lapin_call.specs.declared.server.Polled.TheVariants as polled
 use Rattle.lapin_call.specs.declared.server.Server.{Server}
-use Rattle.lapin_call.specs.Serving.{address_of, is_taken_on, item_polled, IsAcknowledged, IsUnanswered, IsNewlyAnswered, IsAnswered, IsRejected, IsServedTo, IsServedOn, IsDoneWith, IsDone, IsTried, IsNext, IsTaken, IsServed}
+use Rattle.lapin_call.specs.Serving.{address_of, is_taken_on, item_polled, IsAcknowledged, IsAnswered, IsRejected, IsServedTo, IsServedOn, IsDoneWith, IsTried, IsNext, IsTaken}
 use Rattle.lapin_call.specs.Turns.{Turn, AreTurns, kept_tags, given_tags, handed_tags, done_tags, all_handed, all_done}
 
 -- what is kept of a request where the call was refused, or else that the call was done with it

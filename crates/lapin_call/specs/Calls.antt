@@ -1,6 +1,6 @@
 -- Requests and replies over queues: a session whose channel 1 publishes the requests and consumes the replies. What a step does, and
 -- what it reports.
-use Rattle.std.specs.Prelude.{ℕ, zero, suc, ◌+◌, ◌^◌, Bool, true, false, not, ◌&&◌, if◌then◌else◌, List, [], ◌∷◌, ◌++◌, Option, Some, None, Result, Ok, Err, length, decimal}
+use Rattle.std.specs.Prelude.{ℕ, zero, suc, ◌+◌, Bool, true, false, not, ◌&&◌, if◌then◌else◌, List, [], ◌∷◌, ◌++◌, Option, Some, None, Result, Ok, Err, length, decimal}
 use Rattle.lapin_values.specs.Properties.{Properties, no_properties}
 use Rattle.lapin_types.specs.Types.{Error}
 use Rattle.lapin_types.specs.declared.event.Event.{Event}
@@ -12,7 +12,6 @@ use Rattle.lapin_types.specs.declared.message.Delivery.{Delivery}
 use Rattle.lapin_consumer.specs.Roster.{Consumer, Handed, consumer_at, found}
 use Rattle.lapin_history.specs.Wire.{Wire, state_of, is_open}
 use Rattle.lapin_history.specs.History.{History}
-use Rattle.lapin_machine.specs.World.{World}
 use Rattle.lapin_machine.specs.Way.{Way, by_history}
 use Rattle.lapin_call.specs.Fates.{no_tally, match_in, counted, after_delivery, after_error, take_report, after_take, fate_at}
 use Rattle.lapin_call.specs.declared.fates.Fate.{Fate}

@@ -1,5 +1,5 @@
 -- What became of calls, each known by its number from 1 in the order of asking.
-use Rattle.std.specs.Prelude.{ℕ, zero, suc, ◌+◌, ◌^◌, Bool, true, false, List, [], ◌∷◌, Option, Some, None, Result, Ok, Err, map, slice_get, slice_set}
+use Rattle.std.specs.Prelude.{ℕ, zero, suc, ◌+◌, ◌^◌, Bool, true, false, List, Option, Some, None, map, slice_get, slice_set}
 use Rattle.lapin_types.specs.Types.{Error}
 use Rattle.lapin_types.specs.declared.message.Delivery.{Delivery}
 use Rattle.lapin_scalars.specs.Reading.{scalar_of}

@@ -10,8 +10,8 @@ use Rattle.lapin_call.specs.declared.step.CallStep.TheVariants as step
 use Rattle.lapin_call.specs.declared.step.CallReport.{CallReport}
 use Rattle.lapin_call.specs.declared.step.CallReport.TheVariants as reported
 use Rattle.lapin_call.specs.Fates.{take_report}
-use Rattle.lapin_call.specs.Calls.{Desk, item_of, after, report, reports, calls, calls_to}
-use Rattle.lapin_call.specs.Outcome.{Item, outcome, deliveries}
+use Rattle.lapin_call.specs.Calls.{Desk, item_of, after, report, calls_to}
+use Rattle.lapin_call.specs.Outcome.{Item, outcome}
 
 -- an item, or none
 abbrev pub listed : Option Item → List Item

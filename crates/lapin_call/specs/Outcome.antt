@@ -1,5 +1,5 @@
 -- What becomes of a call, read off the items that the collecting of replies heard once it was asked.
-use Rattle.std.specs.Prelude.{ℕ, ◌+◌, ◌==◌, Bool, true, false, if◌then◌else◌, List, [], ◌∷◌, Option, Some, None, Result, Ok, Err}
+use Rattle.std.specs.Prelude.{ℕ, ◌+◌, ◌==◌, Bool, false, if◌then◌else◌, List, [], ◌∷◌, Option, Some, None, Result, Ok, Err}
 use Rattle.lapin_types.specs.Types.{Error}
 use Rattle.lapin_types.specs.declared.message.Delivery.{Delivery}
 use Rattle.lapin_call.specs.Fates.{named_by, match_in, counted, after_delivery, after_error}

@@ -1,5 +1,5 @@
 -- Calls of a server in a row: which requests it was handed, and which it was done with, by their delivery tags.
-use Rattle.std.specs.Prelude.{◌≡◌, ℕ, List, [], ◌∷◌, ◌++◌, Option, Some, None, Result, Ok, Err}
+use Rattle.std.specs.Prelude.{◌≡◌, ℕ, List, [], ◌∷◌, ◌++◌, Option, Some, None, Result, Ok}
 use Rattle.lapin_types.specs.Types.{Error}
 use Rattle.lapin_types.specs.declared.event.Event.TheVariants as event
 use Rattle.lapin_machine.specs.World.{World, told_by}

@@ -1,5 +1,5 @@
 -- The lines of steps: which step a line is of is told by the word in front.
-use Rattle.std.proofs.Common.{◌≡◌, ◌≢◌, ℕ, ◌<◌, List, [], ◌∷◌, ◌++◌, length, Option, Some, None, true, refl, sym, ap, subst, ◌∙◌, arith, eqb, decimal}
+use Rattle.std.proofs.Common.{◌≡◌, ◌≢◌, ℕ, List, [], ◌∷◌, ◌++◌, Option, Some, None, true, refl, sym, ap, subst, ◌∙◌, arith, eqb, decimal}
 use Rattle.std.specs.Prelude.{codes}
 use Rattle.std.specs.List.{join_with_byte, slice_split}
 use Rattle.std.proofs.lemmas.List.{append-nil}
@@ -20,7 +20,7 @@ use Rattle.lapin_text.specs.LineReading.{whole}
 use Rattle.lapin_text.proofs.LineLaws.{same_line}
 use Rattle.lapin_call.specs.declared.step.CallStep.{CallStep}
 use Rattle.lapin_call.specs.declared.step.CallStep.TheVariants as step
-use Rattle.lapin_call_text.specs.Steps.{step_line, HasLine, IsLineOf, NoLine}
+use Rattle.lapin_call_text.specs.Steps.{IsLineOf, NoLine}
 use Rattle.lapin_call_text.specs.Reading.{asked_of, asked_in, step_of_event}
 
 first_is : (x y : ℕ) (xs ys : List ℕ) → x ∷ xs ≡ y ∷ ys → x ≡ y

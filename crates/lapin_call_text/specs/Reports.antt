@@ -3,7 +3,7 @@ use Rattle.std.specs.Prelude.{ℕ, List, [], ◌∷◌, ◌++◌, codes}
 use Rattle.std.specs.List.{join_with_byte, flat_map}
 use Rattle.lapin_tokens.specs.Fields.{token, wide_number}
 use Rattle.lapin_tokens.specs.Fields.Field.{bytes}
-use Rattle.lapin_text.specs.Records.{record_tokens, error_tokens, state_name, line_onto}
+use Rattle.lapin_text.specs.Records.{record_tokens, error_tokens, state_name}
 use Rattle.lapin_call.specs.declared.step.CallReport.{CallReport}
 use Rattle.lapin_call.specs.declared.step.CallReport.TheVariants as reported
 

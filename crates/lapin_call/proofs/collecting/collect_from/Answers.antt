@@ -1,5 +1,4 @@
 use Rattle.std.proofs.Common.{◌≡◌, ◌∙◌, suc, Some, Ok, Err, refl, sym, ap, arith}
-use Rattle.std.specs.Prelude.{Result}
 use Rattle.lapin_machine.specs.World.{World}
 use Rattle.lapin_machine.specs.Way.{by_machine}
 use Rattle.lapin_call.specs.Calls.{Gathered, is_item, heard, polls, waiting_for}

@@ -1,4 +1,4 @@
-use Rattle.std.proofs.Common.{◌≡◌, ◌∙◌, ◌<◌, length, sym, ap, arith, slice_set}
+use Rattle.std.proofs.Common.{◌∙◌, ◌<◌, length, sym, ap, arith, slice_set}
 use Rattle.std.proofs.lemmas.List.Edits.{map_over_more}
 use Rattle.lapin_call.specs.Fates.{ended_by}
 use Rattle.lapin_call.proofs.fates.end_waiting.Goals as goal

@@ -1,4 +1,4 @@
-use Rattle.std.proofs.Common.{◌≡◌, ◌∙◌, ap, arith, Err}
+use Rattle.std.proofs.Common.{◌∙◌, ap, arith, Err}
 use Rattle.lapin_call.proofs.server.no_text.Goals as goal
 
 pub unreachable-requires : goal.unreachable-requires

@@ -1,4 +1,3 @@
-use Rattle.std.proofs.Common.{◌∙◌, ap, sym}
 use Rattle.lapin_call_text.proofs.StepLaws.{asked_found, asked_none}
 use Rattle.lapin_call_text.proofs.steps.ask_step.Goals as goal
 

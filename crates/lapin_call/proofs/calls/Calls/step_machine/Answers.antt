@@ -1,4 +1,4 @@
-use Rattle.std.proofs.Common.{◌≡◌, ◌+◌, ◌<◌, ◌^◌, refl, ap, arith}
+use Rattle.std.proofs.Common.{◌+◌, ◌<◌, ◌^◌, refl, ap, arith}
 use Rattle.lapin_call.specs.Kept.{Kept}
 use Rattle.lapin_call.proofs.Steps.{goes_on}
 use Rattle.lapin_call.proofs.calls.Calls.step_machine.Goals as goal
