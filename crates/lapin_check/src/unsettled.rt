@@ -88,7 +88,14 @@ fn settle_in(
     if settlement.multiple {
         settle_first(places, settlement, opening, place, account);
     } else {
-        settle_one(places, settlement.number, settlement, opening, place, account);
+        settle_one(
+            places,
+            settlement.number,
+            settlement,
+            opening,
+            place,
+            account,
+        );
     }
 }
 
