@@ -14,10 +14,10 @@ use Rattle.lapin_check.specs.declared.account.Settled.{Settled}
 use Rattle.lapin_check.specs.declared.account.Counted.{Counted}
 use Rattle.lapin_check.specs.declared.finding.Finding.TheVariants as found
 use Rattle.lapin_check.specs.Finding.{after_seen, fits, fault, finding_from, finding, fitting}
-use Rattle.lapin_check.specs.Openings.{broker_after, opened}
+use Rattle.lapin_check.specs.Openings.{opened}
 use Rattle.lapin_check.specs.Settlements.{settlement_in, covers}
 use Rattle.lapin_check.specs.Account.{numbered, place_after, told_of, first_covering, counted_at, with_settlement, account_from, account_of}
-use Rattle.lapin_check.specs.Marks.{Watch, count_at, opens_after, IsAfter, mark, marked, counted_by, with_publish, account_after, new_watch}
+use Rattle.lapin_check.specs.Marks.{Watch, count_at, opens_after, IsAfter, mark, marked, counted_by, account_after, new_watch}
 use Rattle.lapin_check.specs.Pointing.{IsKept}
 use Rattle.lapin_check.proofs.Following.{Follows, follows-next, follows-new}
 use Rattle.lapin_check.proofs.Keeping.{kept-new}

@@ -1,7 +1,6 @@
 -- The places that are kept of each channel go on pointing at what isn't settled, whatever is read and sent.
 use Rattle.std.proofs.Common.{◌≡◌, ◌≢◌, ℕ, zero, suc, ◌+◌, ◌<◌, ◌≤◌, ◌==◌, Bool, true, false, true≢false, ◌&&◌, cond, List, [], ◌∷◌, ◌++◌, length, map, slice_get, Option, Some, None, refl, sym, ap, subst, ◌∙◌, arith, inl, inr, eq-eqb, length-append}
 use Rattle.std.specs.Prelude.{nat_lt}
-use Rattle.std.specs.Option.{option_map}
 use Rattle.std.proofs.lemmas.Bool.Decides.{eqb_tells, nat_tests}
 use Rattle.std.proofs.lemmas.Option.{slice_get-map}
 use Rattle.lapin_types.specs.Types.{Frame}
@@ -17,10 +16,10 @@ use Rattle.lapin_check.specs.Openings.{opens}
 use Rattle.lapin_check.specs.Settlements.{settlement_in}
 use Rattle.lapin_check.specs.Account.{numbered}
 use Rattle.lapin_check.specs.Marks.{Watch, new_watch, count_at, with_count, opens_after, IsAfter, mark, counted_by, account_after}
-use Rattle.lapin_check.specs.Pointing.{IsUnsettled, Points, Stands, IsKept, places_of, emptied, joined_by, places_read, AreRead, AreSettled, AreSettledBy, AreFound}
+use Rattle.lapin_check.specs.Pointing.{IsUnsettled, Points, Stands, IsKept, places_of, emptied, joined_by, places_read, AreRead, AreSettledBy, AreFound}
 use Rattle.lapin_check.proofs.Counts.{more_if, counted_if}
 use Rattle.lapin_check.proofs.Pointing.{get_either, mapped, mark_channel, mark_opening, points_joined, points_aside, points_other, points_none}
-use Rattle.lapin_check.proofs.Numbering.{rests, Moves, read_other, read_moves, Sent, send_other, send_moves, settlement_is, settler_busy}
+use Rattle.lapin_check.proofs.Numbering.{rests, Moves, read_other, read_moves, Sent, send_other, send_moves, settler_busy}
 
 -- nothing is kept at first
 pub kept-new : (m : ℕ) → IsKept 0 (new_watch m) []

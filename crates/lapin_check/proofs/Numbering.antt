@@ -1,14 +1,12 @@
 -- What a channel of a broker is after a frame: free, or with the numbers that it had, or with one more.
-use Rattle.std.proofs.Common.{◌≡◌, ◌≢◌, ◌⊎◌, ℕ, zero, suc, ◌==◌, Bool, true, false, true≢false, ◌&&◌, ◌||◌, not, cond, List, [], ◌∷◌, ◌++◌, length, Option, Some, None, refl, sym, ap, subst, ◌∙◌, inl, inr, ne_eqb, eq-eqb}
+use Rattle.std.proofs.Common.{◌≡◌, ◌≢◌, ◌⊎◌, ℕ, zero, suc, ◌==◌, Bool, true, false, true≢false, ◌&&◌, cond, List, [], ◌∷◌, ◌++◌, length, Option, Some, None, refl, sym, ap, subst, ◌∙◌, inl, inr, ne_eqb, eq-eqb}
 use Rattle.std.specs.Prelude.{is_some}
 use Rattle.std.specs.Option.{option_map, option_or}
-use Rattle.std.proofs.lemmas.Bool.Decides.{eqb_tells}
-use Rattle.lapin_types.specs.Types.{Frame, Method, BasicMethod}
+use Rattle.lapin_types.specs.Types.{Frame}
 use Rattle.lapin_types.specs.Types.frame
 use Rattle.lapin_types.specs.Types.method
 use Rattle.lapin_types.specs.Types.basic
 use Rattle.lapin_tables.specs.ByChannel.{at_channel, on_channel}
-use Rattle.lapin_tables.specs.Numbered.{with_under}
 use Rattle.lapin_tables.proofs.Channels.{at-push, at-on_same, at-on_other, or-none}
 use Rattle.lapin_tables.proofs.SlotLaws.{length-with}
 use Rattle.lapin_broker.specs.declared.content.Content.{Content}
@@ -21,7 +19,7 @@ use Rattle.lapin_broker.specs.declared.peer.Peer.TheVariants as peer
 use Rattle.lapin_broker.specs.Contents.{is_idle}
 use Rattle.lapin_broker.specs.Frames.{channel_of, tag_of, client_frame, broker_frame}
 use Rattle.lapin_broker.specs.Numbers.{settled_through, after_settlement}
-use Rattle.lapin_broker.specs.States.{Channel, Broker, free_channel, channel_in, channel_at, with_channel, is_up, is_leaving, owes_connection, state_of_peer, after_break}
+use Rattle.lapin_broker.specs.States.{Channel, Broker, free_channel, channel_in, channel_at, with_channel, is_up, is_leaving, state_of_peer}
 use Rattle.lapin_broker.specs.Reads as reads
 use Rattle.lapin_broker.specs.Reads.{read, read_in, read_open, read_up, read_on, read_piece, with_piece, number_on, with_next_number, content_after, admits, breaks_in, read_channel}
 use Rattle.lapin_broker.specs.Sends as sends

@@ -1,12 +1,11 @@
 -- The places of the channels in their table, as one channel's change.
-use Rattle.std.proofs.Common.{◌≡◌, ◌≢◌, ℕ, zero, suc, ◌==◌, Bool, true, false, cond, List, [], ◌∷◌, ◌++◌, length, map, Option, Some, None, refl, sym, ap, subst, ◌∙◌, ne_eqb, eq-eqb}
+use Rattle.std.proofs.Common.{◌≡◌, ◌≢◌, ℕ, zero, suc, ◌==◌, cond, List, [], ◌∷◌, ◌++◌, length, map, Option, Some, None, refl, sym, ap, subst, ◌∙◌, ne_eqb, eq-eqb}
 use Rattle.std.specs.Option.{option_map, option_or}
 use Rattle.lapin_tables.specs.ByChannel.{at_channel, on_channel}
 use Rattle.lapin_tables.specs.Numbered.{Slots, under}
 use Rattle.lapin_tables.proofs.Channels.{at-push, at-on_same, at-on_other, or-none}
 use Rattle.lapin_check.specs.declared.seen.Settlement.{Settlement}
 use Rattle.lapin_check.specs.declared.account.Counted.{Counted}
-use Rattle.lapin_check.specs.Settlements.{reaches}
 use Rattle.lapin_check.specs.Marks.{mark}
 use Rattle.lapin_check.specs.Pointing.{slots_in, places_of, Points, AreSettled}
 use Rattle.lapin_check.proofs.Pointing.{none_left}

@@ -1,11 +1,11 @@
 -- What a settlement does to the account is done by what it finds through the places of its channel, and by that alone.
 use Rattle.std.proofs.Common.{◌≡◌, ◌≢◌, ◌⊎◌, ℕ, zero, suc, ◌+◌, ◌<◌, ◌≤◌, ◌==◌, nat_le, Bool, true, false, true≢false, ◌&&◌, ◌||◌, not, cond, List, [], ◌∷◌, ◌++◌, length, map, slice_get, slice_set, Option, Some, None, refl, sym, ap, subst, ◌∙◌, arith, inl, inr, eq-eqb}
-use Rattle.std.specs.Option.{is_some, option_map, IsSome}
+use Rattle.std.specs.Option.{is_some, option_map}
 use Rattle.std.proofs.lemmas.Bool.Decides.{eqb_tells, nat_tests}
 use Rattle.std.proofs.lemmas.Option.{slice_get-map, slice_get_within}
 use Rattle.lapin_tables.specs.Numbered.{under, with_under, first_kept}
 use Rattle.lapin_tables.proofs.Lists.{get-set_same, get-set_other}
-use Rattle.lapin_tables.proofs.SlotLaws.{given, under-same, under-other, under-push, under-last, under-pushed, first-least, first-none}
+use Rattle.lapin_tables.proofs.SlotLaws.{under-same, under-other, under-push, under-last, under-pushed, first-least, first-none}
 use Rattle.lapin_check.specs.declared.seen.Settlement.{Settlement}
 use Rattle.lapin_check.specs.declared.account.Settled.{Settled}
 use Rattle.lapin_check.specs.declared.account.Counted.{Counted}

@@ -1,11 +1,10 @@
 -- What a frame does to the broker that follows a transcript, to its count of opens, and to the account so far. The account is read
 -- off the frames alone in Account; here it goes on frame by frame.
-use Rattle.std.specs.Prelude.{◌≡◌, ℕ, suc, Bool, ◌&&◌, not, nat_lt, if◌then◌else◌, List, [], ◌∷◌, ◌++◌, length, map, Option, Some, None}
+use Rattle.std.specs.Prelude.{◌≡◌, ℕ, suc, ◌&&◌, not, nat_lt, if◌then◌else◌, List, [], ◌∷◌, ◌++◌, map, Option, Some, None}
 use Rattle.std.specs.Option.{is_some}
-use Rattle.lapin_types.specs.Types.{Frame}
 use Rattle.lapin_tables.specs.ByChannel.{at_channel, on_channel}
 use Rattle.lapin_tables.specs.Numbered.{Slots}
-use Rattle.lapin_broker.specs.States.{Broker, new_broker, channel_at}
+use Rattle.lapin_broker.specs.States.{Broker, new_broker}
 use Rattle.lapin_broker.specs.Frames.{channel_of}
 use Rattle.lapin_broker.specs.Reads.{read}
 use Rattle.lapin_check.specs.declared.seen.Seen.{Seen}

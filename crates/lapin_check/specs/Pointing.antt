@@ -1,6 +1,6 @@
 -- Where the publishes of a channel's present opening stand in the account, by their numbers, each until it is settled. So a settlement
 -- finds what it covers, and walks over nothing else.
-use Rattle.std.specs.Prelude.{◌≡◌, ◌≢◌, ◌≤◌, ℕ, ◌==◌, Bool, true, false, nat_lt, if◌then◌else◌, List, [], ◌∷◌, ◌++◌, length, map, Option, Some, None, slice_get}
+use Rattle.std.specs.Prelude.{◌≡◌, ◌≢◌, ◌≤◌, ℕ, Bool, true, false, nat_lt, if◌then◌else◌, List, [], ◌∷◌, ◌++◌, length, map, Option, Some, None, slice_get}
 use Rattle.lapin_types.specs.Types.{Frame}
 use Rattle.lapin_tables.specs.ByChannel.{at_channel}
 use Rattle.lapin_tables.specs.Numbered.{Slots, under}

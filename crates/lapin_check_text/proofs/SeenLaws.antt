@@ -3,9 +3,8 @@ use Rattle.std.proofs.Common.{◌≡◌, ◌≢◌, ℕ, List, ◌∷◌, ◌++�
 use Rattle.std.specs.Prelude.{codes}
 use Rattle.lapin_types.specs.Types.{Frame}
 use Rattle.lapin_text.specs.Frames.{frame_text, FrameFits}
-use Rattle.lapin_check.specs.declared.seen.Seen.{Seen}
 use Rattle.lapin_check.specs.declared.seen.Seen.TheVariants as seen
-use Rattle.lapin_check_text.specs.Seen.{seen_line, HasLine, IsLineOf, NoLine}
+use Rattle.lapin_check_text.specs.Seen.{IsLineOf, NoLine}
 
 first_is : (x y : ℕ) (xs ys : List ℕ) → x ∷ xs ≡ y ∷ ys → x ≡ y
 first_is x y xs ys e = cc

@@ -1,5 +1,5 @@
 -- Marks in which each publish of channel 1 leaves after its opening was selected: none of their confirms is not requested.
-use Rattle.std.proofs.Common.{◌≡◌, ◌∙◌, ℕ, zero, suc, ◌+◌, ◌<◌, ◌≤◌, ◌==◌, Bool, true, false, true≢false, ◌&&◌, ◌||◌, cond, List, [], ◌∷◌, ◌++◌, Option, Some, None, refl, sym, ap, subst, append_assoc, append-nil, arith, inl, inr, ◌⊎◌}
+use Rattle.std.proofs.Common.{◌≡◌, ◌∙◌, ℕ, zero, suc, ◌+◌, ◌<◌, ◌==◌, Bool, true, false, true≢false, ◌&&◌, ◌||◌, cond, List, [], ◌∷◌, ◌++◌, Option, Some, None, refl, sym, ap, subst, append_assoc, append-nil, arith}
 use Rattle.std.specs.Prelude.{nat_lt, nat_le}
 use Rattle.std.specs.List.{list_any, AllByRecursion}
 use Rattle.std.specs.Option.{option_or}
@@ -11,8 +11,8 @@ use Rattle.lapin_history.specs.declared.marks.Outcome.{Outcome}
 use Rattle.lapin_history.specs.declared.marks.Outcome.TheVariants as outcome
 use Rattle.lapin_history.specs.ConfirmMarks.{ConfirmMark}
 use Rattle.lapin_history.specs.ConfirmMarks as mark
-use Rattle.lapin_history.specs.ConfirmReadings.{begins, adds, selects, leaves, is_begun, is_selected, opening, place, channel_in, channel_of, accepted, added, was_added, has_left, tag_of, tag_on, covers, kind_outcome, outcome_of, settlement_on, first_settled, rejection_on, first_rejected, outcome_at, outcome_after, life}
-use Rattle.lapin_history.specs.Words.{since, through, after, many, nth, one_after}
+use Rattle.lapin_history.specs.ConfirmReadings.{begins, adds, selects, leaves, is_begun, is_selected, place, channel_in, channel_of, added, was_added, has_left, tag_of, tag_on, covers, kind_outcome, outcome_of, first_settled, first_rejected, outcome_at, outcome_after, life}
+use Rattle.lapin_history.specs.Words.{since, through, after, many, one_after}
 use Rattle.lapin_history.proofs.ListLaws.{since-push, since_none}
 use Rattle.lapin_effects.specs.Effects.{grows}
 

@@ -1,9 +1,8 @@
 -- A session whose publishes leave after its select: what holds of its states, lists and marks, over every event of a publisher.
-use Rattle.std.proofs.Common.{◌≡◌, ◌∙◌, ℕ, zero, suc, ◌+◌, ◌==◌, Bool, true, false, true≢false, ◌&&◌, ◌||◌, not, cond, List, [], ◌∷◌, ◌++◌, append-nil, Option, Some, None, refl, sym, ap, subst, inl, inr, ◌⊎◌}
+use Rattle.std.proofs.Common.{◌≡◌, ◌∙◌, ℕ, ◌+◌, ◌==◌, Bool, true, false, true≢false, ◌&&◌, ◌||◌, not, cond, List, [], ◌∷◌, ◌++◌, append-nil, Option, Some, None, refl, sym, ap, subst, inl, inr, ◌⊎◌}
 use Rattle.std.specs.List.{list_any, filter, find, AllByRecursion}
 use Rattle.std.specs.Option.{option_map}
 use Rattle.std.proofs.lemmas.Bool.Decides.{eqb_tells}
-use Rattle.lapin_types.specs.declared.call.Call.{Call}
 use Rattle.lapin_types.specs.declared.call.Call.TheVariants as call
 use Rattle.lapin_types.specs.declared.event.Event.{Event}
 use Rattle.lapin_types.specs.declared.event.Event.TheVariants as event
@@ -11,7 +10,7 @@ use Rattle.lapin_types.specs.declared.leaving.Left.{Left}
 use Rattle.lapin_types.specs.declared.leaving.Publish.{Publish}
 use Rattle.lapin_types.specs.declared.record.Record.{Record}
 use Rattle.lapin_types.specs.declared.record.Record.TheVariants as record_
-use Rattle.lapin_types.specs.Types.{Error, Method, Frame}
+use Rattle.lapin_types.specs.Types.{Error, Frame}
 use Rattle.lapin_types.specs.Types.error
 use Rattle.lapin_types.specs.Types.frame
 use Rattle.lapin_types.specs.Types.method
@@ -20,15 +19,13 @@ use Rattle.lapin_history.specs.declared.broker_frames.Incoming.{Incoming}
 use Rattle.lapin_history.specs.declared.broker_frames.Incoming.TheVariants as incoming
 use Rattle.lapin_history.specs.declared.phases.ChannelPhase.{ChannelPhase}
 use Rattle.lapin_history.specs.declared.phases.ChannelPhase.TheVariants as phase
-use Rattle.lapin_history.specs.declared.phases.ConnectionPhase.{ConnectionPhase}
 use Rattle.lapin_history.specs.ConfirmMarks.{ConfirmMark}
 use Rattle.lapin_history.specs.ConfirmMarks as mark
-use Rattle.lapin_history.specs.ConfirmReadings.{begins, selects, is_begun, is_selected}
-use Rattle.lapin_history.specs.Drops.{is_off, is_on, publish_channel, method_channel}
+use Rattle.lapin_history.specs.ConfirmReadings.{begins, is_begun, is_selected}
+use Rattle.lapin_history.specs.Drops.{is_off, publish_channel, method_channel}
 use Rattle.lapin_history.specs.Ends.{ends, ends_all, live_channels, end_with}
 use Rattle.lapin_history.specs.Events.{record_of, after_event, confirm_marks}
 use Rattle.lapin_history.specs.Frames.{MethodEntry, RestEntry, left_rest, left_method, left_publish, publish_method, rest_of}
-use Rattle.lapin_history.specs.History.{Past, longer, record_after, readings_of}
 use Rattle.lapin_history.specs.Handing.{handed_out, began_on, after_handing, left_marks, sent}
 use Rattle.lapin_history.specs.Leaving.{may_begin, begun_rest}
 use Rattle.lapin_history.specs.Words.{without_first}
@@ -44,13 +41,13 @@ use Rattle.lapin_content.specs.declared.start.Start.TheVariants as start
 use Rattle.lapin_content.specs.declared.Whole.{Whole}
 use Rattle.lapin_history.specs.Select.{is_select, method_marks}
 use Rattle.lapin_history.specs.Wire.{Wire, state_of, phase_of, is_closed, is_open, with_lists}
-use Rattle.lapin_effects.specs.Effects.{Effect, Stays, Closes, Opens, Adds, Ends, Falls, Sinks, live, grows, moves, is_next, HasEffect}
+use Rattle.lapin_effects.specs.Effects.{Effect, Stays, Closes, Opens, Adds, Ends, Falls, Sinks, live, grows, is_next}
 use Rattle.lapin_effects.proofs.Events.{has_effect}
 use Rattle.lapin_machine.proofs.Brought.{none_begins}
 use Rattle.lapin_laws.proofs.Going.{up_sent, live_sent, handed_begun, next_publish}
 use Rattle.lapin_resend.specs.Messages.{Standing}
 use Rattle.lapin_resend.specs.Publisher.{publishing}
-use Rattle.lapin_resend_laws.proofs.Marks.{one_still, Requested, requested-push, IsOnOne, IsRight, Still, quiet_still, begun-push, selected_stays, selected-push}
+use Rattle.lapin_resend_laws.proofs.Marks.{one_still, Requested, requested-push, Still, quiet_still, begun-push, selected-push}
 
 -- ---- what is kept
 

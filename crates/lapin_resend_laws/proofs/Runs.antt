@@ -1,26 +1,25 @@
 -- The joined runs of a publisher are ready after every step.
-use Rattle.std.proofs.Common.{◌≡◌, ◌∙◌, ℕ, Bool, true, false, true≢false, ◌&&◌, not, cond, List, [], ◌∷◌, ◌++◌, Option, Some, None, refl, sym, ap, subst, inl}
+use Rattle.std.proofs.Common.{◌≡◌, ◌∙◌, ℕ, Bool, true, false, true≢false, ◌&&◌, not, cond, List, [], ◌∷◌, ◌++◌, Option, Some, None, refl, sym, subst, inl}
 use Rattle.std.specs.List.{AllByRecursion}
 use Rattle.lapin_types.specs.declared.call.Call.TheVariants as call
-use Rattle.lapin_types.specs.declared.event.Event.{Event}
 use Rattle.lapin_types.specs.declared.event.Event.TheVariants as event
 use Rattle.lapin_types.specs.declared.leaving.Left.{Left}
 use Rattle.lapin_types.specs.Types.{Frame}
 use Rattle.lapin_history.specs.History.{History, Past, past, rec, readings_of}
 use Rattle.lapin_history.specs.Incoming.{incoming_of}
 use Rattle.lapin_history.specs.Polls.{is_confirmed}
-use Rattle.lapin_history.specs.Wire.{Wire, start, state_of, is_closed, is_open}
+use Rattle.lapin_history.specs.Wire.{start, is_closed, is_open}
 use Rattle.lapin_machine.proofs.Standing.{past-push}
 use Rattle.lapin_machine.specs.Way.{by_history}
 use Rattle.lapin_broker.specs.Sends.{may}
 use Rattle.lapin_joint.specs.declared.step.Step as joined_step
 use Rattle.lapin_joint.specs.declared.step.Step.TheVariants as joined
-use Rattle.lapin_joint.specs.Joint.{Joint, new_joint, after, client, is_lawful, read_first, send_down, deliver_first, joined_to}
+use Rattle.lapin_joint.specs.Joint.{Joint, new_joint, after, read_first, send_down, deliver_first, joined_to}
 use Rattle.lapin_joint.proofs.Steps.{run-push}
 use Rattle.lapin_resend.specs.declared.step.ResendStep.{ResendStep}
 use Rattle.lapin_resend.specs.declared.step.ResendStep.TheVariants as step
 use Rattle.lapin_resend.specs.Messages.{Standing, waits, confirm_of}
-use Rattle.lapin_resend.specs.Publisher.{Publisher, Steps, Met, told, with_all, state_in, with_event, poll_at, poll_one, publishing, publish_one, each, after_polls, after_opening, after_selecting, after_publishing, tended}
+use Rattle.lapin_resend.specs.Publisher.{Publisher, Steps, Met, told, with_all, state_in, with_event, poll_at, poll_one, publishing, publish_one, each, after_polls, after_opening, after_selecting, tended}
 use Rattle.lapin_resend.specs.Resend.{begun, after_step, no_publisher, new_publisher, publisher_from, publisher_after, runs_of}
 use Rattle.lapin_resend.proofs.Out.{still_open}
 use Rattle.lapin_resend_laws.specs.Confirms.{confirms_in, NoneIsNotRequested}

@@ -1,9 +1,8 @@
 -- Each message that a publisher took for stored was acked: its confirm is a verdict.
-use Rattle.std.proofs.Common.{◌≡◌, ◌∙◌, ℕ, zero, suc, ◌+◌, ◌==◌, ◌≤◌, ◌<◌, Bool, true, false, true≢false, ◌&&◌, not, cond, List, [], ◌∷◌, ◌++◌, length, map, Option, Some, None, refl, sym, ap, subst, inl, inr, ◌⊎◌, append_assoc, append-nil, length-append, arith, add-one, add-zero}
-use Rattle.std.specs.Prelude.{Result, Ok, Err}
+use Rattle.std.proofs.Common.{◌≡◌, ◌∙◌, ℕ, zero, suc, ◌+◌, ◌==◌, Bool, true, false, ◌&&◌, not, cond, List, [], ◌∷◌, ◌++◌, length, Option, Some, None, refl, sym, ap, subst, inl, inr, ◌⊎◌, append_assoc, append-nil, length-append, arith, add-one, add-zero}
+use Rattle.std.specs.Prelude.{Ok, Err}
 use Rattle.std.specs.List.{AllByRecursion}
 use Rattle.lapin_types.specs.declared.call.Call.TheVariants as call
-use Rattle.lapin_types.specs.declared.confirmation.Confirmation.{Confirmation}
 use Rattle.lapin_types.specs.declared.confirmation.Confirmation.TheVariants as confirmation
 use Rattle.lapin_types.specs.declared.event.Event.{Event}
 use Rattle.lapin_types.specs.declared.event.Event.TheVariants as event
@@ -11,7 +10,7 @@ use Rattle.lapin_types.specs.declared.leaving.Left.{Left}
 use Rattle.lapin_types.specs.declared.message.BasicReturnMessage.{BasicReturnMessage}
 use Rattle.lapin_types.specs.declared.record.Record.{Record}
 use Rattle.lapin_types.specs.declared.record.Record.TheVariants as record_
-use Rattle.lapin_types.specs.Types.{Error, Frame}
+use Rattle.lapin_types.specs.Types.{Frame}
 use Rattle.lapin_types.specs.Types.error
 use Rattle.lapin_history.specs.declared.marks.Outcome.{Outcome}
 use Rattle.lapin_history.specs.declared.marks.Outcome.TheVariants as outcome
@@ -43,10 +42,10 @@ use Rattle.lapin_verdicts.specs.Publishes as publishes
 use Rattle.lapin_verdicts.specs.Verdicts.{at_place, message_by, messages_in, IsVerdict}
 use Rattle.lapin_resend.specs.declared.message.Message.{Message}
 use Rattle.lapin_resend.specs.Messages.{Standing, polled, waits, confirm_of}
-use Rattle.lapin_resend.specs.Publisher.{Publisher, Steps, Met, told, state_in, with_event, with_all, poll_at, poll_one, publishing, publish_one, each, after_polls, after_opening, after_selecting, after_publishing, tended}
+use Rattle.lapin_resend.specs.Publisher.{Publisher, Steps, Met, told, state_in, with_event, with_all, poll_at, poll_one, publishing, publish_one, each, after_polls, after_opening, after_selecting, tended}
 use Rattle.lapin_resend_laws.specs.Stored.{published, IsAcked, IsAckedIn, AnyOf}
 use Rattle.lapin_resend_laws.proofs.Runs.{IsRunReady, poll_runs, publish_ready, opening_ready, selecting_ready, selected_then}
-use Rattle.lapin_resend_laws.proofs.Marks.{Requested, on_channel}
+use Rattle.lapin_resend_laws.proofs.Marks.{on_channel}
 
 -- ---- a poll that tells of an ack
 

@@ -1,5 +1,5 @@
 -- What a publisher took for stored was acked, after every step.
-use Rattle.std.proofs.Common.{◌≡◌, ◌∙◌, ℕ, Bool, true, false, true≢false, cond, List, [], ◌∷◌, ◌++◌, Option, Some, None, refl, sym, ap, subst, inl, inr, ◌⊎◌, map}
+use Rattle.std.proofs.Common.{◌≡◌, ℕ, Bool, true, false, true≢false, cond, List, [], ◌∷◌, ◌++◌, refl, sym, subst, inl, inr, ◌⊎◌, map}
 use Rattle.std.specs.List.{AllByRecursion}
 use Rattle.lapin_types.specs.declared.event.Event.TheVariants as event
 use Rattle.lapin_types.specs.declared.leaving.Left.{Left}
@@ -18,7 +18,7 @@ use Rattle.lapin_resend.specs.Messages.{Standing, submitted, forgotten}
 use Rattle.lapin_resend.specs.Publisher.{Publisher, Steps, state_in, after_polls, after_opening, after_selecting, tended}
 use Rattle.lapin_resend.specs.Resend.{begun, after_step, no_publisher, new_publisher, publisher_from, publisher_after, runs_of}
 use Rattle.lapin_resend_laws.specs.Stored.{IsAckedIn, AnyOf, IsTruly}
-use Rattle.lapin_resend_laws.proofs.Runs.{IsReady, new_ready, run_ready, next_ready, read_ready, send_ready, deliver_ready}
+use Rattle.lapin_resend_laws.proofs.Runs.{new_ready, run_ready, next_ready, read_ready, send_ready, deliver_ready}
 use Rattle.lapin_resend_laws.proofs.Stored.{IsLaw, IsGood, acked_on, goes_on, IsCounted, run_counted, count_next, count_receive, Goes, Stands, tended_stands}
 
 -- ---- one of several joined runs

@@ -7,7 +7,7 @@ use Rattle.lapin_resend.specs.declared.message.Message.{Message}
 use Rattle.lapin_resend.specs.declared.step.ResendStep.{ResendStep}
 use Rattle.lapin_resend.specs.declared.step.ResendStep.TheVariants as step
 use Rattle.lapin_resend_text.specs.Messages.{message_text, MessageFits}
-use Rattle.lapin_resend_text.specs.Steps.{step_line, HasLine, IsLineOf, NoLine, IsBare, NoBare}
+use Rattle.lapin_resend_text.specs.Steps.{IsLineOf, NoLine, IsBare, NoBare}
 
 -- ---- lines that begin with other letters are others
 

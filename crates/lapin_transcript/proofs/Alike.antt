@@ -1,6 +1,5 @@
 -- What is seen of a joined run by the machine is what is seen of one by the history.
-use Rattle.std.proofs.Common.{◌≡◌, ◌∙◌, ℕ, cond, None, List, [], ◌∷◌, ◌++◌, refl, sym, ap, append_assoc}
-use Rattle.lapin_types.specs.declared.leaving.Left.{Left}
+use Rattle.std.proofs.Common.{◌≡◌, ◌∙◌, ℕ, cond, None, List, [], ◌∷◌, ◌++◌, refl, ap, append_assoc}
 use Rattle.lapin_history.specs.History.{History}
 use Rattle.lapin_machine.specs.World.{World, new_world}
 use Rattle.lapin_broker.specs.States.{Broker}

@@ -1,11 +1,10 @@
 -- A broker that is never broken is broken by no frame that it reads, and a joined run sends what may be sent; after a loss nothing is
 -- seen any more. So what is seen is fine.
-use Rattle.std.proofs.Common.{◌≡◌, ◌∙◌, ℕ, suc, ◌≤◌, Bool, true, false, cond, List, [], ◌∷◌, ◌++◌, refl, sym, ap, subst, append_assoc}
+use Rattle.std.proofs.Common.{◌≡◌, ◌∙◌, ℕ, suc, Bool, true, false, cond, List, [], ◌∷◌, ◌++◌, refl, sym, ap, subst}
 use Rattle.lapin_types.specs.declared.leaving.Left.{Left}
 use Rattle.lapin_types.specs.Types.{Frame}
-use Rattle.lapin_broker.specs.Reads.{read}
 use Rattle.lapin_broker.specs.Sends.{may}
-use Rattle.lapin_broker.specs.States.{Broker, is_broken, new_broker}
+use Rattle.lapin_broker.specs.States.{Broker, is_broken}
 use Rattle.lapin_history.specs.History.{History}
 use Rattle.lapin_machine.specs.Way.{Way, by_history}
 use Rattle.lapin_joint.specs.declared.step.Step.{Step}
@@ -13,7 +12,6 @@ use Rattle.lapin_joint.specs.declared.step.Step.TheVariants as step
 use Rattle.lapin_joint.specs.Joint.{Joint, new_joint, client, send_down, read_first, deliver_first, is_lawful, after, joined_to}
 use Rattle.lapin_joint.specs.Order.{along}
 use Rattle.lapin_joint.proofs.Steps.{run-push}
-use Rattle.lapin_check.specs.declared.seen.Seen.{Seen}
 use Rattle.lapin_check.specs.declared.seen.Seen.TheVariants as seen
 use Rattle.lapin_check.specs.declared.finding.Finding.TheVariants as found
 use Rattle.lapin_check.specs.Finding.{finding_from, finding}

@@ -1,19 +1,18 @@
 -- After a loss nothing is seen any more: the session hands nothing out, nothing is on the way up, and the broker may send nothing.
-use Rattle.std.proofs.Common.{◌≡◌, ◌∙◌, ℕ, Bool, true, false, true≢false, ◌&&◌, cond, None, List, [], ◌∷◌, ◌++◌, refl, sym, ap, subst}
+use Rattle.std.proofs.Common.{◌≡◌, ◌∙◌, ℕ, Bool, true, false, ◌&&◌, cond, None, List, [], ◌∷◌, ◌++◌, refl, sym, ap, subst}
 use Rattle.std.specs.List.{fold}
 use Rattle.lapin_types.specs.declared.event.Event.{Event}
 use Rattle.lapin_types.specs.declared.event.Event.TheVariants as event
 use Rattle.lapin_types.specs.declared.leaving.Left.{Left}
 use Rattle.lapin_types.specs.Types.{Frame}
 use Rattle.lapin_history.specs.Drops.{no_lists}
-use Rattle.lapin_history.specs.Handing.{handed}
 use Rattle.lapin_history.specs.History.{History}
 use Rattle.lapin_history.specs.Leaving.{Lists, handed_of}
 use Rattle.lapin_history.specs.Flow.{begins_on}
 use Rattle.lapin_history.specs.declared.phases.ConnectionPhase.TheVariants as link
 use Rattle.lapin_history.specs.Phases.{is_lost}
 use Rattle.lapin_history.specs.Ends.{down}
-use Rattle.lapin_history.specs.Wire.{Wire, lists_of}
+use Rattle.lapin_history.specs.Wire.{lists_of}
 use Rattle.lapin_machine.specs.World.{World, new_world, next}
 use Rattle.lapin_machine.specs.Way.{by_history, by_machine}
 use Rattle.lapin_laws.specs.Runs.{world_after}

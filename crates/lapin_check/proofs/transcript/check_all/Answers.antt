@@ -1,4 +1,4 @@
-use Rattle.std.proofs.Common.{◌∙◌, refl, add-one, arith}
+use Rattle.std.proofs.Common.{◌∙◌, add-one, arith}
 use Rattle.lapin_check.proofs.Filling.{seen_next, seen_fault, seen_all}
 use Rattle.lapin_check.proofs.transcript.check_all.Goals as goal
 

@@ -1,5 +1,4 @@
-use Rattle.std.proofs.Common.{◌∙◌, sym, ap}
-use Rattle.lapin_check.specs.Pointing.{slots_in}
+use Rattle.std.proofs.Common.{◌∙◌, sym}
 use Rattle.lapin_check.proofs.Places.{places-written, places-beside}
 use Rattle.lapin_check.proofs.unsettled.begin.Goals as goal
 

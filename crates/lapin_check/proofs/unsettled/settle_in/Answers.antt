@@ -1,4 +1,4 @@
-use Rattle.std.proofs.Common.{◌≡◌, ◌∙◌, None, refl, ap}
+use Rattle.std.proofs.Common.{◌∙◌, None, refl}
 use Rattle.lapin_tables.specs.Numbered.{with_under}
 use Rattle.lapin_tables.proofs.SlotLaws.{length-with}
 use Rattle.lapin_check.specs.Pointing.{Points}

@@ -1,4 +1,4 @@
-use Rattle.std.proofs.Common.{◌≡◌, ◌∙◌, sym, subst, refl, List, [], ◌++◌, append-nil}
+use Rattle.std.proofs.Common.{◌≡◌, sym, subst, refl, List, [], ◌++◌, append-nil}
 use Rattle.std.specs.Result.{OnOk, OnErr}
 use Rattle.lapin_machine.specs.Way.{by_machine}
 use Rattle.lapin_joint.specs.Kept.{Kept}

@@ -1,4 +1,4 @@
-use Rattle.std.proofs.Common.{◌≡◌, ◌∙◌, ◌+◌, refl, sym, ap, ℕ, List}
+use Rattle.std.proofs.Common.{◌+◌, refl}
 use Rattle.lapin_check.proofs.Counts.{counted_known}
 use Rattle.lapin_check.proofs.watch.Watch.count.Goals as goal
 

@@ -1,14 +1,7 @@
-use Rattle.std.proofs.Common.{◌≡◌, ◌∙◌, ◌<◌, ◌≤◌, suc, ℕ, Bool, cond, List, length, refl, sym, ap, subst, arith}
-use Rattle.std.specs.Prelude.{nat_lt}
-use Rattle.lapin_broker.specs.States.{Broker}
-use Rattle.lapin_broker.specs.Frames.{channel_of}
-use Rattle.lapin_broker.specs.Reads.{read}
-use Rattle.lapin_check.specs.declared.seen.Seen.TheVariants as seen
-use Rattle.lapin_check.specs.declared.account.Counted.{Counted}
+use Rattle.std.proofs.Common.{◌≡◌, ◌∙◌, length, sym, ap, subst, arith}
 use Rattle.lapin_check.specs.Openings.{opens}
-use Rattle.lapin_check.specs.Account.{numbered}
-use Rattle.lapin_check.specs.Marks.{Watch, count_at, IsAfter, account_after}
-use Rattle.lapin_check.specs.Pointing.{IsKept, AreRead, places_of, emptied}
+use Rattle.lapin_check.specs.Marks.{Watch}
+use Rattle.lapin_check.specs.Pointing.{IsKept, places_of, emptied}
 use Rattle.lapin_check.proofs.Keeping.{kept_read, emptied_short}
 use Rattle.lapin_check.proofs.watch.Watch.read.Goals as goal
 

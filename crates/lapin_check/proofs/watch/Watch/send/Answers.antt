@@ -1,5 +1,4 @@
-use Rattle.std.proofs.Common.{◌≡◌, ◌∙◌, true, sym, ap, subst}
-use Rattle.lapin_broker.specs.Sends.{may}
+use Rattle.std.proofs.Common.{◌∙◌, sym, subst}
 use Rattle.lapin_check.specs.Marks.{Watch}
 use Rattle.lapin_check.specs.Pointing.{IsKept}
 use Rattle.lapin_check.proofs.Keeping.{found_send, kept_send}
