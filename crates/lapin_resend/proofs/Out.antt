@@ -11,6 +11,7 @@ use Rattle.lapin_joint.specs.declared.step.Step as joined_step
 use Rattle.lapin_joint.specs.declared.step.Step.TheVariants as joined
 use Rattle.lapin_joint.specs.Joint.{Joint, new_joint, after, run, joined_to}
 use Rattle.lapin_machine.specs.Way.{Way, by_history}
+use Rattle.lapin_joint.proofs.Steps.{run-push}
 use Rattle.lapin_resend.specs.declared.step.ResendStep.{ResendStep}
 use Rattle.lapin_resend.specs.Messages.{Standing, waits, confirm_of}
 use Rattle.lapin_resend.specs.Publisher.{Publisher, Steps, Met, told, state_in, with_event, with_all, publishing, publish_one, each, after_polls, after_opening, after_selecting, tended}
@@ -18,10 +19,6 @@ use Rattle.lapin_resend.specs.Resend.{begun, after_step, no_publisher, new_publi
 use Rattle.lapin_resend.specs.Kept.{IsOut, AreOut}
 
 -- ---- the present session after one step more
-
-pub run-push : {S : Type 0} (m : Way S) (ss : Steps) (s : joined_step.Step) (j : Joint S) → run m (ss ++ s ∷ []) j ≡ after m s (run m ss j)
-run-push m [] s j = refl
-run-push m (t ∷ ss) s j = run-push m ss s (after m t j)
 
 -- the states and lists of the present session
 abbrev pub wire_in : ℕ → Steps → Wire
