@@ -7,8 +7,8 @@ use Rattle.lapin_joint.specs.declared.step.Step as joined_step
 use Rattle.lapin_joint.specs.declared.step.Step.TheVariants as step
 use Rattle.lapin_joint.specs.declared.step.Reported.{Reported}
 use Rattle.lapin_joint.specs.declared.step.Reported.TheVariants as reported
-use Rattle.lapin_joint.specs.Joint.{Joint, new_joint, is_lawful, after, report, reports, run, joined, joined_to}
-use Rattle.lapin_machine.specs.Way.{Way, by_history}
+use Rattle.lapin_joint.specs.Joint.{new_joint, is_lawful, report, joined, joined_to}
+use Rattle.lapin_machine.specs.Way.{by_history}
 use Rattle.lapin_joint.specs.Kept.{Kept, StandsFor}
 use Rattle.lapin_joint.proofs.Steps.{reports-push}
 use Rattle.lapin_resend.specs.declared.message.Submitted.{Submitted}
