@@ -7,19 +7,16 @@ use Rattle.lapin_joint.specs.declared.step.Step as joined_step
 use Rattle.lapin_joint.specs.declared.step.Step.TheVariants as step
 use Rattle.lapin_joint.specs.declared.step.Reported.{Reported}
 use Rattle.lapin_joint.specs.declared.step.Reported.TheVariants as reported
-use Rattle.lapin_joint.specs.Joint.{Joint, new_joint, is_lawful, after, report, reports, run, joined, joined_to}
-use Rattle.lapin_machine.specs.Way.{Way, by_history}
+use Rattle.lapin_joint.specs.Joint.{new_joint, is_lawful, report, joined, joined_to}
+use Rattle.lapin_machine.specs.Way.{by_history}
 use Rattle.lapin_joint.specs.Kept.{Kept, StandsFor}
+use Rattle.lapin_joint.proofs.Steps.{reports-push}
 use Rattle.lapin_resend.specs.declared.message.Submitted.{Submitted}
 use Rattle.lapin_resend.specs.Messages.{publish_of, waits, confirm_of}
 use Rattle.lapin_resend.specs.Publisher.{Steps, Met, told, with_event, poll_at, poll_one, publishing, publish_one}
 use Rattle.lapin_resend.specs.Follows.{standing, polled_report, confirm_report, Tells, Meets}
 
 -- ---- an event
-
-reports-push : {S : Type 0} (m : Way S) (ss : Steps) (s : joined_step.Step) (j : Joint S) → reports m (ss ++ s ∷ []) j ≡ reports m ss j ++ report m s (run m ss j) ∷ []
-reports-push m [] s j = refl
-reports-push m (t ∷ ss) s j = ap (λ rs. report m t j ∷ rs) (reports-push m ss s (after m t j))
 
 last_same : (rs : List Reported) (a b : Reported) → rs ++ a ∷ [] ≡ rs ++ b ∷ [] → a ≡ b
 last_same [] a b e = cc

@@ -1,5 +1,5 @@
 -- While channel 1 is open, each message that isn't stored has an outstanding publish: one that waits is published, and accepted.
-use Rattle.std.proofs.Common.{◌≡◌, ℕ, Bool, true, false, true≢false, ◌&&◌, not, cond, List, [], ◌∷◌, ◌++◌, Option, Some, None, refl, sym, ap, ◌∙◌}
+use Rattle.std.proofs.Common.{◌≡◌, ℕ, Bool, true, false, true≢false, ◌&&◌, not, cond, List, [], ◌∷◌, Option, Some, None, refl, sym, ap, ◌∙◌}
 use Rattle.std.specs.Option.{is_some}
 use Rattle.lapin_types.specs.declared.record.Record.{Record}
 use Rattle.lapin_types.specs.declared.record.Record.TheVariants as record_
@@ -7,10 +7,10 @@ use Rattle.lapin_history.specs.Wire.{Wire, start, state_of, is_open}
 use Rattle.lapin_history.specs.History.{History, Past, past}
 use Rattle.lapin_history.specs.Events.{after_event}
 use Rattle.lapin_machine.proofs.Standing.{past-push}
-use Rattle.lapin_joint.specs.declared.step.Step as joined_step
 use Rattle.lapin_joint.specs.declared.step.Step.TheVariants as joined
-use Rattle.lapin_joint.specs.Joint.{Joint, new_joint, after, run, joined_to}
-use Rattle.lapin_machine.specs.Way.{Way, by_history}
+use Rattle.lapin_joint.specs.Joint.{Joint, new_joint, joined_to}
+use Rattle.lapin_machine.specs.Way.{by_history}
+use Rattle.lapin_joint.proofs.Steps.{run-push}
 use Rattle.lapin_resend.specs.declared.step.ResendStep.{ResendStep}
 use Rattle.lapin_resend.specs.Messages.{Standing, waits, confirm_of}
 use Rattle.lapin_resend.specs.Publisher.{Publisher, Steps, Met, told, state_in, with_event, with_all, publishing, publish_one, each, after_polls, after_opening, after_selecting, tended}
@@ -18,10 +18,6 @@ use Rattle.lapin_resend.specs.Resend.{begun, after_step, no_publisher, new_publi
 use Rattle.lapin_resend.specs.Kept.{IsOut, AreOut}
 
 -- ---- the present session after one step more
-
-pub run-push : {S : Type 0} (m : Way S) (ss : Steps) (s : joined_step.Step) (j : Joint S) → run m (ss ++ s ∷ []) j ≡ after m s (run m ss j)
-run-push m [] s j = refl
-run-push m (t ∷ ss) s j = run-push m ss s (after m t j)
 
 -- the states and lists of the present session
 abbrev pub wire_in : ℕ → Steps → Wire

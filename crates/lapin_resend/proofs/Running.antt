@@ -6,7 +6,8 @@ use Rattle.lapin_resend.specs.declared.step.ResendReport.{ResendReport}
 use Rattle.lapin_resend.specs.Publisher.{Publisher}
 use Rattle.lapin_resend.specs.Resend.{report_of, after_step, new_publisher, publisher_from, publisher_after, reports_from, resend}
 use Rattle.lapin_resend.specs.Sending.{Sending, StandsForSteps}
-use Rattle.lapin_resend.specs.Running.{GoesOnBy, IsStarted}
+use Rattle.lapin_machine.specs.Growing.{IsStarted}
+use Rattle.lapin_resend.specs.Running.{GoesOnBy}
 
 -- these steps were made, and the rest is left
 pub record IsAt (n : ℕ) (all : List ResendStep) (start now : List ResendReport) (rest : List ResendStep) (run : Sending) : Type 0 where
@@ -47,16 +48,14 @@ from-append n (s ∷ ss) more p = ap (λ (rs : List ResendReport). report_of n s
 
 -- where a step found no memory, the first reports are there
 pub at_stop : (n : ℕ) (all : List ResendStep) (start now new : List ResendReport) (here : List ResendStep) (run : Sending) → IsAt n all start now here run → new ≡ now → IsStarted start new (resend n all)
-at_stop n all start now new here run h same = record {
-  done = resend n h.made;
-  rest = reports_from n here (publisher_after n h.made);
-  whole = sym (from-append n h.made here (new_publisher n)) ∙ ap (resend n) h.split;
-  new_is = same ∙ h.new_is;
-}
-
--- nothing was appended
-pub not_started : (n : ℕ) (all : List ResendStep) (start new : List ResendReport) → new ≡ start → IsStarted start new (resend n all)
-not_started n all start new same = record { done = []; rest = resend n all; whole = refl; new_is = same ∙ sym (append-nil start) }
+at_stop n all start now new here run h same = (
+  reports_from n here (publisher_after n h.made),
+  record {
+    done = resend n h.made;
+    whole = sym (from-append n h.made here (new_publisher n)) ∙ ap (resend n) h.split;
+    new_is = same ∙ h.new_is;
+  },
+)
 
 pub on_err : {T E : Type 0} (r : Result T E) (P : Type 0) → P → OnErr r P
 on_err (Ok x) P p = tt

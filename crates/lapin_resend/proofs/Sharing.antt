@@ -37,7 +37,8 @@ use Rattle.lapin_resend.specs.Messages.{Standing, submitted, publish_of, polled,
 use Rattle.lapin_resend.specs.Publisher.{Publisher, Steps, Met, told, state_in, with_event, poll_at, poll_one, publishing, publish_one, each, after_polls, after_opening, after_selecting, tended}
 use Rattle.lapin_resend.specs.Resend.{begun, after_step, no_publisher, new_publisher, publisher_from, publisher_after}
 use Rattle.lapin_resend.specs.Kept.{DoNotShare, NoneShare}
-use Rattle.lapin_resend.proofs.Out.{run-push, wire_in, published_wire}
+use Rattle.lapin_joint.proofs.Steps.{run-push}
+use Rattle.lapin_resend.proofs.Out.{wire_in, published_wire}
 
 -- ---- how many publishes were accepted never falls
 

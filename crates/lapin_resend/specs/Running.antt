@@ -9,10 +9,3 @@ pub record GoesOnBy (n : ℕ) (steps : List ResendStep) (step : ResendStep) (old
   pub told : ResendReport
   pub last : resend n (steps ++ step ∷ []) ≡ resend n steps ++ told ∷ []
   pub new_is : new ≡ old ++ told ∷ []
-
--- a list that got the first of these reports at its end
-pub record IsStarted (old new all : List ResendReport) : Type 0 where
-  pub done : List ResendReport
-  pub rest : List ResendReport
-  pub whole : done ++ rest ≡ all
-  pub new_is : new ≡ old ++ done

@@ -4,7 +4,8 @@ ghost use Rattle.std.specs.Prelude.{◌≡◌, ◌≤◌, ◌<◌, ◌+◌, ◌+
 ghost use Rattle.lapin_resend.specs.declared.step.ResendStep.{ResendStep as AStep};
 ghost use Rattle.lapin_resend.specs.Resend.{resend};
 ghost use Rattle.lapin_resend.specs.Sending.{StandsForSteps, most_steps};
-ghost use Rattle.lapin_resend.specs.Running.{GoesOnBy, IsStarted};
+ghost use Rattle.lapin_machine.specs.Growing.{IsStarted};
+ghost use Rattle.lapin_resend.specs.Running.{GoesOnBy};
 
 use crate::sender::Resend;
 use crate::step::{ResendReport, ResendStep};

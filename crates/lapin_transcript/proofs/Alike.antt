@@ -13,7 +13,8 @@ use Rattle.lapin_joint.specs.Order.{along}
 use Rattle.lapin_joint.proofs.Alike.{alike-next, unreturned-next, new_alike}
 use Rattle.lapin_check.specs.declared.seen.Seen.{Seen}
 use Rattle.lapin_check.specs.declared.seen.Seen.TheVariants as seen
-use Rattle.lapin_transcript.specs.Transcript.{first_up, seen_in, transcript, IsLonger}
+use Rattle.lapin_machine.specs.Growing.{IsLonger}
+use Rattle.lapin_transcript.specs.Transcript.{first_up, seen_in, transcript}
 
 seen_same : (n : ℕ) (t : Step) (j : Joint History) (k : Joint World) → AreAlike n j k → seen_in t k ≡ seen_in t j
 seen_same n (step.Client e) j k h = refl
@@ -34,8 +35,8 @@ pub transcript_same : (n : ℕ) (ts : List Step) → along by_machine seen_in ts
 transcript_same n ts = along_same n ts (new_joint [] n) (new_joint (new_world n) n) refl (new_alike n)
 
 -- the transcript grows by what is seen of a step
-pub longer-push : (old new new' all rest more : List Seen) → IsLonger old new all (more ++ rest) → new' ≡ new ++ more → IsLonger old new' all rest
-longer-push old new new' all rest more l e = record {
+pub longer-all : (old new new' all rest more : List Seen) → IsLonger old new all (more ++ rest) → new' ≡ new ++ more → IsLonger old new' all rest
+longer-all old new new' all rest more l e = record {
   done = l.done ++ more;
   whole = append_assoc l.done more rest ∙ l.whole;
   new_is = e ∙ ap (λ xs. xs ++ more) l.new_is ∙ append_assoc old l.done more;

@@ -28,13 +28,3 @@ transcript frame_max steps = along_joined frame_max seen_in steps
 abbrev pub as_list : Option Seen → List Seen
 as_list None = []
 as_list (Some x) = x ∷ []
-
--- new is old with all of what is seen but the rest at its end
-pub record IsLonger (old new all rest : List Seen) : Type 0 where
-  pub done : List Seen
-  pub whole : done ++ rest ≡ all
-  pub new_is : new ≡ old ++ done
-
--- a list that got a first part of these at its end
-abbrev pub IsBegun : List Seen → List Seen → List Seen → Type 0
-IsBegun old new all = (rest : List Seen) × IsLonger old new all rest

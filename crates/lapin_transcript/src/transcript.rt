@@ -4,7 +4,8 @@ ghost use Rattle.std.specs.Prelude.{◌≡◌, ◌≤◌, ◌<◌, ◌+◌, ◌^
 ghost use Rattle.lapin_joint.specs.Joint.{after};
 ghost use Rattle.lapin_machine.specs.Way.{by_machine};
 ghost use Rattle.lapin_joint.specs.Order.{along};
-ghost use Rattle.lapin_transcript.specs.Transcript.{seen_in, as_list, transcript as transcript_lem, IsBegun};
+ghost use Rattle.lapin_machine.specs.Growing.{IsStarted};
+ghost use Rattle.lapin_transcript.specs.Transcript.{seen_in, as_list, transcript as transcript_lem};
 
 use lapin_check::Seen;
 use lapin_joint::{Joined, Step};
@@ -24,7 +25,7 @@ pub fn transcript_of(
 ) -> Result<(), NoMemory>
     requires { 4096 ≤ frame_max }
     ensures ok { OnOk result (transcript.new.items ≡ transcript.old.items ++ transcript_lem frame_max steps.items) }
-    ensures err { OnErr result (IsBegun transcript.old.items transcript.new.items (transcript_lem frame_max steps.items)) }
+    ensures err { OnErr result (IsStarted transcript.old.items transcript.new.items (transcript_lem frame_max steps.items)) }
 {
     let Ok(mut made) = Joined::new(alloc, frame_max) else {
         drop(steps);
@@ -42,7 +43,7 @@ fn run_steps(
 ) -> Result<(), NoMemory>
     requires { run.old.steps + length steps.items < 2 ^ 64 }
     ensures ok { OnOk result (transcript.new.items ≡ transcript.old.items ++ along by_machine seen_in steps.items run.old.joint) }
-    ensures err { OnErr result (IsBegun transcript.old.items transcript.new.items (along by_machine seen_in steps.items run.old.joint)) }
+    ensures err { OnErr result (IsStarted transcript.old.items transcript.new.items (along by_machine seen_in steps.items run.old.joint)) }
 {
     for step in steps {
         add(alloc, run, step, transcript)?;

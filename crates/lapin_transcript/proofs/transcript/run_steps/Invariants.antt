@@ -1,7 +1,8 @@
 use Rattle.std.proofs.Common.{◌+◌, ◌<◌, ◌^◌, length}
 use Rattle.lapin_machine.specs.Way.{by_machine}
 use Rattle.lapin_joint.specs.Order.{along}
-use Rattle.lapin_transcript.specs.Transcript.{seen_in, IsLonger}
+use Rattle.lapin_machine.specs.Growing.{IsLonger}
+use Rattle.lapin_transcript.specs.Transcript.{seen_in}
 use Rattle.lapin_transcript.proofs.transcript.run_steps.Given as goal
 
 abbrev pub invariant-loop-step : goal.invariant-loop-step

@@ -4,7 +4,8 @@ use Rattle.lapin_machine.specs.Way.{by_machine}
 use Rattle.lapin_joint.specs.Kept.{Kept}
 use Rattle.lapin_joint.specs.Order.{along}
 use Rattle.lapin_check.specs.declared.seen.Seen.{Seen}
-use Rattle.lapin_transcript.specs.Transcript.{seen_in, transcript, IsBegun}
+use Rattle.lapin_machine.specs.Growing.{IsStarted}
+use Rattle.lapin_transcript.specs.Transcript.{seen_in, transcript}
 use Rattle.lapin_transcript.proofs.Alike.{transcript_same}
 use Rattle.lapin_transcript.proofs.transcript.transcript_of.Goals as goal
 
@@ -19,6 +20,6 @@ returns-clause-ok c =
 
 pub returns-clause-err : goal.returns-clause-err
 returns-clause-err c =
-    let P : Kept → Type 0 = λ k. OnErr c.run_steps.result (IsBegun c.args.transcript.now.items c.run_steps.new.transcript.items (along by_machine seen_in c.args.steps.items k.joint)) in
-    let Q : List Seen → Type 0 = λ xs. OnErr c.run_steps.result (IsBegun c.args.transcript.now.items c.run_steps.new.transcript.items xs) in
+    let P : Kept → Type 0 = λ k. OnErr c.run_steps.result (IsStarted c.args.transcript.now.items c.run_steps.new.transcript.items (along by_machine seen_in c.args.steps.items k.joint)) in
+    let Q : List Seen → Type 0 = λ xs. OnErr c.run_steps.result (IsStarted c.args.transcript.now.items c.run_steps.new.transcript.items xs) in
     subst Q (transcript_same c.args.frame_max c.args.steps.items) (subst P c.in-Ok.ensures.made c.run_steps.ensures.err)
