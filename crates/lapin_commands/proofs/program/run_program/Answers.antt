@@ -15,3 +15,15 @@ returns-in-Ok-Some-Generate-clause-no_memory g c = of_command c.args.words.now _
 
 pub returns-in-Ok-Some-Session-clause-complete : goal.returns-in-Ok-Some-Session-clause-complete
 returns-in-Ok-Some-Session-clause-complete g c = of_command c.args.words.now _ command.Session (search rules) (λ told. c.answer_input.ensures.complete (told_events _ told))
+
+pub returns-in-Ok-Some-Joined-clause-complete : goal.returns-in-Ok-Some-Joined-clause-complete
+returns-in-Ok-Some-Joined-clause-complete g c = of_command c.args.words.now _ command.Joined (search rules) (λ told. c.answer_input-in-Ok-Some-Joined.ensures.complete (told_steps _ told))
+
+pub returns-in-Ok-Some-Resend-clause-complete : goal.returns-in-Ok-Some-Resend-clause-complete
+returns-in-Ok-Some-Resend-clause-complete g c = of_command c.args.words.now _ command.Resend (search rules) (λ told. c.answer_input-in-Ok-Some-Resend.ensures.complete (told_resends _ told))
+
+pub returns-in-Ok-Some-Call-clause-complete : goal.returns-in-Ok-Some-Call-clause-complete
+returns-in-Ok-Some-Call-clause-complete g c = of_command c.args.words.now _ (command.Call c.in-Ok-Some-Call.queue) (search rules) (λ told. c.answer_input-in-Ok-Some-Call.ensures.complete (told_calls _ _ told))
+
+pub returns-in-Ok-Some-Check-clause-complete : goal.returns-in-Ok-Some-Check-clause-complete
+returns-in-Ok-Some-Check-clause-complete g c = of_command c.args.words.now _ command.Check (search rules) (λ told. c.answer_input-in-Ok-Some-Check.ensures.complete (told_seen _ told))
