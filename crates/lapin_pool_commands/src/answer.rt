@@ -1,0 +1,62 @@
+//! What follows once the input was read: it is parsed and run, what that leaves is kept, and its text is written.
+
+use crate::printing::print_end;
+use crate::running::pool_end;
+use lapin_commands::{Status, write_all};
+use lapin_io::{Sink, SinkError};
+use lapin_pool::PoolEnd;
+use lapin_shared::Gate;
+use lapin_text::{Parsed, parse_events};
+use lapin_types::NoMemory;
+use std::alloc::Global;
+use std::marker::Brand;
+use std::sync::Wait;
+use std::sync::ledger::Blank;
+use std::thread::Threads;
+
+/// Runs the input that was read, keeps what that leaves, and writes its text.
+pub fn answer<G: Gate, K: Sink, R: Threads + Wait + Sync>(
+    rt: &R,
+    alloc: Global,
+    workers: usize,
+    gate: &G,
+    input: &[u8],
+    sink: &mut K,
+    kept: &mut Option<PoolEnd>,
+) -> Status {
+    let Ok((end, bad)) = run_input(rt, alloc, workers, gate, input) else {
+        return Status::NoMemory;
+    };
+    let Ok(text) = print_end(alloc, &end, bad) else {
+        return Status::NoMemory;
+    };
+    *kept = end;
+    match (write_all(sink, &text), bad) {
+        (Ok(()), None) => Status::Fine,
+        (Ok(()), Some(_)) => Status::BadLine,
+        (Err(SinkError::Failed), _) => Status::WriteFault,
+        (Err(SinkError::NoMemory), _) => Status::NoMemory,
+    }
+}
+
+// What the input's events up to the first bad line leave, and that line's number. Nothing is run where the first line is bad.
+fn run_input<G: Gate, R: Threads + Wait + Sync>(
+    rt: &R,
+    alloc: Global,
+    workers: usize,
+    gate: &G,
+    input: &[u8],
+) -> Result<(Option<PoolEnd>, Option<u64>), NoMemory> {
+    let Parsed {
+        frame_max,
+        events,
+        bad,
+    } = parse_events(alloc, input)?;
+    let Some(frame_max) = frame_max else {
+        drop(events);
+        return Ok((None, bad));
+    };
+    let blank = Blank::new(workers as u64 + 1);
+    let end = pool_end::<Brand, _, _>(rt, alloc, gate, frame_max, workers, events, blank)?;
+    Ok((Some(end), bad))
+}
