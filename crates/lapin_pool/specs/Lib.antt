@@ -4,4 +4,5 @@ pub mod Turns
 pub mod Ran
 pub mod Seats
 pub mod Pooled
-pub mod Account
+pub mod Unread
+pub mod Pool
