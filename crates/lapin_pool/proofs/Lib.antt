@@ -3,4 +3,9 @@ pub mod Turning
 pub mod Seated
 pub mod Crossed
 pub mod Pooling
-pub mod Accounts
+pub mod Members
+pub mod Stints
+pub mod Workers
+pub mod Team
+pub mod Placing
+pub mod Lawful

@@ -1,7 +1,7 @@
 -- All working callers together, from their seats.
-use Rattle.std.proofs.Common.{◌≡◌, ◌∙◌, ℕ, ◌+◌, ◌++◌, Bool, true, false, List, [], ◌∷◌, length, map, take, sym, ap, subst, refl, arith, length-append}
+use Rattle.std.proofs.Common.{◌≡◌, ◌∙◌, ℕ, ◌+◌, ◌++◌, Bool, true, false, List, [], ◌∷◌, length, map, take, sym, ap, subst, refl, arith, Result, Ok, Err, IfOk, OnOk}
 use Rattle.std.specs.Prelude.{◌||◌, drop, zero, suc, reverse, option_to_list}
-use Rattle.std.proofs.lemmas.List.{length-map, length-reverse}
+use Rattle.std.proofs.lemmas.List.{length-map, reverse-append}
 use Rattle.lapin_types.specs.declared.message.Delivery.{Delivery}
 use Rattle.lapin_acker.specs.declared.verdict.Verdict.{Verdict}
 use Rattle.lapin_shared.specs.Grown.{Seen}
@@ -12,6 +12,9 @@ use Rattle.lapin_pool.specs.declared.seat.Seat.{Seat}
 use Rattle.lapin_pool.specs.Ran.{Ended, EndedSo}
 use Rattle.lapin_pool.specs.Seats.{AreNew, caller_of, of_seat, cards_of, unread_of}
 use Rattle.lapin_pool.specs.Pooled.{AllEnded, HaveWorked, seen_of, all_cards, all_unread}
+use Rattle.lapin_pool.specs.Pool.{AreGrown}
+use Rattle.lapin_pool.proofs.Stints.{grown_none}
+use Rattle.lapin_pool.proofs.Workers.{ended_grown}
 
 neither : (a b : Bool) → false ≡ (a || b) → (a ≡ false) × (b ≡ false)
 neither true b e = absurd cc
@@ -70,10 +73,52 @@ whole n [] (y ∷ ys) e m = absurd (omega (arith, e))
 whole zero (x ∷ xs) (y ∷ ys) e m = absurd (omega (arith, m))
 whole (suc n) (x ∷ xs) (y ∷ ys) e m = ap (λ l. y ∷ l) (whole n xs ys (omega (arith, e)) (omega (arith, m)))
 
-back : {L : Type 0} (front : List Seen) (ss : List (Seat L)) → length (front ++ reverse (map caller_of ss)) ≡ length front + length ss
-back front ss = omega (arith, length-append front (reverse (map caller_of ss)), length-reverse (map caller_of ss), length-map ss caller_of)
+-- what holds where a result is Ok, by what is said of it then
+pub if_ok : {T E : Type 0} → (A : Type 0) (S P : T → Type 0) (r : Result T E) → OnOk r A → IfOk r S → ((t : T) → A → S t → P t) → IfOk r P
+if_ok A S P (Ok t) on if then = then t on if
+if_ok A S P (Err e) on if then = tt
 
--- as many callers left their seats as took them
-pub as_many : {L : Type 0} (olds front news : List Seen) (xs ys : List (Seat L)) → front ++ reverse (map caller_of xs) ≡ olds → length ys ≡ length xs
-    → news ≡ front ++ reverse (map caller_of ys) → length news ≡ length olds
-as_many olds front news xs ys sat same left = omega (arith, ap length sat, ap length left, back front xs, back front ys, same)
+-- ---- the same callers, whose logs grew
+
+pub grown_same : (cs : List Seen) → AreGrown cs cs
+grown_same [] = tt
+grown_same (c ∷ cs) = (grown_none c c refl, grown_same cs)
+
+pub grown_if_same : (olds news : List Seen) → news ≡ olds → AreGrown olds news
+grown_if_same olds news e = subst (λ l. AreGrown olds l) (sym e) (grown_same olds)
+
+grown_append : (xs ys us vs : List Seen) → AreGrown xs ys → AreGrown us vs → AreGrown (xs ++ us) (ys ++ vs)
+grown_append [] [] us vs g k = k
+grown_append [] (y ∷ ys) us vs g k = absurd g
+grown_append (x ∷ xs) [] us vs g k = absurd g
+grown_append (x ∷ xs) (y ∷ ys) us vs g k = (g.0, grown_append xs ys us vs g.1 k)
+
+grown_reverse : (xs ys : List Seen) → AreGrown xs ys → AreGrown (reverse xs) (reverse ys)
+grown_reverse [] [] g = tt
+grown_reverse [] (y ∷ ys) g = absurd g
+grown_reverse (x ∷ xs) [] g = absurd g
+grown_reverse (x ∷ xs) (y ∷ ys) g =
+    let last = grown_append (reverse xs) (reverse ys) (x ∷ []) (y ∷ []) (grown_reverse xs ys g.1) (g.0, tt) in
+    subst (λ l. AreGrown l (reverse (y ∷ ys))) (sym (reverse-append (x ∷ []) xs)) (subst (λ l. AreGrown (reverse xs ++ x ∷ []) l) (sym (reverse-append (y ∷ []) ys)) last)
+
+pub grown_length : (olds news : List Seen) → AreGrown olds news → length news ≡ length olds
+grown_length [] [] g = refl
+grown_length [] (c ∷ cs) g = absurd g
+grown_length (a ∷ olds) [] g = absurd g
+grown_length (a ∷ olds) (c ∷ news) g = omega (arith, grown_length olds news g.1)
+
+each_grown : {L : Type 0} (may : Delivery → Verdict → Type 0) (turns : ℕ) (xs ys : List (Seat L)) (n : ℕ) (s : Bool) → TalliedAll (SeatEnded may turns) xs n s ys
+    → AreGrown (map caller_of xs) (map caller_of ys)
+each_grown may turns [] [] n s t = tt
+each_grown may turns [] (y ∷ ys) n s t = absurd t
+each_grown may turns (x ∷ xs) [] n s t = absurd t
+each_grown may turns (x ∷ xs) (y ∷ ys) n s (r, m, u, one, rest, sum, or) =
+    (ended_grown may turns (of_seat x) r.count r.short (of_seat y) one, each_grown may turns xs ys m u rest)
+
+-- who sat down, worked and left is there again
+pub seats_grown : {L : Type 0} (may : Delivery → Verdict → Type 0) (turns : ℕ) (olds front news : List Seen) (xs ys : List (Seat L)) (sum : Tally)
+    → front ++ reverse (map caller_of xs) ≡ olds → Tallied (SeatEnded may turns) xs sum ys → news ≡ front ++ reverse (map caller_of ys) → AreGrown olds news
+seats_grown may turns olds front news xs ys sum sat t left =
+    let both = grown_append front front (reverse (map caller_of xs)) (reverse (map caller_of ys)) (grown_same front)
+      (grown_reverse (map caller_of xs) (map caller_of ys) (each_grown may turns xs ys t.total sum.short t.each)) in
+    subst (λ l. AreGrown l news) sat (subst (λ l. AreGrown (front ++ reverse (map caller_of xs)) l) (sym left) both)

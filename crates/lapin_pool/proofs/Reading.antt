@@ -1,7 +1,10 @@
 -- The newest entry of a log, and how a record that is read later stands there: places rise, so no other entry has its place.
 use Rattle.std.proofs.Common.{◌≡◌, ◌∙◌, ℕ, Bool, true, false, ◌+◌, ◌-◌, ◌<◌, ◌++◌, List, [], ◌∷◌, length, refl, sym, ap, subst, arith, Option, Some, None, length-append}
 use Rattle.std.specs.Prelude.{slice_get, zero, suc, if◌then◌else◌}
+use Rattle.lapin_types.specs.declared.job.Job.{Job}
 use Rattle.lapin_types.specs.declared.record.Record.{Record}
+use Rattle.lapin_types.specs.declared.record.Record.TheVariants as record_
+use Rattle.lapin_work.specs.Jobs.{job, no_job}
 use Rattle.lapin_shared.specs.declared.entry.Told.{Told}
 use Rattle.lapin_shared.specs.Grown.{Seen, Grew, Rise}
 use Rattle.lapin_shared.specs.Read.{HasPlace, IsPlaceAt, IsReadAt, answered}
@@ -87,3 +90,10 @@ pub taken_later : (a old new : Seen) (p k : ℕ) (t : Told) (s : Step) → Grew 
 taken_later a old new p k t s g rise h at is =
     let r = read_is a old new p k g rise h in
     taken_newest a new p r.0 t s r.1 at is
+
+-- a job step whose record was read at once
+pub taken_at_once : (old new : Seen) (p : ℕ) (j : Job) → Grew old new (job p j) → IsTaken old (step.Taken p) new
+taken_at_once old new p j g = (record_.Job j, refl, g)
+
+pub none_at_once : (old new : Seen) (p : ℕ) → Grew old new (no_job p) → IsTaken old step.NoJob new
+none_at_once old new p g = (p, record_.NoJob, refl, g)

@@ -22,7 +22,7 @@ use Rattle.lapin_pool.specs.Verdicts.{last_verdict}
 use Rattle.lapin_pool.specs.Cards.{IsSent, delivery_told}
 use Rattle.lapin_pool.specs.Turns.{Standing, IsJudged, IsTreated, TookJob, with_card, job_step, tells_job}
 use Rattle.lapin_pool.specs.Ran.{Ran}
-use Rattle.lapin_pool.specs.Pool.{StandsAt, TookDelivery, tells_in, jobs, Adjoin, WasSent, IsOutcome, IsCard, IsJobOrSent}
+use Rattle.lapin_pool.specs.Pool.{IsGrown, StandsAt, TookDelivery, tells_in, jobs, Adjoin, WasSent, IsOutcome, IsCard, IsJobOrSent}
 use Rattle.lapin_pool.proofs.Members.{no_member, the_one, member_cases, member_first, member_later, rise_apart, rise_front, Apart, apart_append}
 
 -- steps that stand in the history
@@ -156,11 +156,6 @@ done_card may h n t rest k is card place behind = record {
 -- ---- a turn
 
 -- how a log grows
-pub record IsGrown (old new : Seen) : Type 0 where
-  pub more : List Told
-  pub number : new.number ≡ old.number
-  pub log : new.log ≡ old.log ++ more
-
 pub grown_none : (old new : Seen) → new ≡ old → IsGrown old new
 grown_none old new e = record { more = []; number = ap (λ (s : Seen). s.number) e; log = ap (λ (s : Seen). s.log) e ∙ sym (append-nil old.log) }
 

@@ -1,6 +1,6 @@
 -- All working callers together, and the cards in the order of their places.
 use Rattle.std.proofs.Common.{◌≡◌, ◌∙◌, ℕ, ◌++◌, ◌⊎◌, inl, inr, Bool, true, false, eqb, List, [], ◌∷◌, map, length, refl, sym, ap, subst, arith, Option, Some, None, append_assoc}
-use Rattle.std.specs.Prelude.{◌-◌, slice_get, reverse, option_to_list}
+use Rattle.std.specs.Prelude.{reverse, option_to_list}
 use Rattle.std.specs.List.{All, Contains, IsDistinct}
 use Rattle.std.specs.List.Sorted.{IsNonDecreasing, IsPermutation}
 use Rattle.std.proofs.lemmas.Bool.{eq-eqb}
@@ -19,7 +19,7 @@ use Rattle.lapin_shared.specs.Checked.{IsAt, AllAt}
 use Rattle.lapin_pool.specs.declared.card.Card.{Card}
 use Rattle.lapin_pool.specs.Turns.{Standing}
 use Rattle.lapin_pool.specs.Pooled.{AllEnded, HaveWorked, seen_of, all_cards, all_unread}
-use Rattle.lapin_pool.specs.Unread.{card_in, unread_cards}
+use Rattle.lapin_pool.specs.Unread.{at_place, card_in, unread_cards}
 use Rattle.lapin_pool.specs.Pool.{Stint, before_of, after_of, number_of, AreApart, IsFinished, StandsAt, jobs, IsCard, HasDone, TookNothing, EndsThere, place_of, IsPool}
 use Rattle.lapin_pool.proofs.Members.{no_member, member_cases, member_first, member_later, member_map, Apart, apart_append, distinct_places}
 use Rattle.lapin_pool.proofs.Stints.{Stand, same_entry, among}
@@ -131,8 +131,8 @@ team may h turns (a ∷ olds) (c ∷ news) tells (no_cards, none, ended, rest) s
 
 unread_append : (h : List Entry) (xs ys : List ℕ) → unread_cards h (xs ++ ys) ≡ unread_cards h xs ++ unread_cards h ys
 unread_append h [] ys = refl
-unread_append h (x ∷ xs) ys = ap (λ l. option_to_list (card_in x (slice_get h (x - 1))) ++ l) (unread_append h xs ys)
-    ∙ sym (append_assoc (option_to_list (card_in x (slice_get h (x - 1)))) (unread_cards h xs) (unread_cards h ys))
+unread_append h (x ∷ xs) ys = ap (λ l. option_to_list (card_in x (at_place h x)) ++ l) (unread_append h xs ys)
+    ∙ sym (append_assoc (option_to_list (card_in x (at_place h x))) (unread_cards h xs) (unread_cards h ys))
 
 reverse_one : (u : Option ℕ) → reverse (option_to_list u) ≡ option_to_list u
 reverse_one None = refl

@@ -18,10 +18,10 @@ use Rattle.lapin_pool.specs.declared.turn.Turn.TheVariants as turn
 use Rattle.lapin_pool.specs.Cards.{delivery_told}
 use Rattle.lapin_pool.specs.Turns.{Standing, IsTurn, FoundNone, LeftUnread, job_step, tells_job}
 use Rattle.lapin_pool.specs.Ran.{Ran, Ended}
-use Rattle.lapin_pool.specs.Unread.{blank_card, card_in, unread_cards}
-use Rattle.lapin_pool.specs.Pool.{Stint, after_of, StandsAt, TookDelivery, tells_in, jobs, IsCard, TookNothing, EndsThere, HasDone}
+use Rattle.lapin_pool.specs.Unread.{at_place, blank_card, card_in, unread_cards}
+use Rattle.lapin_pool.specs.Pool.{Stint, after_of, IsGrown, StandsAt, TookDelivery, tells_in, jobs, IsCard, TookNothing, EndsThere, HasDone}
 use Rattle.lapin_pool.proofs.Members.{no_member, member_first, rise_apart, rise_front, Apart}
-use Rattle.lapin_pool.proofs.Stints.{Stand, same_entry, Done, done_append, done_bare, done_card, IsGrown, grown_none, grown_one, grown_on, took_grown, told_there, taken_so, no_delivery, Made, stand_front, made}
+use Rattle.lapin_pool.proofs.Stints.{Stand, same_entry, Done, done_append, done_bare, done_card, grown_none, grown_one, grown_on, took_grown, told_there, taken_so, no_delivery, Made, stand_front, made}
 
 -- ---- how a log grows
 
@@ -138,10 +138,14 @@ left_card may h n p d at tells =
       nothing = λ x stands. inr (inr (k, member_first k [], refl, refl));
     }
 
+pub there : (h : List Entry) (p : ℕ) (x : Entry) → 0 < p → slice_get h (p - 1) ≡ Some x → at_place h p ≡ Some x
+there h zero x some e = absurd (omega arith)
+there h (suc k) x some e = let same : k ≡ suc k - 1 = omega arith in ap (slice_get h) same ∙ e
+
 left_so : (may : Delivery → Verdict → Type 0) (h : List Entry) (n p : ℕ) → TellsNone h → IsAt h n (job_step p None) → Left may h n p (unread_cards h (p ∷ []))
 left_so may h n p tells at =
     let e : unread_cards h (p ∷ []) ≡ option_to_list (blank_card at.entry.caller p (delivery_told at.entry.answer)) =
-      append-nil (option_to_list (card_in p (slice_get h (p - 1)))) ∙ ap (λ o. option_to_list (card_in p o)) at.stands in
+      append-nil (option_to_list (card_in p (at_place h p))) ∙ ap (λ o. option_to_list (card_in p o)) (there h p at.entry at.place at.stands) in
     subst (λ l. Left may h n p l) (sym e) (by (delivery_told at.entry.answer) refl) where
   by : (o : Option Delivery) → delivery_told at.entry.answer ≡ o → Left may h n p (option_to_list (blank_card at.entry.caller p o))
   by None e = left_bare may h n p tells at e

@@ -1,5 +1,5 @@
 -- What becomes of a verdict, and which delivery an entry took.
-use Rattle.std.specs.Prelude.{◌≡◌, ℕ, Option, Some, None, Ok}
+use Rattle.std.specs.Prelude.{◌≡◌, ℕ, Option, Some, None}
 use Rattle.lapin_types.specs.declared.acker_call.AckerCall.{AckerCall}
 use Rattle.lapin_types.specs.declared.event.Event.TheVariants as event
 use Rattle.lapin_types.specs.declared.job.Job.{Job}
@@ -9,6 +9,7 @@ use Rattle.lapin_types.specs.declared.message.Delivery.{Delivery}
 use Rattle.lapin_types.specs.declared.record.Record.{Record}
 use Rattle.lapin_types.specs.declared.record.Record.TheVariants as record_
 use Rattle.lapin_shared.specs.Grown.{Seen, Grew, told}
+use Rattle.lapin_work.specs.Jobs.{delivery_in as handed}
 use Rattle.lapin_pool.specs.declared.card.Sent.{Sent}
 use Rattle.lapin_pool.specs.declared.card.Sent.TheVariants as sent
 
@@ -24,13 +25,13 @@ IsSent old a None s new = (s ≡ sent.Silent) × (new ≡ old)
 IsSent old a (Some k) s new = IsPlaced old a k s new
 
 -- the delivery that a kind of job hands over
-abbrev pub delivery_of : JobKind → Option Delivery
-delivery_of (job_kind.Deliver (Ok (Some d))) = Some d
-delivery_of _ = None
+abbrev pub delivery_handed : JobKind → Option Delivery
+delivery_handed (job_kind.Deliver given) = handed given
+delivery_handed job_kind.Discard = None
 
 -- the delivery that a record tells
 abbrev pub delivery_told : Record → Option Delivery
-delivery_told (record_.Job j) = delivery_of j.kind
+delivery_told (record_.Job j) = delivery_handed j.kind
 delivery_told _ = None
 
 -- the delivery that an entry of a log tells, where its record was read

@@ -43,6 +43,19 @@ number_of c = c.number
 abbrev pub AreApart : List Seen → Type 0
 AreApart cs = IsDistinct (λ a b. a == b) (map number_of cs)
 
+-- the same caller, whose log got further entries, or none
+pub record IsGrown (old new : Seen) : Type 0 where
+  pub more : List Told
+  pub number : new.number ≡ old.number
+  pub log : new.log ≡ old.log ++ more
+
+-- the same callers in the same order, each with such a log
+abbrev pub AreGrown : List Seen → List Seen → Type 0
+AreGrown [] [] = Unit {0}
+AreGrown [] (c ∷ cs) = ⊥
+AreGrown (a ∷ olds) [] = ⊥
+AreGrown (a ∷ olds) (c ∷ cs) = IsGrown a c × AreGrown olds cs
+
 -- What a finished client gives of its callers: the history is one that a session could have told, and has as many entries as all logs
 -- together; each entry of a log stands in it at its place, and the places in a log rise.
 pub record IsFinished (frame_max : ℕ) (h : List Entry) (cs : List Seen) : Type 0 where

@@ -7,7 +7,7 @@
 
 mod card;
 mod duty;
-mod laws;
+mod ending;
 mod pool;
 mod seat;
 mod seating;
@@ -15,5 +15,4 @@ mod turn;
 
 pub use card::{Card, PoolEnd, Sent};
 pub use duty::{Duty, last_verdict};
-pub use laws::each_delivery_has_its_card;
 pub use pool::run_pool;

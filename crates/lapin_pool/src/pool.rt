@@ -1,22 +1,20 @@
 //! All working callers at once, each on a thread of its own, and what they leave.
 
-ghost use Rattle.std.specs.Prelude.{◌≡◌, ◌≤◌, ◌+◌, ℕ, List, All, IfOk, OnErr, length};
+ghost use Rattle.std.specs.Prelude.{◌≡◌, ◌≤◌, ◌+◌, [], IfOk, OnOk, OnErr, length, false};
 ghost use Rattle.std.specs.Vec.{vec_capacity};
-ghost use Rattle.lapin_shared.specs.Grown.{Seen};
-ghost use Rattle.lapin_shared.specs.Lawful.{IsLawful};
-ghost use Rattle.lapin_shared.specs.Checked.{AllAt};
+ghost use Rattle.lapin_shared.specs.Ackers.{UsesOnce};
 ghost use Rattle.lapin_threads.specs.Tallied.{Tallied};
-ghost use Rattle.lapin_pool.specs.declared.card.Card.{Card};
 ghost use Rattle.lapin_pool.specs.Ran.{EndedSo};
 ghost use Rattle.lapin_pool.specs.Seats.{of_seat};
 ghost use Rattle.lapin_pool.specs.Pooled.{HaveWorked};
+ghost use Rattle.lapin_pool.specs.Pool.{AreApart, AreGrown, IsPool};
 
-use crate::card::{Card, PoolEnd, Sent};
+use crate::card::PoolEnd;
 use crate::duty::Duty;
+use crate::ending::ended;
 use crate::seat::{Seat, work_through};
 use crate::seating::{Dealt, nothing_dealt, seat_last, unseat};
-use crate::turn::delivery_told;
-use lapin_shared::{Caller, Client, Crew, FinishError, Gate, History};
+use lapin_shared::{Caller, Client, Crew, FinishError, Gate};
 use lapin_threads::{Tally, tally_mut};
 use lapin_types::NoMemory;
 use std::alloc::Global;
@@ -28,9 +26,11 @@ use std::thread::Threads;
 /// verdict one step of the acker, where it asks for one, and calls `gate.after`. An error, an end or a discard is taken, and that is
 /// all. Then all callers are taken back, and the history is given with a card of each delivery that was taken.
 ///
+/// The callers are those of this client, all of them, in any order: so no two have one number.
+///
 /// # Errors
 /// `NoMemory`: a job step found no memory, or there was none to hold the cards, or to take the callers back. The list still holds the
-/// callers, once all have stopped.
+/// callers, in their order, once all have stopped; their logs say what was done, and the cards are dropped.
 pub fn run_pool<L: Crew + Send + Sync, G: Gate, D: Duty, R: Threads + Wait + Sync>(
     rt: &R,
     alloc: Global,
@@ -42,10 +42,15 @@ pub fn run_pool<L: Crew + Send + Sync, G: Gate, D: Duty, R: Threads + Wait + Syn
     turns: u64,
 ) -> Result<PoolEnd, NoMemory>
     requires all { length callers.old.items ≡ client.now.made }
+    requires own { AreApart callers.old.items }
     requires some { workers ≤ length callers.old.items }
-    ensures lawful { IfOk result (λ e. IsLawful client.now.frame_max e.history) }
-    ensures worked { IfOk result (λ e. (cs : List Card) × (us : List ℕ) × (news : List Seen) × HaveWorked (D.may duty.now) turns workers callers.old.items cs us news × All (λ c. AllAt e.history c) news) }
-    ensures back { OnErr result (length callers.new.items ≡ length callers.old.items) }
+    ensures pool { IfOk result (λ e. IsPool (D.may duty.now) client.now.frame_max turns workers callers.old.items e.history e.cards.items) }
+
+    // Of the calls of each acker, by whichever callers, at most one is answered otherwise than no.
+    ensures used_once { IfOk result (λ e. UsesOnce e.history) }
+
+    ensures emptied { OnOk result (callers.new.items ≡ []) }
+    ensures back { OnErr result (AreGrown callers.old.items callers.new.items) }
 {
     let dealt = deal_work(rt, alloc, gate, duty, callers, workers, turns)?;
     match client.finish(rt, alloc, callers) {
@@ -56,6 +61,7 @@ pub fn run_pool<L: Crew + Send + Sync, G: Gate, D: Duty, R: Threads + Wait + Syn
 }
 
 // The last callers take seats, have their turns and leave. The cards, with room for those of the unread steps.
+#[tactic(auto, using(crate::proofs::Pooling::grown_if_same))]
 fn deal_work<L: Crew + Send + Sync, G: Gate, D: Duty, R: Threads + Wait + Sync>(
     rt: &R,
     alloc: Global,
@@ -68,16 +74,26 @@ fn deal_work<L: Crew + Send + Sync, G: Gate, D: Duty, R: Threads + Wait + Sync>(
     requires { workers ≤ length callers.old.items }
     ensures worked { IfOk result (λ d. HaveWorked (D.may duty.now) turns workers callers.old.items d.cards.items d.unread.items callers.new.items) }
     ensures room { IfOk result (λ d. length d.cards.items + length d.unread.items ≤ vec_capacity d.cards) }
+    ensures grown { AreGrown callers.old.items callers.new.items }
     ensures count { length callers.new.items ≡ length callers.old.items }
 {
     let mut dealt = nothing_dealt(alloc, workers)?;
     let mut seats = seat_last(alloc, callers, workers)?;
     let tally = work_all(rt, alloc, gate, duty, turns, seats.as_mut_slice());
     unseat(callers, seats, &mut dealt);
-    if tally.short || dealt.short {
+    all_dealt(tally, dealt)
+}
+
+// The cards, with room for those of the unread steps, where no caller met want of memory and all cards are there.
+fn all_dealt(tally: Tally, dealt: Dealt) -> Result<Dealt, NoMemory>
+    ensures fine { OnOk result ((tally.short ≡ false) × (dealt.short ≡ false)) }
+    ensures same { IfOk result (λ d. (d.cards.items ≡ dealt.cards.items) × (d.unread.items ≡ dealt.unread.items)) }
+    ensures room { IfOk result (λ d. length d.cards.items + length d.unread.items ≤ vec_capacity d.cards) }
+{
+    let mut dealt = dealt;
+    if tally.short || dealt.short || dealt.cards.reserve(dealt.unread.len()).is_err() {
         return Err(NoMemory);
     }
-    dealt.cards.reserve(dealt.unread.len())?;
     Ok(dealt)
 }
 
@@ -97,42 +113,4 @@ fn work_all<L: Crew + Send + Sync, G: Gate, D: Duty, R: Threads + Wait + Sync>(
         ensures { EndedSo (D.may duty.entry.now) turns (of_seat seat.old) result (of_seat seat.new) }
     { work_through(rt, alloc, gate, duty, turns, seat) };
     tally_mut(rt, &job, seats)
-}
-
-// The history with the cards, also those of unread steps.
-fn ended(history: History, dealt: Dealt) -> PoolEnd
-    requires { length dealt.cards.items + length dealt.unread.items ≤ vec_capacity dealt.cards }
-    ensures { result.history ≡ history }
-{
-    let Dealt { cards, unread, .. } = dealt;
-    let mut cards = with_unread(&history, cards, unread);
-    cards.sort_unstable_by_key(|card| card.place);
-    PoolEnd { history, cards }
-}
-
-// The cards, and those of unread steps that took a delivery: the history says which, and there is no verdict.
-fn with_unread(history: &History, cards: Vec<Card>, unread: Vec<u64>) -> Vec<Card>
-    requires { length cards.items + length unread.items ≤ vec_capacity cards }
-{
-    let mut cards = cards;
-    let mut unread = unread;
-    while let Some(place) = unread.pop() {
-        if let Some(card) = card_at(history, place) {
-            cards.push_reserved(card);
-        }
-    }
-    cards
-}
-
-// The card of an unread step, where it took a delivery.
-fn card_at(history: &History, place: u64) -> Option<Card> {
-    let entry = history.at(place)?;
-    let acker = delivery_told(&entry.answer)?.acker.number;
-    Some(Card {
-        caller: entry.caller,
-        place,
-        acker,
-        verdict: None,
-        sent: Sent::Unsent,
-    })
 }

@@ -2,7 +2,6 @@
 
 ghost use Rattle.std.specs.Prelude.{◌≡◌, ℕ, ◌-◌, ◌<◌, length, slice_get, Some, None, true, false};
 ghost use Rattle.std.specs.Option.{option_copied};
-ghost use Rattle.lapin_types.specs.declared.job.JobKind.TheVariants as job_kind;
 ghost use Rattle.lapin_acker.specs.declared.verdict.Verdict.{Verdict};
 ghost use Rattle.lapin_acker.specs.Verdicts.{call_of};
 ghost use Rattle.lapin_shared.specs.Grown.{Seen, Grew};
@@ -10,14 +9,15 @@ ghost use Rattle.lapin_shared.specs.Read.{HasPlace, IsReadAt};
 ghost use Rattle.lapin_shared.specs.declared.entry.Told.{Told};
 ghost use Rattle.lapin_pool.specs.Turns.{IsTaken, IsTreated, IsTurn, job_step, standing, step_in};
 ghost use Rattle.lapin_pool.specs.Verdicts.{last_verdict as last_verdict_lem};
-ghost use Rattle.lapin_pool.specs.Cards.{IsSent, delivery_in as delivery_in_lem, delivery_told as delivery_told_lem, delivery_of as delivery_of_lem};
+ghost use Rattle.lapin_pool.specs.Cards.{IsSent, delivery_in as delivery_in_lem, delivery_told as delivery_told_lem, delivery_handed as delivery_handed_lem};
 
 use crate::card::{Card, Sent};
 use crate::duty::{Duty, last_verdict};
 use crate::seat::Seat;
 use lapin_acker::Verdict;
 use lapin_shared::{Caller, Crew, Gate, StepError, Told};
-use lapin_types::{Delivery, DeliveryResult, Event, JobKind, Record};
+use lapin_types::{Delivery, Event, JobKind, Record};
+use lapin_work::{delivery_of, take_job};
 use std::alloc::Global;
 use std::sync::Wait;
 
@@ -58,7 +58,7 @@ pub fn take_turn<L: Crew, G: Gate, D: Duty, R: Wait>(
     if seat.cards.reserve(1).is_err() {
         return Turn::Short;
     }
-    match take_job(rt, alloc, &mut seat.caller) {
+    match take(rt, alloc, &mut seat.caller) {
         Step::Taken(place) => {
             if let Some(card) = treat(rt, alloc, gate, duty, place, &mut seat.caller) {
                 seat.cards.push_reserved(card);
@@ -75,12 +75,13 @@ pub fn take_turn<L: Crew, G: Gate, D: Duty, R: Wait>(
 }
 
 // Makes a job step, and reads its record where there was no memory for it at first.
-#[tactic(auto, using(crate::proofs::Reading::taken_newest, crate::proofs::Reading::some_log, crate::proofs::Reading::has_newest))]
-fn take_job<L: Crew, R: Wait>(rt: &R, alloc: Global, caller: &mut Caller<L>) -> Step
+#[tactic(auto, using(crate::proofs::Reading::taken_at_once, crate::proofs::Reading::none_at_once))]
+fn take<L: Crew, R: Wait>(rt: &R, alloc: Global, caller: &mut Caller<L>) -> Step
     ensures { IsTaken caller.old result caller.new }
 {
-    match caller.make(rt, alloc, Event::NextJob) {
-        Ok(place) => step_of(caller.newest(), place),
+    match take_job(rt, alloc, caller) {
+        Ok(Some(place)) => Step::Taken(place),
+        Ok(None) => Step::NoJob,
         Err(StepError::Unread { place }) => read_again(rt, alloc, place, caller),
         Err(_) => Step::Short,
     }
@@ -175,28 +176,18 @@ pub fn delivery_told(answer: &Record) -> Option<&Delivery>
     ensures { option_copied result ≡ delivery_told_lem answer.now }
 {
     match answer {
-        Record::Job(job) => delivery_of(&job.kind),
+        Record::Job(job) => delivery_handed(&job.kind),
         _ => None,
     }
 }
 
 // The delivery that a kind of job hands over.
-fn delivery_of(kind: &JobKind) -> Option<&Delivery>
-    ensures { option_copied result ≡ delivery_of_lem kind.now }
+fn delivery_handed(kind: &JobKind) -> Option<&Delivery>
+    ensures { option_copied result ≡ delivery_handed_lem kind.now }
 {
     match kind {
-        JobKind::Deliver(given) => delivery_among(given),
+        JobKind::Deliver(given) => delivery_of(given),
         JobKind::Discard => None,
-    }
-}
-
-// The delivery among what a consumer is handed.
-fn delivery_among(given: &DeliveryResult) -> Option<&Delivery>
-    ensures { option_copied result ≡ delivery_of_lem (job_kind.Deliver given.now) }
-{
-    match given {
-        Ok(Some(delivery)) => Some(delivery),
-        _ => None,
     }
 }
 
