@@ -1,4 +1,9 @@
 //! What follows once the input was read: it is parsed and run, what that leaves is kept, and its text is written.
+ghost use Rattle.std.specs.Prelude.{◌≡◌, ◌≤◌, ◌⊎◌, None, IfOk};
+ghost use Rattle.lapin_io.specs.Numbers.{Rose, Stayed};
+ghost use Rattle.lapin_commands.specs.Format.{SaysEvents};
+ghost use Rattle.lapin_commands.specs.Outcome.{IsAnswer, IsComplete, IsWhole};
+ghost use Rattle.lapin_pool_commands.specs.Outcome.{IsRun, WroteAll, WroteSome, WroteToBadLine};
 
 use crate::printing::print_end;
 use crate::running::pool_end;
@@ -23,7 +28,19 @@ pub fn answer<G: Gate, K: Sink, R: Threads + Wait + Sync>(
     input: &[u8],
     sink: &mut K,
     kept: &mut Option<PoolEnd>,
-) -> Status {
+) -> Status
+    requires few { workers ≤ 64 }
+    requires none { kept.old ≡ None }
+    ensures statuses { IsAnswer result }
+    ensures fine { result ≡ Status.Fine → WroteAll workers kept.new (K.written sink.old) (K.written sink.new) input.now }
+    ensures bad_line { result ≡ Status.BadLine → WroteToBadLine workers kept.new (K.written sink.old) (K.written sink.new) input.now }
+    ensures faultless { IsWhole result → Stayed (K.faults sink.old) (K.faults sink.new) }
+    ensures complete { SaysEvents input.now → (Rose (K.faults sink.old) (K.faults sink.new) → ⊥) → IsComplete result }
+    ensures fault { result ≡ Status.WriteFault → Rose (K.faults sink.old) (K.faults sink.new) }
+    ensures cut_short { result ≡ Status.WriteFault → WroteSome workers kept.new (K.written sink.old) (K.written sink.new) input.now }
+    ensures no_memory { result ≡ Status.NoMemory → ((sink.new ≡ sink.old) × (kept.new ≡ None))
+        ⊎ WroteSome workers kept.new (K.written sink.old) (K.written sink.new) input.now }
+{
     let Ok((end, bad)) = run_input(rt, alloc, workers, gate, input) else {
         return Status::NoMemory;
     };
@@ -46,7 +63,10 @@ fn run_input<G: Gate, R: Threads + Wait + Sync>(
     workers: usize,
     gate: &G,
     input: &[u8],
-) -> Result<(Option<PoolEnd>, Option<u64>), NoMemory> {
+) -> Result<(Option<PoolEnd>, Option<u64>), NoMemory>
+    requires { workers ≤ 64 }
+    ensures { IfOk result (λ run. IsRun workers input.now run.0 run.1) }
+{
     let Parsed {
         frame_max,
         events,

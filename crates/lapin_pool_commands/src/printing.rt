@@ -1,67 +1,86 @@
 //! The text of what working callers leave: the history, and then the cards.
+ghost use Rattle.std.specs.Prelude.{◌≡◌, ◌++◌, IfOk, OnOk, string_bytes};
+ghost use Rattle.lapin_pool_commands.specs.Printed.{card_line, cards_text, count_line, run_text, sent_text as sent_text_lem, verdict_text};
 
 use lapin_acker::Verdict;
 use lapin_commands::put_bad_line;
 use lapin_pool::{Card, PoolEnd, Sent};
-use lapin_scalars::put_number;
 use lapin_shared_commands::put_history;
 use lapin_types::NoMemory;
-use std::alloc::{AllocError, Global};
+use std::alloc::Global;
 
 /// What is printed: history and cards, where something was run, and then the line that names the first bad line of the input.
 pub fn print_end(
     alloc: Global,
     end: &Option<PoolEnd>,
     bad: Option<u64>,
-) -> Result<Vec<u8>, NoMemory> {
+) -> Result<Vec<u8>, NoMemory>
+    ensures { IfOk result (λ text. text.items ≡ run_text end.now bad) }
+{
     let mut text = Vec::new(alloc);
     if let Some(end) = end {
         put_history(alloc, &mut text, &end.history)?;
-        put_cards(&mut text, &end.cards)?;
+        put_cards(alloc, &mut text, end.cards.as_slice())?;
     }
     put_bad_line(alloc, &mut text, bad)?;
     Ok(text)
 }
 
 // Appends the number of cards, and the line of each.
-fn put_cards(text: &mut Vec<u8>, cards: &[Card]) -> Result<(), AllocError> {
-    text.extend_from_slice(b"cards ")?;
-    put_number(text, cards.len() as u64)?;
-    text.push(b'\n')?;
-    for card in cards {
-        put_card(text, card)?;
+fn put_cards(alloc: Global, text: &mut Vec<u8>, cards: &[Card]) -> Result<(), NoMemory>
+    ensures { OnOk result (text.new.items ≡ text.old.items ++ cards_text cards.now) }
+{
+    put_count(alloc, text, cards.len())?;
+    for k in 0..cards.len() {
+        put_card(alloc, text, &cards[k])?;
     }
     Ok(())
 }
 
-// Appends the line of a card: `card CALLER PLACE ACKER VERDICT SENT`.
-fn put_card(text: &mut Vec<u8>, card: &Card) -> Result<(), AllocError> {
-    text.extend_from_slice(b"card ")?;
-    put_number(text, card.caller)?;
-    text.push(b' ')?;
-    put_number(text, card.place)?;
-    text.push(b' ')?;
-    put_number(text, card.acker)?;
-    text.push(b' ')?;
-    text.extend_from_slice(name_of(card.verdict))?;
-    text.push(b' ')?;
-    match card.sent {
-        Sent::Placed(place) => put_number(text, place)?,
-        _ => text.push(b'-')?,
-    }
-    text.push(b'\n')?;
+// Appends the line that says how many cards there are.
+fn put_count(alloc: Global, text: &mut Vec<u8>, count: usize) -> Result<(), NoMemory>
+    ensures { OnOk result (text.new.items ≡ text.old.items ++ count_line count) }
+{
+    let line = format!(in alloc; "cards {count}\n")?;
+    text.extend_from_slice(line.as_bytes())?;
     Ok(())
+}
+
+// Appends the line of a card.
+fn put_card(alloc: Global, text: &mut Vec<u8>, card: &Card) -> Result<(), NoMemory>
+    ensures { OnOk result (text.new.items ≡ text.old.items ++ card_line card.now) }
+{
+    let caller = card.caller;
+    let place = card.place;
+    let acker = card.acker;
+    let verdict = name_of(card.verdict);
+    let sent = sent_text(alloc, card.sent)?;
+    let line = format!(in alloc; "card {caller} {place} {acker} {verdict} {sent}\n")?;
+    text.extend_from_slice(line.as_bytes())?;
+    Ok(())
+}
+
+// Where a verdict was placed, or a dash.
+fn sent_text(alloc: Global, sent: Sent) -> Result<String, NoMemory>
+    ensures { IfOk result (λ text. string_bytes text ≡ sent_text_lem sent) }
+{
+    match sent {
+        Sent::Placed(place) => Ok(format!(in alloc; "{place}")?),
+        _ => Ok(String::from_str(alloc, "-")?),
+    }
 }
 
 // The name of a verdict, or a dash for none.
-fn name_of(verdict: Option<Verdict>) -> &'static [u8] {
+fn name_of(verdict: Option<Verdict>) -> &'static str
+    ensures { result.now ≡ verdict_text verdict }
+{
     match verdict {
-        Some(Verdict::Ack) => b"ack",
-        Some(Verdict::Nack { requeue: false }) => b"nack",
-        Some(Verdict::Nack { requeue: true }) => b"requeue",
-        Some(Verdict::Reject { requeue: false }) => b"reject",
-        Some(Verdict::Reject { requeue: true }) => b"reject-requeue",
-        Some(Verdict::Nothing) => b"nothing",
-        None => b"-",
+        Some(Verdict::Ack) => "ack",
+        Some(Verdict::Nack { requeue: false }) => "nack",
+        Some(Verdict::Nack { requeue: true }) => "requeue",
+        Some(Verdict::Reject { requeue: false }) => "reject",
+        Some(Verdict::Reject { requeue: true }) => "reject-requeue",
+        Some(Verdict::Nothing) => "nothing",
+        None => "-",
     }
 }

@@ -16,4 +16,5 @@ mod words;
 pub use in_memory::run_shared_in_memory;
 pub use printing::put_history;
 pub use program::run_shared;
+pub use turns::is_made;
 pub use words::counted;
