@@ -1,5 +1,5 @@
 -- The first caller made the events and the others worked: what stands of both in the history.
-use Rattle.std.proofs.Common.{◌≡◌, ◌∙◌, ℕ, ◌+◌, ◌-◌, ◌^◌, ◌<◌, ◌≤◌, ◌++◌, ◌⊎◌, inl, inr, eqb, Bool, true, false, ◌&&◌, List, [], ◌∷◌, map, length, refl, sym, ap, subst, arith, length-append}
+use Rattle.std.proofs.Common.{◌≡◌, ◌∙◌, ℕ, ◌+◌, ◌-◌, ◌^◌, ◌<◌, ◌≤◌, ◌++◌, ◌⊎◌, inl, inr, eqb, Bool, true, false, ◌&&◌, List, [], ◌∷◌, map, length, refl, sym, ap, subst, arith, length-append, Result, Ok, Err, IfOk}
 use Rattle.std.specs.Prelude.{slice_get, slice_set, if◌then◌else◌}
 use Rattle.std.specs.List.{All, AllByRecursion, Contains, IsDistinct, sum_by}
 use Rattle.std.proofs.lemmas.Bool.Decides.{nat_tests}
@@ -14,7 +14,9 @@ use Rattle.lapin_shared.specs.Grown.{Seen, Rise, AreFresh}
 use Rattle.lapin_shared.specs.Checked.{AllAt}
 use Rattle.lapin_shared.specs.Own.{own, event_of, AreBack, logged}
 use Rattle.lapin_shared.proofs.Counting.{interleaves}
+use Rattle.lapin_values.specs.declared.memory.NoMemory.{NoMemory}
 use Rattle.lapin_pool.specs.declared.card.Card.{Card}
+use Rattle.lapin_pool.specs.declared.card.PoolEnd.{PoolEnd}
 use Rattle.lapin_pool.specs.Pool.{Stint, before_of, after_of, number_of, AreApart, is_next_job, tells_in, jobs, EndsThere, HasDone, IsPool}
 use Rattle.lapin_pool.proofs.Members.{no_member, member_cases, member_map}
 use Rattle.lapin_pool_commands.specs.First.{IsFirst}
@@ -151,3 +153,10 @@ left frame_max n es callers h cards b p few = record {
   first = first_own es n frame_max callers h cards b p;
   ended = λ s m. ends_there h s.before.number cards s.steps (omega (arith, steps_within h p.idle p.stints s p.finished.count m, few)) (p.done s m);
 }
+
+pub if_within : (frame_max n : ℕ) (es : List Event) (callers : List Seen) (end : PoolEnd) (r : Result PoolEnd NoMemory) → HaveBegun n es callers
+    → IsPool by_first_byte frame_max most_turns n callers end.history end.cards.items → IfOk r (λ e. (e ≡ end) × (length end.history < 2 ^ 64 - 1))
+    → IfOk r (λ e. IsLeft frame_max n es e.history e.cards.items)
+if_within frame_max n es callers end (Ok e) b p (is, few) =
+    subst (λ (x : PoolEnd). IsLeft frame_max n es x.history x.cards.items) (sym is) (left frame_max n es callers end.history end.cards.items b p few)
+if_within frame_max n es callers end (Err e) b p h = tt
