@@ -14,7 +14,6 @@ use Rattle.lapin_shared.specs.Grown.{Seen, Rise, AreFresh}
 use Rattle.lapin_shared.specs.Checked.{AllAt}
 use Rattle.lapin_shared.specs.Own.{own, event_of, AreBack, logged}
 use Rattle.lapin_shared.proofs.Counting.{interleaves}
-use Rattle.lapin_values.specs.declared.memory.NoMemory.{NoMemory}
 use Rattle.lapin_pool.specs.declared.card.Card.{Card}
 use Rattle.lapin_pool.specs.declared.card.PoolEnd.{PoolEnd}
 use Rattle.lapin_pool.specs.Pool.{Stint, before_of, after_of, number_of, AreApart, is_next_job, tells_in, jobs, EndsThere, HasDone, IsPool}
@@ -46,6 +45,9 @@ unfolding IsDistinct
 apart n [] d = tt
 apart n (c ∷ cs) d =
     IsDistinct-cons eqb c.number (map number_of cs) (recursion_from_All (λ k. eqb c.number k ≡ false) (map number_of cs) (above c.number (n + 1) cs (omega (arith, d.0)) d.1)) (apart (n + 1) cs d.1)
+
+pub fresh_apart : (n : ℕ) (cs : List Seen) → AreFresh n cs → AreApart cs
+fresh_apart n cs f = apart n cs (fresh_numbered n cs f)
 
 begun_numbered : (n : ℕ) (es : List Event) (cs : List Seen) → HaveBegun n es cs → Numbered 1 cs
 begun_numbered n es [] b = absurd b
@@ -154,7 +156,7 @@ left frame_max n es callers h cards b p few = record {
   ended = λ s m. ends_there h s.before.number cards s.steps (omega (arith, steps_within h p.idle p.stints s p.finished.count m, few)) (p.done s m);
 }
 
-pub if_within : (frame_max n : ℕ) (es : List Event) (callers : List Seen) (end : PoolEnd) (r : Result PoolEnd NoMemory) → HaveBegun n es callers
+pub if_within : {E : Type 0} → (frame_max n : ℕ) (es : List Event) (callers : List Seen) (end : PoolEnd) (r : Result PoolEnd E) → HaveBegun n es callers
     → IsPool by_first_byte frame_max most_turns n callers end.history end.cards.items → IfOk r (λ e. (e ≡ end) × (length end.history < 2 ^ 64 - 1))
     → IfOk r (λ e. IsLeft frame_max n es e.history e.cards.items)
 if_within frame_max n es callers end (Ok e) b p (is, few) =

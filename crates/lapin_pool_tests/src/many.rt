@@ -1,8 +1,11 @@
-//! Four working callers and a hundred deliveries: each gets one card.
+//! Four working callers and a hundred deliveries: each gets one card, and more than one caller takes some.
 
-use crate::stepping::{Acks, make_lines, with_deliveries};
+ghost use Rattle.std.specs.Prelude.{◌≡◌};
+
+use crate::meeting::Meeting;
+use crate::stepping::{Acks, make_first, with_deliveries};
 use lapin_pool::{Card, run_pool};
-use lapin_shared::{Client, Crew, OpenGate};
+use lapin_shared::{Client, Crew};
 use std::alloc::Global;
 use std::marker::Brand;
 use std::process::Abort;
@@ -26,6 +29,17 @@ fn are_apart(cards: &[Card]) -> bool {
     true
 }
 
+// Whether the cards are those of more than one caller.
+fn of_several(cards: &[Card]) -> bool {
+    for k in 1..cards.len() {
+        if cards[k].caller != cards[0].caller {
+            return true;
+        }
+    }
+    false
+}
+
+// The first job waits until another one was treated: so a second caller takes some.
 fn hundred<L: Crew + Send + Sync, R: Threads + Wait + Abort + Sync>(
     rt: &R,
     alloc: Global,
@@ -36,10 +50,12 @@ fn hundred<L: Crew + Send + Sync, R: Threads + Wait + Abort + Sync>(
 {
     let (client, mut callers) = Client::<L>::new(alloc, 4096, 5, blank)?;
     let input = with_deliveries(alloc, 100)?;
-    make_lines(rt, alloc, &mut callers[0], &input)?;
-    let end = run_pool(rt, alloc, &client, &OpenGate, &Acks, &mut callers, 4, u64::MAX)?;
+    make_first(rt, alloc, &mut callers, &input)?;
+    let gate = Meeting::new();
+    let end = run_pool(rt, alloc, &client, &gate, &Acks, &mut callers, 4, u64::MAX)?;
     assert_eq!(rt; end.cards.len(), 100);
     assert!(rt; are_apart(end.cards.as_slice()));
+    assert!(rt; of_several(end.cards.as_slice()));
     // Five steps and three of each delivery; two of each turn, and a last job step of each worker.
     assert_eq!(rt; end.history.len(), 5 + 300 + 200 + 4);
     Ok(())

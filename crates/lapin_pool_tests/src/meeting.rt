@@ -1,6 +1,8 @@
 //! Two working callers meet at a gate: each has a thread of its own.
 
-use crate::stepping::{Acks, make_lines, pool, with_deliveries};
+ghost use Rattle.std.specs.Prelude.{◌≡◌};
+
+use crate::stepping::{Acks, make_first, pool, with_deliveries};
 use lapin_pool::{Sent, run_pool};
 use lapin_shared::{Client, Crew, Gate};
 use std::alloc::Global;
@@ -17,14 +19,16 @@ const TURNS: u64 = 1_000_000_000;
 
 /// Keeps the first job before it is judged until another one was treated.
 #[derive(Drop)]
-struct Meeting {
+pub struct Meeting {
     came: AtomicU64,
     left: AtomicU64,
-    met: AtomicU64,
+    /// Whether another job was treated while the first one waited.
+    pub met: AtomicU64,
 }
 
 impl Meeting {
-    fn new() -> Meeting {
+    /// Nobody came yet.
+    pub fn new() -> Meeting {
         Meeting {
             came: AtomicU64::new(0),
             left: AtomicU64::new(0),
@@ -64,7 +68,7 @@ fn meet<L: Crew + Send + Sync, R: Threads + Wait + Abort + Sync>(
 {
     let (client, mut callers) = Client::<L>::new(alloc, 4096, 2, blank)?;
     let input = with_deliveries(alloc, 2)?;
-    make_lines(rt, alloc, &mut callers[0], &input)?;
+    make_first(rt, alloc, &mut callers, &input)?;
     let end = run_pool(rt, alloc, &client, gate, &Acks, &mut callers, 2, 1)?;
     assert_eq!(rt; end.cards.len(), 2);
     assert_eq!(rt; end.cards[0].acker, 1);

@@ -1,12 +1,16 @@
 //! A client whose first caller opened a channel and consumes on it, and the input of the command that does the same. The other modules
 //! call it.
 
+ghost use Rattle.std.specs.Prelude.{◌≡◌, ◌<◌, length, map};
+ghost use Rattle.lapin_pool.specs.Pool.{number_of};
+
 use lapin_acker::Verdict;
 use lapin_commands::Status;
 use lapin_io::{SureSink, SureSource};
 use lapin_pool::{Duty, PoolEnd};
 use lapin_pool_commands::run_pool_program;
 use lapin_shared::{Caller, Crew, Gate};
+use lapin_shared_commands::is_made;
 use lapin_text::parse_events;
 use lapin_types::Delivery;
 use std::alloc::Global;
@@ -48,21 +52,36 @@ pub fn with_deliveries(alloc: Global, deliveries: u64) -> Result<String, Fail> {
     Ok(text)
 }
 
-/// Makes the events of an input.
-pub fn make_lines<L: Crew, R: Wait + Abort>(
+// Makes the events of an input.
+fn make_lines<L: Crew, R: Wait + Abort>(
     rt: &R,
     alloc: Global,
     caller: &mut Caller<L>,
     input: &str,
-) -> Result<(), Fail> {
+) -> Result<(), Fail>
+    ensures { caller.new.number ≡ caller.old.number }
+{
     let parsed = parse_events(alloc, input.as_bytes())?;
     assert_eq!(rt; parsed.bad, None);
     for event in parsed.events {
-        if caller.make(rt, alloc, event).is_err() {
+        if !is_made(rt, alloc, event, caller) {
             return Err(Fail::from("memory"));
         }
     }
     Ok(())
+}
+
+/// The first caller makes the events of an input.
+pub fn make_first<L: Crew, R: Wait + Abort>(
+    rt: &R,
+    alloc: Global,
+    callers: &mut Vec<Caller<L>>,
+    input: &str,
+) -> Result<(), Fail>
+    requires { 0 < length callers.old.items }
+    ensures { map number_of callers.new.items ≡ map number_of callers.old.items }
+{
+    make_lines(rt, alloc, &mut callers[0], input)
 }
 
 /// Runs the words `pool N` on an input, compares the status, and answers the text and what was kept.
