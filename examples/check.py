@@ -1,8 +1,8 @@
 #!/usr/bin/env python3
 """See that the files of this folder are the runs of the tests, and that the built program prints their answers.
 
-The runs stand in files of two crates of tests, one crate for each command, with a line an event or a step and, behind an arrow, its
-record or report. The gate runs them there; this script, which stands outside it, compares the files beside it with
+The runs stand in files of three crates of tests, one crate for each command, with a line an event or a step and, behind an arrow, its
+record or report; of a pool the records are the first caller's, and lines without an event say what is printed behind them. The gate runs them there; this script, which stands outside it, compares the files beside it with
 them. Where the program is built (`./lapin` builds it), it is run on each file too.
 
     examples/check.py
@@ -16,6 +16,7 @@ TOP = os.path.dirname(HERE)
 TABLES = {
     "session": ["lapin_tests/src/examples.rt", "lapin_tests/src/tutorials.rt"],
     "joined": ["lapin_joined_tests/src/examples.rt"],
+    "pool 1": ["lapin_pool_tests/src/examples.rt"],
 }
 PROGRAM = os.path.join(TOP, "crates", "lapin_run", "out", "lapin_run")
 NAME = "# examples/"
@@ -35,7 +36,13 @@ def runs(table):
 
 def printed(word, name):
     with open(os.path.join(HERE, name), "rb") as given:
-        return subprocess.run([PROGRAM, word], stdin=given, capture_output=True, check=False).stdout.decode()
+        return subprocess.run([PROGRAM, *word.split(" ")], stdin=given, capture_output=True, check=False).stdout.decode()
+
+
+def wanted(word, steps):
+    """What the command prints for a run."""
+    caller = "1 " if word.startswith("pool") else ""
+    return "".join(f"{caller if step else ''}{answer}\n" for step, answer in steps)
 
 
 def main():
@@ -55,10 +62,10 @@ def main():
         word, steps = told[name]
         with open(os.path.join(HERE, name), encoding="utf-8") as text:
             lines = text.read()
-        if lines != "".join(f"{line}\n" for line in ["frame_max 4096"] + [step for step, _ in steps]):
+        if lines != "".join(f"{line}\n" for line in ["frame_max 4096"] + [step for step, _ in steps if step]):
             print(f"{name}: not the lines of its run")
             wrong += 1
-        elif os.path.exists(PROGRAM) and printed(word, name) != "".join(f"{answer}\n" for _, answer in steps):
+        elif os.path.exists(PROGRAM) and printed(word, name) != wanted(word, steps):
             print(f"{name}: the program prints other answers")
             wrong += 1
         else:

@@ -6,6 +6,8 @@
 #[cfg(test)]
 mod command;
 #[cfg(test)]
+mod examples;
+#[cfg(test)]
 mod many;
 #[cfg(test)]
 mod meeting;
