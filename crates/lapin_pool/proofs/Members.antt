@@ -14,15 +14,15 @@ no_member x c = omega (arith, c.1)
 
 pub the_one : {X : Type 0} → (x y : X) → Contains (x ∷ []) y → x ≡ y
 the_one x y c = elim (Contains-push_cases [] x y c) as (λ _. x ≡ y) [
-    | inl none ↦ absurd (no_member y none)
-    | inr e ↦ e
-  ]
+  | inl none ↦ absurd (no_member y none)
+  | inr e ↦ e
+]
 
 pub member_cases : {X : Type 0} → (x : X) (xs : List X) (y : X) → Contains (x ∷ xs) y → (x ≡ y) ⊎ Contains xs y
 member_cases x xs y c = elim (Contains-append_cases (x ∷ []) xs y c) as (λ _. (x ≡ y) ⊎ Contains xs y) [
-    | inl first ↦ inl (the_one x y first)
-    | inr later ↦ inr later
-  ]
+  | inl first ↦ inl (the_one x y first)
+  | inr later ↦ inr later
+]
 
 pub member_first : {X : Type 0} → (x : X) (xs : List X) → Contains (x ∷ xs) x
 member_first x xs = Contains-append_left (x ∷ []) xs x (Contains-push [] x)
@@ -33,26 +33,26 @@ member_later x xs y c = Contains-append_right (x ∷ []) xs y c
 pub member_map : {X Y : Type 0} → (f : X → Y) (xs : List X) (x : X) → Contains xs x → Contains (map f xs) (f x)
 member_map f [] x c = absurd (no_member x c)
 member_map f (y ∷ ys) x c = elim (member_cases y ys x c) as (λ _. Contains (map f (y ∷ ys)) (f x)) [
-    | inl e ↦ rw (← e) (member_first (f y) (map f ys))
-    | inr later ↦ member_later (f y) (map f ys) (f x) (member_map f ys x later)
-  ]
+  | inl e ↦ rw (← e) (member_first (f y) (map f ys))
+  | inr later ↦ member_later (f y) (map f ys) (f x) (member_map f ys x later)
+]
 
 -- ---- places that rise
 
 pub rise_above : (m : ℕ) (ts : List Told) (t : Told) → Rise m ts → Contains ts t → m < t.place
 rise_above m [] t r c = absurd (no_member t c)
 rise_above m (x ∷ xs) t r c = elim (member_cases x xs t c) as (λ _. m < t.place) [
-    | inl e ↦ omega (arith, r.0, ap (λ (v : Told). v.place) e)
-    | inr later ↦ omega (arith, r.0, rise_above x.place xs t r.1 later)
-  ]
+  | inl e ↦ omega (arith, r.0, ap (λ (v : Told). v.place) e)
+  | inr later ↦ omega (arith, r.0, rise_above x.place xs t r.1 later)
+]
 
 -- a step of the first list comes before one of the second
 pub rise_apart : (m : ℕ) (xs ys : List Told) (t u : Told) → Rise m (xs ++ ys) → Contains xs t → Contains ys u → t.place < u.place
 rise_apart m [] ys t u r c d = absurd (no_member t c)
 rise_apart m (x ∷ xs) ys t u r c d = elim (member_cases x xs t c) as (λ _. t.place < u.place) [
-    | inl e ↦ omega (arith, rise_above x.place (xs ++ ys) u r.1 (Contains-append_right xs ys u d), ap (λ (v : Told). v.place) e)
-    | inr later ↦ rise_apart x.place xs ys t u r.1 later d
-  ]
+  | inl e ↦ omega (arith, rise_above x.place (xs ++ ys) u r.1 (Contains-append_right xs ys u d), ap (λ (v : Told). v.place) e)
+  | inr later ↦ rise_apart x.place xs ys t u r.1 later d
+]
 
 pub rise_front : (m : ℕ) (xs ys : List Told) → Rise m (xs ++ ys) → Rise m xs
 rise_front m [] ys r = tt

@@ -32,9 +32,12 @@ ended_all may turns [] (y ∷ ys) n t new = absurd t
 ended_all may turns (x ∷ xs) [] n t new = absurd t
 ended_all may turns (x ∷ xs) (y ∷ ys) n (r, m, u, one, rest, sum, or) new =
     let s = neither r.short u or in
-    let h = new 0 x (omega arith) in
-    (h.0, h.1, (r.count, subst (λ b. Ended may turns (of_seat x) r.count b (of_seat y)) s.0 one),
-      ended_all may turns xs ys m (subst (λ b. TalliedAll (SeatEnded may turns) xs m b ys) s.1 rest) (λ k d lt. new (suc k) d (omega (arith, lt))))
+    let h = new 0 x (omega arith) in (
+      h.0,
+      h.1,
+      (r.count, subst (λ b. Ended may turns (of_seat x) r.count b (of_seat y)) s.0 one),
+      ended_all may turns xs ys m (subst (λ b. TalliedAll (SeatEnded may turns) xs m b ys) s.1 rest) (λ k d lt. new (suc k) d (omega (arith, lt))),
+    )
 
 seen_seats : {L : Type 0} (ss : List (Seat L)) → map seen_of (map of_seat ss) ≡ map caller_of ss
 seen_seats [] = refl
@@ -120,5 +123,5 @@ pub seats_grown : {L : Type 0} (may : Delivery → Verdict → Type 0) (turns : 
     → front ++ reverse (map caller_of xs) ≡ olds → Tallied (SeatEnded may turns) xs sum ys → news ≡ front ++ reverse (map caller_of ys) → AreGrown olds news
 seats_grown may turns olds front news xs ys sum sat t left =
     let both = grown_append front front (reverse (map caller_of xs)) (reverse (map caller_of ys)) (grown_same front)
-      (grown_reverse (map caller_of xs) (map caller_of ys) (each_grown may turns xs ys t.total sum.short t.each)) in
+    (grown_reverse (map caller_of xs) (map caller_of ys) (each_grown may turns xs ys t.total sum.short t.each)) in
     subst (λ l. AreGrown l news) sat (subst (λ l. AreGrown (front ++ reverse (map caller_of xs)) l) (sym left) both)

@@ -43,13 +43,15 @@ some_log old new u g = omega (arith, ap length g.1, length-append old.log (u ∷
 -- the log has the place of its newest entry
 pub has_newest : (old new : Seen) (u : Told) → Grew old new u → HasPlace u.place new.log
 has_newest old new u g =
-    let At : List Told → Type 0 = λ l. slice_get l (length old.log) ≡ Some u in
-    (length old.log, record {
-      entry = u;
-      inside = omega (arith, ap length g.1, length-append old.log (u ∷ []));
-      stands = subst At (sym g.1) (at_end old.log u);
-      is = refl;
-    })
+    let At : List Told → Type 0 = λ l. slice_get l (length old.log) ≡ Some u in (
+      length old.log,
+      record {
+        entry = u;
+        inside = omega (arith, ap length g.1, length-append old.log (u ∷ []));
+        stands = subst At (sym g.1) (at_end old.log u);
+        is = refl;
+      },
+    )
 
 last_above : (m : ℕ) (xs : List Told) (t : Told) → Rise m (xs ++ t ∷ []) → m < t.place
 last_above m [] t r = r.0
@@ -70,7 +72,7 @@ read_is a old new p k g rise h =
     let Up : List Told → Type 0 = λ l. Rise 0 l in
     let At : List Told → Type 0 = λ l. slice_get l k ≡ Some h.at.entry in
     let e : answered (a.log ++ job_step p None ∷ []) k h.answer ≡ a.log ++ job_step p (Some h.answer) ∷ [] =
-      answered_last 0 a.log (job_step p None) h.at.entry k h.answer (subst Up g.1 rise) (subst At g.1 h.at.stands) h.at.is in
+    answered_last 0 a.log (job_step p None) h.at.entry k h.answer (subst Up g.1 rise) (subst At g.1 h.at.stands) h.at.is in
     (h.answer, (h.number ∙ g.0, h.log ∙ ap (λ l. answered l k h.answer) g.1 ∙ e))
 
 step_by : (old new : Seen) (p : ℕ) (r : Record) (b : Bool) (s : Step) → Grew old new (job_step p (Some r)) → tells_job r ≡ b → s ≡ (if b then step.Taken p else step.NoJob) → IsTaken old s new

@@ -73,15 +73,33 @@ outcome_right may h n xs ys d p (Some v) s o = (o.0, sent_right h n xs ys p d.ac
 
 card_left : (may : Delivery → Verdict → Type 0) (h : List Entry) (n : ℕ) (xs ys : List Told) (c : Card) → (c.verdict ≡ None → ⊥) → IsCard may h n xs c → IsCard may h n (xs ++ ys) c
 card_left may h n xs ys c some k = record {
-  step = k.step; made = Contains-append_left xs ys k.step k.made; place = k.place; entry = k.entry; stands = k.stands; own = k.own; job = k.job;
-  delivery = k.delivery; tells = k.tells; caller = k.caller; acker = k.acker;
+  step = k.step;
+  made = Contains-append_left xs ys k.step k.made;
+  place = k.place;
+  entry = k.entry;
+  stands = k.stands;
+  own = k.own;
+  job = k.job;
+  delivery = k.delivery;
+  tells = k.tells;
+  caller = k.caller;
+  acker = k.acker;
   outcome = outcome_left may h n xs ys k.delivery c.place c.verdict c.sent some k.outcome;
 }
 
 card_right : (may : Delivery → Verdict → Type 0) (h : List Entry) (n : ℕ) (xs ys : List Told) (c : Card) → IsCard may h n ys c → IsCard may h n (xs ++ ys) c
 card_right may h n xs ys c k = record {
-  step = k.step; made = Contains-append_right xs ys k.step k.made; place = k.place; entry = k.entry; stands = k.stands; own = k.own; job = k.job;
-  delivery = k.delivery; tells = k.tells; caller = k.caller; acker = k.acker;
+  step = k.step;
+  made = Contains-append_right xs ys k.step k.made;
+  place = k.place;
+  entry = k.entry;
+  stands = k.stands;
+  own = k.own;
+  job = k.job;
+  delivery = k.delivery;
+  tells = k.tells;
+  caller = k.caller;
+  acker = k.acker;
   outcome = outcome_right may h n xs ys k.delivery c.place c.verdict c.sent k.outcome;
 }
 
@@ -111,8 +129,8 @@ done_append may h n xs ys cs ds j k a b some rise = record {
     | inr later ↦ among n ds (cs ++ ds) t (λ c i. Contains-append_right cs ds c i) (b.others t later)
   ];
   apart = apart_append cs ds a.apart b.apart (λ c d m i e.
-    let first = a.each c m in
-    let later = b.each d i in omega (arith, rise first.step later.step first.made later.made, first.place, later.place, e));
+      let first = a.each c m in
+      let later = b.each d i in omega (arith, rise first.step later.step first.made later.made, first.place, later.place, e));
   taken = omega (arith, jobs_append h xs ys, a.taken, b.taken);
 }
 
@@ -217,7 +235,7 @@ behind h n mid new t a (Some k) (sent.Placed q) m stand rise (r, g) =
       log = g.1;
       was = (rise_apart 0 mid.log (u ∷ []) t u (subst (λ l. Rise 0 l) g.1 rise) m (member_first u []), (at.entry, (at.place, at.stands), at.caller, at.event), ([], t, u, [], refl, refl, refl));
       others = λ v c. let e = the_one u v c in
-        (λ is. no_job a k (subst (λ (w : Told). w.event ≡ event.NextJob) (sym e) is), ap (λ (w : Told). sent.Placed w.place) e);
+          (λ is. no_job a k (subst (λ (w : Told). w.event ≡ event.NextJob) (sym e) is), ap (λ (w : Told). sent.Placed w.place) e);
       none = refl;
     }
 
@@ -256,7 +274,7 @@ judged_card : (may : Delivery → Verdict → Type 0) (h : List Entry) (n p : �
 judged_card may h n p r d mid new k rest at number tells j was =
     let steps = job_step p (Some r) ∷ rest in
     let so : IsOutcome may h n steps d p k.verdict k.sent =
-      subst (λ v. IsOutcome may h n steps d p v k.sent) (sym j.verdict) ((j.answered, j.may_be, refl), was) in
+    subst (λ v. IsOutcome may h n steps d p v k.sent) (sym j.verdict) ((j.answered, j.may_be, refl), was) in
     record {
       step = job_step p (Some r);
       made = member_first (job_step p (Some r)) rest;
@@ -276,10 +294,13 @@ pub turn_adds : (may : Delivery → Verdict → Type 0) (h : List Entry) (n : �
 turn_adds may h n b c number stand rise (p, r, mid, o, job, grew, treated, more, same) = by (delivery_told r) o refl more treated where
   t : Told
   t = job_step p (Some r)
+
   own : mid.number ≡ n
   own = grew.0 ∙ number
+
   member : Contains mid.log t
   member = subst (λ l. Contains l t) (sym grew.1) (Contains-push b.seen.log t)
+
   by : (d : Option Delivery) (u : Option Card) → delivery_told r ≡ d → c.cards ≡ with_card b.cards u → IsTreated may mid p d u c.seen → Adds may h n b c
   by None (Some k) e w i = absurd i
   by (Some d) None e w i = absurd i
@@ -344,9 +365,9 @@ made may h n (suc k) a c number none stand rise (b, ran, turn) =
     let before = made may h n k a b number none (stand_front h n b.seen.log grown.more c.seen.log grown.log stand) (rise_front 0 b.seen.log grown.more (subst (λ l. Rise 0 l) grown.log rise)) ran in
     let adds = turn_adds may h n b c before.number stand rise turn in
     let both : Done may h n (before.steps ++ adds.more) (b.cards ++ adds.given) (k + 1) =
-      done_append may h n before.steps adds.more b.cards adds.given k 1 before.done adds.done before.read
-        (λ t u m i. rise_apart 0 b.seen.log adds.more t u (subst (λ l. Rise 0 l) adds.log rise)
-          (subst (λ l. Contains l t) (sym before.log) (Contains-append_right a.seen.log before.steps t m)) i) in
+    done_append may h n before.steps adds.more b.cards adds.given k 1 before.done adds.done before.read
+    (λ t u m i. rise_apart 0 b.seen.log adds.more t u (subst (λ l. Rise 0 l) adds.log rise)
+    (subst (λ l. Contains l t) (sym before.log) (Contains-append_right a.seen.log before.steps t m)) i) in
     let one : Done may h n (before.steps ++ adds.more) c.cards (k + 1) = subst (λ l. Done may h n (before.steps ++ adds.more) l (k + 1)) (sym adds.cards) both in
     let more : k + 1 ≡ suc k = omega arith in
     record {

@@ -39,7 +39,7 @@ behind_apart : (front cs : List Seen) → AreApart (front ++ reverse cs) → IsD
 behind_apart front cs d =
     let e = map-append number_of front (reverse cs) in
     IsDistinct-IsPermutation eqb flips (map number_of (reverse cs)) (map number_of cs) (IsPermutation-map number_of (reverse cs) cs (IsPermutation-sym cs (reverse cs) (IsPermutation-reverse cs)))
-      (distinct_behind (map number_of front) (map number_of (reverse cs)) (subst (λ l. IsDistinct eqb l) e d))
+    (distinct_behind (map number_of front) (map number_of (reverse cs)) (subst (λ l. IsDistinct eqb l) e d))
 
 other_number : (n m : ℕ) (ns : List ℕ) → IsDistinct eqb (n ∷ ns) → Contains ns m → n ≡ m → ⊥
 other_number n m ns d c e =
@@ -60,6 +60,7 @@ more_cards h turns n cs ds steps more done = record {
   nothing p r (inl none) = inl none
   nothing p r (inr (inl other)) = inr (inl other)
   nothing p r (inr (inr (c, m, place, verdict))) = inr (inr (c, more c m, place, verdict))
+
   ended : (jobs h steps ≡ turns) ⊎ EndsThere h cs steps → (jobs h steps ≡ turns) ⊎ EndsThere h ds steps
   ended (inl is) = inl is
   ended (inr (front, t, x, e, job, stands, none)) = inr (front, t, x, e, job, stands, nothing t.place x.answer none)
@@ -79,7 +80,9 @@ record Team (may : Delivery → Verdict → Type 0) (h : List Entry) (turns : �
 
 no_team : (may : Delivery → Verdict → Type 0) (h : List Entry) (turns : ℕ) → Team may h turns [] []
 no_team may h turns = record {
-  stints = []; befores = refl; afters = refl;
+  stints = [];
+  befores = refl;
+  afters = refl;
   each = λ k m. absurd (no_member k m);
   done = λ s m. absurd (no_member s m);
   apart = tt;
@@ -103,18 +106,18 @@ more_team may h turns a c olds news differ w t =
       done = λ s m. elim (member_cases w.stint t.stints s m) as (λ _. HasDone h turns s.before.number (own ++ rest) s.steps) [
         | inl e ↦ subst (λ (x : Stint). HasDone h turns x.before.number (own ++ rest) x.steps) e
             (subst (λ n. HasDone h turns n (own ++ rest) w.stint.steps) (sym same)
-              (more_cards h turns a.seen.number own (own ++ rest) w.stint.steps (λ k i. Contains-append_left own rest k i) w.done))
+            (more_cards h turns a.seen.number own (own ++ rest) w.stint.steps (λ k i. Contains-append_left own rest k i) w.done))
         | inr later ↦ more_cards h turns s.before.number rest (own ++ rest) s.steps (λ k i. Contains-append_right own rest k i) (t.done s later)
       ];
       apart = apart_append own rest w.apart t.apart (λ k d m i e.
-        let x = w.each k m in
-        let f = t.each d i in
-        let y = f.2 in
-        let entries : x.entry ≡ y.entry = same_entry h d.place x.entry y.entry (subst (λ p. StandsAt h p x.entry) e x.stands) y.stands in
-        let numbers : a.seen.number ≡ f.0.before.number = sym x.own ∙ ap (λ (z : Entry). z.caller) entries ∙ y.own in
-        let there : Contains (map number_of (map seen_of olds)) f.0.before.number =
+          let x = w.each k m in
+          let f = t.each d i in
+          let y = f.2 in
+          let entries : x.entry ≡ y.entry = same_entry h d.place x.entry y.entry (subst (λ p. StandsAt h p x.entry) e x.stands) y.stands in
+          let numbers : a.seen.number ≡ f.0.before.number = sym x.own ∙ ap (λ (z : Entry). z.caller) entries ∙ y.own in
+          let there : Contains (map number_of (map seen_of olds)) f.0.before.number =
           member_map number_of (map seen_of olds) f.0.before (subst (λ l. Contains l f.0.before) t.befores (member_map before_of t.stints f.0 f.1)) in
-        other_number a.seen.number f.0.before.number (map number_of (map seen_of olds)) differ there numbers);
+          other_number a.seen.number f.0.before.number (map number_of (map seen_of olds)) differ there numbers);
     }
 
 team : (may : Delivery → Verdict → Type 0) (h : List Entry) (turns : ℕ) (olds news : List Standing) → TellsNone h → AllEnded may turns olds news
@@ -125,7 +128,7 @@ team may h turns (a ∷ olds) [] tells e stand d = absurd e
 team may h turns (a ∷ olds) (c ∷ news) tells (no_cards, none, ended, rest) stand d =
     let s = stand c (member_first c news) in
     more_team may h turns a c olds news d (worked may h turns ended.0 a c tells no_cards none s.0 s.1 ended.1)
-      (team may h turns olds news tells rest (λ x m. stand x (member_later c news x m)) (IsDistinct-tail eqb a.seen.number (map number_of (map seen_of olds)) d))
+    (team may h turns olds news tells rest (λ x m. stand x (member_later c news x m)) (IsDistinct-tail eqb a.seen.number (map number_of (map seen_of olds)) d))
 
 -- ---- the cards of all, in another order
 
@@ -146,12 +149,12 @@ dealt_cards h (s ∷ ss) =
     let a = all_cards ss in
     let b = unread_cards h (reverse (all_unread ss)) in
     let turned : unread_cards h (reverse (all_unread ss ++ option_to_list s.unread)) ≡ d ++ b =
-      ap (unread_cards h) (reverse-append (all_unread ss) (option_to_list s.unread) ∙ ap (λ l. l ++ reverse (all_unread ss)) (reverse_one s.unread)) ∙ unread_append h (option_to_list s.unread) (reverse (all_unread ss)) in
+    ap (unread_cards h) (reverse-append (all_unread ss) (option_to_list s.unread) ∙ ap (λ l. l ++ reverse (all_unread ss)) (reverse_one s.unread)) ∙ unread_append h (option_to_list s.unread) (reverse (all_unread ss)) in
     let front : (c ++ d) ++ (a ++ b) ≡ ((c ++ d) ++ a) ++ b = sym (append_assoc (c ++ d) a b) in
     let back : (a ++ (c ++ d)) ++ b ≡ (a ++ c) ++ (d ++ b) = ap (λ l. l ++ b) (sym (append_assoc a c d)) ∙ append_assoc (a ++ c) d b in
     let moved : IsPermutation (((c ++ d) ++ a) ++ b) ((a ++ (c ++ d)) ++ b) = IsPermutation-append_left b ((c ++ d) ++ a) (a ++ (c ++ d)) (IsPermutation-append_comm (c ++ d) a) in
     let whole : IsPermutation ((c ++ d) ++ (a ++ b)) ((a ++ c) ++ (d ++ b)) =
-      subst (λ l. IsPermutation ((c ++ d) ++ (a ++ b)) l) back (subst (λ l. IsPermutation l ((a ++ (c ++ d)) ++ b)) (sym front) moved) in
+    subst (λ l. IsPermutation ((c ++ d) ++ (a ++ b)) l) back (subst (λ l. IsPermutation l ((a ++ (c ++ d)) ++ b)) (sym front) moved) in
     let rest : IsPermutation ((c ++ d) ++ team_cards h ss) ((c ++ d) ++ (a ++ b)) = IsPermutation-append_right (c ++ d) (team_cards h ss) (a ++ b) (dealt_cards h ss) in
     subst (λ l. IsPermutation ((c ++ d) ++ team_cards h ss) ((a ++ c) ++ l)) (sym turned) (IsPermutation-trans ((c ++ d) ++ team_cards h ss) ((c ++ d) ++ (a ++ b)) ((a ++ c) ++ (d ++ b)) rest whole)
 
@@ -175,15 +178,15 @@ pub pooled : (may : Delivery → Verdict → Type 0) (frame_max turns workers : 
 pooled may frame_max turns workers olds h cards unread news ends apart w tells finished moved sorted =
     let seen = map seen_of w.after in
     let stand = λ (c : Standing) (m : Contains w.after c). stood h news c.seen finished.stand finished.rise
-      (subst (λ l. Contains l c.seen) (sym w.news_are) (Contains-append_right w.idle (reverse seen) c.seen
-        (Contains-permutation seen (reverse seen) c.seen (IsPermutation-reverse seen) (member_map seen_of w.after c m)))) in
+    (subst (λ l. Contains l c.seen) (sym w.news_are) (Contains-append_right w.idle (reverse seen) c.seen
+    (Contains-permutation seen (reverse seen) c.seen (IsPermutation-reverse seen) (member_map seen_of w.after c m)))) in
     let differ = behind_apart w.idle (map seen_of w.before) (subst (λ l. AreApart l) w.olds_are apart) in
     let t = team may h turns w.before w.after tells w.worked stand differ in
     let all = team_cards h w.after in
     let same : cards ++ unread_cards h (reverse unread) ≡ all_cards w.after ++ unread_cards h (reverse (all_unread w.after)) =
-      ap (λ l. l ++ unread_cards h (reverse unread)) w.cards_are ∙ ap (λ l. all_cards w.after ++ unread_cards h (reverse l)) w.unread_are in
+    ap (λ l. l ++ unread_cards h (reverse unread)) w.cards_are ∙ ap (λ l. all_cards w.after ++ unread_cards h (reverse l)) w.unread_are in
     let perm : IsPermutation all ends =
-      IsPermutation-trans all (cards ++ unread_cards h (reverse unread)) ends (subst (λ l. IsPermutation all l) (sym same) (dealt_cards h w.after)) moved in
+    IsPermutation-trans all (cards ++ unread_cards h (reverse unread)) ends (subst (λ l. IsPermutation all l) (sym same) (dealt_cards h w.after)) moved in
     let stints = reverse t.stints in
     let turned : IsPermutation t.stints stints = IsPermutation-reverse t.stints in
     let ends_are : news ≡ w.idle ++ map after_of stints = w.news_are ∙ ap (λ l. w.idle ++ l) (ap reverse (sym t.afters) ∙ sym (map_reverse after_of t.stints)) in
@@ -194,8 +197,8 @@ pooled may frame_max turns workers olds h cards unread news ends apart w tells f
       many = length-reverse t.stints ∙ sym (length-map t.stints before_of) ∙ ap length t.befores ∙ length-map w.before seen_of ∙ w.many;
       finished = subst (λ l. IsFinished frame_max h l) ends_are finished;
       rising = IsStrictlyIncreasing-from_distinct (map place_of ends) sorted
-        (IsDistinct-IsPermutation eqb flips (map place_of all) (map place_of ends) (IsPermutation-map place_of all ends perm) (distinct_places all t.apart));
+          (IsDistinct-IsPermutation eqb flips (map place_of all) (map place_of ends) (IsPermutation-map place_of all ends perm) (distinct_places all t.apart));
       each = λ k m. let f = t.each k (Contains-permutation ends all k (IsPermutation-sym all ends perm) m) in (f.0, Contains-permutation t.stints stints f.0 turned f.1, f.2);
       done = λ s m. more_cards h turns s.before.number all ends s.steps (λ k i. Contains-permutation all ends k perm i)
-        (t.done s (Contains-permutation stints t.stints s (IsPermutation-sym t.stints stints turned) m));
+          (t.done s (Contains-permutation stints t.stints s (IsPermutation-sym t.stints stints turned) m));
     }

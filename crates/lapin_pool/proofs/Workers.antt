@@ -96,11 +96,11 @@ none_found may h turns k a b c tells fewer none stand rise m (p, r, job, grew, c
     let zero_jobs : jobs h (t ∷ []) ≡ 0 = ap (λ v. (if v then 1 else 0) + 0) (told_there h n p r at ∙ job) in
     let bare : Done may h n (t ∷ []) [] 0 = subst (λ j. Done may h n (t ∷ []) [] j) zero_jobs (done_bare may h n t refl (λ d took. jobless r d job (taken_so h n p r d at took))) in
     let both : Done may h n (m.steps ++ t ∷ []) (b.cards ++ []) (k + 0) = done_append may h n m.steps (t ∷ []) b.cards [] k 0 m.done bare m.read
-      (λ u v i j. rise_apart 0 b.seen.log (t ∷ []) u v (subst (λ l. Rise 0 l) grew.1 rise) (subst (λ l. Contains l u) (sym m.log) (Contains-append_right a.seen.log m.steps u i)) j) in
+    (λ u v i j. rise_apart 0 b.seen.log (t ∷ []) u v (subst (λ l. Rise 0 l) grew.1 rise) (subst (λ l. Contains l u) (sym m.log) (Contains-append_right a.seen.log m.steps u i)) j) in
     let own : b.cards ++ [] ≡ own_cards h c = append-nil b.cards ∙ sym cards ∙ sym (own_read h c (unread ∙ m.unread ∙ none)) in
     worked_of may h turns a c (m.steps ++ t ∷ []) (k + 0) (grew.0 ∙ m.number) (grew.1 ∙ ap (λ l. l ++ t ∷ []) m.log ∙ append_assoc a.seen.log m.steps (t ∷ []))
-      (subst (λ l. Done may h n (m.steps ++ t ∷ []) l (k + 0)) own both) (omega arith)
-      (inr (m.steps, t, at.entry, refl, refl, (at.place, at.stands), inl (tells p at.entry (at.place, at.stands) at.event (ap tells_job at.answer ∙ job))))
+    (subst (λ l. Done may h n (m.steps ++ t ∷ []) l (k + 0)) own both) (omega arith)
+    (inr (m.steps, t, at.entry, refl, refl, (at.place, at.stands), inl (tells p at.entry (at.place, at.stands) at.event (ap tells_job at.answer ∙ job))))
 
 at_most_one : (v : Bool) → (if v then 1 else 0) + 0 ≤ 1
 at_most_one true = omega arith
@@ -114,11 +114,11 @@ record Left (may : Delivery → Verdict → Type 0) (h : List Entry) (n p : ℕ)
 left_bare : (may : Delivery → Verdict → Type 0) (h : List Entry) (n p : ℕ) → TellsNone h → (at : IsAt h n (job_step p None)) → delivery_told at.entry.answer ≡ None → Left may h n p []
 left_bare may h n p tells at is = record {
   done = done_bare may h n (job_step p None) refl (λ d took.
-    let e = same_entry h p took.0 at.entry took.1 (at.place, at.stands) in
-    no_delivery d (sym is ∙ ap (λ (y : Entry). delivery_told y.answer) (sym e) ∙ took.3));
+      let e = same_entry h p took.0 at.entry took.1 (at.place, at.stands) in
+      no_delivery d (sym is ∙ ap (λ (y : Entry). delivery_told y.answer) (sym e) ∙ took.3));
   nothing = λ x stands.
-    let e = same_entry h p at.entry x (at.place, at.stands) stands in
-    by x stands (ap (λ (y : Entry). y.event) (sym e) ∙ at.event) (ap (λ (y : Entry). delivery_told y.answer) (sym e) ∙ is) (tells_job x.answer) refl;
+      let e = same_entry h p at.entry x (at.place, at.stands) stands in
+      by x stands (ap (λ (y : Entry). y.event) (sym e) ∙ at.event) (ap (λ (y : Entry). delivery_told y.answer) (sym e) ∙ is) (tells_job x.answer) refl;
 } where
   by : (x : Entry) → StandsAt h p x → x.event ≡ event.NextJob → delivery_told x.answer ≡ None → (v : Bool) → tells_job x.answer ≡ v → TookNothing [] p x.answer
   by x stands is none true e = inr (inl (e, none))
@@ -130,8 +130,18 @@ left_card may h n p d at tells =
     let t : Told = job_step p None in
     let k : Card = record { caller = at.entry.caller; place = p; acker = d.acker.number; verdict = None; sent = sent.Unsent } in
     let card : IsCard may h n (t ∷ []) k = record {
-      step = t; made = member_first t []; place = refl; entry = at.entry; stands = (at.place, at.stands); own = at.caller; job = at.event;
-      delivery = d; tells = tells; caller = at.caller; acker = refl; outcome = (refl, ([], t, refl, refl));
+      step = t;
+      made = member_first t [];
+      place = refl;
+      entry = at.entry;
+      stands = (at.place, at.stands);
+      own = at.caller;
+      job = at.event;
+      delivery = d;
+      tells = tells;
+      caller = at.caller;
+      acker = refl;
+      outcome = (refl, ([], t, refl, refl));
     } in
     record {
       done = done_card may h n t [] k refl card refl (λ u m. absurd (no_member u m));
@@ -145,11 +155,11 @@ there h (suc k) x some e = let same : k ≡ suc k - 1 = omega arith in ap (slice
 left_so : (may : Delivery → Verdict → Type 0) (h : List Entry) (n p : ℕ) → TellsNone h → IsAt h n (job_step p None) → Left may h n p (unread_cards h (p ∷ []))
 left_so may h n p tells at =
     let e : unread_cards h (p ∷ []) ≡ option_to_list (blank_card at.entry.caller p (delivery_told at.entry.answer)) =
-      append-nil (option_to_list (card_in p (at_place h p))) ∙ ap (λ o. option_to_list (card_in p o)) (there h p at.entry at.place at.stands) in
+    append-nil (option_to_list (card_in p (at_place h p))) ∙ ap (λ o. option_to_list (card_in p o)) (there h p at.entry at.place at.stands) in
     subst (λ l. Left may h n p l) (sym e) (by (delivery_told at.entry.answer) refl) where
-  by : (o : Option Delivery) → delivery_told at.entry.answer ≡ o → Left may h n p (option_to_list (blank_card at.entry.caller p o))
-  by None e = left_bare may h n p tells at e
-  by (Some d) e = left_card may h n p d at e
+      by : (o : Option Delivery) → delivery_told at.entry.answer ≡ o → Left may h n p (option_to_list (blank_card at.entry.caller p o))
+      by None e = left_bare may h n p tells at e
+      by (Some d) e = left_card may h n p d at e
 
 left_unread : (may : Delivery → Verdict → Type 0) (h : List Entry) (turns k : ℕ) (a b c : Standing) → TellsNone h → k < turns → Stand h a.seen.number c.seen.log → Rise 0 c.seen.log
     → Made may h a.seen.number a b k → LeftUnread b c → Worked may h turns a c
@@ -160,33 +170,34 @@ left_unread may h turns k a b c tells fewer stand rise m (p, grew, cards, unread
     let left = left_so may h n p tells at in
     let took = jobs h (t ∷ []) in
     let both : Done may h n (m.steps ++ t ∷ []) (b.cards ++ unread_cards h (p ∷ [])) (k + took) = done_append may h n m.steps (t ∷ []) b.cards (unread_cards h (p ∷ [])) k took m.done left.done m.read
-      (λ u v i j. rise_apart 0 b.seen.log (t ∷ []) u v (subst (λ l. Rise 0 l) grew.1 rise) (subst (λ l. Contains l u) (sym m.log) (Contains-append_right a.seen.log m.steps u i)) j) in
+    (λ u v i j. rise_apart 0 b.seen.log (t ∷ []) u v (subst (λ l. Rise 0 l) grew.1 rise) (subst (λ l. Contains l u) (sym m.log) (Contains-append_right a.seen.log m.steps u i)) j) in
     let own : b.cards ++ unread_cards h (p ∷ []) ≡ own_cards h c =
-      ap (λ l. l ++ unread_cards h (p ∷ [])) (sym cards) ∙ ap (λ u. c.cards ++ unread_cards h (option_to_list u)) (sym unread) in
+    ap (λ l. l ++ unread_cards h (p ∷ [])) (sym cards) ∙ ap (λ u. c.cards ++ unread_cards h (option_to_list u)) (sym unread) in
     let few : took ≤ 1 = at_most_one (tells_in (slice_get h (p - 1))) in
     worked_of may h turns a c (m.steps ++ t ∷ []) (k + took) (grew.0 ∙ m.number) (grew.1 ∙ ap (λ l. l ++ t ∷ []) m.log ∙ append_assoc a.seen.log m.steps (t ∷ []))
-      (subst (λ l. Done may h n (m.steps ++ t ∷ []) l (k + took)) own both) (omega arith)
-      (inr (m.steps, t, at.entry, refl, refl, (at.place, at.stands), in_own own at.entry.answer (left.nothing at.entry (at.place, at.stands)))) where
-  in_own : b.cards ++ unread_cards h (p ∷ []) ≡ own_cards h c → (r : Record) → TookNothing (unread_cards h (p ∷ [])) p r → TookNothing (own_cards h c) p r
-  in_own e r (inl none) = inl none
-  in_own e r (inr (inl other)) = inr (inl other)
-  in_own e r (inr (inr (k, member, place, verdict))) =
-      inr (inr (k, subst (λ l. Contains l k) e (Contains-append_right b.cards (unread_cards h (p ∷ [])) k member), place, verdict))
+    (subst (λ l. Done may h n (m.steps ++ t ∷ []) l (k + took)) own both) (omega arith)
+    (inr (m.steps, t, at.entry, refl, refl, (at.place, at.stands), in_own own at.entry.answer (left.nothing at.entry (at.place, at.stands)))) where
+      in_own : b.cards ++ unread_cards h (p ∷ []) ≡ own_cards h c → (r : Record) → TookNothing (unread_cards h (p ∷ [])) p r → TookNothing (own_cards h c) p r
+      in_own e r (inl none) = inl none
+      in_own e r (inr (inl other)) = inr (inl other)
+      in_own e r (inr (inr (k, member, place, verdict))) =
+          inr (inr (k, subst (λ l. Contains l k) e (Contains-append_right b.cards (unread_cards h (p ∷ [])) k member), place, verdict))
 
 -- what a caller did that ended for no want of memory
 pub worked : (may : Delivery → Verdict → Type 0) (h : List Entry) (turns k : ℕ) (a c : Standing) → TellsNone h → a.cards ≡ [] → a.unread ≡ None → Stand h c.seen.number c.seen.log → Rise 0 c.seen.log
     → Ended may turns a k false c → Worked may h turns a c
 worked may h turns k a c tells no_cards none stand rise ended =
     by (subst (λ n. Stand h n c.seen.log) (ended_grown may turns a k false c ended).number stand) ended where
-  over : (b : Standing) → k < turns → Made may h a.seen.number a b k → Stand h a.seen.number c.seen.log → IsTurn may b turn.Over c → Worked may h turns a c
-  over b fewer m stood (inl found) = none_found may h turns k a b c tells fewer none stood rise m found
-  over b fewer m stood (inr left) = left_unread may h turns k a b c tells fewer stood rise m left
-  by : Stand h a.seen.number c.seen.log → Ended may turns a k false c → Worked may h turns a c
-  by stood (inl (ran, is)) =
-      let m = made may h a.seen.number k a c refl no_cards stood rise ran in
-      worked_of may h turns a c m.steps k m.number m.log (subst (λ l. Done may h a.seen.number m.steps l k) (sym (own_read h c (m.unread ∙ none))) m.done) (omega (arith, is)) (inl is)
-  by stood (inr (b, fewer, ran, ends)) =
-      let grown = over_grown may b c ends in
-      let m = made may h a.seen.number k a b refl no_cards (stand_front h a.seen.number b.seen.log grown.more c.seen.log grown.log stood)
-        (rise_front 0 b.seen.log grown.more (subst (λ l. Rise 0 l) grown.log rise)) ran in
-      over b fewer m stood ends
+      over : (b : Standing) → k < turns → Made may h a.seen.number a b k → Stand h a.seen.number c.seen.log → IsTurn may b turn.Over c → Worked may h turns a c
+      over b fewer m stood (inl found) = none_found may h turns k a b c tells fewer none stood rise m found
+      over b fewer m stood (inr left) = left_unread may h turns k a b c tells fewer stood rise m left
+
+      by : Stand h a.seen.number c.seen.log → Ended may turns a k false c → Worked may h turns a c
+      by stood (inl (ran, is)) =
+          let m = made may h a.seen.number k a c refl no_cards stood rise ran in
+          worked_of may h turns a c m.steps k m.number m.log (subst (λ l. Done may h a.seen.number m.steps l k) (sym (own_read h c (m.unread ∙ none))) m.done) (omega (arith, is)) (inl is)
+      by stood (inr (b, fewer, ran, ends)) =
+          let grown = over_grown may b c ends in
+          let m = made may h a.seen.number k a b refl no_cards (stand_front h a.seen.number b.seen.log grown.more c.seen.log grown.log stood)
+          (rise_front 0 b.seen.log grown.more (subst (λ l. Rise 0 l) grown.log rise)) ran in
+          over b fewer m stood ends

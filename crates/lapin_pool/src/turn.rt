@@ -88,12 +88,7 @@ fn take<L: Crew, R: Wait>(rt: &R, alloc: Global, caller: &mut Caller<L>) -> Step
 }
 
 // Reads the record of the caller's last step, of which the log has none.
-fn read_again<L: Crew, R: Wait>(
-    rt: &R,
-    alloc: Global,
-    place: u64,
-    caller: &mut Caller<L>,
-) -> Step
+fn read_again<L: Crew, R: Wait>(rt: &R, alloc: Global, place: u64, caller: &mut Caller<L>) -> Step
     requires { HasPlace place caller.old.log }
     ensures { (a : Seen) → Grew a caller.old (job_step place None) → IsTaken a result caller.new }
 {

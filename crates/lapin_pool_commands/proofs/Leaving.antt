@@ -100,8 +100,10 @@ first_own : (es : List Event) (n frame_max : ℕ) (callers : List Seen) (h : Lis
 first_own es n frame_max callers h cards b p = by callers b p.idle p.olds_are refl where
   stints : List Stint
   stints = p.stints
+
   idle_one : (cs front : List Seen) → HaveBegun n es cs → cs ≡ front ++ map before_of stints → length front ≡ 1
   idle_one cs front begun e = omega (arith, begun_length n es cs begun, ap length e, length-append front (map before_of stints), length-map stints before_of, p.many)
+
   by : (cs : List Seen) → HaveBegun n es cs → (front : List Seen) → cs ≡ front ++ map before_of stints → p.idle ≡ front → own 1 h ≡ es
   by cs begun [] e is = absurd (omega (arith, idle_one cs [] begun e))
   by [] begun (c ∷ front) e is = absurd begun
@@ -129,9 +131,9 @@ few_jobs h (t ∷ ts) = omega (arith, at_most_one (is_next_job t.event && tells_
 log_within : (cs : List Seen) (c : Seen) → Contains cs c → length c.log ≤ logged cs
 log_within [] c m = absurd (no_member c m)
 log_within (x ∷ xs) c m = elim (member_cases x xs c m) as (λ _. length c.log ≤ logged (x ∷ xs)) [
-    | inl e ↦ omega (arith, ap (λ (y : Seen). length y.log) e)
-    | inr later ↦ omega (arith, log_within xs c later)
-  ]
+  | inl e ↦ omega (arith, ap (λ (y : Seen). length y.log) e)
+  | inr later ↦ omega (arith, log_within xs c later)
+]
 
 steps_within : (h : List Entry) (front : List Seen) (ss : List Stint) (s : Stint) → length h ≡ sum_by (λ (c : Seen). length c.log) (front ++ map after_of ss) → Contains ss s → length s.steps ≤ length h
 steps_within h front ss s count m =
@@ -140,9 +142,9 @@ steps_within h front ss s count m =
 
 ends_there : (h : List Entry) (n : ℕ) (cards : List Card) (steps : List Told) → length steps < most_turns → HasDone h most_turns n cards steps → EndsThere h cards steps
 ends_there h n cards steps few done = elim done.ended as (λ _. EndsThere h cards steps) [
-    | inl is ↦ absurd (omega (arith, few_jobs h steps, few, is))
-    | inr there ↦ there
-  ]
+  | inl is ↦ absurd (omega (arith, few_jobs h steps, few, is))
+  | inr there ↦ there
+]
 
 -- ---- all
 

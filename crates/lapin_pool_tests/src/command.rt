@@ -5,7 +5,8 @@ use lapin_shared::OpenGate;
 use std::test::Fail;
 
 /// What the beginning and a delivery print.
-const TAKEN: &str = "1 ticket 1\n1 frame method 1 channel.open\n1 received\n1 ticket 2\n1 delegated\n\
+const TAKEN: &str =
+    "1 ticket 1\n1 frame method 1 channel.open\n1 received\n1 ticket 2\n1 delegated\n\
 1 received\n1 received\n1 received\n";
 
 #[test]
@@ -14,7 +15,9 @@ fn a_delivery_is_acked(rt: HostRuntime) -> Result<(), Fail> {
     input.push_str(DELIVERED)?;
     let (text, _end) = pool(&rt, rt.alloc(), &OpenGate, "1", &input)?;
     let mut want = String::from_str(rt.alloc(), TAKEN)?;
-    want.push_str("2 job 1 item 1 x x71 0 [] x61 1\n2 ticket 3\n2 nojob\ncards 1\ncard 2 9 1 ack 10\n")?;
+    want.push_str(
+        "2 job 1 item 1 x x71 0 [] x61 1\n2 ticket 3\n2 nojob\ncards 1\ncard 2 9 1 ack 10\n",
+    )?;
     assert_eq!(&rt; text.as_slice(), want.as_bytes());
     Ok(())
 }
@@ -22,10 +25,14 @@ fn a_delivery_is_acked(rt: HostRuntime) -> Result<(), Fail> {
 #[test]
 fn a_second_delivery_is_not_queued_again(rt: HostRuntime) -> Result<(), Fail> {
     let mut input = String::from_str(rt.alloc(), CONSUMING)?;
-    input.push_str("recv method 1 basic.deliver x74 1 1 x x71\nrecv header 1 60 1 []\nrecv body 1 x6e\n")?;
+    input.push_str(
+        "recv method 1 basic.deliver x74 1 1 x x71\nrecv header 1 60 1 []\nrecv body 1 x6e\n",
+    )?;
     let (text, _end) = pool(&rt, rt.alloc(), &OpenGate, "1", &input)?;
     let mut want = String::from_str(rt.alloc(), TAKEN)?;
-    want.push_str("2 job 1 item 1 x x71 1 [] x6e 1\n2 ticket 3\n2 nojob\ncards 1\ncard 2 9 1 reject 10\n")?;
+    want.push_str(
+        "2 job 1 item 1 x x71 1 [] x6e 1\n2 ticket 3\n2 nojob\ncards 1\ncard 2 9 1 reject 10\n",
+    )?;
     assert_eq!(&rt; text.as_slice(), want.as_bytes());
     Ok(())
 }

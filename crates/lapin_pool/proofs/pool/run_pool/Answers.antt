@@ -15,7 +15,7 @@ returns-in-Ok-clause-pool g c =
     let h = c.in-Ok.history in
     let ends = c.ended.result.cards.items in
     let finished : IsFinished frame_max h news =
-      record { lawful = c.in-Ok.ensures.lawful; count = c.in-Ok.ensures.count; stand = c.in-Ok.ensures.stand; rise = c.in-Ok.ensures.rise } in
+    record { lawful = c.in-Ok.ensures.lawful; count = c.in-Ok.ensures.count; stand = c.in-Ok.ensures.stand; rise = c.in-Ok.ensures.rise } in
     subst (λ l. IsPool may frame_max c.args.turns c.args.workers olds l ends) (sym c.ended.ensures.history)
-      (pooled may frame_max c.args.turns c.args.workers olds h dealt.cards.items dealt.unread.items news ends c.requires.own c.in_ok-dealt.ensures.worked
-        (tells_none frame_max h c.in-Ok.ensures.lawful) finished c.ended.ensures.cards c.ended.ensures.rising)
+    (pooled may frame_max c.args.turns c.args.workers olds h dealt.cards.items dealt.unread.items news ends c.requires.own c.in_ok-dealt.ensures.worked
+    (tells_none frame_max h c.in-Ok.ensures.lawful) finished c.ended.ensures.cards c.ended.ensures.rising)

@@ -11,7 +11,7 @@ pub returns-clause-each : goal.returns-clause-each
 returns-clause-each g c =
     let may = g.D.Duty.may c.args.duty.now in
     tallied_map (λ x r y p. subst (λ a. EndedSo may c.args.turns (of_seat a) r (of_seat y)) p.argument_is
-      (subst (λ b. EndedSo may c.args.turns (of_seat p.argument.now) r (of_seat b)) p.left p.call)) c.tally_mut.ensures
+    (subst (λ b. EndedSo may c.args.turns (of_seat p.argument.now) r (of_seat b)) p.left p.call)) c.tally_mut.ensures
 
 pub tally_mut-requires-send-T : goal.tally_mut-requires-send-T
 tally_mut-requires-send-T g c = λ κs b. search (seat_send, crosses, sendable) depth 60 fits 20000

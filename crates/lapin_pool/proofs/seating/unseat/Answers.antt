@@ -15,12 +15,12 @@ loop-seat-preserved g c =
     let one_less : length c.loop-seat.seats.items ≡ length ss + 1 = ap length was ∙ length-append ss (s ∷ []) in
     record {
       callers = ap (λ l. l ++ reverse (map caller_of ss)) (c.push_reserved.ensures.items ∙ ap (λ x. all ++ x ∷ []) c.leave.ensures.caller)
-        ∙ append_assoc all (s.caller ∷ []) (reverse (map caller_of ss))
-        ∙ ap (λ l. all ++ l) (sym (callers_snoc ss s) ∙ ap (λ l. reverse (map caller_of l)) (sym was)) ∙ c.loop-seat.invariant.callers;
+          ∙ append_assoc all (s.caller ∷ []) (reverse (map caller_of ss))
+          ∙ ap (λ l. all ++ l) (sym (callers_snoc ss s) ∙ ap (λ l. reverse (map caller_of l)) (sym was)) ∙ c.loop-seat.invariant.callers;
       cards = λ e. ap (λ l. l ++ cards_of ss) (c.leave.ensures.cards e) ∙ append_assoc cards s.cards.items (cards_of ss)
-        ∙ ap (λ l. cards ++ l) (sym (cards_snoc ss s) ∙ ap cards_of (sym was)) ∙ c.loop-seat.invariant.cards (c.leave.ensures.short e);
+          ∙ ap (λ l. cards ++ l) (sym (cards_snoc ss s) ∙ ap cards_of (sym was)) ∙ c.loop-seat.invariant.cards (c.leave.ensures.short e);
       left = ap (λ l. l ++ unread_of ss) c.leave.ensures.left ∙ append_assoc left (option_to_list s.unread) (unread_of ss)
-        ∙ ap (λ l. left ++ l) (sym (unread_snoc ss s) ∙ ap unread_of (sym was)) ∙ c.loop-seat.invariant.left;
+          ∙ ap (λ l. left ++ l) (sym (unread_snoc ss s) ∙ ap unread_of (sym was)) ∙ c.loop-seat.invariant.left;
       room = omega (arith, ap length c.push_reserved.ensures.items, length-append all (c.leave.result ∷ []), one_less, c.loop-seat.invariant.room, c.push_reserved.ensures.capacity);
       noted = omega (arith, c.leave.ensures.count, one_less, c.loop-seat.invariant.noted, c.leave.ensures.room);
     }

@@ -12,9 +12,9 @@ returns-in-Some g c =
     let mid = c.take_job.new.caller in
     let new = c.treat.new.caller in
     took may old mid new c.args.seat.now.cards.items c.push_reserved.new.self.items c.args.seat.now.unread c.in-Taken.place (Some c.in-Some.card)
-      (subst (λ s. IsTaken old s mid) c.in-Taken.is c.take_job.ensures)
-      (λ t at. subst (λ o. IsTreated may mid c.in-Taken.place (delivery_in t.answer) o new) c.in-Some.is (c.treat.ensures t at))
-      (c.push_reserved.ensures.items ∙ ap (λ l. l ++ c.in-Some.card ∷ []) c.reserve.ensures.items)
+    (subst (λ s. IsTaken old s mid) c.in-Taken.is c.take_job.ensures)
+    (λ t at. subst (λ o. IsTreated may mid c.in-Taken.place (delivery_in t.answer) o new) c.in-Some.is (c.treat.ensures t at))
+    (c.push_reserved.ensures.items ∙ ap (λ l. l ++ c.in-Some.card ∷ []) c.reserve.ensures.items)
 
 -- another job was taken: there is no card
 pub returns-in_default : goal.returns-in_default
@@ -24,6 +24,6 @@ returns-in_default g c =
     let mid = c.take_job.new.caller in
     let new = c.treat.new.caller in
     took may old mid new c.args.seat.now.cards.items c.reserve.new.self.items c.args.seat.now.unread c.in-Taken.place None
-      (subst (λ s. IsTaken old s mid) c.in-Taken.is c.take_job.ensures)
-      (λ t at. subst (λ o. IsTreated may mid c.in-Taken.place (delivery_in t.answer) o new) c.in_default.is (c.treat.ensures t at))
-      c.reserve.ensures.items
+    (subst (λ s. IsTaken old s mid) c.in-Taken.is c.take_job.ensures)
+    (λ t at. subst (λ o. IsTreated may mid c.in-Taken.place (delivery_in t.answer) o new) c.in_default.is (c.treat.ensures t at))
+    c.reserve.ensures.items
