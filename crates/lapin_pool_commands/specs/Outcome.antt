@@ -5,7 +5,7 @@ use Rattle.std.specs.Io.KnownBytes.{Appends}
 use Rattle.lapin_types.specs.declared.event.Event.{Event}
 use Rattle.lapin_text.specs.Input.{lines_of, AreParsed}
 use Rattle.lapin_pool.specs.declared.card.PoolEnd.{PoolEnd}
-use Rattle.lapin_commands.specs.Writing.{WritesPrefix}
+use Rattle.lapin_inputs.specs.Writing.{WritesPrefix}
 use Rattle.lapin_shared_commands.specs.Words.{AreCounted}
 use Rattle.lapin_pool_commands.specs.Left.{IsLeft}
 use Rattle.lapin_pool_commands.specs.Printed.{run_text}

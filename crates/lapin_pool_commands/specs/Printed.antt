@@ -7,7 +7,7 @@ use Rattle.lapin_pool.specs.declared.card.Card.{Card}
 use Rattle.lapin_pool.specs.declared.card.PoolEnd.{PoolEnd}
 use Rattle.lapin_pool.specs.declared.card.Sent.{Sent}
 use Rattle.lapin_pool.specs.declared.card.Sent.TheVariants as sent
-use Rattle.lapin_commands.specs.Printing.{bad_line_text}
+use Rattle.lapin_inputs.specs.Printing.{bad_line_text}
 use Rattle.lapin_shared_commands.specs.Printed.{history_text}
 
 -- the name of a verdict, and a dash where there is none

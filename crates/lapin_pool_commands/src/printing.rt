@@ -3,7 +3,7 @@ ghost use Rattle.std.specs.Prelude.{◌≡◌, ◌++◌, IfOk, OnOk, string_byte
 ghost use Rattle.lapin_pool_commands.specs.Printed.{card_line, cards_text, count_line, run_text, sent_text as sent_text_lem, verdict_text};
 
 use lapin_acker::Verdict;
-use lapin_commands::put_bad_line;
+use lapin_inputs::put_bad_line;
 use lapin_pool::{Card, PoolEnd, Sent};
 use lapin_shared_commands::put_history;
 use lapin_types::NoMemory;

@@ -1,13 +1,13 @@
 //! The top call of the words `pool N`. `main` calls it with the real source and sink, tests with some in memory.
 ghost use Rattle.std.specs.Prelude.{◌≡◌, ◌+◌, ◌↔◌, ◌⊎◌, ℕ, None};
 ghost use Rattle.lapin_io.specs.Numbers.{Rose, RoseBy, Stayed};
-ghost use Rattle.lapin_commands.specs.Format.{SaysEvents, Tells};
-ghost use Rattle.lapin_commands.specs.Outcome.{HasRead, IsComplete, IsWhole};
-ghost use Rattle.lapin_commands.specs.Reading.{longest_input, IsTooLong};
+ghost use Rattle.lapin_inputs.specs.Format.{SaysEvents, Tells};
+ghost use Rattle.lapin_inputs.specs.Outcome.{HasRead, IsComplete, IsWhole};
+ghost use Rattle.lapin_inputs.specs.Reading.{longest_input, IsTooLong};
 ghost use Rattle.lapin_pool_commands.specs.Outcome.{ArePool, WroteAll, WroteSome, WroteToBadLine};
 
 use crate::answer::answer;
-use lapin_commands::{InputError, Status, read_all};
+use lapin_inputs::{InputError, Status, read_all};
 use lapin_io::{Sink, Source};
 use lapin_pool::PoolEnd;
 use lapin_shared::Gate;

@@ -5,7 +5,7 @@ ghost use Rattle.std.specs.Prelude.{◌≡◌, ◌<◌, length, map};
 ghost use Rattle.lapin_pool.specs.Pool.{number_of};
 
 use lapin_acker::Verdict;
-use lapin_commands::Status;
+use lapin_inputs::Status;
 use lapin_io::{SureSink, SureSource};
 use lapin_pool::{Duty, PoolEnd};
 use lapin_pool_commands::run_pool_program;

@@ -2,7 +2,7 @@
 ghost use Rattle.std.specs.Prelude.{◌≡◌, ◌++◌, ◌∷◌, [], IfOk, OnOk};
 ghost use Rattle.lapin_shared_commands.specs.Printed.{entry_line, history_text, run_text};
 
-use lapin_commands::put_bad_line;
+use lapin_inputs::put_bad_line;
 use lapin_scalars::put_number;
 use lapin_shared::{Entry, History};
 use lapin_text::put_record;
