@@ -1,8 +1,7 @@
-use Rattle.std.proofs.Common.{◌≡◌, ◌∙◌, ◌+◌, ◌-◌, ◌^◌, ◌<◌, length, ap, subst, IfOk}
-use Rattle.lapin_pool.specs.declared.card.PoolEnd.{PoolEnd}
+use Rattle.std.proofs.Common.{subst}
 use Rattle.lapin_pool.specs.Pool.{IsPool}
-use Rattle.lapin_pool_commands.specs.Left.{most_turns, by_first_byte, HaveBegun, IsLeft}
-use Rattle.lapin_pool_commands.proofs.Leaving.{begun, begun_apart, left, if_within}
+use Rattle.lapin_pool_commands.specs.Left.{most_turns, by_first_byte}
+use Rattle.lapin_pool_commands.proofs.Leaving.{begun, begun_apart, if_within}
 use Rattle.lapin_pool_commands.proofs.running.pool_end.Goals as goal
 
 pub run_pool-requires-clause-own : goal.run_pool-requires-clause-own
