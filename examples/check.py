@@ -2,8 +2,9 @@
 """See that the files of this folder are the runs of the tests, and that the built program prints their answers.
 
 The runs stand in files of crates of tests, one crate for each command, with a line an event or a step and, behind an arrow, its
-record or report; of `check`, whose answers come once all was read, with the lines and then the answers, an arrow before each. The gate
-runs them there; this script, which stands outside it, compares the files beside it with them. Where the program is built (`./lapin` builds it), it is run on each file too.
+record or report; of `check`, whose answers come once all was read, with the lines and then the answers, an arrow before each; of a pool the records are
+the first caller's, and lines without an event say what is printed behind them. The gate runs them there; this script, which stands outside
+it, compares the files beside it with them. Where the program is built (`./lapin` builds it), it is run on each file too.
 
     examples/check.py
 """
@@ -19,6 +20,7 @@ TABLES = {
     "check": ["lapin_check_tests/src/examples.rt"],
     "resend": ["lapin_resend_tests/src/examples.rt"],
     "call replies": ["lapin_call_tests/src/examples.rt"],
+    "pool 1": ["lapin_pool_tests/src/examples.rt"],
 }
 PROGRAM = os.path.join(TOP, "crates", "lapin_run", "out", "lapin_run")
 NAME = "# examples/"
@@ -51,6 +53,12 @@ def printed(words, name):
         return subprocess.run([PROGRAM, *words.split()], stdin=given, capture_output=True, check=False).stdout.decode()
 
 
+def wanted(word, steps):
+    """What the command prints for a run."""
+    caller = "1 " if word.startswith("pool") else ""
+    return "".join(f"{caller if step else ''}{answer}\n" for step, answer in steps if answer is not None)
+
+
 def main():
     wrong = 0
     told = {
@@ -71,7 +79,7 @@ def main():
         if lines != "".join(f"{line}\n" for line in ["frame_max 4096"] + [step for step, _ in steps if step]):
             print(f"{name}: not the lines of its run")
             wrong += 1
-        elif os.path.exists(PROGRAM) and printed(word, name) != "".join(f"{answer}\n" for _, answer in steps if answer is not None):
+        elif os.path.exists(PROGRAM) and printed(word, name) != wanted(word, steps):
             print(f"{name}: the program prints other answers")
             wrong += 1
         else:

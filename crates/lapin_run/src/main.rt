@@ -1,10 +1,12 @@
 //! The program: it makes the real source and sink, hands them with its words to a top call, and ends with the status's code. What it
-//! does is stated by `run_shared` of `lapin_shared_commands`, where the first word is `shared`, else by `run_program` of
-//! `lapin_commands`; what it says on standard error is made by `lapin_reasons`; here stands only what touches the process.
+//! does is stated by `run_shared` of `lapin_shared_commands`, where the first word is `shared`, by `run_pool_program` of
+//! `lapin_pool_commands`, where it is `pool`, else by `run_program` of `lapin_commands`; what it says on standard error is made by
+//! `lapin_reasons`; here stands only what touches the process.
 #![tactic(auto)]
 
 use lapin_commands::{Status, run_program};
 use lapin_io::{StdSink, StdSource};
+use lapin_pool_commands::run_pool_program;
 use lapin_reasons::{Heard, why};
 use lapin_shared::OpenGate;
 use lapin_shared_commands::run_shared;
@@ -24,11 +26,11 @@ fn given_words(rt: &HostRuntime) -> Result<Vec<String>, Status> {
     }
 }
 
-// Whether the first word is `shared`.
-fn is_shared(words: &[String]) -> bool {
+// The first word, and an empty one where there is none.
+fn first_word(words: &[String]) -> &str {
     match words {
-        [word, ..] => word.as_str() == "shared",
-        [] => false,
+        [word, ..] => word.as_str(),
+        [] => "",
     }
 }
 
@@ -45,8 +47,8 @@ fn main(rt: HostRuntime) -> ExitCode {
         Ok(words) => {
             let mut source = Heard::new(rt.alloc(), StdSource::new(rt.stdin()));
             let mut sink = StdSink::new(rt.stdout());
-            let status = if is_shared(&words) {
-                run_shared(
+            let status = match first_word(&words) {
+                "shared" => run_shared(
                     &rt,
                     rt.alloc(),
                     &words,
@@ -54,9 +56,17 @@ fn main(rt: HostRuntime) -> ExitCode {
                     &mut source,
                     &mut sink,
                     &mut None,
-                )
-            } else {
-                run_program(rt.alloc(), &words, &mut source, &mut sink)
+                ),
+                "pool" => run_pool_program(
+                    &rt,
+                    rt.alloc(),
+                    &words,
+                    &OpenGate,
+                    &mut source,
+                    &mut sink,
+                    &mut None,
+                ),
+                _ => run_program(rt.alloc(), &words, &mut source, &mut sink),
             };
             tell(&rt, &words, status, source.bytes());
             status

@@ -14,4 +14,7 @@ mod turns;
 mod words;
 
 pub use in_memory::run_shared_in_memory;
+pub use printing::put_history;
 pub use program::run_shared;
+pub use turns::is_made;
+pub use words::counted;

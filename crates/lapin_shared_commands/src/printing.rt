@@ -26,7 +26,7 @@ pub fn print_run(
 }
 
 /// Appends the lines of a history.
-fn put_history(alloc: Global, text: &mut Vec<u8>, history: &History) -> Result<(), NoMemory>
+pub fn put_history(alloc: Global, text: &mut Vec<u8>, history: &History) -> Result<(), NoMemory>
     ensures { OnOk result (text.new.items ≡ text.old.items ++ history_text history.now) }
 {
     for k in 0..history.len() {
