@@ -1,6 +1,6 @@
 #!/usr/bin/env python3
 """What an event costs the program: instructions, time and memory, a row a workload. Most rows are of the command `session`, two of
-`shared N` on the same input.
+`shared N` on the same input, others of `check` (a frame is an event there) and of `resend` (a step is).
 
 It stands outside the gate: `rt run` in crates/lapin_run builds the program, and this script makes inputs and runs it.
 
@@ -158,6 +158,31 @@ def returns(count, length):
         yield from settled(1, number, number)
 
 
+def transcript(count, window=0, multiple=1):
+    """What a broker read and sent: publishes, each settled once `window` others came after it, `multiple` by one settlement."""
+    yield "up method 1 channel.open"
+    yield "down method 1 channel.open-ok"
+    yield "up method 1 confirm.select 1"
+    for number in range(1, count + window + 1):
+        if number <= count:
+            yield "up method 1 basic.publish x x6b6579 0 0"
+            yield "up header 1 60 0 []"
+        settled_now = number - window
+        if settled_now > 0 and settled_now % multiple == 0:
+            yield f"down method 1 basic.ack {settled_now} {int(multiple > 1)}"
+
+
+def resent(count):
+    """Messages of a publisher that sends again, each stored before the next one is submitted."""
+    for line in ["next", "read", "send method 1 channel.open-ok", "deliver", "next", "read"]:
+        yield line
+    for number in range(1, count + 1):
+        yield "submit x x6b6579 x"
+        yield from ["next", "read", "next", "read"]
+        yield f"send method 1 basic.ack {number} 0"
+        yield "deliver"
+
+
 # A row: its name, its input of so many turns, the turns of the smaller and of the larger input, and the words of its command.
 WORKLOADS = [
     ("publish and confirm, empty", lambda n: published(n), 2_000, 20_000),
@@ -177,13 +202,28 @@ WORKLOADS = [
     ("publishes of 100 bytes that come back", lambda n: returns(n, 100), 2_000, 10_000),
     ("publish and confirm, empty, by shared 1", lambda n: published(n), 2_000, 10_000, ["shared", "1"]),
     ("publish and confirm, empty, by shared 4", lambda n: published(n), 2_000, 10_000, ["shared", "4"]),
+    ("publishes and acks checked", transcript, 2_000, 10_000, ["check"]),
+    ("messages sent and stored by resend", resent, 1_000, 5_000, ["resend"]),
 ]
 
 # The same at other sizes: how an event's cost grows with the events before it, and the memory of what is held.
 GROWTH = [
     (f"publish and confirm, empty, {few:,} to {many:,} events", lambda n: published(n), few // 5, many // 5)
     for few, many in [(10_000, 20_000), (100_000, 200_000), (400_000, 800_000)]
-] + [("publishes held, then sent, 20,000 and 100,000", held, 20_000, 100_000)]
+] + [
+    ("publishes held, then sent, 20,000 and 100,000", held, 20_000, 100_000),
+] + [
+    (f"{name} checked, {few:,} to {many:,} frames", make, few // 3, many // 3, ["check"])
+    for name, make in [
+        ("publishes and acks", transcript),
+        ("publishes with 1,000 outstanding", lambda n: transcript(n, window=1_000)),
+        ("publishes acked by 100", lambda n: transcript(n, multiple=100)),
+    ]
+    for few, many in [(5_000, 10_000), (50_000, 100_000)]
+] + [
+    (f"messages sent and stored by resend, {few:,} to {many:,} steps", resent, few // 7, many // 7, ["resend"])
+    for few, many in [(5_000, 10_000), (50_000, 100_000)]
+]
 
 
 def write_input(path, lines):

@@ -16,6 +16,7 @@ use Rattle.lapin_verdicts.proofs.Numbered.{numbers_hold}
 use Rattle.lapin_verdicts.proofs.Together.{in_step}
 use Rattle.lapin_verdicts.proofs.Whole.{whole}
 use Rattle.lapin_verdicts.proofs.Called.{leaves_where_called}
+use Rattle.lapin_deliveries.proofs.Laws.{logs_sent, logs_carried}
 use Rattle.lapin_answers.specs.Truth.{ConfirmsAreVerdicts, IsTrue}
 use Rattle.lapin_answers.proofs.Closed.{closed}
 use Rattle.lapin_answers.proofs.Ended.{ended}
@@ -74,4 +75,6 @@ all_true n big ss = record {
   gets = λ k message was now. got_message_is n big k ss message was now;
   closes = λ k a f fs down ok was now. closed n big ss k a f fs down ok was now;
   end = λ k a f fs down ok was now. ended n big ss k a f fs down ok was now;
+  logs = logs_sent n big ss;
+  carried = logs_carried n big ss;
 }

@@ -19,6 +19,7 @@ use Rattle.lapin_verdicts.specs.InStep.{is_frame_on}
 use Rattle.lapin_verdicts.specs.Publishes.{Message}
 use Rattle.lapin_verdicts.specs.Session.{past_of}
 use Rattle.lapin_verdicts.specs.Verdicts.{at_place, messages_in, called_in, IsVerdict}
+use Rattle.lapin_deliveries.specs.Deliveries.{LogsAreSent, LogsAreCarried}
 use Rattle.lapin_answers.specs.Calls.{IsCallOf}
 use Rattle.lapin_answers.specs.Closes.{is_close_ok_as, IsCloseOf, IsClosed, is_end_ok_as, IsEndOf, IsEnded, is_open_cancel}
 use Rattle.lapin_answers.specs.Replies.{IsReplied, IsGot}
@@ -69,3 +70,5 @@ pub record IsTrue (frame_max : ℕ) (steps : List Step) : Type 0 where
   pub gets : GetsCarryContents frame_max steps
   pub closes : ClosesAreAnswered frame_max steps
   pub end : EndIsAnswered frame_max steps
+  pub logs : LogsAreSent frame_max steps
+  pub carried : LogsAreCarried frame_max steps

@@ -1,6 +1,5 @@
+pub mod CallRuns
 pub mod Commands
-pub mod Ending
-pub mod Known
-pub mod Runs
-pub mod Streaming
 pub mod Complete
+pub mod ResendRuns
+pub mod Runs

@@ -22,15 +22,15 @@ use Rattle.lapin_joint.proofs.Alike.{reports_joined}
 use Rattle.lapin_joint.proofs.Steps.{new_goes_on}
 use Rattle.lapin_machine.proofs.Ways.{fewer as numbers_fewer}
 use Rattle.lapin_joint_text.specs.Steps as steps
-use Rattle.lapin_joint_text.specs.Input as steps_input
 use Rattle.lapin_joint_text.specs.Reports.{report_tokens, report_line, reports_text}
-use Rattle.lapin_commands.specs.Printing.{Adds, bad_line_text}
+use Rattle.lapin_inputs.specs.Lines.{AreSteps, AreParsed as AreParsedSteps}
+use Rattle.lapin_inputs.specs.Printing.{Adds, bad_line_text}
 use Rattle.lapin_commands.specs.Session.{session_text, PrintsSession, SessionGoesOn}
 use Rattle.lapin_commands.specs.Joined.{joined_text, PrintsJoined, JoinedGoesOn}
-use Rattle.lapin_commands.proofs.Streaming.{adds_by, prints_by}
+use Rattle.lapin_inputs.proofs.Streaming.{adds_by, prints_by}
 
 -- a line behind a text
-line_grown : (old : List ℕ) (tokens : List (List ℕ)) → line_onto old tokens ++ 10 ∷ [] ≡ old ++ (join_with_byte 32 tokens ++ 10 ∷ [])
+pub line_grown : (old : List ℕ) (tokens : List (List ℕ)) → line_onto old tokens ++ 10 ∷ [] ≡ old ++ (join_with_byte 32 tokens ++ 10 ∷ [])
 line_grown old tokens = ap (λ (t : List ℕ). t ++ 10 ∷ []) (line_onto_is old tokens) ∙ append_assoc old (join_with_byte 32 tokens) (10 ∷ [])
 
 -- ---- a session
@@ -50,7 +50,7 @@ pub numbers_rest : (n : ℕ) (w v : World) (e : Event) → v ≡ next w e → Ha
 numbers_rest n w v e stepped h = subst (HasNumbersFor n) (sym stepped) (numbers-next n w e h)
 
 -- a line that says an event adds what is printed for it
-pub taken_adds : (w v : World) (line old new : List ℕ) (good : Bool) → IsTaken (line_at line) w v old new good → good ≡ true → Adds (SessionGoesOn w) (SessionGoesOn v) line old new
+taken_adds : (w v : World) (line old new : List ℕ) (good : Bool) → IsTaken (line_at line) w v old new good → good ≡ true → Adds (SessionGoesOn w) (SessionGoesOn v) line old new
 taken_adds w v line old new good taken is_good = said (line_at line) refl taken
   where
     said : (o : Option Event) → line_at line ≡ o → IsTaken o w v old new good → Adds (SessionGoesOn w) (SessionGoesOn v) line old new
@@ -65,9 +65,13 @@ taken_takes w v line old new good taken is_good n few = said (line_at line) take
     said None h = absurd (true≢false (sym is_good ∙ h.0))
     said (Some e) h = numbers_rest n w v e h.1.0 few
 
+-- the same of a session that stands where it stands
+pub taken_adds_from : (w v : World) (line old new : List ℕ) (good : Bool) → IsTaken (line_at line) w v old new good → good ≡ true → (past : World) → past ≡ w → (now : World) × (now ≡ v) × Adds (SessionGoesOn past) (SessionGoesOn now) line old new
+taken_adds_from w v line old new good taken is_good past here = (v, refl, subst (λ (x : World). Adds (SessionGoesOn x) (SessionGoesOn v) line old new) (sym here) (taken_adds w v line old new good taken is_good))
+
 -- a line that says none is where a run stops
-pub taken_stops : (w v : World) (line old new : List ℕ) (good : Bool) → IsTaken (line_at line) w v old new good → good ≡ false → (n : ℕ) (lines : List (List ℕ)) → SessionGoesOn w n (line ∷ lines) (Some n) []
-taken_stops w v line old new good taken is_bad n lines = said (line_at line) refl taken
+pub taken_stops : (w v : World) (line old new : List ℕ) (good : Bool) → IsTaken (line_at line) w v old new good → good ≡ false → (past : World) (n : ℕ) (lines : List (List ℕ)) → past ≡ w → SessionGoesOn past n (line ∷ lines) (Some n) []
+taken_stops w v line old new good taken is_bad past n lines here = subst (λ (x : World). SessionGoesOn x n (line ∷ lines) (Some n) []) (sym here) (said (line_at line) refl taken)
   where
     said : (o : Option Event) → line_at line ≡ o → IsTaken o w v old new good → SessionGoesOn w n (line ∷ lines) (Some n) []
     said None says h = session_stops w n lines line (λ e fit is. refused line e fit is says)
@@ -85,40 +89,44 @@ session_whole m w input lines bad text new ok is p =
     (λ es. ap records_text (ap (λ (x : World). outputs x es) new ∙ outputs_run m es))
     p
 
-pub session_begins : {E : Type 0} (r : Result World E) (m : ℕ) → IfOk r (λ w. w ≡ new_world m) → IfOk r (λ w. (input : List ℕ) (lines : List (List ℕ)) (bad : Option ℕ) (text : List ℕ) → IsMax m → lines_of input ≡ max_line m ∷ lines → SessionGoesOn w 2 lines bad text → PrintsSession input bad (text ++ bad_line_text bad))
-session_begins (Ok w) m new = λ input lines bad text ok is p. session_whole m w input lines bad text new ok is p
+pub session_begins : {E : Type 0} (r : Result World E) (m : ℕ) → IfOk r (λ w. w ≡ new_world m) → IfOk r (λ w. (past : World) × (past ≡ w) × ((input : List ℕ) (lines : List (List ℕ)) (bad : Option ℕ) (text : List ℕ) → IsMax m → lines_of input ≡ max_line m ∷ lines → SessionGoesOn past 2 lines bad text → PrintsSession input bad (text ++ bad_line_text bad)))
+session_begins (Ok w) m new = (w, refl, λ input lines bad text ok is p. session_whole m w input lines bad text new ok is p)
 session_begins (Err e) m new = tt
 
-numbers_first : (m n : ℕ) (w : World) → w ≡ new_world m → n < 2 ^ 63 → HasNumbersFor n w
+numbers_first : (m n : ℕ) (w : World) → w ≡ new_world m → n ≤ 2 ^ 31 → HasNumbersFor n w
 numbers_first m n w new few =
     let first = new_goes_on m w new in
     numbers_fewer (2 ^ 64 - 1 - 0) n w first.numbers (omega (arith, few))
 
-pub session_takes : {E : Type 0} (r : Result World E) (m : ℕ) → IfOk r (λ w. w ≡ new_world m) → IfOk r (λ w. (n : ℕ) → n < 2 ^ 63 → HasNumbersFor n w)
+pub session_takes : {E : Type 0} (r : Result World E) (m : ℕ) → IfOk r (λ w. w ≡ new_world m) → IfOk r (λ w. (n : ℕ) → n ≤ 2 ^ 31 → HasNumbersFor n w)
 session_takes (Ok w) m new = λ n few. numbers_first m n w new few
 session_takes (Err e) m new = tt
 
 -- ---- a joined run
 
-pub joined_adds : (k m : Kept) (s : Step) (line old new : List ℕ) → steps.HasLine s → line ≡ steps.step_line s → m ≡ record { joint = after by_machine s k.joint; steps = k.steps + 1; stopped = false } → new ≡ line_onto old (report_tokens (report by_machine s k.joint)) ++ 10 ∷ [] → Adds (JoinedGoesOn k) (JoinedGoesOn m) line old new
+joined_adds : (k m : Kept) (s : Step) (line old new : List ℕ) → steps.HasLine s → line ≡ steps.step_line s → m ≡ record { joint = after by_machine s k.joint; steps = k.steps + 1; stopped = false } → new ≡ line_onto old (report_tokens (report by_machine s k.joint)) ++ 10 ∷ [] → Adds (JoinedGoesOn k) (JoinedGoesOn m) line old new
 joined_adds k m s line old new fit is made grown =
     subst (λ (x : Kept). Adds (JoinedGoesOn k) (JoinedGoesOn x) line old new) (sym made)
-    (adds_by steps_input.AreSteps report_line (λ ss. reports by_machine ss k.joint) (λ ss. reports by_machine ss (after by_machine s k.joint)) s (report by_machine s k.joint) line old new (λ n lines ss bad are. (fit, is, are)) (λ ss. refl) (grown ∙ line_grown old (report_tokens (report by_machine s k.joint))))
+    (adds_by (AreSteps steps.step_line steps.HasLine) report_line (λ ss. reports by_machine ss k.joint) (λ ss. reports by_machine ss (after by_machine s k.joint)) s (report by_machine s k.joint) line old new (λ n lines ss bad are. (fit, is, are)) (λ ss. refl) (grown ∙ line_grown old (report_tokens (report by_machine s k.joint))))
+
+-- a run that stands where it stands adds what that adds
+pub joined_adds_from : (k m : Kept) (s : Step) (line old new : List ℕ) → steps.HasLine s → line ≡ steps.step_line s → m ≡ record { joint = after by_machine s k.joint; steps = k.steps + 1; stopped = false } → new ≡ line_onto old (report_tokens (report by_machine s k.joint)) ++ 10 ∷ [] → (past : Kept) → past ≡ k → (now : Kept) × (now ≡ m) × Adds (JoinedGoesOn past) (JoinedGoesOn now) line old new
+joined_adds_from k m s line old new fit is made grown past here = (m, refl, subst (λ (x : Kept). Adds (JoinedGoesOn x) (JoinedGoesOn m) line old new) (sym here) (joined_adds k m s line old new fit is made grown))
 
 pub joined_stops : (k : Kept) (n : ℕ) (lines : List (List ℕ)) (line : List ℕ) → steps.NoLine line → JoinedGoesOn k n (line ∷ lines) (Some n) []
 joined_stops k n lines line none = record { steps = []; are = (refl, none); printed = refl }
 
 joined_whole : (m : ℕ) (k : Kept) (input : List ℕ) (lines : List (List ℕ)) (bad : Option ℕ) (text : List ℕ) → k ≡ record { joint = new_joint (new_world m) m; steps = 0; stopped = false } → IsMax m → lines_of input ≡ max_line m ∷ lines → JoinedGoesOn k 2 lines bad text → PrintsJoined input bad (text ++ bad_line_text bad)
 joined_whole m k input lines bad text new ok is p =
-    prints_by steps_input.AreParsed steps_input.AreSteps joined_text (λ ss. reports_text (reports by_machine ss k.joint)) m input lines bad text
-    (λ ss are. subst (λ (ls : List (List ℕ)). steps_input.AreParsed ls (Some m) ss bad) (sym is) (ok, refl, are))
+    prints_by (AreParsedSteps steps.step_line steps.HasLine) (AreSteps steps.step_line steps.HasLine) joined_text (λ ss. reports_text (reports by_machine ss k.joint)) m input lines bad text
+    (λ ss are. subst (λ (ls : List (List ℕ)). AreParsedSteps steps.step_line steps.HasLine ls (Some m) ss bad) (sym is) (ok, refl, are))
     (λ ss. ap reports_text (ap (λ (x : Kept). reports by_machine ss x.joint) new ∙ reports_joined m ss))
     p
 
-pub joined_begins : {E : Type 0} (r : Result Kept E) (m : ℕ) → IfOk r (λ k. k ≡ record { joint = new_joint (new_world m) m; steps = 0; stopped = false }) → IfOk r (λ k. (input : List ℕ) (lines : List (List ℕ)) (bad : Option ℕ) (text : List ℕ) → IsMax m → lines_of input ≡ max_line m ∷ lines → JoinedGoesOn k 2 lines bad text → PrintsJoined input bad (text ++ bad_line_text bad))
-joined_begins (Ok k) m new = λ input lines bad text ok is p. joined_whole m k input lines bad text new ok is p
+pub joined_begins : {E : Type 0} (r : Result Kept E) (m : ℕ) → IfOk r (λ k. k ≡ record { joint = new_joint (new_world m) m; steps = 0; stopped = false }) → IfOk r (λ k. (past : Kept) × (past ≡ k) × ((input : List ℕ) (lines : List (List ℕ)) (bad : Option ℕ) (text : List ℕ) → IsMax m → lines_of input ≡ max_line m ∷ lines → JoinedGoesOn past 2 lines bad text → PrintsJoined input bad (text ++ bad_line_text bad)))
+joined_begins (Ok k) m new = (k, refl, λ input lines bad text ok is p. joined_whole m k input lines bad text new ok is p)
 joined_begins (Err e) m new = tt
 
-pub joined_takes : {E : Type 0} (r : Result Kept E) (m : ℕ) → IfOk r (λ k. k ≡ record { joint = new_joint (new_world m) m; steps = 0; stopped = false }) → IfOk r (λ k. (n : ℕ) → n < 2 ^ 63 → k.steps + n < 2 ^ 64)
+pub joined_takes : {E : Type 0} (r : Result Kept E) (m : ℕ) → IfOk r (λ k. k ≡ record { joint = new_joint (new_world m) m; steps = 0; stopped = false }) → IfOk r (λ k. (n : ℕ) → n ≤ 2 ^ 31 → k.steps + n < 2 ^ 64)
 joined_takes (Ok k) m new = λ n few. let none : k.steps ≡ 0 = ap (λ (x : Kept). x.steps) new in omega (arith, none, few)
 joined_takes (Err e) m new = tt

@@ -1,26 +1,22 @@
--- Whatever a line is, it is the line of an event or it is none's, and the same of a step: so every input prints something.
-use Rattle.std.proofs.Common.{◌≡◌, ◌≢◌, ◌⊎◌, inl, inr, ℕ, ◌+◌, List, [], ◌∷◌, ◌++◌, Bool, true, false, true≢false, length, Option, Some, None, refl, sym, ap, ◌∙◌, take, drop}
+-- Whatever a line is, it is the line of an event or it is none's, and the same of a step of a joined run: so every input prints
+-- something.
+use Rattle.std.proofs.Common.{◌≡◌, ◌≢◌, ◌⊎◌, inl, inr, ℕ, ◌+◌, List, [], ◌∷◌, ◌++◌, Option, Some, None, refl}
 use Rattle.std.specs.Prelude.{codes}
-use Rattle.std.specs.Str.{bytes_eq}
-use Rattle.std.proofs.lemmas.Slice.Eq.{bytes_eq-Decides}
-use Rattle.std.proofs.lemmas.List.{take-append-drop}
-use Rattle.std.proofs.Math.Seq.{take-append_seam}
 use Rattle.lapin_types.specs.declared.event.Event.{Event}
 use Rattle.lapin_types.specs.Types.{Frame}
 use Rattle.lapin_machine.specs.World.{World, outputs}
+use Rattle.lapin_machine.specs.Way.{by_machine}
 use Rattle.lapin_text.specs.LineReading.{line_at, frame_text_at}
 use Rattle.lapin_text.specs.Input.{AreEvents}
 use Rattle.lapin_text.specs.Records.{records_text}
 use Rattle.lapin_text.proofs.LineLaws.{line_found, refused, text_found, text_refused}
-use Rattle.lapin_joint.specs.declared.step.Step.{Step}
 use Rattle.lapin_joint.specs.declared.step.Step.TheVariants as step
 use Rattle.lapin_joint.specs.Joint.{reports}
-use Rattle.lapin_machine.specs.Way.{by_machine}
 use Rattle.lapin_joint.specs.Kept.{Kept}
-use Rattle.lapin_joint_text.specs.Steps.{IsLineOf, NoLine}
-use Rattle.lapin_joint_text.specs.Input.{AreSteps}
+use Rattle.lapin_joint_text.specs.Steps.{step_line, HasLine}
 use Rattle.lapin_joint_text.specs.Reports.{reports_text}
 use Rattle.lapin_joint_text.proofs.StepLaws.{client_found, client_none, send_found, send_none, bare_found, bare_none}
+use Rattle.lapin_inputs.specs.LineLaws.{Step?, some_steps, begins, is_word}
 use Rattle.lapin_commands.specs.Session.{SessionGoesOn}
 use Rattle.lapin_commands.specs.Joined.{JoinedGoesOn}
 
@@ -45,81 +41,56 @@ session_goes w n lines =
 
 -- ---- steps
 
--- a line begins with a word or it doesn't
-begins : (word line : List ℕ) → ((rest : List ℕ) × (line ≡ word ++ rest)) ⊎ ((rest : List ℕ) → line ≢ word ++ rest)
-begins word line = with_front (bytes_eq (take (length word) line) word) refl
-  where
-    with_front : (b : Bool) → bytes_eq (take (length word) line) word ≡ b → ((rest : List ℕ) × (line ≡ word ++ rest)) ⊎ ((rest : List ℕ) → line ≢ word ++ rest)
-    with_front true e = inl (drop (length word) line, sym (take-append-drop (length word) line) ∙ ap (λ (t : List ℕ). t ++ drop (length word) line) ((bytes_eq-Decides (take (length word) line) word).0 e))
-    with_front false e = inr (λ rest is. true≢false (sym ((bytes_eq-Decides (take (length word) line) word).1 (ap (take (length word)) is ∙ take-append_seam word rest)) ∙ e))
-
--- the line is the line of some step, or it is none's
-abbrev Step? : List ℕ → Type 0
-Step? line = ((s : Step) × IsLineOf line s) ⊎ NoLine line
+-- the line is the line of some step of a joined run, or it is none's
+abbrev JointStep? : List ℕ → Type 0
+JointStep? line = Step? step_line HasLine line
 
 -- a line that begins with `client ` is the line of a step or none's
-a_client : (line rest : List ℕ) → line ≡ codes "client " ++ rest → Step? line
+a_client : (line rest : List ℕ) → line ≡ codes "client " ++ rest → JointStep? line
 a_client line rest is = with_event (line_at rest) refl
   where
-    with_event : (read : Option Event) → line_at rest ≡ read → Step? line
+    with_event : (read : Option Event) → line_at rest ≡ read → JointStep? line
     with_event None e = inr (client_none line rest is (λ event fit same. refused rest event fit same e))
     with_event (Some event) e = inl (step.Client event, client_found line rest event is (line_found rest event e))
 
 -- a line that begins with `send ` is the line of a step or none's
-a_send : (line rest : List ℕ) → line ≡ codes "send " ++ rest → Step? line
+a_send : (line rest : List ℕ) → line ≡ codes "send " ++ rest → JointStep? line
 a_send line rest is = with_frame (frame_text_at rest) refl
   where
-    with_frame : (read : Option Frame) → frame_text_at rest ≡ read → Step? line
+    with_frame : (read : Option Frame) → frame_text_at rest ≡ read → JointStep? line
     with_frame None e = inr (send_none line rest is (λ frame fit same. text_refused rest frame fit same e))
     with_frame (Some frame) e = inl (step.Send frame, send_found line rest frame is (text_found rest frame e))
 
--- a line is a word or it isn't
-is_word : (word line : List ℕ) → (line ≡ word) ⊎ (line ≢ word)
-is_word word line = decided (bytes_eq line word) refl
-  where
-    decided : (b : Bool) → bytes_eq line word ≡ b → (line ≡ word) ⊎ (line ≢ word)
-    decided true e = inl ((bytes_eq-Decides line word).0 e)
-    decided false e = inr (λ is. true≢false (sym ((bytes_eq-Decides line word).1 is) ∙ e))
-
 -- a line that begins with neither is the line of a step or none's
-a_bare : (line : List ℕ) → ((rest : List ℕ) → line ≢ codes "client " ++ rest) → ((rest : List ℕ) → line ≢ codes "send " ++ rest) → Step? line
+a_bare : (line : List ℕ) → ((rest : List ℕ) → line ≢ codes "client " ++ rest) → ((rest : List ℕ) → line ≢ codes "send " ++ rest) → JointStep? line
 a_bare line client send = read_first (is_word (codes "read") line)
   where
-    lose_third : line ≢ codes "read" → line ≢ codes "deliver" → (line ≡ codes "lose") ⊎ (line ≢ codes "lose") → Step? line
+    lose_third : line ≢ codes "read" → line ≢ codes "deliver" → (line ≡ codes "lose") ⊎ (line ≢ codes "lose") → JointStep? line
     lose_third read deliver (inl is) = inl (step.Lose, bare_found line step.Lose is)
     lose_third read deliver (inr lose) = inr (bare_none line client send (read, deliver, lose))
 
-    deliver_second : line ≢ codes "read" → (line ≡ codes "deliver") ⊎ (line ≢ codes "deliver") → Step? line
+    deliver_second : line ≢ codes "read" → (line ≡ codes "deliver") ⊎ (line ≢ codes "deliver") → JointStep? line
     deliver_second read (inl is) = inl (step.Deliver, bare_found line step.Deliver is)
     deliver_second read (inr deliver) = lose_third read deliver (is_word (codes "lose") line)
 
-    read_first : (line ≡ codes "read") ⊎ (line ≢ codes "read") → Step? line
+    read_first : (line ≡ codes "read") ⊎ (line ≢ codes "read") → JointStep? line
     read_first (inl is) = inl (step.Read, bare_found line step.Read is)
     read_first (inr read) = deliver_second read (is_word (codes "deliver") line)
 
 -- a line is the line of a step or none's
-step_of : (line : List ℕ) → Step? line
+step_of : (line : List ℕ) → JointStep? line
 step_of line = client_first (begins (codes "client ") line)
   where
-    send_second : ((rest : List ℕ) → line ≢ codes "client " ++ rest) → ((rest : List ℕ) × (line ≡ codes "send " ++ rest)) ⊎ ((rest : List ℕ) → line ≢ codes "send " ++ rest) → Step? line
+    send_second : ((rest : List ℕ) → line ≢ codes "client " ++ rest) → ((rest : List ℕ) × (line ≡ codes "send " ++ rest)) ⊎ ((rest : List ℕ) → line ≢ codes "send " ++ rest) → JointStep? line
     send_second client (inl send) = a_send line send.0 send.1
     send_second client (inr send) = a_bare line client send
 
-    client_first : ((rest : List ℕ) × (line ≡ codes "client " ++ rest)) ⊎ ((rest : List ℕ) → line ≢ codes "client " ++ rest) → Step? line
+    client_first : ((rest : List ℕ) × (line ≡ codes "client " ++ rest)) ⊎ ((rest : List ℕ) → line ≢ codes "client " ++ rest) → JointStep? line
     client_first (inl client) = a_client line client.0 client.1
     client_first (inr client) = send_second client (begins (codes "send ") line)
-
--- lines, whatever they are, say some steps up to a first bad line, if they have one
-some_steps : (n : ℕ) (lines : List (List ℕ)) → (steps : List Step) × (bad : Option ℕ) × AreSteps n lines steps bad
-some_steps n [] = ([], None, refl)
-some_steps n (line ∷ lines) = with_line (step_of line) (some_steps (n + 1) lines)
-  where
-    with_line : Step? line → ((steps : List Step) × (bad : Option ℕ) × AreSteps (n + 1) lines steps bad) → (steps : List Step) × (bad : Option ℕ) × AreSteps n (line ∷ lines) steps bad
-    with_line (inl found) rest = (found.0 ∷ rest.0, rest.1, (found.1.1, found.1.0, rest.2))
-    with_line (inr none) rest = ([], Some n, (refl, none))
 
 -- for lines, whatever they are, a joined run that goes on prints some text
 pub joined_goes : (k : Kept) (n : ℕ) (lines : List (List ℕ)) → (bad : Option ℕ) × (text : List ℕ) × JoinedGoesOn k n lines bad text
 joined_goes k n lines =
-    let some = some_steps n lines in
+    let some = some_steps step_line HasLine step_of n lines in
     (some.1, reports_text (reports by_machine some.0 k.joint), record { steps = some.0; are = some.2; printed = refl })

@@ -1,29 +1,44 @@
--- Inputs whose lines are all in the format.
-use Rattle.std.specs.Prelude.{◌≤◌, ℕ, List, length, Option, Some, None}
-use Rattle.lapin_types.specs.declared.event.Event.{Event}
+-- Inputs whose lines are all in the format of a command.
+use Rattle.std.specs.Prelude.{ℕ, List, Option, Some, None}
 use Rattle.lapin_text.specs.Input.{lines_of}
-use Rattle.lapin_text.specs.Input as events
 use Rattle.lapin_joint.specs.declared.step.Step.{Step}
-use Rattle.lapin_joint_text.specs.Input as steps
-use Rattle.lapin_commands.specs.Reading.{longest_input}
+use Rattle.lapin_joint_text.specs.Steps as joint_text
+use Rattle.lapin_check.specs.declared.seen.Seen.{Seen}
+use Rattle.lapin_check_text.specs.Input as check_text
+use Rattle.lapin_resend.specs.declared.step.ResendStep.{ResendStep}
+use Rattle.lapin_resend_text.specs.Steps as resend_text
+use Rattle.lapin_call.specs.declared.step.CallStep.{CallStep}
+use Rattle.lapin_call_text.specs.Steps as call_text
+use Rattle.lapin_inputs.specs.Format.{Tells, SaysEvents}
+use Rattle.lapin_inputs.specs.Lines.{AreParsed}
 use Rattle.lapin_commands.specs.declared.words.Command.{Command}
 use Rattle.lapin_commands.specs.declared.words.Command.TheVariants as command
 
--- the source tells the bytes left, no more of them than are taken, and P holds of them
-abbrev pub Tells : Option (List ℕ) → (List ℕ → Type 0) → Type 0
-Tells None P = ⊥
-Tells (Some input) P = (length input ≤ longest_input) × P input
+-- the first line says a frame size, and every other one a step of a kind
+abbrev pub SaysStepsOf : {E : Type 0} → (E → List ℕ) → (E → Type 0) → List ℕ → Type 0
+SaysStepsOf {E} line_of HasLine input = (frame_max : ℕ) × (ss : List E) × AreParsed line_of HasLine (lines_of input) (Some frame_max) ss None
 
--- the first line says a frame size, and every other one an event
-abbrev pub SaysEvents : List ℕ → Type 0
-SaysEvents input = (frame_max : ℕ) × (es : List Event) × events.AreParsed (lines_of input) (Some frame_max) es None
-
--- the first line says a frame size, and every other one a step
+-- every other one a step of a joined run
 abbrev pub SaysSteps : List ℕ → Type 0
-SaysSteps input = (frame_max : ℕ) × (ss : List Step) × steps.AreParsed (lines_of input) (Some frame_max) ss None
+SaysSteps input = SaysStepsOf joint_text.step_line joint_text.HasLine input
+
+-- every other one a step of a publisher that sends again
+abbrev pub SaysResends : List ℕ → Type 0
+SaysResends input = SaysStepsOf resend_text.step_line resend_text.HasLine input
+
+-- every other one a step of calls over queues
+abbrev pub SaysCalls : List ℕ → Type 0
+SaysCalls input = SaysStepsOf call_text.step_line call_text.HasLine input
+
+-- every other one a frame that was seen
+abbrev pub SaysSeen : List ℕ → Type 0
+SaysSeen input = (frame_max : ℕ) × (seen : List Seen) × check_text.AreParsed (lines_of input) (Some frame_max) seen None
 
 -- what a command reads is in its format; `generate` reads nothing
 abbrev pub IsInFormat : Command → Option (List ℕ) → Type 0
 IsInFormat command.Session left = Tells left SaysEvents
 IsInFormat command.Joined left = Tells left SaysSteps
+IsInFormat command.Check left = Tells left SaysSeen
+IsInFormat command.Resend left = Tells left SaysResends
+IsInFormat (command.Call queue) left = Tells left SaysCalls
 IsInFormat (command.Generate n) left = Unit {0}

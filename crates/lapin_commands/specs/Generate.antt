@@ -4,7 +4,7 @@ use Rattle.lapin_joint.specs.Joint.{joined}
 use Rattle.lapin_generate.specs.declared.summary.Summary.{Summary}
 use Rattle.lapin_generate.specs.Generated.{generated}
 use Rattle.lapin_generate.specs.Summed.{summed}
-use Rattle.lapin_commands.specs.Printing.{number_line}
+use Rattle.lapin_inputs.specs.Printing.{number_line}
 
 -- its four lines
 abbrev pub summary_text : Summary → List ℕ

@@ -1,75 +1,24 @@
--- What the end of a run says of the bytes read and the bytes written.
-use Rattle.std.specs.Prelude.{◌≤◌, ℕ, List, length, Option, Some, None}
-use Rattle.std.specs.Io.KnownBytes.{Appends}
-use Rattle.lapin_io.specs.Numbers.{RoseBy}
-use Rattle.lapin_commands.specs.Reading.{longest_input, ReadsAll}
-use Rattle.lapin_commands.specs.Writing.{WritesPrefix}
+-- What the end of a command says of the bytes read and the bytes written.
+use Rattle.std.specs.Prelude.{◌≤◌, ℕ, List, length, Option, Some}
+use Rattle.lapin_inputs.specs.Reading.{longest_input}
+use Rattle.lapin_inputs.specs.Outcome.{HasRead, Print}
 use Rattle.lapin_commands.specs.Session.{PrintsSession}
 use Rattle.lapin_commands.specs.Joined.{PrintsJoined}
+use Rattle.lapin_commands.specs.Check.{PrintsCheck}
+use Rattle.lapin_commands.specs.Resend.{PrintsResend}
+use Rattle.lapin_commands.specs.Call.{PrintsCalls}
 use Rattle.lapin_commands.specs.Generate.{PrintsGenerated}
 use Rattle.lapin_commands.specs.declared.words.Command.{Command}
 use Rattle.lapin_commands.specs.declared.words.Command.TheVariants as command
-use Rattle.lapin_commands.specs.declared.status.Status.{Status}
-use Rattle.lapin_commands.specs.declared.status.Status.TheVariants.{Fine, BadWords, BadLine, NoMemory, ReadFault, WriteFault, InputTooLong}
 
--- The input was read to its end and was short enough, and P holds of its bytes.
-pub record HasRead (left_before left_after : Option (List ℕ)) (given_before given_after : ℕ) (P : List ℕ → Type 0) : Type 0 where
-  pub bytes : List ℕ
-  pub all : ReadsAll left_before left_after bytes
-  pub counted : RoseBy (length bytes) given_before given_after
-  pub short : length bytes ≤ longest_input
-  pub says : P bytes
-
--- what is printed: the text, where this line of the input is the first bad one, if there is any
-abbrev pub Print : Type 1
-Print = Option ℕ → List ℕ → Type 0
-
--- The command was run, and P holds of what it prints: `session` and `joined` for an input that was read to its end.
+-- The command was run, and P holds of what it prints: but for `generate`, which reads nothing, for an input that was read to its end.
 abbrev pub HasRun : Command → Option (List ℕ) → Option (List ℕ) → ℕ → ℕ → (Print → Type 0) → Type 0
 HasRun command.Session left_before left_after given_before given_after P = HasRead left_before left_after given_before given_after (λ input. P (PrintsSession input))
 HasRun command.Joined left_before left_after given_before given_after P = HasRead left_before left_after given_before given_after (λ input. P (PrintsJoined input))
+HasRun command.Check left_before left_after given_before given_after P = HasRead left_before left_after given_before given_after (λ input. P (PrintsCheck input))
+HasRun command.Resend left_before left_after given_before given_after P = HasRead left_before left_after given_before given_after (λ input. P (PrintsResend input))
+HasRun (command.Call queue) left_before left_after given_before given_after P = HasRead left_before left_after given_before given_after (λ input. P (PrintsCalls queue input))
 HasRun (command.Generate n) left_before left_after given_before given_after P = P (PrintsGenerated n)
-
--- the whole text was written, and every line of the input is in the format
-abbrev pub WroteAll : Option (List ℕ) → Option (List ℕ) → Print → Type 0
-WroteAll before after prints = (text : List ℕ) × prints None text × Appends before after text
-
--- the text up to the first bad line was written, and the line that names it
-abbrev pub WroteToBadLine : Option (List ℕ) → Option (List ℕ) → Print → Type 0
-WroteToBadLine before after prints =
-    (line : ℕ) × (text : List ℕ) × prints (Some line) text × Appends before after text
-
--- a prefix of the text was written
-abbrev pub WroteSome : Option (List ℕ) → Option (List ℕ) → Print → Type 0
-WroteSome before after prints =
-    (bad : Option ℕ) × (text : List ℕ) × prints bad text × WritesPrefix before after text
-
--- one of the ends of a run whose input was read
-abbrev pub IsAnswer : Status → Type 0
-IsAnswer Fine = Unit {0}
-IsAnswer BadWords = ⊥
-IsAnswer BadLine = Unit {0}
-IsAnswer NoMemory = Unit {0}
-IsAnswer ReadFault = ⊥
-IsAnswer WriteFault = Unit {0}
-IsAnswer InputTooLong = ⊥
-
--- one of the ends of a run that reads nothing
-abbrev pub IsUnread : Status → Type 0
-IsUnread BadLine = ⊥
-IsUnread status = IsAnswer status
-
--- all that was to be written was written
-abbrev pub IsWhole : Status → Type 0
-IsWhole Fine = Unit {0}
-IsWhole BadLine = Unit {0}
-IsWhole _ = ⊥
-
--- nothing was amiss but want of memory
-abbrev pub IsComplete : Status → Type 0
-IsComplete Fine = Unit {0}
-IsComplete NoMemory = Unit {0}
-IsComplete _ = ⊥
 
 -- P holds of a command that reads nothing
 abbrev pub WhereUnread : Command → Type 0 → Type 0
@@ -80,6 +29,9 @@ WhereUnread _ P = Unit {0}
 abbrev pub Prints : Command → List ℕ → Option ℕ → List ℕ → Type 0
 Prints command.Session input bad text = (length input ≤ longest_input) × PrintsSession input bad text
 Prints command.Joined input bad text = (length input ≤ longest_input) × PrintsJoined input bad text
+Prints command.Check input bad text = (length input ≤ longest_input) × PrintsCheck input bad text
+Prints command.Resend input bad text = (length input ≤ longest_input) × PrintsResend input bad text
+Prints (command.Call queue) input bad text = (length input ≤ longest_input) × PrintsCalls queue input bad text
 Prints (command.Generate n) input bad text = PrintsGenerated n bad text
 
 -- what a command prints for an input that has a bad line; `generate` reads none

@@ -5,7 +5,7 @@ use Rattle.lapin_history.specs.History.{run}
 use Rattle.lapin_text.specs.Input.{AreEvents, AreParsed}
 use Rattle.lapin_text.specs.Records.{records_text}
 use Rattle.lapin_machine.specs.World.{World, outputs}
-use Rattle.lapin_commands.specs.Printing.{PrintsBy, GoesOnBy}
+use Rattle.lapin_inputs.specs.Printing.{PrintsBy, GoesOnBy}
 
 -- the records of a session that begins new and meets these events
 abbrev pub session_text : ℕ → List Event → List ℕ

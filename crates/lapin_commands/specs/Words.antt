@@ -1,5 +1,5 @@
 -- The words of the command line, behind the program's name.
-use Rattle.std.specs.Prelude.{◌≡◌, ◌≤◌, List, [], ◌∷◌, ℕ, map, String, string_bytes, codes, decimal}
+use Rattle.std.specs.Prelude.{◌≡◌, ◌≤◌, List, [], ◌∷◌, ℕ, length, map, String, string_bytes, codes, decimal}
 use Rattle.std.specs.declared.alloc.Global.{Global}
 use Rattle.lapin_generate.specs.Generated.{most_publishes}
 use Rattle.lapin_commands.specs.declared.words.Command.{Command}
@@ -9,10 +9,14 @@ use Rattle.lapin_commands.specs.declared.words.Command.TheVariants as command
 abbrev pub words_of : Command → List (List ℕ)
 words_of command.Session = codes "session" ∷ []
 words_of command.Joined = codes "joined" ∷ []
+words_of command.Check = codes "check" ∷ []
+words_of command.Resend = codes "resend" ∷ []
+words_of (command.Call queue) = codes "call" ∷ queue ∷ []
 words_of (command.Generate n) = codes "generate" ∷ decimal n ∷ []
 
--- `generate` makes from 1 to 10,000 publishes
+-- `generate` makes from 1 to 10,000 publishes, and the queue of `call` has 1 to 255 bytes, which are UTF-8 as every word is
 abbrev pub IsCommand : Command → Type 0
+IsCommand (command.Call queue) = (1 ≤ length queue) × (length queue ≤ 255)
 IsCommand (command.Generate n) = (1 ≤ n) × (n ≤ most_publishes)
 IsCommand _ = Unit {0}
 

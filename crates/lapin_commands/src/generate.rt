@@ -8,8 +8,8 @@ ghost use Rattle.lapin_generate.specs.Generated.{most_publishes, generated};
 ghost use Rattle.lapin_generate.specs.Summed.{summed};
 ghost use Rattle.lapin_commands.specs.Generate.{summary_text, generated_text};
 
-use crate::printing::put_number;
 use lapin_generate::{Summary, generated_steps, summarize};
+use lapin_inputs::put_number;
 use lapin_joint::run_joined;
 use lapin_types::NoMemory;
 use std::alloc::Global;

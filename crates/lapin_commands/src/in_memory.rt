@@ -2,12 +2,13 @@
 //! Whoever drives the program without streams calls it, as the tests of worked histories do.
 ghost use Rattle.std.specs.Prelude.{◌≡◌, ◌≢◌, ◌<◌, ◌↔◌, Some, None, length};
 ghost use Rattle.lapin_commands.specs.Format.{IsInFormat};
-ghost use Rattle.lapin_commands.specs.Reading.{longest_input};
-ghost use Rattle.lapin_commands.specs.Outcome.{IsComplete, Prints, PrintsToBadLine};
+ghost use Rattle.lapin_inputs.specs.Reading.{longest_input};
+ghost use Rattle.lapin_inputs.specs.Outcome.{IsComplete};
+ghost use Rattle.lapin_commands.specs.Outcome.{Prints, PrintsToBadLine};
 ghost use Rattle.lapin_commands.specs.Words.{OfCommand, SayNothing, bytes_of};
 
 use crate::program::run_program;
-use crate::status::Status;
+use lapin_inputs::Status;
 use lapin_io::{SureSink, SureSource};
 use std::alloc::Global;
 

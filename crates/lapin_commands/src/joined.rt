@@ -4,40 +4,52 @@
 //! What a line says and how a report is written stands in `lapin_joint_text`, what a step reports in `lapin_joint`.
 ghost use Rattle.std.specs.Prelude.{◌≡◌, ◌++◌, ◌∷◌, [], ◌+◌, ◌<◌, ◌^◌, false, OnOk};
 ghost use Rattle.lapin_text.specs.Records.{line_onto};
-ghost use Rattle.lapin_joint.specs.Joint.{after, report};
 ghost use Rattle.lapin_machine.specs.Way.{by_machine};
+ghost use Rattle.lapin_joint.specs.Kept.{Kept};
+ghost use Rattle.lapin_joint.specs.Joint.{after, report};
 ghost use Rattle.lapin_joint_text.specs.Reports.{report_tokens};
 ghost use Rattle.lapin_commands.specs.Joined.{PrintsJoined, JoinedGoesOn};
 ghost use Rattle.lapin_commands.specs.Laws.{joined_ends, joined_first};
 ghost use Rattle.lapin_commands.specs.EveryLine.{joined_goes};
 ghost use Rattle.lapin_commands.specs.OneReading.{joined_one};
 
-use crate::run::Run;
+use lapin_inputs::Run;
 use lapin_joint::{Joined, Reported, Step};
 use lapin_joint_text::{put_report, read_step};
 use lapin_types::NoMemory;
 use std::alloc::Global;
 
-impl Run for Joined {
-    ghost prints = { λ input bad text. PrintsJoined input bad text };
+/// The command.
+pub enum OfJoined {}
+
+impl Run for OfJoined {
+    type State = Joined;
+
+    ghost admits = { λ none. Unit {0} };
+
+    ghost prints = { λ none input bad text. PrintsJoined input bad text };
+
+    ghost Past = { Kept };
+
+    ghost stands = { λ past run. past ≡ run };
 
     ghost goes_on = { λ k n lines bad text. JoinedGoesOn k n lines bad text };
 
     ghost takes = { λ n k. k.steps + n < 2 ^ 64 };
 
-    fn begin(alloc: Global, frame_max: u32) -> Result<Joined, NoMemory> {
+    fn begin(alloc: Global, _argument: &str, frame_max: u32) -> Result<Joined, NoMemory> {
         Joined::new(alloc, frame_max)
     }
 
     fn take_line(
-        &mut self,
         alloc: Global,
+        run: &mut Joined,
         line: &[u8],
         text: &mut Vec<u8>,
     ) -> Result<bool, NoMemory> {
         match read_step(alloc, line)? {
             Some(step) => {
-                print_step(alloc, self, step, text)?;
+                print_step(alloc, run, step, text)?;
                 Ok(true)
             }
             None => Ok(false),
@@ -48,9 +60,9 @@ impl Run for Joined {
 
     ghost goes = { λ k n lines. joined_goes k n lines };
 
-    ghost one = { λ input text other line all bad. joined_one input text other line all bad };
+    ghost one = { λ none input text other line all bad. joined_one input text other line all bad };
 
-    ghost first = { λ input none. joined_first input none };
+    ghost first = { λ none input missing. joined_first input missing };
 }
 
 // Makes a step, and appends the line of its report.

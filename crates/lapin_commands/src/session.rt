@@ -1,43 +1,56 @@
 //! The command `session`: each line of its input is an event, which a new session meets, and its record is printed.
 //!
 //! What becomes of a line stands in `lapin_lines`.
+ghost use Rattle.std.specs.Prelude.{◌≡◌};
+ghost use Rattle.lapin_machine.specs.World.{World};
 ghost use Rattle.lapin_machine.specs.Numbers.{HasNumbersFor};
 ghost use Rattle.lapin_commands.specs.Session.{PrintsSession, SessionGoesOn};
 ghost use Rattle.lapin_commands.specs.Laws.{session_ends, session_first};
 ghost use Rattle.lapin_commands.specs.EveryLine.{session_goes};
 ghost use Rattle.lapin_commands.specs.OneReading.{session_one};
 
-use crate::run::Run;
+use lapin_inputs::Run;
 use lapin_lines::take_line;
 use lapin_machine::Session;
 use lapin_types::NoMemory;
 use std::alloc::Global;
 
-impl Run for Session {
-    ghost prints = { λ input bad text. PrintsSession input bad text };
+/// The command.
+pub enum OfSession {}
+
+impl Run for OfSession {
+    type State = Session;
+
+    ghost admits = { λ none. Unit {0} };
+
+    ghost prints = { λ none input bad text. PrintsSession input bad text };
+
+    ghost Past = { World };
+
+    ghost stands = { λ past run. past ≡ run };
 
     ghost goes_on = { λ w n lines bad text. SessionGoesOn w n lines bad text };
 
     ghost takes = { λ n w. HasNumbersFor n w };
 
-    fn begin(alloc: Global, frame_max: u32) -> Result<Session, NoMemory> {
+    fn begin(alloc: Global, _argument: &str, frame_max: u32) -> Result<Session, NoMemory> {
         Session::new(alloc, frame_max)
     }
 
     fn take_line(
-        &mut self,
         alloc: Global,
+        run: &mut Session,
         line: &[u8],
         text: &mut Vec<u8>,
     ) -> Result<bool, NoMemory> {
-        take_line(alloc, self, line, text)
+        take_line(alloc, run, line, text)
     }
 
     ghost ends = { λ w n. session_ends w n };
 
     ghost goes = { λ w n lines. session_goes w n lines };
 
-    ghost one = { λ input text other line all bad. session_one input text other line all bad };
+    ghost one = { λ none input text other line all bad. session_one input text other line all bad };
 
-    ghost first = { λ input none. session_first input none };
+    ghost first = { λ none input missing. session_first input missing };
 }

@@ -1,18 +1,26 @@
 //! The words of the command line, read by hand.
-ghost use Rattle.std.specs.Prelude.{◌≡◌, ◌∷◌, [], IfSome, IfNone};
-ghost use Rattle.lapin_commands.specs.declared.words.Command.{Command as ACommand};
-ghost use Rattle.lapin_commands.specs.Words.{Say, SayNothing, bytes_of};
+ghost use Rattle.std.specs.Prelude.{◌≡◌, ◌≢◌, ◌∷◌, [], codes, IfOk, IfSome, IfNone, OnErr};
+ghost use Rattle.lapin_commands.specs.declared.words.Command.TheVariants as command;
+ghost use Rattle.lapin_commands.specs.Words.{Say, SayNothing, IsCommand, bytes_of};
 
 use lapin_text::read_num;
+use lapin_types::{NoMemory, ShortString};
+use std::alloc::Global;
 
 /// What the program is to do.
-#[derive(Clone, Copy, Debug, PartialEq, Eq)]
+#[derive(Debug, Drop)]
 pub enum Command {
     /// `session`: runs the events of an input in a session.
     Session,
     /// `joined`: makes the steps of an input in a session that is joined to a free broker.
     Joined,
-    /// `generate N`: makes the steps of as many publishes in such a run, from 1 to 10,000.
+    /// `check`: checks the transcript of an input.
+    Check,
+    /// `resend`: makes the steps of an input with a publisher that sends again after a loss.
+    Resend,
+    /// `call QUEUE`: makes the steps of an input in a session whose requests are answered over the queue, which has 1 to 255 bytes.
+    Call(ShortString),
+    /// `generate N`: makes the steps of as many publishes in a joined run, from 1 to 10,000.
     Generate(u64),
 }
 
@@ -20,14 +28,49 @@ pub enum Command {
 const MOST_PUBLISHES: u64 = 10_000;
 
 /// The command that the words are, if they are one's.
-pub fn read_words(words: &[String]) -> Option<Command>
-    ensures some { IfSome result (λ c. Say (bytes_of words.now) c) }
-    ensures none { IfNone result (SayNothing (bytes_of words.now)) }
+///
+/// # Errors
+/// `NoMemory`, where they are `call QUEUE`.
+pub fn read_words(alloc: Global, words: &[String]) -> Result<Option<Command>, NoMemory>
+    ensures some { IfOk result (λ o. IfSome o (λ c. Say (bytes_of words.now) c)) }
+    ensures none { IfOk result (λ o. IfNone o (SayNothing (bytes_of words.now))) }
+    ensures err { OnErr result (SayNothing (bytes_of words.now) → ⊥) }
 {
     match words {
-        [word] => lone(word.as_str().as_bytes()),
-        [word, number] => numbered(word.as_str().as_bytes(), number.as_str().as_bytes()),
-        _ => None,
+        [word] => Ok(lone(word.as_str().as_bytes())),
+        [word, argument] => pair(alloc, word.as_str(), argument.as_str()),
+        _ => Ok(None),
+    }
+}
+
+// The command of a word and what stands behind it.
+fn pair(alloc: Global, word: &str, argument: &str) -> Result<Option<Command>, NoMemory>
+    ensures some { IfOk result (λ o. IfSome o (λ c. Say (word.now ∷ argument.now ∷ []) c)) }
+    ensures none { IfOk result (λ o. IfNone o (SayNothing (word.now ∷ argument.now ∷ []))) }
+    ensures err { OnErr result (SayNothing (word.now ∷ argument.now ∷ []) → ⊥) }
+{
+    if word == "call" {
+        return called(alloc, argument);
+    }
+    Ok(numbered(word.as_bytes(), argument.as_bytes()))
+}
+
+// The command `call` with this queue.
+#[tactic(auto, using(crate::proofs::Commands::no_call, crate::proofs::Commands::some_call))]
+fn called(alloc: Global, queue: &str) -> Result<Option<Command>, NoMemory>
+    ensures some { IfOk result (λ o. IfSome o (λ c. Say (codes "call" ∷ queue.now ∷ []) c)) }
+    ensures none { IfOk result (λ o. IfNone o (SayNothing (codes "call" ∷ queue.now ∷ []))) }
+    ensures err { OnErr result (SayNothing (codes "call" ∷ queue.now ∷ []) → ⊥) }
+{
+    if queue.is_empty() {
+        return Ok(None);
+    }
+    if queue.len() > 255 {
+        return Ok(None);
+    }
+    match ShortString::new(alloc, queue) {
+        Ok(queue) => Ok(Some(Command::Call(queue))),
+        Err(_) => Err(NoMemory),
     }
 }
 
@@ -40,13 +83,19 @@ fn lone(word: &[u8]) -> Option<Command>
         Some(Command::Session)
     } else if word == b"joined".as_slice() {
         Some(Command::Joined)
+    } else if word == b"check".as_slice() {
+        Some(Command::Check)
+    } else if word == b"resend".as_slice() {
+        Some(Command::Resend)
     } else {
         None
     }
 }
 
-// The command of a word and a number.
+// The command of a word and a number, where it isn't `call`.
+#[tactic(auto, using(crate::proofs::Commands::no_generate, crate::proofs::Commands::no_number))]
 fn numbered(word: &[u8], number: &[u8]) -> Option<Command>
+    requires { word.now ≢ codes "call" }
     ensures some { IfSome result (λ c. Say (word.now ∷ number.now ∷ []) c) }
     ensures none { IfNone result (SayNothing (word.now ∷ number.now ∷ [])) }
 {
@@ -54,9 +103,18 @@ fn numbered(word: &[u8], number: &[u8]) -> Option<Command>
         return None;
     }
     match read_num(number) {
-        Some(publishes) if 1 <= publishes && publishes <= MOST_PUBLISHES => {
-            Some(Command::Generate(publishes))
-        }
-        _ => None,
+        Some(publishes) => generated(publishes),
+        None => None,
     }
+}
+
+// The command of so many publishes, from 1 to 10,000.
+fn generated(publishes: u64) -> Option<Command>
+    ensures some { IfSome result (λ c. (c ≡ command.Generate publishes) × IsCommand c) }
+    ensures none { IfNone result (IsCommand (command.Generate publishes) → ⊥) }
+{
+    if publishes < 1 || MOST_PUBLISHES < publishes {
+        return None;
+    }
+    Some(Command::Generate(publishes))
 }

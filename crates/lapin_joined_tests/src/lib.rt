@@ -17,3 +17,5 @@ mod plain;
 mod programs;
 #[cfg(test)]
 mod runs;
+#[cfg(test)]
+mod whole;

@@ -1,13 +1,13 @@
 //! What follows once the input was read: it is parsed and run, the history is kept, and its text is written.
 ghost use Rattle.std.specs.Prelude.{◌≡◌, ◌≤◌, ◌⊎◌, None, IfOk};
 ghost use Rattle.lapin_io.specs.Numbers.{Rose, Stayed};
-ghost use Rattle.lapin_commands.specs.Format.{SaysEvents};
-ghost use Rattle.lapin_commands.specs.Outcome.{IsAnswer, IsComplete, IsWhole};
+ghost use Rattle.lapin_inputs.specs.Format.{SaysEvents};
+ghost use Rattle.lapin_inputs.specs.Outcome.{IsAnswer, IsComplete, IsWhole};
 ghost use Rattle.lapin_shared_commands.specs.Outcome.{IsRun, WroteAll, WroteSome, WroteToBadLine};
 
 use crate::printing::print_run;
 use crate::running::shared_history;
-use lapin_commands::{Status, write_all};
+use lapin_inputs::{Status, write_all};
 use lapin_io::{Sink, SinkError};
 use lapin_shared::{Gate, History};
 use lapin_text::{Parsed, parse_events};

@@ -1,11 +1,11 @@
 //! The command over an input in memory, where no fault can come: what `program` promises of streams, said of values.
 ghost use Rattle.std.specs.Prelude.{◌≡◌, ◌≢◌, ℕ, Some, None};
-ghost use Rattle.lapin_commands.specs.Format.{SaysEvents, Tells};
-ghost use Rattle.lapin_commands.specs.Outcome.{IsComplete};
+ghost use Rattle.lapin_inputs.specs.Format.{SaysEvents, Tells};
+ghost use Rattle.lapin_inputs.specs.Outcome.{IsComplete};
 ghost use Rattle.lapin_shared_commands.specs.Words.{AreShared};
 
 use crate::program::run_shared;
-use lapin_commands::Status;
+use lapin_inputs::Status;
 use lapin_io::{SureSink, SureSource};
 use lapin_shared::{Gate, History};
 use std::alloc::Global;

@@ -2,7 +2,7 @@
 ghost use Rattle.std.specs.Prelude.{◌≡◌, ◌++◌, ◌∷◌, [], IfOk, OnOk};
 ghost use Rattle.lapin_shared_commands.specs.Printed.{entry_line, history_text, run_text};
 
-use lapin_commands::put_bad_line;
+use lapin_inputs::put_bad_line;
 use lapin_scalars::put_number;
 use lapin_shared::{Entry, History};
 use lapin_text::put_record;
@@ -26,7 +26,7 @@ pub fn print_run(
 }
 
 /// Appends the lines of a history.
-fn put_history(alloc: Global, text: &mut Vec<u8>, history: &History) -> Result<(), NoMemory>
+pub fn put_history(alloc: Global, text: &mut Vec<u8>, history: &History) -> Result<(), NoMemory>
     ensures { OnOk result (text.new.items ≡ text.old.items ++ history_text history.now) }
 {
     for k in 0..history.len() {

@@ -1,15 +1,15 @@
 //! The top call of the words `shared N`. `main` calls it with the real source and sink, tests with some in memory.
 ghost use Rattle.std.specs.Prelude.{◌≡◌, ◌+◌, ◌↔◌, ◌⊎◌, ℕ, None};
 ghost use Rattle.lapin_io.specs.Numbers.{Rose, RoseBy, Stayed};
-ghost use Rattle.lapin_commands.specs.Format.{SaysEvents, Tells};
-ghost use Rattle.lapin_commands.specs.Outcome.{HasRead, IsComplete, IsWhole};
-ghost use Rattle.lapin_commands.specs.Reading.{longest_input, IsTooLong};
+ghost use Rattle.lapin_inputs.specs.Format.{SaysEvents, Tells};
+ghost use Rattle.lapin_inputs.specs.Outcome.{HasRead, IsComplete, IsWhole};
+ghost use Rattle.lapin_inputs.specs.Reading.{longest_input, IsTooLong};
 ghost use Rattle.lapin_shared_commands.specs.Outcome.{WroteAll, WroteSome, WroteToBadLine};
 ghost use Rattle.lapin_shared_commands.specs.Words.{AreShared};
 
 use crate::answer::answer;
 use crate::words::shared_callers;
-use lapin_commands::{InputError, Status, read_all};
+use lapin_inputs::{InputError, Status, read_all};
 use lapin_io::{Sink, Source};
 use lapin_shared::{Gate, History};
 use std::alloc::Global;

@@ -74,7 +74,12 @@ fn make_one<L: Crew, G: Gate, R: Wait>(
 
 /// Makes the step, and says whether it was made. Where only its record could not be copied it was.
 #[tactic(auto, using(crate::proofs::Dealing::grew_events))]
-fn is_made<L: Crew, R: Wait>(rt: &R, alloc: Global, event: Event, caller: &mut Caller<L>) -> bool
+pub fn is_made<L: Crew, R: Wait>(
+    rt: &R,
+    alloc: Global,
+    event: Event,
+    caller: &mut Caller<L>,
+) -> bool
     ensures number { caller.new.number ≡ caller.old.number }
     ensures done { result ≡ true → map event_of caller.new.log ≡ map event_of caller.old.log ++ event ∷ [] }
 {

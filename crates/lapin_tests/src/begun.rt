@@ -8,6 +8,8 @@ pub fn begun(name: &str) -> Option<&'static str> {
         "selected" => Some(SELECTED),
         "crossed" => Some(CROSSED),
         "each state" => Some(EACH_STATE),
+        "every request" => Some(EVERY_REQUEST),
+        "every request left" => Some(EVERY_REQUEST_LEFT),
         _ => None,
     }
 }
@@ -89,4 +91,57 @@ state 3 -> state open closing
 state 4 -> state open closing
 state 5 -> state open crossed
 state 0 -> state open base
+";
+
+// Channel 1 is opened, and a call of each kind awaits its reply; none of their frames has left.
+const EVERY_REQUEST: &str = "
+call 1 channel.open -> ticket 1
+next 1 -> frame method 1 channel.open
+recv method 1 channel.open-ok -> received
+call 1 channel.flow 1 -> ticket 2
+call 1 access.request x2f 0 0 0 0 0 -> ticket 3
+call 1 exchange.declare x65 x746f706963 0 0 0 0 0 {} -> ticket 4
+call 1 exchange.delete x65 0 0 -> ticket 5
+call 1 exchange.bind x64 x73 x6b 0 {} -> ticket 6
+call 1 exchange.unbind x64 x73 x6b 0 {} -> ticket 7
+call 1 queue.declare x71 0 0 0 0 0 {} -> ticket 8
+call 1 queue.bind x71 x65 x6b 0 {} -> ticket 9
+call 1 queue.purge x71 0 -> ticket 10
+call 1 queue.delete x71 0 0 0 -> ticket 11
+call 1 queue.unbind x71 x65 x6b {} -> ticket 12
+call 1 basic.qos 1 0 -> ticket 13
+call 1 basic.consume x71 x74 0 0 0 0 {} -> ticket 14
+call 1 basic.cancel x74 0 -> ticket 15
+call 1 basic.get x71 0 -> ticket 16
+call 1 basic.recover 0 -> ticket 17
+call 1 confirm.select 0 -> ticket 18
+call 1 tx.select -> ticket 19
+call 1 tx.commit -> ticket 20
+call 1 tx.rollback -> ticket 21
+";
+
+// Behind that: channel 1 is closed by this side, and all these frames leave, the close last.
+const EVERY_REQUEST_LEFT: &str = "
+call 1 channel.close 200 x -> ticket 22
+next 1 -> frame method 1 channel.flow 1
+next 1 -> frame method 1 access.request x2f 0 0 0 0 0
+next 1 -> frame method 1 exchange.declare x65 x746f706963 0 0 0 0 0 {}
+next 1 -> frame method 1 exchange.delete x65 0 0
+next 1 -> frame method 1 exchange.bind x64 x73 x6b 0 {}
+next 1 -> frame method 1 exchange.unbind x64 x73 x6b 0 {}
+next 1 -> frame method 1 queue.declare x71 0 0 0 0 0 {}
+next 1 -> frame method 1 queue.bind x71 x65 x6b 0 {}
+next 1 -> frame method 1 queue.purge x71 0
+next 1 -> frame method 1 queue.delete x71 0 0 0
+next 1 -> frame method 1 queue.unbind x71 x65 x6b {}
+next 1 -> frame method 1 basic.qos 1 0
+next 1 -> frame method 1 basic.consume x71 x74 0 0 0 0 {}
+next 1 -> frame method 1 basic.cancel x74 0
+next 1 -> frame method 1 basic.get x71 0
+next 1 -> frame method 1 basic.recover 0
+next 1 -> frame method 1 confirm.select 0
+next 1 -> frame method 1 tx.select
+next 1 -> frame method 1 tx.commit
+next 1 -> frame method 1 tx.rollback
+next 1 -> frame method 1 channel.close 200 x 0 0
 ";

@@ -5,56 +5,79 @@ use lapin_io::{MemorySink, MemorySource, Sink, Source, StdSink, StdSource, SureS
 use std::alloc::{AllocError, Global};
 use std::test::Fail;
 
-const INPUT: &[u8] = b"frame_max 4096\nnext 1\nticket 9\n";
+// A publish and its confirm.
+const INPUT: &[u8] = b"frame_max 4096
+call 1 channel.open
+next 1
+recv method 1 channel.open-ok
+call 1 confirm.select 0
+next 1
+recv method 1 confirm.select-ok
+call 1 basic.publish x x68656c6c6f 0 0 x48656c6c6f20776f726c6421 []
+next 1
+next 1
+next 1
+recv method 1 basic.ack 1 0
+ticket 3
+confirm 1
+";
 
-const OUTPUT: &[u8] = b"noframe\nrefused UnknownTicket\n";
+const OUTPUT: &[u8] = b"ticket 1
+frame method 1 channel.open
+received
+ticket 2
+frame method 1 confirm.select 0
+received
+publish 3 1
+frame method 1 basic.publish x x68656c6c6f 0 0
+frame header 1 60 12 []
+frame body 1 x48656c6c6f20776f726c6421
+received
+answer confirm 1
+confirmed ack -
+";
 
 // An input of this length, none of whose lines is in the format.
 fn input_of(alloc: Global, length: usize) -> Result<Vec<u8>, AllocError> {
     vec![in alloc; b'x'; length]
 }
 
-// 31 bytes in pieces of 8, and the end, are 5 reads. Nothing is written where one of them fails.
+// 271 bytes in pieces of 8, and the end, are 35 reads. Nothing is written where one of them fails.
 #[test]
 fn each_failing_read_ends_the_run(rt: HostRuntime) -> Result<(), Fail> {
     let alloc = rt.alloc();
     let words = words_of(alloc, &["session"])?;
-    for (call, wanted, output) in [
-        (1, Status::ReadFault, b"".as_slice()),
-        (2, Status::ReadFault, b"".as_slice()),
-        (3, Status::ReadFault, b"".as_slice()),
-        (4, Status::ReadFault, b"".as_slice()),
-        (5, Status::ReadFault, b"".as_slice()),
-        (6, Status::Fine, OUTPUT),
-    ] {
+    for call in 1..=36 {
         let mut source = MemorySource::new(INPUT.to_vec(alloc)?, 8, vec![in alloc; call]?);
         let mut sink = SureSink::new(alloc);
         let status = run_program(alloc, &words, &mut source, &mut sink);
+        let (wanted, output) = if call <= 35 {
+            (Status::ReadFault, b"".as_slice())
+        } else {
+            (Status::Fine, OUTPUT)
+        };
         assert_eq!(rt; status, wanted, "at call {call}");
         assert_eq!(rt; sink.bytes(), output, "at call {call}");
     }
     Ok(())
 }
 
-// 30 bytes in pieces of 8 are 4 writes. A prefix is left where one of them fails.
+// 260 bytes in pieces of 8 are 33 writes. What the writes before it took is left where one of them fails.
 #[test]
 fn each_failing_write_leaves_a_prefix_of_the_text(rt: HostRuntime) -> Result<(), Fail> {
     let alloc = rt.alloc();
     let words = words_of(alloc, &["session"])?;
-    for (call, wanted, output) in [
-        (1, Status::WriteFault, b"".as_slice()),
-        (2, Status::WriteFault, b"noframe\n".as_slice()),
-        (3, Status::WriteFault, b"noframe\nrefused ".as_slice()),
-        (
-            4,
-            Status::WriteFault,
-            b"noframe\nrefused UnknownT".as_slice(),
-        ),
-        (5, Status::Fine, OUTPUT),
-    ] {
+    for call in 1..=34 {
         let mut source = SureSource::new(INPUT.to_vec(alloc)?);
         let mut sink = MemorySink::new(alloc, 8, vec![in alloc; call]?);
         let status = run_program(alloc, &words, &mut source, &mut sink);
+        let wanted = if call <= 33 {
+            Status::WriteFault
+        } else {
+            Status::Fine
+        };
+        let taken = (call - 1) * 8;
+        let output = OUTPUT.get(..taken as usize).unwrap_or(OUTPUT);
         assert_eq!(rt; status, wanted, "at call {call}");
         assert_eq!(rt; sink.bytes(), output, "at call {call}");
     }
@@ -88,22 +111,25 @@ fn pieces_of_any_length_give_the_same(rt: HostRuntime) -> Result<(), Fail> {
     Ok(())
 }
 
-// 15 bytes of the first line, 31 before the digits, 4 behind them, and two digits for each of 8,388,583 bytes are 2^24.
+// 15 bytes of the first line, 30 before the digits, 3 behind them, and two digits for each of 8,388,584 bytes are 2^24. No line feed
+// ends the second line. With one byte of payload more it is past the limit.
 #[test]
 fn an_input_of_exactly_the_limit_is_run(rt: HostRuntime) -> Result<(), Fail> {
     let alloc = rt.alloc();
     let words = words_of(alloc, &["session"])?;
-    for (end, wanted, output) in [
+    for (payload, whole, wanted, output) in [
         (
-            b" []\n".as_slice(),
+            8_388_584,
+            16_777_216,
             Status::Fine,
             b"refused InvalidChannelState closed\n".as_slice(),
         ),
-        (b" []\n\n".as_slice(), Status::InputTooLong, b"".as_slice()),
+        (8_388_585, 16_777_218, Status::InputTooLong, b"".as_slice()),
     ] {
-        let mut input = b"frame_max 4096\ncall 10 basic.publish x x 0 0 x".to_vec(alloc)?;
-        input.extend_from_slice(&vec![in alloc; b'0'; 16_777_166]?)?;
-        input.extend_from_slice(end)?;
+        let mut input = b"frame_max 4096\ncall 1 basic.publish x x 0 0 x".to_vec(alloc)?;
+        input.extend_from_slice(&vec![in alloc; b'0'; 2 * payload]?)?;
+        input.extend_from_slice(b" []")?;
+        assert_eq!(rt; input.len(), whole);
         let (status, sink) = run_in_memory(alloc, &words, input);
         assert_eq!(rt; status, wanted);
         assert_eq!(rt; sink.bytes(), output);

@@ -8,6 +8,10 @@
 #[cfg(test)]
 mod ackers;
 #[cfg(test)]
+mod any_frame;
+#[cfg(test)]
+mod any_loss;
+#[cfg(test)]
 mod asides;
 #[cfg(test)]
 mod begun;

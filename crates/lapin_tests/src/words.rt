@@ -14,6 +14,17 @@ fn other_words_are_no_command(rt: HostRuntime) -> Result<(), Fail> {
         ([""].as_slice(), Status::BadWords, ""),
         (["Session"].as_slice(), Status::BadWords, ""),
         (["--help"].as_slice(), Status::BadWords, ""),
+        (["check", "now"].as_slice(), Status::BadWords, ""),
+        (["resend", ""].as_slice(), Status::BadWords, ""),
+        (["call"].as_slice(), Status::BadWords, ""),
+        (["call", "replies", "now"].as_slice(), Status::BadWords, ""),
+        (["check"].as_slice(), Status::BadLine, "fine\nbadline 2\n"),
+        (["resend"].as_slice(), Status::BadLine, "badline 2\n"),
+        (
+            ["call", "replies"].as_slice(),
+            Status::Fine,
+            "frame method 1 channel.open\n",
+        ),
         (["session"].as_slice(), Status::Fine, "noframe\n"),
     ] {
         let words = words_of(alloc, words)?;

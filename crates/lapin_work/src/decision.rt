@@ -65,7 +65,7 @@ fn judge(delegate: &BoxedDelegate, given: &DeliveryResult) -> Decision
 }
 
 /// The delivery among what a delegate is handed.
-fn delivery_of(given: &DeliveryResult) -> Option<&Delivery>
+pub fn delivery_of(given: &DeliveryResult) -> Option<&Delivery>
     ensures { option_copied result ≡ delivery_in given.now }
 {
     match given {

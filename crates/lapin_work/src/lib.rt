@@ -11,5 +11,7 @@ mod turns;
 mod work;
 mod workers;
 
+pub use decision::delivery_of;
+pub use turn::{job_of, take_job};
 pub use work::{Work, Works};
 pub use workers::run_workers;

@@ -45,7 +45,7 @@ pub fn work_between<L: Crew, G: Gate, R: Wait>(
 
 /// Takes a job in one step, and answers the step's place; none where there is no job.
 #[tactic(auto, using(crate::proofs::Stages::no_job_told, crate::proofs::Stages::job_told))]
-fn take_job<L: Crew, R: Wait>(
+pub fn take_job<L: Crew, R: Wait>(
     rt: &R,
     alloc: Global,
     caller: &mut Caller<L>,
@@ -64,7 +64,7 @@ fn take_job<L: Crew, R: Wait>(
 }
 
 /// The job that an entry's record tells.
-fn job_of(told: &Told) -> Option<&Job>
+pub fn job_of(told: &Told) -> Option<&Job>
     ensures { option_copied result ≡ job_in told.now.answer }
 {
     match &told.answer {

@@ -1,0 +1,9 @@
+pub mod Items
+pub mod Collected
+pub mod Alike
+pub mod Steps
+pub mod Outcomes
+pub mod Requests
+pub mod Heard
+pub mod Turns
+pub mod Logs

@@ -1,0 +1,3 @@
+pub mod SeenLaws
+pub mod InputLaws
+pub mod FindingLaws

@@ -1,0 +1,8 @@
+use Rattle.lapin_check_text.proofs.SeenLaws.{down_found, down_none}
+use Rattle.lapin_check_text.proofs.seen.read_down.Goals as goal
+
+pub returns-in-Some-clause-found : goal.returns-in-Some-clause-found
+returns-in-Some-clause-found c = down_found c.args.line.now c.args.rest.now c.in-Some.frame c.requires (rw c.in-Some.is at c.in_ok-frame.ensures.found)
+
+pub returns-in-None-clause-none : goal.returns-in-None-clause-none
+returns-in-None-clause-none c = down_none c.args.line.now c.args.rest.now c.requires (rw c.in-None.is at c.in_ok-frame.ensures.none)

@@ -1,0 +1,7 @@
+pub mod FlagLaws
+pub mod PartLaws
+pub mod ReadingLaws
+pub mod RisingLaws
+pub mod Turns
+pub mod ValueLaws
+pub mod WritingLaws

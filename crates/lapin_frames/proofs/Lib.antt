@@ -1,0 +1,8 @@
+pub mod BasicLaws
+pub mod FrameLaws
+pub mod HeaderLaws
+pub mod Joined
+pub mod QueueLaws
+pub mod SmallClassLaws
+pub mod UsedLaws
+pub mod WritingLaws

@@ -1,0 +1,3 @@
+pub mod Ending
+pub mod Known
+pub mod Streaming

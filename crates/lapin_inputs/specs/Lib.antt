@@ -1,0 +1,8 @@
+pub mod Format
+pub mod LineLaws
+pub mod Lines
+pub mod Outcome
+pub mod Printing
+pub mod Reading
+pub mod Status
+pub mod Writing

@@ -1,0 +1,11 @@
+pub mod Reading
+pub mod Turning
+pub mod Seated
+pub mod Crossed
+pub mod Pooling
+pub mod Members
+pub mod Stints
+pub mod Workers
+pub mod Team
+pub mod Placing
+pub mod Lawful

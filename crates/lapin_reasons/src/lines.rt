@@ -1,0 +1,70 @@
+//! The first line of an input that is not in the format, by the readers of lines themselves.
+
+use crate::stumble::{event_stumble, first_stumble, step_stumble};
+use crate::walk::Stumble;
+use lapin_joint_text::read_step;
+use lapin_text::{Lines, read_event, read_max};
+use std::alloc::Global;
+
+/// What the lines behind the first are.
+#[derive(Clone, Copy, Debug, PartialEq, Eq)]
+pub(crate) enum Kind {
+    /// Events of a session.
+    Events,
+    /// Steps of a joined run.
+    Steps,
+    /// Lines of which this crate has no table.
+    Others,
+}
+
+/// The first bad line of an input, with its number.
+#[derive(Drop)]
+pub(crate) struct Bad<'a> {
+    pub number: u64,
+    pub line: &'a [u8],
+    /// Where it stumbles, as far as this crate can tell.
+    pub stumble: Option<Stumble<'a>>,
+}
+
+/// The first bad line of an input, if it can be told.
+pub(crate) fn first_bad<'a>(alloc: Global, kind: Kind, input: &'a [u8]) -> Option<Bad<'a>> {
+    let mut lines = Lines::new(input);
+    let line = lines.next().unwrap_or(b"");
+    if read_max(line).is_none() {
+        return Some(Bad {
+            number: 1,
+            line,
+            stumble: first_stumble(alloc, line),
+        });
+    }
+    let mut number = 1;
+    while let Some(line) = lines.next() {
+        number += 1;
+        if is_bad(alloc, kind, line) {
+            let stumble = stumble_at(alloc, kind, line);
+            return Some(Bad {
+                number,
+                line,
+                stumble,
+            });
+        }
+    }
+    None
+}
+
+// Whether a reader says that the line is no event or step.
+fn is_bad(alloc: Global, kind: Kind, line: &[u8]) -> bool {
+    match kind {
+        Kind::Events => matches!(read_event(alloc, line), Ok(None)),
+        Kind::Steps => matches!(read_step(alloc, line), Ok(None)),
+        Kind::Others => false,
+    }
+}
+
+fn stumble_at<'a>(alloc: Global, kind: Kind, line: &'a [u8]) -> Option<Stumble<'a>> {
+    match kind {
+        Kind::Events => event_stumble(alloc, line),
+        Kind::Steps => step_stumble(alloc, line),
+        Kind::Others => None,
+    }
+}

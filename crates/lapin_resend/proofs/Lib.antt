@@ -1,0 +1,10 @@
+pub mod Out
+pub mod Staying
+pub mod Quiet
+pub mod Sharing
+pub mod Meeting
+pub mod Going
+pub mod Keeping
+pub mod StepLaws
+pub mod Sending
+pub mod Running

@@ -1,0 +1,10 @@
+pub mod Messages
+pub mod Publisher
+pub mod Resend
+pub mod Kept
+pub mod Follows
+pub mod Tending
+pub mod Keeping
+pub mod Sending
+pub mod Codes
+pub mod Running

@@ -1,0 +1,6 @@
+use Rattle.std.proofs.lemmas.Slice.Eq.{strip_prefix_is}
+use Rattle.std.proofs.lemmas.Bool.Decides.{Decides-eqb}
+use Rattle.lapin_resend_text.proofs.steps.behind_word.Goals as goal
+
+pub returns : goal.returns
+returns c = strip_prefix_is Decides-eqb c.args.line.now c.args.word.now _ c.strip_prefix.ensures.cases

@@ -1,0 +1,4 @@
+pub mod Input
+pub mod Messages
+pub mod Reports
+pub mod Steps
