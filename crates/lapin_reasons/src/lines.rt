@@ -4,6 +4,7 @@ use crate::stumble::{event_stumble, first_stumble, step_stumble};
 use crate::walk::Stumble;
 use lapin_joint_text::read_step;
 use lapin_text::{Lines, read_event, read_max};
+use lapin_types::NoMemory;
 use std::alloc::Global;
 
 /// What the lines behind the first are.
@@ -37,9 +38,9 @@ pub(crate) fn first_bad<'a>(alloc: Global, kind: Kind, input: &'a [u8]) -> Optio
             stumble: first_stumble(alloc, line),
         });
     }
-    let mut number = 1;
+    let mut number: u64 = 1;
     while let Some(line) = lines.next() {
-        number += 1;
+        number = number.saturating_add(1);
         if is_bad(alloc, kind, line) {
             let stumble = stumble_at(alloc, kind, line);
             return Some(Bad {
@@ -55,10 +56,16 @@ pub(crate) fn first_bad<'a>(alloc: Global, kind: Kind, input: &'a [u8]) -> Optio
 // Whether a reader says that the line is no event or step.
 fn is_bad(alloc: Global, kind: Kind, line: &[u8]) -> bool {
     match kind {
-        Kind::Events => matches!(read_event(alloc, line), Ok(None)),
-        Kind::Steps => matches!(read_step(alloc, line), Ok(None)),
+        Kind::Events => is_none(read_event(alloc, line)),
+        Kind::Steps => is_none(read_step(alloc, line)),
         Kind::Others => false,
     }
+}
+
+fn is_none<T: Drop>(read: Result<Option<T>, NoMemory>) -> bool {
+    let none = matches!(&read, Ok(None));
+    drop(read);
+    none
 }
 
 fn stumble_at<'a>(alloc: Global, kind: Kind, line: &'a [u8]) -> Option<Stumble<'a>> {
