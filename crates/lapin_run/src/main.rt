@@ -37,7 +37,7 @@ fn main(rt: HostRuntime) -> ExitCode {
         Ok(words) => {
             let mut source = StdSource::new(rt.stdin());
             let mut sink = StdSink::new(rt.stdout());
-            let status = match first_word(&words) {
+            match first_word(&words) {
                 "shared" => run_shared(
                     &rt,
                     rt.alloc(),
