@@ -57,10 +57,9 @@ fn main(rt: HostRuntime) -> ExitCode {
                     &mut None,
                 ),
                 _ => run_program(rt.alloc(), &words, &mut source, &mut sink),
-            };
-            status
+            }
         }
-        Err(status) => { status }
+        Err(status) => status,
     };
     ExitCode::from(status.code())
 }
