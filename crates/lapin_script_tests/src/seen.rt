@@ -26,8 +26,12 @@ pub fn seen(session: &Session) -> Seen {
     let mut tickets: u64 = 0;
     let mut confirms: u64 = 0;
     for number in 1..=MOST {
-        tickets = tickets * 2 % (1 << 60) + u64::from(session.ticket_ready(number));
-        confirms = confirms * 2 % (1 << 60) + u64::from(session.confirm_ready(number));
+        tickets = tickets
+            .wrapping_mul(2)
+            .wrapping_add(u64::from(session.ticket_ready(number)));
+        confirms = confirms
+            .wrapping_mul(2)
+            .wrapping_add(u64::from(session.confirm_ready(number)));
     }
     Seen {
         connection: session.connection_state(),

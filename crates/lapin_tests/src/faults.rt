@@ -47,7 +47,8 @@ fn input_of(alloc: Global, length: usize) -> Result<Vec<u8>, AllocError> {
 fn each_failing_read_ends_the_run(rt: HostRuntime) -> Result<(), Fail> {
     let alloc = rt.alloc();
     let words = words_of(alloc, &["session"])?;
-    for call in 1..=36 {
+    for done in 0..36 {
+        let call = done + 1;
         let mut source = MemorySource::new(INPUT.to_vec(alloc)?, 8, vec![in alloc; call]?);
         let mut sink = SureSink::new(alloc);
         let status = run_program(alloc, &words, &mut source, &mut sink);
@@ -67,7 +68,8 @@ fn each_failing_read_ends_the_run(rt: HostRuntime) -> Result<(), Fail> {
 fn each_failing_write_leaves_a_prefix_of_the_text(rt: HostRuntime) -> Result<(), Fail> {
     let alloc = rt.alloc();
     let words = words_of(alloc, &["session"])?;
-    for call in 1..=34 {
+    for done in 0..34 {
+        let call = done + 1;
         let mut source = SureSource::new(INPUT.to_vec(alloc)?);
         let mut sink = MemorySink::new(alloc, 8, vec![in alloc; call]?);
         let status = run_program(alloc, &words, &mut source, &mut sink);
@@ -76,7 +78,7 @@ fn each_failing_write_leaves_a_prefix_of_the_text(rt: HostRuntime) -> Result<(),
         } else {
             Status::Fine
         };
-        let taken = (call - 1) * 8;
+        let taken = done * 8;
         let output = OUTPUT.get(..taken as usize).unwrap_or(OUTPUT);
         assert_eq!(rt; status, wanted, "at call {call}");
         assert_eq!(rt; sink.bytes(), output, "at call {call}");

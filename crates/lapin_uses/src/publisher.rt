@@ -5,7 +5,6 @@ ghost use Rattle.lapin_types.specs.declared.event.Event.TheVariants.{PollConfirm
 ghost use Rattle.lapin_uses.specs.Publishing.{publishing, IsSent, IsAccepted, IsSettled, IsPending};
 
 use crate::outcomes::{Advice, advice_on};
-use lapin_loop::no_name;
 use lapin_session::{Channel, Published, PublisherConfirm, Session};
 use lapin_types::{
     BasicProperties, BasicPublishOptions, Error, NoMemory, Payload, Poll, ShortString,
@@ -110,7 +109,7 @@ impl Publisher {
         ensures ok { IsSent result session.old session.new (publishing self.now.channel.id self.now.queue message.now) }
         ensures err { OnErr result (session.new ≡ session.old) }
     {
-        let exchange = no_name(alloc)?;
+        let exchange = default_exchange(alloc)?;
         let queue = self.queue.try_clone(alloc)?;
         let id = message.id.try_clone(alloc)?;
         let options = BasicPublishOptions {
@@ -143,5 +142,15 @@ impl Publisher {
         drop(outcome);
         let Waiting { message, .. } = self.waiting.pop_front()?;
         Some(Settled { message, advice })
+    }
+}
+
+// The name of the default exchange, which routes by the queue's name (AMQP 0-9-1, section 3.1.3.1).
+fn default_exchange(alloc: Global) -> Result<ShortString, NoMemory>
+    ensures { IfOk result (λ name. name ≡ []) }
+{
+    match ShortString::new(alloc, "") {
+        Ok(name) => Ok(name),
+        Err(_) => Err(NoMemory),
     }
 }

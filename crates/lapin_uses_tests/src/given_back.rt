@@ -1,8 +1,8 @@
 //! A frame that a writer could not write and gives back, by what leaves next.
 
-use lapin_loop::give_back;
 use lapin_session::Session;
 use lapin_types::{ChannelMethod, ConnectionState, Error, Frame, Left, Method, Poll, ShortString};
+use lapin_uses::give_back;
 use std::alloc::Global;
 use std::test::Fail;
 
