@@ -58,10 +58,10 @@ bad_read P input rest old sink g k empty h =
     (h.says.0, here.0, here.1)
 
 pub told_bad_line : (d : Command) (input rest old sink : List ℕ) (g k : ℕ) → old ≡ [] → HasRun d (Some input) (Some rest) g k (WroteToBadLine (Some old) (Some sink)) → PrintsToBadLine d input sink
-told_bad_line command.Session input rest old sink g k empty h = bad_read PrintsSession input rest old sink g k empty h
-told_bad_line command.Joined input rest old sink g k empty h = bad_read PrintsJoined input rest old sink g k empty h
-told_bad_line command.Check input rest old sink g k empty h = bad_read PrintsCheck input rest old sink g k empty h
-told_bad_line command.Resend input rest old sink g k empty h = bad_read PrintsResend input rest old sink g k empty h
-told_bad_line (command.Call queue) input rest old sink g k empty h = bad_read (PrintsCalls queue) input rest old sink g k empty h
+told_bad_line command.Session input rest old sink g k empty h = let b = bad_read PrintsSession input rest old sink g k empty h in (b.0, (b.1, b.2))
+told_bad_line command.Joined input rest old sink g k empty h = let b = bad_read PrintsJoined input rest old sink g k empty h in (b.0, (b.1, b.2))
+told_bad_line command.Check input rest old sink g k empty h = let b = bad_read PrintsCheck input rest old sink g k empty h in (b.0, (b.1, b.2))
+told_bad_line command.Resend input rest old sink g k empty h = let b = bad_read PrintsResend input rest old sink g k empty h in (b.0, (b.1, b.2))
+told_bad_line (command.Call queue) input rest old sink g k empty h = let b = bad_read (PrintsCalls queue) input rest old sink g k empty h in (b.0, (b.1, b.2))
 told_bad_line (command.Generate n) input rest old sink g k empty h =
     (h.0, subst (λ (t : List ℕ). PrintsGenerated n (Some h.0) t) (sym (h.3 ∙ ap (λ (o : List ℕ). o ++ h.1) empty)) h.2)

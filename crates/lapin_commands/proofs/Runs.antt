@@ -15,7 +15,7 @@ use Rattle.lapin_text.proofs.Printed.{line_onto_is}
 use Rattle.lapin_text.proofs.LineLaws.{line_found, refused}
 use Rattle.lapin_lines.specs.Lines.{IsTaken}
 use Rattle.lapin_joint.specs.declared.step.Step.{Step}
-use Rattle.lapin_joint.specs.Joint.{Joint, new_joint, after, report, reports, joined}
+use Rattle.lapin_joint.specs.Joint.{new_joint, after, report, reports}
 use Rattle.lapin_machine.specs.Way.{by_machine}
 use Rattle.lapin_joint.specs.Kept.{Kept}
 use Rattle.lapin_joint.proofs.Alike.{reports_joined}

@@ -1,6 +1,6 @@
 -- Whatever a line is, it is the line of a step of a publisher that sends again or none's: so every input prints something.
-use Rattle.std.proofs.Common.{◌≡◌, ◌≢◌, ◌⊎◌, inl, inr, ℕ, ◌+◌, ◌<◌, ◌^◌, List, [], ◌∷◌, ◌++◌, true, Option, Some, None, refl, ap, ◌∙◌, lt-ltb, ltb-true}
-use Rattle.std.specs.Prelude.{codes, ◌&&◌, nat_lt}
+use Rattle.std.proofs.Common.{◌≡◌, ◌≢◌, ◌⊎◌, inl, inr, ℕ, ◌<◌, ◌^◌, List, ◌++◌, true, Option, Some, None, refl, ap, ◌∙◌, lt-ltb, ltb-true}
+use Rattle.std.specs.Prelude.{codes, nat_lt}
 use Rattle.lapin_types.specs.Types.{Frame}
 use Rattle.lapin_tokens.specs.Fields.{fits, wide_number}
 use Rattle.lapin_tokens.specs.Reading.{value_of}

@@ -1,13 +1,10 @@
 -- Inputs whose lines are all in the format of a command.
 use Rattle.std.specs.Prelude.{ℕ, List, Option, Some, None}
 use Rattle.lapin_text.specs.Input.{lines_of}
-use Rattle.lapin_joint.specs.declared.step.Step.{Step}
 use Rattle.lapin_joint_text.specs.Steps as joint_text
 use Rattle.lapin_check.specs.declared.seen.Seen.{Seen}
 use Rattle.lapin_check_text.specs.Input as check_text
-use Rattle.lapin_resend.specs.declared.step.ResendStep.{ResendStep}
 use Rattle.lapin_resend_text.specs.Steps as resend_text
-use Rattle.lapin_call.specs.declared.step.CallStep.{CallStep}
 use Rattle.lapin_call_text.specs.Steps as call_text
 use Rattle.lapin_inputs.specs.Format.{Tells, SaysEvents}
 use Rattle.lapin_inputs.specs.Lines.{AreParsed}

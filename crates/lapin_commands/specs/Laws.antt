@@ -1,5 +1,5 @@
 -- The laws of the commands that go line by line, which they owe as runs.
-use Rattle.std.specs.Prelude.{◌≡◌, ℕ, List, [], ◌∷◌, Option, Some, None, refl}
+use Rattle.std.specs.Prelude.{ℕ, List, [], ◌∷◌, Some, None, refl}
 use Rattle.lapin_machine.specs.World.{World}
 use Rattle.lapin_text.specs.Input.{lines_of, AreParsed}
 use Rattle.lapin_joint.specs.Kept.{Kept}

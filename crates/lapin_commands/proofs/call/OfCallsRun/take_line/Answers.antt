@@ -1,4 +1,4 @@
-use Rattle.std.proofs.Common.{◌≡◌, List, [], ◌∷◌, ℕ, Some, sym, subst}
+use Rattle.std.proofs.Common.{[], ◌∷◌, Some, sym, subst}
 use Rattle.lapin_call.specs.Kept.{Kept}
 use Rattle.lapin_commands.specs.Call.{CallsGoOn}
 use Rattle.lapin_commands.proofs.CallRuns.{calls_add_from, calls_stop}

@@ -1,4 +1,4 @@
-use Rattle.std.proofs.Common.{◌≡◌, List, [], ◌∷◌, ℕ, Some, sym, subst}
+use Rattle.std.proofs.Common.{[], ◌∷◌, Some, sym, subst}
 use Rattle.lapin_joint.specs.Kept.{Kept}
 use Rattle.lapin_commands.specs.Joined.{JoinedGoesOn}
 use Rattle.lapin_commands.proofs.Runs.{joined_adds_from, joined_stops}
