@@ -4,7 +4,7 @@ use Rattle.std.specs.Str.{bytes_eq}
 use Rattle.std.proofs.lemmas.Slice.Eq.{bytes_eq-Decides}
 use Rattle.std.proofs.lemmas.List.{take-append-drop}
 use Rattle.std.proofs.Math.Seq.{take-append_seam}
-use Rattle.lapin_inputs.specs.Lines.{NoStep, AreSteps, AreParsed}
+use Rattle.lapin_inputs.specs.Lines.{IsStep, NoStep, AreSteps, AreParsed}
 use Rattle.lapin_inputs.specs.Printing.{NoFirst}
 
 -- ---- one reading
@@ -32,7 +32,7 @@ parsed_or_not line_of HasLine (l ∷ ls) (Some m) (Some o) ss ts k all bad = ste
 
 -- the line is the line of some step, or it is none's
 abbrev pub Step? : {E : Type 0} → (E → List ℕ) → (E → Type 0) → List ℕ → Type 0
-Step? {E} line_of HasLine line = ((s : E) × (line ≡ line_of s) × HasLine s) ⊎ NoStep line_of HasLine line
+Step? {E} line_of HasLine line = ((s : E) × IsStep line_of HasLine line s) ⊎ NoStep line_of HasLine line
 
 -- lines, whatever they are, say some steps up to a first bad line, if they have one, where each line is the line of a step or none's
 pub some_steps : {E : Type 0} (line_of : E → List ℕ) (HasLine : E → Type 0) → ((line : List ℕ) → Step? line_of HasLine line) → (n : ℕ) (lines : List (List ℕ)) → (steps : List E) × (bad : Option ℕ) × AreSteps line_of HasLine n lines steps bad
@@ -40,7 +40,7 @@ some_steps line_of HasLine step_of n [] = ([], None, refl)
 some_steps {E} line_of HasLine step_of n (line ∷ lines) = with_line (step_of line) (some_steps line_of HasLine step_of (n + 1) lines)
   where
     with_line : Step? line_of HasLine line → ((steps : List E) × (bad : Option ℕ) × AreSteps line_of HasLine (n + 1) lines steps bad) → (steps : List E) × (bad : Option ℕ) × AreSteps line_of HasLine n (line ∷ lines) steps bad
-    with_line (inl found) rest = (found.0 ∷ rest.0, rest.1, (found.2, found.1, rest.2))
+    with_line (inl found) rest = (found.0 ∷ rest.0, rest.1, (found.1.1, found.1.0, rest.2))
     with_line (inr none) rest = ([], Some n, (refl, none))
 
 -- where the first line is missing, or says no frame size, the lines say no step, and line 1 is the bad one

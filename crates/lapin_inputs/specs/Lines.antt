@@ -3,6 +3,10 @@
 use Rattle.std.specs.Prelude.{◌≡◌, ℕ, ◌+◌, List, [], ◌∷◌, Option, Some, None, MatchOption}
 use Rattle.lapin_text.specs.Input.{max_line, IsMax, NoMax}
 
+-- the line is that of this step, which has one
+abbrev pub IsStep : {E : Type 0} → (E → List ℕ) → (E → Type 0) → List ℕ → E → Type 0
+IsStep line_of HasLine line s = (line ≡ line_of s) × HasLine s
+
 -- the line isn't the line of a step that has one
 abbrev pub NoStep : {E : Type 0} → (E → List ℕ) → (E → Type 0) → List ℕ → Type 0
 NoStep {E} line_of HasLine line = (s : E) → HasLine s → line ≡ line_of s → ⊥
