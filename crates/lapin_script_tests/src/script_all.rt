@@ -1,7 +1,7 @@
 //! The driver: each event of the script is a step; where it finds no memory, nothing that is seen has changed, and it is made again.
 
 use crate::script::SCRIPT;
-use crate::seen::seen;
+use crate::seen::seen_in;
 use lapin_session::Session;
 use lapin_text::{read_event, write_record};
 use lapin_types::{Error, Event, NoMemory, Record};
@@ -23,7 +23,7 @@ enum Tried {
 }
 
 // Makes the event of a line, and compares its record.
-fn tried(alloc: Global, session: &mut Session, event: &str, record: &str) -> Tried {
+fn try_event(alloc: Global, session: &mut Session, event: &str, record: &str) -> Tried {
     match read_event(alloc, event.as_bytes()) {
         Ok(Some(event)) => stepped(alloc, session, event, record),
         Ok(None) => Tried::Wrong,
@@ -63,13 +63,16 @@ fn shows(rt: &(impl Abort + AllocGlobal), session: &mut Session, line: &str) {
     let Some((event, record)) = line.split_once(" -> ") else {
         return;
     };
-    let before = seen(session);
-    match tried(rt.alloc(), session, event, record) {
+    let before = seen_in(session);
+    match try_event(rt.alloc(), session, event, record) {
         Tried::Right | Tried::Unread => {}
         Tried::Wrong => assert!(rt; false, "at {line}"),
         Tried::NoMemory => {
-            assert!(rt; seen(session) == before, "changed without memory at {line}");
-            let again = tried(rt.alloc(), session, event, record);
+            assert!(rt;
+                seen_in(session) == before,
+                "changed without memory at {line}"
+            );
+            let again = try_event(rt.alloc(), session, event, record);
             assert!(rt;
                 matches!(again, Tried::Right | Tried::Unread),
                 "after no memory at {line}"

@@ -22,7 +22,7 @@ pub struct Seen {
 }
 
 /// What is seen now.
-pub fn seen(session: &Session) -> Seen {
+pub fn seen_in(session: &Session) -> Seen {
     let mut tickets: u64 = 0;
     let mut confirms: u64 = 0;
     for number in 1..=MOST {
