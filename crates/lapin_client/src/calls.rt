@@ -1,0 +1,227 @@
+//! The calls of which a caller makes many, without a line: a publish and its outcome, a consumer's next message and its fate.
+ghost use Rattle.lapin_client.specs.Clients.{IsSound};
+
+use crate::client::Client;
+use crate::status::Status;
+use lapin_history::Outcome;
+use lapin_tokens::{ReadError, properties_of, put_properties};
+use lapin_types::{
+    AckerCall, BasicAckOptions, BasicNackOptions, BasicPublishOptions, BasicRejectOptions, Delivery, Error, Payload, Poll,
+    ShortString, ShortStringError,
+};
+use std::alloc::Global;
+
+/// What a consumer was handed: its numbers, and how many bytes of the answer are the exchange, the routing key, the text of the properties
+/// and, behind them, the body.
+#[derive(Clone, Copy, Debug, PartialEq, Eq)]
+#[repr(C)]
+pub struct Message {
+    pub delivery_tag: u64,
+    pub acker: u64,
+    pub exchange: usize,
+    pub routing_key: usize,
+    pub properties: usize,
+    pub body: usize,
+    pub redelivered: bool,
+}
+
+/// The fate of a message.
+#[derive(Clone, Copy, Debug, PartialEq, Eq)]
+pub enum Fate {
+    Ack,
+    Nack,
+    Reject,
+}
+
+// A short text of bytes.
+fn short(alloc: Global, bytes: &[u8]) -> Result<ShortString, Status> {
+    let Ok(text) = std::str::from_utf8(bytes) else {
+        return Err(Status::NotInGrammar);
+    };
+    match ShortString::new(alloc, text) {
+        Ok(text) => Ok(text),
+        Err(ShortStringError::TooLong { length: _ }) => Err(Status::NotInGrammar),
+        Err(ShortStringError::NoMemory) => Err(Status::NoMemory),
+    }
+}
+
+impl Client {
+    /// Publishes. The properties stand in the text of lines, as `[delivery_mode=2]`. The number of the confirm.
+    ///
+    /// # Errors
+    /// `TooLong` where the properties could be longer than a frame, `NotInGrammar` where the exchange or the routing key is no short text or
+    /// the properties aren't in the grammar, `Refused` with the line of the refusal as the answer, `Ended`, `NoMemory`. Nothing was published.
+    pub fn publish(
+        &mut self,
+        alloc: Global,
+        channel: u16,
+        exchange: &[u8],
+        routing_key: &[u8],
+        mandatory: bool,
+        payload: &[u8],
+        properties: &[u8],
+    ) -> Result<u64, Status> {
+        if self.left < 2 {
+            return Err(Status::Ended);
+        }
+        if properties.len() > (self.frame_max as usize - 64) / 3 {
+            return Err(Status::TooLong);
+        }
+        let exchange = short(alloc, exchange)?;
+        let routing_key = short(alloc, routing_key)?;
+        let properties = match properties_of(alloc, properties) {
+            Ok(properties) => properties,
+            Err(ReadError::Bad) => return Err(Status::NotInGrammar),
+            Err(ReadError::Memory) => return Err(Status::NoMemory),
+        };
+        let Ok(payload) = Payload::new(alloc, payload) else {
+            return Err(Status::NoMemory);
+        };
+        let options = BasicPublishOptions {
+            mandatory,
+            immediate: false,
+        };
+        match self.session.basic_publish(
+            alloc,
+            channel,
+            exchange,
+            routing_key,
+            options,
+            payload,
+            properties,
+        ) {
+            Ok(published) => {
+                self.left -= 2;
+                let _aside = self.session.set_aside_ticket(published.ticket.number);
+                Ok(published.confirm.number)
+            }
+            Err(error) => Err(self.refuse(alloc, error)),
+        }
+    }
+
+    /// The outcome of a publish that didn't come back: 1 an ack, 2 a nack, 3 none was asked for, 4 an error, whose line is the answer;
+    /// 0 where there is none yet, or where the line of the poll tells more.
+    pub fn outcome(&mut self, alloc: Global, confirm: u64) -> u32 {
+        if self.left == 0 {
+            return 0;
+        }
+        match self.session.poll_bare_confirm(confirm) {
+            Some(Outcome::Ack) => self.told(1),
+            Some(Outcome::Nack) => self.told(2),
+            Some(Outcome::NotRequested) => self.told(3),
+            Some(Outcome::Failed(error)) => {
+                let _ = self.refuse(alloc, error);
+                self.told(4)
+            }
+            None => 0,
+        }
+    }
+
+    // An outcome was given.
+    fn told(&mut self, outcome: u32) -> u32 {
+        self.left -= 1;
+        outcome
+    }
+
+    /// What a consumer was handed next. Its exchange, its routing key, the text of its properties and its body are the answer, one behind
+    /// the other.
+    ///
+    /// # Errors
+    /// `Pending` where there is nothing yet, `Gone` at the end of the consumer, `Refused` with its line as the answer where an error ended
+    /// its channel or there is no such consumer; `NoMemory`, where the message is lost, and `Ended`.
+    pub fn delivery(&mut self, alloc: Global, consumer: u64) -> Result<Message, Status> {
+        if self.left == 0 {
+            return Err(Status::Ended);
+        }
+        self.left -= 1;
+        self.answer.clear();
+        match self.session.poll_next(consumer) {
+            Ok(Poll::Pending) => Err(Status::Pending),
+            Ok(Poll::Ready(Ok(None))) => Err(Status::Gone),
+            Ok(Poll::Ready(Ok(Some(delivery)))) => self.show(alloc, delivery),
+            Ok(Poll::Ready(Err(error))) => Err(self.refuse(alloc, error)),
+            Err(error) => Err(self.refuse(alloc, error)),
+        }
+    }
+
+    // A message is the answer.
+    fn show(&mut self, alloc: Global, delivery: Delivery) -> Result<Message, Status> {
+        let shown = self.put_delivery(alloc, &delivery);
+        drop(delivery);
+        match shown {
+            Some(message) => Ok(message),
+            None => {
+                self.left = 0;
+                Err(Status::NoMemory)
+            }
+        }
+    }
+
+    fn put_delivery(&mut self, alloc: Global, delivery: &Delivery) -> Option<Message> {
+        let exchange = delivery.exchange.as_str().as_bytes();
+        let routing_key = delivery.routing_key.as_str().as_bytes();
+        let body = delivery.payload.as_bytes();
+        if self.answer.extend_from_slice(exchange).is_err() {
+            return None;
+        }
+        if self.answer.extend_from_slice(routing_key).is_err() {
+            return None;
+        }
+        let before = self.answer.len();
+        if put_properties(alloc, &mut self.answer, &delivery.properties).is_err() {
+            return None;
+        }
+        let properties = self.answer.len() - before;
+        if self.answer.extend_from_slice(body).is_err() {
+            return None;
+        }
+        Some(Message {
+            delivery_tag: delivery.delivery_tag,
+            acker: delivery.acker.number,
+            exchange: exchange.len(),
+            routing_key: routing_key.len(),
+            properties,
+            body: body.len(),
+            redelivered: delivery.redelivered,
+        })
+    }
+
+    /// Settles a message by its acker. Done: the call is queued, and the acker used up. `Gone`: the acker isn't usable, and nothing is sent.
+    pub fn settle(&mut self, alloc: Global, acker: u64, fate: Fate, multiple: bool, requeue: bool) -> Status {
+        if self.left < 2 {
+            return Status::Ended;
+        }
+        let call = match fate {
+            Fate::Ack => AckerCall::Ack(BasicAckOptions { multiple }),
+            Fate::Nack => AckerCall::Nack(BasicNackOptions { multiple, requeue }),
+            Fate::Reject => AckerCall::Reject(BasicRejectOptions { requeue }),
+        };
+        match self.session.acker_call(alloc, acker, call) {
+            Ok(Some(ticket)) => {
+                self.left -= 2;
+                let _aside = self.session.set_aside_ticket(ticket.number);
+                Status::Done
+            }
+            Ok(None) => Status::Gone,
+            Err(error) => {
+                self.left -= 1;
+                self.refuse(alloc, error)
+            }
+        }
+    }
+
+    /// The confirm will not be asked for any more.
+    pub fn forget(&mut self, alloc: Global, confirm: u64) -> Status {
+        if self.left == 0 {
+            return Status::Ended;
+        }
+        match self.session.set_aside(alloc, confirm) {
+            Ok(()) => {
+                self.left -= 1;
+                Status::Done
+            }
+            Err(Error::NoMemory) => Status::NoMemory,
+            Err(_) => Status::Gone,
+        }
+    }
+}

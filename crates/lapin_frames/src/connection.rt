@@ -1,0 +1,44 @@
+//! The layout of the methods of the class connection (AMQP 0-9-1, class 10).
+
+ghost use Rattle.std.specs.Prelude.{◌≡◌, ◌++◌, OnOk};
+ghost use Rattle.lapin_frames.specs.Methods.{connection_bytes};
+ghost use Rattle.lapin_frames.specs.MethodReading.{connection_at};
+ghost use Rattle.lapin_frames.specs.Reading.{Gives};
+
+use crate::fault::{ReadFault, WriteFault};
+use crate::fields::{put_text, take_text};
+use crate::octets::{Octets, put_short};
+use crate::rows::{put_field, put_flags, put_row, take_field, take_flags, take_row};
+use lapin_methods::ConnectionMethod;
+use std::alloc::Global;
+
+macro_rules! connection_table {
+    ($row:ident, $($given:tt),*) => {
+        $row!($($given),*; ConnectionMethod;
+            Close 50 [] { reply_code: short, reply_text: text, class_id: short, method_id: short } [] {},
+            CloseOk 51 [] {} [] {},
+        )
+    };
+}
+
+/// Adds the method's number and its fields.
+pub(crate) fn put_connection(
+    _alloc: Global,
+    out: &mut Vec<u8>,
+    method: &ConnectionMethod,
+) -> Result<(), WriteFault>
+    ensures { OnOk result (out.new.items ≡ out.old.items ++ connection_bytes method.now) }
+{
+    connection_table!(put_row, method, _alloc, out)
+}
+
+/// The method of that number, whose fields stand next.
+pub(crate) fn take_connection(
+    _alloc: Global,
+    number: u16,
+    octets: &mut Octets,
+) -> Result<ConnectionMethod, ReadFault>
+    ensures { Gives result octets.new (connection_at number octets.old) }
+{
+    connection_table!(take_row, number, _alloc, octets)
+}
