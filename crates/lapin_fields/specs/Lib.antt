@@ -1,0 +1,6 @@
+pub mod Around
+pub mod Fields
+pub mod Fits
+pub mod Reading
+pub mod ValueReading
+pub mod Values

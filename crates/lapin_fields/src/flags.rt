@@ -1,0 +1,59 @@
+//! Flags, packed into an octet from its lowest bit (AMQP 0-9-1, section 4.2.5.2).
+
+ghost use Rattle.std.specs.Prelude.{◌≡◌, ◌≤◌, ◌∷◌, []};
+ghost use Rattle.lapin_fields.specs.Reading.{bit_at};
+ghost use Rattle.lapin_fields.specs.Fields.{bit as bit_of, bits};
+
+/// A flag as a number.
+pub fn bit(flag: bool) -> u8
+    ensures value { result ≡ bit_of flag }
+    ensures small { result ≤ 1 }
+{
+    if flag { 1 } else { 0 }
+}
+
+/// Flags in one octet, the first in the lowest bit.
+pub fn packed(flags: [bool; 5]) -> u8
+    ensures { result ≡ bits flags }
+{
+    let [a, b, c, d, e] = flags;
+    bit(a) + 2 * (bit(b) + 2 * (bit(c) + 2 * (bit(d) + 2 * bit(e))))
+}
+
+/// Flags in one whole octet, the first in the lowest bit.
+pub fn packed_whole(flags: [bool; 8]) -> u8
+    ensures { result ≡ bits flags }
+{
+    let [a, b, c, d, e, f, g, h] = flags;
+    let high = bit(e) + 2 * (bit(f) + 2 * (bit(g) + 2 * bit(h)));
+    bit(a) + 2 * (bit(b) + 2 * (bit(c) + 2 * (bit(d) + 2 * high)))
+}
+
+/// The flags that stand in one octet.
+pub fn unpacked(byte: u8) -> [bool; 5]
+    ensures { result ≡ bit_at 1 byte ∷ bit_at 2 byte ∷ bit_at 4 byte ∷ bit_at 8 byte ∷ bit_at 16 byte ∷ [] }
+{
+    [
+        byte % 2 == 1,
+        byte / 2 % 2 == 1,
+        byte / 4 % 2 == 1,
+        byte / 8 % 2 == 1,
+        byte / 16 % 2 == 1,
+    ]
+}
+
+/// The flags that stand in one whole octet.
+pub fn unpacked_whole(byte: u8) -> [bool; 8]
+    ensures { result ≡ bit_at 1 byte ∷ bit_at 2 byte ∷ bit_at 4 byte ∷ bit_at 8 byte ∷ bit_at 16 byte ∷ bit_at 32 byte ∷ bit_at 64 byte ∷ bit_at 128 byte ∷ [] }
+{
+    [
+        byte % 2 == 1,
+        byte / 2 % 2 == 1,
+        byte / 4 % 2 == 1,
+        byte / 8 % 2 == 1,
+        byte / 16 % 2 == 1,
+        byte / 32 % 2 == 1,
+        byte / 64 % 2 == 1,
+        byte / 128 % 2 == 1,
+    ]
+}

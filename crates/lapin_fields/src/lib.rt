@@ -1,0 +1,22 @@
+//! The fields that the frames of AMQP 0-9-1 are made of, as bytes and back (section 4.2): numbers, short texts and long strings, flags,
+//! field values, arrays and tables, and what stands around the payload of a frame.
+//!
+//! Here stand layouts alone. Which fields a method or a content header has stands in the crate above.
+#![tactic(auto)]
+
+pub mod around;
+pub mod fault;
+pub mod flags;
+pub mod leaves;
+pub mod octets;
+pub mod texts;
+pub mod value_reading;
+pub mod value_writing;
+
+pub use around::{Around, put_around, take_around, wanted};
+pub use fault::{ReadFault, WriteFault};
+pub use flags::{bit, packed, packed_whole, unpacked, unpacked_whole};
+pub use octets::{Octets, put_counted, put_long, put_octet, put_short, put_wide};
+pub use texts::{put_text, short_text, skip_text, take_string, take_text};
+pub use value_reading::{LEVELS, table_of, take_table};
+pub use value_writing::put_table;
