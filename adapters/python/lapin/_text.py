@@ -9,6 +9,10 @@ def text(value):
     return "x" + (value.encode() if isinstance(value, str) else bytes(value)).hex()
 
 
+# The standard's name of the property `kind` is a word of Python.
+ALIASES = {"type": "kind"}
+
+
 def flag(value):
     return "1" if value else "0"
 
@@ -39,6 +43,7 @@ def table(values):
 def properties(given):
     if not given:
         return b"[]"
+    given = {ALIASES.get(name, name): value for name, value in given.items()}
     unknown = set(given) - set(PROPERTIES)
     if unknown:
         raise TypeError(f"no property {sorted(unknown)[0]}")
@@ -53,6 +58,10 @@ def properties(given):
 
 def read_bytes(token):
     return bytes.fromhex(token[1:])
+
+
+def read_text(token):
+    return read_bytes(token).decode()
 
 
 class _Cursor:
@@ -115,6 +124,8 @@ class _Cursor:
 
 
 def read_properties(token):
+    """Properties by their names, of `[delivery_mode=2,..]`."""
+    token = token.decode() if isinstance(token, bytes) else token
     if token == "[]":
         return {}
     cursor = _Cursor(token)

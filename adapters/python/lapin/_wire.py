@@ -1,113 +1,151 @@
-"""The socket and the handshake (AMQP 0-9-1, section 2.2.4): protocol header, start, tune, open, and heartbeats behind it."""
+"""The socket: bytes out and in, the opening of a connection, and heartbeats. What is said and when stands in the library."""
+from __future__ import annotations
+
 import select
 import socket
-import struct
+import ssl
 import time
+from typing import Optional
 
+from ._library import DONE, PENDING, REFUSED, Clock, Opening
+from .errors import ConnectionLost, OpeningFailed
+
+HEADER = b"AMQP\x00\x00\x09\x01"
 HEARTBEAT = b"\x08\x00\x00\x00\x00\x00\x00\xce"
-CAPABILITIES = ("authentication_failure_close", "basic.nack", "consumer_cancel_notify", "exchange_exchange_bindings", "publisher_confirms")
+CAUSES = {540: "another version of the protocol", 403: "PLAIN isn't one of its mechanisms", 530: "its frames are too small",
+          503: "an unexpected method", 501: "what came is no frame"}
 
 
-class HandshakeFailed(Exception):
-    """The broker didn't let the connection be opened."""
+def now() -> int:
+    """Milliseconds of a clock that only goes on."""
+    return time.monotonic_ns() // 1_000_000
 
 
-class Gone(Exception):
-    """The broker closed the TCP connection, or was silent for too long."""
+class Greeter:
+    """An opening that is fed: `outgoing` is to be sent, and what came behind the opening stays in `data`."""
 
+    def __init__(self, target):
+        self.opening = Opening(target.user.encode(), target.password.encode(), target.vhost.encode(), target.frame_max, target.channel_max,
+                               target.heartbeat)
+        self.outgoing, self.data = HEADER, b""
 
-def _short(data):
-    return bytes([len(data)]) + data
+    def feed(self, data: bytes) -> bool:
+        """Takes bytes of the broker. Whether the connection is open."""
+        self.data += data
+        if self.data[:4] == b"AMQP":
+            raise OpeningFailed("the broker speaks another version")
+        while self.data and not self.opening.is_open:
+            status, reply, code = self.opening.shake(self.data)
+            self.outgoing += reply
+            if status == PENDING:
+                return False
+            if status == REFUSED:
+                text = f": {self.data[12:12 + self.data[11]].decode(errors='replace')}" if self.data[7:11] == b"\x00\x0a\x00\x32" else ""
+                raise OpeningFailed(f"refused {code}{text or ': ' + CAUSES.get(code, 'closed')}")
+            if status != DONE:
+                raise OpeningFailed("the user, the password or the virtual host is too long")
+            self.data = self.data[int.from_bytes(self.data[3:7], "big") + 8:]
+        return self.opening.is_open
 
-
-def _long(data):
-    return struct.pack(">I", len(data)) + data
-
-
-def _method(klass, number, fields):
-    payload = struct.pack(">HH", klass, number) + fields
-    return struct.pack(">BHI", 1, 0, len(payload)) + payload + b"\xce"
+    def gone(self) -> OpeningFailed:
+        words = ("nothing answered", "a wrong user or password", "a wrong virtual host")[min(self.opening.stage, 2)]
+        return OpeningFailed(f"the broker hung up: {words}")
 
 
 class Wire:
-    def __init__(self, host, port, user, password, vhost, frame_max, channel_max, heartbeat, timeout=10):
-        try:
-            self.socket = socket.create_connection((host, port), timeout)
-        except OSError as error:
-            raise Gone(str(error)) from error
-        self.socket.setsockopt(socket.IPPROTO_TCP, socket.TCP_NODELAY, 1)
-        self._data = b""
-        self.socket.sendall(b"AMQP\x00\x00\x09\x01")
-        self._expect(10, 10)
-        table = b"".join(_short(name.encode()) + b"t\x01" for name in CAPABILITIES)
-        client = _short(b"capabilities") + b"F" + _long(table) + _short(b"product") + b"S" + _long(b"lapin channels")
-        response = b"\0" + user.encode() + b"\0" + password.encode()
-        self.socket.sendall(_method(10, 11, _long(client) + _short(b"PLAIN") + _long(response) + _short(b"en_US")))
-        channels, frame, beat = struct.unpack(">HIH", self._expect(10, 30)[:8])
-        self.channel_max = min(channel_max, channels) if channels else channel_max
-        self.frame_max = min(frame_max, frame) if frame else frame_max
-        self.heartbeat = min(heartbeat, beat) if beat and heartbeat else 0
-        self.socket.sendall(_method(10, 31, struct.pack(">HIH", self.channel_max, self.frame_max, self.heartbeat)))
-        self.socket.sendall(_method(10, 40, _short(vhost.encode()) + b"\x00\x00"))
-        self._expect(10, 41)
-        self.socket.settimeout(60)
-        self.sent = self.heard = time.monotonic()
+    """A socket of a connection that is open."""
 
-    def _expect(self, klass, number):
-        while len(self._data) < 7 or len(self._data) < struct.unpack(">I", self._data[3:7])[0] + 8:
+    def __init__(self, target, timeout: float):
+        deadline = time.monotonic() + timeout
+        try:
+            self.socket = socket.create_connection((target.host, target.port), timeout)
+            if target.tls:
+                self.socket = (ssl.create_default_context() if target.tls is True else target.tls).wrap_socket(self.socket, server_hostname=target.host)
+        except OSError as error:
+            raise OpeningFailed(f"no connection: {error}") from error
+        try:
+            self.socket.setsockopt(socket.IPPROTO_TCP, socket.TCP_NODELAY, 1)
+            self._open(Greeter(target), deadline)
+        except BaseException:
+            self.socket.close()
+            raise
+
+    def _open(self, greeter: Greeter, deadline: float) -> None:
+        is_open = False
+        while not is_open:
             try:
+                self.socket.sendall(greeter.outgoing)
+                greeter.outgoing = b""
+                self.socket.settimeout(max(0.01, deadline - time.monotonic()))
                 data = self.socket.recv(65536)
             except OSError as error:
-                raise HandshakeFailed(str(error)) from error
+                raise OpeningFailed(f"the opening broke off: {error}") from error
             if not data:
-                raise HandshakeFailed("the broker hung up: wrong user, password or virtual host")
-            self._data += data
-        if self._data[:4] == b"AMQP":
-            raise HandshakeFailed("the broker speaks another version")
-        size = struct.unpack(">I", self._data[3:7])[0]
-        payload, self._data = self._data[7:7 + size], self._data[size + 8:]
-        found = struct.unpack(">HH", payload[:4])
-        if found == (10, 50):
-            raise HandshakeFailed(payload[7:7 + payload[6]].decode())
-        if found != (klass, number):
-            raise HandshakeFailed(f"method {found} where {(klass, number)} is right")
-        return payload[4:]
+                raise greeter.gone()
+            try:
+                is_open = greeter.feed(data)
+            finally:
+                if greeter.outgoing and not is_open:
+                    try:
+                        self.socket.sendall(greeter.outgoing)
+                        greeter.outgoing = b""
+                    except OSError:
+                        pass
+        self.frame_max, self.channel_max, heartbeat = greeter.opening.limits
+        self._clock, self._came = Clock(now(), heartbeat), greeter.data
+        self.socket.setblocking(False)
 
-    def send(self, data):
-        try:
-            self.socket.sendall(data)
-        except OSError as error:
-            raise Gone(str(error)) from error
-        self.sent = time.monotonic()
-
-    def read(self, timeout):
-        """What came within the time; b'' where nothing did. Heartbeats go out meanwhile."""
-        if self._data:
-            data, self._data = self._data, b""
-            return data
-        deadline = None if timeout is None else time.monotonic() + timeout
-        while True:
-            wait = None if deadline is None else max(0, deadline - time.monotonic())
-            if self.heartbeat:
-                beat = max(0, self.sent + self.heartbeat / 2 - time.monotonic())
-                wait = beat if wait is None else min(wait, beat)
-            if select.select([self.socket], [], [], wait)[0]:
-                break
-            now = time.monotonic()
-            if self.heartbeat and now - self.sent >= self.heartbeat / 2:
-                self.send(HEARTBEAT)
-            if self.heartbeat and now - self.heard > 2 * self.heartbeat:
-                raise Gone("the broker was silent for two heartbeats")
-            if deadline is not None and now >= deadline:
-                return b""
+    def _recv(self) -> bytes:
         try:
             data = self.socket.recv(1 << 18)
+        except (BlockingIOError, ssl.SSLWantReadError, ssl.SSLWantWriteError):
+            return b""
         except OSError as error:
-            raise Gone(str(error)) from error
+            raise ConnectionLost(str(error)) from error
         if not data:
-            raise Gone("the broker hung up")
-        self.heard = time.monotonic()
+            raise ConnectionLost("the broker hung up")
+        self._clock.heard(now())
         return data
 
-    def close(self):
+    def send(self, data: bytes) -> None:
+        """Sends all of it, and takes what comes meanwhile, so that neither side waits for the other for ever."""
+        view = memoryview(data)
+        while view:
+            try:
+                view = view[self.socket.send(view):]
+                continue
+            except (BlockingIOError, ssl.SSLWantReadError, ssl.SSLWantWriteError):
+                pass
+            except OSError as error:
+                raise ConnectionLost(str(error)) from error
+            readable, writable, _ = select.select([self.socket], [self.socket], [], 5)
+            if readable:
+                self._came += self._recv()
+            elif not writable and self._clock.due(now())[0] == "silent":
+                raise ConnectionLost("the broker was silent for two heartbeats")
+        self._clock.sent(now())
+
+    def read(self, timeout: Optional[float]) -> bytes:
+        """What came within the time; b'' where nothing did. Heartbeats go out meanwhile."""
+        if self._came:
+            data, self._came = self._came, b""
+            return data
+        data = self._recv()
+        deadline = None if timeout is None else time.monotonic() + timeout
+        while not data:
+            due, wait = self._clock.due(now())
+            if due == "silent":
+                raise ConnectionLost("the broker was silent for two heartbeats")
+            if due == "send":
+                self.send(HEARTBEAT)
+                continue
+            left = None if deadline is None else deadline - time.monotonic()
+            if left is not None and left <= 0:
+                return b""
+            wait = left if wait is None else wait if left is None else min(wait, left)
+            if select.select([self.socket], [], [], wait)[0]:
+                data = self._recv()
+        return data
+
+    def close(self) -> None:
         self.socket.close()

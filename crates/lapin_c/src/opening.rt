@@ -2,7 +2,7 @@
 
 use crate::exports::copy_out;
 use lapin_client::Status;
-use lapin_frames::WriteFault;
+use lapin_fields::WriteFault;
 use lapin_handshake::{Beat, Clock, Handshake, Limits, Shaken, Stage, shake};
 use std::alloc::Global;
 

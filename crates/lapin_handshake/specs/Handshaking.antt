@@ -39,20 +39,30 @@ start_reply major minor plain = if (major == 0) && (minor == 9) then (if plain t
 abbrev pub tune_reply : Limits → Limits → Result Reply Refusal
 tune_reply ours theirs = if nat_lt (lesser ours.frame_max theirs.frame_max) 4096 then Err refusal.FrameMax else Ok (reply.Open (agreed ours theirs))
 
--- What is answered: a start first, then challenges and a tune, then an open-ok, and nothing else but heartbeats and a close.
-abbrev pub answer_at : Stage → Limits → Said → Result Reply Refusal
-answer_at stage.Refused limits s = Err refusal.Unexpected
-answer_at _ limits said.Heartbeat = Ok reply.Nothing
-answer_at _ limits (said.Close code) = Err (refusal.Closed code)
-answer_at stage.Start limits (said.Start major minor plain) = start_reply major minor plain
-answer_at stage.Tune limits said.Secure = Ok reply.SecureOk
-answer_at stage.Tune limits (said.Tune channel_max frame_max heartbeat) =
-  tune_reply limits (record { channel_max = channel_max; frame_max = frame_max; heartbeat = heartbeat })
-answer_at stage.Open limits said.OpenOk = Ok reply.Nothing
-answer_at _ limits _ = Err refusal.Unexpected
+-- what has its place at a stage: a start first, then challenges and a tune, then an open-ok; heartbeats and a close at each
+abbrev pub is_awaited : Stage → Said → Bool
+is_awaited stage.Start (said.Start major minor plain) = true
+is_awaited stage.Tune said.Secure = true
+is_awaited stage.Tune (said.Tune channel_max frame_max heartbeat) = true
+is_awaited stage.Open said.OpenOk = true
+is_awaited stage.Refused _ = false
+is_awaited _ said.Heartbeat = true
+is_awaited _ (said.Close code) = true
+is_awaited _ _ = false
 
+-- what is answered to something that has its place
+abbrev pub reply_of : Limits → Said → Result Reply Refusal
+reply_of ours (said.Start major minor plain) = start_reply major minor plain
+reply_of ours said.Secure = Ok reply.SecureOk
+reply_of ours (said.Tune channel_max frame_max heartbeat) = tune_reply ours (record { channel_max = channel_max; frame_max = frame_max; heartbeat = heartbeat })
+reply_of ours said.OpenOk = Ok reply.Nothing
+reply_of ours said.Heartbeat = Ok reply.Nothing
+reply_of ours (said.Close code) = Err (refusal.Closed code)
+reply_of ours _ = Err refusal.Unexpected
+
+-- what is answered
 abbrev pub reply_to : Handshake → Said → Result Reply Refusal
-reply_to h s = answer_at h.stage h.limits s
+reply_to h s = if is_awaited h.stage s then reply_of h.limits s else Err refusal.Unexpected
 
 -- where nothing is answered, an open-ok opened the connection
 abbrev pub passed : Said → Handshake → Handshake
@@ -67,6 +77,7 @@ after_reply (Ok reply.Nothing) s h = passed s h
 after_reply (Ok _) s h = h
 after_reply (Err e) s h = record { stage = stage.Refused; limits = h.limits }
 
+-- what is then waited for, and the limits
 abbrev pub after : Handshake → Said → Handshake
 after h s = after_reply (reply_to h s) s h
 

@@ -1,7 +1,7 @@
 -- What this side says while a connection is opened, octet by octet (AMQP 0-9-1, sections 2.2.4 and 4.2.7, class 10).
 use Rattle.std.specs.Prelude.{ℕ, List, [], ◌∷◌, ◌++◌, length}
-use Rattle.lapin_frames.specs.Fields.{octet, short, long, counted}
-use Rattle.lapin_frames.specs.Frames.{around}
+use Rattle.lapin_fields.specs.Fields.{octet, short, long, counted}
+use Rattle.lapin_fields.specs.Around.{around}
 use Rattle.lapin_handshake.specs.declared.handshake.Limits.{Limits}
 use Rattle.lapin_handshake.specs.declared.handshake.Reply.{Reply}
 use Rattle.lapin_handshake.specs.declared.handshake.Reply.TheVariants as reply
@@ -13,23 +13,27 @@ protocol_header = 65 ∷ 77 ∷ 81 ∷ 80 ∷ 0 ∷ 0 ∷ 9 ∷ 1 ∷ []
 
 -- a heartbeat: a frame of type 8 on channel 0 with nothing in it
 abbrev pub heartbeat : List ℕ
-heartbeat = 8 ∷ 0 ∷ 0 ∷ 0 ∷ 0 ∷ 0 ∷ 0 ∷ 206 ∷ []
+heartbeat = around 8 0 []
 
 -- a short text behind its length
 abbrev pub short_text : List ℕ → List ℕ
 short_text t = length t ∷ t
 
 -- PLAIN: the user and the password, each behind a 0
-abbrev pub plain_response : List ℕ → List ℕ → List ℕ
+unfoldable pub plain_response : List ℕ → List ℕ → List ℕ
 plain_response user password = 0 ∷ user ++ 0 ∷ password
 
+-- what this side tells of itself: a table of what it can do, and its name
+unfoldable pub client_properties : List ℕ
+client_properties = PROPERTIES
+
 -- the mechanism, its response and the locale
-abbrev pub start_end : List ℕ → List ℕ
+unfoldable pub start_end : List ℕ → List ℕ
 start_end response = short_text (80 ∷ 76 ∷ 65 ∷ 73 ∷ 78 ∷ []) ++ counted response ++ short_text (101 ∷ 110 ∷ 95 ∷ 85 ∷ 83 ∷ [])
 
 -- what this side tells of itself, the mechanism PLAIN with its response, and the locale
-abbrev pub start_ok_fields : List ℕ → List ℕ → List ℕ
-start_ok_fields user password = short 10 ++ short 11 ++ counted PROPERTIES ++ start_end (plain_response user password)
+unfoldable pub start_ok_fields : List ℕ → List ℕ → List ℕ
+start_ok_fields user password = short 10 ++ short 11 ++ counted client_properties ++ start_end (plain_response user password)
 
 -- the response once more
 abbrev pub secure_ok_fields : List ℕ → List ℕ → List ℕ

@@ -2,8 +2,9 @@
 use Rattle.std.specs.Prelude.{◌≡◌, ℕ, ◌==◌, ◌&&◌, Bool, true, false, List, [], ◌∷◌, Option, Some, None, Result, Ok, Err, if◌then◌else◌}
 use Rattle.std.specs.List.{list_any, slice_split}
 use Rattle.std.specs.Str.{bytes_eq}
-use Rattle.lapin_frames.specs.Reading.{◌>>=◌, octet_at, short_at, long_at, counted_at, string_at, Fails}
-use Rattle.lapin_frames.specs.declared.fault.ReadFault.{ReadFault}
+use Rattle.lapin_fields.specs.Around.{around_at}
+use Rattle.lapin_fields.specs.Reading.{◌>>=◌, octet_at, short_at, long_at, counted_at, string_at, Fails}
+use Rattle.lapin_fields.specs.declared.fault.ReadFault.{ReadFault}
 use Rattle.lapin_handshake.specs.declared.said.Said.{Said}
 use Rattle.lapin_handshake.specs.declared.said.Said.TheVariants as said
 
@@ -44,14 +45,14 @@ blocked_at octets = string_at octets >>= λ reason. Some (said.Blocked, reason.1
 
 -- the fields of the method of that number
 abbrev pub said_at : ℕ → List ℕ → Option (Said × List ℕ)
-said_at 10 octets = start_at octets
-said_at 20 octets = secure_at octets
-said_at 30 octets = tune_at octets
-said_at 41 octets = open_ok_at octets
-said_at 50 octets = close_at octets
-said_at 60 octets = blocked_at octets
-said_at 61 octets = Some (said.Unblocked, octets)
-said_at _ octets = None
+said_at number octets =
+  if number == 10 then start_at octets else
+  if number == 20 then secure_at octets else
+  if number == 30 then tune_at octets else
+  if number == 41 then open_ok_at octets else
+  if number == 50 then close_at octets else
+  if number == 60 then blocked_at octets else
+  if number == 61 then Some (said.Unblocked, octets) else None
 
 -- what was read, where nothing is left
 abbrev pub alone : Option (Said × List ℕ) → Option Said
@@ -65,14 +66,11 @@ method_said payload = short_at payload >>= λ class. short_at class.1 >>= λ num
 
 -- a frame of a kind: a method, or a heartbeat, whatever is in it
 abbrev pub payload_said : ℕ → List ℕ → Option Said
-payload_said 1 payload = method_said payload
-payload_said 8 payload = Some said.Heartbeat
-payload_said _ payload = None
+payload_said kind payload = if kind == 1 then method_said payload else if kind == 8 then Some said.Heartbeat else None
 
--- the frame at the head of octets: it is of channel 0, and the octet 206 ends it
+-- the frame at the head of octets: it is of channel 0
 abbrev pub frame_said_at : List ℕ → Option Said
-frame_said_at octets = octet_at octets >>= λ kind. short_at kind.1 >>= λ channel. counted_at channel.1 >>= λ payload. octet_at payload.1 >>= λ end.
-  (if (channel.0 == 0) && (end.0 == 206) then payload_said kind.0 payload.0 else None)
+frame_said_at octets = around_at octets >>= λ frame. (if frame.0.1 == 0 then payload_said frame.0.0 frame.0.2 else None)
 
 -- what a reader returned is what is said, and nothing is said where it refused
 abbrev pub GivesSaid : Result Said ReadFault → Option Said → Type 0

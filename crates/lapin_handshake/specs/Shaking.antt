@@ -1,6 +1,6 @@
 -- What becomes of bytes of the broker while a connection is opened.
 use Rattle.std.specs.Prelude.{◌≡◌, ◌<◌, ◌≤◌, ℕ, List, ◌++◌, Option, Some, None, Result, Ok, Err, ◌⊎◌}
-use Rattle.lapin_frames.specs.Frames.{wanted_behind}
+use Rattle.lapin_fields.specs.Around.{wanted_behind}
 use Rattle.lapin_handshake.specs.declared.handshake.Handshake.{Handshake}
 use Rattle.lapin_handshake.specs.declared.handshake.Stage.TheVariants as stage
 use Rattle.lapin_handshake.specs.declared.handshake.Refusal.{Refusal}

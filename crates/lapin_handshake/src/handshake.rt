@@ -1,7 +1,7 @@
 //! The opening of a connection: where it stands, what is answered to the broker, and on which limits both sides end.
 
-ghost use Rattle.std.specs.Prelude.{◌≡◌, ◌≤◌};
-ghost use Rattle.lapin_handshake.specs.Handshaking.{reply_to, after, agreed as agreed_lem, lesser as lesser_lem, agreed_beat as agreed_beat_lem, start_reply, tune_reply, passed, code_of, new_handshake};
+ghost use Rattle.std.specs.Prelude.{◌≡◌};
+ghost use Rattle.lapin_handshake.specs.Handshaking.{reply_to, after, agreed as agreed_lem, lesser as lesser_lem, agreed_beat as agreed_beat_lem, start_reply, tune_reply, is_awaited as is_awaited_lem, reply_of as reply_of_lem, passed, code_of, new_handshake};
 
 use crate::said::Said;
 
@@ -125,6 +125,48 @@ fn start(major: u8, minor: u8, plain: bool) -> Result<Reply, Refusal>
     }
 }
 
+// Whether what the broker says has its place at a stage.
+fn is_awaited(stage: Stage, said: Said) -> bool
+    ensures { result ≡ is_awaited_lem stage said }
+{
+    match stage {
+        Stage::Start => matches!(said, Said::Start { .. } | Said::Heartbeat | Said::Close { .. }),
+        Stage::Tune => matches!(said, Said::Secure | Said::Tune { .. } | Said::Heartbeat | Said::Close { .. }),
+        Stage::Open => matches!(said, Said::OpenOk | Said::Heartbeat | Said::Close { .. }),
+        Stage::Opened => matches!(said, Said::Heartbeat | Said::Close { .. }),
+        Stage::Refused => false,
+    }
+}
+
+// What is answered to something that has its place.
+fn reply_of(ours: Limits, said: Said) -> Result<Reply, Refusal>
+    ensures { result ≡ reply_of_lem ours said }
+{
+    match said {
+        Said::Start {
+            major,
+            minor,
+            plain,
+        } => start(major, minor, plain),
+        Said::Secure => Ok(Reply::SecureOk),
+        Said::Tune {
+            channel_max,
+            frame_max,
+            heartbeat,
+        } => tune(
+            ours,
+            Limits {
+                channel_max,
+                frame_max,
+                heartbeat,
+            },
+        ),
+        Said::OpenOk | Said::Heartbeat => Ok(Reply::Nothing),
+        Said::Close { code } => Err(Refusal::Closed(code)),
+        Said::Blocked | Said::Unblocked => Err(Refusal::Unexpected),
+    }
+}
+
 // What a tune is answered by.
 fn tune(ours: Limits, theirs: Limits) -> Result<Reply, Refusal>
     ensures { result ≡ tune_reply ours theirs }
@@ -189,19 +231,10 @@ impl Handshake {
     fn answer(&self, said: Said) -> Result<Reply, Refusal>
         ensures { result ≡ reply_to self.now said }
     {
-        match (self.stage, said) {
-            (Stage::Refused, _) => Err(Refusal::Unexpected),
-            (_, Said::Heartbeat) => Ok(Reply::Nothing),
-            (_, Said::Close { code }) => Err(Refusal::Closed(code)),
-            (Stage::Start, Said::Start { major, minor, plain }) => start(major, minor, plain),
-            (Stage::Tune, Said::Secure) => Ok(Reply::SecureOk),
-            (Stage::Tune, Said::Tune { channel_max, frame_max, heartbeat }) => {
-                let theirs = Limits { channel_max, frame_max, heartbeat };
-                tune(self.limits, theirs)
-            }
-            (Stage::Open, Said::OpenOk) => Ok(Reply::Nothing),
-            _ => Err(Refusal::Unexpected),
+        if !is_awaited(self.stage, said) {
+            return Err(Refusal::Unexpected);
         }
+        reply_of(self.limits, said)
     }
 
     // An open-ok opens, a heartbeat changes nothing.

@@ -2,7 +2,7 @@
 //! (RabbitMQ, `connection.blocked`), without a socket and without a clock.
 //!
 //! Bytes of the broker go in, bytes for it come out; times are the caller's. It ends with the limits that both sides keep, of which a
-//! session is made. How a frame is laid out stands in `lapin_frames`.
+//! session is made. How a frame is laid out stands in `lapin_fields`.
 #![tactic(auto)]
 
 mod clock;

@@ -2,10 +2,10 @@
 //! broker takes messages just now (AMQP 0-9-1, class 10; RabbitMQ, `connection.blocked`).
 
 ghost use Rattle.std.specs.Prelude.{◌≡◌};
-ghost use Rattle.lapin_frames.specs.Reading.{Gives};
+ghost use Rattle.lapin_fields.specs.Reading.{Gives};
 ghost use Rattle.lapin_handshake.specs.Saying.{start_at, secure_at, tune_at, open_ok_at, close_at, blocked_at, said_at, frame_said_at, GivesSaid, lists_plain, is_plain, method_said};
 
-use lapin_frames::{Octets, ReadFault};
+use lapin_fields::{Octets, ReadFault, take_around};
 use lapin_tokens::{Tokens, is_word};
 
 /// What a frame of the broker says.
@@ -155,15 +155,12 @@ pub fn read_said(bytes: &[u8]) -> Result<Said, ReadFault>
     ensures { GivesSaid result (frame_said_at bytes.now) }
 {
     let mut octets = Octets::new(bytes);
-    let kind = octets.octet()?;
-    let channel = octets.short()?;
-    let payload = octets.counted()?;
-    let end = octets.octet()?;
-    if channel != 0 || end != 0xCE {
+    let frame = take_around(&mut octets)?;
+    if frame.channel != 0 {
         return Err(ReadFault::Malformed);
     }
-    match kind {
-        1 => said_of(payload),
+    match frame.kind {
+        1 => said_of(frame.payload),
         8 => Ok(Said::Heartbeat),
         _ => Err(ReadFault::Malformed),
     }

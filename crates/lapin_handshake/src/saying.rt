@@ -1,11 +1,12 @@
 //! What this side says while a connection is opened, and heartbeats, as bytes (AMQP 0-9-1, sections 2.2.4 and 4.2.7, class 10).
 
 ghost use Rattle.std.specs.Prelude.{◌≡◌, ◌++◌, ◌≤◌, length, OnOk};
-ghost use Rattle.lapin_frames.specs.Frames.{around};
-ghost use Rattle.lapin_handshake.specs.Replies.{protocol_header, heartbeat, start_ok_fields, secure_ok_fields, tune_ok_fields, open_fields, start_end, reply_bytes, short_text, plain_response};
+ghost use Rattle.lapin_fields.specs.Around.{around};
+ghost use Rattle.lapin_fields.specs.Fields.{counted};
+ghost use Rattle.lapin_handshake.specs.Replies.{client_properties, protocol_header, heartbeat, start_ok_fields, secure_ok_fields, tune_ok_fields, open_fields, start_end, reply_bytes, short_text, plain_response};
 
 use crate::handshake::{Limits, Reply};
-use lapin_frames::{WriteFault, put_counted, put_long, put_octet, put_short};
+use lapin_fields::{WriteFault, put_around, put_counted, put_long, put_octet, put_short};
 use std::alloc::Global;
 
 /// What this side tells of itself: what it can do, and its name.
@@ -23,8 +24,7 @@ pub fn put_protocol_header(out: &mut Vec<u8>) -> Result<(), WriteFault>
 pub fn put_heartbeat(out: &mut Vec<u8>) -> Result<(), WriteFault>
     ensures { OnOk result (out.new.items ≡ out.old.items ++ heartbeat) }
 {
-    out.extend_from_slice(&[8, 0, 0, 0, 0, 0, 0, 206])?;
-    Ok(())
+    put_around(out, 8, 0, &[])
 }
 
 // Adds a short text behind its length.
@@ -43,13 +43,11 @@ fn put_short_text(out: &mut Vec<u8>, bytes: &[u8]) -> Result<(), WriteFault>
 fn put_method(out: &mut Vec<u8>, fields: &[u8]) -> Result<(), WriteFault>
     ensures { OnOk result (out.new.items ≡ out.old.items ++ around 1 0 fields.now) }
 {
-    put_octet(out, 1)?;
-    put_short(out, 0)?;
-    put_counted(out, fields)?;
-    put_octet(out, 0xCE)
+    put_around(out, 1, 0, fields)
 }
 
 // The response of PLAIN: the user and the password, each behind a 0.
+#[tactic(auto, unfolding(crate::specs::Replies::plain_response))]
 fn put_response(out: &mut Vec<u8>, user: &[u8], password: &[u8]) -> Result<(), WriteFault>
     ensures { OnOk result (out.new.items ≡ out.old.items ++ plain_response user.now password.now) }
 {
@@ -60,6 +58,15 @@ fn put_response(out: &mut Vec<u8>, user: &[u8], password: &[u8]) -> Result<(), W
     Ok(())
 }
 
+// What this side tells of itself.
+#[tactic(auto, unfolding(crate::specs::Replies::client_properties))]
+fn put_client(out: &mut Vec<u8>) -> Result<(), WriteFault>
+    ensures { OnOk result (out.new.items ≡ out.old.items ++ counted client_properties) }
+{
+    put_counted(out, &PROPERTIES)
+}
+
+#[tactic(auto, unfolding(crate::specs::Replies::start_ok_fields))]
 fn put_start_ok(alloc: Global, out: &mut Vec<u8>, user: &[u8], password: &[u8]) -> Result<(), WriteFault>
     ensures { OnOk result (out.new.items ≡ out.old.items ++ start_ok_fields user.now password.now) }
 {
@@ -67,11 +74,12 @@ fn put_start_ok(alloc: Global, out: &mut Vec<u8>, user: &[u8], password: &[u8]) 
     put_response(&mut response, user, password)?;
     put_short(out, 10)?;
     put_short(out, 11)?;
-    put_counted(out, &PROPERTIES)?;
+    put_client(out)?;
     put_start_end(out, &response)
 }
 
 // The mechanism, its response and the locale.
+#[tactic(auto, unfolding(crate::specs::Replies::start_end))]
 fn put_start_end(out: &mut Vec<u8>, response: &[u8]) -> Result<(), WriteFault>
     ensures { OnOk result (out.new.items ≡ out.old.items ++ start_end response.now) }
 {

@@ -6,7 +6,7 @@ ghost use Rattle.lapin_handshake.specs.Shaking.{IsShaken, IsAnswered, refused};
 use crate::handshake::{Handshake, Refusal, Reply, Stage};
 use crate::said::{Said, read_said};
 use crate::saying::put_reply;
-use lapin_frames::{ReadFault, WriteFault, wanted};
+use lapin_fields::{ReadFault, WriteFault, wanted};
 use std::alloc::Global;
 
 /// The longest frame of an opening that is taken.
