@@ -125,7 +125,7 @@ class _Cursor:
 
 def read_properties(token):
     """Properties by their names, of `[delivery_mode=2,..]`."""
-    token = token.decode() if isinstance(token, bytes) else token
+    token = (token.decode() if isinstance(token, bytes) else token).lstrip()
     if token == "[]":
         return {}
     cursor = _Cursor(token)

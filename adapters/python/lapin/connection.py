@@ -96,7 +96,9 @@ class Connection:
         return None if record == "pending" else record
 
     def _ask(self, asked: Ask, timeout: Optional[float] = 30) -> Any:
-        """Makes a call, and waits for its answer."""
+        """Makes a call behind the publishes that wait, and waits for its answer."""
+        if self._waiting:
+            self.flush()
         ticket = self._session.line(asked.line).split(" ")[1]
         return answer_of(asked, self._until(lambda: self._poll(f"ticket {ticket}"), timeout))
 
