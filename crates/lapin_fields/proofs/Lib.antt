@@ -1,3 +1,6 @@
+pub mod FlagLaws
 pub mod ReadingLaws
+pub mod RisingLaws
 pub mod Turns
+pub mod ValueLaws
 pub mod WritingLaws

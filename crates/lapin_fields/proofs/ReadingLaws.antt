@@ -1,17 +1,23 @@
--- What was written is read.
-use Rattle.std.proofs.Common.{◌≡◌, ℕ, zero, suc, ◌+◌, ◌≤◌, ◌<◌, ◌^◌, Bool, true, false, List, [], ◌∷◌, ◌++◌, length, take, drop, Option, Some, None, refl, sym, ap, ◌∙◌, arith}
-use Rattle.std.specs.Prelude.{nat_lt}
+-- What was written is read: the fields that hold no other.
+use Rattle.std.proofs.Common.{◌≡◌, ℕ, ◌+◌, ◌≤◌, ◌<◌, ◌^◌, ◌%◌, ◌/◌, Bool, true, false, List, [], ◌∷◌, ◌++◌, length, take, drop, Option, Some, None, refl, sym, ap, ◌∙◌, arith, append_assoc}
+use Rattle.std.specs.Prelude.{nat_lt, ◌*◌, ◌==◌}
 use Rattle.std.specs.Str.{is_utf8}
 use Rattle.std.proofs.lemmas.Nat.{from_be_bytes-to_be_bytes_2, from_be_bytes-to_be_bytes_4, from_be_bytes-to_be_bytes_8}
-use Rattle.lapin_fields.specs.Fields.{octet, short, long, wide, text, counted, bits, flags}
-use Rattle.lapin_fields.specs.Reading.{◌>>=◌, octet_at, short_at, long_at, wide_at, piece_at, counted_at, string_at, as_text, text_at, bit_at}
 use Rattle.std.proofs.lemmas.Bool.{le-ltb}
 use Rattle.std.proofs.lemmas.List.{length-append}
 use Rattle.std.proofs.Math.Seq.{take-append_seam, drop-append_seam}
+use Rattle.lapin_fields.specs.Around.{around, around_at, ended, wanted_behind}
+use Rattle.lapin_fields.specs.Fields.{octet, short, long, wide, text, counted, bit, bits, flags}
+use Rattle.lapin_fields.specs.Fits.{TextFits, StringFits}
+use Rattle.lapin_fields.specs.Reading.{◌>>=◌, octet_at, short_at, long_at, wide_at, piece_at, counted_at, string_at, as_text, text_at, bit_at}
 
 pub no_true : (b : Bool) → (b ≡ true → ⊥) → b ≡ false
 no_true true f = absurd (f refl)
 no_true false f = refl
+
+-- a step that reads what was written goes on with it
+pub then_on : {A B : Type 0} (m : Option A) (x : A) (k : A → Option B) (y : Option B) → m ≡ Some x → k x ≡ y → (m >>= k) ≡ y
+then_on m x k y e f = ap (λ (o : Option _). o >>= k) e ∙ f
 
 -- a number in two octets, in four, and in eight
 pub short_back : (n : ℕ) (rest : List ℕ) → n < 2 ^ 16 → short_at (short n ++ rest) ≡ Some (n, rest)
@@ -29,16 +35,23 @@ piece_back t rest =
     rw (le-ltb (length (t ++ rest)) (length t) (omega (arith, length-append t rest)), take-append_seam t rest, drop-append_seam t rest) refl
 
 -- a short text behind its length
-pub text_back : (t rest : List ℕ) → is_utf8 t ≡ true → text_at (text t ++ rest) ≡ Some (t, rest)
-text_back t rest utf8 = rw (piece_back t rest, utf8) refl
+pub string_back : (t rest : List ℕ) → string_at (text t ++ rest) ≡ Some (t, rest)
+string_back t rest = piece_back t rest
+
+pub text_back : (t rest : List ℕ) → TextFits t → text_at (text t ++ rest) ≡ Some (t, rest)
+text_back t rest fits = rw (piece_back t rest, fits.utf8) refl
 
 -- a long string behind its length
-pub counted_back : (s rest : List ℕ) → length s < 2 ^ 32 → counted_at (counted s ++ rest) ≡ Some (s, rest)
+pub counted_back : (s rest : List ℕ) → StringFits s → counted_at (counted s ++ rest) ≡ Some (s, rest)
 counted_back s rest lt = ap (λ (o : Option (ℕ × List ℕ)). o >>= λ n. piece_at n.0 n.1) (long_back (length s) (s ++ rest) lt) ∙ piece_back s rest
 
--- two flags in an octet, and one
-pub flags_back : (a b : Bool) → (bit_at 1 (bits (a ∷ b ∷ [])) ≡ a) × (bit_at 2 (bits (a ∷ b ∷ [])) ≡ b)
-flags_back true true = (refl, refl)
-flags_back true false = (refl, refl)
-flags_back false true = (refl, refl)
-flags_back false false = (refl, refl)
+-- what stands around a payload
+pub around_back : (kind channel : ℕ) (payload rest : List ℕ) → channel < 2 ^ 16 → StringFits payload → around_at (around kind channel payload ++ rest) ≡ Some ((kind, channel, payload), rest)
+around_back kind channel payload rest lt fits =
+    ap (λ (t : List ℕ). around_at ((octet kind ++ short channel) ++ (long (length payload) ++ t))) (append_assoc payload (206 ∷ []) rest)
+    ∙ then_on (short_at (short channel ++ (counted payload ++ 206 ∷ rest))) (channel, counted payload ++ 206 ∷ rest)
+      (λ c. counted_at c.1 >>= λ p. octet_at p.1 >>= λ mark. ended mark.0 (kind, c.0, p.0) mark.1) _
+      (short_back channel (counted payload ++ 206 ∷ rest) lt)
+      (then_on (counted_at (counted payload ++ 206 ∷ rest)) (payload, 206 ∷ rest)
+        (λ p. octet_at p.1 >>= λ mark. ended mark.0 (kind, channel, p.0) mark.1) _
+        (counted_back payload (206 ∷ rest) fits) refl)

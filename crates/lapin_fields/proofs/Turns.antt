@@ -23,7 +23,7 @@ pub fails_same : {A : Type 0} (e : ReadFault) (r s : Option A) → r ≡ s → F
 fails_same e r s same h = subst (λ (x : Option _). Fails e x) same h
 
 module _ (read : List ℕ → Option (Data × List ℕ)) where
-  item_step : (n : ℕ) (found : List Data) (bytes : List ℕ) → (bytes ≡ [] → ⊥) → items_in read (suc n) found bytes ≡ (read bytes >>= λ x. items_in read n (found ++ x.0 ∷ []) x.1)
+  pub item_step : (n : ℕ) (found : List Data) (bytes : List ℕ) → (bytes ≡ [] → ⊥) → items_in read (suc n) found bytes ≡ (read bytes >>= λ x. items_in read n (found ++ x.0 ∷ []) x.1)
   item_step n found [] some = absurd (some refl)
   item_step n found (b ∷ bs) some = refl
 
@@ -31,7 +31,7 @@ module _ (read : List ℕ → Option (Data × List ℕ)) where
   items_stop found [] some = absurd (some refl)
   items_stop found (b ∷ bs) some = refl
 
-  pair_step : (n : ℕ) (found : List (List ℕ × Data)) (bytes : List ℕ) → (bytes ≡ [] → ⊥) → pairs_in read (suc n) found bytes ≡ (text_at bytes >>= λ key. read key.1 >>= λ x. pairs_in read n (put key.0 x.0 found) x.1)
+  pub pair_step : (n : ℕ) (found : List (List ℕ × Data)) (bytes : List ℕ) → (bytes ≡ [] → ⊥) → pairs_in read (suc n) found bytes ≡ (text_at bytes >>= λ key. read key.1 >>= λ x. pairs_in read n (put key.0 x.0 found) x.1)
   pair_step n found [] some = absurd (some refl)
   pair_step n found (b ∷ bs) some = refl
 

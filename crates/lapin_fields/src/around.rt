@@ -2,6 +2,7 @@
 
 ghost use Rattle.std.specs.Prelude.{◌≡◌, ◌++◌, OnOk};
 ghost use Rattle.lapin_fields.specs.Around.{around, around_at, wanted_behind};
+ghost use Rattle.lapin_fields.specs.Fits.{StringFits};
 ghost use Rattle.lapin_fields.specs.Reading.{GivesAs};
 
 use crate::fault::{ReadFault, WriteFault};
@@ -28,7 +29,8 @@ pub fn put_around(
     channel: u16,
     payload: &[u8],
 ) -> Result<(), WriteFault>
-    ensures { OnOk result (out.new.items ≡ out.old.items ++ around kind channel payload.now) }
+    ensures bytes { OnOk result (out.new.items ≡ out.old.items ++ around kind channel payload.now) }
+    ensures fits { OnOk result (StringFits payload.now) }
 {
     put_octet(out, kind)?;
     put_short(out, channel)?;

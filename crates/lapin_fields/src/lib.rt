@@ -7,6 +7,7 @@
 pub mod around;
 pub mod fault;
 pub mod flags;
+pub mod laws;
 pub mod leaves;
 pub mod octets;
 pub mod texts;

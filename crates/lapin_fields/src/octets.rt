@@ -36,6 +36,13 @@ impl<'a> Octets<'a> {
         self.rest.is_empty()
     }
 
+    /// The bytes that are left.
+    pub fn rest(&self) -> &'a [u8]
+        ensures { result.now ≡ self.now }
+    {
+        self.rest
+    }
+
     /// The next byte.
     pub fn octet(&mut self) -> Result<u8, ReadFault>
         ensures { Gives result self.new (octet_at self.old) }

@@ -1,6 +1,6 @@
 //! Short texts, behind their length in one octet (AMQP 0-9-1, section 4.2.5.3).
 
-ghost use Rattle.std.specs.Prelude.{◌≡◌, ◌≤◌, ◌++◌, ◌∷◌, length, OnOk};
+ghost use Rattle.std.specs.Prelude.{◌≡◌, ◌≤◌, ◌++◌, ◌∷◌, length, OnOk, IfOk};
 ghost use Rattle.lapin_fields.specs.Reading.{text_at, string_at, passed, Gives, GivesAs, GivesText};
 ghost use Rattle.lapin_fields.specs.Fields.{text as text_bytes};
 ghost use Rattle.lapin_fields.specs.Fits.{TextFits};
@@ -29,7 +29,8 @@ pub fn short_text(alloc: Global, bytes: &[u8]) -> Result<ShortString, ReadFault>
 
 /// The octets of a short text, whatever they are. There are at most 255.
 pub fn take_string<'a>(octets: &mut Octets<'a>) -> Result<&'a [u8], ReadFault>
-    ensures { GivesAs (λ s. s.now) result octets.new (string_at octets.old) }
+    ensures value { GivesAs (λ s. s.now) result octets.new (string_at octets.old) }
+    ensures short { IfOk result (λ s. length s.now ≤ 255) }
 {
     let count = octets.octet()?;
     octets.piece(count as usize)

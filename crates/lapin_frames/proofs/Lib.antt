@@ -1,2 +1,6 @@
-pub mod ReadingLaws
-pub mod WritingLaws
+pub mod BasicLaws
+pub mod FrameLaws
+pub mod HeaderLaws
+pub mod Joined
+pub mod QueueLaws
+pub mod SmallClassLaws

@@ -3,8 +3,8 @@
 use Rattle.std.specs.Prelude.{ℕ, false, List, [], ◌∷◌, ◌++◌, Option, Some, None, is_some}
 use Rattle.lapin_values.specs.Properties.{Properties}
 use Rattle.lapin_methods.specs.declared.frame.ContentHeader.{ContentHeader}
-use Rattle.lapin_frames.specs.Fields.{octet, short, wide, text, flags}
-use Rattle.lapin_frames.specs.Values.{table_bytes}
+use Rattle.lapin_fields.specs.Fields.{octet, short, wide, text, flags}
+use Rattle.lapin_fields.specs.Values.{table_bytes}
 
 -- a property where it is given
 abbrev pub given : {A : Type 0} → (A → List ℕ) → Option A → List ℕ

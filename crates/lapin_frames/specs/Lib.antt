@@ -1,8 +1,7 @@
-pub mod Fields
+pub mod FrameFits
+pub mod FrameReading
 pub mod Frames
+pub mod HeaderReading
 pub mod Headers
 pub mod MethodReading
 pub mod Methods
-pub mod Reading
-pub mod ValueReading
-pub mod Values

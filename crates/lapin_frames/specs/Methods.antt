@@ -1,7 +1,7 @@
 -- Methods: the number of the class, the number of the method, and its fields in order. A field that the standard reserves is 0 or empty.
 use Rattle.std.specs.Prelude.{ℕ, List, [], ◌∷◌, ◌++◌}
-use Rattle.lapin_frames.specs.Fields.{octet, short, long, wide, text, counted, flags}
-use Rattle.lapin_frames.specs.Values.{table_bytes}
+use Rattle.lapin_fields.specs.Fields.{octet, short, long, wide, text, counted, flags}
+use Rattle.lapin_fields.specs.Values.{table_bytes}
 use Rattle.lapin_methods.specs.Numbers.{class_number}
 use Rattle.lapin_methods.specs.declared.method.Method.{Method}
 use Rattle.lapin_methods.specs.declared.method.Method.TheVariants as method

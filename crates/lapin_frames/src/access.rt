@@ -1,16 +1,15 @@
 //! The layout of the methods of the class access (AMQP 0-9-1, class 30).
 
 ghost use Rattle.std.specs.Prelude.{◌≡◌, ◌++◌, OnOk};
+ghost use Rattle.lapin_frames.specs.FrameFits.{AccessFits};
 ghost use Rattle.lapin_frames.specs.Methods.{access_bytes};
 ghost use Rattle.lapin_frames.specs.MethodReading.{access_at};
-ghost use Rattle.lapin_frames.specs.Reading.{Gives};
+ghost use Rattle.lapin_fields.specs.Reading.{Gives};
 
-use crate::fault::{ReadFault, WriteFault};
-use crate::fields::{packed, put_text, take_text, unpacked};
-use crate::octets::{Octets, put_octet, put_short};
 use crate::rows::{
     put_field, put_flags, put_reserved, put_row, skip_reserved, take_field, take_flags, take_row,
 };
+use lapin_fields::{Octets, ReadFault, WriteFault, packed, put_octet, put_short, put_text, take_text, unpacked};
 use lapin_methods::AccessMethod;
 use std::alloc::Global;
 
@@ -29,7 +28,8 @@ pub(crate) fn put_access(
     out: &mut Vec<u8>,
     method: &AccessMethod,
 ) -> Result<(), WriteFault>
-    ensures { OnOk result (out.new.items ≡ out.old.items ++ access_bytes method.now) }
+    ensures bytes { OnOk result (out.new.items ≡ out.old.items ++ access_bytes method.now) }
+    ensures fits { OnOk result (AccessFits method.now) }
 {
     access_table!(put_row, method, _alloc, out)
 }

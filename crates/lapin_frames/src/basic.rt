@@ -1,17 +1,15 @@
 //! The layout of the methods of the class basic (AMQP 0-9-1, class 60).
 
-ghost use Rattle.std.specs.Prelude.{◌≡◌, ◌++◌, false, OnOk};
+ghost use Rattle.std.specs.Prelude.{◌≡◌, ◌++◌, OnOk};
+ghost use Rattle.lapin_frames.specs.FrameFits.{BasicFits};
 ghost use Rattle.lapin_frames.specs.Methods.{basic_bytes};
-ghost use Rattle.lapin_frames.specs.MethodReading.{basic_at, basic_has_table};
-ghost use Rattle.lapin_frames.specs.Reading.{Gives};
+ghost use Rattle.lapin_frames.specs.MethodReading.{basic_at};
+ghost use Rattle.lapin_fields.specs.Reading.{Gives};
 
-use crate::fault::{ReadFault, WriteFault};
-use crate::fields::{packed, put_text, skip_text, take_text, unpacked};
-use crate::octets::{Octets, put_long, put_octet, put_short, put_wide};
 use crate::rows::{
     put_field, put_flags, put_reserved, put_row, skip_reserved, take_field, take_flags, take_row,
 };
-use crate::values::{put_table, take_table};
+use lapin_fields::{Octets, ReadFault, WriteFault, packed, put_long, put_octet, put_short, put_table, put_text, put_wide, skip_text, take_table, take_text, unpacked};
 use lapin_methods::BasicMethod;
 use std::alloc::Global;
 
@@ -46,7 +44,8 @@ pub(crate) fn put_basic(
     out: &mut Vec<u8>,
     method: &BasicMethod,
 ) -> Result<(), WriteFault>
-    ensures { OnOk result (out.new.items ≡ out.old.items ++ basic_bytes method.now) }
+    ensures bytes { OnOk result (out.new.items ≡ out.old.items ++ basic_bytes method.now) }
+    ensures fits { OnOk result (BasicFits method.now) }
 {
     basic_table!(put_row, method, _alloc, out)
 }
@@ -57,7 +56,7 @@ pub(crate) fn take_basic(
     number: u16,
     octets: &mut Octets,
 ) -> Result<BasicMethod, ReadFault>
-    ensures { basic_has_table number ≡ false → Gives result octets.new (basic_at number octets.old) }
+    ensures { Gives result octets.new (basic_at number octets.old) }
 {
     basic_table!(take_row, number, _alloc, octets)
 }

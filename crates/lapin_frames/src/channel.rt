@@ -1,16 +1,15 @@
 //! The layout of the methods of the class channel (AMQP 0-9-1, class 20).
 
 ghost use Rattle.std.specs.Prelude.{◌≡◌, ◌++◌, OnOk};
+ghost use Rattle.lapin_frames.specs.FrameFits.{ChannelFits};
 ghost use Rattle.lapin_frames.specs.Methods.{channel_bytes};
 ghost use Rattle.lapin_frames.specs.MethodReading.{channel_at};
-ghost use Rattle.lapin_frames.specs.Reading.{Gives};
+ghost use Rattle.lapin_fields.specs.Reading.{Gives};
 
-use crate::fault::{ReadFault, WriteFault};
-use crate::fields::{packed, put_text, skip_text, take_text, unpacked};
-use crate::octets::{Octets, put_long, put_octet, put_short};
 use crate::rows::{
     put_field, put_flags, put_reserved, put_row, skip_reserved, take_field, take_flags, take_row,
 };
+use lapin_fields::{Octets, ReadFault, WriteFault, packed, put_long, put_octet, put_short, put_text, skip_text, take_text, unpacked};
 use lapin_methods::ChannelMethod;
 use std::alloc::Global;
 
@@ -33,7 +32,8 @@ pub(crate) fn put_channel(
     out: &mut Vec<u8>,
     method: &ChannelMethod,
 ) -> Result<(), WriteFault>
-    ensures { OnOk result (out.new.items ≡ out.old.items ++ channel_bytes method.now) }
+    ensures bytes { OnOk result (out.new.items ≡ out.old.items ++ channel_bytes method.now) }
+    ensures fits { OnOk result (ChannelFits method.now) }
 {
     channel_table!(put_row, method, _alloc, out)
 }

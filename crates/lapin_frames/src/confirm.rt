@@ -1,14 +1,13 @@
 //! The layout of the methods of the class confirm (AMQP 0-9-1, class 85).
 
 ghost use Rattle.std.specs.Prelude.{◌≡◌, ◌++◌, OnOk};
+ghost use Rattle.lapin_frames.specs.FrameFits.{ConfirmFits};
 ghost use Rattle.lapin_frames.specs.Methods.{confirm_bytes};
 ghost use Rattle.lapin_frames.specs.MethodReading.{confirm_at};
-ghost use Rattle.lapin_frames.specs.Reading.{Gives};
+ghost use Rattle.lapin_fields.specs.Reading.{Gives};
 
-use crate::fault::{ReadFault, WriteFault};
-use crate::fields::{packed, unpacked};
-use crate::octets::{Octets, put_octet, put_short};
 use crate::rows::{put_flags, put_row, take_flags, take_row};
+use lapin_fields::{Octets, ReadFault, WriteFault, packed, put_octet, put_short, unpacked};
 use lapin_methods::ConfirmMethod;
 use std::alloc::Global;
 
@@ -27,7 +26,8 @@ pub(crate) fn put_confirm(
     out: &mut Vec<u8>,
     method: &ConfirmMethod,
 ) -> Result<(), WriteFault>
-    ensures { OnOk result (out.new.items ≡ out.old.items ++ confirm_bytes method.now) }
+    ensures bytes { OnOk result (out.new.items ≡ out.old.items ++ confirm_bytes method.now) }
+    ensures fits { OnOk result (ConfirmFits method.now) }
 {
     confirm_table!(put_row, method, _alloc, out)
 }

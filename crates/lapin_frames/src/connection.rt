@@ -1,14 +1,13 @@
 //! The layout of the methods of the class connection (AMQP 0-9-1, class 10).
 
 ghost use Rattle.std.specs.Prelude.{◌≡◌, ◌++◌, OnOk};
+ghost use Rattle.lapin_frames.specs.FrameFits.{ConnectionFits};
 ghost use Rattle.lapin_frames.specs.Methods.{connection_bytes};
 ghost use Rattle.lapin_frames.specs.MethodReading.{connection_at};
-ghost use Rattle.lapin_frames.specs.Reading.{Gives};
+ghost use Rattle.lapin_fields.specs.Reading.{Gives};
 
-use crate::fault::{ReadFault, WriteFault};
-use crate::fields::{put_text, take_text};
-use crate::octets::{Octets, put_short};
 use crate::rows::{put_field, put_flags, put_row, take_field, take_flags, take_row};
+use lapin_fields::{Octets, ReadFault, WriteFault, put_short, put_text, take_text};
 use lapin_methods::ConnectionMethod;
 use std::alloc::Global;
 
@@ -27,7 +26,8 @@ pub(crate) fn put_connection(
     out: &mut Vec<u8>,
     method: &ConnectionMethod,
 ) -> Result<(), WriteFault>
-    ensures { OnOk result (out.new.items ≡ out.old.items ++ connection_bytes method.now) }
+    ensures bytes { OnOk result (out.new.items ≡ out.old.items ++ connection_bytes method.now) }
+    ensures fits { OnOk result (ConnectionFits method.now) }
 {
     connection_table!(put_row, method, _alloc, out)
 }

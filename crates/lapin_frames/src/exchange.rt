@@ -1,17 +1,15 @@
 //! The layout of the methods of the class exchange (AMQP 0-9-1, class 40).
 
-ghost use Rattle.std.specs.Prelude.{◌≡◌, ◌++◌, false, OnOk};
+ghost use Rattle.std.specs.Prelude.{◌≡◌, ◌++◌, OnOk};
+ghost use Rattle.lapin_frames.specs.FrameFits.{ExchangeFits};
 ghost use Rattle.lapin_frames.specs.Methods.{exchange_bytes};
-ghost use Rattle.lapin_frames.specs.MethodReading.{exchange_at, exchange_has_table};
-ghost use Rattle.lapin_frames.specs.Reading.{Gives};
+ghost use Rattle.lapin_frames.specs.MethodReading.{exchange_at};
+ghost use Rattle.lapin_fields.specs.Reading.{Gives};
 
-use crate::fault::{ReadFault, WriteFault};
-use crate::fields::{packed, put_text, take_text, unpacked};
-use crate::octets::{Octets, put_octet, put_short};
 use crate::rows::{
     put_field, put_flags, put_reserved, put_row, skip_reserved, take_field, take_flags, take_row,
 };
-use crate::values::{put_table, take_table};
+use lapin_fields::{Octets, ReadFault, WriteFault, packed, put_octet, put_short, put_table, put_text, take_table, take_text, unpacked};
 use lapin_methods::ExchangeMethod;
 use std::alloc::Global;
 
@@ -36,7 +34,8 @@ pub(crate) fn put_exchange(
     out: &mut Vec<u8>,
     method: &ExchangeMethod,
 ) -> Result<(), WriteFault>
-    ensures { OnOk result (out.new.items ≡ out.old.items ++ exchange_bytes method.now) }
+    ensures bytes { OnOk result (out.new.items ≡ out.old.items ++ exchange_bytes method.now) }
+    ensures fits { OnOk result (ExchangeFits method.now) }
 {
     exchange_table!(put_row, method, _alloc, out)
 }
@@ -47,7 +46,7 @@ pub(crate) fn take_exchange(
     number: u16,
     octets: &mut Octets,
 ) -> Result<ExchangeMethod, ReadFault>
-    ensures { exchange_has_table number ≡ false → Gives result octets.new (exchange_at number octets.old) }
+    ensures { Gives result octets.new (exchange_at number octets.old) }
 {
     exchange_table!(take_row, number, _alloc, octets)
 }

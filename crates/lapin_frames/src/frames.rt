@@ -1,13 +1,19 @@
-//! Frames: a type, a channel, the length of what is in it, and the end mark (AMQP 0-9-1, section 4.2.3).
+//! Frames: a method, a content header or a body with what stands around it (AMQP 0-9-1, section 4.2.3).
 
-ghost use Rattle.std.specs.Prelude.{◌≡◌, ◌++◌, ◌<◌, ◌≤◌, length, OnOk, OnErr, IsErrOf, Ok};
-ghost use Rattle.lapin_frames.specs.Frames.{around, bytes_of, wanted_behind};
+ghost use Rattle.std.specs.Prelude.{◌≡◌, ◌++◌, ◌<◌, ◌≤◌, [], length, OnOk, OnErr, IsErrOf, Ok};
+ghost use Rattle.lapin_fields.specs.Around.{around, wanted_behind};
+ghost use Rattle.lapin_fields.specs.Reading.{GivesWhole};
+ghost use Rattle.lapin_frames.specs.FrameFits.{FrameFits};
+ghost use Rattle.lapin_frames.specs.FrameReading.{frame_in, heartbeat_in, read_in, read_at};
+ghost use Rattle.lapin_frames.specs.Frames.{bytes_of};
+ghost use Rattle.lapin_frames.specs.HeaderReading.{whole};
+ghost use Rattle.lapin_frames.specs.MethodReading.{method_at};
 
-use crate::fault::{ReadFault, WriteFault};
-use crate::headers::{put_header, take_header};
+use crate::header_reading::header_of;
+use crate::headers::put_header;
 use crate::methods::{put_method, take_method};
-use crate::octets::{Octets, put_counted, put_octet, put_short};
-use lapin_methods::Frame;
+use lapin_fields::{Around, Octets, ReadFault, WriteFault, put_around, take_around, wanted};
+use lapin_methods::{Frame, Method};
 use lapin_values::Payload;
 use std::alloc::Global;
 
@@ -18,8 +24,6 @@ const HEADER: u8 = 2;
 const BODY: u8 = 3;
 
 const HEARTBEAT: u8 = 8;
-
-const END: u8 = 0xCE;
 
 // The bytes of a frame beside what is in it.
 const AROUND: usize = 8;
@@ -35,18 +39,10 @@ pub enum Read {
     Part,
 }
 
-fn put_around(out: &mut Vec<u8>, kind: u8, channel: u16, payload: &[u8]) -> Result<(), WriteFault>
-    ensures { OnOk result (out.new.items ≡ out.old.items ++ around kind channel payload.now) }
-{
-    put_octet(out, kind)?;
-    put_short(out, channel)?;
-    put_counted(out, payload)?;
-    put_octet(out, END)
-}
-
 // Adds the bytes of a frame, or a part of them where that fails.
 fn put_parts(alloc: Global, out: &mut Vec<u8>, frame: &Frame) -> Result<(), WriteFault>
-    ensures { OnOk result (out.new.items ≡ out.old.items ++ bytes_of frame.now) }
+    ensures bytes { OnOk result (out.new.items ≡ out.old.items ++ bytes_of frame.now) }
+    ensures fits { OnOk result (FrameFits frame.now) }
 {
     match frame {
         Frame::Method(channel, method) => {
@@ -66,9 +62,10 @@ fn put_parts(alloc: Global, out: &mut Vec<u8>, frame: &Frame) -> Result<(), Writ
 /// Adds the bytes of a frame, or nothing.
 ///
 /// # Errors
-/// `TooLong`, and `NoMemory`.
+/// `TooLong` and `TooDeep` where the frame has no bytes, and `NoMemory`.
 pub fn put_frame(alloc: Global, out: &mut Vec<u8>, frame: &Frame) -> Result<(), WriteFault>
     ensures ok { OnOk result (out.new.items ≡ out.old.items ++ bytes_of frame.now) }
+    ensures fits { OnOk result (FrameFits frame.now) }
     ensures err { OnErr result (out.new.items ≡ out.old.items) }
 {
     let mut whole = Vec::new(alloc);
@@ -93,7 +90,7 @@ fn put_within(out: &mut Vec<u8>, bytes: &[u8], limit: usize) -> Result<(), Write
 /// Adds the bytes of a frame that has at most so many bytes, or nothing.
 ///
 /// # Errors
-/// `AboveLimit` exactly where the frame could be written and has more bytes; `TooLong`, and `NoMemory`.
+/// `AboveLimit` exactly where the frame could be written and has more bytes; `TooLong` and `TooDeep` where it has none, and `NoMemory`.
 pub fn put_frame_within(
     alloc: Global,
     out: &mut Vec<u8>,
@@ -101,6 +98,7 @@ pub fn put_frame_within(
     limit: usize,
 ) -> Result<(), WriteFault>
     ensures ok { OnOk result ((out.new.items ≡ out.old.items ++ bytes_of frame.now) × (length (bytes_of frame.now) ≤ limit)) }
+    ensures fits { OnOk result (FrameFits frame.now) }
     ensures err { OnErr result (out.new.items ≡ out.old.items) }
     ensures above { IsErrOf result WriteFault.AboveLimit → limit < length (bytes_of frame.now) }
 {
@@ -108,27 +106,75 @@ pub fn put_frame_within(
     match put_parts(alloc, &mut whole, frame) {
         Ok(()) => put_within(out, &whole, limit),
         Err(WriteFault::NoMemory) => Err(WriteFault::NoMemory),
+        Err(WriteFault::TooDeep) => Err(WriteFault::TooDeep),
         Err(_) => Err(WriteFault::TooLong),
     }
 }
 
-// The frame of a type, from all that is in it.
-fn frame_of(alloc: Global, kind: u8, channel: u16, payload: &[u8]) -> Result<Frame, ReadFault> {
+/// Adds a heartbeat, or nothing.
+///
+/// # Errors
+/// `NoMemory`.
+pub fn put_heartbeat(out: &mut Vec<u8>) -> Result<(), WriteFault>
+    ensures ok { OnOk result (out.new.items ≡ out.old.items ++ around 8 0 []) }
+    ensures err { OnErr result (out.new.items ≡ out.old.items) }
+{
+    out.extend_from_slice(&[HEARTBEAT, 0, 0, 0, 0, 0, 0, 0xCE])?;
+    Ok(())
+}
+
+// The method that the bytes are.
+fn method_of(alloc: Global, payload: &[u8]) -> Result<Method, ReadFault>
+    ensures { GivesWhole result (whole (method_at payload.now)) }
+{
     let mut octets = Octets::new(payload);
+    let method = take_method(alloc, &mut octets)?;
+    match octets.finish() {
+        Ok(()) => Ok(method),
+        Err(fault) => {
+            drop(method);
+            Err(fault)
+        }
+    }
+}
+
+// The frame of a type, from all that is in it.
+fn frame_of(alloc: Global, kind: u8, channel: u16, payload: &[u8]) -> Result<Frame, ReadFault>
+    ensures { GivesWhole result (frame_in kind channel payload.now) }
+{
     match kind {
-        METHOD => {
-            let method = take_method(alloc, &mut octets)?;
-            octets.finish()?;
-            Ok(Frame::Method(channel, method))
-        }
-        HEADER => {
-            let header = take_header(alloc, &mut octets)?;
-            octets.finish()?;
-            Ok(Frame::Header(channel, header))
-        }
+        METHOD => Ok(Frame::Method(channel, method_of(alloc, payload)?)),
+        HEADER => Ok(Frame::Header(channel, header_of(alloc, payload)?)),
         BODY => Ok(Frame::Body(channel, Payload::new(alloc, payload)?)),
         _ => Err(ReadFault::Malformed),
     }
+}
+
+// A heartbeat is on channel 0 and has no payload.
+fn heartbeat_of(channel: u16, payload: &[u8]) -> Result<Read, ReadFault>
+    ensures { GivesWhole result (heartbeat_in channel payload.now) }
+{
+    match payload {
+        [] => {
+            if channel == 0 {
+                Ok(Read::Heartbeat(AROUND))
+            } else {
+                Err(ReadFault::Malformed)
+            }
+        }
+        _ => Err(ReadFault::Malformed),
+    }
+}
+
+fn read_around(alloc: Global, around: &Around) -> Result<Read, ReadFault>
+    ensures { GivesWhole result (read_in around.now.kind around.now.channel around.now.payload.now) }
+{
+    if around.kind == HEARTBEAT {
+        return heartbeat_of(around.channel, around.payload);
+    }
+    let size = around.payload.len() + AROUND;
+    let frame = frame_of(alloc, around.kind, around.channel, around.payload)?;
+    Ok(Read::Frame(frame, size))
 }
 
 /// What stands at the head of the bytes.
@@ -137,36 +183,12 @@ fn frame_of(alloc: Global, kind: u8, channel: u16, payload: &[u8]) -> Result<Fra
 /// `Malformed` where it is no frame that a broker sends behind the handshake, and `NoMemory`.
 pub fn read_frame(alloc: Global, bytes: &[u8]) -> Result<Read, ReadFault>
     ensures part { 0 < wanted_behind bytes.now → result ≡ Ok Read.Part }
-    ensures whole { wanted_behind bytes.now ≡ 0 → result ≡ Ok Read.Part → ⊥ }
+    ensures found { wanted_behind bytes.now ≡ 0 → GivesWhole result (read_at bytes.now) }
 {
     if wanted(bytes) > 0 {
         return Ok(Read::Part);
     }
     let mut octets = Octets::new(bytes);
-    let kind = octets.octet()?;
-    let channel = octets.short()?;
-    let size = octets.long()? as usize;
-    let payload = octets.piece(size)?;
-    if octets.octet()? != END {
-        return Err(ReadFault::Malformed);
-    }
-    if kind == HEARTBEAT {
-        return Ok(Read::Heartbeat(size + AROUND));
-    }
-    let frame = frame_of(alloc, kind, channel, payload)?;
-    Ok(Read::Frame(frame, size + AROUND))
-}
-
-/// How many bytes are wanted behind these at least, before a frame stands at their head: those of the seven that tell its size, or those
-/// that are left of it; 0 where it is there.
-pub fn wanted(bytes: &[u8]) -> usize
-    ensures { result ≡ wanted_behind bytes.now }
-{
-    match bytes {
-        [_, _, _, a, b, c, d, rest @ ..] => {
-            let size = u32::from_be_bytes([*a, *b, *c, *d]) as usize;
-            (size + 1).saturating_sub(rest.len())
-        }
-        _ => 7 - bytes.len(),
-    }
+    let around = take_around(&mut octets)?;
+    read_around(alloc, &around)
 }

@@ -1,15 +1,14 @@
-//! Content headers: the class, the size of the content, a flag for each property that is given, and these properties (AMQP 0-9-1,
-//! section 4.2.6.1).
+//! Content headers, written: the class, the size of the content, a flag for each property that is given, and these properties (AMQP
+//! 0-9-1, section 4.2.6.1).
 
-ghost use Rattle.std.specs.Prelude.{◌≡◌, ◌++◌, ◌∷◌, [], false, OnOk, is_some, option_map};
-ghost use Rattle.lapin_frames.specs.Fields.{octet, wide, text as text_bytes, bits};
-ghost use Rattle.lapin_frames.specs.Values.{table_bytes};
+ghost use Rattle.std.specs.Prelude.{◌≡◌, ◌++◌, ◌∷◌, ◌<◌, ◌^◌, [], false, OnOk, is_some, option_map};
+ghost use Rattle.lapin_fields.specs.Fields.{octet, wide, text as text_bytes, bits};
+ghost use Rattle.lapin_fields.specs.Values.{table_bytes};
+ghost use Rattle.lapin_fields.specs.Fits.{TextFits, TableFits};
+ghost use Rattle.lapin_frames.specs.FrameFits.{GivenFits, FirstFit, NextFit, LastFit, PropertiesFit, HeaderFits};
 ghost use Rattle.lapin_frames.specs.Headers.{given, header_front, first_properties, next_properties, last_properties, properties_bytes, header_bytes};
 
-use crate::fault::{ReadFault, WriteFault};
-use crate::fields::{packed_whole, put_text, take_text};
-use crate::octets::{Octets, put_octet, put_short, put_wide};
-use crate::values::{put_table, take_table};
+use lapin_fields::{WriteFault, packed_whole, put_octet, put_short, put_table, put_text, put_wide};
 use lapin_methods::ContentHeader;
 use lapin_values::{BasicProperties, ShortString};
 use std::alloc::Global;
@@ -57,7 +56,8 @@ fn last_marks(p: &BasicProperties) -> u8
 }
 
 fn put_given(out: &mut Vec<u8>, text: Option<&ShortString>) -> Result<(), WriteFault>
-    ensures { OnOk result (out.new.items ≡ out.old.items ++ given text_bytes (option_map (λ value. value.now) text.entry)) }
+    ensures bytes { OnOk result (out.new.items ≡ out.old.items ++ given text_bytes (option_map (λ value. value.now) text.entry)) }
+    ensures fits { OnOk result (GivenFits TextFits (option_map (λ value. value.now) text.entry)) }
 {
     match text {
         Some(text) => put_text(out, text),
@@ -66,7 +66,8 @@ fn put_given(out: &mut Vec<u8>, text: Option<&ShortString>) -> Result<(), WriteF
 }
 
 fn put_small(out: &mut Vec<u8>, number: Option<u8>) -> Result<(), WriteFault>
-    ensures { OnOk result (out.new.items ≡ out.old.items ++ given octet number) }
+    ensures bytes { OnOk result (out.new.items ≡ out.old.items ++ given octet number) }
+    ensures fits { OnOk result (GivenFits (λ n. n < 2 ^ 8) number) }
 {
     match number {
         Some(number) => put_octet(out, number),
@@ -75,7 +76,8 @@ fn put_small(out: &mut Vec<u8>, number: Option<u8>) -> Result<(), WriteFault>
 }
 
 fn put_time(out: &mut Vec<u8>, time: Option<u64>) -> Result<(), WriteFault>
-    ensures { OnOk result (out.new.items ≡ out.old.items ++ given wide time) }
+    ensures bytes { OnOk result (out.new.items ≡ out.old.items ++ given wide time) }
+    ensures fits { OnOk result (GivenFits (λ n. n < 2 ^ 64) time) }
 {
     match time {
         Some(time) => put_wide(out, time),
@@ -84,7 +86,8 @@ fn put_time(out: &mut Vec<u8>, time: Option<u64>) -> Result<(), WriteFault>
 }
 
 fn put_headers(alloc: Global, out: &mut Vec<u8>, p: &BasicProperties) -> Result<(), WriteFault>
-    ensures { OnOk result (out.new.items ≡ out.old.items ++ given table_bytes p.now.headers) }
+    ensures bytes { OnOk result (out.new.items ≡ out.old.items ++ given table_bytes p.now.headers) }
+    ensures fits { OnOk result (GivenFits TableFits p.now.headers) }
 {
     match p.headers() {
         Some(table) => put_table(alloc, out, table),
@@ -93,7 +96,8 @@ fn put_headers(alloc: Global, out: &mut Vec<u8>, p: &BasicProperties) -> Result<
 }
 
 fn put_first(alloc: Global, out: &mut Vec<u8>, p: &BasicProperties) -> Result<(), WriteFault>
-    ensures { OnOk result (out.new.items ≡ out.old.items ++ first_properties p.now) }
+    ensures bytes { OnOk result (out.new.items ≡ out.old.items ++ first_properties p.now) }
+    ensures fits { OnOk result (FirstFit p.now) }
 {
     put_given(out, p.content_type())?;
     put_given(out, p.content_encoding())?;
@@ -102,7 +106,8 @@ fn put_first(alloc: Global, out: &mut Vec<u8>, p: &BasicProperties) -> Result<()
 }
 
 fn put_next(out: &mut Vec<u8>, p: &BasicProperties) -> Result<(), WriteFault>
-    ensures { OnOk result (out.new.items ≡ out.old.items ++ next_properties p.now) }
+    ensures bytes { OnOk result (out.new.items ≡ out.old.items ++ next_properties p.now) }
+    ensures fits { OnOk result (NextFit p.now) }
 {
     put_small(out, p.priority())?;
     put_given(out, p.correlation_id())?;
@@ -111,7 +116,8 @@ fn put_next(out: &mut Vec<u8>, p: &BasicProperties) -> Result<(), WriteFault>
 }
 
 fn put_last(out: &mut Vec<u8>, p: &BasicProperties) -> Result<(), WriteFault>
-    ensures { OnOk result (out.new.items ≡ out.old.items ++ last_properties p.now) }
+    ensures bytes { OnOk result (out.new.items ≡ out.old.items ++ last_properties p.now) }
+    ensures fits { OnOk result (LastFit p.now) }
 {
     put_given(out, p.message_id())?;
     put_time(out, p.timestamp())?;
@@ -122,7 +128,8 @@ fn put_last(out: &mut Vec<u8>, p: &BasicProperties) -> Result<(), WriteFault>
 }
 
 fn put_properties(alloc: Global, out: &mut Vec<u8>, p: &BasicProperties) -> Result<(), WriteFault>
-    ensures { OnOk result (out.new.items ≡ out.old.items ++ properties_bytes p.now) }
+    ensures bytes { OnOk result (out.new.items ≡ out.old.items ++ properties_bytes p.now) }
+    ensures fits { OnOk result (PropertiesFit p.now) }
 {
     put_octet(out, first_marks(p))?;
     put_octet(out, last_marks(p))?;
@@ -145,82 +152,9 @@ pub(crate) fn put_header(
     out: &mut Vec<u8>,
     header: &ContentHeader,
 ) -> Result<(), WriteFault>
-    ensures { OnOk result (out.new.items ≡ out.old.items ++ header_bytes header.now) }
+    ensures bytes { OnOk result (out.new.items ≡ out.old.items ++ header_bytes header.now) }
+    ensures fits { OnOk result (HeaderFits header.now) }
 {
     put_front(out, header)?;
     put_properties(alloc, out, &header.properties)
-}
-
-fn take_properties(alloc: Global, octets: &mut Octets) -> Result<BasicProperties, ReadFault> {
-    let marks = octets.short()?;
-    if marks & 3 != 0 {
-        return Err(ReadFault::Malformed);
-    }
-    let mut p = BasicProperties::default();
-    if marks & 0x8000 != 0 {
-        p = p.with_content_type(take_text(alloc, octets)?);
-    }
-    if marks & 0x4000 != 0 {
-        p = p.with_content_encoding(take_text(alloc, octets)?);
-    }
-    if marks & 0x2000 != 0 {
-        p = p.with_headers(take_table(alloc, octets)?);
-    }
-    if marks & 0x1000 != 0 {
-        p = p.with_delivery_mode(octets.octet()?);
-    }
-    if marks & 0x0800 != 0 {
-        p = p.with_priority(octets.octet()?);
-    }
-    if marks & 0x0400 != 0 {
-        p = p.with_correlation_id(take_text(alloc, octets)?);
-    }
-    if marks & 0x0200 != 0 {
-        p = p.with_reply_to(take_text(alloc, octets)?);
-    }
-    if marks & 0x0100 != 0 {
-        p = p.with_expiration(take_text(alloc, octets)?);
-    }
-    take_last_properties(alloc, octets, marks, p)
-}
-
-fn take_last_properties(
-    alloc: Global,
-    octets: &mut Octets,
-    marks: u16,
-    properties: BasicProperties,
-) -> Result<BasicProperties, ReadFault> {
-    let mut p = properties;
-    if marks & 0x0080 != 0 {
-        p = p.with_message_id(take_text(alloc, octets)?);
-    }
-    if marks & 0x0040 != 0 {
-        p = p.with_timestamp(octets.wide()?);
-    }
-    if marks & 0x0020 != 0 {
-        p = p.with_kind(take_text(alloc, octets)?);
-    }
-    if marks & 0x0010 != 0 {
-        p = p.with_user_id(take_text(alloc, octets)?);
-    }
-    if marks & 0x0008 != 0 {
-        p = p.with_app_id(take_text(alloc, octets)?);
-    }
-    if marks & 0x0004 != 0 {
-        p = p.with_cluster_id(take_text(alloc, octets)?);
-    }
-    Ok(p)
-}
-
-/// The content header that stands next.
-pub(crate) fn take_header(alloc: Global, octets: &mut Octets) -> Result<ContentHeader, ReadFault> {
-    let class_id = octets.short()?;
-    octets.short()?;
-    let body_size = octets.wide()?;
-    let properties = take_properties(alloc, octets)?;
-    Ok(ContentHeader {
-        class_id,
-        body_size,
-        properties,
-    })
 }

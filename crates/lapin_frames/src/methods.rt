@@ -1,9 +1,10 @@
 //! Methods of all classes: the class's number, the method's number, and the fields by the table of the class.
 
-ghost use Rattle.std.specs.Prelude.{◌≡◌, ◌++◌, false, OnOk};
+ghost use Rattle.std.specs.Prelude.{◌≡◌, ◌++◌, OnOk};
+ghost use Rattle.lapin_frames.specs.FrameFits.{MethodFits};
 ghost use Rattle.lapin_frames.specs.Methods.{method_bytes};
-ghost use Rattle.lapin_frames.specs.MethodReading.{begins_with_table, method_at};
-ghost use Rattle.lapin_frames.specs.Reading.{Gives};
+ghost use Rattle.lapin_frames.specs.MethodReading.{method_at};
+ghost use Rattle.lapin_fields.specs.Reading.{Gives};
 
 use crate::access::{put_access, take_access};
 use crate::basic::{put_basic, take_basic};
@@ -11,10 +12,9 @@ use crate::channel::{put_channel, take_channel};
 use crate::confirm::{put_confirm, take_confirm};
 use crate::connection::{put_connection, take_connection};
 use crate::exchange::{put_exchange, take_exchange};
-use crate::fault::{ReadFault, WriteFault};
-use crate::octets::{Octets, put_short};
 use crate::queue::{put_queue, take_queue};
 use crate::tx::{put_tx, take_tx};
+use lapin_fields::{Octets, ReadFault, WriteFault, put_short};
 use lapin_methods::Method;
 use std::alloc::Global;
 
@@ -24,7 +24,8 @@ pub(crate) fn put_method(
     out: &mut Vec<u8>,
     method: &Method,
 ) -> Result<(), WriteFault>
-    ensures { OnOk result (out.new.items ≡ out.old.items ++ method_bytes method.now) }
+    ensures bytes { OnOk result (out.new.items ≡ out.old.items ++ method_bytes method.now) }
+    ensures fits { OnOk result (MethodFits method.now) }
 {
     put_short(out, method.class_id())?;
     match method {
@@ -41,7 +42,7 @@ pub(crate) fn put_method(
 
 /// The method that stands next.
 pub(crate) fn take_method(alloc: Global, octets: &mut Octets) -> Result<Method, ReadFault>
-    ensures { begins_with_table octets.old ≡ false → Gives result octets.new (method_at octets.old) }
+    ensures { Gives result octets.new (method_at octets.old) }
 {
     let class = octets.short()?;
     let number = octets.short()?;

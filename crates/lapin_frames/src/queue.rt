@@ -1,17 +1,15 @@
 //! The layout of the methods of the class queue (AMQP 0-9-1, class 50).
 
-ghost use Rattle.std.specs.Prelude.{◌≡◌, ◌++◌, false, OnOk};
+ghost use Rattle.std.specs.Prelude.{◌≡◌, ◌++◌, OnOk};
+ghost use Rattle.lapin_frames.specs.FrameFits.{QueueFits};
 ghost use Rattle.lapin_frames.specs.Methods.{queue_bytes};
-ghost use Rattle.lapin_frames.specs.MethodReading.{queue_at, queue_has_table};
-ghost use Rattle.lapin_frames.specs.Reading.{Gives};
+ghost use Rattle.lapin_frames.specs.MethodReading.{queue_at};
+ghost use Rattle.lapin_fields.specs.Reading.{Gives};
 
-use crate::fault::{ReadFault, WriteFault};
-use crate::fields::{packed, put_text, take_text, unpacked};
-use crate::octets::{Octets, put_long, put_octet, put_short};
 use crate::rows::{
     put_field, put_flags, put_reserved, put_row, skip_reserved, take_field, take_flags, take_row,
 };
-use crate::values::{put_table, take_table};
+use lapin_fields::{Octets, ReadFault, WriteFault, packed, put_long, put_octet, put_short, put_table, put_text, take_table, take_text, unpacked};
 use lapin_methods::QueueMethod;
 use std::alloc::Global;
 
@@ -38,7 +36,8 @@ pub(crate) fn put_queue(
     out: &mut Vec<u8>,
     method: &QueueMethod,
 ) -> Result<(), WriteFault>
-    ensures { OnOk result (out.new.items ≡ out.old.items ++ queue_bytes method.now) }
+    ensures bytes { OnOk result (out.new.items ≡ out.old.items ++ queue_bytes method.now) }
+    ensures fits { OnOk result (QueueFits method.now) }
 {
     queue_table!(put_row, method, _alloc, out)
 }
@@ -49,7 +48,7 @@ pub(crate) fn take_queue(
     number: u16,
     octets: &mut Octets,
 ) -> Result<QueueMethod, ReadFault>
-    ensures { queue_has_table number ≡ false → Gives result octets.new (queue_at number octets.old) }
+    ensures { Gives result octets.new (queue_at number octets.old) }
 {
     queue_table!(take_row, number, _alloc, octets)
 }

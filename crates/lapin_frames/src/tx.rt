@@ -1,13 +1,13 @@
 //! The layout of the methods of the class tx (AMQP 0-9-1, class 90).
 
 ghost use Rattle.std.specs.Prelude.{◌≡◌, ◌++◌, OnOk};
+ghost use Rattle.lapin_frames.specs.FrameFits.{TxFits};
 ghost use Rattle.lapin_frames.specs.Methods.{tx_bytes};
 ghost use Rattle.lapin_frames.specs.MethodReading.{tx_at};
-ghost use Rattle.lapin_frames.specs.Reading.{Gives};
+ghost use Rattle.lapin_fields.specs.Reading.{Gives};
 
-use crate::fault::{ReadFault, WriteFault};
-use crate::octets::{Octets, put_short};
 use crate::rows::{put_flags, put_row, take_flags, take_row};
+use lapin_fields::{Octets, ReadFault, WriteFault, put_short};
 use lapin_methods::TxMethod;
 use std::alloc::Global;
 
@@ -26,7 +26,8 @@ macro_rules! tx_table {
 
 /// Adds the method's number and its fields.
 pub(crate) fn put_tx(_alloc: Global, out: &mut Vec<u8>, method: &TxMethod) -> Result<(), WriteFault>
-    ensures { OnOk result (out.new.items ≡ out.old.items ++ tx_bytes method.now) }
+    ensures bytes { OnOk result (out.new.items ≡ out.old.items ++ tx_bytes method.now) }
+    ensures fits { OnOk result (TxFits method.now) }
 {
     tx_table!(put_row, method, _alloc, out)
 }

@@ -1,0 +1,47 @@
+//! Laws of the layout: what is written is read.
+
+ghost use Rattle.std.specs.Prelude.{◌≡◌, ◌++◌, ◌∷◌, ◌<◌, ◌^◌, Bool, ℕ, List, Some};
+ghost use Rattle.lapin_values.specs.Data.{Data};
+ghost use Rattle.lapin_fields.specs.Around.{around, around_at};
+ghost use Rattle.lapin_fields.specs.Fields.{text, counted, bits};
+ghost use Rattle.lapin_fields.specs.Fits.{TextFits, StringFits, TableFits, ValueFits};
+ghost use Rattle.lapin_fields.specs.Reading.{text_at, counted_at, bit_at};
+ghost use Rattle.lapin_fields.specs.ValueReading.{table_at, value_at};
+ghost use Rattle.lapin_fields.specs.Values.{table_bytes, value_bytes};
+
+/// A short text and a long string that have room are read behind what was written of them.
+#[tactic(auto, using(crate::proofs::ReadingLaws::text_back, crate::proofs::ReadingLaws::counted_back))]
+pub fn written_texts_are_read()
+    ensures text { (t rest : List ℕ) → TextFits t → text_at (text t ++ rest) ≡ Some (t, rest) }
+    ensures string { (s rest : List ℕ) → StringFits s → counted_at (counted s ++ rest) ≡ Some (s, rest) }
+{
+}
+
+/// A value and a table that have room are read from what was written of them.
+#[tactic(auto, using(crate::proofs::ValueLaws::value_back, crate::proofs::ValueLaws::table_back))]
+pub fn written_values_are_read()
+    ensures value { (level : ℕ) (v : Data) (rest : List ℕ) → ValueFits level v → value_at level (value_bytes v ++ rest) ≡ Some (v, rest) }
+    ensures table { (ps : List (List ℕ × Data)) (rest : List ℕ) → TableFits ps → table_at (table_bytes ps ++ rest) ≡ Some (ps, rest) }
+{
+}
+
+/// A payload is read from what was written around it.
+#[tactic(auto, using(crate::proofs::ReadingLaws::around_back))]
+pub fn written_payload_is_read()
+    ensures { (kind channel : ℕ) (payload rest : List ℕ) → channel < 2 ^ 16 → StringFits payload → around_at (around kind channel payload ++ rest) ≡ Some ((kind, channel, payload), rest) }
+{
+}
+
+/// Flags that were packed into an octet, at most eight, are the bits of it.
+#[tactic(auto, using(crate::proofs::FlagLaws::flag_1, crate::proofs::FlagLaws::flag_2, crate::proofs::FlagLaws::flag_4, crate::proofs::FlagLaws::flag_8, crate::proofs::FlagLaws::flag_16, crate::proofs::FlagLaws::flag_32, crate::proofs::FlagLaws::flag_64, crate::proofs::FlagLaws::flag_128))]
+pub fn packed_flags_are_bits()
+    ensures first { (a : Bool) (bs : List Bool) → bit_at 1 (bits (a ∷ bs)) ≡ a }
+    ensures second { (a b : Bool) (bs : List Bool) → bit_at 2 (bits (a ∷ b ∷ bs)) ≡ b }
+    ensures third { (a b c : Bool) (bs : List Bool) → bit_at 4 (bits (a ∷ b ∷ c ∷ bs)) ≡ c }
+    ensures fourth { (a b c d : Bool) (bs : List Bool) → bit_at 8 (bits (a ∷ b ∷ c ∷ d ∷ bs)) ≡ d }
+    ensures fifth { (a b c d e : Bool) (bs : List Bool) → bit_at 16 (bits (a ∷ b ∷ c ∷ d ∷ e ∷ bs)) ≡ e }
+    ensures sixth { (a b c d e f : Bool) (bs : List Bool) → bit_at 32 (bits (a ∷ b ∷ c ∷ d ∷ e ∷ f ∷ bs)) ≡ f }
+    ensures seventh { (a b c d e f g : Bool) (bs : List Bool) → bit_at 64 (bits (a ∷ b ∷ c ∷ d ∷ e ∷ f ∷ g ∷ bs)) ≡ g }
+    ensures eighth { (a b c d e f g h : Bool) (bs : List Bool) → bit_at 128 (bits (a ∷ b ∷ c ∷ d ∷ e ∷ f ∷ g ∷ h ∷ bs)) ≡ h }
+{
+}
