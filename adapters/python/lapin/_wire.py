@@ -40,7 +40,7 @@ class Greeter:
             if status == PENDING:
                 return False
             if status == REFUSED:
-                text = f": {self.data[12:12 + self.data[11]].decode(errors='replace')}" if self.data[7:11] == b"\x00\x0a\x00\x32" else ""
+                text = f": {self.data[14:14 + self.data[13]].decode(errors='replace')}" if self.data[7:11] == b"\x00\x0a\x00\x32" else ""
                 raise OpeningFailed(f"refused {code}{text or ': ' + CAUSES.get(code, 'closed')}")
             if status != DONE:
                 raise OpeningFailed("the user, the password or the virtual host is too long")

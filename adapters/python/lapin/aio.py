@@ -180,7 +180,7 @@ class Connection:
         return None if record == "pending" else record
 
     async def _ask(self, asked: Ask, timeout: Optional[float] = 30) -> Any:
-        """Makes a call behind the publishes that wait, and waits for its answer."""
+        """Makes a call behind what waits to leave, and waits for its answer."""
         if self._is_flushing:
             self._flush()
         ticket = self._session.line(asked.line).split(" ")[1]
@@ -251,7 +251,7 @@ class Confirm:
                     return None
                 self._found = CallFailed(record[6:]) if record.startswith("error ") else read_outcome(record)
             else:
-                self._found = OUTCOMES.get(told) or CallFailed(told[6:])
+                self._found = OUTCOMES[told] if told in OUTCOMES else CallFailed(told[6:])
         if isinstance(self._found, Error):
             raise self._found
         return self._found

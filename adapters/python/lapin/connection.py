@@ -96,7 +96,7 @@ class Connection:
         return None if record == "pending" else record
 
     def _ask(self, asked: Ask, timeout: Optional[float] = 30) -> Any:
-        """Makes a call behind the publishes that wait, and waits for its answer."""
+        """Makes a call behind what waits to leave, and waits for its answer."""
         if self._waiting:
             self.flush()
         ticket = self._session.line(asked.line).split(" ")[1]
@@ -260,6 +260,7 @@ class Channel(Calls):
         return self.connection._ask(asked)
 
     def _settled(self, call: str, acker: int, *marks: bool) -> bool:
+        self.connection._waiting += 1
         return self._session.settle(call, acker, *marks)
 
     @property

@@ -24,7 +24,7 @@ def as_they_come(channel, queue, bodies):
         waiting[channel.publish("", queue, body)] = body
         if len(waiting) >= 500:
             channel.connection.turn()
-            for confirm in [it for it in waiting if it.poll()]:
+            for confirm in [it for it in waiting if it.poll() is not None]:
                 del waiting[confirm]
     assert all(confirm.wait() for confirm in waiting)
 
