@@ -230,8 +230,7 @@ def a_limit_holds_publishes_back():
 def a_begun_publish_is_whole_before_a_close_is_answered():
     def script(peer):
         confirms(peer)
-        peer._want(1)
-        peer.data = b"\x01"
+        peer.data = peer._want(1) + peer.data
         peer.send(scripted.channel_close(1, 406, "PRECONDITION_FAILED"))
         time.sleep(0.2)
         assert len(peer.expect_publish(1)[1]) == 3_000_000
