@@ -1,5 +1,7 @@
 //! The calls of which a caller makes many, without a line: a publish and its outcome, a consumer's next message and its fate.
-ghost use Rattle.lapin_client.specs.Clients.{IsSound};
+ghost use Rattle.std.specs.Prelude.{◌≡◌, ◌<◌, IfOk, IfSome};
+ghost use Rattle.lapin_client.specs.Calls.{Published, OutcomeTold, Delivered, Settled, Forgotten, message_bytes, message_of};
+ghost use Rattle.lapin_client.specs.Clients.{IsSound, SameBytes};
 
 use crate::client::Client;
 use crate::status::Status;
@@ -60,7 +62,11 @@ impl Client {
         mandatory: bool,
         payload: &[u8],
         properties: &[u8],
-    ) -> Result<u64, Status> {
+    ) -> Result<u64, Status>
+        requires { IsSound self.old }
+        ensures sound { IsSound self.new }
+        ensures told { Published result channel exchange.now routing_key.now mandatory payload.now properties.now self.old self.new }
+    {
         if self.left < 2 {
             return Err(Status::Ended);
         }
@@ -101,7 +107,11 @@ impl Client {
 
     /// The outcome of a publish that didn't come back: 1 an ack, 2 a nack, 3 none was asked for, 4 an error, whose line is the answer;
     /// 0 where there is none yet, or where the line of the poll tells more.
-    pub fn outcome(&mut self, alloc: Global, confirm: u64) -> u32 {
+    pub fn outcome(&mut self, alloc: Global, confirm: u64) -> u32
+        requires { IsSound self.old }
+        ensures sound { IsSound self.new }
+        ensures told { OutcomeTold result confirm self.old self.new }
+    {
         if self.left == 0 {
             return 0;
         }
@@ -129,7 +139,11 @@ impl Client {
     /// # Errors
     /// `Pending` where there is nothing yet, `Gone` at the end of the consumer, `Refused` with its line as the answer where an error ended
     /// its channel or there is no such consumer; `NoMemory`, where the message is lost, and `Ended`.
-    pub fn delivery(&mut self, alloc: Global, consumer: u64) -> Result<Message, Status> {
+    pub fn delivery(&mut self, alloc: Global, consumer: u64) -> Result<Message, Status>
+        requires { IsSound self.old }
+        ensures sound { IsSound self.new }
+        ensures told { Delivered result consumer self.old self.new }
+    {
         if self.left == 0 {
             return Err(Status::Ended);
         }
@@ -211,7 +225,11 @@ impl Client {
     }
 
     /// The confirm will not be asked for any more.
-    pub fn forget(&mut self, alloc: Global, confirm: u64) -> Status {
+    pub fn forget(&mut self, alloc: Global, confirm: u64) -> Status
+        requires { IsSound self.old }
+        ensures sound { IsSound self.new }
+        ensures told { Forgotten result confirm self.old self.new }
+    {
         if self.left == 0 {
             return Status::Ended;
         }

@@ -1,7 +1,9 @@
 //! The client: a session, the line of the last answer, the bytes that leave and those that came, and how many further steps it takes.
-ghost use Rattle.std.specs.Prelude.{◌≡◌, ◌≤◌, [], false, IfOk};
-ghost use Rattle.lapin_machine.specs.World.{new_world};
-ghost use Rattle.lapin_client.specs.Clients.{IsSound, Answers, IsNew};
+ghost use Rattle.std.specs.Prelude.{◌≡◌, ◌≤◌, ◌++◌, ◌∷◌, [], IfOk, OnOk};
+ghost use Rattle.lapin_text.specs.Records.{record_tokens, line_onto};
+ghost use Rattle.lapin_types.specs.declared.record.Record.TheVariants as told;
+ghost use Rattle.lapin_client.specs.Calls.{IsRefused};
+ghost use Rattle.lapin_client.specs.Clients.{IsSound, Answers, IsNew, IsSent};
 
 use crate::inlet::Inlet;
 use crate::status::Status;
@@ -9,7 +11,7 @@ use lapin_lines::take_line;
 use lapin_machine::Session;
 use lapin_text::put_refused;
 use lapin_types::{Error, NoMemory};
-use std::alloc::Global;
+use std::alloc::{AllocError, Global};
 
 /// A session with the bytes of its connection.
 pub struct Client {
@@ -48,6 +50,7 @@ impl Client {
     ///
     /// # Errors
     /// `NoMemory` alone.
+    #[tactic(auto, using(crate::proofs::Room::room_first))]
     pub fn new(alloc: Global, frame_max: u32) -> Result<Client, NoMemory>
         requires { 4096 ≤ frame_max }
         ensures sound { IfOk result (λ client. IsSound client) }
@@ -66,6 +69,7 @@ impl Client {
     }
 
     /// Takes a line, without its line end: where it says an event, the session meets it, and the line of its record is the answer.
+    #[tactic(auto, using(crate::proofs::Room::room_one, crate::proofs::Room::room_left))]
     pub fn take_line(&mut self, alloc: Global, line: &[u8]) -> Status
         requires { IsSound self.old }
         ensures sound { IsSound self.new }
@@ -92,21 +96,32 @@ impl Client {
     pub fn sent(&mut self)
         requires { IsSound self.old }
         ensures sound { IsSound self.new }
-        ensures value { self.new ≡ emptied self.old }
+        ensures value { IsSent self.old self.new }
     {
         self.leaving.clear();
     }
 
     // The line of a refusal is the answer. Want of memory and of numbers have none.
-    pub(crate) fn refuse(&mut self, alloc: Global, error: Error) -> Status {
+    pub(crate) fn refuse(&mut self, alloc: Global, error: Error) -> Status
+        ensures { IsRefused result error self.old self.new }
+    {
         self.answer.clear();
         match error {
             Error::NoMemory => Status::NoMemory,
             Error::NumbersUsedUp => Status::Ended,
-            error => match put_refused(alloc, &mut self.answer, error) {
+            error => match put_refusal(alloc, &mut self.answer, error) {
                 Ok(()) => Status::Refused,
                 Err(_) => Status::NoMemory,
             },
         }
     }
+}
+
+// Adds the line of a refusal.
+fn put_refusal(alloc: Global, out: &mut Vec<u8>, error: Error) -> Result<(), AllocError>
+    ensures { OnOk result (out.new.items ≡ line_onto out.old.items (record_tokens (told.Refused error)) ++ 10 ∷ []) }
+{
+    put_refused(alloc, out, error)?;
+    out.push(b'\n')?;
+    Ok(())
 }

@@ -1,5 +1,5 @@
 //! The bytes that came and were not read yet. A contract sees them as a list.
-ghost use Rattle.std.specs.Prelude.{◌≡◌, ◌++◌, ◌≤◌, ◌<◌, length, drop, OnOk, OnErr, [], List, ℕ};
+ghost use Rattle.std.specs.Prelude.{◌≡◌, ◌++◌, drop, OnOk, OnErr, []};
 
 use std::alloc::{AllocError, Global};
 use std::marker::Model;
@@ -55,10 +55,13 @@ impl Inlet {
 
     /// So many bytes were read.
     pub fn pass(&mut self, count: usize)
-        requires { count ≤ length self.old }
         ensures { self.new ≡ drop count self.old }
     {
-        self.read += count;
+        if count < self.bytes.len() - self.read {
+            self.read += count;
+        } else {
+            self.read = self.bytes.len();
+        }
     }
 
     // The bytes that were read are let go.
