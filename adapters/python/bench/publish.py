@@ -1,10 +1,10 @@
-"""What a confirmed publish costs in Python: publish.py lapin|pika|pika-async|lapin-one URL N SIZE WINDOW."""
+"""What a confirmed publish costs in Python: publish.py lapin|pika|pika-async URL N SIZE WINDOW."""
 import sys
 import time
 
 
 def told(name, n, acks, wall, cpu):
-    print(f"{name} n={n} acks={acks} wall={(time.perf_counter() - wall) / n * 1e6:.1f} us cpu={(time.process_time() - cpu) / n * 1e6:.1f} us a message")
+    print(f"{name}: {n} messages, {acks} acks, {(time.process_time() - cpu) / n * 1e6:.2f} us of processor time a message", flush=True)
 
 
 def by_lapin(url, n, body, window):
@@ -18,12 +18,12 @@ def by_lapin(url, n, body, window):
             if len(waiting) >= window:
                 connection.turn()
                 done = 0
-                while done < len(waiting) and (found := waiting[done].poll()):
-                    acks, done = acks + (found == "ack"), done + 1
+                while done < len(waiting) and (found := waiting[done].poll()) is not None:
+                    acks, done = acks + bool(found), done + 1
                 del waiting[:done]
-        acks += sum(confirm.wait() == "ack" for confirm in waiting)
-        told("lapin", n, acks, wall, cpu)
-        channel._ask("queue.purge", "x62656e6368", "0")
+        acks += sum(bool(confirm.wait()) for confirm in waiting)
+        told("lapin in Python", n, acks, wall, cpu)
+        channel.queue_purge("bench")
 
 
 def by_pika(url, n, body, window):
