@@ -2,7 +2,7 @@
 use Rattle.std.proofs.Common.{◌≡◌, ℕ, zero, suc, ◌+◌, ◌-◌, ◌≤◌, ◌<◌, List, [], ◌∷◌, ◌++◌, length, Option, Some, None, refl, sym, ap, ◌∙◌, arith, append_assoc, drop, add-one}
 use Rattle.std.specs.Prelude.{slice_get}
 use Rattle.std.proofs.lemmas.List.{append-nil}
-use Rattle.lapin_values.specs.Data.{Leaf, boolean, short_short_int, short_short_uint, short_int, short_uint, long_int, long_uint, long_long_int, timestamp, long_string, byte_array, void, Data, leaf, array, table, items_of, pairs_of}
+use Rattle.lapin_values.specs.Data.{Leaf, boolean, short_short_int, short_short_uint, short_int, short_uint, long_int, long_uint, long_long_int, timestamp, long_string, byte_array, void, Data, leaf, array, table, Items, Pairs, items_of, pairs_of}
 use Rattle.lapin_values.specs.DataOf.{data_of}
 use Rattle.lapin_values.specs.declared.value.AMQPValue.{AMQPValue}
 use Rattle.lapin_values.specs.declared.value.AMQPValue.TheVariants as V
@@ -10,7 +10,10 @@ use Rattle.lapin_values.specs.Table.{IsRising}
 use Rattle.lapin_values.specs.ValueOf.{pairs_list-pairs_of}
 use Rattle.std.specs.Str.{IsUtf8}
 use Rattle.std.proofs.lemmas.Str.{is_utf8-from_IsUtf8}
-use Rattle.lapin_fields.specs.Fits.{TextFits, StringFits, LeafFits, ValueFits, ItemsFit, PairsFit, LeafPartFits, PairFits, MemberFits}
+use Rattle.std.specs.Prelude.{Result, Ok, Err}
+use Rattle.lapin_fields.specs.declared.fault.WriteFault.{WriteFault}
+use Rattle.lapin_fields.specs.declared.fault.WriteFault.TheVariants as faults
+use Rattle.lapin_fields.specs.Fits.{TextFits, StringFits, LeafFits, ValueFits, ItemsFit, PairsFit, LeafPartFits, PairFits, MemberFits, Refused}
 use Rattle.lapin_fields.specs.Values.{leaf_bytes, leaf_part, value_bytes, items_bytes, pairs_bytes, array_bytes, table_bytes, pair_bytes, member_bytes}
 
 next_item : (ds : List Data) (n : ℕ) → n < length ds → items_bytes (items_of (drop n ds)) ≡ member_bytes value_bytes (slice_get ds n) ++ items_bytes (items_of (drop (suc n) ds))
@@ -167,3 +170,61 @@ leaf_alone_fits l (V.ByteArray x) f g h = leaf_room l (byte_array x) h
 leaf_alone_fits l (V.FieldArray ds) f g h = absurd (f ds refl)
 leaf_alone_fits l (V.FieldTable ps) f g h = absurd (g ps refl)
 leaf_alone_fits l V.Void f g h = leaf_room l void h
+
+-- ---- what is refused has no room
+
+pub refused_as : (r : Result (Unit {0}) WriteFault) (P Q : Type 0) → (Q → P) → Refused r P → Refused r Q
+refused_as (Ok u) P Q f h = tt
+refused_as (Err faults.TooLong) P Q f h = λ q. h (f q)
+refused_as (Err faults.TooDeep) P Q f h = λ q. h (f q)
+refused_as (Err faults.AboveLimit) P Q f h = h
+refused_as (Err faults.NoMemory) P Q f h = tt
+
+pub array_too_deep : (l : ℕ) (is : Items) → l ≡ 0 → ValueFits l (array is) → ⊥
+unfolding ValueFits ItemsFit PairsFit
+array_too_deep zero is e h = h
+array_too_deep (suc l) is e h = absurd (omega arith)
+
+pub table_too_deep : (l : ℕ) (ps : Pairs) → l ≡ 0 → ValueFits l (table ps) → ⊥
+unfolding ValueFits ItemsFit PairsFit
+table_too_deep zero ps e h = h
+table_too_deep (suc l) ps e h = absurd (omega arith)
+
+item_of_fit : (l n : ℕ) (ds : List Data) → ItemsFit l (items_of ds) → MemberFits (ValueFits l) (slice_get ds n)
+unfolding ValueFits ItemsFit PairsFit
+item_of_fit l n [] h = tt
+item_of_fit l zero (d ∷ ds) h = h.0
+item_of_fit l (suc n) (d ∷ ds) h = item_of_fit l n ds h.1
+
+pair_of_fit : (l n : ℕ) (ps : List (List ℕ × Data)) → PairsFit l (pairs_of ps) → MemberFits (PairFits l) (slice_get ps n)
+unfolding ValueFits ItemsFit PairsFit
+pair_of_fit l n [] h = tt
+pair_of_fit l zero (p ∷ ps) h = (h.0, h.1)
+pair_of_fit l (suc n) (p ∷ ps) h = pair_of_fit l n ps h.2
+
+pub array_member : (l n : ℕ) (ds : List Data) → ValueFits l (array (items_of ds)) → MemberFits (ValueFits (l - 1)) (slice_get ds n)
+unfolding ValueFits ItemsFit PairsFit
+array_member zero n ds h = absurd h
+array_member (suc l) n ds h = let p : (suc l) - 1 ≡ l = omega arith in rw p (item_of_fit l n ds h.0)
+
+pub table_member : (l n : ℕ) (ps : List (List ℕ × Data)) → ValueFits l (table (pairs_of ps)) → MemberFits (PairFits (l - 1)) (slice_get ps n)
+unfolding ValueFits ItemsFit PairsFit
+table_member zero n ps h = absurd h
+table_member (suc l) n ps h = let p : (suc l) - 1 ≡ l = omega arith in rw p (pair_of_fit l n ps h.0)
+
+pub array_long : (l : ℕ) (is : Items) → ValueFits l (array is) → StringFits (items_bytes is)
+unfolding ValueFits ItemsFit PairsFit
+array_long zero is h = absurd h
+array_long (suc l) is h = h.1
+
+pub table_long : (l : ℕ) (ps : Pairs) → ValueFits l (table ps) → StringFits (pairs_bytes ps)
+unfolding ValueFits ItemsFit PairsFit
+table_long zero ps h = absurd h
+table_long (suc l) ps h = h.2
+
+pub leaf_part_fits : (l : ℕ) (d : Data) → ValueFits l d → LeafPartFits d
+unfolding ValueFits ItemsFit PairsFit
+leaf_part_fits zero (leaf x) h = h
+leaf_part_fits (suc l) (leaf x) h = h
+leaf_part_fits l (array is) h = tt
+leaf_part_fits l (table ps) h = tt

@@ -1,12 +1,14 @@
 -- What a field has room for. All of this holds of every value of the types here, but for how deep values nest and how long they are: a
 -- frame with a field that does not fit is not written.
-use Rattle.std.specs.Prelude.{◌≡◌, ℕ, zero, suc, ◌^◌, ◌<◌, ◌≤◌, true, List, length, Option, Some, None}
+use Rattle.std.specs.Prelude.{◌≡◌, ℕ, zero, suc, ◌^◌, ◌<◌, ◌≤◌, true, List, length, Option, Some, None, Result, Ok, Err}
 use Rattle.std.specs.Int.{w8, w16, w32, w64}
 use Rattle.std.specs.Int.RustNames.{FitsSigned}
 use Rattle.std.specs.Str.{is_utf8}
 use Rattle.lapin_values.specs.Data.{Leaf, boolean, short_short_int, short_short_uint, short_int, short_uint, long_int, long_uint, long_long_int, timestamp, long_string, byte_array, void, Data, leaf, array, table, Items, no_items, item, Pairs, no_pairs, pair, pairs_of}
 use Rattle.lapin_values.specs.Table.{IsRising}
 use Rattle.lapin_values.specs.ValueOf.{pairs_list}
+use Rattle.lapin_fields.specs.declared.fault.WriteFault.{WriteFault}
+use Rattle.lapin_fields.specs.declared.fault.WriteFault.TheVariants as faults
 use Rattle.lapin_fields.specs.Values.{items_bytes, pairs_bytes}
 
 -- a short text has at most 255 octets, which are UTF-8
@@ -69,3 +71,11 @@ PairFits level p = TextFits p.0 × ValueFits level p.1
 abbrev pub MemberFits : {A : Type 0} → (A → Type 0) → Option A → Type 0
 MemberFits P None = Unit {0}
 MemberFits P (Some x) = P x
+
+-- A writer refuses only what does not fit, unless memory ran out: with either cause, the fact does not hold.
+abbrev pub Refused : Result (Unit {0}) WriteFault → Type 0 → Type 0
+Refused (Ok u) P = Unit {0}
+Refused (Err faults.TooLong) P = P → ⊥
+Refused (Err faults.TooDeep) P = P → ⊥
+Refused (Err faults.AboveLimit) P = ⊥
+Refused (Err faults.NoMemory) P = Unit {0}

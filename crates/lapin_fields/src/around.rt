@@ -2,7 +2,7 @@
 
 ghost use Rattle.std.specs.Prelude.{◌≡◌, ◌++◌, OnOk};
 ghost use Rattle.lapin_fields.specs.Around.{around, around_at, wanted_behind};
-ghost use Rattle.lapin_fields.specs.Fits.{StringFits};
+ghost use Rattle.lapin_fields.specs.Fits.{StringFits, Refused};
 ghost use Rattle.lapin_fields.specs.Reading.{GivesAs};
 
 use crate::fault::{ReadFault, WriteFault};
@@ -31,11 +31,13 @@ pub fn put_around(
 ) -> Result<(), WriteFault>
     ensures bytes { OnOk result (out.new.items ≡ out.old.items ++ around kind channel payload.now) }
     ensures fits { OnOk result (StringFits payload.now) }
+    ensures refused { Refused result (StringFits payload.now) }
 {
     put_octet(out, kind)?;
     put_short(out, channel)?;
     put_counted(out, payload)?;
-    put_octet(out, END)
+    put_octet(out, END)?;
+    Ok(())
 }
 
 /// The frame that stands next.

@@ -79,3 +79,14 @@ impl<T: Drop> From<AllocFailed<T>> for WriteFault {
         WriteFault::NoMemory
     }
 }
+
+impl From<NoMemory> for WriteFault {
+    ghost use Rattle.std.specs.Prelude.{◌≡◌};
+    ghost use Rattle.lapin_fields.specs.declared.fault.WriteFault.TheVariants.{NoMemory as no_memory};
+
+    ghost from_gives = { λ _ error. error ≡ no_memory };
+
+    fn from(_error: NoMemory) -> WriteFault {
+        WriteFault::NoMemory
+    }
+}

@@ -4,9 +4,10 @@ ghost use Rattle.std.specs.Prelude.{◌≡◌, ◌++◌, ◌∷◌, [], ℕ, Lis
 ghost use Rattle.std.specs.Bool.{Decides};
 ghost use Rattle.lapin_fields.specs.Reading.{octet_at, short_at, long_at, wide_at, piece_at, counted_at, Gives, GivesAs, Ends};
 ghost use Rattle.lapin_fields.specs.Fields.{octet, short, long, wide, counted};
-ghost use Rattle.lapin_fields.specs.Fits.{StringFits};
+ghost use Rattle.lapin_fields.specs.Fits.{StringFits, Refused};
 
 use crate::fault::{ReadFault, WriteFault};
+use lapin_values::NoMemory;
 use std::marker::Model;
 
 /// The bytes that are still to be read. A contract sees them as a list.
@@ -127,7 +128,7 @@ impl<'a> Octets<'a> {
 }
 
 /// Adds a number in two bytes.
-pub fn put_short(out: &mut Vec<u8>, number: u16) -> Result<(), WriteFault>
+pub fn put_short(out: &mut Vec<u8>, number: u16) -> Result<(), NoMemory>
     ensures { OnOk result (out.new.items ≡ out.old.items ++ short number) }
 {
     out.extend_from_slice(&number.to_be_bytes())?;
@@ -135,7 +136,7 @@ pub fn put_short(out: &mut Vec<u8>, number: u16) -> Result<(), WriteFault>
 }
 
 /// Adds a number in four bytes.
-pub fn put_long(out: &mut Vec<u8>, number: u32) -> Result<(), WriteFault>
+pub fn put_long(out: &mut Vec<u8>, number: u32) -> Result<(), NoMemory>
     ensures { OnOk result (out.new.items ≡ out.old.items ++ long number) }
 {
     out.extend_from_slice(&number.to_be_bytes())?;
@@ -143,7 +144,7 @@ pub fn put_long(out: &mut Vec<u8>, number: u32) -> Result<(), WriteFault>
 }
 
 /// Adds a number in eight bytes.
-pub fn put_wide(out: &mut Vec<u8>, number: u64) -> Result<(), WriteFault>
+pub fn put_wide(out: &mut Vec<u8>, number: u64) -> Result<(), NoMemory>
     ensures { OnOk result (out.new.items ≡ out.old.items ++ wide number) }
 {
     out.extend_from_slice(&number.to_be_bytes())?;
@@ -151,7 +152,7 @@ pub fn put_wide(out: &mut Vec<u8>, number: u64) -> Result<(), WriteFault>
 }
 
 /// Adds a byte.
-pub fn put_octet(out: &mut Vec<u8>, byte: u8) -> Result<(), WriteFault>
+pub fn put_octet(out: &mut Vec<u8>, byte: u8) -> Result<(), NoMemory>
     ensures { OnOk result (out.new.items ≡ out.old.items ++ octet byte) }
 {
     out.push(byte)?;
@@ -162,6 +163,7 @@ pub fn put_octet(out: &mut Vec<u8>, byte: u8) -> Result<(), WriteFault>
 pub fn put_counted(out: &mut Vec<u8>, bytes: &[u8]) -> Result<(), WriteFault>
     ensures bytes { OnOk result (out.new.items ≡ out.old.items ++ counted bytes.now) }
     ensures fits { OnOk result (StringFits bytes.now) }
+    ensures refused { Refused result (StringFits bytes.now) }
 {
     let Ok(count) = u32::try_from(bytes.len()) else {
         return Err(WriteFault::TooLong);

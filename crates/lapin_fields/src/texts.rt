@@ -5,9 +5,9 @@ ghost use Rattle.lapin_fields.specs.Reading.{text_at, string_at, passed, Gives, 
 ghost use Rattle.lapin_fields.specs.Fields.{text as text_bytes};
 ghost use Rattle.lapin_fields.specs.Fits.{TextFits};
 
-use crate::fault::{ReadFault, WriteFault};
+use crate::fault::ReadFault;
 use crate::octets::{Octets, put_octet};
-use lapin_values::ShortString;
+use lapin_values::{NoMemory, ShortString};
 use std::alloc::Global;
 
 /// The text that the octets are, of which there are at most 255.
@@ -56,15 +56,12 @@ pub fn skip_text(octets: &mut Octets) -> Result<(), ReadFault>
 
 /// Adds a short text behind its length.
 #[tactic(auto, using(crate::proofs::WritingLaws::text_fits))]
-pub fn put_text(out: &mut Vec<u8>, text: &ShortString) -> Result<(), WriteFault>
+pub fn put_text(out: &mut Vec<u8>, text: &ShortString) -> Result<(), NoMemory>
     ensures bytes { OnOk result (out.new.items ≡ out.old.items ++ text_bytes text.now) }
     ensures fits { TextFits text.now }
 {
     let bytes = text.as_str().as_bytes();
-    let Ok(count) = u8::try_from(bytes.len()) else {
-        return Err(WriteFault::TooLong);
-    };
-    put_octet(out, count)?;
+    put_octet(out, bytes.len() as u8)?;
     out.extend_from_slice(bytes)?;
     Ok(())
 }

@@ -4,3 +4,4 @@ pub mod HeaderLaws
 pub mod Joined
 pub mod QueueLaws
 pub mod SmallClassLaws
+pub mod WritingLaws

@@ -1,5 +1,5 @@
 -- What a frame has room for: numbers in their widths, short texts, and tables that nest at most eight levels, all with their lengths.
-use Rattle.std.specs.Prelude.{ℕ, ◌^◌, ◌<◌, List, length, Option, Some, None}
+use Rattle.std.specs.Prelude.{ℕ, ◌^◌, ◌<◌, Option, Some, None, Result, Ok, Err}
 use Rattle.lapin_values.specs.Properties.{Properties}
 use Rattle.lapin_methods.specs.declared.frame.ContentHeader.{ContentHeader}
 use Rattle.lapin_methods.specs.declared.frame.Frame.{Frame}
@@ -22,6 +22,8 @@ use Rattle.lapin_methods.specs.declared.confirm.ConfirmMethod.{ConfirmMethod}
 use Rattle.lapin_methods.specs.declared.confirm.ConfirmMethod.TheVariants as confirm_method
 use Rattle.lapin_methods.specs.declared.tx.TxMethod.{TxMethod}
 use Rattle.lapin_methods.specs.declared.tx.TxMethod.TheVariants as tx_method
+use Rattle.lapin_fields.specs.declared.fault.WriteFault.{WriteFault}
+use Rattle.lapin_fields.specs.declared.fault.WriteFault.TheVariants as faults
 use Rattle.lapin_fields.specs.Fits.{TextFits, StringFits, TableFits}
 use Rattle.lapin_frames.specs.Methods.{method_bytes}
 use Rattle.lapin_frames.specs.Headers.{header_bytes}
@@ -145,3 +147,11 @@ abbrev pub FrameFits : Frame → Type 0
 FrameFits (frame.Method channel m) = (channel < 2 ^ 16) × MethodFits m × StringFits (method_bytes m)
 FrameFits (frame.Header channel h) = (channel < 2 ^ 16) × HeaderFits h × StringFits (header_bytes h)
 FrameFits (frame.Body channel payload) = (channel < 2 ^ 16) × StringFits payload
+
+-- A writer with a limit refuses only a frame that does not fit, or one that does and has more octets, unless memory ran out.
+abbrev pub RefusedWithin : Result (Unit {0}) WriteFault → Type 0 → Type 0 → Type 0
+RefusedWithin (Ok u) fits above = Unit {0}
+RefusedWithin (Err faults.TooLong) fits above = fits → ⊥
+RefusedWithin (Err faults.TooDeep) fits above = fits → ⊥
+RefusedWithin (Err faults.AboveLimit) fits above = fits × above
+RefusedWithin (Err faults.NoMemory) fits above = Unit {0}

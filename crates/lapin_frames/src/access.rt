@@ -1,6 +1,7 @@
 //! The layout of the methods of the class access (AMQP 0-9-1, class 30).
 
 ghost use Rattle.std.specs.Prelude.{◌≡◌, ◌++◌, OnOk};
+ghost use Rattle.lapin_fields.specs.Fits.{Refused};
 ghost use Rattle.lapin_frames.specs.FrameFits.{AccessFits};
 ghost use Rattle.lapin_frames.specs.Methods.{access_bytes};
 ghost use Rattle.lapin_frames.specs.MethodReading.{access_at};
@@ -30,6 +31,7 @@ pub(crate) fn put_access(
 ) -> Result<(), WriteFault>
     ensures bytes { OnOk result (out.new.items ≡ out.old.items ++ access_bytes method.now) }
     ensures fits { OnOk result (AccessFits method.now) }
+    ensures refused { Refused result (AccessFits method.now) }
 {
     access_table!(put_row, method, _alloc, out)
 }

@@ -1,6 +1,7 @@
 //! The layout of the methods of the class basic (AMQP 0-9-1, class 60).
 
 ghost use Rattle.std.specs.Prelude.{◌≡◌, ◌++◌, OnOk};
+ghost use Rattle.lapin_fields.specs.Fits.{Refused};
 ghost use Rattle.lapin_frames.specs.FrameFits.{BasicFits};
 ghost use Rattle.lapin_frames.specs.Methods.{basic_bytes};
 ghost use Rattle.lapin_frames.specs.MethodReading.{basic_at};
@@ -46,6 +47,7 @@ pub(crate) fn put_basic(
 ) -> Result<(), WriteFault>
     ensures bytes { OnOk result (out.new.items ≡ out.old.items ++ basic_bytes method.now) }
     ensures fits { OnOk result (BasicFits method.now) }
+    ensures refused { Refused result (BasicFits method.now) }
 {
     basic_table!(put_row, method, _alloc, out)
 }

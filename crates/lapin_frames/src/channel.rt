@@ -1,6 +1,7 @@
 //! The layout of the methods of the class channel (AMQP 0-9-1, class 20).
 
 ghost use Rattle.std.specs.Prelude.{◌≡◌, ◌++◌, OnOk};
+ghost use Rattle.lapin_fields.specs.Fits.{Refused};
 ghost use Rattle.lapin_frames.specs.FrameFits.{ChannelFits};
 ghost use Rattle.lapin_frames.specs.Methods.{channel_bytes};
 ghost use Rattle.lapin_frames.specs.MethodReading.{channel_at};
@@ -34,6 +35,7 @@ pub(crate) fn put_channel(
 ) -> Result<(), WriteFault>
     ensures bytes { OnOk result (out.new.items ≡ out.old.items ++ channel_bytes method.now) }
     ensures fits { OnOk result (ChannelFits method.now) }
+    ensures refused { Refused result (ChannelFits method.now) }
 {
     channel_table!(put_row, method, _alloc, out)
 }

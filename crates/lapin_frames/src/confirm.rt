@@ -1,6 +1,7 @@
 //! The layout of the methods of the class confirm (AMQP 0-9-1, class 85).
 
 ghost use Rattle.std.specs.Prelude.{◌≡◌, ◌++◌, OnOk};
+ghost use Rattle.lapin_fields.specs.Fits.{Refused};
 ghost use Rattle.lapin_frames.specs.FrameFits.{ConfirmFits};
 ghost use Rattle.lapin_frames.specs.Methods.{confirm_bytes};
 ghost use Rattle.lapin_frames.specs.MethodReading.{confirm_at};
@@ -28,6 +29,7 @@ pub(crate) fn put_confirm(
 ) -> Result<(), WriteFault>
     ensures bytes { OnOk result (out.new.items ≡ out.old.items ++ confirm_bytes method.now) }
     ensures fits { OnOk result (ConfirmFits method.now) }
+    ensures refused { Refused result (ConfirmFits method.now) }
 {
     confirm_table!(put_row, method, _alloc, out)
 }

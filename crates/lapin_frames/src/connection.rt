@@ -1,6 +1,7 @@
 //! The layout of the methods of the class connection (AMQP 0-9-1, class 10).
 
 ghost use Rattle.std.specs.Prelude.{◌≡◌, ◌++◌, OnOk};
+ghost use Rattle.lapin_fields.specs.Fits.{Refused};
 ghost use Rattle.lapin_frames.specs.FrameFits.{ConnectionFits};
 ghost use Rattle.lapin_frames.specs.Methods.{connection_bytes};
 ghost use Rattle.lapin_frames.specs.MethodReading.{connection_at};
@@ -28,6 +29,7 @@ pub(crate) fn put_connection(
 ) -> Result<(), WriteFault>
     ensures bytes { OnOk result (out.new.items ≡ out.old.items ++ connection_bytes method.now) }
     ensures fits { OnOk result (ConnectionFits method.now) }
+    ensures refused { Refused result (ConnectionFits method.now) }
 {
     connection_table!(put_row, method, _alloc, out)
 }

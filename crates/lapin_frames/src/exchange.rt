@@ -1,6 +1,7 @@
 //! The layout of the methods of the class exchange (AMQP 0-9-1, class 40).
 
 ghost use Rattle.std.specs.Prelude.{◌≡◌, ◌++◌, OnOk};
+ghost use Rattle.lapin_fields.specs.Fits.{Refused};
 ghost use Rattle.lapin_frames.specs.FrameFits.{ExchangeFits};
 ghost use Rattle.lapin_frames.specs.Methods.{exchange_bytes};
 ghost use Rattle.lapin_frames.specs.MethodReading.{exchange_at};
@@ -36,6 +37,7 @@ pub(crate) fn put_exchange(
 ) -> Result<(), WriteFault>
     ensures bytes { OnOk result (out.new.items ≡ out.old.items ++ exchange_bytes method.now) }
     ensures fits { OnOk result (ExchangeFits method.now) }
+    ensures refused { Refused result (ExchangeFits method.now) }
 {
     exchange_table!(put_row, method, _alloc, out)
 }

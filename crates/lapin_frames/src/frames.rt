@@ -1,9 +1,10 @@
 //! Frames: a method, a content header or a body with what stands around it (AMQP 0-9-1, section 4.2.3).
 
-ghost use Rattle.std.specs.Prelude.{◌≡◌, ◌++◌, ◌<◌, ◌≤◌, [], length, OnOk, OnErr, IsErrOf, Ok};
+ghost use Rattle.std.specs.Prelude.{◌≡◌, ◌++◌, ◌<◌, ◌≤◌, [], length, OnOk, OnErr, Ok};
 ghost use Rattle.lapin_fields.specs.Around.{around, wanted_behind};
+ghost use Rattle.lapin_fields.specs.Fits.{Refused};
 ghost use Rattle.lapin_fields.specs.Reading.{GivesWhole};
-ghost use Rattle.lapin_frames.specs.FrameFits.{FrameFits};
+ghost use Rattle.lapin_frames.specs.FrameFits.{FrameFits, RefusedWithin};
 ghost use Rattle.lapin_frames.specs.FrameReading.{frame_in, heartbeat_in, read_in, read_at};
 ghost use Rattle.lapin_frames.specs.Frames.{bytes_of};
 ghost use Rattle.lapin_frames.specs.HeaderReading.{whole};
@@ -43,6 +44,7 @@ pub enum Read {
 fn put_parts(alloc: Global, out: &mut Vec<u8>, frame: &Frame) -> Result<(), WriteFault>
     ensures bytes { OnOk result (out.new.items ≡ out.old.items ++ bytes_of frame.now) }
     ensures fits { OnOk result (FrameFits frame.now) }
+    ensures refused { Refused result (FrameFits frame.now) }
 {
     match frame {
         Frame::Method(channel, method) => {
@@ -62,11 +64,12 @@ fn put_parts(alloc: Global, out: &mut Vec<u8>, frame: &Frame) -> Result<(), Writ
 /// Adds the bytes of a frame, or nothing.
 ///
 /// # Errors
-/// `TooLong` and `TooDeep` where the frame has no bytes, and `NoMemory`.
+/// `TooLong` and `TooDeep` exactly where the frame does not fit, and `NoMemory`.
 pub fn put_frame(alloc: Global, out: &mut Vec<u8>, frame: &Frame) -> Result<(), WriteFault>
     ensures ok { OnOk result (out.new.items ≡ out.old.items ++ bytes_of frame.now) }
     ensures fits { OnOk result (FrameFits frame.now) }
     ensures err { OnErr result (out.new.items ≡ out.old.items) }
+    ensures refused { Refused result (FrameFits frame.now) }
 {
     let mut whole = Vec::new(alloc);
     put_parts(alloc, &mut whole, frame)?;
@@ -78,7 +81,7 @@ pub fn put_frame(alloc: Global, out: &mut Vec<u8>, frame: &Frame) -> Result<(), 
 fn put_within(out: &mut Vec<u8>, bytes: &[u8], limit: usize) -> Result<(), WriteFault>
     ensures ok { OnOk result ((out.new.items ≡ out.old.items ++ bytes.now) × (length bytes.now ≤ limit)) }
     ensures err { OnErr result (out.new.items ≡ out.old.items) }
-    ensures above { IsErrOf result WriteFault.AboveLimit → limit < length bytes.now }
+    ensures refused { RefusedWithin result (Unit {0}) (limit < length bytes.now) }
 {
     if bytes.len() > limit {
         return Err(WriteFault::AboveLimit);
@@ -90,7 +93,7 @@ fn put_within(out: &mut Vec<u8>, bytes: &[u8], limit: usize) -> Result<(), Write
 /// Adds the bytes of a frame that has at most so many bytes, or nothing.
 ///
 /// # Errors
-/// `AboveLimit` exactly where the frame could be written and has more bytes; `TooLong` and `TooDeep` where it has none, and `NoMemory`.
+/// `AboveLimit` exactly where the frame could be written and has more bytes; `TooLong` and `TooDeep` where it could not, and `NoMemory`.
 pub fn put_frame_within(
     alloc: Global,
     out: &mut Vec<u8>,
@@ -100,14 +103,12 @@ pub fn put_frame_within(
     ensures ok { OnOk result ((out.new.items ≡ out.old.items ++ bytes_of frame.now) × (length (bytes_of frame.now) ≤ limit)) }
     ensures fits { OnOk result (FrameFits frame.now) }
     ensures err { OnErr result (out.new.items ≡ out.old.items) }
-    ensures above { IsErrOf result WriteFault.AboveLimit → limit < length (bytes_of frame.now) }
+    ensures refused { RefusedWithin result (FrameFits frame.now) (limit < length (bytes_of frame.now)) }
 {
     let mut whole = Vec::new(alloc);
     match put_parts(alloc, &mut whole, frame) {
         Ok(()) => put_within(out, &whole, limit),
-        Err(WriteFault::NoMemory) => Err(WriteFault::NoMemory),
-        Err(WriteFault::TooDeep) => Err(WriteFault::TooDeep),
-        Err(_) => Err(WriteFault::TooLong),
+        Err(fault) => Err(fault),
     }
 }
 

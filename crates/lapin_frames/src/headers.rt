@@ -4,13 +4,13 @@
 ghost use Rattle.std.specs.Prelude.{◌≡◌, ◌++◌, ◌∷◌, ◌<◌, ◌^◌, [], false, OnOk, is_some, option_map};
 ghost use Rattle.lapin_fields.specs.Fields.{octet, wide, text as text_bytes, bits};
 ghost use Rattle.lapin_fields.specs.Values.{table_bytes};
-ghost use Rattle.lapin_fields.specs.Fits.{TextFits, TableFits};
+ghost use Rattle.lapin_fields.specs.Fits.{TextFits, TableFits, Refused};
 ghost use Rattle.lapin_frames.specs.FrameFits.{GivenFits, FirstFit, NextFit, LastFit, PropertiesFit, HeaderFits};
 ghost use Rattle.lapin_frames.specs.Headers.{given, header_front, first_properties, next_properties, last_properties, properties_bytes, header_bytes};
 
 use lapin_fields::{WriteFault, packed_whole, put_octet, put_short, put_table, put_text, put_wide};
 use lapin_methods::ContentHeader;
-use lapin_values::{BasicProperties, ShortString};
+use lapin_values::{BasicProperties, NoMemory, ShortString};
 use std::alloc::Global;
 
 fn is_given(text: Option<&ShortString>) -> bool
@@ -55,7 +55,7 @@ fn last_marks(p: &BasicProperties) -> u8
     ])
 }
 
-fn put_given(out: &mut Vec<u8>, text: Option<&ShortString>) -> Result<(), WriteFault>
+fn put_given(out: &mut Vec<u8>, text: Option<&ShortString>) -> Result<(), NoMemory>
     ensures bytes { OnOk result (out.new.items ≡ out.old.items ++ given text_bytes (option_map (λ value. value.now) text.entry)) }
     ensures fits { OnOk result (GivenFits TextFits (option_map (λ value. value.now) text.entry)) }
 {
@@ -65,7 +65,7 @@ fn put_given(out: &mut Vec<u8>, text: Option<&ShortString>) -> Result<(), WriteF
     }
 }
 
-fn put_small(out: &mut Vec<u8>, number: Option<u8>) -> Result<(), WriteFault>
+fn put_small(out: &mut Vec<u8>, number: Option<u8>) -> Result<(), NoMemory>
     ensures bytes { OnOk result (out.new.items ≡ out.old.items ++ given octet number) }
     ensures fits { OnOk result (GivenFits (λ n. n < 2 ^ 8) number) }
 {
@@ -75,7 +75,7 @@ fn put_small(out: &mut Vec<u8>, number: Option<u8>) -> Result<(), WriteFault>
     }
 }
 
-fn put_time(out: &mut Vec<u8>, time: Option<u64>) -> Result<(), WriteFault>
+fn put_time(out: &mut Vec<u8>, time: Option<u64>) -> Result<(), NoMemory>
     ensures bytes { OnOk result (out.new.items ≡ out.old.items ++ given wide time) }
     ensures fits { OnOk result (GivenFits (λ n. n < 2 ^ 64) time) }
 {
@@ -88,6 +88,7 @@ fn put_time(out: &mut Vec<u8>, time: Option<u64>) -> Result<(), WriteFault>
 fn put_headers(alloc: Global, out: &mut Vec<u8>, p: &BasicProperties) -> Result<(), WriteFault>
     ensures bytes { OnOk result (out.new.items ≡ out.old.items ++ given table_bytes p.now.headers) }
     ensures fits { OnOk result (GivenFits TableFits p.now.headers) }
+    ensures refused { Refused result (GivenFits TableFits p.now.headers) }
 {
     match p.headers() {
         Some(table) => put_table(alloc, out, table),
@@ -98,14 +99,16 @@ fn put_headers(alloc: Global, out: &mut Vec<u8>, p: &BasicProperties) -> Result<
 fn put_first(alloc: Global, out: &mut Vec<u8>, p: &BasicProperties) -> Result<(), WriteFault>
     ensures bytes { OnOk result (out.new.items ≡ out.old.items ++ first_properties p.now) }
     ensures fits { OnOk result (FirstFit p.now) }
+    ensures refused { Refused result (FirstFit p.now) }
 {
     put_given(out, p.content_type())?;
     put_given(out, p.content_encoding())?;
     put_headers(alloc, out, p)?;
-    put_small(out, p.delivery_mode())
+    put_small(out, p.delivery_mode())?;
+    Ok(())
 }
 
-fn put_next(out: &mut Vec<u8>, p: &BasicProperties) -> Result<(), WriteFault>
+fn put_next(out: &mut Vec<u8>, p: &BasicProperties) -> Result<(), NoMemory>
     ensures bytes { OnOk result (out.new.items ≡ out.old.items ++ next_properties p.now) }
     ensures fits { OnOk result (NextFit p.now) }
 {
@@ -115,7 +118,7 @@ fn put_next(out: &mut Vec<u8>, p: &BasicProperties) -> Result<(), WriteFault>
     put_given(out, p.expiration())
 }
 
-fn put_last(out: &mut Vec<u8>, p: &BasicProperties) -> Result<(), WriteFault>
+fn put_last(out: &mut Vec<u8>, p: &BasicProperties) -> Result<(), NoMemory>
     ensures bytes { OnOk result (out.new.items ≡ out.old.items ++ last_properties p.now) }
     ensures fits { OnOk result (LastFit p.now) }
 {
@@ -130,16 +133,19 @@ fn put_last(out: &mut Vec<u8>, p: &BasicProperties) -> Result<(), WriteFault>
 fn put_properties(alloc: Global, out: &mut Vec<u8>, p: &BasicProperties) -> Result<(), WriteFault>
     ensures bytes { OnOk result (out.new.items ≡ out.old.items ++ properties_bytes p.now) }
     ensures fits { OnOk result (PropertiesFit p.now) }
+    ensures refused { Refused result (PropertiesFit p.now) }
 {
     put_octet(out, first_marks(p))?;
     put_octet(out, last_marks(p))?;
     put_first(alloc, out, p)?;
     put_next(out, p)?;
-    put_last(out, p)
+    put_last(out, p)?;
+    Ok(())
 }
 
-fn put_front(out: &mut Vec<u8>, header: &ContentHeader) -> Result<(), WriteFault>
-    ensures { OnOk result (out.new.items ≡ out.old.items ++ header_front header.now) }
+fn put_front(out: &mut Vec<u8>, header: &ContentHeader) -> Result<(), NoMemory>
+    ensures bytes { OnOk result (out.new.items ≡ out.old.items ++ header_front header.now) }
+    ensures fits { OnOk result ((header.now.class_id < 2 ^ 16) × (header.now.body_size < 2 ^ 64)) }
 {
     put_short(out, header.class_id)?;
     put_short(out, 0)?;
@@ -154,6 +160,7 @@ pub(crate) fn put_header(
 ) -> Result<(), WriteFault>
     ensures bytes { OnOk result (out.new.items ≡ out.old.items ++ header_bytes header.now) }
     ensures fits { OnOk result (HeaderFits header.now) }
+    ensures refused { Refused result (HeaderFits header.now) }
 {
     put_front(out, header)?;
     put_properties(alloc, out, &header.properties)

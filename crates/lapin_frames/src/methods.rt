@@ -1,6 +1,7 @@
 //! Methods of all classes: the class's number, the method's number, and the fields by the table of the class.
 
 ghost use Rattle.std.specs.Prelude.{◌≡◌, ◌++◌, OnOk};
+ghost use Rattle.lapin_fields.specs.Fits.{Refused};
 ghost use Rattle.lapin_frames.specs.FrameFits.{MethodFits};
 ghost use Rattle.lapin_frames.specs.Methods.{method_bytes};
 ghost use Rattle.lapin_frames.specs.MethodReading.{method_at};
@@ -26,6 +27,7 @@ pub(crate) fn put_method(
 ) -> Result<(), WriteFault>
     ensures bytes { OnOk result (out.new.items ≡ out.old.items ++ method_bytes method.now) }
     ensures fits { OnOk result (MethodFits method.now) }
+    ensures refused { Refused result (MethodFits method.now) }
 {
     put_short(out, method.class_id())?;
     match method {

@@ -1,6 +1,7 @@
 //! The layout of the methods of the class queue (AMQP 0-9-1, class 50).
 
 ghost use Rattle.std.specs.Prelude.{◌≡◌, ◌++◌, OnOk};
+ghost use Rattle.lapin_fields.specs.Fits.{Refused};
 ghost use Rattle.lapin_frames.specs.FrameFits.{QueueFits};
 ghost use Rattle.lapin_frames.specs.Methods.{queue_bytes};
 ghost use Rattle.lapin_frames.specs.MethodReading.{queue_at};
@@ -38,6 +39,7 @@ pub(crate) fn put_queue(
 ) -> Result<(), WriteFault>
     ensures bytes { OnOk result (out.new.items ≡ out.old.items ++ queue_bytes method.now) }
     ensures fits { OnOk result (QueueFits method.now) }
+    ensures refused { Refused result (QueueFits method.now) }
 {
     queue_table!(put_row, method, _alloc, out)
 }

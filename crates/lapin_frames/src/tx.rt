@@ -1,6 +1,7 @@
 //! The layout of the methods of the class tx (AMQP 0-9-1, class 90).
 
 ghost use Rattle.std.specs.Prelude.{◌≡◌, ◌++◌, OnOk};
+ghost use Rattle.lapin_fields.specs.Fits.{Refused};
 ghost use Rattle.lapin_frames.specs.FrameFits.{TxFits};
 ghost use Rattle.lapin_frames.specs.Methods.{tx_bytes};
 ghost use Rattle.lapin_frames.specs.MethodReading.{tx_at};
@@ -28,6 +29,7 @@ macro_rules! tx_table {
 pub(crate) fn put_tx(_alloc: Global, out: &mut Vec<u8>, method: &TxMethod) -> Result<(), WriteFault>
     ensures bytes { OnOk result (out.new.items ≡ out.old.items ++ tx_bytes method.now) }
     ensures fits { OnOk result (TxFits method.now) }
+    ensures refused { Refused result (TxFits method.now) }
 {
     tx_table!(put_row, method, _alloc, out)
 }
