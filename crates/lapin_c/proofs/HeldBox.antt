@@ -10,8 +10,8 @@ use denote.Param.Laws.{Laws, arg_laws}
 use Rattle.std_heap.specs.contracts.Global as heap
 use Rattle.std_heap.proofs.Global.TheLaws as heap_laws
 use Rattle.std_heap.specs.contracts.GlobalAllocator.TheImpl as heap_impl
-use Rattle.lapin_c.specs.contracts.client.Client as client
-use Rattle.lapin_c.proofs.client.Client.TheLaws as client_laws
+use Rattle.lapin_client.specs.contracts.client.Client as client
+use Rattle.lapin_client.proofs.client.Client.TheLaws as client_laws
 use Rattle.std_alloc.proofs.BoxSteps.Form as box
 use Rattle.std_alloc.specs.contracts.boxed.Box as box_type
 
@@ -25,7 +25,7 @@ abbrev pub drops_handle : Dict
 drops_handle = impl ("lapin_c::Destruct++none::drop" ∷ []) (tcons (layout Z) tnil) dnil
 
 abbrev pub drops_client : Dict
-drops_client = impl ("lapin_c::lapin_c++client++Client+Destruct::drop" ∷ []) tnil dnil
+drops_client = impl ("lapin_c::lapin_client++client++Client+Destruct::drop" ∷ []) tnil dnil
 
 abbrev pub E : box.Bx
 E = record { row = X; laws = arg_laws (bare (layout client.the_row)) no client.the_row client_laws.the_row_laws refl; al = record { row = Z; laws = arg_laws (bare (layout heap.the_row)) no heap.the_row heap_laws.the_row_laws refl; g = heap_impl.ghosts; d = heap_impl.dict; drops = drops_handle } }

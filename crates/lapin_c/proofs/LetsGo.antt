@@ -17,10 +17,10 @@ use borrow.Fn.Kinds.{ended_of, stays, r_unit}
 use borrow.Fn.Run.{Over}
 use borrow.Fn.World.{World}
 use Rattle.lapin_c.proofs.HeldBox.{X, E, drops_client}
-use Rattle.lapin_c.proofs.lapin_c++client++Client+Destruct.drop.Kinds as kinds
-use Rattle.lapin_c.proofs.lapin_c++client++Client+Destruct.drop.Reads as reads
-use Rattle.lapin_c.proofs.lapin_c++client++Client+Destruct.drop.Symbol as symbol
-use Rattle.lapin_c.proofs.lapin_c++client++Client+Destruct.drop.Met as let_go
+use Rattle.lapin_c.proofs.lapin_client++client++Client+Destruct.drop.Kinds as kinds
+use Rattle.lapin_c.proofs.lapin_client++client++Client+Destruct.drop.Reads as reads
+use Rattle.lapin_c.proofs.lapin_client++client++Client+Destruct.drop.Symbol as symbol
+use Rattle.lapin_c.proofs.lapin_client++client++Client+Destruct.drop.Met as let_go
 
 module _ {M : Type 1} (𝓤 : Ura M) (𝓛 : Logic 𝓤) (𝓜 : Model 𝓤 𝓛.H) (𝓡 : Running 𝓤 𝓛.H 𝓜) where
   pub lets_go : Wired 𝓡.env symbol.code → Met 𝓛 𝓜 𝓡 𝓡.env X drops_client

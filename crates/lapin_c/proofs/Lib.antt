@@ -1,6 +1,4 @@
 mod PointerSteps
 mod HeldBox
 mod LetsGo
-pub mod Room
-pub mod Behind
-pub mod Heard
+pub mod BehindLaws

@@ -1,12 +1,21 @@
 //! The exports of a session: each takes the client out of its handle, makes one call of it, and puts it back.
 
+ghost use Rattle.std.specs.Prelude.{◌≡◌, false, length, None};
+ghost use Rattle.lapin_client.specs.Calls.{Published, OutcomeTold, Delivered, Settled, Forgotten};
+ghost use Rattle.lapin_client.specs.Clients.{Answers, IsSent};
+ghost use Rattle.lapin_client.specs.Receiving.{Receives};
+ghost use Rattle.lapin_client.specs.Sending.{Sends};
+ghost use Rattle.lapin_c.specs.Behind.{Behind, Coded, Gave, Opened, Read, octets_of};
+
 use crate::handle::{Handle, put, take};
 use lapin_client::{Client, Fate, Message, Status};
 use std::alloc::Global;
 
 /// Puts a client of a new session into a handle. Where there is a client in it already, that one is given up.
 #[unsafe(no_mangle)]
-pub extern "C" fn lapin_open(alloc: Global, handle: &mut Handle, frame_max: u32) -> u32 {
+pub extern "C" fn lapin_open(alloc: Global, handle: &mut Handle, frame_max: u32) -> u32
+    ensures { Opened result frame_max handle.new.pointer.held }
+{
     drop(take(alloc, handle));
     if frame_max < 4096 {
         return Status::NotInGrammar.code();
@@ -25,13 +34,17 @@ pub extern "C" fn lapin_open(alloc: Global, handle: &mut Handle, frame_max: u32)
 
 /// Ends the client, and closes the handle.
 #[unsafe(no_mangle)]
-pub extern "C" fn lapin_close(alloc: Global, handle: &mut Handle) {
+pub extern "C" fn lapin_close(alloc: Global, handle: &mut Handle)
+    ensures { handle.new.pointer.held ≡ None }
+{
     drop(take(alloc, handle));
 }
 
 /// Takes a line, without its line end. The line of its record is the answer.
 #[unsafe(no_mangle)]
-pub extern "C" fn lapin_line(alloc: Global, handle: &mut Handle, line: &[u8]) -> u32 {
+pub extern "C" fn lapin_line(alloc: Global, handle: &mut Handle, line: &[u8]) -> u32
+    ensures { Behind (λ c d. Coded result (λ s. Answers s line.now c d)) (result ≡ 7) handle.old.pointer.held handle.new.pointer.held }
+{
     match take(alloc, handle) {
         Some(mut client) => {
             let status = client.take_line(alloc, line);
@@ -44,7 +57,10 @@ pub extern "C" fn lapin_line(alloc: Global, handle: &mut Handle, line: &[u8]) ->
 
 /// The number of bytes of the last answer.
 #[unsafe(no_mangle)]
-pub extern "C" fn lapin_answer_length(alloc: Global, handle: &mut Handle) -> usize {
+pub extern "C" fn lapin_answer_length(alloc: Global, handle: &mut Handle) -> usize
+    ensures length { result ≡ length (octets_of (λ c. c.answer.items) handle.old.pointer.held) }
+    ensures same { handle.new.pointer.held ≡ handle.old.pointer.held }
+{
     match take(alloc, handle) {
         Some(client) => {
             let length = client.answer.len();
@@ -57,7 +73,10 @@ pub extern "C" fn lapin_answer_length(alloc: Global, handle: &mut Handle) -> usi
 
 /// The last answer, where there is room for all of it. How many bytes were written.
 #[unsafe(no_mangle)]
-pub extern "C" fn lapin_answer(alloc: Global, handle: &mut Handle, out: &mut [u8]) -> usize {
+pub extern "C" fn lapin_answer(alloc: Global, handle: &mut Handle, out: &mut [u8]) -> usize
+    ensures read { Read result (octets_of (λ c. c.answer.items) handle.old.pointer.held) out.old out.new }
+    ensures same { handle.new.pointer.held ≡ handle.old.pointer.held }
+{
     match take(alloc, handle) {
         Some(client) => {
             let written = copy_out(out, &client.answer);
@@ -80,7 +99,9 @@ pub extern "C" fn lapin_publish(
     payload: &[u8],
     properties: &[u8],
     confirm: &mut u64,
-) -> u32 {
+) -> u32
+    ensures { Behind (λ c d. Gave result confirm.old confirm.new (λ r. Published r channel exchange.now routing_key.now mandatory payload.now properties.now c d)) ((result ≡ 7) × (confirm.new ≡ confirm.old)) handle.old.pointer.held handle.new.pointer.held }
+{
     match take(alloc, handle) {
         Some(mut client) => {
             let done = client.publish(
@@ -108,7 +129,9 @@ pub extern "C" fn lapin_publish(
 /// The outcome of a publish that didn't come back: 1 an ack, 2 a nack, 3 none was asked for, 4 an error, whose line is the answer; 0 where
 /// there is none yet, or where the line of its poll tells more.
 #[unsafe(no_mangle)]
-pub extern "C" fn lapin_outcome(alloc: Global, handle: &mut Handle, confirm: u64) -> u32 {
+pub extern "C" fn lapin_outcome(alloc: Global, handle: &mut Handle, confirm: u64) -> u32
+    ensures { Behind (λ c d. OutcomeTold result confirm c d) (result ≡ 0) handle.old.pointer.held handle.new.pointer.held }
+{
     match take(alloc, handle) {
         Some(mut client) => {
             let outcome = client.outcome(alloc, confirm);
@@ -121,7 +144,9 @@ pub extern "C" fn lapin_outcome(alloc: Global, handle: &mut Handle, confirm: u64
 
 /// The confirm will not be asked for any more.
 #[unsafe(no_mangle)]
-pub extern "C" fn lapin_forget(alloc: Global, handle: &mut Handle, confirm: u64) -> u32 {
+pub extern "C" fn lapin_forget(alloc: Global, handle: &mut Handle, confirm: u64) -> u32
+    ensures { Behind (λ c d. Coded result (λ s. Forgotten s confirm c d)) (result ≡ 7) handle.old.pointer.held handle.new.pointer.held }
+{
     match take(alloc, handle) {
         Some(mut client) => {
             let status = client.forget(alloc, confirm);
@@ -140,7 +165,9 @@ pub extern "C" fn lapin_delivery(
     handle: &mut Handle,
     consumer: u64,
     message: &mut Message,
-) -> u32 {
+) -> u32
+    ensures { Behind (λ c d. Gave result message.old message.new (λ r. Delivered r consumer c d)) ((result ≡ 7) × (message.new ≡ message.old)) handle.old.pointer.held handle.new.pointer.held }
+{
     match take(alloc, handle) {
         Some(mut client) => {
             let handed = client.delivery(alloc, consumer);
@@ -213,7 +240,9 @@ pub extern "C" fn lapin_reject(
 /// The frames that may leave, as bytes: until there is none, or until there are so many bytes; and then what is left of a begun publish,
 /// and the methods that wait.
 #[unsafe(no_mangle)]
-pub extern "C" fn lapin_send(alloc: Global, handle: &mut Handle, flow: bool, enough: usize) -> u32 {
+pub extern "C" fn lapin_send(alloc: Global, handle: &mut Handle, flow: bool, enough: usize) -> u32
+    ensures { Behind (λ c d. Coded result (λ s. Sends s flow c d)) (result ≡ 7) handle.old.pointer.held handle.new.pointer.held }
+{
     match take(alloc, handle) {
         Some(mut client) => {
             let status = client.send(alloc, flow, enough);
@@ -226,7 +255,10 @@ pub extern "C" fn lapin_send(alloc: Global, handle: &mut Handle, flow: bool, eno
 
 /// The number of bytes that are to be sent.
 #[unsafe(no_mangle)]
-pub extern "C" fn lapin_leaving_length(alloc: Global, handle: &mut Handle) -> usize {
+pub extern "C" fn lapin_leaving_length(alloc: Global, handle: &mut Handle) -> usize
+    ensures length { result ≡ length (octets_of (λ c. c.leaving.items) handle.old.pointer.held) }
+    ensures same { handle.new.pointer.held ≡ handle.old.pointer.held }
+{
     match take(alloc, handle) {
         Some(client) => {
             let length = client.leaving.len();
@@ -256,7 +288,9 @@ pub extern "C" fn lapin_leaving(alloc: Global, handle: &mut Handle, out: &mut [u
 /// Takes bytes of the broker, in whatever pieces they come. Where it refused a frame, or bytes are none, what came behind it is handed on by
 /// the next call.
 #[unsafe(no_mangle)]
-pub extern "C" fn lapin_receive(alloc: Global, handle: &mut Handle, bytes: &[u8]) -> u32 {
+pub extern "C" fn lapin_receive(alloc: Global, handle: &mut Handle, bytes: &[u8]) -> u32
+    ensures { Behind (λ c d. Coded result (λ s. Receives s bytes.now c d)) (result ≡ 7) handle.old.pointer.held handle.new.pointer.held }
+{
     match take(alloc, handle) {
         Some(mut client) => {
             let status = client.receive(alloc, bytes);
@@ -269,7 +303,9 @@ pub extern "C" fn lapin_receive(alloc: Global, handle: &mut Handle, bytes: &[u8]
 
 /// Whether the broker said last that it takes no messages.
 #[unsafe(no_mangle)]
-pub extern "C" fn lapin_is_blocked(alloc: Global, handle: &mut Handle) -> bool {
+pub extern "C" fn lapin_is_blocked(alloc: Global, handle: &mut Handle) -> bool
+    ensures same { handle.new.pointer.held ≡ handle.old.pointer.held }
+{
     match take(alloc, handle) {
         Some(client) => {
             let blocked = client.blocked;
@@ -281,7 +317,9 @@ pub extern "C" fn lapin_is_blocked(alloc: Global, handle: &mut Handle) -> bool {
 }
 
 /// The bytes at the beginning of the room, where they fit into it.
-pub(crate) fn copy_out(out: &mut [u8], bytes: &[u8]) -> usize {
+pub(crate) fn copy_out(out: &mut [u8], bytes: &[u8]) -> usize
+    ensures { Read result bytes.now out.old out.new }
+{
     let count = bytes.len();
     if out.len() < count {
         return 0;

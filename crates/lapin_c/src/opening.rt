@@ -1,5 +1,9 @@
 //! The exports of an opening and of heartbeats. C holds both in structs of its own, which hold numbers alone.
 
+ghost use Rattle.std.specs.Prelude.{◌≡◌};
+ghost use Rattle.lapin_handshake.specs.Beats.{beat_at};
+ghost use Rattle.lapin_c.specs.Openings.{stage_of as stage_of_lem, number_of as number_of_lem, handshake_of as handshake_of_lem, opening_of as opening_of_lem, IsBeat};
+
 use crate::exports::copy_out;
 use lapin_client::Status;
 use lapin_fields::WriteFault;
@@ -17,7 +21,9 @@ pub struct Opening {
     pub heartbeat: u16,
 }
 
-fn stage_of(number: u32) -> Stage {
+fn stage_of(number: u32) -> Stage
+    ensures { result ≡ stage_of_lem number }
+{
     match number {
         0 => Stage::Start,
         1 => Stage::Tune,
@@ -27,7 +33,9 @@ fn stage_of(number: u32) -> Stage {
     }
 }
 
-fn number_of(stage: Stage) -> u32 {
+fn number_of(stage: Stage) -> u32
+    ensures { result ≡ number_of_lem stage }
+{
     match stage {
         Stage::Start => 0,
         Stage::Tune => 1,
@@ -37,7 +45,9 @@ fn number_of(stage: Stage) -> u32 {
     }
 }
 
-fn handshake_of(opening: Opening) -> Handshake {
+fn handshake_of(opening: Opening) -> Handshake
+    ensures { result ≡ handshake_of_lem opening }
+{
     Handshake {
         stage: stage_of(opening.stage),
         limits: Limits {
@@ -48,7 +58,9 @@ fn handshake_of(opening: Opening) -> Handshake {
     }
 }
 
-fn opening_of(handshake: Handshake) -> Opening {
+fn opening_of(handshake: Handshake) -> Opening
+    ensures { result ≡ opening_of_lem handshake }
+{
     Opening {
         stage: number_of(handshake.stage),
         frame_max: handshake.limits.frame_max,
@@ -113,7 +125,9 @@ fn told(shaken: Shaken, code: &mut u16) -> u32 {
 /// What a clock says now: 0 nothing before so many milliseconds have passed, 1 a heartbeat is to be sent, 2 the broker was silent for too
 /// long, 3 never anything.
 #[unsafe(no_mangle)]
-pub extern "C" fn lapin_beat(clock: &Clock, now: u64, wait: &mut u64) -> u32 {
+pub extern "C" fn lapin_beat(clock: &Clock, now: u64, wait: &mut u64) -> u32
+    ensures { IsBeat result wait.old wait.new (beat_at now clock.now) }
+{
     match clock.due(now) {
         Beat::Wait(milliseconds) => {
             *wait = milliseconds;

@@ -14,6 +14,7 @@ use lapin_types::{Error, NoMemory};
 use std::alloc::{AllocError, Global};
 
 /// A session with the bytes of its connection.
+#[derive(Drop)]
 pub struct Client {
     /// The session.
     pub session: Session,
@@ -29,20 +30,6 @@ pub struct Client {
     pub frame_max: u32,
     /// Whether the broker said that it takes no messages.
     pub blocked: bool,
-}
-
-impl Drop for Client {
-    fn drop(self) {
-        let Client {
-            session: _,
-            answer: _,
-            leaving: _,
-            came: _,
-            left: _,
-            frame_max: _,
-            blocked: _,
-        } = self;
-    }
 }
 
 impl Client {

@@ -1,7 +1,7 @@
 -- `into_client` makes the box again. Assumes `Logic`.
 use Rattle.std.proofs.Common.{◌≡◌, List, [], ◌∷◌, ◌++◌, refl, sym, ap, ◌∙◌, subst, T, arith}
 use Rattle.std.specs.Prelude.{Option, Some, None, IsSome}
-use Rattle.lapin_c.specs.declared.client.Client.{Client}
+use Rattle.lapin_client.specs.declared.client.Client.{Client}
 use mir.Raw.{raw as bare}
 use mir.Val.{Val, vptr, has_ty, WT}
 use base.Logic.{SProp, ent, emp, never, id⊢, fst∗}

@@ -1,7 +1,7 @@
 -- `none` makes a pointer that owns nothing. Assumes `Logic`.
 use Rattle.std.proofs.Common.{◌≡◌, List, [], ◌∷◌, ◌++◌, refl}
 use Rattle.std.specs.Prelude.{Option, None}
-use Rattle.lapin_c.specs.declared.client.Client.{Client}
+use Rattle.lapin_client.specs.declared.client.Client.{Client}
 use lib.Dec.{lit<}
 use mir.Val.{Val}
 use base.Logic.{SProp, ent, emp}

@@ -1,7 +1,7 @@
 -- `of` takes the box apart. Assumes `Logic`.
 use Rattle.std.proofs.Common.{◌≡◌, List, [], ◌∷◌, ◌++◌, refl, sym, ap, ◌∙◌, subst}
 use Rattle.std.specs.Prelude.{Option, Some}
-use Rattle.lapin_c.specs.declared.client.Client.{Client}
+use Rattle.lapin_client.specs.declared.client.Client.{Client}
 use mir.Raw.{raw as bare}
 use mir.Val.{Val, vptr, vstruct, of_list}
 use base.Logic.{SProp, ent, emp, never, id⊢, fst∗}
@@ -10,7 +10,7 @@ use base.Fraction.{full_share}
 use contract.BorrowLft.{◌⊑◌, ⊑_static}
 use types.Tokens.{lft_new}
 use Rattle.std_heap.proofs.Global.TheLaws as heap_laws
-use Rattle.lapin_c.proofs.client.Client.TheLaws as client_laws
+use Rattle.lapin_client.proofs.client.Client.TheLaws as client_laws
 use prog.Wp.{WpFn}
 use types.Logic.{sem}
 use types.Kit.{‵, raw, ◌⊛◌, some, later, ◌$◌, ◌∵◌, !, qed, by, move, keep, drop, split, split3, join, fsplit, fjoin, fpick, pick, suffices, use0, use1, await, rewrite, feq_l}
@@ -62,7 +62,7 @@ of_spec 𝓤 𝓛 𝓜 𝓡 wired =
     let known = met 𝓤 𝓛 𝓜 𝓡 (code.calls-std_alloc::boxed::Box::into_raw 𝓡.env wired) X Z E.laws E.al.laws g d drops_handle drops_client
     (heap_met.passed 𝓡.env (code.calls-std_heap::GlobalAllocator::allocate 𝓡.env wired) (code.calls-std_heap::GlobalAllocator::deallocate 𝓡.env wired)
     (code.calls-std_heap::GlobalAllocator::grow 𝓡.env wired) (code.calls-std_heap::GlobalAllocator::shrink 𝓡.env wired) _ 𝓤 𝓛 𝓜 𝓡)
-    (NoDrop.glues "lapin_c::Destruct++none::drop" 𝓡.env (code.calls-lapin_c::Destruct++none::drop 𝓡.env wired) Z E.al.laws _ 𝓤 𝓛 𝓜 𝓡) (lets_go 𝓤 𝓛 𝓜 𝓡 (code.calls-lapin_c::lapin_c++client++Client+Destruct::drop 𝓡.env wired)) in
+    (NoDrop.glues "lapin_c::Destruct++none::drop" 𝓡.env (code.calls-lapin_c::Destruct++none::drop 𝓡.env wired) Z E.al.laws _ 𝓤 𝓛 𝓜 𝓡) (lets_go 𝓤 𝓛 𝓜 𝓡 (code.calls-lapin_c::lapin_client++client++Client+Destruct::drop 𝓡.env wired)) in
     qed 𝓛 ((‵ ftrue ⊛ ‵ (owns (types_at En.signature.params z.0.0) z.0.3 z.0.4)) ∷ raw ((c z.0.0 z.0.3).requires z.1) ∷ []) ∵
     split ! $ move ! (1 ∷ []) $ fsplit ! $ box_out E ! v z.0.4.0 (λ b o h e ws fits. box_in E ! v b o v.value e refl $
     let w : Val = box.word E h b o in let typed = box.box_typed E h b o fits in
