@@ -17,12 +17,12 @@ record_bytes (record_.Frame f) = bytes_of f
 record_bytes _ = []
 
 -- the session after n frame requests, one after the other
-pub after_requests : ℕ → Bool → World → World
+abbrev pub after_requests : ℕ → Bool → World → World
 after_requests zero flow w = w
 after_requests (suc n) flow w = next (after_requests n flow w) (event.Next flow)
 
 -- the octets of the frames that n requests hand out, in their order
-pub bytes_handed : ℕ → Bool → World → List ℕ
+abbrev pub bytes_handed : ℕ → Bool → World → List ℕ
 bytes_handed zero flow w = []
 bytes_handed (suc n) flow w = bytes_handed n flow w ++ record_bytes (told_by (after_requests n flow w) (event.Next flow))
 

@@ -105,7 +105,8 @@ fn put_tune_ok(out: &mut Vec<u8>, limits: Limits) -> Result<(), WriteFault>
     put_short(out, 31)?;
     put_short(out, limits.channel_max)?;
     put_long(out, limits.frame_max)?;
-    put_short(out, limits.heartbeat)
+    put_short(out, limits.heartbeat)?;
+    Ok(())
 }
 
 fn put_open(out: &mut Vec<u8>, vhost: &[u8]) -> Result<(), WriteFault>
@@ -115,7 +116,8 @@ fn put_open(out: &mut Vec<u8>, vhost: &[u8]) -> Result<(), WriteFault>
     put_short(out, 40)?;
     put_short_text(out, vhost)?;
     put_octet(out, 0)?;
-    put_octet(out, 0)
+    put_octet(out, 0)?;
+    Ok(())
 }
 
 // Adds the frames of tune-ok and open.

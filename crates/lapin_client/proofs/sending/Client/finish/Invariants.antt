@@ -1,0 +1,15 @@
+use Rattle.std.proofs.Common.{◌≡◌, ℕ, false}
+use Rattle.lapin_client.specs.Clients.{IsSound}
+use Rattle.lapin_client.specs.Sending.{HandsOut, SameElse}
+use Rattle.lapin_client.proofs.sending.Client.finish.Given as goal
+
+-- frames were asked for so many times
+abbrev pub invariant-loop : goal.invariant-loop
+invariant-loop l = record {
+  sound : IsSound l.self;
+  told : (n : ℕ) × HandsOut n false l.initial.self l.self;
+  same : SameElse l.initial.self l.self;
+}
+
+abbrev pub decreases-loop : goal.decreases-loop
+decreases-loop l = l.self.left
