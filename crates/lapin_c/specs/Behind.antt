@@ -2,7 +2,7 @@
 use Rattle.std.specs.Prelude.{◌≡◌, ◌<◌, ◌++◌, ◌⊎◌, ℕ, Bool, List, [], drop, length, Option, Some, None, Result, Ok, Err}
 use Rattle.lapin_client.specs.declared.client.Client.{Client}
 use Rattle.lapin_client.specs.declared.status.Status.{Status}
-use Rattle.lapin_client.specs.Clients.{IsNew}
+use Rattle.lapin_client.specs.Clients.{IsNew, IsSent}
 use Rattle.lapin_client.specs.Statuses.{code_of}
 
 -- where there is a client behind the handle, what the call of the client says; and where there is none, there is none, and p
@@ -31,3 +31,7 @@ octets_of part (Some c) = part c
 -- the octets stand at the beginning of the room, where they fit into it
 abbrev pub Read : ℕ → List ℕ → List ℕ → List ℕ → Type 0
 Read written bytes old new = ((written ≡ length bytes) × (new ≡ bytes ++ drop (length bytes) old)) ⊎ ((written ≡ 0) × (new ≡ old) × (length old < length bytes))
+
+-- the octets that were to be sent are the caller's where any were written, and else the client is the same
+abbrev pub Taken : ℕ → Client → Client → Type 0
+Taken written c d = (IsSent c d × (0 < written)) ⊎ ((d ≡ c) × (written ≡ 0))

@@ -1,11 +1,12 @@
 //! The exports of a session: each takes the client out of its handle, makes one call of it, and puts it back.
 
 ghost use Rattle.std.specs.Prelude.{◌≡◌, false, length, None};
-ghost use Rattle.lapin_client.specs.Calls.{Published, OutcomeTold, Delivered, Settled, Forgotten};
-ghost use Rattle.lapin_client.specs.Clients.{Answers, IsSent};
+ghost use Rattle.lapin_client.specs.Calls.{Published, OutcomeTold, Delivered, Settled, Forgotten, fate_call};
+ghost use Rattle.lapin_client.specs.declared.calls.Fate.TheVariants as fates;
+ghost use Rattle.lapin_client.specs.Clients.{Answers};
 ghost use Rattle.lapin_client.specs.Receiving.{Receives};
 ghost use Rattle.lapin_client.specs.Sending.{Sends};
-ghost use Rattle.lapin_c.specs.Behind.{Behind, Coded, Gave, Opened, Read, octets_of};
+ghost use Rattle.lapin_c.specs.Behind.{Behind, Coded, Gave, Opened, Read, Taken, octets_of};
 
 use crate::handle::{Handle, put, take};
 use lapin_client::{Client, Fate, Message, Status};
@@ -192,7 +193,9 @@ fn settle(
     fate: Fate,
     multiple: bool,
     requeue: bool,
-) -> u32 {
+) -> u32
+    ensures { Behind (λ c d. Coded result (λ s. Settled s acker (fate_call fate multiple requeue) c d)) (result ≡ 7) handle.old.pointer.held handle.new.pointer.held }
+{
     match take(alloc, handle) {
         Some(mut client) => {
             let status = client.settle(alloc, acker, fate, multiple, requeue);
@@ -210,7 +213,9 @@ pub extern "C" fn lapin_ack(
     handle: &mut Handle,
     acker: u64,
     multiple: bool,
-) -> u32 {
+) -> u32
+    ensures { Behind (λ c d. Coded result (λ s. Settled s acker (fate_call fates.Ack multiple false) c d)) (result ≡ 7) handle.old.pointer.held handle.new.pointer.held }
+{
     settle(alloc, handle, acker, Fate::Ack, multiple, false)
 }
 
@@ -222,7 +227,9 @@ pub extern "C" fn lapin_nack(
     acker: u64,
     multiple: bool,
     requeue: bool,
-) -> u32 {
+) -> u32
+    ensures { Behind (λ c d. Coded result (λ s. Settled s acker (fate_call fates.Nack multiple requeue) c d)) (result ≡ 7) handle.old.pointer.held handle.new.pointer.held }
+{
     settle(alloc, handle, acker, Fate::Nack, multiple, requeue)
 }
 
@@ -233,7 +240,9 @@ pub extern "C" fn lapin_reject(
     handle: &mut Handle,
     acker: u64,
     requeue: bool,
-) -> u32 {
+) -> u32
+    ensures { Behind (λ c d. Coded result (λ s. Settled s acker (fate_call fates.Reject false requeue) c d)) (result ≡ 7) handle.old.pointer.held handle.new.pointer.held }
+{
     settle(alloc, handle, acker, Fate::Reject, false, requeue)
 }
 
@@ -271,7 +280,10 @@ pub extern "C" fn lapin_leaving_length(alloc: Global, handle: &mut Handle) -> us
 
 /// The bytes that are to be sent, where there is room for all of them; they are then the caller's. How many were written.
 #[unsafe(no_mangle)]
-pub extern "C" fn lapin_leaving(alloc: Global, handle: &mut Handle, out: &mut [u8]) -> usize {
+pub extern "C" fn lapin_leaving(alloc: Global, handle: &mut Handle, out: &mut [u8]) -> usize
+    ensures read { Read result (octets_of (λ c. c.leaving.items) handle.old.pointer.held) out.old out.new }
+    ensures left { Behind (λ c d. Taken result c d) (result ≡ 0) handle.old.pointer.held handle.new.pointer.held }
+{
     match take(alloc, handle) {
         Some(mut client) => {
             let written = copy_out(out, &client.leaving);

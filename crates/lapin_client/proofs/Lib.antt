@@ -1,3 +1,4 @@
 pub mod Heard
+pub mod Idle
 pub mod Requests
 pub mod Room

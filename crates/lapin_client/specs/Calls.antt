@@ -1,6 +1,8 @@
 -- The calls that are made without a line, as the events of the session that they are.
 use Rattle.std.specs.Prelude.{◌≡◌, ◌⊎◌, ℕ, ◌+◌, Bool, true, false, List, [], ◌∷◌, ◌++◌, length, Option, Some, None, Result, Ok, Err}
 use Rattle.lapin_client.specs.declared.client.Client.{Client}
+use Rattle.lapin_client.specs.declared.calls.Fate.{Fate}
+use Rattle.lapin_client.specs.declared.calls.Fate.TheVariants as fate
 use Rattle.lapin_client.specs.declared.calls.Message.{Message}
 use Rattle.lapin_client.specs.declared.status.Status.{Status}
 use Rattle.lapin_client.specs.declared.status.Status.TheVariants as status
@@ -15,6 +17,7 @@ use Rattle.lapin_tokens.specs.Fields.{Value, token as token_of}
 use Rattle.lapin_tokens.specs.Fields.Field.{props as props_field}
 use Rattle.lapin_types.specs.Types.{Error}
 use Rattle.lapin_types.specs.declared.acker_call.AckerCall.{AckerCall}
+use Rattle.lapin_types.specs.declared.acker_call.AckerCall.TheVariants as acker_call
 use Rattle.lapin_types.specs.declared.call.Call.TheVariants as call
 use Rattle.lapin_types.specs.declared.event.Event.{Event}
 use Rattle.lapin_types.specs.declared.event.Event.TheVariants as event
@@ -79,6 +82,18 @@ Delivered (Ok m) consumer c d = ((x : Delivery) × (told_by c.session (event.Pol
 Delivered (Err status.Pending) consumer c d = (told_by c.session (event.PollConsumer consumer) ≡ record_.Pending) × (d.session ≡ next c.session (event.PollConsumer consumer)) × SameBytes c d
 Delivered (Err status.Gone) consumer c d = (told_by c.session (event.PollConsumer consumer) ≡ record_.Item (Ok None)) × (d.session ≡ next c.session (event.PollConsumer consumer)) × SameBytes c d
 Delivered (Err _) consumer c d = SameBytes c d
+
+-- a message is the answer; where there was no memory for it, it is lost, and so is the client
+abbrev pub Shown : Result Message Status → Delivery → Client → Client → Type 0
+Shown (Ok m) x c d = (m ≡ message_of x) × (d.answer.items ≡ message_bytes x) × (d.session ≡ c.session) × SameBytes c d
+Shown (Err status.NoMemory) x c d = (d.left ≡ 0) × SameBytes c d
+Shown (Err _) x c d = ⊥
+
+-- the call of an acker by which a message has its fate
+abbrev pub fate_call : Fate → Bool → Bool → AckerCall
+fate_call fate.Ack multiple requeue = acker_call.Ack (record { multiple = multiple })
+fate_call fate.Nack multiple requeue = acker_call.Nack (record { multiple = multiple; requeue = requeue })
+fate_call fate.Reject multiple requeue = acker_call.Reject (record { requeue = requeue })
 
 -- What a call of an acker leaves: it was made, and its ticket set aside; or it was not, since the acker isn't usable.
 abbrev pub Settled : Status → ℕ → AckerCall → Client → Client → Type 0

@@ -1,5 +1,5 @@
 -- Frames that leave, as octets.
-use Rattle.std.specs.Prelude.{◌≡◌, ◌+◌, ℕ, zero, suc, Bool, true, false, List, [], ◌++◌}
+use Rattle.std.specs.Prelude.{◌≡◌, ◌≤◌, ◌+◌, ℕ, zero, suc, Bool, true, false, List, [], ◌++◌, length}
 use Rattle.lapin_client.specs.declared.client.Client.{Client}
 use Rattle.lapin_client.specs.declared.status.Status.{Status}
 use Rattle.lapin_client.specs.declared.sending.Step.{Step}
@@ -26,6 +26,11 @@ abbrev pub bytes_handed : ℕ → Bool → World → List ℕ
 bytes_handed zero flow w = []
 bytes_handed (suc n) flow w = bytes_handed n flow w ++ record_bytes (told_by (after_requests n flow w) (event.Next flow))
 
+-- none of the frames that n requests hand out has more octets than that
+abbrev pub AllWithin : ℕ → ℕ → Bool → World → Type 0
+AllWithin most zero flow w = Unit {0}
+AllWithin most (suc n) flow w = AllWithin most n flow w × (length (record_bytes (told_by (after_requests n flow w) (event.Next flow))) ≤ most)
+
 -- nothing may leave
 abbrev pub IsIdle : Bool → World → Type 0
 IsIdle flow w = told_by w (event.Next flow) ≡ record_.NoFrame
@@ -34,9 +39,9 @@ IsIdle flow w = told_by w (event.Next flow) ≡ record_.NoFrame
 abbrev pub SameElse : Client → Client → Type 0
 SameElse c d = (d.answer.items ≡ c.answer.items) × (d.came ≡ c.came) × (d.frame_max ≡ c.frame_max) × (d.blocked ≡ c.blocked)
 
--- frames were asked for n times, and the octets of those that left stand behind those that were to be sent
+-- frames were asked for n times, and the octets of those that left stand behind those that were to be sent; none is longer than a frame may be
 abbrev pub HandsOut : ℕ → Bool → Client → Client → Type 0
-HandsOut n flow c d = (d.session ≡ after_requests n flow c.session) × (d.leaving.items ≡ c.leaving.items ++ bytes_handed n flow c.session)
+HandsOut n flow c d = (d.session ≡ after_requests n flow c.session) × ((d.leaving.items ≡ c.leaving.items ++ bytes_handed n flow c.session) × AllWithin c.frame_max n flow c.session)
 
 -- why a frame was lost
 abbrev pub IsLoss : Status → Type 0
@@ -46,7 +51,7 @@ IsLoss _ = ⊥
 
 -- one request: a frame left, or none may leave; a client that lost a frame ends
 abbrev pub Steps : Step → Bool → Client → Client → Type 0
-Steps step.Left flow c d = (d.session ≡ next c.session (event.Next flow)) × (d.leaving.items ≡ c.leaving.items ++ record_bytes (told_by c.session (event.Next flow))) × SameElse c d
+Steps step.Left flow c d = (d.session ≡ next c.session (event.Next flow)) × (d.leaving.items ≡ c.leaving.items ++ record_bytes (told_by c.session (event.Next flow))) × (length (record_bytes (told_by c.session (event.Next flow))) ≤ c.frame_max) × SameElse c d
 Steps step.Idle flow c d = IsIdle flow c.session × (d.session ≡ next c.session (event.Next flow)) × (d.leaving.items ≡ c.leaving.items) × SameElse c d
 Steps (step.Lost s) flow c d = IsLoss s × (d.left ≡ 0) × SameElse c d
 

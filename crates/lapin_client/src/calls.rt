@@ -1,14 +1,16 @@
 //! The calls of which a caller makes many, without a line: a publish and its outcome, a consumer's next message and its fate.
-ghost use Rattle.std.specs.Prelude.{◌≡◌, ◌<◌, IfOk, IfSome};
-ghost use Rattle.lapin_client.specs.Calls.{Published, OutcomeTold, Delivered, Settled, Forgotten, message_bytes, message_of};
-ghost use Rattle.lapin_client.specs.Clients.{IsSound, SameBytes};
+ghost use Rattle.std.specs.Prelude.{◌≡◌, ◌++◌, ◌∷◌, [], length, IfOk, IfSome};
+ghost use Rattle.lapin_tokens.specs.Fields.{token as token_of};
+ghost use Rattle.lapin_tokens.specs.Fields.Field.{props as props_field};
+ghost use Rattle.lapin_client.specs.Calls.{Published, OutcomeTold, Delivered, Settled, Forgotten, Shown, fate_call, message_bytes, message_of};
+ghost use Rattle.lapin_client.specs.Clients.{IsSound};
 
 use crate::client::Client;
 use crate::status::Status;
 use lapin_history::Outcome;
 use lapin_tokens::{ReadError, properties_of, put_properties};
 use lapin_types::{
-    AckerCall, BasicAckOptions, BasicNackOptions, BasicPublishOptions, BasicRejectOptions, Delivery, Error, Payload, Poll,
+    AckerCall, BasicAckOptions, BasicNackOptions, BasicProperties, BasicPublishOptions, BasicRejectOptions, Delivery, Error, Payload, Poll,
     ShortString, ShortStringError,
 };
 use std::alloc::Global;
@@ -36,7 +38,9 @@ pub enum Fate {
 }
 
 // A short text of bytes.
-fn short(alloc: Global, bytes: &[u8]) -> Result<ShortString, Status> {
+fn short(alloc: Global, bytes: &[u8]) -> Result<ShortString, Status>
+    ensures { IfOk result (λ text. text ≡ bytes.now) }
+{
     let Ok(text) = std::str::from_utf8(bytes) else {
         return Err(Status::NotInGrammar);
     };
@@ -148,7 +152,6 @@ impl Client {
             return Err(Status::Ended);
         }
         self.left -= 1;
-        self.answer.clear();
         match self.session.poll_next(consumer) {
             Ok(Poll::Pending) => Err(Status::Pending),
             Ok(Poll::Ready(Ok(None))) => Err(Status::Gone),
@@ -159,8 +162,13 @@ impl Client {
     }
 
     // A message is the answer.
-    fn show(&mut self, alloc: Global, delivery: Delivery) -> Result<Message, Status> {
-        let shown = self.put_delivery(alloc, &delivery);
+    fn show(&mut self, alloc: Global, delivery: Delivery) -> Result<Message, Status>
+        requires { IsSound self.old }
+        ensures sound { IsSound self.new }
+        ensures told { Shown result delivery self.old self.new }
+    {
+        self.answer.clear();
+        let shown = put_delivery(alloc, &mut self.answer, &delivery);
         drop(delivery);
         match shown {
             Some(message) => Ok(message),
@@ -171,45 +179,23 @@ impl Client {
         }
     }
 
-    fn put_delivery(&mut self, alloc: Global, delivery: &Delivery) -> Option<Message> {
-        let exchange = delivery.exchange.as_str().as_bytes();
-        let routing_key = delivery.routing_key.as_str().as_bytes();
-        let body = delivery.payload.as_bytes();
-        if self.answer.extend_from_slice(exchange).is_err() {
-            return None;
-        }
-        if self.answer.extend_from_slice(routing_key).is_err() {
-            return None;
-        }
-        let before = self.answer.len();
-        if put_properties(alloc, &mut self.answer, &delivery.properties).is_err() {
-            return None;
-        }
-        let properties = self.answer.len() - before;
-        if self.answer.extend_from_slice(body).is_err() {
-            return None;
-        }
-        Some(Message {
-            delivery_tag: delivery.delivery_tag,
-            acker: delivery.acker.number,
-            exchange: exchange.len(),
-            routing_key: routing_key.len(),
-            properties,
-            body: body.len(),
-            redelivered: delivery.redelivered,
-        })
-    }
-
     /// Settles a message by its acker. Done: the call is queued, and the acker used up. `Gone`: the acker isn't usable, and nothing is sent.
-    pub fn settle(&mut self, alloc: Global, acker: u64, fate: Fate, multiple: bool, requeue: bool) -> Status {
+    pub fn settle(
+        &mut self,
+        alloc: Global,
+        acker: u64,
+        fate: Fate,
+        multiple: bool,
+        requeue: bool,
+    ) -> Status
+        requires { IsSound self.old }
+        ensures sound { IsSound self.new }
+        ensures told { Settled result acker (fate_call fate multiple requeue) self.old self.new }
+    {
         if self.left < 2 {
             return Status::Ended;
         }
-        let call = match fate {
-            Fate::Ack => AckerCall::Ack(BasicAckOptions { multiple }),
-            Fate::Nack => AckerCall::Nack(BasicNackOptions { multiple, requeue }),
-            Fate::Reject => AckerCall::Reject(BasicRejectOptions { requeue }),
-        };
+        let call = call_of(fate, multiple, requeue);
         match self.session.acker_call(alloc, acker, call) {
             Ok(Some(ticket)) => {
                 self.left -= 2;
@@ -241,5 +227,57 @@ impl Client {
             Err(Error::NoMemory) => Status::NoMemory,
             Err(_) => Status::Gone,
         }
+    }
+}
+
+// The call of an acker by which a message has its fate.
+fn call_of(fate: Fate, multiple: bool, requeue: bool) -> AckerCall
+    ensures { result ≡ fate_call fate multiple requeue }
+{
+    match fate {
+        Fate::Ack => AckerCall::Ack(BasicAckOptions { multiple }),
+        Fate::Nack => AckerCall::Nack(BasicNackOptions { multiple, requeue }),
+        Fate::Reject => AckerCall::Reject(BasicRejectOptions { requeue }),
+    }
+}
+
+// The octets of a message, and how many each part has.
+fn put_delivery(alloc: Global, out: &mut Vec<u8>, delivery: &Delivery) -> Option<Message>
+    requires { out.old.items ≡ [] }
+    ensures { IfSome result (λ m. (m ≡ message_of delivery.now) × (out.new.items ≡ message_bytes delivery.now)) }
+{
+    let exchange = put_bytes(out, delivery.exchange.as_str().as_bytes())?;
+    let routing_key = put_bytes(out, delivery.routing_key.as_str().as_bytes())?;
+    let properties = put_props(alloc, out, &delivery.properties)?;
+    let body = put_bytes(out, delivery.payload.as_bytes())?;
+    Some(Message {
+        delivery_tag: delivery.delivery_tag,
+        acker: delivery.acker.number,
+        exchange,
+        routing_key,
+        properties,
+        body,
+        redelivered: delivery.redelivered,
+    })
+}
+
+// Adds octets. How many.
+fn put_bytes(out: &mut Vec<u8>, bytes: &[u8]) -> Option<usize>
+    ensures { IfSome result (λ n. (n ≡ length bytes.now) × (out.new.items ≡ out.old.items ++ bytes.now)) }
+{
+    match out.extend_from_slice(bytes) {
+        Ok(()) => Some(bytes.len()),
+        Err(_) => None,
+    }
+}
+
+// Adds the text of properties behind a space. How many octets.
+fn put_props(alloc: Global, out: &mut Vec<u8>, properties: &BasicProperties) -> Option<usize>
+    ensures { IfSome result (λ n. (n ≡ length (32 ∷ token_of props_field properties.now)) × (out.new.items ≡ out.old.items ++ 32 ∷ token_of props_field properties.now)) }
+{
+    let mut text = Vec::new(alloc);
+    match put_properties(alloc, &mut text, properties) {
+        Ok(()) => put_bytes(out, &text),
+        Err(_) => None,
     }
 }

@@ -8,6 +8,7 @@
 mod calls;
 mod client;
 mod inlet;
+mod laws;
 mod receiving;
 mod sending;
 mod status;
@@ -15,4 +16,5 @@ mod status;
 pub use calls::{Fate, Message};
 pub use client::Client;
 pub use inlet::Inlet;
+pub use laws::nothing_has_begun_in_an_idle_session;
 pub use status::Status;

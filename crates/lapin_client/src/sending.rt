@@ -1,5 +1,5 @@
 //! Frames that leave, as bytes.
-ghost use Rattle.std.specs.Prelude.{◌≡◌, ◌++◌, ◌<◌, OnOk, OnErr};
+ghost use Rattle.std.specs.Prelude.{◌≡◌, ◌≤◌, ◌++◌, ◌<◌, length, OnOk, OnErr};
 ghost use Rattle.lapin_client.specs.Clients.{IsSound};
 ghost use Rattle.lapin_frames.specs.Frames.{bytes_of};
 ghost use Rattle.lapin_client.specs.Sending.{Pulls, Finishes, Sends, Steps, Counts, IsLoss};
@@ -108,7 +108,7 @@ enum Step {
 
 // Adds the bytes of a frame that left.
 fn put_left(alloc: Global, out: &mut Vec<u8>, frame: &Frame, frame_max: u32) -> Result<(), WriteFault>
-    ensures ok { OnOk result (out.new.items ≡ out.old.items ++ bytes_of frame.now) }
+    ensures ok { OnOk result ((out.new.items ≡ out.old.items ++ bytes_of frame.now) × (length (bytes_of frame.now) ≤ frame_max)) }
     ensures err { OnErr result (out.new.items ≡ out.old.items) }
 {
     put_frame_within(alloc, out, frame, frame_max as usize)

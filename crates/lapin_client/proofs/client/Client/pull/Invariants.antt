@@ -1,7 +1,7 @@
 use Rattle.std.proofs.Common.{◌≡◌, ℕ}
 use Rattle.lapin_client.specs.Clients.{IsSound}
 use Rattle.lapin_client.specs.Sending.{HandsOut, SameElse}
-use Rattle.lapin_client.proofs.sending.Client.pull.Given as goal
+use Rattle.lapin_client.proofs.client.Client.pull.Given as goal
 
 -- frames were asked for so many times
 abbrev pub invariant-loop : goal.invariant-loop
