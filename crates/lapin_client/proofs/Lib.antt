@@ -2,3 +2,4 @@ pub mod Heard
 pub mod Idle
 pub mod Requests
 pub mod Room
+pub mod Taking

@@ -29,12 +29,16 @@ use Rattle.lapin_types.specs.declared.record.Record.TheVariants as record_
 abbrev pub refused_line : Error → List ℕ
 refused_line e = line_onto [] (record_tokens (record_.Refused e)) ++ 10 ∷ []
 
--- What a refusal tells: its line is the answer, and nothing else changes. Want of memory and of numbers have no line.
-abbrev pub IsRefused : Status → Error → Client → Client → Type 0
-IsRefused status.Refused e c d = (d.answer.items ≡ refused_line e) × (d.session ≡ c.session) × (d.left ≡ c.left) × SameBytes c d
-IsRefused status.NoMemory e c d = (d.session ≡ c.session) × (d.left ≡ c.left) × SameBytes c d
-IsRefused status.Ended e c d = (d.session ≡ c.session) × (d.left ≡ c.left) × SameBytes c d
-IsRefused _ e c d = ⊥
+-- a refusal's line is the answer; want of memory and of numbers have none
+abbrev pub RefusedTold : Status → Error → Client → Type 0
+RefusedTold status.Refused e d = d.answer.items ≡ refused_line e
+RefusedTold status.NoMemory e d = Unit {0}
+RefusedTold status.Ended e d = Unit {0}
+RefusedTold _ e d = ⊥
+
+-- of two clients all is the same but the answer
+abbrev pub StaysBut : Client → Client → Type 0
+StaysBut c d = (d.session ≡ c.session) × (d.left ≡ c.left) × SameBytes c d
 
 -- A publish: the session met the call, and then set its ticket aside; the number is that of its confirm.
 abbrev pub IsPublished : ℕ → Event → World → World → Type 0

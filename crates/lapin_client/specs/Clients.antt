@@ -8,7 +8,7 @@ use Rattle.lapin_machine.specs.World.{World, new_world}
 use Rattle.lapin_text.specs.LineReading.{line_at}
 
 -- each counter has n further numbers
-abbrev pub HasRoomFor : ℕ → World → Type 0
+unfoldable pub HasRoomFor : ℕ → World → Type 0
 HasRoomFor n w = (w.wire.tickets + n < 2 ^ 64) × ((w.wire.published + n < 2 ^ 64) × ((length w.wire.inbox.roster.consumers + n < 2 ^ 64) × (length w.wire.inbox.switches + n < 2 ^ 64)))
 
 -- a client that takes further steps has numbers for them; and no frame is shorter than the standard lets it be

@@ -6,11 +6,12 @@ use Rattle.lapin_client.specs.declared.receiving.Head.{Head}
 use Rattle.lapin_client.specs.declared.receiving.Head.TheVariants as head
 use Rattle.lapin_client.specs.declared.status.Status.{Status}
 use Rattle.lapin_client.specs.declared.status.Status.TheVariants as status
-use Rattle.lapin_client.specs.Sending.{after_requests, bytes_handed, IsIdle}
+use Rattle.lapin_client.specs.Sending.{after_requests, bytes_handed, IsIdle, IsLoss}
 use Rattle.lapin_fields.specs.Around.{wanted_behind}
 use Rattle.lapin_frames.specs.FrameReading.{read_at}
 use Rattle.lapin_frames.specs.declared.frames.Read.TheVariants as read
 use Rattle.lapin_handshake.specs.Saying.{frame_said_at}
+use Rattle.lapin_handshake.specs.declared.said.Said.{Said}
 use Rattle.lapin_handshake.specs.declared.said.Said.TheVariants as said
 use Rattle.lapin_history.specs.Drops.{frame_channel}
 use Rattle.lapin_history.specs.Wire.{state_of, is_closed}
@@ -55,10 +56,15 @@ abbrev pub length_at : List ℕ → ℕ
 length_at (_ ∷ _ ∷ _ ∷ a ∷ b ∷ c ∷ d ∷ rest) = from_be_bytes w32 (a ∷ b ∷ c ∷ d ∷ []) + 8
 length_at _ = 0
 
+-- what a frame says by which the broker takes no messages, or takes them again
+abbrev pub notice : Bool → Said
+notice true = said.Blocked
+notice false = said.Unblocked
+
 -- the frame of n octets at the head is for the session; or it is none that the session hears: a heartbeat, or whether the broker takes messages
 abbrev pub IsHead : List ℕ → Option Frame → ℕ → Type 0
 IsHead bytes (Some f) n = read_at bytes ≡ Some (read.Frame f n)
-IsHead bytes None n = (read_at bytes ≡ Some (read.Heartbeat n)) ⊎ (((frame_said_at bytes ≡ Some said.Blocked) ⊎ (frame_said_at bytes ≡ Some said.Unblocked)) × (n ≡ length_at bytes))
+IsHead bytes None n = (read_at bytes ≡ Some (read.Heartbeat n)) ⊎ ((b : Bool) × (frame_said_at bytes ≡ Some (notice b)) × (n ≡ length_at bytes))
 
 -- What a frame leaves: first all leaves that has begun here or is no publish, so that the session is idle, and then the session hears it.
 abbrev pub TurnLeaves : Option Frame → Client → Client → Type 0
@@ -74,21 +80,19 @@ SameHeard b d = (d.leaving.items ≡ b.leaving.items) × (d.came ≡ b.came) × 
 abbrev pub Hears : Status → Frame → Client → Client → Type 0
 Hears status.Done f b d = (d.session ≡ next b.session (event.Receive f)) × SameHeard b d
 Hears status.Refused f b d = (d.session ≡ next b.session (event.Receive f)) × SameHeard b d
-Hears _ f b d = d.left ≡ 0
+Hears r f b d = IsLoss r × (d.left ≡ 0)
+
+-- what becomes of a frame where nothing waits here that has begun
+abbrev pub TakesIdle : Status → Frame → Client → Client → Type 0
+TakesIdle status.Done f b d = (d.session ≡ heard f b.session) × SameHeard b d
+TakesIdle status.Refused f b d = (d.session ≡ heard f b.session) × SameHeard b d
+TakesIdle r f b d = IsLoss r × (d.left ≡ 0)
 
 -- what becomes of a frame that came
 abbrev pub Takes : Status → Frame → Client → Client → Type 0
 Takes status.Done f b d = TurnLeaves (Some f) b d × (d.came ≡ b.came) × (d.frame_max ≡ b.frame_max)
 Takes status.Refused f b d = TurnLeaves (Some f) b d × (d.came ≡ b.came) × (d.frame_max ≡ b.frame_max)
-Takes _ f b d = d.left ≡ 0
-
--- what stands at the head of octets that no frame for the session begins
-abbrev pub NoticeIs : Head → List ℕ → Type 0
-NoticeIs (head.Blocked true n) bytes = (frame_said_at bytes ≡ Some said.Blocked) × (n ≡ length_at bytes)
-NoticeIs (head.Blocked false n) bytes = (frame_said_at bytes ≡ Some said.Unblocked) × (n ≡ length_at bytes)
-NoticeIs head.Malformed bytes = Unit {0}
-NoticeIs head.NoMemory bytes = Unit {0}
-NoticeIs _ bytes = ⊥
+Takes r f b d = IsLoss r × (d.left ≡ 0)
 
 -- what stands at the head of octets, where a frame has no more than frame_max
 abbrev pub HeadIs : Head → List ℕ → ℕ → Type 0
@@ -97,7 +101,8 @@ HeadIs (head.Frame f n) bytes frame_max = read_at bytes ≡ Some (read.Frame f n
 HeadIs (head.Passed n) bytes frame_max = read_at bytes ≡ Some (read.Heartbeat n)
 HeadIs head.TooLong bytes frame_max = frame_max < length_at bytes
 HeadIs head.Malformed bytes frame_max = (wanted_behind bytes ≡ 0) × (read_at bytes ≡ None)
-HeadIs h bytes frame_max = NoticeIs h bytes
+HeadIs (head.Blocked b n) bytes frame_max = (frame_said_at bytes ≡ Some (notice b)) × (n ≡ length_at bytes)
+HeadIs head.NoMemory bytes frame_max = Unit {0}
 
 -- the frame at the head of what came is taken
 abbrev pub IsTurn : Client → Client → Type 0

@@ -43,8 +43,9 @@ SameElse c d = (d.answer.items ≡ c.answer.items) × (d.came ≡ c.came) × (d.
 abbrev pub HandsOut : ℕ → Bool → Client → Client → Type 0
 HandsOut n flow c d = (d.session ≡ after_requests n flow c.session) × ((d.leaving.items ≡ c.leaving.items ++ bytes_handed n flow c.session) × AllWithin c.frame_max n flow c.session)
 
--- why a frame was lost
+-- why a client takes nothing further: a frame was lost, or there are no numbers
 abbrev pub IsLoss : Status → Type 0
+IsLoss status.Ended = Unit {0}
 IsLoss status.NoMemory = Unit {0}
 IsLoss status.TooLong = Unit {0}
 IsLoss _ = ⊥
@@ -63,14 +64,14 @@ Counts _ c d = d.left + 1 ≡ c.left
 -- What leaves: frames were asked for until there was none, or until there were octets enough; a client that lost a frame ends.
 abbrev pub Pulls : Status → Bool → Client → Client → Type 0
 Pulls status.Done flow c d = ((n : ℕ) × HandsOut n flow c d) × SameElse c d
-Pulls _ flow c d = (d.left ≡ 0) × SameElse c d
+Pulls r flow c d = IsLoss r × (d.left ≡ 0) × SameElse c d
 
 -- What leaves where no publish may begin: frames were asked for until there was none.
 abbrev pub Finishes : Status → Client → Client → Type 0
 Finishes status.Done c d = ((n : ℕ) × HandsOut (suc n) false c d × IsIdle false (after_requests n false c.session)) × SameElse c d
-Finishes _ c d = (d.left ≡ 0) × SameElse c d
+Finishes r c d = IsLoss r × (d.left ≡ 0) × SameElse c d
 
 -- What leaves: frames were asked for, m times where publishes may begin as the caller says, and then until none is left where none may begin.
 abbrev pub Sends : Status → Bool → Client → Client → Type 0
 Sends status.Done flow c d = ((b : Client) × (Pulls status.Done flow c b × Finishes status.Done b d))
-Sends _ flow c d = (d.left ≡ 0) × SameElse c d
+Sends r flow c d = IsLoss r × (d.left ≡ 0) × SameElse c d

@@ -2,10 +2,11 @@
 ghost use Rattle.std.specs.Prelude.{◌≡◌, ◌++◌, ◌∷◌, [], length, IfOk, IfSome};
 ghost use Rattle.lapin_tokens.specs.Fields.{token as token_of};
 ghost use Rattle.lapin_tokens.specs.Fields.Field.{props as props_field};
-ghost use Rattle.lapin_client.specs.Calls.{Published, OutcomeTold, Delivered, Settled, Forgotten, Shown, fate_call, message_bytes, message_of};
+ghost use Rattle.lapin_client.specs.Calls.{Published, OutcomeTold, Delivered, Settled, Forgotten, Shown, StaysBut, outcome_code, fate_call, message_bytes, message_of};
 ghost use Rattle.lapin_client.specs.Clients.{IsSound};
 
 use crate::client::Client;
+use crate::receiving::refuses;
 use crate::status::Status;
 use lapin_history::Outcome;
 use lapin_tokens::{ReadError, properties_of, put_properties};
@@ -102,7 +103,7 @@ impl Client {
         ) {
             Ok(published) => {
                 self.left -= 2;
-                let _aside = self.session.set_aside_ticket(published.ticket.number);
+                let _ = self.session.set_aside_ticket(published.ticket.number);
                 Ok(published.confirm.number)
             }
             Err(error) => Err(self.refuse(alloc, error)),
@@ -120,21 +121,28 @@ impl Client {
             return 0;
         }
         match self.session.poll_bare_confirm(confirm) {
-            Some(Outcome::Ack) => self.told(1),
-            Some(Outcome::Nack) => self.told(2),
-            Some(Outcome::NotRequested) => self.told(3),
-            Some(Outcome::Failed(error)) => {
-                let _ = self.refuse(alloc, error);
-                self.told(4)
+            Some(outcome) => {
+                self.left -= 1;
+                self.tell(alloc, outcome)
             }
             None => 0,
         }
     }
 
-    // An outcome was given.
-    fn told(&mut self, outcome: u32) -> u32 {
-        self.left -= 1;
-        outcome
+    // The number of an outcome. The line of an error is the answer.
+    fn tell(&mut self, alloc: Global, outcome: Outcome) -> u32
+        ensures code { result ≡ outcome_code outcome }
+        ensures same { StaysBut self.old self.new }
+    {
+        match outcome {
+            Outcome::Ack => 1,
+            Outcome::Nack => 2,
+            Outcome::NotRequested => 3,
+            Outcome::Failed(error) => {
+                let _ = self.refuse(alloc, error);
+                4
+            }
+        }
     }
 
     /// What a consumer was handed next. Its exchange, its routing key, the text of its properties and its body are the answer, one behind
@@ -199,12 +207,15 @@ impl Client {
         match self.session.acker_call(alloc, acker, call) {
             Ok(Some(ticket)) => {
                 self.left -= 2;
-                let _aside = self.session.set_aside_ticket(ticket.number);
+                let _ = self.session.set_aside_ticket(ticket.number);
                 Status::Done
             }
             Ok(None) => Status::Gone,
             Err(error) => {
-                self.left -= 1;
+                if refuses(error) {
+                    self.left -= 1;
+                    return self.refuse(alloc, error);
+                }
                 self.refuse(alloc, error)
             }
         }

@@ -2,7 +2,7 @@
 ghost use Rattle.std.specs.Prelude.{◌≡◌, ◌≤◌, ◌++◌, ◌∷◌, [], IfOk, OnOk};
 ghost use Rattle.lapin_text.specs.Records.{record_tokens, line_onto};
 ghost use Rattle.lapin_types.specs.declared.record.Record.TheVariants as told;
-ghost use Rattle.lapin_client.specs.Calls.{IsRefused};
+ghost use Rattle.lapin_client.specs.Calls.{RefusedTold, StaysBut};
 ghost use Rattle.lapin_client.specs.Clients.{IsSound, Answers, IsNew, IsSent};
 
 use crate::inlet::Inlet;
@@ -56,7 +56,6 @@ impl Client {
     }
 
     /// Takes a line, without its line end: where it says an event, the session meets it, and the line of its record is the answer.
-    #[tactic(auto, using(crate::proofs::Room::room_one, crate::proofs::Room::room_left))]
     pub fn take_line(&mut self, alloc: Global, line: &[u8]) -> Status
         requires { IsSound self.old }
         ensures sound { IsSound self.new }
@@ -90,7 +89,8 @@ impl Client {
 
     // The line of a refusal is the answer. Want of memory and of numbers have none.
     pub(crate) fn refuse(&mut self, alloc: Global, error: Error) -> Status
-        ensures { IsRefused result error self.old self.new }
+        ensures told { RefusedTold result error self.new }
+        ensures same { StaysBut self.old self.new }
     {
         self.answer.clear();
         match error {

@@ -1,8 +1,9 @@
 //! Bytes of the broker, in whatever pieces they come: each frame that is whole is handed to the session, once nothing of this side waits
 //! that has begun.
-ghost use Rattle.std.specs.Prelude.{◌≡◌, ◌<◌};
+ghost use Rattle.std.specs.Prelude.{◌≡◌, Some, IfSome};
+ghost use Rattle.lapin_handshake.specs.Saying.{frame_said_at};
 ghost use Rattle.lapin_client.specs.Clients.{IsSound};
-ghost use Rattle.lapin_client.specs.Receiving.{Receives, Turns, Takes, Hears, HeadIs, NoticeIs, is_of_content as is_of_content_lem, begins_content as begins_content_lem, is_stray as is_stray_lem, is_refusal, length_at};
+ghost use Rattle.lapin_client.specs.Receiving.{Receives, Turns, Takes, TakesIdle, Hears, HeadIs, notice, is_of_content as is_of_content_lem, begins_content as begins_content_lem, is_stray as is_stray_lem, is_refusal, length_at};
 ghost use Rattle.lapin_history.specs.Wire.{is_closed as is_closed_lem};
 ghost use Rattle.lapin_history.specs.Drops.{frame_channel};
 
@@ -88,11 +89,21 @@ impl Client {
         ensures sound { IsSound self.new }
         ensures told { Takes result frame self.old self.new }
     {
-        let status = self.finish(alloc);
-        if status != Status::Done {
-            drop(frame);
-            return status;
+        match self.finish(alloc) {
+            Status::Done => self.take_idle(alloc, frame),
+            status => {
+                drop(frame);
+                status
+            }
         }
+    }
+
+    // Takes a frame, where nothing waits here that has begun. A content of an opening that has ended is passed over.
+    fn take_idle(&mut self, alloc: Global, frame: Frame) -> Status
+        requires { IsSound self.old }
+        ensures sound { IsSound self.new }
+        ensures told { TakesIdle result frame self.old self.new }
+    {
         if is_stray(&self.session, &frame) {
             drop(frame);
             return Status::Done;
@@ -101,7 +112,6 @@ impl Client {
     }
 
     // The session takes a frame.
-    #[tactic(auto, using(crate::proofs::Room::room_next))]
     fn hear(&mut self, alloc: Global, frame: Frame) -> Status
         requires { IsSound self.old }
         ensures sound { IsSound self.new }
@@ -116,25 +126,21 @@ impl Client {
                 self.left -= 1;
                 Status::Done
             }
-            Err(error) => self.refuse_frame(alloc, error),
+            Err(error) => {
+                if refuses(error) {
+                    self.left -= 1;
+                    let _ = self.refuse(alloc, error);
+                    return Status::Refused;
+                }
+                self.left = 0;
+                Status::NoMemory
+            }
         }
-    }
-
-    // A frame was refused, or could not be taken: then nothing further can.
-    fn refuse_frame(&mut self, alloc: Global, error: Error) -> Status {
-        if !refuses(error) {
-            self.left = 0;
-            return Status::NoMemory;
-        }
-        if self.left > 0 {
-            self.left -= 1;
-        }
-        self.refuse(alloc, error)
     }
 }
 
 // Whether the session did something with a frame of which it told the error.
-fn refuses(error: Error) -> bool
+pub(crate) fn refuses(error: Error) -> bool
     ensures { result ≡ is_refusal error }
 {
     !matches!(error, Error::NoMemory | Error::NumbersUsedUp)
@@ -192,24 +198,28 @@ fn head_of(alloc: Global, bytes: &[u8], frame_max: u32) -> Head
     if length_of(bytes) > frame_max as usize {
         return Head::TooLong;
     }
+    if wanted(bytes) > 0 {
+        return Head::Part;
+    }
     match read_frame(alloc, bytes) {
         Ok(Read::Frame(frame, length)) => Head::Frame(frame, length),
         Ok(Read::Heartbeat(length)) => Head::Passed(length),
-        Ok(Read::Part) => Head::Part,
-        Err(ReadFault::Malformed) => notice_of(bytes),
-        Err(ReadFault::NoMemory) => Head::NoMemory,
+        Err(ReadFault::Malformed) => match notice_of(bytes) {
+            Some((blocked, length)) => Head::Blocked(blocked, length),
+            None => Head::Malformed,
+        },
+        _ => Head::NoMemory,
     }
 }
 
-// A frame that no session hears, if it is one of those that say whether the broker takes messages.
-fn notice_of(bytes: &[u8]) -> Head
-    ensures { NoticeIs result bytes.now }
+// Whether the broker takes no messages, and in how many octets, if the frame at the head of bytes says that.
+fn notice_of(bytes: &[u8]) -> Option<(bool, usize)>
+    ensures { IfSome result (λ x. (frame_said_at bytes.now ≡ Some (notice x.0)) × (x.1 ≡ length_at bytes.now)) }
 {
     match read_said(bytes) {
-        Ok(Said::Blocked) => Head::Blocked(true, length_of(bytes)),
-        Ok(Said::Unblocked) => Head::Blocked(false, length_of(bytes)),
-        Err(ReadFault::NoMemory) => Head::NoMemory,
-        _ => Head::Malformed,
+        Ok(Said::Blocked) => Some((true, length_of(bytes))),
+        Ok(Said::Unblocked) => Some((false, length_of(bytes))),
+        _ => None,
     }
 }
 

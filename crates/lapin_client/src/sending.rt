@@ -63,7 +63,6 @@ impl Client {
     }
 
     // A frame is asked for, and leaves as bytes, if there is one.
-    #[tactic(auto, using(crate::proofs::Room::room_next))]
     fn step(&mut self, alloc: Global, flow: bool) -> Step
         requires sound { IsSound self.old }
         requires some { 0 < self.old.left }

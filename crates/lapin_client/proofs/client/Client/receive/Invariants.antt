@@ -4,8 +4,8 @@ use Rattle.lapin_client.specs.Receiving.{Comes}
 use Rattle.lapin_client.proofs.client.Client.receive.Given as goal
 
 -- so many frames were taken
-abbrev pub invariant-loop-_turn : goal.invariant-loop-_turn
-invariant-loop-_turn l = record {
+abbrev pub invariant-loop-turn : goal.invariant-loop-turn
+invariant-loop-turn l = record {
   sound : IsSound l.self;
   told : (n : ℕ) × Comes n l.initial.self l.self;
 }
