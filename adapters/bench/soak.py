@@ -24,8 +24,11 @@ def one_connection(url, numbers, fate, draw, cut_at):
     try:
         while numbers or waiting:
             while numbers and len(waiting) < WINDOW:
-                number = numbers.pop()
-                waiting.append((number, channel.publish("", "soak", struct.pack(">Q", number))))
+                try:
+                    confirm = channel.publish("", "soak", struct.pack(">Q", numbers[-1]))
+                except lapin.Refused:  # the connection is lost: nothing was published
+                    break
+                waiting.append((numbers.pop(), confirm))
                 sent += 1
                 if sent == cut_at:
                     if draw.random() < 0.5:

@@ -276,7 +276,10 @@ class Channel(Calls):
                                  _text.properties(properties) if properties else b"[]", mandatory)
         connection._waiting += len(body) + 64
         if connection._waiting > ENOUGH:
-            connection.flush()
+            try:
+                connection.flush()
+            except ConnectionLost:  # the publish was accepted: its confirm tells it
+                pass
         return Confirm(connection, session, number)
 
     def consume(self, queue: str, callback: Optional[Callable[[Message], None]] = None, *, no_ack: bool = False, exclusive: bool = False,

@@ -2,4 +2,5 @@ pub mod Heard
 pub mod Idle
 pub mod Requests
 pub mod Room
+pub mod Running
 pub mod Taking

@@ -7,6 +7,7 @@ use Rattle.lapin_machine.proofs.Counting.{numbers-next}
 use Rattle.lapin_machine.specs.Numbers.{HasNumbersFor}
 use Rattle.lapin_machine.specs.Told.{WasMade}
 use Rattle.lapin_machine.specs.World.{World, next, new_world}
+use Rattle.lapin_machine.specs.declared.channel.Ticket.{Ticket}
 use Rattle.lapin_types.specs.Types.{Error}
 use Rattle.lapin_types.specs.Types.error
 use Rattle.lapin_types.specs.declared.event.Event.{Event}
@@ -87,3 +88,9 @@ made_not (error.PreconditionFailed t n) X p q h is = grind (is, arith)
 made_not error.AlreadyTaken X p q h is = grind (is, arith)
 made_not error.UnknownTicket X p q h is = grind (is, arith)
 made_not (error.ConfirmsOutstanding l) X p q h is = grind (is, arith)
+
+pub made_next : (e : Error) (w v : World) (ev : Event) → WasMade {T = Option Ticket} (Err e) (v ≡ next w ev) (v ≡ w) → is_refusal e ≡ true → v ≡ next w ev
+made_next e w v ev h is = made e (Option Ticket) (v ≡ next w ev) (v ≡ w) h is
+
+pub made_none : (e : Error) (w v : World) (ev : Event) → WasMade {T = Option Ticket} (Err e) (v ≡ next w ev) (v ≡ w) → is_refusal e ≡ false → v ≡ w
+made_none e w v ev h is = made_not e (Option Ticket) (v ≡ next w ev) (v ≡ w) h is

@@ -44,6 +44,11 @@ StaysBut c d = (d.session ≡ c.session) × (d.left ≡ c.left) × SameBytes c d
 abbrev pub IsPublished : ℕ → Event → World → World → Type 0
 IsPublished confirm e w v = (ticket : ℕ) × (told_by w e ≡ record_.Publish ticket confirm) × (v ≡ next (next w e) (event.AsideTicket ticket))
 
+-- a publish by its event; where it fails nothing was published
+abbrev pub PublishedBy : Result ℕ Status → Event → Client → Client → Type 0
+PublishedBy (Ok confirm) e c d = IsPublished confirm e c.session d.session × SameBytes c d
+PublishedBy (Err s) e c d = (d.session ≡ c.session) × SameBytes c d
+
 -- the call of a publish, and its properties are those of the text; where it fails nothing was published
 abbrev pub Published : Result ℕ Status → ℕ → List ℕ → List ℕ → Bool → List ℕ → List ℕ → Client → Client → Type 0
 Published (Ok confirm) channel exchange key mandatory payload properties c d =

@@ -118,7 +118,7 @@ Turns status.TooLong b d = ((b.frame_max < length_at b.came) × (d ≡ b)) ⊎ (
 Turns _ b d = (d.left ≡ 0) ⊎ (d ≡ b)
 
 -- n frames were taken, one after the other
-pub Comes : ℕ → Client → Client → Type 0
+unfoldable pub Comes : ℕ → Client → Client → Type 0
 Comes zero c d = d ≡ c
 Comes (suc n) c d = (b : Client) × Comes n c b × IsTurn b d
 
@@ -126,8 +126,12 @@ Comes (suc n) c d = (b : Client) × Comes n c b × IsTurn b d
 abbrev pub IsLonger : List ℕ → Client → Client → Type 0
 IsLonger bytes c b = (b.came ≡ c.came ++ bytes) × (b.session ≡ c.session) × (b.leaving.items ≡ c.leaving.items) × (b.frame_max ≡ c.frame_max)
 
--- What octets of the broker leave: behind those that came before, each frame that is whole was taken, in order; where the status isn't Done
--- the last of them has it. Where there was no memory for them, nothing came.
+-- What a run over what came leaves: each frame that was whole was taken, in order; where the status isn't Done the last of them has it.
+abbrev pub Runs : Status → Client → Client → Type 0
+Runs status.Done b d = (n : ℕ) × (Comes n b d × (0 < wanted_behind d.came))
+Runs r b d = (n : ℕ) × ((e : Client) × (Comes n b e × Turns r e d))
+
+-- What octets of the broker leave: they stand behind those that came before, and then each frame that is whole was taken, in order. Where
+-- there was no memory for them, nothing came.
 abbrev pub Receives : Status → List ℕ → Client → Client → Type 0
-Receives status.Done bytes c d = (b : Client) × IsLonger bytes c b × ((n : ℕ) × Comes n b d × (0 < wanted_behind d.came))
-Receives r bytes c d = ((b : Client) × IsLonger bytes c b × ((n : ℕ) × ((e : Client) × Comes n b e × Turns r e d))) ⊎ ((r ≡ status.NoMemory) × (d.session ≡ c.session) × (d.came ≡ c.came))
+Receives r bytes c d = ((b : Client) × (IsLonger bytes c b × Runs r b d)) ⊎ ((r ≡ status.NoMemory) × (d.session ≡ c.session) × (d.came ≡ c.came))

@@ -1,9 +1,12 @@
 //! The calls of which a caller makes many, without a line: a publish and its outcome, a consumer's next message and its fate.
-ghost use Rattle.std.specs.Prelude.{◌≡◌, ◌++◌, ◌∷◌, [], length, IfOk, IfSome};
+ghost use Rattle.std.specs.Prelude.{◌≡◌, ◌<◌, ◌++◌, ◌∷◌, [], length, IfOk, IfSome};
 ghost use Rattle.lapin_tokens.specs.Fields.{token as token_of};
 ghost use Rattle.lapin_tokens.specs.Fields.Field.{props as props_field};
-ghost use Rattle.lapin_client.specs.Calls.{Published, OutcomeTold, Delivered, Settled, Forgotten, Shown, StaysBut, outcome_code, fate_call, message_bytes, message_of};
-ghost use Rattle.lapin_client.specs.Clients.{IsSound};
+ghost use Rattle.lapin_client.specs.Calls.{Published, PublishedBy, OutcomeTold, Delivered, Settled, Forgotten, Shown, StaysBut, outcome_code, fate_call, message_bytes, message_of};
+ghost use Rattle.lapin_client.specs.Clients.{IsSound, SameBytes};
+ghost use Rattle.lapin_machine.specs.World.{next};
+ghost use Rattle.lapin_types.specs.declared.call.Call.TheVariants as call;
+ghost use Rattle.lapin_types.specs.declared.event.Event.TheVariants as event;
 
 use crate::client::Client;
 use crate::receiving::refuses;
@@ -92,6 +95,33 @@ impl Client {
             mandatory,
             immediate: false,
         };
+        self.publish_values(
+            alloc,
+            channel,
+            exchange,
+            routing_key,
+            options,
+            payload,
+            properties,
+        )
+    }
+
+    // Publishes what was read.
+    fn publish_values(
+        &mut self,
+        alloc: Global,
+        channel: u16,
+        exchange: ShortString,
+        routing_key: ShortString,
+        options: BasicPublishOptions,
+        payload: Payload,
+        properties: BasicProperties,
+    ) -> Result<u64, Status>
+        requires sound { IsSound self.old }
+        requires enough { 1 < self.old.left }
+        ensures sound { IsSound self.new }
+        ensures told { PublishedBy result (event.Call channel (call.BasicPublish exchange routing_key options payload properties)) self.old self.new }
+    {
         match self.session.basic_publish(
             alloc,
             channel,
@@ -102,12 +132,24 @@ impl Client {
             properties,
         ) {
             Ok(published) => {
-                self.left -= 2;
-                let _ = self.session.set_aside_ticket(published.ticket.number);
+                self.left -= 1;
+                self.aside_ticket(published.ticket.number);
                 Ok(published.confirm.number)
             }
             Err(error) => Err(self.refuse(alloc, error)),
         }
+    }
+
+    // A ticket will not be asked for.
+    fn aside_ticket(&mut self, number: u64)
+        requires sound { IsSound self.old }
+        requires some { 0 < self.old.left }
+        ensures sound { IsSound self.new }
+        ensures session { self.new.session ≡ next self.old.session (event.AsideTicket number) }
+        ensures same { SameBytes self.old self.new }
+    {
+        self.left -= 1;
+        let _ = self.session.set_aside_ticket(number);
     }
 
     /// The outcome of a publish that didn't come back: 1 an ack, 2 a nack, 3 none was asked for, 4 an error, whose line is the answer;
@@ -203,11 +245,20 @@ impl Client {
         if self.left < 2 {
             return Status::Ended;
         }
-        let call = call_of(fate, multiple, requeue);
+        self.settle_by(alloc, acker, call_of(fate, multiple, requeue))
+    }
+
+    // Settles a message by a call of its acker.
+    fn settle_by(&mut self, alloc: Global, acker: u64, call: AckerCall) -> Status
+        requires sound { IsSound self.old }
+        requires enough { 1 < self.old.left }
+        ensures sound { IsSound self.new }
+        ensures told { Settled result acker call self.old self.new }
+    {
         match self.session.acker_call(alloc, acker, call) {
             Ok(Some(ticket)) => {
-                self.left -= 2;
-                let _ = self.session.set_aside_ticket(ticket.number);
+                self.left -= 1;
+                self.aside_ticket(ticket.number);
                 Status::Done
             }
             Ok(None) => Status::Gone,

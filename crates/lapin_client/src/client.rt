@@ -37,7 +37,6 @@ impl Client {
     ///
     /// # Errors
     /// `NoMemory` alone.
-    #[tactic(auto, using(crate::proofs::Room::room_first))]
     pub fn new(alloc: Global, frame_max: u32) -> Result<Client, NoMemory>
         requires { 4096 ≤ frame_max }
         ensures sound { IfOk result (λ client. IsSound client) }

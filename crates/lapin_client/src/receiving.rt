@@ -3,7 +3,7 @@
 ghost use Rattle.std.specs.Prelude.{◌≡◌, Some, IfSome};
 ghost use Rattle.lapin_handshake.specs.Saying.{frame_said_at};
 ghost use Rattle.lapin_client.specs.Clients.{IsSound};
-ghost use Rattle.lapin_client.specs.Receiving.{Receives, Turns, Takes, TakesIdle, Hears, HeadIs, notice, is_of_content as is_of_content_lem, begins_content as begins_content_lem, is_stray as is_stray_lem, is_refusal, length_at};
+ghost use Rattle.lapin_client.specs.Receiving.{Receives, Runs, Turns, Takes, TakesIdle, Hears, HeadIs, notice, is_of_content as is_of_content_lem, begins_content as begins_content_lem, is_stray as is_stray_lem, is_refusal, length_at};
 ghost use Rattle.lapin_history.specs.Wire.{is_closed as is_closed_lem};
 ghost use Rattle.lapin_history.specs.Drops.{frame_channel};
 
@@ -43,9 +43,18 @@ impl Client {
         ensures sound { IsSound self.new }
         ensures told { Receives result bytes.now self.old self.new }
     {
-        if self.came.add(bytes).is_err() {
-            return Status::NoMemory;
+        match self.came.add(bytes) {
+            Ok(()) => self.run(alloc),
+            Err(_) => Status::NoMemory,
         }
+    }
+
+    // Takes each frame that came whole.
+    fn run(&mut self, alloc: Global) -> Status
+        requires { IsSound self.old }
+        ensures sound { IsSound self.new }
+        ensures told { Runs result self.old self.new }
+    {
         for _turn in 0..u64::MAX {
             match self.turn(alloc) {
                 Status::Done => {}

@@ -1,7 +1,7 @@
 use Rattle.std.proofs.Common.{◌≡◌, ℕ}
 use Rattle.lapin_client.specs.Clients.{IsSound}
 use Rattle.lapin_client.specs.Receiving.{Comes}
-use Rattle.lapin_client.proofs.client.Client.receive.Given as goal
+use Rattle.lapin_client.proofs.client.Client.run.Given as goal
 
 -- so many frames were taken
 abbrev pub invariant-loop-turn : goal.invariant-loop-turn
