@@ -2,6 +2,7 @@
 ghost use Rattle.std.specs.Prelude.{◌≡◌, true, None, Some, IfSome, box_value};
 ghost use Rattle.std.specs.Option.{is_some, option_map, ForSome};
 ghost use Rattle.lapin_client.specs.Clients.{IsSound};
+ghost use Rattle.lapin_c.specs.Sound.{sound_once};
 
 use crate::pointer::Pointer;
 use lapin_client::Client;
@@ -15,7 +16,7 @@ pub struct Handle {
     pub(crate) pointer: Pointer,
     pub(crate) is_open: bool,
     ghost told: { is_open ≡ is_some pointer.held },
-    ghost sound: { ForSome pointer.held (λ client. IsSound client) },
+    ghost sound: { ForSome pointer.held (λ client. IsSound client) } by { sound_once pointer.held },
 }
 
 /// Takes the client out of a handle, which is closed until it is put back.
