@@ -208,12 +208,7 @@ fn settle(
 
 /// Acknowledges a message by its acker; with `multiple` all up to it on its channel.
 #[unsafe(no_mangle)]
-pub extern "C" fn lapin_ack(
-    alloc: Global,
-    handle: &mut Handle,
-    acker: u64,
-    multiple: bool,
-) -> u32
+pub extern "C" fn lapin_ack(alloc: Global, handle: &mut Handle, acker: u64, multiple: bool) -> u32
     ensures { Behind (λ c d. Coded result (λ s. Settled s acker (fate_call fates.Ack multiple false) c d)) (result ≡ 7) handle.old.pointer.held handle.new.pointer.held }
 {
     settle(alloc, handle, acker, Fate::Ack, multiple, false)
@@ -235,12 +230,7 @@ pub extern "C" fn lapin_nack(
 
 /// Gives a message back by its acker; with `requeue` into its queue.
 #[unsafe(no_mangle)]
-pub extern "C" fn lapin_reject(
-    alloc: Global,
-    handle: &mut Handle,
-    acker: u64,
-    requeue: bool,
-) -> u32
+pub extern "C" fn lapin_reject(alloc: Global, handle: &mut Handle, acker: u64, requeue: bool) -> u32
     ensures { Behind (λ c d. Coded result (λ s. Settled s acker (fate_call fates.Reject false requeue) c d)) (result ≡ 7) handle.old.pointer.held handle.new.pointer.held }
 {
     settle(alloc, handle, acker, Fate::Reject, false, requeue)

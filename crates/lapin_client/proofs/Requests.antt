@@ -11,21 +11,27 @@ use Rattle.lapin_types.specs.declared.event.Event.TheVariants as event
 
 -- one more request, by which a frame left or none
 pub hands_next : (n : ℕ) (flow : Bool) (c b d : Client) → HandsOut n flow c b → b.frame_max ≡ c.frame_max → d.session ≡ next b.session (event.Next flow) →
-  d.leaving.items ≡ b.leaving.items ++ record_bytes (told_by b.session (event.Next flow)) → length (record_bytes (told_by b.session (event.Next flow))) ≤ b.frame_max → HandsOut (suc n) flow c d
-hands_next n flow c b d h same e f small =
-    (e ∙ ap (λ w. next w (event.Next flow)) h.0,
-     (f ∙ ap (λ l. l ++ record_bytes (told_by b.session (event.Next flow))) h.1.0
+    d.leaving.items ≡ b.leaving.items ++ record_bytes (told_by b.session (event.Next flow)) → length (record_bytes (told_by b.session (event.Next flow))) ≤ b.frame_max → HandsOut (suc n) flow c d
+hands_next n flow c b d h same e f small = (
+  e ∙ ap (λ w. next w (event.Next flow)) h.0,
+  (
+    f ∙ ap (λ l. l ++ record_bytes (told_by b.session (event.Next flow))) h.1.0
         ∙ ap (λ w. (c.leaving.items ++ bytes_handed n flow c.session) ++ record_bytes (told_by w (event.Next flow))) h.0
         ∙ append_assoc c.leaving.items (bytes_handed n flow c.session) (record_bytes (told_by (after_requests n flow c.session) (event.Next flow))),
-      (h.1.1, subst (λ (m : ℕ). length (record_bytes (told_by (after_requests n flow c.session) (event.Next flow))) ≤ m) same
-        (subst (λ (w : World). length (record_bytes (told_by w (event.Next flow))) ≤ b.frame_max) h.0 small))))
+    (
+      h.1.1,
+      subst (λ (m : ℕ). length (record_bytes (told_by (after_requests n flow c.session) (event.Next flow))) ≤ m) same
+          (subst (λ (w : World). length (record_bytes (told_by w (event.Next flow))) ≤ b.frame_max) h.0 small),
+    ),
+  ),
+)
 
 -- one more request, by which none left
 pub hands_idle : (n : ℕ) (flow : Bool) (c b d : Client) → HandsOut n flow c b → b.frame_max ≡ c.frame_max → d.session ≡ next b.session (event.Next flow) →
-  d.leaving.items ≡ b.leaving.items → IsIdle flow b.session → HandsOut (suc n) flow c d
+    d.leaving.items ≡ b.leaving.items → IsIdle flow b.session → HandsOut (suc n) flow c d
 hands_idle n flow c b d h same e f idle =
     hands_next n flow c b d h same e (f ∙ sym (append-nil b.leaving.items) ∙ ap (λ (r : Record). b.leaving.items ++ record_bytes r) (sym idle))
-      (subst (λ (r : Record). length (record_bytes r) ≤ b.frame_max) (sym idle) (omega arith))
+    (subst (λ (r : Record). length (record_bytes r) ≤ b.frame_max) (sym idle) (omega arith))
 
 pub same_else : (c b d : Client) → SameElse c b → SameElse b d → SameElse c d
 same_else c b d x y = (y.0 ∙ x.0, y.1 ∙ x.1, y.2 ∙ x.2, y.3 ∙ x.3)

@@ -11,9 +11,12 @@ use Rattle.lapin_machine.specs.World.{World}
 use Rattle.lapin_types.specs.Types.{Frame}
 
 leaves_of : (f : Frame) (p b d : Client) → p.session ≡ b.session → p.leaving.items ≡ b.leaving.items → TurnLeaves (Some f) p d → TurnLeaves (Some f) b d
-leaves_of f p b d ses leav t =
-    (t.0, subst (λ (w : World). IsIdle false (after_requests t.0 false w)) ses t.1, t.2 ∙ ap (λ (w : World). heard f (after_requests (suc t.0) false w)) ses,
-     t.3 ∙ ap (λ (l : List ℕ). l ++ bytes_handed (suc t.0) false p.session) leav ∙ ap (λ (w : World). b.leaving.items ++ bytes_handed (suc t.0) false w) ses)
+leaves_of f p b d ses leav t = (
+  t.0,
+  subst (λ (w : World). IsIdle false (after_requests t.0 false w)) ses t.1,
+  t.2 ∙ ap (λ (w : World). heard f (after_requests (suc t.0) false w)) ses,
+  t.3 ∙ ap (λ (l : List ℕ). l ++ bytes_handed (suc t.0) false p.session) leav ∙ ap (λ (w : World). b.leaving.items ++ bytes_handed (suc t.0) false w) ses,
+)
 
 -- first what has begun here leaves, and then the session hears the frame
 idle_taken : (f : Frame) (b p d : Client) → Finishes status.Done b p → d.session ≡ heard f p.session → d.leaving.items ≡ p.leaving.items → TurnLeaves (Some f) b d
@@ -34,7 +37,7 @@ takes_after status.Gone f b p d h t = absurd t.0
 
 -- the frame at the head of what came was taken
 pub turns_frame : (r : Status) (f : Frame) (n : ℕ) (b p d : Client) → read_at b.came ≡ Some (read.Frame f n) → p.came ≡ drop n b.came → p.session ≡ b.session → p.leaving.items ≡ b.leaving.items →
-  Takes r f p d → Turns r b d
+    Takes r f p d → Turns r b d
 turns_frame status.Done f n b p d head came ses leav t = (Some f, n, head, t.1 ∙ came, leaves_of f p b d ses leav t.0)
 turns_frame status.Refused f n b p d head came ses leav t = (Some f, n, head, t.1 ∙ came, leaves_of f p b d ses leav t.0)
 turns_frame status.NoMemory f n b p d head came ses leav t = inl t.1

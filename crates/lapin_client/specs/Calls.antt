@@ -52,7 +52,7 @@ PublishedBy (Err s) e c d = (d.session ≡ c.session) × SameBytes c d
 -- the call of a publish, and its properties are those of the text; where it fails nothing was published
 abbrev pub Published : Result ℕ Status → ℕ → List ℕ → List ℕ → Bool → List ℕ → List ℕ → Client → Client → Type 0
 Published (Ok confirm) channel exchange key mandatory payload properties c d =
-  ((p : Value props_field) × (value_of props_field properties ≡ Some p)
+    ((p : Value props_field) × (value_of props_field properties ≡ Some p)
     × IsPublished confirm (event.Call channel (call.BasicPublish exchange key (record { mandatory = mandatory; immediate = false }) payload p)) c.session d.session) × SameBytes c d
 Published (Err e) channel exchange key mandatory payload properties c d = (d.session ≡ c.session) × SameBytes c d
 
@@ -66,7 +66,7 @@ outcome_code (outcome.Failed e) = 4
 -- the outcome of a confirm, given once; 0 where it is not given, and then nothing changes
 abbrev pub OutcomeTold : ℕ → ℕ → Client → Client → Type 0
 OutcomeTold code confirm c d = (((code ≡ 0) × (d.session ≡ c.session))
-  ⊎ ((o : Outcome) × (code ≡ outcome_code o) × (told_by c.session (event.PollConfirm confirm) ≡ record_.Confirmed (result_of o)) × (d.session ≡ next c.session (event.PollConfirm confirm)))) × SameBytes c d
+    ⊎ ((o : Outcome) × (code ≡ outcome_code o) × (told_by c.session (event.PollConfirm confirm) ≡ record_.Confirmed (result_of o)) × (d.session ≡ next c.session (event.PollConfirm confirm)))) × SameBytes c d
 
 -- the octets of a message: its exchange, its routing key, the text of its properties behind a space, and its body
 abbrev pub message_bytes : Delivery → List ℕ
@@ -87,7 +87,7 @@ message_of x = record {
 -- What a poll of a consumer gives: a message, whose octets are the answer; nothing yet; or its end.
 abbrev pub Delivered : Result Message Status → ℕ → Client → Client → Type 0
 Delivered (Ok m) consumer c d = ((x : Delivery) × (told_by c.session (event.PollConsumer consumer) ≡ record_.Item (Ok (Some x)))
-  × (d.session ≡ next c.session (event.PollConsumer consumer)) × (m ≡ message_of x) × (d.answer.items ≡ message_bytes x)) × SameBytes c d
+    × (d.session ≡ next c.session (event.PollConsumer consumer)) × (m ≡ message_of x) × (d.answer.items ≡ message_bytes x)) × SameBytes c d
 Delivered (Err status.Pending) consumer c d = (told_by c.session (event.PollConsumer consumer) ≡ record_.Pending) × (d.session ≡ next c.session (event.PollConsumer consumer)) × SameBytes c d
 Delivered (Err status.Gone) consumer c d = (told_by c.session (event.PollConsumer consumer) ≡ record_.Item (Ok None)) × (d.session ≡ next c.session (event.PollConsumer consumer)) × SameBytes c d
 Delivered (Err _) consumer c d = SameBytes c d

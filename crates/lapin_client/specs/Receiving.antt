@@ -70,7 +70,7 @@ IsHead bytes None n = (read_at bytes ≡ Some (read.Heartbeat n)) ⊎ ((b : Bool
 abbrev pub TurnLeaves : Option Frame → Client → Client → Type 0
 TurnLeaves None b d = (d.session ≡ b.session) × (d.leaving.items ≡ b.leaving.items)
 TurnLeaves (Some f) b d = (m : ℕ) × IsIdle false (after_requests m false b.session) × (d.session ≡ heard f (after_requests (suc m) false b.session))
-  × (d.leaving.items ≡ b.leaving.items ++ bytes_handed (suc m) false b.session)
+    × (d.leaving.items ≡ b.leaving.items ++ bytes_handed (suc m) false b.session)
 
 -- of two clients all is the same but the session, the answer and the steps that are left
 abbrev pub SameHeard : Client → Client → Type 0

@@ -14,8 +14,8 @@ use crate::status::Status;
 use lapin_history::Outcome;
 use lapin_tokens::{ReadError, properties_of, put_properties};
 use lapin_types::{
-    AckerCall, BasicAckOptions, BasicNackOptions, BasicProperties, BasicPublishOptions, BasicRejectOptions, Delivery, Error, Payload, Poll,
-    ShortString, ShortStringError,
+    AckerCall, BasicAckOptions, BasicNackOptions, BasicProperties, BasicPublishOptions,
+    BasicRejectOptions, Delivery, Error, Payload, Poll, ShortString, ShortStringError,
 };
 use std::alloc::Global;
 

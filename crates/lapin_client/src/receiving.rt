@@ -9,8 +9,8 @@ ghost use Rattle.lapin_history.specs.Drops.{frame_channel};
 
 use crate::client::Client;
 use crate::status::Status;
-use lapin_frames::{Read, ReadFault, read_frame};
 use lapin_fields::wanted;
+use lapin_frames::{Read, ReadFault, read_frame};
 use lapin_handshake::{Said, read_said};
 use lapin_machine::Session;
 use lapin_types::{BasicMethod, ChannelState, Error, Frame, Method};

@@ -106,7 +106,12 @@ enum Step {
 }
 
 // Adds the bytes of a frame that left.
-fn put_left(alloc: Global, out: &mut Vec<u8>, frame: &Frame, frame_max: u32) -> Result<(), WriteFault>
+fn put_left(
+    alloc: Global,
+    out: &mut Vec<u8>,
+    frame: &Frame,
+    frame_max: u32,
+) -> Result<(), WriteFault>
     ensures ok { OnOk result ((out.new.items ≡ out.old.items ++ bytes_of frame.now) × (length (bytes_of frame.now) ≤ frame_max)) }
     ensures err { OnErr result (out.new.items ≡ out.old.items) }
 {

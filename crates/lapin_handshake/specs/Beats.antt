@@ -20,6 +20,6 @@ heard_at now c = record { sent = c.sent; heard = now; seconds = c.seconds }
 -- where nothing was sent for half an interval; and else the wait is until one of the two can be.
 abbrev pub beat_at : ℕ → Clock → Beat
 beat_at now c =
-  if c.seconds == 0 then beat.Never else
-  if nat_lt (c.seconds * 2000) (now - c.heard) then beat.Silent else
-  if nat_lt (now - c.sent) (c.seconds * 500) then beat.Wait (wait_of (c.seconds * 500 - (now - c.sent)) (c.seconds * 2000 + 1 - (now - c.heard))) else beat.Send
+    if c.seconds == 0 then beat.Never else
+    if nat_lt (c.seconds * 2000) (now - c.heard) then beat.Silent else
+    if nat_lt (now - c.sent) (c.seconds * 500) then beat.Wait (wait_of (c.seconds * 500 - (now - c.sent)) (c.seconds * 2000 + 1 - (now - c.heard))) else beat.Send

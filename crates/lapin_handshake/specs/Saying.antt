@@ -19,7 +19,7 @@ lists_plain list = list_any is_plain (slice_split (λ b. b == 32) list)
 -- the version in two octets, the broker's properties, its mechanisms and its locales, each behind its length in four
 abbrev pub start_at : List ℕ → Option (Said × List ℕ)
 start_at octets = octet_at octets >>= λ major. octet_at major.1 >>= λ minor. counted_at minor.1 >>= λ properties. counted_at properties.1 >>= λ mechanisms.
-  counted_at mechanisms.1 >>= λ locales. Some (said.Start major.0 minor.0 (lists_plain mechanisms.0), locales.1)
+    counted_at mechanisms.1 >>= λ locales. Some (said.Start major.0 minor.0 (lists_plain mechanisms.0), locales.1)
 
 -- a challenge behind its length in four octets
 abbrev pub secure_at : List ℕ → Option (Said × List ℕ)
@@ -28,7 +28,7 @@ secure_at octets = counted_at octets >>= λ challenge. Some (said.Secure, challe
 -- the greatest channel in two octets, the greatest frame in four, the seconds between heartbeats in two
 abbrev pub tune_at : List ℕ → Option (Said × List ℕ)
 tune_at octets = short_at octets >>= λ channel_max. long_at channel_max.1 >>= λ frame_max. short_at frame_max.1 >>= λ heartbeat.
-  Some (said.Tune channel_max.0 frame_max.0 heartbeat.0, heartbeat.1)
+    Some (said.Tune channel_max.0 frame_max.0 heartbeat.0, heartbeat.1)
 
 -- a reserved short text
 abbrev pub open_ok_at : List ℕ → Option (Said × List ℕ)
@@ -37,7 +37,7 @@ open_ok_at octets = string_at octets >>= λ reserved. Some (said.OpenOk, reserve
 -- the code, a short text, and the method that it is about
 abbrev pub close_at : List ℕ → Option (Said × List ℕ)
 close_at octets = short_at octets >>= λ code. string_at code.1 >>= λ text. short_at text.1 >>= λ class. short_at class.1 >>= λ method.
-  Some (said.Close code.0, method.1)
+    Some (said.Close code.0, method.1)
 
 -- the reason, a short text
 abbrev pub blocked_at : List ℕ → Option (Said × List ℕ)
@@ -46,13 +46,13 @@ blocked_at octets = string_at octets >>= λ reason. Some (said.Blocked, reason.1
 -- the fields of the method of that number
 abbrev pub said_at : ℕ → List ℕ → Option (Said × List ℕ)
 said_at number octets =
-  if number == 10 then start_at octets else
-  if number == 20 then secure_at octets else
-  if number == 30 then tune_at octets else
-  if number == 41 then open_ok_at octets else
-  if number == 50 then close_at octets else
-  if number == 60 then blocked_at octets else
-  if number == 61 then Some (said.Unblocked, octets) else None
+    if number == 10 then start_at octets else
+    if number == 20 then secure_at octets else
+    if number == 30 then tune_at octets else
+    if number == 41 then open_ok_at octets else
+    if number == 50 then close_at octets else
+    if number == 60 then blocked_at octets else
+    if number == 61 then Some (said.Unblocked, octets) else None
 
 -- what was read, where nothing is left
 abbrev pub alone : Option (Said × List ℕ) → Option Said

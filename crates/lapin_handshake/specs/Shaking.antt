@@ -27,14 +27,14 @@ last_reply _ = reply.Nothing
 abbrev pub IsAnswered : Shaken → Said → List ℕ → List ℕ → List ℕ → Handshake → Handshake → List ℕ → List ℕ → Type 0
 IsAnswered shaken.Part said user password vhost h h' old new = ⊥
 IsAnswered shaken.Read said user password vhost h h' old new =
-  (r : Reply) × (reply_to h said ≡ Ok r) × ((h' ≡ after h said) × (new ≡ old ++ reply_bytes user password vhost r))
+    (r : Reply) × (reply_to h said ≡ Ok r) × ((h' ≡ after h said) × (new ≡ old ++ reply_bytes user password vhost r))
 IsAnswered (shaken.Refused e) said user password vhost h h' old new =
-  (reply_to h said ≡ Err e) × (h' ≡ after h said) × (new ≡ old ++ reply_bytes user password vhost (last_reply e))
+    (reply_to h said ≡ Err e) × (h' ≡ after h said) × (new ≡ old ++ reply_bytes user password vhost (last_reply e))
 
 -- What was done: nothing where a frame is wanted still; where its first frame says something, that is answered; and where it says nothing, or is
 -- longer than a frame of an opening may be, the connection is refused as malformed.
 abbrev pub IsShaken : Shaken → List ℕ → List ℕ → List ℕ → List ℕ → Handshake → Handshake → List ℕ → List ℕ → Type 0
 IsShaken shaken.Part bytes user password vhost h h' old new = (0 < wanted_behind bytes) × (wanted_behind bytes ≤ 131072) × (h' ≡ h) × (new ≡ old)
 IsShaken r bytes user password vhost h h' old new =
-  ((s : Said) × (frame_said_at bytes ≡ Some s) × IsAnswered r s user password vhost h h' old new)
-  ⊎ ((r ≡ shaken.Refused refusal.Malformed) × (h' ≡ refused h) × (new ≡ old) × ((frame_said_at bytes ≡ None) ⊎ (131072 < wanted_behind bytes)))
+    ((s : Said) × (frame_said_at bytes ≡ Some s) × IsAnswered r s user password vhost h h' old new)
+    ⊎ ((r ≡ shaken.Refused refusal.Malformed) × (h' ≡ refused h) × (new ≡ old) × ((frame_said_at bytes ≡ None) ⊎ (131072 < wanted_behind bytes)))

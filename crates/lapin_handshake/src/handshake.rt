@@ -130,8 +130,14 @@ fn is_awaited(stage: Stage, said: Said) -> bool
     ensures { result ≡ is_awaited_lem stage said }
 {
     match stage {
-        Stage::Start => matches!(said, Said::Start { .. } | Said::Heartbeat | Said::Close { .. }),
-        Stage::Tune => matches!(said, Said::Secure | Said::Tune { .. } | Said::Heartbeat | Said::Close { .. }),
+        Stage::Start => matches!(
+            said,
+            Said::Start { .. } | Said::Heartbeat | Said::Close { .. }
+        ),
+        Stage::Tune => matches!(
+            said,
+            Said::Secure | Said::Tune { .. } | Said::Heartbeat | Said::Close { .. }
+        ),
         Stage::Open => matches!(said, Said::OpenOk | Said::Heartbeat | Said::Close { .. }),
         Stage::Opened => matches!(said, Said::Heartbeat | Said::Close { .. }),
         Stage::Refused => false,

@@ -12,7 +12,11 @@ use lapin_tokens::{Tokens, is_word};
 #[derive(Clone, Copy, Debug, PartialEq, Eq)]
 pub enum Said {
     /// `connection.start`: the version of the protocol, and whether PLAIN is one of the broker's mechanisms.
-    Start { major: u8, minor: u8, plain: bool },
+    Start {
+        major: u8,
+        minor: u8,
+        plain: bool,
+    },
     /// `connection.secure`: a challenge.
     Secure,
     /// `connection.tune`: the broker's limits; 0 of the first two stands for none, and of the third for no heartbeats.
@@ -24,7 +28,9 @@ pub enum Said {
     /// `connection.open-ok`.
     OpenOk,
     /// `connection.close`, with its code.
-    Close { code: u16 },
+    Close {
+        code: u16,
+    },
     /// `connection.blocked`: the broker takes no messages.
     Blocked,
     /// `connection.unblocked`: it takes them again.

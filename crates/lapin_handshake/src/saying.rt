@@ -10,7 +10,8 @@ use lapin_fields::{WriteFault, put_around, put_counted, put_long, put_octet, put
 use std::alloc::Global;
 
 /// What this side tells of itself: what it can do, and its name.
-pub const PROPERTIES: [u8; 185] = *b"\x0ccapabilitiesF\x00\x00\x00\x8c\x1cauthentication_failure_closet\x01\x0abasic.nackt\x01\x12connection.blockedt\x01\x16consumer_cancel_notifyt\x01\x1aexchange_exchange_bindingst\x01\x12publisher_confirmst\x01\x07productS\x00\x00\x00\x0elapin channels";
+pub const PROPERTIES: [u8; 185] =
+    *b"\x0ccapabilitiesF\x00\x00\x00\x8c\x1cauthentication_failure_closet\x01\x0abasic.nackt\x01\x12connection.blockedt\x01\x16consumer_cancel_notifyt\x01\x1aexchange_exchange_bindingst\x01\x12publisher_confirmst\x01\x07productS\x00\x00\x00\x0elapin channels";
 
 /// Adds the octets that come before all frames.
 pub fn put_protocol_header(out: &mut Vec<u8>) -> Result<(), WriteFault>
@@ -67,7 +68,12 @@ fn put_client(out: &mut Vec<u8>) -> Result<(), WriteFault>
 }
 
 #[tactic(auto, unfolding(crate::specs::Replies::start_ok_fields))]
-fn put_start_ok(alloc: Global, out: &mut Vec<u8>, user: &[u8], password: &[u8]) -> Result<(), WriteFault>
+fn put_start_ok(
+    alloc: Global,
+    out: &mut Vec<u8>,
+    user: &[u8],
+    password: &[u8],
+) -> Result<(), WriteFault>
     ensures { OnOk result (out.new.items ≡ out.old.items ++ start_ok_fields user.now password.now) }
 {
     let mut response = Vec::new(alloc);
@@ -88,7 +94,12 @@ fn put_start_end(out: &mut Vec<u8>, response: &[u8]) -> Result<(), WriteFault>
     put_short_text(out, b"en_US")
 }
 
-fn put_secure_ok(alloc: Global, out: &mut Vec<u8>, user: &[u8], password: &[u8]) -> Result<(), WriteFault>
+fn put_secure_ok(
+    alloc: Global,
+    out: &mut Vec<u8>,
+    user: &[u8],
+    password: &[u8],
+) -> Result<(), WriteFault>
     ensures { OnOk result (out.new.items ≡ out.old.items ++ secure_ok_fields user.now password.now) }
 {
     let mut response = Vec::new(alloc);
@@ -121,7 +132,12 @@ fn put_open(out: &mut Vec<u8>, vhost: &[u8]) -> Result<(), WriteFault>
 }
 
 // Adds the frames of tune-ok and open.
-fn put_tuned(alloc: Global, out: &mut Vec<u8>, limits: Limits, vhost: &[u8]) -> Result<(), WriteFault>
+fn put_tuned(
+    alloc: Global,
+    out: &mut Vec<u8>,
+    limits: Limits,
+    vhost: &[u8],
+) -> Result<(), WriteFault>
     ensures { OnOk result (out.new.items ≡ out.old.items ++ around 1 0 (tune_ok_fields limits) ++ around 1 0 (open_fields vhost.now)) }
 {
     let mut tune = Vec::new(alloc);

@@ -11,4 +11,3 @@ loop-self-preserved c =
       told = (suc i.told.0, hands_next i.told.0 false c.args.self.now c.loop-self.self c.step.new.self i.told.1 i.same.2 t.0 t.1 t.2);
       same = same_else c.args.self.now c.loop-self.self c.step.new.self i.same t.3;
     }
-
