@@ -1,0 +1,6 @@
+pub mod Heard
+pub mod Idle
+pub mod Requests
+pub mod Room
+pub mod Running
+pub mod Taking

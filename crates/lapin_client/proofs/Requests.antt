@@ -1,0 +1,49 @@
+-- Requests one after the other.
+use Rattle.std.proofs.Common.{◌≡◌, ◌≤◌, ℕ, suc, List, [], ◌++◌, Bool, length, refl, sym, ap, ◌∙◌, subst, arith}
+use Rattle.std.proofs.lemmas.List.{append_assoc, append-nil}
+use Rattle.lapin_client.specs.declared.status.Status.{Status}
+use Rattle.lapin_client.specs.declared.status.Status.TheVariants as status
+use Rattle.lapin_types.specs.declared.record.Record.{Record}
+use Rattle.lapin_client.specs.declared.client.Client.{Client}
+use Rattle.lapin_client.specs.Sending.{record_bytes, after_requests, bytes_handed, HandsOut, IsIdle, IsLoss, SameElse, Pulls, Finishes, Sends}
+use Rattle.lapin_machine.specs.World.{World, next, told_by}
+use Rattle.lapin_types.specs.declared.event.Event.TheVariants as event
+
+-- one more request, by which a frame left or none
+pub hands_next : (n : ℕ) (flow : Bool) (c b d : Client) → HandsOut n flow c b → b.frame_max ≡ c.frame_max → d.session ≡ next b.session (event.Next flow) →
+    d.leaving.items ≡ b.leaving.items ++ record_bytes (told_by b.session (event.Next flow)) → length (record_bytes (told_by b.session (event.Next flow))) ≤ b.frame_max → HandsOut (suc n) flow c d
+hands_next n flow c b d h same e f small = (
+  e ∙ ap (λ w. next w (event.Next flow)) h.0,
+  (
+    f ∙ ap (λ l. l ++ record_bytes (told_by b.session (event.Next flow))) h.1.0
+        ∙ ap (λ w. (c.leaving.items ++ bytes_handed n flow c.session) ++ record_bytes (told_by w (event.Next flow))) h.0
+        ∙ append_assoc c.leaving.items (bytes_handed n flow c.session) (record_bytes (told_by (after_requests n flow c.session) (event.Next flow))),
+    (
+      h.1.1,
+      subst (λ (m : ℕ). length (record_bytes (told_by (after_requests n flow c.session) (event.Next flow))) ≤ m) same
+          (subst (λ (w : World). length (record_bytes (told_by w (event.Next flow))) ≤ b.frame_max) h.0 small),
+    ),
+  ),
+)
+
+-- one more request, by which none left
+pub hands_idle : (n : ℕ) (flow : Bool) (c b d : Client) → HandsOut n flow c b → b.frame_max ≡ c.frame_max → d.session ≡ next b.session (event.Next flow) →
+    d.leaving.items ≡ b.leaving.items → IsIdle flow b.session → HandsOut (suc n) flow c d
+hands_idle n flow c b d h same e f idle =
+    hands_next n flow c b d h same e (f ∙ sym (append-nil b.leaving.items) ∙ ap (λ (r : Record). b.leaving.items ++ record_bytes r) (sym idle))
+    (subst (λ (r : Record). length (record_bytes r) ≤ b.frame_max) (sym idle) (omega arith))
+
+pub same_else : (c b d : Client) → SameElse c b → SameElse b d → SameElse c d
+same_else c b d x y = (y.0 ∙ x.0, y.1 ∙ x.1, y.2 ∙ x.2, y.3 ∙ x.3)
+
+pub sends_after : (r : Status) (flow : Bool) (c b d : Client) → Pulls status.Done flow c b → Finishes r b d → Sends r flow c d
+sends_after status.Done flow c b d p f = (b, (p, f))
+sends_after status.NoMemory flow c b d p f = (tt, f.1, same_else c b d p.1 f.2)
+sends_after status.TooLong flow c b d p f = (tt, f.1, same_else c b d p.1 f.2)
+sends_after status.Ended flow c b d p f = (tt, f.1, same_else c b d p.1 f.2)
+sends_after status.Refused flow c b d p f = absurd f.0
+sends_after status.NotInGrammar flow c b d p f = absurd f.0
+sends_after status.Malformed flow c b d p f = absurd f.0
+sends_after status.Closed flow c b d p f = absurd f.0
+sends_after status.Pending flow c b d p f = absurd f.0
+sends_after status.Gone flow c b d p f = absurd f.0

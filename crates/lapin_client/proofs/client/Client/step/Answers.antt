@@ -1,0 +1,11 @@
+use Rattle.lapin_types.specs.declared.event.Event.TheVariants as event
+use Rattle.lapin_client.proofs.Room.{sound_next}
+use Rattle.lapin_client.proofs.client.Client.step.Goals as goal
+
+pub returns-in-Ok-clause-sound : goal.returns-in-Ok-clause-sound
+returns-in-Ok-clause-sound c =
+    sound_next c.args.self.now.left c.args.self.now.frame_max c.args.self.now.session c.next_frame.new.self (event.Next c.args.flow) c.requires.sound c.in-Ok-Some.ensures.ok
+
+pub returns-in-Ok-None-clause-sound : goal.returns-in-Ok-None-clause-sound
+returns-in-Ok-None-clause-sound c =
+    sound_next c.args.self.now.left c.args.self.now.frame_max c.args.self.now.session c.next_frame.new.self (event.Next c.args.flow) c.requires.sound c.in-Ok-None.ensures.ok

@@ -1,0 +1,137 @@
+-- Octets of the broker, frame by frame.
+use Rattle.std.specs.Prelude.{◌≡◌, ◌<◌, ◌⊎◌, ◌&&◌, ℕ, zero, suc, ◌+◌, Bool, true, false, List, [], ◌∷◌, ◌++◌, drop, Option, Some, None, if◌then◌else◌}
+use Rattle.std.specs.Int.{w32, from_be_bytes}
+use Rattle.lapin_client.specs.declared.client.Client.{Client}
+use Rattle.lapin_client.specs.declared.receiving.Head.{Head}
+use Rattle.lapin_client.specs.declared.receiving.Head.TheVariants as head
+use Rattle.lapin_client.specs.declared.status.Status.{Status}
+use Rattle.lapin_client.specs.declared.status.Status.TheVariants as status
+use Rattle.lapin_client.specs.Sending.{after_requests, bytes_handed, IsIdle, IsLoss}
+use Rattle.lapin_fields.specs.Around.{wanted_behind}
+use Rattle.lapin_frames.specs.FrameReading.{read_at}
+use Rattle.lapin_frames.specs.declared.frames.Read.TheVariants as read
+use Rattle.lapin_handshake.specs.Saying.{frame_said_at}
+use Rattle.lapin_handshake.specs.declared.said.Said.{Said}
+use Rattle.lapin_handshake.specs.declared.said.Said.TheVariants as said
+use Rattle.lapin_history.specs.Drops.{frame_channel}
+use Rattle.lapin_history.specs.Wire.{state_of, is_closed}
+use Rattle.lapin_machine.specs.World.{World, next}
+use Rattle.lapin_types.specs.Types.{Frame, Error}
+use Rattle.lapin_types.specs.Types.frame
+use Rattle.lapin_types.specs.Types.error
+use Rattle.lapin_methods.specs.declared.basic.BasicMethod.{BasicMethod}
+use Rattle.lapin_methods.specs.declared.basic.BasicMethod.TheVariants as basic
+use Rattle.lapin_methods.specs.declared.method.Method.TheVariants as method
+use Rattle.lapin_types.specs.declared.event.Event.TheVariants as event
+
+-- a method that a content follows
+abbrev pub begins_content : BasicMethod → Bool
+begins_content (basic.Deliver _ _ _ _ _) = true
+begins_content (basic.Return _ _ _ _) = true
+begins_content (basic.GetOk _ _ _ _ _) = true
+begins_content _ = false
+
+-- a frame that is part of a content, or begins one
+abbrev pub is_of_content : Frame → Bool
+is_of_content (frame.Method channel (method.Basic m)) = begins_content m
+is_of_content (frame.Method channel _) = false
+is_of_content _ = true
+
+-- a content of an opening that has ended: on its way as the broker closed its channel
+abbrev pub is_stray : Frame → World → Bool
+is_stray f w = is_of_content f && is_closed (state_of (frame_channel f) w.wire)
+
+-- what a frame of the broker leaves: a content of an opening that has ended is passed over
+abbrev pub heard : Frame → World → World
+heard f w = if is_stray f w then w else next w (event.Receive f)
+
+-- an error by which the session did something with a frame
+abbrev pub is_refusal : Error → Bool
+is_refusal error.NoMemory = false
+is_refusal error.NumbersUsedUp = false
+is_refusal _ = true
+
+-- the octets of the frame at the head of octets, told by its size
+abbrev pub length_at : List ℕ → ℕ
+length_at (_ ∷ _ ∷ _ ∷ a ∷ b ∷ c ∷ d ∷ rest) = from_be_bytes w32 (a ∷ b ∷ c ∷ d ∷ []) + 8
+length_at _ = 0
+
+-- what a frame says by which the broker takes no messages, or takes them again
+abbrev pub notice : Bool → Said
+notice true = said.Blocked
+notice false = said.Unblocked
+
+-- the frame of n octets at the head is for the session; or it is none that the session hears: a heartbeat, or whether the broker takes messages
+abbrev pub IsHead : List ℕ → Option Frame → ℕ → Type 0
+IsHead bytes (Some f) n = read_at bytes ≡ Some (read.Frame f n)
+IsHead bytes None n = (read_at bytes ≡ Some (read.Heartbeat n)) ⊎ ((b : Bool) × (frame_said_at bytes ≡ Some (notice b)) × (n ≡ length_at bytes))
+
+-- What a frame leaves: first all leaves that has begun here or is no publish, so that the session is idle, and then the session hears it.
+abbrev pub TurnLeaves : Option Frame → Client → Client → Type 0
+TurnLeaves None b d = (d.session ≡ b.session) × (d.leaving.items ≡ b.leaving.items)
+TurnLeaves (Some f) b d = (m : ℕ) × IsIdle false (after_requests m false b.session) × (d.session ≡ heard f (after_requests (suc m) false b.session))
+    × (d.leaving.items ≡ b.leaving.items ++ bytes_handed (suc m) false b.session)
+
+-- of two clients all is the same but the session, the answer and the steps that are left
+abbrev pub SameHeard : Client → Client → Type 0
+SameHeard b d = (d.leaving.items ≡ b.leaving.items) × (d.came ≡ b.came) × (d.frame_max ≡ b.frame_max)
+
+-- what becomes of a frame that the session hears
+abbrev pub Hears : Status → Frame → Client → Client → Type 0
+Hears status.Done f b d = (d.session ≡ next b.session (event.Receive f)) × SameHeard b d
+Hears status.Refused f b d = (d.session ≡ next b.session (event.Receive f)) × SameHeard b d
+Hears r f b d = IsLoss r × (d.left ≡ 0)
+
+-- what becomes of a frame where nothing waits here that has begun
+abbrev pub TakesIdle : Status → Frame → Client → Client → Type 0
+TakesIdle status.Done f b d = (d.session ≡ heard f b.session) × SameHeard b d
+TakesIdle status.Refused f b d = (d.session ≡ heard f b.session) × SameHeard b d
+TakesIdle r f b d = IsLoss r × (d.left ≡ 0)
+
+-- what becomes of a frame that came
+abbrev pub Takes : Status → Frame → Client → Client → Type 0
+Takes status.Done f b d = TurnLeaves (Some f) b d × (d.came ≡ b.came) × (d.frame_max ≡ b.frame_max)
+Takes status.Refused f b d = TurnLeaves (Some f) b d × (d.came ≡ b.came) × (d.frame_max ≡ b.frame_max)
+Takes r f b d = IsLoss r × (d.left ≡ 0)
+
+-- what stands at the head of octets, where a frame has no more than frame_max
+abbrev pub HeadIs : Head → List ℕ → ℕ → Type 0
+HeadIs head.Part bytes frame_max = 0 < wanted_behind bytes
+HeadIs (head.Frame f n) bytes frame_max = read_at bytes ≡ Some (read.Frame f n)
+HeadIs (head.Passed n) bytes frame_max = read_at bytes ≡ Some (read.Heartbeat n)
+HeadIs head.TooLong bytes frame_max = frame_max < length_at bytes
+HeadIs head.Malformed bytes frame_max = (wanted_behind bytes ≡ 0) × (read_at bytes ≡ None)
+HeadIs (head.Blocked b n) bytes frame_max = (frame_said_at bytes ≡ Some (notice b)) × (n ≡ length_at bytes)
+HeadIs head.NoMemory bytes frame_max = Unit {0}
+
+-- the frame at the head of what came is taken
+abbrev pub IsTurn : Client → Client → Type 0
+IsTurn b d = (o : Option Frame) × (n : ℕ) × IsHead b.came o n × (d.came ≡ drop n b.came) × TurnLeaves o b d
+
+-- what becomes of the head of what came
+abbrev pub Turns : Status → Client → Client → Type 0
+Turns status.Done b d = IsTurn b d
+Turns status.Refused b d = IsTurn b d
+Turns status.Pending b d = (0 < wanted_behind b.came) × (d ≡ b)
+Turns status.Malformed b d = (wanted_behind b.came ≡ 0) × (read_at b.came ≡ None) × (d ≡ b)
+Turns status.TooLong b d = ((b.frame_max < length_at b.came) × (d ≡ b)) ⊎ (d.left ≡ 0)
+Turns _ b d = (d.left ≡ 0) ⊎ (d ≡ b)
+
+-- n frames were taken, one after the other
+unfoldable pub Comes : ℕ → Client → Client → Type 0
+Comes zero c d = d ≡ c
+Comes (suc n) c d = (b : Client) × Comes n c b × IsTurn b d
+
+-- what a client is once more came
+abbrev pub IsLonger : List ℕ → Client → Client → Type 0
+IsLonger bytes c b = (b.came ≡ c.came ++ bytes) × (b.session ≡ c.session) × (b.leaving.items ≡ c.leaving.items) × (b.frame_max ≡ c.frame_max)
+
+-- What a run over what came leaves: each frame that was whole was taken, in order; where the status isn't Done the last of them has it.
+abbrev pub Runs : Status → Client → Client → Type 0
+Runs status.Done b d = (n : ℕ) × (Comes n b d × (0 < wanted_behind d.came))
+Runs r b d = (n : ℕ) × ((e : Client) × (Comes n b e × Turns r e d))
+
+-- What octets of the broker leave: they stand behind those that came before, and then each frame that is whole was taken, in order. Where
+-- there was no memory for them, nothing came.
+abbrev pub Receives : Status → List ℕ → Client → Client → Type 0
+Receives r bytes c d = ((b : Client) × (IsLonger bytes c b × Runs r b d)) ⊎ ((r ≡ status.NoMemory) × (d.session ≡ c.session) × (d.came ≡ c.came))

@@ -1,0 +1,77 @@
+-- Frames that leave, as octets.
+use Rattle.std.specs.Prelude.{◌≡◌, ◌≤◌, ◌+◌, ℕ, zero, suc, Bool, true, false, List, [], ◌++◌, length}
+use Rattle.lapin_client.specs.declared.client.Client.{Client}
+use Rattle.lapin_client.specs.declared.status.Status.{Status}
+use Rattle.lapin_client.specs.declared.sending.Step.{Step}
+use Rattle.lapin_client.specs.declared.sending.Step.TheVariants as step
+use Rattle.lapin_client.specs.declared.status.Status.TheVariants as status
+use Rattle.lapin_frames.specs.Frames.{bytes_of}
+use Rattle.lapin_machine.specs.World.{World, next, told_by}
+use Rattle.lapin_types.specs.declared.event.Event.TheVariants as event
+use Rattle.lapin_types.specs.declared.record.Record.{Record}
+use Rattle.lapin_types.specs.declared.record.Record.TheVariants as record_
+
+-- the octets of the frame in a record, if it has one
+abbrev pub record_bytes : Record → List ℕ
+record_bytes (record_.Frame f) = bytes_of f
+record_bytes _ = []
+
+-- the session after n frame requests, one after the other
+abbrev pub after_requests : ℕ → Bool → World → World
+after_requests zero flow w = w
+after_requests (suc n) flow w = next (after_requests n flow w) (event.Next flow)
+
+-- the octets of the frames that n requests hand out, in their order
+abbrev pub bytes_handed : ℕ → Bool → World → List ℕ
+bytes_handed zero flow w = []
+bytes_handed (suc n) flow w = bytes_handed n flow w ++ record_bytes (told_by (after_requests n flow w) (event.Next flow))
+
+-- none of the frames that n requests hand out has more octets than that
+abbrev pub AllWithin : ℕ → ℕ → Bool → World → Type 0
+AllWithin most zero flow w = Unit {0}
+AllWithin most (suc n) flow w = AllWithin most n flow w × (length (record_bytes (told_by (after_requests n flow w) (event.Next flow))) ≤ most)
+
+-- nothing may leave
+abbrev pub IsIdle : Bool → World → Type 0
+IsIdle flow w = told_by w (event.Next flow) ≡ record_.NoFrame
+
+-- of two clients all is the same but the session, the octets that are to be sent and the steps that are left
+abbrev pub SameElse : Client → Client → Type 0
+SameElse c d = (d.answer.items ≡ c.answer.items) × (d.came ≡ c.came) × (d.frame_max ≡ c.frame_max) × (d.blocked ≡ c.blocked)
+
+-- frames were asked for n times, and the octets of those that left stand behind those that were to be sent; none is longer than a frame may be
+abbrev pub HandsOut : ℕ → Bool → Client → Client → Type 0
+HandsOut n flow c d = (d.session ≡ after_requests n flow c.session) × ((d.leaving.items ≡ c.leaving.items ++ bytes_handed n flow c.session) × AllWithin c.frame_max n flow c.session)
+
+-- why a client takes nothing further: a frame was lost, or there are no numbers
+abbrev pub IsLoss : Status → Type 0
+IsLoss status.Ended = Unit {0}
+IsLoss status.NoMemory = Unit {0}
+IsLoss status.TooLong = Unit {0}
+IsLoss _ = ⊥
+
+-- one request: a frame left, or none may leave; a client that lost a frame ends
+abbrev pub Steps : Step → Bool → Client → Client → Type 0
+Steps step.Left flow c d = (d.session ≡ next c.session (event.Next flow)) × (d.leaving.items ≡ c.leaving.items ++ record_bytes (told_by c.session (event.Next flow))) × (length (record_bytes (told_by c.session (event.Next flow))) ≤ c.frame_max) × SameElse c d
+Steps step.Idle flow c d = IsIdle flow c.session × (d.session ≡ next c.session (event.Next flow)) × (d.leaving.items ≡ c.leaving.items) × SameElse c d
+Steps (step.Lost s) flow c d = IsLoss s × (d.left ≡ 0) × SameElse c d
+
+-- a request uses up one step
+abbrev pub Counts : Step → Client → Client → Type 0
+Counts (step.Lost s) c d = Unit {0}
+Counts _ c d = d.left + 1 ≡ c.left
+
+-- What leaves: frames were asked for until there was none, or until there were octets enough; a client that lost a frame ends.
+abbrev pub Pulls : Status → Bool → Client → Client → Type 0
+Pulls status.Done flow c d = ((n : ℕ) × HandsOut n flow c d) × SameElse c d
+Pulls r flow c d = IsLoss r × (d.left ≡ 0) × SameElse c d
+
+-- What leaves where no publish may begin: frames were asked for until there was none.
+abbrev pub Finishes : Status → Client → Client → Type 0
+Finishes status.Done c d = ((n : ℕ) × HandsOut (suc n) false c d × IsIdle false (after_requests n false c.session)) × SameElse c d
+Finishes r c d = IsLoss r × (d.left ≡ 0) × SameElse c d
+
+-- What leaves: frames were asked for, m times where publishes may begin as the caller says, and then until none is left where none may begin.
+abbrev pub Sends : Status → Bool → Client → Client → Type 0
+Sends status.Done flow c d = ((b : Client) × (Pulls status.Done flow c b × Finishes status.Done b d))
+Sends r flow c d = IsLoss r × (d.left ≡ 0) × SameElse c d

@@ -1,0 +1,113 @@
+//! The client: a session, the line of the last answer, the bytes that leave and those that came, and how many further steps it takes.
+ghost use Rattle.std.specs.Prelude.{◌≡◌, ◌≤◌, ◌++◌, ◌∷◌, [], IfOk, OnOk};
+ghost use Rattle.lapin_text.specs.Records.{record_tokens, line_onto};
+ghost use Rattle.lapin_types.specs.declared.record.Record.TheVariants as told;
+ghost use Rattle.lapin_client.specs.Calls.{RefusedTold, StaysBut};
+ghost use Rattle.lapin_client.specs.Clients.{IsSound, Answers, IsNew, IsSent};
+
+use crate::inlet::Inlet;
+use crate::status::Status;
+use lapin_lines::take_line;
+use lapin_machine::Session;
+use lapin_text::put_refused;
+use lapin_types::{Error, NoMemory};
+use std::alloc::{AllocError, Global};
+
+/// A session with the bytes of its connection.
+#[derive(Drop)]
+pub struct Client {
+    /// The session.
+    pub session: Session,
+    /// The bytes of the last answer.
+    pub answer: Vec<u8>,
+    /// The bytes that are to be sent.
+    pub leaving: Vec<u8>,
+    /// The bytes that came and were not read yet.
+    pub came: Inlet,
+    /// How many further steps the client takes.
+    pub left: u64,
+    /// The longest frame.
+    pub frame_max: u32,
+    /// Whether the broker said that it takes no messages.
+    pub blocked: bool,
+}
+
+impl Client {
+    /// A client of a new session.
+    ///
+    /// # Errors
+    /// `NoMemory` alone.
+    pub fn new(alloc: Global, frame_max: u32) -> Result<Client, NoMemory>
+        requires { 4096 ≤ frame_max }
+        ensures sound { IfOk result (λ client. IsSound client) }
+        ensures value { IfOk result (λ client. IsNew frame_max client) }
+    {
+        let session = Session::new(alloc, frame_max)?;
+        Ok(Client {
+            session,
+            answer: Vec::new(alloc),
+            leaving: Vec::new(alloc),
+            came: Inlet::new(alloc),
+            left: u64::MAX >> 1,
+            frame_max,
+            blocked: false,
+        })
+    }
+
+    /// Takes a line, without its line end: where it says an event, the session meets it, and the line of its record is the answer.
+    pub fn take_line(&mut self, alloc: Global, line: &[u8]) -> Status
+        requires { IsSound self.old }
+        ensures sound { IsSound self.new }
+        ensures told { Answers result line.now self.old self.new }
+    {
+        if self.left == 0 {
+            return Status::Ended;
+        }
+        self.answer.clear();
+        match take_line(alloc, &mut self.session, line, &mut self.answer) {
+            Ok(true) => {
+                self.left -= 1;
+                Status::Done
+            }
+            Ok(false) => Status::NotInGrammar,
+            Err(NoMemory) => {
+                self.left = 0;
+                Status::NoMemory
+            }
+        }
+    }
+
+    /// The bytes that were to be sent are the caller's.
+    pub fn sent(&mut self)
+        requires { IsSound self.old }
+        ensures sound { IsSound self.new }
+        ensures value { IsSent self.old self.new }
+    {
+        self.leaving.clear();
+    }
+
+    // The line of a refusal is the answer. Want of memory and of numbers have none.
+    pub(crate) fn refuse(&mut self, alloc: Global, error: Error) -> Status
+        ensures told { RefusedTold result error self.new }
+        ensures same { StaysBut self.old self.new }
+    {
+        self.answer.clear();
+        match error {
+            Error::NoMemory => Status::NoMemory,
+            Error::NumbersUsedUp => Status::Ended,
+            error => match put_refusal(alloc, &mut self.answer, error) {
+                Ok(()) => Status::Refused,
+                Err(_) => Status::NoMemory,
+            },
+        }
+    }
+}
+
+// Adds the line of a refusal.
+fn put_refusal(alloc: Global, out: &mut Vec<u8>, error: Error) -> Result<(), AllocError>
+    ensures { OnOk result (out.new.items ≡ line_onto out.old.items (record_tokens (told.Refused error)) ++ 10 ∷ []) }
+{
+    put_refused(alloc, out, error)?;
+    out.push(b'\n')?;
+    Ok(())
+}

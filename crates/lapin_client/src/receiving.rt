@@ -1,0 +1,243 @@
+//! Bytes of the broker, in whatever pieces they come: each frame that is whole is handed to the session, once nothing of this side waits
+//! that has begun.
+ghost use Rattle.std.specs.Prelude.{◌≡◌, Some, IfSome};
+ghost use Rattle.lapin_handshake.specs.Saying.{frame_said_at};
+ghost use Rattle.lapin_client.specs.Clients.{IsSound};
+ghost use Rattle.lapin_client.specs.Receiving.{Receives, Runs, Turns, Takes, TakesIdle, Hears, HeadIs, notice, is_of_content as is_of_content_lem, begins_content as begins_content_lem, is_stray as is_stray_lem, is_refusal, length_at};
+ghost use Rattle.lapin_history.specs.Wire.{is_closed as is_closed_lem};
+ghost use Rattle.lapin_history.specs.Drops.{frame_channel};
+
+use crate::client::Client;
+use crate::status::Status;
+use lapin_fields::wanted;
+use lapin_frames::{Read, ReadFault, read_frame};
+use lapin_handshake::{Said, read_said};
+use lapin_machine::Session;
+use lapin_types::{BasicMethod, ChannelState, Error, Frame, Method};
+use std::alloc::Global;
+
+// What stands at the head of the bytes that came.
+#[derive(Drop)]
+enum Head {
+    // The beginning of a frame.
+    Part,
+    // A frame for the session, in so many bytes.
+    Frame(Frame, usize),
+    // A heartbeat, in so many bytes.
+    Passed(usize),
+    // The broker takes messages or takes none, in so many bytes.
+    Blocked(bool, usize),
+    // No frame.
+    Malformed,
+    // A frame that is longer than a frame may be.
+    TooLong,
+    // There was no memory for it.
+    NoMemory,
+}
+
+impl Client {
+    /// Takes bytes of the broker, and hands each frame that is whole to the session. Where a frame is refused, or its bytes are none, what
+    /// came behind it is kept, and handed on by the next call.
+    pub fn receive(&mut self, alloc: Global, bytes: &[u8]) -> Status
+        requires { IsSound self.old }
+        ensures sound { IsSound self.new }
+        ensures told { Receives result bytes.now self.old self.new }
+    {
+        match self.came.add(bytes) {
+            Ok(()) => self.run(alloc),
+            Err(_) => Status::NoMemory,
+        }
+    }
+
+    // Takes each frame that came whole.
+    fn run(&mut self, alloc: Global) -> Status
+        requires { IsSound self.old }
+        ensures sound { IsSound self.new }
+        ensures told { Runs result self.old self.new }
+    {
+        for _turn in 0..u64::MAX {
+            match self.turn(alloc) {
+                Status::Done => {}
+                Status::Pending => return Status::Done,
+                status => return status,
+            }
+        }
+        Status::Ended
+    }
+
+    // Takes what stands at the head of the bytes that came. Pending where that is no whole frame yet.
+    fn turn(&mut self, alloc: Global) -> Status
+        requires { IsSound self.old }
+        ensures sound { IsSound self.new }
+        ensures told { Turns result self.old self.new }
+    {
+        match head_of(alloc, self.came.rest(), self.frame_max) {
+            Head::Part => Status::Pending,
+            Head::Frame(frame, length) => {
+                self.came.pass(length);
+                self.take(alloc, frame)
+            }
+            Head::Passed(length) => {
+                self.came.pass(length);
+                Status::Done
+            }
+            Head::Blocked(blocked, length) => {
+                self.came.pass(length);
+                self.blocked = blocked;
+                Status::Done
+            }
+            Head::Malformed => Status::Malformed,
+            Head::TooLong => Status::TooLong,
+            Head::NoMemory => Status::NoMemory,
+        }
+    }
+
+    // Takes a frame: first what has begun here leaves whole.
+    fn take(&mut self, alloc: Global, frame: Frame) -> Status
+        requires { IsSound self.old }
+        ensures sound { IsSound self.new }
+        ensures told { Takes result frame self.old self.new }
+    {
+        match self.finish(alloc) {
+            Status::Done => self.take_idle(alloc, frame),
+            status => {
+                drop(frame);
+                status
+            }
+        }
+    }
+
+    // Takes a frame, where nothing waits here that has begun. A content of an opening that has ended is passed over.
+    fn take_idle(&mut self, alloc: Global, frame: Frame) -> Status
+        requires { IsSound self.old }
+        ensures sound { IsSound self.new }
+        ensures told { TakesIdle result frame self.old self.new }
+    {
+        if is_stray(&self.session, &frame) {
+            drop(frame);
+            return Status::Done;
+        }
+        self.hear(alloc, frame)
+    }
+
+    // The session takes a frame.
+    fn hear(&mut self, alloc: Global, frame: Frame) -> Status
+        requires { IsSound self.old }
+        ensures sound { IsSound self.new }
+        ensures told { Hears result frame self.old self.new }
+    {
+        if self.left == 0 {
+            drop(frame);
+            return Status::Ended;
+        }
+        match self.session.receive(alloc, frame) {
+            Ok(_) => {
+                self.left -= 1;
+                Status::Done
+            }
+            Err(error) => {
+                if refuses(error) {
+                    self.left -= 1;
+                    let _ = self.refuse(alloc, error);
+                    return Status::Refused;
+                }
+                self.left = 0;
+                Status::NoMemory
+            }
+        }
+    }
+}
+
+// Whether the session did something with a frame of which it told the error.
+pub(crate) fn refuses(error: Error) -> bool
+    ensures { result ≡ is_refusal error }
+{
+    !matches!(error, Error::NoMemory | Error::NumbersUsedUp)
+}
+
+// Whether a frame is part of a content, or begins one.
+fn is_of_content(frame: &Frame) -> bool
+    ensures { result ≡ is_of_content_lem frame.now }
+{
+    match frame {
+        Frame::Method(_, Method::Basic(method)) => begins_content(method),
+        Frame::Method(_, _) => false,
+        Frame::Header(_, _) | Frame::Body(_, _) => true,
+    }
+}
+
+// Whether a content follows a method.
+fn begins_content(method: &BasicMethod) -> bool
+    ensures { result ≡ begins_content_lem method.now }
+{
+    matches!(
+        method,
+        BasicMethod::Deliver { .. } | BasicMethod::Return { .. } | BasicMethod::GetOk { .. }
+    )
+}
+
+fn channel_of(frame: &Frame) -> u16
+    ensures { result ≡ frame_channel frame.now }
+{
+    match frame {
+        Frame::Method(channel, _) => *channel,
+        Frame::Header(channel, _) => *channel,
+        Frame::Body(channel, _) => *channel,
+    }
+}
+
+fn is_closed(state: ChannelState) -> bool
+    ensures { result ≡ is_closed_lem state }
+{
+    matches!(state, ChannelState::Closed)
+}
+
+// Whether a frame belongs to an opening of its channel that has ended: contents that were on their way as the broker closed it.
+fn is_stray(session: &Session, frame: &Frame) -> bool
+    ensures { result ≡ is_stray_lem frame.now session.now }
+{
+    let closed = is_closed(session.channel_state(channel_of(frame)));
+    is_of_content(frame) && closed
+}
+
+// What stands at the head of bytes, where no frame has more than so many.
+fn head_of(alloc: Global, bytes: &[u8], frame_max: u32) -> Head
+    ensures { HeadIs result bytes.now frame_max }
+{
+    if length_of(bytes) > frame_max as usize {
+        return Head::TooLong;
+    }
+    if wanted(bytes) > 0 {
+        return Head::Part;
+    }
+    match read_frame(alloc, bytes) {
+        Ok(Read::Frame(frame, length)) => Head::Frame(frame, length),
+        Ok(Read::Heartbeat(length)) => Head::Passed(length),
+        Err(ReadFault::Malformed) => match notice_of(bytes) {
+            Some((blocked, length)) => Head::Blocked(blocked, length),
+            None => Head::Malformed,
+        },
+        _ => Head::NoMemory,
+    }
+}
+
+// Whether the broker takes no messages, and in how many octets, if the frame at the head of bytes says that.
+fn notice_of(bytes: &[u8]) -> Option<(bool, usize)>
+    ensures { IfSome result (λ x. (frame_said_at bytes.now ≡ Some (notice x.0)) × (x.1 ≡ length_at bytes.now)) }
+{
+    match read_said(bytes) {
+        Ok(Said::Blocked) => Some((true, length_of(bytes))),
+        Ok(Said::Unblocked) => Some((false, length_of(bytes))),
+        _ => None,
+    }
+}
+
+// The octets of the frame at the head of bytes, told by its size; 0 where that isn't there.
+fn length_of(bytes: &[u8]) -> usize
+    ensures { result ≡ length_at bytes.now }
+{
+    match bytes {
+        [_, _, _, a, b, c, d, ..] => u32::from_be_bytes([*a, *b, *c, *d]) as usize + 8,
+        _ => 0,
+    }
+}

@@ -1,0 +1,48 @@
+//! What became of a call of a client, and its number.
+ghost use Rattle.std.specs.Prelude.{◌≡◌};
+ghost use Rattle.lapin_client.specs.Statuses.{code_of};
+
+/// What became of a call.
+#[derive(Clone, Copy, Debug, PartialEq, Eq)]
+pub enum Status {
+    /// It was done.
+    Done,
+    /// The session refused it: the answer is the line of the refusal.
+    Refused,
+    /// A line is not in the grammar, or an argument is no short text. Nothing was done.
+    NotInGrammar,
+    /// There was no memory.
+    NoMemory,
+    /// The client takes nothing further: a counter is at its end, or bytes that had to leave were lost for want of memory.
+    Ended,
+    /// The bytes that came are no frame.
+    Malformed,
+    /// A frame is longer than a frame may be.
+    TooLong,
+    /// There is no client behind the handle.
+    Closed,
+    /// There is nothing yet.
+    Pending,
+    /// The acker isn't usable, or the consumer is at its end: there will be nothing.
+    Gone,
+}
+
+impl Status {
+    /// Its number.
+    pub fn code(self) -> u32
+        ensures { result ≡ code_of self }
+    {
+        match self {
+            Status::Done => 0,
+            Status::Refused => 1,
+            Status::NotInGrammar => 2,
+            Status::NoMemory => 3,
+            Status::Ended => 4,
+            Status::Malformed => 5,
+            Status::TooLong => 6,
+            Status::Closed => 7,
+            Status::Pending => 8,
+            Status::Gone => 9,
+        }
+    }
+}
