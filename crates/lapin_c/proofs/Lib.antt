@@ -1,4 +1,0 @@
-mod PointerSteps
-mod HeldBox
-mod LetsGo
-pub mod BehindLaws

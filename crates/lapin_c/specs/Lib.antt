@@ -1,4 +1,0 @@
-pub mod Behind
-pub mod Held
-pub mod Openings
-pub mod Sound
