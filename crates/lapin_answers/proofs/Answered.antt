@@ -8,9 +8,9 @@ use Rattle.lapin_types.specs.declared.request.Request.{Request}
 use Rattle.lapin_types.specs.declared.request.ReplyKind.{ReplyKind}
 use Rattle.lapin_types.specs.Requests.{kind_of}
 use Rattle.lapin_types.specs.Types.{Frame}
-use Rattle.lapin_history.specs.History.{History}
-use Rattle.lapin_history.specs.Requests.{is_kind}
-use Rattle.lapin_history.specs.Wire.{Wire}
+use Rattle.lapin_rules.specs.History.{History}
+use Rattle.lapin_rules.specs.Requests.{is_kind}
+use Rattle.lapin_rules.specs.Wire.{Wire}
 use Rattle.lapin_broker.specs.declared.request.RequestKind.{RequestKind}
 use Rattle.lapin_broker.specs.Frames.{channel_of, client_frame, broker_frame}
 use Rattle.lapin_broker.specs.Requests.{same_kind}

@@ -16,37 +16,37 @@ use Rattle.lapin_types.specs.Types.basic
 use Rattle.lapin_types.specs.Types.channel
 use Rattle.lapin_content.specs.Contents.{Expected}
 use Rattle.lapin_content.specs.Channels.{Channels, expected_on, listed, joined, joined_at}
-use Rattle.lapin_history.specs.declared.broker_frames.ContentPart.{ContentPart}
-use Rattle.lapin_history.specs.declared.broker_frames.ContentPart.TheVariants as part
-use Rattle.lapin_history.specs.declared.broker_frames.ConsumerPart.{ConsumerPart}
-use Rattle.lapin_history.specs.declared.broker_frames.ConsumerPart.TheVariants as consumer
-use Rattle.lapin_history.specs.declared.broker_frames.Incoming.{Incoming}
-use Rattle.lapin_history.specs.declared.broker_frames.Incoming.TheVariants as incoming
-use Rattle.lapin_history.specs.declared.calls.Asked.{Asked}
-use Rattle.lapin_history.specs.declared.calls.Asked.TheVariants as ask
-use Rattle.lapin_history.specs.declared.phases.ChannelPhase.{ChannelPhase}
-use Rattle.lapin_history.specs.declared.phases.ChannelPhase.TheVariants as phase
-use Rattle.lapin_history.specs.declared.phases.ConnectionPhase.{ConnectionPhase}
-use Rattle.lapin_history.specs.declared.phases.ConnectionPhase.TheVariants as link
-use Rattle.lapin_history.specs.Ackers.{acker_asked, acked_wire, usable_at}
-use Rattle.lapin_history.specs.Asking.{is_allowed, after_call, asked_by}
-use Rattle.lapin_history.specs.ChannelClose.{closing, after_close_ok}
-use Rattle.lapin_history.specs.ConnectionClose.{after_connection_close}
-use Rattle.lapin_history.specs.Consumers.{lets_go_of, cancel_noted, after_let_go, after_consumer}
-use Rattle.lapin_history.specs.Content.{after_part}
-use Rattle.lapin_history.specs.Ends.{down}
-use Rattle.lapin_history.specs.Words.{with_channel}
-use Rattle.lapin_history.specs.declared.marks.Settlement.{Settlement}
-use Rattle.lapin_history.specs.declared.phases.Closer.TheVariants as closer
-use Rattle.lapin_history.specs.Events.{after_event}
-use Rattle.lapin_history.specs.Flow.{after_flow}
-use Rattle.lapin_history.specs.Incoming.{incoming_of}
-use Rattle.lapin_history.specs.Loss.{after_lost}
-use Rattle.lapin_history.specs.Phases.{is_lost}
-use Rattle.lapin_history.specs.Receiving.{incoming_wire, after_received, after_refused}
-use Rattle.lapin_history.specs.Settlement.{after_failed_on, session_close}
-use Rattle.lapin_history.specs.Wire.{Wire, phase_of, state_of, is_open, noted}
-use Rattle.lapin_consumer.specs.Roster.{Consumer, consumer_at}
+use Rattle.lapin_rules.specs.declared.broker_frames.ContentPart.{ContentPart}
+use Rattle.lapin_rules.specs.declared.broker_frames.ContentPart.TheVariants as part
+use Rattle.lapin_rules.specs.declared.broker_frames.ConsumerPart.{ConsumerPart}
+use Rattle.lapin_rules.specs.declared.broker_frames.ConsumerPart.TheVariants as consumer
+use Rattle.lapin_rules.specs.declared.broker_frames.Incoming.{Incoming}
+use Rattle.lapin_rules.specs.declared.broker_frames.Incoming.TheVariants as incoming
+use Rattle.lapin_rules.specs.declared.calls.Asked.{Asked}
+use Rattle.lapin_rules.specs.declared.calls.Asked.TheVariants as ask
+use Rattle.lapin_rules.specs.declared.phases.ChannelPhase.{ChannelPhase}
+use Rattle.lapin_rules.specs.declared.phases.ChannelPhase.TheVariants as phase
+use Rattle.lapin_rules.specs.declared.phases.ConnectionPhase.{ConnectionPhase}
+use Rattle.lapin_rules.specs.declared.phases.ConnectionPhase.TheVariants as link
+use Rattle.lapin_rules.specs.Ackers.{acker_asked, acked_wire, usable_at}
+use Rattle.lapin_rules.specs.Asking.{is_allowed, after_call, asked_by}
+use Rattle.lapin_rules.specs.ChannelClose.{closing, after_close_ok}
+use Rattle.lapin_rules.specs.ConnectionClose.{after_connection_close}
+use Rattle.lapin_rules.specs.Consumers.{lets_go_of, cancel_noted, after_let_go, after_consumer}
+use Rattle.lapin_rules.specs.Content.{after_part}
+use Rattle.lapin_rules.specs.Ends.{down}
+use Rattle.lapin_rules.specs.Words.{with_channel}
+use Rattle.lapin_rules.specs.declared.marks.Settlement.{Settlement}
+use Rattle.lapin_rules.specs.declared.phases.Closer.TheVariants as closer
+use Rattle.lapin_rules.specs.Events.{after_event}
+use Rattle.lapin_rules.specs.Flow.{after_flow}
+use Rattle.lapin_rules.specs.Incoming.{incoming_of}
+use Rattle.lapin_rules.specs.Loss.{after_lost}
+use Rattle.lapin_rules.specs.Phases.{is_lost}
+use Rattle.lapin_rules.specs.Receiving.{incoming_wire, after_received, after_refused}
+use Rattle.lapin_rules.specs.Settlement.{after_failed_on, session_close}
+use Rattle.lapin_rules.specs.Wire.{Wire, phase_of, state_of, is_open, noted}
+use Rattle.lapin_consumer.specs.Subscriptions.{Consumer, consumer_at}
 use Rattle.lapin_effects.specs.Effects.{is_next}
 use Rattle.lapin_concord.proofs.Views.{contents_on_here, contents_on_away}
 use Rattle.lapin_answers.proofs.Happens.{income_in}
@@ -175,7 +175,7 @@ event_kept c b (event.Call d k) x a h = call_kept c d (is_allowed (asked_by k x)
 event_kept c b (event.Next flow) x a h = absurd cc
 event_kept c b (event.Receive f) x a h = wire_kept c (incoming_of f) x b h
 event_kept c b (event.Acker n k) x a h = acker_kept c (usable_at n b) k b
-event_kept c b (event.DropConsumer n) x a h = let_go_kept c (consumer_at n b.inbox.roster) b
+event_kept c b (event.DropConsumer n) x a h = let_go_kept c (consumer_at n b.deliveries.subscriptions) b
 event_kept c b event.Lost x a h = lost_kept c b
 event_kept c b (event.PollTicket n) x a h = inl refl
 event_kept c b (event.PollConfirm n) x a h = inl refl

@@ -15,25 +15,25 @@ use Rattle.lapin_types.specs.declared.request.Request.{Request}
 use Rattle.lapin_types.specs.declared.request.ReplyKind.TheVariants as reply_kind
 use Rattle.lapin_types.specs.Types.{Frame, Method, Error}
 use Rattle.lapin_types.specs.Types.frame
-use Rattle.lapin_history.specs.declared.broker_frames.Incoming.{Incoming}
-use Rattle.lapin_history.specs.declared.broker_frames.Incoming.TheVariants as incoming
-use Rattle.lapin_history.specs.declared.phases.ChannelPhase.{ChannelPhase}
-use Rattle.lapin_history.specs.declared.phases.ChannelPhase.TheVariants as phase
-use Rattle.lapin_history.specs.declared.phases.ConnectionPhase.{ConnectionPhase}
-use Rattle.lapin_history.specs.declared.phases.ConnectionPhase.TheVariants as link
-use Rattle.lapin_history.specs.ChannelClose.{close_ticket, close_ok_end, receives_close_ok}
-use Rattle.lapin_history.specs.ConnectionClose.{receives_down}
-use Rattle.lapin_history.specs.Ends.{done_with, cancels_done, end_tickets}
-use Rattle.lapin_history.specs.History.{History, rec, readings_of}
-use Rattle.lapin_history.specs.Incoming.{incoming_of, frame_class, frame_method}
-use Rattle.lapin_history.specs.Phases.{is_up}
-use Rattle.lapin_history.specs.Readings.{Readings}
-use Rattle.lapin_history.specs.Receiving.{when, incoming_record, incoming_tickets}
-use Rattle.lapin_history.specs.Requests.{is_kind, ticket_of, resolved_with}
-use Rattle.lapin_history.specs.TicketReadings.{TicketMark, gives, first_answer, answer_of, is_publish}
-use Rattle.lapin_history.specs.TicketReadings as ticket
-use Rattle.lapin_history.specs.Unexpected.{refused}
-use Rattle.lapin_history.specs.Wire.{Wire, phase_of, state_of, requests_of}
+use Rattle.lapin_rules.specs.declared.broker_frames.Incoming.{Incoming}
+use Rattle.lapin_rules.specs.declared.broker_frames.Incoming.TheVariants as incoming
+use Rattle.lapin_rules.specs.declared.phases.ChannelPhase.{ChannelPhase}
+use Rattle.lapin_rules.specs.declared.phases.ChannelPhase.TheVariants as phase
+use Rattle.lapin_rules.specs.declared.phases.ConnectionPhase.{ConnectionPhase}
+use Rattle.lapin_rules.specs.declared.phases.ConnectionPhase.TheVariants as link
+use Rattle.lapin_rules.specs.ChannelClose.{close_ticket, close_ok_end, receives_close_ok}
+use Rattle.lapin_rules.specs.ConnectionClose.{receives_down}
+use Rattle.lapin_rules.specs.Ends.{done_with, cancels_done, end_tickets}
+use Rattle.lapin_rules.specs.History.{History, rec, readings_of}
+use Rattle.lapin_rules.specs.Incoming.{incoming_of, frame_class, frame_method}
+use Rattle.lapin_rules.specs.Phases.{is_up}
+use Rattle.lapin_rules.specs.Readings.{Readings}
+use Rattle.lapin_rules.specs.Receiving.{when, incoming_record, incoming_tickets}
+use Rattle.lapin_rules.specs.Requests.{is_kind, ticket_of, resolved_with}
+use Rattle.lapin_rules.specs.TicketReadings.{TicketMark, gives, first_answer, answer_of, is_publish}
+use Rattle.lapin_rules.specs.TicketReadings as ticket
+use Rattle.lapin_rules.specs.Unexpected.{refused}
+use Rattle.lapin_rules.specs.Wire.{Wire, phase_of, state_of, requests_of}
 use Rattle.lapin_broker.specs.Frames.{channel_of, broker_frame}
 use Rattle.lapin_joint.specs.declared.step.Step.{Step}
 use Rattle.lapin_joint.specs.Joint.{joined_to}

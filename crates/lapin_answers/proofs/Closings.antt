@@ -9,21 +9,21 @@ use Rattle.lapin_types.specs.declared.record.Record.{Record}
 use Rattle.lapin_types.specs.declared.request.ReplyKind.{ReplyKind}
 use Rattle.lapin_types.specs.declared.request.ReplyKind.TheVariants as reply_kind
 use Rattle.lapin_types.specs.Types.{Frame}
-use Rattle.lapin_history.specs.declared.broker_frames.ConsumerPart.{ConsumerPart}
-use Rattle.lapin_history.specs.declared.broker_frames.ConsumerPart.TheVariants as consumer
-use Rattle.lapin_history.specs.declared.broker_frames.ContentPart.{ContentPart}
-use Rattle.lapin_history.specs.declared.broker_frames.ContentPart.TheVariants as part
-use Rattle.lapin_history.specs.declared.broker_frames.Incoming.{Incoming}
-use Rattle.lapin_history.specs.declared.broker_frames.Incoming.TheVariants as incoming
-use Rattle.lapin_history.specs.ConfirmReadings.{is_full}
-use Rattle.lapin_history.specs.Events.{after_event}
-use Rattle.lapin_history.specs.Flow.{begins_on}
-use Rattle.lapin_history.specs.Handing.{handed, handed_out, began_on, after_handing}
-use Rattle.lapin_history.specs.History.{History, Past, past, rec, readings_of}
-use Rattle.lapin_history.specs.Incoming.{incoming_of}
-use Rattle.lapin_history.specs.Phases.{is_up}
-use Rattle.lapin_history.specs.Readings.{Readings}
-use Rattle.lapin_history.specs.Wire.{Wire}
+use Rattle.lapin_rules.specs.declared.broker_frames.ConsumerPart.{ConsumerPart}
+use Rattle.lapin_rules.specs.declared.broker_frames.ConsumerPart.TheVariants as consumer
+use Rattle.lapin_rules.specs.declared.broker_frames.ContentPart.{ContentPart}
+use Rattle.lapin_rules.specs.declared.broker_frames.ContentPart.TheVariants as part
+use Rattle.lapin_rules.specs.declared.broker_frames.Incoming.{Incoming}
+use Rattle.lapin_rules.specs.declared.broker_frames.Incoming.TheVariants as incoming
+use Rattle.lapin_rules.specs.ConfirmReadings.{is_full}
+use Rattle.lapin_rules.specs.Events.{after_event}
+use Rattle.lapin_rules.specs.Flow.{begins_on}
+use Rattle.lapin_rules.specs.Handing.{handed, handed_out, began_on, after_handing}
+use Rattle.lapin_rules.specs.History.{History, Past, past, rec, readings_of}
+use Rattle.lapin_rules.specs.Incoming.{incoming_of}
+use Rattle.lapin_rules.specs.Phases.{is_up}
+use Rattle.lapin_rules.specs.Readings.{Readings}
+use Rattle.lapin_rules.specs.Wire.{Wire}
 use Rattle.lapin_broker.specs.declared.frames.BrokerFrame.{BrokerFrame}
 use Rattle.lapin_broker.specs.declared.frames.BrokerFrame.TheVariants as broker
 use Rattle.lapin_broker.specs.Frames.{channel_of, broker_frame}
@@ -41,7 +41,7 @@ use Rattle.lapin_concord.proofs.Incomes.{sorted}
 use Rattle.lapin_effects.specs.Effects.{is_next}
 use Rattle.lapin_verdicts.specs.Deeds.{Deed, Read, Sent, lefts, sents, reads_of, deed_in, deeds}
 use Rattle.lapin_verdicts.proofs.Assembly.{as_handed, in_run}
-use Rattle.lapin_verdicts.proofs.Books.{sents-append}
+use Rattle.lapin_verdicts.proofs.TagCounts.{sents-append}
 use Rattle.lapin_verdicts.proofs.Numbering.{AreRest}
 use Rattle.lapin_verdicts.proofs.Owing.{lefts-append}
 use Rattle.lapin_verdicts.proofs.Runs.{past-push, joined-push, deeds-push}

@@ -18,27 +18,27 @@ use Rattle.lapin_types.specs.Types.{Frame, Method}
 use Rattle.lapin_types.specs.Types.frame
 use Rattle.lapin_types.specs.Types.method
 use Rattle.lapin_types.specs.Types.connection
-use Rattle.lapin_history.specs.declared.broker_frames.Incoming.{Incoming}
-use Rattle.lapin_history.specs.declared.broker_frames.Incoming.TheVariants as incoming
-use Rattle.lapin_history.specs.declared.phases.ConnectionPhase.{ConnectionPhase}
-use Rattle.lapin_history.specs.declared.phases.ConnectionPhase.TheVariants as link
-use Rattle.lapin_history.specs.ConfirmReadings.{is_full}
-use Rattle.lapin_history.specs.ConnectionClose.{link_sent, link_close_sent, receives_down}
-use Rattle.lapin_history.specs.Ends.{down}
-use Rattle.lapin_history.specs.Events.{after_event}
-use Rattle.lapin_history.specs.Flow.{begins_on}
-use Rattle.lapin_history.specs.Frames.{MethodEntry, RestEntry, left_method, left_rest, left_publish}
-use Rattle.lapin_history.specs.Handing.{handed, handed_out, began_on, after_handing, sent}
-use Rattle.lapin_history.specs.History.{History, Past, past, rec, readings_of}
-use Rattle.lapin_history.specs.Incoming.{incoming_of, frame_class, frame_method}
-use Rattle.lapin_history.specs.Leaving.{left_of, left_lists, handed_of, may_begin}
-use Rattle.lapin_history.specs.Phases.{is_up, is_lost}
-use Rattle.lapin_history.specs.Readings.{Readings}
-use Rattle.lapin_history.specs.Receiving.{incoming_record, incoming_tickets}
-use Rattle.lapin_history.specs.Requests.{first_request, ticket_of, resolved_with}
-use Rattle.lapin_history.specs.TicketReadings.{TicketMark, answer_of}
-use Rattle.lapin_history.specs.Unexpected.{refused}
-use Rattle.lapin_history.specs.Wire.{Wire, lists_of, with_lists, requests_of}
+use Rattle.lapin_rules.specs.declared.broker_frames.Incoming.{Incoming}
+use Rattle.lapin_rules.specs.declared.broker_frames.Incoming.TheVariants as incoming
+use Rattle.lapin_rules.specs.declared.phases.ConnectionPhase.{ConnectionPhase}
+use Rattle.lapin_rules.specs.declared.phases.ConnectionPhase.TheVariants as link
+use Rattle.lapin_rules.specs.ConfirmReadings.{is_full}
+use Rattle.lapin_rules.specs.ConnectionClose.{link_sent, link_close_sent, receives_down}
+use Rattle.lapin_rules.specs.Ends.{down}
+use Rattle.lapin_rules.specs.Events.{after_event}
+use Rattle.lapin_rules.specs.Flow.{begins_on}
+use Rattle.lapin_rules.specs.Frames.{MethodEntry, RestEntry, left_method, left_rest, left_publish}
+use Rattle.lapin_rules.specs.Handing.{handed, handed_out, began_on, after_handing, sent}
+use Rattle.lapin_rules.specs.History.{History, Past, past, rec, readings_of}
+use Rattle.lapin_rules.specs.Incoming.{incoming_of, frame_class, frame_method}
+use Rattle.lapin_rules.specs.Leaving.{left_of, left_lists, handed_of, may_begin}
+use Rattle.lapin_rules.specs.Phases.{is_up, is_lost}
+use Rattle.lapin_rules.specs.Readings.{Readings}
+use Rattle.lapin_rules.specs.Receiving.{incoming_record, incoming_tickets}
+use Rattle.lapin_rules.specs.Requests.{first_request, ticket_of, resolved_with}
+use Rattle.lapin_rules.specs.TicketReadings.{TicketMark, answer_of}
+use Rattle.lapin_rules.specs.Unexpected.{refused}
+use Rattle.lapin_rules.specs.Wire.{Wire, lists_of, with_lists, requests_of}
 use Rattle.lapin_broker.specs.declared.frames.BrokerFrame.{BrokerFrame}
 use Rattle.lapin_broker.specs.declared.frames.BrokerFrame.TheVariants as broker
 use Rattle.lapin_broker.specs.Frames.{channel_of, broker_frame}

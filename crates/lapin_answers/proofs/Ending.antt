@@ -7,36 +7,36 @@ use Rattle.lapin_types.specs.declared.event.Event.{Event}
 use Rattle.lapin_types.specs.declared.record.Record.{Record}
 use Rattle.lapin_types.specs.declared.request.ReplyKind.{ReplyKind}
 use Rattle.lapin_types.specs.Types.{Method, Error}
-use Rattle.lapin_history.specs.declared.marks.Settlement.{Settlement}
-use Rattle.lapin_history.specs.declared.broker_frames.ConsumerPart.{ConsumerPart}
-use Rattle.lapin_history.specs.declared.broker_frames.ContentPart.{ContentPart}
-use Rattle.lapin_history.specs.declared.broker_frames.Incoming.{Incoming}
-use Rattle.lapin_history.specs.declared.phases.ChannelPhase.{ChannelPhase}
-use Rattle.lapin_history.specs.declared.phases.ConnectionPhase.{ConnectionPhase}
-use Rattle.lapin_history.specs.Words.{with_channel}
-use Rattle.lapin_history.specs.Phases.{is_up, is_lost}
-use Rattle.lapin_history.specs.Frames.{MethodEntry, left_method}
-use Rattle.lapin_history.specs.Drops.{is_off, method_channel}
-use Rattle.lapin_history.specs.Requests.{first_request, without_kind, no_requests}
-use Rattle.lapin_history.specs.Ends.{down}
-use Rattle.lapin_history.specs.Readings.{Readings}
-use Rattle.lapin_history.specs.Wire.{Wire, requests_of, state_of, phase_of, is_open, noted, receives_on, queued}
-use Rattle.lapin_history.specs.ChannelClose.{kept_at, closing, after_close_ok, after_channel_close, receives_close, receives_close_ok, own_close, has_sent_close}
-use Rattle.lapin_history.specs.ConnectionClose.{receives_down, after_connection_close}
-use Rattle.lapin_history.specs.Settlement.{settlement_record, session_close}
-use Rattle.lapin_history.specs.Reply.{receives_reply, after_reply}
-use Rattle.lapin_history.specs.Flow.{after_flow}
-use Rattle.lapin_history.specs.Content.{receives_part, after_get_ok}
-use Rattle.lapin_history.specs.Consumers.{receives_consumer, lets_go_of, cancel_noted, after_let_go, let_go_cancel}
-use Rattle.lapin_history.specs.Unexpected.{refused}
-use Rattle.lapin_history.specs.Loss.{after_lost}
-use Rattle.lapin_history.specs.Receiving.{when, incoming_up, incoming_record, incoming_wire}
+use Rattle.lapin_rules.specs.declared.marks.Settlement.{Settlement}
+use Rattle.lapin_rules.specs.declared.broker_frames.ConsumerPart.{ConsumerPart}
+use Rattle.lapin_rules.specs.declared.broker_frames.ContentPart.{ContentPart}
+use Rattle.lapin_rules.specs.declared.broker_frames.Incoming.{Incoming}
+use Rattle.lapin_rules.specs.declared.phases.ChannelPhase.{ChannelPhase}
+use Rattle.lapin_rules.specs.declared.phases.ConnectionPhase.{ConnectionPhase}
+use Rattle.lapin_rules.specs.Words.{with_channel}
+use Rattle.lapin_rules.specs.Phases.{is_up, is_lost}
+use Rattle.lapin_rules.specs.Frames.{MethodEntry, left_method}
+use Rattle.lapin_rules.specs.Drops.{is_off, method_channel}
+use Rattle.lapin_rules.specs.Requests.{first_request, without_kind, no_requests}
+use Rattle.lapin_rules.specs.Ends.{down}
+use Rattle.lapin_rules.specs.Readings.{Readings}
+use Rattle.lapin_rules.specs.Wire.{Wire, requests_of, state_of, phase_of, is_open, noted, receives_on, queued}
+use Rattle.lapin_rules.specs.ChannelClose.{kept_at, closing, after_close_ok, after_channel_close, receives_close, receives_close_ok, own_close, has_sent_close}
+use Rattle.lapin_rules.specs.ConnectionClose.{receives_down, after_connection_close}
+use Rattle.lapin_rules.specs.Settlement.{settlement_record, session_close}
+use Rattle.lapin_rules.specs.Reply.{receives_reply, after_reply}
+use Rattle.lapin_rules.specs.Flow.{after_flow}
+use Rattle.lapin_rules.specs.Content.{receives_part, after_get_ok}
+use Rattle.lapin_rules.specs.Consumers.{receives_consumer, lets_go_of, cancel_noted, after_let_go, let_go_cancel}
+use Rattle.lapin_rules.specs.Unexpected.{refused}
+use Rattle.lapin_rules.specs.Loss.{after_lost}
+use Rattle.lapin_rules.specs.Receiving.{when, incoming_up, incoming_record, incoming_wire}
 use Rattle.lapin_concord.specs.Wires.{reply_number, is_asked}
 use Rattle.lapin_concord.proofs.Views.{requests_at}
-use Rattle.lapin_history.specs.Ackers.{usable_at, acker_method, acked_wire}
-use Rattle.lapin_history.specs.Incoming.{incoming_of, frame_class, frame_method}
-use Rattle.lapin_history.specs.Events.{record_of, after_event}
-use Rattle.lapin_consumer.specs.Roster.{consumer_at, Consumer, is_idle}
+use Rattle.lapin_rules.specs.Ackers.{usable_at, acker_method, acked_wire}
+use Rattle.lapin_rules.specs.Incoming.{incoming_of, frame_class, frame_method}
+use Rattle.lapin_rules.specs.Events.{record_of, after_event}
+use Rattle.lapin_consumer.specs.Subscriptions.{consumer_at, Consumer, is_idle}
 use Rattle.lapin_effects.specs.Effects.{is_next}
 use Rattle.lapin_answers.proofs.Lists.{lefts_of, and_none}
 use Rattle.lapin_answers.proofs.Turns.{At, entry, wanted, allowed_up, plain_record}
@@ -46,9 +46,9 @@ use Rattle.lapin_types.specs.declared.leaving.Left.{Left}
 use Rattle.lapin_types.specs.declared.request.Request.{Request}
 use Rattle.lapin_types.specs.declared.request.Reply.{Reply}
 use Rattle.lapin_types.specs.Requests.{kind_of}
-use Rattle.lapin_history.specs.declared.calls.Asked.{Asked}
-use Rattle.lapin_history.specs.Calls.{asked, is_try, awaited_by}
-use Rattle.lapin_history.specs.Asking.{is_allowed, is_held, is_outstanding, asked_by, accepted_record, call_record, call_told, after_call, asked_wire}
+use Rattle.lapin_rules.specs.declared.calls.Asked.{Asked}
+use Rattle.lapin_rules.specs.Calls.{asked, is_try, awaited_by}
+use Rattle.lapin_rules.specs.Asking.{is_allowed, is_held, is_outstanding, asked_by, accepted_record, call_record, call_told, after_call, asked_wire}
 use Rattle.lapin_concord.proofs.Incomes.{kinds_tell}
 use Rattle.lapin_answers.proofs.Rows.{Row, RowOf, row_of}
 use Rattle.lapin_types.specs.declared.record.Record.TheVariants as record_
@@ -59,25 +59,25 @@ use Rattle.lapin_types.specs.Types.basic
 use Rattle.lapin_types.specs.Types.channel
 use Rattle.lapin_types.specs.Types.connection
 use Rattle.lapin_types.specs.Types.error
-use Rattle.lapin_history.specs.declared.broker_frames.ConsumerPart.TheVariants as consumer
-use Rattle.lapin_history.specs.declared.broker_frames.ContentPart.TheVariants as part
-use Rattle.lapin_history.specs.declared.broker_frames.Incoming.TheVariants as incoming
-use Rattle.lapin_history.specs.declared.phases.ChannelPhase.TheVariants as phase
-use Rattle.lapin_history.specs.declared.phases.ConnectionPhase.TheVariants as link
-use Rattle.lapin_history.specs.declared.phases.Closer.TheVariants as closer
+use Rattle.lapin_rules.specs.declared.broker_frames.ConsumerPart.TheVariants as consumer
+use Rattle.lapin_rules.specs.declared.broker_frames.ContentPart.TheVariants as part
+use Rattle.lapin_rules.specs.declared.broker_frames.Incoming.TheVariants as incoming
+use Rattle.lapin_rules.specs.declared.phases.ChannelPhase.TheVariants as phase
+use Rattle.lapin_rules.specs.declared.phases.ConnectionPhase.TheVariants as link
+use Rattle.lapin_rules.specs.declared.phases.Closer.TheVariants as closer
 use Rattle.lapin_types.specs.declared.event.Event.TheVariants as event
 use Rattle.lapin_types.specs.declared.acker_call.AckerCall.TheVariants as acker_call
 use Rattle.lapin_types.specs.declared.request.Reply.TheVariants as reply
-use Rattle.lapin_history.specs.declared.calls.Asked.TheVariants as ask
-use Rattle.lapin_history.specs.ConnectionClose.{own_connection_close}
-use Rattle.lapin_history.specs.Wire.{is_base}
-use Rattle.lapin_history.specs.Requests.{is_kind, with_request, without_request, close_alone, request_alone}
+use Rattle.lapin_rules.specs.declared.calls.Asked.TheVariants as ask
+use Rattle.lapin_rules.specs.ConnectionClose.{own_connection_close}
+use Rattle.lapin_rules.specs.Wire.{is_base}
+use Rattle.lapin_rules.specs.Requests.{is_kind, with_request, without_request, close_alone, request_alone}
 use Rattle.lapin_tables.specs.ByChannel.{on_channel}
-use Rattle.lapin_history.specs.ChannelClose.{has_sent_close}
+use Rattle.lapin_rules.specs.ChannelClose.{has_sent_close}
 use Rattle.lapin_concord.proofs.Views.{requests_with_here, requests_away, requests_on_here, requests_on_away}
 use Rattle.std.proofs.lemmas.List.{map-append}
 use Rattle.std.proofs.lemmas.List.Elements.{filter-append}
-use Rattle.lapin_history.specs.Unexpected.{unexpected_close}
+use Rattle.lapin_rules.specs.Unexpected.{unexpected_close}
 use Rattle.lapin_answers.specs.Closes.{is_end, is_end_left, IsEnd}
 use Rattle.lapin_answers.proofs.Moving.{IsInner, inner}
 
@@ -408,7 +408,7 @@ event_ending b readings (event.AsideTicket n) h = Same refl refl refl
 event_ending b readings (event.AsideConfirm n) h = Same refl refl refl
 event_ending b readings (event.Acker n k) h = acker_ending (event.Acker n k) _ (usable_at n b) k b
 event_ending b readings (event.Delegate n) h = Same refl refl refl
-event_ending b readings (event.DropConsumer n) h = let_go_ending (event.DropConsumer n) _ (consumer_at n b.inbox.roster) b
+event_ending b readings (event.DropConsumer n) h = let_go_ending (event.DropConsumer n) _ (consumer_at n b.deliveries.subscriptions) b
 event_ending b readings event.NextJob h = Same refl refl refl
 event_ending b readings (event.State d) h = Same refl refl refl
 event_ending b readings event.Lost h = lost_ending event.Lost _ b

@@ -19,18 +19,18 @@ use Rattle.lapin_content.specs.declared.start.Start.TheVariants as start
 use Rattle.lapin_content.specs.declared.start.Whole.{Whole as Arrived}
 use Rattle.lapin_content.specs.Contents.{Begun, Expected, front_waits, front_takes, waits_for, takes_body, has_left, is_unbegun, begun_with, grown_by, grown, if_whole, is_zero, lacked, whole_with, heard_header, heard_body, refused_header, refused_body}
 use Rattle.lapin_content.specs.Channels.{expected_on}
-use Rattle.lapin_history.specs.declared.broker_frames.ContentPart.{ContentPart}
-use Rattle.lapin_history.specs.declared.broker_frames.ContentPart.TheVariants as part
-use Rattle.lapin_history.specs.declared.broker_frames.Incoming.{Incoming}
-use Rattle.lapin_history.specs.declared.broker_frames.Incoming.TheVariants as incoming
-use Rattle.lapin_history.specs.Content.{next_acker, got_message, start_tickets, whole_tickets, whole_in, part_tickets, receives_part}
-use Rattle.lapin_history.specs.History.{rec, readings_of}
-use Rattle.lapin_history.specs.Incoming.{incoming_of, frame_class, frame_method}
-use Rattle.lapin_history.specs.Readings.{Readings}
-use Rattle.lapin_history.specs.Receiving.{incoming_record, incoming_tickets}
-use Rattle.lapin_history.specs.TicketReadings.{TicketMark, gives, answer_of}
-use Rattle.lapin_history.specs.Unexpected.{refused}
-use Rattle.lapin_history.specs.Wire.{Wire, state_of, receives_on}
+use Rattle.lapin_rules.specs.declared.broker_frames.ContentPart.{ContentPart}
+use Rattle.lapin_rules.specs.declared.broker_frames.ContentPart.TheVariants as part
+use Rattle.lapin_rules.specs.declared.broker_frames.Incoming.{Incoming}
+use Rattle.lapin_rules.specs.declared.broker_frames.Incoming.TheVariants as incoming
+use Rattle.lapin_rules.specs.Content.{next_acker, got_message, start_tickets, whole_tickets, whole_in, part_tickets, receives_part}
+use Rattle.lapin_rules.specs.History.{rec, readings_of}
+use Rattle.lapin_rules.specs.Incoming.{incoming_of, frame_class, frame_method}
+use Rattle.lapin_rules.specs.Readings.{Readings}
+use Rattle.lapin_rules.specs.Receiving.{incoming_record, incoming_tickets}
+use Rattle.lapin_rules.specs.TicketReadings.{TicketMark, gives, answer_of}
+use Rattle.lapin_rules.specs.Unexpected.{refused}
+use Rattle.lapin_rules.specs.Wire.{Wire, state_of, receives_on}
 use Rattle.lapin_broker.specs.Frames.{channel_of}
 use Rattle.lapin_joint.specs.declared.step.Step.{Step}
 use Rattle.lapin_joint.specs.declared.step.Step.TheVariants as step
@@ -140,13 +140,13 @@ module _ (n : ℕ) (big : 4096 ≤ n) (k : ℕ) (ss : List Step) (message : Basi
         by (inr q) = no_marks (ap (λ v. incoming_tickets (incoming_of f) v b) (same ∙ q.0))
 
     -- a content that its part makes whole or not
-    whole_by_part : (c : ℕ) (p : ContentPart) (e : Expected) (more : List Expected) (q : Properties) (bytes : List ℕ) (done : Bool) → incoming_of f ≡ incoming.Content c p → x ≡ record_.Received → channel_of f ≡ c → expected_on c b.contents ≡ e ∷ more → part_tickets c p b ≡ whole_tickets c (next_acker b.inbox) (cond done (Some (record { start = e.start; properties = q; payload = bytes })) None) → (done ≡ true → (s : Start) → sent_after (on_way s e.begun) f ≡ whole_now s q bytes) → Got n k ss message
+    whole_by_part : (c : ℕ) (p : ContentPart) (e : Expected) (more : List Expected) (q : Properties) (bytes : List ℕ) (done : Bool) → incoming_of f ≡ incoming.Content c p → x ≡ record_.Received → channel_of f ≡ c → expected_on c b.contents ≡ e ∷ more → part_tickets c p b ≡ whole_tickets c (next_acker b.deliveries) (cond done (Some (record { start = e.start; properties = q; payload = bytes })) None) → (done ≡ true → (s : Start) → sent_after (on_way s e.begun) f ≡ whole_now s q bytes) → Got n k ss message
     whole_by_part c p e more q bytes false is r on front marks step = no_marks (part_marks c p (incoming_of f) x b is r ∙ marks)
     whole_by_part c p e more q bytes true is r on front marks step =
-        let a : Answers k (start_tickets c (next_acker b.inbox) e.start (record { start = e.start; properties = q; payload = bytes })) y = comes _ (part_marks c p (incoming_of f) x b is r ∙ marks) (start_gives c (next_acker b.inbox) (record { start = e.start; properties = q; payload = bytes })) in
-        let w = whole_get k e q bytes c (next_acker b.inbox) message a in
+        let a : Answers k (start_tickets c (next_acker b.deliveries) e.start (record { start = e.start; properties = q; payload = bytes })) y = comes _ (part_marks c p (incoming_of f) x b is r ∙ marks) (start_gives c (next_acker b.deliveries) (record { start = e.start; properties = q; payload = bytes })) in
+        let w = whole_get k e q bytes c (next_acker b.deliveries) message a in
         let g = (carried_in n c big ss).gets e more k w.tag w.exchange w.key w.redelivered w.count front w.starts in
-        got_whole n k c (next_acker b.inbox) ss e q bytes f fs message on w (subst (λ v. Getting c k (joined_to n ss).session (Get w.tag w.redelivered w.exchange w.key w.count) e.begun v (last_opening c (deeds n ss))) down g) (step refl)
+        got_whole n k c (next_acker b.deliveries) ss e q bytes f fs message on w (subst (λ v. Getting c k (joined_to n ss).session (Get w.tag w.redelivered w.exchange w.key w.count) e.begun v (last_opening c (deeds n ss))) down g) (step refl)
 
     header_case : (d : ℕ) (hd : ContentHeader) → f ≡ frame.Header d hd → Got n k ss message
     header_case d hd is = part_comes d (part.Header hd) (ap incoming_of is) (λ r may. by r (expected_on d b.contents) refl (and_parts (receives_on (state_of d b)) (front_waits hd.class_id (expected_on d b.contents)) may).1)
@@ -156,7 +156,7 @@ module _ (n : ℕ) (big : 4096 ≤ n) (k : ℕ) (ss : List Step) (message : Basi
         by r (e ∷ es) q w =
             let unbegun : e.begun ≡ None = unbegun_none e.begun (and_parts (is_unbegun e.begun) (e.class_id == hd.class_id) w).0 in
             whole_by_part d (part.Header hd) e es hd.properties [] (hd.body_size == 0) (ap incoming_of is) r (ap channel_of is) q
-            (ap (λ v. whole_tickets d (next_acker b.inbox) (whole_in (heard_header hd v))) q ∙ ap (whole_tickets d (next_acker b.inbox)) (header_makes hd e es w))
+            (ap (λ v. whole_tickets d (next_acker b.deliveries) (whole_in (heard_header hd v))) q ∙ ap (whole_tickets d (next_acker b.deliveries)) (header_makes hd e es w))
             (λ z s. ap (sent_after (on_way s e.begun)) is ∙ (ap (λ v. sent_after (on_way s v) (frame.Header d hd)) unbegun ∙ header_whole s d hd z))
 
     body_case : (d : ℕ) (bytes : List ℕ) → f ≡ frame.Body d bytes → Got n k ss message
@@ -166,7 +166,7 @@ module _ (n : ℕ) (big : 4096 ≤ n) (k : ℕ) (ss : List Step) (message : Basi
         begun r e es q w None z = let u : false ≡ true = ap (has_left bytes) (sym z) ∙ w in absurd cc
         begun r e es q w (Some g) z =
             whole_by_part d (part.Body bytes) e es g.properties (g.bytes ++ bytes) ((g.left - length bytes) == 0) (ap incoming_of is) r (ap channel_of is) q
-            (ap (λ v. whole_tickets d (next_acker b.inbox) (whole_in (heard_body bytes v))) q ∙ ap (whole_tickets d (next_acker b.inbox)) (body_makes bytes e es g z w))
+            (ap (λ v. whole_tickets d (next_acker b.deliveries) (whole_in (heard_body bytes v))) q ∙ ap (whole_tickets d (next_acker b.deliveries)) (body_makes bytes e es g z w))
             (λ o s. ap (sent_after (on_way s e.begun)) is ∙ (ap (λ v. sent_after (on_way s v) (frame.Body d bytes)) z ∙ body_whole s d g bytes (ap (has_left bytes) (sym z) ∙ w) o))
 
         by : x ≡ record_.Received → (es : List Expected) → expected_on d b.contents ≡ es → front_takes bytes es ≡ true → Got n k ss message

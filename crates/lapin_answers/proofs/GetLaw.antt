@@ -18,24 +18,24 @@ use Rattle.lapin_content.specs.declared.start.Start.{Start as Beginning}
 use Rattle.lapin_content.specs.declared.start.Start.TheVariants as start
 use Rattle.lapin_content.specs.Contents.{Expected, expected, after_header, after_body, front_waits, front_takes}
 use Rattle.lapin_content.specs.Channels.{expected_on, joined}
-use Rattle.lapin_history.specs.declared.broker_frames.ContentPart.{ContentPart}
-use Rattle.lapin_history.specs.declared.broker_frames.ContentPart.TheVariants as part
-use Rattle.lapin_history.specs.declared.broker_frames.Incoming.{Incoming}
-use Rattle.lapin_history.specs.declared.broker_frames.Incoming.TheVariants as incoming
-use Rattle.lapin_history.specs.declared.phases.ConnectionPhase.{ConnectionPhase}
-use Rattle.lapin_history.specs.declared.phases.ConnectionPhase.TheVariants as link
-use Rattle.lapin_consumer.specs.Roster.{found}
-use Rattle.lapin_history.specs.Content.{get_ticket, receives_part, after_part}
-use Rattle.lapin_history.specs.Events.{after_event}
-use Rattle.lapin_history.specs.Handing.{handed_out, began_on, after_handing, sent}
-use Rattle.lapin_history.specs.History.{History, Past, past, rec, readings_of}
-use Rattle.lapin_history.specs.Incoming.{incoming_of, frame_class, frame_method}
-use Rattle.lapin_history.specs.Leaving.{left_lists}
-use Rattle.lapin_history.specs.Phases.{is_up, is_live}
-use Rattle.lapin_history.specs.Readings.{Readings}
-use Rattle.lapin_history.specs.Receiving.{incoming_record, incoming_wire}
-use Rattle.lapin_history.specs.Unexpected.{refused}
-use Rattle.lapin_history.specs.Wire.{Wire, phase_of, state_of, receives_on, lists_of, with_lists}
+use Rattle.lapin_rules.specs.declared.broker_frames.ContentPart.{ContentPart}
+use Rattle.lapin_rules.specs.declared.broker_frames.ContentPart.TheVariants as part
+use Rattle.lapin_rules.specs.declared.broker_frames.Incoming.{Incoming}
+use Rattle.lapin_rules.specs.declared.broker_frames.Incoming.TheVariants as incoming
+use Rattle.lapin_rules.specs.declared.phases.ConnectionPhase.{ConnectionPhase}
+use Rattle.lapin_rules.specs.declared.phases.ConnectionPhase.TheVariants as link
+use Rattle.lapin_consumer.specs.Subscriptions.{found}
+use Rattle.lapin_rules.specs.Content.{get_ticket, receives_part, after_part}
+use Rattle.lapin_rules.specs.Events.{after_event}
+use Rattle.lapin_rules.specs.Handing.{handed_out, began_on, after_handing, sent}
+use Rattle.lapin_rules.specs.History.{History, Past, past, rec, readings_of}
+use Rattle.lapin_rules.specs.Incoming.{incoming_of, frame_class, frame_method}
+use Rattle.lapin_rules.specs.Leaving.{left_lists}
+use Rattle.lapin_rules.specs.Phases.{is_up, is_live}
+use Rattle.lapin_rules.specs.Readings.{Readings}
+use Rattle.lapin_rules.specs.Receiving.{incoming_record, incoming_wire}
+use Rattle.lapin_rules.specs.Unexpected.{refused}
+use Rattle.lapin_rules.specs.Wire.{Wire, phase_of, state_of, receives_on, lists_of, with_lists}
 use Rattle.lapin_broker.specs.Frames.{channel_of}
 use Rattle.lapin_broker.specs.Sends.{may}
 use Rattle.lapin_joint.specs.declared.step.Step.{Step}
@@ -55,7 +55,7 @@ use Rattle.lapin_verdicts.specs.Deeds.{Deed, Read, Sent, is_open, joined_opening
 use Rattle.lapin_verdicts.specs.InStep.{is_frame_on, is_open_on}
 use Rattle.lapin_verdicts.specs.Messages.{Start, Get, with_start, sent_after, start_in}
 use Rattle.lapin_verdicts.specs.Session.{past_of}
-use Rattle.lapin_verdicts.proofs.Books.{last-push, last-sent}
+use Rattle.lapin_verdicts.proofs.TagCounts.{last-push, last-sent}
 use Rattle.lapin_verdicts.proofs.Leaving.{still_hears}
 use Rattle.lapin_verdicts.proofs.Numbering.{hears_live}
 use Rattle.lapin_verdicts.proofs.Runs.{past-push, joined-push, deeds-push}
@@ -261,10 +261,10 @@ module _ (n c : ℕ) (big : 4096 ≤ n) where
           let begins : Beginning = start.Deliver None number exchange key redelivered in
           let i_is : incoming_of f ≡ incoming.Content c (part.Deliver tag begins) = ap incoming_of is ∙ ap (λ v. incoming.Content v (part.Deliver tag begins)) y.1 in
           on_channel_ (part.Deliver tag begins) i_is (λ r may u e more k tag' exchange' key' redelivered' count' q at.
-          (let new : Expected = expected 60 (start.Deliver (found c tag b.inbox.roster) number exchange key redelivered) in
+          (let new : Expected = expected 60 (start.Deliver (found c tag b.deliveries.subscriptions) number exchange key redelivered) in
           let none = begun (part.Deliver tag begins) new i_is r refl refl u in
           let same : e ≡ new = new_front (expected_on c b.contents) new e more none (sym (joined_here c new b.contents) ∙ q) in
-          let starts : start.Deliver (found c tag b.inbox.roster) number exchange key redelivered ≡ start.Get (Some k) tag' exchange' key' redelivered' count' = ap (λ (v : Expected). v.start) (sym same) ∙ at in
+          let starts : start.Deliver (found c tag b.deliveries.subscriptions) number exchange key redelivered ≡ start.Get (Some k) tag' exchange' key' redelivered' count' = ap (λ (v : Expected). v.start) (sym same) ∙ at in
           absurd cc)) s
       | inr o ↦ away (ap (λ v. channel_of v == c) is ∙ o.0) (ap (λ v. is_content_on c (incoming_of v)) is ∙ o.0) s
     ]

@@ -18,24 +18,24 @@ use Rattle.lapin_types.specs.Types.error
 use Rattle.lapin_content.specs.declared.start.Start.{Start as Beginning}
 use Rattle.lapin_content.specs.declared.start.Start.TheVariants as start
 use Rattle.lapin_content.specs.Contents.{Expected}
-use Rattle.lapin_history.specs.declared.broker_frames.ConsumerPart.{ConsumerPart}
-use Rattle.lapin_history.specs.declared.broker_frames.ConsumerPart.TheVariants as consumer
-use Rattle.lapin_history.specs.declared.broker_frames.Incoming.{Incoming}
-use Rattle.lapin_history.specs.declared.broker_frames.Incoming.TheVariants as incoming
-use Rattle.lapin_history.specs.declared.marks.AtLeaving.{AtLeaving}
-use Rattle.lapin_history.specs.declared.marks.AtLeaving.TheVariants as leaving
-use Rattle.lapin_history.specs.declared.phases.ConnectionPhase.{ConnectionPhase}
-use Rattle.lapin_history.specs.declared.phases.ConnectionPhase.TheVariants as link
-use Rattle.lapin_history.specs.ChannelClose.{close_ticket, close_ok_end}
-use Rattle.lapin_history.specs.ConnectionClose.{connection_close_tickets}
-use Rattle.lapin_history.specs.Consumers.{consumer_tickets, next_consumer}
-use Rattle.lapin_history.specs.Content.{got_message, start_tickets}
-use Rattle.lapin_history.specs.Ends.{done_with, cancels_at, cancels_on, cancels_done, end_tickets, all_failed, live_channels}
-use Rattle.lapin_history.specs.Receiving.{received_tickets, incoming_tickets}
-use Rattle.lapin_history.specs.Requests.{is_kind, first_request, ticket_of, requests_in, resolved_with}
-use Rattle.lapin_history.specs.TicketReadings.{TicketMark, gives, answer_by, answer_at, first_answer, begins, is_publish, is_spared}
-use Rattle.lapin_history.specs.TicketReadings as ticket
-use Rattle.lapin_history.specs.Wire.{Wire, phase_of, requests_of}
+use Rattle.lapin_rules.specs.declared.broker_frames.ConsumerPart.{ConsumerPart}
+use Rattle.lapin_rules.specs.declared.broker_frames.ConsumerPart.TheVariants as consumer
+use Rattle.lapin_rules.specs.declared.broker_frames.Incoming.{Incoming}
+use Rattle.lapin_rules.specs.declared.broker_frames.Incoming.TheVariants as incoming
+use Rattle.lapin_rules.specs.declared.marks.AtLeaving.{AtLeaving}
+use Rattle.lapin_rules.specs.declared.marks.AtLeaving.TheVariants as leaving
+use Rattle.lapin_rules.specs.declared.phases.ConnectionPhase.{ConnectionPhase}
+use Rattle.lapin_rules.specs.declared.phases.ConnectionPhase.TheVariants as link
+use Rattle.lapin_rules.specs.ChannelClose.{close_ticket, close_ok_end}
+use Rattle.lapin_rules.specs.ConnectionClose.{connection_close_tickets}
+use Rattle.lapin_rules.specs.Consumers.{consumer_tickets, next_consumer}
+use Rattle.lapin_rules.specs.Content.{got_message, start_tickets}
+use Rattle.lapin_rules.specs.Ends.{done_with, cancels_at, cancels_on, cancels_done, end_tickets, all_failed, live_channels}
+use Rattle.lapin_rules.specs.Receiving.{received_tickets, incoming_tickets}
+use Rattle.lapin_rules.specs.Requests.{is_kind, first_request, ticket_of, requests_in, resolved_with}
+use Rattle.lapin_rules.specs.TicketReadings.{TicketMark, gives, answer_by, answer_at, first_answer, begins, is_publish, is_spared}
+use Rattle.lapin_rules.specs.TicketReadings as ticket
+use Rattle.lapin_rules.specs.Wire.{Wire, phase_of, requests_of}
 use Rattle.lapin_concord.specs.Refusals.{is_refusal}
 use Rattle.lapin_verdicts.proofs.Turns.{any-less}
 use Rattle.lapin_answers.proofs.Gets.{IsQuiet, brings_message}
@@ -130,7 +130,7 @@ close_plain link.Closed code b = failed_plain (error.ProtocolError code) b
 close_plain link.Lost code b = failed_plain (error.ProtocolError code) b
 
 consumer_plain : (c : ℕ) (p : ConsumerPart) (b : Wire) → list_any tells (consumer_tickets c p b) ≡ false
-consumer_plain c (consumer.ConsumeOk tag) b = resolved_plain (answer.Consumer (next_consumer b.inbox)) (ticket_of (first_request reply_kind.BasicConsumeOk (requests_of c b))) refl
+consumer_plain c (consumer.ConsumeOk tag) b = resolved_plain (answer.Consumer (next_consumer b.deliveries)) (ticket_of (first_request reply_kind.BasicConsumeOk (requests_of c b))) refl
 consumer_plain c (consumer.CancelOk tag) b = resolved_plain answer.Done (ticket_of (first_request reply_kind.BasicCancelOk (requests_of c b))) refl
 consumer_plain c consumer.RecoverOk b = resolved_plain answer.Done (ticket_of (first_request reply_kind.BasicRecoverOk (requests_of c b))) refl
 consumer_plain c (consumer.Cancel tag nowait) b = refl

@@ -14,20 +14,20 @@ use Rattle.lapin_types.specs.Types.{Frame}
 use Rattle.lapin_types.specs.Types.frame
 use Rattle.lapin_content.specs.Contents.{Begun, Expected, front_waits, front_takes, has_left, is_unbegun, begun_with, grown_by, grown, unless_whole, after_header, after_body, is_whole, is_zero, lacked}
 use Rattle.lapin_content.specs.Channels.{Channels, expected_on, listed, joined, joined_at}
-use Rattle.lapin_history.specs.declared.broker_frames.ContentPart.{ContentPart}
-use Rattle.lapin_history.specs.declared.broker_frames.ContentPart.TheVariants as part
-use Rattle.lapin_history.specs.declared.broker_frames.Incoming.{Incoming}
-use Rattle.lapin_history.specs.declared.broker_frames.Incoming.TheVariants as incoming
-use Rattle.lapin_history.specs.declared.phases.ConnectionPhase.{ConnectionPhase}
-use Rattle.lapin_history.specs.declared.phases.ConnectionPhase.TheVariants as link
-use Rattle.lapin_history.specs.ConnectionClose.{receives_down}
-use Rattle.lapin_history.specs.Content.{receives_part}
-use Rattle.lapin_history.specs.History.{History}
-use Rattle.lapin_history.specs.Phases.{is_up}
-use Rattle.lapin_history.specs.Readings.{Readings}
-use Rattle.lapin_history.specs.Receiving.{incoming_record, when}
-use Rattle.lapin_history.specs.Unexpected.{refused}
-use Rattle.lapin_history.specs.Wire.{Wire, state_of, receives_on}
+use Rattle.lapin_rules.specs.declared.broker_frames.ContentPart.{ContentPart}
+use Rattle.lapin_rules.specs.declared.broker_frames.ContentPart.TheVariants as part
+use Rattle.lapin_rules.specs.declared.broker_frames.Incoming.{Incoming}
+use Rattle.lapin_rules.specs.declared.broker_frames.Incoming.TheVariants as incoming
+use Rattle.lapin_rules.specs.declared.phases.ConnectionPhase.{ConnectionPhase}
+use Rattle.lapin_rules.specs.declared.phases.ConnectionPhase.TheVariants as link
+use Rattle.lapin_rules.specs.ConnectionClose.{receives_down}
+use Rattle.lapin_rules.specs.Content.{receives_part}
+use Rattle.lapin_rules.specs.History.{History}
+use Rattle.lapin_rules.specs.Phases.{is_up}
+use Rattle.lapin_rules.specs.Readings.{Readings}
+use Rattle.lapin_rules.specs.Receiving.{incoming_record, when}
+use Rattle.lapin_rules.specs.Unexpected.{refused}
+use Rattle.lapin_rules.specs.Wire.{Wire, state_of, receives_on}
 use Rattle.lapin_broker.specs.Frames.{channel_of}
 use Rattle.lapin_effects.specs.Effects.{hears}
 use Rattle.lapin_concord.specs.Refusals.{is_refusal}

@@ -21,15 +21,15 @@ use Rattle.lapin_types.specs.Types.tx
 use Rattle.lapin_methods.specs.declared.frame.ContentHeader.{ContentHeader}
 use Rattle.lapin_content.specs.declared.start.Start.TheVariants as start
 use Rattle.lapin_content.specs.Contents.{Begun, Expected}
-use Rattle.lapin_history.specs.declared.broker_frames.Incoming.{Incoming}
-use Rattle.lapin_history.specs.declared.broker_frames.Incoming.TheVariants as incoming
-use Rattle.lapin_history.specs.History.{History}
-use Rattle.lapin_history.specs.Incoming.{incoming_of, incoming_method}
+use Rattle.lapin_rules.specs.declared.broker_frames.Incoming.{Incoming}
+use Rattle.lapin_rules.specs.declared.broker_frames.Incoming.TheVariants as incoming
+use Rattle.lapin_rules.specs.History.{History}
+use Rattle.lapin_rules.specs.Incoming.{incoming_of, incoming_method}
 use Rattle.lapin_broker.specs.Frames.{channel_of}
 use Rattle.lapin_verdicts.specs.Deeds.{Deed, Read, Sent, sents}
 use Rattle.lapin_verdicts.specs.InStep.{is_frame_on}
 use Rattle.lapin_verdicts.specs.Messages.{Start, Get, Nothing, Sent_, sent_after, start_in}
-use Rattle.lapin_verdicts.proofs.Books.{sents-append}
+use Rattle.lapin_verdicts.proofs.TagCounts.{sents-append}
 use Rattle.lapin_answers.specs.Calls.{IsCallOf}
 use Rattle.lapin_answers.specs.Replies.{IsReplied}
 use Rattle.lapin_answers.proofs.Carried.{is_content_on}

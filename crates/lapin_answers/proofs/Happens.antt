@@ -2,13 +2,13 @@
 use Rattle.std.proofs.Common.{◌≡◌, ℕ, false, Option, Some, None, refl}
 use Rattle.lapin_types.specs.declared.event.Event.{Event}
 use Rattle.lapin_types.specs.declared.event.Event.TheVariants as event
-use Rattle.lapin_history.specs.declared.broker_frames.Incoming.{Incoming}
-use Rattle.lapin_history.specs.Ackers.{usable_at}
-use Rattle.lapin_history.specs.Incoming.{incoming_of, frame_class, frame_method}
-use Rattle.lapin_history.specs.Readings.{Readings}
-use Rattle.lapin_history.specs.Wire.{Wire}
-use Rattle.lapin_history.specs.Events.{record_of, after_event}
-use Rattle.lapin_consumer.specs.Roster.{consumer_at}
+use Rattle.lapin_rules.specs.declared.broker_frames.Incoming.{Incoming}
+use Rattle.lapin_rules.specs.Ackers.{usable_at}
+use Rattle.lapin_rules.specs.Incoming.{incoming_of, frame_class, frame_method}
+use Rattle.lapin_rules.specs.Readings.{Readings}
+use Rattle.lapin_rules.specs.Wire.{Wire}
+use Rattle.lapin_rules.specs.Events.{record_of, after_event}
+use Rattle.lapin_consumer.specs.Subscriptions.{consumer_at}
 use Rattle.lapin_effects.specs.Effects.{is_next}
 use Rattle.lapin_answers.proofs.Turns.{Turns, Stays, call_turn, acker_turn, let_go_turn}
 use Rattle.lapin_answers.proofs.Heard.{incoming_turn, lost_turn}
@@ -30,7 +30,7 @@ event_turn c b readings (event.AsideTicket n) h = Stays tt refl refl refl
 event_turn c b readings (event.AsideConfirm n) h = Stays tt refl refl refl
 event_turn c b readings (event.Acker n k) h = acker_turn c (event.Acker n k) _ (usable_at n b) k b
 event_turn c b readings (event.Delegate n) h = Stays tt refl refl refl
-event_turn c b readings (event.DropConsumer n) h = let_go_turn c (event.DropConsumer n) _ (consumer_at n b.inbox.roster) b
+event_turn c b readings (event.DropConsumer n) h = let_go_turn c (event.DropConsumer n) _ (consumer_at n b.deliveries.subscriptions) b
 event_turn c b readings event.NextJob h = Stays tt refl refl refl
 event_turn c b readings (event.State d) h = Stays tt refl refl refl
 event_turn c b readings event.Lost h = lost_turn c event.Lost _ b

@@ -17,37 +17,37 @@ use Rattle.lapin_types.specs.Types.channel
 use Rattle.lapin_types.specs.Types.connection
 use Rattle.lapin_types.specs.Types.error
 use Rattle.lapin_types.specs.Types.channel_state as state
-use Rattle.lapin_history.specs.declared.marks.Settlement.{Settlement}
-use Rattle.lapin_history.specs.declared.broker_frames.ConsumerPart.{ConsumerPart}
-use Rattle.lapin_history.specs.declared.broker_frames.ConsumerPart.TheVariants as consumer
-use Rattle.lapin_history.specs.declared.broker_frames.ContentPart.{ContentPart}
-use Rattle.lapin_history.specs.declared.broker_frames.ContentPart.TheVariants as part
-use Rattle.lapin_history.specs.declared.broker_frames.Incoming.{Incoming}
-use Rattle.lapin_history.specs.declared.broker_frames.Incoming.TheVariants as incoming
-use Rattle.lapin_history.specs.declared.phases.ChannelPhase.{ChannelPhase}
-use Rattle.lapin_history.specs.declared.phases.ChannelPhase.TheVariants as phase
-use Rattle.lapin_history.specs.declared.phases.ConnectionPhase.{ConnectionPhase}
-use Rattle.lapin_history.specs.declared.phases.ConnectionPhase.TheVariants as link
-use Rattle.lapin_history.specs.declared.phases.Closer.TheVariants as closer
-use Rattle.lapin_history.specs.Words.{with_channel, is_some}
-use Rattle.lapin_history.specs.Phases.{is_up, is_live, is_lost}
-use Rattle.lapin_history.specs.Frames.{MethodEntry}
-use Rattle.lapin_history.specs.Drops.{is_off, method_channel}
-use Rattle.lapin_history.specs.Requests.{first_request, without_request, without_kind, no_requests}
-use Rattle.lapin_history.specs.Ends.{down}
-use Rattle.lapin_history.specs.Readings.{Readings}
-use Rattle.lapin_history.specs.Wire.{Wire, requests_of, state_of, phase_of, is_open, is_opening, noted, lists_of, receives_on}
-use Rattle.lapin_history.specs.Opening.{opens, phases_with}
-use Rattle.lapin_history.specs.ChannelClose.{kept_at, closing, after_close_ok, after_channel_close, after_broker_close, receives_close, receives_close_ok}
-use Rattle.lapin_history.specs.ConnectionClose.{unless_sent, has_sent, receives_down, after_connection_close}
-use Rattle.lapin_history.specs.Settlement.{settlement_record, session_close}
-use Rattle.lapin_history.specs.Reply.{receives, receives_reply, after_reply}
-use Rattle.lapin_history.specs.Flow.{after_flow}
-use Rattle.lapin_history.specs.Content.{receives_part, after_get_ok}
-use Rattle.lapin_history.specs.Consumers.{receives_consumer}
-use Rattle.lapin_history.specs.Unexpected.{refused, unexpected_close}
-use Rattle.lapin_history.specs.Loss.{after_lost}
-use Rattle.lapin_history.specs.Receiving.{when, incoming_up, incoming_record, incoming_wire}
+use Rattle.lapin_rules.specs.declared.marks.Settlement.{Settlement}
+use Rattle.lapin_rules.specs.declared.broker_frames.ConsumerPart.{ConsumerPart}
+use Rattle.lapin_rules.specs.declared.broker_frames.ConsumerPart.TheVariants as consumer
+use Rattle.lapin_rules.specs.declared.broker_frames.ContentPart.{ContentPart}
+use Rattle.lapin_rules.specs.declared.broker_frames.ContentPart.TheVariants as part
+use Rattle.lapin_rules.specs.declared.broker_frames.Incoming.{Incoming}
+use Rattle.lapin_rules.specs.declared.broker_frames.Incoming.TheVariants as incoming
+use Rattle.lapin_rules.specs.declared.phases.ChannelPhase.{ChannelPhase}
+use Rattle.lapin_rules.specs.declared.phases.ChannelPhase.TheVariants as phase
+use Rattle.lapin_rules.specs.declared.phases.ConnectionPhase.{ConnectionPhase}
+use Rattle.lapin_rules.specs.declared.phases.ConnectionPhase.TheVariants as link
+use Rattle.lapin_rules.specs.declared.phases.Closer.TheVariants as closer
+use Rattle.lapin_rules.specs.Words.{with_channel, is_some}
+use Rattle.lapin_rules.specs.Phases.{is_up, is_live, is_lost}
+use Rattle.lapin_rules.specs.Frames.{MethodEntry}
+use Rattle.lapin_rules.specs.Drops.{is_off, method_channel}
+use Rattle.lapin_rules.specs.Requests.{first_request, without_request, without_kind, no_requests}
+use Rattle.lapin_rules.specs.Ends.{down}
+use Rattle.lapin_rules.specs.Readings.{Readings}
+use Rattle.lapin_rules.specs.Wire.{Wire, requests_of, state_of, phase_of, is_open, is_opening, noted, lists_of, receives_on}
+use Rattle.lapin_rules.specs.Opening.{opens, phases_with}
+use Rattle.lapin_rules.specs.ChannelClose.{kept_at, closing, after_close_ok, after_channel_close, after_broker_close, receives_close, receives_close_ok}
+use Rattle.lapin_rules.specs.ConnectionClose.{unless_sent, has_sent, receives_down, after_connection_close}
+use Rattle.lapin_rules.specs.Settlement.{settlement_record, session_close}
+use Rattle.lapin_rules.specs.Reply.{receives, receives_reply, after_reply}
+use Rattle.lapin_rules.specs.Flow.{after_flow}
+use Rattle.lapin_rules.specs.Content.{receives_part, after_get_ok}
+use Rattle.lapin_rules.specs.Consumers.{receives_consumer}
+use Rattle.lapin_rules.specs.Unexpected.{refused, unexpected_close}
+use Rattle.lapin_rules.specs.Loss.{after_lost}
+use Rattle.lapin_rules.specs.Receiving.{when, incoming_up, incoming_record, incoming_wire}
 use Rattle.lapin_broker.specs.Frames.{client_frame}
 use Rattle.lapin_pairs.specs.Channel.{BOpenOk, BReply}
 use Rattle.lapin_pairs.specs.Every.{ToD}

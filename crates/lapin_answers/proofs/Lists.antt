@@ -11,12 +11,12 @@ use Rattle.lapin_types.specs.declared.request.ReplyKind.{ReplyKind}
 use Rattle.lapin_types.specs.declared.request.ReplyKind.TheVariants as reply_kind
 use Rattle.lapin_types.specs.Requests.{kind_of}
 use Rattle.lapin_types.specs.Types.frame
-use Rattle.lapin_history.specs.Drops.{is_off, method_channel}
-use Rattle.lapin_history.specs.Frames.{MethodEntry, left_method}
-use Rattle.lapin_history.specs.Requests.{same_kind, is_kind, with_request, without_request, without_kind, first_request, close_alone, no_requests, request_alone}
-use Rattle.lapin_history.specs.Wire.{Wire, requests_of}
-use Rattle.lapin_history.specs.declared.phases.ChannelPhase.{ChannelPhase}
-use Rattle.lapin_history.specs.ChannelClose.{has_sent_close, kept_at}
+use Rattle.lapin_rules.specs.Drops.{is_off, method_channel}
+use Rattle.lapin_rules.specs.Frames.{MethodEntry, left_method}
+use Rattle.lapin_rules.specs.Requests.{same_kind, is_kind, with_request, without_request, without_kind, first_request, close_alone, no_requests, request_alone}
+use Rattle.lapin_rules.specs.Wire.{Wire, requests_of}
+use Rattle.lapin_rules.specs.declared.phases.ChannelPhase.{ChannelPhase}
+use Rattle.lapin_rules.specs.ChannelClose.{has_sent_close, kept_at}
 use Rattle.lapin_broker.specs.Frames.{channel_of, client_frame}
 use Rattle.lapin_concord.specs.Wires.{reply_number, is_asked}
 use Rattle.lapin_concord.proofs.Incomes.{kinds_tell}

@@ -17,37 +17,37 @@ use Rattle.lapin_types.specs.Types.channel
 use Rattle.lapin_types.specs.Types.connection
 use Rattle.lapin_types.specs.Types.error
 use Rattle.lapin_types.specs.Types.channel_state as state
-use Rattle.lapin_history.specs.declared.marks.Settlement.{Settlement}
-use Rattle.lapin_history.specs.declared.broker_frames.ConsumerPart.{ConsumerPart}
-use Rattle.lapin_history.specs.declared.broker_frames.ConsumerPart.TheVariants as consumer
-use Rattle.lapin_history.specs.declared.broker_frames.ContentPart.{ContentPart}
-use Rattle.lapin_history.specs.declared.broker_frames.ContentPart.TheVariants as part
-use Rattle.lapin_history.specs.declared.broker_frames.Incoming.{Incoming}
-use Rattle.lapin_history.specs.declared.broker_frames.Incoming.TheVariants as incoming
-use Rattle.lapin_history.specs.declared.phases.ChannelPhase.{ChannelPhase}
-use Rattle.lapin_history.specs.declared.phases.ChannelPhase.TheVariants as phase
-use Rattle.lapin_history.specs.declared.phases.ConnectionPhase.{ConnectionPhase}
-use Rattle.lapin_history.specs.declared.phases.ConnectionPhase.TheVariants as link
-use Rattle.lapin_history.specs.declared.phases.Closer.TheVariants as closer
-use Rattle.lapin_history.specs.Words.{with_channel, is_some}
-use Rattle.lapin_history.specs.Phases.{is_up, is_lost}
-use Rattle.lapin_history.specs.Frames.{MethodEntry, left_method}
-use Rattle.lapin_history.specs.Drops.{is_off, method_channel}
-use Rattle.lapin_history.specs.Requests.{first_request, without_kind, no_requests}
-use Rattle.lapin_history.specs.Ends.{down}
-use Rattle.lapin_history.specs.Readings.{Readings}
-use Rattle.lapin_history.specs.Wire.{Wire, requests_of, state_of, phase_of, is_open, is_opening, noted, receives_on}
-use Rattle.lapin_history.specs.Opening.{opens, phases_with}
-use Rattle.lapin_history.specs.ChannelClose.{kept_at, closing, after_close_ok, after_channel_close, after_broker_close, receives_close, receives_close_ok}
-use Rattle.lapin_history.specs.ConnectionClose.{receives_down, after_connection_close}
-use Rattle.lapin_history.specs.Settlement.{settlement_record, session_close}
-use Rattle.lapin_history.specs.Reply.{receives, receives_reply, after_reply}
-use Rattle.lapin_history.specs.Flow.{after_flow}
-use Rattle.lapin_history.specs.Content.{receives_part, after_get_ok}
-use Rattle.lapin_history.specs.Consumers.{receives_consumer}
-use Rattle.lapin_history.specs.Unexpected.{refused}
-use Rattle.lapin_history.specs.Loss.{after_lost}
-use Rattle.lapin_history.specs.Receiving.{when, incoming_up, incoming_record, incoming_wire}
+use Rattle.lapin_rules.specs.declared.marks.Settlement.{Settlement}
+use Rattle.lapin_rules.specs.declared.broker_frames.ConsumerPart.{ConsumerPart}
+use Rattle.lapin_rules.specs.declared.broker_frames.ConsumerPart.TheVariants as consumer
+use Rattle.lapin_rules.specs.declared.broker_frames.ContentPart.{ContentPart}
+use Rattle.lapin_rules.specs.declared.broker_frames.ContentPart.TheVariants as part
+use Rattle.lapin_rules.specs.declared.broker_frames.Incoming.{Incoming}
+use Rattle.lapin_rules.specs.declared.broker_frames.Incoming.TheVariants as incoming
+use Rattle.lapin_rules.specs.declared.phases.ChannelPhase.{ChannelPhase}
+use Rattle.lapin_rules.specs.declared.phases.ChannelPhase.TheVariants as phase
+use Rattle.lapin_rules.specs.declared.phases.ConnectionPhase.{ConnectionPhase}
+use Rattle.lapin_rules.specs.declared.phases.ConnectionPhase.TheVariants as link
+use Rattle.lapin_rules.specs.declared.phases.Closer.TheVariants as closer
+use Rattle.lapin_rules.specs.Words.{with_channel, is_some}
+use Rattle.lapin_rules.specs.Phases.{is_up, is_lost}
+use Rattle.lapin_rules.specs.Frames.{MethodEntry, left_method}
+use Rattle.lapin_rules.specs.Drops.{is_off, method_channel}
+use Rattle.lapin_rules.specs.Requests.{first_request, without_kind, no_requests}
+use Rattle.lapin_rules.specs.Ends.{down}
+use Rattle.lapin_rules.specs.Readings.{Readings}
+use Rattle.lapin_rules.specs.Wire.{Wire, requests_of, state_of, phase_of, is_open, is_opening, noted, receives_on}
+use Rattle.lapin_rules.specs.Opening.{opens, phases_with}
+use Rattle.lapin_rules.specs.ChannelClose.{kept_at, closing, after_close_ok, after_channel_close, after_broker_close, receives_close, receives_close_ok}
+use Rattle.lapin_rules.specs.ConnectionClose.{receives_down, after_connection_close}
+use Rattle.lapin_rules.specs.Settlement.{settlement_record, session_close}
+use Rattle.lapin_rules.specs.Reply.{receives, receives_reply, after_reply}
+use Rattle.lapin_rules.specs.Flow.{after_flow}
+use Rattle.lapin_rules.specs.Content.{receives_part, after_get_ok}
+use Rattle.lapin_rules.specs.Consumers.{receives_consumer}
+use Rattle.lapin_rules.specs.Unexpected.{refused}
+use Rattle.lapin_rules.specs.Loss.{after_lost}
+use Rattle.lapin_rules.specs.Receiving.{when, incoming_up, incoming_record, incoming_wire}
 use Rattle.lapin_concord.specs.Wires.{reply_number, is_asked}
 use Rattle.lapin_concord.proofs.Views.{phase_at, requests_at}
 use Rattle.lapin_types.specs.Types.{ChannelMethod, ExchangeMethod, QueueMethod, BasicMethod, ConfirmMethod, TxMethod, Frame}
@@ -56,11 +56,11 @@ use Rattle.lapin_types.specs.Types.exchange
 use Rattle.lapin_types.specs.Types.queue
 use Rattle.lapin_types.specs.Types.confirm
 use Rattle.lapin_types.specs.Types.tx
-use Rattle.lapin_history.specs.Ackers.{usable_at}
+use Rattle.lapin_rules.specs.Ackers.{usable_at}
 use Rattle.lapin_types.specs.declared.event.Event.TheVariants as event
-use Rattle.lapin_history.specs.Incoming.{incoming_of, incoming_method, frame_class, frame_method, on_connection}
-use Rattle.lapin_history.specs.Events.{record_of, after_event}
-use Rattle.lapin_consumer.specs.Roster.{consumer_at}
+use Rattle.lapin_rules.specs.Incoming.{incoming_of, incoming_method, frame_class, frame_method, on_connection}
+use Rattle.lapin_rules.specs.Events.{record_of, after_event}
+use Rattle.lapin_consumer.specs.Subscriptions.{consumer_at}
 use Rattle.lapin_effects.specs.Effects.{is_next}
 use Rattle.lapin_answers.specs.Closes.{is_close, is_close_on}
 use Rattle.lapin_answers.proofs.Happens.{income_in}
@@ -398,7 +398,7 @@ event_move c b readings (event.AsideTicket n) h = Stays refl refl refl refl
 event_move c b readings (event.AsideConfirm n) h = Stays refl refl refl refl
 event_move c b readings (event.Acker n k) h = acker_move c (event.Acker n k) _ (usable_at n b) k b
 event_move c b readings (event.Delegate n) h = Stays refl refl refl refl
-event_move c b readings (event.DropConsumer n) h = let_go_move c (event.DropConsumer n) _ (consumer_at n b.inbox.roster) b
+event_move c b readings (event.DropConsumer n) h = let_go_move c (event.DropConsumer n) _ (consumer_at n b.deliveries.subscriptions) b
 event_move c b readings event.NextJob h = Stays refl refl refl refl
 event_move c b readings (event.State d) h = Stays refl refl refl refl
 event_move c b readings event.Lost h = lost_move c event.Lost _ b

@@ -24,27 +24,27 @@ use Rattle.lapin_types.specs.Types.method
 use Rattle.lapin_types.specs.Types.channel
 use Rattle.lapin_types.specs.Types.basic
 use Rattle.lapin_types.specs.Types.error
-use Rattle.lapin_history.specs.declared.broker_frames.Incoming.{Incoming}
-use Rattle.lapin_history.specs.declared.broker_frames.Incoming.TheVariants as incoming
-use Rattle.lapin_history.specs.declared.calls.Asked.{Asked}
-use Rattle.lapin_history.specs.declared.calls.Asked.TheVariants as ask
-use Rattle.lapin_history.specs.declared.phases.ChannelPhase.{ChannelPhase}
-use Rattle.lapin_history.specs.declared.phases.ChannelPhase.TheVariants as phase
-use Rattle.lapin_history.specs.declared.phases.ConnectionPhase.TheVariants as link
-use Rattle.lapin_history.specs.declared.phases.Closer.{Closer}
-use Rattle.lapin_history.specs.declared.phases.Closer.TheVariants as closer
-use Rattle.lapin_history.specs.Words.{with_channel}
-use Rattle.lapin_history.specs.Frames.{MethodEntry, left_method}
-use Rattle.lapin_history.specs.Phases.{is_up}
-use Rattle.lapin_history.specs.Wire.{Wire, phase_of, state_of, is_open, is_closed, queued}
-use Rattle.lapin_history.specs.Opening.{after_open_call}
-use Rattle.lapin_history.specs.Calls.{asked, is_try, awaited_by, awaiting, unless_nowait}
-use Rattle.lapin_history.specs.ChannelClose.{own_close, after_broker_close, has_sent_close}
-use Rattle.lapin_history.specs.Asking.{is_allowed, is_held, is_outstanding, asked_by, accepted_record, call_record, call_told, after_call, asked_wire}
-use Rattle.lapin_history.specs.Ackers.{acker_method, acked_wire}
-use Rattle.lapin_history.specs.Consumers.{lets_go_of, cancel_noted, after_let_go, let_go_cancel}
-use Rattle.lapin_history.specs.Readings.{Readings}
-use Rattle.lapin_consumer.specs.Roster.{Consumer}
+use Rattle.lapin_rules.specs.declared.broker_frames.Incoming.{Incoming}
+use Rattle.lapin_rules.specs.declared.broker_frames.Incoming.TheVariants as incoming
+use Rattle.lapin_rules.specs.declared.calls.Asked.{Asked}
+use Rattle.lapin_rules.specs.declared.calls.Asked.TheVariants as ask
+use Rattle.lapin_rules.specs.declared.phases.ChannelPhase.{ChannelPhase}
+use Rattle.lapin_rules.specs.declared.phases.ChannelPhase.TheVariants as phase
+use Rattle.lapin_rules.specs.declared.phases.ConnectionPhase.TheVariants as link
+use Rattle.lapin_rules.specs.declared.phases.Closer.{Closer}
+use Rattle.lapin_rules.specs.declared.phases.Closer.TheVariants as closer
+use Rattle.lapin_rules.specs.Words.{with_channel}
+use Rattle.lapin_rules.specs.Frames.{MethodEntry, left_method}
+use Rattle.lapin_rules.specs.Phases.{is_up}
+use Rattle.lapin_rules.specs.Wire.{Wire, phase_of, state_of, is_open, is_closed, queued}
+use Rattle.lapin_rules.specs.Opening.{after_open_call}
+use Rattle.lapin_rules.specs.Calls.{asked, is_try, awaited_by, awaiting, unless_nowait}
+use Rattle.lapin_rules.specs.ChannelClose.{own_close, after_broker_close, has_sent_close}
+use Rattle.lapin_rules.specs.Asking.{is_allowed, is_held, is_outstanding, asked_by, accepted_record, call_record, call_told, after_call, asked_wire}
+use Rattle.lapin_rules.specs.Ackers.{acker_method, acked_wire}
+use Rattle.lapin_rules.specs.Consumers.{lets_go_of, cancel_noted, after_let_go, let_go_cancel}
+use Rattle.lapin_rules.specs.Readings.{Readings}
+use Rattle.lapin_consumer.specs.Subscriptions.{Consumer}
 use Rattle.lapin_concord.proofs.Views.{phase_at, phase_with, phase_away}
 use Rattle.lapin_concord.specs.Wires.{is_asked}
 use Rattle.lapin_concord.proofs.Incomes.{kinds_tell}

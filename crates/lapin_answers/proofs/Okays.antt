@@ -42,7 +42,7 @@ use Rattle.lapin_machine.specs.Way.{Way, by_history}
 use Rattle.lapin_joint.specs.Order.{front, along}
 use Rattle.lapin_verdicts.specs.Deeds.{Deed, Read, Sent, lefts, sents, reads_of, deed_in, deeds}
 use Rattle.lapin_verdicts.proofs.Sending.{own_down}
-use Rattle.lapin_verdicts.proofs.Books.{sents-append, lost_down}
+use Rattle.lapin_verdicts.proofs.TagCounts.{sents-append, lost_down}
 use Rattle.lapin_verdicts.proofs.Reading.{at_with, at_other, of_if, not_both, closed_down, answered_down}
 use Rattle.lapin_verdicts.proofs.First.{piece_peer}
 use Rattle.lapin_verdicts.proofs.Owing.{lefts-append}

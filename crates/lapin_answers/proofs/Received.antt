@@ -4,8 +4,8 @@ use Rattle.std.specs.List.{list_any}
 use Rattle.std.proofs.lemmas.List.Folds.{list_any-append}
 use Rattle.lapin_types.specs.declared.event.Event.TheVariants as event
 use Rattle.lapin_types.specs.Types.{Frame}
-use Rattle.lapin_history.specs.Events.{after_event, ticket_marks}
-use Rattle.lapin_history.specs.History.{History, Past, past, rec}
+use Rattle.lapin_rules.specs.Events.{after_event, ticket_marks}
+use Rattle.lapin_rules.specs.History.{History, Past, past, rec}
 use Rattle.lapin_joint.specs.declared.step.Step.{Step}
 use Rattle.lapin_joint.specs.declared.step.Step.TheVariants as step
 use Rattle.lapin_joint.specs.declared.step.Reported.TheVariants as reported

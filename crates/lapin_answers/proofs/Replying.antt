@@ -11,28 +11,28 @@ use Rattle.lapin_types.specs.declared.record.Record.TheVariants as record_
 use Rattle.lapin_types.specs.declared.request.ReplyKind.{ReplyKind}
 use Rattle.lapin_types.specs.declared.request.ReplyKind.TheVariants as reply_kind
 use Rattle.lapin_types.specs.Types.{Frame, Method, Error}
-use Rattle.lapin_history.specs.declared.broker_frames.ContentPart.{ContentPart}
-use Rattle.lapin_history.specs.declared.broker_frames.ContentPart.TheVariants as part
-use Rattle.lapin_history.specs.declared.broker_frames.ConsumerPart.{ConsumerPart}
-use Rattle.lapin_history.specs.declared.broker_frames.ConsumerPart.TheVariants as consumer
-use Rattle.lapin_history.specs.declared.broker_frames.Incoming.{Incoming}
-use Rattle.lapin_history.specs.declared.broker_frames.Incoming.TheVariants as incoming
-use Rattle.lapin_history.specs.declared.phases.ConnectionPhase.{ConnectionPhase}
-use Rattle.lapin_history.specs.declared.phases.ConnectionPhase.TheVariants as link
-use Rattle.lapin_history.specs.ConnectionClose.{receives_down}
-use Rattle.lapin_history.specs.Consumers.{next_consumer}
-use Rattle.lapin_history.specs.History.{rec, readings_of}
-use Rattle.lapin_history.specs.Incoming.{incoming_of, frame_class, frame_method}
-use Rattle.lapin_history.specs.Opening.{opens}
-use Rattle.lapin_history.specs.Phases.{is_up}
-use Rattle.lapin_history.specs.Readings.{Readings}
-use Rattle.lapin_history.specs.Receiving.{when, incoming_up, incoming_record, received_tickets, incoming_tickets}
-use Rattle.lapin_history.specs.Reply.{receives, receives_reply}
-use Rattle.lapin_history.specs.Requests.{first_request, ticket_of, resolved_with}
-use Rattle.lapin_history.specs.TicketReadings.{TicketMark, gives, answer_of}
-use Rattle.lapin_history.specs.Unexpected.{refused}
-use Rattle.lapin_history.specs.Words.{is_some}
-use Rattle.lapin_history.specs.Wire.{Wire, state_of, requests_of, receives_on, is_opening}
+use Rattle.lapin_rules.specs.declared.broker_frames.ContentPart.{ContentPart}
+use Rattle.lapin_rules.specs.declared.broker_frames.ContentPart.TheVariants as part
+use Rattle.lapin_rules.specs.declared.broker_frames.ConsumerPart.{ConsumerPart}
+use Rattle.lapin_rules.specs.declared.broker_frames.ConsumerPart.TheVariants as consumer
+use Rattle.lapin_rules.specs.declared.broker_frames.Incoming.{Incoming}
+use Rattle.lapin_rules.specs.declared.broker_frames.Incoming.TheVariants as incoming
+use Rattle.lapin_rules.specs.declared.phases.ConnectionPhase.{ConnectionPhase}
+use Rattle.lapin_rules.specs.declared.phases.ConnectionPhase.TheVariants as link
+use Rattle.lapin_rules.specs.ConnectionClose.{receives_down}
+use Rattle.lapin_rules.specs.Consumers.{next_consumer}
+use Rattle.lapin_rules.specs.History.{rec, readings_of}
+use Rattle.lapin_rules.specs.Incoming.{incoming_of, frame_class, frame_method}
+use Rattle.lapin_rules.specs.Opening.{opens}
+use Rattle.lapin_rules.specs.Phases.{is_up}
+use Rattle.lapin_rules.specs.Readings.{Readings}
+use Rattle.lapin_rules.specs.Receiving.{when, incoming_up, incoming_record, received_tickets, incoming_tickets}
+use Rattle.lapin_rules.specs.Reply.{receives, receives_reply}
+use Rattle.lapin_rules.specs.Requests.{first_request, ticket_of, resolved_with}
+use Rattle.lapin_rules.specs.TicketReadings.{TicketMark, gives, answer_of}
+use Rattle.lapin_rules.specs.Unexpected.{refused}
+use Rattle.lapin_rules.specs.Words.{is_some}
+use Rattle.lapin_rules.specs.Wire.{Wire, state_of, requests_of, receives_on, is_opening}
 use Rattle.lapin_broker.specs.Frames.{channel_of}
 use Rattle.lapin_joint.specs.declared.step.Step.{Step}
 use Rattle.lapin_joint.specs.declared.step.Step.TheVariants as step
@@ -123,7 +123,7 @@ sort_reply c (incoming.Consumer d (consumer.ConsumeOk tag)) h = same_channel d c
   comes = refl;
   up = λ b readings r. refl;
   down = consumer_down c (consumer.ConsumeOk tag);
-  tickets = λ b. (Some (answer.Consumer (next_consumer b.inbox)), refl);
+  tickets = λ b. (Some (answer.Consumer (next_consumer b.deliveries)), refl);
 })
 sort_reply c (incoming.Consumer d (consumer.CancelOk tag)) h = same_channel d c (λ v. IsReply c (incoming.Consumer v (consumer.CancelOk tag))) h (record {
   kind = reply_kind.BasicCancelOk;

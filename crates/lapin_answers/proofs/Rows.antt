@@ -19,12 +19,12 @@ use Rattle.lapin_types.specs.Types.exchange
 use Rattle.lapin_types.specs.Types.queue
 use Rattle.lapin_types.specs.Types.basic
 use Rattle.lapin_types.specs.Types.confirm
-use Rattle.lapin_history.specs.declared.calls.Asked.{Asked}
-use Rattle.lapin_history.specs.declared.calls.Asked.TheVariants as ask
-use Rattle.lapin_history.specs.declared.broker_frames.Incoming.TheVariants as incoming
-use Rattle.lapin_history.specs.Ackers.{acker_method}
-use Rattle.lapin_history.specs.Calls.{asked, awaited_by, awaiting, unless_nowait}
-use Rattle.lapin_history.specs.Incoming.{incoming_of}
+use Rattle.lapin_rules.specs.declared.calls.Asked.{Asked}
+use Rattle.lapin_rules.specs.declared.calls.Asked.TheVariants as ask
+use Rattle.lapin_rules.specs.declared.broker_frames.Incoming.TheVariants as incoming
+use Rattle.lapin_rules.specs.Ackers.{acker_method}
+use Rattle.lapin_rules.specs.Calls.{asked, awaited_by, awaiting, unless_nowait}
+use Rattle.lapin_rules.specs.Incoming.{incoming_of}
 use Rattle.lapin_broker.specs.declared.request.RequestKind.{RequestKind}
 use Rattle.lapin_broker.specs.declared.request.RequestKind.TheVariants as kind
 use Rattle.lapin_broker.specs.declared.frames.BrokerFrame.{BrokerFrame}

@@ -20,19 +20,19 @@ use Rattle.lapin_types.specs.Types.basic
 use Rattle.lapin_types.specs.Types.confirm
 use Rattle.lapin_types.specs.Types.tx
 use Rattle.lapin_types.specs.Types.channel_state as state
-use Rattle.lapin_history.specs.declared.phases.ConnectionPhase.{ConnectionPhase}
-use Rattle.lapin_history.specs.declared.phases.ConnectionPhase.TheVariants as link
-use Rattle.lapin_history.specs.Ends.{down as fallen}
-use Rattle.lapin_history.specs.ConfirmReadings.{is_full}
-use Rattle.lapin_history.specs.Events.{after_event}
-use Rattle.lapin_history.specs.Flow.{begins_on}
-use Rattle.lapin_history.specs.Handing.{handed, handed_out, began_on, after_handing}
-use Rattle.lapin_history.specs.History.{History, Past, past, rec, readings_of}
-use Rattle.lapin_history.specs.Incoming.{incoming_of}
-use Rattle.lapin_history.specs.Phases.{is_up, is_live, is_lost, channel_state}
-use Rattle.lapin_history.specs.Readings.{Readings}
-use Rattle.lapin_history.specs.Requests.{without_kind}
-use Rattle.lapin_history.specs.Wire.{Wire, phase_of, receives_on}
+use Rattle.lapin_rules.specs.declared.phases.ConnectionPhase.{ConnectionPhase}
+use Rattle.lapin_rules.specs.declared.phases.ConnectionPhase.TheVariants as link
+use Rattle.lapin_rules.specs.Ends.{down as fallen}
+use Rattle.lapin_rules.specs.ConfirmReadings.{is_full}
+use Rattle.lapin_rules.specs.Events.{after_event}
+use Rattle.lapin_rules.specs.Flow.{begins_on}
+use Rattle.lapin_rules.specs.Handing.{handed, handed_out, began_on, after_handing}
+use Rattle.lapin_rules.specs.History.{History, Past, past, rec, readings_of}
+use Rattle.lapin_rules.specs.Incoming.{incoming_of}
+use Rattle.lapin_rules.specs.Phases.{is_up, is_live, is_lost, channel_state}
+use Rattle.lapin_rules.specs.Readings.{Readings}
+use Rattle.lapin_rules.specs.Requests.{without_kind}
+use Rattle.lapin_rules.specs.Wire.{Wire, phase_of, receives_on}
 use Rattle.lapin_broker.specs.declared.frames.BrokerFrame.{BrokerFrame}
 use Rattle.lapin_broker.specs.declared.frames.BrokerFrame.TheVariants as broker
 use Rattle.lapin_broker.specs.Frames.{channel_of, broker_frame, broker_method}
@@ -56,7 +56,7 @@ use Rattle.lapin_verdicts.specs.InStep.{is_frame_on, is_open_on, is_open_waiting
 use Rattle.lapin_verdicts.specs.Session.{past_of}
 use Rattle.lapin_verdicts.proofs.Answering.{answers_in}
 use Rattle.lapin_verdicts.proofs.Assembly.{as_handed, in_run}
-use Rattle.lapin_verdicts.proofs.Books.{sents-append, last-push, last-sent}
+use Rattle.lapin_verdicts.proofs.TagCounts.{sents-append, last-push, last-sent}
 use Rattle.lapin_verdicts.proofs.First.{first_in}
 use Rattle.lapin_verdicts.proofs.Keeping.{no_live}
 use Rattle.lapin_verdicts.proofs.Numbering.{AreRest, hears_live}

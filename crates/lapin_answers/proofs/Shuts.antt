@@ -10,12 +10,12 @@ use Rattle.lapin_types.specs.declared.request.Request.{Request}
 use Rattle.lapin_types.specs.declared.request.ReplyKind.{ReplyKind}
 use Rattle.lapin_types.specs.declared.request.ReplyKind.TheVariants as reply_kind
 use Rattle.lapin_types.specs.Requests.{kind_of}
-use Rattle.lapin_history.specs.declared.phases.ChannelPhase.{ChannelPhase}
-use Rattle.lapin_history.specs.ChannelClose.{has_sent_close, kept_at}
-use Rattle.lapin_history.specs.Drops.{is_off, method_channel}
-use Rattle.lapin_history.specs.Frames.{MethodEntry, left_method}
-use Rattle.lapin_history.specs.Requests.{is_kind, with_request, without_request, without_kind, first_request, close_alone, no_requests, request_alone}
-use Rattle.lapin_history.specs.Wire.{Wire, requests_of}
+use Rattle.lapin_rules.specs.declared.phases.ChannelPhase.{ChannelPhase}
+use Rattle.lapin_rules.specs.ChannelClose.{has_sent_close, kept_at}
+use Rattle.lapin_rules.specs.Drops.{is_off, method_channel}
+use Rattle.lapin_rules.specs.Frames.{MethodEntry, left_method}
+use Rattle.lapin_rules.specs.Requests.{is_kind, with_request, without_request, without_kind, first_request, close_alone, no_requests, request_alone}
+use Rattle.lapin_rules.specs.Wire.{Wire, requests_of}
 use Rattle.lapin_concord.specs.Wires.{reply_number, is_asked}
 use Rattle.lapin_concord.proofs.Incomes.{kinds_tell}
 use Rattle.lapin_concord.proofs.Views.{requests_at, requests_with_here, requests_away, requests_on_here, requests_on_away}

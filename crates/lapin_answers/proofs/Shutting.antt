@@ -14,18 +14,18 @@ use Rattle.lapin_types.specs.Types.{Frame, Method}
 use Rattle.lapin_types.specs.Types.frame
 use Rattle.lapin_types.specs.Types.method
 use Rattle.lapin_types.specs.Types.channel
-use Rattle.lapin_history.specs.declared.broker_frames.Incoming.{Incoming}
-use Rattle.lapin_history.specs.declared.phases.ChannelPhase.{ChannelPhase}
-use Rattle.lapin_history.specs.declared.phases.ChannelPhase.TheVariants as phase
-use Rattle.lapin_history.specs.declared.phases.Closer.{Closer}
-use Rattle.lapin_history.specs.declared.phases.Closer.TheVariants as closer
-use Rattle.lapin_history.specs.ChannelClose.{phases_sent, close_sent, after_broker_close, has_sent_close}
-use Rattle.lapin_history.specs.Frames.{MethodEntry, RestEntry, left_method, left_rest, left_publish}
-use Rattle.lapin_history.specs.Handing.{after_handing, handed_out, sent}
-use Rattle.lapin_history.specs.History.{History}
-use Rattle.lapin_history.specs.Leaving.{left_of, left_lists, handed_of, may_begin}
-use Rattle.lapin_history.specs.Phases.{is_up}
-use Rattle.lapin_history.specs.Wire.{Wire, lists_of, with_lists, phase_of}
+use Rattle.lapin_rules.specs.declared.broker_frames.Incoming.{Incoming}
+use Rattle.lapin_rules.specs.declared.phases.ChannelPhase.{ChannelPhase}
+use Rattle.lapin_rules.specs.declared.phases.ChannelPhase.TheVariants as phase
+use Rattle.lapin_rules.specs.declared.phases.Closer.{Closer}
+use Rattle.lapin_rules.specs.declared.phases.Closer.TheVariants as closer
+use Rattle.lapin_rules.specs.ChannelClose.{phases_sent, close_sent, after_broker_close, has_sent_close}
+use Rattle.lapin_rules.specs.Frames.{MethodEntry, RestEntry, left_method, left_rest, left_publish}
+use Rattle.lapin_rules.specs.Handing.{after_handing, handed_out, sent}
+use Rattle.lapin_rules.specs.History.{History}
+use Rattle.lapin_rules.specs.Leaving.{left_of, left_lists, handed_of, may_begin}
+use Rattle.lapin_rules.specs.Phases.{is_up}
+use Rattle.lapin_rules.specs.Wire.{Wire, lists_of, with_lists, phase_of}
 use Rattle.lapin_broker.specs.Frames.{channel_of}
 use Rattle.lapin_joint.specs.Joint.{left_alone}
 use Rattle.lapin_tables.specs.ByChannel.{on_channel}

@@ -12,14 +12,14 @@ use Rattle.lapin_types.specs.declared.request.ReplyKind.{ReplyKind}
 use Rattle.lapin_types.specs.Requests.{kind_of}
 use Rattle.lapin_types.specs.Types.{Frame, Method}
 use Rattle.lapin_types.specs.Types.frame
-use Rattle.lapin_history.specs.ConfirmMarks.{ConfirmMark}
-use Rattle.lapin_history.specs.Drops.{is_off, method_channel}
-use Rattle.lapin_history.specs.Frames.{MethodEntry}
-use Rattle.lapin_history.specs.History.{History}
-use Rattle.lapin_history.specs.Requests.{without_kind}
-use Rattle.lapin_history.specs.Words.{many}
-use Rattle.lapin_history.specs.Wire.{Wire}
-use Rattle.lapin_history.specs.declared.broker_frames.Incoming.{Incoming}
+use Rattle.lapin_rules.specs.ConfirmMarks.{ConfirmMark}
+use Rattle.lapin_rules.specs.Drops.{is_off, method_channel}
+use Rattle.lapin_rules.specs.Frames.{MethodEntry}
+use Rattle.lapin_rules.specs.History.{History}
+use Rattle.lapin_rules.specs.Requests.{without_kind}
+use Rattle.lapin_rules.specs.Words.{many}
+use Rattle.lapin_rules.specs.Wire.{Wire}
+use Rattle.lapin_rules.specs.declared.broker_frames.Incoming.{Incoming}
 use Rattle.lapin_broker.specs.declared.request.RequestKind.{RequestKind}
 use Rattle.lapin_broker.specs.Frames.{channel_of, client_frame}
 use Rattle.lapin_concord.specs.Frames.{number}

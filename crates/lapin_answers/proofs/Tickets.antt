@@ -6,10 +6,10 @@ use Rattle.std.proofs.lemmas.Bool.{cases_lt}
 use Rattle.std.proofs.lemmas.Bool.Decides.{eqb_tells}
 use Rattle.lapin_types.specs.declared.answer.Answer.{Answer}
 use Rattle.lapin_types.specs.Types.{Error}
-use Rattle.lapin_history.specs.declared.marks.AtLeaving.{AtLeaving}
-use Rattle.lapin_history.specs.TicketReadings.{TicketMark, gives, answer_by, first_answer, answer_of, begins, channel_of, channel_in, leaving_of, leaving_in, life}
-use Rattle.lapin_history.specs.Requests.{resolved_with}
-use Rattle.lapin_history.specs.Words.{many, one_after, rest_after, nth}
+use Rattle.lapin_rules.specs.declared.marks.AtLeaving.{AtLeaving}
+use Rattle.lapin_rules.specs.TicketReadings.{TicketMark, gives, answer_by, first_answer, answer_of, begins, channel_of, channel_in, leaving_of, leaving_in, life}
+use Rattle.lapin_rules.specs.Requests.{resolved_with}
+use Rattle.lapin_rules.specs.Words.{many, one_after, rest_after, nth}
 use Rattle.lapin_verdicts.proofs.Turns.{life-append}
 
 -- ---- lists

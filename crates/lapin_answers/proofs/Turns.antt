@@ -21,33 +21,33 @@ use Rattle.lapin_types.specs.Types.method
 use Rattle.lapin_types.specs.Types.channel
 use Rattle.lapin_types.specs.Types.error
 use Rattle.lapin_types.specs.Types.channel_state as state
-use Rattle.lapin_history.specs.declared.broker_frames.Incoming.{Incoming}
-use Rattle.lapin_history.specs.declared.calls.Answered.{Answered}
-use Rattle.lapin_history.specs.declared.calls.Answered.TheVariants as answered
-use Rattle.lapin_history.specs.declared.calls.Asked.{Asked}
-use Rattle.lapin_history.specs.declared.calls.Asked.TheVariants as ask
-use Rattle.lapin_history.specs.declared.phases.ChannelPhase.{ChannelPhase}
-use Rattle.lapin_history.specs.declared.phases.ChannelPhase.TheVariants as phase
-use Rattle.lapin_history.specs.declared.phases.ConnectionPhase.{ConnectionPhase}
-use Rattle.lapin_history.specs.declared.phases.ConnectionPhase.TheVariants as link
-use Rattle.lapin_history.specs.declared.phases.Closer.TheVariants as closer
-use Rattle.lapin_history.specs.Words.{with_channel}
-use Rattle.lapin_history.specs.Frames.{MethodEntry, left_method}
-use Rattle.lapin_history.specs.Phases.{is_up, channel_state}
+use Rattle.lapin_rules.specs.declared.broker_frames.Incoming.{Incoming}
+use Rattle.lapin_rules.specs.declared.calls.Answered.{Answered}
+use Rattle.lapin_rules.specs.declared.calls.Answered.TheVariants as answered
+use Rattle.lapin_rules.specs.declared.calls.Asked.{Asked}
+use Rattle.lapin_rules.specs.declared.calls.Asked.TheVariants as ask
+use Rattle.lapin_rules.specs.declared.phases.ChannelPhase.{ChannelPhase}
+use Rattle.lapin_rules.specs.declared.phases.ChannelPhase.TheVariants as phase
+use Rattle.lapin_rules.specs.declared.phases.ConnectionPhase.{ConnectionPhase}
+use Rattle.lapin_rules.specs.declared.phases.ConnectionPhase.TheVariants as link
+use Rattle.lapin_rules.specs.declared.phases.Closer.TheVariants as closer
+use Rattle.lapin_rules.specs.Words.{with_channel}
+use Rattle.lapin_rules.specs.Frames.{MethodEntry, left_method}
+use Rattle.lapin_rules.specs.Phases.{is_up, channel_state}
 use Rattle.lapin_tables.specs.ByChannel.{at_channel}
-use Rattle.lapin_history.specs.Requests.{requests_in, with_request, without_kind}
-use Rattle.lapin_history.specs.Wire.{Wire, phase_of, state_of, receives_on, is_open, is_closed, queued}
-use Rattle.lapin_history.specs.Opening.{after_open_call}
-use Rattle.lapin_history.specs.Calls.{asked, is_try, awaited_by}
-use Rattle.lapin_history.specs.ChannelClose.{own_close}
-use Rattle.lapin_history.specs.ConnectionClose.{own_connection_close}
-use Rattle.lapin_history.specs.Asking.{is_allowed, is_held, is_outstanding, asked_by, accepted_record, call_record, call_told, after_call, asked_wire}
-use Rattle.lapin_history.specs.Ackers.{acker_method, acked_wire}
-use Rattle.lapin_history.specs.Consumers.{lets_go_of, cancel_noted, after_let_go, let_go_cancel}
-use Rattle.lapin_history.specs.Readings.{Readings}
+use Rattle.lapin_rules.specs.Requests.{requests_in, with_request, without_kind}
+use Rattle.lapin_rules.specs.Wire.{Wire, phase_of, state_of, receives_on, is_open, is_closed, queued}
+use Rattle.lapin_rules.specs.Opening.{after_open_call}
+use Rattle.lapin_rules.specs.Calls.{asked, is_try, awaited_by}
+use Rattle.lapin_rules.specs.ChannelClose.{own_close}
+use Rattle.lapin_rules.specs.ConnectionClose.{own_connection_close}
+use Rattle.lapin_rules.specs.Asking.{is_allowed, is_held, is_outstanding, asked_by, accepted_record, call_record, call_told, after_call, asked_wire}
+use Rattle.lapin_rules.specs.Ackers.{acker_method, acked_wire}
+use Rattle.lapin_rules.specs.Consumers.{lets_go_of, cancel_noted, after_let_go, let_go_cancel}
+use Rattle.lapin_rules.specs.Readings.{Readings}
 use Rattle.lapin_content.specs.Contents.{Expected}
 use Rattle.lapin_content.specs.Channels.{expected_on}
-use Rattle.lapin_consumer.specs.Roster.{Consumer, is_idle}
+use Rattle.lapin_consumer.specs.Subscriptions.{Consumer, is_idle}
 use Rattle.lapin_broker.specs.declared.request.RequestKind.{RequestKind}
 use Rattle.lapin_broker.specs.declared.request.RequestKind.TheVariants as kind
 use Rattle.lapin_broker.specs.declared.frames.ClientFrame.TheVariants as client

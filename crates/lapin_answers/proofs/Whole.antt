@@ -1,14 +1,14 @@
 -- All that holds of a session and an honest broker, from the laws of its parts.
 use Rattle.std.proofs.Common.{◌≡◌, ◌∙◌, ℕ, ◌≤◌, ◌==◌, Bool, true, false, cond, List, [], ◌∷◌, Option, Some, None, Ok, refl, sym, ap, arith}
 use Rattle.std.specs.Option.{option_or}
-use Rattle.lapin_history.specs.ConfirmMarks.{ConfirmMark}
-use Rattle.lapin_history.specs.ConfirmMarks as mark
-use Rattle.lapin_history.specs.ConfirmReadings.{channel_of, tag_of, has_left, outcome_at, outcome_after, first_rejected, rejection_on, kind_outcome, life, leaves}
-use Rattle.lapin_history.specs.declared.marks.Outcome.{Outcome}
-use Rattle.lapin_history.specs.declared.marks.Outcome.TheVariants as outcome
-use Rattle.lapin_history.specs.declared.marks.SettleKind.{SettleKind}
-use Rattle.lapin_history.specs.declared.marks.SettleKind.TheVariants as settle
-use Rattle.lapin_history.specs.Words.{after}
+use Rattle.lapin_rules.specs.ConfirmMarks.{ConfirmMark}
+use Rattle.lapin_rules.specs.ConfirmMarks as mark
+use Rattle.lapin_rules.specs.ConfirmReadings.{channel_of, tag_of, has_left, outcome_at, outcome_after, first_rejected, rejection_on, kind_outcome, life, leaves}
+use Rattle.lapin_rules.specs.declared.marks.Outcome.{Outcome}
+use Rattle.lapin_rules.specs.declared.marks.Outcome.TheVariants as outcome
+use Rattle.lapin_rules.specs.declared.marks.SettleKind.{SettleKind}
+use Rattle.lapin_rules.specs.declared.marks.SettleKind.TheVariants as settle
+use Rattle.lapin_rules.specs.Words.{after}
 use Rattle.lapin_joint.specs.declared.step.Step.{Step}
 use Rattle.lapin_concord.proofs.Laws.{whole_broker, none_refused, tags_in}
 use Rattle.lapin_verdicts.specs.Session.{Numbers, past_of}
@@ -16,7 +16,7 @@ use Rattle.lapin_verdicts.proofs.Numbered.{numbers_hold}
 use Rattle.lapin_verdicts.proofs.Together.{in_step}
 use Rattle.lapin_verdicts.proofs.Whole.{whole}
 use Rattle.lapin_verdicts.proofs.Called.{leaves_where_called}
-use Rattle.lapin_deliveries.proofs.Laws.{logs_sent, logs_carried}
+use Rattle.lapin_messages.proofs.Laws.{logs_sent, logs_carried}
 use Rattle.lapin_answers.specs.Truth.{ConfirmsAreVerdicts, IsTrue}
 use Rattle.lapin_answers.proofs.Closed.{closed}
 use Rattle.lapin_answers.proofs.Ended.{ended}

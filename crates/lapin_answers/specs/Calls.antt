@@ -7,10 +7,10 @@ use Rattle.lapin_types.specs.declared.record.Record.{Record}
 use Rattle.lapin_types.specs.declared.record.Record.TheVariants as record_
 use Rattle.lapin_types.specs.declared.request.Reply.{Reply}
 use Rattle.lapin_types.specs.Types.{Method}
-use Rattle.lapin_history.specs.declared.calls.Answered.TheVariants as answered
-use Rattle.lapin_history.specs.declared.calls.Asked.TheVariants as ask
-use Rattle.lapin_history.specs.Calls.{asked}
-use Rattle.lapin_history.specs.History.{History}
+use Rattle.lapin_rules.specs.declared.calls.Answered.TheVariants as answered
+use Rattle.lapin_rules.specs.declared.calls.Asked.TheVariants as ask
+use Rattle.lapin_rules.specs.Calls.{asked}
+use Rattle.lapin_rules.specs.History.{History}
 
 -- the event is a call on the channel that was given this ticket, and that queues this method, which awaits a reply
 pub record IsCall (ticket channel : ℕ) (method : Method) (e : Event) (r : Record) : Type 0 where

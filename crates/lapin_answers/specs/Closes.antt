@@ -14,13 +14,13 @@ use Rattle.lapin_types.specs.Types.frame
 use Rattle.lapin_types.specs.Types.method
 use Rattle.lapin_types.specs.Types.channel
 use Rattle.lapin_types.specs.Types.connection
-use Rattle.lapin_history.specs.declared.calls.Asked.TheVariants as ask
-use Rattle.lapin_history.specs.Calls.{asked}
-use Rattle.lapin_history.specs.ChannelClose.{own_close}
-use Rattle.lapin_history.specs.ConnectionClose.{own_connection_close}
-use Rattle.lapin_history.specs.History.{History}
-use Rattle.lapin_history.specs.Requests.{is_kind}
-use Rattle.lapin_history.specs.Wire.{Wire, requests_of}
+use Rattle.lapin_rules.specs.declared.calls.Asked.TheVariants as ask
+use Rattle.lapin_rules.specs.Calls.{asked}
+use Rattle.lapin_rules.specs.ChannelClose.{own_close}
+use Rattle.lapin_rules.specs.ConnectionClose.{own_connection_close}
+use Rattle.lapin_rules.specs.History.{History}
+use Rattle.lapin_rules.specs.Requests.{is_kind}
+use Rattle.lapin_rules.specs.Wire.{Wire, requests_of}
 use Rattle.lapin_broker.specs.declared.frames.BrokerFrame.{BrokerFrame}
 use Rattle.lapin_broker.specs.declared.frames.BrokerFrame.TheVariants as broker
 use Rattle.lapin_broker.specs.Frames.{channel_of, broker_frame}

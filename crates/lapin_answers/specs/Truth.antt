@@ -4,9 +4,9 @@ use Rattle.lapin_types.specs.declared.answer.Answer.{Answer}
 use Rattle.lapin_types.specs.declared.answer.Answer.TheVariants as answer
 use Rattle.lapin_types.specs.declared.message.BasicGetMessage.{BasicGetMessage}
 use Rattle.lapin_types.specs.Types.{Frame, Method}
-use Rattle.lapin_history.specs.declared.marks.SettleKind.{SettleKind}
-use Rattle.lapin_history.specs.ConfirmReadings.{channel_of as publish_channel, tag_of, outcome_at, kind_outcome}
-use Rattle.lapin_history.specs.TicketReadings.{answer_of}
+use Rattle.lapin_rules.specs.declared.marks.SettleKind.{SettleKind}
+use Rattle.lapin_rules.specs.ConfirmReadings.{channel_of as publish_channel, tag_of, outcome_at, kind_outcome}
+use Rattle.lapin_rules.specs.TicketReadings.{answer_of}
 use Rattle.lapin_broker.specs.Frames.{channel_of, broker_frame}
 use Rattle.lapin_joint.specs.declared.step.Step.{Step}
 use Rattle.lapin_joint.specs.declared.step.Step.TheVariants as step
@@ -19,7 +19,7 @@ use Rattle.lapin_verdicts.specs.InStep.{is_frame_on}
 use Rattle.lapin_verdicts.specs.Publishes.{Message}
 use Rattle.lapin_verdicts.specs.Session.{past_of}
 use Rattle.lapin_verdicts.specs.Verdicts.{at_place, messages_in, called_in, IsVerdict}
-use Rattle.lapin_deliveries.specs.Deliveries.{LogsAreSent, LogsAreCarried}
+use Rattle.lapin_messages.specs.Deliveries.{LogsAreSent, LogsAreCarried}
 use Rattle.lapin_answers.specs.Calls.{IsCallOf}
 use Rattle.lapin_answers.specs.Closes.{is_close_ok_as, IsCloseOf, IsClosed, is_end_ok_as, IsEndOf, IsEnded, is_open_cancel}
 use Rattle.lapin_answers.specs.Replies.{IsReplied, IsGot}

@@ -6,9 +6,9 @@ use Rattle.lapin_types.specs.declared.event.Event.TheVariants as event
 use Rattle.lapin_types.specs.declared.call.Call.TheVariants as call
 use Rattle.lapin_types.specs.declared.message.Delivery.{Delivery}
 use Rattle.lapin_types.specs.Types.{Error}
-use Rattle.lapin_consumer.specs.Roster.{found}
-use Rattle.lapin_history.specs.Wire.{Wire, state_of}
-use Rattle.lapin_history.specs.History.{History, past, rec}
+use Rattle.lapin_consumer.specs.Subscriptions.{found}
+use Rattle.lapin_rules.specs.Wire.{Wire, state_of}
+use Rattle.lapin_rules.specs.History.{History, past, rec}
 use Rattle.lapin_machine.specs.World.{World, told_by, new_world}
 use Rattle.lapin_machine.specs.World as world
 use Rattle.lapin_machine.specs.Stands.{Stands}
@@ -21,49 +21,49 @@ use Rattle.lapin_call.specs.declared.step.CallReport.{CallReport}
 use Rattle.lapin_call.specs.declared.step.CallReport.TheVariants as reported
 use Rattle.lapin_machine.specs.Way.{by_history, by_machine}
 use Rattle.lapin_call.specs.Fates.{match_in, counted, after_delivery, after_error}
-use Rattle.lapin_call.specs.Calls.{Desk, met, is_ready, consuming, consumed, begun, next_call, requesting, asked, item_of, is_item, Gathered, heard, polled, polls, waiting_for, gather_from, gathered, collect_report, new_desk, after, report, reports, calls}
-use Rattle.lapin_call.specs.Kept.{AreAlike}
+use Rattle.lapin_call.specs.Calls.{Requester, met, is_ready, consuming, consumed, begun, next_call, requesting, asked, item_of, is_item, Gathered, heard, polled, polls, waiting_for, gather_from, gathered, collect_report, new_requester, after, report, reports, calls}
+use Rattle.lapin_call.specs.CallRun.{AreAlike}
 
--- ---- a desk of the machine that is alike one of the history, and to whose session no frame was given back
+-- ---- a requester of the machine that is alike one of the history, and to whose session no frame was given back
 
-abbrev with_world : World → Desk History → Desk World
+abbrev with_world : World → Requester History → Requester World
 with_world w d = record { session = w; queue = d.queue; consumes = d.consumes; consumer = d.consumer; fates = d.fates }
 
-pub record Alike (n : ℕ) (d : Desk History) (k : Desk World) : Type 0 where
+pub record Alike (n : ℕ) (d : Requester History) (k : Requester World) : Type 0 where
   pub are : AreAlike n d k
   pub unreturned : k.session.returned ≡ None
 
-chosen : (n : ℕ) (a b : Bool) (d d' : Desk History) (k k' : Desk World) → b ≡ a → Alike n d k → Alike n d' k' → Alike n (cond a d d') (cond b k k')
+chosen : (n : ℕ) (a b : Bool) (d d' : Requester History) (k k' : Requester World) → b ≡ a → Alike n d k → Alike n d' k' → Alike n (cond a d d') (cond b k k')
 chosen n true true d d' k k' e one other = one
 chosen n false false d d' k k' e one other = other
 chosen n true false d d' k k' e one other = absurd cc
 chosen n false true d d' k k' e one other = absurd cc
 
-stays : (n : ℕ) (d : Desk History) (w : World) → w.returned ≡ None → Stands n d.session w → Alike n d (with_world w d)
+stays : (n : ℕ) (d : Requester History) (w : World) → w.returned ≡ None → Stands n d.session w → Alike n d (with_world w d)
 stays n d w none s = record { are = record { session = s; queue = refl; consumes = refl; consumer = refl; fates = refl }; unreturned = none }
 
-met_alike : (n : ℕ) (e : Event) (d : Desk History) (w : World) → w.returned ≡ None → Stands n d.session w → Alike n (met (by_history n) e d) (met by_machine e (with_world w d))
+met_alike : (n : ℕ) (e : Event) (d : Requester History) (w : World) → w.returned ≡ None → Stands n d.session w → Alike n (met (by_history n) e d) (met by_machine e (with_world w d))
 met_alike n e d w none s = stays n (met (by_history n) e d) (world.next w e) (still_none w e none) (stands_on n d.session w e none s)
 
-consumed_alike : (n : ℕ) (d : Desk History) (w : World) → w.returned ≡ None → Stands n d.session w → Alike n (consumed (by_history n) (with_event n d.session (consuming d.queue)) d) (consumed by_machine (world.next w (consuming d.queue)) (with_world w d))
+consumed_alike : (n : ℕ) (d : Requester History) (w : World) → w.returned ≡ None → Stands n d.session w → Alike n (consumed (by_history n) (with_event n d.session (consuming d.queue)) d) (consumed by_machine (world.next w (consuming d.queue)) (with_world w d))
 consumed_alike n d w none s =
     let stood = stands_on n d.session w (consuming d.queue) none s in
     record {
-      are = record { session = stood; queue = refl; consumes = refl; consumer = ap (λ (b : Wire). found 1 d.queue b.inbox.roster) stood.wire; fates = refl };
+      are = record { session = stood; queue = refl; consumes = refl; consumer = ap (λ (b : Wire). found 1 d.queue b.deliveries.subscriptions) stood.wire; fates = refl };
       unreturned = still_none w (consuming d.queue) none;
     }
 
-begun_alike : (n : ℕ) (d : Desk History) (w : World) → w.returned ≡ None → Stands n d.session w → Alike n (begun (by_history n) d) (begun by_machine (with_world w d))
+begun_alike : (n : ℕ) (d : Requester History) (w : World) → w.returned ≡ None → Stands n d.session w → Alike n (begun (by_history n) d) (begun by_machine (with_world w d))
 begun_alike n d w none s =
     chosen n (not d.consumes && is_ready (past n d.session).wire) (not d.consumes && is_ready w.wire) _ d _ (with_world w d)
     (ap (λ (b : Wire). not d.consumes && is_ready b) s.wire)
     (consumed_alike n d w none s)
     (stays n d w none s)
 
-event_alike : (n : ℕ) (e : Event) (d : Desk History) (w : World) → w.returned ≡ None → Stands n d.session w → Alike n (begun (by_history n) (met (by_history n) e d)) (begun by_machine (met by_machine e (with_world w d)))
+event_alike : (n : ℕ) (e : Event) (d : Requester History) (w : World) → w.returned ≡ None → Stands n d.session w → Alike n (begun (by_history n) (met (by_history n) e d)) (begun by_machine (met by_machine e (with_world w d)))
 event_alike n e d w none s = begun_alike n (met (by_history n) e d) (world.next w e) (still_none w e none) (stands_on n d.session w e none s)
 
-asked_alike : (n : ℕ) (x key p : List ℕ) (d : Desk History) (w : World) → w.returned ≡ None → Stands n d.session w → Alike n (asked (by_history n) x key p d) (asked by_machine x key p (with_world w d))
+asked_alike : (n : ℕ) (x key p : List ℕ) (d : Requester History) (w : World) → w.returned ≡ None → Stands n d.session w → Alike n (asked (by_history n) x key p d) (asked by_machine x key p (with_world w d))
 asked_alike n x key p d w none s =
     let e : Event = requesting (next_call d) d.queue x key p in
     stays n (asked (by_history n) x key p d) (world.next w e) (still_none w e none) (stands_on n d.session w e none s)
@@ -113,15 +113,15 @@ gather_alike n (Some c) g k a =
     subst (λ (m : ℕ). AlikeG n (gather_from (by_history n) (Some c) g) (polls by_machine c (suc m) k)) (sym (ap (waiting_for c) a.session.wire))
     (polls_alike n c (suc (waiting_for c (past n g.session).wire)) g k a)
 
-gathered_alike : (n : ℕ) (d : Desk History) (w : World) → w.returned ≡ None → Stands n d.session w → AlikeG n (gathered (by_history n) d) (gathered by_machine (with_world w d))
+gathered_alike : (n : ℕ) (d : Requester History) (w : World) → w.returned ≡ None → Stands n d.session w → AlikeG n (gathered (by_history n) d) (gathered by_machine (with_world w d))
 gathered_alike n d w none s = gather_alike n d.consumer _ _ (record { session = s; fates = refl; tally = refl; unreturned = none })
 
 -- ---- one step
 
-abbrev Same : ℕ → CallStep → Desk History → Desk World → Type 0
+abbrev Same : ℕ → CallStep → Requester History → Requester World → Type 0
 Same n s d k = (report by_machine s k ≡ report (by_history n) s d) × Alike n (after (by_history n) s d) (after by_machine s k)
 
-same_step : (n : ℕ) (t : CallStep) (d : Desk History) (w : World) → w.returned ≡ None → Stands n d.session w → Same n t d (with_world w d)
+same_step : (n : ℕ) (t : CallStep) (d : Requester History) (w : World) → w.returned ≡ None → Stands n d.session w → Same n t d (with_world w d)
 same_step n (step.Next flow) d w none s = (ap reported.Session (told_same n d.session w (event.Next flow) none s), event_alike n (event.Next flow) d w none s)
 same_step n (step.Receive f) d w none s = (ap reported.Session (told_same n d.session w (event.Receive f) none s), event_alike n (event.Receive f) d w none s)
 same_step n step.Lost d w none s = (ap reported.Session (told_same n d.session w event.Lost none s), event_alike n event.Lost d w none s)
@@ -136,21 +136,21 @@ same_step n step.Collect d w none s =
     )
 same_step n (step.Take m) d w none s = (refl, record { are = record { session = s; queue = refl; consumes = refl; consumer = refl; fates = refl }; unreturned = none })
 
-alike_is : (n : ℕ) (d : Desk History) (k : Desk World) → AreAlike n d k → with_world k.session d ≡ k
+alike_is : (n : ℕ) (d : Requester History) (k : Requester World) → AreAlike n d k → with_world k.session d ≡ k
 alike_is n d k h = λ i. record { session = k.session; queue = sym h.queue i; consumes = sym h.consumes i; consumer = sym h.consumer i; fates = sym h.fates i }
 
-pub alike-next : (n : ℕ) (t : CallStep) (d : Desk History) (k : Desk World) → k.session.returned ≡ None → AreAlike n d k → Same n t d k
-alike-next n t d k none h = subst (λ (x : Desk World). Same n t d x) (alike_is n d k h) (same_step n t d k.session none h.session)
+pub alike-next : (n : ℕ) (t : CallStep) (d : Requester History) (k : Requester World) → k.session.returned ≡ None → AreAlike n d k → Same n t d k
+alike-next n t d k none h = subst (λ (x : Requester World). Same n t d x) (alike_is n d k h) (same_step n t d k.session none h.session)
 
 -- ---- whole runs
 
-pub new_alike : (n : ℕ) (queue : List ℕ) → Alike n (new_desk (by_history n) [] queue) (new_desk by_machine (new_world n) queue)
+pub new_alike : (n : ℕ) (queue : List ℕ) → Alike n (new_requester (by_history n) [] queue) (new_requester by_machine (new_world n) queue)
 new_alike n queue =
     let e : Event = event.Call 1 call.OpenChannel in
     let none : (new_world n).returned ≡ None = refl in
-    stays n (new_desk (by_history n) [] queue) (world.next (new_world n) e) (still_none (new_world n) e none) (stands_on n [] (new_world n) e none (new_stands n (new_world n) refl))
+    stays n (new_requester (by_history n) [] queue) (world.next (new_world n) e) (still_none (new_world n) e none) (stands_on n [] (new_world n) e none (new_stands n (new_world n) refl))
 
-reports_same : (n : ℕ) (ts : List CallStep) (d : Desk History) (k : Desk World) → Alike n d k → reports by_machine ts k ≡ reports (by_history n) ts d
+reports_same : (n : ℕ) (ts : List CallStep) (d : Requester History) (k : Requester World) → Alike n d k → reports by_machine ts k ≡ reports (by_history n) ts d
 reports_same n [] d k h = refl
 reports_same n (t ∷ ts) d k h =
     let one = alike-next n t d k h.unreturned h.are in
@@ -158,5 +158,5 @@ reports_same n (t ∷ ts) d k h =
     ap (λ (r : CallReport). r ∷ reports by_machine ts (after by_machine t k)) one.0 ∙ ap (λ (rs : List CallReport). report (by_history n) t d ∷ rs) more
 
 -- the reports that the machine gives are those that the history determines
-pub reports_calls : (n : ℕ) (queue : List ℕ) (ts : List CallStep) → reports by_machine ts (new_desk by_machine (new_world n) queue) ≡ calls n queue ts
-reports_calls n queue ts = reports_same n ts (new_desk (by_history n) [] queue) (new_desk by_machine (new_world n) queue) (new_alike n queue)
+pub reports_calls : (n : ℕ) (queue : List ℕ) (ts : List CallStep) → reports by_machine ts (new_requester by_machine (new_world n) queue) ≡ calls n queue ts
+reports_calls n queue ts = reports_same n ts (new_requester (by_history n) [] queue) (new_requester by_machine (new_world n) queue) (new_alike n queue)

@@ -5,8 +5,8 @@ use Rattle.std.proofs.lemmas.Bool.Decides.{eqb_tells}
 use Rattle.lapin_types.specs.declared.event.Event.{Event}
 use Rattle.lapin_types.specs.declared.event.Event.TheVariants as event
 use Rattle.lapin_types.specs.declared.record.Record.{Record}
-use Rattle.lapin_history.specs.Wire.{state_of}
-use Rattle.lapin_history.specs.History.{History, past, rec}
+use Rattle.lapin_rules.specs.Wire.{state_of}
+use Rattle.lapin_rules.specs.History.{History, past, rec}
 use Rattle.lapin_machine.specs.Way.{Way, by_history}
 use Rattle.lapin_call.specs.declared.step.CallStep.{CallStep}
 use Rattle.lapin_call.specs.declared.step.CallStep.TheVariants as step
@@ -16,7 +16,7 @@ use Rattle.lapin_call.specs.declared.fates.Fate.{Fate}
 use Rattle.lapin_call.specs.declared.fates.Fate.TheVariants as fate
 use Rattle.lapin_call.specs.declared.fates.Tally.{Tally}
 use Rattle.lapin_call.specs.Fates.{no_tally, named_by, match_in, counted, fate_at, with_fate, after_delivery, after_error, take_report, after_take, taken}
-use Rattle.lapin_call.specs.Calls.{Desk, met, is_ready, consuming, consumed, begun, requesting, next_call, asked, item_of, is_item, Gathered, heard, polled, polls, waiting_for, gather_from, gathered, collect_report, new_desk, after, report, reports, run, calls, calls_to}
+use Rattle.lapin_call.specs.Calls.{Requester, met, is_ready, consuming, consumed, begun, requesting, next_call, asked, item_of, is_item, Gathered, heard, polled, polls, waiting_for, gather_from, gathered, collect_report, new_requester, after, report, reports, run, calls, calls_to}
 use Rattle.lapin_call.specs.Outcome.{Item, is_number, outcome, after_items, counted_items, sum_of, deliveries}
 use Rattle.lapin_call.specs.Heard.{listed, heard_of, heard_in, WaitedAtTakes, HasFirstReply, counted_in}
 use Rattle.lapin_call.proofs.Outcomes.{counted_once, is_settled, settled_stays, first_answers, put_same, put_other}
@@ -89,21 +89,21 @@ gather_grew : (m : ℕ) (o : Option ℕ) (g : Gathered History) → Grew g (gath
 gather_grew m None g = grew_none g
 gather_grew m (Some c) g = polls_grew m c (suc (waiting_for c (past m g.session).wire)) g
 
-gathered_grew : (m : ℕ) (d : Desk History) → Grew (record { session = d.session; fates = d.fates; tally = no_tally }) (gathered (by_history m) d)
+gathered_grew : (m : ℕ) (d : Requester History) → Grew (record { session = d.session; fates = d.fates; tally = no_tally }) (gathered (by_history m) d)
 gathered_grew m d = gather_grew m d.consumer (record { session = d.session; fates = d.fates; tally = no_tally })
 
 -- ---- a step that hears nothing
 
-record Quiet (d k : Desk History) : Type 0 where
+record Quiet (d k : Requester History) : Type 0 where
   more : History
   session : k.session ≡ d.session ++ more
   silent : heard_in more ≡ []
   fates : k.fates ≡ d.fates
 
-quiet_none : (d : Desk History) → Quiet d d
+quiet_none : (d : Requester History) → Quiet d d
 quiet_none d = record { more = []; session = sym (append-nil d.session); silent = refl; fates = refl }
 
-quiet_then : (d k l : Desk History) → Quiet d k → Quiet k l → Quiet d l
+quiet_then : (d k l : Requester History) → Quiet d k → Quiet k l → Quiet d l
 quiet_then d k l a b = record {
   more = a.more ++ b.more;
   session = b.session ∙ ap (λ (h : History). h ++ b.more) a.session ∙ append_assoc d.session a.more b.more;
@@ -111,21 +111,21 @@ quiet_then d k l a b = record {
   fates = b.fates ∙ a.fates;
 }
 
-quiet_either : (b : Bool) (d k l : Desk History) → Quiet d k → Quiet d l → Quiet d (cond b k l)
+quiet_either : (b : Bool) (d k l : Requester History) → Quiet d k → Quiet d l → Quiet d (cond b k l)
 quiet_either true d k l one other = one
 quiet_either false d k l one other = other
 
-met_quiet : (m : ℕ) (e : Event) (d : Desk History) → ((r : Record) → heard_of e r ≡ []) → Quiet d (met (by_history m) e d)
+met_quiet : (m : ℕ) (e : Event) (d : Requester History) → ((r : Record) → heard_of e r ≡ []) → Quiet d (met (by_history m) e d)
 met_quiet m e d none = record { more = (e, rec m d.session e) ∷ []; session = refl; silent = append-nil (heard_of e (rec m d.session e)) ∙ none (rec m d.session e); fates = refl }
 
-begun_quiet : (m : ℕ) (d : Desk History) → Quiet d (begun (by_history m) d)
+begun_quiet : (m : ℕ) (d : Requester History) → Quiet d (begun (by_history m) d)
 begun_quiet m d =
     let e : Event = consuming d.queue in
     quiet_either (not d.consumes && is_ready (past m d.session).wire) d (consumed (by_history m) (d.session ++ (e, rec m d.session e) ∷ []) d) d
     (record { more = (e, rec m d.session e) ∷ []; session = refl; silent = refl; fates = refl })
     (quiet_none d)
 
-event_quiet : (m : ℕ) (e : Event) (d : Desk History) → ((r : Record) → heard_of e r ≡ []) → Quiet d (begun (by_history m) (met (by_history m) e d))
+event_quiet : (m : ℕ) (e : Event) (d : Requester History) → ((r : Record) → heard_of e r ≡ []) → Quiet d (begun (by_history m) (met (by_history m) e d))
 event_quiet m e d none = quiet_then d (met (by_history m) e d) _ (met_quiet m e d none) (begun_quiet m (met (by_history m) e d))
 
 -- ---- one call among all, while items come
@@ -177,23 +177,23 @@ outcome_on n xs ys fates there = by_outcome (outcome n xs) refl
 -- ---- a step, for a call that was asked
 
 -- the history grew by so much, and the call is what the items heard so far and there make of it
-record Stood (n : ℕ) (xs : List Item) (d k : Desk History) : Type 0 where
+record Stood (n : ℕ) (xs : List Item) (d k : Requester History) : Type 0 where
   more : History
   session : k.session ≡ d.session ++ more
   call : fate_at n k.fates ≡ Some (outcome n (xs ++ heard_in more))
 
-stood_quiet : (n : ℕ) (xs : List Item) (d k : Desk History) → fate_at n d.fates ≡ Some (outcome n xs) → Quiet d k → Stood n xs d k
+stood_quiet : (n : ℕ) (xs : List Item) (d k : Requester History) → fate_at n d.fates ≡ Some (outcome n xs) → Quiet d k → Stood n xs d k
 stood_quiet n xs d k there q = record {
   more = q.more;
   session = q.session;
   call = ap (fate_at n) q.fates ∙ there ∙ ap (λ (ys : List Item). Some (outcome n ys)) (sym (append-nil xs) ∙ ap (λ (ys : List Item). xs ++ ys) (sym q.silent));
 }
 
-stood_either : (b : Bool) (n : ℕ) (xs : List Item) (d k l : Desk History) → Stood n xs d k → Stood n xs d l → Stood n xs d (cond b k l)
+stood_either : (b : Bool) (n : ℕ) (xs : List Item) (d k l : Requester History) → Stood n xs d k → Stood n xs d l → Stood n xs d (cond b k l)
 stood_either true n xs d k l one other = one
 stood_either false n xs d k l one other = other
 
-stood_asked : (m n : ℕ) (xs : List Item) (x key p : List ℕ) (d : Desk History) → fate_at n d.fates ≡ Some (outcome n xs) → Stood n xs d (asked (by_history m) x key p d)
+stood_asked : (m n : ℕ) (xs : List Item) (x key p : List ℕ) (d : Requester History) → fate_at n d.fates ≡ Some (outcome n xs) → Stood n xs d (asked (by_history m) x key p d)
 stood_asked m n xs x key p d there =
     let e : Event = requesting (next_call d) d.queue x key p in
     record {
@@ -225,7 +225,7 @@ taken_there n k xs fates there waited = elim (eqb_tells k n) [
   | inr other ↦ other_taken n k fates (fate_at k fates) other.1 ∙ there
 ]
 
-stood_step : (m n : ℕ) (xs : List Item) (s : CallStep) (d : Desk History) → fate_at n d.fates ≡ Some (outcome n xs) → (s ≡ step.Take n → report (by_history m) s d ≡ reported.Waiting) → Stood n xs d (after (by_history m) s d)
+stood_step : (m n : ℕ) (xs : List Item) (s : CallStep) (d : Requester History) → fate_at n d.fates ≡ Some (outcome n xs) → (s ≡ step.Take n → report (by_history m) s d ≡ reported.Waiting) → Stood n xs d (after (by_history m) s d)
 stood_step m n xs (step.Next flow) d there waited = stood_quiet n xs d _ there (event_quiet m (event.Next flow) d (λ r. refl))
 stood_step m n xs (step.Receive f) d there waited = stood_quiet n xs d _ there (event_quiet m (event.Receive f) d (λ r. refl))
 stood_step m n xs step.Lost d there waited = stood_quiet n xs d _ there (event_quiet m event.Lost d (λ r. refl))
@@ -243,14 +243,14 @@ stood_step m n xs (step.Take k) d there waited = record {
   call = taken_there n k xs d.fates there waited ∙ ap (λ (ys : List Item). Some (outcome n ys)) (sym (append-nil xs));
 }
 
-stood_then : (n : ℕ) (xs : List Item) (d k l : Desk History) (a : Stood n xs d k) → Stood n (xs ++ heard_in a.more) k l → Stood n xs d l
+stood_then : (n : ℕ) (xs : List Item) (d k l : Requester History) (a : Stood n xs d k) → Stood n (xs ++ heard_in a.more) k l → Stood n xs d l
 stood_then n xs d k l a b = record {
   more = a.more ++ b.more;
   session = b.session ∙ ap (λ (h : History). h ++ b.more) a.session ∙ append_assoc d.session a.more b.more;
   call = b.call ∙ ap (λ (ys : List Item). Some (outcome n ys)) (append_assoc xs (heard_in a.more) (heard_in b.more) ∙ ap (λ (ys : List Item). xs ++ ys) (sym (heard_in-append a.more b.more)));
 }
 
-stood_run : (m n : ℕ) (xs : List Item) (ss : List CallStep) (d : Desk History) → fate_at n d.fates ≡ Some (outcome n xs) → WaitedAtTakes m n ss d → Stood n xs d (run (by_history m) ss d)
+stood_run : (m n : ℕ) (xs : List Item) (ss : List CallStep) (d : Requester History) → fate_at n d.fates ≡ Some (outcome n xs) → WaitedAtTakes m n ss d → Stood n xs d (run (by_history m) ss d)
 stood_run m n xs [] d there waited = stood_quiet n xs d d there (quiet_none d)
 stood_run m n xs (s ∷ ss) d there waited =
     let one = stood_step m n xs s d there waited.0 in
@@ -262,40 +262,40 @@ asked_number : (b : Bool) (k n : ℕ) (r : CallReport) → cond b (reported.Aske
 asked_number true k n r told none = (refl, cc)
 asked_number false k n r told none = absurd (none n told)
 
-asked_last : (m : ℕ) (x key p : List ℕ) (d : Desk History) (n : ℕ) → report (by_history m) (step.Ask x key p) d ≡ reported.Asked n → fate_at n (after (by_history m) (step.Ask x key p) d).fates ≡ Some (outcome n [])
+asked_last : (m : ℕ) (x key p : List ℕ) (d : Requester History) (n : ℕ) → report (by_history m) (step.Ask x key p) d ≡ reported.Asked n → fate_at n (after (by_history m) (step.Ask x key p) d).fates ≡ Some (outcome n [])
 asked_last m x key p d n told =
     let b : Bool = is_ready (past m d.session).wire in
     let is = asked_number b (next_call d) n (reported.NotOpen (state_of 1 (past m d.session).wire)) told (λ j same. absurd cc) in
     let last : fate_at (length d.fates + 1) (d.fates ++ fate.Waiting ∷ []) ≡ Some fate.Waiting = rw add-one (get_last d.fates fate.Waiting) in
     ap (λ (v : Bool). fate_at n (cond v (asked (by_history m) x key p d) d).fates) is.0 ∙ ap (λ (i : ℕ). fate_at i (d.fates ++ fate.Waiting ∷ [])) (sym is.1) ∙ last
 
-run-append : {S : Type 0} (m : Way S) (ss ts : List CallStep) (d : Desk S) → run m (ss ++ ts) d ≡ run m ts (run m ss d)
+run-append : {S : Type 0} (m : Way S) (ss ts : List CallStep) (d : Requester S) → run m (ss ++ ts) d ≡ run m ts (run m ss d)
 run-append m [] ts d = refl
 run-append m (s ∷ ss) ts d = run-append m ss ts (after m s d)
 
 pub first_reply : (m : ℕ) (q x key p : List ℕ) (before later : List CallStep) (n : ℕ) → report (by_history m) (step.Ask x key p) (calls_to m q before) ≡ reported.Asked n → WaitedAtTakes m n later (calls_to m q (before ++ step.Ask x key p ∷ [])) → HasFirstReply m q before (step.Ask x key p) later n
 first_reply m q x key p before later n told waited =
     let ask : CallStep = step.Ask x key p in
-    let start : Desk History = new_desk (by_history m) [] q in
-    let first : Desk History = calls_to m q (before ++ ask ∷ []) in
+    let start : Requester History = new_requester (by_history m) [] q in
+    let first : Requester History = calls_to m q (before ++ ask ∷ []) in
     let pushed : first ≡ after (by_history m) ask (calls_to m q before) = run-push (by_history m) before ask start in
-    let there : fate_at n first.fates ≡ Some (outcome n []) = ap (λ (d : Desk History). fate_at n d.fates) pushed ∙ asked_last m x key p (calls_to m q before) n told in
+    let there : fate_at n first.fates ≡ Some (outcome n []) = ap (λ (d : Requester History). fate_at n d.fates) pushed ∙ asked_last m x key p (calls_to m q before) n told in
     let stood = stood_run m n [] later first there waited in
     let whole : calls_to m q ((before ++ ask ∷ []) ++ later) ≡ run (by_history m) later first = run-append (by_history m) (before ++ ask ∷ []) later start in (
       stood.more,
-      ap (λ (d : Desk History). d.session) whole ∙ stood.session,
-      ap (λ (d : Desk History). take_report (fate_at n d.fates)) whole ∙ ap take_report stood.call,
+      ap (λ (d : Requester History). d.session) whole ∙ stood.session,
+      ap (λ (d : Requester History). take_report (fate_at n d.fates)) whole ∙ ap take_report stood.call,
     )
 
 -- ---- deliveries are counted
 
 -- the history grew by so much, and as many deliveries were counted as were heard in it
-record Counts (rs : List CallReport) (d k : Desk History) : Type 0 where
+record Counts (rs : List CallReport) (d k : Requester History) : Type 0 where
   more : History
   session : k.session ≡ d.session ++ more
   counted : counted_in rs ≡ deliveries (heard_in more)
 
-counts_quiet : (r : CallReport) (d k : Desk History) → counted_in (r ∷ []) ≡ 0 → Quiet d k → Counts (r ∷ []) d k
+counts_quiet : (r : CallReport) (d k : Requester History) → counted_in (r ∷ []) ≡ 0 → Quiet d k → Counts (r ∷ []) d k
 counts_quiet r d k none q = record { more = q.more; session = q.session; counted = none ∙ ap deliveries (sym q.silent) }
 
 ask_counts : (b : Bool) (r s : CallReport) → counted_in (r ∷ []) ≡ 0 → counted_in (s ∷ []) ≡ 0 → counted_in (cond b r s ∷ []) ≡ 0
@@ -309,16 +309,16 @@ take_counts (Some (fate.Answered p)) = refl
 take_counts (Some (fate.Ended e)) = refl
 take_counts (Some (fate.Given b)) = refl
 
-asked_quiet_history : (m : ℕ) (x key p : List ℕ) (d : Desk History) (r : CallReport) → counted_in (r ∷ []) ≡ 0 → Counts (r ∷ []) d (asked (by_history m) x key p d)
+asked_quiet_history : (m : ℕ) (x key p : List ℕ) (d : Requester History) (r : CallReport) → counted_in (r ∷ []) ≡ 0 → Counts (r ∷ []) d (asked (by_history m) x key p d)
 asked_quiet_history m x key p d r none =
     let e : Event = requesting (next_call d) d.queue x key p in
     record { more = (e, rec m d.session e) ∷ []; session = refl; counted = none }
 
-counts_either : (b : Bool) (rs : List CallReport) (d k l : Desk History) → Counts rs d k → Counts rs d l → Counts rs d (cond b k l)
+counts_either : (b : Bool) (rs : List CallReport) (d k l : Requester History) → Counts rs d k → Counts rs d l → Counts rs d (cond b k l)
 counts_either true rs d k l one other = one
 counts_either false rs d k l one other = other
 
-step_counts : (m : ℕ) (s : CallStep) (d : Desk History) → Counts (report (by_history m) s d ∷ []) d (after (by_history m) s d)
+step_counts : (m : ℕ) (s : CallStep) (d : Requester History) → Counts (report (by_history m) s d ∷ []) d (after (by_history m) s d)
 step_counts m (step.Next flow) d = counts_quiet _ d _ refl (event_quiet m (event.Next flow) d (λ r. refl))
 step_counts m (step.Receive f) d = counts_quiet _ d _ refl (event_quiet m (event.Receive f) d (λ r. refl))
 step_counts m step.Lost d = counts_quiet _ d _ refl (event_quiet m event.Lost d (λ r. refl))
@@ -345,7 +345,7 @@ counted_in-cons (reported.Ended e) rs = omega arith
 counted_in-cons reported.Taken rs = omega arith
 counted_in-cons reported.Unknown rs = omega arith
 
-run_counts : (m : ℕ) (ss : List CallStep) (d : Desk History) → Counts (reports (by_history m) ss d) d (run (by_history m) ss d)
+run_counts : (m : ℕ) (ss : List CallStep) (d : Requester History) → Counts (reports (by_history m) ss d) d (run (by_history m) ss d)
 run_counts m [] d = record { more = []; session = sym (append-nil d.session); counted = refl }
 run_counts m (s ∷ ss) d =
     let one = step_counts m s d in
@@ -360,6 +360,6 @@ run_counts m (s ∷ ss) d =
 
 pub all_counted : (m : ℕ) (q : List ℕ) (ss : List CallStep) → counted_in (calls m q ss) ≡ deliveries (heard_in (calls_to m q ss).session)
 all_counted m q ss =
-    let start : Desk History = new_desk (by_history m) [] q in
+    let start : Requester History = new_requester (by_history m) [] q in
     let all = run_counts m ss start in
     all.counted ∙ ap deliveries (sym (ap heard_in all.session ∙ heard_in-append start.session all.more))

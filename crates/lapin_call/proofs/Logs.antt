@@ -6,8 +6,8 @@ use Rattle.lapin_types.specs.Types.{Error}
 use Rattle.lapin_types.specs.declared.event.Event.{Event}
 use Rattle.lapin_types.specs.declared.event.Event.TheVariants as event
 use Rattle.lapin_types.specs.declared.record.Record.{Record}
-use Rattle.lapin_history.specs.Wire.{state_of, is_open}
-use Rattle.lapin_history.specs.History.{History, rec}
+use Rattle.lapin_rules.specs.Wire.{state_of, is_open}
+use Rattle.lapin_rules.specs.History.{History, rec}
 use Rattle.lapin_machine.specs.World.{World, told_by, next}
 use Rattle.lapin_machine.specs.Stands.{Stands}
 use Rattle.lapin_machine.proofs.Back.{still_none}

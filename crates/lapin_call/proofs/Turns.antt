@@ -3,7 +3,7 @@ use Rattle.std.proofs.Common.{◌≡◌, ◌∙◌, ℕ, Bool, true, false, List
 use Rattle.std.specs.Prelude.{Result, Ok, Err}
 use Rattle.lapin_types.specs.Types.{Error}
 use Rattle.lapin_types.specs.declared.event.Event.TheVariants as event
-use Rattle.lapin_history.specs.Wire.{state_of, is_open}
+use Rattle.lapin_rules.specs.Wire.{state_of, is_open}
 use Rattle.lapin_machine.specs.World.{World, told_by, next}
 use Rattle.lapin_call.specs.declared.server.Served.{Served}
 use Rattle.lapin_call.specs.declared.server.Served.TheVariants as served

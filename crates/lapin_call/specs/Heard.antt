@@ -3,14 +3,14 @@ use Rattle.std.specs.Prelude.{◌≡◌, ℕ, ◌+◌, List, [], ◌∷◌, ◌+
 use Rattle.lapin_types.specs.declared.event.Event.{Event}
 use Rattle.lapin_types.specs.declared.event.Event.TheVariants as event
 use Rattle.lapin_types.specs.declared.record.Record.{Record}
-use Rattle.lapin_history.specs.History.{History}
+use Rattle.lapin_rules.specs.History.{History}
 use Rattle.lapin_machine.specs.Way.{by_history}
 use Rattle.lapin_call.specs.declared.step.CallStep.{CallStep}
 use Rattle.lapin_call.specs.declared.step.CallStep.TheVariants as step
 use Rattle.lapin_call.specs.declared.step.CallReport.{CallReport}
 use Rattle.lapin_call.specs.declared.step.CallReport.TheVariants as reported
 use Rattle.lapin_call.specs.Fates.{take_report}
-use Rattle.lapin_call.specs.Calls.{Desk, item_of, after, report, calls_to}
+use Rattle.lapin_call.specs.Calls.{Requester, item_of, after, report, calls_to}
 use Rattle.lapin_call.specs.Outcome.{Item, outcome}
 
 -- an item, or none
@@ -29,7 +29,7 @@ heard_in [] = []
 heard_in (x ∷ h) = heard_of x.0 x.1 ++ heard_in h
 
 -- each take of call n among these steps was told that it waits
-abbrev pub WaitedAtTakes : ℕ → ℕ → List CallStep → Desk History → Type 0
+abbrev pub WaitedAtTakes : ℕ → ℕ → List CallStep → Requester History → Type 0
 WaitedAtTakes frame_max n [] d = Unit {0}
 WaitedAtTakes frame_max n (s ∷ ss) d = (s ≡ step.Take n → report (by_history frame_max) s d ≡ reported.Waiting) × WaitedAtTakes frame_max n ss (after (by_history frame_max) s d)
 

@@ -1,6 +1,6 @@
 pub mod Fates
 pub mod Calls
-pub mod Kept
+pub mod CallRun
 pub mod Codes
 pub mod Serving
 pub mod Turns

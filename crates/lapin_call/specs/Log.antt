@@ -4,7 +4,7 @@ use Rattle.lapin_types.specs.Types.{Error}
 use Rattle.lapin_types.specs.declared.event.Event.{Event}
 use Rattle.lapin_types.specs.declared.event.Event.TheVariants as event
 use Rattle.lapin_types.specs.declared.record.Record.{Record}
-use Rattle.lapin_history.specs.History.{History}
+use Rattle.lapin_rules.specs.History.{History}
 use Rattle.lapin_machine.specs.World.{World}
 use Rattle.lapin_machine.specs.Stands.{Stands}
 use Rattle.lapin_call.specs.declared.server.Served.{Served}

@@ -9,8 +9,8 @@ use Rattle.lapin_types.specs.declared.event.Event.TheVariants as event
 use Rattle.lapin_types.specs.declared.call.Call.TheVariants as call
 use Rattle.lapin_types.specs.declared.record.Record.{Record}
 use Rattle.lapin_types.specs.declared.record.Record.TheVariants as record_
-use Rattle.lapin_history.specs.Ackers.{usable_at}
-use Rattle.lapin_history.specs.Wire.{Wire, state_of, is_open}
+use Rattle.lapin_rules.specs.Ackers.{usable_at}
+use Rattle.lapin_rules.specs.Wire.{Wire, state_of, is_open}
 use Rattle.lapin_machine.specs.World.{World, told_by, next}
 use Rattle.lapin_machine.specs.Numbers.{EventUsedUp}
 use Rattle.lapin_call.specs.declared.server.Served.{Served}

@@ -3,7 +3,7 @@
 ghost use Rattle.std.specs.Prelude.{◌≡◌, decimal, true, IfOk, OnOk};
 ghost use Rattle.lapin_types.specs.declared.event.Event.TheVariants as event;
 ghost use Rattle.lapin_types.specs.declared.call.Call.TheVariants as call;
-ghost use Rattle.lapin_history.specs.Wire.{state_of, is_closed};
+ghost use Rattle.lapin_rules.specs.Wire.{state_of, is_closed};
 ghost use Rattle.lapin_machine.specs.Numbers.{HasNumbersFor};
 ghost use Rattle.lapin_machine.specs.World.{next};
 ghost use Rattle.lapin_call.specs.Calls.{consuming, requesting, request_properties, is_ready as is_ready_lem};

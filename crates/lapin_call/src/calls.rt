@@ -5,10 +5,10 @@ ghost use Rattle.lapin_machine.specs.Numbers.{HasNumbersFor};
 ghost use Rattle.lapin_machine.specs.World.{new_world};
 ghost use Rattle.lapin_call.specs.declared.step.CallStep.{CallStep as AStep};
 ghost use Rattle.lapin_machine.specs.Way.{by_machine};
-ghost use Rattle.lapin_call.specs.Calls.{new_desk, report, after, calls};
-ghost use Rattle.lapin_call.specs.Kept.{StandsFor};
+ghost use Rattle.lapin_call.specs.Calls.{new_requester, report, after, calls};
+ghost use Rattle.lapin_call.specs.CallRun.{StandsFor};
 
-use crate::desk::Desk;
+use crate::requester::Requester;
 use crate::step::{CallReport, CallStep};
 use lapin_types::{Event, NoMemory, RunError, ShortString};
 use std::alloc::Global;
@@ -16,7 +16,7 @@ use std::marker::Model;
 
 /// A new session whose channel 1 publishes requests and consumes their replies from a queue. It stands for the list of its steps.
 pub struct Calls {
-    desk: Desk,
+    requester: Requester,
     steps: u64,
     stopped: bool,
 }
@@ -24,7 +24,7 @@ pub struct Calls {
 impl Drop for Calls {
     fn drop(self) {
         let Calls {
-            desk: _,
+            requester: _,
             steps: _,
             stopped: _,
         } = self;
@@ -32,16 +32,16 @@ impl Drop for Calls {
 }
 
 impl Model for Calls {
-    ghost use Rattle.lapin_call.specs.Kept.{Kept, IsKept};
+    ghost use Rattle.lapin_call.specs.CallRun.{CallRun, IsKept};
     ghost use Rattle.lapin_call.specs.Codes.{kept_code};
 
-    ghost Value = { Kept };
+    ghost Value = { CallRun };
 
     ghost coded = { kept_code };
 
-    ghost view = { λ a. record { desk = a.desk; steps = a.steps; stopped = a.stopped } };
+    ghost view = { λ a. record { requester = a.requester; steps = a.steps; stopped = a.stopped } };
 
-    ghost invariant = { λ a. IsKept a.stopped a.steps a.desk.session };
+    ghost invariant = { λ a. IsKept a.stopped a.steps a.requester.session };
 }
 
 impl Calls {
@@ -52,13 +52,13 @@ impl Calls {
     /// `NoMemory` alone.
     pub fn new(alloc: Global, frame_max: u32, queue: ShortString) -> Result<Calls, NoMemory>
         requires { 4096 ≤ frame_max }
-        ensures made { IfOk result (λ made. made ≡ record { desk = new_desk by_machine (new_world frame_max) queue; steps = 0; stopped = false }) }
+        ensures made { IfOk result (λ made. made ≡ record { requester = new_requester by_machine (new_world frame_max) queue; steps = 0; stopped = false }) }
 
         // They stand for no steps.
         ensures stands { IfOk result (λ made. StandsFor frame_max queue [] made) }
     {
         Ok(Calls {
-            desk: Desk::new(alloc, frame_max, queue)?,
+            requester: Requester::new(alloc, frame_max, queue)?,
             steps: 0,
             stopped: false,
         })
@@ -71,8 +71,8 @@ impl Calls {
     /// earlier step found no memory. No step runs out of numbers, since none uses more than two of a counter.
     pub fn step(&mut self, alloc: Global, step: CallStep) -> Result<CallReport, RunError>
         requires { self.old.steps < 2 ^ 31 }
-        ensures told { IfOk result (λ r. r ≡ report by_machine step self.old.desk) }
-        ensures ok { OnOk result (self.new ≡ record { desk = after by_machine step self.old.desk; steps = self.old.steps + 1; stopped = false }) }
+        ensures told { IfOk result (λ r. r ≡ report by_machine step self.old.requester) }
+        ensures ok { OnOk result (self.new ≡ record { requester = after by_machine step self.old.requester; steps = self.old.steps + 1; stopped = false }) }
         ensures stopped { (result ≡ Err RunError.Stopped) ↔ (self.old.stopped ≡ true) }
         ensures err { OnErr result ((self.new.stopped ≡ true) × (self.new.steps ≡ self.old.steps)) }
 
@@ -88,10 +88,10 @@ impl Calls {
 
     fn step_machine(&mut self, alloc: Global, step: CallStep) -> Result<CallReport, RunError>
         requires { self.old.steps < 2 ^ 31 }
-        ensures told { IfOk result (λ r. r ≡ report by_machine step self.old.desk) }
-        ensures ok { OnOk result (self.new ≡ record { desk = after by_machine step self.old.desk; steps = self.old.steps + 1; stopped = false }) }
+        ensures told { IfOk result (λ r. r ≡ report by_machine step self.old.requester) }
+        ensures ok { OnOk result (self.new ≡ record { requester = after by_machine step self.old.requester; steps = self.old.steps + 1; stopped = false }) }
         ensures running { OnOk result (self.old.stopped ≡ false) }
-        ensures unreturned { OnOk result (self.old.desk.session.returned ≡ None) }
+        ensures unreturned { OnOk result (self.old.requester.session.returned ≡ None) }
         ensures stopped { (result ≡ Err RunError.Stopped) ↔ (self.old.stopped ≡ true) }
         ensures err { OnErr result ((self.new.stopped ≡ true) × (self.new.steps ≡ self.old.steps)) }
     {
@@ -99,7 +99,7 @@ impl Calls {
             drop(step);
             return Err(RunError::Stopped);
         }
-        match make(alloc, &mut self.desk, step) {
+        match make(alloc, &mut self.requester, step) {
             Ok(reported) => {
                 self.steps += 1;
                 Ok(reported)
@@ -126,22 +126,22 @@ impl Calls {
     }
 }
 
-// Each kind of step has a method of the desk.
-fn make(alloc: Global, desk: &mut Desk, step: CallStep) -> Result<CallReport, NoMemory>
-    requires numbers { HasNumbersFor 2 desk.old.session }
-    ensures told { IfOk result (λ r. r ≡ report by_machine step desk.old) }
-    ensures ok { OnOk result (desk.new ≡ after by_machine step desk.old) }
+// Each kind of step has a method of the requester.
+fn make(alloc: Global, requester: &mut Requester, step: CallStep) -> Result<CallReport, NoMemory>
+    requires numbers { HasNumbersFor 2 requester.old.session }
+    ensures told { IfOk result (λ r. r ≡ report by_machine step requester.old) }
+    ensures ok { OnOk result (requester.new ≡ after by_machine step requester.old) }
 {
     match step {
-        CallStep::Next(flow) => desk.meet(alloc, Event::Next(flow)),
-        CallStep::Receive(frame) => desk.meet(alloc, Event::Receive(frame)),
-        CallStep::Lost => desk.meet(alloc, Event::Lost),
+        CallStep::Next(flow) => requester.meet(alloc, Event::Next(flow)),
+        CallStep::Receive(frame) => requester.meet(alloc, Event::Receive(frame)),
+        CallStep::Lost => requester.meet(alloc, Event::Lost),
         CallStep::Ask {
             exchange,
             routing_key,
             payload,
-        } => desk.ask(alloc, exchange, routing_key, payload),
-        CallStep::Collect => desk.collect(),
-        CallStep::Take(number) => Ok(desk.take(number)),
+        } => requester.ask(alloc, exchange, routing_key, payload),
+        CallStep::Collect => requester.collect(),
+        CallStep::Take(number) => Ok(requester.take(number)),
     }
 }

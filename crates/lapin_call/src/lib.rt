@@ -8,7 +8,7 @@
 mod asking;
 mod calls;
 mod collecting;
-mod desk;
+mod requester;
 mod fates;
 mod laws;
 mod run;

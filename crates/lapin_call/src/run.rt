@@ -40,8 +40,8 @@ fn run_steps(
     report: &mut Vec<CallReport>,
 ) -> Result<(), NoMemory>
     requires { run.old.steps + length steps.items < 2 ^ 31 }
-    ensures ok { OnOk result (report.new.items ≡ report.old.items ++ reports by_machine steps.items run.old.desk) }
-    ensures err { OnErr result (IsStarted report.old.items report.new.items (reports by_machine steps.items run.old.desk)) }
+    ensures ok { OnOk result (report.new.items ≡ report.old.items ++ reports by_machine steps.items run.old.requester) }
+    ensures err { OnErr result (IsStarted report.old.items report.new.items (reports by_machine steps.items run.old.requester)) }
 {
     for step in steps {
         add(alloc, run, step, report)?;
@@ -57,8 +57,8 @@ fn add(
     report: &mut Vec<CallReport>,
 ) -> Result<(), NoMemory>
     requires { run.old.steps < 2 ^ 31 }
-    ensures ok { OnOk result (run.new ≡ record { desk = after by_machine step run.old.desk; steps = run.old.steps + 1; stopped = false }) }
-    ensures grown { OnOk result (report.new.items ≡ report.old.items ++ report_lem by_machine step run.old.desk ∷ []) }
+    ensures ok { OnOk result (run.new ≡ record { requester = after by_machine step run.old.requester; steps = run.old.steps + 1; stopped = false }) }
+    ensures grown { OnOk result (report.new.items ≡ report.old.items ++ report_lem by_machine step run.old.requester ∷ []) }
     ensures err { OnErr result (report.new.items ≡ report.old.items) }
 {
     if report.reserve(1).is_err() {

@@ -5,8 +5,8 @@ ghost use Rattle.std.specs.Prelude.{◌≡◌, ℕ, [], true, Ok, None, Some, If
 ghost use Rattle.std.specs.Fn.{FnReturnsAt};
 ghost use Rattle.std.specs.Option.{option_map};
 ghost use Rattle.lapin_types.specs.declared.event.Event.TheVariants as event;
-ghost use Rattle.lapin_history.specs.Wire.{state_of, is_open as is_open_lem};
-ghost use Rattle.lapin_history.specs.History.{History};
+ghost use Rattle.lapin_rules.specs.Wire.{state_of, is_open as is_open_lem};
+ghost use Rattle.lapin_rules.specs.History.{History};
 ghost use Rattle.lapin_machine.specs.Stands.{Stands};
 ghost use Rattle.lapin_machine.specs.World.{told_by, next};
 ghost use Rattle.lapin_call.specs.Log.{IsLogged};

@@ -1,10 +1,10 @@
 -- Where nothing may leave though no publish may begin, nothing has begun.
 use Rattle.std.proofs.Common.{◌≡◌, ℕ, Bool, false, List, [], ◌∷◌, Option, Some, None, refl, arith}
 use Rattle.lapin_client.specs.Sending.{IsIdle}
-use Rattle.lapin_history.specs.Flow.{begins_on}
-use Rattle.lapin_history.specs.Frames.{MethodEntry, RestEntry}
-use Rattle.lapin_history.specs.Handing.{frame_record}
-use Rattle.lapin_history.specs.Leaving.{handed_of}
+use Rattle.lapin_rules.specs.Flow.{begins_on}
+use Rattle.lapin_rules.specs.Frames.{MethodEntry, RestEntry}
+use Rattle.lapin_rules.specs.Handing.{frame_record}
+use Rattle.lapin_rules.specs.Leaving.{handed_of}
 use Rattle.lapin_machine.specs.World.{World, told_or, told_anew, full_in}
 use Rattle.lapin_types.specs.declared.event.Event.TheVariants as event
 use Rattle.lapin_types.specs.declared.leaving.Left.{Left}

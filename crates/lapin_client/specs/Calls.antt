@@ -8,8 +8,8 @@ use Rattle.lapin_client.specs.declared.status.Status.{Status}
 use Rattle.lapin_client.specs.declared.status.Status.TheVariants as status
 use Rattle.lapin_client.specs.Clients.{SameBytes}
 use Rattle.lapin_confirm.specs.Answers.{result_of}
-use Rattle.lapin_history.specs.declared.marks.Outcome.{Outcome}
-use Rattle.lapin_history.specs.declared.marks.Outcome.TheVariants as outcome
+use Rattle.lapin_rules.specs.declared.marks.Outcome.{Outcome}
+use Rattle.lapin_rules.specs.declared.marks.Outcome.TheVariants as outcome
 use Rattle.lapin_machine.specs.World.{World, next, told_by}
 use Rattle.lapin_text.specs.Records.{record_tokens, line_onto}
 use Rattle.lapin_tokens.specs.Reading.{value_of}

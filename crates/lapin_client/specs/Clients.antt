@@ -9,7 +9,7 @@ use Rattle.lapin_text.specs.LineReading.{line_at}
 
 -- each counter has n further numbers
 unfoldable pub HasRoomFor : ℕ → World → Type 0
-HasRoomFor n w = (w.wire.tickets + n < 2 ^ 64) × ((w.wire.published + n < 2 ^ 64) × ((length w.wire.inbox.roster.consumers + n < 2 ^ 64) × (length w.wire.inbox.switches + n < 2 ^ 64)))
+HasRoomFor n w = (w.wire.tickets + n < 2 ^ 64) × ((w.wire.published + n < 2 ^ 64) × ((length w.wire.deliveries.subscriptions.consumers + n < 2 ^ 64) × (length w.wire.deliveries.switches + n < 2 ^ 64)))
 
 -- a client that takes further steps has numbers for them; and no frame is shorter than the standard lets it be
 abbrev pub IsSound : Client → Type 0

@@ -13,8 +13,8 @@ use Rattle.lapin_frames.specs.declared.frames.Read.TheVariants as read
 use Rattle.lapin_handshake.specs.Saying.{frame_said_at}
 use Rattle.lapin_handshake.specs.declared.said.Said.{Said}
 use Rattle.lapin_handshake.specs.declared.said.Said.TheVariants as said
-use Rattle.lapin_history.specs.Drops.{frame_channel}
-use Rattle.lapin_history.specs.Wire.{state_of, is_closed}
+use Rattle.lapin_rules.specs.Drops.{frame_channel}
+use Rattle.lapin_rules.specs.Wire.{state_of, is_closed}
 use Rattle.lapin_machine.specs.World.{World, next}
 use Rattle.lapin_types.specs.Types.{Frame, Error}
 use Rattle.lapin_types.specs.Types.frame

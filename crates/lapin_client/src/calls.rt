@@ -11,7 +11,7 @@ ghost use Rattle.lapin_types.specs.declared.event.Event.TheVariants as event;
 use crate::client::Client;
 use crate::receiving::refuses;
 use crate::status::Status;
-use lapin_history::Outcome;
+use lapin_rules::Outcome;
 use lapin_tokens::{ReadError, properties_of, put_properties};
 use lapin_types::{
     AckerCall, BasicAckOptions, BasicNackOptions, BasicProperties, BasicPublishOptions,

@@ -4,8 +4,8 @@ ghost use Rattle.std.specs.Prelude.{◌≡◌, Some, IfSome};
 ghost use Rattle.lapin_handshake.specs.Saying.{frame_said_at};
 ghost use Rattle.lapin_client.specs.Clients.{IsSound};
 ghost use Rattle.lapin_client.specs.Receiving.{Receives, Runs, Turns, Takes, TakesIdle, Hears, HeadIs, notice, is_of_content as is_of_content_lem, begins_content as begins_content_lem, is_stray as is_stray_lem, is_refusal, length_at};
-ghost use Rattle.lapin_history.specs.Wire.{is_closed as is_closed_lem};
-ghost use Rattle.lapin_history.specs.Drops.{frame_channel};
+ghost use Rattle.lapin_rules.specs.Wire.{is_closed as is_closed_lem};
+ghost use Rattle.lapin_rules.specs.Drops.{frame_channel};
 
 use crate::client::Client;
 use crate::status::Status;

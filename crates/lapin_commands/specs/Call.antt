@@ -3,7 +3,7 @@ use Rattle.std.specs.Prelude.{ℕ, List, Option}
 use Rattle.lapin_machine.specs.Way.{by_machine}
 use Rattle.lapin_call.specs.declared.step.CallStep.{CallStep}
 use Rattle.lapin_call.specs.Calls.{reports, calls}
-use Rattle.lapin_call.specs.Kept.{Kept}
+use Rattle.lapin_call.specs.CallRun.{CallRun}
 use Rattle.lapin_call_text.specs.Steps.{step_line, HasLine}
 use Rattle.lapin_call_text.specs.Reports.{reports_text}
 use Rattle.lapin_inputs.specs.Lines.{AreSteps, AreParsed}
@@ -18,5 +18,5 @@ abbrev pub PrintsCalls : List ℕ → List ℕ → Option ℕ → List ℕ → T
 PrintsCalls queue input bad text = PrintsBy CallStep (AreParsed step_line HasLine) (calls_text queue) input bad text
 
 -- the same of calls that go on
-abbrev pub CallsGoOn : Kept → ℕ → List (List ℕ) → Option ℕ → List ℕ → Type 0
-CallsGoOn k n lines bad text = GoesOnBy CallStep (AreSteps step_line HasLine) (λ steps. reports_text (reports by_machine steps k.desk)) n lines bad text
+abbrev pub CallsGoOn : CallRun → ℕ → List (List ℕ) → Option ℕ → List ℕ → Type 0
+CallsGoOn k n lines bad text = GoesOnBy CallStep (AreSteps step_line HasLine) (λ steps. reports_text (reports by_machine steps k.requester)) n lines bad text

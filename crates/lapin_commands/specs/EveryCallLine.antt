@@ -11,7 +11,7 @@ use Rattle.lapin_text.proofs.LineLaws.{line_found, refused}
 use Rattle.lapin_call.specs.declared.step.CallStep.{CallStep}
 use Rattle.lapin_call.specs.declared.step.CallStep.TheVariants as step
 use Rattle.lapin_call.specs.Calls.{reports}
-use Rattle.lapin_call.specs.Kept.{Kept}
+use Rattle.lapin_call.specs.CallRun.{CallRun}
 use Rattle.lapin_call_text.specs.Steps.{step_line, HasLine}
 use Rattle.lapin_call_text.specs.Reading.{asked_in, step_of_event}
 use Rattle.lapin_call_text.specs.Reports.{reports_text}
@@ -68,7 +68,7 @@ step_of line = ask_first (begins (codes "ask ") line)
     ask_first (inr ask) = take_second ask (begins (codes "take ") line)
 
 -- for lines, whatever they are, calls that go on print some text
-pub calls_go : (k : Kept) (n : ℕ) (lines : List (List ℕ)) → (bad : Option ℕ) × (text : List ℕ) × CallsGoOn k n lines bad text
+pub calls_go : (k : CallRun) (n : ℕ) (lines : List (List ℕ)) → (bad : Option ℕ) × (text : List ℕ) × CallsGoOn k n lines bad text
 calls_go k n lines =
     let some = some_steps step_line HasLine step_of n lines in
-    (some.1, reports_text (reports by_machine some.0 k.desk), record { steps = some.0; are = some.2; printed = refl })
+    (some.1, reports_text (reports by_machine some.0 k.requester), record { steps = some.0; are = some.2; printed = refl })

@@ -3,7 +3,7 @@ use Rattle.std.specs.Prelude.{ℕ, List, Option}
 use Rattle.lapin_machine.specs.Way.{by_machine}
 use Rattle.lapin_joint.specs.declared.step.Step.{Step}
 use Rattle.lapin_joint.specs.Joint.{reports, joined}
-use Rattle.lapin_joint.specs.Kept.{Kept}
+use Rattle.lapin_joint.specs.JoinedRun.{JoinedRun}
 use Rattle.lapin_joint_text.specs.Steps.{step_line, HasLine}
 use Rattle.lapin_joint_text.specs.Reports.{reports_text}
 use Rattle.lapin_inputs.specs.Lines.{AreSteps, AreParsed}
@@ -18,5 +18,5 @@ abbrev pub PrintsJoined : List ℕ → Option ℕ → List ℕ → Type 0
 PrintsJoined input bad text = PrintsBy Step (AreParsed step_line HasLine) joined_text input bad text
 
 -- the same of a joined run that goes on
-abbrev pub JoinedGoesOn : Kept → ℕ → List (List ℕ) → Option ℕ → List ℕ → Type 0
+abbrev pub JoinedGoesOn : JoinedRun → ℕ → List (List ℕ) → Option ℕ → List ℕ → Type 0
 JoinedGoesOn k n lines bad text = GoesOnBy Step (AreSteps step_line HasLine) (λ steps. reports_text (reports by_machine steps k.joint)) n lines bad text

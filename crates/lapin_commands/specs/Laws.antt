@@ -2,11 +2,11 @@
 use Rattle.std.specs.Prelude.{ℕ, List, [], ◌∷◌, Some, None, refl}
 use Rattle.lapin_machine.specs.World.{World}
 use Rattle.lapin_text.specs.Input.{lines_of, AreParsed}
-use Rattle.lapin_joint.specs.Kept.{Kept}
+use Rattle.lapin_joint.specs.JoinedRun.{JoinedRun}
 use Rattle.lapin_joint_text.specs.Steps as joint_text
 use Rattle.lapin_resend.specs.declared.step.ResendStep.{ResendStep}
 use Rattle.lapin_resend_text.specs.Steps as resend_text
-use Rattle.lapin_call.specs.Kept as calls
+use Rattle.lapin_call.specs.CallRun as calls
 use Rattle.lapin_call_text.specs.Steps as call_text
 use Rattle.lapin_inputs.specs.LineLaws.{none_first}
 use Rattle.lapin_inputs.specs.Printing.{NoFirst, bad_line_text}
@@ -22,7 +22,7 @@ pub session_ends : (w : World) (n : ℕ) → SessionGoesOn w n [] None []
 session_ends w n = record { steps = []; are = refl; printed = refl }
 
 -- a joined run that goes on prints no text for no line
-pub joined_ends : (k : Kept) (n : ℕ) → JoinedGoesOn k n [] None []
+pub joined_ends : (k : JoinedRun) (n : ℕ) → JoinedGoesOn k n [] None []
 joined_ends k n = record { steps = []; are = refl; printed = refl }
 
 -- a publisher that goes on prints no text for no line

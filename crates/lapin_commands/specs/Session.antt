@@ -1,7 +1,7 @@
 -- What the command `session` prints for an input.
 use Rattle.std.specs.Prelude.{ℕ, List, Option}
 use Rattle.lapin_types.specs.declared.event.Event.{Event}
-use Rattle.lapin_history.specs.History.{run}
+use Rattle.lapin_rules.specs.History.{run}
 use Rattle.lapin_text.specs.Input.{AreEvents, AreParsed}
 use Rattle.lapin_text.specs.Records.{records_text}
 use Rattle.lapin_machine.specs.World.{World, outputs}

@@ -5,7 +5,7 @@
 ghost use Rattle.std.specs.Prelude.{◌≡◌, ◌++◌, ◌∷◌, [], ◌+◌, ◌≤◌, ◌<◌, ◌^◌, length, false, OnOk};
 ghost use Rattle.lapin_text.specs.Records.{line_onto};
 ghost use Rattle.lapin_machine.specs.Way.{by_machine};
-ghost use Rattle.lapin_call.specs.Kept.{Kept};
+ghost use Rattle.lapin_call.specs.CallRun.{CallRun};
 ghost use Rattle.lapin_call.specs.Calls.{after, report};
 ghost use Rattle.lapin_call_text.specs.Reports.{report_tokens};
 ghost use Rattle.lapin_commands.specs.Call.{PrintsCalls, CallsGoOn};
@@ -29,7 +29,7 @@ impl Run for OfCalls {
 
     ghost prints = { λ queue input bad text. PrintsCalls queue input bad text };
 
-    ghost Past = { Kept };
+    ghost Past = { CallRun };
 
     ghost stands = { λ past run. past ≡ run };
 
@@ -76,8 +76,8 @@ fn print_step(
     text: &mut Vec<u8>,
 ) -> Result<(), NoMemory>
     requires { run.old.steps < 2 ^ 31 }
-    ensures run { OnOk result (run.new ≡ record { desk = after by_machine step run.old.desk; steps = run.old.steps + 1; stopped = false }) }
-    ensures text { OnOk result (text.new.items ≡ line_onto text.old.items (report_tokens (report by_machine step run.old.desk)) ++ 10 ∷ []) }
+    ensures run { OnOk result (run.new ≡ record { requester = after by_machine step run.old.requester; steps = run.old.steps + 1; stopped = false }) }
+    ensures text { OnOk result (text.new.items ≡ line_onto text.old.items (report_tokens (report by_machine step run.old.requester)) ++ 10 ∷ []) }
 {
     match run.step(alloc, step) {
         Ok(reported) => {

@@ -5,7 +5,7 @@
 ghost use Rattle.std.specs.Prelude.{◌≡◌, ◌++◌, ◌∷◌, [], ◌+◌, ◌<◌, ◌^◌, false, OnOk};
 ghost use Rattle.lapin_text.specs.Records.{line_onto};
 ghost use Rattle.lapin_machine.specs.Way.{by_machine};
-ghost use Rattle.lapin_joint.specs.Kept.{Kept};
+ghost use Rattle.lapin_joint.specs.JoinedRun.{JoinedRun};
 ghost use Rattle.lapin_joint.specs.Joint.{after, report};
 ghost use Rattle.lapin_joint_text.specs.Reports.{report_tokens};
 ghost use Rattle.lapin_commands.specs.Joined.{PrintsJoined, JoinedGoesOn};
@@ -29,7 +29,7 @@ impl Run for OfJoined {
 
     ghost prints = { λ none input bad text. PrintsJoined input bad text };
 
-    ghost Past = { Kept };
+    ghost Past = { JoinedRun };
 
     ghost stands = { λ past run. past ≡ run };
 

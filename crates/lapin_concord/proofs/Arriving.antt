@@ -3,9 +3,9 @@ use Rattle.std.proofs.Common.{◌≡◌, ℕ, Bool, true, false, cond, not, ◌|
 use Rattle.std.specs.List.{list_any}
 use Rattle.std.proofs.lemmas.List.Folds.{list_any-append}
 use Rattle.std.proofs.lemmas.Bool.Decides.{eqb_tells}
-use Rattle.lapin_history.specs.ConfirmMarks.{ConfirmMark}
-use Rattle.lapin_history.specs.ConfirmMarks as mark
-use Rattle.lapin_history.specs.ConfirmReadings.{is_selected}
+use Rattle.lapin_rules.specs.ConfirmMarks.{ConfirmMark}
+use Rattle.lapin_rules.specs.ConfirmMarks as mark
+use Rattle.lapin_rules.specs.ConfirmReadings.{is_selected}
 use Rattle.lapin_confirm.specs.Follows.{MayCome}
 use Rattle.lapin_pairs.specs.Machine.{Sess, Closed, Opening, Opened, Closing, Crossed, Refused, has_close, state_after}
 use Rattle.lapin_pairs.specs.Channel.{Settle, FCloseOk, FHeader, DownF, BOpenOk, BClose, BCloseOk, BSettle, kind_down, bodies_of, sum_suc, publish_frames}

@@ -3,7 +3,7 @@ use Rattle.std.proofs.Common.{◌≡◌, ℕ, zero, suc, ◌+◌, ◌-◌, ◌<�
 use Rattle.std.proofs.lemmas.List.{take-append-drop}
 use Rattle.lapin_types.specs.Types.frame
 use Rattle.lapin_types.specs.declared.leaving.Publish.{Publish}
-use Rattle.lapin_history.specs.Frames.{behind, rest_of, pieces, cut, room_for_body}
+use Rattle.lapin_rules.specs.Frames.{behind, rest_of, pieces, cut, room_for_body}
 use Rattle.lapin_pairs.specs.Channel.{FHeader, FBody, sum_suc, bodies_of}
 use Rattle.lapin_pairs.specs.Every.{OnU, on_all}
 use Rattle.lapin_pairs.specs.Asking.{Plain, plains}

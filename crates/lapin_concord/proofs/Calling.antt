@@ -15,24 +15,24 @@ use Rattle.lapin_types.specs.Types.frame
 use Rattle.lapin_types.specs.Types.method
 use Rattle.lapin_types.specs.Types.channel
 use Rattle.lapin_content.specs.Channels.{expected_on}
-use Rattle.lapin_inbox.specs.Marks.{InboxMark}
-use Rattle.lapin_history.specs.declared.calls.Asked.{Asked}
-use Rattle.lapin_history.specs.declared.calls.Asked.TheVariants as ask
-use Rattle.lapin_history.specs.declared.phases.Closer.{Closer}
-use Rattle.lapin_history.specs.declared.phases.Closer.TheVariants as closer
-use Rattle.lapin_history.specs.declared.phases.ChannelPhase.{ChannelPhase}
-use Rattle.lapin_history.specs.declared.phases.ChannelPhase.TheVariants as phase
-use Rattle.lapin_history.specs.declared.phases.ConnectionPhase.{ConnectionPhase}
-use Rattle.lapin_history.specs.declared.phases.ConnectionPhase.TheVariants as link
-use Rattle.lapin_history.specs.Words.{is_some, with_channel}
-use Rattle.lapin_history.specs.Phases.{is_up, channel_state}
-use Rattle.lapin_history.specs.Requests.{first_request, is_kind}
-use Rattle.lapin_history.specs.Drops.{is_off, publish_channel}
-use Rattle.lapin_history.specs.Wire.{queued, Wire, phase_of, requests_of, state_of, is_open, is_closed, is_base, with_inbox}
-use Rattle.lapin_history.specs.Calls.{awaited_by}
-use Rattle.lapin_history.specs.Opening.{after_open_call}
-use Rattle.lapin_history.specs.ChannelClose.{own_close}
-use Rattle.lapin_history.specs.Asking.{is_allowed, after_call, asked_wire, after_asking, asking_inbox}
+use Rattle.lapin_delivery.specs.Marks.{DeliveryMark}
+use Rattle.lapin_rules.specs.declared.calls.Asked.{Asked}
+use Rattle.lapin_rules.specs.declared.calls.Asked.TheVariants as ask
+use Rattle.lapin_rules.specs.declared.phases.Closer.{Closer}
+use Rattle.lapin_rules.specs.declared.phases.Closer.TheVariants as closer
+use Rattle.lapin_rules.specs.declared.phases.ChannelPhase.{ChannelPhase}
+use Rattle.lapin_rules.specs.declared.phases.ChannelPhase.TheVariants as phase
+use Rattle.lapin_rules.specs.declared.phases.ConnectionPhase.{ConnectionPhase}
+use Rattle.lapin_rules.specs.declared.phases.ConnectionPhase.TheVariants as link
+use Rattle.lapin_rules.specs.Words.{is_some, with_channel}
+use Rattle.lapin_rules.specs.Phases.{is_up, channel_state}
+use Rattle.lapin_rules.specs.Requests.{first_request, is_kind}
+use Rattle.lapin_rules.specs.Drops.{is_off, publish_channel}
+use Rattle.lapin_rules.specs.Wire.{queued, Wire, phase_of, requests_of, state_of, is_open, is_closed, is_base, with_deliveries}
+use Rattle.lapin_rules.specs.Calls.{awaited_by}
+use Rattle.lapin_rules.specs.Opening.{after_open_call}
+use Rattle.lapin_rules.specs.ChannelClose.{own_close}
+use Rattle.lapin_rules.specs.Asking.{is_allowed, after_call, asked_wire, after_asking, asking_deliveries}
 use Rattle.lapin_broker.specs.States.{Broker}
 use Rattle.lapin_broker.specs.Frames.{client_frame}
 use Rattle.lapin_pairs.specs.Machine.{Up, UClose, UOpen, UOther, UCloseOk, Closed, Opening, Opened, Closing, has_close}
@@ -50,8 +50,8 @@ use Rattle.lapin_concord.proofs.Queueing.{open_is, way-append, methods-push, wai
 
 -- ---- consumers and ackers are no part of the pair
 
-pub held_inbox : (ms : List InboxMark) (b : Wire) → Held b → Held (with_inbox ms b)
-held_inbox ms b h = record { up = λ e. let u = h.up e in record { zero = u.zero; each = u.each; publishes = u.publishes; rest = u.rest }; shut = h.shut; linked = h.linked; rest = h.rest; methods = h.methods }
+pub held_deliveries : (ms : List DeliveryMark) (b : Wire) → Held b → Held (with_deliveries ms b)
+held_deliveries ms b h = record { up = λ e. let u = h.up e in record { zero = u.zero; each = u.each; publishes = u.publishes; rest = u.rest }; shut = h.shut; linked = h.linked; rest = h.rest; methods = h.methods }
 
 -- ---- states
 
@@ -369,8 +369,8 @@ allowed_goes c ask.Nothing b q e a h = absurd cc
 pub goes_none : (b : Wire) → Held b → Goes Untold b b
 goes_none b h = record { held = h; follows = λ br us ds. stays _ _ refl }
 
-pub goes_inbox : (t : Told) (ms : List InboxMark) (b d : Wire) → Goes t b d → Goes t b (with_inbox ms d)
-goes_inbox t ms b d g = record { held = held_inbox ms d g.held; follows = g.follows }
+pub goes_deliveries : (t : Told) (ms : List DeliveryMark) (b d : Wire) → Goes t b d → Goes t b (with_deliveries ms d)
+goes_deliveries t ms b d g = record { held = held_deliveries ms d g.held; follows = g.follows }
 
 pub asked_goes : (c : ℕ) (k : Asked) (b : Wire) (q : QueuesOf c k) → Held b → Goes (told_of c k q b) b (asked_wire c k b)
 asked_goes c k b q h = elim (is_allowed k (state_of c b)) as (λ t. is_allowed k (state_of c b) ≡ t → Goes (cond t (told_asked c k q) Untold) b (cond t (after_call c k b) b)) [
@@ -379,4 +379,4 @@ asked_goes c k b q h = elim (is_allowed k (state_of c b)) as (λ t. is_allowed k
 ] refl
 
 pub call_goes : (c : ℕ) (k : Asked) (b : Wire) (q : QueuesOf c k) → Held b → Goes (told_of c k q b) b (after_asking c k b)
-call_goes c k b q h = goes_inbox (told_of c k q b) (asking_inbox c k b) b (asked_wire c k b) (asked_goes c k b q h)
+call_goes c k b q h = goes_deliveries (told_of c k q b) (asking_deliveries c k b) b (asked_wire c k b) (asked_goes c k b q h)

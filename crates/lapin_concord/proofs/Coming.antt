@@ -8,11 +8,11 @@ use Rattle.lapin_types.specs.declared.leaving.Left.{Left}
 use Rattle.lapin_types.specs.Types.{Frame}
 use Rattle.lapin_content.specs.Contents.{Begun, Expected}
 use Rattle.lapin_content.specs.Channels.{Channels, expected_on, listed, joined, joined_at}
-use Rattle.lapin_history.specs.declared.phases.ChannelPhase.{ChannelPhase}
-use Rattle.lapin_history.specs.declared.phases.ChannelPhase.TheVariants as phase
-use Rattle.lapin_history.specs.declared.phases.ConnectionPhase.TheVariants as link
-use Rattle.lapin_history.specs.Phases.{is_up, channel_state}
-use Rattle.lapin_history.specs.Wire.{Wire, phase_of, requests_of, state_of, receives_on}
+use Rattle.lapin_rules.specs.declared.phases.ChannelPhase.{ChannelPhase}
+use Rattle.lapin_rules.specs.declared.phases.ChannelPhase.TheVariants as phase
+use Rattle.lapin_rules.specs.declared.phases.ConnectionPhase.TheVariants as link
+use Rattle.lapin_rules.specs.Phases.{is_up, channel_state}
+use Rattle.lapin_rules.specs.Wire.{Wire, phase_of, requests_of, state_of, receives_on}
 use Rattle.lapin_broker.specs.States.{Broker}
 use Rattle.lapin_pairs.specs.Machine.{Up, Opened, Closing, DOther, has_close, state_after, is_refused}
 use Rattle.lapin_pairs.specs.Channel as kept

@@ -15,7 +15,7 @@ use Rattle.lapin_broker.specs.Reads.{with_next_number, breaks_in, breaks_open, r
 use Rattle.lapin_pairs.specs.Machine as pair
 use Rattle.lapin_pairs.specs.Channel as kept
 use Rattle.lapin_pairs.specs.Asking.{flat}
-use Rattle.lapin_pairs.specs.Tags.{covers, Book, counted}
+use Rattle.lapin_pairs.specs.Tags.{covers, TagCount, counted}
 use Rattle.lapin_pairs.specs.Tagging.{read_flat3}
 use Rattle.lapin_concord.specs.Peers.{peer_as, content_as, kept_as}
 use Rattle.lapin_concord.specs.Numbering.{IsCount, IsCountIn}
@@ -23,7 +23,7 @@ use Rattle.lapin_concord.proofs.Reading.{small}
 use Rattle.lapin_concord.proofs.Numbering.{numbered_counts}
 
 -- the same count, where what it is of is the same
-pub count_as : (x y : Channel) (k l : Book) → y.selected ≡ x.selected → y.numbers ≡ x.numbers → l.chosen ≡ k.chosen → l.numbered ≡ k.numbered → l.log ≡ k.log → IsCount x k → IsCount y l
+pub count_as : (x y : Channel) (k l : TagCount) → y.selected ≡ x.selected → y.numbers ≡ x.numbers → l.chosen ≡ k.chosen → l.numbered ≡ k.numbered → l.log ≡ k.log → IsCount x k → IsCount y l
 count_as x y k l s n c m g h = record {
   chosen = c ∙ (h.chosen ∙ sym s);
   count = ap length m ∙ (h.count ∙ sym (ap length n));
@@ -32,17 +32,17 @@ count_as x y k l s n c m g h = record {
   none = λ e. n ∙ h.none (sym s ∙ e);
 }
 
-pub counts_in : (p : Peer) (x : Channel) (k l : Book) → x.peer ≡ p → l ≡ k → IsCountIn p x k → IsCountIn x.peer x l
+pub counts_in : (p : Peer) (x : Channel) (k l : TagCount) → x.peer ≡ p → l ≡ k → IsCountIn p x k → IsCountIn x.peer x l
 counts_in p x k l e f h = subst (λ q. IsCountIn q x l) (sym e) (subst (IsCountIn p x) (sym f) h)
 
 -- the pair's count of a channel in that state, once the frame was read while no content was
-abbrev book_by : Channel → Book → ClientFrame → pair.Peer → Book
-book_by x k u q = (read_flat3 (record { base = record { peer = q; kept = kept_as x; reading = Some kept.Idle }; book = k }) (flat (small u))).book
+abbrev tag_count_by : Channel → TagCount → ClientFrame → pair.Peer → TagCount
+tag_count_by x k u q = (read_flat3 (record { base = record { peer = q; kept = kept_as x; reading = Some kept.Idle }; tag_count = k }) (flat (small u))).tag_count
 
-in_state : (p : Peer) (x : Channel) (k : Book) (u : ClientFrame) → x.peer ≡ p → book_by x k u (peer_as x.peer) ≡ book_by x k u (peer_as p)
-in_state p x k u e = ap (book_by x k u) (ap peer_as e)
+in_state : (p : Peer) (x : Channel) (k : TagCount) (u : ClientFrame) → x.peer ≡ p → tag_count_by x k u (peer_as x.peer) ≡ tag_count_by x k u (peer_as p)
+in_state p x k u e = ap (tag_count_by x k u) (ap peer_as e)
 
-open_counts : (f : Frame) (x : Channel) (k : Book) (u : ClientFrame) → x.peer ≡ peer.Open → breaks_open u ≡ false → IsCount x k → IsCountIn (read_open f x u).peer (read_open f x u) (book_by x k u (peer_as x.peer))
+open_counts : (f : Frame) (x : Channel) (k : TagCount) (u : ClientFrame) → x.peer ≡ peer.Open → breaks_open u ≡ false → IsCount x k → IsCountIn (read_open f x u).peer (read_open f x u) (tag_count_by x k u (peer_as x.peer))
 open_counts f x k client.Close e b h = subst (IsCount (read_open f x client.Close)) (sym (in_state peer.Open x k client.Close e)) (count_as x (record x { peer = peer.Leaving }) k k refl refl refl refl refl h)
 open_counts f x k client.Publish e b h = counts_in peer.Open x (record k { current = 0 }) _ e (in_state peer.Open x k client.Publish e) (count_as x x k (record k { current = 0 }) refl refl refl refl refl h)
 open_counts f x k (client.Select true) e b h = counts_in peer.Open (read_open f x (client.Select true)) (record k { chosen = true }) _ e (in_state peer.Open x k (client.Select true) e) (record { chosen = refl; count = h.count; open_ = h.open_; low = h.low; none = λ n. cc })
@@ -54,7 +54,7 @@ open_counts f x k client.Tell e b h = counts_in peer.Open x k _ e (in_state peer
 open_counts f x k _ e b h = cc
 
 -- a frame that doesn't break its channel, while no content is being read
-pub read_counts : (p : Peer) (f : Frame) (x : Channel) (k : Book) (u : ClientFrame) → x.peer ≡ p → breaks_in p u ≡ false → IsCountIn p x k → IsCountIn (read_in p f x u).peer (read_in p f x u) (book_by x k u (peer_as x.peer))
+pub read_counts : (p : Peer) (f : Frame) (x : Channel) (k : TagCount) (u : ClientFrame) → x.peer ≡ p → breaks_in p u ≡ false → IsCountIn p x k → IsCountIn (read_in p f x u).peer (read_in p f x u) (tag_count_by x k u (peer_as x.peer))
 read_counts peer.Open f x k u e b h = open_counts f x k u e b h
 read_counts peer.Free f x k client.Open e b h = subst (IsCount (record x { peer = peer.Asked })) (sym (in_state peer.Free x k client.Open e)) (record { chosen = sym h.0; count = sym (ap length h.1); open_ = λ i u y. refl; low = λ i lt. refl; none = λ _. h.1 })
 read_counts peer.Free f x k _ e b h = cc
@@ -74,7 +74,7 @@ read_counts peer.StoppingAnswered f x k (client.Select false) e b h = counts_in 
 read_counts peer.StoppingAnswered f x k u e b h = counts_in peer.StoppingAnswered x k _ e (in_state peer.StoppingAnswered x k u e) h
 
 -- a piece of a content: what came whole takes its number in both
-pub piece_counts : (x : Channel) (k : Book) (v : Content) → IsCount x k → IsCount (cond (is_idle v) (with_next_number x) x) (counted k (Some (content_as v)))
+pub piece_counts : (x : Channel) (k : TagCount) (v : Content) → IsCount x k → IsCount (cond (is_idle v) (with_next_number x) x) (counted k (Some (content_as v)))
 piece_counts x k content.Idle h = numbered_counts x k h
 piece_counts x k content.Begun h = h
 piece_counts x k (content.Left n) h = h

@@ -21,31 +21,31 @@ use Rattle.lapin_types.specs.Types.basic
 use Rattle.lapin_types.specs.Types.confirm
 use Rattle.lapin_types.specs.Types.tx
 use Rattle.lapin_content.specs.Channels.{expected_on}
-use Rattle.lapin_inbox.specs.Marks.{InboxMark}
-use Rattle.lapin_history.specs.declared.marks.Settlement.{Settlement}
-use Rattle.lapin_history.specs.declared.phases.Closer.TheVariants as closer
-use Rattle.lapin_history.specs.declared.phases.ChannelPhase.{ChannelPhase}
-use Rattle.lapin_history.specs.declared.phases.ChannelPhase.TheVariants as phase
-use Rattle.lapin_history.specs.declared.phases.ConnectionPhase.{ConnectionPhase}
-use Rattle.lapin_history.specs.declared.phases.ConnectionPhase.TheVariants as link
-use Rattle.lapin_history.specs.declared.broker_frames.ContentPart.{ContentPart}
-use Rattle.lapin_history.specs.declared.broker_frames.ContentPart.TheVariants as part
-use Rattle.lapin_history.specs.declared.broker_frames.ConsumerPart.{ConsumerPart}
-use Rattle.lapin_history.specs.declared.broker_frames.ConsumerPart.TheVariants as consumer
-use Rattle.lapin_history.specs.declared.broker_frames.Incoming.{Incoming}
-use Rattle.lapin_history.specs.declared.broker_frames.Incoming.TheVariants as incoming
-use Rattle.lapin_history.specs.Words.{with_channel}
-use Rattle.lapin_history.specs.Phases.{is_up, channel_state}
-use Rattle.lapin_history.specs.Readings.{Readings}
-use Rattle.lapin_history.specs.Wire.{Wire, phase_of, requests_of, state_of, is_open, receives_on, noted, with_inbox}
-use Rattle.lapin_history.specs.Incoming.{incoming_method, incoming_of}
-use Rattle.lapin_history.specs.ChannelClose.{closing, receives_close, receives_close_ok}
-use Rattle.lapin_history.specs.Consumers.{after_cancel}
-use Rattle.lapin_history.specs.Settlement.{settlement_record, session_close, after_failed_on}
-use Rattle.lapin_history.specs.Reply.{receives_reply, after_reply}
-use Rattle.lapin_history.specs.Flow.{after_flow}
-use Rattle.lapin_history.specs.Receiving.{when, incoming_up, incoming_record, after_received, incoming_wire, incoming_inbox, after_incoming}
-use Rattle.lapin_history.specs.ConnectionClose.{receives_down}
+use Rattle.lapin_delivery.specs.Marks.{DeliveryMark}
+use Rattle.lapin_rules.specs.declared.marks.Settlement.{Settlement}
+use Rattle.lapin_rules.specs.declared.phases.Closer.TheVariants as closer
+use Rattle.lapin_rules.specs.declared.phases.ChannelPhase.{ChannelPhase}
+use Rattle.lapin_rules.specs.declared.phases.ChannelPhase.TheVariants as phase
+use Rattle.lapin_rules.specs.declared.phases.ConnectionPhase.{ConnectionPhase}
+use Rattle.lapin_rules.specs.declared.phases.ConnectionPhase.TheVariants as link
+use Rattle.lapin_rules.specs.declared.broker_frames.ContentPart.{ContentPart}
+use Rattle.lapin_rules.specs.declared.broker_frames.ContentPart.TheVariants as part
+use Rattle.lapin_rules.specs.declared.broker_frames.ConsumerPart.{ConsumerPart}
+use Rattle.lapin_rules.specs.declared.broker_frames.ConsumerPart.TheVariants as consumer
+use Rattle.lapin_rules.specs.declared.broker_frames.Incoming.{Incoming}
+use Rattle.lapin_rules.specs.declared.broker_frames.Incoming.TheVariants as incoming
+use Rattle.lapin_rules.specs.Words.{with_channel}
+use Rattle.lapin_rules.specs.Phases.{is_up, channel_state}
+use Rattle.lapin_rules.specs.Readings.{Readings}
+use Rattle.lapin_rules.specs.Wire.{Wire, phase_of, requests_of, state_of, is_open, receives_on, noted, with_deliveries}
+use Rattle.lapin_rules.specs.Incoming.{incoming_method, incoming_of}
+use Rattle.lapin_rules.specs.ChannelClose.{closing, receives_close, receives_close_ok}
+use Rattle.lapin_rules.specs.Consumers.{after_cancel}
+use Rattle.lapin_rules.specs.Settlement.{settlement_record, session_close, after_failed_on}
+use Rattle.lapin_rules.specs.Reply.{receives_reply, after_reply}
+use Rattle.lapin_rules.specs.Flow.{after_flow}
+use Rattle.lapin_rules.specs.Receiving.{when, incoming_up, incoming_record, after_received, incoming_wire, incoming_deliveries, after_incoming}
+use Rattle.lapin_rules.specs.ConnectionClose.{receives_down}
 use Rattle.lapin_broker.specs.States.{Broker}
 use Rattle.lapin_broker.specs.Frames.{broker_frame}
 use Rattle.lapin_pairs.specs.Machine.{DOther, has_close, state_after, is_refused}
@@ -61,7 +61,7 @@ use Rattle.lapin_concord.specs.Refusals.{is_refusal, IsSettled, IsGivenAs}
 use Rattle.lapin_concord.proofs.Views.{J, j_keeps, Untold, told_call, Follows, then, phase_at, phase_with, phase_away, Same, held_moved}
 use Rattle.lapin_concord.proofs.Queues.{tells, Queues}
 use Rattle.lapin_concord.proofs.Queueing.{open_is, Queued, queued_held, queued_follows}
-use Rattle.lapin_concord.proofs.Calling.{held_inbox, above, closes_goes}
+use Rattle.lapin_concord.proofs.Calling.{held_deliveries, above, closes_goes}
 use Rattle.lapin_concord.proofs.Incomes.{sorted}
 use Rattle.lapin_concord.proofs.Coming.{Let, let_of, Others, others_only, above_zero, state_here, Comes, deliver_to, Receives, received}
 use Rattle.lapin_concord.proofs.Hearing.{replies, reply_comes, start_comes, get_comes, header_comes, body_comes, open_only, open_comes}
@@ -75,13 +75,13 @@ pub record Delivered (b : Wire) (see : Readings) (r : Record) (f : Frame) (i : I
   pub fine : IsSettled see i → is_refusal (incoming_record b see r i) ≡ false
   pub comes : Comes b (after_incoming i (incoming_record b see r i) b) f br us ds
 
-comes_inbox : (ms : List InboxMark) (b d : Wire) (f : Frame) (br : Broker) (us : List Left) (ds : List Frame) → Comes b d f br us ds → Comes b (with_inbox ms d) f br us ds
-comes_inbox ms b d f br us ds c = record { held = held_inbox ms d c.held; follows = c.follows }
+comes_deliveries : (ms : List DeliveryMark) (b d : Wire) (f : Frame) (br : Broker) (us : List Left) (ds : List Frame) → Comes b d f br us ds → Comes b (with_deliveries ms d) f br us ds
+comes_deliveries ms b d f br us ds c = record { held = held_deliveries ms d c.held; follows = c.follows }
 
 delivered_by : (b : Wire) (see : Readings) (r t : Record) (f : Frame) (i : Incoming) (br : Broker) (us : List Left) (ds : List Frame) → incoming_record b see r i ≡ t → (IsSettled see i → is_refusal t ≡ false) → Comes b (incoming_wire i t b) f br us ds → Delivered b see r f i br us ds
 delivered_by b see r t f i br us ds e n c = record {
   fine = λ s. ap is_refusal e ∙ n s;
-  comes = subst (λ x. Comes b (after_incoming i x b) f br us ds) (sym e) (comes_inbox (incoming_inbox i t b) b (incoming_wire i t b) f br us ds c);
+  comes = subst (λ x. Comes b (after_incoming i x b) f br us ds) (sym e) (comes_deliveries (incoming_deliveries i t b) b (incoming_wire i t b) f br us ds c);
 }
 
 open_state : (p : ChannelPhase) → is_open (channel_state p) ≡ is_open_phase p

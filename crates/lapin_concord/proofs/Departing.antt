@@ -15,14 +15,14 @@ use Rattle.lapin_types.specs.Types.connection
 use Rattle.lapin_types.specs.Types.exchange
 use Rattle.lapin_types.specs.Types.queue
 use Rattle.lapin_types.specs.Types.tx
-use Rattle.lapin_history.specs.ConfirmMarks.{ConfirmMark}
-use Rattle.lapin_history.specs.ConfirmMarks as mark
-use Rattle.lapin_history.specs.Frames.{MethodEntry, RestEntry, left_publish}
-use Rattle.lapin_history.specs.Leaving.{may_begin, handed_of}
-use Rattle.lapin_history.specs.Handing.{left_marks}
-use Rattle.lapin_history.specs.Phases.{is_up}
-use Rattle.lapin_history.specs.Select as history
-use Rattle.lapin_history.specs.Wire.{Wire, phase_of}
+use Rattle.lapin_rules.specs.ConfirmMarks.{ConfirmMark}
+use Rattle.lapin_rules.specs.ConfirmMarks as mark
+use Rattle.lapin_rules.specs.Frames.{MethodEntry, RestEntry, left_publish}
+use Rattle.lapin_rules.specs.Leaving.{may_begin, handed_of}
+use Rattle.lapin_rules.specs.Handing.{left_marks}
+use Rattle.lapin_rules.specs.Phases.{is_up}
+use Rattle.lapin_rules.specs.Select as history
+use Rattle.lapin_rules.specs.Wire.{Wire, phase_of}
 use Rattle.lapin_confirm.specs.Follows.{MayCome, CameAfter}
 use Rattle.lapin_broker.specs.declared.request.RequestKind.{RequestKind}
 use Rattle.lapin_broker.specs.declared.frames.ClientFrame.{ClientFrame}

@@ -6,14 +6,14 @@ use Rattle.lapin_types.specs.declared.request.ReplyKind.TheVariants as reply_kin
 use Rattle.lapin_types.specs.Types.{Frame}
 use Rattle.lapin_types.specs.Types.method
 use Rattle.lapin_types.specs.Types.connection
-use Rattle.lapin_history.specs.declared.phases.ConnectionPhase.{ConnectionPhase}
-use Rattle.lapin_history.specs.declared.phases.ConnectionPhase.TheVariants as link
-use Rattle.lapin_history.specs.Phases.{is_up, is_lost}
-use Rattle.lapin_history.specs.Requests.{without_kind}
-use Rattle.lapin_history.specs.Wire.{Wire, lists_of, with_lists}
-use Rattle.lapin_history.specs.ConnectionClose.{after_connection_close, unless_sent, has_sent, after_connection_close_ok}
-use Rattle.lapin_history.specs.Loss.{after_lost}
-use Rattle.lapin_history.specs.Ends.{down}
+use Rattle.lapin_rules.specs.declared.phases.ConnectionPhase.{ConnectionPhase}
+use Rattle.lapin_rules.specs.declared.phases.ConnectionPhase.TheVariants as link
+use Rattle.lapin_rules.specs.Phases.{is_up, is_lost}
+use Rattle.lapin_rules.specs.Requests.{without_kind}
+use Rattle.lapin_rules.specs.Wire.{Wire, lists_of, with_lists}
+use Rattle.lapin_rules.specs.ConnectionClose.{after_connection_close, unless_sent, has_sent, after_connection_close_ok}
+use Rattle.lapin_rules.specs.Loss.{after_lost}
+use Rattle.lapin_rules.specs.Ends.{down}
 use Rattle.lapin_broker.specs.States.{Broker, after_loss}
 use Rattle.lapin_broker.specs.declared.peer.Connection.{Connection}
 use Rattle.lapin_broker.specs.declared.peer.Connection.TheVariants as connection_

@@ -19,15 +19,15 @@ use Rattle.lapin_types.specs.Types.basic
 use Rattle.lapin_types.specs.Types.confirm
 use Rattle.lapin_types.specs.Types.tx
 use Rattle.lapin_content.specs.Channels.{expected_on}
-use Rattle.lapin_history.specs.declared.phases.ChannelPhase.{ChannelPhase}
-use Rattle.lapin_history.specs.declared.phases.ChannelPhase.TheVariants as phase
-use Rattle.lapin_history.specs.declared.phases.ConnectionPhase.TheVariants as link
-use Rattle.lapin_history.specs.Phases.{is_up, channel_state}
-use Rattle.lapin_history.specs.Requests.{same_kind, is_kind, first_request, without_kind, close_alone, request_alone, no_requests}
-use Rattle.lapin_history.specs.Frames.{MethodEntry, RestEntry}
-use Rattle.lapin_history.specs.Drops.{frame_channel, is_off, is_rest_of, method_channel}
-use Rattle.lapin_history.specs.Wire.{Wire, phase_of, requests_of, state_of}
-use Rattle.lapin_history.specs.ChannelClose.{has_sent_close, receives_close, receives_close_ok, after_broker_close, kept_at, after_channel_close, after_close_ok}
+use Rattle.lapin_rules.specs.declared.phases.ChannelPhase.{ChannelPhase}
+use Rattle.lapin_rules.specs.declared.phases.ChannelPhase.TheVariants as phase
+use Rattle.lapin_rules.specs.declared.phases.ConnectionPhase.TheVariants as link
+use Rattle.lapin_rules.specs.Phases.{is_up, channel_state}
+use Rattle.lapin_rules.specs.Requests.{same_kind, is_kind, first_request, without_kind, close_alone, request_alone, no_requests}
+use Rattle.lapin_rules.specs.Frames.{MethodEntry, RestEntry}
+use Rattle.lapin_rules.specs.Drops.{frame_channel, is_off, is_rest_of, method_channel}
+use Rattle.lapin_rules.specs.Wire.{Wire, phase_of, requests_of, state_of}
+use Rattle.lapin_rules.specs.ChannelClose.{has_sent_close, receives_close, receives_close_ok, after_broker_close, kept_at, after_channel_close, after_close_ok}
 use Rattle.lapin_broker.specs.States.{Broker}
 use Rattle.lapin_broker.specs.declared.frames.ClientFrame.{ClientFrame}
 use Rattle.lapin_broker.specs.declared.frames.ClientFrame.TheVariants as client

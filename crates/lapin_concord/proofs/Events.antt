@@ -13,37 +13,37 @@ use Rattle.lapin_types.specs.declared.request.Reply.TheVariants as reply
 use Rattle.lapin_types.specs.Types.{Error}
 use Rattle.lapin_types.specs.Types.error
 use Rattle.lapin_types.specs.Types.channel_state as state
-use Rattle.lapin_consumer.specs.Roster.{Consumer, consumer_at, is_idle}
-use Rattle.lapin_history.specs.declared.calls.Asked.{Asked}
-use Rattle.lapin_history.specs.declared.calls.Asked.TheVariants as ask
-use Rattle.lapin_history.specs.declared.phases.ChannelPhase.{ChannelPhase}
-use Rattle.lapin_history.specs.declared.phases.ChannelPhase.TheVariants as phase
-use Rattle.lapin_history.specs.declared.phases.ConnectionPhase.{ConnectionPhase}
-use Rattle.lapin_history.specs.declared.phases.ConnectionPhase.TheVariants as link
-use Rattle.lapin_history.specs.declared.broker_frames.ContentPart.TheVariants as part
-use Rattle.lapin_history.specs.declared.broker_frames.ConsumerPart.TheVariants as consumer
-use Rattle.lapin_history.specs.declared.broker_frames.Incoming.{Incoming}
-use Rattle.lapin_history.specs.declared.broker_frames.Incoming.TheVariants as incoming
-use Rattle.lapin_history.specs.Phases.{is_up, is_lost, channel_state}
-use Rattle.lapin_history.specs.Wire.{Wire, phase_of, requests_of, state_of, is_open, with_inbox}
-use Rattle.lapin_history.specs.Calls.{asked}
-use Rattle.lapin_history.specs.Asking.{is_outstanding, asked_by, is_allowed, after_call, asked_wire, after_asking}
-use Rattle.lapin_history.specs.Calls.{is_try}
-use Rattle.lapin_history.specs.Ackers.{acker_asked, usable_at, acked_wire, acker_inbox, after_acker}
-use Rattle.lapin_history.specs.Consumers.{lets_go_of, let_go_cancel, cancel_noted, after_let_go, after_drop, drop_inbox}
-use Rattle.lapin_history.specs.Handing.{handed_out, frame_record, after_next, began_on, handed_as}
-use Rattle.lapin_history.specs.Handing as handing
-use Rattle.lapin_history.specs.ChannelClose.{after_close_ok}
-use Rattle.lapin_history.specs.ConnectionClose.{after_connection_close}
-use Rattle.lapin_history.specs.Receiving.{after_received, after_failed, after_refused, incoming_wire}
-use Rattle.lapin_history.specs.Incoming.{incoming_of}
-use Rattle.lapin_history.specs.Events.{after_event}
+use Rattle.lapin_consumer.specs.Subscriptions.{Consumer, consumer_at, is_idle}
+use Rattle.lapin_rules.specs.declared.calls.Asked.{Asked}
+use Rattle.lapin_rules.specs.declared.calls.Asked.TheVariants as ask
+use Rattle.lapin_rules.specs.declared.phases.ChannelPhase.{ChannelPhase}
+use Rattle.lapin_rules.specs.declared.phases.ChannelPhase.TheVariants as phase
+use Rattle.lapin_rules.specs.declared.phases.ConnectionPhase.{ConnectionPhase}
+use Rattle.lapin_rules.specs.declared.phases.ConnectionPhase.TheVariants as link
+use Rattle.lapin_rules.specs.declared.broker_frames.ContentPart.TheVariants as part
+use Rattle.lapin_rules.specs.declared.broker_frames.ConsumerPart.TheVariants as consumer
+use Rattle.lapin_rules.specs.declared.broker_frames.Incoming.{Incoming}
+use Rattle.lapin_rules.specs.declared.broker_frames.Incoming.TheVariants as incoming
+use Rattle.lapin_rules.specs.Phases.{is_up, is_lost, channel_state}
+use Rattle.lapin_rules.specs.Wire.{Wire, phase_of, requests_of, state_of, is_open, with_deliveries}
+use Rattle.lapin_rules.specs.Calls.{asked}
+use Rattle.lapin_rules.specs.Asking.{is_outstanding, asked_by, is_allowed, after_call, asked_wire, after_asking}
+use Rattle.lapin_rules.specs.Calls.{is_try}
+use Rattle.lapin_rules.specs.Ackers.{acker_asked, usable_at, acked_wire, acker_deliveries, after_acker}
+use Rattle.lapin_rules.specs.Consumers.{lets_go_of, let_go_cancel, cancel_noted, after_let_go, after_drop, drop_deliveries}
+use Rattle.lapin_rules.specs.Handing.{handed_out, frame_record, after_next, began_on, handed_as}
+use Rattle.lapin_rules.specs.Handing as handing
+use Rattle.lapin_rules.specs.ChannelClose.{after_close_ok}
+use Rattle.lapin_rules.specs.ConnectionClose.{after_connection_close}
+use Rattle.lapin_rules.specs.Receiving.{after_received, after_failed, after_refused, incoming_wire}
+use Rattle.lapin_rules.specs.Incoming.{incoming_of}
+use Rattle.lapin_rules.specs.Events.{after_event}
 use Rattle.lapin_concord.specs.Wires.{asked_in}
 use Rattle.lapin_concord.specs.Held.{Held}
 use Rattle.lapin_concord.proofs.Views.{Untold, requests_with_here, requests_away}
 use Rattle.lapin_concord.proofs.Queues.{tells, asks, asked-push, Queues, QueuesOf, queues}
 use Rattle.lapin_concord.proofs.Queueing.{Queued, queued_held, queued_follows}
-use Rattle.lapin_concord.proofs.Calling.{told_of, opened_here, Goes, goes_none, goes_inbox, asked_goes, call_goes}
+use Rattle.lapin_concord.proofs.Calling.{told_of, opened_here, Goes, goes_none, goes_deliveries, asked_goes, call_goes}
 
 -- ---- calls
 
@@ -74,7 +74,7 @@ acker_goes None k b h = goes_none b h
 acker_goes (Some x) k b h = subst (λ t. Goes t b (acked_wire (Some x) k b)) (acker_quiet x.0 k x.1 b) (asked_goes x.0 (acker_asked k x.1) b (acker_queues x.0 k x.1) h)
 
 pub acker_event : (n : ℕ) (k : AckerCall) (b : Wire) → Held b → Goes Untold b (after_acker n k b)
-acker_event n k b h = goes_inbox Untold (acker_inbox n k b) b (acked_wire (usable_at n b) k b) (acker_goes (usable_at n b) k b h)
+acker_event n k b h = goes_deliveries Untold (acker_deliveries n k b) b (acked_wire (usable_at n b) k b) (acker_goes (usable_at n b) k b h)
 
 -- ---- a consumer is let go
 
@@ -118,8 +118,8 @@ let_go_goes (Some x) b h = by_state (lets_go_of x b) refl
     by_state true e = subst (λ d. Goes Untold b d) (sym (ap (λ t. cond t (cancel_noted x b) b) e)) (cancel_goes x b (right (is_idle x) (is_open (state_of x.channel b)) e) h)
     by_state false e = subst (λ d. Goes Untold b d) (sym (ap (λ t. cond t (cancel_noted x b) b) e)) (goes_none b h)
 
-pub drop_event : (n : ℕ) (b : Wire) → Held b → Goes Untold b (with_inbox (drop_inbox n b) (after_drop n b))
-drop_event n b h = goes_inbox Untold (drop_inbox n b) b (after_drop n b) (let_go_goes (consumer_at n b.inbox.roster) b h)
+pub drop_event : (n : ℕ) (b : Wire) → Held b → Goes Untold b (with_deliveries (drop_deliveries n b) (after_drop n b))
+drop_event n b h = goes_deliveries Untold (drop_deliveries n b) b (after_drop n b) (let_go_goes (consumer_at n b.deliveries.subscriptions) b h)
 
 -- ---- the greatest frame
 
@@ -210,7 +210,7 @@ max_kept b (event.AsideTicket n) r = refl
 max_kept b (event.AsideConfirm n) r = refl
 max_kept b (event.Acker n k) r = max_acked (usable_at n b) k b
 max_kept b (event.Delegate n) r = refl
-max_kept b (event.DropConsumer n) r = max_let_go (consumer_at n b.inbox.roster) b
+max_kept b (event.DropConsumer n) r = max_let_go (consumer_at n b.deliveries.subscriptions) b
 max_kept b event.NextJob r = refl
 max_kept b (event.State c) r = refl
 max_kept b event.Lost r = max_cond (is_lost b.link) b _ b.frame_max refl refl

@@ -12,10 +12,10 @@ use Rattle.lapin_types.specs.Types.queue
 use Rattle.lapin_types.specs.Types.basic
 use Rattle.lapin_types.specs.Types.confirm
 use Rattle.lapin_types.specs.Types.tx
-use Rattle.lapin_history.specs.declared.phases.ChannelPhase.{ChannelPhase}
-use Rattle.lapin_history.specs.declared.phases.ConnectionPhase.{ConnectionPhase}
-use Rattle.lapin_history.specs.ChannelClose.{close_sent, phases_sent}
-use Rattle.lapin_history.specs.ConnectionClose.{link_close_sent, link_sent}
+use Rattle.lapin_rules.specs.declared.phases.ChannelPhase.{ChannelPhase}
+use Rattle.lapin_rules.specs.declared.phases.ConnectionPhase.{ConnectionPhase}
+use Rattle.lapin_rules.specs.ChannelClose.{close_sent, phases_sent}
+use Rattle.lapin_rules.specs.ConnectionClose.{link_close_sent, link_sent}
 use Rattle.lapin_broker.specs.Frames.{channel_of, client_frame, ask_unless, client_exchange, client_queue, client_basic, client_confirm, client_tx}
 use Rattle.lapin_broker.specs.declared.frames.ClientFrame.{ClientFrame}
 use Rattle.lapin_broker.specs.declared.frames.ClientFrame.TheVariants as client

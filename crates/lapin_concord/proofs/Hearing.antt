@@ -11,16 +11,16 @@ use Rattle.lapin_methods.specs.declared.frame.ContentHeader.{ContentHeader}
 use Rattle.lapin_content.specs.declared.start.Start.{Start}
 use Rattle.lapin_content.specs.Contents.{Begun, Expected, expected, after_header, after_body, front_waits, front_takes, for_ticket}
 use Rattle.lapin_content.specs.Channels.{Channels, expected_on, joined}
-use Rattle.lapin_history.specs.declared.phases.ChannelPhase.{ChannelPhase}
-use Rattle.lapin_history.specs.declared.phases.ChannelPhase.TheVariants as phase
-use Rattle.lapin_history.specs.declared.phases.ConnectionPhase.TheVariants as link
-use Rattle.lapin_history.specs.Words.{without_first}
-use Rattle.lapin_history.specs.Phases.{channel_state}
-use Rattle.lapin_history.specs.Requests.{is_kind}
-use Rattle.lapin_history.specs.Wire.{Wire, phase_of, requests_of, state_of, receives_on}
-use Rattle.lapin_history.specs.Opening.{opens}
-use Rattle.lapin_history.specs.Reply.{receives, receives_reply, after_reply}
-use Rattle.lapin_history.specs.Content.{expecting, get_ticket, after_get_ok}
+use Rattle.lapin_rules.specs.declared.phases.ChannelPhase.{ChannelPhase}
+use Rattle.lapin_rules.specs.declared.phases.ChannelPhase.TheVariants as phase
+use Rattle.lapin_rules.specs.declared.phases.ConnectionPhase.TheVariants as link
+use Rattle.lapin_rules.specs.Words.{without_first}
+use Rattle.lapin_rules.specs.Phases.{channel_state}
+use Rattle.lapin_rules.specs.Requests.{is_kind}
+use Rattle.lapin_rules.specs.Wire.{Wire, phase_of, requests_of, state_of, receives_on}
+use Rattle.lapin_rules.specs.Opening.{opens}
+use Rattle.lapin_rules.specs.Reply.{receives, receives_reply, after_reply}
+use Rattle.lapin_rules.specs.Content.{expecting, get_ticket, after_get_ok}
 use Rattle.lapin_broker.specs.States.{Broker}
 use Rattle.lapin_pairs.specs.Machine.{Up, DOpenOk, has_close, state_after, is_refused}
 use Rattle.lapin_pairs.specs.Channel as kept

@@ -6,10 +6,10 @@ use Rattle.lapin_broker.specs.States.{Broker, is_broken as is_broken_broker}
 use Rattle.lapin_joint.specs.declared.step.Step.{Step}
 use Rattle.lapin_joint.specs.Joint.{Joint, new_joint, after, run, joined, joined_to}
 use Rattle.lapin_machine.specs.Way.{by_machine, by_history}
-use Rattle.lapin_joint.specs.Kept.{AreAlike}
+use Rattle.lapin_joint.specs.JoinedRun.{AreAlike}
 use Rattle.lapin_joint.proofs.Alike.{unreturned-next, alike-next, new_alike, reports_joined}
-use Rattle.lapin_history.specs.History.{History}
-use Rattle.lapin_history.specs.ConfirmReadings.{has_left, channel_of as channel_of_publish, tag_of as tag_of_publish}
+use Rattle.lapin_rules.specs.History.{History}
+use Rattle.lapin_rules.specs.ConfirmReadings.{has_left, channel_of as channel_of_publish, tag_of as tag_of_publish}
 use Rattle.lapin_concord.specs.Openings.{opening_of, confirms_in}
 use Rattle.lapin_concord.proofs.Tags.{tags_differ}
 use Rattle.lapin_concord.specs.Refusals.{reports_refusal}
@@ -31,4 +31,4 @@ none_refused n ts r = ap (list_any reports_refusal) (sym (reports_joined n ts)) 
 pub tags_in : (n : ℕ) (ts : List Step) (k l t : ℕ) → has_left k (confirms_in n ts) ≡ true → has_left l (confirms_in n ts) ≡ true → channel_of_publish k (confirms_in n ts) ≡ channel_of_publish l (confirms_in n ts) → opening_of k (confirms_in n ts) ≡ opening_of l (confirms_in n ts) → tag_of_publish k (confirms_in n ts) ≡ Some t → tag_of_publish l (confirms_in n ts) ≡ Some t → k ≡ l
 tags_in n ts k l t =
     let a = alike_run n ts (new_joint [] n) (new_joint (new_world n) n) refl (new_alike n) in
-    tags_differ k l t (confirms_in n ts) a.session.confirms.post.came
+    tags_differ k l t (confirms_in n ts) a.session.confirms.confirm_state.came

@@ -11,19 +11,19 @@ use Rattle.lapin_types.specs.declared.request.Request.{Request}
 use Rattle.lapin_types.specs.Types.{Frame}
 use Rattle.lapin_types.specs.Types.frame
 use Rattle.lapin_content.specs.Channels.{Channels, expected_on}
-use Rattle.lapin_history.specs.declared.phases.ChannelPhase.{ChannelPhase}
-use Rattle.lapin_history.specs.declared.phases.ChannelPhase.TheVariants as phase
-use Rattle.lapin_history.specs.declared.phases.ConnectionPhase.{ConnectionPhase}
-use Rattle.lapin_history.specs.declared.phases.ConnectionPhase.TheVariants as link
-use Rattle.lapin_history.specs.Words.{without_first}
-use Rattle.lapin_history.specs.Phases.{is_up}
-use Rattle.lapin_history.specs.ChannelClose.{close_sent, phases_sent}
-use Rattle.lapin_history.specs.ConnectionClose.{link_close_sent, link_sent}
-use Rattle.lapin_history.specs.Drops.{frame_channel}
-use Rattle.lapin_history.specs.Frames.{MethodEntry, RestEntry, rest_of, left_rest, left_method, left_publish}
-use Rattle.lapin_history.specs.Leaving.{may_begin, begun_rest, handed_of, left_of, left_lists}
-use Rattle.lapin_history.specs.Handing.{handed_out, began_on, frame_record, sent, after_handing, after_next}
-use Rattle.lapin_history.specs.Wire.{Wire, phase_of, requests_of, lists_of, with_lists}
+use Rattle.lapin_rules.specs.declared.phases.ChannelPhase.{ChannelPhase}
+use Rattle.lapin_rules.specs.declared.phases.ChannelPhase.TheVariants as phase
+use Rattle.lapin_rules.specs.declared.phases.ConnectionPhase.{ConnectionPhase}
+use Rattle.lapin_rules.specs.declared.phases.ConnectionPhase.TheVariants as link
+use Rattle.lapin_rules.specs.Words.{without_first}
+use Rattle.lapin_rules.specs.Phases.{is_up}
+use Rattle.lapin_rules.specs.ChannelClose.{close_sent, phases_sent}
+use Rattle.lapin_rules.specs.ConnectionClose.{link_close_sent, link_sent}
+use Rattle.lapin_rules.specs.Drops.{frame_channel}
+use Rattle.lapin_rules.specs.Frames.{MethodEntry, RestEntry, rest_of, left_rest, left_method, left_publish}
+use Rattle.lapin_rules.specs.Leaving.{may_begin, begun_rest, handed_of, left_of, left_lists}
+use Rattle.lapin_rules.specs.Handing.{handed_out, began_on, frame_record, sent, after_handing, after_next}
+use Rattle.lapin_rules.specs.Wire.{Wire, phase_of, requests_of, lists_of, with_lists}
 use Rattle.lapin_machine.proofs.Handed.{handed_told, left_told}
 use Rattle.lapin_broker.specs.States.{Broker}
 use Rattle.lapin_broker.specs.Frames.{client_frame}

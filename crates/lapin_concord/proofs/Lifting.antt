@@ -26,7 +26,7 @@ tagged_step LoseA = LoseA
 
 -- where a frame is sent, its count allows it
 abbrev pub IsAllowed : All tagging → StepA asking → Type 0
-IsAllowed t (SendA (ToD c d)) = may_settle (t.sides c).book d ≡ true
+IsAllowed t (SendA (ToD c d)) = may_settle (t.sides c).tag_count d ≡ true
 IsAllowed t _ = Unit {0}
 
 put_base : (c : ℕ) (s : S3) (f : ℕ → S3) → (λ e. (put c s f e).base) ≡ put c s.base (λ e. (f e).base)
@@ -84,8 +84,8 @@ reads_bare : (t : All tagging) (fs : List (UpOn U2)) → bare (reads_a tagging t
 reads_bare t [] = refl
 reads_bare t (f ∷ fs) = ap (λ ss. record (bare t) { up = fs; broker = pair.read t.broker (conn_u f); sides = ss }) (sides_bare t.broker t.sides f)
 
-pub may_bare : (p : pair.Peer) (ss : ℕ → B3) (f : DownOn DownF) → ((c : ℕ) (d : DownF) → f ≡ ToD c d → may_settle (ss c).book d ≡ true) → may_a tagging p ss f ≡ may_a asking p (λ e. (ss e).base) f
-may_bare pair.Open ss (ToD c d) h = by_count (may_settle (ss c).book d) (h c d refl)
+pub may_bare : (p : pair.Peer) (ss : ℕ → B3) (f : DownOn DownF) → ((c : ℕ) (d : DownF) → f ≡ ToD c d → may_settle (ss c).tag_count d ≡ true) → may_a tagging p ss f ≡ may_a asking p (λ e. (ss e).base) f
+may_bare pair.Open ss (ToD c d) h = by_count (may_settle (ss c).tag_count d) (h c d refl)
   where
     and_true : (a : Bool) → (a && true) ≡ a
     and_true true = refl
@@ -143,7 +143,7 @@ delivers_bare t (f ∷ ds) = received_bare t t.conn f ds
 
 -- ---- any step
 
-pub allowed_at : (t : All tagging) (f : DownOn DownF) → IsAllowed t (SendA f) → (c : ℕ) (d : DownF) → f ≡ ToD c d → may_settle (t.sides c).book d ≡ true
+pub allowed_at : (t : All tagging) (f : DownOn DownF) → IsAllowed t (SendA f) → (c : ℕ) (d : DownF) → f ≡ ToD c d → may_settle (t.sides c).tag_count d ≡ true
 allowed_at t f h c d e = subst (λ x. IsAllowed t (SendA x)) e h
 
 pub bare_step : (t : All tagging) (s : StepA asking) → IsAllowed t s → bare (happens_a tagging t (tagged_step s)) ≡ happens_a asking (bare t) s

@@ -6,17 +6,17 @@ use Rattle.lapin_types.specs.declared.leaving.Left.{Left}
 use Rattle.lapin_types.specs.declared.request.Reply.{Reply}
 use Rattle.lapin_types.specs.Types.{Frame, Method}
 use Rattle.lapin_types.specs.Types.channel_state as state
-use Rattle.lapin_history.specs.declared.calls.Asked.{Asked}
-use Rattle.lapin_history.specs.declared.calls.Asked.TheVariants as ask
-use Rattle.lapin_history.specs.declared.phases.ConnectionPhase.TheVariants as link
-use Rattle.lapin_history.specs.ConfirmMarks.{ConfirmMark}
-use Rattle.lapin_history.specs.ConfirmMarks as mark
-use Rattle.lapin_history.specs.Events.{confirm_marks}
-use Rattle.lapin_history.specs.History.{History, past}
-use Rattle.lapin_history.specs.Phases.{is_up, channel_state}
-use Rattle.lapin_history.specs.Select as history
-use Rattle.lapin_history.specs.Wire.{Wire, phase_of, state_of}
-use Rattle.lapin_history.specs.Asking.{is_allowed, after_call, call_marks}
+use Rattle.lapin_rules.specs.declared.calls.Asked.{Asked}
+use Rattle.lapin_rules.specs.declared.calls.Asked.TheVariants as ask
+use Rattle.lapin_rules.specs.declared.phases.ConnectionPhase.TheVariants as link
+use Rattle.lapin_rules.specs.ConfirmMarks.{ConfirmMark}
+use Rattle.lapin_rules.specs.ConfirmMarks as mark
+use Rattle.lapin_rules.specs.Events.{confirm_marks}
+use Rattle.lapin_rules.specs.History.{History, past}
+use Rattle.lapin_rules.specs.Phases.{is_up, channel_state}
+use Rattle.lapin_rules.specs.Select as history
+use Rattle.lapin_rules.specs.Wire.{Wire, phase_of, state_of}
+use Rattle.lapin_rules.specs.Asking.{is_allowed, after_call, call_marks}
 use Rattle.lapin_machine.specs.World.{World, told_by, told_or, told_anew, next}
 use Rattle.lapin_machine.specs.Stands.{Stands}
 use Rattle.lapin_machine.proofs.Back.{given_none}
@@ -65,7 +65,7 @@ marked-next w e t v n f m =
       most = m.most;
       history = m.history ++ (e, r) ∷ [];
       stands = s;
-      noted = subst (AreNoted v) (sym marks) (f ms (came_behind [] ms ks (subst (CameAfter []) marks s.confirms.post.came)) m.noted);
+      noted = subst (AreNoted v) (sym marks) (f ms (came_behind [] ms ks (subst (CameAfter []) marks s.confirms.confirm_state.came)) m.noted);
     }
 
 -- ---- marks that say nothing of tags

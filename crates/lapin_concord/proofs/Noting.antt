@@ -3,16 +3,16 @@ use Rattle.std.proofs.Common.{◌≡◌, ℕ, ◌+◌, ◌<◌, ◌≤◌, Bool,
 use Rattle.std.specs.List.{list_any}
 use Rattle.std.proofs.lemmas.Bool.{leb-true, leb-false, le-leb, ltb-true}
 use Rattle.std.proofs.lemmas.List.Folds.{list_any-append}
-use Rattle.lapin_history.specs.declared.marks.Outcome.{Outcome}
-use Rattle.lapin_history.specs.declared.marks.Settlement.{Settlement}
-use Rattle.lapin_history.specs.ConfirmMarks.{ConfirmMark}
-use Rattle.lapin_history.specs.ConfirmMarks as mark
-use Rattle.lapin_history.specs.ConfirmReadings.{begins, selects, leaves, leaves_on, is_begun, is_selected, place, has_left, channel_of, tag_of, outcome_at, outcome_after, first_rejected, life, covers}
-use Rattle.lapin_history.specs.Words.{after}
-use Rattle.lapin_history.proofs.ListLaws.{after-push, since-push}
+use Rattle.lapin_rules.specs.declared.marks.Outcome.{Outcome}
+use Rattle.lapin_rules.specs.declared.marks.Settlement.{Settlement}
+use Rattle.lapin_rules.specs.ConfirmMarks.{ConfirmMark}
+use Rattle.lapin_rules.specs.ConfirmMarks as mark
+use Rattle.lapin_rules.specs.ConfirmReadings.{begins, selects, leaves, leaves_on, is_begun, is_selected, place, has_left, channel_of, tag_of, outcome_at, outcome_after, first_rejected, life, covers}
+use Rattle.lapin_rules.specs.Words.{after}
+use Rattle.lapin_rules.proofs.ListLaws.{after-push, since-push}
 use Rattle.lapin_confirm.specs.Follows.{WasAdded, MayCome, Resolves}
 use Rattle.lapin_confirm.proofs.Facts.{added_still}
-use Rattle.lapin_confirm.proofs.LedgerFollowing.{selected-push}
+use Rattle.lapin_confirm.proofs.ConfirmModeFollowing.{selected-push}
 use Rattle.lapin_confirm.proofs.CellFollowing.{left-push, queued_facts}
 use Rattle.lapin_confirm.proofs.Tags.{place-next, place-first, place-still, tag-taken, tag-kept, resolved-by}
 use Rattle.lapin_pairs.specs.Machine.{Sess, Closed, Crossed, Refused}

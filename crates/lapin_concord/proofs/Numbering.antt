@@ -10,7 +10,7 @@ use Rattle.lapin_broker.specs.Numbers.{settled_through, may_settle, after_settle
 use Rattle.lapin_broker.specs.States.{Channel}
 use Rattle.lapin_broker.specs.Reads.{with_next_number}
 use Rattle.lapin_pairs.specs.Channel.{Settle, BSettle, Idle}
-use Rattle.lapin_pairs.specs.Tags.{covers, Book, counted, may_tag, logged}
+use Rattle.lapin_pairs.specs.Tags.{covers, TagCount, counted, may_tag, logged}
 use Rattle.lapin_pairs.specs.Tags as tags
 use Rattle.lapin_concord.specs.Numbering.{IsCount}
 
@@ -84,7 +84,7 @@ pub above : (n : ℕ) (multiple : Bool) (xs : List (Option (Unit {0}))) → may_
 above n true xs m = grind (arith, nat_tests)
 above n false xs m = let s = something (under n xs) m in above_zero n s.0 xs s.1
 
-pub settles_as : (n : ℕ) (multiple : Bool) (x : Channel) (k : Book) → may_settle n multiple x.numbers ≡ true → IsCount x k → tags.may_settle k (BSettle (record { tag = n; multiple = multiple })) ≡ true
+pub settles_as : (n : ℕ) (multiple : Bool) (x : Channel) (k : TagCount) → may_settle n multiple x.numbers ≡ true → IsCount x k → tags.may_settle k (BSettle (record { tag = n; multiple = multiple })) ≡ true
 settles_as n true x k m h =
     let chosen : k.chosen ≡ true = h.chosen ∙ selected x.selected refl in
     let low : nat_lt 0 n ≡ true = grind (arith, nat_tests) in
@@ -113,7 +113,7 @@ settles_as n false x k m h =
     selected u e true c = c
     selected u e false c = let j : n ≤ 0 = given n u [] (ap (under n) (sym (h.none c)) ∙ e) in let k : 0 < n = above_zero n u x.numbers e in absurd (omega (arith, j, k))
 
-pub settled_counts : (n : ℕ) (multiple : Bool) (x : Channel) (k : Book) → may_settle n multiple x.numbers ≡ true → IsCount x k → IsCount (record x { numbers = after_settlement n multiple x.numbers }) (logged k (BSettle (record { tag = n; multiple = multiple })))
+pub settled_counts : (n : ℕ) (multiple : Bool) (x : Channel) (k : TagCount) → may_settle n multiple x.numbers ≡ true → IsCount x k → IsCount (record x { numbers = after_settlement n multiple x.numbers }) (logged k (BSettle (record { tag = n; multiple = multiple })))
 settled_counts n multiple x k m h = record {
   chosen = h.chosen;
   count = h.count ∙ sym (settled_length n multiple x.numbers);
@@ -139,7 +139,7 @@ settled_counts n multiple x k m h = record {
 
 -- ---- a publish comes whole
 
-pub numbered_counts : (x : Channel) (k : Book) → IsCount x k → IsCount (with_next_number x) (counted k (Some Idle))
+pub numbered_counts : (x : Channel) (k : TagCount) → IsCount x k → IsCount (with_next_number x) (counted k (Some Idle))
 numbered_counts x k h = by_select x.selected refl
   where
     by_select : (b : Bool) → x.selected ≡ b → IsCount (with_next_number x) (counted k (Some Idle))

@@ -5,12 +5,12 @@ use Rattle.lapin_types.specs.declared.request.Reply.{Reply}
 use Rattle.lapin_types.specs.Types.{Frame, Method}
 use Rattle.lapin_types.specs.Types.frame
 use Rattle.lapin_content.specs.Channels.{expected_on}
-use Rattle.lapin_history.specs.declared.phases.ChannelPhase.{ChannelPhase}
-use Rattle.lapin_history.specs.declared.phases.ChannelPhase.TheVariants as phase
-use Rattle.lapin_history.specs.declared.phases.ConnectionPhase.TheVariants as link
-use Rattle.lapin_history.specs.Phases.{is_up}
-use Rattle.lapin_history.specs.Frames.{MethodEntry, RestEntry}
-use Rattle.lapin_history.specs.Wire.{Wire, phase_of, requests_of}
+use Rattle.lapin_rules.specs.declared.phases.ChannelPhase.{ChannelPhase}
+use Rattle.lapin_rules.specs.declared.phases.ChannelPhase.TheVariants as phase
+use Rattle.lapin_rules.specs.declared.phases.ConnectionPhase.TheVariants as link
+use Rattle.lapin_rules.specs.Phases.{is_up}
+use Rattle.lapin_rules.specs.Frames.{MethodEntry, RestEntry}
+use Rattle.lapin_rules.specs.Wire.{Wire, phase_of, requests_of}
 use Rattle.lapin_broker.specs.States.{Broker}
 use Rattle.lapin_broker.specs.Frames.{client_frame}
 use Rattle.lapin_pairs.specs.Machine.{Up, UOther, UClose, UOpen, UCloseOk, Opened, has_close}

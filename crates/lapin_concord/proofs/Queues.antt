@@ -15,9 +15,9 @@ use Rattle.lapin_types.specs.Types.exchange
 use Rattle.lapin_types.specs.Types.queue
 use Rattle.lapin_types.specs.Types.basic
 use Rattle.lapin_types.specs.Types.confirm
-use Rattle.lapin_history.specs.declared.calls.Asked.{Asked}
-use Rattle.lapin_history.specs.declared.calls.Asked.TheVariants as ask
-use Rattle.lapin_history.specs.Calls.{asked, awaited_by, unless_nowait, consuming}
+use Rattle.lapin_rules.specs.declared.calls.Asked.{Asked}
+use Rattle.lapin_rules.specs.declared.calls.Asked.TheVariants as ask
+use Rattle.lapin_rules.specs.Calls.{asked, awaited_by, unless_nowait, consuming}
 use Rattle.lapin_broker.specs.Frames.{client_frame}
 use Rattle.lapin_pairs.specs.Machine.{Up, UOther, Opened}
 use Rattle.lapin_pairs.specs.Channel as kept

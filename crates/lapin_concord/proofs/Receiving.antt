@@ -10,26 +10,26 @@ use Rattle.lapin_types.specs.Types.{Frame, Error}
 use Rattle.lapin_content.specs.declared.start.Start.{Start}
 use Rattle.lapin_content.specs.declared.start.Start.TheVariants as start
 use Rattle.lapin_content.specs.declared.start.Whole.{Whole}
-use Rattle.lapin_history.specs.declared.broker_frames.Incoming.{Incoming}
-use Rattle.lapin_history.specs.declared.broker_frames.Incoming.TheVariants as incoming
-use Rattle.lapin_history.specs.declared.marks.Outcome.{Outcome}
-use Rattle.lapin_history.specs.declared.marks.Settlement.{Settlement}
-use Rattle.lapin_history.specs.declared.phases.ChannelPhase.{ChannelPhase}
-use Rattle.lapin_history.specs.declared.phases.ChannelPhase.TheVariants as phase
-use Rattle.lapin_history.specs.declared.phases.ConnectionPhase.{ConnectionPhase}
-use Rattle.lapin_history.specs.declared.phases.ConnectionPhase.TheVariants as link
-use Rattle.lapin_history.specs.ChannelClose.{close_ok_end}
-use Rattle.lapin_history.specs.ConfirmMarks.{ConfirmMark}
-use Rattle.lapin_history.specs.ConfirmMarks as mark
-use Rattle.lapin_history.specs.ConfirmReadings.{covers, is_pending_as, added, has_left, channel_of as channel_of_publish, tag_of, outcome_at, is_tag, is_open_outcome}
-use Rattle.lapin_history.specs.ConfirmReadings as read
-use Rattle.lapin_history.specs.Content.{whole_on, start_marks, whole_marks, part_marks}
-use Rattle.lapin_history.specs.Ends.{end_with}
-use Rattle.lapin_history.specs.Phases.{is_up}
-use Rattle.lapin_history.specs.Receiving.{received_marks, incoming_marks}
-use Rattle.lapin_history.specs.Wire.{Wire, phase_of}
+use Rattle.lapin_rules.specs.declared.broker_frames.Incoming.{Incoming}
+use Rattle.lapin_rules.specs.declared.broker_frames.Incoming.TheVariants as incoming
+use Rattle.lapin_rules.specs.declared.marks.Outcome.{Outcome}
+use Rattle.lapin_rules.specs.declared.marks.Settlement.{Settlement}
+use Rattle.lapin_rules.specs.declared.phases.ChannelPhase.{ChannelPhase}
+use Rattle.lapin_rules.specs.declared.phases.ChannelPhase.TheVariants as phase
+use Rattle.lapin_rules.specs.declared.phases.ConnectionPhase.{ConnectionPhase}
+use Rattle.lapin_rules.specs.declared.phases.ConnectionPhase.TheVariants as link
+use Rattle.lapin_rules.specs.ChannelClose.{close_ok_end}
+use Rattle.lapin_rules.specs.ConfirmMarks.{ConfirmMark}
+use Rattle.lapin_rules.specs.ConfirmMarks as mark
+use Rattle.lapin_rules.specs.ConfirmReadings.{covers, is_pending_as, added, has_left, channel_of as channel_of_publish, tag_of, outcome_at, is_tag, is_open_outcome}
+use Rattle.lapin_rules.specs.ConfirmReadings as read
+use Rattle.lapin_rules.specs.Content.{whole_on, start_marks, whole_marks, part_marks}
+use Rattle.lapin_rules.specs.Ends.{end_with}
+use Rattle.lapin_rules.specs.Phases.{is_up}
+use Rattle.lapin_rules.specs.Receiving.{received_marks, incoming_marks}
+use Rattle.lapin_rules.specs.Wire.{Wire, phase_of}
 use Rattle.lapin_confirm.specs.Follows.{Follows}
-use Rattle.lapin_confirm.specs.Post.{Post}
+use Rattle.lapin_confirm.specs.ConfirmState.{ConfirmState}
 use Rattle.lapin_confirm.proofs.Reading.{tag-read}
 use Rattle.lapin_ticket.specs.declared.Slot.{Slot}
 use Rattle.lapin_machine.specs.World.{readings_of}
@@ -284,7 +284,7 @@ live_noted Closing s c ms us r h = h
 live_noted _ s c ms us r h = cc
 
 -- what is pending in the pair's session is pending in the session
-pub notes : (t : All tagging) (ms : List ConfirmMark) (p : Post) (slots : List (Option Slot)) (c : ℕ) (x : Settle) (ds : List (DownOn DownF)) → Follows ms p → t.down ≡ ToD c (BSettle x) ∷ ds → t.conn ≡ Opened → J3 t → AreNoted t ms → IsNoted (t.chans c) (readings_of p slots) c
+pub notes : (t : All tagging) (ms : List ConfirmMark) (p : ConfirmState) (slots : List (Option Slot)) (c : ℕ) (x : Settle) (ds : List (DownOn DownF)) → Follows ms p → t.down ≡ ToD c (BSettle x) ∷ ds → t.conn ≡ Opened → J3 t → AreNoted t ms → IsNoted (t.chans c) (readings_of p slots) c
 notes t ms p slots c x ds f n o g h =
     let v : All tagging = happens_a tagging t DeliverA in
     let r : v ≡ received_a tagging t Opened (ToD c (BSettle x)) ds = ap (delivers_a tagging t) n ∙ ap (λ s. received_a tagging t s (ToD c (BSettle x)) ds) o in

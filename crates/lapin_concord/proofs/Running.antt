@@ -7,23 +7,23 @@ use Rattle.lapin_types.specs.declared.event.Event.TheVariants as event
 use Rattle.lapin_types.specs.declared.record.Record.{Record}
 use Rattle.lapin_types.specs.declared.leaving.Left.{Left}
 use Rattle.lapin_types.specs.Types.{Frame}
-use Rattle.lapin_history.specs.Frames.{MethodEntry, RestEntry, left_publish}
-use Rattle.lapin_history.specs.Leaving.{may_begin, handed_of}
-use Rattle.lapin_history.specs.Flow.{begins_on}
-use Rattle.lapin_history.specs.Handing.{handed_out, left_marks}
-use Rattle.lapin_history.specs.Incoming.{frame_class, frame_method, incoming_of}
-use Rattle.lapin_history.specs.Unexpected.{refused}
-use Rattle.lapin_history.specs.Readings.{Readings}
-use Rattle.lapin_history.specs.Wire.{Wire, start}
-use Rattle.lapin_history.specs.Consumers.{delegate_inbox, job_inbox}
-use Rattle.lapin_history.specs.Events.{record_of, after_event}
-use Rattle.lapin_history.specs.Loss.{after_lost, lost_inbox, lost_marks}
-use Rattle.lapin_history.specs.Ends.{down}
-use Rattle.lapin_history.specs.Phases.{is_lost, is_up as is_open_link}
-use Rattle.lapin_history.specs.declared.phases.ConnectionPhase.TheVariants as link
-use Rattle.lapin_history.specs.ConfirmMarks.{ConfirmMark}
+use Rattle.lapin_rules.specs.Frames.{MethodEntry, RestEntry, left_publish}
+use Rattle.lapin_rules.specs.Leaving.{may_begin, handed_of}
+use Rattle.lapin_rules.specs.Flow.{begins_on}
+use Rattle.lapin_rules.specs.Handing.{handed_out, left_marks}
+use Rattle.lapin_rules.specs.Incoming.{frame_class, frame_method, incoming_of}
+use Rattle.lapin_rules.specs.Unexpected.{refused}
+use Rattle.lapin_rules.specs.Readings.{Readings}
+use Rattle.lapin_rules.specs.Wire.{Wire, start}
+use Rattle.lapin_rules.specs.Consumers.{delegate_deliveries, job_deliveries}
+use Rattle.lapin_rules.specs.Events.{record_of, after_event}
+use Rattle.lapin_rules.specs.Loss.{after_lost, lost_deliveries, lost_marks}
+use Rattle.lapin_rules.specs.Ends.{down}
+use Rattle.lapin_rules.specs.Phases.{is_lost, is_up as is_open_link}
+use Rattle.lapin_rules.specs.declared.phases.ConnectionPhase.TheVariants as link
+use Rattle.lapin_rules.specs.ConfirmMarks.{ConfirmMark}
 use Rattle.lapin_confirm.specs.Follows.{CameAfter}
-use Rattle.lapin_inbox.specs.Marks as inbox
+use Rattle.lapin_delivery.specs.Marks as deliveries
 use Rattle.lapin_machine.specs.World.{World, new_world, told_by, next, told_anew, readings_of, full_in}
 use Rattle.lapin_machine.proofs.Back.{next_none, still_none}
 use Rattle.lapin_machine.proofs.Handed.{handed_told}
@@ -64,7 +64,7 @@ use Rattle.lapin_concord.specs.Sound.{pair_of, AreUpSent, AreDownGiven}
 use Rattle.lapin_concord.proofs.Views.{Told, Untold, Resets, Delivers, J, j_keeps, Follows, joint_follows}
 use Rattle.lapin_concord.proofs.Reading.{IsPlaced, MayRead, reads_as}
 use Rattle.lapin_concord.proofs.Sending.{sends_as}
-use Rattle.lapin_concord.proofs.Calling.{held_inbox, Goes, goes_none, goes_inbox}
+use Rattle.lapin_concord.proofs.Calling.{held_deliveries, Goes, goes_none, goes_deliveries}
 use Rattle.lapin_concord.proofs.Leaving.{alone, told_next, next_hands}
 use Rattle.lapin_concord.proofs.Down.{lost_link, lose_loses}
 use Rattle.lapin_concord.proofs.Delivering.{Delivered, deliver_comes}
@@ -114,14 +114,14 @@ event_goes b see (event.Next flow) q h = absurd cc
 event_goes b see (event.Receive f) q h = absurd cc
 event_goes b see (event.PollTicket n) q h = goes_none b h
 event_goes b see (event.PollConfirm n) q h = goes_none b h
-event_goes b see (event.PollConsumer n) q h = goes_inbox Untold (inbox.Polled n ∷ []) b b (goes_none b h)
+event_goes b see (event.PollConsumer n) q h = goes_deliveries Untold (deliveries.Polled n ∷ []) b b (goes_none b h)
 event_goes b see (event.PollWait c) q h = goes_none b h
 event_goes b see (event.AsideTicket n) q h = goes_none b h
 event_goes b see (event.AsideConfirm n) q h = goes_none b h
 event_goes b see (event.Acker n k) q h = acker_event n k b h
-event_goes b see (event.Delegate n) q h = goes_inbox Untold (delegate_inbox n b) b b (goes_none b h)
+event_goes b see (event.Delegate n) q h = goes_deliveries Untold (delegate_deliveries n b) b b (goes_none b h)
 event_goes b see (event.DropConsumer n) q h = drop_event n b h
-event_goes b see event.NextJob q h = goes_inbox Untold (job_inbox b) b b (goes_none b h)
+event_goes b see event.NextJob q h = goes_deliveries Untold (job_deliveries b) b b (goes_none b h)
 event_goes b see (event.State c) q h = goes_none b h
 event_goes b see event.Lost q h = absurd cc
 
@@ -162,7 +162,7 @@ max_is w e n = ap (λ (b : Wire). b.frame_max) (wire_is w e n) ∙ max_kept w.wi
 quiet_sound : (j : Joint World) (e : Event) → is_quiet e ≡ true → Sound j → Sound (record { session = next j.session e; broker = j.broker; up = j.up ++ []; down = j.down })
 quiet_sound j e q s =
     let w : World = j.session in
-    let g = event_goes w.wire (readings_of w.post w.slots) e q s.held in
+    let g = event_goes w.wire (readings_of w.confirm_state w.slots) e q s.held in
     let i = wire_is w e s.unreturned in
     let us = append-nil j.up in
     let f : Follows (told_event w.wire (told_anew w e) e) (pair_of j) (pair_as (next w e).wire j.broker (j.up ++ []) j.down) = subst₂ (λ b ls. Follows (told_event w.wire (told_anew w e) e) (pair_of j) (pair_as b j.broker ls j.down)) (sym i) (sym us) (g.follows j.broker j.up j.down) in
@@ -175,7 +175,7 @@ next_sound : (j : Joint World) (flow : Bool) → Sound j → Sound (record { ses
 next_sound j flow s =
     let w : World = j.session in
     let e : Event = event.Next flow in
-    let t : ℕ → Bool = begins_on flow (full_in w.post) w.wire in
+    let t : ℕ → Bool = begins_on flow (full_in w.confirm_state) w.wire in
     let x = next_hands t w.wire s.room s.held in
     let i = wire_is w e s.unreturned in
     let us : j.up ++ alone (handed_out t w.wire) ≡ j.up ++ left_alone (handed_out t w.wire) = ap (λ ls. j.up ++ ls) (alone_is (handed_out t w.wire)) in
@@ -308,7 +308,7 @@ sends_sound j f m s =
 -- ---- the session receives
 
 abbrev pub seen : World → Readings
-seen w = readings_of w.post w.slots
+seen w = readings_of w.confirm_state w.slots
 
 pub delivered : (j : Joint World) (f : Frame) (fs : List Frame) → j.down ≡ f ∷ fs → Sound j → Delivered j.session.wire (seen j.session) (refused (frame_class f) (frame_method f)) f (incoming_of f) j.broker j.up fs
 delivered j f fs k s = deliver_comes j.session.wire (seen j.session) (refused (frame_class f) (frame_method f)) f j.broker j.up fs s.held (subst AreDownGiven k s.down).0 (subst (λ ds. J (pair_as j.session.wire j.broker j.up ds)) k s.joint)
@@ -340,7 +340,7 @@ loses_sound j s =
     let w : World = j.session in
     let x = lose_loses w.wire j.broker j.up j.down s.held s.joint in
     let i = wire_is w event.Lost s.unreturned in
-    let h : Held (next w event.Lost).wire = subst Held (sym i) (held_inbox (lost_inbox w.wire) (after_lost w.wire) x.held) in
+    let h : Held (next w event.Lost).wire = subst Held (sym i) (held_deliveries (lost_deliveries w.wire) (after_lost w.wire) x.held) in
     let m = max_is w event.Lost s.unreturned in
     let f : Follows Resets (pair_of j) (pair_as (next w event.Lost).wire (after_loss j.broker) [] []) = subst (λ b. Follows Resets (pair_of j) (pair_as b (after_loss j.broker) [] [])) (sym i) x.follows in
     let l : (next w event.Lost).wire.link ≡ link.Lost = ap (λ (b : Wire). b.link) i ∙ lost_there w.wire in

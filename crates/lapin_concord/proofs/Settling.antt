@@ -4,9 +4,9 @@ use Rattle.std.specs.List.{list_any}
 use Rattle.lapin_types.specs.declared.record.Record.{Record}
 use Rattle.lapin_types.specs.declared.record.Record.TheVariants as record_
 use Rattle.lapin_types.specs.Types.error
-use Rattle.lapin_history.specs.declared.marks.Settlement.{Settlement}
-use Rattle.lapin_history.specs.Readings.{Readings}
-use Rattle.lapin_history.specs.Settlement.{settlement_record}
+use Rattle.lapin_rules.specs.declared.marks.Settlement.{Settlement}
+use Rattle.lapin_rules.specs.Readings.{Readings}
+use Rattle.lapin_rules.specs.Settlement.{settlement_record}
 use Rattle.lapin_pairs.specs.Machine.{Opened}
 use Rattle.lapin_pairs.specs.Channel.{Settle, DownF, BSettle}
 use Rattle.lapin_pairs.specs.Every.{DownOn, ToD, All, DeliverA, received_a, delivers_a, happens_a}

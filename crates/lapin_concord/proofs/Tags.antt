@@ -4,14 +4,14 @@ use Rattle.std.specs.List.{list_any, count_by}
 use Rattle.std.proofs.lemmas.Bool.Decides.{eqb_tells}
 use Rattle.std.proofs.lemmas.List.Folds.{list_any-append}
 use Rattle.std.proofs.lemmas.List.Sums.{sum_by-append}
-use Rattle.lapin_history.specs.declared.marks.Outcome.{Outcome}
-use Rattle.lapin_history.specs.ConfirmMarks.{ConfirmMark}
-use Rattle.lapin_history.specs.ConfirmMarks as mark
-use Rattle.lapin_history.specs.Words.{after, through, since, many}
-use Rattle.lapin_history.specs.ConfirmReadings.{adds, begins, selects, leaves_on, leaves, opening, is_selected, place, has_left, channel_of, channel_in, added, tag_on, tag_of, first_settled, first_rejected, life}
-use Rattle.lapin_history.specs.ReturnReadings.{is_gone}
-use Rattle.lapin_history.proofs.ConfirmLaws.{accepted-push}
-use Rattle.lapin_history.proofs.ListLaws.{since_none}
+use Rattle.lapin_rules.specs.declared.marks.Outcome.{Outcome}
+use Rattle.lapin_rules.specs.ConfirmMarks.{ConfirmMark}
+use Rattle.lapin_rules.specs.ConfirmMarks as mark
+use Rattle.lapin_rules.specs.Words.{after, through, since, many}
+use Rattle.lapin_rules.specs.ConfirmReadings.{adds, begins, selects, leaves_on, leaves, opening, is_selected, place, has_left, channel_of, channel_in, added, tag_on, tag_of, first_settled, first_rejected, life}
+use Rattle.lapin_rules.specs.ReturnReadings.{is_gone}
+use Rattle.lapin_rules.proofs.ConfirmLaws.{accepted-push}
+use Rattle.lapin_rules.proofs.ListLaws.{since_none}
 use Rattle.lapin_confirm.specs.Follows.{pending_cell, left_cell, queued_cell, open_cell, cell_in, WasAdded, MayCome, CameAfter}
 use Rattle.lapin_confirm.specs.declared.cell.Cell.TheVariants as cell
 use Rattle.lapin_concord.specs.Openings.{opening_of}

@@ -17,7 +17,7 @@ use Rattle.lapin_pairs.specs.Every.{UpOn, OnU, CloseU, CloseOkU, DownOn, ToD, Cl
 use Rattle.lapin_pairs.specs.Machine as pair
 use Rattle.lapin_pairs.specs.Machine.{Sess, Closed, Opening, Opened, Closing, Crossed, Refused}
 use Rattle.lapin_pairs.specs.Asking.{U2, K2, needs2, asking}
-use Rattle.lapin_pairs.specs.Tags.{Book}
+use Rattle.lapin_pairs.specs.Tags.{TagCount}
 use Rattle.lapin_pairs.specs.Tagging.{S3, B3, call3, reads3b, tagging}
 use Rattle.lapin_pairs.proofs.Every.{Joint, joint_keeps, joint_start}
 use Rattle.lapin_pairs.proofs.Tagging.{Tagged, Calm3, tags_fact}
@@ -34,13 +34,13 @@ use Rattle.lapin_concord.proofs.Counted.{none_counts, some_counts, allowed_send,
 abbrev pub J3 : All tagging → Type 0
 J3 t = Joint tagging Tagged Calm3 tags_fact t
 
-abbrev pub books : (ℕ → B3) → ℕ → Book
-books t c = (t c).book
+abbrev pub tag_counts : (ℕ → B3) → ℕ → TagCount
+tag_counts t c = (t c).tag_count
 
 pub record Tallied (w : All asking) (b : Broker) : Type 0 where
   pub pair : All tagging
   pub is : bare pair ≡ w
-  pub counts : AreCounts b (books pair.sides)
+  pub counts : AreCounts b (tag_counts pair.sides)
   pub joint : J3 pair
 
 -- ---- steps that aren't the broker's leave its counts
@@ -97,7 +97,7 @@ own_run (s ∷ ss) w b o t =
     own_run ss (happens_a asking w s) b o.1 (record {
       pair = happens_a tagging t.pair (tagged_step s);
       is = bare_step t.pair s x.1 ∙ ap (λ v. happens_a asking v s) t.is;
-      counts = subst (λ k. AreCounts b (books k)) (sym x.0) t.counts;
+      counts = subst (λ k. AreCounts b (tag_counts k)) (sym x.0) t.counts;
       joint = joint_keeps tagging Tagged Calm3 tags_fact t.pair (tagged_step s) t.joint;
     })
 
@@ -106,46 +106,46 @@ tallied_own k w v b f t = let x = own_run f.steps w b f.own t in (record { pair 
 
 -- ---- the broker reads
 
-down_books : (b : Broker) (s : ℕ → B3) → AreCounts b (books s) → AreCounts (read_down b) (books s)
-down_books b s h = elim (is_leaving b.connection) as (λ t. AreCounts (cond t (after_break b) b) (books s)) [ true ↦ h | false ↦ h ]
+down_tag_counts : (b : Broker) (s : ℕ → B3) → AreCounts b (tag_counts s) → AreCounts (read_down b) (tag_counts s)
+down_tag_counts b s h = elim (is_leaving b.connection) as (λ t. AreCounts (cond t (after_break b) b) (tag_counts s)) [ true ↦ h | false ↦ h ]
 
-books_on : (f : Frame) (c : ℕ) (u : ClientFrame) (b : Broker) (s : ℕ → B3) → up_kind c u ≡ OnU c (small u) → is_connection_close u ≡ false → is_connection_close_ok u ≡ false → MayRead b c u → (λ e. (s e).base) ≡ sides_as b → AreCounts b (books s)
-    → AreCounts (cond (is_up b.connection) (read_up b.reading c f u b) (read_down b)) (books (sides_after tagging (connection_as b.connection) s (up_kind c u)))
-books_on f c u b s k n m h e counts = by_conn b.connection refl
+tag_counts_on : (f : Frame) (c : ℕ) (u : ClientFrame) (b : Broker) (s : ℕ → B3) → up_kind c u ≡ OnU c (small u) → is_connection_close u ≡ false → is_connection_close_ok u ≡ false → MayRead b c u → (λ e. (s e).base) ≡ sides_as b → AreCounts b (tag_counts s)
+    → AreCounts (cond (is_up b.connection) (read_up b.reading c f u b) (read_down b)) (tag_counts (sides_after tagging (connection_as b.connection) s (up_kind c u)))
+tag_counts_on f c u b s k n m h e counts = by_conn b.connection refl
   where
     here : (s c).base ≡ sides_as b c
     here = ap (λ g. g c) e
 
-    by_reading : (r : Option (ℕ × Content)) → b.reading ≡ r → connection_as b.connection ≡ pair.Open → AreCounts (read_up r c f u b) (books (put c (reads3b (s c) (small u)) s))
+    by_reading : (r : Option (ℕ × Content)) → b.reading ≡ r → connection_as b.connection ≡ pair.Open → AreCounts (read_up r c f u b) (tag_counts (put c (reads3b (s c) (small u)) s))
     by_reading None y o = let w = h.whole o c (small u) k in none_counts c f u b s y h.sent n m h.ready w.0 w.1 here counts
     by_reading (Some r) y o =
         let w = h.whole o c (small u) k in
         let q : (r.0 ≡ c) × (is_piece u ≡ true) = subst (λ x. IsPlaced x c u) y (h.placed o c (small u) k) in
         let z : b.reading ≡ Some (c, r.1) = y ∙ ap (λ d. Some (d, r.1)) q.0 in
-        subst (λ d. AreCounts d (books (put c (reads3b (s c) (small u)) s))) (sym (ap (λ x. cond x (read_piece c r.1 u b) (after_break b)) (eq-eqb r.0 c q.0))) (some_counts c u r.1 b s z q.1 h.sent h.ready w.1 here counts)
+        subst (λ d. AreCounts d (tag_counts (put c (reads3b (s c) (small u)) s))) (sym (ap (λ x. cond x (read_piece c r.1 u b) (after_break b)) (eq-eqb r.0 c q.0))) (some_counts c u r.1 b s z q.1 h.sent h.ready w.1 here counts)
 
-    at : (p : Connection) → b.connection ≡ p → AreCounts (cond (is_up p) (read_up b.reading c f u b) (read_down b)) (books (sides_after tagging (connection_as p) s (up_kind c u))) → AreCounts (cond (is_up b.connection) (read_up b.reading c f u b) (read_down b)) (books (sides_after tagging (connection_as b.connection) s (up_kind c u)))
-    at p y g = subst (λ q. AreCounts (cond (is_up q) (read_up b.reading c f u b) (read_down b)) (books (sides_after tagging (connection_as q) s (up_kind c u)))) (sym y) g
+    at : (p : Connection) → b.connection ≡ p → AreCounts (cond (is_up p) (read_up b.reading c f u b) (read_down b)) (tag_counts (sides_after tagging (connection_as p) s (up_kind c u))) → AreCounts (cond (is_up b.connection) (read_up b.reading c f u b) (read_down b)) (tag_counts (sides_after tagging (connection_as b.connection) s (up_kind c u)))
+    at p y g = subst (λ q. AreCounts (cond (is_up q) (read_up b.reading c f u b) (read_down b)) (tag_counts (sides_after tagging (connection_as q) s (up_kind c u)))) (sym y) g
 
-    by_conn : (p : Connection) → b.connection ≡ p → AreCounts (cond (is_up b.connection) (read_up b.reading c f u b) (read_down b)) (books (sides_after tagging (connection_as b.connection) s (up_kind c u)))
-    by_conn connection.Up y = at connection.Up y (subst (λ x. AreCounts (read_up b.reading c f u b) (books (sides_after tagging pair.Open s x))) (sym k) (by_reading b.reading refl (ap connection_as y)))
-    by_conn connection.Leaving y = at connection.Leaving y (down_books b s counts)
-    by_conn connection.Stopped y = at connection.Stopped y (down_books b s counts)
-    by_conn connection.StoppedOwes y = at connection.StoppedOwes y (down_books b s counts)
-    by_conn connection.LeavingStopped y = at connection.LeavingStopped y (down_books b s counts)
-    by_conn connection.Done y = at connection.Done y (down_books b s counts)
-    by_conn connection.Broken y = at connection.Broken y (down_books b s counts)
+    by_conn : (p : Connection) → b.connection ≡ p → AreCounts (cond (is_up b.connection) (read_up b.reading c f u b) (read_down b)) (tag_counts (sides_after tagging (connection_as b.connection) s (up_kind c u)))
+    by_conn connection.Up y = at connection.Up y (subst (λ x. AreCounts (read_up b.reading c f u b) (tag_counts (sides_after tagging pair.Open s x))) (sym k) (by_reading b.reading refl (ap connection_as y)))
+    by_conn connection.Leaving y = at connection.Leaving y (down_tag_counts b s counts)
+    by_conn connection.Stopped y = at connection.Stopped y (down_tag_counts b s counts)
+    by_conn connection.StoppedOwes y = at connection.StoppedOwes y (down_tag_counts b s counts)
+    by_conn connection.LeavingStopped y = at connection.LeavingStopped y (down_tag_counts b s counts)
+    by_conn connection.Done y = at connection.Done y (down_tag_counts b s counts)
+    by_conn connection.Broken y = at connection.Broken y (down_tag_counts b s counts)
 
-still_books : (p : pair.Peer) (s : ℕ → B3) (x : UpOn U2) → ((c : ℕ) (u : U2) → x ≡ OnU c u → ⊥) → sides_after tagging p s x ≡ s
-still_books pair.Open s (OnU c u) n = absurd (n c u refl)
-still_books pair.Open s CloseU n = refl
-still_books pair.Open s CloseOkU n = refl
-still_books _ s x n = refl
+still_tag_counts : (p : pair.Peer) (s : ℕ → B3) (x : UpOn U2) → ((c : ℕ) (u : U2) → x ≡ OnU c u → ⊥) → sides_after tagging p s x ≡ s
+still_tag_counts pair.Open s (OnU c u) n = absurd (n c u refl)
+still_tag_counts pair.Open s CloseU n = refl
+still_tag_counts pair.Open s CloseOkU n = refl
+still_tag_counts _ s x n = refl
 
-sorted_books : (f : Frame) (c : ℕ) (u : ClientFrame) (b : Broker) (s : ℕ → B3) → MayRead b c u → (λ e. (s e).base) ≡ sides_as b → AreCounts b (books s) → AreCounts (read_sorted c f u b) (books (sides_after tagging (connection_as b.connection) s (up_kind c u)))
-sorted_books f c client.ConnectionClose b s h e counts = subst (λ g. AreCounts b (books g)) (sym (still_books (connection_as b.connection) s CloseU (λ d v y. cc))) counts
-sorted_books f c client.ConnectionCloseOk b s h e counts = subst (λ g. AreCounts b (books g)) (sym (still_books (connection_as b.connection) s CloseOkU (λ d v y. cc))) counts
-sorted_books f c u b s h e counts = books_on f c u b s (up_small c u refl refl) refl refl h e counts
+sorted_tag_counts : (f : Frame) (c : ℕ) (u : ClientFrame) (b : Broker) (s : ℕ → B3) → MayRead b c u → (λ e. (s e).base) ≡ sides_as b → AreCounts b (tag_counts s) → AreCounts (read_sorted c f u b) (tag_counts (sides_after tagging (connection_as b.connection) s (up_kind c u)))
+sorted_tag_counts f c client.ConnectionClose b s h e counts = subst (λ g. AreCounts b (tag_counts g)) (sym (still_tag_counts (connection_as b.connection) s CloseU (λ d v y. cc))) counts
+sorted_tag_counts f c client.ConnectionCloseOk b s h e counts = subst (λ g. AreCounts b (tag_counts g)) (sym (still_tag_counts (connection_as b.connection) s CloseOkU (λ d v y. cc))) counts
+sorted_tag_counts f c u b s h e counts = tag_counts_on f c u b s (up_small c u refl refl) refl refl h e counts
 
 pub tallied_read : (w v : All asking) (b : Broker) (f : Frame) (us : List (UpOn U2)) → w.broker ≡ connection_as b.connection → w.sides ≡ sides_as b → w.up ≡ up_frame f ∷ us → MayRead b (channel_of f) (client_frame f) → happens_a asking w ReadA ≡ v → (t : Tallied w b) → (y : Tallied v (read b f)) × (y.pair ≡ happens_a tagging t.pair ReadA)
 tallied_read w v b f us p g y h ends t =
@@ -157,7 +157,7 @@ tallied_read w v b f us p g y h ends t =
       record {
         pair = happens_a tagging x ReadA;
         is = bare_step x ReadA tt ∙ (ap (λ z. happens_a asking z ReadA) t.is ∙ ends);
-        counts = subst (λ k. AreCounts (read b f) (books k)) (sym after) (sorted_books f (channel_of f) (client_frame f) b x.sides h sides t.counts);
+        counts = subst (λ k. AreCounts (read b f) (tag_counts k)) (sym after) (sorted_tag_counts f (channel_of f) (client_frame f) b x.sides h sides t.counts);
         joint = joint_keeps tagging Tagged Calm3 tags_fact x ReadA t.joint;
       },
       refl,
@@ -168,18 +168,18 @@ tallied_read w v b f us p g y h ends t =
 named_low : (b : Broker) (c : ℕ) (t : List ℕ) (d : BrokerFrame) → (is_up b.connection && may_in (channel_at b c).peer (channel_at b c) t d) ≡ true → IsReady b → down_kind c d ≡ ToD c (low d)
 named_low b c t d m h = (gives_in (channel_at b c).peer (channel_at b c) t d refl (h.bare c) (right_of (is_up b.connection) _ m)).named c
 
-on_books : (b : Broker) (c : ℕ) (t : List ℕ) (d : BrokerFrame) (r : Option (ℕ × Content)) (s : ℕ → B3) → (is_up b.connection && may_in (channel_at b c).peer (channel_at b c) t d) ≡ true → IsReady b → AreCounts b (books s) → AreCounts (record (send_on c t d b) { reading = r }) (books (sides_sent tagging s (down_kind c d)))
-on_books b c t d r s m h counts = subst (λ x. AreCounts (record (send_on c t d b) { reading = r }) (books (sides_sent tagging s x))) (sym (named_low b c t d m h)) (sent_counts b c t d r s (right_of (is_up b.connection) _ m) counts)
+on_tag_counts : (b : Broker) (c : ℕ) (t : List ℕ) (d : BrokerFrame) (r : Option (ℕ × Content)) (s : ℕ → B3) → (is_up b.connection && may_in (channel_at b c).peer (channel_at b c) t d) ≡ true → IsReady b → AreCounts b (tag_counts s) → AreCounts (record (send_on c t d b) { reading = r }) (tag_counts (sides_sent tagging s (down_kind c d)))
+on_tag_counts b c t d r s m h counts = subst (λ x. AreCounts (record (send_on c t d b) { reading = r }) (tag_counts (sides_sent tagging s x))) (sym (named_low b c t d m h)) (sent_counts b c t d r s (right_of (is_up b.connection) _ m) counts)
 
-sorted_sent : (b : Broker) (c : ℕ) (t : List ℕ) (d : BrokerFrame) (s : ℕ → B3) → may_sorted c t d b ≡ true → IsReady b → AreCounts b (books s) → AreCounts (send_sorted c t d b) (books (sides_sent tagging s (down_kind c d)))
+sorted_sent : (b : Broker) (c : ℕ) (t : List ℕ) (d : BrokerFrame) (s : ℕ → B3) → may_sorted c t d b ≡ true → IsReady b → AreCounts b (tag_counts s) → AreCounts (send_sorted c t d b) (tag_counts (sides_sent tagging s (down_kind c d)))
 sorted_sent b c t broker.ConnectionClose s m h counts = counts
 sorted_sent b c t broker.ConnectionCloseOk s m h counts = counts
-sorted_sent b c t d s m h counts = on_books b c t d b.reading s m h counts
+sorted_sent b c t d s m h counts = on_tag_counts b c t d b.reading s m h counts
 
-sorted_allowed : (x : All tagging) (b : Broker) (c : ℕ) (t : List ℕ) (d : BrokerFrame) → may_sorted c t d b ≡ true → IsReady b → AreCounts b (books x.sides) → IsAllowed x (SendA (down_kind c d))
+sorted_allowed : (x : All tagging) (b : Broker) (c : ℕ) (t : List ℕ) (d : BrokerFrame) → may_sorted c t d b ≡ true → IsReady b → AreCounts b (tag_counts x.sides) → IsAllowed x (SendA (down_kind c d))
 sorted_allowed x b c t broker.ConnectionClose m h counts = tt
 sorted_allowed x b c t broker.ConnectionCloseOk m h counts = tt
-sorted_allowed x b c t d m h counts = subst (λ q. IsAllowed x (SendA q)) (sym (named_low b c t d m h)) (allowed_send b c t d (books x.sides) (right_of (is_up b.connection) _ m) counts)
+sorted_allowed x b c t d m h counts = subst (λ q. IsAllowed x (SendA q)) (sym (named_low b c t d m h)) (allowed_send b c t d (tag_counts x.sides) (right_of (is_up b.connection) _ m) counts)
 
 pub tallied_send : (w v : All asking) (b : Broker) (f : Frame) → w.broker ≡ connection_as b.connection → w.sides ≡ sides_as b → may b f ≡ true → IsReady b → may_a asking (connection_as b.connection) (sides_as b) (down_frame f) ≡ true → happens_a asking w (SendA (down_frame f)) ≡ v → (t : Tallied w b) → (y : Tallied v (send b f)) × (y.pair ≡ happens_a tagging t.pair (SendA (down_frame f)))
 tallied_send w v b f p g m h a ends t =
@@ -193,7 +193,7 @@ tallied_send w v b f p g m h a ends t =
       record {
         pair = happens_a tagging x (SendA q);
         is = bare_step x (SendA q) allowed ∙ (ap (λ z. happens_a asking z (SendA q)) t.is ∙ ends);
-        counts = subst (λ k. AreCounts (send b f) (books k)) (sym after) (sorted_sent b (channel_of f) (tag_of f) (broker_frame f) x.sides m h t.counts);
+        counts = subst (λ k. AreCounts (send b f) (tag_counts k)) (sym after) (sorted_sent b (channel_of f) (tag_of f) (broker_frame f) x.sides m h t.counts);
         joint = joint_keeps tagging Tagged Calm3 tags_fact x (SendA q) t.joint;
       },
       refl,
@@ -206,7 +206,7 @@ tallied_new w b e f = (
   record {
     pair = start_a tagging;
     is = e;
-    counts = λ c. subst (λ (y : Channel). IsCountIn y.peer y (books (start_a tagging).sides c)) (sym (f c)) (refl, refl);
+    counts = λ c. subst (λ (y : Channel). IsCountIn y.peer y (tag_counts (start_a tagging).sides c)) (sym (f c)) (refl, refl);
     joint = joint_start tagging Tagged Calm3 tags_fact;
   },
   refl,

@@ -8,13 +8,13 @@ use Rattle.lapin_tables.proofs.Channels.{at-on_same, at-on_other}
 use Rattle.lapin_types.specs.declared.request.Request.{Request}
 use Rattle.lapin_content.specs.Contents.{Expected}
 use Rattle.lapin_content.specs.Channels.{Channels, expected_on, listed}
-use Rattle.lapin_history.specs.declared.phases.ChannelPhase.{ChannelPhase}
-use Rattle.lapin_history.specs.declared.phases.ChannelPhase.TheVariants as phase
-use Rattle.lapin_history.specs.Words.{with_channel}
-use Rattle.lapin_history.specs.Phases.{phase_in}
-use Rattle.lapin_history.specs.Requests.{requests_in}
-use Rattle.lapin_history.specs.Wire.{Wire, phase_of, requests_of}
-use Rattle.lapin_history.proofs.ChannelLaws.{at-with}
+use Rattle.lapin_rules.specs.declared.phases.ChannelPhase.{ChannelPhase}
+use Rattle.lapin_rules.specs.declared.phases.ChannelPhase.TheVariants as phase
+use Rattle.lapin_rules.specs.Words.{with_channel}
+use Rattle.lapin_rules.specs.Phases.{phase_in}
+use Rattle.lapin_rules.specs.Requests.{requests_in}
+use Rattle.lapin_rules.specs.Wire.{Wire, phase_of, requests_of}
+use Rattle.lapin_rules.proofs.ChannelLaws.{at-with}
 use Rattle.lapin_pairs.specs.Every.{put, of_u, All, StepA, CallA, SendA, HangUpA, NextA, ReadA, DeliverA, LoseA, happens_a, run_a}
 use Rattle.lapin_pairs.specs.Asking.{K2, KOpen, KClose, KTell, KAsk, KSelect, KBegin, needs2, S2, asking}
 use Rattle.lapin_pairs.proofs.Every.{Joint, joint_keeps, joint_run}

@@ -1,8 +1,8 @@
 -- What a session and an honest broker are to each other, over every list of steps.
 use Rattle.std.specs.Prelude.{◌≡◌, ℕ, List, Some, true, false}
 use Rattle.std.specs.List.{list_any}
-use Rattle.lapin_history.specs.ConfirmMarks.{ConfirmMark}
-use Rattle.lapin_history.specs.ConfirmReadings.{has_left, channel_of, tag_of}
+use Rattle.lapin_rules.specs.ConfirmMarks.{ConfirmMark}
+use Rattle.lapin_rules.specs.ConfirmReadings.{has_left, channel_of, tag_of}
 use Rattle.lapin_broker.specs.States.{is_broken}
 use Rattle.lapin_joint.specs.declared.step.Step.{Step}
 use Rattle.lapin_joint.specs.Joint.{joined, joined_to}

@@ -7,16 +7,16 @@ use Rattle.lapin_types.specs.declared.request.ReplyKind.TheVariants as reply_kin
 use Rattle.lapin_types.specs.Types.frame
 use Rattle.lapin_content.specs.Contents.{Expected}
 use Rattle.lapin_content.specs.Channels.{expected_on}
-use Rattle.lapin_history.specs.declared.phases.ChannelPhase.{ChannelPhase}
-use Rattle.lapin_history.specs.declared.phases.ChannelPhase.TheVariants as phase
-use Rattle.lapin_history.specs.declared.phases.ConnectionPhase.{ConnectionPhase}
-use Rattle.lapin_history.specs.declared.phases.ConnectionPhase.TheVariants as link
-use Rattle.lapin_history.specs.Words.{is_some}
-use Rattle.lapin_history.specs.Phases.{phase_in, is_up}
-use Rattle.lapin_history.specs.Requests.{first_request}
-use Rattle.lapin_history.specs.Frames.{MethodEntry, RestEntry}
-use Rattle.lapin_history.specs.Drops.{frame_channel}
-use Rattle.lapin_history.specs.Wire.{Wire, phase_of, requests_of}
+use Rattle.lapin_rules.specs.declared.phases.ChannelPhase.{ChannelPhase}
+use Rattle.lapin_rules.specs.declared.phases.ChannelPhase.TheVariants as phase
+use Rattle.lapin_rules.specs.declared.phases.ConnectionPhase.{ConnectionPhase}
+use Rattle.lapin_rules.specs.declared.phases.ConnectionPhase.TheVariants as link
+use Rattle.lapin_rules.specs.Words.{is_some}
+use Rattle.lapin_rules.specs.Phases.{phase_in, is_up}
+use Rattle.lapin_rules.specs.Requests.{first_request}
+use Rattle.lapin_rules.specs.Frames.{MethodEntry, RestEntry}
+use Rattle.lapin_rules.specs.Drops.{frame_channel}
+use Rattle.lapin_rules.specs.Wire.{Wire, phase_of, requests_of}
 use Rattle.lapin_broker.specs.Frames.{client_frame}
 use Rattle.lapin_pairs.specs.Machine.{Up, UClose, has_close}
 use Rattle.lapin_pairs.specs.Channel.{UpF, FHeader, FBody, kind_up}

@@ -6,11 +6,11 @@ use Rattle.lapin_tables.specs.Numbered.{under}
 use Rattle.lapin_broker.specs.declared.peer.Peer.{Peer}
 use Rattle.lapin_broker.specs.declared.peer.Peer.TheVariants as peer
 use Rattle.lapin_broker.specs.States.{Channel, Broker, channel_at}
-use Rattle.lapin_pairs.specs.Tags.{covers, Book}
+use Rattle.lapin_pairs.specs.Tags.{covers, TagCount}
 
 -- The count is the channel's: both read a select or neither did, as many publishes took numbers, and a number that isn't settled is
 -- one that no settlement covers. None covers a number that wasn't taken.
-pub record IsCount (x : Channel) (k : Book) : Type 0 where
+pub record IsCount (x : Channel) (k : TagCount) : Type 0 where
   pub chosen : k.chosen ≡ x.selected
   pub count : length k.numbered ≡ length x.numbers
   pub open_ : (n : ℕ) (u : Unit {0}) → under n x.numbers ≡ Some u → list_any (covers n) k.log ≡ false
@@ -18,10 +18,10 @@ pub record IsCount (x : Channel) (k : Book) : Type 0 where
   pub none : x.selected ≡ false → x.numbers ≡ []
 
 -- a free channel counts nothing; on any other the count is the channel's
-abbrev pub IsCountIn : Peer → Channel → Book → Type 0
+abbrev pub IsCountIn : Peer → Channel → TagCount → Type 0
 IsCountIn peer.Free x k = (x.selected ≡ false) × (x.numbers ≡ [])
 IsCountIn _ x k = IsCount x k
 
 -- so on every channel
-abbrev pub AreCounts : Broker → (ℕ → Book) → Type 0
+abbrev pub AreCounts : Broker → (ℕ → TagCount) → Type 0
 AreCounts b k = (c : ℕ) → IsCountIn (channel_at b c).peer (channel_at b c) (k c)

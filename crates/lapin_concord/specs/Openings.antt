@@ -1,9 +1,9 @@
 -- In which opening of its channel a publish left.
 use Rattle.std.specs.Prelude.{ℕ, List}
-use Rattle.lapin_history.specs.ConfirmMarks.{ConfirmMark}
-use Rattle.lapin_history.specs.ConfirmReadings.{begins, leaves, channel_of}
-use Rattle.lapin_history.specs.History.{past}
-use Rattle.lapin_history.specs.Words.{many, through}
+use Rattle.lapin_rules.specs.ConfirmMarks.{ConfirmMark}
+use Rattle.lapin_rules.specs.ConfirmReadings.{begins, leaves, channel_of}
+use Rattle.lapin_rules.specs.History.{past}
+use Rattle.lapin_rules.specs.Words.{many, through}
 use Rattle.lapin_joint.specs.declared.step.Step.{Step}
 use Rattle.lapin_joint.specs.Joint.{joined_to}
 

@@ -10,7 +10,7 @@ ghost use Rattle.std.specs.List.{list_any};
 ghost use Rattle.lapin_broker.specs.States.{is_broken};
 ghost use Rattle.lapin_joint.specs.declared.step.Step.{Step as AStep};
 ghost use Rattle.lapin_joint.specs.Joint.{joined, joined_to};
-ghost use Rattle.lapin_history.specs.ConfirmReadings.{has_left, channel_of, tag_of};
+ghost use Rattle.lapin_rules.specs.ConfirmReadings.{has_left, channel_of, tag_of};
 ghost use Rattle.lapin_concord.specs.Openings.{opening_of, confirms_in};
 ghost use Rattle.lapin_concord.specs.Refusals.{reports_refusal};
 ghost use Rattle.lapin_concord.specs.Concord.{NoneIsRefused, IsUnbroken, DifferByTags};

@@ -4,18 +4,18 @@ use Rattle.std.specs.List.{list_any, filter}
 use Rattle.std.proofs.Math.Bool.{or-true}
 use Rattle.std.proofs.lemmas.Bool.Decides.{eqb_tells}
 use Rattle.lapin_types.specs.declared.message.BasicReturnMessage.{BasicReturnMessage}
-use Rattle.lapin_history.specs.ConfirmMarks.{ConfirmMark}
-use Rattle.lapin_history.specs.ConfirmMarks as mark
-use Rattle.lapin_history.specs.ConfirmReadings.{channel_of, is_selected}
-use Rattle.lapin_history.specs.Letters.{Letters, arrived_in, given_first, attached_to, attached_to_all, letter_of, taken_out, kept_of, set_by, drained_letters, renewed}
-use Rattle.lapin_history.specs.ReturnReadings.{is_done, covered, letters_step, letters_of}
-use Rattle.lapin_history.proofs.ReturnLaws.{letters-push}
+use Rattle.lapin_rules.specs.ConfirmMarks.{ConfirmMark}
+use Rattle.lapin_rules.specs.ConfirmMarks as mark
+use Rattle.lapin_rules.specs.ConfirmReadings.{channel_of, is_selected}
+use Rattle.lapin_rules.specs.ReturnLists.{ReturnLists, arrived_in, given_first, attached_to, attached_to_all, return_of, taken_out, kept_of, set_by, drained_return_lists, renewed}
+use Rattle.lapin_rules.specs.ReturnReadings.{is_done, covered, return_lists_step, return_lists_of}
+use Rattle.lapin_rules.proofs.ReturnLaws.{return_lists-push}
 
 -- confirm n is one of these
 abbrev pub stands : ℕ → List ℕ → Bool
 stands n ns = list_any (λ j. j == n) ns
 
-attached-aside : (ns : List ℕ) (l : Letters) → (attached_to_all ns l).aside ≡ l.aside
+attached-aside : (ns : List ℕ) (l : ReturnLists) → (attached_to_all ns l).aside ≡ l.aside
 attached-aside [] l = refl
 attached-aside (n ∷ ns) l = attached-aside ns (attached_to n l) ∙ first l.waiting
   where
@@ -23,16 +23,16 @@ attached-aside (n ∷ ns) l = attached-aside ns (attached_to n l) ∙ first l.wa
     first [] = refl
     first (m ∷ ms) = refl
 
-arrived-aside : (b : Bool) (m : BasicReturnMessage) (l : Letters) → (arrived_in b m l).aside ≡ l.aside
+arrived-aside : (b : Bool) (m : BasicReturnMessage) (l : ReturnLists) → (arrived_in b m l).aside ≡ l.aside
 arrived-aside true m l = refl
 arrived-aside false m l = refl
 
-kept-aside : (o : Option BasicReturnMessage) (l : Letters) → (kept_of o l).aside ≡ l.aside
+kept-aside : (o : Option BasicReturnMessage) (l : ReturnLists) → (kept_of o l).aside ≡ l.aside
 kept-aside None l = refl
 kept-aside (Some m) l = refl
 
-set-aside : (n : ℕ) (d : Bool) (l : Letters) → (set_by n d l).aside ≡ cond d l.aside (l.aside ++ n ∷ [])
-set-aside n true l = kept-aside (letter_of n l) (taken_out n l)
+set-aside : (n : ℕ) (d : Bool) (l : ReturnLists) → (set_by n d l).aside ≡ cond d l.aside (l.aside ++ n ∷ [])
+set-aside n true l = kept-aside (return_of n l) (taken_out n l)
 set-aside n false l = refl
 
 -- what a mark does to the list, after the marks before it
@@ -42,17 +42,17 @@ aside_after c before (mark.SetAside j) ns = cond (channel_of j before == c) (con
 aside_after c before (mark.Drained d) ns = cond (d == c) (filter (λ n. not (is_done before n)) ns) ns
 aside_after c before _ ns = ns
 
-aside-step : (c : ℕ) (before : List ConfirmMark) (m : ConfirmMark) (l : Letters) → (letters_step c before m l).aside ≡ aside_after c before m l.aside
+aside-step : (c : ℕ) (before : List ConfirmMark) (m : ConfirmMark) (l : ReturnLists) → (return_lists_step c before m l).aside ≡ aside_after c before m l.aside
 aside-step c before (mark.Begun d) l = elim (d == c) as (λ (b : Bool). (cond b (renewed l) l).aside ≡ cond b [] l.aside) [ true ↦ refl | false ↦ refl ]
 aside-step c before (mark.Settled d s) l = elim (d == c) as (λ (b : Bool). (cond b (attached_to_all (covered c s before) l) l).aside ≡ l.aside) [ true ↦ attached-aside (covered c s before) l | false ↦ refl ]
 aside-step c before (mark.Arrived d m) l = elim (d == c) as (λ (b : Bool). (cond b (arrived_in (is_selected c before) m l) l).aside ≡ l.aside) [ true ↦ arrived-aside (is_selected c before) m l | false ↦ refl ]
 aside-step c before (mark.Taken n) l = elim (channel_of n before == c) as (λ (b : Bool). (cond b (taken_out n l) l).aside ≡ l.aside) [ true ↦ refl | false ↦ refl ]
 aside-step c before (mark.SetAside n) l = elim (channel_of n before == c) as (λ (b : Bool). (cond b (set_by n (is_done before n) l) l).aside ≡ cond b (cond (is_done before n) l.aside (l.aside ++ n ∷ [])) l.aside) [ true ↦ set-aside n (is_done before n) l | false ↦ refl ]
-aside-step c before (mark.Drained d) l = elim (d == c) as (λ (b : Bool). (cond b (drained_letters (is_done before) l) l).aside ≡ cond b (filter (λ n. not (is_done before n)) l.aside) l.aside) [ true ↦ refl | false ↦ refl ]
+aside-step c before (mark.Drained d) l = elim (d == c) as (λ (b : Bool). (cond b (drained_return_lists (is_done before) l) l).aside ≡ cond b (filter (λ n. not (is_done before n)) l.aside) l.aside) [ true ↦ refl | false ↦ refl ]
 aside-step c before _ l = refl
 
-pub aside-push : (c : ℕ) (ms : List ConfirmMark) (m : ConfirmMark) → (letters_of c (ms ++ m ∷ [])).aside ≡ aside_after c ms m (letters_of c ms).aside
-aside-push c ms m = ap (λ (l : Letters). l.aside) (letters-push c ms m) ∙ aside-step c ms m (letters_of c ms)
+pub aside-push : (c : ℕ) (ms : List ConfirmMark) (m : ConfirmMark) → (return_lists_of c (ms ++ m ∷ [])).aside ≡ aside_after c ms m (return_lists_of c ms).aside
+aside-push c ms m = ap (λ (l : ReturnLists). l.aside) (return_lists-push c ms m) ∙ aside-step c ms m (return_lists_of c ms)
 
 -- ---- one of the confirms that pass
 

@@ -2,13 +2,13 @@
 use Rattle.std.proofs.Common.{◌≡◌, ℕ, ◌==◌, Bool, true, false, cond, ◌||◌, List, [], ◌∷◌, ◌++◌, Some, None, refl, sym, ◌∙◌, ap, subst, eqb-true, append-nil, append_assoc}
 use Rattle.std.specs.List.{list_any}
 use Rattle.lapin_tables.specs.ByChannel.{at_channel}
-use Rattle.lapin_history.specs.ConfirmMarks.{ConfirmMark}
-use Rattle.lapin_history.specs.ConfirmMarks as mark
-use Rattle.lapin_history.specs.Words.{since}
-use Rattle.lapin_history.specs.ConfirmReadings.{begins, turns, asks, present, is_begun, is_selected, place, is_asked, limit_of}
-use Rattle.lapin_history.proofs.ListLaws.{any-push, since-push}
-use Rattle.lapin_confirm.specs.Book.{asked_in, asked_on}
-use Rattle.lapin_confirm.specs.Post.{Post}
+use Rattle.lapin_rules.specs.ConfirmMarks.{ConfirmMark}
+use Rattle.lapin_rules.specs.ConfirmMarks as mark
+use Rattle.lapin_rules.specs.Words.{since}
+use Rattle.lapin_rules.specs.ConfirmReadings.{begins, turns, asks, present, is_begun, is_selected, place, is_asked, limit_of}
+use Rattle.lapin_rules.proofs.ListLaws.{any-push, since-push}
+use Rattle.lapin_confirm.specs.PublishStates.{asked_in, asked_on}
+use Rattle.lapin_confirm.specs.ConfirmState.{ConfirmState}
 use Rattle.lapin_confirm.specs.Follows.{Follows, MayCome, CameAfter}
 
 -- each channel on which a call was accepted had an opening
@@ -42,9 +42,9 @@ asked-from : (before ms : List ConfirmMark) → AskedBegun before → CameAfter 
 asked-from before [] was came = subst AskedBegun (sym (append-nil before)) was
 asked-from before (m ∷ ms) was came = subst AskedBegun (append_assoc before (m ∷ []) ms) (asked-from (before ++ m ∷ []) ms (asked-push before m came.0 was) came.1)
 
-pub asked-read : (c : ℕ) (ms : List ConfirmMark) (p : Post) → Follows ms p → asked_on c p.book ≡ is_asked c ms
+pub asked-read : (c : ℕ) (ms : List ConfirmMark) (p : ConfirmState) → Follows ms p → asked_on c p.publish_states ≡ is_asked c ms
 asked-read c ms p f =
-    ap asked_in (f.ledgers c)
+    ap asked_in (f.confirm_modes c)
     ∙ elim (is_begun c ms) as (λ b. is_begun c ms ≡ b → asked_in (cond b (Some (record { selected = is_selected c ms; last = place c ms; asked = is_asked c ms; limit = limit_of c ms })) None) ≡ is_asked c ms) [
       | true ↦ λ h. refl
       | false ↦ λ h. elim (is_asked c ms) as (λ a. is_asked c ms ≡ a → false ≡ a) [

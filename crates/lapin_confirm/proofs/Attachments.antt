@@ -2,27 +2,27 @@
 use Rattle.std.proofs.Common.{◌≡◌, ℕ, zero, suc, ◌+◌, ◌-◌, ◌<◌, ◌≤◌, nat_le, true, false, List, [], ◌∷◌, Option, Some, None, refl, sym, ◌∙◌, ap, subst, arith, ◌⊎◌, inl, inr}
 use Rattle.std.proofs.lemmas.Bool.{leb-true, leb-false}
 use Rattle.lapin_types.specs.declared.message.BasicReturnMessage.{BasicReturnMessage}
-use Rattle.lapin_history.specs.Letters.{Letters, given_first, attached_to, attached_to_all}
-use Rattle.lapin_history.specs.ReturnReadings.{joined}
+use Rattle.lapin_rules.specs.ReturnLists.{ReturnLists, given_first, attached_to, attached_to_all}
+use Rattle.lapin_rules.specs.ReturnReadings.{joined}
 use Rattle.lapin_tables.specs.Numbered.{under, first_kept}
 use Rattle.lapin_tables.proofs.SlotLaws.{first-least, first-none}
-use Rattle.lapin_confirm.specs.Tray.{pending_from, pending_through}
+use Rattle.lapin_confirm.specs.ReturnedMessages.{pending_from, pending_through}
 
-joined-next : (o : Option ℕ) (ns : List ℕ) (l : Letters) → attached_to_all ns (attached_to_all (joined o []) l) ≡ attached_to_all (joined o ns) l
+joined-next : (o : Option ℕ) (ns : List ℕ) (l : ReturnLists) → attached_to_all ns (attached_to_all (joined o []) l) ≡ attached_to_all (joined o ns) l
 joined-next None ns l = refl
 joined-next (Some n) ns l = refl
 
-attach-tag : (t m : ℕ) (tags : List (Option ℕ)) (l : Letters) → attached_to_all (pending_from (t + 1) m tags) (attached_to_all (joined (under t tags) []) l) ≡ attached_to_all (pending_from t (suc m) tags) l
+attach-tag : (t m : ℕ) (tags : List (Option ℕ)) (l : ReturnLists) → attached_to_all (pending_from (t + 1) m tags) (attached_to_all (joined (under t tags) []) l) ≡ attached_to_all (pending_from t (suc m) tags) l
 attach-tag t m tags l = joined-next (under t tags) (pending_from (t + 1) m tags) l
 
-pub attach-next : (t n : ℕ) (tags : List (Option ℕ)) (l k : Letters) → t < n → k ≡ attached_to_all (joined (under (t + 1) tags) []) l → attached_to_all (pending_from (t + 1 + 1) (n - (t + 1)) tags) k ≡ attached_to_all (pending_from (t + 1) (n - t) tags) l
+pub attach-next : (t n : ℕ) (tags : List (Option ℕ)) (l k : ReturnLists) → t < n → k ≡ attached_to_all (joined (under (t + 1) tags) []) l → attached_to_all (pending_from (t + 1 + 1) (n - (t + 1)) tags) k ≡ attached_to_all (pending_from (t + 1) (n - t) tags) l
 attach-next t n tags l k more is =
     let one : n - t ≡ suc (n - (t + 1)) = omega arith in
     let P : ℕ → Type 0 = λ m. attached_to_all (pending_from (t + 1 + 1) (n - (t + 1)) tags) k ≡ attached_to_all (pending_from (t + 1) m tags) l in
     subst P (sym one) (ap (attached_to_all (pending_from (t + 1 + 1) (n - (t + 1)) tags)) is ∙ attach-tag (t + 1) (n - (t + 1)) tags l)
 
 -- where nothing waits, nothing is attached
-pub attach-nothing : (ns : List ℕ) (l : Letters) → l.waiting ≡ [] → attached_to_all ns l ≡ l
+pub attach-nothing : (ns : List ℕ) (l : ReturnLists) → l.waiting ≡ [] → attached_to_all ns l ≡ l
 attach-nothing [] l none = refl
 attach-nothing (n ∷ ns) l none = rw (given n) (attach-nothing ns l none)
   where
@@ -30,7 +30,7 @@ attach-nothing (n ∷ ns) l none = rw (given n) (attach-nothing ns l none)
     given n = ap (λ (ms : List BasicReturnMessage). given_first n ms l) none
 
 -- no tag is left
-pub attach-end : (t n : ℕ) (tags : List (Option ℕ)) (l : Letters) → n ≤ t → attached_to_all (pending_from (t + 1) (n - t) tags) l ≡ l
+pub attach-end : (t n : ℕ) (tags : List (Option ℕ)) (l : ReturnLists) → n ≤ t → attached_to_all (pending_from (t + 1) (n - t) tags) l ≡ l
 attach-end t n tags l over = let none : n - t ≡ 0 = omega arith in ap (λ (m : ℕ). attached_to_all (pending_from (t + 1) m tags) l) none
 
 -- tags that nobody is pending with

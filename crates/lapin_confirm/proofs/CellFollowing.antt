@@ -1,22 +1,22 @@
--- What one more mark does to the cell and the home of a publish.
+-- What one more mark does to the cell and the origin of a publish.
 use Rattle.std.proofs.Common.{◌≡◌, ℕ, suc, ◌<◌, ◌==◌, true, false, cond, ◌||◌, ◌&&◌, List, [], ◌∷◌, ◌++◌, Option, Some, None, refl, ◌∙◌, ap, eq-eqb}
 use Rattle.std.specs.Option.{option_or, option_map}
-use Rattle.lapin_history.specs.declared.marks.Outcome.{Outcome}
-use Rattle.lapin_history.specs.declared.marks.Outcome.TheVariants as outcome
-use Rattle.lapin_history.specs.ConfirmMarks.{ConfirmMark}
-use Rattle.lapin_history.specs.ConfirmMarks as mark
-use Rattle.lapin_history.specs.Words.{after}
-use Rattle.lapin_history.specs.ConfirmReadings.{leaves, takes, lays, has_left, is_taken, is_aside, channel_of, tag_of, tag_on, first_settled, settlement_on, first_rejected, rejection_on, life, added, covers, outcome_of}
-use Rattle.lapin_history.specs.ReturnReadings.{goes, is_gone}
-use Rattle.lapin_history.proofs.ListLaws.{or_false, any-push, after-push, through-push}
-use Rattle.lapin_history.proofs.ReturnLaws.{gone-push}
-use Rattle.lapin_history.proofs.ConfirmLaws.{settled-push, rejected-push, accepted-push, life-push, accepted_new, life_new}
+use Rattle.lapin_rules.specs.declared.marks.Outcome.{Outcome}
+use Rattle.lapin_rules.specs.declared.marks.Outcome.TheVariants as outcome
+use Rattle.lapin_rules.specs.ConfirmMarks.{ConfirmMark}
+use Rattle.lapin_rules.specs.ConfirmMarks as mark
+use Rattle.lapin_rules.specs.Words.{after}
+use Rattle.lapin_rules.specs.ConfirmReadings.{leaves, takes, lays, has_left, is_taken, is_aside, channel_of, tag_of, tag_on, first_settled, settlement_on, first_rejected, rejection_on, life, added, covers, outcome_of}
+use Rattle.lapin_rules.specs.ReturnReadings.{goes, is_gone}
+use Rattle.lapin_rules.proofs.ListLaws.{or_false, any-push, after-push, through-push}
+use Rattle.lapin_rules.proofs.ReturnLaws.{gone-push}
+use Rattle.lapin_rules.proofs.ConfirmLaws.{settled-push, rejected-push, accepted-push, life-push, accepted_new, life_new}
 use Rattle.lapin_confirm.specs.declared.cell.Cell.{Cell}
 use Rattle.lapin_confirm.specs.declared.cell.Cell.TheVariants as cell
-use Rattle.lapin_confirm.specs.Book.{tag_for, cell_with, settled_cell, closed_cell, ended_cell}
-use Rattle.lapin_confirm.specs.Post.{new_home}
-use Rattle.lapin_confirm.specs.Follows.{ledger_in, open_cell, cell_in, home_in, left_cell, pending_cell, queued_cell}
-use Rattle.lapin_confirm.proofs.LedgerFollowing.{tag-push}
+use Rattle.lapin_confirm.specs.PublishStates.{tag_for, cell_with, settled_cell, closed_cell, ended_cell}
+use Rattle.lapin_confirm.specs.ConfirmState.{new_origin}
+use Rattle.lapin_confirm.specs.Follows.{confirm_mode_in, open_cell, cell_in, origin_in, left_cell, pending_cell, queued_cell}
+use Rattle.lapin_confirm.proofs.ConfirmModeFollowing.{tag-push}
 
 -- what a mark of something else does to a publish's cell
 abbrev pub stood : ConfirmMark → Option Cell → Option Cell
@@ -82,9 +82,9 @@ cell-step k ms m known away kept =
           rw (still, h) (open-step k ms m known away)
     ] refl
 
--- what a mark by which it neither goes nor is set aside does to a publish's home
-pub home-step : (k : ℕ) (ms : List ConfirmMark) (m : ConfirmMark) → k < added ms → lays (suc k) m ≡ false → goes (suc k) ms m ≡ false → home_in (suc k) (ms ++ m ∷ []) ≡ home_in (suc k) ms
-home-step k ms m known unlaid kept =
+-- what a mark by which it neither goes nor is set aside does to a publish's origin
+pub origin-step : (k : ℕ) (ms : List ConfirmMark) (m : ConfirmMark) → k < added ms → lays (suc k) m ≡ false → goes (suc k) ms m ≡ false → origin_in (suc k) (ms ++ m ∷ []) ≡ origin_in (suc k) ms
+origin-step k ms m known unlaid kept =
     rw (gone-push (suc k) ms m, kept, accepted-push k ms m known, aside-push (suc k) ms m, unlaid, or_false (is_gone (suc k) ms), or_false (is_aside (suc k) ms)) refl
 
 left_first : (c : ℕ) (t : Option ℕ) → left_cell c t [] ≡ cell_with c t
@@ -119,7 +119,7 @@ queued_facts c k ms =
     ] refl
 
 -- a publish leaves
-pub cell-left : (c k : ℕ) (ms : List ConfirmMark) → k < added ms → cell_in (suc k) ms ≡ Some (cell.Queued c) → cell_in (suc k) (ms ++ mark.Left c (suc k) ∷ []) ≡ Some (cell_with c (tag_for (ledger_in c ms)))
+pub cell-left : (c k : ℕ) (ms : List ConfirmMark) → k < added ms → cell_in (suc k) ms ≡ Some (cell.Queued c) → cell_in (suc k) (ms ++ mark.Left c (suc k) ∷ []) ≡ Some (cell_with c (tag_for (confirm_mode_in c ms)))
 cell-left c k ms known is =
     let facts : IsQueued c (suc k) ms = queued_facts c (suc k) ms is in
     let here : (suc k == suc k) ≡ true = eq-eqb (suc k) (suc k) refl in
@@ -130,5 +130,5 @@ cell-left c k ms known is =
 pub cell-added : (c k : ℕ) (ms : List ConfirmMark) → k ≡ added ms → has_left (suc k) ms ≡ false → is_gone (suc k) ms ≡ false → cell_in (suc k) (ms ++ mark.Added c ∷ []) ≡ Some (cell.Queued c)
 cell-added c k ms last waits kept = rw (gone-push (suc k) ms (mark.Added c), kept, left-push (suc k) ms (mark.Added c), waits, accepted_new k c ms last, life_new k c ms last) refl
 
-pub home-added : (c k : ℕ) (ms : List ConfirmMark) → k ≡ added ms → is_aside (suc k) ms ≡ false → is_gone (suc k) ms ≡ false → home_in (suc k) (ms ++ mark.Added c ∷ []) ≡ Some (new_home c)
-home-added c k ms last unlaid kept = rw (gone-push (suc k) ms (mark.Added c), kept, accepted_new k c ms last, aside-push (suc k) ms (mark.Added c), unlaid) refl
+pub origin-added : (c k : ℕ) (ms : List ConfirmMark) → k ≡ added ms → is_aside (suc k) ms ≡ false → is_gone (suc k) ms ≡ false → origin_in (suc k) (ms ++ mark.Added c ∷ []) ≡ Some (new_origin c)
+origin-added c k ms last unlaid kept = rw (gone-push (suc k) ms (mark.Added c), kept, accepted_new k c ms last, aside-push (suc k) ms (mark.Added c), unlaid) refl

@@ -2,14 +2,14 @@
 use Rattle.std.proofs.Common.{◌≡◌, ℕ, zero, suc, ◌<◌, ◌≤◌, true, false, List, [], ◌∷◌, ◌++◌, Option, Some, None, refl, subst, arith, eq-eqb}
 use Rattle.std.specs.Option.{option_or}
 use Rattle.lapin_types.specs.declared.Error.{Error}
-use Rattle.lapin_history.specs.declared.marks.Outcome.{Outcome}
-use Rattle.lapin_history.specs.declared.marks.Outcome.TheVariants as outcome
-use Rattle.lapin_history.specs.ConfirmMarks.{ConfirmMark}
-use Rattle.lapin_history.specs.ConfirmMarks as mark
-use Rattle.lapin_history.specs.Words.{after}
-use Rattle.lapin_history.specs.ConfirmReadings.{leaves, has_left, channel_of, tag_of, added, life, first_settled, first_rejected, outcome_after, outcome_at, is_open_outcome}
-use Rattle.lapin_history.proofs.ListLaws.{after-push, through-push}
-use Rattle.lapin_history.proofs.ConfirmLaws.{settled-push, rejected-push, accepted-push, life-push}
+use Rattle.lapin_rules.specs.declared.marks.Outcome.{Outcome}
+use Rattle.lapin_rules.specs.declared.marks.Outcome.TheVariants as outcome
+use Rattle.lapin_rules.specs.ConfirmMarks.{ConfirmMark}
+use Rattle.lapin_rules.specs.ConfirmMarks as mark
+use Rattle.lapin_rules.specs.Words.{after}
+use Rattle.lapin_rules.specs.ConfirmReadings.{leaves, has_left, channel_of, tag_of, added, life, first_settled, first_rejected, outcome_after, outcome_at, is_open_outcome}
+use Rattle.lapin_rules.proofs.ListLaws.{after-push, through-push}
+use Rattle.lapin_rules.proofs.ConfirmLaws.{settled-push, rejected-push, accepted-push, life-push}
 use Rattle.lapin_confirm.specs.Follows.{WasAdded}
 use Rattle.lapin_confirm.proofs.CellFollowing.{left-push}
 

@@ -4,16 +4,16 @@ use Rattle.std.proofs.lemmas.Bool.Decides.{eqb_tells}
 use Rattle.std.specs.List.{range_with_len}
 use Rattle.std.proofs.lemmas.Bool.{leb-true, leb-false, le-leb, lt-leb, ltb-true, ltb-false}
 use Rattle.lapin_tables.proofs.SlotLaws.{given}
-use Rattle.lapin_history.specs.declared.marks.SettleKind.{SettleKind}
-use Rattle.lapin_history.specs.ConfirmReadings.{covers}
-use Rattle.lapin_history.specs.ReturnReadings.{joined, taking}
+use Rattle.lapin_rules.specs.declared.marks.SettleKind.{SettleKind}
+use Rattle.lapin_rules.specs.ConfirmReadings.{covers}
+use Rattle.lapin_rules.specs.ReturnReadings.{joined, taking}
 use Rattle.lapin_tables.specs.Numbered.{under}
 use Rattle.lapin_confirm.specs.declared.cell.Cell.{Cell}
 use Rattle.lapin_confirm.specs.declared.cell.Cell.TheVariants as cell
-use Rattle.lapin_confirm.specs.declared.ledger.Ledger.{Ledger}
-use Rattle.lapin_confirm.specs.Book.{is_pending_as, single_of, multiple_of}
-use Rattle.lapin_confirm.specs.Post.{number_from}
-use Rattle.lapin_confirm.specs.Tray.{pending_through}
+use Rattle.lapin_confirm.specs.declared.confirm_mode.ConfirmMode.{ConfirmMode}
+use Rattle.lapin_confirm.specs.PublishStates.{is_pending_as, single_of, multiple_of}
+use Rattle.lapin_confirm.specs.ConfirmState.{number_from}
+use Rattle.lapin_confirm.specs.ReturnedMessages.{pending_through}
 use Rattle.lapin_confirm.specs.Ties.{Tied}
 
 is-pending : (c t : ℕ) (o : Option Cell) → is_pending_as c t o ≡ true → o ≡ Some (cell.Pending c t)
@@ -51,7 +51,7 @@ number-none c t n (suc k) (o ∷ cells) none there =
     ] none
 
 -- the publish that is pending with a tag
-pub tag-number : (c t : ℕ) (l : Ledger) (cells : List (Option Cell)) → Tied c l cells → under t l.tags.slots ≡ number_from c t 1 cells
+pub tag-number : (c t : ℕ) (l : ConfirmMode) (cells : List (Option Cell)) → Tied c l cells → under t l.tags.slots ≡ number_from c t 1 cells
 tag-number c t l cells tied = told (number_from c t 1 cells) refl (under t l.tags.slots) refl
   where
     told : (o : Option ℕ) → number_from c t 1 cells ≡ o → (p : Option ℕ) → under t l.tags.slots ≡ p → under t l.tags.slots ≡ number_from c t 1 cells
@@ -68,7 +68,7 @@ taking-same p q f g [] hp hf = refl
 taking-same p q f g (t ∷ ts) hp hf = rw (hp t, hf t, taking-same p q f g ts hp hf) refl
 
 -- a multiple settlement of 0 covers the publishes under every tag
-pub covered-all : (c : ℕ) (kind : SettleKind) (l : Ledger) (cells : List (Option Cell)) (ts : List ℕ) → Tied c l cells → taking (λ _. true) (λ u. under u l.tags.slots) ts ≡ taking (covers (multiple_of kind 0)) (λ t. number_from c t 1 cells) ts
+pub covered-all : (c : ℕ) (kind : SettleKind) (l : ConfirmMode) (cells : List (Option Cell)) (ts : List ℕ) → Tied c l cells → taking (λ _. true) (λ u. under u l.tags.slots) ts ≡ taking (covers (multiple_of kind 0)) (λ t. number_from c t 1 cells) ts
 covered-all c kind l cells ts tied = taking-same (λ _. true) (covers (multiple_of kind 0)) (λ u. under u l.tags.slots) (λ t. number_from c t 1 cells) ts (λ t. refl) (λ t. tag-number c t l cells tied)
 
 -- ---- tags in a range, of which some are covered
@@ -100,7 +100,7 @@ taking-one f tag t (suc n) low beyond =
     ]
 
 -- a settlement of one tag covers the publish under it
-pub covered-one : (c : ℕ) (kind : SettleKind) (tag : ℕ) (l : Ledger) (cells : List (Option Cell)) → Tied c l cells → joined (under tag l.tags.slots) [] ≡ taking (covers (single_of kind tag)) (λ t. number_from c t 1 cells) (range_with_len 1 (length l.tags.slots))
+pub covered-one : (c : ℕ) (kind : SettleKind) (tag : ℕ) (l : ConfirmMode) (cells : List (Option Cell)) → Tied c l cells → joined (under tag l.tags.slots) [] ≡ taking (covers (single_of kind tag)) (λ t. number_from c t 1 cells) (range_with_len 1 (length l.tags.slots))
 covered-one c kind tag l cells tied =
     sym (taking-same (covers (single_of kind tag)) (λ u. tag == u) (λ t. number_from c t 1 cells) (λ u. under u l.tags.slots) (range_with_len 1 (length l.tags.slots)) (λ t. refl) (λ t. sym (tag-number c t l cells tied)) ∙ of_tag tag)
   where
@@ -125,7 +125,7 @@ covers-up_to kind tag limit last t above most same within = rw (ne_eqb tag 0 (λ
   | false ↦ λ h. let gt : tag < t = leb-false t tag h in lt-leb t limit (omega arith)
 ] refl)
 
-pub covered-up_to : (c : ℕ) (kind : SettleKind) (tag limit : ℕ) (l : Ledger) (cells : List (Option Cell)) → Tied c l cells → 0 < tag → limit ≤ tag → limit ≤ length l.tags.slots → (limit < length l.tags.slots → limit ≡ tag) → pending_through limit l.tags.slots ≡ taking (covers (multiple_of kind tag)) (λ t. number_from c t 1 cells) (range_with_len 1 (length l.tags.slots))
+pub covered-up_to : (c : ℕ) (kind : SettleKind) (tag limit : ℕ) (l : ConfirmMode) (cells : List (Option Cell)) → Tied c l cells → 0 < tag → limit ≤ tag → limit ≤ length l.tags.slots → (limit < length l.tags.slots → limit ≡ tag) → pending_through limit l.tags.slots ≡ taking (covers (multiple_of kind tag)) (λ t. number_from c t 1 cells) (range_with_len 1 (length l.tags.slots))
 covered-up_to c kind tag limit l cells tied above most fits same =
     let whole : limit + (length l.tags.slots - limit) ≡ length l.tags.slots = omega arith in
     sym (taking-same (covers (multiple_of kind tag)) (covers (multiple_of kind tag)) (λ t. number_from c t 1 cells) (λ u. under u l.tags.slots) (range_with_len 1 (length l.tags.slots)) (λ t. refl) (λ t. sym (tag-number c t l cells tied))

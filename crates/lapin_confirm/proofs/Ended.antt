@@ -5,15 +5,15 @@ use Rattle.std.specs.List.{count_by, list_any}
 use Rattle.std.specs.Option.{option_map}
 use Rattle.std.proofs.lemmas.Bool.Decides.{eqb_tells}
 use Rattle.lapin_types.specs.declared.Error.{Error}
-use Rattle.lapin_history.specs.declared.marks.Outcome.{Outcome}
-use Rattle.lapin_history.specs.declared.marks.Outcome.TheVariants as outcome
+use Rattle.lapin_rules.specs.declared.marks.Outcome.{Outcome}
+use Rattle.lapin_rules.specs.declared.marks.Outcome.TheVariants as outcome
 use Rattle.lapin_tables.specs.Numbered.{under, with_under}
 use Rattle.lapin_tables.proofs.Counts.{count-none}
 use Rattle.lapin_tables.proofs.SlotLaws.{under-same, under-other, under-map, counted, map-same}
 use Rattle.lapin_confirm.specs.declared.cell.Cell.{Cell}
 use Rattle.lapin_confirm.specs.declared.cell.Cell.TheVariants as cell
-use Rattle.lapin_confirm.specs.declared.ledger.Ledger.{Ledger}
-use Rattle.lapin_confirm.specs.Book.{Book, is_queued_on, is_open_on, settled_cell, ended_cell, ended}
+use Rattle.lapin_confirm.specs.declared.confirm_mode.ConfirmMode.{ConfirmMode}
+use Rattle.lapin_confirm.specs.PublishStates.{PublishStates, is_queued_on, is_open_on, settled_cell, ended_cell, ended}
 use Rattle.lapin_confirm.specs.Ties.{Tied, Untouched}
 use Rattle.lapin_confirm.proofs.Settled.{none-under, settled-untouched}
 
@@ -34,7 +34,7 @@ ended-settled c p e cells none all = map-same (settled_cell c p (outcome.Failed 
         ]
     same k (cell.Resolved o) there = refl
 
--- a channel without a ledger
+-- a channel without a confirm mode
 pub ended-untouched : (c : ℕ) (e : Error) (cells : List (Option Cell)) → Untouched c cells → map (option_map (ended_cell c e)) cells ≡ cells
 ended-untouched c e cells none = sym (ended-settled c (λ _. true) e cells none.queued (λ n t there. refl)) ∙ settled-untouched c (λ _. true) (outcome.Failed e) cells none
 
@@ -58,7 +58,7 @@ pub none_queued : (c : ℕ) (cells : List (Option Cell)) → ((n : ℕ) → unde
 none_queued c cells none = count-none (is_queued_on c) cells (none-under (is_queued_on c) cells refl (λ k y there. not_queued c y (λ is. let below : suc k ≤ 0 = none (suc k) (there ∙ ap Some is) in omega arith)))
 
 -- and one that has, where one is counted
-pub number-left : (c number : ℕ) (l : Ledger) (cells : List (Option Cell)) → Tied c l cells → 0 < l.queued → ((n : ℕ) → under n cells ≡ Some (cell.Queued c) → n ≤ number) → 1 ≤ number
+pub number-left : (c number : ℕ) (l : ConfirmMode) (cells : List (Option Cell)) → Tied c l cells → 0 < l.queued → ((n : ℕ) → under n cells ≡ Some (cell.Queued c) → n ≤ number) → 1 ≤ number
 number-left c zero l cells tied more below = let none : count_by (is_queued_on c) cells ≡ 0 = none_queued c cells below in absurd (omega (arith, tied.queued))
 number-left c (suc k) l cells tied more below = omega arith
 
@@ -101,11 +101,11 @@ any_cell-ended c d e (o ∷ cells) =
     (elim (d == c) as (λ b. (cond b false (is_open_on c o) || cond b false (list_any (is_open_on c) cells)) ≡ cond b false (is_open_on c o || list_any (is_open_on c) cells)) [ true ↦ refl | false ↦ refl ])
 
 -- whether anything of channel c is open after the end of channel d's opening
-pub any-ended : (c d : ℕ) (e : Error) (b : Book) → list_any (is_open_on c) (ended d e b).cells ≡ (if d == c then false else list_any (is_open_on c) b.cells)
+pub any-ended : (c d : ℕ) (e : Error) (b : PublishStates) → list_any (is_open_on c) (ended d e b).cells ≡ (if d == c then false else list_any (is_open_on c) b.cells)
 any-ended c d e b = any_cell-ended c d e b.cells
 
 -- a queued publish of another channel stays as it is
-pub queued-beside : (c d n : ℕ) (e : Error) (b : Book) → under n b.cells ≡ Some (cell.Queued c) → d ≢ c → under n (ended d e b).cells ≡ Some (cell.Queued c)
+pub queued-beside : (c d n : ℕ) (e : Error) (b : PublishStates) → under n b.cells ≡ Some (cell.Queued c) → d ≢ c → under n (ended d e b).cells ≡ Some (cell.Queued c)
 queued-beside c d n e b was apart =
     let away : (c == d) ≡ false = ne_eqb c d (λ same. apart (sym same)) in
     under-map (ended_cell d e) n b.cells ∙ ap (option_map (ended_cell d e)) was ∙ rw away refl

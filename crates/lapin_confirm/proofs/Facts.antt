@@ -3,13 +3,13 @@ use Rattle.std.proofs.Common.{◌≡◌, ℕ, zero, suc, ◌+◌, ◌<◌, ◌�
 use Rattle.std.specs.List.{filter}
 use Rattle.std.proofs.Math.Bool.{or-true}
 use Rattle.std.proofs.lemmas.Bool.Decides.{eqb_tells}
-use Rattle.lapin_history.specs.ConfirmMarks.{ConfirmMark}
-use Rattle.lapin_history.specs.ConfirmMarks as mark
-use Rattle.lapin_history.specs.ConfirmReadings.{begins, adds, leaves, takes, lays, has_left, is_taken, is_aside, is_begun, channel_of, added, outcome_at, is_open_outcome, is_finished}
-use Rattle.lapin_history.specs.ReturnReadings.{is_done, letters_of, goes, is_gone}
-use Rattle.lapin_history.proofs.ListLaws.{or_false, any-push}
-use Rattle.lapin_history.proofs.ConfirmLaws.{added-push, accepted-push, accepted_new}
-use Rattle.lapin_history.proofs.ReturnLaws.{gone-push}
+use Rattle.lapin_rules.specs.ConfirmMarks.{ConfirmMark}
+use Rattle.lapin_rules.specs.ConfirmMarks as mark
+use Rattle.lapin_rules.specs.ConfirmReadings.{begins, adds, leaves, takes, lays, has_left, is_taken, is_aside, is_begun, channel_of, added, outcome_at, is_open_outcome, is_finished}
+use Rattle.lapin_rules.specs.ReturnReadings.{is_done, return_lists_of, goes, is_gone}
+use Rattle.lapin_rules.proofs.ListLaws.{or_false, any-push}
+use Rattle.lapin_rules.proofs.ConfirmLaws.{added-push, accepted-push, accepted_new}
+use Rattle.lapin_rules.proofs.ReturnLaws.{gone-push}
 use Rattle.lapin_confirm.specs.declared.cell.Cell.TheVariants as cell
 use Rattle.lapin_confirm.specs.Follows.{WasAdded, MayCome, CameAfter, cell_in}
 use Rattle.lapin_confirm.proofs.CellFollowing.{left-push, taken-push, IsQueued, queued_facts}
@@ -32,7 +32,7 @@ pub record Facts (ms : List ConfirmMark) : Type 0 where
   -- a publish is of a channel that had an opening
   pub begun : (k : ℕ) → k < added ms → is_begun (channel_of (suc k) ms) ms ≡ true
   -- who stands aside
-  pub aside : (c n : ℕ) → stands n (letters_of c ms).aside ≡ rests c n ms
+  pub aside : (c n : ℕ) → stands n (return_lists_of c ms).aside ≡ rests c n ms
 
 or_split : (a b : Bool) → (a || b) ≡ true → (a ≡ true) ⊎ (b ≡ true)
 or_split true b h = inl refl
@@ -236,13 +236,13 @@ stays_out c n ms (mark.SetAside j) ns away out =
 stays_out c n ms (mark.Drained d) ns away out = elim (d == c) as (λ (b : Bool). stands n (cond b (filter (λ i. not (is_done ms i)) ns) ns) ≡ false) [ true ↦ stands-filter (λ i. not (is_done ms i)) n ns ∙ rw out refl | false ↦ out ]
 stays_out c n ms _ ns away out = out
 
-aside-unknown : (ms : List ConfirmMark) (m : ConfirmMark) → Facts ms → MayCome ms m → (c n : ℕ) → (WasAdded n ms → ⊥) → stands n (letters_of c (ms ++ m ∷ [])).aside ≡ rests c n (ms ++ m ∷ [])
+aside-unknown : (ms : List ConfirmMark) (m : ConfirmMark) → Facts ms → MayCome ms m → (c n : ℕ) → (WasAdded n ms → ⊥) → stands n (return_lists_of c (ms ++ m ∷ [])).aside ≡ rests c n (ms ++ m ∷ [])
 aside-unknown ms m f may c n unknown =
     let unlaid : is_aside n ms ≡ false = untrue (is_aside n ms) (λ h. unknown (f.known n (or_second (is_taken n ms) (is_aside n ms) h))) in
     let away : lays n m ≡ false = untrue (lays n m) (λ h. unknown (finishes-known n ms m may (or_second (takes n m) (lays n m) h))) in
-    let out : stands n (letters_of c ms).aside ≡ false = f.aside c n ∙ rw unlaid (never_both (channel_of n ms == c) (not (is_gone n ms))) in
+    let out : stands n (return_lists_of c ms).aside ≡ false = f.aside c n ∙ rw unlaid (never_both (channel_of n ms == c) (not (is_gone n ms))) in
     let still : is_aside n (ms ++ m ∷ []) ≡ false = cells.aside-push n ms m ∙ rw (unlaid, away) refl in
-    ap (stands n) (aside-push c ms m) ∙ stays_out c n ms m (letters_of c ms).aside away out ∙ rw still (sym (never_both (channel_of n (ms ++ m ∷ []) == c) (not (is_gone n (ms ++ m ∷ [])))))
+    ap (stands n) (aside-push c ms m) ∙ stays_out c n ms m (return_lists_of c ms).aside away out ∙ rw still (sym (never_both (channel_of n (ms ++ m ∷ []) == c) (not (is_gone n (ms ++ m ∷ [])))))
 
 -- who stands aside after a mark, of those that were accepted
 abbrev moved : ℕ → ℕ → List ConfirmMark → ConfirmMark → Bool
@@ -254,7 +254,7 @@ unfinished n ms open_ = untrue (is_aside n ms) (λ h. let yes : is_finished n ms
 pub unfinished-kept : (n : ℕ) (ms : List ConfirmMark) → Facts ms → is_finished n ms ≡ false → is_gone n ms ≡ false
 unfinished-kept n ms f open_ = untrue (is_gone n ms) (λ h. let yes : is_finished n ms ≡ true = f.gone n h in cc)
 
-aside-moved : (ms : List ConfirmMark) (m : ConfirmMark) → Facts ms → MayCome ms m → (c n : ℕ) → WasAdded n ms → stands n (aside_after c ms m (letters_of c ms).aside) ≡ moved c n ms m
+aside-moved : (ms : List ConfirmMark) (m : ConfirmMark) → Facts ms → MayCome ms m → (c n : ℕ) → WasAdded n ms → stands n (aside_after c ms m (return_lists_of c ms).aside) ≡ moved c n ms m
 aside-moved ms (mark.Begun d) f may c n known =
     elim (eqb_tells d c) [
       | inl same ↦
@@ -268,7 +268,7 @@ aside-moved ms (mark.Drained d) f may c n known =
     elim (eqb_tells d c) [
       | inl same ↦
           let here : (channel_of n ms == d) ≡ (channel_of n ms == c) = ap (λ i. channel_of n ms == i) same.1 in
-          rw (same.0, here) (stands-filter (λ i. not (is_done ms i)) n (letters_of c ms).aside ∙ rw (f.aside c n) (drained_both (channel_of n ms == c) (is_aside n ms) (is_gone n ms) (is_done ms n)))
+          rw (same.0, here) (stands-filter (λ i. not (is_done ms i)) n (return_lists_of c ms).aside ∙ rw (f.aside c n) (drained_both (channel_of n ms == c) (is_aside n ms) (is_gone n ms) (is_done ms n)))
       | inr other ↦
           rw other.0
           (f.aside c n ∙ other_both (channel_of n ms == c) (channel_of n ms == d) (is_aside n ms) (is_gone n ms) (is_done ms n) (λ x. ne_eqb (channel_of n ms) d (λ is. other.1 (sym is ∙ eqb-true (channel_of n ms) c x))))
@@ -278,23 +278,23 @@ aside-moved ms (mark.SetAside j) f may c n known =
       | inl same ↦
           let P : ℕ → Type 0 = λ i. is_finished i ms ≡ false in
           let open_ : is_finished n ms ≡ false = subst P same.1 may.1 in
-          let Q : ℕ → Type 0 = λ i. stands n (cond (channel_of i ms == c) (cond (is_done ms i) (letters_of c ms).aside ((letters_of c ms).aside ++ i ∷ [])) (letters_of c ms).aside) ≡ (channel_of n ms == c && ((is_aside n ms || (i == n)) && not (is_gone n ms || ((i == n) && is_done ms n)))) in
+          let Q : ℕ → Type 0 = λ i. stands n (cond (channel_of i ms == c) (cond (is_done ms i) (return_lists_of c ms).aside ((return_lists_of c ms).aside ++ i ∷ [])) (return_lists_of c ms).aside) ≡ (channel_of n ms == c && ((is_aside n ms || (i == n)) && not (is_gone n ms || ((i == n) && is_done ms n)))) in
           subst Q (sym same.1) (laid_here c n ms f open_)
       | inr other ↦
           rw other.0
-          (elim (channel_of j ms == c) as (λ (b : Bool). stands n (cond b (cond (is_done ms j) (letters_of c ms).aside ((letters_of c ms).aside ++ j ∷ [])) (letters_of c ms).aside) ≡ stands n (letters_of c ms).aside) [
-            | true ↦ elim (is_done ms j) as (λ (b : Bool). stands n (cond b (letters_of c ms).aside ((letters_of c ms).aside ++ j ∷ [])) ≡ stands n (letters_of c ms).aside) [ true ↦ refl | false ↦ any-push (λ i. i == n) (letters_of c ms).aside j ∙ rw other.0 (or_false (stands n (letters_of c ms).aside)) ]
+          (elim (channel_of j ms == c) as (λ (b : Bool). stands n (cond b (cond (is_done ms j) (return_lists_of c ms).aside ((return_lists_of c ms).aside ++ j ∷ [])) (return_lists_of c ms).aside) ≡ stands n (return_lists_of c ms).aside) [
+            | true ↦ elim (is_done ms j) as (λ (b : Bool). stands n (cond b (return_lists_of c ms).aside ((return_lists_of c ms).aside ++ j ∷ [])) ≡ stands n (return_lists_of c ms).aside) [ true ↦ refl | false ↦ any-push (λ i. i == n) (return_lists_of c ms).aside j ∙ rw other.0 (or_false (stands n (return_lists_of c ms).aside)) ]
             | false ↦ refl
           ] ∙ f.aside c n ∙ still_both (channel_of n ms == c) (is_aside n ms) (is_gone n ms))
     ]
   where
-    laid_here : (c n : ℕ) (ms : List ConfirmMark) → Facts ms → is_finished n ms ≡ false → stands n (cond (channel_of n ms == c) (cond (is_done ms n) (letters_of c ms).aside ((letters_of c ms).aside ++ n ∷ [])) (letters_of c ms).aside) ≡ (channel_of n ms == c && ((is_aside n ms || (n == n)) && not (is_gone n ms || ((n == n) && is_done ms n))))
+    laid_here : (c n : ℕ) (ms : List ConfirmMark) → Facts ms → is_finished n ms ≡ false → stands n (cond (channel_of n ms == c) (cond (is_done ms n) (return_lists_of c ms).aside ((return_lists_of c ms).aside ++ n ∷ [])) (return_lists_of c ms).aside) ≡ (channel_of n ms == c && ((is_aside n ms || (n == n)) && not (is_gone n ms || ((n == n) && is_done ms n))))
     laid_here c n ms f open_ =
-        let was : stands n (letters_of c ms).aside ≡ (channel_of n ms == c && (false && true)) = f.aside c n ∙ rw (unfinished n ms open_) refl in
-        let now : stands n ((letters_of c ms).aside ++ n ∷ []) ≡ ((channel_of n ms == c && (false && true)) || true) = any-push (λ i. i == n) (letters_of c ms).aside n ∙ rw (was, eq-eqb n n refl) refl in
+        let was : stands n (return_lists_of c ms).aside ≡ (channel_of n ms == c && (false && true)) = f.aside c n ∙ rw (unfinished n ms open_) refl in
+        let now : stands n ((return_lists_of c ms).aside ++ n ∷ []) ≡ ((channel_of n ms == c && (false && true)) || true) = any-push (λ i. i == n) (return_lists_of c ms).aside n ∙ rw (was, eq-eqb n n refl) refl in
         rw (eq-eqb n n refl, unfinished n ms open_, unfinished-kept n ms f open_)
-        (elim (channel_of n ms == c) as (λ (b : Bool). stands n (cond b (cond (is_done ms n) (letters_of c ms).aside ((letters_of c ms).aside ++ n ∷ [])) (letters_of c ms).aside) ≡ cond b (cond (is_done ms n) (stands n (letters_of c ms).aside) (stands n ((letters_of c ms).aside ++ n ∷ []))) (stands n (letters_of c ms).aside)) [
-          | true ↦ elim (is_done ms n) as (λ (b : Bool). stands n (cond b (letters_of c ms).aside ((letters_of c ms).aside ++ n ∷ [])) ≡ cond b (stands n (letters_of c ms).aside) (stands n ((letters_of c ms).aside ++ n ∷ []))) [ true ↦ refl | false ↦ refl ]
+        (elim (channel_of n ms == c) as (λ (b : Bool). stands n (cond b (cond (is_done ms n) (return_lists_of c ms).aside ((return_lists_of c ms).aside ++ n ∷ [])) (return_lists_of c ms).aside) ≡ cond b (cond (is_done ms n) (stands n (return_lists_of c ms).aside) (stands n ((return_lists_of c ms).aside ++ n ∷ []))) (stands n (return_lists_of c ms).aside)) [
+          | true ↦ elim (is_done ms n) as (λ (b : Bool). stands n (cond b (return_lists_of c ms).aside ((return_lists_of c ms).aside ++ n ∷ [])) ≡ cond b (stands n (return_lists_of c ms).aside) (stands n ((return_lists_of c ms).aside ++ n ∷ []))) [ true ↦ refl | false ↦ refl ]
           | false ↦ refl
         ] ∙ rw (now, was) (laid_both (channel_of n ms == c) (is_done ms n)))
 aside-moved ms (mark.Taken j) f may c n known =
@@ -310,10 +310,10 @@ aside-moved ms _ f may c n known = f.aside c n ∙ still_both (channel_of n ms =
 rests-push : (c k : ℕ) (ms : List ConfirmMark) (m : ConfirmMark) → k < added ms → rests c (suc k) (ms ++ m ∷ []) ≡ moved c (suc k) ms m
 rests-push c k ms m known = rw (accepted-push k ms m known, cells.aside-push (suc k) ms m, gone-push (suc k) ms m) refl
 
-aside-follow : (ms : List ConfirmMark) (m : ConfirmMark) → Facts ms → MayCome ms m → (c n : ℕ) → stands n (letters_of c (ms ++ m ∷ [])).aside ≡ rests c n (ms ++ m ∷ [])
+aside-follow : (ms : List ConfirmMark) (m : ConfirmMark) → Facts ms → MayCome ms m → (c n : ℕ) → stands n (return_lists_of c (ms ++ m ∷ [])).aside ≡ rests c n (ms ++ m ∷ [])
 aside-follow ms m f may c zero = aside-unknown ms m f may c 0 (λ known. let none : 1 ≤ 0 = known.0 in absurd (omega arith))
 aside-follow ms m f may c (suc k) =
-    elim (nat_lt k (added ms)) as (λ b. nat_lt k (added ms) ≡ b → stands (suc k) (letters_of c (ms ++ m ∷ [])).aside ≡ rests c (suc k) (ms ++ m ∷ [])) [
+    elim (nat_lt k (added ms)) as (λ b. nat_lt k (added ms) ≡ b → stands (suc k) (return_lists_of c (ms ++ m ∷ [])).aside ≡ rests c (suc k) (ms ++ m ∷ [])) [
       | true ↦ λ h. let lt : k < added ms = ltb-true k (added ms) h in ap (stands (suc k)) (aside-push c ms m) ∙ aside-moved ms m f may c (suc k) (omega arith, omega arith) ∙ sym (rests-push c k ms m lt)
       | false ↦ λ h. let past : added ms ≤ k = ltb-false k (added ms) h in aside-unknown ms m f may c (suc k) (λ known. let last : suc k ≤ added ms = known.1 in absurd (omega arith))
     ] refl

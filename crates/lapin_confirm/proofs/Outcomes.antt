@@ -1,13 +1,13 @@
 -- An outcome that is there stays, whatever comes.
 use Rattle.std.proofs.Common.{◌≡◌, ℕ, zero, suc, ◌<◌, ◌≤◌, true, false, cond, List, [], ◌∷◌, ◌++◌, Option, Some, None, refl, ◌∙◌, ap, subst, arith, eqb-true}
 use Rattle.std.specs.Option.{option_or}
-use Rattle.lapin_history.specs.declared.marks.Outcome.{Outcome}
-use Rattle.lapin_history.specs.ConfirmMarks.{ConfirmMark}
-use Rattle.lapin_history.specs.ConfirmMarks as mark
-use Rattle.lapin_history.specs.Words.{after}
-use Rattle.lapin_history.specs.ConfirmReadings.{leaves, has_left, channel_of, tag_of, settlement_on, first_settled, first_rejected, rejection_on, life, added, outcome_at, outcome_after, is_open_outcome}
-use Rattle.lapin_history.proofs.ListLaws.{after-push, through-push}
-use Rattle.lapin_history.proofs.ConfirmLaws.{settled-push, rejected-push, accepted-push, life-push}
+use Rattle.lapin_rules.specs.declared.marks.Outcome.{Outcome}
+use Rattle.lapin_rules.specs.ConfirmMarks.{ConfirmMark}
+use Rattle.lapin_rules.specs.ConfirmMarks as mark
+use Rattle.lapin_rules.specs.Words.{after}
+use Rattle.lapin_rules.specs.ConfirmReadings.{leaves, has_left, channel_of, tag_of, settlement_on, first_settled, first_rejected, rejection_on, life, added, outcome_at, outcome_after, is_open_outcome}
+use Rattle.lapin_rules.proofs.ListLaws.{after-push, through-push}
+use Rattle.lapin_rules.proofs.ConfirmLaws.{settled-push, rejected-push, accepted-push, life-push}
 use Rattle.lapin_confirm.specs.Follows.{WasAdded, MayCome}
 use Rattle.lapin_confirm.proofs.CellFollowing.{left-push, IsQueued, queued_facts}
 

@@ -2,8 +2,8 @@
 use Rattle.std.proofs.Common.{◌≡◌, ℕ, zero, suc, ◌<◌, ◌==◌, true, false, cond, List, [], ◌∷◌, length, Option, Some, None, is_some, option_map, refl, ◌∙◌, ap, arith, slice_get, slice_index_or}
 use Rattle.std.specs.List.{remove}
 use Rattle.lapin_types.specs.declared.message.BasicReturnMessage.{BasicReturnMessage}
-use Rattle.lapin_history.specs.Letters.{message_at, without}
-use Rattle.lapin_confirm.specs.Tray.{place_in, is_of}
+use Rattle.lapin_rules.specs.ReturnLists.{message_at, without}
+use Rattle.lapin_confirm.specs.ReturnedMessages.{place_in, is_of}
 
 pub found : (n p : ℕ) (xs : List (ℕ × BasicReturnMessage)) → ((k : ℕ) → k < p → is_of n (slice_get xs k) ≡ false) → is_of n (slice_get xs p) ≡ true → place_in n xs ≡ Some p
 found n p [] before here = cc

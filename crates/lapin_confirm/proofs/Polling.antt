@@ -6,25 +6,25 @@ use Rattle.lapin_types.specs.declared.Error.{Error}
 use Rattle.lapin_types.specs.declared.Error.TheVariants as error
 use Rattle.lapin_types.specs.declared.confirmation.Confirmation.{Confirmation}
 use Rattle.lapin_types.specs.declared.message.BasicReturnMessage.{BasicReturnMessage}
-use Rattle.lapin_history.specs.declared.marks.Outcome.{Outcome}
-use Rattle.lapin_history.specs.ConfirmMarks.{ConfirmMark}
-use Rattle.lapin_history.specs.Words.{after}
-use Rattle.lapin_history.specs.ConfirmReadings.{leaves, has_left, is_taken, is_aside, channel_of, tag_of, first_settled, first_rejected, life, added, outcome_at, outcome_after, is_finished}
-use Rattle.lapin_history.specs.Letters.{letter_of}
-use Rattle.lapin_history.specs.ReturnReadings as read
-use Rattle.lapin_history.specs.ReturnReadings.{is_gone}
+use Rattle.lapin_rules.specs.declared.marks.Outcome.{Outcome}
+use Rattle.lapin_rules.specs.ConfirmMarks.{ConfirmMark}
+use Rattle.lapin_rules.specs.Words.{after}
+use Rattle.lapin_rules.specs.ConfirmReadings.{leaves, has_left, is_taken, is_aside, channel_of, tag_of, first_settled, first_rejected, life, added, outcome_at, outcome_after, is_finished}
+use Rattle.lapin_rules.specs.ReturnLists.{return_of}
+use Rattle.lapin_rules.specs.ReturnReadings as read
+use Rattle.lapin_rules.specs.ReturnReadings.{is_gone}
 use Rattle.lapin_tables.specs.Numbered.{under}
 use Rattle.lapin_confirm.specs.declared.cell.Cell.{Cell}
 use Rattle.lapin_confirm.specs.declared.cell.Cell.TheVariants as cell
-use Rattle.lapin_confirm.specs.Book.{is_resolved, is_unresolved}
-use Rattle.lapin_confirm.specs.Post.{Post, message_of, home_letters}
+use Rattle.lapin_confirm.specs.PublishStates.{is_resolved, is_unresolved}
+use Rattle.lapin_confirm.specs.ConfirmState.{ConfirmState, message_of, origin_return_lists}
 use Rattle.lapin_confirm.specs.Answers.{answer_in, answer_at, answer_with, is_unknown}
 use Rattle.lapin_confirm.specs.Aside.{is_aside_in, is_set_aside, is_giving, is_waiting, taken_answer}
 use Rattle.lapin_confirm.specs.Follows.{Follows, WasAdded, open_cell, left_cell, pending_cell, queued_cell}
 use Rattle.lapin_confirm.specs.Polled.{shown_with, polled, gives_result, is_none_yet}
 use Rattle.lapin_confirm.proofs.Facts.{facts, untrue}
 use Rattle.lapin_confirm.proofs.Remaining.{under-beyond}
-use Rattle.lapin_confirm.proofs.Reading.{cell-there, home-there}
+use Rattle.lapin_confirm.proofs.Reading.{cell-there, origin-there}
 
 -- ---- what the cell of a confirm answers, of which something is kept
 
@@ -52,34 +52,34 @@ answer_open m n ms =
 above : (k : ℕ) → (suc k == 0) ≡ false
 above k = ne_eqb (suc k) 0 (λ none. absurd (omega arith))
 
-number-unknown : (k : ℕ) (p : Post) → is_unknown (suc k) p.book ≡ nat_lt (length p.book.cells) (suc k)
+number-unknown : (k : ℕ) (p : ConfirmState) → is_unknown (suc k) p.publish_states ≡ nat_lt (length p.publish_states.cells) (suc k)
 number-unknown k p = rw (above k) refl
 
-known-number : (k : ℕ) (ms : List ConfirmMark) (p : Post) → Follows ms p → k < added ms → is_unknown (suc k) p.book ≡ false
+known-number : (k : ℕ) (ms : List ConfirmMark) (p : ConfirmState) → Follows ms p → k < added ms → is_unknown (suc k) p.publish_states ≡ false
 known-number k ms p f lt =
-    let count : length p.book.cells ≡ added ms = f.count in
-    number-unknown k p ∙ untrue (nat_lt (length p.book.cells) (suc k)) (λ h. let past : length p.book.cells < suc k = ltb-true (length p.book.cells) (suc k) h in absurd (omega arith))
+    let count : length p.publish_states.cells ≡ added ms = f.count in
+    number-unknown k p ∙ untrue (nat_lt (length p.publish_states.cells) (suc k)) (λ h. let past : length p.publish_states.cells < suc k = ltb-true (length p.publish_states.cells) (suc k) h in absurd (omega arith))
 
 -- of one that is gone nothing is answered any more
-gone-answer : (k : ℕ) (ms : List ConfirmMark) (p : Post) → Follows ms p → k < added ms → is_gone (suc k) ms ≡ true → taken_answer (suc k) p ≡ Err error.AlreadyTaken
+gone-answer : (k : ℕ) (ms : List ConfirmMark) (p : ConfirmState) → Follows ms p → k < added ms → is_gone (suc k) ms ≡ true → taken_answer (suc k) p ≡ Err error.AlreadyTaken
 gone-answer k ms p f lt gone =
-    let home : under (suc k) p.homes ≡ None = f.homes k lt ∙ rw gone refl in
-    let kept : under (suc k) p.book.cells ≡ None = f.cells k lt ∙ rw gone refl in
-    rw (home, known-number k ms p f lt, kept) refl
+    let origin : under (suc k) p.origins ≡ None = f.origins k lt ∙ rw gone refl in
+    let kept : under (suc k) p.publish_states.cells ≡ None = f.cells k lt ∙ rw gone refl in
+    rw (origin, known-number k ms p f lt, kept) refl
 
 -- the message that a confirm took
-message-read : (n : ℕ) (ms : List ConfirmMark) (p : Post) → Follows ms p → WasAdded n ms → is_gone n ms ≡ false → message_of n p ≡ read.message_of n ms
-message-read n ms p f known kept = ap (λ o. letter_of n (home_letters o p.trays)) (home-there n ms p f known kept) ∙ ap (letter_of n) (f.letters (channel_of n ms))
+message-read : (n : ℕ) (ms : List ConfirmMark) (p : ConfirmState) → Follows ms p → WasAdded n ms → is_gone n ms ≡ false → message_of n p ≡ read.message_of n ms
+message-read n ms p f known kept = ap (λ o. return_of n (origin_return_lists o p.returned_by_channel)) (origin-there n ms p f known kept) ∙ ap (return_of n) (f.return_lists (channel_of n ms))
 
-kept-answer : (k : ℕ) (ms : List ConfirmMark) (p : Post) → Follows ms p → k < added ms → is_gone (suc k) ms ≡ false → taken_answer (suc k) p ≡ cond (is_finished (suc k) ms) (Err error.AlreadyTaken) (Ok (shown_with (read.message_of (suc k) ms) (outcome_at (suc k) ms)))
+kept-answer : (k : ℕ) (ms : List ConfirmMark) (p : ConfirmState) → Follows ms p → k < added ms → is_gone (suc k) ms ≡ false → taken_answer (suc k) p ≡ cond (is_finished (suc k) ms) (Err error.AlreadyTaken) (Ok (shown_with (read.message_of (suc k) ms) (outcome_at (suc k) ms)))
 kept-answer k ms p f lt kept =
     let known : WasAdded (suc k) ms = (omega arith, omega arith) in
-    let aside : is_set_aside (suc k) p ≡ is_aside (suc k) ms = ap is_aside_in (home-there (suc k) ms p f known kept) in
+    let aside : is_set_aside (suc k) p ≡ is_aside (suc k) ms = ap is_aside_in (origin-there (suc k) ms p f known kept) in
     let untaken : is_taken (suc k) ms ≡ false = untrue (is_taken (suc k) ms) (λ h. let gone : is_gone (suc k) ms ≡ true = (facts ms f.came).given (suc k) h in cc) in
     rw (aside, untaken, known-number k ms p f lt, cell-there (suc k) ms p f known kept, message-read (suc k) ms p f known kept)
     (ap (cond (is_aside (suc k) ms) (Err error.AlreadyTaken)) (answer_open (read.message_of (suc k) ms) (suc k) ms))
 
-known-answer : (k : ℕ) (ms : List ConfirmMark) (p : Post) → Follows ms p → k < added ms → taken_answer (suc k) p ≡ cond (is_finished (suc k) ms) (Err error.AlreadyTaken) (Ok (shown_with (read.message_of (suc k) ms) (outcome_at (suc k) ms)))
+known-answer : (k : ℕ) (ms : List ConfirmMark) (p : ConfirmState) → Follows ms p → k < added ms → taken_answer (suc k) p ≡ cond (is_finished (suc k) ms) (Err error.AlreadyTaken) (Ok (shown_with (read.message_of (suc k) ms) (outcome_at (suc k) ms)))
 known-answer k ms p f lt =
     elim (is_gone (suc k) ms) as (λ b. is_gone (suc k) ms ≡ b → taken_answer (suc k) p ≡ cond (is_finished (suc k) ms) (Err error.AlreadyTaken) (Ok (shown_with (read.message_of (suc k) ms) (outcome_at (suc k) ms)))) [
       | true ↦ λ gone. gone-answer k ms p f lt gone ∙ rw ((facts ms f.came).gone (suc k) gone) refl
@@ -87,13 +87,13 @@ known-answer k ms p f lt =
     ] refl
 
 -- one that was never accepted
-unknown-answer : (k : ℕ) (ms : List ConfirmMark) (p : Post) → Follows ms p → added ms ≤ k → taken_answer (suc k) p ≡ Err error.UnknownTicket
+unknown-answer : (k : ℕ) (ms : List ConfirmMark) (p : ConfirmState) → Follows ms p → added ms ≤ k → taken_answer (suc k) p ≡ Err error.UnknownTicket
 unknown-answer k ms p f past =
-    let count : length p.book.cells ≡ added ms = f.count in
-    let places : length p.homes ≡ added ms = f.places in
-    rw (under-beyond k p.homes (omega arith), number-unknown k p ∙ lt-ltb (length p.book.cells) (suc k) (omega arith)) refl
+    let count : length p.publish_states.cells ≡ added ms = f.count in
+    let places : length p.origins ≡ added ms = f.places in
+    rw (under-beyond k p.origins (omega arith), number-unknown k p ∙ lt-ltb (length p.publish_states.cells) (suc k) (omega arith)) refl
 
-pub polled-read : (n : ℕ) (ms : List ConfirmMark) (p : Post) → Follows ms p → taken_answer n p ≡ polled n ms
+pub polled-read : (n : ℕ) (ms : List ConfirmMark) (p : ConfirmState) → Follows ms p → taken_answer n p ≡ polled n ms
 polled-read zero ms p f = refl
 polled-read (suc k) ms p f =
     elim (nat_lt k (added ms)) as (λ b. nat_lt k (added ms) ≡ b → taken_answer (suc k) p ≡ polled (suc k) ms) [
@@ -120,24 +120,24 @@ waits-in m (Some (cell.Pending d t)) = refl
 waits-in m (Some (cell.Resolved o)) = refl
 
 -- a number that was never given has no cell
-unknown-cell : (n : ℕ) (p : Post) → is_unknown n p.book ≡ true → under n p.book.cells ≡ None
+unknown-cell : (n : ℕ) (p : ConfirmState) → is_unknown n p.publish_states ≡ true → under n p.publish_states.cells ≡ None
 unknown-cell zero p h = refl
-unknown-cell (suc k) p h = let past : length p.book.cells < suc k = ltb-true (length p.book.cells) (suc k) (sym (number-unknown k p) ∙ h) in under-beyond k p.book.cells (omega arith)
+unknown-cell (suc k) p h = let past : length p.publish_states.cells < suc k = ltb-true (length p.publish_states.cells) (suc k) (sym (number-unknown k p) ∙ h) in under-beyond k p.publish_states.cells (omega arith)
 
 -- a test of the cell that is the test of its answer is that of what a poll answers
-tells : (t : Option Cell → Bool) (g : Result (Option (Result Confirmation Error)) Error → Bool) (n : ℕ) (p : Post) → ((m : Option BasicReturnMessage) (o : Option Cell) → t o ≡ g (answer_with m (answer_in o))) → ((e : Error) → g (Err e) ≡ false) → t None ≡ false → (not (is_set_aside n p) && t (under n p.book.cells)) ≡ g (taken_answer n p)
+tells : (t : Option Cell → Bool) (g : Result (Option (Result Confirmation Error)) Error → Bool) (n : ℕ) (p : ConfirmState) → ((m : Option BasicReturnMessage) (o : Option Cell) → t o ≡ g (answer_with m (answer_in o))) → ((e : Error) → g (Err e) ≡ false) → t None ≡ false → (not (is_set_aside n p) && t (under n p.publish_states.cells)) ≡ g (taken_answer n p)
 tells t g n p same none absent =
-    elim (is_set_aside n p) as (λ (b : Bool). (not b && t (under n p.book.cells)) ≡ g (cond b (Err error.AlreadyTaken) (answer_with (message_of n p) (answer_at n p.book)))) [
+    elim (is_set_aside n p) as (λ (b : Bool). (not b && t (under n p.publish_states.cells)) ≡ g (cond b (Err error.AlreadyTaken) (answer_with (message_of n p) (answer_at n p.publish_states)))) [
       | true ↦ sym (none error.AlreadyTaken)
       | false ↦
-          elim (is_unknown n p.book) as (λ (b : Bool). is_unknown n p.book ≡ b → t (under n p.book.cells) ≡ g (answer_with (message_of n p) (cond b (Err error.UnknownTicket) (answer_in (under n p.book.cells))))) [
+          elim (is_unknown n p.publish_states) as (λ (b : Bool). is_unknown n p.publish_states ≡ b → t (under n p.publish_states.cells) ≡ g (answer_with (message_of n p) (cond b (Err error.UnknownTicket) (answer_in (under n p.publish_states.cells))))) [
             | true ↦ λ h. ap t (unknown-cell n p h) ∙ absent ∙ sym (none error.UnknownTicket)
-            | false ↦ λ h. same (message_of n p) (under n p.book.cells)
+            | false ↦ λ h. same (message_of n p) (under n p.publish_states.cells)
           ] refl
     ]
 
-pub giving-told : (n : ℕ) (p : Post) → is_giving n p ≡ gives_result (taken_answer n p)
+pub giving-told : (n : ℕ) (p : ConfirmState) → is_giving n p ≡ gives_result (taken_answer n p)
 giving-told n p = tells is_resolved gives_result n p gives-in (λ e. refl) refl
 
-pub waiting-told : (n : ℕ) (p : Post) → is_waiting n p ≡ is_none_yet (taken_answer n p)
+pub waiting-told : (n : ℕ) (p : ConfirmState) → is_waiting n p ≡ is_none_yet (taken_answer n p)
 waiting-told n p = tells is_unresolved is_none_yet n p waits-in (λ e. refl) refl

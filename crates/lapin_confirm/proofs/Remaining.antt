@@ -4,7 +4,7 @@ use Rattle.std.proofs.lemmas.Bool.Decides.{eqb_tells}
 use Rattle.lapin_tables.specs.Numbered.{under, with_under}
 use Rattle.lapin_tables.proofs.SlotLaws.{length-with, under-other}
 use Rattle.lapin_confirm.specs.declared.cell.Cell.{Cell}
-use Rattle.lapin_confirm.specs.Book.{is_resolved}
+use Rattle.lapin_confirm.specs.PublishStates.{is_resolved}
 use Rattle.lapin_confirm.specs.Drain.{Remains, remaining, is_over, less_one, less_all}
 use Rattle.lapin_confirm.proofs.AsideFollowing.{stands}
 
@@ -78,29 +78,29 @@ over_same b n m cells h same = let P : ℕ → Type 0 = λ i. is_over cells i �
 pub cells-less : (n : ℕ) (ns : List ℕ) (r : Remains) → under n (less_all ns r).cells ≡ cond (leaves_off n ns r) None (under n r.cells)
 cells-less n [] r = refl
 cells-less n (m ∷ ns) r =
-    elim (is_over r.cells m) as (λ b. is_over r.cells m ≡ b → under n (less_all ns (cond b (remaining (with_under m None r.cells) (with_under m None r.homes)) r)).cells ≡ cond ((m == n || stands n ns) && is_over r.cells n) None (under n r.cells)) [
-      | true ↦ λ h. cells-less n ns (remaining (with_under m None r.cells) (with_under m None r.homes)) ∙ rw (over-swept n m r.cells) (swept n m (stands n ns) (is_over r.cells n) r.cells (over_same true n m r.cells h))
+    elim (is_over r.cells m) as (λ b. is_over r.cells m ≡ b → under n (less_all ns (cond b (remaining (with_under m None r.cells) (with_under m None r.origins)) r)).cells ≡ cond ((m == n || stands n ns) && is_over r.cells n) None (under n r.cells)) [
+      | true ↦ λ h. cells-less n ns (remaining (with_under m None r.cells) (with_under m None r.origins)) ∙ rw (over-swept n m r.cells) (swept n m (stands n ns) (is_over r.cells n) r.cells (over_same true n m r.cells h))
       | false ↦ λ h. cells-less n ns r ∙ unswept n m (stands n ns) (is_over r.cells n) (under n r.cells) (over_same false n m r.cells h)
     ] refl
 
-pub homes-less : (n : ℕ) (ns : List ℕ) (r : Remains) → under n (less_all ns r).homes ≡ cond (leaves_off n ns r) None (under n r.homes)
-homes-less n [] r = refl
-homes-less n (m ∷ ns) r =
-    elim (is_over r.cells m) as (λ b. is_over r.cells m ≡ b → under n (less_all ns (cond b (remaining (with_under m None r.cells) (with_under m None r.homes)) r)).homes ≡ cond ((m == n || stands n ns) && is_over r.cells n) None (under n r.homes)) [
-      | true ↦ λ h. homes-less n ns (remaining (with_under m None r.cells) (with_under m None r.homes)) ∙ rw (over-swept n m r.cells) (swept n m (stands n ns) (is_over r.cells n) r.homes (over_same true n m r.cells h))
-      | false ↦ λ h. homes-less n ns r ∙ unswept n m (stands n ns) (is_over r.cells n) (under n r.homes) (over_same false n m r.cells h)
+pub origins-less : (n : ℕ) (ns : List ℕ) (r : Remains) → under n (less_all ns r).origins ≡ cond (leaves_off n ns r) None (under n r.origins)
+origins-less n [] r = refl
+origins-less n (m ∷ ns) r =
+    elim (is_over r.cells m) as (λ b. is_over r.cells m ≡ b → under n (less_all ns (cond b (remaining (with_under m None r.cells) (with_under m None r.origins)) r)).origins ≡ cond ((m == n || stands n ns) && is_over r.cells n) None (under n r.origins)) [
+      | true ↦ λ h. origins-less n ns (remaining (with_under m None r.cells) (with_under m None r.origins)) ∙ rw (over-swept n m r.cells) (swept n m (stands n ns) (is_over r.cells n) r.origins (over_same true n m r.cells h))
+      | false ↦ λ h. origins-less n ns r ∙ unswept n m (stands n ns) (is_over r.cells n) (under n r.origins) (over_same false n m r.cells h)
     ] refl
 
 less_one-cells : (n : ℕ) (r : Remains) → length (less_one n r).cells ≡ length r.cells
-less_one-cells n r = elim (is_over r.cells n) as (λ (b : Bool). length (cond b (remaining (with_under n None r.cells) (with_under n None r.homes)) r).cells ≡ length r.cells) [ true ↦ length-with n None r.cells | false ↦ refl ]
+less_one-cells n r = elim (is_over r.cells n) as (λ (b : Bool). length (cond b (remaining (with_under n None r.cells) (with_under n None r.origins)) r).cells ≡ length r.cells) [ true ↦ length-with n None r.cells | false ↦ refl ]
 
-less_one-homes : (n : ℕ) (r : Remains) → length (less_one n r).homes ≡ length r.homes
-less_one-homes n r = elim (is_over r.cells n) as (λ (b : Bool). length (cond b (remaining (with_under n None r.cells) (with_under n None r.homes)) r).homes ≡ length r.homes) [ true ↦ length-with n None r.homes | false ↦ refl ]
+less_one-origins : (n : ℕ) (r : Remains) → length (less_one n r).origins ≡ length r.origins
+less_one-origins n r = elim (is_over r.cells n) as (λ (b : Bool). length (cond b (remaining (with_under n None r.cells) (with_under n None r.origins)) r).origins ≡ length r.origins) [ true ↦ length-with n None r.origins | false ↦ refl ]
 
 pub count-less : (ns : List ℕ) (r : Remains) → length (less_all ns r).cells ≡ length r.cells
 count-less [] r = refl
 count-less (n ∷ ns) r = count-less ns (less_one n r) ∙ less_one-cells n r
 
-pub places-less : (ns : List ℕ) (r : Remains) → length (less_all ns r).homes ≡ length r.homes
+pub places-less : (ns : List ℕ) (r : Remains) → length (less_all ns r).origins ≡ length r.origins
 places-less [] r = refl
-places-less (n ∷ ns) r = places-less ns (less_one n r) ∙ less_one-homes n r
+places-less (n ∷ ns) r = places-less ns (less_one n r) ∙ less_one-origins n r

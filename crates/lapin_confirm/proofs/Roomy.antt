@@ -1,18 +1,18 @@
--- What is promised keeps its room, as one channel's ledger, tray or promise changes.
+-- What is promised keeps its room, as one channel's confirm mode, returned messages or promise changes.
 use Rattle.std.proofs.Common.{◌≡◌, ◌≢◌, ℕ, ◌+◌, ◌<◌, ◌≤◌, ◌==◌, Bool, true, false, cond, List, [], ◌∷◌, ◌++◌, Option, Some, None, length, refl, sym, ◌∙◌, ap, subst, arith, inl, inr, eq-eqb}
 use Rattle.std.specs.Option.{option_map, option_or, IsSome}
 use Rattle.std.proofs.lemmas.Bool.Decides.{eqb_tells}
-use Rattle.lapin_history.specs.Words.{is_some, with_channel}
+use Rattle.lapin_rules.specs.Words.{is_some, with_channel}
 use Rattle.lapin_tables.specs.ByChannel.{at_channel, on_channel}
 use Rattle.lapin_tables.proofs.Channels.{at-push, at-on_same, at-on_other, on-absent}
 use Rattle.lapin_tables.proofs.Counts.{count-cons}
 use Rattle.lapin_confirm.specs.declared.cell.Cell.{Cell}
-use Rattle.lapin_confirm.specs.declared.home.Home.{Home}
-use Rattle.lapin_confirm.specs.declared.ledger.Ledger.{Ledger}
-use Rattle.lapin_confirm.specs.Tray.{Tray, HasPlace}
+use Rattle.lapin_confirm.specs.declared.origin.Origin.{Origin}
+use Rattle.lapin_confirm.specs.declared.confirm_mode.ConfirmMode.{ConfirmMode}
+use Rattle.lapin_confirm.specs.ReturnedMessages.{ReturnedMessages, HasPlace}
 use Rattle.lapin_tables.specs.Numbered.{Slots}
-use Rattle.lapin_confirm.specs.Kept.{spare_in}
-use Rattle.lapin_confirm.specs.Ties.{KeepsTags, promised, TagFits, MessageFits, TagsFit, MessagesFit, HaveRoom, HasMore, HomesKept, Tied, TiedAt, AllTied}
+use Rattle.lapin_confirm.specs.WithRoom.{spare_in}
+use Rattle.lapin_confirm.specs.Ties.{KeepsTags, promised, TagFits, MessageFits, TagsFit, MessagesFit, HaveRoom, HasMore, OriginsKept, Tied, TiedAt, AllTied}
 use Rattle.lapin_confirm.proofs.Whole.{tied-of, all-on, tied-roomier}
 
 -- ---- a table whose entries all fit
@@ -58,36 +58,36 @@ module _ {X : Type 0} (P : ℕ → Option X → Type 0) where
 
 -- ---- less is promised
 
-fewer-tags : (m n : ℕ) (o : Option Ledger) → m ≤ n → TagFits n o → TagFits m o
+fewer-tags : (m n : ℕ) (o : Option ConfirmMode) → m ≤ n → TagFits n o → TagFits m o
 fewer-tags m n None less fits = tt
 fewer-tags m n (Some l) less fits = let room : n + l.queued ≤ l.tags.spare = fits in omega arith
 
-fewer-messages : (m n : ℕ) (o : Option Tray) → m ≤ n → MessageFits n o → MessageFits m o
+fewer-messages : (m n : ℕ) (o : Option ReturnedMessages) → m ≤ n → MessageFits n o → MessageFits m o
 fewer-messages m n None less fits = tt
 fewer-messages m n (Some t) less fits = λ more. fits (omega arith)
 
 -- other promises, none of them more
-pub room-less : (rooms after : List (ℕ × Bool)) (es : List (ℕ × Ledger)) (ts : List (ℕ × Tray)) (s t : ℕ) → HaveRoom rooms es ts s → ((c : ℕ) → spare_in (at_channel c after) ≤ spare_in (at_channel c rooms)) → promised after ≤ t → HaveRoom after es ts t
+pub room-less : (rooms after : List (ℕ × Bool)) (es : List (ℕ × ConfirmMode)) (ts : List (ℕ × ReturnedMessages)) (s t : ℕ) → HaveRoom rooms es ts s → ((c : ℕ) → spare_in (at_channel c after) ≤ spare_in (at_channel c rooms)) → promised after ≤ t → HaveRoom after es ts t
 room-less rooms after es ts s t room less cells = record {
   cells = cells;
   tags = λ c. fewer-tags (spare_in (at_channel c after)) (spare_in (at_channel c rooms)) (at_channel c es) (less c) (room.tags c);
   messages = λ c. fewer-messages (spare_in (at_channel c after)) (spare_in (at_channel c rooms)) (at_channel c ts) (less c) (room.messages c);
 }
 
--- ---- a ledger changes
+-- ---- a confirm mode changes
 
-tag-kept : (n : ℕ) (l k : Ledger) → TagFits n (Some l) → KeepsTags l k → TagFits n (Some k)
+tag-kept : (n : ℕ) (l k : ConfirmMode) → TagFits n (Some l) → KeepsTags l k → TagFits n (Some k)
 tag-kept n l k fits keeps =
     let before : n + l.queued ≤ l.tags.spare = fits in
     let stays : l.tags.spare + k.queued ≤ k.tags.spare + l.queued = keeps in
     omega arith
 
-pub tags-kept : (c : ℕ) (l k : Ledger) (rooms : List (ℕ × Bool)) (es : List (ℕ × Ledger)) → at_channel c es ≡ Some l → TagsFit rooms es → KeepsTags l k → TagsFit rooms (on_channel c (λ _. k) es)
+pub tags-kept : (c : ℕ) (l k : ConfirmMode) (rooms : List (ℕ × Bool)) (es : List (ℕ × ConfirmMode)) → at_channel c es ≡ Some l → TagsFit rooms es → KeepsTags l k → TagsFit rooms (on_channel c (λ _. k) es)
 tags-kept c l k rooms es is fit keeps =
     let here : TagFits (spare_in (at_channel c rooms)) (Some l) = subst (TagFits (spare_in (at_channel c rooms))) is (fit c) in
     each-on (λ d o. TagFits (spare_in (at_channel d rooms)) o) c l k es is fit (tag-kept (spare_in (at_channel c rooms)) l k here keeps)
 
-pub room-kept : (c : ℕ) (l k : Ledger) (rooms : List (ℕ × Bool)) (es : List (ℕ × Ledger)) (ts : List (ℕ × Tray)) (s t : ℕ) → at_channel c es ≡ Some l → HaveRoom rooms es ts s → KeepsTags l k → s ≤ t → HaveRoom rooms (on_channel c (λ _. k) es) ts t
+pub room-kept : (c : ℕ) (l k : ConfirmMode) (rooms : List (ℕ × Bool)) (es : List (ℕ × ConfirmMode)) (ts : List (ℕ × ReturnedMessages)) (s t : ℕ) → at_channel c es ≡ Some l → HaveRoom rooms es ts s → KeepsTags l k → s ≤ t → HaveRoom rooms (on_channel c (λ _. k) es) ts t
 room-kept c l k rooms es ts s t is room keeps more =
     let cells : promised rooms ≤ s = room.cells in
     record {
@@ -190,7 +190,7 @@ pub given-fits : (c : ℕ) (rooms : List (ℕ × Bool)) (s : ℕ) → promised r
 given-fits c rooms s fits = omega (arith, given-count c rooms (spare_in (at_channel c rooms)) refl)
 
 -- a channel with room beside what is promised gets its promise
-pub room-more : (c : ℕ) (rooms : List (ℕ × Bool)) (es : List (ℕ × Ledger)) (ts : List (ℕ × Tray)) (s : ℕ) → HaveRoom rooms es ts s → HasMore c rooms es ts s → HaveRoom (on_channel c (λ _. true) rooms) es ts s
+pub room-more : (c : ℕ) (rooms : List (ℕ × Bool)) (es : List (ℕ × ConfirmMode)) (ts : List (ℕ × ReturnedMessages)) (s : ℕ) → HaveRoom rooms es ts s → HasMore c rooms es ts s → HaveRoom (on_channel c (λ _. true) rooms) es ts s
 room-more c rooms es ts s room more = record {
   cells = promise-fits c rooms s more.known more.cells;
   tags = λ d.
@@ -218,12 +218,12 @@ promise-keeps c d rooms has =
       | inr other ↦ omega (arith, ap spare_in (at-on_other c d (λ _. true) rooms other.1))
     ]
 
--- a ledger with the same tags and as many queued publishes
-pub keeps-same : (l k : Ledger) → k.tags ≡ l.tags → k.queued ≡ l.queued → KeepsTags l k
+-- a confirm mode with the same tags and as many queued publishes
+pub keeps-same : (l k : ConfirmMode) → k.tags ≡ l.tags → k.queued ≡ l.queued → KeepsTags l k
 keeps-same l k tags queued = let spare : k.tags.spare ≡ l.tags.spare = ap (λ (x : Slots ℕ). x.spare) tags in omega arith
 
--- the promise of a channel is used, and its ledger changes
-pub room-used : (c : ℕ) (l k : Ledger) (rooms after : List (ℕ × Bool)) (es : List (ℕ × Ledger)) (ts : List (ℕ × Tray)) (s t : ℕ) → at_channel c es ≡ Some l → HaveRoom rooms es ts s → ((d : ℕ) → d ≢ c → at_channel d after ≡ at_channel d rooms) → spare_in (at_channel c after) ≡ 0 → promised after ≤ t → k.queued ≤ k.tags.spare → HaveRoom after (on_channel c (λ _. k) es) ts t
+-- the promise of a channel is used, and its confirm mode changes
+pub room-used : (c : ℕ) (l k : ConfirmMode) (rooms after : List (ℕ × Bool)) (es : List (ℕ × ConfirmMode)) (ts : List (ℕ × ReturnedMessages)) (s t : ℕ) → at_channel c es ≡ Some l → HaveRoom rooms es ts s → ((d : ℕ) → d ≢ c → at_channel d after ≡ at_channel d rooms) → spare_in (at_channel c after) ≡ 0 → promised after ≤ t → k.queued ≤ k.tags.spare → HaveRoom after (on_channel c (λ _. k) es) ts t
 room-used c l k rooms after es ts s t is room others none cells fits =
     let before : HaveRoom after es ts t = room-less rooms after es ts s t room less cells in
     let free : 0 + k.queued ≤ k.tags.spare = omega arith in
@@ -242,40 +242,40 @@ room-used c l k rooms after es ts s t is room others none cells fits =
           | inr other ↦ omega (arith, ap spare_in (others d other.1))
         ]
 
--- ---- a tray changes
+-- ---- a returned messages changes
 
-message-kept : (n : ℕ) (t u : Tray) → MessageFits n (Some t) → (HasPlace t → HasPlace u) → MessageFits n (Some u)
+message-kept : (n : ℕ) (t u : ReturnedMessages) → MessageFits n (Some t) → (HasPlace t → HasPlace u) → MessageFits n (Some u)
 message-kept n t u fits keeps = λ more. keeps (fits more)
 
-pub messages-kept : (c : ℕ) (t u : Tray) (rooms : List (ℕ × Bool)) (ts : List (ℕ × Tray)) → at_channel c ts ≡ Some t → MessagesFit rooms ts → (HasPlace t → HasPlace u) → MessagesFit rooms (on_channel c (λ _. u) ts)
+pub messages-kept : (c : ℕ) (t u : ReturnedMessages) (rooms : List (ℕ × Bool)) (ts : List (ℕ × ReturnedMessages)) → at_channel c ts ≡ Some t → MessagesFit rooms ts → (HasPlace t → HasPlace u) → MessagesFit rooms (on_channel c (λ _. u) ts)
 messages-kept c t u rooms ts is fit keeps =
     let here : MessageFits (spare_in (at_channel c rooms)) (Some t) = subst (MessageFits (spare_in (at_channel c rooms))) is (fit c) in
     each-on (λ d o. MessageFits (spare_in (at_channel d rooms)) o) c t u ts is fit (message-kept (spare_in (at_channel c rooms)) t u here keeps)
 
 -- ---- room grows
 
--- a ledger with more room for tags alone
-pub grown-tied : (c : ℕ) (l k : Ledger) (es : List (ℕ × Ledger)) (cells : List (Option Cell)) → at_channel c es ≡ Some l → k ≡ record l { tags = k.tags } → k.tags.slots ≡ l.tags.slots → l.tags.spare ≤ k.tags.spare → AllTied es cells → AllTied (on_channel c (λ _. k) es) cells
+-- a confirm mode with more room for tags alone
+pub grown-tied : (c : ℕ) (l k : ConfirmMode) (es : List (ℕ × ConfirmMode)) (cells : List (Option Cell)) → at_channel c es ≡ Some l → k ≡ record l { tags = k.tags } → k.tags.slots ≡ l.tags.slots → l.tags.spare ≤ k.tags.spare → AllTied es cells → AllTied (on_channel c (λ _. k) es) cells
 grown-tied c l k es cells is rest tags more all =
     let tied = tied-of c l es cells is all in
-    let queued : k.queued ≡ l.queued = ap (λ (x : Ledger). x.queued) rest in
+    let queued : k.queued ≡ l.queued = ap (λ (x : ConfirmMode). x.queued) rest in
     let room : l.queued ≤ l.tags.spare = tied.room in
     all-on c l k es cells cells is all (tied-roomier c l k cells cells tied rest tags (omega arith) refl) (λ d o other still. still)
 
-pub grown-tags : (c : ℕ) (l k : Ledger) (rooms : List (ℕ × Bool)) (es : List (ℕ × Ledger)) → at_channel c es ≡ Some l → k.queued ≡ l.queued → l.tags.spare ≤ k.tags.spare → TagsFit rooms es → TagsFit rooms (on_channel c (λ _. k) es)
+pub grown-tags : (c : ℕ) (l k : ConfirmMode) (rooms : List (ℕ × Bool)) (es : List (ℕ × ConfirmMode)) → at_channel c es ≡ Some l → k.queued ≡ l.queued → l.tags.spare ≤ k.tags.spare → TagsFit rooms es → TagsFit rooms (on_channel c (λ _. k) es)
 grown-tags c l k rooms es is queued more fit = tags-kept c l k rooms es is fit (omega arith)
 
--- what fits at a channel whose ledger or tray changed
-pub tag-there : (n c : ℕ) (l k : Ledger) (es : List (ℕ × Ledger)) → at_channel c es ≡ Some l → n + k.queued ≤ k.tags.spare → TagFits n (at_channel c (on_channel c (λ _. k) es))
+-- what fits at a channel whose confirm mode or returned messages changed
+pub tag-there : (n c : ℕ) (l k : ConfirmMode) (es : List (ℕ × ConfirmMode)) → at_channel c es ≡ Some l → n + k.queued ≤ k.tags.spare → TagFits n (at_channel c (on_channel c (λ _. k) es))
 tag-there n c l k es is fits = subst (TagFits n) (sym (at-on_same c (λ _. k) es ∙ ap (option_map (λ _. k)) is)) fits
 
-pub message-there : (n c : ℕ) (t u : Tray) (ts : List (ℕ × Tray)) → at_channel c ts ≡ Some t → HasPlace u → MessageFits n (at_channel c (on_channel c (λ _. u) ts))
+pub message-there : (n c : ℕ) (t u : ReturnedMessages) (ts : List (ℕ × ReturnedMessages)) → at_channel c ts ≡ Some t → HasPlace u → MessageFits n (at_channel c (on_channel c (λ _. u) ts))
 message-there n c t u ts is has = subst (MessageFits n) (sym (at-on_same c (λ _. u) ts ∙ ap (option_map (λ _. u)) is)) (λ more. has)
 
 -- ---- a message arrives, a new opening begins
 
--- a tray changes as the promise of its channel is given up
-pub room-received : (c : ℕ) (t u : Tray) (rooms : List (ℕ × Bool)) (es : List (ℕ × Ledger)) (ts : List (ℕ × Tray)) (s : ℕ) → at_channel c ts ≡ Some t → HaveRoom rooms es ts s → HaveRoom (on_channel c (λ _. false) rooms) es (on_channel c (λ _. u) ts) s
+-- a returned messages changes as the promise of its channel is given up
+pub room-received : (c : ℕ) (t u : ReturnedMessages) (rooms : List (ℕ × Bool)) (es : List (ℕ × ConfirmMode)) (ts : List (ℕ × ReturnedMessages)) (s : ℕ) → at_channel c ts ≡ Some t → HaveRoom rooms es ts s → HaveRoom (on_channel c (λ _. false) rooms) es (on_channel c (λ _. u) ts) s
 room-received c t u rooms es ts s is room =
     let after = on_channel c (λ (b : Bool). false) rooms in
     let cells : promised after ≤ s = given-fits c rooms s room.cells in
@@ -286,28 +286,28 @@ room-received c t u rooms es ts s is room =
       messages = each-on (λ d o. MessageFits (spare_in (at_channel d after)) o) c t u ts is base.messages (λ more. absurd (let none : 0 < 0 = subst (λ n. 0 < n) (given-none c rooms) more in omega arith));
     }
 
--- the ledger of a new opening, with room where that is promised
-pub room-begun : (c n : ℕ) (k : Ledger) (rooms : List (ℕ × Bool)) (es : List (ℕ × Ledger)) → TagsFit rooms es → k.queued ≡ 0 → n ≤ k.tags.spare → spare_in (at_channel c rooms) ≡ n → TagsFit rooms (with_channel c k es)
+-- the confirm mode of a new opening, with room where that is promised
+pub room-begun : (c n : ℕ) (k : ConfirmMode) (rooms : List (ℕ × Bool)) (es : List (ℕ × ConfirmMode)) → TagsFit rooms es → k.queued ≡ 0 → n ≤ k.tags.spare → spare_in (at_channel c rooms) ≡ n → TagsFit rooms (with_channel c k es)
 room-begun c n k rooms es fit none more is =
     let here : spare_in (at_channel c rooms) + k.queued ≤ k.tags.spare = omega (arith, none, more, is) in
     each-with (λ d o. TagFits (spare_in (at_channel d rooms)) o) c k es fit here
 
-pub all-begun : (c : ℕ) (k : Ledger) (es : List (ℕ × Ledger)) (cells : List (Option Cell)) → AllTied es cells → Tied c k cells → AllTied (with_channel c k es) cells
+pub all-begun : (c : ℕ) (k : ConfirmMode) (es : List (ℕ × ConfirmMode)) (cells : List (Option Cell)) → AllTied es cells → Tied c k cells → AllTied (with_channel c k es) cells
 all-begun c k es cells all tied = each-with (λ d o. TiedAt d o cells) c k es all tied
 
--- a first tray, with room for a message where that is promised
-pub messages-begun : (c : ℕ) (b : Bool) (t : Tray) (rooms : List (ℕ × Bool)) (ts : List (ℕ × Tray)) → at_channel c ts ≡ None → MessagesFit rooms ts → spare_in (at_channel c rooms) ≡ cond b 1 0 → (b ≡ true → HasPlace t) → MessagesFit rooms (ts ++ (c, t) ∷ [])
+-- a first returned messages, with room for a message where that is promised
+pub messages-begun : (c : ℕ) (b : Bool) (t : ReturnedMessages) (rooms : List (ℕ × Bool)) (ts : List (ℕ × ReturnedMessages)) → at_channel c ts ≡ None → MessagesFit rooms ts → spare_in (at_channel c rooms) ≡ cond b 1 0 → (b ≡ true → HasPlace t) → MessagesFit rooms (ts ++ (c, t) ∷ [])
 messages-begun c b t rooms ts none fit is has = each-push (λ d o. MessageFits (spare_in (at_channel d rooms)) o) c t ts none fit (λ more. has (by b (subst (λ n. 0 < n) is more)))
   where
     by : (x : Bool) → 0 < cond x 1 0 → x ≡ true
     by true more = refl
     by false more = absurd (omega arith)
 
--- other trays that have the same room
-pub with-messages : (rooms : List (ℕ × Bool)) (es : List (ℕ × Ledger)) (ts us : List (ℕ × Tray)) (s : ℕ) → HaveRoom rooms es ts s → MessagesFit rooms us → HaveRoom rooms es us s
+-- other returned by channel that have the same room
+pub with-messages : (rooms : List (ℕ × Bool)) (es : List (ℕ × ConfirmMode)) (ts us : List (ℕ × ReturnedMessages)) (s : ℕ) → HaveRoom rooms es ts s → MessagesFit rooms us → HaveRoom rooms es us s
 with-messages rooms es ts us s room fit = record { cells = room.cells; tags = room.tags; messages = fit }
 
 -- ---- where publishes belong
 
-pub same-homes : (rooms : List (ℕ × Bool)) (cells after : List (Option Cell)) (homes : Slots Home) → HomesKept rooms cells homes → length after ≡ length cells → HomesKept rooms after homes
-same-homes rooms cells after homes kept same = record { count = kept.count ∙ sym same; room = kept.room }
+pub same-origins : (rooms : List (ℕ × Bool)) (cells after : List (Option Cell)) (origins : Slots Origin) → OriginsKept rooms cells origins → length after ≡ length cells → OriginsKept rooms after origins
+same-origins rooms cells after origins kept same = record { count = kept.count ∙ sym same; room = kept.room }

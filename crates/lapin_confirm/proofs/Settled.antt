@@ -5,13 +5,13 @@ use Rattle.std.specs.List.{list_any}
 use Rattle.std.specs.Option.{option_map}
 use Rattle.std.specs.Prelude.{is_some}
 use Rattle.std.proofs.lemmas.Bool.Decides.{eqb_tells}
-use Rattle.lapin_history.specs.declared.marks.Outcome.{Outcome}
+use Rattle.lapin_rules.specs.declared.marks.Outcome.{Outcome}
 use Rattle.lapin_tables.specs.Numbered.{under, with_under}
 use Rattle.lapin_tables.proofs.SlotLaws.{under-same, under-other, length-with, same-slots, under-map, map-same, map-kept}
 use Rattle.lapin_confirm.specs.declared.cell.Cell.{Cell}
 use Rattle.lapin_confirm.specs.declared.cell.Cell.TheVariants as cell
-use Rattle.lapin_confirm.specs.declared.ledger.Ledger.{Ledger}
-use Rattle.lapin_confirm.specs.Book.{is_pending_as, settled_cell}
+use Rattle.lapin_confirm.specs.declared.confirm_mode.ConfirmMode.{ConfirmMode}
+use Rattle.lapin_confirm.specs.PublishStates.{is_pending_as, settled_cell}
 use Rattle.lapin_confirm.specs.Ties.{Tied, Untouched}
 use Rattle.std.proofs.Math.Bool.{or-true}
 use Rattle.lapin_confirm.proofs.Whole.{no_pending}
@@ -46,12 +46,12 @@ kept_option c p x (Some y) h = ap Some (leaves_cell c p x y (λ t is. h t (ap So
 pub settled-kept : (c : ℕ) (p : ℕ → Bool) (x : Outcome) (cells : List (Option Cell)) → ((n t : ℕ) → under n cells ≡ Some (cell.Pending c t) → p t ≡ false) → map (option_map (settled_cell c p x)) cells ≡ cells
 settled-kept c p x cells h = map-kept (settled_cell c p x) cells (λ k y there. leaves_cell c p x y (λ t is. h (suc k) t (there ∙ ap Some is)))
 
--- a channel without a ledger
+-- a channel without a confirm mode
 pub settled-untouched : (c : ℕ) (p : ℕ → Bool) (x : Outcome) (cells : List (Option Cell)) → Untouched c cells → map (option_map (settled_cell c p x)) cells ≡ cells
 settled-untouched c p x cells none = settled-kept c p x cells (λ n t there. absurd (no_pending c n t cells none.pending there))
 
 -- one tag is settled, where it is pending
-pub settled-one : (c n u : ℕ) (x : Outcome) (l : Ledger) (cells : List (Option Cell)) → Tied c l cells → under u l.tags.slots ≡ Some n → with_under n (Some (cell.Resolved x)) cells ≡ map (option_map (settled_cell c (λ t. u == t) x)) cells
+pub settled-one : (c n u : ℕ) (x : Outcome) (l : ConfirmMode) (cells : List (Option Cell)) → Tied c l cells → under u l.tags.slots ≡ Some n → with_under n (Some (cell.Resolved x)) cells ≡ map (option_map (settled_cell c (λ t. u == t) x)) cells
 settled-one c n u x l cells tied named =
     same-slots (with_under n (Some (cell.Resolved x)) cells) (map (option_map f) cells)
     (length-with n (Some (cell.Resolved x)) cells ∙ sym (length-map cells (option_map f)))
@@ -78,7 +78,7 @@ settled-one c n u x l cells tied named =
         ]
 
 -- and where it is not
-pub settled-none : (c u : ℕ) (x : Outcome) (l : Ledger) (cells : List (Option Cell)) → Tied c l cells → under u l.tags.slots ≡ None → map (option_map (settled_cell c (λ t. u == t) x)) cells ≡ cells
+pub settled-none : (c u : ℕ) (x : Outcome) (l : ConfirmMode) (cells : List (Option Cell)) → Tied c l cells → under u l.tags.slots ≡ None → map (option_map (settled_cell c (λ t. u == t) x)) cells ≡ cells
 settled-none c u x l cells tied none =
     settled-kept c (λ t. u == t) x cells (λ n t there. ne_eqb u t (λ same.
     let P : ℕ → Type 0 = λ v. under v l.tags.slots ≡ None in
@@ -133,7 +133,7 @@ other_tag c u (cell.Pending d t) not =
     ]
 other_tag c u (cell.Resolved o) not = refl
 
-pub pending-tells : (c u : ℕ) (l : Ledger) (cells : List (Option Cell)) → Tied c l cells → list_any (is_pending_as c u) cells ≡ is_some (under u l.tags.slots)
+pub pending-tells : (c u : ℕ) (l : ConfirmMode) (cells : List (Option Cell)) → Tied c l cells → list_any (is_pending_as c u) cells ≡ is_some (under u l.tags.slots)
 pending-tells c u l cells tied = told (under u l.tags.slots) refl
   where
     told : (o : Option ℕ) → under u l.tags.slots ≡ o → list_any (is_pending_as c u) cells ≡ is_some o

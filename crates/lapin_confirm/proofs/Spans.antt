@@ -7,8 +7,8 @@ use Rattle.lapin_tables.specs.Numbered.{under, first_kept}
 use Rattle.lapin_tables.proofs.SlotLaws.{given, first-there, first-least, first-none}
 use Rattle.lapin_confirm.specs.declared.cell.Cell.{Cell}
 use Rattle.lapin_confirm.specs.declared.cell.Cell.TheVariants as cell
-use Rattle.lapin_confirm.specs.declared.ledger.Ledger.{Ledger}
-use Rattle.lapin_confirm.specs.Book.{tag_on, least_of, least_in}
+use Rattle.lapin_confirm.specs.declared.confirm_mode.ConfirmMode.{ConfirmMode}
+use Rattle.lapin_confirm.specs.PublishStates.{tag_on, least_of, least_in}
 use Rattle.lapin_confirm.specs.Ties.{Tied, Untouched}
 use Rattle.lapin_confirm.proofs.Whole.{no_pending}
 
@@ -99,7 +99,7 @@ least-is c cells o there below =
           ap Some equal ∙ sym less.1
     ] refl
 
-pub least-tied : (c : ℕ) (l : Ledger) (cells : List (Option Cell)) → Tied c l cells → first_kept l.tags.slots ≡ least_in c cells
+pub least-tied : (c : ℕ) (l : ConfirmMode) (cells : List (Option Cell)) → Tied c l cells → first_kept l.tags.slots ≡ least_in c cells
 least-tied c l cells tied =
     sym (least-is c cells (first_kept l.tags.slots)
     (λ t is. there t (under t l.tags.slots) refl (first-there t l.tags.slots is))

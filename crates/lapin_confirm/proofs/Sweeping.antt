@@ -3,7 +3,7 @@ use Rattle.std.proofs.Common.{◌≡◌, ℕ, Bool, true, false, cond, List, [],
 use Rattle.std.specs.List.{filter}
 use Rattle.std.proofs.lemmas.List.{append_assoc, append-nil}
 use Rattle.lapin_types.specs.declared.message.BasicReturnMessage.{BasicReturnMessage}
-use Rattle.lapin_history.specs.Letters.{Letters, opt_list, message_at, without, without_all, messages_of}
+use Rattle.lapin_rules.specs.ReturnLists.{ReturnLists, opt_list, message_at, without, without_all, messages_of}
 use Rattle.lapin_confirm.specs.Drain.{Swept, sweep_all}
 
 abbrev swept : List ℕ → List ℕ → List BasicReturnMessage → List (ℕ × BasicReturnMessage) → Swept
@@ -17,5 +17,5 @@ sweep-is done (n ∷ ns) l o g a =
       | false ↦ sweep-is done ns (l ++ n ∷ []) o g a ∙ rw (append_assoc l (n ∷ []) (filter (λ m. not (done m)) ns)) refl
     ]
 
-pub same-letters : (a b : List (ℕ × BasicReturnMessage)) (w u v k j : List BasicReturnMessage) (s t : List ℕ) → a ≡ b → u ≡ v → k ≡ j → s ≡ t → ◌≡◌ {A = Letters} (record { attached = a; waiting = w; unconfirmed = u; kept = k; aside = s }) (record { attached = b; waiting = w; unconfirmed = v; kept = j; aside = t })
-same-letters a b w u v k j s t attached unconfirmed kept aside = rw (attached, unconfirmed, kept, aside) refl
+pub same-return_lists : (a b : List (ℕ × BasicReturnMessage)) (w u v k j : List BasicReturnMessage) (s t : List ℕ) → a ≡ b → u ≡ v → k ≡ j → s ≡ t → ◌≡◌ {A = ReturnLists} (record { attached = a; waiting = w; unconfirmed = u; kept = k; aside = s }) (record { attached = b; waiting = w; unconfirmed = v; kept = j; aside = t })
+same-return_lists a b w u v k j s t attached unconfirmed kept aside = rw (attached, unconfirmed, kept, aside) refl

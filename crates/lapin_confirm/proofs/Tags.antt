@@ -3,16 +3,16 @@ use Rattle.std.proofs.Common.{◌≡◌, ℕ, zero, suc, ◌+◌, ◌<◌, ◌�
 use Rattle.std.specs.Prelude.{◌↔◌}
 use Rattle.std.specs.List.{list_any}
 use Rattle.std.proofs.lemmas.Bool.Decides.{eqb_tells}
-use Rattle.lapin_history.specs.declared.marks.Outcome.{Outcome}
-use Rattle.lapin_history.specs.declared.marks.Outcome.TheVariants as outcome
-use Rattle.lapin_history.specs.ConfirmMarks.{ConfirmMark}
-use Rattle.lapin_history.specs.ConfirmMarks as mark
-use Rattle.lapin_history.specs.Words.{after}
-use Rattle.lapin_history.specs.ConfirmReadings.{begins, selects, leaves, leaves_on, is_begun, is_selected, place, has_left, channel_of, tag_of, added, covers, outcome_of, outcome_at, outcome_after, first_settled, settlement_on}
-use Rattle.lapin_history.proofs.ListLaws.{after-push, through-push, since-push, since_none}
-use Rattle.lapin_history.proofs.ConfirmLaws.{settled-push, accepted-push}
+use Rattle.lapin_rules.specs.declared.marks.Outcome.{Outcome}
+use Rattle.lapin_rules.specs.declared.marks.Outcome.TheVariants as outcome
+use Rattle.lapin_rules.specs.ConfirmMarks.{ConfirmMark}
+use Rattle.lapin_rules.specs.ConfirmMarks as mark
+use Rattle.lapin_rules.specs.Words.{after}
+use Rattle.lapin_rules.specs.ConfirmReadings.{begins, selects, leaves, leaves_on, is_begun, is_selected, place, has_left, channel_of, tag_of, added, covers, outcome_of, outcome_at, outcome_after, first_settled, settlement_on}
+use Rattle.lapin_rules.proofs.ListLaws.{after-push, through-push, since-push, since_none}
+use Rattle.lapin_rules.proofs.ConfirmLaws.{settled-push, accepted-push}
 use Rattle.lapin_confirm.specs.Follows.{WasAdded, MayCome, Resolves}
-use Rattle.lapin_confirm.proofs.LedgerFollowing.{place-push, tag-push}
+use Rattle.lapin_confirm.proofs.ConfirmModeFollowing.{place-push, tag-push}
 use Rattle.lapin_confirm.proofs.CellFollowing.{left-push, IsQueued, queued_facts}
 
 -- an opening that is selected has begun

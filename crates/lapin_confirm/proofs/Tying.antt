@@ -1,19 +1,19 @@
--- A ledger and the cells stay tied as one cell changes.
+-- A confirm mode and the cells stay tied as one cell changes.
 use Rattle.std.proofs.Common.{◌≡◌, ◌≢◌, ℕ, ◌+◌, ◌≤◌, ◌==◌, Bool, true, false, cond, List, [], ◌∷◌, ◌++◌, length, Option, Some, None, refl, sym, ◌∙◌, ap, subst, arith, ◌⊎◌, inl, inr, eq-eqb, ne_eqb}
 use Rattle.std.proofs.lemmas.List.{length_push}
 use Rattle.std.specs.List.{count_by}
 use Rattle.std.proofs.lemmas.Bool.Decides.{eqb_tells}
-use Rattle.lapin_history.specs.declared.marks.Outcome.{Outcome}
-use Rattle.lapin_history.specs.declared.marks.Outcome.TheVariants as outcome
+use Rattle.lapin_rules.specs.declared.marks.Outcome.{Outcome}
+use Rattle.lapin_rules.specs.declared.marks.Outcome.TheVariants as outcome
 use Rattle.std.specs.Prelude.{is_some}
 use Rattle.lapin_tables.specs.Numbered.{under, with_under}
 use Rattle.lapin_tables.proofs.Counts.{count-cons}
 use Rattle.lapin_tables.proofs.SlotLaws.{under-same, under-other, length-with, count-with, counted, under-push, under-last, under-pushed}
 use Rattle.lapin_confirm.specs.declared.cell.Cell.{Cell}
 use Rattle.lapin_confirm.specs.declared.cell.Cell.TheVariants as cell
-use Rattle.lapin_confirm.specs.declared.ledger.Ledger.{Ledger}
-use Rattle.lapin_confirm.specs.Book.{is_queued_on, is_pending_on, is_open_on, tag_for, cell_with}
-use Rattle.lapin_confirm.specs.Ties.{Tied, Untouched, TiedAt, ledger_state}
+use Rattle.lapin_confirm.specs.declared.confirm_mode.ConfirmMode.{ConfirmMode}
+use Rattle.lapin_confirm.specs.PublishStates.{is_queued_on, is_pending_on, is_open_on, tag_for, cell_with}
+use Rattle.lapin_confirm.specs.Ties.{Tied, Untouched, TiedAt, confirm_mode_state}
 
 -- ---- a cell that is not open on a channel
 
@@ -38,7 +38,7 @@ closed-apart d t o h e =
 -- ---- one cell changes
 
 -- what a change of cell n from x to o has to keep on channel c
-pub record Change (c n : ℕ) (x : Cell) (o : Option Cell) (l k : Ledger) (cells : List (Option Cell)) : Type 0 where
+pub record Change (c n : ℕ) (x : Cell) (o : Option Cell) (l k : ConfirmMode) (cells : List (Option Cell)) : Type 0 where
   pub was : under n cells ≡ Some x
   pub here : (t : ℕ) → o ≡ Some (cell.Pending c t) → under t k.tags.slots ≡ Some n
   pub kept : (m t : ℕ) → m ≢ n → under t l.tags.slots ≡ Some m → under t k.tags.slots ≡ Some m
@@ -48,7 +48,7 @@ pub record Change (c n : ℕ) (x : Cell) (o : Option Cell) (l k : Ledger) (cells
   pub room : k.queued ≤ k.tags.spare
   pub numbers : length k.tags.slots + k.queued ≤ length cells
 
-pub tied-change : (c n : ℕ) (x : Cell) (o : Option Cell) (l k : Ledger) (cells : List (Option Cell)) → Tied c l cells → Change c n x o l k cells → Tied c k (with_under n o cells)
+pub tied-change : (c n : ℕ) (x : Cell) (o : Option Cell) (l k : ConfirmMode) (cells : List (Option Cell)) → Tied c l cells → Change c n x o l k cells → Tied c k (with_under n o cells)
 tied-change c n x o l k cells tied change = record {
   named = λ m t there.
       elim (eqb_tells m n) [
@@ -80,7 +80,7 @@ tied-change c n x o l k cells tied change = record {
 }
 
 -- what is pending under a number is not something else
-apart : (c t m n : ℕ) (x : Cell) (l : Ledger) (cells : List (Option Cell)) → Tied c l cells → under n cells ≡ Some x → (x ≡ cell.Pending c t → ⊥) → under t l.tags.slots ≡ Some m → m ≢ n
+apart : (c t m n : ℕ) (x : Cell) (l : ConfirmMode) (cells : List (Option Cell)) → Tied c l cells → under n cells ≡ Some x → (x ≡ cell.Pending c t → ⊥) → under t l.tags.slots ≡ Some m → m ≢ n
 apart c t m n x l cells tied was not there same =
     let P : ℕ → Type 0 = λ j. under j cells ≡ Some (cell.Pending c t) in
     let waits : under n cells ≡ Some (cell.Pending c t) = subst P same (tied.waits m t there) in
@@ -88,7 +88,7 @@ apart c t m n x l cells tied was not there same =
     not cc
 
 -- a cell that is of no matter to the channel, before and after
-pub tied-other : (d n : ℕ) (x : Cell) (o : Option Cell) (l : Ledger) (cells : List (Option Cell)) → under n cells ≡ Some x → is_open_on d (Some x) ≡ false → is_open_on d o ≡ false → Tied d l cells → Tied d l (with_under n o cells)
+pub tied-other : (d n : ℕ) (x : Cell) (o : Option Cell) (l : ConfirmMode) (cells : List (Option Cell)) → under n cells ≡ Some x → is_open_on d (Some x) ≡ false → is_open_on d o ≡ false → Tied d l cells → Tied d l (with_under n o cells)
 tied-other d n x o l cells was before after tied =
     tied-change d n x o l l cells tied (record {
       was = was;
@@ -113,14 +113,14 @@ untouched-other d n x o cells was before after none = record {
       omega arith;
 }
 
-pub tied_at-other : (d n : ℕ) (x : Cell) (o : Option Cell) (l : Option Ledger) (cells : List (Option Cell)) → under n cells ≡ Some x → is_open_on d (Some x) ≡ false → is_open_on d o ≡ false → TiedAt d l cells → TiedAt d l (with_under n o cells)
+pub tied_at-other : (d n : ℕ) (x : Cell) (o : Option Cell) (l : Option ConfirmMode) (cells : List (Option Cell)) → under n cells ≡ Some x → is_open_on d (Some x) ≡ false → is_open_on d o ≡ false → TiedAt d l cells → TiedAt d l (with_under n o cells)
 tied_at-other d n x o None cells was before after tied = untouched-other d n x o cells was before after tied
 tied_at-other d n x o (Some l) cells was before after tied = tied-other d n x o l cells was before after tied
 
 -- ---- a publish leaves
 
 -- it takes the next tag
-pub tied-tagged : (c n : ℕ) (l k : Ledger) (cells : List (Option Cell)) → Tied c l cells → under n cells ≡ Some (cell.Queued c) → k.tags.slots ≡ l.tags.slots ++ Some n ∷ [] → k.queued + 1 ≡ l.queued → k.pending ≡ l.pending + 1 → k.queued ≤ k.tags.spare → Tied c k (with_under n (Some (cell.Pending c (length l.tags.slots + 1))) cells)
+pub tied-tagged : (c n : ℕ) (l k : ConfirmMode) (cells : List (Option Cell)) → Tied c l cells → under n cells ≡ Some (cell.Queued c) → k.tags.slots ≡ l.tags.slots ++ Some n ∷ [] → k.queued + 1 ≡ l.queued → k.pending ≡ l.pending + 1 → k.queued ≤ k.tags.spare → Tied c k (with_under n (Some (cell.Pending c (length l.tags.slots + 1))) cells)
 tied-tagged c n l k cells tied was tags queued pending room =
     let one : (c == c) ≡ true = eq-eqb c c refl in
     let numbers : length l.tags.slots + l.queued ≤ length cells = tied.numbers in
@@ -141,7 +141,7 @@ tied-tagged c n l k cells tied was tags queued pending room =
     })
 
 -- it takes none
-pub tied-untagged : (c n : ℕ) (x : Outcome) (l k : Ledger) (cells : List (Option Cell)) → Tied c l cells → under n cells ≡ Some (cell.Queued c) → k.tags.slots ≡ l.tags.slots → k.queued + 1 ≡ l.queued → k.pending ≡ l.pending → k.queued ≤ k.tags.spare → Tied c k (with_under n (Some (cell.Resolved x)) cells)
+pub tied-untagged : (c n : ℕ) (x : Outcome) (l k : ConfirmMode) (cells : List (Option Cell)) → Tied c l cells → under n cells ≡ Some (cell.Queued c) → k.tags.slots ≡ l.tags.slots → k.queued + 1 ≡ l.queued → k.pending ≡ l.pending → k.queued ≤ k.tags.spare → Tied c k (with_under n (Some (cell.Resolved x)) cells)
 tied-untagged c n x l k cells tied was tags queued pending room =
     let one : (c == c) ≡ true = eq-eqb c c refl in
     let numbers : length l.tags.slots + l.queued ≤ length cells = tied.numbers in
@@ -159,7 +159,7 @@ tied-untagged c n x l k cells tied was tags queued pending room =
 
 -- ---- a tag is settled
 
-pub tied-settled : (c n u : ℕ) (x : Outcome) (l k : Ledger) (cells : List (Option Cell)) → Tied c l cells → under u l.tags.slots ≡ Some n → k.tags.slots ≡ with_under u None l.tags.slots → k.queued ≡ l.queued → k.pending + 1 ≡ l.pending → k.queued ≤ k.tags.spare → Tied c k (with_under n (Some (cell.Resolved x)) cells)
+pub tied-settled : (c n u : ℕ) (x : Outcome) (l k : ConfirmMode) (cells : List (Option Cell)) → Tied c l cells → under u l.tags.slots ≡ Some n → k.tags.slots ≡ with_under u None l.tags.slots → k.queued ≡ l.queued → k.pending + 1 ≡ l.pending → k.queued ≤ k.tags.spare → Tied c k (with_under n (Some (cell.Resolved x)) cells)
 tied-settled c n u x l k cells tied named tags queued pending room =
     let one : (c == c) ≡ true = eq-eqb c c refl in
     let was : under n cells ≡ Some (cell.Pending c u) = tied.waits n u named in
@@ -189,7 +189,7 @@ tied-settled c n u x l k cells tied named tags queued pending room =
 
 -- ---- as a publish leaves
 
-pub tied-left : (c n : ℕ) (t : Option ℕ) (l k : Ledger) (cells : List (Option Cell)) → Tied c l cells → under n cells ≡ Some (cell.Queued c) → t ≡ tag_for (Some (ledger_state l)) → k.tags.slots ≡ cond (is_some t) (l.tags.slots ++ Some n ∷ []) l.tags.slots → k.queued + 1 ≡ l.queued → k.pending ≡ cond (is_some t) (l.pending + 1) l.pending → k.queued ≤ k.tags.spare → Tied c k (with_under n (Some (cell_with c t)) cells)
+pub tied-left : (c n : ℕ) (t : Option ℕ) (l k : ConfirmMode) (cells : List (Option Cell)) → Tied c l cells → under n cells ≡ Some (cell.Queued c) → t ≡ tag_for (Some (confirm_mode_state l)) → k.tags.slots ≡ cond (is_some t) (l.tags.slots ++ Some n ∷ []) l.tags.slots → k.queued + 1 ≡ l.queued → k.pending ≡ cond (is_some t) (l.pending + 1) l.pending → k.queued ≤ k.tags.spare → Tied c k (with_under n (Some (cell_with c t)) cells)
 tied-left c n None l k cells tied was tag tags queued pending room = tied-untagged c n outcome.NotRequested l k cells tied was tags queued pending room
 tied-left c n (Some u) l k cells tied was tag tags queued pending room =
     let P : ℕ → Type 0 = λ v. Tied c k (with_under n (Some (cell.Pending c v)) cells) in
@@ -213,7 +213,7 @@ counts_fit c (o ∷ cells) =
     one (Some (cell.Resolved x)) = omega arith
 
 -- a tag that waits is counted
-pub waiting-counted : (c n u : ℕ) (l : Ledger) (cells : List (Option Cell)) → Tied c l cells → under u l.tags.slots ≡ Some n → 1 ≤ l.pending
+pub waiting-counted : (c n u : ℕ) (l : ConfirmMode) (cells : List (Option Cell)) → Tied c l cells → under u l.tags.slots ≡ Some n → 1 ≤ l.pending
 waiting-counted c n u l cells tied named =
     let one : 1 ≤ count_by (is_pending_on c) cells = counted (is_pending_on c) n (cell.Pending c u) cells (tied.waits n u named) (eq-eqb c c refl) in
     omega (arith, tied.pending)
@@ -224,7 +224,7 @@ left-closed c d None other = refl
 left-closed c d (Some t) other = ne_eqb c d other
 
 -- a publish that has not left is counted
-pub queued-counted : (c n : ℕ) (l : Ledger) (cells : List (Option Cell)) → Tied c l cells → under n cells ≡ Some (cell.Queued c) → 1 ≤ l.queued
+pub queued-counted : (c n : ℕ) (l : ConfirmMode) (cells : List (Option Cell)) → Tied c l cells → under n cells ≡ Some (cell.Queued c) → 1 ≤ l.queued
 queued-counted c n l cells tied was =
     let one : 1 ≤ count_by (is_queued_on c) cells = counted (is_queued_on c) n (cell.Queued c) cells was (eq-eqb c c refl) in
     omega (arith, tied.queued)

@@ -1,11 +1,11 @@
--- Every ledger stays tied as one channel's changes.
+-- Every confirm mode stays tied as one channel's changes.
 use Rattle.std.proofs.Common.{◌≡◌, ◌≢◌, ℕ, zero, suc, ◌+◌, ◌≤◌, ◌==◌, Bool, true, false, cond, ◌||◌, List, [], ◌∷◌, ◌++◌, map, length, Option, Some, None, refl, sym, ◌∙◌, ap, subst, arith, ◌⊎◌, inl, inr, eq-eqb, ne_eqb}
 use Rattle.std.specs.List.{list_any, count_by}
 use Rattle.std.specs.Option.{option_map, option_or}
 use Rattle.std.proofs.lemmas.Bool.Decides.{eqb_tells}
 use Rattle.std.proofs.lemmas.List.{length_push, length-map}
 use Rattle.lapin_types.specs.declared.Error.{Error}
-use Rattle.lapin_history.specs.declared.marks.Outcome.{Outcome}
+use Rattle.lapin_rules.specs.declared.marks.Outcome.{Outcome}
 use Rattle.lapin_tables.specs.ByChannel.{at_channel, on_channel}
 use Rattle.lapin_tables.specs.Numbered.{under}
 use Rattle.lapin_tables.proofs.Channels.{at-push, at-on_same, at-on_other}
@@ -13,45 +13,45 @@ use Rattle.lapin_tables.proofs.Counts.{count-push, count-none, count-map}
 use Rattle.lapin_tables.proofs.SlotLaws.{counted, under-push, under-pushed, under-map}
 use Rattle.lapin_confirm.specs.declared.cell.Cell.{Cell}
 use Rattle.lapin_confirm.specs.declared.cell.Cell.TheVariants as cell
-use Rattle.lapin_confirm.specs.declared.ledger.Ledger.{Ledger}
-use Rattle.lapin_confirm.specs.Book.{is_queued_on, is_pending_on, is_open_on, settled_cell, ended_cell}
+use Rattle.lapin_confirm.specs.declared.confirm_mode.ConfirmMode.{ConfirmMode}
+use Rattle.lapin_confirm.specs.PublishStates.{is_queued_on, is_pending_on, is_open_on, settled_cell, ended_cell}
 use Rattle.lapin_confirm.specs.Ties.{IsFresh, Tied, Untouched, TiedAt, AllTied}
 use Rattle.lapin_confirm.proofs.Tying.{closed-queued, closed-pending, closed-apart}
 
-pub tied-of : (c : ℕ) (l : Ledger) (es : List (ℕ × Ledger)) (cells : List (Option Cell)) → at_channel c es ≡ Some l → AllTied es cells → Tied c l cells
-tied-of c l es cells is all = let P : Option Ledger → Type 0 = λ o. TiedAt c o cells in subst P is (all c)
+pub tied-of : (c : ℕ) (l : ConfirmMode) (es : List (ℕ × ConfirmMode)) (cells : List (Option Cell)) → at_channel c es ≡ Some l → AllTied es cells → Tied c l cells
+tied-of c l es cells is all = let P : Option ConfirmMode → Type 0 = λ o. TiedAt c o cells in subst P is (all c)
 
-pub untouched-of : (c : ℕ) (es : List (ℕ × Ledger)) (cells : List (Option Cell)) → at_channel c es ≡ None → AllTied es cells → Untouched c cells
-untouched-of c es cells is all = let P : Option Ledger → Type 0 = λ o. TiedAt c o cells in subst P is (all c)
+pub untouched-of : (c : ℕ) (es : List (ℕ × ConfirmMode)) (cells : List (Option Cell)) → at_channel c es ≡ None → AllTied es cells → Untouched c cells
+untouched-of c es cells is all = let P : Option ConfirmMode → Type 0 = λ o. TiedAt c o cells in subst P is (all c)
 
--- a change of one channel's ledger and of the cells
-pub all-on : (c : ℕ) (l k : Ledger) (es : List (ℕ × Ledger)) (cells after : List (Option Cell)) → at_channel c es ≡ Some l → AllTied es cells → Tied c k after → ((d : ℕ) (o : Option Ledger) → c ≢ d → TiedAt d o cells → TiedAt d o after) → AllTied (on_channel c (λ _. k) es) after
+-- a change of one channel's confirm mode and of the cells
+pub all-on : (c : ℕ) (l k : ConfirmMode) (es : List (ℕ × ConfirmMode)) (cells after : List (Option Cell)) → at_channel c es ≡ Some l → AllTied es cells → Tied c k after → ((d : ℕ) (o : Option ConfirmMode) → c ≢ d → TiedAt d o cells → TiedAt d o after) → AllTied (on_channel c (λ _. k) es) after
 all-on c l k es cells after is all tied others d =
     elim (eqb_tells c d) [
       | inl same ↦
           let P : ℕ → Type 0 = λ e. TiedAt e (at_channel e (on_channel c (λ _. k) es)) after in
-          let Q : Option Ledger → Type 0 = λ o. TiedAt c o after in
+          let Q : Option ConfirmMode → Type 0 = λ o. TiedAt c o after in
           subst P same.1 (subst Q (sym (at-on_same c (λ _. k) es ∙ ap (option_map (λ _. k)) is)) tied)
       | inr other ↦
-          let Q : Option Ledger → Type 0 = λ o. TiedAt d o after in
+          let Q : Option ConfirmMode → Type 0 = λ o. TiedAt d o after in
           subst Q (sym (at-on_other c d (λ _. k) es other.1)) (others d (at_channel d es) other.1 (all d))
     ]
 
-or_none : (o : Option Ledger) → option_or o None ≡ o
+or_none : (o : Option ConfirmMode) → option_or o None ≡ o
 or_none None = refl
 or_none (Some l) = refl
 
 -- a new channel
-pub all-push : (c : ℕ) (k : Ledger) (es : List (ℕ × Ledger)) (cells : List (Option Cell)) → at_channel c es ≡ None → AllTied es cells → Tied c k cells → AllTied (es ++ (c, k) ∷ []) cells
+pub all-push : (c : ℕ) (k : ConfirmMode) (es : List (ℕ × ConfirmMode)) (cells : List (Option Cell)) → at_channel c es ≡ None → AllTied es cells → Tied c k cells → AllTied (es ++ (c, k) ∷ []) cells
 all-push c k es cells none all tied d =
     elim (eqb_tells c d) [
       | inl same ↦
           let P : ℕ → Type 0 = λ e. TiedAt e (at_channel e (es ++ (c, k) ∷ [])) cells in
-          let Q : Option Ledger → Type 0 = λ o. TiedAt c o cells in
+          let Q : Option ConfirmMode → Type 0 = λ o. TiedAt c o cells in
           let found : at_channel c (es ++ (c, k) ∷ []) ≡ Some k = at-push c c k es ∙ added in
           subst P same.1 (subst Q (sym found) tied)
       | inr other ↦
-          let Q : Option Ledger → Type 0 = λ o. TiedAt d o cells in
+          let Q : Option ConfirmMode → Type 0 = λ o. TiedAt d o cells in
           let found : at_channel d (es ++ (c, k) ∷ []) ≡ at_channel d es = at-push c d k es ∙ apart d other.0 in
           subst Q (sym found) (all d)
     ]
@@ -62,10 +62,10 @@ all-push c k es cells none all tied d =
     apart : (d : ℕ) → (c == d) ≡ false → option_or (at_channel d es) (cond (c == d) (Some k) None) ≡ at_channel d es
     apart d other = rw other (or_none (at_channel d es))
 
--- ---- the ledger alone changes
+-- ---- the confirm mode alone changes
 
 -- what is known of the cells says nothing of the selection and of how much room there is
-pub tied-room : (c : ℕ) (l k : Ledger) (cells : List (Option Cell)) → Tied c l cells → k.tags.slots ≡ l.tags.slots → k.queued ≡ l.queued → k.pending ≡ l.pending → k.queued ≤ k.tags.spare → Tied c k cells
+pub tied-room : (c : ℕ) (l k : ConfirmMode) (cells : List (Option Cell)) → Tied c l cells → k.tags.slots ≡ l.tags.slots → k.queued ≡ l.queued → k.pending ≡ l.pending → k.queued ≤ k.tags.spare → Tied c k cells
 tied-room c l k cells tied tags queued pending room = record {
   named = λ n t there. rw tags (tied.named n t there);
   waits = λ n t there. tied.waits n t (rw tags at there);
@@ -76,9 +76,9 @@ tied-room c l k cells tied tags queued pending room = record {
 }
 
 -- other room alone
-pub tied-roomier : (c : ℕ) (l k : Ledger) (cells after : List (Option Cell)) → Tied c l cells → k ≡ record l { tags = k.tags } → k.tags.slots ≡ l.tags.slots → k.queued ≤ k.tags.spare → after ≡ cells → Tied c k after
+pub tied-roomier : (c : ℕ) (l k : ConfirmMode) (cells after : List (Option Cell)) → Tied c l cells → k ≡ record l { tags = k.tags } → k.tags.slots ≡ l.tags.slots → k.queued ≤ k.tags.spare → after ≡ cells → Tied c k after
 tied-roomier c l k cells after tied rest tags room same =
-    rw same (tied-room c l k cells tied tags (ap (λ (x : Ledger). x.queued) rest) (ap (λ (x : Ledger). x.pending) rest) room)
+    rw same (tied-room c l k cells tied tags (ap (λ (x : ConfirmMode). x.queued) rest) (ap (λ (x : ConfirmMode). x.pending) rest) room)
 
 open-queued : (c : ℕ) (cells : List (Option Cell)) → list_any (is_open_on c) cells ≡ false → list_any (is_queued_on c) cells ≡ false
 open-queued c [] none = refl
@@ -100,8 +100,8 @@ no_pending c n t cells none there =
     let one : 1 ≤ count_by (is_pending_on c) cells = counted (is_pending_on c) n (cell.Pending c t) cells there (eq-eqb c c refl) in
     omega arith
 
--- a new opening's ledger
-pub tied-fresh : (c : ℕ) (k : Ledger) (cells : List (Option Cell)) → IsFresh k → list_any (is_open_on c) cells ≡ false → Tied c k cells
+-- a new opening's confirm mode
+pub tied-fresh : (c : ℕ) (k : ConfirmMode) (cells : List (Option Cell)) → IsFresh k → list_any (is_open_on c) cells ≡ false → Tied c k cells
 tied-fresh c k cells fresh none =
     let no_queued : count_by (is_queued_on c) cells ≡ 0 = count-none (is_queued_on c) cells (open-queued c cells none) in
     let none_pending : count_by (is_pending_on c) cells ≡ 0 = count-none (is_pending_on c) cells (open-pending c cells none) in
@@ -122,7 +122,7 @@ tied-fresh c k cells fresh none =
 
 -- ---- a publish joins
 
-pub tied-joined : (c d : ℕ) (l k : Ledger) (cells : List (Option Cell)) → Tied d l cells → k.tags.slots ≡ l.tags.slots → k.queued ≡ l.queued + cond (c == d) 1 0 → k.pending ≡ l.pending → k.queued ≤ k.tags.spare → Tied d k (cells ++ Some (cell.Queued c) ∷ [])
+pub tied-joined : (c d : ℕ) (l k : ConfirmMode) (cells : List (Option Cell)) → Tied d l cells → k.tags.slots ≡ l.tags.slots → k.queued ≡ l.queued + cond (c == d) 1 0 → k.pending ≡ l.pending → k.queued ≤ k.tags.spare → Tied d k (cells ++ Some (cell.Queued c) ∷ [])
 tied-joined c d l k cells tied tags queued pending room = record {
   named = λ n t there.
       elim (under-pushed n (Some (cell.Queued c)) (cell.Pending d t) cells there) [
@@ -144,7 +144,7 @@ tied-joined c d l k cells tied tags queued pending room = record {
       omega arith;
 }
 
-pub tied_at-joined : (c d : ℕ) (o : Option Ledger) (cells : List (Option Cell)) → c ≢ d → TiedAt d o cells → TiedAt d o (cells ++ Some (cell.Queued c) ∷ [])
+pub tied_at-joined : (c d : ℕ) (o : Option ConfirmMode) (cells : List (Option Cell)) → c ≢ d → TiedAt d o cells → TiedAt d o (cells ++ Some (cell.Queued c) ∷ [])
 tied_at-joined c d None cells other none =
     let apart : (c == d) ≡ false = ne_eqb c d other in record {
       queued = count-push (is_queued_on d) cells (Some (cell.Queued c)) ∙ rw (none.queued, apart) refl;
@@ -176,7 +176,7 @@ was_pending d t f spares (Some x) h = elim (spares x) [ inl same ↦ ap Some (sy
 stays_pending : (d t : ℕ) (f : Cell → Cell) → Spares d f → f (cell.Pending d t) ≡ cell.Pending d t
 stays_pending d t f spares = elim (spares (cell.Pending d t)) [ inl same ↦ same | inr closed ↦ absurd (closed-apart d t (Some (cell.Pending d t)) closed.0 refl) ]
 
-tied_at-mapped : (d : ℕ) (f : Cell → Cell) → Spares d f → (o : Option Ledger) (cells : List (Option Cell)) → TiedAt d o cells → TiedAt d o (map (option_map f) cells)
+tied_at-mapped : (d : ℕ) (f : Cell → Cell) → Spares d f → (o : Option ConfirmMode) (cells : List (Option Cell)) → TiedAt d o cells → TiedAt d o (map (option_map f) cells)
 tied_at-mapped d f spares None cells none = record {
   queued = count-map (is_queued_on d) (option_map f) cells (queued-kept d f spares) ∙ none.queued;
   pending = count-map (is_pending_on d) (option_map f) cells (pending-kept d f spares) ∙ none.pending;
@@ -191,7 +191,7 @@ tied_at-mapped d f spares (Some l) cells tied = record {
 }
 
 -- a settlement of another channel
-tied_at-settled : (c d : ℕ) (p : ℕ → Bool) (x : Outcome) (o : Option Ledger) (cells : List (Option Cell)) → c ≢ d → TiedAt d o cells → TiedAt d o (map (option_map (settled_cell c p x)) cells)
+tied_at-settled : (c d : ℕ) (p : ℕ → Bool) (x : Outcome) (o : Option ConfirmMode) (cells : List (Option Cell)) → c ≢ d → TiedAt d o cells → TiedAt d o (map (option_map (settled_cell c p x)) cells)
 tied_at-settled c d p x o cells other tied = tied_at-mapped d (settled_cell c p x) spares o cells tied
   where
     spares : Spares d (settled_cell c p x)
@@ -206,11 +206,11 @@ tied_at-settled c d p x o cells other tied = tied_at-mapped d (settled_cell c p 
     spares (cell.Resolved y) = inl refl
 
 -- a settlement
-pub all-settled : (c : ℕ) (p : ℕ → Bool) (x : Outcome) (l k : Ledger) (es : List (ℕ × Ledger)) (cells after : List (Option Cell)) → at_channel c es ≡ Some l → AllTied es cells → Tied c k after → after ≡ map (option_map (settled_cell c p x)) cells → AllTied (on_channel c (λ _. k) es) after
+pub all-settled : (c : ℕ) (p : ℕ → Bool) (x : Outcome) (l k : ConfirmMode) (es : List (ℕ × ConfirmMode)) (cells after : List (Option Cell)) → at_channel c es ≡ Some l → AllTied es cells → Tied c k after → after ≡ map (option_map (settled_cell c p x)) cells → AllTied (on_channel c (λ _. k) es) after
 all-settled c p x l k es cells after is all tied same = all-on c l k es cells after is all tied (λ d o other old. rw same (tied_at-settled c d p x o cells other old))
 
 -- the end of another channel
-pub tied_at-ended : (c d : ℕ) (e : Error) (o : Option Ledger) (cells : List (Option Cell)) → c ≢ d → TiedAt d o cells → TiedAt d o (map (option_map (ended_cell c e)) cells)
+pub tied_at-ended : (c d : ℕ) (e : Error) (o : Option ConfirmMode) (cells : List (Option Cell)) → c ≢ d → TiedAt d o cells → TiedAt d o (map (option_map (ended_cell c e)) cells)
 tied_at-ended c d e o cells other tied = tied_at-mapped d (ended_cell c e) spares o cells tied
   where
     spares : Spares d (ended_cell c e)

@@ -5,12 +5,12 @@ use Rattle.lapin_types.specs.declared.Error.TheVariants as error
 use Rattle.lapin_types.specs.declared.confirmation.Confirmation.{Confirmation}
 use Rattle.lapin_types.specs.declared.confirmation.Confirmation.TheVariants as confirmation
 use Rattle.lapin_types.specs.declared.message.BasicReturnMessage.{BasicReturnMessage}
-use Rattle.lapin_history.specs.declared.marks.Outcome.{Outcome}
-use Rattle.lapin_history.specs.declared.marks.Outcome.TheVariants as outcome
+use Rattle.lapin_rules.specs.declared.marks.Outcome.{Outcome}
+use Rattle.lapin_rules.specs.declared.marks.Outcome.TheVariants as outcome
 use Rattle.lapin_tables.specs.Numbered.{under}
 use Rattle.lapin_confirm.specs.declared.cell.Cell.{Cell}
 use Rattle.lapin_confirm.specs.declared.cell.Cell.TheVariants as cell
-use Rattle.lapin_confirm.specs.Book.{Book}
+use Rattle.lapin_confirm.specs.PublishStates.{PublishStates}
 
 -- an outcome as the result of the publish
 abbrev pub result_of : Outcome → Result Confirmation Error
@@ -27,24 +27,24 @@ answer_in (Some (cell.Pending d t)) = Ok None
 answer_in (Some (cell.Resolved o)) = Ok (Some (result_of o))
 
 -- no confirm has this number: numbers are given from 1 on
-abbrev pub is_unknown : ℕ → Book → Bool
+abbrev pub is_unknown : ℕ → PublishStates → Bool
 is_unknown n b = n == 0 || nat_lt (length b.cells) n
 
 -- what is answered for confirm n, without a returned message; a number that was never given is refused as `UnknownTicket`
-abbrev pub answer_at : ℕ → Book → Result (Option (Result Confirmation Error)) Error
+abbrev pub answer_at : ℕ → PublishStates → Result (Option (Result Confirmation Error)) Error
 answer_at n b = if is_unknown n b then Err error.UnknownTicket else answer_in (under n b.cells)
 
 -- ---- with the message that the confirm took
 
 -- the confirmation with the message that its confirm took, if it took one; one that was not requested has no message
-abbrev pub with_letter : Option BasicReturnMessage → Confirmation → Confirmation
-with_letter m (confirmation.Ack x) = confirmation.Ack m
-with_letter m (confirmation.Nack x) = confirmation.Nack m
-with_letter m confirmation.NotRequested = confirmation.NotRequested
+abbrev pub with_return : Option BasicReturnMessage → Confirmation → Confirmation
+with_return m (confirmation.Ack x) = confirmation.Ack m
+with_return m (confirmation.Nack x) = confirmation.Nack m
+with_return m confirmation.NotRequested = confirmation.NotRequested
 
 -- the result with that message in its confirmation; a failure has no message
 abbrev pub result_with : Option BasicReturnMessage → Result Confirmation Error → Result Confirmation Error
-result_with m (Ok c) = Ok (with_letter m c)
+result_with m (Ok c) = Ok (with_return m c)
 result_with m (Err e) = Err e
 
 -- what is answered, with that message in the result where one is given; while none is there, or at a refusal, the same

@@ -2,18 +2,18 @@
 -- cites this.
 use Rattle.std.specs.Prelude.{ℕ, Bool, List, Option, refl}
 use Rattle.std.specs.Coded.{Coded, code_by, coded×, coded_ℕ, coded_bool, coded_list, coded_option}
-use Rattle.lapin_history.specs.Letters.{Letters}
+use Rattle.lapin_rules.specs.ReturnLists.{ReturnLists}
 use Rattle.lapin_confirm.specs.declared.cell.Cell.{Cell}
 use Rattle.lapin_confirm.specs.contracts.cell.Cell as cell_row
-use Rattle.lapin_confirm.specs.declared.home.Home.{Home}
-use Rattle.lapin_confirm.specs.contracts.home.Home as home_row
-use Rattle.lapin_confirm.specs.Book.{Book, LedgerState}
-use Rattle.lapin_confirm.specs.Post.{Post}
-use Rattle.lapin_confirm.specs.Tray.{letters_code}
+use Rattle.lapin_confirm.specs.declared.origin.Origin.{Origin}
+use Rattle.lapin_confirm.specs.contracts.origin.Origin as origin_row
+use Rattle.lapin_confirm.specs.PublishStates.{PublishStates, ConfirmModeState}
+use Rattle.lapin_confirm.specs.ConfirmState.{ConfirmState}
+use Rattle.lapin_confirm.specs.ReturnedMessages.{return_lists_code}
 
 -- a channel's opening
-abbrev pub ledger_code : Coded LedgerState
-ledger_code =
+abbrev pub confirm_mode_code : Coded ConfirmModeState
+confirm_mode_code =
     code_by
     (Bool × (ℕ × (Bool × ℕ)))
     (coded× coded_bool (coded× coded_ℕ (coded× coded_bool coded_ℕ)))
@@ -22,21 +22,21 @@ ledger_code =
     (λ _. refl)
 
 -- tags and outcomes
-abbrev pub book_code : Coded Book
-book_code =
+abbrev pub publish_states_code : Coded PublishStates
+publish_states_code =
     code_by
-    (List (ℕ × LedgerState) × List (Option Cell))
-    (coded× (coded_list (coded× coded_ℕ ledger_code)) (coded_list (coded_option cell_row.the_row.coded)))
-    (λ b. (b.ledgers, b.cells))
-    (λ p. record { ledgers = p.0; cells = p.1 })
+    (List (ℕ × ConfirmModeState) × List (Option Cell))
+    (coded× (coded_list (coded× coded_ℕ confirm_mode_code)) (coded_list (coded_option cell_row.the_row.coded)))
+    (λ b. (b.confirm_modes, b.cells))
+    (λ p. record { confirm_modes = p.0; cells = p.1 })
     (λ _. refl)
 
 -- the confirms with the returned messages
-abbrev pub post_code : Coded Post
-post_code =
+abbrev pub confirm_state_code : Coded ConfirmState
+confirm_state_code =
     code_by
-    (Book × (List (ℕ × Letters) × List (Option Home)))
-    (coded× book_code (coded× (coded_list (coded× coded_ℕ letters_code)) (coded_list (coded_option home_row.the_row.coded))))
-    (λ p. (p.book, (p.trays, p.homes)))
-    (λ p. record { book = p.0; trays = p.1.0; homes = p.1.1 })
+    (PublishStates × (List (ℕ × ReturnLists) × List (Option Origin)))
+    (coded× publish_states_code (coded× (coded_list (coded× coded_ℕ return_lists_code)) (coded_list (coded_option origin_row.the_row.coded))))
+    (λ p. (p.publish_states, (p.returned_by_channel, p.origins)))
+    (λ p. record { publish_states = p.0; returned_by_channel = p.1.0; origins = p.1.1 })
     (λ _. refl)

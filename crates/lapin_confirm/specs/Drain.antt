@@ -2,36 +2,36 @@
 use Rattle.std.specs.Prelude.{ℕ, Bool, if◌then◌else◌, List, [], ◌∷◌, ◌++◌, Option, None}
 use Rattle.std.specs.List.{filter}
 use Rattle.lapin_types.specs.declared.message.BasicReturnMessage.{BasicReturnMessage}
-use Rattle.lapin_history.specs.Letters.{opt_list, message_at, without, drained_messages, drained_letters}
+use Rattle.lapin_rules.specs.ReturnLists.{opt_list, message_at, without, drained_messages, drained_return_lists}
 use Rattle.lapin_tables.specs.ByChannel.{on_channel}
 use Rattle.lapin_tables.specs.Numbered.{under, with_under}
 use Rattle.lapin_confirm.specs.declared.cell.Cell.{Cell}
-use Rattle.lapin_confirm.specs.declared.home.Home.{Home}
-use Rattle.lapin_confirm.specs.Book.{is_resolved}
-use Rattle.lapin_confirm.specs.Post.{Post, letters_at}
+use Rattle.lapin_confirm.specs.declared.origin.Origin.{Origin}
+use Rattle.lapin_confirm.specs.PublishStates.{is_resolved}
+use Rattle.lapin_confirm.specs.ConfirmState.{ConfirmState, return_lists_at}
 
 -- the outcome of confirm n is there
 abbrev pub is_over : List (Option Cell) → ℕ → Bool
 is_over cells n = is_resolved (under n cells)
 
 -- the messages that a drain of channel c gives
-abbrev pub drained_on : ℕ → Post → List BasicReturnMessage
-drained_on c p = drained_messages (is_over p.book.cells) (letters_at c p)
+abbrev pub drained_on : ℕ → ConfirmState → List BasicReturnMessage
+drained_on c p = drained_messages (is_over p.publish_states.cells) (return_lists_at c p)
 
 -- ---- what is kept of confirms
 
 -- what is kept of confirms, by number: what became of each, and where it belongs
 pub record Remains : Type 0 where
   pub cells : List (Option Cell)
-  pub homes : List (Option Home)
+  pub origins : List (Option Origin)
 
--- these cells and these homes are what is kept of confirms
-abbrev pub remaining : List (Option Cell) → List (Option Home) → Remains
-remaining cells homes = record { cells = cells; homes = homes }
+-- these cells and these origins are what is kept of confirms
+abbrev pub remaining : List (Option Cell) → List (Option Origin) → Remains
+remaining cells origins = record { cells = cells; origins = origins }
 
 -- of confirm n nothing is kept any more, if it is resolved
 abbrev pub less_one : ℕ → Remains → Remains
-less_one n r = if is_over r.cells n then record { cells = with_under n None r.cells; homes = with_under n None r.homes } else r
+less_one n r = if is_over r.cells n then record { cells = with_under n None r.cells; origins = with_under n None r.origins } else r
 
 -- of each of these confirms nothing is kept any more, if it is resolved
 abbrev pub less_all : List ℕ → Remains → Remains
@@ -39,20 +39,20 @@ less_all [] r = r
 less_all (n ∷ ns) r = less_all ns (less_one n r)
 
 -- the confirms of channel c that were set aside and are resolved by now
-abbrev pub over_aside : ℕ → Post → List ℕ
-over_aside c p = filter (is_over p.book.cells) (letters_at c p).aside
+abbrev pub over_aside : ℕ → ConfirmState → List ℕ
+over_aside c p = filter (is_over p.publish_states.cells) (return_lists_at c p).aside
 
--- this is what is kept of confirms; openings and letters stay
-abbrev pub with_remains : Remains → Post → Post
-with_remains r p = record { book = record { ledgers = p.book.ledgers; cells = r.cells }; trays = p.trays; homes = r.homes }
+-- this is what is kept of confirms; openings and return lists stay
+abbrev pub with_remains : Remains → ConfirmState → ConfirmState
+with_remains r p = record { publish_states = record { confirm_modes = p.publish_states.confirm_modes; cells = r.cells }; returned_by_channel = p.returned_by_channel; origins = r.origins }
 
 -- after a drain of channel c
-abbrev pub drained : ℕ → Post → Post
-drained c p = record (with_remains (less_all (over_aside c p) (remaining p.book.cells p.homes)) p) { trays = on_channel c (drained_letters (is_over p.book.cells)) p.trays }
+abbrev pub drained : ℕ → ConfirmState → ConfirmState
+drained c p = record (with_remains (less_all (over_aside c p) (remaining p.publish_states.cells p.origins)) p) { returned_by_channel = on_channel c (drained_return_lists (is_over p.publish_states.cells)) p.returned_by_channel }
 
 -- as an opening of channel c begins: of those that stand aside nothing is kept, if they are resolved
-abbrev pub renewed_on : ℕ → Post → Post
-renewed_on c p = with_remains (less_all (letters_at c p).aside (remaining p.book.cells p.homes)) p
+abbrev pub renewed_on : ℕ → ConfirmState → ConfirmState
+renewed_on c p = with_remains (less_all (return_lists_at c p).aside (remaining p.publish_states.cells p.origins)) p
 
 -- ---- one confirm after another of those that stand aside
 

@@ -1,23 +1,23 @@
 -- When confirms are what the marks of a history say.
 use Rattle.std.specs.Prelude.{◌≡◌, ℕ, suc, ◌<◌, ◌≤◌, true, false, if◌then◌else◌, List, [], ◌∷◌, ◌++◌, Option, Some, None, length}
-use Rattle.lapin_history.specs.declared.marks.Outcome.{Outcome}
-use Rattle.lapin_history.specs.declared.marks.Outcome.TheVariants as outcome
-use Rattle.lapin_history.specs.ConfirmMarks.{ConfirmMark}
-use Rattle.lapin_history.specs.ConfirmMarks as mark
-use Rattle.lapin_history.specs.Words.{after, is_some}
-use Rattle.lapin_history.specs.ConfirmReadings.{leaves, is_begun, is_selected, place, has_left, is_aside, is_finished, channel_of, tag_of, covers, outcome_of, first_settled, first_rejected, life, added, outcome_at, is_open_outcome, is_asked, limit_of}
-use Rattle.lapin_history.specs.ReturnReadings.{is_gone, letters_of}
+use Rattle.lapin_rules.specs.declared.marks.Outcome.{Outcome}
+use Rattle.lapin_rules.specs.declared.marks.Outcome.TheVariants as outcome
+use Rattle.lapin_rules.specs.ConfirmMarks.{ConfirmMark}
+use Rattle.lapin_rules.specs.ConfirmMarks as mark
+use Rattle.lapin_rules.specs.Words.{after, is_some}
+use Rattle.lapin_rules.specs.ConfirmReadings.{leaves, is_begun, is_selected, place, has_left, is_aside, is_finished, channel_of, tag_of, covers, outcome_of, first_settled, first_rejected, life, added, outcome_at, is_open_outcome, is_asked, limit_of}
+use Rattle.lapin_rules.specs.ReturnReadings.{is_gone, return_lists_of}
 use Rattle.lapin_tables.specs.ByChannel.{at_channel}
 use Rattle.lapin_tables.specs.Numbered.{under}
 use Rattle.lapin_confirm.specs.declared.cell.Cell.{Cell}
 use Rattle.lapin_confirm.specs.declared.cell.Cell.TheVariants as cell
-use Rattle.lapin_confirm.specs.declared.home.Home.{Home}
-use Rattle.lapin_confirm.specs.Book.{LedgerState}
-use Rattle.lapin_confirm.specs.Post.{Post, letters_at}
+use Rattle.lapin_confirm.specs.declared.origin.Origin.{Origin}
+use Rattle.lapin_confirm.specs.PublishStates.{ConfirmModeState}
+use Rattle.lapin_confirm.specs.ConfirmState.{ConfirmState, return_lists_at}
 
--- a channel's ledger by the readings
-abbrev pub ledger_in : ℕ → List ConfirmMark → Option LedgerState
-ledger_in c ms = if is_begun c ms then Some (record { selected = is_selected c ms; last = place c ms; asked = is_asked c ms; limit = limit_of c ms }) else None
+-- a channel's confirm mode by the readings
+abbrev pub confirm_mode_in : ℕ → List ConfirmMark → Option ConfirmModeState
+confirm_mode_in c ms = if is_begun c ms then Some (record { selected = is_selected c ms; last = place c ms; asked = is_asked c ms; limit = limit_of c ms }) else None
 
 -- the cell of a publish that left on channel c with tag t: pending, or resolved where it has this outcome by now
 abbrev pub pending_cell : ℕ → ℕ → Option Outcome → Cell
@@ -46,8 +46,8 @@ abbrev pub cell_in : ℕ → List ConfirmMark → Option Cell
 cell_in n ms = if is_gone n ms then None else Some (open_cell n ms)
 
 -- and where it belongs
-abbrev pub home_in : ℕ → List ConfirmMark → Option Home
-home_in n ms = if is_gone n ms then None else Some (record { channel = channel_of n ms; aside = is_aside n ms })
+abbrev pub origin_in : ℕ → List ConfirmMark → Option Origin
+origin_in n ms = if is_gone n ms then None else Some (record { channel = channel_of n ms; aside = is_aside n ms })
 
 -- ---- which marks may come
 
@@ -79,17 +79,17 @@ CameAfter before (m ∷ ms) = MayCome before m × CameAfter (before ++ m ∷ [])
 
 -- ---- what is kept is what the marks say
 
--- each mark came as it may, and ledgers, cells, homes and letters are those that the readings give
-pub record Follows (ms : List ConfirmMark) (p : Post) : Type 0 where
+-- each mark came as it may, and confirm modes, cells, origins and return lists are those that the readings give
+pub record Follows (ms : List ConfirmMark) (p : ConfirmState) : Type 0 where
   pub came : CameAfter [] ms
-  pub ledgers : (c : ℕ) → at_channel c p.book.ledgers ≡ ledger_in c ms
-  pub count : length p.book.cells ≡ added ms
-  pub cells : (k : ℕ) → k < added ms → under (suc k) p.book.cells ≡ cell_in (suc k) ms
-  pub places : length p.homes ≡ added ms
-  pub homes : (k : ℕ) → k < added ms → under (suc k) p.homes ≡ home_in (suc k) ms
-  -- a channel that had an opening has letters, and they are those of the history
-  pub trays : (c : ℕ) → is_some (at_channel c p.trays) ≡ is_begun c ms
-  pub letters : (c : ℕ) → letters_at c p ≡ letters_of c ms
+  pub confirm_modes : (c : ℕ) → at_channel c p.publish_states.confirm_modes ≡ confirm_mode_in c ms
+  pub count : length p.publish_states.cells ≡ added ms
+  pub cells : (k : ℕ) → k < added ms → under (suc k) p.publish_states.cells ≡ cell_in (suc k) ms
+  pub places : length p.origins ≡ added ms
+  pub origins : (k : ℕ) → k < added ms → under (suc k) p.origins ≡ origin_in (suc k) ms
+  -- a channel that had an opening has return lists, and they are those of the history
+  pub returned_by_channel : (c : ℕ) → is_some (at_channel c p.returned_by_channel) ≡ is_begun c ms
+  pub return_lists : (c : ℕ) → return_lists_at c p ≡ return_lists_of c ms
 
 -- the mark resolves what is pending on channel c with tag t, as this: a settlement of the channel that covers the tag, or the
 -- end of the opening

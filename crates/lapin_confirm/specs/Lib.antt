@@ -1,12 +1,12 @@
-pub mod Tray
-pub mod Book
+pub mod ReturnedMessages
+pub mod PublishStates
 pub mod Answers
-pub mod Post
+pub mod ConfirmState
 pub mod Aside
 pub mod Drain
 pub mod Machine
 pub mod Sweeps
-pub mod Kept
+pub mod WithRoom
 pub mod Ties
 pub mod Follows
 pub mod Polled

@@ -2,64 +2,64 @@
 use Rattle.std.specs.Prelude.{ℕ, [], ◌∷◌, ◌++◌, Some}
 use Rattle.lapin_types.specs.declared.Error.{Error}
 use Rattle.lapin_types.specs.declared.message.BasicReturnMessage.{BasicReturnMessage}
-use Rattle.lapin_history.specs.declared.marks.Settlement.{Settlement}
-use Rattle.lapin_history.specs.ConfirmMarks.{ConfirmMark}
-use Rattle.lapin_history.specs.ConfirmMarks as mark
-use Rattle.lapin_history.specs.ConfirmReadings.{covers}
-use Rattle.lapin_history.specs.Letters.{Letters, arrived_in, attached_to_all, renewed}
-use Rattle.lapin_history.specs.Words.{with_channel}
+use Rattle.lapin_rules.specs.declared.marks.Settlement.{Settlement}
+use Rattle.lapin_rules.specs.ConfirmMarks.{ConfirmMark}
+use Rattle.lapin_rules.specs.ConfirmMarks as mark
+use Rattle.lapin_rules.specs.ConfirmReadings.{covers}
+use Rattle.lapin_rules.specs.ReturnLists.{ReturnLists, arrived_in, attached_to_all, renewed}
+use Rattle.lapin_rules.specs.Words.{with_channel}
 use Rattle.lapin_tables.specs.ByChannel.{on_channel}
-use Rattle.lapin_confirm.specs.Book.{Book, begun, with_publish, select_left, select_called, limited, left, settled, closed_here, ended, selected_on}
-use Rattle.lapin_confirm.specs.Book as book
-use Rattle.lapin_confirm.specs.Post.{Post, new_home, letters_at, given, covered_in}
+use Rattle.lapin_confirm.specs.PublishStates.{PublishStates, begun, with_publish, select_left, select_called, limited, left, settled, closed_here, ended, selected_on}
+use Rattle.lapin_confirm.specs.PublishStates as publish_states
+use Rattle.lapin_confirm.specs.ConfirmState.{ConfirmState, new_origin, return_lists_at, given, covered_in}
 use Rattle.lapin_confirm.specs.Aside.{put_aside}
 use Rattle.lapin_confirm.specs.Drain.{drained, renewed_on}
 
--- the book changes to this one, and nothing else
-abbrev pub with_book : Book → Post → Post
-with_book b p = record { book = b; trays = p.trays; homes = p.homes }
+-- the publish states changes to this one, and nothing else
+abbrev pub with_publish_states : PublishStates → ConfirmState → ConfirmState
+with_publish_states b p = record { publish_states = b; returned_by_channel = p.returned_by_channel; origins = p.origins }
 
--- the letters of channel c change, and nothing else
-abbrev pub with_letters : ℕ → (Letters → Letters) → Post → Post
-with_letters c f p = record { book = p.book; trays = on_channel c f p.trays; homes = p.homes }
+-- the return lists of channel c change, and nothing else
+abbrev pub with_return_lists : ℕ → (ReturnLists → ReturnLists) → ConfirmState → ConfirmState
+with_return_lists c f p = record { publish_states = p.publish_states; returned_by_channel = on_channel c f p.returned_by_channel; origins = p.origins }
 
 -- an opening of channel c begins: no tag is taken, nothing waits, is kept or stands aside
-abbrev pub opened : ℕ → Post → Post
+abbrev pub opened : ℕ → ConfirmState → ConfirmState
 opened c p = record {
-  book = begun c (renewed_on c p).book;
-  trays = with_channel c (renewed (letters_at c p)) p.trays;
-  homes = (renewed_on c p).homes;
+  publish_states = begun c (renewed_on c p).publish_states;
+  returned_by_channel = with_channel c (renewed (return_lists_at c p)) p.returned_by_channel;
+  origins = (renewed_on c p).origins;
 }
 
 -- a publish is accepted on channel c, and belongs there
-abbrev pub published : ℕ → Post → Post
-published c p = record { book = with_publish c p.book; trays = p.trays; homes = p.homes ++ Some (new_home c) ∷ [] }
+abbrev pub published : ℕ → ConfirmState → ConfirmState
+published c p = record { publish_states = with_publish c p.publish_states; returned_by_channel = p.returned_by_channel; origins = p.origins ++ Some (new_origin c) ∷ [] }
 
 -- a settlement of channel c resolves what it covers, and the confirms under its tags take the oldest messages that wait, one each
-abbrev pub resolved : ℕ → Settlement → Post → Post
-resolved c s p = with_book (settled c s p.book) (with_letters c (attached_to_all (covered_in c (covers s) p.book)) p)
+abbrev pub resolved : ℕ → Settlement → ConfirmState → ConfirmState
+resolved c s p = with_publish_states (settled c s p.publish_states) (with_return_lists c (attached_to_all (covered_in c (covers s) p.publish_states)) p)
 
 -- a returned message of channel c came whole: it waits where the opening is selected
-abbrev pub arrived : ℕ → BasicReturnMessage → Post → Post
-arrived c m p = with_letters c (arrived_in (selected_on c p.book) m) p
+abbrev pub arrived : ℕ → BasicReturnMessage → ConfirmState → ConfirmState
+arrived c m p = with_return_lists c (arrived_in (selected_on c p.publish_states) m) p
 
 -- publish n, which has not left, is resolved with an error: no mark of a history is this alone, but a close of this side is these
 -- one after another
-abbrev pub rejected : ℕ → Error → Post → Post
-rejected n e p = with_book (book.rejected n e p.book) p
+abbrev pub rejected : ℕ → Error → ConfirmState → ConfirmState
+rejected n e p = with_publish_states (publish_states.rejected n e p.publish_states) p
 
 -- the confirms after a mark
-abbrev pub after_mark : Post → ConfirmMark → Post
+abbrev pub after_mark : ConfirmState → ConfirmMark → ConfirmState
 after_mark p (mark.Begun c) = opened c p
-after_mark p (mark.SelectCalled c) = with_book (select_called c p.book) p
-after_mark p (mark.LimitSet c n) = with_book (limited c n p.book) p
+after_mark p (mark.SelectCalled c) = with_publish_states (select_called c p.publish_states) p
+after_mark p (mark.LimitSet c n) = with_publish_states (limited c n p.publish_states) p
 after_mark p (mark.Added c) = published c p
-after_mark p (mark.SelectLeft c) = with_book (select_left c p.book) p
-after_mark p (mark.Left c n) = with_book (left c n p.book) p
+after_mark p (mark.SelectLeft c) = with_publish_states (select_left c p.publish_states) p
+after_mark p (mark.Left c n) = with_publish_states (left c n p.publish_states) p
 after_mark p (mark.Settled c s) = resolved c s p
 after_mark p (mark.Arrived c m) = arrived c m p
-after_mark p (mark.ClosedHere c e) = with_book (closed_here c e p.book) p
-after_mark p (mark.Ended c e) = with_book (ended c e p.book) p
+after_mark p (mark.ClosedHere c e) = with_publish_states (closed_here c e p.publish_states) p
+after_mark p (mark.Ended c e) = with_publish_states (ended c e p.publish_states) p
 after_mark p (mark.Taken n) = given n p
 after_mark p (mark.SetAside n) = put_aside n p
 after_mark p (mark.Drained c) = drained c p

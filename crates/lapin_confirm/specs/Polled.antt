@@ -4,10 +4,10 @@ use Rattle.lapin_types.specs.declared.Error.{Error}
 use Rattle.lapin_types.specs.declared.Error.TheVariants as error
 use Rattle.lapin_types.specs.declared.confirmation.Confirmation.{Confirmation}
 use Rattle.lapin_types.specs.declared.message.BasicReturnMessage.{BasicReturnMessage}
-use Rattle.lapin_history.specs.declared.marks.Outcome.{Outcome}
-use Rattle.lapin_history.specs.ConfirmMarks.{ConfirmMark}
-use Rattle.lapin_history.specs.ConfirmReadings.{outcome_at, is_finished, was_added}
-use Rattle.lapin_history.specs.ReturnReadings.{message_of}
+use Rattle.lapin_rules.specs.declared.marks.Outcome.{Outcome}
+use Rattle.lapin_rules.specs.ConfirmMarks.{ConfirmMark}
+use Rattle.lapin_rules.specs.ConfirmReadings.{outcome_at, is_finished, was_added}
+use Rattle.lapin_rules.specs.ReturnReadings.{message_of}
 use Rattle.lapin_confirm.specs.Answers.{result_of, result_with}
 
 -- an outcome with the message that the confirm took, none while it is not there

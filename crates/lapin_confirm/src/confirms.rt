@@ -1,84 +1,84 @@
 //! The confirms of all channels: the public calls.
 //!
-//! Each call does one thing that may happen to a publish, and says what the book is then. What runs over the tags of a
+//! Each call does one thing that may happen to a publish, and says what the publish states is then. What runs over the tags of a
 //! channel stands in `settling`; results, set-asides and drains stand in `results` and `draining`.
 
 ghost use Rattle.std.specs.Prelude.{◌≡◌, ◌≢◌, ℕ, ◌+◌, ◌≤◌, ◌<◌, ◌^◌, ◌↔◌, ◌⊎◌, true, false, Ok, Err, Some, OnOk, OnErr, IsOk, IfOk, IfErr, IsSome, length, if◌then◌else◌};
 ghost use Rattle.std.specs.List.{list_any};
 ghost use Rattle.lapin_tables.specs.ByChannel.{at_channel};
 ghost use Rattle.lapin_tables.specs.Numbered.{under, first_kept};
-ghost use Rattle.lapin_history.specs.ConfirmMarks as mark;
-ghost use Rattle.lapin_history.specs.ConfirmReadings.{kind_outcome};
-ghost use Rattle.lapin_confirm.specs.Post.{empty_post};
+ghost use Rattle.lapin_rules.specs.ConfirmMarks as mark;
+ghost use Rattle.lapin_rules.specs.ConfirmReadings.{kind_outcome};
+ghost use Rattle.lapin_confirm.specs.ConfirmState.{empty_confirm_state};
 ghost use Rattle.lapin_confirm.specs.Machine.{after_mark, rejected};
-ghost use Rattle.lapin_confirm.specs.Book.{single_of, multiple_of, tag_for, is_open_on, is_queued, is_pending, pending_count, queued_count, last_on, selected_on, asked_on, limit_on, full_on, span_on, span_from};
-ghost use Rattle.lapin_confirm.specs.Kept.{spare_on, KeepsRoom};
+ghost use Rattle.lapin_confirm.specs.PublishStates.{single_of, multiple_of, tag_for, is_open_on, is_queued, is_pending, pending_count, queued_count, last_on, selected_on, asked_on, limit_on, full_on, span_on, span_from};
+ghost use Rattle.lapin_confirm.specs.WithRoom.{spare_on, KeepsRoom};
 
 use crate::attaching::{attach_on, attach_one};
 use crate::cell::Cell;
-use crate::home::Home;
-use crate::ledger::Ledger;
-use crate::openings::{make_place, put_ledger, renew_tray};
+use crate::origin::Origin;
+use crate::confirm_mode::ConfirmMode;
+use crate::openings::{make_place, put_confirm_mode, renew_returned_messages};
 use crate::returned::{Returned, let_go};
 use crate::rooms::{give_up, is_promised, make_room, promise, use_room};
 use crate::settling::{end_opening, enqueue, leave, reject, settle_tag, settle_through};
-use lapin_history::{Outcome, SettleKind};
+use lapin_rules::{Outcome, SettleKind};
 use lapin_tables::{ByChannel, Numbered};
 use lapin_types::{BasicReturnMessage, Confirmation, Error, NoMemory};
 use std::alloc::Global;
 use std::marker::Model;
 
-/// The outcome of every confirm number, and the ledger and the tray of every channel. Contracts see a `Post`, and the room beside it.
+/// The outcome of every confirm number, and the confirm mode and the returned messages of every channel. Contracts see a `ConfirmState`, and the room beside it.
 pub struct Confirms {
-    pub(crate) ledgers: ByChannel<Ledger>,
+    pub(crate) confirm_modes: ByChannel<ConfirmMode>,
     pub(crate) cells: Numbered<Cell>,
-    pub(crate) homes: Numbered<Home>,
-    pub(crate) trays: ByChannel<Returned>,
+    pub(crate) origins: Numbered<Origin>,
+    pub(crate) returned_by_channel: ByChannel<Returned>,
     pub(crate) rooms: ByChannel<bool>,
 }
 
 impl Drop for Confirms {
     fn drop(self) {
         let Confirms {
-            ledgers: _,
+            confirm_modes: _,
             cells: _,
-            homes: _,
-            trays: _,
+            origins: _,
+            returned_by_channel: _,
             rooms: _,
         } = self;
     }
 }
 
 impl Model for Confirms {
-    ghost use Rattle.lapin_confirm.specs.Kept.{Kept};
+    ghost use Rattle.lapin_confirm.specs.WithRoom.{WithRoom};
     ghost use Rattle.std.specs.Coded.{codes};
     ghost use Rattle.lapin_types.specs.contracts.message.BasicReturnMessage as message;
 
-    ghost Value = { Kept };
+    ghost Value = { WithRoom };
 
     ghost coded = { Prim.hlevel (codes, message.the_row.coded) };
 
-    ghost use Rattle.lapin_confirm.specs.Ties.{ledger_states, trays_of, AllKept};
+    ghost use Rattle.lapin_confirm.specs.Ties.{confirm_mode_states, returned_by_channel_of, AllKept};
 
     ghost view = { λ a. record {
-      what = record { book = record { ledgers = ledger_states a.ledgers.entries; cells = a.cells.slots }; trays = trays_of a.trays.entries; homes = a.homes.slots };
+      what = record { publish_states = record { confirm_modes = confirm_mode_states a.confirm_modes.entries; cells = a.cells.slots }; returned_by_channel = returned_by_channel_of a.returned_by_channel.entries; origins = a.origins.slots };
       spare = a.rooms.entries;
     } };
 
-    ghost invariant = { λ a. AllKept a.rooms.entries a.ledgers.entries a.trays.entries a.cells a.homes };
+    ghost invariant = { λ a. AllKept a.rooms.entries a.confirm_modes.entries a.returned_by_channel.entries a.cells a.origins };
 }
 
 impl Confirms {
     /// No opening and no publish. It takes no memory yet, so it does not fail.
     pub fn new(alloc: Global) -> Result<Confirms, NoMemory>
-        ensures made { IfOk result (λ made. made.what ≡ empty_post) }
+        ensures made { IfOk result (λ made. made.what ≡ empty_confirm_state) }
         ensures succeeds { IsOk result }
     {
         Ok(Confirms {
-            ledgers: ByChannel::new(alloc),
+            confirm_modes: ByChannel::new(alloc),
             cells: Numbered::new(alloc),
-            homes: Numbered::new(alloc),
-            trays: ByChannel::new(alloc),
+            origins: Numbered::new(alloc),
+            returned_by_channel: ByChannel::new(alloc),
             rooms: ByChannel::new(alloc),
         })
     }
@@ -98,9 +98,9 @@ impl Confirms {
             channel,
             &mut self.rooms,
             &mut self.cells,
-            &mut self.homes,
-            &mut self.ledgers,
-            &mut self.trays,
+            &mut self.origins,
+            &mut self.confirm_modes,
+            &mut self.returned_by_channel,
         ) {
             return Err(NoMemory);
         }
@@ -112,24 +112,24 @@ impl Confirms {
     /// Of confirms that were set aside nothing is kept any more. Nothing of an earlier opening may be open. Only the first one of a
     /// channel takes memory, and one for which there is room.
     pub fn begin(&mut self, alloc: Global, channel: u16) -> Result<(), NoMemory>
-        requires { list_any (is_open_on channel) self.old.what.book.cells ≡ false }
+        requires { list_any (is_open_on channel) self.old.what.publish_states.cells ≡ false }
         ensures ok { OnOk result (self.new.what ≡ after_mark self.old.what (mark.Begun channel)) }
         ensures err { OnErr result (self.new.what ≡ self.old.what) }
         ensures spare { self.new.spare ≡ self.old.spare }
-        ensures succeeds { IsSome (at_channel channel self.old.what.book.ledgers) → IsSome (at_channel channel self.old.what.trays) → spare_on channel self.old ≡ 0 → IsOk result }
+        ensures succeeds { IsSome (at_channel channel self.old.what.publish_states.confirm_modes) → IsSome (at_channel channel self.old.what.returned_by_channel) → spare_on channel self.old ≡ 0 → IsOk result }
     {
         let promised = is_promised(&self.rooms, channel);
-        let ledger = Ledger::with_room(alloc, promised)?;
-        make_place(&mut self.ledgers, channel)?;
-        renew_tray(
-            &mut self.trays,
+        let confirm_mode = ConfirmMode::with_room(alloc, promised)?;
+        make_place(&mut self.confirm_modes, channel)?;
+        renew_returned_messages(
+            &mut self.returned_by_channel,
             &mut self.cells,
-            &mut self.homes,
+            &mut self.origins,
             alloc,
             channel,
             promised,
         )?;
-        put_ledger(&mut self.ledgers, channel, ledger);
+        put_confirm_mode(&mut self.confirm_modes, channel, confirm_mode);
         Ok(())
     }
 
@@ -137,37 +137,37 @@ impl Confirms {
     ///
     /// `NumbersUsedUp` comes exactly where the number would pass the greatest `u64`.
     pub fn add(&mut self, _alloc: Global, channel: u16) -> Result<u64, Error>
-        requires { IsSome (at_channel channel self.old.what.book.ledgers) }
-        ensures number { IfOk result (λ n. n ≡ length self.old.what.book.cells + 1) }
+        requires { IsSome (at_channel channel self.old.what.publish_states.confirm_modes) }
+        ensures number { IfOk result (λ n. n ≡ length self.old.what.publish_states.cells + 1) }
         ensures ok { OnOk result (self.new.what ≡ after_mark self.old.what (mark.Added channel)) }
         ensures err { OnErr result (self.new.what ≡ self.old.what) }
         ensures spare { (c : ℕ) → c ≢ channel → spare_on c self.old ≤ spare_on c self.new }
         ensures used { spare_on channel self.old ≤ spare_on channel self.new + 1 }
         ensures unused { OnErr result (self.new.spare ≡ self.old.spare) }
         ensures cause { IfErr result (λ e. (e ≡ Error.NumbersUsedUp) ⊎ (e ≡ Error.NoMemory)) }
-        ensures used_up { (result ≡ Err Error.NumbersUsedUp) ↔ (length self.old.what.book.cells + 1 ≡ 2 ^ 64) }
-        ensures succeeds { 0 < spare_on channel self.old → length self.old.what.book.cells + 1 < 2 ^ 64 → IsOk result }
+        ensures used_up { (result ≡ Err Error.NumbersUsedUp) ↔ (length self.old.what.publish_states.cells + 1 ≡ 2 ^ 64) }
+        ensures succeeds { 0 < spare_on channel self.old → length self.old.what.publish_states.cells + 1 < 2 ^ 64 → IsOk result }
     {
         if self.cells.next_number().is_none() {
             return Err(Error::NumbersUsedUp);
         }
-        let Some(ledger) = self.ledgers.get_mut(channel) else {
+        let Some(confirm_mode) = self.confirm_modes.get_mut(channel) else {
             unreachable!()
         };
         if let Err(_) = use_room(
             channel,
             &mut self.rooms,
             &mut self.cells,
-            &mut self.homes,
-            ledger,
+            &mut self.origins,
+            confirm_mode,
         ) {
             return Err(Error::NoMemory);
         }
-        self.homes.push_reserved(Home {
+        self.origins.push_reserved(Origin {
             channel,
             aside: false,
         });
-        Ok(enqueue(channel, ledger, &mut self.cells))
+        Ok(enqueue(channel, confirm_mode, &mut self.cells))
     }
 
     /// A `confirm.select` frame of a channel leaves: the opening is selected from now on.
@@ -175,10 +175,10 @@ impl Confirms {
         ensures what { self.new.what ≡ after_mark self.old.what (mark.SelectLeft channel) }
         ensures spare { self.new.spare ≡ self.old.spare }
     {
-        let Some(ledger) = self.ledgers.get_mut(channel) else {
+        let Some(confirm_mode) = self.confirm_modes.get_mut(channel) else {
             return;
         };
-        ledger.selected = true;
+        confirm_mode.selected = true;
     }
 
     /// A `confirm.select` call is accepted on a channel with a live opening.
@@ -186,10 +186,10 @@ impl Confirms {
         ensures what { self.new.what ≡ after_mark self.old.what (mark.SelectCalled channel) }
         ensures spare { self.new.spare ≡ self.old.spare }
     {
-        let Some(ledger) = self.ledgers.get_mut(channel) else {
+        let Some(confirm_mode) = self.confirm_modes.get_mut(channel) else {
             return;
         };
-        ledger.asked = true;
+        confirm_mode.asked = true;
     }
 
     /// Sets the limit of pending tags of a channel with a live opening, 0 for none.
@@ -197,25 +197,25 @@ impl Confirms {
         ensures what { self.new.what ≡ after_mark self.old.what (mark.LimitSet channel limit) }
         ensures spare { self.new.spare ≡ self.old.spare }
     {
-        let Some(ledger) = self.ledgers.get_mut(channel) else {
+        let Some(confirm_mode) = self.confirm_modes.get_mut(channel) else {
             return;
         };
-        ledger.limit = limit;
+        confirm_mode.limit = limit;
     }
 
     /// The method frame of a publish leaves. Answers the tag that it takes: none where the opening isn't selected, and it is
     /// then resolved as not requested.
     pub fn register(&mut self, number: u64) -> Option<u64>
-        requires { is_queued (under number self.old.what.book.cells) ≡ true }
-        ensures tag { (c : ℕ) → under number self.old.what.book.cells ≡ Some (Cell.Queued c) → result ≡ tag_for (at_channel c self.old.what.book.ledgers) }
-        ensures left { (c : ℕ) → under number self.old.what.book.cells ≡ Some (Cell.Queued c) → self.new.what ≡ after_mark self.old.what (mark.Left c number) }
+        requires { is_queued (under number self.old.what.publish_states.cells) ≡ true }
+        ensures tag { (c : ℕ) → under number self.old.what.publish_states.cells ≡ Some (Cell.Queued c) → result ≡ tag_for (at_channel c self.old.what.publish_states.confirm_modes) }
+        ensures left { (c : ℕ) → under number self.old.what.publish_states.cells ≡ Some (Cell.Queued c) → self.new.what ≡ after_mark self.old.what (mark.Left c number) }
         ensures spare { self.new.spare ≡ self.old.spare }
     {
         let channel = queued_channel(&self.cells, number);
-        let Some(ledger) = self.ledgers.get_mut(channel) else {
+        let Some(confirm_mode) = self.confirm_modes.get_mut(channel) else {
             unreachable!()
         };
-        leave(channel, ledger, &mut self.cells, number)
+        leave(channel, confirm_mode, &mut self.cells, number)
     }
 
     /// The broker settles one tag of a channel (AMQP 0-9-1, basic.ack; RabbitMQ, basic.nack). Its confirm takes the oldest returned
@@ -223,17 +223,17 @@ impl Confirms {
     ///
     /// `PreconditionFailed` with the tag and the last one taken comes exactly where the tag isn't pending, and nothing changes.
     pub fn settle_one(&mut self, channel: u16, kind: SettleKind, tag: u64) -> Result<(), Error>
-        ensures answer { result ≡ (if is_pending channel tag self.old.what.book then Ok tt else Err (Error.PreconditionFailed tag (last_on channel self.old.what.book))) }
+        ensures answer { result ≡ (if is_pending channel tag self.old.what.publish_states then Ok tt else Err (Error.PreconditionFailed tag (last_on channel self.old.what.publish_states))) }
         ensures ok { OnOk result (self.new.what ≡ after_mark self.old.what (mark.Settled channel (single_of kind tag))) }
         ensures err { OnErr result (self.new.what ≡ self.old.what) }
         ensures spare { self.new.spare ≡ self.old.spare }
     {
-        let Some(ledger) = self.ledgers.get_mut(channel) else {
+        let Some(confirm_mode) = self.confirm_modes.get_mut(channel) else {
             return Err(Error::PreconditionFailed { tag, current: 0 });
         };
-        let current = ledger.tags.count();
-        attach_one(&mut self.trays, channel, &ledger.tags, tag);
-        if !settle_tag(channel, ledger, &mut self.cells, tag, outcome_of(kind)) {
+        let current = confirm_mode.tags.count();
+        attach_one(&mut self.returned_by_channel, channel, &confirm_mode.tags, tag);
+        if !settle_tag(channel, confirm_mode, &mut self.cells, tag, outcome_of(kind)) {
             return Err(Error::PreconditionFailed { tag, current });
         }
         Ok(())
@@ -246,12 +246,12 @@ impl Confirms {
         ensures what { self.new.what ≡ after_mark self.old.what (mark.Settled channel (multiple_of kind tag)) }
         ensures spare { self.new.spare ≡ self.old.spare }
     {
-        let Some(ledger) = self.ledgers.get_mut(channel) else {
+        let Some(confirm_mode) = self.confirm_modes.get_mut(channel) else {
             return;
         };
-        let limit = lesser(tag, ledger.tags.count());
-        attach_on(&mut self.trays, channel, &ledger.tags, limit);
-        settle_through(channel, ledger, &mut self.cells, limit, outcome_of(kind));
+        let limit = lesser(tag, confirm_mode.tags.count());
+        attach_on(&mut self.returned_by_channel, channel, &confirm_mode.tags, limit);
+        settle_through(channel, confirm_mode, &mut self.cells, limit, outcome_of(kind));
     }
 
     /// The broker settles every pending tag of a channel, in rising order: a multiple settlement with tag 0. Messages are
@@ -260,25 +260,25 @@ impl Confirms {
         ensures what { self.new.what ≡ after_mark self.old.what (mark.Settled channel (multiple_of kind 0)) }
         ensures spare { self.new.spare ≡ self.old.spare }
     {
-        let Some(ledger) = self.ledgers.get_mut(channel) else {
+        let Some(confirm_mode) = self.confirm_modes.get_mut(channel) else {
             return;
         };
-        let last = ledger.tags.count();
-        attach_on(&mut self.trays, channel, &ledger.tags, last);
-        settle_through(channel, ledger, &mut self.cells, last, outcome_of(kind));
+        let last = confirm_mode.tags.count();
+        attach_on(&mut self.returned_by_channel, channel, &confirm_mode.tags, last);
+        settle_through(channel, confirm_mode, &mut self.cells, last, outcome_of(kind));
     }
 
     /// A publish whose method frame has not left is resolved with an error.
     pub fn reject(&mut self, number: u64, error: Error)
-        requires { is_queued (under number self.old.what.book.cells) ≡ true }
+        requires { is_queued (under number self.old.what.publish_states.cells) ≡ true }
         ensures what { self.new.what ≡ rejected number error self.old.what }
         ensures spare { self.new.spare ≡ self.old.spare }
     {
         let channel = queued_channel(&self.cells, number);
-        let Some(ledger) = self.ledgers.get_mut(channel) else {
+        let Some(confirm_mode) = self.confirm_modes.get_mut(channel) else {
             unreachable!()
         };
-        reject(channel, ledger, &mut self.cells, number, error);
+        reject(channel, confirm_mode, &mut self.cells, number, error);
     }
 
     /// The opening of a channel ends: all of it that is unresolved is resolved with the error.
@@ -289,28 +289,28 @@ impl Confirms {
         ensures what { self.new.what ≡ after_mark self.old.what (mark.Ended channel error) }
         ensures spare { self.new.spare ≡ self.old.spare }
     {
-        let Some(ledger) = self.ledgers.get_mut(channel) else {
+        let Some(confirm_mode) = self.confirm_modes.get_mut(channel) else {
             return;
         };
-        end_opening(channel, ledger, &mut self.cells, error);
+        end_opening(channel, confirm_mode, &mut self.cells, error);
     }
 
     /// The last tag that was taken on a channel, 0 where none was.
     pub fn current(&self, channel: u16) -> u64
-        ensures { result ≡ last_on channel self.now.what.book }
+        ensures { result ≡ last_on channel self.now.what.publish_states }
     {
-        match self.ledgers.get(channel) {
-            Some(ledger) => ledger.tags.count(),
+        match self.confirm_modes.get(channel) {
+            Some(confirm_mode) => confirm_mode.tags.count(),
             None => 0,
         }
     }
 
     /// How many tags are pending on a channel.
     pub fn pending(&self, channel: u16) -> usize
-        ensures { result ≡ pending_count channel self.now.what.book }
+        ensures { result ≡ pending_count channel self.now.what.publish_states }
     {
-        match self.ledgers.get(channel) {
-            Some(ledger) => ledger.pending,
+        match self.confirm_modes.get(channel) {
+            Some(confirm_mode) => confirm_mode.pending,
             None => 0,
         }
     }
@@ -330,11 +330,11 @@ impl Confirms {
         ensures succeeds { 0 < spare_on channel self.old → IsOk result }
     {
         let selected = self.selected(channel);
-        let Some(tray) = self.trays.get_mut(channel) else {
+        let Some(returned_messages) = self.returned_by_channel.get_mut(channel) else {
             let_go(message);
             return Ok(());
         };
-        if let Err(_) = tray.receive(selected, message) {
+        if let Err(_) = returned_messages.receive(selected, message) {
             return Err(NoMemory);
         }
         give_up(&mut self.rooms, channel);
@@ -343,30 +343,30 @@ impl Confirms {
 
     /// How many publishes of a channel were accepted and have not left.
     pub fn queued(&self, channel: u16) -> usize
-        ensures { result ≡ queued_count channel self.now.what.book }
+        ensures { result ≡ queued_count channel self.now.what.publish_states }
     {
-        match self.ledgers.get(channel) {
-            Some(ledger) => ledger.queued,
+        match self.confirm_modes.get(channel) {
+            Some(confirm_mode) => confirm_mode.queued,
             None => 0,
         }
     }
 
     /// Whether the live opening of a channel accepted a `confirm.select` call.
     pub fn asked(&self, channel: u16) -> bool
-        ensures { result ≡ asked_on channel self.now.what.book }
+        ensures { result ≡ asked_on channel self.now.what.publish_states }
     {
-        match self.ledgers.get(channel) {
-            Some(ledger) => ledger.asked,
+        match self.confirm_modes.get(channel) {
+            Some(confirm_mode) => confirm_mode.asked,
             None => false,
         }
     }
 
     /// The limit of pending tags of a channel's live opening, 0 where there is none.
     pub fn limit(&self, channel: u16) -> u64
-        ensures { result ≡ limit_on channel self.now.what.book }
+        ensures { result ≡ limit_on channel self.now.what.publish_states }
     {
-        match self.ledgers.get(channel) {
-            Some(ledger) => ledger.limit,
+        match self.confirm_modes.get(channel) {
+            Some(confirm_mode) => confirm_mode.limit,
             None => 0,
         }
     }
@@ -374,7 +374,7 @@ impl Confirms {
     /// Whether a channel is full: its live opening is selected, and its pending tags are at least as many as its limit, which
     /// is above 0.
     pub fn full(&self, channel: u16) -> bool
-        ensures { result ≡ full_on channel self.now.what.book }
+        ensures { result ≡ full_on channel self.now.what.publish_states }
     {
         let limit = self.limit(channel);
         self.selected(channel) && 0 < limit && limit <= self.pending(channel) as u64
@@ -382,20 +382,20 @@ impl Confirms {
 
     /// The last tag taken of a channel less its least pending one, plus 1; 0 exactly where no tag is pending.
     pub fn span(&self, channel: u16) -> u64
-        ensures { result ≡ span_on channel self.now.what.book }
+        ensures { result ≡ span_on channel self.now.what.publish_states }
     {
-        match self.ledgers.get(channel) {
-            Some(ledger) => span_of(&ledger.tags),
+        match self.confirm_modes.get(channel) {
+            Some(confirm_mode) => span_of(&confirm_mode.tags),
             None => 0,
         }
     }
 
     /// Whether the opening of a channel is selected.
     pub fn selected(&self, channel: u16) -> bool
-        ensures { result ≡ selected_on channel self.now.what.book }
+        ensures { result ≡ selected_on channel self.now.what.publish_states }
     {
-        match self.ledgers.get(channel) {
-            Some(ledger) => ledger.selected,
+        match self.confirm_modes.get(channel) {
+            Some(confirm_mode) => confirm_mode.selected,
             None => false,
         }
     }

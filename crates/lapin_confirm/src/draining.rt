@@ -1,15 +1,15 @@
 //! A drain: the returned messages of a channel are given, and nothing is kept of confirms that were set aside and are over.
 
 ghost use Rattle.std.specs.Prelude.{◌≡◌, ℕ, ◌≤◌, List, length, OnOk, OnErr, IfOk};
-ghost use Rattle.lapin_confirm.specs.declared.ledger.Ledger.{Ledger as ALedger};
-ghost use Rattle.lapin_history.specs.ConfirmMarks as mark;
+ghost use Rattle.lapin_confirm.specs.declared.confirm_mode.ConfirmMode.{ConfirmMode as AConfirmMode};
+ghost use Rattle.lapin_rules.specs.ConfirmMarks as mark;
 ghost use Rattle.lapin_confirm.specs.Machine.{after_mark};
 ghost use Rattle.lapin_confirm.specs.Drain.{drained_on, remaining, less_all};
 ghost use Rattle.lapin_confirm.specs.Ties.{AllTied};
 
 use crate::cell::Cell;
 use crate::confirms::Confirms;
-use crate::home::Home;
+use crate::origin::Origin;
 use crate::sweep::leave_one;
 use lapin_tables::Numbered;
 use lapin_types::{NoMemory, ReturnedList};
@@ -26,13 +26,13 @@ impl Confirms {
         ensures err { OnErr result (self.new.what ≡ self.old.what) }
         ensures spare { self.new.spare ≡ self.old.spare }
     {
-        let Some(tray) = self.trays.get_mut(channel) else {
+        let Some(returned_messages) = self.returned_by_channel.get_mut(channel) else {
             return Ok(ReturnedList::new(Vec::new(alloc)));
         };
-        match tray.drain(alloc, &self.cells) {
+        match returned_messages.drain(alloc, &self.cells) {
             Err(_) => Err(NoMemory),
             Ok((messages, mut over)) => {
-                leave_all(&mut self.cells, &mut self.homes, &mut over);
+                leave_all(&mut self.cells, &mut self.origins, &mut over);
                 Ok(ReturnedList::new(messages))
             }
         }
@@ -40,13 +40,13 @@ impl Confirms {
 }
 
 // Of these confirms nothing is kept any more, if they are resolved.
-fn leave_all(cells: &mut Numbered<Cell>, homes: &mut Numbered<Home>, over: &mut VecDeque<u64>)
-    ensures remains { remaining cells.new.slots homes.new.slots ≡ less_all over.old.items (remaining cells.old.slots homes.old.slots) }
-    ensures tied { (es : List (ℕ × ALedger)) → AllTied es cells.old.slots → AllTied es cells.new.slots }
-    ensures counts { (length cells.new.slots ≡ length cells.old.slots) × (length homes.new.slots ≡ length homes.old.slots) }
-    ensures spare { (cells.old.spare ≤ cells.new.spare) × (homes.old.spare ≤ homes.new.spare) }
+fn leave_all(cells: &mut Numbered<Cell>, origins: &mut Numbered<Origin>, over: &mut VecDeque<u64>)
+    ensures remains { remaining cells.new.slots origins.new.slots ≡ less_all over.old.items (remaining cells.old.slots origins.old.slots) }
+    ensures tied { (es : List (ℕ × AConfirmMode)) → AllTied es cells.old.slots → AllTied es cells.new.slots }
+    ensures counts { (length cells.new.slots ≡ length cells.old.slots) × (length origins.new.slots ≡ length origins.old.slots) }
+    ensures spare { (cells.old.spare ≤ cells.new.spare) × (origins.old.spare ≤ origins.new.spare) }
 {
     while let Some(number) = over.pop_front() {
-        leave_one(cells, homes, number);
+        leave_one(cells, origins, number);
     }
 }

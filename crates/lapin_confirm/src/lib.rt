@@ -1,8 +1,8 @@
-//! Publisher confirms: the outcome of every confirm number, the ledger of every channel, and the messages that came back.
+//! Publisher confirms: the outcome of every confirm number, the confirm mode of every channel, and the messages that came back.
 //!
 //! Here live delivery tags, settlements and what they make of the publishes that wait, and returned messages until they are given.
 //! Which frames leave, which states a channel is in and when a settlement is received are the session's, which calls this crate.
-//! Contracts see a `Post`: a `Book`, the letters of each channel, and where each publish belongs; and beside it the room.
+//! Contracts see a `ConfirmState`: a `PublishStates`, the return lists of each channel, and where each publish belongs; and beside it the room.
 //! What a call does is what its mark does by `after_mark`, and `machine_follows` says that confirms which are changed by marks that
 //! may come are always what the history of those marks says.
 #![tactic(auto)]
@@ -11,10 +11,10 @@ mod attaching;
 mod cell;
 mod confirms;
 mod draining;
-mod home;
+mod origin;
 mod laws;
-mod ledger;
-mod letters;
+mod confirm_mode;
+mod return_lists;
 mod limits;
 mod openings;
 mod results;
@@ -25,8 +25,8 @@ mod sweep;
 
 pub use cell::Cell;
 pub use confirms::Confirms;
-pub use home::Home;
-pub use lapin_history::SettleKind;
+pub use origin::Origin;
+pub use lapin_rules::SettleKind;
 pub use laws::{
     a_close_one_by_one, a_close_rejects_what_waits, an_end_leaves_nothing_open,
     an_opening_may_begin, answers_tell, covered_as_read, drains_as_read, end_takes_close,

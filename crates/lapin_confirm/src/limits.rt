@@ -4,15 +4,15 @@
 //! refused at the limit the session's.
 
 ghost use Rattle.std.specs.Prelude.{◌≡◌, ◌+◌, nat_le};
-ghost use Rattle.lapin_confirm.specs.Book.{at_limit_on};
+ghost use Rattle.lapin_confirm.specs.PublishStates.{at_limit_on};
 
 use crate::confirms::Confirms;
-use lapin_history::FullChannels;
+use lapin_rules::FullChannels;
 
 impl Confirms {
     /// Whether a channel is at its limit: as many of its publishes are queued or pending as the limit allows, which is above 0.
     pub fn at_limit(&self, channel: u16) -> bool
-        ensures { result ≡ at_limit_on channel self.now.what.book }
+        ensures { result ≡ at_limit_on channel self.now.what.publish_states }
     {
         let limit = self.limit(channel);
         0 < limit
@@ -25,9 +25,9 @@ impl Confirms {
 }
 
 impl FullChannels for Confirms {
-    ghost use Rattle.lapin_confirm.specs.Book.{full_on};
+    ghost use Rattle.lapin_confirm.specs.PublishStates.{full_on};
 
-    ghost full = { λ p c. full_on c p.what.book };
+    ghost full = { λ p c. full_on c p.what.publish_states };
 
     fn is_full(&self, channel: u16) -> bool {
         self.full(channel)

@@ -1,71 +1,71 @@
-//! A new opening of a channel: its ledger and its tray, which stay for the openings after it.
+//! A new opening of a channel: its confirm mode and its returned messages, which stay for the openings after it.
 
 ghost use Rattle.std.specs.Prelude.{◌≡◌, ◌≤◌, length, ℕ, List, None, OnOk, OnErr, IsOk, IsSome, Bool, if◌then◌else◌};
 ghost use Rattle.lapin_tables.specs.ByChannel.{at_channel, HasRoom};
-ghost use Rattle.lapin_history.specs.Words.{with_channel};
-ghost use Rattle.lapin_history.specs.Letters.{renewed};
-ghost use Rattle.lapin_confirm.specs.Kept.{spare_in};
-ghost use Rattle.lapin_confirm.specs.Post.{letters_in};
-ghost use Rattle.lapin_confirm.specs.declared.ledger.Ledger.{Ledger as ALedger};
+ghost use Rattle.lapin_rules.specs.Words.{with_channel};
+ghost use Rattle.lapin_rules.specs.ReturnLists.{renewed};
+ghost use Rattle.lapin_confirm.specs.WithRoom.{spare_in};
+ghost use Rattle.lapin_confirm.specs.ConfirmState.{return_lists_in};
+ghost use Rattle.lapin_confirm.specs.declared.confirm_mode.ConfirmMode.{ConfirmMode as AConfirmMode};
 ghost use Rattle.lapin_confirm.specs.Drain.{remaining, less_all};
-ghost use Rattle.lapin_confirm.specs.Ties.{trays_of, MessagesFit, AllTied};
+ghost use Rattle.lapin_confirm.specs.Ties.{returned_by_channel_of, MessagesFit, AllTied};
 
 use crate::cell::Cell;
-use crate::home::Home;
-use crate::ledger::Ledger;
+use crate::origin::Origin;
+use crate::confirm_mode::ConfirmMode;
 use crate::returned::Returned;
 use lapin_tables::{ByChannel, Numbered};
 use std::alloc::{AllocError, Global};
 
-/// Makes the place where the ledger of a channel will stand, if there is none yet.
-pub fn make_place(ledgers: &mut ByChannel<Ledger>, channel: u16) -> Result<(), AllocError>
-    ensures same { ledgers.new.entries ≡ ledgers.old.entries }
-    ensures place { OnOk result (at_channel channel ledgers.new.entries ≡ None → HasRoom channel ledgers.new) }
-    ensures succeeds { IsSome (at_channel channel ledgers.old.entries) → IsOk result }
+/// Makes the place where the confirm mode of a channel will stand, if there is none yet.
+pub fn make_place(confirm_modes: &mut ByChannel<ConfirmMode>, channel: u16) -> Result<(), AllocError>
+    ensures same { confirm_modes.new.entries ≡ confirm_modes.old.entries }
+    ensures place { OnOk result (at_channel channel confirm_modes.new.entries ≡ None → HasRoom channel confirm_modes.new) }
+    ensures succeeds { IsSome (at_channel channel confirm_modes.old.entries) → IsOk result }
 {
-    if ledgers.get(channel).is_some() {
+    if confirm_modes.get(channel).is_some() {
         return Ok(());
     }
-    ledgers.reserve(channel)?;
+    confirm_modes.reserve(channel)?;
     Ok(())
 }
 
-/// Puts the ledger of a new opening at its channel, in the place that was made.
-pub fn put_ledger(ledgers: &mut ByChannel<Ledger>, channel: u16, fresh: Ledger)
-    requires { at_channel channel ledgers.old.entries ≡ None → HasRoom channel ledgers.old }
-    ensures { ledgers.new.entries ≡ with_channel channel fresh ledgers.old.entries }
+/// Puts the confirm mode of a new opening at its channel, in the place that was made.
+pub fn put_confirm_mode(confirm_modes: &mut ByChannel<ConfirmMode>, channel: u16, fresh: ConfirmMode)
+    requires { at_channel channel confirm_modes.old.entries ≡ None → HasRoom channel confirm_modes.old }
+    ensures { confirm_modes.new.entries ≡ with_channel channel fresh confirm_modes.old.entries }
 {
-    let Some(ledger) = ledgers.get_mut(channel) else {
-        ledgers.insert_reserved(channel, fresh);
+    let Some(confirm_mode) = confirm_modes.get_mut(channel) else {
+        confirm_modes.insert_reserved(channel, fresh);
         return;
     };
-    *ledger = fresh;
+    *confirm_mode = fresh;
 }
 
-/// The tray of a channel is as a new opening needs it, and of those that stood aside and are resolved nothing is kept; a first one has room for a message where that is promised.
-pub fn renew_tray(
-    trays: &mut ByChannel<Returned>,
+/// The returned messages of a channel is as a new opening needs it, and of those that stood aside and are resolved nothing is kept; a first one has room for a message where that is promised.
+pub fn renew_returned_messages(
+    returned_by_channel: &mut ByChannel<Returned>,
     cells: &mut Numbered<Cell>,
-    homes: &mut Numbered<Home>,
+    origins: &mut Numbered<Origin>,
     alloc: Global,
     channel: u16,
     promised: bool,
 ) -> Result<(), AllocError>
-    ensures ok { OnOk result (trays_of trays.new.entries ≡ with_channel channel (renewed (letters_in (at_channel channel (trays_of trays.old.entries)))) (trays_of trays.old.entries)) }
-    ensures err { OnErr result (trays.new.entries ≡ trays.old.entries) }
-    ensures remains { OnOk result (remaining cells.new.slots homes.new.slots ≡ less_all (letters_in (at_channel channel (trays_of trays.old.entries))).aside (remaining cells.old.slots homes.old.slots)) }
-    ensures same { OnErr result (remaining cells.new.slots homes.new.slots ≡ remaining cells.old.slots homes.old.slots) }
-    ensures tied { (es : List (ℕ × ALedger)) → AllTied es cells.old.slots → AllTied es cells.new.slots }
-    ensures counts { (length cells.new.slots ≡ length cells.old.slots) × (length homes.new.slots ≡ length homes.old.slots) }
-    ensures kept { (cells.old.spare ≤ cells.new.spare) × (homes.old.spare ≤ homes.new.spare) }
-    ensures messages { (rooms : List (ℕ × Bool)) → spare_in (at_channel channel rooms) ≡ (if promised then 1 else 0) → MessagesFit rooms trays.old.entries → MessagesFit rooms trays.new.entries }
-    ensures succeeds { IsSome (at_channel channel (trays_of trays.old.entries)) → IsOk result }
+    ensures ok { OnOk result (returned_by_channel_of returned_by_channel.new.entries ≡ with_channel channel (renewed (return_lists_in (at_channel channel (returned_by_channel_of returned_by_channel.old.entries)))) (returned_by_channel_of returned_by_channel.old.entries)) }
+    ensures err { OnErr result (returned_by_channel.new.entries ≡ returned_by_channel.old.entries) }
+    ensures remains { OnOk result (remaining cells.new.slots origins.new.slots ≡ less_all (return_lists_in (at_channel channel (returned_by_channel_of returned_by_channel.old.entries))).aside (remaining cells.old.slots origins.old.slots)) }
+    ensures same { OnErr result (remaining cells.new.slots origins.new.slots ≡ remaining cells.old.slots origins.old.slots) }
+    ensures tied { (es : List (ℕ × AConfirmMode)) → AllTied es cells.old.slots → AllTied es cells.new.slots }
+    ensures counts { (length cells.new.slots ≡ length cells.old.slots) × (length origins.new.slots ≡ length origins.old.slots) }
+    ensures kept { (cells.old.spare ≤ cells.new.spare) × (origins.old.spare ≤ origins.new.spare) }
+    ensures messages { (rooms : List (ℕ × Bool)) → spare_in (at_channel channel rooms) ≡ (if promised then 1 else 0) → MessagesFit rooms returned_by_channel.old.entries → MessagesFit rooms returned_by_channel.new.entries }
+    ensures succeeds { IsSome (at_channel channel (returned_by_channel_of returned_by_channel.old.entries)) → IsOk result }
 {
-    let Some(tray) = trays.get_mut(channel) else {
-        let tray = Returned::with_room(alloc, promised)?;
-        trays.insert(channel, tray)?;
+    let Some(returned_messages) = returned_by_channel.get_mut(channel) else {
+        let returned_messages = Returned::with_room(alloc, promised)?;
+        returned_by_channel.insert(channel, returned_messages)?;
         return Ok(());
     };
-    tray.renew(cells, homes);
+    returned_messages.renew(cells, origins);
     Ok(())
 }

@@ -1,18 +1,18 @@
 //! Results: each is given once, with the returned message that its confirm took; or its confirm is set aside.
 
 ghost use Rattle.std.specs.Prelude.{◌≡◌, ◌⊎◌, not, true, false, Ok, Err, Some, OnOk, OnErr, IfSome, IfNone, is_some, if◌then◌else◌};
-ghost use Rattle.lapin_history.specs.ConfirmMarks as mark;
+ghost use Rattle.lapin_rules.specs.ConfirmMarks as mark;
 ghost use Rattle.lapin_confirm.specs.Machine.{after_mark};
-ghost use Rattle.lapin_confirm.specs.Post.{message_of};
+ghost use Rattle.lapin_confirm.specs.ConfirmState.{message_of};
 ghost use Rattle.lapin_confirm.specs.Aside.{is_waiting, is_giving, taken_answer, set_answer};
 ghost use Rattle.lapin_confirm.specs.Answers.{result_with, result_of as result_of_lem};
 
 use crate::cell::Cell;
 use crate::confirms::Confirms;
-use crate::letters::{has_message, is_aside, mark_aside, put_by, take_message};
+use crate::return_lists::{has_message, is_aside, mark_aside, put_by, take_message};
 use crate::returned::let_go_any;
 use crate::sweep::is_over;
-use lapin_history::Outcome;
+use lapin_rules::Outcome;
 use lapin_types::{BasicReturnMessage, Confirmation, Error};
 use std::alloc::Global;
 
@@ -21,7 +21,7 @@ impl Confirms {
     pub fn ready(&self, number: u64) -> bool
         ensures { result ≡ not (is_waiting number self.now.what) }
     {
-        is_aside(&self.homes, number)
+        is_aside(&self.origins, number)
             || !matches!(
                 self.cells.get(number),
                 Some(Cell::Queued(_) | Cell::Pending(_, _))
@@ -38,7 +38,7 @@ impl Confirms {
         ensures what { self.new.what ≡ (if is_giving number self.old.what then after_mark self.old.what (mark.Taken number) else self.old.what) }
         ensures spare { self.new.spare ≡ self.old.spare }
     {
-        if is_aside(&self.homes, number) {
+        if is_aside(&self.origins, number) {
             return Err(Error::AlreadyTaken);
         }
         if number == 0 || number > self.cells.count() {
@@ -49,7 +49,7 @@ impl Confirms {
             Some(Cell::Resolved(outcome)) => {
                 let outcome = *outcome;
                 let _ = self.cells.take(number);
-                let message = take_message(&mut self.homes, &mut self.trays, number);
+                let message = take_message(&mut self.origins, &mut self.returned_by_channel, number);
                 Ok(Some(result_of(outcome, message)))
             }
             Some(_) => Ok(None),
@@ -69,11 +69,11 @@ impl Confirms {
             return None;
         };
         let outcome = *outcome;
-        if is_aside(&self.homes, number) || has_message(&self.homes, &self.trays, number) {
+        if is_aside(&self.origins, number) || has_message(&self.origins, &self.returned_by_channel, number) {
             return None;
         }
         let _ = self.cells.take(number);
-        let _ = self.homes.take(number);
+        let _ = self.origins.take(number);
         Some(outcome)
     }
 
@@ -87,7 +87,7 @@ impl Confirms {
         ensures err { OnErr result (self.new.what ≡ self.old.what) }
         ensures spare { self.new.spare ≡ self.old.spare }
     {
-        if is_aside(&self.homes, number) {
+        if is_aside(&self.origins, number) {
             return Err(Error::AlreadyTaken);
         }
         if number == 0 || number > self.cells.count() {
@@ -97,15 +97,15 @@ impl Confirms {
             return Err(Error::AlreadyTaken);
         }
         let resolved = is_over(&self.cells, number);
-        if let Err(_) = put_by(&self.homes, &mut self.trays, number, resolved) {
+        if let Err(_) = put_by(&self.origins, &mut self.returned_by_channel, number, resolved) {
             return Err(Error::NoMemory);
         }
         if resolved {
             let _ = self.cells.take(number);
-            let _ = self.homes.take(number);
+            let _ = self.origins.take(number);
             return Ok(());
         }
-        mark_aside(&mut self.homes, number);
+        mark_aside(&mut self.origins, number);
         Ok(())
     }
 }

@@ -6,15 +6,15 @@
 ghost use Rattle.std.specs.Prelude.{List, ◌≡◌, ℕ, ◌+◌, ◌<◌, ◌≤◌, [], true, false, OnOk, OnErr, IsOk, IfOk, length, slice_get, is_some};
 ghost use Rattle.std.specs.Bool.{Decides};
 ghost use Rattle.std.specs.VecDeque.{deque_len, deque_capacity};
-ghost use Rattle.lapin_history.specs.Letters.{no_letters, arrived_in, attached_to, message_at, without, without_all, letter_of, taken_out, set_by, renewed, drained_messages, drained_letters};
+ghost use Rattle.lapin_rules.specs.ReturnLists.{no_return_lists, arrived_in, attached_to, message_at, without, without_all, return_of, taken_out, set_by, renewed, drained_messages, drained_return_lists};
 ghost use Rattle.std.specs.List.{filter};
 ghost use Rattle.lapin_confirm.specs.Drain.{is_over, remaining, less_all};
-ghost use Rattle.lapin_confirm.specs.declared.ledger.Ledger.{Ledger as ALedger};
+ghost use Rattle.lapin_confirm.specs.declared.confirm_mode.ConfirmMode.{ConfirmMode as AConfirmMode};
 ghost use Rattle.lapin_confirm.specs.Ties.{AllTied};
-ghost use Rattle.lapin_confirm.specs.Tray.{place_in, is_of as is_of_lem, HasPlace};
+ghost use Rattle.lapin_confirm.specs.ReturnedMessages.{place_in, is_of as is_of_lem, HasPlace};
 
 use crate::cell::Cell;
-use crate::home::Home;
+use crate::origin::Origin;
 use crate::sweep::{Sweep, leave_one, pour, sweep_all};
 use lapin_tables::Numbered;
 use lapin_types::{BasicReturnMessage, NoMemory};
@@ -35,14 +35,14 @@ pub struct Returned {
 impl Model for Returned {
     ghost use Rattle.std.specs.Prelude.{◌-◌, ◌≤◌, ◌+◌};
     ghost use Rattle.std.specs.VecDeque.{deque_len, deque_capacity};
-    ghost use Rattle.lapin_confirm.specs.Tray.{Tray, tray_code};
+    ghost use Rattle.lapin_confirm.specs.ReturnedMessages.{ReturnedMessages, returned_messages_code};
 
-    ghost Value = { Tray };
+    ghost Value = { ReturnedMessages };
 
-    ghost coded = { tray_code };
+    ghost coded = { returned_messages_code };
 
     ghost view = { λ a. record {
-      letters = record { attached = a.attached.items; waiting = a.waiting.items; unconfirmed = a.unconfirmed.items; kept = a.kept.items; aside = a.aside.items };
+      return_lists = record { attached = a.attached.items; waiting = a.waiting.items; unconfirmed = a.unconfirmed.items; kept = a.kept.items; aside = a.aside.items };
       to_wait = deque_capacity a.waiting - deque_len a.waiting;
       to_attach = deque_capacity a.attached - deque_len a.attached - deque_len a.waiting;
       to_stay = deque_capacity a.unconfirmed - deque_len a.unconfirmed;
@@ -54,7 +54,7 @@ impl Model for Returned {
 impl Returned {
     /// No message. It takes no memory yet.
     pub fn new(alloc: Global) -> Returned
-        ensures { result.letters ≡ no_letters }
+        ensures { result.return_lists ≡ no_return_lists }
     {
         Returned {
             attached: VecDeque::new(alloc),
@@ -67,20 +67,20 @@ impl Returned {
 
     /// No message, with room for the first one where that is promised.
     pub fn with_room(alloc: Global, promised: bool) -> Result<Returned, AllocError>
-        ensures made { IfOk result (λ tray. (tray.letters ≡ no_letters) × (promised ≡ true → HasPlace tray)) }
+        ensures made { IfOk result (λ returned_messages. (returned_messages.return_lists ≡ no_return_lists) × (promised ≡ true → HasPlace returned_messages)) }
         ensures succeeds { promised ≡ false → IsOk result }
     {
-        let mut tray = Returned::new(alloc);
+        let mut returned_messages = Returned::new(alloc);
         if promised {
-            tray.reserve()?;
+            returned_messages.reserve()?;
         }
-        Ok(tray)
+        Ok(returned_messages)
     }
 
     /// Makes room for the next `arrive`. The messages stay, also where there is no memory.
     pub fn reserve(&mut self) -> Result<(), AllocError>
         ensures room { OnOk result (HasPlace self.new) }
-        ensures same { self.new.letters ≡ self.old.letters }
+        ensures same { self.new.return_lists ≡ self.old.return_lists }
         ensures place { HasPlace self.old → HasPlace self.new }
         ensures succeeds { HasPlace self.old → IsOk result }
     {
@@ -92,7 +92,7 @@ impl Returned {
     /// A message arrives, in the room that was made: it waits where the opening is selected.
     pub fn arrive(&mut self, selected: bool, message: BasicReturnMessage)
         requires { HasPlace self.old }
-        ensures { self.new.letters ≡ arrived_in selected message self.old.letters }
+        ensures { self.new.return_lists ≡ arrived_in selected message self.old.return_lists }
     {
         if selected {
             self.waiting.push_back_reserved(message);
@@ -103,8 +103,8 @@ impl Returned {
 
     /// A message arrives. Where there is no memory it is gone, and nothing else changes.
     pub fn receive(&mut self, selected: bool, message: BasicReturnMessage) -> Result<(), AllocError>
-        ensures ok { OnOk result (self.new.letters ≡ arrived_in selected message self.old.letters) }
-        ensures err { OnErr result (self.new.letters ≡ self.old.letters) }
+        ensures ok { OnOk result (self.new.return_lists ≡ arrived_in selected message self.old.return_lists) }
+        ensures err { OnErr result (self.new.return_lists ≡ self.old.return_lists) }
         ensures place { OnErr result (HasPlace self.old → HasPlace self.new) }
         ensures succeeds { HasPlace self.old → IsOk result }
     {
@@ -122,14 +122,14 @@ impl Returned {
 
     /// Whether no message waits for a settlement.
     pub fn has_none_waiting(&self) -> bool
-        ensures { Decides result (self.now.letters.waiting ≡ []) }
+        ensures { Decides result (self.now.return_lists.waiting ≡ []) }
     {
         self.waiting.is_empty()
     }
 
     /// The oldest waiting message, if there is one, is attached to a confirm.
     pub fn attach(&mut self, number: u64)
-        ensures letters { self.new.letters ≡ attached_to number self.old.letters }
+        ensures return_lists { self.new.return_lists ≡ attached_to number self.old.return_lists }
         ensures room { HasPlace self.old → HasPlace self.new }
     {
         let Some(message) = self.waiting.pop_front() else {
@@ -140,8 +140,8 @@ impl Returned {
 
     /// Takes out the message that a confirm took, if it took one.
     pub fn take(&mut self, number: u64) -> Option<BasicReturnMessage>
-        ensures letter { result ≡ letter_of number self.old.letters }
-        ensures letters { self.new.letters ≡ taken_out number self.old.letters }
+        ensures message { result ≡ return_of number self.old.return_lists }
+        ensures return_lists { self.new.return_lists ≡ taken_out number self.old.return_lists }
         ensures room { HasPlace self.old → HasPlace self.new }
     {
         taken_from(&mut self.attached, number)
@@ -149,15 +149,15 @@ impl Returned {
 
     /// Whether a confirm took a message, and still has it.
     pub fn holds(&self, number: u64) -> bool
-        ensures { result ≡ is_some (letter_of number self.now.letters) }
+        ensures { result ≡ is_some (return_of number self.now.return_lists) }
     {
         place_of(number, &self.attached).is_some()
     }
 
     /// The number of a confirm that was set aside unresolved joins those that stand aside.
     pub fn lay(&mut self, number: u64) -> Result<(), AllocError>
-        ensures ok { OnOk result (self.new.letters ≡ set_by number false self.old.letters) }
-        ensures err { OnErr result (self.new.letters ≡ self.old.letters) }
+        ensures ok { OnOk result (self.new.return_lists ≡ set_by number false self.old.return_lists) }
+        ensures err { OnErr result (self.new.return_lists ≡ self.old.return_lists) }
         ensures place { HasPlace self.old → HasPlace self.new }
     {
         self.aside.reserve(1)?;
@@ -167,8 +167,8 @@ impl Returned {
 
     /// A confirm is set aside: its message is kept where it is resolved, else its number stands aside.
     pub fn put_by(&mut self, number: u64, resolved: bool) -> Result<(), AllocError>
-        ensures ok { OnOk result (self.new.letters ≡ set_by number resolved self.old.letters) }
-        ensures err { OnErr result (self.new.letters ≡ self.old.letters) }
+        ensures ok { OnOk result (self.new.return_lists ≡ set_by number resolved self.old.return_lists) }
+        ensures err { OnErr result (self.new.return_lists ≡ self.old.return_lists) }
         ensures place { HasPlace self.old → HasPlace self.new }
     {
         if resolved {
@@ -185,10 +185,10 @@ impl Returned {
         alloc: Global,
         cells: &Numbered<Cell>,
     ) -> Result<(Vec<BasicReturnMessage>, VecDeque<u64>), NoMemory>
-        ensures given { IfOk result (λ r. r.0.items ≡ drained_messages (is_over cells.now.slots) self.old.letters) }
-        ensures over { IfOk result (λ r. r.1.items ≡ filter (is_over cells.now.slots) self.old.letters.aside) }
-        ensures letters { OnOk result (self.new.letters ≡ drained_letters (is_over cells.now.slots) self.old.letters) }
-        ensures err { OnErr result (self.new.letters ≡ self.old.letters) }
+        ensures given { IfOk result (λ r. r.0.items ≡ drained_messages (is_over cells.now.slots) self.old.return_lists) }
+        ensures over { IfOk result (λ r. r.1.items ≡ filter (is_over cells.now.slots) self.old.return_lists.aside) }
+        ensures return_lists { OnOk result (self.new.return_lists ≡ drained_return_lists (is_over cells.now.slots) self.old.return_lists) }
+        ensures err { OnErr result (self.new.return_lists ≡ self.old.return_lists) }
         ensures place { HasPlace self.old → HasPlace self.new }
     {
         let most = total(self.unconfirmed.len(), self.kept.len(), self.aside.len())?;
@@ -203,15 +203,15 @@ impl Returned {
 
     /// A new opening begins: nothing waits, is kept or stands aside. Messages of confirms that were not asked for yet stay.
     /// Of those that stand aside and are resolved nothing is kept any more.
-    pub fn renew(&mut self, cells: &mut Numbered<Cell>, homes: &mut Numbered<Home>)
-        ensures letters { self.new.letters ≡ renewed self.old.letters }
+    pub fn renew(&mut self, cells: &mut Numbered<Cell>, origins: &mut Numbered<Origin>)
+        ensures return_lists { self.new.return_lists ≡ renewed self.old.return_lists }
         ensures place { HasPlace self.old → HasPlace self.new }
-        ensures remains { remaining cells.new.slots homes.new.slots ≡ less_all self.old.letters.aside (remaining cells.old.slots homes.old.slots) }
-        ensures tied { (es : List (ℕ × ALedger)) → AllTied es cells.old.slots → AllTied es cells.new.slots }
-        ensures counts { (length cells.new.slots ≡ length cells.old.slots) × (length homes.new.slots ≡ length homes.old.slots) }
-        ensures kept { (cells.old.spare ≤ cells.new.spare) × (homes.old.spare ≤ homes.new.spare) }
+        ensures remains { remaining cells.new.slots origins.new.slots ≡ less_all self.old.return_lists.aside (remaining cells.old.slots origins.old.slots) }
+        ensures tied { (es : List (ℕ × AConfirmMode)) → AllTied es cells.old.slots → AllTied es cells.new.slots }
+        ensures counts { (length cells.new.slots ≡ length cells.old.slots) × (length origins.new.slots ≡ length origins.old.slots) }
+        ensures kept { (cells.old.spare ≤ cells.new.spare) × (origins.old.spare ≤ origins.new.spare) }
     {
-        forget(&mut self.attached, &mut self.aside, cells, homes);
+        forget(&mut self.attached, &mut self.aside, cells, origins);
         self.waiting.clear();
         self.unconfirmed.clear();
         self.kept.clear();
@@ -219,8 +219,8 @@ impl Returned {
 
     /// The message of a confirm that was set aside resolved, if it took one, is kept.
     pub fn keep(&mut self, number: u64) -> Result<(), AllocError>
-        ensures ok { OnOk result (self.new.letters ≡ set_by number true self.old.letters) }
-        ensures err { OnErr result (self.new.letters ≡ self.old.letters) }
+        ensures ok { OnOk result (self.new.return_lists ≡ set_by number true self.old.return_lists) }
+        ensures err { OnErr result (self.new.return_lists ≡ self.old.return_lists) }
         ensures place { HasPlace self.old → HasPlace self.new }
     {
         self.kept.reserve(1)?;
@@ -254,21 +254,21 @@ fn forget(
     attached: &mut VecDeque<(u64, BasicReturnMessage)>,
     numbers: &mut VecDeque<u64>,
     cells: &mut Numbered<Cell>,
-    homes: &mut Numbered<Home>,
+    origins: &mut Numbered<Origin>,
 )
     ensures items { attached.new.items ≡ without_all numbers.old.items attached.old.items }
     ensures none { numbers.new.items ≡ [] }
     ensures room { (deque_len attached.new ≤ deque_len attached.old) × (deque_capacity attached.new ≡ deque_capacity attached.old) }
-    ensures remains { remaining cells.new.slots homes.new.slots ≡ less_all numbers.old.items (remaining cells.old.slots homes.old.slots) }
-    ensures tied { (es : List (ℕ × ALedger)) → AllTied es cells.old.slots → AllTied es cells.new.slots }
-    ensures counts { (length cells.new.slots ≡ length cells.old.slots) × (length homes.new.slots ≡ length homes.old.slots) }
-    ensures kept { (cells.old.spare ≤ cells.new.spare) × (homes.old.spare ≤ homes.new.spare) }
+    ensures remains { remaining cells.new.slots origins.new.slots ≡ less_all numbers.old.items (remaining cells.old.slots origins.old.slots) }
+    ensures tied { (es : List (ℕ × AConfirmMode)) → AllTied es cells.old.slots → AllTied es cells.new.slots }
+    ensures counts { (length cells.new.slots ≡ length cells.old.slots) × (length origins.new.slots ≡ length origins.old.slots) }
+    ensures kept { (cells.old.spare ≤ cells.new.spare) × (origins.old.spare ≤ origins.new.spare) }
 {
     while let Some(number) = numbers.pop_front() {
         if let Some(message) = taken_from(attached, number) {
             let_go(message);
         }
-        leave_one(cells, homes, number);
+        leave_one(cells, origins, number);
     }
 }
 
@@ -309,7 +309,7 @@ fn is_of(number: u64, attached: &VecDeque<(u64, BasicReturnMessage)>, place: usi
     ensures { result ≡ is_of_lem number (slice_get attached.now.items place) }
 {
     match attached.get(place) {
-        Some(letter) => letter.0 == number,
+        Some(message) => message.0 == number,
         None => false,
     }
 }

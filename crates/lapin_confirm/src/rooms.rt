@@ -5,12 +5,12 @@
 ghost use Rattle.std.specs.Prelude.{◌≡◌, ◌≢◌, ℕ, ◌+◌, ◌<◌, ◌≤◌, Bool, true, false, List, Option, Some, OnOk, OnErr, IsOk, IsSome, if◌then◌else◌};
 ghost use Rattle.lapin_tables.specs.ByChannel.{at_channel, on_channel};
 ghost use Rattle.lapin_confirm.specs.declared.cell.Cell.{Cell as ACell};
-ghost use Rattle.lapin_confirm.specs.Kept.{spare_in};
-ghost use Rattle.lapin_confirm.specs.Ties.{ledger_states, trays_of, promised, AllTied, TagFits, TagsFit, MessageFits, MessagesFit, HaveRoom, HasMore};
+ghost use Rattle.lapin_confirm.specs.WithRoom.{spare_in};
+ghost use Rattle.lapin_confirm.specs.Ties.{confirm_mode_states, returned_by_channel_of, promised, AllTied, TagFits, TagsFit, MessageFits, MessagesFit, HaveRoom, HasMore};
 
 use crate::cell::Cell;
-use crate::home::Home;
-use crate::ledger::Ledger;
+use crate::origin::Origin;
+use crate::confirm_mode::ConfirmMode;
 use crate::returned::Returned;
 use lapin_tables::{ByChannel, Numbered};
 use std::alloc::AllocError;
@@ -48,29 +48,29 @@ pub fn make_room(
     channel: u16,
     rooms: &mut ByChannel<bool>,
     cells: &mut Numbered<Cell>,
-    homes: &mut Numbered<Home>,
-    ledgers: &mut ByChannel<Ledger>,
-    trays: &mut ByChannel<Returned>,
+    origins: &mut Numbered<Origin>,
+    confirm_modes: &mut ByChannel<ConfirmMode>,
+    returned_by_channel: &mut ByChannel<Returned>,
 ) -> Result<(), AllocError>
-    requires tied { AllTied ledgers.old.entries cells.old.slots }
-    requires room { HaveRoom rooms.old.entries ledgers.old.entries trays.old.entries cells.old.spare }
-    requires homes { promised rooms.old.entries ≤ homes.old.spare }
+    requires tied { AllTied confirm_modes.old.entries cells.old.slots }
+    requires room { HaveRoom rooms.old.entries confirm_modes.old.entries returned_by_channel.old.entries cells.old.spare }
+    requires origins { promised rooms.old.entries ≤ origins.old.spare }
     ensures cells { cells.new.slots ≡ cells.old.slots }
-    ensures ledgers { ledger_states ledgers.new.entries ≡ ledger_states ledgers.old.entries }
-    ensures trays { trays_of trays.new.entries ≡ trays_of trays.old.entries }
+    ensures confirm_modes { confirm_mode_states confirm_modes.new.entries ≡ confirm_mode_states confirm_modes.old.entries }
+    ensures returned_by_channel { returned_by_channel_of returned_by_channel.new.entries ≡ returned_by_channel_of returned_by_channel.old.entries }
     ensures rooms { (c : ℕ) → spare_in (at_channel c rooms.new.entries) ≡ spare_in (at_channel c rooms.old.entries) }
-    ensures tied { AllTied ledgers.new.entries cells.new.slots }
-    ensures room { HaveRoom rooms.new.entries ledgers.new.entries trays.new.entries cells.new.spare }
-    ensures more { OnOk result (HasMore channel rooms.new.entries ledgers.new.entries trays.new.entries cells.new.spare) }
-    ensures homes { homes.new.slots ≡ homes.old.slots }
-    ensures kept { promised rooms.new.entries ≤ homes.new.spare }
-    ensures home { OnOk result (promised rooms.new.entries < homes.new.spare) }
+    ensures tied { AllTied confirm_modes.new.entries cells.new.slots }
+    ensures room { HaveRoom rooms.new.entries confirm_modes.new.entries returned_by_channel.new.entries cells.new.spare }
+    ensures more { OnOk result (HasMore channel rooms.new.entries confirm_modes.new.entries returned_by_channel.new.entries cells.new.spare) }
+    ensures origins { origins.new.slots ≡ origins.old.slots }
+    ensures kept { promised rooms.new.entries ≤ origins.new.spare }
+    ensures origin { OnOk result (promised rooms.new.entries < origins.new.spare) }
 {
     note(channel, rooms)?;
     cells.reserve(rooms.entries().len() + 1)?;
-    homes.reserve(rooms.entries().len() + 1)?;
-    make_room_for_tag(channel, ledgers)?;
-    make_room_for_message(channel, trays)?;
+    origins.reserve(rooms.entries().len() + 1)?;
+    make_room_for_tag(channel, confirm_modes)?;
+    make_room_for_message(channel, returned_by_channel)?;
     Ok(())
 }
 
@@ -88,30 +88,30 @@ fn note(channel: u16, rooms: &mut ByChannel<bool>) -> Result<(), AllocError>
 }
 
 // The next publish of the channel has room for its tag, beside those that are queued.
-fn make_room_for_tag(channel: u16, ledgers: &mut ByChannel<Ledger>) -> Result<(), AllocError>
-    requires { TagFits 0 (at_channel channel ledgers.old.entries) }
-    ensures ledgers { ledger_states ledgers.new.entries ≡ ledger_states ledgers.old.entries }
-    ensures tied { (cells : List (Option ACell)) → AllTied ledgers.old.entries cells → AllTied ledgers.new.entries cells }
-    ensures tags { (rooms : List (ℕ × Bool)) → TagsFit rooms ledgers.old.entries → TagsFit rooms ledgers.new.entries }
-    ensures more { OnOk result (TagFits 1 (at_channel channel ledgers.new.entries)) }
+fn make_room_for_tag(channel: u16, confirm_modes: &mut ByChannel<ConfirmMode>) -> Result<(), AllocError>
+    requires { TagFits 0 (at_channel channel confirm_modes.old.entries) }
+    ensures confirm_modes { confirm_mode_states confirm_modes.new.entries ≡ confirm_mode_states confirm_modes.old.entries }
+    ensures tied { (cells : List (Option ACell)) → AllTied confirm_modes.old.entries cells → AllTied confirm_modes.new.entries cells }
+    ensures tags { (rooms : List (ℕ × Bool)) → TagsFit rooms confirm_modes.old.entries → TagsFit rooms confirm_modes.new.entries }
+    ensures more { OnOk result (TagFits 1 (at_channel channel confirm_modes.new.entries)) }
 {
-    let Some(ledger) = ledgers.get_mut(channel) else {
+    let Some(confirm_mode) = confirm_modes.get_mut(channel) else {
         return Ok(());
     };
-    ledger.tags.reserve_beside(ledger.queued)?;
+    confirm_mode.tags.reserve_beside(confirm_mode.queued)?;
     Ok(())
 }
 
 // The next message of the channel has room.
-fn make_room_for_message(channel: u16, trays: &mut ByChannel<Returned>) -> Result<(), AllocError>
-    ensures trays { trays_of trays.new.entries ≡ trays_of trays.old.entries }
-    ensures messages { (rooms : List (ℕ × Bool)) → MessagesFit rooms trays.old.entries → MessagesFit rooms trays.new.entries }
-    ensures more { OnOk result (MessageFits 1 (at_channel channel trays.new.entries)) }
+fn make_room_for_message(channel: u16, returned_by_channel: &mut ByChannel<Returned>) -> Result<(), AllocError>
+    ensures returned_by_channel { returned_by_channel_of returned_by_channel.new.entries ≡ returned_by_channel_of returned_by_channel.old.entries }
+    ensures messages { (rooms : List (ℕ × Bool)) → MessagesFit rooms returned_by_channel.old.entries → MessagesFit rooms returned_by_channel.new.entries }
+    ensures more { OnOk result (MessageFits 1 (at_channel channel returned_by_channel.new.entries)) }
 {
-    let Some(tray) = trays.get_mut(channel) else {
+    let Some(returned_messages) = returned_by_channel.get_mut(channel) else {
         return Ok(());
     };
-    tray.reserve()?;
+    returned_messages.reserve()?;
     Ok(())
 }
 
@@ -120,24 +120,24 @@ pub fn use_room(
     channel: u16,
     rooms: &mut ByChannel<bool>,
     cells: &mut Numbered<Cell>,
-    homes: &mut Numbered<Home>,
-    ledger: &mut Ledger,
+    origins: &mut Numbered<Origin>,
+    confirm_mode: &mut ConfirmMode,
 ) -> Result<(), AllocError>
     requires cells { promised rooms.old.entries ≤ cells.old.spare }
-    requires homes { promised rooms.old.entries ≤ homes.old.spare }
-    requires tags { TagFits (spare_in (at_channel channel rooms.old.entries)) (Some ledger.old) }
+    requires origins { promised rooms.old.entries ≤ origins.old.spare }
+    requires tags { TagFits (spare_in (at_channel channel rooms.old.entries)) (Some confirm_mode.old) }
     ensures cells { cells.new.slots ≡ cells.old.slots }
-    ensures homes { homes.new.slots ≡ homes.old.slots }
-    ensures tags { ledger.new.tags.slots ≡ ledger.old.tags.slots }
-    ensures rest { ledger.new ≡ record ledger.old { tags = ledger.new.tags } }
+    ensures origins { origins.new.slots ≡ origins.old.slots }
+    ensures tags { confirm_mode.new.tags.slots ≡ confirm_mode.old.tags.slots }
+    ensures rest { confirm_mode.new ≡ record confirm_mode.old { tags = confirm_mode.new.tags } }
     ensures others { (c : ℕ) → c ≢ channel → at_channel c rooms.new.entries ≡ at_channel c rooms.old.entries }
     ensures used { spare_in (at_channel channel rooms.new.entries) ≡ 0 }
     ensures unused { OnErr result (rooms.new.entries ≡ rooms.old.entries) }
     ensures spare { OnOk result (promised rooms.new.entries < cells.new.spare) }
-    ensures home { OnOk result (promised rooms.new.entries < homes.new.spare) }
-    ensures fits { (promised rooms.new.entries ≤ cells.new.spare) × (promised rooms.new.entries ≤ homes.new.spare) }
-    ensures room { OnOk result (ledger.new.queued < ledger.new.tags.spare) }
-    ensures kept { ledger.new.queued ≤ ledger.new.tags.spare }
+    ensures origin { OnOk result (promised rooms.new.entries < origins.new.spare) }
+    ensures fits { (promised rooms.new.entries ≤ cells.new.spare) × (promised rooms.new.entries ≤ origins.new.spare) }
+    ensures room { OnOk result (confirm_mode.new.queued < confirm_mode.new.tags.spare) }
+    ensures kept { confirm_mode.new.queued ≤ confirm_mode.new.tags.spare }
     ensures succeeds { 0 < spare_in (at_channel channel rooms.old.entries) → IsOk result }
 {
     if is_promised(rooms, channel) {
@@ -145,7 +145,7 @@ pub fn use_room(
         return Ok(());
     }
     cells.reserve(rooms.entries().len() + 1)?;
-    homes.reserve(rooms.entries().len() + 1)?;
-    ledger.tags.reserve_beside(ledger.queued)?;
+    origins.reserve(rooms.entries().len() + 1)?;
+    confirm_mode.tags.reserve_beside(confirm_mode.queued)?;
     Ok(())
 }

@@ -1,78 +1,78 @@
-//! What runs over one channel's ledger and the cells: a publish joins, its tag is taken, tags are settled, the opening ends.
+//! What runs over one channel's confirm mode and the cells: a publish joins, its tag is taken, tags are settled, the opening ends.
 //!
-//! Each function keeps the ledger and the cells tied. A settlement looks up one place, or walks from the least pending tag:
+//! Each function keeps the confirm mode and the cells tied. A settlement looks up one place, or walks from the least pending tag:
 //! what is settled already costs nothing. An end walks the pending tags too, and the numbers only while a publish is queued.
 
 ghost use Rattle.std.specs.Prelude.{◌≡◌, ◌≢◌, ℕ, ◌+◌, ◌<◌, ◌≤◌, ◌^◌, ◌==◌, nat_le, true, ◌∷◌, ◌++◌, [], Some, length, map, is_some, if◌then◌else◌};
 ghost use Rattle.std.specs.Option.{option_map};
 ghost use Rattle.std.specs.Bool.{Decides};
 ghost use Rattle.lapin_tables.specs.Numbered.{under, with_under};
-ghost use Rattle.lapin_confirm.specs.Book.{tag_for, cell_with, settled_cell, ended_cell, ended_ledger};
-ghost use Rattle.lapin_confirm.specs.Ties.{Tied, KeepsTags, ledger_state, ledger_after};
+ghost use Rattle.lapin_confirm.specs.PublishStates.{tag_for, cell_with, settled_cell, ended_cell, ended_confirm_mode};
+ghost use Rattle.lapin_confirm.specs.Ties.{Tied, KeepsTags, confirm_mode_state, confirm_mode_after};
 
 use crate::cell::Cell;
-use crate::ledger::Ledger;
-use lapin_history::Outcome;
+use crate::confirm_mode::ConfirmMode;
+use lapin_rules::Outcome;
 use lapin_tables::Numbered;
 use lapin_types::Error;
 
 /// Adds a publish of the channel, in the room that was made.
-pub fn enqueue(channel: u16, ledger: &mut Ledger, cells: &mut Numbered<Cell>) -> u64
-    requires tied { Tied channel ledger.old cells.old.slots }
+pub fn enqueue(channel: u16, confirm_mode: &mut ConfirmMode, cells: &mut Numbered<Cell>) -> u64
+    requires tied { Tied channel confirm_mode.old cells.old.slots }
     requires spare { 0 < cells.old.spare }
-    requires room { ledger.old.queued < ledger.old.tags.spare }
+    requires room { confirm_mode.old.queued < confirm_mode.old.tags.spare }
     requires numbers { length cells.old.slots + 1 < 2 ^ 64 }
     ensures number { result ≡ length cells.old.slots + 1 }
     ensures cells { cells.new.slots ≡ cells.old.slots ++ Some (Cell.Queued channel) ∷ [] }
     ensures spare { cells.old.spare ≡ cells.new.spare + 1 }
-    ensures tied { Tied channel ledger.new cells.new.slots }
-    ensures ledger { ledger_state ledger.new ≡ ledger_state ledger.old }
+    ensures tied { Tied channel confirm_mode.new cells.new.slots }
+    ensures confirm_mode { confirm_mode_state confirm_mode.new ≡ confirm_mode_state confirm_mode.old }
 {
-    ledger.queued += 1;
+    confirm_mode.queued += 1;
     cells.push_reserved(Cell::Queued(channel))
 }
 
 /// The method frame of a publish of the channel leaves: it takes its tag, if the opening is selected.
 pub fn leave(
     channel: u16,
-    ledger: &mut Ledger,
+    confirm_mode: &mut ConfirmMode,
     cells: &mut Numbered<Cell>,
     number: u64,
 ) -> Option<u64>
-    requires tied { Tied channel ledger.old cells.old.slots }
+    requires tied { Tied channel confirm_mode.old cells.old.slots }
     requires queued { under number cells.old.slots ≡ Some (Cell.Queued channel) }
     requires fits { length cells.old.slots < 2 ^ 64 }
-    ensures tag { result ≡ tag_for (Some (ledger_state ledger.old)) }
+    ensures tag { result ≡ tag_for (Some (confirm_mode_state confirm_mode.old)) }
     ensures cells { cells.new.slots ≡ with_under number (Some (cell_with channel result)) cells.old.slots }
-    ensures tied { Tied channel ledger.new cells.new.slots }
-    ensures ledger { ledger_state ledger.new ≡ ledger_after result (ledger_state ledger.old) }
+    ensures tied { Tied channel confirm_mode.new cells.new.slots }
+    ensures confirm_mode { confirm_mode_state confirm_mode.new ≡ confirm_mode_after result (confirm_mode_state confirm_mode.old) }
     ensures spare { cells.old.spare ≤ cells.new.spare }
-    ensures room { KeepsTags ledger.old ledger.new }
+    ensures room { KeepsTags confirm_mode.old confirm_mode.new }
 {
-    let tag = take_tag(ledger, number);
+    let tag = take_tag(confirm_mode, number);
     cells.set(number, cell_for(channel, tag));
     tag
 }
 
-fn take_tag(ledger: &mut Ledger, number: u64) -> Option<u64>
-    requires queued { 0 < ledger.old.queued }
-    requires room { ledger.old.queued ≤ ledger.old.tags.spare }
-    requires numbers { length ledger.old.tags.slots + 1 < 2 ^ 64 }
-    requires pending { ledger.old.pending + 1 < 2 ^ 64 }
-    ensures tag { result ≡ tag_for (Some (ledger_state ledger.old)) }
-    ensures queued { ledger.new.queued + 1 ≡ ledger.old.queued }
-    ensures room { ledger.new.queued ≤ ledger.new.tags.spare }
-    ensures kept { KeepsTags ledger.old ledger.new }
-    ensures ledger { ledger_state ledger.new ≡ ledger_after result (ledger_state ledger.old) }
-    ensures tags { ledger.new.tags.slots ≡ (if is_some result then ledger.old.tags.slots ++ Some number ∷ [] else ledger.old.tags.slots) }
-    ensures pending { ledger.new.pending ≡ (if is_some result then ledger.old.pending + 1 else ledger.old.pending) }
+fn take_tag(confirm_mode: &mut ConfirmMode, number: u64) -> Option<u64>
+    requires queued { 0 < confirm_mode.old.queued }
+    requires room { confirm_mode.old.queued ≤ confirm_mode.old.tags.spare }
+    requires numbers { length confirm_mode.old.tags.slots + 1 < 2 ^ 64 }
+    requires pending { confirm_mode.old.pending + 1 < 2 ^ 64 }
+    ensures tag { result ≡ tag_for (Some (confirm_mode_state confirm_mode.old)) }
+    ensures queued { confirm_mode.new.queued + 1 ≡ confirm_mode.old.queued }
+    ensures room { confirm_mode.new.queued ≤ confirm_mode.new.tags.spare }
+    ensures kept { KeepsTags confirm_mode.old confirm_mode.new }
+    ensures confirm_mode { confirm_mode_state confirm_mode.new ≡ confirm_mode_after result (confirm_mode_state confirm_mode.old) }
+    ensures tags { confirm_mode.new.tags.slots ≡ (if is_some result then confirm_mode.old.tags.slots ++ Some number ∷ [] else confirm_mode.old.tags.slots) }
+    ensures pending { confirm_mode.new.pending ≡ (if is_some result then confirm_mode.old.pending + 1 else confirm_mode.old.pending) }
 {
-    ledger.queued -= 1;
-    if !ledger.selected {
+    confirm_mode.queued -= 1;
+    if !confirm_mode.selected {
         return None;
     }
-    ledger.pending += 1;
-    Some(ledger.tags.push_reserved(number))
+    confirm_mode.pending += 1;
+    Some(confirm_mode.tags.push_reserved(number))
 }
 
 fn cell_for(channel: u16, tag: Option<u64>) -> Cell
@@ -87,68 +87,68 @@ fn cell_for(channel: u16, tag: Option<u64>) -> Cell
 /// Settles one tag of the channel, and says whether it was pending.
 pub fn settle_tag(
     channel: u16,
-    ledger: &mut Ledger,
+    confirm_mode: &mut ConfirmMode,
     cells: &mut Numbered<Cell>,
     tag: u64,
     outcome: Outcome,
 ) -> bool
-    requires { Tied channel ledger.old cells.old.slots }
-    ensures found { result ≡ is_some (under tag ledger.old.tags.slots) }
+    requires { Tied channel confirm_mode.old cells.old.slots }
+    ensures found { result ≡ is_some (under tag confirm_mode.old.tags.slots) }
     ensures cells { cells.new.slots ≡ map (option_map (settled_cell channel (λ t. tag == t) outcome)) cells.old.slots }
-    ensures tied { Tied channel ledger.new cells.new.slots }
-    ensures ledger { ledger_state ledger.new ≡ ledger_state ledger.old }
-    ensures pending { result ≡ true → ledger.new.pending + 1 ≡ ledger.old.pending }
+    ensures tied { Tied channel confirm_mode.new cells.new.slots }
+    ensures confirm_mode { confirm_mode_state confirm_mode.new ≡ confirm_mode_state confirm_mode.old }
+    ensures pending { result ≡ true → confirm_mode.new.pending + 1 ≡ confirm_mode.old.pending }
     ensures spare { cells.old.spare ≤ cells.new.spare }
-    ensures room { KeepsTags ledger.old ledger.new }
+    ensures room { KeepsTags confirm_mode.old confirm_mode.new }
 {
-    let Some(number) = ledger.tags.take(tag) else {
+    let Some(number) = confirm_mode.tags.take(tag) else {
         return false;
     };
     cells.set(number, Cell::Resolved(outcome));
-    ledger.pending -= 1;
+    confirm_mode.pending -= 1;
     true
 }
 
 /// Settles the pending tags of the channel up to one, in rising order.
 pub fn settle_through(
     channel: u16,
-    ledger: &mut Ledger,
+    confirm_mode: &mut ConfirmMode,
     cells: &mut Numbered<Cell>,
     limit: u64,
     outcome: Outcome,
 )
-    requires { Tied channel ledger.old cells.old.slots }
+    requires { Tied channel confirm_mode.old cells.old.slots }
     ensures cells { cells.new.slots ≡ map (option_map (settled_cell channel (λ t. nat_le t limit) outcome)) cells.old.slots }
-    ensures tied { Tied channel ledger.new cells.new.slots }
-    ensures ledger { ledger_state ledger.new ≡ ledger_state ledger.old }
+    ensures tied { Tied channel confirm_mode.new cells.new.slots }
+    ensures confirm_mode { confirm_mode_state confirm_mode.new ≡ confirm_mode_state confirm_mode.old }
     ensures spare { cells.old.spare ≤ cells.new.spare }
-    ensures room { KeepsTags ledger.old ledger.new }
+    ensures room { KeepsTags confirm_mode.old confirm_mode.new }
 {
-    while let Some(tag) = ledger.tags.first_number() {
+    while let Some(tag) = confirm_mode.tags.first_number() {
         if tag > limit {
             break;
         }
-        let _ = settle_tag(channel, ledger, cells, tag, outcome);
+        let _ = settle_tag(channel, confirm_mode, cells, tag, outcome);
     }
 }
 
 /// Rejects a publish of the channel that has not left: it gives up the room of its tag.
 pub fn reject(
     channel: u16,
-    ledger: &mut Ledger,
+    confirm_mode: &mut ConfirmMode,
     cells: &mut Numbered<Cell>,
     number: u64,
     error: Error,
 )
-    requires tied { Tied channel ledger.old cells.old.slots }
+    requires tied { Tied channel confirm_mode.old cells.old.slots }
     requires queued { under number cells.old.slots ≡ Some (Cell.Queued channel) }
     ensures cells { cells.new.slots ≡ with_under number (Some (Cell.Resolved (Outcome.Failed error))) cells.old.slots }
-    ensures tied { Tied channel ledger.new cells.new.slots }
-    ensures ledger { ledger_state ledger.new ≡ ledger_state ledger.old }
+    ensures tied { Tied channel confirm_mode.new cells.new.slots }
+    ensures confirm_mode { confirm_mode_state confirm_mode.new ≡ confirm_mode_state confirm_mode.old }
     ensures spare { cells.old.spare ≤ cells.new.spare }
-    ensures room { KeepsTags ledger.old ledger.new }
+    ensures room { KeepsTags confirm_mode.old confirm_mode.new }
 {
-    ledger.queued -= 1;
+    confirm_mode.queued -= 1;
     cells.set(number, Cell::Resolved(Outcome::Failed(error)));
 }
 
@@ -164,54 +164,54 @@ fn is_queued_on(channel: u16, cells: &Numbered<Cell>, number: u64) -> bool
 // Rejects the publish under a number, if it is one of the channel that has not left.
 fn reject_if_queued(
     channel: u16,
-    ledger: &mut Ledger,
+    confirm_mode: &mut ConfirmMode,
     cells: &mut Numbered<Cell>,
     number: u64,
     error: Error,
 )
-    requires { Tied channel ledger.old cells.old.slots }
+    requires { Tied channel confirm_mode.old cells.old.slots }
     ensures same { map (option_map (ended_cell channel error)) cells.new.slots ≡ map (option_map (ended_cell channel error)) cells.old.slots }
     ensures queued { (n : ℕ) → under n cells.new.slots ≡ Some (Cell.Queued channel) → (n ≢ number) × (under n cells.old.slots ≡ Some (Cell.Queued channel)) }
-    ensures tied { Tied channel ledger.new cells.new.slots }
-    ensures ledger { ledger_state ledger.new ≡ ledger_state ledger.old }
+    ensures tied { Tied channel confirm_mode.new cells.new.slots }
+    ensures confirm_mode { confirm_mode_state confirm_mode.new ≡ confirm_mode_state confirm_mode.old }
     ensures spare { cells.old.spare ≤ cells.new.spare }
-    ensures room { KeepsTags ledger.old ledger.new }
+    ensures room { KeepsTags confirm_mode.old confirm_mode.new }
 {
     if !is_queued_on(channel, cells, number) {
         return;
     }
-    reject(channel, ledger, cells, number, error);
+    reject(channel, confirm_mode, cells, number, error);
 }
 
 // Rejects every publish of the channel that has not left, from the last number down to the oldest of them.
-fn reject_queued(channel: u16, ledger: &mut Ledger, cells: &mut Numbered<Cell>, error: Error)
-    requires { Tied channel ledger.old cells.old.slots }
+fn reject_queued(channel: u16, confirm_mode: &mut ConfirmMode, cells: &mut Numbered<Cell>, error: Error)
+    requires { Tied channel confirm_mode.old cells.old.slots }
     ensures same { map (option_map (ended_cell channel error)) cells.new.slots ≡ map (option_map (ended_cell channel error)) cells.old.slots }
-    ensures none { ledger.new.queued ≡ 0 }
-    ensures tied { Tied channel ledger.new cells.new.slots }
-    ensures ledger { ledger_state ledger.new ≡ ledger_state ledger.old }
+    ensures none { confirm_mode.new.queued ≡ 0 }
+    ensures tied { Tied channel confirm_mode.new cells.new.slots }
+    ensures confirm_mode { confirm_mode_state confirm_mode.new ≡ confirm_mode_state confirm_mode.old }
     ensures spare { cells.old.spare ≤ cells.new.spare }
-    ensures room { KeepsTags ledger.old ledger.new }
+    ensures room { KeepsTags confirm_mode.old confirm_mode.new }
 {
     let mut number = cells.count();
-    while ledger.queued > 0 {
-        reject_if_queued(channel, ledger, cells, number, error);
+    while confirm_mode.queued > 0 {
+        reject_if_queued(channel, confirm_mode, cells, number, error);
         number -= 1;
     }
 }
 
 /// Ends the opening of the channel: all of it that is unresolved is resolved with the error.
-pub fn end_opening(channel: u16, ledger: &mut Ledger, cells: &mut Numbered<Cell>, error: Error)
-    requires { Tied channel ledger.old cells.old.slots }
+pub fn end_opening(channel: u16, confirm_mode: &mut ConfirmMode, cells: &mut Numbered<Cell>, error: Error)
+    requires { Tied channel confirm_mode.old cells.old.slots }
     ensures cells { cells.new.slots ≡ map (option_map (ended_cell channel error)) cells.old.slots }
-    ensures tied { Tied channel ledger.new cells.new.slots }
-    ensures ledger { ledger_state ledger.new ≡ ended_ledger (ledger_state ledger.old) }
+    ensures tied { Tied channel confirm_mode.new cells.new.slots }
+    ensures confirm_mode { confirm_mode_state confirm_mode.new ≡ ended_confirm_mode (confirm_mode_state confirm_mode.old) }
     ensures spare { cells.old.spare ≤ cells.new.spare }
-    ensures room { KeepsTags ledger.old ledger.new }
+    ensures room { KeepsTags confirm_mode.old confirm_mode.new }
 {
-    reject_queued(channel, ledger, cells, error);
-    let last = ledger.tags.count();
-    settle_through(channel, ledger, cells, last, Outcome::Failed(error));
-    ledger.asked = false;
-    ledger.limit = 0;
+    reject_queued(channel, confirm_mode, cells, error);
+    let last = confirm_mode.tags.count();
+    settle_through(channel, confirm_mode, cells, last, Outcome::Failed(error));
+    confirm_mode.asked = false;
+    confirm_mode.limit = 0;
 }

@@ -6,14 +6,14 @@ ghost use Rattle.std.specs.Prelude.{◌≡◌, ℕ, ◌+◌, ◌<◌, ◌≤◌,
 ghost use Rattle.std.specs.Vec.{vec_len, vec_capacity};
 ghost use Rattle.std.specs.VecDeque.{deque_len, deque_capacity};
 ghost use Rattle.lapin_tables.specs.Numbered.{under};
-ghost use Rattle.lapin_confirm.specs.Book.{is_resolved};
-ghost use Rattle.lapin_confirm.specs.declared.ledger.Ledger.{Ledger as ALedger};
+ghost use Rattle.lapin_confirm.specs.PublishStates.{is_resolved};
+ghost use Rattle.lapin_confirm.specs.declared.confirm_mode.ConfirmMode.{ConfirmMode as AConfirmMode};
 ghost use Rattle.lapin_confirm.specs.Drain.{remaining, less_one};
 ghost use Rattle.lapin_confirm.specs.Ties.{AllTied};
 ghost use Rattle.lapin_confirm.specs.Sweeps.{IsReady, SweptOne, SweptAll};
 
 use crate::cell::Cell;
-use crate::home::Home;
+use crate::origin::Origin;
 use crate::returned::taken_from;
 use lapin_tables::Numbered;
 use lapin_types::BasicReturnMessage;
@@ -112,15 +112,15 @@ pub fn pour(from: &mut VecDeque<BasicReturnMessage>, into: &mut Vec<BasicReturnM
 }
 
 /// Of a confirm nothing is kept any more, if it is resolved.
-pub fn leave_one(cells: &mut Numbered<Cell>, homes: &mut Numbered<Home>, number: u64)
-    ensures remains { remaining cells.new.slots homes.new.slots ≡ less_one number (remaining cells.old.slots homes.old.slots) }
-    ensures tied { (es : List (ℕ × ALedger)) → AllTied es cells.old.slots → AllTied es cells.new.slots }
-    ensures counts { (length cells.new.slots ≡ length cells.old.slots) × (length homes.new.slots ≡ length homes.old.slots) }
-    ensures spare { (cells.old.spare ≤ cells.new.spare) × (homes.old.spare ≤ homes.new.spare) }
+pub fn leave_one(cells: &mut Numbered<Cell>, origins: &mut Numbered<Origin>, number: u64)
+    ensures remains { remaining cells.new.slots origins.new.slots ≡ less_one number (remaining cells.old.slots origins.old.slots) }
+    ensures tied { (es : List (ℕ × AConfirmMode)) → AllTied es cells.old.slots → AllTied es cells.new.slots }
+    ensures counts { (length cells.new.slots ≡ length cells.old.slots) × (length origins.new.slots ≡ length origins.old.slots) }
+    ensures spare { (cells.old.spare ≤ cells.new.spare) × (origins.old.spare ≤ origins.new.spare) }
 {
     if !is_over(cells, number) {
         return;
     }
     let _ = cells.take(number);
-    let _ = homes.take(number);
+    let _ = origins.take(number);
 }

@@ -6,7 +6,7 @@ use Rattle.lapin_consumer.specs.declared.state.ConsumerState.{ConsumerState}
 use Rattle.lapin_consumer.specs.Words.{map_at}
 use Rattle.lapin_consumer.specs.Marks.{ConsumerMark}
 use Rattle.lapin_consumer.specs.Marks as mark
-use Rattle.lapin_consumer.specs.Roster.{Handed, concerns, is_marked, last_words}
+use Rattle.lapin_consumer.specs.Subscriptions.{Handed, concerns, is_marked, last_words}
 use Rattle.lapin_consumer.specs.Readings.{Entry, Waiting, Given, MadeJob, Void, Story, arrivals, arrived, arrived_one, turned_job, turned_void, poll_first, told, seen, told_at, stories, log_in, log, words, handed_one, handed_by}
 use Rattle.lapin_consumer.proofs.Places.{get-map_at}
 use Rattle.lapin_consumer.proofs.Polls.{log-next}

@@ -12,8 +12,8 @@ use Rattle.lapin_tables.proofs.Lists.{get-set_same, get-set_other}
 use Rattle.lapin_consumer.specs.Words.{map_at, places_at}
 use Rattle.lapin_consumer.specs.Marks as mark
 use Rattle.lapin_consumer.specs.Indexed.{Seated, FitWhere}
-use Rattle.lapin_consumer.specs.Kept.{Kept, HasEnds, is_registered_one}
-use Rattle.lapin_consumer.specs.Roster.{Consumer, is_on, moved}
+use Rattle.lapin_consumer.specs.WithRoom.{WithRoom, HasEnds, is_registered_one}
+use Rattle.lapin_consumer.specs.Subscriptions.{Consumer, is_on, moved}
 use Rattle.lapin_consumer.proofs.Places.{tested, get-map}
 use Rattle.lapin_consumer.proofs.Ending.{consumers_of, ended, seat_consumer, mapped}
 
@@ -119,13 +119,13 @@ count_ended c e (x ∷ xs) =
     mapped_length (p ∷ ps) = ap suc (mapped_length ps)
 
 -- the room of a hall, as its seats and jobs have it
-pub ends_fit : (seats : List Seated) (jobs : List Job) (spare : ℕ) (k : Kept) → record { roster = record { consumers = consumers_of seats; jobs = jobs }; rooms = map (λ s. s.spare) seats; spare = spare } ≡ k → HasEnds k → FitWhere is_registered_one seats × (2 * count_by is_registered_one (consumers_of seats) ≤ spare)
+pub ends_fit : (seats : List Seated) (jobs : List Job) (spare : ℕ) (k : WithRoom) → record { subscriptions = record { consumers = consumers_of seats; jobs = jobs }; rooms = map (λ s. s.spare) seats; spare = spare } ≡ k → HasEnds k → FitWhere is_registered_one seats × (2 * count_by is_registered_one (consumers_of seats) ≤ spare)
 ends_fit seats jobs spare k view ends =
-    let P : Kept → Type 0 = λ j. HasEnds j in
-    let here : HasEnds (record { roster = record { consumers = consumers_of seats; jobs = jobs }; rooms = map (λ s. s.spare) seats; spare = spare }) = subst P (sym view) ends in
+    let P : WithRoom → Type 0 = λ j. HasEnds j in
+    let here : HasEnds (record { subscriptions = record { consumers = consumers_of seats; jobs = jobs }; rooms = map (λ s. s.spare) seats; spare = spare }) = subst P (sym view) ends in
     ((λ p s at on. here.items p s.spare s.consumer (seat_consumer p s seats at) (get-map (λ (u : Seated). u.spare) p seats ∙ ap (option_map (λ (u : Seated). u.spare)) at) on), here.jobs)
 
-pub has_ends : (seats : List Seated) (jobs : List Job) (spare : ℕ) → FitWhere is_registered_one seats → 2 * count_by is_registered_one (consumers_of seats) ≤ spare → HasEnds (record { roster = record { consumers = consumers_of seats; jobs = jobs }; rooms = map (λ s. s.spare) seats; spare = spare })
+pub has_ends : (seats : List Seated) (jobs : List Job) (spare : ℕ) → FitWhere is_registered_one seats → 2 * count_by is_registered_one (consumers_of seats) ≤ spare → HasEnds (record { subscriptions = record { consumers = consumers_of seats; jobs = jobs }; rooms = map (λ s. s.spare) seats; spare = spare })
 has_ends seats jobs spare fit fits = record {
   items = λ p n x at_x at_n on. by_seat p n x (slice_get seats p) refl (sym (get-map (λ (u : Seated). u.consumer) p seats) ∙ at_x) (sym (get-map (λ (u : Seated). u.spare) p seats) ∙ at_n) on;
   jobs = fits;
@@ -142,7 +142,7 @@ has_ends seats jobs spare fit fits = record {
         omega arith
 
 -- what is left of it after an end
-pub ends_left : (c : ℕ) (e : Option Error) (places : List ℕ) (old rooms new : List Seated) (jobs : List Job) (before made after : ℕ) → consumers_of rooms ≡ consumers_of old → places_at (λ _ x. is_on c x) (consumers_of old) ≡ places → consumers_of new ≡ map_at (moved (mark.Ended c e)) (consumers_of rooms) → 2 * count_by is_registered_one (consumers_of old) ≤ before → before ≤ made → made ≤ after + 2 * length places → FitWhere is_registered_one new → HasEnds (record { roster = record { consumers = consumers_of new; jobs = jobs }; rooms = map (λ s. s.spare) new; spare = after })
+pub ends_left : (c : ℕ) (e : Option Error) (places : List ℕ) (old rooms new : List Seated) (jobs : List Job) (before made after : ℕ) → consumers_of rooms ≡ consumers_of old → places_at (λ _ x. is_on c x) (consumers_of old) ≡ places → consumers_of new ≡ map_at (moved (mark.Ended c e)) (consumers_of rooms) → 2 * count_by is_registered_one (consumers_of old) ≤ before → before ≤ made → made ≤ after + 2 * length places → FitWhere is_registered_one new → HasEnds (record { subscriptions = record { consumers = consumers_of new; jobs = jobs }; rooms = map (λ s. s.spare) new; spare = after })
 ends_left c e places old rooms new jobs before made after same are moves fits more left fit =
     let xs : consumers_of new ≡ map_at (moved (mark.Ended c e)) (consumers_of old) = moves ∙ ap (map_at (moved (mark.Ended c e))) same in
     let sum : count_by is_registered_one (map_at (moved (mark.Ended c e)) (consumers_of old)) + length (places_at (λ _ x. is_on c x) (consumers_of old)) ≡ count_by is_registered_one (consumers_of old) = count_ended c e (consumers_of old) in
@@ -157,7 +157,7 @@ ends_enough c spare places xs are fits =
     let long : length (places_at (λ _ x. is_on c x) xs) ≡ length places = ap length are in
     omega arith
 
-pub has_ends_now : (old new : List Seated) (jobs : List Job) (spare : ℕ) → consumers_of new ≡ consumers_of old → FitWhere is_registered_one new → 2 * count_by is_registered_one (consumers_of old) ≤ spare → HasEnds (record { roster = record { consumers = consumers_of new; jobs = jobs }; rooms = map (λ s. s.spare) new; spare = spare })
+pub has_ends_now : (old new : List Seated) (jobs : List Job) (spare : ℕ) → consumers_of new ≡ consumers_of old → FitWhere is_registered_one new → 2 * count_by is_registered_one (consumers_of old) ≤ spare → HasEnds (record { subscriptions = record { consumers = consumers_of new; jobs = jobs }; rooms = map (λ s. s.spare) new; spare = spare })
 has_ends_now old new jobs spare same fit fits =
     let now : count_by is_registered_one (consumers_of new) ≡ count_by is_registered_one (consumers_of old) = ap (count_by is_registered_one) same in
     has_ends new jobs spare fit (omega arith)

@@ -11,14 +11,14 @@ use Rattle.lapin_tables.proofs.Lists.{get-set_same, get-set_other}
 use Rattle.lapin_consumer.specs.Words.{map_at, gather_at, places_at, on_place}
 use Rattle.lapin_consumer.specs.Marks as mark
 use Rattle.lapin_consumer.specs.Indexed.{Seated, Line, Indexed, EndsFit, places_in, without_place}
-use Rattle.lapin_consumer.specs.Kept.{Kept}
+use Rattle.lapin_consumer.specs.WithRoom.{WithRoom}
 use Rattle.lapin_tables.specs.ByChannel.{at_channel}
-use Rattle.lapin_consumer.specs.Roster.{Handed, Consumer, is_on, is_marked, handed, offered, canceled, last_words, first_place, moved, owed, is_under, Roster, after_mark}
+use Rattle.lapin_consumer.specs.Subscriptions.{Handed, Consumer, is_on, is_marked, handed, offered, canceled, last_words, first_place, moved, owed, is_under, Subscriptions, after_mark}
 use Rattle.lapin_consumer.proofs.Places.{tested, at_where, given_where, map_at-none, gather-none, get-map, map-set, places-map_at, get-map_at}
 use Rattle.lapin_consumer.proofs.Found.{Placed, first_placed, unplaced, get-within, after-suc, first-map}
 use Rattle.lapin_consumer.proofs.Leaving.{Ends, lists_left, suc_eqb, elsewhere}
 use Rattle.lapin_consumer.proofs.Indices.{Was, was}
-use Rattle.lapin_consumer.proofs.Single.{placed, same_roster, untouched}
+use Rattle.lapin_consumer.proofs.Single.{placed, same_subscriptions, untouched}
 
 -- ---- two things handed, one after the other
 
@@ -282,9 +282,9 @@ ended_under c d t e i x h =
     (λ on. let gone : is_under d t (ended e x) ≡ true = ap (λ b. is_under d t (cond b (ended e x) x)) (sym on) ∙ h in let no_more : false ≡ true = gone in cc)
     (λ away. ap (λ b. is_under d t (cond b (ended e x) x)) (sym away) ∙ h)
 
-pub ended_index : (c : ℕ) (e : Option Error) (before after : List (ℕ × Line)) (old new : Roster) → Indexed before old.consumers → new ≡ after_mark old (mark.Ended c e) → places_at (λ _ x. is_on c x) new.consumers ≡ [] → places_in (at_channel c after) ≡ [] → ((d : ℕ) → c ≢ d → places_in (at_channel d after) ≡ places_in (at_channel d before)) → Indexed after new.consumers
+pub ended_index : (c : ℕ) (e : Option Error) (before after : List (ℕ × Line)) (old new : Subscriptions) → Indexed before old.consumers → new ≡ after_mark old (mark.Ended c e) → places_at (λ _ x. is_on c x) new.consumers ≡ [] → places_in (at_channel c after) ≡ [] → ((d : ℕ) → c ≢ d → places_in (at_channel d after) ≡ places_in (at_channel d before)) → Indexed after new.consumers
 ended_index c e before after old new index is none here others =
-    let xs : new.consumers ≡ map_at (moved (mark.Ended c e)) old.consumers = ap (λ (r : Roster). r.consumers) is in
+    let xs : new.consumers ≡ map_at (moved (mark.Ended c e)) old.consumers = ap (λ (r : Subscriptions). r.consumers) is in
     record {
       lists = λ d. elim (eqb_tells c d) [
         | inl same ↦
@@ -301,13 +301,13 @@ ended_index c e before after old new index is none here others =
     }
 
 -- nobody is registered on the channel
-pub ended_nobody : (c : ℕ) (e : Option Error) (r : Roster) → places_at (λ _ x. is_on c x) r.consumers ≡ [] → r ≡ after_mark r (mark.Ended c e)
+pub ended_nobody : (c : ℕ) (e : Option Error) (r : Subscriptions) → places_at (λ _ x. is_on c x) r.consumers ≡ [] → r ≡ after_mark r (mark.Ended c e)
 ended_nobody c e r none = untouched (mark.Ended c e) r (λ xs. refl) (λ js. refl) (unplaced (λ _ x. is_on c x) r.consumers (ap first_place none))
 
 -- a hall's fields after the end
-pub hall_ended : (c : ℕ) (e : Option Error) (seats rooms new : List Seated) (jobs same more : List Job) (spares : List ℕ) (spare : ℕ) (k : Kept) → record { roster = record { consumers = consumers_of seats; jobs = jobs }; rooms = spares; spare = spare } ≡ k → consumers_of rooms ≡ consumers_of seats → same ≡ jobs → consumers_of new ≡ map_at (moved (mark.Ended c e)) (consumers_of rooms) → more ≡ same ++ gather_at (owed (mark.Ended c e)) (consumers_of rooms) → ◌≡◌ {A = Roster} (record { consumers = consumers_of new; jobs = more }) (after_mark k.roster (mark.Ended c e))
+pub hall_ended : (c : ℕ) (e : Option Error) (seats rooms new : List Seated) (jobs same more : List Job) (spares : List ℕ) (spare : ℕ) (k : WithRoom) → record { subscriptions = record { consumers = consumers_of seats; jobs = jobs }; rooms = spares; spare = spare } ≡ k → consumers_of rooms ≡ consumers_of seats → same ≡ jobs → consumers_of new ≡ map_at (moved (mark.Ended c e)) (consumers_of rooms) → more ≡ same ++ gather_at (owed (mark.Ended c e)) (consumers_of rooms) → ◌≡◌ {A = Subscriptions} (record { consumers = consumers_of new; jobs = more }) (after_mark k.subscriptions (mark.Ended c e))
 hall_ended c e seats rooms new jobs same more spares spare k view kept stay moves owes =
-    let P : Kept → Type 0 = λ j. ◌≡◌ {A = Roster} (record { consumers = consumers_of new; jobs = more }) (after_mark j.roster (mark.Ended c e)) in
-    subst P view (same_roster (consumers_of new) (map_at (moved (mark.Ended c e)) (consumers_of seats)) more (jobs ++ gather_at (owed (mark.Ended c e)) (consumers_of seats))
+    let P : WithRoom → Type 0 = λ j. ◌≡◌ {A = Subscriptions} (record { consumers = consumers_of new; jobs = more }) (after_mark j.subscriptions (mark.Ended c e)) in
+    subst P view (same_subscriptions (consumers_of new) (map_at (moved (mark.Ended c e)) (consumers_of seats)) more (jobs ++ gather_at (owed (mark.Ended c e)) (consumers_of seats))
     (moves ∙ ap (map_at (moved (mark.Ended c e))) kept)
     (owes ∙ ap (λ js. js ++ gather_at (owed (mark.Ended c e)) (consumers_of rooms)) stay ∙ ap (λ xs. jobs ++ gather_at (owed (mark.Ended c e)) xs) kept))

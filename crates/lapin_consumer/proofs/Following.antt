@@ -1,4 +1,4 @@
--- A roster that follows a history follows the longer one after the machine's step.
+-- A subscriptions that follows a history follows the longer one after the machine's step.
 use Rattle.std.proofs.Common.{◌≡◌, ℕ, zero, suc, ◌+◌, ◌<◌, ◌≤◌, Bool, true, false, cond, List, [], ◌∷◌, ◌++◌, length, map, drop, Some, None, Ok, refl, sym, ◌∙◌, ap, arith, append_assoc, length-append}
 use Rattle.std.proofs.lemmas.List.{append-nil}
 use Rattle.lapin_types.specs.declared.job.Job.{Job}
@@ -6,7 +6,7 @@ use Rattle.lapin_consumer.specs.declared.state.ConsumerState.{ConsumerState}
 use Rattle.lapin_consumer.specs.Words.{map_at, gather_at}
 use Rattle.lapin_consumer.specs.Marks.{ConsumerMark}
 use Rattle.lapin_consumer.specs.Marks as mark
-use Rattle.lapin_consumer.specs.Roster.{Handed, Consumer, Roster, concerns, becomes, moved, owed, joined, job_taken, after_mark, is_marked, handed, last_words, canceled, empty_roster}
+use Rattle.lapin_consumer.specs.Subscriptions.{Handed, Consumer, Subscriptions, concerns, becomes, moved, owed, joined, job_taken, after_mark, is_marked, handed, last_words, canceled, empty_subscriptions}
 use Rattle.lapin_consumer.specs.Readings.{Entry, Waiting, Given, MadeJob, Void, Story, waiting, arrived, arrived_one, turned_job, turned_void, poll_first, told, seen, told_at, joined_story, next_stories, stories_from, stories, jobs_by, jobs_from, jobs_made, asks, jobs_taken, newcomer_story}
 use Rattle.lapin_consumer.specs.Follows.{Follows, MayCome}
 
@@ -165,7 +165,7 @@ step_count : (b : Bool) (n m k : ℕ) → n ≤ m → (b ≡ true → n < m) →
 step_count true n m k h may more = let below : n < m = may refl in omega arith
 step_count false n m k h may more = omega arith
 
-pub follows-push : (ms : List ConsumerMark) (r : Roster) (m : ConsumerMark) → Follows ms r → MayCome ms m → Follows (ms ++ m ∷ []) (after_mark r m)
+pub follows-push : (ms : List ConsumerMark) (r : Subscriptions) (m : ConsumerMark) → Follows ms r → MayCome ms m → Follows (ms ++ m ∷ []) (after_mark r m)
 follows-push ms r m f may =
     let made : jobs_made (ms ++ m ∷ []) ≡ jobs_made ms ++ jobs_by m (stories ms) = jobs-push [] ms m in
     let due : gather_at (owed m) r.consumers ≡ jobs_by m (stories ms) = ap (gather_at (owed m)) f.consumers in
@@ -180,5 +180,5 @@ follows-push ms r m f may =
       taken = rw (taken-push ms m, made) (step_count (asks m) (jobs_taken ms) (length (jobs_made ms)) (length (jobs_made ms ++ jobs_by m (stories ms))) f.taken (may_ask m ms may) (omega (arith, length-append (jobs_made ms) (jobs_by m (stories ms)))));
     }
 
-pub nothing : Follows [] empty_roster
+pub nothing : Follows [] empty_subscriptions
 nothing = record { consumers = refl; jobs = refl; taken = omega arith }

@@ -7,7 +7,7 @@ use Rattle.lapin_consumer.specs.declared.state.ConsumerState.{ConsumerState}
 use Rattle.lapin_consumer.specs.Words.{map_at, gather_at}
 use Rattle.lapin_consumer.specs.Marks.{ConsumerMark}
 use Rattle.lapin_consumer.specs.Marks as mark
-use Rattle.lapin_consumer.specs.Roster.{Handed, Consumer, concerns, owed, due, offered, deliver, discard, is_marked, last_words}
+use Rattle.lapin_consumer.specs.Subscriptions.{Handed, Consumer, concerns, owed, due, offered, deliver, discard, is_marked, last_words}
 use Rattle.lapin_consumer.specs.Readings.{Entry, Waiting, Given, MadeJob, Void, Story, made, waiting, arrived, arrived_one, turned_job, turned_void, poll_first, told, seen, told_at, joined_story, next_stories, stories_from, log_in, log, newcomer_story, jobs_by, jobs_from, jobs_made, thing_of, delivered}
 use Rattle.lapin_consumer.proofs.Places.{get-map_at, get-map, tested}
 use Rattle.lapin_consumer.proofs.Polls.{log-next}

@@ -7,7 +7,7 @@ use Rattle.std.proofs.lemmas.Bool.Decides.{eqb_tells}
 use Rattle.lapin_consumer.specs.Words.{without_first}
 use Rattle.lapin_consumer.specs.Words.{places_at, on_place}
 use Rattle.lapin_consumer.specs.Indexed.{without_place}
-use Rattle.lapin_consumer.specs.Roster.{Consumer, is_on, is_under, newcomer}
+use Rattle.lapin_consumer.specs.Subscriptions.{Consumer, is_on, is_under, newcomer}
 use Rattle.lapin_consumer.proofs.Places.{tested}
 
 pub suc_eqb : (j p : ℕ) → (suc j == suc p) ≡ (j == p)

@@ -6,7 +6,7 @@ use Rattle.lapin_consumer.specs.declared.state.ConsumerState.{ConsumerState}
 use Rattle.lapin_consumer.specs.Words.{map_at}
 use Rattle.lapin_consumer.specs.Marks.{ConsumerMark}
 use Rattle.lapin_consumer.specs.Marks as mark
-use Rattle.lapin_consumer.specs.Roster.{Handed, Consumer, Roster, concerns, is_marked, last_words}
+use Rattle.lapin_consumer.specs.Subscriptions.{Handed, Consumer, Subscriptions, concerns, is_marked, last_words}
 use Rattle.lapin_consumer.specs.Readings.{Entry, Waiting, Given, MadeJob, Void, Story, items, waiting, arrived, arrived_one, turned_job, turned_void, poll_first, told, seen, told_at, joined_story, next_stories, stories_from, stories, log_in, log, given_by, given_from, given, newcomer_story}
 use Rattle.lapin_consumer.specs.Follows.{Follows}
 use Rattle.lapin_consumer.proofs.Places.{get-map_at, get-map}
@@ -203,7 +203,7 @@ seen_items None x h = cc
 seen_items (Some s) x h = let e : seen s ≡ x = cc in ap (λ (y : Consumer). y.items) e
 
 -- what polls of a consumer gave, and then what is queued, are the items of its log in order
-pub polls : (ms : List ConsumerMark) (r : Roster) (p : ℕ) (x : Consumer) → Follows ms r → slice_get r.consumers p ≡ Some x → items (log (suc p) ms) ≡ given p ms ++ x.items
+pub polls : (ms : List ConsumerMark) (r : Subscriptions) (p : ℕ) (x : Consumer) → Follows ms r → slice_get r.consumers p ≡ Some x → items (log (suc p) ms) ≡ given p ms ++ x.items
 polls ms r p x f there =
     let good : Good (log_in (slice_get (stories ms) p)) ([] ++ given p ms) = all_good ms p [] [] (record { gave = refl; sorted = tt }) in
     let queued : waiting (log_in (slice_get (stories ms) p)) ≡ x.items = seen_items (slice_get (stories ms) p) x (sym (get-map seen p (stories ms)) ∙ ap (λ xs. slice_get xs p) (sym f.consumers) ∙ there) in

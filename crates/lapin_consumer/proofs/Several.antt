@@ -3,16 +3,16 @@ use Rattle.std.proofs.Common.{◌≡◌, ℕ, zero, suc, ◌+◌, ◌<◌, ◌�
 use Rattle.std.proofs.lemmas.List.{append-nil}
 use Rattle.lapin_consumer.specs.Words.{map_at, gather_at, places_at, on_place, on_places, from_place, from_places}
 use Rattle.lapin_consumer.specs.Indexed.{Seated}
-use Rattle.lapin_consumer.specs.Kept.{Kept}
+use Rattle.lapin_consumer.specs.WithRoom.{WithRoom}
 use Rattle.lapin_consumer.specs.Marks as mark
 use Rattle.lapin_acker.specs.declared.switch.Switch.{Switch}
 use Rattle.lapin_acker.specs.Switches.{voided}
 use Rattle.lapin_consumer.specs.Ackers.{ackers_of, ackers_on}
 use Rattle.lapin_types.specs.declared.job.Job.{Job}
-use Rattle.lapin_consumer.specs.Roster.{Handed, Consumer, Roster, is_on, moved, owed, after_mark, first_place}
+use Rattle.lapin_consumer.specs.Subscriptions.{Handed, Consumer, Subscriptions, is_on, moved, owed, after_mark, first_place}
 use Rattle.lapin_consumer.proofs.Places.{tested, at_where, given_where, gather-none}
 use Rattle.lapin_consumer.proofs.Found.{unplaced}
-use Rattle.lapin_consumer.proofs.Single.{placed, same_roster, untouched}
+use Rattle.lapin_consumer.proofs.Single.{placed, same_subscriptions, untouched}
 use Rattle.lapin_consumer.proofs.Ending.{consumers_of, drop_next, drop_none}
 
 module _ {X : Type 0} where
@@ -69,15 +69,15 @@ closing_owes : (c : ℕ) (xs : List Consumer) → gather_at (owed (mark.CloseAsk
 closing_owes c [] = refl
 closing_owes c (x ∷ xs) = elim (is_on c x) as (λ b. cond b [] [] ++ gather_at (λ i y. owed (mark.CloseAsked c) (suc i) y) xs ≡ []) [ true ↦ closing_owes c xs | false ↦ closing_owes c xs ]
 
-pub hall_closing : (c : ℕ) (seats new : List Seated) (jobs : List Job) (rooms : List ℕ) (spare : ℕ) (k : Kept) → record { roster = record { consumers = consumers_of seats; jobs = jobs }; rooms = rooms; spare = spare } ≡ k → consumers_of new ≡ map_at (moved (mark.CloseAsked c)) (consumers_of seats) → ◌≡◌ {A = Roster} (record { consumers = consumers_of new; jobs = jobs }) (after_mark k.roster (mark.CloseAsked c))
+pub hall_closing : (c : ℕ) (seats new : List Seated) (jobs : List Job) (rooms : List ℕ) (spare : ℕ) (k : WithRoom) → record { subscriptions = record { consumers = consumers_of seats; jobs = jobs }; rooms = rooms; spare = spare } ≡ k → consumers_of new ≡ map_at (moved (mark.CloseAsked c)) (consumers_of seats) → ◌≡◌ {A = Subscriptions} (record { consumers = consumers_of new; jobs = jobs }) (after_mark k.subscriptions (mark.CloseAsked c))
 hall_closing c seats new jobs rooms spare k view moves =
-    let P : Kept → Type 0 = λ j. ◌≡◌ {A = Roster} (record { consumers = consumers_of new; jobs = jobs }) (after_mark j.roster (mark.CloseAsked c)) in
-    subst P view (same_roster (consumers_of new) (map_at (moved (mark.CloseAsked c)) (consumers_of seats)) jobs (jobs ++ gather_at (owed (mark.CloseAsked c)) (consumers_of seats)) moves (sym (append-nil jobs) ∙ ap (λ js. jobs ++ js) (sym (closing_owes c (consumers_of seats)))))
+    let P : WithRoom → Type 0 = λ j. ◌≡◌ {A = Subscriptions} (record { consumers = consumers_of new; jobs = jobs }) (after_mark j.subscriptions (mark.CloseAsked c)) in
+    subst P view (same_subscriptions (consumers_of new) (map_at (moved (mark.CloseAsked c)) (consumers_of seats)) jobs (jobs ++ gather_at (owed (mark.CloseAsked c)) (consumers_of seats)) moves (sym (append-nil jobs) ∙ ap (λ js. jobs ++ js) (sym (closing_owes c (consumers_of seats)))))
 
-pub closing_nobody : (c : ℕ) (r : Roster) → places_at (λ _ x. is_on c x) r.consumers ≡ [] → r ≡ after_mark r (mark.CloseAsked c)
+pub closing_nobody : (c : ℕ) (r : Subscriptions) → places_at (λ _ x. is_on c x) r.consumers ≡ [] → r ≡ after_mark r (mark.CloseAsked c)
 closing_nobody c r none = untouched (mark.CloseAsked c) r (λ xs. refl) (λ js. refl) (unplaced (λ _ x. is_on c x) r.consumers (ap first_place none))
 
-pub void_nobody : (c : ℕ) (r : Roster) → places_at (λ _ x. is_on c x) r.consumers ≡ [] → r ≡ after_mark r (mark.Discarded c)
+pub void_nobody : (c : ℕ) (r : Subscriptions) → places_at (λ _ x. is_on c x) r.consumers ≡ [] → r ≡ after_mark r (mark.Discarded c)
 void_nobody c r none = untouched (mark.Discarded c) r (λ xs. refl) (λ js. refl) (unplaced (λ _ x. is_on c x) r.consumers (ap first_place none))
 
 pub void_no_ackers : (c : ℕ) (xs : List Consumer) → places_at (λ _ x. is_on c x) xs ≡ [] → ackers_on c xs ≡ []

@@ -1,7 +1,7 @@
 -- The ackers of what consumers were handed. What becomes of an acker stands in the crate of ackers.
 use Rattle.std.specs.Prelude.{ℕ, if◌then◌else◌, List, [], ◌∷◌, Some, Ok}
 use Rattle.lapin_consumer.specs.Words.{gather_at}
-use Rattle.lapin_consumer.specs.Roster.{Handed, Consumer, is_on}
+use Rattle.lapin_consumer.specs.Subscriptions.{Handed, Consumer, is_on}
 
 -- the ackers of the deliveries among things that were handed
 abbrev pub ackers_of : List Handed → List ℕ

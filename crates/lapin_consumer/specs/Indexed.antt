@@ -3,7 +3,7 @@ use Rattle.std.specs.Prelude.{◌≡◌, ℕ, ◌<◌, ◌≤◌, ◌==◌, Bool
 use Rattle.lapin_consumer.specs.Words.{without_first}
 use Rattle.lapin_tables.specs.ByChannel.{at_channel}
 use Rattle.lapin_consumer.specs.Words.{places_at}
-use Rattle.lapin_consumer.specs.Roster.{Consumer, is_on, is_under}
+use Rattle.lapin_consumer.specs.Subscriptions.{Consumer, is_on, is_under}
 
 -- what a caller sees of a seat: the consumer, and for how many more items there is room
 pub record Seated : Type 0 where

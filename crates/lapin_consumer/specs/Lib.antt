@@ -1,7 +1,7 @@
 pub mod Words
 pub mod Marks
-pub mod Roster
-pub mod Kept
+pub mod Subscriptions
+pub mod WithRoom
 pub mod Indexed
 pub mod Codes
 pub mod Readings

@@ -8,7 +8,7 @@ use Rattle.lapin_consumer.specs.declared.state.ConsumerState.TheVariants as stat
 use Rattle.lapin_consumer.specs.Words.{map_at, gather_at}
 use Rattle.lapin_consumer.specs.Marks.{ConsumerMark}
 use Rattle.lapin_consumer.specs.Marks as mark
-use Rattle.lapin_consumer.specs.Roster.{Handed, Consumer, concerns, owed, is_marked, marked_state, last_words}
+use Rattle.lapin_consumer.specs.Subscriptions.{Handed, Consumer, concerns, owed, is_marked, marked_state, last_words}
 
 -- What became of a thing that a consumer was handed. It is an item where it waits for a poll or a poll gave it.
 pub data Entry : Type 0 where

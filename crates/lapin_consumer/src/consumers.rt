@@ -3,12 +3,12 @@
 //! Beside the seats stands an index of the registered consumers, so that a delivery or a cancel looks at its channel alone.
 
 ghost use Rattle.std.specs.Prelude.{◌≡◌, ◌+◌, ◌<◌, ◌^◌, ◌↔◌, ◌⊎◌, ◌≤◌, suc, Some, None, Ok, Err, OnOk, OnErr, IsOk, IfOk, IfErr, IfSome, IfNone, length, slice_get};
-ghost use Rattle.lapin_consumer.specs.Roster.{empty_roster, after_mark, is_registered, found, place_under, consumer_at, answered, let_go_answer};
+ghost use Rattle.lapin_consumer.specs.Subscriptions.{empty_subscriptions, after_mark, is_registered, found, place_under, consumer_at, answered, let_go_answer};
 ghost use Rattle.lapin_consumer.specs.Marks as mark;
 ghost use Rattle.lapin_acker.specs.Switches.{after_mark as after_acker_mark};
 ghost use Rattle.lapin_acker.specs.Marks as acker_mark;
 ghost use Rattle.lapin_consumer.specs.Ackers.{ackers_on};
-ghost use Rattle.lapin_consumer.specs.Kept.{HasRoom, HasEnds};
+ghost use Rattle.lapin_consumer.specs.WithRoom.{HasRoom, HasEnds};
 ghost use Rattle.std.specs.Option.{option_copied, option_map};
 
 use crate::hall::Hall;
@@ -22,7 +22,7 @@ use lapin_types::{
 use std::alloc::Global;
 use std::marker::Model;
 
-/// All consumers of a session, and the jobs of their delegates. Contracts see a `Roster`, and the room beside it.
+/// All consumers of a session, and the jobs of their delegates. Contracts see a `Subscriptions`, and the room beside it.
 pub struct Consumers {
     hall: Hall,
     // By channel: the places of its registered consumers, rising.
@@ -36,10 +36,10 @@ impl Drop for Consumers {
 }
 
 impl Model for Consumers {
-    ghost use Rattle.lapin_consumer.specs.Kept.{Kept};
+    ghost use Rattle.lapin_consumer.specs.WithRoom.{WithRoom};
     ghost use Rattle.lapin_consumer.specs.Codes.{kept_code};
 
-    ghost Value = { Kept };
+    ghost Value = { WithRoom };
 
     ghost coded = { kept_code };
 
@@ -47,13 +47,13 @@ impl Model for Consumers {
 
     ghost view = { λ a. a.hall };
 
-    ghost invariant = { λ a. Indexed a.lines.entries a.hall.roster.consumers };
+    ghost invariant = { λ a. Indexed a.lines.entries a.hall.subscriptions.consumers };
 }
 
 impl Consumers {
     /// No consumer. It takes no memory yet, so it does not fail.
     pub fn new(alloc: Global) -> Result<Consumers, NoMemory>
-        ensures made { IfOk result (λ made. made.roster ≡ empty_roster) }
+        ensures made { IfOk result (λ made. made.subscriptions ≡ empty_subscriptions) }
         ensures succeeds { IsOk result }
     {
         Ok(Consumers {
@@ -75,11 +75,11 @@ impl Consumers {
         queue: ShortString,
         _options: BasicConsumeOptions,
     ) -> Result<u64, Error>
-        ensures number { IfOk result (λ n. n ≡ length self.old.roster.consumers + 1) }
-        ensures ok { OnOk result (self.new.roster ≡ after_mark self.old.roster (mark.Registered channel tag queue)) }
-        ensures err { OnErr result (self.new.roster ≡ self.old.roster) }
+        ensures number { IfOk result (λ n. n ≡ length self.old.subscriptions.consumers + 1) }
+        ensures ok { OnOk result (self.new.subscriptions ≡ after_mark self.old.subscriptions (mark.Registered channel tag queue)) }
+        ensures err { OnErr result (self.new.subscriptions ≡ self.old.subscriptions) }
         ensures cause { IfErr result (λ e. (e ≡ Error.NumbersUsedUp) ⊎ (e ≡ Error.NoMemory)) }
-        ensures used_up { (result ≡ Err Error.NumbersUsedUp) ↔ (length self.old.roster.consumers + 1 ≡ 2 ^ 64) }
+        ensures used_up { (result ≡ Err Error.NumbersUsedUp) ↔ (length self.old.subscriptions.consumers + 1 ≡ 2 ^ 64) }
     {
         let place = self.hall.count();
         if place as u64 == u64::MAX {
@@ -100,7 +100,7 @@ impl Consumers {
 
     /// The number of the consumer that is registered on a channel under a tag; `None` exactly where there is none.
     pub fn find(&self, channel: u16, tag: &str) -> Option<u64>
-        ensures { result ≡ found channel tag.now self.now.roster }
+        ensures { result ≡ found channel tag.now self.now.subscriptions }
     {
         match self.find_place(channel, tag) {
             Some(place) => Some(self.hall.number(place)),
@@ -110,8 +110,8 @@ impl Consumers {
 
     // The place of the consumer that is registered on a channel under a tag: the hint mostly is it.
     fn find_place(&self, channel: u16, tag: &str) -> Option<usize>
-        ensures place { result ≡ place_under channel tag.now self.now.roster.consumers }
-        ensures within { IfSome result (λ p. p < length self.now.roster.consumers) }
+        ensures place { result ≡ place_under channel tag.now self.now.subscriptions.consumers }
+        ensures within { IfSome result (λ p. p < length self.now.subscriptions.consumers) }
     {
         match self.find_hinted(channel, tag) {
             Some(place) => Some(place),
@@ -121,7 +121,7 @@ impl Consumers {
 
     // The place that is hinted at, where its consumer is registered on the channel under the tag.
     fn find_hinted(&self, channel: u16, tag: &str) -> Option<usize>
-        ensures { IfSome result (λ p. Some p ≡ place_under channel tag.now self.now.roster.consumers) }
+        ensures { IfSome result (λ p. Some p ≡ place_under channel tag.now self.now.subscriptions.consumers) }
     {
         let place = self.hinted(channel, tag)?;
         if !self.hall.is_under(place, channel, tag) {
@@ -146,8 +146,8 @@ impl Consumers {
 
     // The place of the consumer that is registered on a channel under a tag, by a look at each that is registered there.
     fn find_among(&self, channel: u16, tag: &str) -> Option<usize>
-        ensures place { result ≡ place_under channel tag.now self.now.roster.consumers }
-        ensures within { IfSome result (λ p. p < length self.now.roster.consumers) }
+        ensures place { result ≡ place_under channel tag.now self.now.subscriptions.consumers }
+        ensures within { IfSome result (λ p. p < length self.now.subscriptions.consumers) }
     {
         match self.lines.get(channel) {
             Some(line) => self.hall.first_tagged(line.as_slice(), tag),
@@ -157,7 +157,7 @@ impl Consumers {
 
     /// Whether a consumer is registered: false also for a number that was never given.
     pub fn registered(&self, consumer: u64) -> bool
-        ensures { result ≡ is_registered consumer self.now.roster }
+        ensures { result ≡ is_registered consumer self.now.subscriptions }
     {
         self.hall.registered(consumer)
     }
@@ -169,7 +169,7 @@ impl Consumers {
     /// `NoMemory`; nothing but the room changes.
     pub fn reserve_item(&mut self, _alloc: Global, consumer: u64) -> Result<(), NoMemory>
         ensures room { OnOk result (HasRoom consumer self.new) }
-        ensures same { self.new.roster ≡ self.old.roster }
+        ensures same { self.new.subscriptions ≡ self.old.subscriptions }
         ensures succeeds { HasRoom consumer self.old → IsOk result }
     {
         self.hall.reserve(consumer)
@@ -183,7 +183,7 @@ impl Consumers {
     /// `NoMemory`; nothing but the room changes.
     pub fn reserve_ends(&mut self, _alloc: Global) -> Result<(), NoMemory>
         ensures room { OnOk result (HasEnds self.new) }
-        ensures same { self.new.roster ≡ self.old.roster }
+        ensures same { self.new.subscriptions ≡ self.old.subscriptions }
     {
         self.hall.reserve_ends()
     }
@@ -199,9 +199,9 @@ impl Consumers {
         consumer: u64,
         delivery: Delivery,
     ) -> Result<bool, NoMemory>
-        ensures answer { IfOk result (λ taken. taken ≡ is_registered consumer self.old.roster) }
-        ensures ok { OnOk result (self.new.roster ≡ after_mark self.old.roster (mark.Completed consumer delivery)) }
-        ensures err { OnErr result (self.new.roster ≡ self.old.roster) }
+        ensures answer { IfOk result (λ taken. taken ≡ is_registered consumer self.old.subscriptions) }
+        ensures ok { OnOk result (self.new.subscriptions ≡ after_mark self.old.subscriptions (mark.Completed consumer delivery)) }
+        ensures err { OnErr result (self.new.subscriptions ≡ self.old.subscriptions) }
         ensures succeeds { HasRoom consumer self.old → IsOk result }
     {
         if !self.hall.registered(consumer) {
@@ -222,9 +222,9 @@ impl Consumers {
     /// # Errors
     /// `NoMemory`, but not in the room that `reserve_item` made; nothing but the room changes.
     pub fn deregister(&mut self, _alloc: Global, channel: u16, tag: &str) -> Result<(), NoMemory>
-        ensures ok { OnOk result (self.new.roster ≡ after_mark self.old.roster (mark.Canceled channel tag.now)) }
-        ensures err { OnErr result (self.new.roster ≡ self.old.roster) }
-        ensures succeeds { IfSome (found channel tag.now self.old.roster) (λ n. HasRoom n self.old) → IsOk result }
+        ensures ok { OnOk result (self.new.subscriptions ≡ after_mark self.old.subscriptions (mark.Canceled channel tag.now)) }
+        ensures err { OnErr result (self.new.subscriptions ≡ self.old.subscriptions) }
+        ensures succeeds { IfSome (found channel tag.now self.old.subscriptions) (λ n. HasRoom n self.old) → IsOk result }
     {
         let Some(place) = self.find_place(channel, tag) else {
             return Ok(());
@@ -247,9 +247,9 @@ impl Consumers {
         channel: u16,
         switches: &mut Switches,
     ) -> Result<(), NoMemory>
-        ensures ok { OnOk result (self.new.roster ≡ after_mark self.old.roster (mark.Discarded channel)) }
-        ensures err { OnErr result (self.new.roster ≡ self.old.roster) }
-        ensures void { OnOk result (switches.new.switches ≡ after_acker_mark switches.old.switches (acker_mark.Voided (ackers_on channel self.old.roster.consumers))) }
+        ensures ok { OnOk result (self.new.subscriptions ≡ after_mark self.old.subscriptions (mark.Discarded channel)) }
+        ensures err { OnErr result (self.new.subscriptions ≡ self.old.subscriptions) }
+        ensures void { OnOk result (switches.new.switches ≡ after_acker_mark switches.old.switches (acker_mark.Voided (ackers_on channel self.old.subscriptions.consumers))) }
         ensures same { OnErr result (switches.new.switches ≡ switches.old.switches) }
     {
         let Some(line) = self.lines.get(channel) else {
@@ -260,7 +260,7 @@ impl Consumers {
 
     /// The registered consumers of a channel start to be cancelled: they have no delegate from now on.
     pub fn start_cancel(&mut self, channel: u16)
-        ensures { self.new.roster ≡ after_mark self.old.roster (mark.CloseAsked channel) }
+        ensures { self.new.subscriptions ≡ after_mark self.old.subscriptions (mark.CloseAsked channel) }
     {
         if let Some(line) = self.lines.get(channel) {
             self.hall.start_cancels(channel, line.as_slice());
@@ -270,7 +270,7 @@ impl Consumers {
     /// Starts to cancel the consumer that is registered under a tag: it has no delegate from now on. Nothing changes where there is
     /// none.
     pub fn start_cancel_one(&mut self, channel: u16, tag: &str)
-        ensures change { self.new.roster ≡ after_mark self.old.roster (mark.CancelAsked channel tag.now) }
+        ensures change { self.new.subscriptions ≡ after_mark self.old.subscriptions (mark.CancelAsked channel tag.now) }
 
         // The room that `reserve_item` made stays.
         ensures room { (self.new.rooms ≡ self.old.rooms) × (self.new.spare ≡ self.old.spare) }
@@ -285,8 +285,8 @@ impl Consumers {
     /// # Errors
     /// `NoMemory`, but not in the room that `reserve_ends` made; nothing but the room changes.
     pub fn cancel(&mut self, _alloc: Global, channel: u16) -> Result<(), NoMemory>
-        ensures ok { OnOk result (self.new.roster ≡ after_mark self.old.roster (mark.Ended channel None)) }
-        ensures err { OnErr result (self.new.roster ≡ self.old.roster) }
+        ensures ok { OnOk result (self.new.subscriptions ≡ after_mark self.old.subscriptions (mark.Ended channel None)) }
+        ensures err { OnErr result (self.new.subscriptions ≡ self.old.subscriptions) }
 
         // In the room that `reserve_ends` made it does not fail, and leaves the room of the other channels.
         ensures room { HasEnds self.old → IsOk result × HasEnds self.new }
@@ -300,8 +300,8 @@ impl Consumers {
     /// # Errors
     /// `NoMemory`, but not in the room that `reserve_ends` made; nothing but the room changes.
     pub fn error(&mut self, _alloc: Global, channel: u16, error: Error) -> Result<(), NoMemory>
-        ensures ok { OnOk result (self.new.roster ≡ after_mark self.old.roster (mark.Ended channel (Some error))) }
-        ensures err { OnErr result (self.new.roster ≡ self.old.roster) }
+        ensures ok { OnOk result (self.new.subscriptions ≡ after_mark self.old.subscriptions (mark.Ended channel (Some error))) }
+        ensures err { OnErr result (self.new.subscriptions ≡ self.old.subscriptions) }
 
         // In the room that `reserve_ends` made it does not fail, and leaves the room of the other channels.
         ensures room { HasEnds self.old → IsOk result × HasEnds self.new }
@@ -310,8 +310,8 @@ impl Consumers {
     }
 
     fn end(&mut self, channel: u16, error: Option<Error>) -> Result<(), NoMemory>
-        ensures ok { OnOk result (self.new.roster ≡ after_mark self.old.roster (mark.Ended channel error)) }
-        ensures err { OnErr result (self.new.roster ≡ self.old.roster) }
+        ensures ok { OnOk result (self.new.subscriptions ≡ after_mark self.old.subscriptions (mark.Ended channel error)) }
+        ensures err { OnErr result (self.new.subscriptions ≡ self.old.subscriptions) }
         ensures room { HasEnds self.old → IsOk result × HasEnds self.new }
     {
         let Some(line) = self.lines.get(channel) else {
@@ -328,8 +328,8 @@ impl Consumers {
     /// # Errors
     /// `UnknownTicket` exactly where the number was never given.
     pub fn poll_next(&mut self, consumer: u64) -> Result<Option<DeliveryResult>, Error>
-        ensures answer { result ≡ answered (consumer_at consumer self.old.roster) }
-        ensures polled { self.new.roster ≡ after_mark self.old.roster (mark.Polled consumer) }
+        ensures answer { result ≡ answered (consumer_at consumer self.old.subscriptions) }
+        ensures polled { self.new.subscriptions ≡ after_mark self.old.subscriptions (mark.Polled consumer) }
     {
         self.hall.poll(consumer)
     }
@@ -339,9 +339,9 @@ impl Consumers {
     /// # Errors
     /// `UnknownTicket` exactly where the number was never given; `NoMemory`.
     pub fn set_delegate(&mut self, _alloc: Global, consumer: u64) -> Result<(), Error>
-        ensures unknown { (result ≡ Err Error.UnknownTicket) ↔ (consumer_at consumer self.old.roster ≡ None) }
-        ensures ok { OnOk result (self.new.roster ≡ after_mark self.old.roster (mark.Delegated consumer)) }
-        ensures err { OnErr result (self.new.roster ≡ self.old.roster) }
+        ensures unknown { (result ≡ Err Error.UnknownTicket) ↔ (consumer_at consumer self.old.subscriptions ≡ None) }
+        ensures ok { OnOk result (self.new.subscriptions ≡ after_mark self.old.subscriptions (mark.Delegated consumer)) }
+        ensures err { OnErr result (self.new.subscriptions ≡ self.old.subscriptions) }
         ensures cause { IfErr result (λ e. (e ≡ Error.UnknownTicket) ⊎ (e ≡ Error.NoMemory)) }
     {
         self.hall.delegate(consumer)
@@ -353,8 +353,8 @@ impl Consumers {
     /// # Errors
     /// `UnknownTicket` exactly where the number was never given.
     pub fn close(&mut self, consumer: u64) -> Result<bool, Error>
-        ensures answer { result ≡ let_go_answer (consumer_at consumer self.old.roster) }
-        ensures change { self.new.roster ≡ after_mark self.old.roster (mark.LetGo consumer) }
+        ensures answer { result ≡ let_go_answer (consumer_at consumer self.old.subscriptions) }
+        ensures change { self.new.subscriptions ≡ after_mark self.old.subscriptions (mark.LetGo consumer) }
     {
         self.hall.let_go(consumer)
     }
@@ -364,36 +364,36 @@ impl Consumers {
     /// # Errors
     /// `UnknownTicket` exactly where the number was never given.
     pub fn would_close(&self, consumer: u64) -> Result<bool, Error>
-        ensures { result ≡ let_go_answer (consumer_at consumer self.now.roster) }
+        ensures { result ≡ let_go_answer (consumer_at consumer self.now.subscriptions) }
     {
         self.hall.would_let_go(consumer)
     }
 
     /// The tag under which a consumer was registered; `None` exactly where the number was never given.
     pub fn tag(&self, consumer: u64) -> Option<&ShortString>
-        ensures { option_copied result ≡ option_map (λ x. x.tag) (consumer_at consumer self.now.roster) }
+        ensures { option_copied result ≡ option_map (λ x. x.tag) (consumer_at consumer self.now.subscriptions) }
     {
         self.hall.tag(consumer)
     }
 
     /// The queue that a consumer was registered for; `None` exactly where the number was never given.
     pub fn queue(&self, consumer: u64) -> Option<&ShortString>
-        ensures { option_copied result ≡ option_map (λ x. x.queue) (consumer_at consumer self.now.roster) }
+        ensures { option_copied result ≡ option_map (λ x. x.queue) (consumer_at consumer self.now.subscriptions) }
     {
         self.hall.queue(consumer)
     }
 
     /// The channel on which a consumer was registered; `None` exactly where the number was never given.
     pub fn channel(&self, consumer: u64) -> Option<u16>
-        ensures { result ≡ option_map (λ x. x.channel) (consumer_at consumer self.now.roster) }
+        ensures { result ≡ option_map (λ x. x.channel) (consumer_at consumer self.now.subscriptions) }
     {
         self.hall.channel(consumer)
     }
 
     /// Takes out the oldest job; `None` exactly where there is none.
     pub fn next_job(&mut self) -> Option<Job>
-        ensures job { result ≡ slice_get self.old.roster.jobs 0 }
-        ensures rest { self.new.roster ≡ after_mark self.old.roster mark.JobAsked }
+        ensures job { result ≡ slice_get self.old.subscriptions.jobs 0 }
+        ensures rest { self.new.subscriptions ≡ after_mark self.old.subscriptions mark.JobAsked }
     {
         self.hall.next_job()
     }

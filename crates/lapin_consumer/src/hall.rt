@@ -2,14 +2,14 @@
 //! `consumers` alone calls this file.
 
 ghost use Rattle.std.specs.Prelude.{◌≡◌, ℕ, ◌+◌, ◌-◌, ◌<◌, ◌^◌, ◌↔◌, ◌⊎◌, ◌≤◌, suc, ◌++◌, ◌∷◌, [], true, Some, None, Ok, Err, OnOk, OnErr, IsOk, IfOk, IfErr, IfSome, IfNone, length, slice_get};
-ghost use Rattle.lapin_consumer.specs.Roster.{empty_roster, after_mark, is_registered, consumer_at, answered, let_go_answer, is_tagged, is_under_at, newcomer, unregistered, canceling, finished, offered, last_words, is_on};
+ghost use Rattle.lapin_consumer.specs.Subscriptions.{empty_subscriptions, after_mark, is_registered, consumer_at, answered, let_go_answer, is_tagged, is_under_at, newcomer, unregistered, canceling, finished, offered, last_words, is_on};
 ghost use Rattle.lapin_consumer.specs.Words.{on_place, on_place_if, from_place, places_at};
 ghost use Rattle.std.specs.Option.{option_copied, option_map};
 ghost use Rattle.std.specs.List.{find};
 ghost use Rattle.lapin_consumer.specs.Marks as mark;
 ghost use Rattle.lapin_acker.specs.Switches.{voided};
 ghost use Rattle.lapin_consumer.specs.Ackers.{ackers_on};
-ghost use Rattle.lapin_consumer.specs.Kept.{HasRoom, HasEnds};
+ghost use Rattle.lapin_consumer.specs.WithRoom.{HasRoom, HasEnds};
 
 use crate::seat::Seat;
 use crate::serving::{
@@ -22,7 +22,7 @@ use std::alloc::Global;
 use std::collections::VecDeque;
 use std::marker::Model;
 
-/// The seats of all consumers, and the jobs. Contracts see a `Roster`, and the room beside it.
+/// The seats of all consumers, and the jobs. Contracts see a `Subscriptions`, and the room beside it.
 #[derive(Drop)]
 pub(crate) struct Hall {
     seats: Vec<Seat>,
@@ -32,15 +32,15 @@ pub(crate) struct Hall {
 impl Model for Hall {
     ghost use Rattle.std.specs.Prelude.{◌-◌, map};
     ghost use Rattle.std.specs.VecDeque.{deque_len, deque_capacity};
-    ghost use Rattle.lapin_consumer.specs.Kept.{Kept};
+    ghost use Rattle.lapin_consumer.specs.WithRoom.{WithRoom};
     ghost use Rattle.lapin_consumer.specs.Codes.{kept_code};
 
-    ghost Value = { Kept };
+    ghost Value = { WithRoom };
 
     ghost coded = { kept_code };
 
     ghost view = { λ a. record {
-      roster = record { consumers = map (λ s. s.consumer) a.seats.items; jobs = a.jobs.items };
+      subscriptions = record { consumers = map (λ s. s.consumer) a.seats.items; jobs = a.jobs.items };
       rooms = map (λ s. s.spare) a.seats.items;
       spare = deque_capacity a.jobs - deque_len a.jobs;
     } };
@@ -49,7 +49,7 @@ impl Model for Hall {
 impl Hall {
     /// No consumer. It takes no memory yet.
     pub(crate) fn new(alloc: Global) -> Hall
-        ensures { result.roster ≡ empty_roster }
+        ensures { result.subscriptions ≡ empty_subscriptions }
     {
         Hall {
             seats: Vec::new(alloc),
@@ -59,8 +59,8 @@ impl Hall {
 
     /// The place of a consumer, if the number was given.
     pub(crate) fn place(&self, consumer: u64) -> Option<usize>
-        ensures none { IfNone result (consumer_at consumer self.now.roster ≡ None) }
-        ensures some { IfSome result (λ p. (consumer ≡ suc p) × (p < length self.now.roster.consumers)) }
+        ensures none { IfNone result (consumer_at consumer self.now.subscriptions ≡ None) }
+        ensures some { IfSome result (λ p. (consumer ≡ suc p) × (p < length self.now.subscriptions.consumers)) }
     {
         let place = consumer.checked_sub(1)?;
         if place >= self.seats.len() as u64 {
@@ -71,14 +71,14 @@ impl Hall {
 
     /// How many consumers there are.
     pub(crate) fn count(&self) -> usize
-        ensures { result ≡ length self.now.roster.consumers }
+        ensures { result ≡ length self.now.subscriptions.consumers }
     {
         self.seats.len()
     }
 
     /// The number of the consumer at a place.
     pub(crate) fn number(&self, place: usize) -> u64
-        requires { place < length self.now.roster.consumers }
+        requires { place < length self.now.subscriptions.consumers }
         ensures { result ≡ suc place }
     {
         let _ = self.seats.len();
@@ -93,8 +93,8 @@ impl Hall {
         tag: ShortString,
         queue: ShortString,
     ) -> Result<(), NoMemory>
-        ensures ok { OnOk result (self.new.roster ≡ record self.old.roster { consumers = self.old.roster.consumers ++ newcomer channel tag queue ∷ [] }) }
-        ensures err { OnErr result (self.new.roster ≡ self.old.roster) }
+        ensures ok { OnOk result (self.new.subscriptions ≡ record self.old.subscriptions { consumers = self.old.subscriptions.consumers ++ newcomer channel tag queue ∷ [] }) }
+        ensures err { OnErr result (self.new.subscriptions ≡ self.old.subscriptions) }
     {
         self.seats.push(Seat::new(alloc, channel, tag, queue))?;
         Ok(())
@@ -102,8 +102,8 @@ impl Hall {
 
     /// The consumer at a place is no longer registered, if a place is named.
     pub(crate) fn unregister(&mut self, gone: Option<usize>)
-        requires { IfSome gone (λ p. p < length self.old.roster.consumers) }
-        ensures { self.new.roster ≡ record self.old.roster { consumers = on_place_if unregistered gone self.old.roster.consumers } }
+        requires { IfSome gone (λ p. p < length self.old.subscriptions.consumers) }
+        ensures { self.new.subscriptions ≡ record self.old.subscriptions { consumers = on_place_if unregistered gone self.old.subscriptions.consumers } }
     {
         if let Some(place) = gone {
             self.seats[place].unregister();
@@ -112,8 +112,8 @@ impl Hall {
 
     /// The consumer at a place starts to be cancelled, if a place is named.
     pub(crate) fn start_cancel(&mut self, found: Option<usize>)
-        requires { IfSome found (λ p. p < length self.old.roster.consumers) }
-        ensures change { self.new.roster ≡ record self.old.roster { consumers = on_place_if canceling found self.old.roster.consumers } }
+        requires { IfSome found (λ p. p < length self.old.subscriptions.consumers) }
+        ensures change { self.new.subscriptions ≡ record self.old.subscriptions { consumers = on_place_if canceling found self.old.subscriptions.consumers } }
         ensures rooms { self.new.rooms ≡ self.old.rooms }
         ensures spare { self.new.spare ≡ self.old.spare }
     {
@@ -124,10 +124,10 @@ impl Hall {
 
     /// The consumer at a place gets its end, in the room that was made.
     pub(crate) fn finish(&mut self, place: usize)
-        requires within { place < length self.old.roster.consumers }
+        requires within { place < length self.old.subscriptions.consumers }
         requires room { HasRoom (suc place) self.old }
-        ensures consumers { self.new.roster.consumers ≡ on_place finished place self.old.roster.consumers }
-        ensures jobs { self.new.roster.jobs ≡ self.old.roster.jobs ++ from_place (offered (suc place) (last_words None)) place self.old.roster.consumers }
+        ensures consumers { self.new.subscriptions.consumers ≡ on_place finished place self.old.subscriptions.consumers }
+        ensures jobs { self.new.subscriptions.jobs ≡ self.old.subscriptions.jobs ++ from_place (offered (suc place) (last_words None)) place self.old.subscriptions.consumers }
     {
         let number = self.number(place);
         finish(number, &mut self.seats[place], &mut self.jobs);
@@ -140,10 +140,10 @@ impl Hall {
         places: &[usize],
         error: Option<Error>,
     ) -> Result<(), NoMemory>
-        requires { places_at (λ _ x. is_on channel x) self.old.roster.consumers ≡ places.now }
-        ensures ok { OnOk result (self.new.roster ≡ after_mark self.old.roster (mark.Ended channel error)) }
-        ensures none { OnOk result (places_at (λ _ x. is_on channel x) self.new.roster.consumers ≡ []) }
-        ensures err { OnErr result (self.new.roster ≡ self.old.roster) }
+        requires { places_at (λ _ x. is_on channel x) self.old.subscriptions.consumers ≡ places.now }
+        ensures ok { OnOk result (self.new.subscriptions ≡ after_mark self.old.subscriptions (mark.Ended channel error)) }
+        ensures none { OnOk result (places_at (λ _ x. is_on channel x) self.new.subscriptions.consumers ≡ []) }
+        ensures err { OnErr result (self.new.subscriptions ≡ self.old.subscriptions) }
         ensures room { HasEnds self.old → IsOk result × HasEnds self.new }
     {
         make_end_rooms(channel, places, &mut self.seats, &mut self.jobs)?;
@@ -151,10 +151,10 @@ impl Hall {
         Ok(())
     }
 
-    /// Makes room for an error and an end of every registered consumer. The roster stays, also where there is no memory.
+    /// Makes room for an error and an end of every registered consumer. The subscriptions stays, also where there is no memory.
     pub(crate) fn reserve_ends(&mut self) -> Result<(), NoMemory>
         ensures room { OnOk result (HasEnds self.new) }
-        ensures same { self.new.roster ≡ self.old.roster }
+        ensures same { self.new.subscriptions ≡ self.old.subscriptions }
     {
         make_all_end_rooms(&mut self.seats, &mut self.jobs)?;
         Ok(())
@@ -162,8 +162,8 @@ impl Hall {
 
     /// The registered consumers of a channel start to be cancelled. The places are theirs.
     pub(crate) fn start_cancels(&mut self, channel: u16, places: &[usize])
-        requires { places_at (λ _ x. is_on channel x) self.old.roster.consumers ≡ places.now }
-        ensures { self.new.roster ≡ after_mark self.old.roster (mark.CloseAsked channel) }
+        requires { places_at (λ _ x. is_on channel x) self.old.subscriptions.consumers ≡ places.now }
+        ensures { self.new.subscriptions ≡ after_mark self.old.subscriptions (mark.CloseAsked channel) }
     {
         start_cancels(channel, places, &mut self.seats);
     }
@@ -175,10 +175,10 @@ impl Hall {
         places: &[usize],
         switches: &mut Switches,
     ) -> Result<(), NoMemory>
-        requires { places_at (λ _ x. is_on channel x) self.old.roster.consumers ≡ places.now }
-        ensures ok { OnOk result (self.new.roster ≡ after_mark self.old.roster (mark.Discarded channel)) }
-        ensures err { OnErr result (self.new.roster ≡ self.old.roster) }
-        ensures void { OnOk result (switches.new.switches ≡ voided (ackers_on channel self.old.roster.consumers) switches.old.switches) }
+        requires { places_at (λ _ x. is_on channel x) self.old.subscriptions.consumers ≡ places.now }
+        ensures ok { OnOk result (self.new.subscriptions ≡ after_mark self.old.subscriptions (mark.Discarded channel)) }
+        ensures err { OnErr result (self.new.subscriptions ≡ self.old.subscriptions) }
+        ensures void { OnOk result (switches.new.switches ≡ voided (ackers_on channel self.old.subscriptions.consumers) switches.old.switches) }
         ensures same { OnErr result (switches.new.switches ≡ switches.old.switches) }
     {
         self.jobs.reserve(places.len())?;
@@ -187,7 +187,7 @@ impl Hall {
     }
 
     pub(crate) fn registered(&self, consumer: u64) -> bool
-        ensures { result ≡ is_registered consumer self.now.roster }
+        ensures { result ≡ is_registered consumer self.now.subscriptions }
     {
         match self.place(consumer) {
             Some(place) => self.seats[place].is_registered(),
@@ -196,8 +196,8 @@ impl Hall {
     }
 
     pub(crate) fn poll(&mut self, consumer: u64) -> Result<Option<DeliveryResult>, Error>
-        ensures answer { result ≡ answered (consumer_at consumer self.old.roster) }
-        ensures polled { self.new.roster ≡ after_mark self.old.roster (mark.Polled consumer) }
+        ensures answer { result ≡ answered (consumer_at consumer self.old.subscriptions) }
+        ensures polled { self.new.subscriptions ≡ after_mark self.old.subscriptions (mark.Polled consumer) }
     {
         let Some(place) = self.place(consumer) else {
             return Err(Error::UnknownTicket);
@@ -206,16 +206,16 @@ impl Hall {
     }
 
     pub(crate) fn next_job(&mut self) -> Option<Job>
-        ensures job { result ≡ slice_get self.old.roster.jobs 0 }
-        ensures rest { self.new.roster ≡ after_mark self.old.roster mark.JobAsked }
+        ensures job { result ≡ slice_get self.old.subscriptions.jobs 0 }
+        ensures rest { self.new.subscriptions ≡ after_mark self.old.subscriptions mark.JobAsked }
     {
         self.jobs.pop_front()
     }
 
-    /// Makes room for the next thing that a consumer is handed. The roster stays, also where there is no memory.
+    /// Makes room for the next thing that a consumer is handed. The subscriptions stays, also where there is no memory.
     pub(crate) fn reserve(&mut self, consumer: u64) -> Result<(), NoMemory>
         ensures room { OnOk result (HasRoom consumer self.new) }
-        ensures same { self.new.roster ≡ self.old.roster }
+        ensures same { self.new.subscriptions ≡ self.old.subscriptions }
         ensures succeeds { HasRoom consumer self.old → IsOk result }
     {
         let Some(place) = self.place(consumer) else {
@@ -227,9 +227,9 @@ impl Hall {
 
     /// A delivery is whole: it goes to its consumer, in the room that was made.
     pub(crate) fn deliver(&mut self, consumer: u64, delivery: Delivery)
-        requires registered { is_registered consumer self.old.roster ≡ true }
+        requires registered { is_registered consumer self.old.subscriptions ≡ true }
         requires room { HasRoom consumer self.old }
-        ensures { self.new.roster ≡ after_mark self.old.roster (mark.Completed consumer delivery) }
+        ensures { self.new.subscriptions ≡ after_mark self.old.subscriptions (mark.Completed consumer delivery) }
     {
         let Some(place) = self.place(consumer) else {
             unreachable!()
@@ -244,9 +244,9 @@ impl Hall {
 
     /// A consumer is given a delegate: what is queued becomes jobs, in order.
     pub(crate) fn delegate(&mut self, consumer: u64) -> Result<(), Error>
-        ensures unknown { (result ≡ Err Error.UnknownTicket) ↔ (consumer_at consumer self.old.roster ≡ None) }
-        ensures ok { OnOk result (self.new.roster ≡ after_mark self.old.roster (mark.Delegated consumer)) }
-        ensures err { OnErr result (self.new.roster ≡ self.old.roster) }
+        ensures unknown { (result ≡ Err Error.UnknownTicket) ↔ (consumer_at consumer self.old.subscriptions ≡ None) }
+        ensures ok { OnOk result (self.new.subscriptions ≡ after_mark self.old.subscriptions (mark.Delegated consumer)) }
+        ensures err { OnErr result (self.new.subscriptions ≡ self.old.subscriptions) }
         ensures cause { IfErr result (λ e. (e ≡ Error.UnknownTicket) ⊎ (e ≡ Error.NoMemory)) }
     {
         let Some(place) = self.place(consumer) else {
@@ -262,8 +262,8 @@ impl Hall {
 
     /// A consumer is let go of. Answers whether it has to be cancelled: it is then so.
     pub(crate) fn let_go(&mut self, consumer: u64) -> Result<bool, Error>
-        ensures answer { result ≡ let_go_answer (consumer_at consumer self.old.roster) }
-        ensures change { self.new.roster ≡ after_mark self.old.roster (mark.LetGo consumer) }
+        ensures answer { result ≡ let_go_answer (consumer_at consumer self.old.subscriptions) }
+        ensures change { self.new.subscriptions ≡ after_mark self.old.subscriptions (mark.LetGo consumer) }
     {
         let Some(place) = self.place(consumer) else {
             return Err(Error::UnknownTicket);
@@ -273,7 +273,7 @@ impl Hall {
 
     /// What `let_go` would answer.
     pub(crate) fn would_let_go(&self, consumer: u64) -> Result<bool, Error>
-        ensures { result ≡ let_go_answer (consumer_at consumer self.now.roster) }
+        ensures { result ≡ let_go_answer (consumer_at consumer self.now.subscriptions) }
     {
         match self.place(consumer) {
             Some(place) => Ok(self.seats[place].is_idle()),
@@ -282,7 +282,7 @@ impl Hall {
     }
 
     pub(crate) fn channel(&self, consumer: u64) -> Option<u16>
-        ensures { result ≡ option_map (λ x. x.channel) (consumer_at consumer self.now.roster) }
+        ensures { result ≡ option_map (λ x. x.channel) (consumer_at consumer self.now.subscriptions) }
     {
         match self.place(consumer) {
             Some(place) => Some(self.seats[place].channel()),
@@ -291,7 +291,7 @@ impl Hall {
     }
 
     pub(crate) fn tag(&self, consumer: u64) -> Option<&ShortString>
-        ensures { option_copied result ≡ option_map (λ x. x.tag) (consumer_at consumer self.now.roster) }
+        ensures { option_copied result ≡ option_map (λ x. x.tag) (consumer_at consumer self.now.subscriptions) }
     {
         match self.place(consumer) {
             Some(place) => Some(self.seats[place].tag()),
@@ -300,7 +300,7 @@ impl Hall {
     }
 
     pub(crate) fn queue(&self, consumer: u64) -> Option<&ShortString>
-        ensures { option_copied result ≡ option_map (λ x. x.queue) (consumer_at consumer self.now.roster) }
+        ensures { option_copied result ≡ option_map (λ x. x.queue) (consumer_at consumer self.now.subscriptions) }
     {
         match self.place(consumer) {
             Some(place) => Some(self.seats[place].queue()),
@@ -310,7 +310,7 @@ impl Hall {
 
     /// Whether the consumer at a place has the tag.
     pub(crate) fn has_tag(&self, place: usize, tag: &str) -> bool
-        ensures { result ≡ is_tagged tag.now place self.now.roster.consumers }
+        ensures { result ≡ is_tagged tag.now place self.now.subscriptions.consumers }
     {
         match self.seats.get(place) {
             Some(seat) => seat.has_tag(tag),
@@ -320,7 +320,7 @@ impl Hall {
 
     /// Whether the consumer at a place is registered on the channel under the tag.
     pub(crate) fn is_under(&self, place: usize, channel: u16, tag: &str) -> bool
-        ensures { result ≡ is_under_at channel tag.now place self.now.roster.consumers }
+        ensures { result ≡ is_under_at channel tag.now place self.now.subscriptions.consumers }
     {
         match self.seats.get(place) {
             Some(seat) => seat.is_under(channel, tag),
@@ -342,7 +342,7 @@ impl Hall {
 
     /// The first of the places whose consumer has the tag.
     pub(crate) fn first_tagged(&self, places: &[usize], tag: &str) -> Option<usize>
-        ensures { result ≡ find (λ p. is_tagged tag.now p self.now.roster.consumers) places.now }
+        ensures { result ≡ find (λ p. is_tagged tag.now p self.now.subscriptions.consumers) places.now }
     {
         places
             .iter()

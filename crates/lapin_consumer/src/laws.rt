@@ -1,24 +1,24 @@
-//! Laws of consumers: functions without a body whose contracts say what holds of every history and every roster.
+//! Laws of consumers: functions without a body whose contracts say what holds of every history and every subscriptions.
 
 ghost use Rattle.std.specs.Prelude.{◌≡◌, ℕ, suc, List, [], ◌∷◌, ◌++◌, Some, slice_get};
 ghost use Rattle.lapin_consumer.specs.Marks.{ConsumerMark as AMark};
-ghost use Rattle.lapin_consumer.specs.Roster.{Consumer as AConsumer, Roster as ARoster, empty_roster, after_mark};
+ghost use Rattle.lapin_consumer.specs.Subscriptions.{Consumer as AConsumer, Subscriptions as ASubscriptions, empty_subscriptions, after_mark};
 ghost use Rattle.lapin_consumer.specs.Readings.{items, arrivals, made, log, given, jobs_made, delivered, handed_by};
 ghost use Rattle.lapin_consumer.specs.Follows.{Follows, MayCome};
 
 /// No consumer and no job is what the history without a mark says.
 pub fn nothing_follows()
-    ensures { Follows [] empty_roster }
+    ensures { Follows [] empty_subscriptions }
 {}
 
-/// A roster that is what the marks of a history say is so for one more mark, whichever may come.
+/// A subscriptions that is what the marks of a history say is so for one more mark, whichever may come.
 pub fn machine_follows()
-    ensures { (ms : List AMark) (r : ARoster) (m : AMark) → Follows ms r → MayCome ms m → Follows (ms ++ m ∷ []) (after_mark r m) }
+    ensures { (ms : List AMark) (r : ASubscriptions) (m : AMark) → Follows ms r → MayCome ms m → Follows (ms ++ m ∷ []) (after_mark r m) }
 {}
 
 /// What polls of a consumer gave, in order, and then what is queued, are exactly the items of its log in order.
 pub fn polls_give_items()
-    ensures { (ms : List AMark) (r : ARoster) (p : ℕ) (x : AConsumer) → Follows ms r → slice_get r.consumers p ≡ Some x → items (log (suc p) ms) ≡ given p ms ++ x.items }
+    ensures { (ms : List AMark) (r : ASubscriptions) (p : ℕ) (x : AConsumer) → Follows ms r → slice_get r.consumers p ≡ Some x → items (log (suc p) ms) ≡ given p ms ++ x.items }
 {}
 
 /// What the jobs of a consumer deliver, in the order in which they were made, is what its log has as jobs, in order.

@@ -2,13 +2,13 @@
 
 ghost use Rattle.std.specs.Prelude.{◌≡◌, suc, ◌<◌, ◌≤◌, ◌-◌, ◌+◌, ◌*◌, ◌∷◌, ◌++◌, [], Some, None, IfOk, OnOk, OnErr, IsOk, map, length, true, if◌then◌else◌};
 ghost use Rattle.std.specs.VecDeque.{deque_len, deque_capacity};
-ghost use Rattle.lapin_consumer.specs.Roster.{handed, is_marked, discard as discarded, canceled, finished, last_words, offered, is_on, moved, owed, deliver as delivered, delegated, emptied, canceling, is_idle, polled, poll_of};
+ghost use Rattle.lapin_consumer.specs.Subscriptions.{handed, is_marked, discard as discarded, canceled, finished, last_words, offered, is_on, moved, owed, deliver as delivered, delegated, emptied, canceling, is_idle, polled, poll_of};
 ghost use Rattle.lapin_consumer.specs.Words.{places_at, map_at, gather_at};
 ghost use Rattle.lapin_consumer.specs.Marks as mark;
 ghost use Rattle.lapin_acker.specs.Switches.{voided};
 ghost use Rattle.lapin_consumer.specs.Ackers.{ackers_of, ackers_on};
 ghost use Rattle.lapin_consumer.specs.Indexed.{EndsFit, FitWhere};
-ghost use Rattle.lapin_consumer.specs.Kept.{is_registered_one};
+ghost use Rattle.lapin_consumer.specs.WithRoom.{is_registered_one};
 ghost use Rattle.std.specs.List.{count_by};
 
 use crate::seat::Seat;

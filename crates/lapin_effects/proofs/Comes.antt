@@ -15,37 +15,37 @@ use Rattle.lapin_types.specs.Types.channel_state as state
 use Rattle.lapin_content.specs.declared.start.Start.{Start}
 use Rattle.lapin_content.specs.declared.start.Start.TheVariants as start_
 use Rattle.lapin_content.specs.declared.start.Whole.{Whole}
-use Rattle.lapin_history.specs.declared.marks.Settlement.{Settlement}
-use Rattle.lapin_history.specs.declared.broker_frames.ConsumerPart.{ConsumerPart}
-use Rattle.lapin_history.specs.declared.broker_frames.ConsumerPart.TheVariants as consumer
-use Rattle.lapin_history.specs.declared.broker_frames.ContentPart.{ContentPart}
-use Rattle.lapin_history.specs.declared.broker_frames.ContentPart.TheVariants as part
-use Rattle.lapin_history.specs.declared.broker_frames.Incoming.{Incoming}
-use Rattle.lapin_history.specs.declared.broker_frames.Incoming.TheVariants as incoming
-use Rattle.lapin_history.specs.declared.phases.ChannelPhase.{ChannelPhase}
-use Rattle.lapin_history.specs.declared.phases.ChannelPhase.TheVariants as phase
-use Rattle.lapin_history.specs.declared.phases.ConnectionPhase.{ConnectionPhase}
-use Rattle.lapin_history.specs.declared.phases.ConnectionPhase.TheVariants as link
-use Rattle.lapin_history.specs.declared.phases.Closer.TheVariants as closer
-use Rattle.lapin_history.specs.ConfirmMarks.{ConfirmMark}
-use Rattle.lapin_history.specs.Words.{with_channel, is_some}
-use Rattle.lapin_history.specs.Phases.{is_up, is_lost, is_live, channel_state}
-use Rattle.lapin_history.specs.Frames.{MethodEntry}
-use Rattle.lapin_history.specs.Requests.{first_request}
-use Rattle.lapin_history.specs.Ends.{ends, ends_all, end_with, down, live_channels}
-use Rattle.lapin_history.specs.Readings.{Readings}
-use Rattle.lapin_history.specs.Wire.{Wire, requests_of, state_of, phase_of, is_open, is_opening, noted, lists_of, receives_on}
-use Rattle.lapin_history.specs.Opening.{opens}
-use Rattle.lapin_history.specs.ChannelClose.{closing, close_marks, close_ok_end, after_close_ok, after_channel_close, after_broker_close, receives_close, receives_close_ok, failed_at_close, failed_at_close_ok}
-use Rattle.lapin_history.specs.ConnectionClose.{unless_sent, has_sent, receives_down, after_connection_close}
-use Rattle.lapin_history.specs.Settlement.{settlement_record, session_close}
-use Rattle.lapin_history.specs.Reply.{receives, receives_reply, after_reply}
-use Rattle.lapin_history.specs.Flow.{after_flow}
-use Rattle.lapin_history.specs.Content.{receives_part, start_marks, whole_marks, whole_on}
-use Rattle.lapin_history.specs.Consumers.{receives_consumer}
-use Rattle.lapin_history.specs.Unexpected.{refused, failed_at_unexpected}
-use Rattle.lapin_history.specs.Loss.{after_lost}
-use Rattle.lapin_history.specs.Receiving.{when, incoming_up, incoming_record, incoming_wire, incoming_inbox, after_incoming, incoming_marks}
+use Rattle.lapin_rules.specs.declared.marks.Settlement.{Settlement}
+use Rattle.lapin_rules.specs.declared.broker_frames.ConsumerPart.{ConsumerPart}
+use Rattle.lapin_rules.specs.declared.broker_frames.ConsumerPart.TheVariants as consumer
+use Rattle.lapin_rules.specs.declared.broker_frames.ContentPart.{ContentPart}
+use Rattle.lapin_rules.specs.declared.broker_frames.ContentPart.TheVariants as part
+use Rattle.lapin_rules.specs.declared.broker_frames.Incoming.{Incoming}
+use Rattle.lapin_rules.specs.declared.broker_frames.Incoming.TheVariants as incoming
+use Rattle.lapin_rules.specs.declared.phases.ChannelPhase.{ChannelPhase}
+use Rattle.lapin_rules.specs.declared.phases.ChannelPhase.TheVariants as phase
+use Rattle.lapin_rules.specs.declared.phases.ConnectionPhase.{ConnectionPhase}
+use Rattle.lapin_rules.specs.declared.phases.ConnectionPhase.TheVariants as link
+use Rattle.lapin_rules.specs.declared.phases.Closer.TheVariants as closer
+use Rattle.lapin_rules.specs.ConfirmMarks.{ConfirmMark}
+use Rattle.lapin_rules.specs.Words.{with_channel, is_some}
+use Rattle.lapin_rules.specs.Phases.{is_up, is_lost, is_live, channel_state}
+use Rattle.lapin_rules.specs.Frames.{MethodEntry}
+use Rattle.lapin_rules.specs.Requests.{first_request}
+use Rattle.lapin_rules.specs.Ends.{ends, ends_all, end_with, down, live_channels}
+use Rattle.lapin_rules.specs.Readings.{Readings}
+use Rattle.lapin_rules.specs.Wire.{Wire, requests_of, state_of, phase_of, is_open, is_opening, noted, lists_of, receives_on}
+use Rattle.lapin_rules.specs.Opening.{opens}
+use Rattle.lapin_rules.specs.ChannelClose.{closing, close_marks, close_ok_end, after_close_ok, after_channel_close, after_broker_close, receives_close, receives_close_ok, failed_at_close, failed_at_close_ok}
+use Rattle.lapin_rules.specs.ConnectionClose.{unless_sent, has_sent, receives_down, after_connection_close}
+use Rattle.lapin_rules.specs.Settlement.{settlement_record, session_close}
+use Rattle.lapin_rules.specs.Reply.{receives, receives_reply, after_reply}
+use Rattle.lapin_rules.specs.Flow.{after_flow}
+use Rattle.lapin_rules.specs.Content.{receives_part, start_marks, whole_marks, whole_on}
+use Rattle.lapin_rules.specs.Consumers.{receives_consumer}
+use Rattle.lapin_rules.specs.Unexpected.{refused, failed_at_unexpected}
+use Rattle.lapin_rules.specs.Loss.{after_lost}
+use Rattle.lapin_rules.specs.Receiving.{when, incoming_up, incoming_record, incoming_wire, incoming_deliveries, after_incoming, incoming_marks}
 use Rattle.lapin_effects.specs.Effects.{live, IsFit, IsQuiet, AreQuiet, moves, grows, Same, Effect, Stays, Closes, Ends, Falls, Sinks}
 use Rattle.lapin_effects.proofs.Happens.{phases_kept, but, moved, inboxed, nothing, live_at}
 
@@ -253,7 +253,7 @@ module _ (class number : ℕ) where
   down_receives (link.Closing x was) b incoming.Other e d = nothing b [] refl
 
   pub incoming_happens : (l : ConnectionPhase) (b : Wire) (readings : Readings) (i : Incoming) → b.link ≡ l → Effect b (after_incoming i (incoming_record b readings no i) b) (incoming_marks i (incoming_record b readings no i) b) []
-  incoming_happens l b readings i e = inboxed (incoming_inbox i (incoming_record b readings no i) b) b _ _ _ (subst (Hears b i) (sym is) (elim (is_up l) as (λ t. is_up l ≡ t → Hears b i (cond t (incoming_up b readings no i) (cond (receives_down l i) record_.Received record_.Passed))) [
+  incoming_happens l b readings i e = inboxed (incoming_deliveries i (incoming_record b readings no i) b) b _ _ _ (subst (Hears b i) (sym is) (elim (is_up l) as (λ t. is_up l ≡ t → Hears b i (cond t (incoming_up b readings no i) (cond (receives_down l i) record_.Received record_.Passed))) [
     | true ↦ λ u. up_receives b readings i (e ∙ up_open l u)
     | false ↦ λ u. down_receives l b i e u
   ] refl))

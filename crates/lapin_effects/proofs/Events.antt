@@ -7,22 +7,22 @@ use Rattle.lapin_types.specs.declared.event.Event.{Event}
 use Rattle.lapin_types.specs.declared.event.Event.TheVariants as event
 use Rattle.lapin_types.specs.declared.call.Call.{Call}
 use Rattle.lapin_types.specs.declared.record.Record.{Record}
-use Rattle.lapin_history.specs.declared.calls.Asked.TheVariants as ask
-use Rattle.lapin_history.specs.declared.phases.ConnectionPhase.{ConnectionPhase}
-use Rattle.lapin_history.specs.declared.phases.ConnectionPhase.TheVariants as link
-use Rattle.lapin_history.specs.ConfirmMarks.{ConfirmMark}
-use Rattle.lapin_history.specs.ConfirmMarks as mark
-use Rattle.lapin_history.specs.Calls.{asked, is_try}
-use Rattle.lapin_history.specs.Asking.{is_outstanding, asked_by, asking_inbox, asked_wire, call_told}
-use Rattle.lapin_history.specs.Ackers.{acker_method, usable_at, acked_wire, acker_inbox}
-use Rattle.lapin_history.specs.Incoming.{incoming_of, frame_class, frame_method}
-use Rattle.lapin_history.specs.Consumers.{delegate_inbox, job_inbox, drop_inbox, lets_go_of, cancel_noted, after_let_go, after_drop}
-use Rattle.lapin_history.specs.Loss.{lost_inbox, after_lost}
-use Rattle.lapin_history.specs.Polls.{is_confirmed, is_returned, is_aside, wait_record}
-use Rattle.lapin_history.specs.Readings.{Readings}
-use Rattle.lapin_history.specs.Wire.{Wire, state_of, is_open, queued}
-use Rattle.lapin_consumer.specs.Roster.{Consumer, consumer_at, is_idle}
-use Rattle.lapin_inbox.specs.Marks as inbox
+use Rattle.lapin_rules.specs.declared.calls.Asked.TheVariants as ask
+use Rattle.lapin_rules.specs.declared.phases.ConnectionPhase.{ConnectionPhase}
+use Rattle.lapin_rules.specs.declared.phases.ConnectionPhase.TheVariants as link
+use Rattle.lapin_rules.specs.ConfirmMarks.{ConfirmMark}
+use Rattle.lapin_rules.specs.ConfirmMarks as mark
+use Rattle.lapin_rules.specs.Calls.{asked, is_try}
+use Rattle.lapin_rules.specs.Asking.{is_outstanding, asked_by, asking_deliveries, asked_wire, call_told}
+use Rattle.lapin_rules.specs.Ackers.{acker_method, usable_at, acked_wire, acker_deliveries}
+use Rattle.lapin_rules.specs.Incoming.{incoming_of, frame_class, frame_method}
+use Rattle.lapin_rules.specs.Consumers.{delegate_deliveries, job_deliveries, drop_deliveries, lets_go_of, cancel_noted, after_let_go, after_drop}
+use Rattle.lapin_rules.specs.Loss.{lost_deliveries, after_lost}
+use Rattle.lapin_rules.specs.Polls.{is_confirmed, is_returned, is_aside, wait_record}
+use Rattle.lapin_rules.specs.Readings.{Readings}
+use Rattle.lapin_rules.specs.Wire.{Wire, state_of, is_open, queued}
+use Rattle.lapin_consumer.specs.Subscriptions.{Consumer, consumer_at, is_idle}
+use Rattle.lapin_delivery.specs.Marks as deliveries
 use Rattle.lapin_effects.specs.Effects.{live, moves, Effect, Stays, is_next, HasEffect}
 use Rattle.lapin_effects.proofs.Happens.{phases_kept, inboxed, nothing, open_lives, queue_fit, IsLine, call_line, acker_line, asked_happens}
 use Rattle.lapin_effects.proofs.Comes.{incoming_happens, lost_happens}
@@ -35,7 +35,7 @@ line_by k false = call_line k
 call_event : (c : ℕ) (k : Call) (b : Wire) (readings : Readings) → HasEffect b readings (event.Call c k)
 call_event c k b readings =
     let r : Record = call_told c k b readings in
-    inboxed (asking_inbox c (asked_by k r) b) b (asked_wire c (asked_by k r) b) _ _ (asked_happens c (asked_by k r) b (line_by k (is_try k && is_outstanding r)))
+    inboxed (asking_deliveries c (asked_by k r) b) b (asked_wire c (asked_by k r) b) _ _ (asked_happens c (asked_by k r) b (line_by k (is_try k && is_outstanding r)))
 
 open_up : (c : ℕ) (b : Wire) → is_open (state_of c b) ≡ true → live c b ≡ true
 open_up c b h = by b.link refl
@@ -70,13 +70,13 @@ has_effect b readings (event.Next flow) h = absurd cc
 has_effect b readings (event.Receive f) h = incoming_happens (frame_class f) (frame_method f) b.link b readings (incoming_of f) refl
 has_effect b readings (event.PollTicket n) h = nothing b [] refl
 has_effect b readings (event.PollConfirm n) h = nothing b _ (still_if (is_confirmed (readings.confirm n)) (mark.Taken n) refl)
-has_effect b readings (event.PollConsumer n) h = inboxed (inbox.Polled n ∷ []) b b [] [] (nothing b [] refl)
+has_effect b readings (event.PollConsumer n) h = inboxed (deliveries.Polled n ∷ []) b b [] [] (nothing b [] refl)
 has_effect b readings (event.PollWait c) h = nothing b _ (still_if (is_returned (wait_record c b readings)) (mark.Drained c) refl)
 has_effect b readings (event.AsideTicket n) h = nothing b [] refl
 has_effect b readings (event.AsideConfirm n) h = nothing b _ (still_if (is_aside (readings.confirm_aside n)) (mark.SetAside n) refl)
-has_effect b readings (event.Acker n k) h = inboxed (acker_inbox n k b) b (acked_wire (usable_at n b) k b) [] [] (acked_event (usable_at n b) k b)
-has_effect b readings (event.Delegate n) h = inboxed (delegate_inbox n b) b b [] [] (nothing b [] refl)
-has_effect b readings (event.DropConsumer n) h = inboxed (drop_inbox n b) b (after_drop n b) [] [] (let_go_event (consumer_at n b.inbox.roster) b)
-has_effect b readings event.NextJob h = inboxed (job_inbox b) b b [] [] (nothing b [] refl)
+has_effect b readings (event.Acker n k) h = inboxed (acker_deliveries n k b) b (acked_wire (usable_at n b) k b) [] [] (acked_event (usable_at n b) k b)
+has_effect b readings (event.Delegate n) h = inboxed (delegate_deliveries n b) b b [] [] (nothing b [] refl)
+has_effect b readings (event.DropConsumer n) h = inboxed (drop_deliveries n b) b (after_drop n b) [] [] (let_go_event (consumer_at n b.deliveries.subscriptions) b)
+has_effect b readings event.NextJob h = inboxed (job_deliveries b) b b [] [] (nothing b [] refl)
 has_effect b readings (event.State c) h = nothing b [] refl
-has_effect b readings event.Lost h = inboxed (lost_inbox b) b (after_lost b) _ [] (lost_happens b)
+has_effect b readings event.Lost h = inboxed (lost_deliveries b) b (after_lost b) _ [] (lost_happens b)

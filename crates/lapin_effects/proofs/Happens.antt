@@ -8,27 +8,27 @@ use Rattle.lapin_types.specs.declared.call.Call.{Call}
 use Rattle.lapin_types.specs.declared.call.Call.TheVariants as call
 use Rattle.lapin_types.specs.Types.{ChannelState}
 use Rattle.lapin_types.specs.Types.channel_state as state
-use Rattle.lapin_history.specs.declared.calls.Asked.{Asked}
-use Rattle.lapin_history.specs.declared.calls.Asked.TheVariants as ask
-use Rattle.lapin_history.specs.declared.phases.ChannelPhase.{ChannelPhase}
-use Rattle.lapin_history.specs.declared.phases.ChannelPhase.TheVariants as phase
-use Rattle.lapin_history.specs.declared.phases.ConnectionPhase.{ConnectionPhase}
-use Rattle.lapin_history.specs.declared.phases.ConnectionPhase.TheVariants as link
-use Rattle.lapin_history.specs.declared.phases.Closer.TheVariants as closer
-use Rattle.lapin_history.specs.ConfirmMarks.{ConfirmMark}
-use Rattle.lapin_history.specs.ConfirmMarks as mark
-use Rattle.lapin_history.specs.Words.{with_channel}
-use Rattle.lapin_history.specs.Phases.{is_up, is_live, channel_state, phase_in}
-use Rattle.lapin_history.specs.Frames.{MethodEntry}
-use Rattle.lapin_history.specs.Select.{is_select}
-use Rattle.lapin_history.specs.Wire.{Wire, state_of, phase_of, is_open, is_closed, receives_on, with_inbox}
-use Rattle.lapin_history.specs.Opening.{after_open_call}
-use Rattle.lapin_history.specs.Calls.{asked}
-use Rattle.lapin_history.specs.Ackers.{acker_method}
-use Rattle.lapin_history.specs.ChannelClose.{failed_at_close}
-use Rattle.lapin_history.specs.ConnectionClose.{failed_at_connection_close}
-use Rattle.lapin_history.specs.Asking.{is_allowed, after_call, call_marks, asked_wire, asking_marks}
-use Rattle.lapin_inbox.specs.Marks.{InboxMark}
+use Rattle.lapin_rules.specs.declared.calls.Asked.{Asked}
+use Rattle.lapin_rules.specs.declared.calls.Asked.TheVariants as ask
+use Rattle.lapin_rules.specs.declared.phases.ChannelPhase.{ChannelPhase}
+use Rattle.lapin_rules.specs.declared.phases.ChannelPhase.TheVariants as phase
+use Rattle.lapin_rules.specs.declared.phases.ConnectionPhase.{ConnectionPhase}
+use Rattle.lapin_rules.specs.declared.phases.ConnectionPhase.TheVariants as link
+use Rattle.lapin_rules.specs.declared.phases.Closer.TheVariants as closer
+use Rattle.lapin_rules.specs.ConfirmMarks.{ConfirmMark}
+use Rattle.lapin_rules.specs.ConfirmMarks as mark
+use Rattle.lapin_rules.specs.Words.{with_channel}
+use Rattle.lapin_rules.specs.Phases.{is_up, is_live, channel_state, phase_in}
+use Rattle.lapin_rules.specs.Frames.{MethodEntry}
+use Rattle.lapin_rules.specs.Select.{is_select}
+use Rattle.lapin_rules.specs.Wire.{Wire, state_of, phase_of, is_open, is_closed, receives_on, with_deliveries}
+use Rattle.lapin_rules.specs.Opening.{after_open_call}
+use Rattle.lapin_rules.specs.Calls.{asked}
+use Rattle.lapin_rules.specs.Ackers.{acker_method}
+use Rattle.lapin_rules.specs.ChannelClose.{failed_at_close}
+use Rattle.lapin_rules.specs.ConnectionClose.{failed_at_connection_close}
+use Rattle.lapin_rules.specs.Asking.{is_allowed, after_call, call_marks, asked_wire, asking_marks}
+use Rattle.lapin_delivery.specs.Marks.{DeliveryMark}
 use Rattle.lapin_types.specs.declared.leaving.Publish.{Publish}
 use Rattle.lapin_effects.specs.Effects.{publish_asked, publish_asking, live, hears, is_special, IsFit, moves, Same, SameBut, Effect, Stays, Closes, Opens, Adds, Ends, Falls, Sinks}
 use Rattle.lapin_effects.proofs.Phases.{at-same, at-other}
@@ -85,7 +85,7 @@ moved c p b b' l e m r n alike hs =
     here u z h = rw (l, e) (subst (λ o. receives_on (cond (is_up b.link) (cond (c == 0) state.Base (channel_state (phase_in o))) state.Down) ≡ true) (sym (at-same c p b.phases)) (at (is_up b.link) (c == 0) h))
 
 -- consumers and ackers move nothing else
-pub inboxed : (ms : List InboxMark) (b b' : Wire) (xs : List ConfirmMark) (new : List Publish) → Effect b b' xs new → Effect b (with_inbox ms b') xs new
+pub inboxed : (ms : List DeliveryMark) (b b' : Wire) (xs : List ConfirmMark) (new : List Publish) → Effect b b' xs new → Effect b (with_deliveries ms b') xs new
 inboxed ms b b' xs new (Stays s p es m f i k) = Stays (record { up = s.up; max = s.max; rest = s.rest; lives = s.lives; hear = s.hear; published = s.published }) p es m f i k
 inboxed ms b b' xs new (Closes d e s p m ms' f i k) = Closes d e (record { up = s.up; max = s.max; rest = s.rest; lives = s.lives; hear = s.hear; published = s.published }) p m ms' f i k
 inboxed ms b b' xs new (Opens d t s was now r p m i k) = Opens d t (record { up = s.up; max = s.max; lives = s.lives; hear = s.hear; published = s.published }) was now r p m i k

@@ -1,7 +1,7 @@
 -- A table of channels with one of them set anew.
 use Rattle.std.proofs.Common.{◌≡◌, ◌∙◌, ℕ, ◌==◌, Bool, true, false, cond, List, [], ◌∷◌, ◌++◌, Option, Some, None, refl, sym, ap, eq-eqb}
 use Rattle.std.specs.Option.{is_some, option_map, option_or}
-use Rattle.lapin_history.specs.Words.{with_channel}
+use Rattle.lapin_rules.specs.Words.{with_channel}
 use Rattle.lapin_tables.specs.ByChannel.{at_channel, on_channel}
 use Rattle.lapin_tables.proofs.Channels.{at-push, at-on_same, at-on_other}
 

@@ -10,19 +10,19 @@ use Rattle.lapin_types.specs.Types.{Method, Error}
 use Rattle.lapin_types.specs.Types.method
 use Rattle.lapin_types.specs.Types.basic
 use Rattle.lapin_types.specs.Types.channel
-use Rattle.lapin_history.specs.declared.calls.Asked.{Asked}
-use Rattle.lapin_history.specs.declared.calls.Asked.TheVariants as ask
-use Rattle.lapin_history.specs.Asking.{is_allowed, asked_by}
-use Rattle.lapin_history.specs.ConfirmMarks.{ConfirmMark}
-use Rattle.lapin_history.specs.ConfirmMarks as mark
-use Rattle.lapin_history.specs.Phases.{is_up, is_live}
-use Rattle.lapin_history.specs.Frames.{MethodEntry}
-use Rattle.lapin_history.specs.Drops.{is_off, is_rest_of, publish_channel, method_channel}
-use Rattle.lapin_history.specs.Ends.{ends_all}
-use Rattle.lapin_history.specs.Events.{record_of, after_event, confirm_marks}
-use Rattle.lapin_history.specs.Readings.{Readings}
-use Rattle.lapin_history.specs.Select.{is_select}
-use Rattle.lapin_history.specs.Wire.{Wire, state_of, phase_of, receives_on}
+use Rattle.lapin_rules.specs.declared.calls.Asked.{Asked}
+use Rattle.lapin_rules.specs.declared.calls.Asked.TheVariants as ask
+use Rattle.lapin_rules.specs.Asking.{is_allowed, asked_by}
+use Rattle.lapin_rules.specs.ConfirmMarks.{ConfirmMark}
+use Rattle.lapin_rules.specs.ConfirmMarks as mark
+use Rattle.lapin_rules.specs.Phases.{is_up, is_live}
+use Rattle.lapin_rules.specs.Frames.{MethodEntry}
+use Rattle.lapin_rules.specs.Drops.{is_off, is_rest_of, publish_channel, method_channel}
+use Rattle.lapin_rules.specs.Ends.{ends_all}
+use Rattle.lapin_rules.specs.Events.{record_of, after_event, confirm_marks}
+use Rattle.lapin_rules.specs.Readings.{Readings}
+use Rattle.lapin_rules.specs.Select.{is_select}
+use Rattle.lapin_rules.specs.Wire.{Wire, state_of, phase_of, receives_on}
 
 -- ---- events
 

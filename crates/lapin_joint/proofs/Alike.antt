@@ -5,15 +5,15 @@ use Rattle.lapin_types.specs.declared.event.Event.TheVariants as event
 use Rattle.lapin_types.specs.declared.record.Record.{Record}
 use Rattle.lapin_types.specs.declared.leaving.Left.{Left}
 use Rattle.lapin_types.specs.Types.{Frame}
-use Rattle.lapin_history.specs.Wire.{Wire}
-use Rattle.lapin_history.specs.Handing.{handed}
-use Rattle.lapin_history.specs.History.{History, past, rec}
+use Rattle.lapin_rules.specs.Wire.{Wire}
+use Rattle.lapin_rules.specs.Handing.{handed}
+use Rattle.lapin_rules.specs.History.{History, past, rec}
 use Rattle.lapin_machine.specs.World.{World, told_by, new_world}
 use Rattle.lapin_machine.specs.World as world
 use Rattle.lapin_machine.specs.Stands.{Stands}
 use Rattle.lapin_machine.proofs.Back.{still_none}
 use Rattle.lapin_machine.proofs.Ways.{told_same, stands_on}
-use Rattle.lapin_history.specs.ConfirmReadings.{is_full}
+use Rattle.lapin_rules.specs.ConfirmReadings.{is_full}
 use Rattle.lapin_machine.proofs.Readings.{handed_shown}
 use Rattle.lapin_machine.proofs.Standing.{new_stands}
 use Rattle.lapin_broker.specs.States.{Broker, after_loss}
@@ -25,14 +25,14 @@ use Rattle.lapin_joint.specs.declared.step.Reported.{Reported}
 use Rattle.lapin_joint.specs.declared.step.Reported.TheVariants as reported
 use Rattle.lapin_joint.specs.Joint.{Joint, new_joint, is_lawful, left_alone, handed_by, read_first, deliver_first, after, report, reports, run, joined, joined_to}
 use Rattle.lapin_machine.specs.Way.{by_history, by_machine}
-use Rattle.lapin_joint.specs.Kept.{AreAlike}
+use Rattle.lapin_joint.specs.JoinedRun.{AreAlike}
 
 -- ---- the session
 
 handed_same : (n : ℕ) (h : History) (w : World) (e : Event) → Stands n h w → handed_by by_machine e w ≡ handed_by (by_history n) e h
 handed_same n h w (event.Next flow) s =
     let full : ℕ → Bool = λ c. is_full c (past n h).confirms in
-    ap left_alone (handed_shown flow w.wire (past n h).confirms w.post s.confirms.post ∙ ap (λ (b : Wire). handed flow full b) s.wire)
+    ap left_alone (handed_shown flow w.wire (past n h).confirms w.confirm_state s.confirms.confirm_state ∙ ap (λ (b : Wire). handed flow full b) s.wire)
 handed_same n h w _ s = refl
 
 -- ---- no step gives a frame back

@@ -5,7 +5,7 @@ use Rattle.lapin_types.specs.declared.event.Event.{Event}
 use Rattle.lapin_types.specs.declared.event.Event.TheVariants as event
 use Rattle.lapin_types.specs.declared.leaving.Left.{Left}
 use Rattle.lapin_types.specs.Types.{Frame}
-use Rattle.lapin_history.specs.History.{History}
+use Rattle.lapin_rules.specs.History.{History}
 use Rattle.lapin_machine.specs.World.{World, new_world}
 use Rattle.lapin_machine.specs.World as world
 use Rattle.lapin_machine.specs.Numbers.{HasNumbersFor}
@@ -17,7 +17,7 @@ use Rattle.lapin_joint.specs.declared.step.Step.TheVariants as step
 use Rattle.lapin_joint.specs.declared.step.Reported.{Reported}
 use Rattle.lapin_joint.specs.Joint.{Joint, new_joint, is_lawful, after, report, reports, run, joined, joined_to}
 use Rattle.lapin_machine.specs.Way.{Way, by_history, by_machine}
-use Rattle.lapin_joint.specs.Kept.{Kept, AreAlike, StandsFor, GoesOn}
+use Rattle.lapin_joint.specs.JoinedRun.{JoinedRun, AreAlike, StandsFor, GoesOn}
 use Rattle.lapin_joint.proofs.Alike.{alike-next, unreturned-next, new_alike}
 
 -- ---- lists of steps
@@ -32,15 +32,15 @@ reports-push m [] s j = refl
 reports-push m (t ∷ ss) s j = ap (λ rs. report m t j ∷ rs) (reports-push m ss s (after m t j))
 
 -- what a step told and left, where the run isn't stopped
-abbrev Made : Step → Reported → Kept → Kept → Type 0
+abbrev Made : Step → Reported → JoinedRun → JoinedRun → Type 0
 Made s r old new = (r ≡ report by_machine s old.joint) × (new ≡ record { joint = after by_machine s old.joint; steps = old.steps + 1; stopped = false })
 
-stands_after : (n : ℕ) (ss : List Step) (s : Step) (r : Reported) (old new : Kept) → old.stopped ≡ false → old.joint.session.returned ≡ None → r ≡ report by_machine s old.joint → new ≡ record { joint = after by_machine s old.joint; steps = old.steps + 1; stopped = false } → StandsFor n ss old → (joined n (ss ++ s ∷ []) ≡ joined n ss ++ r ∷ []) × StandsFor n (ss ++ s ∷ []) new
+stands_after : (n : ℕ) (ss : List Step) (s : Step) (r : Reported) (old new : JoinedRun) → old.stopped ≡ false → old.joint.session.returned ≡ None → r ≡ report by_machine s old.joint → new ≡ record { joint = after by_machine s old.joint; steps = old.steps + 1; stopped = false } → StandsFor n ss old → (joined n (ss ++ s ∷ []) ≡ joined n ss ++ r ∷ []) × StandsFor n (ss ++ s ∷ []) new
 stands_after n ss s r old new running none told is stands =
     let one = alike-next n s (joined_to n ss) old.joint none (stands.alike running) in
     let long : length (ss ++ s ∷ []) ≡ length ss + length (s ∷ []) = length-append ss (s ∷ []) in
-    let count : new.steps ≡ old.steps + 1 = ap (λ (k : Kept). k.steps) is in
-    let there : after by_machine s old.joint ≡ new.joint = sym (ap (λ (k : Kept). k.joint) is) in
+    let count : new.steps ≡ old.steps + 1 = ap (λ (k : JoinedRun). k.steps) is in
+    let there : after by_machine s old.joint ≡ new.joint = sym (ap (λ (k : JoinedRun). k.joint) is) in
     let here : after (by_history n) s (joined_to n ss) ≡ joined_to n (ss ++ s ∷ []) = sym (run-push (by_history n) ss s (new_joint [] n)) in
     let first : AreAlike n (joined_to n (ss ++ s ∷ [])) (after by_machine s old.joint) = subst (λ (j : Joint History). AreAlike n j (after by_machine s old.joint)) here one.1 in (
       reports-push (by_history n) ss s (new_joint [] n) ∙ ap (λ (x : Reported). joined n ss ++ x ∷ []) (sym one.0 ∙ sym told),
@@ -50,25 +50,25 @@ stands_after n ss s r old new running none told is stands =
       },
     )
 
-pub stands-next : {E : Type 0} (res : Result Reported E) (s : Step) (old new : Kept) → IfOk res (λ r. r ≡ report by_machine s old.joint) → OnOk res (new ≡ record { joint = after by_machine s old.joint; steps = old.steps + 1; stopped = false }) → OnOk res (old.stopped ≡ false) → OnOk res (old.joint.session.returned ≡ None) → IfOk res (λ r. (n : ℕ) (ss : List Step) → StandsFor n ss old → (joined n (ss ++ s ∷ []) ≡ joined n ss ++ r ∷ []) × StandsFor n (ss ++ s ∷ []) new)
+pub stands-next : {E : Type 0} (res : Result Reported E) (s : Step) (old new : JoinedRun) → IfOk res (λ r. r ≡ report by_machine s old.joint) → OnOk res (new ≡ record { joint = after by_machine s old.joint; steps = old.steps + 1; stopped = false }) → OnOk res (old.stopped ≡ false) → OnOk res (old.joint.session.returned ≡ None) → IfOk res (λ r. (n : ℕ) (ss : List Step) → StandsFor n ss old → (joined n (ss ++ s ∷ []) ≡ joined n ss ++ r ∷ []) × StandsFor n (ss ++ s ∷ []) new)
 stands-next (Ok r) s old new told is running none = λ n ss stands. stands_after n ss s r old new running none told is stands
 stands-next (Err e) s old new told is running none = tt
 
 -- a run that stopped has its steps alone
-stands_stopped : (n : ℕ) (ss : List Step) (old new : Kept) → new.stopped ≡ true → new.steps ≡ old.steps → StandsFor n ss old → StandsFor n ss new
+stands_stopped : (n : ℕ) (ss : List Step) (old new : JoinedRun) → new.stopped ≡ true → new.steps ≡ old.steps → StandsFor n ss old → StandsFor n ss new
 stands_stopped n ss old new stopped steps stands = record {
   count = steps ∙ stands.count;
   alike = λ running. absurd cc;
 }
 
-pub stays : {E : Type 0} (res : Result Reported E) (old new : Kept) → OnErr res ((new.stopped ≡ true) × (new.steps ≡ old.steps)) → OnErr res ((n : ℕ) (ss : List Step) → StandsFor n ss old → StandsFor n ss new)
+pub stays : {E : Type 0} (res : Result Reported E) (old new : JoinedRun) → OnErr res ((new.stopped ≡ true) × (new.steps ≡ old.steps)) → OnErr res ((n : ℕ) (ss : List Step) → StandsFor n ss old → StandsFor n ss new)
 stays (Ok r) old new h = tt
 stays (Err e) old new h = λ n ss stands. stands_stopped n ss old new h.0 h.1 stands
 
-pub new_stands : (n : ℕ) (k : Kept) → k ≡ record { joint = new_joint (new_world n) n; steps = 0; stopped = false } → StandsFor n [] k
+pub new_stands : (n : ℕ) (k : JoinedRun) → k ≡ record { joint = new_joint (new_world n) n; steps = 0; stopped = false } → StandsFor n [] k
 new_stands n k is =
     let first : StandsFor n [] (record { joint = new_joint (new_world n) n; steps = 0; stopped = false }) = record { count = refl; alike = λ _. new_alike n } in
-    subst (λ (x : Kept). StandsFor n [] x) (sym is) first
+    subst (λ (x : JoinedRun). StandsFor n [] x) (sym is) first
 
 -- ---- numbers
 

@@ -10,7 +10,7 @@ use Rattle.lapin_machine.specs.Codes.{world_code}
 use Rattle.lapin_broker.specs.States.{Broker}
 use Rattle.lapin_broker.specs.contracts.broker.Broker as broker_row
 use Rattle.lapin_joint.specs.Joint.{Joint}
-use Rattle.lapin_joint.specs.Kept.{Kept}
+use Rattle.lapin_joint.specs.JoinedRun.{JoinedRun}
 
 -- a joined run of the machine, stored as its session, its broker, its link up and its link down
 abbrev pub joint_code : Coded (Joint World)
@@ -23,7 +23,7 @@ joint_code =
     (λ _. refl)
 
 -- a joined run as contracts see it, stored as its parts, its count of steps and whether it stopped
-abbrev pub kept_code : Coded Kept
+abbrev pub kept_code : Coded JoinedRun
 kept_code =
     code_by
     (Joint World × (ℕ × Bool))

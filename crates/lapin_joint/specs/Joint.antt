@@ -6,8 +6,8 @@ use Rattle.lapin_types.specs.declared.event.Event.{Event}
 use Rattle.lapin_types.specs.declared.event.Event.TheVariants as event
 use Rattle.lapin_types.specs.declared.leaving.Left.{Left}
 use Rattle.lapin_types.specs.Types.{Frame}
-use Rattle.lapin_history.specs.Handing.{handed}
-use Rattle.lapin_history.specs.History.{History}
+use Rattle.lapin_rules.specs.Handing.{handed}
+use Rattle.lapin_rules.specs.History.{History}
 use Rattle.lapin_machine.specs.Way.{Way, by_history}
 use Rattle.lapin_broker.specs.States.{Broker, new_broker, after_loss}
 use Rattle.lapin_broker.specs.Reads.{read}

@@ -1,4 +1,4 @@
 pub mod Codes
 pub mod Joint
-pub mod Kept
+pub mod JoinedRun
 pub mod Order

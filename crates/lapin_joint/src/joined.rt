@@ -7,7 +7,7 @@ ghost use Rattle.lapin_joint.specs.declared.step.Step.{Step as AStep};
 ghost use Rattle.std.specs.Option.{option_copied};
 ghost use Rattle.lapin_joint.specs.Joint.{new_joint, report, after, joined, front_frame};
 ghost use Rattle.lapin_machine.specs.Way.{by_machine};
-ghost use Rattle.lapin_joint.specs.Kept.{StandsFor};
+ghost use Rattle.lapin_joint.specs.JoinedRun.{StandsFor};
 
 use crate::links::Links;
 use crate::step::{Reported, Step};
@@ -36,10 +36,10 @@ impl Drop for Joined {
 }
 
 impl Model for Joined {
-    ghost use Rattle.lapin_joint.specs.Kept.{Kept, IsKept};
+    ghost use Rattle.lapin_joint.specs.JoinedRun.{JoinedRun, IsKept};
     ghost use Rattle.lapin_joint.specs.Codes.{kept_code};
 
-    ghost Value = { Kept };
+    ghost Value = { JoinedRun };
 
     ghost coded = { kept_code };
 

@@ -5,16 +5,16 @@ use Rattle.std.specs.List.{filter}
 use Rattle.std.specs.Option.{option_map}
 use Rattle.lapin_tables.specs.ByChannel.{at_channel, on_channel}
 use Rattle.lapin_types.specs.declared.leaving.Publish.{Publish}
-use Rattle.lapin_history.specs.declared.phases.ChannelPhase.{ChannelPhase}
-use Rattle.lapin_history.specs.declared.phases.ChannelPhase.TheVariants as phase
-use Rattle.lapin_history.specs.declared.phases.ConnectionPhase.{ConnectionPhase}
-use Rattle.lapin_history.specs.Words.{with_channel}
-use Rattle.lapin_history.specs.Phases.{is_up, is_live, phase_in}
-use Rattle.lapin_history.specs.ChannelClose.{close_sent}
-use Rattle.lapin_history.specs.Frames.{RestEntry}
-use Rattle.lapin_history.specs.Drops.{frame_channel, is_off, is_rest_of, publish_channel}
+use Rattle.lapin_rules.specs.declared.phases.ChannelPhase.{ChannelPhase}
+use Rattle.lapin_rules.specs.declared.phases.ChannelPhase.TheVariants as phase
+use Rattle.lapin_rules.specs.declared.phases.ConnectionPhase.{ConnectionPhase}
+use Rattle.lapin_rules.specs.Words.{with_channel}
+use Rattle.lapin_rules.specs.Phases.{is_up, is_live, phase_in}
+use Rattle.lapin_rules.specs.ChannelClose.{close_sent}
+use Rattle.lapin_rules.specs.Frames.{RestEntry}
+use Rattle.lapin_rules.specs.Drops.{frame_channel, is_off, is_rest_of, publish_channel}
 use Rattle.lapin_laws.specs.Unbroken.{is_method}
-use Rattle.lapin_history.proofs.ChannelLaws.{at-on, at-with}
+use Rattle.lapin_rules.proofs.ChannelLaws.{at-on, at-with}
 
 abbrev pub live_at : ℕ → List (ℕ × ChannelPhase) → Bool
 live_at c ps = is_live (phase_in (at_channel c ps))

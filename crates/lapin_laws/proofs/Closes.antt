@@ -9,15 +9,15 @@ use Rattle.lapin_types.specs.Types.channel_state as state
 use Rattle.lapin_types.specs.Types.frame
 use Rattle.lapin_types.specs.Types.method
 use Rattle.lapin_types.specs.Types.channel
-use Rattle.lapin_history.specs.declared.phases.ChannelPhase.{ChannelPhase}
-use Rattle.lapin_history.specs.declared.phases.ChannelPhase.TheVariants as phase
-use Rattle.lapin_history.specs.Words.{with_channel}
-use Rattle.lapin_history.specs.Phases.{phase_in, channel_state}
-use Rattle.lapin_history.specs.ChannelClose.{close_sent, after_broker_close, phases_sent}
-use Rattle.lapin_history.specs.Frames.{MethodEntry}
-use Rattle.lapin_history.specs.Drops.{is_off, method_channel}
-use Rattle.lapin_history.specs.Wire.{is_closed, is_open, is_opening}
-use Rattle.lapin_history.proofs.ChannelLaws.{at-on, at-with}
+use Rattle.lapin_rules.specs.declared.phases.ChannelPhase.{ChannelPhase}
+use Rattle.lapin_rules.specs.declared.phases.ChannelPhase.TheVariants as phase
+use Rattle.lapin_rules.specs.Words.{with_channel}
+use Rattle.lapin_rules.specs.Phases.{phase_in, channel_state}
+use Rattle.lapin_rules.specs.ChannelClose.{close_sent, after_broker_close, phases_sent}
+use Rattle.lapin_rules.specs.Frames.{MethodEntry}
+use Rattle.lapin_rules.specs.Drops.{is_off, method_channel}
+use Rattle.lapin_rules.specs.Wire.{is_closed, is_open, is_opening}
+use Rattle.lapin_rules.proofs.ChannelLaws.{at-on, at-with}
 use Rattle.lapin_laws.specs.Closes.{is_channel_close, is_close_of, closes_of, is_unsent}
 
 abbrev pub unsent_at : ℕ → List (ℕ × ChannelPhase) → Bool

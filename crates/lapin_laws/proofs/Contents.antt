@@ -22,47 +22,47 @@ use Rattle.lapin_content.specs.Marks.{ContentMark}
 use Rattle.lapin_content.specs.Marks as content
 use Rattle.lapin_content.specs.declared.start.Start.{Start}
 use Rattle.lapin_content.proofs.Following.{follows-push}
-use Rattle.lapin_consumer.specs.Roster.{Consumer, consumer_at, found}
-use Rattle.lapin_inbox.specs.Marks.{InboxMark}
-use Rattle.lapin_inbox.specs.Marks as inbox
-use Rattle.lapin_history.specs.declared.calls.Asked.{Asked}
-use Rattle.lapin_history.specs.declared.calls.Asked.TheVariants as ask
-use Rattle.lapin_history.specs.declared.marks.Settlement.{Settlement}
-use Rattle.lapin_history.specs.declared.phases.ChannelPhase.{ChannelPhase}
-use Rattle.lapin_history.specs.declared.phases.ChannelPhase.TheVariants as phase
-use Rattle.lapin_history.specs.declared.phases.ConnectionPhase.{ConnectionPhase}
-use Rattle.lapin_history.specs.declared.phases.ConnectionPhase.TheVariants as link
-use Rattle.lapin_history.specs.declared.phases.Closer.TheVariants as closer
-use Rattle.lapin_history.specs.declared.broker_frames.ContentPart.{ContentPart}
-use Rattle.lapin_history.specs.declared.broker_frames.ContentPart.TheVariants as part
-use Rattle.lapin_history.specs.declared.broker_frames.Incoming.{Incoming}
-use Rattle.lapin_history.specs.declared.broker_frames.Incoming.TheVariants as incoming
-use Rattle.lapin_history.specs.Words.{with_channel}
-use Rattle.lapin_history.specs.Incoming.{incoming_of, frame_class, frame_method}
-use Rattle.lapin_history.specs.Phases.{is_up, is_lost, is_live}
-use Rattle.lapin_history.specs.Readings.{Readings}
-use Rattle.lapin_history.specs.Opening.{opens}
-use Rattle.lapin_history.specs.Polls.{is_confirmed, is_returned, is_aside, wait_record}
-use Rattle.lapin_history.specs.Select.{is_select}
-use Rattle.lapin_history.specs.Ends.{live_channels, ends_all, end_with, down}
-use Rattle.lapin_history.specs.Wire.{Wire, state_of, phase_of, is_open, receives_on, noted, queued, with_inbox}
-use Rattle.lapin_history.specs.Content.{content_class, get_ticket, receives_part, after_part, whole_on}
-use Rattle.lapin_history.specs.ChannelClose.{after_broker_close, close_marks, close_ok_end, closing, after_close_ok, receives_close, receives_close_ok, phases_sent}
-use Rattle.lapin_history.specs.ConnectionClose.{link_sent, receives_down, after_connection_close}
-use Rattle.lapin_history.specs.Settlement.{settlement_record, session_close}
-use Rattle.lapin_history.specs.Flow.{after_flow}
-use Rattle.lapin_history.specs.Loss.{after_lost, lost_inbox}
-use Rattle.lapin_history.specs.Reply.{receives, receives_reply}
-use Rattle.lapin_history.specs.Unexpected.{refused}
-use Rattle.lapin_history.specs.Asking.{is_allowed, asked_by, after_call, call_marks, asking_marks, asked_wire, asking_inbox}
-use Rattle.lapin_history.specs.Handing.{sent, handed_as}
-use Rattle.lapin_history.specs.Receiving.{when, incoming_up, incoming_record, incoming_marks, incoming_wire, incoming_inbox}
-use Rattle.lapin_history.specs.Events.{record_of, after_event}
-use Rattle.lapin_history.specs.History.{History, Past, longer, past, rec, run_from, run, readings_of}
-use Rattle.lapin_history.specs.declared.broker_frames.ConsumerPart.{ConsumerPart}
-use Rattle.lapin_history.specs.declared.broker_frames.ConsumerPart.TheVariants as consumer
-use Rattle.lapin_history.specs.Ackers.{acker_method, usable_at, acked_wire, acker_inbox}
-use Rattle.lapin_history.specs.Consumers.{receives_consumer, lets_go_of, cancel_noted, after_let_go, after_drop, drop_inbox, delegate_inbox, job_inbox}
+use Rattle.lapin_consumer.specs.Subscriptions.{Consumer, consumer_at, found}
+use Rattle.lapin_delivery.specs.Marks.{DeliveryMark}
+use Rattle.lapin_delivery.specs.Marks as deliveries
+use Rattle.lapin_rules.specs.declared.calls.Asked.{Asked}
+use Rattle.lapin_rules.specs.declared.calls.Asked.TheVariants as ask
+use Rattle.lapin_rules.specs.declared.marks.Settlement.{Settlement}
+use Rattle.lapin_rules.specs.declared.phases.ChannelPhase.{ChannelPhase}
+use Rattle.lapin_rules.specs.declared.phases.ChannelPhase.TheVariants as phase
+use Rattle.lapin_rules.specs.declared.phases.ConnectionPhase.{ConnectionPhase}
+use Rattle.lapin_rules.specs.declared.phases.ConnectionPhase.TheVariants as link
+use Rattle.lapin_rules.specs.declared.phases.Closer.TheVariants as closer
+use Rattle.lapin_rules.specs.declared.broker_frames.ContentPart.{ContentPart}
+use Rattle.lapin_rules.specs.declared.broker_frames.ContentPart.TheVariants as part
+use Rattle.lapin_rules.specs.declared.broker_frames.Incoming.{Incoming}
+use Rattle.lapin_rules.specs.declared.broker_frames.Incoming.TheVariants as incoming
+use Rattle.lapin_rules.specs.Words.{with_channel}
+use Rattle.lapin_rules.specs.Incoming.{incoming_of, frame_class, frame_method}
+use Rattle.lapin_rules.specs.Phases.{is_up, is_lost, is_live}
+use Rattle.lapin_rules.specs.Readings.{Readings}
+use Rattle.lapin_rules.specs.Opening.{opens}
+use Rattle.lapin_rules.specs.Polls.{is_confirmed, is_returned, is_aside, wait_record}
+use Rattle.lapin_rules.specs.Select.{is_select}
+use Rattle.lapin_rules.specs.Ends.{live_channels, ends_all, end_with, down}
+use Rattle.lapin_rules.specs.Wire.{Wire, state_of, phase_of, is_open, receives_on, noted, queued, with_deliveries}
+use Rattle.lapin_rules.specs.Content.{content_class, get_ticket, receives_part, after_part, whole_on}
+use Rattle.lapin_rules.specs.ChannelClose.{after_broker_close, close_marks, close_ok_end, closing, after_close_ok, receives_close, receives_close_ok, phases_sent}
+use Rattle.lapin_rules.specs.ConnectionClose.{link_sent, receives_down, after_connection_close}
+use Rattle.lapin_rules.specs.Settlement.{settlement_record, session_close}
+use Rattle.lapin_rules.specs.Flow.{after_flow}
+use Rattle.lapin_rules.specs.Loss.{after_lost, lost_deliveries}
+use Rattle.lapin_rules.specs.Reply.{receives, receives_reply}
+use Rattle.lapin_rules.specs.Unexpected.{refused}
+use Rattle.lapin_rules.specs.Asking.{is_allowed, asked_by, after_call, call_marks, asking_marks, asked_wire, asking_deliveries}
+use Rattle.lapin_rules.specs.Handing.{sent, handed_as}
+use Rattle.lapin_rules.specs.Receiving.{when, incoming_up, incoming_record, incoming_marks, incoming_wire, incoming_deliveries}
+use Rattle.lapin_rules.specs.Events.{record_of, after_event}
+use Rattle.lapin_rules.specs.History.{History, Past, longer, past, rec, run_from, run, readings_of}
+use Rattle.lapin_rules.specs.declared.broker_frames.ConsumerPart.{ConsumerPart}
+use Rattle.lapin_rules.specs.declared.broker_frames.ConsumerPart.TheVariants as consumer
+use Rattle.lapin_rules.specs.Ackers.{acker_method, usable_at, acked_wire, acker_deliveries}
+use Rattle.lapin_rules.specs.Consumers.{receives_consumer, lets_go_of, cancel_noted, after_let_go, after_drop, drop_deliveries, delegate_deliveries, job_deliveries}
 use Rattle.lapin_machine.specs.Stands.{IsShut}
 use Rattle.lapin_machine.specs.Tied.{is_live_on}
 use Rattle.lapin_machine.proofs.Openings.{heard_opening, reply_opening, crossed_over}
@@ -133,7 +133,7 @@ abbrev Moved : Wire → Wire → List ℕ → List ContentMark → Type 0
 Moved b b' cs new = (ms : List ContentMark) → Expects b ms → Expects b' (ms ++ (map content.Dropped cs ++ new))
 
 -- consumers and ackers have no part in it
-inboxed : (ns : List InboxMark) (b : Wire) (ms : List ContentMark) → Expects b ms → Expects (with_inbox ns b) ms
+inboxed : (ns : List DeliveryMark) (b : Wire) (ms : List ContentMark) → Expects b ms → Expects (with_deliveries ns b) ms
 inboxed ns b ms x = record { follows = x.follows; quiet = x.quiet }
 
 -- contents stay
@@ -254,7 +254,7 @@ part_moved c (part.Return s) b h =
     one b _ (content.Awaited c content_class s) refl (λ q. quiet_here c b.link b.phases b.contents _ here.live (λ d n. joined-away c d (expected content_class s) b.contents (at_channel c b.contents) n) q)
 part_moved c (part.Deliver tag s) b h =
     let here = heard_opening b.link c b.phases h in
-    let t : Start = for_consumer (found c tag b.inbox.roster) s in
+    let t : Start = for_consumer (found c tag b.deliveries.subscriptions) s in
     one b _ (content.Awaited c content_class t) refl (λ q. quiet_here c b.link b.phases b.contents _ here.live (λ d n. joined-away c d (expected content_class t) b.contents (at_channel c b.contents) n) q)
 part_moved c (part.Header x) b h =
     let here = heard_opening b.link c b.phases (both (receives_on (state_of c b)) _ h) in
@@ -381,26 +381,26 @@ quietly b cs none = subst (λ ds. Moved b b ds []) (sym none) (stays b b refl (�
 event_moved : (b : Wire) (readings : Readings) (e : Event) (ms : List ContentMark) → IsShut b → Expects b ms → Expects (after_event b e (record_of b readings e)) (ms ++ content_marks b e (record_of b readings e))
 event_moved b readings (event.Call c k) ms shut x =
     let a : Asked = asked_by k (record_of b readings (event.Call c k)) in
-    inboxed (asking_inbox c a b) (asked_wire c a b) _ (asked_moved c a b ms x)
+    inboxed (asking_deliveries c a b) (asked_wire c a b) _ (asked_moved c a b ms x)
 event_moved b readings (event.Next flow) ms shut x =
     let r : Record = record_of b readings (event.Next flow) in
     subst (λ cs. Moved b (after_event b (event.Next flow) r) cs []) (sym (left_quiet (handed_as r b))) (λ xs y. sent_moved (handed_as r b) _ xs (record { follows = y.follows; quiet = y.quiet })) ms x
 event_moved b readings (event.Receive f) ms shut x =
     let i : Incoming = incoming_of f in
     let r : Record = incoming_record b readings (refused (frame_class f) (frame_method f)) i in
-    inboxed (incoming_inbox i r b) (incoming_wire i r b) _ (incoming_moved (frame_class f) (frame_method f) b.link b readings i refl shut ms x)
+    inboxed (incoming_deliveries i r b) (incoming_wire i r b) _ (incoming_moved (frame_class f) (frame_method f) b.link b readings i refl shut ms x)
 event_moved b readings (event.PollTicket n) ms shut x = stays b b refl (λ q. q) ms x
 event_moved b readings (event.PollConfirm n) ms shut x = quietly b _ (taken_quiet (is_confirmed (readings.confirm n)) n) ms x
 event_moved b readings (event.PollWait c) ms shut x = quietly b _ (drained_quiet (is_returned (wait_record c b readings)) c) ms x
 event_moved b readings (event.AsideTicket n) ms shut x = stays b b refl (λ q. q) ms x
 event_moved b readings (event.AsideConfirm n) ms shut x = quietly b _ (laid_quiet (is_aside (readings.confirm_aside n)) n) ms x
-event_moved b readings (event.PollConsumer n) ms shut x = inboxed (inbox.Polled n ∷ []) b _ (stays b b refl (λ q. q) ms x)
-event_moved b readings (event.Acker n k) ms shut x = inboxed (acker_inbox n k b) (acked_wire (usable_at n b) k b) _ (acked_moved (usable_at n b) k b ms x)
-event_moved b readings (event.Delegate n) ms shut x = inboxed (delegate_inbox n b) b _ (stays b b refl (λ q. q) ms x)
-event_moved b readings (event.DropConsumer n) ms shut x = inboxed (drop_inbox n b) (after_drop n b) _ (dropped_moved (consumer_at n b.inbox.roster) b ms x)
-event_moved b readings event.NextJob ms shut x = inboxed (job_inbox b) b _ (stays b b refl (λ q. q) ms x)
+event_moved b readings (event.PollConsumer n) ms shut x = inboxed (deliveries.Polled n ∷ []) b _ (stays b b refl (λ q. q) ms x)
+event_moved b readings (event.Acker n k) ms shut x = inboxed (acker_deliveries n k b) (acked_wire (usable_at n b) k b) _ (acked_moved (usable_at n b) k b ms x)
+event_moved b readings (event.Delegate n) ms shut x = inboxed (delegate_deliveries n b) b _ (stays b b refl (λ q. q) ms x)
+event_moved b readings (event.DropConsumer n) ms shut x = inboxed (drop_deliveries n b) (after_drop n b) _ (dropped_moved (consumer_at n b.deliveries.subscriptions) b ms x)
+event_moved b readings event.NextJob ms shut x = inboxed (job_deliveries b) b _ (stays b b refl (λ q. q) ms x)
 event_moved b readings (event.State c) ms shut x = stays b b refl (λ q. q) ms x
-event_moved b readings event.Lost ms shut x = inboxed (lost_inbox b) (after_lost b) _ (lost_moved b shut ms x)
+event_moved b readings event.Lost ms shut x = inboxed (lost_deliveries b) (after_lost b) _ (lost_moved b shut ms x)
 
 -- ---- every list of events
 

@@ -8,12 +8,12 @@ use Rattle.std.proofs.Math.Bool.{or-true}
 use Rattle.lapin_tables.specs.ByChannel.{at_channel}
 use Rattle.lapin_types.specs.Types.{Frame, Error}
 use Rattle.lapin_types.specs.declared.leaving.Publish.{Publish}
-use Rattle.lapin_history.specs.declared.phases.ChannelPhase.{ChannelPhase}
-use Rattle.lapin_history.specs.Phases.{is_live, phase_in}
-use Rattle.lapin_history.specs.Frames.{RestEntry}
-use Rattle.lapin_history.specs.Drops.{frame_channel, is_rest_of}
-use Rattle.lapin_history.specs.Ends.{beyond, live_below, live_channels, ends}
-use Rattle.lapin_history.proofs.EndLaws.{beyond-none}
+use Rattle.lapin_rules.specs.declared.phases.ChannelPhase.{ChannelPhase}
+use Rattle.lapin_rules.specs.Phases.{is_live, phase_in}
+use Rattle.lapin_rules.specs.Frames.{RestEntry}
+use Rattle.lapin_rules.specs.Drops.{frame_channel, is_rest_of}
+use Rattle.lapin_rules.specs.Ends.{beyond, live_below, live_channels, ends}
+use Rattle.lapin_rules.proofs.EndLaws.{beyond-none}
 use Rattle.lapin_laws.specs.Outgoing.{Point, Called, Ended, ended_in, is_channel}
 use Rattle.lapin_laws.specs.Unbroken.{Parses, unless_on}
 use Rattle.lapin_laws.proofs.Alive.{live_at}

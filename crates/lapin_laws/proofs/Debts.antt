@@ -28,46 +28,46 @@ use Rattle.lapin_types.specs.Types.method
 use Rattle.lapin_types.specs.Types.channel
 use Rattle.lapin_types.specs.declared.acker_call.AckerCall.{AckerCall}
 use Rattle.lapin_types.specs.declared.request.Request.{Request}
-use Rattle.lapin_history.specs.declared.marks.AtLeaving.{AtLeaving}
-use Rattle.lapin_history.specs.declared.marks.AtLeaving.TheVariants as leaving
-use Rattle.lapin_history.specs.declared.calls.Asked.{Asked}
-use Rattle.lapin_history.specs.declared.phases.ChannelPhase.{ChannelPhase}
-use Rattle.lapin_history.specs.declared.phases.ChannelPhase.TheVariants as phase
-use Rattle.lapin_history.specs.declared.phases.ConnectionPhase.{ConnectionPhase}
-use Rattle.lapin_history.specs.declared.phases.ConnectionPhase.TheVariants as link
-use Rattle.lapin_history.specs.declared.phases.Closer.TheVariants as closer
-use Rattle.lapin_history.specs.declared.broker_frames.Incoming.{Incoming}
-use Rattle.lapin_history.specs.declared.broker_frames.Incoming.TheVariants as incoming
-use Rattle.lapin_history.specs.TicketReadings.{TicketMark, answer_at}
-use Rattle.lapin_history.specs.TicketReadings as ticket
-use Rattle.lapin_history.specs.Words.{with_channel, is_some}
-use Rattle.lapin_history.specs.Phases.{is_lost}
-use Rattle.lapin_history.specs.Calls.{awaited_by, made_by, leaving_by}
-use Rattle.lapin_history.specs.Incoming.{incoming_of, frame_class, frame_method}
-use Rattle.lapin_history.specs.declared.broker_frames.ContentPart.{ContentPart}
-use Rattle.lapin_history.specs.declared.broker_frames.ContentPart.TheVariants as part
+use Rattle.lapin_rules.specs.declared.marks.AtLeaving.{AtLeaving}
+use Rattle.lapin_rules.specs.declared.marks.AtLeaving.TheVariants as leaving
+use Rattle.lapin_rules.specs.declared.calls.Asked.{Asked}
+use Rattle.lapin_rules.specs.declared.phases.ChannelPhase.{ChannelPhase}
+use Rattle.lapin_rules.specs.declared.phases.ChannelPhase.TheVariants as phase
+use Rattle.lapin_rules.specs.declared.phases.ConnectionPhase.{ConnectionPhase}
+use Rattle.lapin_rules.specs.declared.phases.ConnectionPhase.TheVariants as link
+use Rattle.lapin_rules.specs.declared.phases.Closer.TheVariants as closer
+use Rattle.lapin_rules.specs.declared.broker_frames.Incoming.{Incoming}
+use Rattle.lapin_rules.specs.declared.broker_frames.Incoming.TheVariants as incoming
+use Rattle.lapin_rules.specs.TicketReadings.{TicketMark, answer_at}
+use Rattle.lapin_rules.specs.TicketReadings as ticket
+use Rattle.lapin_rules.specs.Words.{with_channel, is_some}
+use Rattle.lapin_rules.specs.Phases.{is_lost}
+use Rattle.lapin_rules.specs.Calls.{awaited_by, made_by, leaving_by}
+use Rattle.lapin_rules.specs.Incoming.{incoming_of, frame_class, frame_method}
+use Rattle.lapin_rules.specs.declared.broker_frames.ContentPart.{ContentPart}
+use Rattle.lapin_rules.specs.declared.broker_frames.ContentPart.TheVariants as part
 use Rattle.lapin_content.specs.Contents.{expected, after_header, after_body, for_ticket, for_consumer}
 use Rattle.lapin_content.specs.Channels.{Channels, expected_on}
-use Rattle.lapin_consumer.specs.Roster.{Consumer, consumer_at, found}
-use Rattle.lapin_history.specs.Content.{content_class, get_ticket, receives_part, after_part, part_tickets, whole_on, next_acker}
-use Rattle.lapin_history.specs.Requests.{first_request, close_alone, no_requests, without_kind, is_kind, resolved_with, with_request}
-use Rattle.lapin_history.specs.Ends.{down, end_tickets, cancels_done, cancels_on, live_channels, all_failed}
-use Rattle.lapin_history.specs.Wire.{Wire, state_of, phase_of, requests_of, is_open, receives_on, requests_with, noted}
-use Rattle.lapin_history.specs.ChannelClose.{has_sent_close, closing, close_tickets, close_ticket, close_ok_end, after_close_ok, failed_at_close, failed_at_close_ok}
-use Rattle.lapin_history.specs.ConnectionClose.{after_connection_close, connection_close_tickets, failed_at_connection_close}
-use Rattle.lapin_history.specs.Settlement.{session_close}
-use Rattle.lapin_history.specs.Polls.{is_answer, is_aside}
-use Rattle.lapin_history.specs.Asking.{is_allowed, asked_by, after_call, made_marks, call_tickets, asked_wire, asking_tickets}
-use Rattle.lapin_history.specs.Handing.{sent, handed_as, left_tickets, begun_ticket, last_ticket}
-use Rattle.lapin_history.specs.Receiving.{after_received, received_tickets, after_failed, failed_tickets, after_refused, refused_tickets, after_incoming, incoming_tickets}
-use Rattle.lapin_history.specs.History.{History}
-use Rattle.lapin_history.specs.declared.calls.Answered.{Answered}
-use Rattle.lapin_history.specs.declared.calls.Answered.TheVariants as answered
-use Rattle.lapin_history.specs.declared.calls.Asked.TheVariants as ask
-use Rattle.lapin_history.specs.declared.broker_frames.ConsumerPart.{ConsumerPart}
-use Rattle.lapin_history.specs.declared.broker_frames.ConsumerPart.TheVariants as consumer
-use Rattle.lapin_history.specs.Consumers.{next_consumer, after_consumer, consumer_tickets, lets_go_of, cancel_noted, after_let_go}
-use Rattle.lapin_history.specs.Ackers.{acker_asked, usable_at, acked_wire, acked_tickets}
+use Rattle.lapin_consumer.specs.Subscriptions.{Consumer, consumer_at, found}
+use Rattle.lapin_rules.specs.Content.{content_class, get_ticket, receives_part, after_part, part_tickets, whole_on, next_acker}
+use Rattle.lapin_rules.specs.Requests.{first_request, close_alone, no_requests, without_kind, is_kind, resolved_with, with_request}
+use Rattle.lapin_rules.specs.Ends.{down, end_tickets, cancels_done, cancels_on, live_channels, all_failed}
+use Rattle.lapin_rules.specs.Wire.{Wire, state_of, phase_of, requests_of, is_open, receives_on, requests_with, noted}
+use Rattle.lapin_rules.specs.ChannelClose.{has_sent_close, closing, close_tickets, close_ticket, close_ok_end, after_close_ok, failed_at_close, failed_at_close_ok}
+use Rattle.lapin_rules.specs.ConnectionClose.{after_connection_close, connection_close_tickets, failed_at_connection_close}
+use Rattle.lapin_rules.specs.Settlement.{session_close}
+use Rattle.lapin_rules.specs.Polls.{is_answer, is_aside}
+use Rattle.lapin_rules.specs.Asking.{is_allowed, asked_by, after_call, made_marks, call_tickets, asked_wire, asking_tickets}
+use Rattle.lapin_rules.specs.Handing.{sent, handed_as, left_tickets, begun_ticket, last_ticket}
+use Rattle.lapin_rules.specs.Receiving.{after_received, received_tickets, after_failed, failed_tickets, after_refused, refused_tickets, after_incoming, incoming_tickets}
+use Rattle.lapin_rules.specs.History.{History}
+use Rattle.lapin_rules.specs.declared.calls.Answered.{Answered}
+use Rattle.lapin_rules.specs.declared.calls.Answered.TheVariants as answered
+use Rattle.lapin_rules.specs.declared.calls.Asked.TheVariants as ask
+use Rattle.lapin_rules.specs.declared.broker_frames.ConsumerPart.{ConsumerPart}
+use Rattle.lapin_rules.specs.declared.broker_frames.ConsumerPart.TheVariants as consumer
+use Rattle.lapin_rules.specs.Consumers.{next_consumer, after_consumer, consumer_tickets, lets_go_of, cancel_noted, after_let_go}
+use Rattle.lapin_rules.specs.Ackers.{acker_asked, usable_at, acked_wire, acked_tickets}
 use Rattle.lapin_ticket.specs.declared.Slot.{Slot}
 use Rattle.lapin_ticket.specs.declared.Slot.TheVariants as slot
 use Rattle.lapin_ticket.specs.Slots.{after_mark}
@@ -143,7 +143,7 @@ call_owes c (ask.CloseChannel code text) line = λ b slots a n h.
     asks b.requests b.contents (after_mark slots (ticket.ClosedHere c e)) b.tickets c (n ∙ sym (closed-count c e slots)) (same b.requests b.contents slots _ (closed_fewer slots c e) h) reply.ChannelCloseOk
 call_owes c (ask.CloseConnection code text) line = λ b slots a n h. close_owes c failed_at_connection_close b slots n
 call_owes c (ask.Publish exchange key o payload properties) line = λ b slots a n h. gives b.requests b.contents slots b.tickets c n h (leaving.Confirm (b.published + 1)) (λ e. cc)
-call_owes c (ask.Consume m tag queue o) line = λ b slots a n h. at_once c (answer.Consumer (next_consumer b.inbox)) b slots n h
+call_owes c (ask.Consume m tag queue o) line = λ b slots a n h. at_once c (answer.Consumer (next_consumer b.deliveries)) b slots n h
 call_owes c (ask.Limit limit) line = λ b slots a n h. at_once c answer.Done b slots n h
 call_owes c ask.Nothing line = λ b slots a n h. absurd cc
 call_owes c (ask.Method row) line = λ b slots a n h. row_owes c row.answered line.1 b slots n h
@@ -262,12 +262,12 @@ module _ (b : Wire) (slots : List (Option Slot)) (h : Owes b slots) where
   part_owes : (c : ℕ) (p : ContentPart) → receives_part c p b ≡ true → IsMade (incoming.Content c p) → Owes (after_part c p b) (fold after_mark slots (part_tickets c p b))
   part_owes c (part.GetOk s) heard made = begins c content_class (is_kind reply_kind.BasicGetOk) (for_ticket (get_ticket c b) s) b.requests b.contents slots (names_its_get s (get_ticket c b) made) h
   part_owes c (part.Return s) heard made = expects c (expected content_class s) b.requests b.contents slots h
-  part_owes c (part.Deliver tag s) heard made = expects c (expected content_class (for_consumer (found c tag b.inbox.roster) s)) b.requests b.contents slots h
-  part_owes c (part.Header x) heard made = hears c (next_acker b.inbox) (after_header x) (whole_on c (part.Header x) b) b.requests b.contents slots refl (λ n i. header_keeps n x (expected_on c b.contents) (right (receives_on (state_of c b)) _ heard) i) h
-  part_owes c (part.Body bytes) heard made = hears c (next_acker b.inbox) (after_body bytes) (whole_on c (part.Body bytes) b) b.requests b.contents slots refl (λ n i. body_keeps n bytes (expected_on c b.contents) (right (receives_on (state_of c b)) _ heard) i) h
+  part_owes c (part.Deliver tag s) heard made = expects c (expected content_class (for_consumer (found c tag b.deliveries.subscriptions) s)) b.requests b.contents slots h
+  part_owes c (part.Header x) heard made = hears c (next_acker b.deliveries) (after_header x) (whole_on c (part.Header x) b) b.requests b.contents slots refl (λ n i. header_keeps n x (expected_on c b.contents) (right (receives_on (state_of c b)) _ heard) i) h
+  part_owes c (part.Body bytes) heard made = hears c (next_acker b.deliveries) (after_body bytes) (whole_on c (part.Body bytes) b) b.requests b.contents slots refl (λ n i. body_keeps n bytes (expected_on c b.contents) (right (receives_on (state_of c b)) _ heard) i) h
 
   consumer_owes : (c : ℕ) (p : ConsumerPart) → Owes (after_consumer c p b) (fold after_mark slots (consumer_tickets c p b))
-  consumer_owes c (consumer.ConsumeOk tag) = answers c (is_kind reply_kind.BasicConsumeOk) (Ok (answer.Consumer (next_consumer b.inbox))) b.requests b.contents slots h
+  consumer_owes c (consumer.ConsumeOk tag) = answers c (is_kind reply_kind.BasicConsumeOk) (Ok (answer.Consumer (next_consumer b.deliveries))) b.requests b.contents slots h
   consumer_owes c (consumer.CancelOk tag) = answers c (is_kind reply_kind.BasicCancelOk) (Ok answer.Done) b.requests b.contents slots h
   consumer_owes c consumer.RecoverOk = answers c (is_kind reply_kind.BasicRecoverOk) (Ok answer.Done) b.requests b.contents slots h
   consumer_owes c (consumer.Cancel tag nowait) = flow_owes (is_open (state_of c b) && not nowait) (noted c (method.Basic (basic.CancelOk tag)) b) refl refl
@@ -315,7 +315,7 @@ gone_owes false n m rs cs slots e h = h
 owes-anew : (w : World) (e : Event) → w.wire.tickets ≡ length w.slots → Owes w.wire w.slots → Owes (next_anew w e).wire (next_anew w e).slots
 owes-anew w (event.Call c k) n h = let r : Record = told_anew w (event.Call c k) in asked_owes c (asked_by k r) (told_line c k r) w.wire w.slots n h
 owes-anew w (event.Next flow) n h = left_owes (handed_as (told_anew w (event.Next flow)) w.wire) _ w.slots h
-owes-anew w (event.Receive f) n h = incoming_owes w.wire w.slots h (incoming_of f) (told_anew w (event.Receive f)) (is_heard (incoming_of f) (told_anew w (event.Receive f)) w.wire (readings_of w.post w.slots) (frame_class f) (frame_method f) refl) (is_made f)
+owes-anew w (event.Receive f) n h = incoming_owes w.wire w.slots h (incoming_of f) (told_anew w (event.Receive f)) (is_heard (incoming_of f) (told_anew w (event.Receive f)) w.wire (readings_of w.confirm_state w.slots) (frame_class f) (frame_method f) refl) (is_made f)
 owes-anew w (event.PollTicket m) n h = gone_owes (is_answer (told_anew w (event.PollTicket m))) m (ticket.Collected m) w.wire.requests w.wire.contents w.slots refl h
 owes-anew w (event.PollConfirm m) n h = h
 owes-anew w (event.PollWait c) n h = h
@@ -324,7 +324,7 @@ owes-anew w (event.AsideTicket m) n h = gone_owes (is_aside (told_anew w (event.
 owes-anew w (event.PollConsumer m) n h = h
 owes-anew w (event.Acker m k) n h = acked_owes (usable_at m w.wire) k w.wire w.slots n h
 owes-anew w (event.Delegate m) n h = h
-owes-anew w (event.DropConsumer m) n h = dropped_owes (consumer_at m w.wire.inbox.roster) w.wire w.slots h
+owes-anew w (event.DropConsumer m) n h = dropped_owes (consumer_at m w.wire.deliveries.subscriptions) w.wire w.slots h
 owes-anew w event.NextJob n h = h
 owes-anew w (event.State c) n h = h
 owes-anew w event.Lost n h = lost_owes w.wire w.slots h (is_lost w.wire.link)

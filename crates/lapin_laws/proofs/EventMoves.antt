@@ -6,24 +6,24 @@ use Rattle.lapin_types.specs.declared.acker_call.AckerCall.{AckerCall}
 use Rattle.lapin_types.specs.declared.call.Call.{Call}
 use Rattle.lapin_types.specs.Types.{Frame}
 use Rattle.lapin_types.specs.Types.error
-use Rattle.lapin_history.specs.declared.phases.ConnectionPhase.TheVariants as link
-use Rattle.lapin_history.specs.ConfirmMarks as mark
-use Rattle.lapin_history.specs.Incoming.{incoming_of, frame_class, frame_method}
-use Rattle.lapin_history.specs.Phases.{is_lost}
-use Rattle.lapin_history.specs.Ends.{ends_all, down}
-use Rattle.lapin_history.specs.Readings.{Readings}
-use Rattle.lapin_history.specs.Wire.{Wire, state_of, is_open, queued}
-use Rattle.lapin_history.specs.Polls.{is_confirmed, is_returned, is_aside, wait_record}
-use Rattle.lapin_history.specs.Loss.{after_lost, lost_inbox}
-use Rattle.lapin_history.specs.declared.calls.Asked.{Asked}
-use Rattle.lapin_history.specs.declared.calls.Asked.TheVariants as ask
-use Rattle.lapin_history.specs.Calls.{asked}
-use Rattle.lapin_history.specs.Asking.{asked_wire, asking_inbox, after_asking, asking_marks, call_record}
-use Rattle.lapin_history.specs.Consumers.{delegate_inbox, job_inbox, lets_go_of, let_go_cancel, cancel_noted, after_let_go, after_drop, drop_inbox}
-use Rattle.lapin_history.specs.Ackers.{acker_method, usable_at, acked_wire, acker_inbox}
-use Rattle.lapin_history.specs.Events.{record_of, after_event, confirm_marks}
-use Rattle.lapin_consumer.specs.Roster.{Consumer, consumer_at, is_idle}
-use Rattle.lapin_inbox.specs.Marks as inbox
+use Rattle.lapin_rules.specs.declared.phases.ConnectionPhase.TheVariants as link
+use Rattle.lapin_rules.specs.ConfirmMarks as mark
+use Rattle.lapin_rules.specs.Incoming.{incoming_of, frame_class, frame_method}
+use Rattle.lapin_rules.specs.Phases.{is_lost}
+use Rattle.lapin_rules.specs.Ends.{ends_all, down}
+use Rattle.lapin_rules.specs.Readings.{Readings}
+use Rattle.lapin_rules.specs.Wire.{Wire, state_of, is_open, queued}
+use Rattle.lapin_rules.specs.Polls.{is_confirmed, is_returned, is_aside, wait_record}
+use Rattle.lapin_rules.specs.Loss.{after_lost, lost_deliveries}
+use Rattle.lapin_rules.specs.declared.calls.Asked.{Asked}
+use Rattle.lapin_rules.specs.declared.calls.Asked.TheVariants as ask
+use Rattle.lapin_rules.specs.Calls.{asked}
+use Rattle.lapin_rules.specs.Asking.{asked_wire, asking_deliveries, after_asking, asking_marks, call_record}
+use Rattle.lapin_rules.specs.Consumers.{delegate_deliveries, job_deliveries, lets_go_of, let_go_cancel, cancel_noted, after_let_go, after_drop, drop_deliveries}
+use Rattle.lapin_rules.specs.Ackers.{acker_method, usable_at, acked_wire, acker_deliveries}
+use Rattle.lapin_rules.specs.Events.{record_of, after_event, confirm_marks}
+use Rattle.lapin_consumer.specs.Subscriptions.{Consumer, consumer_at, is_idle}
+use Rattle.lapin_delivery.specs.Marks as deliveries
 use Rattle.lapin_machine.specs.Stands.{IsShut}
 use Rattle.lapin_laws.specs.Outgoing.{published_by, called_by, ended_in}
 use Rattle.lapin_laws.proofs.Closes.{marks_noted}
@@ -72,7 +72,7 @@ abbrev pub MovesBy : ℕ → Wire → Readings → Event → Type 0
 MovesBy n b readings e = Moves n b (after_event b e (record_of b readings e)) (ended_in (confirm_marks b e (record_of b readings e))) (called_by e (record_of b readings e))
 
 call_moves : (n c : ℕ) (a : Asked) (b : Wire) → IsLine c a → Sound n b → Moves n b (after_asking c a b) (ended_in (asking_marks c a b)) (published_by c a (call_record c a b))
-call_moves n c a b line s = inboxed n (asking_inbox c a b) b (asked_wire c a b) _ _ (asked_moves n c a b line s)
+call_moves n c a b line s = inboxed n (asking_deliveries c a b) b (asked_wire c a b) _ _ (asked_moves n c a b line s)
 
 pub call_event : (n : ℕ) (b : Wire) (readings : Readings) (c : ℕ) (k : Call) → Sound n b → MovesBy n b readings (event.Call c k)
 call_event n b readings c k s = told_as c k b readings (λ a r. Moves n b (after_asking c a b) (ended_in (asking_marks c a b)) (published_by c a r)) (call_moves n c ask.Nothing b tt s) (call_moves n c (asked k) b (call_line c k) s)
@@ -81,7 +81,7 @@ pub incoming_event : (n : ℕ) (b : Wire) (readings : Readings) (f : Frame) → 
 incoming_event n b readings f shut s = incoming_moves (frame_class f) (frame_method f) n b.link b readings (incoming_of f) refl shut s
 
 pub lost_event : (n : ℕ) (b : Wire) (readings : Readings) → IsShut b → Sound n b → MovesBy n b readings event.Lost
-lost_event n b readings shut s = inboxed n (lost_inbox b) b (after_lost b) _ _ (lost_moves n b shut s)
+lost_event n b readings shut s = inboxed n (lost_deliveries b) b (after_lost b) _ _ (lost_moves n b shut s)
 
 pub ticket_event : (n : ℕ) (b : Wire) (readings : Readings) (k : ℕ) → Sound n b → MovesBy n b readings (event.PollTicket k)
 ticket_event n b readings k s = same n b s
@@ -104,16 +104,16 @@ state_event n b readings c s = same n b s
 -- ---- consumers and ackers
 
 pub poll_event : (n : ℕ) (b : Wire) (readings : Readings) (k : ℕ) → Sound n b → MovesBy n b readings (event.PollConsumer k)
-poll_event n b readings k s = inboxed n (inbox.Polled k ∷ []) b b [] [] (same n b s)
+poll_event n b readings k s = inboxed n (deliveries.Polled k ∷ []) b b [] [] (same n b s)
 
 pub acker_event : (n : ℕ) (b : Wire) (readings : Readings) (m : ℕ) (k : AckerCall) → Sound n b → MovesBy n b readings (event.Acker m k)
-acker_event n b readings m k s = inboxed n (acker_inbox m k b) b (acked_wire (usable_at m b) k b) [] [] (acked_moves n (usable_at m b) k b s)
+acker_event n b readings m k s = inboxed n (acker_deliveries m k b) b (acked_wire (usable_at m b) k b) [] [] (acked_moves n (usable_at m b) k b s)
 
 pub delegate_event : (n : ℕ) (b : Wire) (readings : Readings) (k : ℕ) → Sound n b → MovesBy n b readings (event.Delegate k)
-delegate_event n b readings k s = inboxed n (delegate_inbox k b) b b [] [] (same n b s)
+delegate_event n b readings k s = inboxed n (delegate_deliveries k b) b b [] [] (same n b s)
 
 pub drop_event : (n : ℕ) (b : Wire) (readings : Readings) (k : ℕ) → Sound n b → MovesBy n b readings (event.DropConsumer k)
-drop_event n b readings k s = inboxed n (drop_inbox k b) b (after_drop k b) [] [] (dropped_moves n (consumer_at k b.inbox.roster) b s)
+drop_event n b readings k s = inboxed n (drop_deliveries k b) b (after_drop k b) [] [] (dropped_moves n (consumer_at k b.deliveries.subscriptions) b s)
 
 pub job_event : (n : ℕ) (b : Wire) (readings : Readings) → Sound n b → MovesBy n b readings event.NextJob
-job_event n b readings s = inboxed n (job_inbox b) b b [] [] (same n b s)
+job_event n b readings s = inboxed n (job_deliveries b) b b [] [] (same n b s)

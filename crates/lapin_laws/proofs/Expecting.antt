@@ -10,9 +10,9 @@ use Rattle.lapin_content.specs.declared.start.Start.TheVariants as start
 use Rattle.lapin_content.specs.declared.start.Whole.{Whole}
 use Rattle.lapin_content.specs.Contents.{Expected, Begun, grown, has_left, waits_for, takes_body, front_waits, front_takes, if_whole, unless_whole, after_header, after_body, for_ticket}
 use Rattle.lapin_content.specs.Channels.{Channels, listed, expected_on, joined, joined_at}
-use Rattle.lapin_history.specs.declared.broker_frames.ContentPart.TheVariants as part
-use Rattle.lapin_history.specs.Content.{whole_by}
-use Rattle.lapin_history.proofs.ChannelLaws.{at-on}
+use Rattle.lapin_rules.specs.declared.broker_frames.ContentPart.TheVariants as part
+use Rattle.lapin_rules.specs.Content.{whole_by}
+use Rattle.lapin_rules.proofs.ChannelLaws.{at-on}
 use Rattle.lapin_laws.specs.Owed.{IsIn, start_ticket, content_tickets}
 
 -- a content is expected on the channel that a get of this ticket began

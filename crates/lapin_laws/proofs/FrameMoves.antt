@@ -11,44 +11,44 @@ use Rattle.lapin_types.specs.Types.error
 use Rattle.lapin_types.specs.Types.method
 use Rattle.lapin_types.specs.Types.basic
 use Rattle.lapin_types.specs.Types.channel
-use Rattle.lapin_history.specs.declared.marks.Settlement.{Settlement}
-use Rattle.lapin_history.specs.declared.phases.ChannelPhase.{ChannelPhase}
-use Rattle.lapin_history.specs.declared.phases.ChannelPhase.TheVariants as phase
-use Rattle.lapin_history.specs.declared.phases.ConnectionPhase.{ConnectionPhase}
-use Rattle.lapin_history.specs.declared.phases.ConnectionPhase.TheVariants as link
-use Rattle.lapin_history.specs.declared.phases.Closer.TheVariants as closer
-use Rattle.lapin_history.specs.declared.broker_frames.ConsumerPart.{ConsumerPart}
-use Rattle.lapin_history.specs.declared.broker_frames.ConsumerPart.TheVariants as consumer
-use Rattle.lapin_history.specs.declared.broker_frames.Incoming.{Incoming}
-use Rattle.lapin_history.specs.declared.broker_frames.Incoming.TheVariants as incoming
-use Rattle.lapin_history.specs.Words.{is_some, with_channel}
-use Rattle.lapin_history.specs.Phases.{is_up, is_live, channel_state}
-use Rattle.lapin_history.specs.Requests.{first_request}
-use Rattle.lapin_history.specs.Drops.{is_off, method_channel}
-use Rattle.lapin_history.specs.Ends.{ends_all, end_with}
-use Rattle.lapin_history.specs.Readings.{Readings}
-use Rattle.lapin_history.specs.Wire.{Wire, requests_of, state_of, phase_of, is_open, is_opening, noted, lists_of, receives_on}
-use Rattle.lapin_history.specs.Opening.{opens}
-use Rattle.lapin_history.specs.ChannelClose.{closing, close_marks, close_ok_end, after_close_ok, receives_close, receives_close_ok}
-use Rattle.lapin_history.specs.ConnectionClose.{unless_sent, has_sent, receives_down, after_connection_close}
-use Rattle.lapin_history.specs.Settlement.{settlement_record, session_close}
-use Rattle.lapin_history.specs.Reply.{receives, receives_reply, after_reply}
-use Rattle.lapin_history.specs.Flow.{after_flow}
-use Rattle.lapin_history.specs.declared.broker_frames.ContentPart.{ContentPart}
-use Rattle.lapin_history.specs.declared.broker_frames.ContentPart.TheVariants as part
+use Rattle.lapin_rules.specs.declared.marks.Settlement.{Settlement}
+use Rattle.lapin_rules.specs.declared.phases.ChannelPhase.{ChannelPhase}
+use Rattle.lapin_rules.specs.declared.phases.ChannelPhase.TheVariants as phase
+use Rattle.lapin_rules.specs.declared.phases.ConnectionPhase.{ConnectionPhase}
+use Rattle.lapin_rules.specs.declared.phases.ConnectionPhase.TheVariants as link
+use Rattle.lapin_rules.specs.declared.phases.Closer.TheVariants as closer
+use Rattle.lapin_rules.specs.declared.broker_frames.ConsumerPart.{ConsumerPart}
+use Rattle.lapin_rules.specs.declared.broker_frames.ConsumerPart.TheVariants as consumer
+use Rattle.lapin_rules.specs.declared.broker_frames.Incoming.{Incoming}
+use Rattle.lapin_rules.specs.declared.broker_frames.Incoming.TheVariants as incoming
+use Rattle.lapin_rules.specs.Words.{is_some, with_channel}
+use Rattle.lapin_rules.specs.Phases.{is_up, is_live, channel_state}
+use Rattle.lapin_rules.specs.Requests.{first_request}
+use Rattle.lapin_rules.specs.Drops.{is_off, method_channel}
+use Rattle.lapin_rules.specs.Ends.{ends_all, end_with}
+use Rattle.lapin_rules.specs.Readings.{Readings}
+use Rattle.lapin_rules.specs.Wire.{Wire, requests_of, state_of, phase_of, is_open, is_opening, noted, lists_of, receives_on}
+use Rattle.lapin_rules.specs.Opening.{opens}
+use Rattle.lapin_rules.specs.ChannelClose.{closing, close_marks, close_ok_end, after_close_ok, receives_close, receives_close_ok}
+use Rattle.lapin_rules.specs.ConnectionClose.{unless_sent, has_sent, receives_down, after_connection_close}
+use Rattle.lapin_rules.specs.Settlement.{settlement_record, session_close}
+use Rattle.lapin_rules.specs.Reply.{receives, receives_reply, after_reply}
+use Rattle.lapin_rules.specs.Flow.{after_flow}
+use Rattle.lapin_rules.specs.declared.broker_frames.ContentPart.{ContentPart}
+use Rattle.lapin_rules.specs.declared.broker_frames.ContentPart.TheVariants as part
 use Rattle.lapin_content.specs.declared.start.Start.{Start}
 use Rattle.lapin_content.specs.declared.start.Start.TheVariants as start_
 use Rattle.lapin_content.specs.declared.start.Whole.{Whole}
-use Rattle.lapin_history.specs.Content.{receives_part, after_part, start_marks, whole_marks, whole_on}
-use Rattle.lapin_history.specs.Consumers.{receives_consumer}
-use Rattle.lapin_history.specs.Unexpected.{refused}
-use Rattle.lapin_history.specs.Receiving.{when, incoming_up, incoming_record, incoming_wire, after_incoming, incoming_marks}
+use Rattle.lapin_rules.specs.Content.{receives_part, after_part, start_marks, whole_marks, whole_on}
+use Rattle.lapin_rules.specs.Consumers.{receives_consumer}
+use Rattle.lapin_rules.specs.Unexpected.{refused}
+use Rattle.lapin_rules.specs.Receiving.{when, incoming_up, incoming_record, incoming_wire, after_incoming, incoming_marks}
 use Rattle.lapin_machine.specs.Stands.{IsShut}
 use Rattle.lapin_laws.specs.Closes.{is_unsent}
 use Rattle.lapin_laws.specs.Outgoing.{ended_in}
 use Rattle.lapin_laws.proofs.Alive.{Grows, grows-with, grows-dead}
 use Rattle.lapin_laws.proofs.Closes.{AreMarked, marks_noted, marks_moved, marks_ended, broker_unsent, open_unsent, opening_unsent}
-use Rattle.lapin_history.specs.Receiving.{incoming_inbox}
+use Rattle.lapin_rules.specs.Receiving.{incoming_deliveries}
 use Rattle.lapin_laws.proofs.Moving.{ArePlain, plain-push, plain-filter, broker_over, Sound, Moves, inboxed, same, keeps, same_grows, closes, ends_one, falls, sinks, state_up}
 
 -- ---- frames of the broker
@@ -237,7 +237,7 @@ module _ (class number : ℕ) where
   down_receives n (link.Closing x was) b incoming.Other e d none s = same n b s
 
   pub incoming_moves : (n : ℕ) (l : ConnectionPhase) (b : Wire) (readings : Readings) (i : Incoming) → b.link ≡ l → IsShut b → Sound n b → Moves n b (after_incoming i (incoming_record b readings no i) b) (ended_in (incoming_marks i (incoming_record b readings no i) b)) []
-  incoming_moves n l b readings i e shut s = inboxed n (incoming_inbox i (incoming_record b readings no i) b) b _ _ _ (subst (Hears n b i) (sym (incoming_is b readings i l e)) (elim (is_up l) as (λ t. is_up l ≡ t → Hears n b i (cond t (incoming_up b readings no i) (cond (receives_down l i) record_.Received record_.Passed))) [
+  incoming_moves n l b readings i e shut s = inboxed n (incoming_deliveries i (incoming_record b readings no i) b) b _ _ _ (subst (Hears n b i) (sym (incoming_is b readings i l e)) (elim (is_up l) as (λ t. is_up l ≡ t → Hears n b i (cond t (incoming_up b readings no i) (cond (receives_down l i) record_.Received record_.Passed))) [
     | true ↦ λ u. up_receives n b readings i (e ∙ up_open l u) s
     | false ↦ λ u. down_receives n l b i e u (shut (ap is_up e ∙ u)) s
   ] refl))

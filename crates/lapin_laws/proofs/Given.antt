@@ -7,12 +7,12 @@ use Rattle.lapin_types.specs.declared.event.Event.TheVariants as event
 use Rattle.lapin_types.specs.declared.record.Record.{Record}
 use Rattle.lapin_types.specs.declared.leaving.Publish.{Publish}
 use Rattle.lapin_types.specs.Types.{Frame}
-use Rattle.lapin_history.specs.ConfirmMarks.{ConfirmMark}
-use Rattle.lapin_history.specs.TicketReadings.{TicketMark}
-use Rattle.lapin_history.specs.Wire.{Wire}
-use Rattle.lapin_history.specs.Events.{confirm_marks, record_of}
-use Rattle.lapin_history.specs.History.{History, Past, longer, past, rec, run_from, run, readings_of}
-use Rattle.lapin_history.specs.Consumers.{job_told}
+use Rattle.lapin_rules.specs.ConfirmMarks.{ConfirmMark}
+use Rattle.lapin_rules.specs.TicketReadings.{TicketMark}
+use Rattle.lapin_rules.specs.Wire.{Wire}
+use Rattle.lapin_rules.specs.Events.{confirm_marks, record_of}
+use Rattle.lapin_rules.specs.History.{History, Past, longer, past, rec, run_from, run, readings_of}
+use Rattle.lapin_rules.specs.Consumers.{job_told}
 use Rattle.lapin_machine.proofs.Standing.{past-push}
 use Rattle.lapin_laws.specs.Outgoing.{Point, Called, Requested, Ended, called_by, given_by, requested_by, ended_in, points_on, points, given_in, frames_in}
 use Rattle.lapin_laws.proofs.Records.{other_frame, asked_frame}
@@ -36,7 +36,7 @@ given_next (Some f) ps fs h = ap (λ gs. f ∷ gs) h
 
 given_requested : (b : Wire) (ms : List ConfirmMark) (ts : List TicketMark) (e : Event) (ps : List Point) (rs : List Record) → given_in ps ≡ frames_in rs → given_in (requested_by e (record_of b (readings_of ms ts) e) ++ ps) ≡ frames_in (record_of b (readings_of ms ts) e ∷ rs)
 given_requested b ms ts (event.Next flow) ps rs h = given_next (given_by (record_of b (readings_of ms ts) (event.Next flow))) ps (frames_in rs) h
-given_requested b ms ts event.NextJob ps rs h = quiet (job_told b) ps rs (asked_frame (slice_get b.inbox.roster.jobs 0)) h
+given_requested b ms ts event.NextJob ps rs h = quiet (job_told b) ps rs (asked_frame (slice_get b.deliveries.subscriptions.jobs 0)) h
 given_requested b ms ts e ps rs h = quiet (record_of b (readings_of ms ts) e) ps rs (other_frame b ms ts e refl) h
 
 given-run : (n : ℕ) (h : History) (es : List Event) → given_in (points_on (past n h) (zip es (run_from n h es))) ≡ frames_in (run_from n h es)

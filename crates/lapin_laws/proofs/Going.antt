@@ -13,23 +13,23 @@ use Rattle.lapin_types.specs.Types.frame
 use Rattle.lapin_types.specs.Types.method
 use Rattle.lapin_types.specs.Types.connection
 use Rattle.lapin_types.specs.Types.channel
-use Rattle.lapin_history.specs.ConfirmMarks as mark
-use Rattle.lapin_history.specs.declared.phases.ChannelPhase.{ChannelPhase}
-use Rattle.lapin_history.specs.declared.phases.ConnectionPhase.{ConnectionPhase}
-use Rattle.lapin_history.specs.declared.phases.ConnectionPhase.TheVariants as link
-use Rattle.lapin_history.specs.Phases.{is_up, is_lost}
-use Rattle.lapin_history.specs.ConnectionClose.{link_close_sent, link_sent}
-use Rattle.lapin_history.specs.ChannelClose.{close_sent, phases_sent}
-use Rattle.lapin_history.specs.Select.{is_select}
-use Rattle.lapin_history.specs.Frames.{left_rest, left_method, left_publish, MethodEntry, RestEntry, rest_of, behind, contents, content_header, bodies, cut, room_for_body, publish_method}
-use Rattle.lapin_history.specs.Readings.{Readings}
-use Rattle.lapin_history.specs.Words.{without_first}
-use Rattle.lapin_history.specs.Leaving.{may_begin, begun_rest}
-use Rattle.lapin_history.specs.Drops.{is_off, publish_channel}
-use Rattle.lapin_history.specs.Wire.{Wire, with_lists}
-use Rattle.lapin_history.specs.Flow.{begins_on}
-use Rattle.lapin_history.specs.Handing.{frame_record, began_on, handed_as, sent, after_handing, after_next, handed_out, frame_marks, entry_marks, left_marks}
-use Rattle.lapin_history.specs.Events.{record_of, after_event, confirm_marks}
+use Rattle.lapin_rules.specs.ConfirmMarks as mark
+use Rattle.lapin_rules.specs.declared.phases.ChannelPhase.{ChannelPhase}
+use Rattle.lapin_rules.specs.declared.phases.ConnectionPhase.{ConnectionPhase}
+use Rattle.lapin_rules.specs.declared.phases.ConnectionPhase.TheVariants as link
+use Rattle.lapin_rules.specs.Phases.{is_up, is_lost}
+use Rattle.lapin_rules.specs.ConnectionClose.{link_close_sent, link_sent}
+use Rattle.lapin_rules.specs.ChannelClose.{close_sent, phases_sent}
+use Rattle.lapin_rules.specs.Select.{is_select}
+use Rattle.lapin_rules.specs.Frames.{left_rest, left_method, left_publish, MethodEntry, RestEntry, rest_of, behind, contents, content_header, bodies, cut, room_for_body, publish_method}
+use Rattle.lapin_rules.specs.Readings.{Readings}
+use Rattle.lapin_rules.specs.Words.{without_first}
+use Rattle.lapin_rules.specs.Leaving.{may_begin, begun_rest}
+use Rattle.lapin_rules.specs.Drops.{is_off, publish_channel}
+use Rattle.lapin_rules.specs.Wire.{Wire, with_lists}
+use Rattle.lapin_rules.specs.Flow.{begins_on}
+use Rattle.lapin_rules.specs.Handing.{frame_record, began_on, handed_as, sent, after_handing, after_next, handed_out, frame_marks, entry_marks, left_marks}
+use Rattle.lapin_rules.specs.Events.{record_of, after_event, confirm_marks}
 use Rattle.lapin_outbox.proofs.Cuts.{cut-is}
 use Rattle.lapin_machine.specs.Stands.{IsShut}
 use Rattle.lapin_machine.proofs.Brought.{none_begins}

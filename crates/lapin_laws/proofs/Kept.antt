@@ -11,26 +11,26 @@ use Rattle.lapin_types.specs.declared.leaving.Left.{Left}
 use Rattle.lapin_types.specs.declared.leaving.Publish.{Publish}
 use Rattle.lapin_types.specs.Types.channel_state as state
 use Rattle.lapin_types.specs.declared.acker_call.AckerCall.{AckerCall}
-use Rattle.lapin_consumer.specs.Roster.{Consumer, consumer_at}
-use Rattle.lapin_history.specs.declared.calls.Asked.{Asked}
-use Rattle.lapin_history.specs.declared.broker_frames.Incoming.{Incoming}
-use Rattle.lapin_history.specs.declared.phases.ConnectionPhase.{ConnectionPhase}
-use Rattle.lapin_history.specs.declared.phases.ConnectionPhase.TheVariants as link
-use Rattle.lapin_history.specs.Incoming.{incoming_of, frame_class, frame_method}
-use Rattle.lapin_history.specs.Phases.{is_up, is_lost}
-use Rattle.lapin_history.specs.Frames.{MethodEntry, RestEntry}
-use Rattle.lapin_history.specs.Leaving.{handed_of, left_of}
-use Rattle.lapin_history.specs.Drops.{no_lists, frame_channel, is_on, is_rest_of, publish_channel, unbegun}
-use Rattle.lapin_history.specs.Readings.{Readings}
-use Rattle.lapin_history.specs.Unexpected.{refused}
-use Rattle.lapin_history.specs.Flow.{begins_on}
-use Rattle.lapin_history.specs.Wire.{Wire, state_of, lists_of}
-use Rattle.lapin_history.specs.Asking.{is_allowed, asked_by, after_asking}
-use Rattle.lapin_history.specs.Receiving.{incoming_record, after_incoming}
-use Rattle.lapin_history.specs.Handing.{frame_record, began_on, handed_as, sent}
-use Rattle.lapin_history.specs.Events.{record_of, after_event, confirm_marks}
-use Rattle.lapin_history.specs.Ackers.{acker_asked, usable_at, acked_wire}
-use Rattle.lapin_history.specs.Consumers.{lets_go_of, cancel_noted, after_let_go}
+use Rattle.lapin_consumer.specs.Subscriptions.{Consumer, consumer_at}
+use Rattle.lapin_rules.specs.declared.calls.Asked.{Asked}
+use Rattle.lapin_rules.specs.declared.broker_frames.Incoming.{Incoming}
+use Rattle.lapin_rules.specs.declared.phases.ConnectionPhase.{ConnectionPhase}
+use Rattle.lapin_rules.specs.declared.phases.ConnectionPhase.TheVariants as link
+use Rattle.lapin_rules.specs.Incoming.{incoming_of, frame_class, frame_method}
+use Rattle.lapin_rules.specs.Phases.{is_up, is_lost}
+use Rattle.lapin_rules.specs.Frames.{MethodEntry, RestEntry}
+use Rattle.lapin_rules.specs.Leaving.{handed_of, left_of}
+use Rattle.lapin_rules.specs.Drops.{no_lists, frame_channel, is_on, is_rest_of, publish_channel, unbegun}
+use Rattle.lapin_rules.specs.Readings.{Readings}
+use Rattle.lapin_rules.specs.Unexpected.{refused}
+use Rattle.lapin_rules.specs.Flow.{begins_on}
+use Rattle.lapin_rules.specs.Wire.{Wire, state_of, lists_of}
+use Rattle.lapin_rules.specs.Asking.{is_allowed, asked_by, after_asking}
+use Rattle.lapin_rules.specs.Receiving.{incoming_record, after_incoming}
+use Rattle.lapin_rules.specs.Handing.{frame_record, began_on, handed_as, sent}
+use Rattle.lapin_rules.specs.Events.{record_of, after_event, confirm_marks}
+use Rattle.lapin_rules.specs.Ackers.{acker_asked, usable_at, acked_wire}
+use Rattle.lapin_rules.specs.Consumers.{lets_go_of, cancel_noted, after_let_go}
 use Rattle.lapin_machine.specs.Stands.{IsShut}
 use Rattle.lapin_machine.specs.Tied.{is_live_on}
 use Rattle.lapin_machine.specs.World.{World, new_world, next, next_anew, told_by, told_anew, readings_of, full_in}
@@ -57,7 +57,7 @@ pub record Kept (n : ℕ) (b : Wire) : Type 0 where
   pub shut : IsShut b
 
 pub kept-next : (n : ℕ) (w : World) (e : Event) → Kept n w.wire → Kept n (next w e).wire
-kept-next n w e k = next_keeps (λ v. Kept n v.wire) w e (record { sound = (goes n w.wire (readings_of w.post w.slots) e k.shut k.sound).sound; shut = shut-next w.wire (readings_of w.post w.slots) e k.shut }) k
+kept-next n w e k = next_keeps (λ v. Kept n v.wire) w e (record { sound = (goes n w.wire (readings_of w.confirm_state w.slots) e k.shut k.sound).sound; shut = shut-next w.wire (readings_of w.confirm_state w.slots) e k.shut }) k
 
 kept_from : (n : ℕ) (w : World) (es : List Event) → Kept n w.wire → Kept n (fold next w es).wire
 kept_from n w [] k = k
@@ -71,7 +71,7 @@ run_sound n es = (run_kept n es).sound
 
 stays_from : (n : ℕ) (w : World) (es : List Event) → Kept n w.wire → is_up w.wire.link ≡ false → is_up (fold next w es).wire.link ≡ false
 stays_from n w [] k d = d
-stays_from n w (e ∷ es) k d = let g = goes n w.wire (readings_of w.post w.slots) e k.shut k.sound in stays_from n (next w e) es (kept-next n w e k) (next_keeps (λ v. is_up v.wire.link ≡ false) w e (g.down d) d)
+stays_from n w (e ∷ es) k d = let g = goes n w.wire (readings_of w.confirm_state w.slots) e k.shut k.sound in stays_from n (next w e) es (kept-next n w e k) (next_keeps (λ v. is_up v.wire.link ≡ false) w e (g.down d) d)
 
 pub stays_down : (n : ℕ) (es more : List Event) → is_up (world_after n es).wire.link ≡ false → is_up (fold next (world_after n es) more).wire.link ≡ false
 stays_down n es more = stays_from n (world_after n es) more (run_kept n es)
@@ -122,14 +122,14 @@ lost-next b readings (event.AsideConfirm n) h = h
 lost-next b readings (event.PollConsumer n) h = h
 lost-next b readings (event.Acker n k) h = acked_lost (usable_at n b) k b (is_link_lost b.link h)
 lost-next b readings (event.Delegate n) h = h
-lost-next b readings (event.DropConsumer n) h = ap is_lost (dropped_link (consumer_at n b.inbox.roster) b) ∙ h
+lost-next b readings (event.DropConsumer n) h = ap is_lost (dropped_link (consumer_at n b.deliveries.subscriptions) b) ∙ h
 lost-next b readings event.NextJob h = h
 lost-next b readings (event.State c) h = h
 lost-next b readings event.Lost h = rw h h
 
 pub stays_lost : (w : World) (es : List Event) → is_lost w.wire.link ≡ true → is_lost (fold next w es).wire.link ≡ true
 stays_lost w [] h = h
-stays_lost w (e ∷ es) h = stays_lost (next w e) es (next_keeps (λ v. is_lost v.wire.link ≡ true) w e (lost-next w.wire (readings_of w.post w.slots) e h) h)
+stays_lost w (e ∷ es) h = stays_lost (next w e) es (next_keeps (λ v. is_lost v.wire.link ≡ true) w e (lost-next w.wire (readings_of w.confirm_state w.slots) e h) h)
 
 -- ---- what waits, and what a frame request gives
 
@@ -156,7 +156,7 @@ module _ (n : ℕ) (w : World) (s : Sound n w.wire) where
   nothing h = let d : is_up w.wire.link ≡ false = lost_not_up w.wire.link h in rw (no_rest d, s.lost h, no_publishes d) refl
 
   pub gives : w.returned ≡ None → (flow : Bool) → is_up w.wire.link ≡ false → told_by w (event.Next flow) ≡ first_method w.wire.methods
-  gives none flow d = told_none w (event.Next flow) none ∙ given_by (begins_on flow (full_in w.post) w.wire) w.wire.rest w.wire.methods w.wire.publishes (no_rest d) (no_publishes d)
+  gives none flow d = told_none w (event.Next flow) none ∙ given_by (begins_on flow (full_in w.confirm_state) w.wire) w.wire.rest w.wire.methods w.wire.publishes (no_rest d) (no_publishes d)
 
   pub gives_none : w.returned ≡ None → (flow : Bool) → is_lost w.wire.link ≡ true → told_by w (event.Next flow) ≡ record_.NoFrame
   gives_none none flow h = gives none flow (lost_not_up w.wire.link h) ∙ ap first_method (s.lost h)
@@ -202,7 +202,7 @@ pub ends_leave_none : (n : ℕ) (es : List Event) (e : Event) (c : ℕ) → list
 ends_leave_none n es e c h =
     let w : World = world_after n es in
     let k : Kept n w.wire = run_kept n es in
-    let step = goes n w.wire (readings_of w.post w.slots) e k.shut k.sound in
+    let step = goes n w.wire (readings_of w.confirm_state w.slots) e k.shut k.sound in
     let none : w.returned ≡ None = unreturned_after n es in
     let marked = ap (λ r. list_any (is_channel c) (ended_in (confirm_marks w.wire e r))) (sym (told_none w e none)) ∙ h in
     let P : World → Type 0 = λ v. is_live_on v.wire.link (at_channel c v.wire.phases) ≡ false in

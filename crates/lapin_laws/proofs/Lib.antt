@@ -22,8 +22,8 @@ pub mod Expecting
 pub mod Owing
 pub mod Cancels
 pub mod Contents
-pub mod InboxMoves
-pub mod Rosters
+pub mod DeliveriesMoves
+pub mod Subscriptions
 pub mod Topologies
 pub mod Once
 pub mod Debts

@@ -16,40 +16,40 @@ use Rattle.lapin_types.specs.Types.method
 use Rattle.lapin_types.specs.Types.channel
 use Rattle.lapin_types.specs.Types.basic
 use Rattle.lapin_types.specs.declared.acker_call.AckerCall.{AckerCall}
-use Rattle.lapin_consumer.specs.Roster.{consumer_at}
-use Rattle.lapin_history.specs.declared.calls.Asked.{Asked}
-use Rattle.lapin_history.specs.declared.calls.Asked.TheVariants as ask
-use Rattle.lapin_history.specs.declared.phases.ChannelPhase.{ChannelPhase}
-use Rattle.lapin_history.specs.declared.phases.ChannelPhase.TheVariants as phase
-use Rattle.lapin_history.specs.declared.phases.ConnectionPhase.{ConnectionPhase}
-use Rattle.lapin_history.specs.declared.phases.ConnectionPhase.TheVariants as link
-use Rattle.lapin_history.specs.declared.phases.Closer.TheVariants as closer
-use Rattle.lapin_history.specs.declared.broker_frames.Incoming.{Incoming}
-use Rattle.lapin_history.specs.declared.broker_frames.Incoming.TheVariants as incoming
-use Rattle.lapin_history.specs.TicketReadings.{TicketMark}
-use Rattle.lapin_history.specs.TicketReadings as ticket
-use Rattle.lapin_history.specs.Words.{with_channel}
-use Rattle.lapin_history.specs.declared.broker_frames.ContentPart.{ContentPart}
-use Rattle.lapin_history.specs.declared.broker_frames.ContentPart.TheVariants as part
-use Rattle.lapin_history.specs.Content.{after_part}
-use Rattle.lapin_history.specs.Phases.{is_lost}
-use Rattle.lapin_history.specs.Incoming.{incoming_of, frame_class, frame_method}
-use Rattle.lapin_history.specs.Wire.{Wire, state_of, phase_of, is_open, noted}
-use Rattle.lapin_history.specs.ChannelClose.{closing, after_close_ok}
-use Rattle.lapin_history.specs.ConnectionClose.{after_connection_close}
-use Rattle.lapin_history.specs.Settlement.{session_close}
-use Rattle.lapin_history.specs.Unexpected.{refused}
-use Rattle.lapin_history.specs.Readings.{Readings}
-use Rattle.lapin_history.specs.Asking.{is_allowed, asked_by, after_call, call_tickets}
-use Rattle.lapin_history.specs.Handing.{handed_out, handed_as, began_on, sent}
-use Rattle.lapin_history.specs.Receiving.{after_received, after_failed, after_refused, after_incoming, incoming_record, incoming_tickets}
-use Rattle.lapin_history.specs.declared.broker_frames.ConsumerPart.{ConsumerPart}
-use Rattle.lapin_history.specs.declared.broker_frames.ConsumerPart.TheVariants as consumer
-use Rattle.lapin_history.specs.Ackers.{acker_asked, usable_at, acked_wire, acked_tickets}
-use Rattle.lapin_history.specs.Consumers.{after_consumer}
-use Rattle.lapin_history.specs.Ends.{live_channels, cancels_on}
-use Rattle.lapin_history.specs.Ends as ends
-use Rattle.lapin_history.specs.Loss.{lost_tickets}
+use Rattle.lapin_consumer.specs.Subscriptions.{consumer_at}
+use Rattle.lapin_rules.specs.declared.calls.Asked.{Asked}
+use Rattle.lapin_rules.specs.declared.calls.Asked.TheVariants as ask
+use Rattle.lapin_rules.specs.declared.phases.ChannelPhase.{ChannelPhase}
+use Rattle.lapin_rules.specs.declared.phases.ChannelPhase.TheVariants as phase
+use Rattle.lapin_rules.specs.declared.phases.ConnectionPhase.{ConnectionPhase}
+use Rattle.lapin_rules.specs.declared.phases.ConnectionPhase.TheVariants as link
+use Rattle.lapin_rules.specs.declared.phases.Closer.TheVariants as closer
+use Rattle.lapin_rules.specs.declared.broker_frames.Incoming.{Incoming}
+use Rattle.lapin_rules.specs.declared.broker_frames.Incoming.TheVariants as incoming
+use Rattle.lapin_rules.specs.TicketReadings.{TicketMark}
+use Rattle.lapin_rules.specs.TicketReadings as ticket
+use Rattle.lapin_rules.specs.Words.{with_channel}
+use Rattle.lapin_rules.specs.declared.broker_frames.ContentPart.{ContentPart}
+use Rattle.lapin_rules.specs.declared.broker_frames.ContentPart.TheVariants as part
+use Rattle.lapin_rules.specs.Content.{after_part}
+use Rattle.lapin_rules.specs.Phases.{is_lost}
+use Rattle.lapin_rules.specs.Incoming.{incoming_of, frame_class, frame_method}
+use Rattle.lapin_rules.specs.Wire.{Wire, state_of, phase_of, is_open, noted}
+use Rattle.lapin_rules.specs.ChannelClose.{closing, after_close_ok}
+use Rattle.lapin_rules.specs.ConnectionClose.{after_connection_close}
+use Rattle.lapin_rules.specs.Settlement.{session_close}
+use Rattle.lapin_rules.specs.Unexpected.{refused}
+use Rattle.lapin_rules.specs.Readings.{Readings}
+use Rattle.lapin_rules.specs.Asking.{is_allowed, asked_by, after_call, call_tickets}
+use Rattle.lapin_rules.specs.Handing.{handed_out, handed_as, began_on, sent}
+use Rattle.lapin_rules.specs.Receiving.{after_received, after_failed, after_refused, after_incoming, incoming_record, incoming_tickets}
+use Rattle.lapin_rules.specs.declared.broker_frames.ConsumerPart.{ConsumerPart}
+use Rattle.lapin_rules.specs.declared.broker_frames.ConsumerPart.TheVariants as consumer
+use Rattle.lapin_rules.specs.Ackers.{acker_asked, usable_at, acked_wire, acked_tickets}
+use Rattle.lapin_rules.specs.Consumers.{after_consumer}
+use Rattle.lapin_rules.specs.Ends.{live_channels, cancels_on}
+use Rattle.lapin_rules.specs.Ends as ends
+use Rattle.lapin_rules.specs.Loss.{lost_tickets}
 use Rattle.lapin_ticket.specs.declared.Slot.{Slot}
 use Rattle.lapin_ticket.specs.declared.Slot.TheVariants as slot
 use Rattle.lapin_ticket.specs.Slots.{answered_slot, after_mark, is_awaited}
@@ -217,7 +217,7 @@ answered-anew n w (event.Next flow) s h = λ l.
     let was : is_lost w.wire.link ≡ true = sent_back (handed_as r w.wire) _ l in
     let none : handed_as r w.wire ≡ None = handed_none n (began_on r) w s was in
     rw none (h was)
-answered-anew n w (event.Receive f) s h = incoming_answered (incoming_of f) (readings_of w.post w.slots) (refused (frame_class f) (frame_method f)) w.wire w.slots h
+answered-anew n w (event.Receive f) s h = incoming_answered (incoming_of f) (readings_of w.confirm_state w.slots) (refused (frame_class f) (frame_method f)) w.wire w.slots h
 answered-anew n w (event.PollTicket m) s h = λ l. polled_none _ m (ticket.Collected m) w.slots refl (h l)
 answered-anew n w (event.AsideTicket m) s h = λ l. polled_none _ m (ticket.SetAside m) w.slots refl (h l)
 answered-anew n w (event.PollConfirm m) s h = h
@@ -226,7 +226,7 @@ answered-anew n w (event.AsideConfirm m) s h = h
 answered-anew n w (event.PollConsumer m) s h = h
 answered-anew n w (event.Acker m k) s h = acked_answered (usable_at m w.wire) k w.wire w.slots h
 answered-anew n w (event.Delegate m) s h = h
-answered-anew n w (event.DropConsumer m) s h = λ l. h (ap is_lost (sym (dropped_link (consumer_at m w.wire.inbox.roster) w.wire)) ∙ l)
+answered-anew n w (event.DropConsumer m) s h = λ l. h (ap is_lost (sym (dropped_link (consumer_at m w.wire.deliveries.subscriptions) w.wire)) ∙ l)
 answered-anew n w event.NextJob s h = h
 answered-anew n w (event.State c) s h = h
 answered-anew n w event.Lost s h = λ l. lost_answered w.wire w.slots h

@@ -9,26 +9,26 @@ use Rattle.lapin_types.specs.Types.{Method, ChannelState, Error}
 use Rattle.lapin_types.specs.Types.channel_state as state
 use Rattle.lapin_types.specs.Types.error
 use Rattle.lapin_types.specs.Types.frame
-use Rattle.lapin_history.specs.declared.calls.Asked.{Asked}
-use Rattle.lapin_history.specs.declared.calls.Asked.TheVariants as ask
-use Rattle.lapin_history.specs.declared.phases.ChannelPhase.{ChannelPhase}
-use Rattle.lapin_history.specs.declared.phases.ChannelPhase.TheVariants as phase
-use Rattle.lapin_history.specs.declared.phases.ConnectionPhase.{ConnectionPhase}
-use Rattle.lapin_history.specs.declared.phases.ConnectionPhase.TheVariants as link
-use Rattle.lapin_history.specs.declared.phases.Closer.TheVariants as closer
-use Rattle.lapin_history.specs.declared.phases.Closer.{Closer}
-use Rattle.lapin_history.specs.ConfirmMarks as mark
-use Rattle.lapin_history.specs.Words.{with_channel}
-use Rattle.lapin_history.specs.Phases.{is_up, is_lost, is_live, channel_state}
-use Rattle.lapin_history.specs.Frames.{MethodEntry, RestEntry}
-use Rattle.lapin_history.specs.Drops.{is_off, is_rest_of, publish_channel}
-use Rattle.lapin_history.specs.Ends.{live_channels, ends_all}
-use Rattle.lapin_history.specs.Wire.{Wire, start, queued, state_of, phase_of, is_open, with_inbox}
-use Rattle.lapin_history.specs.ChannelClose.{after_broker_close}
-use Rattle.lapin_history.specs.Calls.{awaited_by}
-use Rattle.lapin_history.specs.Select.{is_select}
-use Rattle.lapin_history.specs.Asking.{is_allowed, accepted_record, call_record, after_call, asked_wire, call_marks, asking_marks}
-use Rattle.lapin_inbox.specs.Marks.{InboxMark}
+use Rattle.lapin_rules.specs.declared.calls.Asked.{Asked}
+use Rattle.lapin_rules.specs.declared.calls.Asked.TheVariants as ask
+use Rattle.lapin_rules.specs.declared.phases.ChannelPhase.{ChannelPhase}
+use Rattle.lapin_rules.specs.declared.phases.ChannelPhase.TheVariants as phase
+use Rattle.lapin_rules.specs.declared.phases.ConnectionPhase.{ConnectionPhase}
+use Rattle.lapin_rules.specs.declared.phases.ConnectionPhase.TheVariants as link
+use Rattle.lapin_rules.specs.declared.phases.Closer.TheVariants as closer
+use Rattle.lapin_rules.specs.declared.phases.Closer.{Closer}
+use Rattle.lapin_rules.specs.ConfirmMarks as mark
+use Rattle.lapin_rules.specs.Words.{with_channel}
+use Rattle.lapin_rules.specs.Phases.{is_up, is_lost, is_live, channel_state}
+use Rattle.lapin_rules.specs.Frames.{MethodEntry, RestEntry}
+use Rattle.lapin_rules.specs.Drops.{is_off, is_rest_of, publish_channel}
+use Rattle.lapin_rules.specs.Ends.{live_channels, ends_all}
+use Rattle.lapin_rules.specs.Wire.{Wire, start, queued, state_of, phase_of, is_open, with_deliveries}
+use Rattle.lapin_rules.specs.ChannelClose.{after_broker_close}
+use Rattle.lapin_rules.specs.Calls.{awaited_by}
+use Rattle.lapin_rules.specs.Select.{is_select}
+use Rattle.lapin_rules.specs.Asking.{is_allowed, accepted_record, call_record, after_call, asked_wire, call_marks, asking_marks}
+use Rattle.lapin_delivery.specs.Marks.{DeliveryMark}
 use Rattle.lapin_laws.specs.Closes.{is_channel_close, is_unsent}
 use Rattle.lapin_laws.specs.Outgoing.{published_by, ended_in, is_channel}
 use Rattle.lapin_laws.specs.Unbroken.{is_publish}
@@ -101,7 +101,7 @@ pub record Moves (n : ℕ) (b b' : Wire) (cs : List ℕ) (qs : List Publish) : T
   pub dead : (c : ℕ) → list_any (is_channel c) cs ≡ true → Alive b'.link b'.phases c → ⊥
 
 -- consumers and ackers move nothing else
-pub inboxed : (n : ℕ) (ms : List InboxMark) (b b' : Wire) (cs : List ℕ) (qs : List Publish) → Moves n b b' cs qs → Moves n b (with_inbox ms b') cs qs
+pub inboxed : (n : ℕ) (ms : List DeliveryMark) (b b' : Wire) (cs : List ℕ) (qs : List Publish) → Moves n b b' cs qs → Moves n b (with_deliveries ms b') cs qs
 inboxed n ms b b' cs qs m = record {
   sound = record {
     max = m.sound.max;

@@ -14,21 +14,21 @@ use Rattle.lapin_acker.specs.declared.switch.Switch.TheVariants as switch
 use Rattle.lapin_acker.specs.Marks.{AckerMark}
 use Rattle.lapin_acker.specs.Marks as acker
 use Rattle.lapin_acker.specs.Switches.{switch_at, usable_as, used, over_on, names, map_numbered, moved, joined, after_mark}
-use Rattle.lapin_inbox.specs.Inbox.{Inbox, all_acker_marks}
-use Rattle.lapin_inbox.specs.Inbox as inboxes
-use Rattle.lapin_inbox.specs.Marks.{InboxMark}
-use Rattle.lapin_inbox.specs.Marks as inbox
-use Rattle.lapin_inbox.proofs.Histories.{ackers-follow}
-use Rattle.lapin_history.specs.Words.{many, is_some}
-use Rattle.lapin_history.specs.Wire.{Wire}
-use Rattle.lapin_history.specs.Asking.{asking_inbox}
-use Rattle.lapin_history.specs.Ackers.{acker_asked, usable_at, acked_record, acked_inbox, acker_told}
-use Rattle.lapin_history.specs.Events.{after_event, inbox_marks, record_of}
-use Rattle.lapin_history.specs.History.{History, Past, past, rec, run_from, run, readings_of}
-use Rattle.lapin_history.specs.Readings.{Readings}
+use Rattle.lapin_delivery.specs.Deliveries.{Deliveries, all_acker_marks}
+use Rattle.lapin_delivery.specs.Deliveries as deliveries
+use Rattle.lapin_delivery.specs.Marks.{DeliveryMark}
+use Rattle.lapin_delivery.specs.Marks as deliveries
+use Rattle.lapin_delivery.proofs.Histories.{ackers-follow}
+use Rattle.lapin_rules.specs.Words.{many, is_some}
+use Rattle.lapin_rules.specs.Wire.{Wire}
+use Rattle.lapin_rules.specs.Asking.{asking_deliveries}
+use Rattle.lapin_rules.specs.Ackers.{acker_asked, usable_at, acked_record, acked_deliveries, acker_told}
+use Rattle.lapin_rules.specs.Events.{after_event, delivery_marks, record_of}
+use Rattle.lapin_rules.specs.History.{History, Past, past, rec, run_from, run, readings_of}
+use Rattle.lapin_rules.specs.Readings.{Readings}
 use Rattle.lapin_machine.proofs.Standing.{past-push}
 use Rattle.lapin_laws.specs.Consumers.{is_no, uses_acker}
-use Rattle.lapin_laws.proofs.InboxMoves.{inbox-next}
+use Rattle.lapin_laws.proofs.DeliveriesMoves.{deliveries-next}
 
 -- ---- an acker that is not usable stays so
 
@@ -117,27 +117,27 @@ usable_given (Some s) x e = refl
 -- ---- every event
 
 abbrev IsGone : ℕ → Wire → Type 0
-IsGone n b = Gone n b.inbox.switches
+IsGone n b = Gone n b.deliveries.switches
 
-gone_marks : (n : ℕ) (i : Inbox) (ms : List InboxMark) → Gone n i.switches → Gone n (fold inboxes.after_mark i ms).switches
+gone_marks : (n : ℕ) (i : Deliveries) (ms : List DeliveryMark) → Gone n i.switches → Gone n (fold deliveries.after_mark i ms).switches
 gone_marks n i ms h = let P : List Switch → Type 0 = λ ss. Gone n ss in subst P (sym (ackers-follow i ms)) (kept_all is_gone refl moved_gone n i.switches (all_acker_marks i ms) h)
 
-given_marks : (n : ℕ) (i : Inbox) (ms : List InboxMark) → is_some (switch_at n i.switches) ≡ true → is_some (switch_at n (fold inboxes.after_mark i ms).switches) ≡ true
+given_marks : (n : ℕ) (i : Deliveries) (ms : List DeliveryMark) → is_some (switch_at n i.switches) ≡ true → is_some (switch_at n (fold deliveries.after_mark i ms).switches) ≡ true
 given_marks n i ms h = ap (λ ss. is_some (switch_at n ss)) (ackers-follow i ms) ∙ kept_all is_some refl moved_given n i.switches (all_acker_marks i ms) h
 
 stays_gone : (n : ℕ) (b : Wire) (e : Event) (r : Record) → IsGone n b → IsGone n (after_event b e r)
-stays_gone n b e r h = let P : Inbox → Type 0 = λ i. Gone n i.switches in subst P (sym (inbox-next b e r)) (gone_marks n b.inbox (inbox_marks b e r) h)
+stays_gone n b e r h = let P : Deliveries → Type 0 = λ i. Gone n i.switches in subst P (sym (deliveries-next b e r)) (gone_marks n b.deliveries (delivery_marks b e r) h)
 
 call_gone : (n : ℕ) (k : AckerCall) (b : Wire) (r : Record) (o : Option (ℕ × ℕ)) → usable_at n b ≡ o → is_no (acked_record o k b) ≡ false → IsGone n (after_event b (event.Acker n k) r)
 call_gone n k b r None e h = absurd cc
 call_gone n k b r (Some x) e h =
-    let P : Inbox → Type 0 = λ i. Gone n i.switches in
-    let Q : Option (ℕ × ℕ) → Type 0 = λ o. Gone n (fold inboxes.after_mark b.inbox (acked_inbox n o k b)).switches in
-    let made : List InboxMark = asking_inbox x.0 (acker_asked k x.1) b in
-    let first : Inbox = fold inboxes.after_mark b.inbox made in
-    let spent : Gone n (inboxes.after_mark first (inbox.Spent n)).switches = spent_gone n first.switches (given_marks n b.inbox made (usable_given (switch_at n b.inbox.switches) x e)) in
-    let after : Q (Some x) = subst P (sym (fold-append inboxes.after_mark b.inbox made (inbox.Spent n ∷ []))) spent in
-    subst P (sym (inbox-next b (event.Acker n k) r)) (subst Q (sym e) after)
+    let P : Deliveries → Type 0 = λ i. Gone n i.switches in
+    let Q : Option (ℕ × ℕ) → Type 0 = λ o. Gone n (fold deliveries.after_mark b.deliveries (acked_deliveries n o k b)).switches in
+    let made : List DeliveryMark = asking_deliveries x.0 (acker_asked k x.1) b in
+    let first : Deliveries = fold deliveries.after_mark b.deliveries made in
+    let spent : Gone n (deliveries.after_mark first (deliveries.Spent n)).switches = spent_gone n first.switches (given_marks n b.deliveries made (usable_given (switch_at n b.deliveries.switches) x e)) in
+    let after : Q (Some x) = subst P (sym (fold-append deliveries.after_mark b.deliveries made (deliveries.Spent n ∷ []))) spent in
+    subst P (sym (deliveries-next b (event.Acker n k) r)) (subst Q (sym e) after)
 
 -- of an acker that is not usable a call says no
 gone_unusable : (o : Option Switch) → is_gone o ≡ true → usable_as o ≡ None
@@ -147,7 +147,7 @@ gone_unusable (Some (switch.Used c)) h = refl
 gone_unusable (Some switch.Over) h = refl
 
 gone_no : (n : ℕ) (k : AckerCall) (b : Wire) → IsGone n b → is_no (acker_told n k b) ≡ true
-gone_no n k b h = ap (λ o. is_no (acked_record o k b)) (gone_unusable (switch_at n b.inbox.switches) h)
+gone_no n k b h = ap (λ o. is_no (acked_record o k b)) (gone_unusable (switch_at n b.deliveries.switches) h)
 
 -- an event that uses no acker of this number, or that does
 abbrev Uses : ℕ → Wire → Readings → Event → Bool

@@ -6,11 +6,11 @@ use Rattle.lapin_tables.specs.Numbered.{under, with_under}
 use Rattle.lapin_tables.proofs.SlotLaws.{under-other}
 use Rattle.lapin_types.specs.Types.{Error}
 use Rattle.lapin_types.specs.declared.answer.Answer.{Answer}
-use Rattle.lapin_history.specs.declared.marks.AtLeaving.{AtLeaving}
-use Rattle.lapin_history.specs.declared.marks.AtLeaving.TheVariants as leaving
-use Rattle.lapin_history.specs.TicketReadings.{is_publish}
-use Rattle.lapin_history.specs.TicketReadings as ticket
-use Rattle.lapin_history.specs.Requests.{resolved_with}
+use Rattle.lapin_rules.specs.declared.marks.AtLeaving.{AtLeaving}
+use Rattle.lapin_rules.specs.declared.marks.AtLeaving.TheVariants as leaving
+use Rattle.lapin_rules.specs.TicketReadings.{is_publish}
+use Rattle.lapin_rules.specs.TicketReadings as ticket
+use Rattle.lapin_rules.specs.Requests.{resolved_with}
 use Rattle.lapin_ticket.specs.declared.Slot.{Slot}
 use Rattle.lapin_ticket.specs.declared.Slot.TheVariants as slot
 use Rattle.lapin_ticket.specs.Slots.{answered_slot, begun_slot, left_slot, closed_slot, failed_slot, failed, rejects, is_open_on, after_mark}

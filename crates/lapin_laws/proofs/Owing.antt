@@ -9,12 +9,12 @@ use Rattle.lapin_types.specs.declared.request.Request.{Request}
 use Rattle.lapin_types.specs.declared.request.Reply.{Reply}
 use Rattle.lapin_types.specs.declared.answer.Answer.{Answer}
 use Rattle.lapin_types.specs.Types.{Error}
-use Rattle.lapin_history.proofs.ChannelLaws.{at-with}
-use Rattle.lapin_history.specs.declared.marks.AtLeaving.{AtLeaving}
-use Rattle.lapin_history.specs.declared.marks.AtLeaving.TheVariants as leaving
-use Rattle.lapin_history.specs.TicketReadings as ticket
-use Rattle.lapin_history.specs.Words.{without_first, with_channel}
-use Rattle.lapin_history.specs.Requests.{requests_in, ticket_of, with_request, resolved_with, request_alone}
+use Rattle.lapin_rules.proofs.ChannelLaws.{at-with}
+use Rattle.lapin_rules.specs.declared.marks.AtLeaving.{AtLeaving}
+use Rattle.lapin_rules.specs.declared.marks.AtLeaving.TheVariants as leaving
+use Rattle.lapin_rules.specs.TicketReadings as ticket
+use Rattle.lapin_rules.specs.Words.{without_first, with_channel}
+use Rattle.lapin_rules.specs.Requests.{requests_in, ticket_of, with_request, resolved_with, request_alone}
 use Rattle.lapin_ticket.specs.declared.Slot.{Slot}
 use Rattle.lapin_ticket.specs.Slots.{after_mark}
 use Rattle.lapin_content.specs.declared.start.Start.{Start}
@@ -22,7 +22,7 @@ use Rattle.lapin_content.specs.declared.start.Start.TheVariants as start
 use Rattle.lapin_content.specs.declared.start.Whole.{Whole}
 use Rattle.lapin_content.specs.Contents.{Expected, expected}
 use Rattle.lapin_content.specs.Channels.{Channels, expected_on, joined}
-use Rattle.lapin_history.specs.Content.{start_tickets, whole_tickets}
+use Rattle.lapin_rules.specs.Content.{start_tickets, whole_tickets}
 use Rattle.lapin_laws.specs.Owed.{IsIn, request_tickets, start_ticket, content_tickets}
 use Rattle.lapin_laws.proofs.Expecting.{HasContent, content_new, content_joined, content_away, content_here, whole_ticket}
 use Rattle.lapin_laws.proofs.Settled.{requests-away, on-here, on-away}

@@ -3,9 +3,9 @@ use Rattle.std.proofs.Common.{ℕ, ◌<◌, List, [], ◌∷◌, ◌++◌, map, 
 use Rattle.lapin_types.specs.declared.event.Event.{Event}
 use Rattle.lapin_types.specs.declared.record.Record.{Record}
 use Rattle.lapin_types.specs.declared.leaving.Publish.{Publish}
-use Rattle.lapin_history.specs.Readings.{Readings}
-use Rattle.lapin_history.specs.Events.{confirm_marks}
-use Rattle.lapin_history.specs.History.{History, Past, longer, past, rec, run_from, run, readings_of}
+use Rattle.lapin_rules.specs.Readings.{Readings}
+use Rattle.lapin_rules.specs.Events.{confirm_marks}
+use Rattle.lapin_rules.specs.History.{History, Past, longer, past, rec, run_from, run, readings_of}
 use Rattle.lapin_machine.specs.Stands.{IsShut}
 use Rattle.lapin_machine.proofs.Shut.{shut-next}
 use Rattle.lapin_machine.proofs.Standing.{past-push}

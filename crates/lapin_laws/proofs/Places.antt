@@ -2,11 +2,11 @@
 use Rattle.std.proofs.Common.{◌≡◌, ℕ, ◌==◌, Bool, true, false, cond, not, List, [], ◌∷◌, ◌++◌, Some, refl, sym, ◌∙◌, ap, subst, ne_eqb}
 use Rattle.std.specs.List.{find, filter, AllByRecursion}
 use Rattle.lapin_types.specs.declared.leaving.Publish.{Publish}
-use Rattle.lapin_history.specs.declared.phases.ChannelPhase.{ChannelPhase}
-use Rattle.lapin_history.specs.declared.phases.ConnectionPhase.{ConnectionPhase}
-use Rattle.lapin_history.specs.Words.{without_first}
-use Rattle.lapin_history.specs.Leaving.{may_begin}
-use Rattle.lapin_history.specs.Drops.{is_off, publish_channel}
+use Rattle.lapin_rules.specs.declared.phases.ChannelPhase.{ChannelPhase}
+use Rattle.lapin_rules.specs.declared.phases.ConnectionPhase.{ConnectionPhase}
+use Rattle.lapin_rules.specs.Words.{without_first}
+use Rattle.lapin_rules.specs.Leaving.{may_begin}
+use Rattle.lapin_rules.specs.Drops.{is_off, publish_channel}
 use Rattle.lapin_laws.specs.Queue.{numbered, waiting}
 use Rattle.lapin_laws.proofs.Alive.{Alive, AreAlive}
 use Rattle.lapin_laws.proofs.Parts.{IsPart, part-append, part-kept, Around, part-around}

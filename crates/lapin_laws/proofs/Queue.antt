@@ -7,17 +7,17 @@ use Rattle.std.proofs.lemmas.Bool.Decides.{eqb_tells}
 use Rattle.lapin_tables.specs.Numbered.{under, with_under}
 use Rattle.lapin_types.specs.Types.{Error}
 use Rattle.lapin_types.specs.declared.leaving.Publish.{Publish}
-use Rattle.lapin_history.specs.declared.marks.Outcome.{Outcome}
-use Rattle.lapin_history.specs.declared.marks.Outcome.TheVariants as outcome
-use Rattle.lapin_history.specs.declared.marks.Settlement.{Settlement}
-use Rattle.lapin_history.specs.ConfirmReadings.{covers, outcome_of}
-use Rattle.lapin_history.specs.Drops.{is_off, publish_channel}
-use Rattle.lapin_history.specs.ConfirmMarks as mark
-use Rattle.lapin_history.specs.Ends.{ends}
+use Rattle.lapin_rules.specs.declared.marks.Outcome.{Outcome}
+use Rattle.lapin_rules.specs.declared.marks.Outcome.TheVariants as outcome
+use Rattle.lapin_rules.specs.declared.marks.Settlement.{Settlement}
+use Rattle.lapin_rules.specs.ConfirmReadings.{covers, outcome_of}
+use Rattle.lapin_rules.specs.Drops.{is_off, publish_channel}
+use Rattle.lapin_rules.specs.ConfirmMarks as mark
+use Rattle.lapin_rules.specs.Ends.{ends}
 use Rattle.lapin_confirm.specs.declared.cell.Cell.{Cell}
 use Rattle.lapin_confirm.specs.declared.cell.Cell.TheVariants as cell
-use Rattle.lapin_confirm.specs.Book.{Book, is_queued, is_resolved, settled_cell, closed_cell, ended_cell, closed_here, ended}
-use Rattle.lapin_confirm.specs.Post.{Post}
+use Rattle.lapin_confirm.specs.PublishStates.{PublishStates, is_queued, is_resolved, settled_cell, closed_cell, ended_cell, closed_here, ended}
+use Rattle.lapin_confirm.specs.ConfirmState.{ConfirmState}
 use Rattle.lapin_confirm.specs.Machine.{after_mark}
 use Rattle.lapin_confirm.specs.Drain.{Remains, remaining, is_over, less_one, less_all}
 use Rattle.lapin_laws.specs.Outgoing.{is_channel}
@@ -124,7 +124,7 @@ waiting-off : (c : ℕ) (ps : List Publish) → filter (λ x. not (x.1 == c)) (w
 waiting-off c [] = refl
 waiting-off c (p ∷ ps) = elim (p.channel == c) as (λ b. cond (not b) (numbered p ∷ filter (λ x. not (x.1 == c)) (waiting ps)) (filter (λ x. not (x.1 == c)) (waiting ps)) ≡ waiting (cond (not b) (p ∷ filter (is_off publish_channel c) ps) (filter (is_off publish_channel c) ps))) [ true ↦ waiting-off c ps | false ↦ ap (λ xs. numbered p ∷ xs) (waiting-off c ps) ]
 
-pub ended_queue : (c : ℕ) (e : Error) (ps : List Publish) (b : Book) → queued_in b.cells ≡ waiting ps → queued_in (ended c e b).cells ≡ waiting (filter (is_off publish_channel c) ps)
+pub ended_queue : (c : ℕ) (e : Error) (ps : List Publish) (b : PublishStates) → queued_in b.cells ≡ waiting ps → queued_in (ended c e b).cells ≡ waiting (filter (is_off publish_channel c) ps)
 ended_queue c e ps b h = ended_from 1 c e b.cells ∙ (ap (filter (λ x. not (x.1 == c))) h ∙ waiting-off c ps)
 
 -- ---- this side closes a channel
@@ -136,7 +136,7 @@ closed_from k c e (Some (cell.Resolved y) ∷ os) = closed_from (suc k) c e os
 closed_from k c e (Some (cell.Pending d u) ∷ os) = closed_from (suc k) c e os
 closed_from k c e (Some (cell.Queued d) ∷ os) = elim (d == c) as (λ b. queued_from k (Some (cond b (cell.Resolved (outcome.Failed e)) (cell.Queued d)) ∷ map (option_map (closed_cell c e)) os) ≡ cond (not b) ((k, d) ∷ filter (λ x. not (x.1 == c)) (queued_from (suc k) os)) (filter (λ x. not (x.1 == c)) (queued_from (suc k) os))) [ true ↦ closed_from (suc k) c e os | false ↦ ap (λ rest. (k, d) ∷ rest) (closed_from (suc k) c e os) ]
 
-pub closed_queue : (c : ℕ) (e : Error) (ps : List Publish) (b : Book) → queued_in b.cells ≡ waiting ps → queued_in (closed_here c e b).cells ≡ waiting (filter (is_off publish_channel c) ps)
+pub closed_queue : (c : ℕ) (e : Error) (ps : List Publish) (b : PublishStates) → queued_in b.cells ≡ waiting ps → queued_in (closed_here c e b).cells ≡ waiting (filter (is_off publish_channel c) ps)
 closed_queue c e ps b h = closed_from 1 c e b.cells ∙ (ap (filter (λ x. not (x.1 == c))) h ∙ waiting-off c ps)
 
 -- ---- openings end together
@@ -153,10 +153,10 @@ on-behind c cs (p ∷ ps) h = elim (eqb_tells p.channel c) [
   | inr n ↦ let away : (c == p.channel) ≡ false = ne_eqb c p.channel (λ e. n.1 (sym e)) in rw n.0 (rw away at h.0, on-behind c cs ps h.1)
 ]
 
-pub ends_queue : (e : Error) (cs : List ℕ) (ps : List Publish) (k : Post) → AreOn cs ps → queued_in k.book.cells ≡ waiting ps → queued_in (fold after_mark k (ends e cs)).book.cells ≡ []
+pub ends_queue : (e : Error) (cs : List ℕ) (ps : List Publish) (k : ConfirmState) → AreOn cs ps → queued_in k.publish_states.cells ≡ waiting ps → queued_in (fold after_mark k (ends e cs)).publish_states.cells ≡ []
 ends_queue e [] [] k a h = h
 ends_queue e [] (p ∷ ps) k a h = let z : false ≡ true = a.0 in absurd cc
-ends_queue e (c ∷ cs) ps k a h = ends_queue e cs (filter (is_off publish_channel c) ps) (after_mark k (mark.Ended c e)) (on-behind c cs ps a) (ended_queue c e ps k.book h)
+ends_queue e (c ∷ cs) ps k a h = ends_queue e cs (filter (is_off publish_channel c) ps) (after_mark k (mark.Ended c e)) (on-behind c cs ps a) (ended_queue c e ps k.publish_states h)
 
 -- ---- of those that are resolved nothing is kept
 
@@ -171,7 +171,7 @@ gone_queue n cells h = still n cells None (resolved_out (under n cells) h) refl
 
 less_one_queue : (n : ℕ) (r : Remains) → queued_in (less_one n r).cells ≡ queued_in r.cells
 less_one_queue n r =
-    elim (is_over r.cells n) as (λ b. is_over r.cells n ≡ b → queued_in (cond b (remaining (with_under n None r.cells) (with_under n None r.homes)) r).cells ≡ queued_in r.cells)
+    elim (is_over r.cells n) as (λ b. is_over r.cells n ≡ b → queued_in (cond b (remaining (with_under n None r.cells) (with_under n None r.origins)) r).cells ≡ queued_in r.cells)
     [ true ↦ λ h. gone_queue n r.cells h | false ↦ λ h. refl ] refl
 
 pub less_queue : (ns : List ℕ) (r : Remains) → queued_in (less_all ns r).cells ≡ queued_in r.cells

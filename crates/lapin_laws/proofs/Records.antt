@@ -7,37 +7,37 @@ use Rattle.lapin_types.specs.declared.record.Record.{Record}
 use Rattle.lapin_types.specs.declared.record.Record.TheVariants as record_
 use Rattle.lapin_types.specs.declared.answer.Answer.{Answer}
 use Rattle.lapin_types.specs.Types.{Error}
-use Rattle.lapin_history.specs.declared.calls.Asked.{Asked}
-use Rattle.lapin_history.specs.declared.calls.Asked.TheVariants as ask
-use Rattle.lapin_history.specs.declared.marks.Outcome.{Outcome}
-use Rattle.lapin_history.specs.declared.marks.Outcome.TheVariants as outcome
-use Rattle.lapin_history.specs.declared.broker_frames.Incoming.{Incoming}
-use Rattle.lapin_history.specs.declared.broker_frames.Incoming.TheVariants as incoming
-use Rattle.lapin_history.specs.ConfirmMarks.{ConfirmMark}
-use Rattle.lapin_history.specs.TicketReadings.{TicketMark, is_collected, answer_of}
-use Rattle.lapin_history.specs.ConfirmReadings.{outcome_at, is_finished, was_added}
-use Rattle.lapin_history.specs.ReturnReadings.{message_of}
+use Rattle.lapin_rules.specs.declared.calls.Asked.{Asked}
+use Rattle.lapin_rules.specs.declared.calls.Asked.TheVariants as ask
+use Rattle.lapin_rules.specs.declared.marks.Outcome.{Outcome}
+use Rattle.lapin_rules.specs.declared.marks.Outcome.TheVariants as outcome
+use Rattle.lapin_rules.specs.declared.broker_frames.Incoming.{Incoming}
+use Rattle.lapin_rules.specs.declared.broker_frames.Incoming.TheVariants as incoming
+use Rattle.lapin_rules.specs.ConfirmMarks.{ConfirmMark}
+use Rattle.lapin_rules.specs.TicketReadings.{TicketMark, is_collected, answer_of}
+use Rattle.lapin_rules.specs.ConfirmReadings.{outcome_at, is_finished, was_added}
+use Rattle.lapin_rules.specs.ReturnReadings.{message_of}
 use Rattle.lapin_types.specs.declared.message.BasicReturnMessage.{BasicReturnMessage}
 use Rattle.lapin_types.specs.declared.acker_call.AckerCall.{AckerCall}
 use Rattle.lapin_types.specs.declared.job.Job.{Job}
-use Rattle.lapin_consumer.specs.Roster.{Handed, Consumer, consumer_at, answered}
-use Rattle.lapin_history.specs.Calls.{asked}
-use Rattle.lapin_history.specs.Phases.{is_up}
-use Rattle.lapin_history.specs.Incoming.{incoming_of, frame_class, frame_method}
-use Rattle.lapin_history.specs.Readings.{Readings}
-use Rattle.lapin_history.specs.Wire.{Wire, state_of, receives_on}
-use Rattle.lapin_history.specs.ChannelClose.{receives_close, receives_close_ok}
-use Rattle.lapin_history.specs.ConnectionClose.{receives_down}
-use Rattle.lapin_history.specs.Reply.{receives_reply}
-use Rattle.lapin_history.specs.Content.{receives_part}
-use Rattle.lapin_history.specs.Unexpected.{refused}
-use Rattle.lapin_history.specs.Polls.{confirmed, is_waited_on}
-use Rattle.lapin_history.specs.Asking.{is_allowed, is_held, accepted_record, call_record, call_told}
-use Rattle.lapin_history.specs.Receiving.{incoming_up}
-use Rattle.lapin_history.specs.Events.{record_of}
-use Rattle.lapin_history.specs.History.{polled_outcome, confirm_poll, confirm_aside, polled_answer, was_given, ticket_poll, ticket_aside, readings_of}
-use Rattle.lapin_history.specs.Ackers.{acker_asked, usable_at, acked_record}
-use Rattle.lapin_history.specs.Consumers.{receives_consumer, item_record, delegate_record, drop_record, job_record}
+use Rattle.lapin_consumer.specs.Subscriptions.{Handed, Consumer, consumer_at, answered}
+use Rattle.lapin_rules.specs.Calls.{asked}
+use Rattle.lapin_rules.specs.Phases.{is_up}
+use Rattle.lapin_rules.specs.Incoming.{incoming_of, frame_class, frame_method}
+use Rattle.lapin_rules.specs.Readings.{Readings}
+use Rattle.lapin_rules.specs.Wire.{Wire, state_of, receives_on}
+use Rattle.lapin_rules.specs.ChannelClose.{receives_close, receives_close_ok}
+use Rattle.lapin_rules.specs.ConnectionClose.{receives_down}
+use Rattle.lapin_rules.specs.Reply.{receives_reply}
+use Rattle.lapin_rules.specs.Content.{receives_part}
+use Rattle.lapin_rules.specs.Unexpected.{refused}
+use Rattle.lapin_rules.specs.Polls.{confirmed, is_waited_on}
+use Rattle.lapin_rules.specs.Asking.{is_allowed, is_held, accepted_record, call_record, call_told}
+use Rattle.lapin_rules.specs.Receiving.{incoming_up}
+use Rattle.lapin_rules.specs.Events.{record_of}
+use Rattle.lapin_rules.specs.History.{polled_outcome, confirm_poll, confirm_aside, polled_answer, was_given, ticket_poll, ticket_aside, readings_of}
+use Rattle.lapin_rules.specs.Ackers.{acker_asked, usable_at, acked_record}
+use Rattle.lapin_rules.specs.Consumers.{receives_consumer, item_record, delegate_record, drop_record, job_record}
 use Rattle.lapin_laws.specs.Outgoing.{given_by}
 use Rattle.lapin_laws.specs.Consumers.{job_in}
 
@@ -139,13 +139,13 @@ record_other b ms ts (event.Receive f) h =
     either (is_up b.link) _ _ (incoming_none b (readings_of ms ts) (frame_class f) (frame_method f) (incoming_of f)) (either (receives_down b.link (incoming_of f)) record_.Received record_.Passed refl refl)
 record_other b ms ts (event.PollTicket n) h = ticket_none ts n
 record_other b ms ts (event.PollConfirm n) h = confirm_none ms n
-record_other b ms ts (event.PollConsumer n) h = item_none (answered (consumer_at n b.inbox.roster))
+record_other b ms ts (event.PollConsumer n) h = item_none (answered (consumer_at n b.deliveries.subscriptions))
 record_other b ms ts (event.PollWait c) h = either (is_waited_on c b (readings_of ms ts)) record_.Pending _ refl refl
 record_other b ms ts (event.AsideConfirm n) h = laid_none ms n
 record_other b ms ts (event.AsideTicket n) h = aside_none ts n
 record_other b ms ts (event.Acker n k) h = acked_none (usable_at n b) k b
-record_other b ms ts (event.Delegate n) h = delegate_none (consumer_at n b.inbox.roster)
-record_other b ms ts (event.DropConsumer n) h = drop_none (consumer_at n b.inbox.roster) b
+record_other b ms ts (event.Delegate n) h = delegate_none (consumer_at n b.deliveries.subscriptions)
+record_other b ms ts (event.DropConsumer n) h = drop_none (consumer_at n b.deliveries.subscriptions) b
 record_other b ms ts event.NextJob h = absurd cc
 record_other b ms ts (event.State c) h = refl
 record_other b ms ts event.Lost h = refl

@@ -10,17 +10,17 @@ use Rattle.lapin_types.specs.declared.record.Record.TheVariants as record_
 use Rattle.lapin_types.specs.Types.{Method}
 use Rattle.lapin_types.specs.Types.frame
 use Rattle.lapin_types.specs.Types.error
-use Rattle.lapin_history.specs.declared.calls.Answered.{Answered}
-use Rattle.lapin_history.specs.declared.calls.Answered.TheVariants as answered
-use Rattle.lapin_history.specs.declared.calls.Asked.{Asked}
-use Rattle.lapin_history.specs.declared.calls.Asked.TheVariants as ask
-use Rattle.lapin_history.specs.TicketReadings.{answer_at}
-use Rattle.lapin_history.specs.Words.{is_some}
-use Rattle.lapin_history.specs.Calls.{asked, is_try}
-use Rattle.lapin_history.specs.Readings.{Readings}
-use Rattle.lapin_history.specs.Wire.{Wire, state_of, is_open}
-use Rattle.lapin_history.specs.Asking.{asked_by, is_outstanding, is_held, call_told, call_record}
-use Rattle.lapin_history.specs.Ackers.{acker_asked}
+use Rattle.lapin_rules.specs.declared.calls.Answered.{Answered}
+use Rattle.lapin_rules.specs.declared.calls.Answered.TheVariants as answered
+use Rattle.lapin_rules.specs.declared.calls.Asked.{Asked}
+use Rattle.lapin_rules.specs.declared.calls.Asked.TheVariants as ask
+use Rattle.lapin_rules.specs.TicketReadings.{answer_at}
+use Rattle.lapin_rules.specs.Words.{is_some}
+use Rattle.lapin_rules.specs.Calls.{asked, is_try}
+use Rattle.lapin_rules.specs.Readings.{Readings}
+use Rattle.lapin_rules.specs.Wire.{Wire, state_of, is_open}
+use Rattle.lapin_rules.specs.Asking.{asked_by, is_outstanding, is_held, call_told, call_record}
+use Rattle.lapin_rules.specs.Ackers.{acker_asked}
 use Rattle.lapin_machine.proofs.Limited.{asked_plain}
 use Rattle.lapin_laws.specs.Closes.{is_channel_close}
 use Rattle.lapin_laws.specs.Unbroken.{is_publish}

@@ -20,44 +20,44 @@ use Rattle.lapin_types.specs.Types.error
 use Rattle.lapin_types.specs.Types.channel_state as state
 use Rattle.lapin_types.specs.declared.acker_call.AckerCall.{AckerCall}
 use Rattle.lapin_types.specs.Types.basic
-use Rattle.lapin_consumer.specs.Roster.{Consumer, consumer_at, is_idle}
-use Rattle.lapin_history.specs.declared.calls.Asked.{Asked}
-use Rattle.lapin_history.specs.declared.calls.Asked.TheVariants as ask
-use Rattle.lapin_history.specs.declared.marks.Settlement.{Settlement}
-use Rattle.lapin_history.specs.declared.phases.ChannelPhase.{ChannelPhase}
-use Rattle.lapin_history.specs.declared.phases.ChannelPhase.TheVariants as phase
-use Rattle.lapin_history.specs.declared.phases.ConnectionPhase.{ConnectionPhase}
-use Rattle.lapin_history.specs.declared.phases.ConnectionPhase.TheVariants as link
-use Rattle.lapin_history.specs.declared.phases.Closer.TheVariants as closer
-use Rattle.lapin_history.specs.declared.broker_frames.Incoming.{Incoming}
-use Rattle.lapin_history.specs.declared.broker_frames.Incoming.TheVariants as incoming
-use Rattle.lapin_history.specs.Calls.{awaited_by}
-use Rattle.lapin_history.specs.Incoming.{incoming_of, frame_class, frame_method}
-use Rattle.lapin_history.specs.Words.{is_some, without_first, with_channel}
-use Rattle.lapin_history.specs.Phases.{is_up, is_lost, is_live, channel_state}
-use Rattle.lapin_history.specs.Requests.{requests_in, is_kind, first_request, without_kind, no_requests, close_alone, request_alone, without_request}
-use Rattle.lapin_history.specs.Readings.{Readings}
-use Rattle.lapin_history.specs.Ends.{down}
-use Rattle.lapin_history.specs.Wire.{Wire, requests_of, state_of, phase_of, is_open, is_opening, is_base, requests_with, noted, receives_on}
-use Rattle.lapin_history.specs.Opening.{opens}
-use Rattle.lapin_history.specs.declared.broker_frames.ContentPart.{ContentPart}
-use Rattle.lapin_history.specs.declared.broker_frames.ContentPart.TheVariants as part
-use Rattle.lapin_history.specs.Content.{receives_part}
-use Rattle.lapin_history.specs.ChannelClose.{has_sent_close, kept_at, phases_sent, closing, after_close_ok, receives_close, receives_close_ok}
-use Rattle.lapin_history.specs.ConnectionClose.{link_sent, receives_down, after_connection_close}
-use Rattle.lapin_history.specs.Settlement.{settlement_record, session_close}
-use Rattle.lapin_history.specs.Loss.{after_lost}
-use Rattle.lapin_history.specs.Reply.{receives, receives_reply, after_reply}
-use Rattle.lapin_history.specs.Unexpected.{refused}
-use Rattle.lapin_history.specs.Asking.{is_allowed, asked_by, after_call, after_asking}
-use Rattle.lapin_history.specs.Receiving.{when, incoming_up, incoming_record, after_incoming}
-use Rattle.lapin_history.specs.Handing.{sent, handed_as}
-use Rattle.lapin_history.specs.Events.{record_of, after_event}
-use Rattle.lapin_history.specs.declared.broker_frames.ConsumerPart.{ConsumerPart}
-use Rattle.lapin_history.specs.declared.broker_frames.ConsumerPart.TheVariants as consumer
-use Rattle.lapin_history.specs.Ackers.{acker_asked, usable_at, acked_wire}
-use Rattle.lapin_history.specs.Consumers.{receives_consumer, lets_go_of, cancel_noted, after_let_go}
-use Rattle.lapin_history.proofs.ChannelLaws.{at-on, at-with}
+use Rattle.lapin_consumer.specs.Subscriptions.{Consumer, consumer_at, is_idle}
+use Rattle.lapin_rules.specs.declared.calls.Asked.{Asked}
+use Rattle.lapin_rules.specs.declared.calls.Asked.TheVariants as ask
+use Rattle.lapin_rules.specs.declared.marks.Settlement.{Settlement}
+use Rattle.lapin_rules.specs.declared.phases.ChannelPhase.{ChannelPhase}
+use Rattle.lapin_rules.specs.declared.phases.ChannelPhase.TheVariants as phase
+use Rattle.lapin_rules.specs.declared.phases.ConnectionPhase.{ConnectionPhase}
+use Rattle.lapin_rules.specs.declared.phases.ConnectionPhase.TheVariants as link
+use Rattle.lapin_rules.specs.declared.phases.Closer.TheVariants as closer
+use Rattle.lapin_rules.specs.declared.broker_frames.Incoming.{Incoming}
+use Rattle.lapin_rules.specs.declared.broker_frames.Incoming.TheVariants as incoming
+use Rattle.lapin_rules.specs.Calls.{awaited_by}
+use Rattle.lapin_rules.specs.Incoming.{incoming_of, frame_class, frame_method}
+use Rattle.lapin_rules.specs.Words.{is_some, without_first, with_channel}
+use Rattle.lapin_rules.specs.Phases.{is_up, is_lost, is_live, channel_state}
+use Rattle.lapin_rules.specs.Requests.{requests_in, is_kind, first_request, without_kind, no_requests, close_alone, request_alone, without_request}
+use Rattle.lapin_rules.specs.Readings.{Readings}
+use Rattle.lapin_rules.specs.Ends.{down}
+use Rattle.lapin_rules.specs.Wire.{Wire, requests_of, state_of, phase_of, is_open, is_opening, is_base, requests_with, noted, receives_on}
+use Rattle.lapin_rules.specs.Opening.{opens}
+use Rattle.lapin_rules.specs.declared.broker_frames.ContentPart.{ContentPart}
+use Rattle.lapin_rules.specs.declared.broker_frames.ContentPart.TheVariants as part
+use Rattle.lapin_rules.specs.Content.{receives_part}
+use Rattle.lapin_rules.specs.ChannelClose.{has_sent_close, kept_at, phases_sent, closing, after_close_ok, receives_close, receives_close_ok}
+use Rattle.lapin_rules.specs.ConnectionClose.{link_sent, receives_down, after_connection_close}
+use Rattle.lapin_rules.specs.Settlement.{settlement_record, session_close}
+use Rattle.lapin_rules.specs.Loss.{after_lost}
+use Rattle.lapin_rules.specs.Reply.{receives, receives_reply, after_reply}
+use Rattle.lapin_rules.specs.Unexpected.{refused}
+use Rattle.lapin_rules.specs.Asking.{is_allowed, asked_by, after_call, after_asking}
+use Rattle.lapin_rules.specs.Receiving.{when, incoming_up, incoming_record, after_incoming}
+use Rattle.lapin_rules.specs.Handing.{sent, handed_as}
+use Rattle.lapin_rules.specs.Events.{record_of, after_event}
+use Rattle.lapin_rules.specs.declared.broker_frames.ConsumerPart.{ConsumerPart}
+use Rattle.lapin_rules.specs.declared.broker_frames.ConsumerPart.TheVariants as consumer
+use Rattle.lapin_rules.specs.Ackers.{acker_asked, usable_at, acked_wire}
+use Rattle.lapin_rules.specs.Consumers.{receives_consumer, lets_go_of, cancel_noted, after_let_go}
+use Rattle.lapin_rules.proofs.ChannelLaws.{at-on, at-with}
 use Rattle.lapin_machine.specs.Tied.{is_live_on}
 use Rattle.lapin_machine.specs.World.{World, new_world, next, readings_of}
 use Rattle.lapin_machine.proofs.Back.{next_keeps}
@@ -340,14 +340,14 @@ settled-next b readings (event.AsideConfirm k) h = h
 settled-next b readings (event.PollConsumer k) h = h
 settled-next b readings (event.Acker m k) h = acked_settled (usable_at m b) k b h
 settled-next b readings (event.Delegate k) h = h
-settled-next b readings (event.DropConsumer k) h = dropped_settled (consumer_at k b.inbox.roster) b h
+settled-next b readings (event.DropConsumer k) h = dropped_settled (consumer_at k b.deliveries.subscriptions) b h
 settled-next b readings event.NextJob h = h
 settled-next b readings (event.State c) h = h
 settled-next b readings event.Lost h = lost_settled b h
 
 settled_from : (w : World) (es : List Event) → Settled w.wire → Settled (fold next w es).wire
 settled_from w [] h = h
-settled_from w (e ∷ es) h = settled_from (next w e) es (next_keeps (λ v. Settled v.wire) w e (settled-next w.wire (readings_of w.post w.slots) e h) h)
+settled_from w (e ∷ es) h = settled_from (next w e) es (next_keeps (λ v. Settled v.wire) w e (settled-next w.wire (readings_of w.confirm_state w.slots) e h) h)
 
 pub settled_after : (n : ℕ) (es : List Event) → Settled (world_after n es).wire
 settled_after n es = settled_from (new_world n) es (λ c z dead. refl)

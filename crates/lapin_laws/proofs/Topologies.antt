@@ -13,16 +13,16 @@ use Rattle.lapin_registry.specs.Marks.{RegistryMark}
 use Rattle.lapin_registry.specs.Completed.{recorded}
 use Rattle.lapin_registry.specs.Topology.{empty_definition, after_mark as after_registry_mark, after_marks, topology}
 use Rattle.lapin_registry.specs.Topologies.{Topologies, with_completed, completed_on, emptied, begun_at, begun_on}
-use Rattle.lapin_inbox.specs.Inbox.{Inbox, empty_inbox, topologies_after}
-use Rattle.lapin_inbox.specs.Marks.{InboxMark}
-use Rattle.lapin_inbox.specs.Marks as inbox
-use Rattle.lapin_inbox.proofs.Histories.{registries-follow}
-use Rattle.lapin_history.specs.History.{run}
-use Rattle.lapin_history.specs.Words.{since}
-use Rattle.lapin_laws.specs.Consumers.{inbox_history}
+use Rattle.lapin_delivery.specs.Deliveries.{Deliveries, empty_deliveries, topologies_after}
+use Rattle.lapin_delivery.specs.Marks.{DeliveryMark}
+use Rattle.lapin_delivery.specs.Marks as deliveries
+use Rattle.lapin_delivery.proofs.Histories.{registries-follow}
+use Rattle.lapin_rules.specs.History.{run}
+use Rattle.lapin_rules.specs.Words.{since}
+use Rattle.lapin_laws.specs.Consumers.{deliveries_history}
 use Rattle.lapin_laws.specs.Registry.{opens_on, recorded_on, all_recorded_on, topology_of}
 use Rattle.lapin_laws.specs.Runs.{world_after}
-use Rattle.lapin_laws.proofs.Rosters.{inbox_after}
+use Rattle.lapin_laws.proofs.Subscriptions.{deliveries_after}
 
 -- ---- an opening begins
 
@@ -49,36 +49,36 @@ after-join d [] ns = refl
 after-join d (m ∷ ms) ns = after-join (after_registry_mark d m) ms ns
 
 module _ (c : ℕ) where
-  abbrev later : List InboxMark → ChannelDefinition
+  abbrev later : List DeliveryMark → ChannelDefinition
   later ms = topology (all_recorded_on c (since (opens_on c) ms))
 
-  abbrev reading : Option ChannelDefinition → List InboxMark → Option ChannelDefinition
+  abbrev reading : Option ChannelDefinition → List DeliveryMark → Option ChannelDefinition
   reading o ms = cond (list_any (opens_on c) ms) (Some (later ms)) (option_map (λ d. after_marks d (all_recorded_on c ms)) o)
 
   -- a mark that is nothing to the channel
-  passed : (m : InboxMark) (ms : List InboxMark) (o : Option ChannelDefinition) → opens_on c m ≡ false → recorded_on c m ≡ [] → reading o ms ≡ reading o (m ∷ ms)
+  passed : (m : DeliveryMark) (ms : List DeliveryMark) (o : Option ChannelDefinition) → opens_on c m ≡ false → recorded_on c m ≡ [] → reading o ms ≡ reading o (m ∷ ms)
   passed m ms o shut none = rw (shut, none) (elim (list_any (opens_on c) ms) as (λ b. cond b (Some (later ms)) (option_map (λ d. after_marks d (all_recorded_on c ms)) o) ≡ cond b (Some (topology (all_recorded_on c (cond b (since (opens_on c) ms) [])))) (option_map (λ d. after_marks d (all_recorded_on c ms)) o)) [ true ↦ refl | false ↦ refl ])
 
   -- its opening begins
-  opened : (m : InboxMark) (ms : List InboxMark) (o : Option ChannelDefinition) → opens_on c m ≡ true → reading (Some empty_definition) ms ≡ reading o (m ∷ ms)
+  opened : (m : DeliveryMark) (ms : List DeliveryMark) (o : Option ChannelDefinition) → opens_on c m ≡ true → reading (Some empty_definition) ms ≡ reading o (m ∷ ms)
   opened m ms o opens = rw opens (elim (list_any (opens_on c) ms) as (λ b. cond b (Some (later ms)) (Some (after_marks empty_definition (all_recorded_on c ms))) ≡ Some (topology (all_recorded_on c (cond b (since (opens_on c) ms) ms)))) [ true ↦ refl | false ↦ refl ])
 
-  joined : (rs : List RegistryMark) (o : Option ChannelDefinition) (ms : List InboxMark) → option_map (λ d. after_marks d (all_recorded_on c ms)) (option_map (λ d. after_marks d rs) o) ≡ option_map (λ d. after_marks d (rs ++ all_recorded_on c ms)) o
+  joined : (rs : List RegistryMark) (o : Option ChannelDefinition) (ms : List DeliveryMark) → option_map (λ d. after_marks d (all_recorded_on c ms)) (option_map (λ d. after_marks d rs) o) ≡ option_map (λ d. after_marks d (rs ++ all_recorded_on c ms)) o
   joined rs None ms = refl
   joined rs (Some d) ms = ap Some (sym (after-join d rs (all_recorded_on c ms)))
 
   -- a request of its is completed
-  completed : (d : ℕ) (r : Reply) (a : Answer) (ms : List InboxMark) (o : Option ChannelDefinition) → (d == c) ≡ true → reading (option_map (with_completed r a) o) ms ≡ reading o (inbox.Completed d r a ∷ ms)
+  completed : (d : ℕ) (r : Reply) (a : Answer) (ms : List DeliveryMark) (o : Option ChannelDefinition) → (d == c) ≡ true → reading (option_map (with_completed r a) o) ms ≡ reading o (deliveries.Completed d r a ∷ ms)
   completed d r a ms o here = rw here (elim (list_any (opens_on c) ms) as (λ b. cond b (Some (later ms)) (option_map (λ d. after_marks d (all_recorded_on c ms)) (option_map (with_completed r a) o)) ≡ cond b (Some (topology (all_recorded_on c (cond b (since (opens_on c) ms) [])))) (option_map (λ d. after_marks d (recorded r a ++ all_recorded_on c ms)) o)) [ true ↦ refl | false ↦ joined (recorded r a) o ms ])
 
-  step : (m : InboxMark) (t : Topologies) (ms : List InboxMark) → reading (at_channel c (topologies_after t m)) ms ≡ reading (at_channel c t) (m ∷ ms)
-  step (inbox.Opened d) t ms = elim (eqb_tells d c) [
-    | inl same ↦ ap (λ k. reading (at_channel c (begun_on k t)) ms) same.1 ∙ ap (λ o. reading o ms) (begun-same c t) ∙ opened (inbox.Opened d) ms (at_channel c t) same.0
-    | inr other ↦ ap (λ o. reading o ms) (begun-other d c t other.1) ∙ passed (inbox.Opened d) ms (at_channel c t) other.0 refl
+  step : (m : DeliveryMark) (t : Topologies) (ms : List DeliveryMark) → reading (at_channel c (topologies_after t m)) ms ≡ reading (at_channel c t) (m ∷ ms)
+  step (deliveries.Opened d) t ms = elim (eqb_tells d c) [
+    | inl same ↦ ap (λ k. reading (at_channel c (begun_on k t)) ms) same.1 ∙ ap (λ o. reading o ms) (begun-same c t) ∙ opened (deliveries.Opened d) ms (at_channel c t) same.0
+    | inr other ↦ ap (λ o. reading o ms) (begun-other d c t other.1) ∙ passed (deliveries.Opened d) ms (at_channel c t) other.0 refl
   ]
-  step (inbox.Completed d r a) t ms = elim (eqb_tells d c) [
+  step (deliveries.Completed d r a) t ms = elim (eqb_tells d c) [
     | inl same ↦ ap (λ k. reading (at_channel c (completed_on k r a t)) ms) same.1 ∙ ap (λ o. reading o ms) (at-on_same c (with_completed r a) t) ∙ completed d r a ms (at_channel c t) same.0
-    | inr other ↦ ap (λ o. reading o ms) (at-on_other d c (with_completed r a) t other.1) ∙ passed (inbox.Completed d r a) ms (at_channel c t) refl (rw other.0 refl)
+    | inr other ↦ ap (λ o. reading o ms) (at-on_other d c (with_completed r a) t other.1) ∙ passed (deliveries.Completed d r a) ms (at_channel c t) refl (rw other.0 refl)
   ]
   step m t ms = passed m ms (at_channel c t) refl refl
 
@@ -86,11 +86,11 @@ module _ (c : ℕ) where
   kept None = refl
   kept (Some d) = refl
 
-  reads : (t : Topologies) (ms : List InboxMark) → at_channel c (fold topologies_after t ms) ≡ reading (at_channel c t) ms
+  reads : (t : Topologies) (ms : List DeliveryMark) → at_channel c (fold topologies_after t ms) ≡ reading (at_channel c t) ms
   reads t [] = kept (at_channel c t)
   reads t (m ∷ ms) = reads (topologies_after t m) ms ∙ step m t ms
 
 -- ---- after every list of events
 
-pub topology_after : (n : ℕ) (es : List Event) (c : ℕ) → at_channel c (world_after n es).wire.inbox.topologies ≡ topology_of c (inbox_history n (zip es (run n es)))
-topology_after n es c = ap (λ (i : Inbox). at_channel c i.topologies) (inbox_after n es) ∙ ap (at_channel c) (registries-follow empty_inbox (inbox_history n (zip es (run n es)))) ∙ reads c [] (inbox_history n (zip es (run n es)))
+pub topology_after : (n : ℕ) (es : List Event) (c : ℕ) → at_channel c (world_after n es).wire.deliveries.topologies ≡ topology_of c (deliveries_history n (zip es (run n es)))
+topology_after n es c = ap (λ (i : Deliveries). at_channel c i.topologies) (deliveries_after n es) ∙ ap (at_channel c) (registries-follow empty_deliveries (deliveries_history n (zip es (run n es)))) ∙ reads c [] (deliveries_history n (zip es (run n es)))

@@ -3,9 +3,9 @@ use Rattle.std.proofs.Common.{◌≡◌, ℕ, List, [], ◌∷◌, ◌++◌, Non
 use Rattle.std.specs.List.{fold}
 use Rattle.lapin_types.specs.declared.event.Event.{Event}
 use Rattle.lapin_types.specs.declared.record.Record.{Record}
-use Rattle.lapin_history.specs.History.{History, rec, run_from, run}
-use Rattle.lapin_history.specs.Machine.{IsTheMachines}
-use Rattle.lapin_history.proofs.Runs.{machines-run}
+use Rattle.lapin_rules.specs.History.{History, rec, run_from, run}
+use Rattle.lapin_rules.specs.Machine.{IsTheMachines}
+use Rattle.lapin_rules.proofs.Runs.{machines-run}
 use Rattle.lapin_machine.specs.Stands.{Stands}
 use Rattle.lapin_machine.specs.World.{World, new_world, next, told_by, outputs}
 use Rattle.lapin_machine.specs.Returned.{given_back}

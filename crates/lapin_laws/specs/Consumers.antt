@@ -7,27 +7,27 @@ use Rattle.lapin_types.specs.declared.record.Record.TheVariants as record_
 use Rattle.lapin_types.specs.declared.job.Job.{Job}
 use Rattle.lapin_acker.specs.Marks.{AckerMark}
 use Rattle.lapin_consumer.specs.Marks.{ConsumerMark}
-use Rattle.lapin_inbox.specs.Inbox.{empty_inbox, all_consumer_marks, all_acker_marks}
-use Rattle.lapin_inbox.specs.Marks.{InboxMark}
-use Rattle.lapin_history.specs.Events.{inbox_marks}
-use Rattle.lapin_history.specs.History.{History, Past, longer, past}
+use Rattle.lapin_delivery.specs.Deliveries.{empty_deliveries, all_consumer_marks, all_acker_marks}
+use Rattle.lapin_delivery.specs.Marks.{DeliveryMark}
+use Rattle.lapin_rules.specs.Events.{delivery_marks}
+use Rattle.lapin_rules.specs.History.{History, Past, longer, past}
 
 -- what happens to consumers and ackers, and to what was declared, in a history that goes on from this past
-abbrev pub inbox_on : Past → History → List InboxMark
-inbox_on p [] = []
-inbox_on p (x ∷ h) = inbox_marks p.wire x.0 x.1 ++ inbox_on (longer p x.0 x.1) h
+abbrev pub deliveries_on : Past → History → List DeliveryMark
+deliveries_on p [] = []
+deliveries_on p (x ∷ h) = delivery_marks p.wire x.0 x.1 ++ deliveries_on (longer p x.0 x.1) h
 
 -- all that happened to consumers and ackers, and to what was declared
-abbrev pub inbox_history : ℕ → History → List InboxMark
-inbox_history frame_max h = inbox_on (past frame_max []) h
+abbrev pub deliveries_history : ℕ → History → List DeliveryMark
+deliveries_history frame_max h = deliveries_on (past frame_max []) h
 
 -- all that happened to consumers
 abbrev pub consumer_history : ℕ → History → List ConsumerMark
-consumer_history frame_max h = all_consumer_marks (inbox_history frame_max h)
+consumer_history frame_max h = all_consumer_marks (deliveries_history frame_max h)
 
 -- all that happened to ackers
 abbrev pub acker_history : ℕ → History → List AckerMark
-acker_history frame_max h = all_acker_marks empty_inbox (inbox_history frame_max h)
+acker_history frame_max h = all_acker_marks empty_deliveries (deliveries_history frame_max h)
 
 -- ---- jobs that were given
 

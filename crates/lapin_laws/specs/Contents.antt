@@ -8,23 +8,23 @@ use Rattle.lapin_types.specs.declared.record.Record.TheVariants as record_
 use Rattle.lapin_content.specs.Contents.{for_ticket, for_consumer}
 use Rattle.lapin_content.specs.Marks.{ContentMark}
 use Rattle.lapin_content.specs.Marks as content
-use Rattle.lapin_consumer.specs.Roster.{found}
-use Rattle.lapin_history.specs.declared.broker_frames.ContentPart.{ContentPart}
-use Rattle.lapin_history.specs.declared.broker_frames.ContentPart.TheVariants as part
-use Rattle.lapin_history.specs.declared.broker_frames.Incoming.{Incoming}
-use Rattle.lapin_history.specs.declared.broker_frames.Incoming.TheVariants as incoming
-use Rattle.lapin_history.specs.Incoming.{incoming_of}
-use Rattle.lapin_history.specs.Content.{content_class, get_ticket}
-use Rattle.lapin_history.specs.Events.{confirm_marks}
-use Rattle.lapin_history.specs.History.{History, Past, longer, past}
-use Rattle.lapin_history.specs.Wire.{Wire}
+use Rattle.lapin_consumer.specs.Subscriptions.{found}
+use Rattle.lapin_rules.specs.declared.broker_frames.ContentPart.{ContentPart}
+use Rattle.lapin_rules.specs.declared.broker_frames.ContentPart.TheVariants as part
+use Rattle.lapin_rules.specs.declared.broker_frames.Incoming.{Incoming}
+use Rattle.lapin_rules.specs.declared.broker_frames.Incoming.TheVariants as incoming
+use Rattle.lapin_rules.specs.Incoming.{incoming_of}
+use Rattle.lapin_rules.specs.Content.{content_class, get_ticket}
+use Rattle.lapin_rules.specs.Events.{confirm_marks}
+use Rattle.lapin_rules.specs.History.{History, Past, longer, past}
+use Rattle.lapin_rules.specs.Wire.{Wire}
 use Rattle.lapin_laws.specs.Outgoing.{ended_in}
 
 -- a part that is received; the answer to a get names the get that it answers, a delivery the consumer that is registered under its tag
 abbrev pub part_contents : ℕ → ContentPart → Wire → List ContentMark
 part_contents c (part.GetOk s) b = content.Awaited c content_class (for_ticket (get_ticket c b) s) ∷ []
 part_contents c (part.Return s) b = content.Awaited c content_class s ∷ []
-part_contents c (part.Deliver tag s) b = content.Awaited c content_class (for_consumer (found c tag b.inbox.roster) s) ∷ []
+part_contents c (part.Deliver tag s) b = content.Awaited c content_class (for_consumer (found c tag b.deliveries.subscriptions) s) ∷ []
 part_contents c (part.Header h) b = content.Header c h ∷ []
 part_contents c (part.Body bytes) b = content.Body c bytes ∷ []
 

@@ -5,13 +5,13 @@ use Rattle.lapin_types.specs.declared.event.Event.{Event}
 use Rattle.lapin_types.specs.declared.record.Record.{Record}
 use Rattle.lapin_types.specs.declared.record.Record.TheVariants as record_
 use Rattle.lapin_types.specs.declared.leaving.Publish.{Publish}
-use Rattle.lapin_history.specs.ConfirmMarks.{ConfirmMark}
-use Rattle.lapin_history.specs.ConfirmReadings.{is_selected, limit_of}
-use Rattle.lapin_history.specs.ConfirmReadings as read
-use Rattle.lapin_history.specs.Drops.{frame_channel}
-use Rattle.lapin_history.specs.History.{History, longer, past, rec, run}
-use Rattle.lapin_confirm.specs.Book.{Book, selected_on, limit_on, pending_count}
-use Rattle.lapin_confirm.specs.Post.{Post}
+use Rattle.lapin_rules.specs.ConfirmMarks.{ConfirmMark}
+use Rattle.lapin_rules.specs.ConfirmReadings.{is_selected, limit_of}
+use Rattle.lapin_rules.specs.ConfirmReadings as read
+use Rattle.lapin_rules.specs.Drops.{frame_channel}
+use Rattle.lapin_rules.specs.History.{History, longer, past, rec, run}
+use Rattle.lapin_confirm.specs.PublishStates.{PublishStates, selected_on, limit_on, pending_count}
+use Rattle.lapin_confirm.specs.ConfirmState.{ConfirmState}
 use Rattle.lapin_machine.specs.World.{full_in}
 use Rattle.lapin_laws.specs.Unbroken.{is_publish}
 
@@ -21,7 +21,7 @@ is_publish_on c (record_.Frame f) = is_publish f && frame_channel f == c
 is_publish_on c _ = false
 
 -- where the channel's opening is selected and has a limit, at most that many of its tags are pending
-abbrev pub IsWithinLimit : ℕ → Book → Type 0
+abbrev pub IsWithinLimit : ℕ → PublishStates → Type 0
 IsWithinLimit c b = selected_on c b ≡ true → 0 < limit_on c b → pending_count c b ≤ limit_on c b
 
 -- the same as the history shows it: on a selected opening with a limit at most that many tags are pending
@@ -29,7 +29,7 @@ abbrev pub AreWithinLimit : ℕ → List ConfirmMark → Type 0
 AreWithinLimit c ms = is_selected c ms ≡ true → 0 < limit_of c ms → read.pending_count c ms ≤ limit_of c ms
 
 -- the publish's channel is not full
-abbrev pub is_free_in : Post → Publish → Bool
+abbrev pub is_free_in : ConfirmState → Publish → Bool
 is_free_in k p = not (full_in k p.channel)
 
 -- ---- the history of a run

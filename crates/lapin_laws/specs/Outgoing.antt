@@ -7,13 +7,13 @@ use Rattle.lapin_types.specs.declared.record.Record.{Record}
 use Rattle.lapin_types.specs.declared.record.Record.TheVariants as record_
 use Rattle.lapin_types.specs.declared.leaving.Publish.{Publish}
 use Rattle.lapin_types.specs.Types.{Frame}
-use Rattle.lapin_history.specs.declared.calls.Asked.{Asked}
-use Rattle.lapin_history.specs.declared.calls.Asked.TheVariants as ask
-use Rattle.lapin_history.specs.Asking.{asked_by}
-use Rattle.lapin_history.specs.ConfirmMarks.{ConfirmMark}
-use Rattle.lapin_history.specs.ConfirmMarks as mark
-use Rattle.lapin_history.specs.Events.{confirm_marks}
-use Rattle.lapin_history.specs.History.{History, Past, longer, past}
+use Rattle.lapin_rules.specs.declared.calls.Asked.{Asked}
+use Rattle.lapin_rules.specs.declared.calls.Asked.TheVariants as ask
+use Rattle.lapin_rules.specs.Asking.{asked_by}
+use Rattle.lapin_rules.specs.ConfirmMarks.{ConfirmMark}
+use Rattle.lapin_rules.specs.ConfirmMarks as mark
+use Rattle.lapin_rules.specs.Events.{confirm_marks}
+use Rattle.lapin_rules.specs.History.{History, Past, longer, past}
 
 -- one thing that matters to the frames handed out
 pub data Point : Type 0 where

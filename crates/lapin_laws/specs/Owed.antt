@@ -6,7 +6,7 @@ use Rattle.lapin_content.specs.declared.start.Start.{Start}
 use Rattle.lapin_content.specs.declared.start.Start.TheVariants as start
 use Rattle.lapin_content.specs.Contents.{Expected}
 use Rattle.lapin_content.specs.Channels.{expected_on}
-use Rattle.lapin_history.specs.Wire.{Wire, requests_of}
+use Rattle.lapin_rules.specs.Wire.{Wire, requests_of}
 
 -- x stands in the list
 abbrev pub IsIn : {X : Type 0} → X → List X → Type 0

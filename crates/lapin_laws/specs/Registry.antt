@@ -6,25 +6,25 @@ use Rattle.lapin_registry.specs.declared.registry.ChannelDefinition.{ChannelDefi
 use Rattle.lapin_registry.specs.Marks.{RegistryMark}
 use Rattle.lapin_registry.specs.Completed.{recorded}
 use Rattle.lapin_registry.specs.Topology.{topology}
-use Rattle.lapin_inbox.specs.Marks.{InboxMark}
-use Rattle.lapin_inbox.specs.Marks as inbox
-use Rattle.lapin_history.specs.Words.{since}
+use Rattle.lapin_delivery.specs.Marks.{DeliveryMark}
+use Rattle.lapin_delivery.specs.Marks as deliveries
+use Rattle.lapin_rules.specs.Words.{since}
 
 -- an opening of the channel begins
-abbrev pub opens_on : ℕ → InboxMark → Bool
-opens_on c (inbox.Opened d) = d == c
+abbrev pub opens_on : ℕ → DeliveryMark → Bool
+opens_on c (deliveries.Opened d) = d == c
 opens_on c _ = false
 
 -- what is recorded on the channel
-abbrev pub recorded_on : ℕ → InboxMark → List RegistryMark
-recorded_on c (inbox.Completed d r a) = if d == c then recorded r a else []
+abbrev pub recorded_on : ℕ → DeliveryMark → List RegistryMark
+recorded_on c (deliveries.Completed d r a) = if d == c then recorded r a else []
 recorded_on c _ = []
 
 -- what is recorded on the channel by all of these, in order
-abbrev pub all_recorded_on : ℕ → List InboxMark → List RegistryMark
+abbrev pub all_recorded_on : ℕ → List DeliveryMark → List RegistryMark
 all_recorded_on c [] = []
 all_recorded_on c (m ∷ ms) = recorded_on c m ++ all_recorded_on c ms
 
 -- what the channel declared and bound, where it ever had an opening
-abbrev pub topology_of : ℕ → List InboxMark → Option ChannelDefinition
+abbrev pub topology_of : ℕ → List DeliveryMark → Option ChannelDefinition
 topology_of c ms = if list_any (opens_on c) ms then Some (topology (all_recorded_on c (since (opens_on c) ms))) else None

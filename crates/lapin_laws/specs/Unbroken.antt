@@ -7,8 +7,8 @@ use Rattle.lapin_types.specs.Types.{Frame}
 use Rattle.lapin_types.specs.Types.frame
 use Rattle.lapin_types.specs.Types.method
 use Rattle.lapin_types.specs.Types.basic
-use Rattle.lapin_history.specs.Drops.{frame_channel, is_off, publish_channel}
-use Rattle.lapin_history.specs.Frames.{publish_method, content_header, room_for_body}
+use Rattle.lapin_rules.specs.Drops.{frame_channel, is_off, publish_channel}
+use Rattle.lapin_rules.specs.Frames.{publish_method, content_header, room_for_body}
 use Rattle.lapin_outbox.specs.Cut.{IsCut}
 use Rattle.lapin_laws.specs.Outgoing.{Point, Called, Requested, Ended}
 

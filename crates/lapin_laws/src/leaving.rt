@@ -3,8 +3,8 @@
 ghost use Rattle.std.specs.Prelude.{◌≡◌, ◌<◌, ℕ, true, false, List, zip};
 ghost use Rattle.std.specs.List.{list_any};
 ghost use Rattle.lapin_types.specs.declared.event.Event.{Event as AnEvent};
-ghost use Rattle.lapin_history.specs.Events.{confirm_marks};
-ghost use Rattle.lapin_history.specs.History.{run};
+ghost use Rattle.lapin_rules.specs.Events.{confirm_marks};
+ghost use Rattle.lapin_rules.specs.History.{run};
 ghost use Rattle.lapin_tables.specs.ByChannel.{at_channel};
 ghost use Rattle.lapin_machine.specs.Tied.{is_live_on};
 ghost use Rattle.lapin_machine.specs.World.{next, told_by};

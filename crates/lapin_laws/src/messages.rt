@@ -8,7 +8,7 @@ ghost use Rattle.lapin_content.specs.Contents.{heard_header, heard_body};
 ghost use Rattle.lapin_content.specs.Channels.{expected_on};
 ghost use Rattle.lapin_content.specs.Follows.{Follows, IsLastBody, IsEmpty};
 ghost use Rattle.lapin_tables.specs.ByChannel.{at_channel};
-ghost use Rattle.lapin_history.specs.History.{run};
+ghost use Rattle.lapin_rules.specs.History.{run};
 ghost use Rattle.lapin_machine.specs.Tied.{is_live_on};
 ghost use Rattle.lapin_laws.specs.Contents.{content_history};
 ghost use Rattle.lapin_laws.specs.Runs.{world_after};

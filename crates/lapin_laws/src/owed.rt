@@ -2,7 +2,7 @@
 
 ghost use Rattle.std.specs.Prelude.{◌≡◌, ℕ, Bool, List, Some};
 ghost use Rattle.lapin_types.specs.declared.event.Event.{Event as AnEvent};
-ghost use Rattle.lapin_history.specs.declared.marks.AtLeaving.TheVariants as leaving;
+ghost use Rattle.lapin_rules.specs.declared.marks.AtLeaving.TheVariants as leaving;
 ghost use Rattle.lapin_tables.specs.Numbered.{under};
 ghost use Rattle.lapin_ticket.specs.declared.Slot.TheVariants as slot;
 ghost use Rattle.lapin_laws.specs.Owed.{IsOwed};

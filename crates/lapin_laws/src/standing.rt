@@ -2,8 +2,8 @@
 
 ghost use Rattle.std.specs.Prelude.{◌≡◌, ℕ, None, List, [], ◌∷◌, ◌++◌, zip};
 ghost use Rattle.lapin_types.specs.declared.event.Event.{Event as AnEvent};
-ghost use Rattle.lapin_history.specs.History.{History, rec, run};
-ghost use Rattle.lapin_history.specs.Machine.{IsTheMachines};
+ghost use Rattle.lapin_rules.specs.History.{History, rec, run};
+ghost use Rattle.lapin_rules.specs.Machine.{IsTheMachines};
 ghost use Rattle.lapin_machine.specs.Returned.{given_back};
 ghost use Rattle.lapin_machine.specs.Stands.{Stands};
 ghost use Rattle.lapin_machine.specs.World.{World, new_world, next, told_by, outputs};

@@ -3,10 +3,10 @@
 ghost use Rattle.std.specs.Prelude.{◌≡◌, ◌==◌, ℕ, true, false, List, [], Bool, if◌then◌else◌};
 ghost use Rattle.lapin_types.specs.declared.event.Event.{Event as AnEvent};
 ghost use Rattle.lapin_types.specs.declared.request.ReplyKind.TheVariants as reply_kind;
-ghost use Rattle.lapin_history.specs.Wire.{phase_of, requests_of};
-ghost use Rattle.lapin_history.specs.Drops.{unbegun, is_rest_of};
-ghost use Rattle.lapin_history.specs.Phases.{is_up};
-ghost use Rattle.lapin_history.specs.Requests.{without_kind};
+ghost use Rattle.lapin_rules.specs.Wire.{phase_of, requests_of};
+ghost use Rattle.lapin_rules.specs.Drops.{unbegun, is_rest_of};
+ghost use Rattle.lapin_rules.specs.Phases.{is_up};
+ghost use Rattle.lapin_rules.specs.Requests.{without_kind};
 ghost use Rattle.lapin_tables.specs.ByChannel.{at_channel};
 ghost use Rattle.lapin_machine.specs.Tied.{is_live_on};
 ghost use Rattle.lapin_laws.specs.Closes.{closes_of, is_unsent};
@@ -31,5 +31,5 @@ pub fn only_live_openings_wait()
 /// The publishes that have not begun are those whose confirms are queued: the same numbers with the same channels, in order of
 /// call, and no others.
 pub fn waiting_publishes_are_queued()
-    ensures { (frame_max : ℕ) (events : List AnEvent) → queued_in (world_after frame_max events).post.book.cells ≡ waiting (world_after frame_max events).wire.publishes }
+    ensures { (frame_max : ℕ) (events : List AnEvent) → queued_in (world_after frame_max events).confirm_state.publish_states.cells ≡ waiting (world_after frame_max events).wire.publishes }
 {}

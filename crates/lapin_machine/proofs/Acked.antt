@@ -6,15 +6,15 @@ use Rattle.lapin_types.specs.declared.acker_call.AckerCall.{AckerCall}
 use Rattle.lapin_types.specs.declared.acker_call.AckerCall.TheVariants as acker_call
 use Rattle.lapin_types.specs.declared.event.Event.TheVariants as event
 use Rattle.lapin_types.specs.declared.record.Record.TheVariants as record_
-use Rattle.lapin_inbox.specs.Inbox.{Inbox, after_mark}
-use Rattle.lapin_inbox.specs.Marks.{InboxMark}
-use Rattle.lapin_inbox.specs.Marks as inbox
-use Rattle.lapin_history.specs.ConfirmMarks.{ConfirmMark}
-use Rattle.lapin_history.specs.Wire.{Wire, state_of, with_inbox}
-use Rattle.lapin_history.specs.Asking.{is_allowed, call_record, asked_wire, asking_inbox, asking_marks}
-use Rattle.lapin_history.specs.Ackers.{acker_asked, usable_at, acked_record, acked_wire, acked_inbox, acked_tickets}
-use Rattle.lapin_ticket.specs.Slots as desk
-use Rattle.lapin_confirm.specs.Machine as post
+use Rattle.lapin_delivery.specs.Deliveries.{Deliveries, after_mark}
+use Rattle.lapin_delivery.specs.Marks.{DeliveryMark}
+use Rattle.lapin_delivery.specs.Marks as deliveries
+use Rattle.lapin_rules.specs.ConfirmMarks.{ConfirmMark}
+use Rattle.lapin_rules.specs.Wire.{Wire, state_of, with_deliveries}
+use Rattle.lapin_rules.specs.Asking.{is_allowed, call_record, asked_wire, asking_deliveries, asking_marks}
+use Rattle.lapin_rules.specs.Ackers.{acker_asked, usable_at, acked_record, acked_wire, acked_deliveries, acked_tickets}
+use Rattle.lapin_ticket.specs.Slots as slots_of_tickets
+use Rattle.lapin_confirm.specs.Machine as confirm_state
 use Rattle.lapin_machine.specs.World.{World, next, asking, spending, told_by}
 use Rattle.lapin_machine.proofs.Seen.{world_is}
 
@@ -29,8 +29,8 @@ no_marks c (acker_call.Nack o) tag b = choose_empty (is_allowed (acker_asked (ac
 no_marks c (acker_call.Reject o) tag b = choose_empty (is_allowed (acker_asked (acker_call.Reject o) tag) (state_of c b))
 
 -- the acker is used up after the call
-boxed_twice : (ms : List InboxMark) (m : InboxMark) (x : Wire) → with_inbox (m ∷ []) (with_inbox ms x) ≡ with_inbox (ms ++ m ∷ []) x
-boxed_twice ms m x = ap (λ (i : Inbox). record x { inbox = i }) (sym (fold-append after_mark x.inbox ms (m ∷ [])))
+boxed_twice : (ms : List DeliveryMark) (m : DeliveryMark) (x : Wire) → with_deliveries (m ∷ []) (with_deliveries ms x) ≡ with_deliveries (ms ++ m ∷ []) x
+boxed_twice ms m x = ap (λ (i : Deliveries). record x { deliveries = i }) (sym (fold-append after_mark x.deliveries ms (m ∷ [])))
 
 module _ (n : ℕ) (k : AckerCall) (w : World) where
   abbrev b : Wire
@@ -42,11 +42,11 @@ module _ (n : ℕ) (k : AckerCall) (w : World) where
 
   pub acked_next : (x : ℕ × ℕ) → usable_at n b ≡ Some x → spending n (asking x.0 (acker_asked k x.1) w) ≡ next w (event.Acker n k)
   acked_next x is =
-      let ms : List InboxMark = asking_inbox x.0 (acker_asked k x.1) b in
+      let ms : List DeliveryMark = asking_deliveries x.0 (acker_asked k x.1) b in
       world_is _ _
-      (boxed_twice ms (inbox.Spent n) (asked_wire x.0 (acker_asked k x.1) b) ∙ ap (λ (o : Option (ℕ × ℕ)). with_inbox (acked_inbox n o k b) (acked_wire o k b)) (sym is))
-      (ap (λ (xs : List ConfirmMark). fold post.after_mark w.post xs) (no_marks x.0 k x.1 b))
-      (ap (λ (o : Option (ℕ × ℕ)). fold desk.after_mark w.slots (acked_tickets o k b)) (sym is))
+      (boxed_twice ms (deliveries.Spent n) (asked_wire x.0 (acker_asked k x.1) b) ∙ ap (λ (o : Option (ℕ × ℕ)). with_deliveries (acked_deliveries n o k b) (acked_wire o k b)) (sym is))
+      (ap (λ (xs : List ConfirmMark). fold confirm_state.after_mark w.confirm_state xs) (no_marks x.0 k x.1 b))
+      (ap (λ (o : Option (ℕ × ℕ)). fold outstanding.after_mark w.slots (acked_tickets o k b)) (sym is))
       refl
 
   -- another says no
@@ -56,7 +56,7 @@ module _ (n : ℕ) (k : AckerCall) (w : World) where
   pub unused_next : usable_at n b ≡ None → w ≡ next w (event.Acker n k)
   unused_next is =
       world_is _ _
-      (ap (λ (o : Option (ℕ × ℕ)). with_inbox (acked_inbox n o k b) (acked_wire o k b)) (sym is))
+      (ap (λ (o : Option (ℕ × ℕ)). with_deliveries (acked_deliveries n o k b) (acked_wire o k b)) (sym is))
       refl
-      (ap (λ (o : Option (ℕ × ℕ)). fold desk.after_mark w.slots (acked_tickets o k b)) (sym is))
+      (ap (λ (o : Option (ℕ × ℕ)). fold outstanding.after_mark w.slots (acked_tickets o k b)) (sym is))
       refl

@@ -1,8 +1,8 @@
 -- An unsent `connection.close` of this side waits alone: kept by every event.
 use Rattle.std.proofs.Common.{◌≡◌, ℕ, Bool, true, false, cond, ◌&&◌, not, List, [], ◌∷◌, Option, Some, None, refl, ◌⊎◌, inl, inr}
 use Rattle.std.specs.List.{fold}
-use Rattle.lapin_history.specs.declared.calls.Asked.{Asked}
-use Rattle.lapin_history.specs.declared.calls.Asked.TheVariants as ask
+use Rattle.lapin_rules.specs.declared.calls.Asked.{Asked}
+use Rattle.lapin_rules.specs.declared.calls.Asked.TheVariants as ask
 use Rattle.lapin_types.specs.declared.event.Event.{Event}
 use Rattle.lapin_types.specs.declared.event.Event.TheVariants as event
 use Rattle.lapin_types.specs.declared.record.Record.{Record}
@@ -15,36 +15,36 @@ use Rattle.lapin_types.specs.Types.error
 use Rattle.lapin_types.specs.Types.frame
 use Rattle.lapin_types.specs.Types.method
 use Rattle.lapin_types.specs.Types.connection
-use Rattle.lapin_history.specs.declared.broker_frames.Incoming.{Incoming}
-use Rattle.lapin_history.specs.declared.broker_frames.Incoming.TheVariants as incoming
-use Rattle.lapin_history.specs.declared.phases.ChannelPhase.{ChannelPhase}
-use Rattle.lapin_history.specs.declared.phases.ChannelPhase.TheVariants as phase
-use Rattle.lapin_history.specs.declared.phases.ConnectionPhase.{ConnectionPhase}
-use Rattle.lapin_history.specs.declared.phases.ConnectionPhase.TheVariants as link
-use Rattle.lapin_history.specs.Incoming.{incoming_of, frame_class, frame_method}
-use Rattle.lapin_history.specs.Phases.{is_lost}
-use Rattle.lapin_history.specs.ConnectionClose.{link_close_sent}
-use Rattle.lapin_history.specs.Frames.{MethodEntry, RestEntry}
-use Rattle.lapin_history.specs.Leaving.{Lists, handed_of}
-use Rattle.lapin_history.specs.Drops.{no_lists}
-use Rattle.lapin_history.specs.Readings.{Readings}
-use Rattle.lapin_history.specs.Unexpected.{refused}
-use Rattle.lapin_history.specs.Receiving.{incoming_record}
-use Rattle.lapin_history.specs.Wire.{Wire, state_of, phase_of, is_open, lists_of}
-use Rattle.lapin_history.specs.Asking.{asked_by, is_allowed, after_call}
-use Rattle.lapin_history.specs.Receiving.{after_incoming, after_received, after_failed, after_refused}
-use Rattle.lapin_history.specs.ChannelClose.{after_close_ok}
-use Rattle.lapin_history.specs.Handing.{after_next, sent, handed_as, began_on}
-use Rattle.lapin_history.specs.ConnectionClose.{link_sent, has_sent}
+use Rattle.lapin_rules.specs.declared.broker_frames.Incoming.{Incoming}
+use Rattle.lapin_rules.specs.declared.broker_frames.Incoming.TheVariants as incoming
+use Rattle.lapin_rules.specs.declared.phases.ChannelPhase.{ChannelPhase}
+use Rattle.lapin_rules.specs.declared.phases.ChannelPhase.TheVariants as phase
+use Rattle.lapin_rules.specs.declared.phases.ConnectionPhase.{ConnectionPhase}
+use Rattle.lapin_rules.specs.declared.phases.ConnectionPhase.TheVariants as link
+use Rattle.lapin_rules.specs.Incoming.{incoming_of, frame_class, frame_method}
+use Rattle.lapin_rules.specs.Phases.{is_lost}
+use Rattle.lapin_rules.specs.ConnectionClose.{link_close_sent}
+use Rattle.lapin_rules.specs.Frames.{MethodEntry, RestEntry}
+use Rattle.lapin_rules.specs.Leaving.{Lists, handed_of}
+use Rattle.lapin_rules.specs.Drops.{no_lists}
+use Rattle.lapin_rules.specs.Readings.{Readings}
+use Rattle.lapin_rules.specs.Unexpected.{refused}
+use Rattle.lapin_rules.specs.Receiving.{incoming_record}
+use Rattle.lapin_rules.specs.Wire.{Wire, state_of, phase_of, is_open, lists_of}
+use Rattle.lapin_rules.specs.Asking.{asked_by, is_allowed, after_call}
+use Rattle.lapin_rules.specs.Receiving.{after_incoming, after_received, after_failed, after_refused}
+use Rattle.lapin_rules.specs.ChannelClose.{after_close_ok}
+use Rattle.lapin_rules.specs.Handing.{after_next, sent, handed_as, began_on}
+use Rattle.lapin_rules.specs.ConnectionClose.{link_sent, has_sent}
 use Rattle.lapin_machine.specs.World.{World, next, next_anew, told_anew, new_world, readings_of}
-use Rattle.lapin_history.specs.declared.broker_frames.ContentPart.{ContentPart}
-use Rattle.lapin_history.specs.declared.broker_frames.ContentPart.TheVariants as part
-use Rattle.lapin_history.specs.Content.{after_part}
-use Rattle.lapin_history.specs.declared.broker_frames.ConsumerPart.{ConsumerPart}
-use Rattle.lapin_history.specs.declared.broker_frames.ConsumerPart.TheVariants as consumer
-use Rattle.lapin_consumer.specs.Roster.{Consumer, consumer_at, is_idle}
-use Rattle.lapin_history.specs.Consumers.{after_consumer, lets_go_of, cancel_noted, after_let_go}
-use Rattle.lapin_history.specs.Ackers.{acker_asked, acked_wire, usable_at}
+use Rattle.lapin_rules.specs.declared.broker_frames.ContentPart.{ContentPart}
+use Rattle.lapin_rules.specs.declared.broker_frames.ContentPart.TheVariants as part
+use Rattle.lapin_rules.specs.Content.{after_part}
+use Rattle.lapin_rules.specs.declared.broker_frames.ConsumerPart.{ConsumerPart}
+use Rattle.lapin_rules.specs.declared.broker_frames.ConsumerPart.TheVariants as consumer
+use Rattle.lapin_consumer.specs.Subscriptions.{Consumer, consumer_at, is_idle}
+use Rattle.lapin_rules.specs.Consumers.{after_consumer, lets_go_of, cancel_noted, after_let_go}
+use Rattle.lapin_rules.specs.Ackers.{acker_asked, acked_wire, usable_at}
 use Rattle.lapin_machine.proofs.Back.{next_keeps}
 use Rattle.lapin_machine.specs.Alone.{is_connection_close, IsOneClose, IsCloseAlone, WaitsAlone, without_own_close}
 
@@ -255,7 +255,7 @@ let_go_alone (Some x) b h = elim (down_shuts b.link x.channel b refl) [
 alone-anew : (w : World) (e : Event) → Alone w.wire → Alone (next_anew w e).wire
 alone-anew w (event.Call c k) h = call_alone c (asked_by k (told_anew w (event.Call c k))) w.wire h
 alone-anew w (event.Next flow) h = next_alone (told_anew w (event.Next flow)) w.wire.link w.wire refl h
-alone-anew w (event.Receive f) h = incoming_alone w.wire.link (readings_of w.post w.slots) (refused (frame_class f) (frame_method f)) (incoming_of f) w.wire refl h
+alone-anew w (event.Receive f) h = incoming_alone w.wire.link (readings_of w.confirm_state w.slots) (refused (frame_class f) (frame_method f)) (incoming_of f) w.wire refl h
 alone-anew w (event.PollTicket n) h = h
 alone-anew w (event.PollConfirm n) h = h
 alone-anew w (event.PollConsumer n) h = h
@@ -264,7 +264,7 @@ alone-anew w (event.AsideTicket n) h = h
 alone-anew w (event.AsideConfirm n) h = h
 alone-anew w (event.Acker n k) h = acked_alone (usable_at n w.wire) k w.wire h
 alone-anew w (event.Delegate n) h = h
-alone-anew w (event.DropConsumer n) h = let_go_alone (consumer_at n w.wire.inbox.roster) w.wire h
+alone-anew w (event.DropConsumer n) h = let_go_alone (consumer_at n w.wire.deliveries.subscriptions) w.wire h
 alone-anew w event.NextJob h = h
 alone-anew w (event.State c) h = h
 alone-anew w event.Lost h = choose_alone (is_lost w.wire.link) w.wire _ h tt

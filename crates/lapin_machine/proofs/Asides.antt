@@ -6,10 +6,10 @@ use Rattle.lapin_types.specs.declared.leaving.Publish.{Publish}
 use Rattle.lapin_types.specs.declared.record.Record.TheVariants as record_
 use Rattle.lapin_types.specs.Types.{Error}
 use Rattle.lapin_types.specs.Types.error
-use Rattle.lapin_history.specs.declared.phases.ChannelPhase.{ChannelPhase}
-use Rattle.lapin_history.specs.declared.phases.ConnectionPhase.{ConnectionPhase}
-use Rattle.lapin_history.specs.ConfirmMarks as mark
-use Rattle.lapin_history.specs.Polls.{is_aside, is_waited_on}
+use Rattle.lapin_rules.specs.declared.phases.ChannelPhase.{ChannelPhase}
+use Rattle.lapin_rules.specs.declared.phases.ConnectionPhase.{ConnectionPhase}
+use Rattle.lapin_rules.specs.ConfirmMarks as mark
+use Rattle.lapin_rules.specs.Polls.{is_aside, is_waited_on}
 use Rattle.lapin_types.specs.declared.message.BasicReturnMessage.{BasicReturnMessage}
 use Rattle.lapin_tables.specs.Numbered.{under}
 use Rattle.lapin_confirm.specs.declared.cell.Cell.{Cell}
@@ -17,7 +17,7 @@ use Rattle.lapin_confirm.specs.declared.cell.Cell.TheVariants as cell
 use Rattle.lapin_confirm.specs.Answers.{answer_at, answer_in, answer_with, is_unknown}
 use Rattle.lapin_confirm.specs.Aside.{set_answer, is_set_aside, refused_as}
 use Rattle.lapin_confirm.specs.Machine.{after_mark}
-use Rattle.lapin_confirm.specs.Post.{Post, message_of}
+use Rattle.lapin_confirm.specs.ConfirmState.{ConfirmState, message_of}
 use Rattle.lapin_machine.specs.World.{World, next, aside_record, readings_of}
 use Rattle.lapin_machine.specs.Told.{AsideTold}
 use Rattle.lapin_machine.specs.Numbers.{HasNumbers}
@@ -40,10 +40,10 @@ aside_told r a (inl none) = let P : Result (Unit {0}) Error → Type 0 = λ x. A
 aside_told r a (inr same) = let P : Result (Unit {0}) Error → Type 0 = λ x. AsideTold x (aside_record a) in subst P (sym same) (told_as a)
 
 -- the world with other confirms
-abbrev pub with_post : World → Post → World
-with_post w p = record {
-  wire = record w.wire { published = length p.book.cells };
-  post = p;
+abbrev pub with_confirm_state : World → ConfirmState → World
+with_confirm_state w p = record {
+  wire = record w.wire { published = length p.publish_states.cells };
+  confirm_state = p;
   slots = w.slots;
   returned = w.returned;
 }
@@ -53,11 +53,11 @@ ok_is r a ok (inl none) = cc
 ok_is r a ok (inr same) = ap (λ (x : Result (Unit {0}) Error). is_aside (aside_record x)) (sym same ∙ ok)
 
 -- what it leaves
-pub aside_next : (n : ℕ) (r : Result (Unit {0}) Error) (w : World) → w.wire.published ≡ length w.post.book.cells → r ≡ Ok tt → (r ≡ Err error.NoMemory) ⊎ (r ≡ set_answer n w.post) → with_post w (after_mark w.post (mark.SetAside n)) ≡ next w (event.AsideConfirm n)
+pub aside_next : (n : ℕ) (r : Result (Unit {0}) Error) (w : World) → w.wire.published ≡ length w.confirm_state.publish_states.cells → r ≡ Ok tt → (r ≡ Err error.NoMemory) ⊎ (r ≡ set_answer n w.confirm_state) → with_confirm_state w (after_mark w.confirm_state (mark.SetAside n)) ≡ next w (event.AsideConfirm n)
 aside_next n r w count ok told =
-    let is : is_aside (aside_record (set_answer n w.post)) ≡ true = ok_is r (set_answer n w.post) ok told in
+    let is : is_aside (aside_record (set_answer n w.confirm_state)) ≡ true = ok_is r (set_answer n w.confirm_state) ok told in
     world_is _ (next w (event.AsideConfirm n))
-    (base_is _ w.wire refl refl refl refl refl refl refl refl refl (aside-count n w.post ∙ sym count) refl)
+    (base_is _ w.wire refl refl refl refl refl refl refl refl refl (aside-count n w.confirm_state ∙ sym count) refl)
     (rw is refl)
     refl
     refl
@@ -69,45 +69,45 @@ answers_with_numbers (Some (cell.Queued d)) m = tt
 answers_with_numbers (Some (cell.Pending d t)) m = tt
 answers_with_numbers (Some (cell.Resolved x)) m = tt
 
-set_numbers : (n : ℕ) (p : Post) → HasNumbers (set_answer n p)
-set_numbers n p = elim (is_set_aside n p) as (λ t. HasNumbers (refused_as (cond t (Err error.AlreadyTaken) (answer_with (message_of n p) (answer_at n p.book))))) [
+set_numbers : (n : ℕ) (p : ConfirmState) → HasNumbers (set_answer n p)
+set_numbers n p = elim (is_set_aside n p) as (λ t. HasNumbers (refused_as (cond t (Err error.AlreadyTaken) (answer_with (message_of n p) (answer_at n p.publish_states))))) [
   | true ↦ tt
-  | false ↦ elim (is_unknown n p.book) as (λ t. HasNumbers (refused_as (answer_with (message_of n p) (cond t (Err error.UnknownTicket) (answer_in (under n p.book.cells)))))) [
+  | false ↦ elim (is_unknown n p.publish_states) as (λ t. HasNumbers (refused_as (answer_with (message_of n p) (cond t (Err error.UnknownTicket) (answer_in (under n p.publish_states.cells)))))) [
     | true ↦ tt
-    | false ↦ answers_with_numbers (under n p.book.cells) (message_of n p)
+    | false ↦ answers_with_numbers (under n p.publish_states.cells) (message_of n p)
   ]
 ]
 
-pub aside_numbers : (r : Result (Unit {0}) Error) (n : ℕ) (p : Post) → (r ≡ Err error.NoMemory) ⊎ (r ≡ set_answer n p) → HasNumbers r
+pub aside_numbers : (r : Result (Unit {0}) Error) (n : ℕ) (p : ConfirmState) → (r ≡ Err error.NoMemory) ⊎ (r ≡ set_answer n p) → HasNumbers r
 aside_numbers r n p (inl none) = let P : Result (Unit {0}) Error → Type 0 = λ x. HasNumbers x in subst P (sym none) tt
 aside_numbers r n p (inr same) = let P : Result (Unit {0}) Error → Type 0 = λ x. HasNumbers x in subst P (sym same) (set_numbers n p)
 
 -- one that is refused leaves all as it was
-pub aside_refused : (n : ℕ) (e : Error) (w : World) → record_.Refused e ≡ aside_record (set_answer n w.post) → w ≡ next w (event.AsideConfirm n)
+pub aside_refused : (n : ℕ) (e : Error) (w : World) → record_.Refused e ≡ aside_record (set_answer n w.confirm_state) → w ≡ next w (event.AsideConfirm n)
 aside_refused n e w told =
-    let no : is_aside (aside_record (set_answer n w.post)) ≡ false = ap is_aside (sym told) in
+    let no : is_aside (aside_record (set_answer n w.confirm_state)) ≡ false = ap is_aside (sym told) in
     rw no refl
 
 -- and what ties the session's parts together stays, whether or not there was memory
-pub aside_kept : {T E : Type 0} (r : Result T E) (n : ℕ) (l : ConnectionPhase) (phases : List (ℕ × ChannelPhase)) (ps : List Publish) (p new : Post) → OnOk r (new ≡ after_mark p (mark.SetAside n)) → OnErr r (new ≡ p) → IsTied l phases ps p.book → IsTied l phases ps new.book
-aside_kept (Ok x) n l phases ps p new ok err t = let P : Post → Type 0 = λ y. IsTied l phases ps y.book in subst P (sym ok) (tied_aside n l phases ps p t)
-aside_kept (Err e) n l phases ps p new ok err t = let P : Post → Type 0 = λ y. IsTied l phases ps y.book in subst P (sym err) t
+pub aside_kept : {T E : Type 0} (r : Result T E) (n : ℕ) (l : ConnectionPhase) (phases : List (ℕ × ChannelPhase)) (ps : List Publish) (p new : ConfirmState) → OnOk r (new ≡ after_mark p (mark.SetAside n)) → OnErr r (new ≡ p) → IsTied l phases ps p.publish_states → IsTied l phases ps new.publish_states
+aside_kept (Ok x) n l phases ps p new ok err t = let P : ConfirmState → Type 0 = λ y. IsTied l phases ps y.publish_states in subst P (sym ok) (tied_aside n l phases ps p t)
+aside_kept (Err e) n l phases ps p new ok err t = let P : ConfirmState → Type 0 = λ y. IsTied l phases ps y.publish_states in subst P (sym err) t
 
 -- ---- the wait
 
-pub drained_kept : {T E : Type 0} (r : Result T E) (c : ℕ) (l : ConnectionPhase) (phases : List (ℕ × ChannelPhase)) (ps : List Publish) (p new : Post) → OnOk r (new ≡ after_mark p (mark.Drained c)) → OnErr r (new ≡ p) → IsTied l phases ps p.book → IsTied l phases ps new.book
-drained_kept (Ok x) c l phases ps p new ok err t = let P : Post → Type 0 = λ y. IsTied l phases ps y.book in subst P (sym ok) (tied_drained c l phases ps p t)
-drained_kept (Err e) c l phases ps p new ok err t = let P : Post → Type 0 = λ y. IsTied l phases ps y.book in subst P (sym err) t
+pub drained_kept : {T E : Type 0} (r : Result T E) (c : ℕ) (l : ConnectionPhase) (phases : List (ℕ × ChannelPhase)) (ps : List Publish) (p new : ConfirmState) → OnOk r (new ≡ after_mark p (mark.Drained c)) → OnErr r (new ≡ p) → IsTied l phases ps p.publish_states → IsTied l phases ps new.publish_states
+drained_kept (Ok x) c l phases ps p new ok err t = let P : ConfirmState → Type 0 = λ y. IsTied l phases ps y.publish_states in subst P (sym ok) (tied_drained c l phases ps p t)
+drained_kept (Err e) c l phases ps p new ok err t = let P : ConfirmState → Type 0 = λ y. IsTied l phases ps y.publish_states in subst P (sym err) t
 
 -- there is something to wait for
-pub still_waited : (c : ℕ) (w : World) → is_waited_on c w.wire (readings_of w.post w.slots) ≡ true → w ≡ next w (event.PollWait c)
+pub still_waited : (c : ℕ) (w : World) → is_waited_on c w.wire (readings_of w.confirm_state w.slots) ≡ true → w ≡ next w (event.PollWait c)
 still_waited c w h = rw h refl
 
 -- else the messages are given
-pub drained_next : (c : ℕ) (w : World) → w.wire.published ≡ length w.post.book.cells → is_waited_on c w.wire (readings_of w.post w.slots) ≡ false → with_post w (after_mark w.post (mark.Drained c)) ≡ next w (event.PollWait c)
+pub drained_next : (c : ℕ) (w : World) → w.wire.published ≡ length w.confirm_state.publish_states.cells → is_waited_on c w.wire (readings_of w.confirm_state w.slots) ≡ false → with_confirm_state w (after_mark w.confirm_state (mark.Drained c)) ≡ next w (event.PollWait c)
 drained_next c w count h =
     world_is _ (next w (event.PollWait c))
-    (base_is _ w.wire refl refl refl refl refl refl refl refl refl (drained-count c w.post ∙ sym count) refl)
+    (base_is _ w.wire refl refl refl refl refl refl refl refl refl (drained-count c w.confirm_state ∙ sym count) refl)
     (rw h refl)
     refl
     refl

@@ -8,20 +8,20 @@ use Rattle.lapin_types.specs.declared.record.Record.{Record}
 use Rattle.lapin_types.specs.declared.record.Record.TheVariants as record_
 use Rattle.lapin_types.specs.Types.{Error}
 use Rattle.lapin_types.specs.Types.error
-use Rattle.lapin_history.specs.declared.broker_frames.Incoming.{Incoming}
-use Rattle.lapin_history.specs.declared.broker_frames.Incoming.TheVariants as incoming
-use Rattle.lapin_history.specs.declared.calls.Asked.{Asked}
-use Rattle.lapin_history.specs.declared.calls.Asked.TheVariants as ask
-use Rattle.lapin_history.specs.declared.phases.ConnectionPhase.{ConnectionPhase}
-use Rattle.lapin_history.specs.declared.phases.ConnectionPhase.TheVariants as link
-use Rattle.lapin_history.specs.Incoming.{incoming_of}
-use Rattle.lapin_history.specs.Phases.{is_lost}
-use Rattle.lapin_history.specs.Leaving.{handed_of, left_lists}
-use Rattle.lapin_history.specs.Wire.{Wire, state_of, phase_of}
-use Rattle.lapin_history.specs.Asking.{asked_by, is_allowed}
-use Rattle.lapin_history.specs.Handing.{frame_record}
-use Rattle.lapin_history.specs.ChannelClose.{close_ok_end}
-use Rattle.lapin_history.specs.ConnectionClose.{has_sent}
+use Rattle.lapin_rules.specs.declared.broker_frames.Incoming.{Incoming}
+use Rattle.lapin_rules.specs.declared.broker_frames.Incoming.TheVariants as incoming
+use Rattle.lapin_rules.specs.declared.calls.Asked.{Asked}
+use Rattle.lapin_rules.specs.declared.calls.Asked.TheVariants as ask
+use Rattle.lapin_rules.specs.declared.phases.ConnectionPhase.{ConnectionPhase}
+use Rattle.lapin_rules.specs.declared.phases.ConnectionPhase.TheVariants as link
+use Rattle.lapin_rules.specs.Incoming.{incoming_of}
+use Rattle.lapin_rules.specs.Phases.{is_lost}
+use Rattle.lapin_rules.specs.Leaving.{handed_of, left_lists}
+use Rattle.lapin_rules.specs.Wire.{Wire, state_of, phase_of}
+use Rattle.lapin_rules.specs.Asking.{asked_by, is_allowed}
+use Rattle.lapin_rules.specs.Handing.{frame_record}
+use Rattle.lapin_rules.specs.ChannelClose.{close_ok_end}
+use Rattle.lapin_rules.specs.ConnectionClose.{has_sent}
 use Rattle.lapin_outbox.specs.Outgoing.{OutboxState, with_lists}
 use Rattle.lapin_outbox.specs.Returned.{is_retried, given, popped, after_pop}
 use Rattle.lapin_outbox.specs.Returned as outbox

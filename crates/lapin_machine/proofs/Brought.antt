@@ -4,17 +4,17 @@ use Rattle.std.specs.List.{find, list_any}
 use Rattle.std.specs.Option.{option_map}
 use Rattle.std.proofs.Math.Bool.{or-true}
 use Rattle.lapin_types.specs.declared.leaving.Publish.{Publish}
-use Rattle.lapin_history.specs.ConfirmMarks.{ConfirmMark}
-use Rattle.lapin_history.specs.Words.{without_first}
-use Rattle.lapin_history.specs.Frames.{RestEntry, MethodEntry, left_publish}
-use Rattle.lapin_history.specs.Leaving.{may_begin, handed_of}
-use Rattle.lapin_history.specs.Wire.{Wire}
-use Rattle.lapin_history.specs.Handing.{handed_out}
-use Rattle.lapin_history.specs.declared.phases.ChannelPhase.{ChannelPhase}
-use Rattle.lapin_history.specs.declared.phases.ConnectionPhase.{ConnectionPhase}
-use Rattle.lapin_desk.specs.Queued.{AreQueued, is_publish_of}
-use Rattle.lapin_desk.proofs.Queueing.{taken-out, all-without, all-found}
-use Rattle.lapin_confirm.specs.Book.{Book}
+use Rattle.lapin_rules.specs.ConfirmMarks.{ConfirmMark}
+use Rattle.lapin_rules.specs.Words.{without_first}
+use Rattle.lapin_rules.specs.Frames.{RestEntry, MethodEntry, left_publish}
+use Rattle.lapin_rules.specs.Leaving.{may_begin, handed_of}
+use Rattle.lapin_rules.specs.Wire.{Wire}
+use Rattle.lapin_rules.specs.Handing.{handed_out}
+use Rattle.lapin_rules.specs.declared.phases.ChannelPhase.{ChannelPhase}
+use Rattle.lapin_rules.specs.declared.phases.ConnectionPhase.{ConnectionPhase}
+use Rattle.lapin_outstanding.specs.Queued.{AreQueued, is_publish_of}
+use Rattle.lapin_outstanding.proofs.Queueing.{taken-out, all-without, all-found}
+use Rattle.lapin_confirm.specs.PublishStates.{PublishStates}
 use Rattle.lapin_confirm.specs.declared.cell.Cell.{Cell}
 use Rattle.lapin_machine.specs.Stands.{AreFresh}
 use Rattle.lapin_machine.specs.Tied.{IsTied}
@@ -60,8 +60,8 @@ module _ (t : Publish → Bool) where
       let out = taken-out cells t ps q e h.each in
       record { each = (out.queued, out.other, out.still); all = λ c n x. any_brought (is_publish_of c n) ps q e (h.all c n x) }
 
-  pub tied_brought : (l : ConnectionPhase) (phases : List (ℕ × ChannelPhase)) (ps : List Publish) (q : Publish) (b : Book) → find t ps ≡ Some q → IsTied l phases ps b → IsTied l phases (q ∷ without_first t ps) b
-  tied_brought l phases ps q b e h = record { queued = queue_brought b.cells ps q e h.queued; ledgers = h.ledgers; done = h.done; down = h.down }
+  pub tied_brought : (l : ConnectionPhase) (phases : List (ℕ × ChannelPhase)) (ps : List Publish) (q : Publish) (b : PublishStates) → find t ps ≡ Some q → IsTied l phases ps b → IsTied l phases (q ∷ without_first t ps) b
+  tied_brought l phases ps q b e h = record { queued = queue_brought b.cells ps q e h.queued; confirm_modes = h.confirm_modes; done = h.done; down = h.down }
 
   pub fresh_brought : (ms : List ConfirmMark) (ps : List Publish) (q : Publish) → find t ps ≡ Some q → AreFresh ms ps → AreFresh ms (q ∷ without_first t ps)
   fresh_brought ms [] q e h = cc

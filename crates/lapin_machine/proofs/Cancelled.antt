@@ -6,10 +6,10 @@ use Rattle.lapin_types.specs.declared.answer.Answer.TheVariants as answer
 use Rattle.lapin_types.specs.declared.request.Request.{Request}
 use Rattle.lapin_types.specs.declared.request.ReplyKind.TheVariants as reply_kind
 use Rattle.lapin_types.specs.Types.{Error}
-use Rattle.lapin_history.specs.Requests.{is_kind, requests_in, resolved_with}
-use Rattle.lapin_history.specs.Ends.{done_with, cancels_at, cancels_on}
-use Rattle.lapin_history.specs.TicketReadings.{TicketMark}
-use Rattle.lapin_history.specs.TicketReadings as ticket
+use Rattle.lapin_rules.specs.Requests.{is_kind, requests_in, resolved_with}
+use Rattle.lapin_rules.specs.Ends.{done_with, cancels_at, cancels_on}
+use Rattle.lapin_rules.specs.TicketReadings.{TicketMark}
+use Rattle.lapin_rules.specs.TicketReadings as ticket
 use Rattle.lapin_ticket.specs.declared.Slot.{Slot}
 use Rattle.lapin_ticket.specs.Slots.{after_mark}
 use Rattle.lapin_machine.proofs.Counts.{resolved-count, marks-join, failed-count, opening-count}

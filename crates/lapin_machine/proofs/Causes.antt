@@ -7,12 +7,12 @@ use Rattle.lapin_content.specs.declared.start.Start.{Start}
 use Rattle.lapin_content.specs.declared.start.Whole.{Whole}
 use Rattle.lapin_content.specs.Contents.{front_start}
 use Rattle.lapin_content.specs.Channels.{expected_on}
-use Rattle.lapin_inbox.specs.Inbox.{Inbox}
-use Rattle.lapin_history.specs.declared.broker_frames.ContentPart.{ContentPart}
-use Rattle.lapin_history.specs.declared.broker_frames.Incoming.{Incoming}
-use Rattle.lapin_history.specs.declared.broker_frames.Incoming.TheVariants as incoming
-use Rattle.lapin_history.specs.Content.{receives_part, whole_on, takes_acker}
-use Rattle.lapin_history.specs.Wire.{Wire}
+use Rattle.lapin_delivery.specs.Deliveries.{Deliveries}
+use Rattle.lapin_rules.specs.declared.broker_frames.ContentPart.{ContentPart}
+use Rattle.lapin_rules.specs.declared.broker_frames.Incoming.{Incoming}
+use Rattle.lapin_rules.specs.declared.broker_frames.Incoming.TheVariants as incoming
+use Rattle.lapin_rules.specs.Content.{receives_part, whole_on, takes_acker}
+use Rattle.lapin_rules.specs.Wire.{Wire}
 use Rattle.lapin_machine.specs.declared.channel.Heard.{Heard}
 use Rattle.lapin_machine.specs.Numbers.{HasNumbers, ReceiveCause}
 use Rattle.lapin_machine.specs.Told.{HeardTold, WasHeard}
@@ -25,20 +25,20 @@ numbers_so r i b h = tt
 
 -- ---- no room for a whole content
 
-pub room_told : (e : Error) (s : Option Start) (i : Inbox) (r : Record) → MakesRoom (Err e) s i → HeardTold (Err e) r
+pub room_told : (e : Error) (s : Option Start) (i : Deliveries) (r : Record) → MakesRoom (Err e) s i → HeardTold (Err e) r
 room_told error.NoMemory s i r h = tt
 room_told error.NumbersUsedUp s i r h = tt
 room_told e s i r h = absurd h
 
-pub room_heard : (e : Error) (s : Option Start) (i : Inbox) (P Q : Type 0) → MakesRoom (Err e) s i → Q → WasHeard (Err e) P Q
+pub room_heard : (e : Error) (s : Option Start) (i : Deliveries) (P Q : Type 0) → MakesRoom (Err e) s i → Q → WasHeard (Err e) P Q
 room_heard error.NoMemory s i P Q h q = q
 room_heard error.NumbersUsedUp s i P Q h q = q
 room_heard e s i P Q h q = absurd h
 
 -- numbers are used up only where the content is that of a message, which has no acker
-pub room_cause : (e : Error) (c : ℕ) (q : ContentPart) (b : Wire) (w : Whole) → receives_part c q b ≡ true → whole_on c q b ≡ Some w → front_start (expected_on c b.contents) ≡ Some w.start → MakesRoom (Err e) (front_start (expected_on c b.contents)) b.inbox → ReceiveCause {T = Heard} (Err e) (incoming.Content c q) b
+pub room_cause : (e : Error) (c : ℕ) (q : ContentPart) (b : Wire) (w : Whole) → receives_part c q b ≡ true → whole_on c q b ≡ Some w → front_start (expected_on c b.contents) ≡ Some w.start → MakesRoom (Err e) (front_start (expected_on c b.contents)) b.deliveries → ReceiveCause {T = Heard} (Err e) (incoming.Content c q) b
 room_cause error.NumbersUsedUp c q b w received whole front h =
-    let P : Option Start → Type 0 = λ s. LacksAcker s b.inbox in
+    let P : Option Start → Type 0 = λ s. LacksAcker s b.deliveries in
     let lacks = subst P front h in
-    (received, ap (takes_acker b.inbox) whole ∙ lacks.0, lacks.1)
+    (received, ap (takes_acker b.deliveries) whole ∙ lacks.0, lacks.1)
 room_cause e c q b w received whole front h = tt

@@ -5,14 +5,14 @@ use Rattle.std.specs.Option.{option_map}
 use Rattle.lapin_types.specs.declared.request.Request.{Request}
 use Rattle.lapin_types.specs.declared.request.ReplyKind.{ReplyKind}
 use Rattle.lapin_tables.specs.ByChannel.{at_channel, on_channel}
-use Rattle.lapin_history.specs.declared.phases.ChannelPhase.{ChannelPhase}
-use Rattle.lapin_history.specs.declared.phases.ChannelPhase.TheVariants as phase
-use Rattle.lapin_history.specs.Words.{with_channel}
-use Rattle.lapin_history.specs.Phases.{channel_state, phase_in}
-use Rattle.lapin_history.specs.ChannelClose.{close_sent}
-use Rattle.lapin_history.specs.Wire.{is_closing}
+use Rattle.lapin_rules.specs.declared.phases.ChannelPhase.{ChannelPhase}
+use Rattle.lapin_rules.specs.declared.phases.ChannelPhase.TheVariants as phase
+use Rattle.lapin_rules.specs.Words.{with_channel}
+use Rattle.lapin_rules.specs.Phases.{channel_state, phase_in}
+use Rattle.lapin_rules.specs.ChannelClose.{close_sent}
+use Rattle.lapin_rules.specs.Wire.{is_closing}
 use Rattle.lapin_tables.proofs.Channels.{at-on_same}
-use Rattle.lapin_history.specs.Requests.{requests_in, is_kind, first_request, without_kind, without_request}
+use Rattle.lapin_rules.specs.Requests.{requests_in, is_kind, first_request, without_kind, without_request}
 use Rattle.lapin_outbox.specs.Open.{requests_at}
 
 value_is : {X : Type 0} {x y : X} → Some x ≡ Some y → x ≡ y

@@ -1,8 +1,8 @@
 -- No event uses more than one number of a counter.
 use Rattle.std.proofs.Common.{◌≡◌, ℕ, suc, ◌+◌, ◌<◌, ◌≤◌, ◌^◌, Bool, true, false, cond, not, ◌&&◌, List, [], ◌∷◌, ◌++◌, length, Option, Some, None, refl, ◌∙◌, ap, arith, append_assoc, inl, inr}
-use Rattle.lapin_history.specs.declared.calls.Asked.{Asked}
-use Rattle.lapin_history.specs.declared.calls.Asked.TheVariants as ask
-use Rattle.lapin_history.specs.Calls.{asked}
+use Rattle.lapin_rules.specs.declared.calls.Asked.{Asked}
+use Rattle.lapin_rules.specs.declared.calls.Asked.TheVariants as ask
+use Rattle.lapin_rules.specs.Calls.{asked}
 use Rattle.lapin_types.specs.declared.event.Event.{Event}
 use Rattle.lapin_types.specs.declared.event.Event.TheVariants as event
 use Rattle.lapin_types.specs.declared.record.Record.{Record}
@@ -11,37 +11,37 @@ use Rattle.lapin_types.specs.declared.acker_call.AckerCall.{AckerCall}
 use Rattle.lapin_types.specs.declared.leaving.Left.{Left}
 use Rattle.lapin_types.specs.Types.{Error}
 use Rattle.lapin_types.specs.Types.error
-use Rattle.lapin_history.specs.declared.broker_frames.Incoming.{Incoming}
-use Rattle.lapin_history.specs.declared.broker_frames.Incoming.TheVariants as incoming
-use Rattle.lapin_history.specs.Incoming.{incoming_of}
-use Rattle.lapin_history.specs.declared.phases.ChannelPhase.{ChannelPhase}
-use Rattle.lapin_history.specs.declared.phases.ChannelPhase.TheVariants as phase
-use Rattle.lapin_history.specs.declared.phases.ConnectionPhase.{ConnectionPhase}
-use Rattle.lapin_history.specs.declared.phases.ConnectionPhase.TheVariants as link
-use Rattle.lapin_history.specs.Phases.{is_lost}
-use Rattle.lapin_history.specs.Leaving.{left_lists}
-use Rattle.lapin_history.specs.Wire.{Wire, state_of, phase_of, is_open, with_lists, lists_of}
-use Rattle.lapin_history.specs.Asking.{asked_by, is_allowed, after_call, asked_wire}
-use Rattle.lapin_history.specs.Events.{after_event}
-use Rattle.lapin_history.specs.Receiving.{after_incoming, after_received, after_failed, after_refused}
-use Rattle.lapin_history.specs.ChannelClose.{after_close_ok}
-use Rattle.lapin_history.specs.ConnectionClose.{after_connection_close}
-use Rattle.lapin_history.specs.Loss.{after_lost}
-use Rattle.lapin_history.specs.Handing.{after_next, sent, handed_as, began_on}
-use Rattle.lapin_history.specs.History.{History, Past, longer, past_on, past}
+use Rattle.lapin_rules.specs.declared.broker_frames.Incoming.{Incoming}
+use Rattle.lapin_rules.specs.declared.broker_frames.Incoming.TheVariants as incoming
+use Rattle.lapin_rules.specs.Incoming.{incoming_of}
+use Rattle.lapin_rules.specs.declared.phases.ChannelPhase.{ChannelPhase}
+use Rattle.lapin_rules.specs.declared.phases.ChannelPhase.TheVariants as phase
+use Rattle.lapin_rules.specs.declared.phases.ConnectionPhase.{ConnectionPhase}
+use Rattle.lapin_rules.specs.declared.phases.ConnectionPhase.TheVariants as link
+use Rattle.lapin_rules.specs.Phases.{is_lost}
+use Rattle.lapin_rules.specs.Leaving.{left_lists}
+use Rattle.lapin_rules.specs.Wire.{Wire, state_of, phase_of, is_open, with_lists, lists_of}
+use Rattle.lapin_rules.specs.Asking.{asked_by, is_allowed, after_call, asked_wire}
+use Rattle.lapin_rules.specs.Events.{after_event}
+use Rattle.lapin_rules.specs.Receiving.{after_incoming, after_received, after_failed, after_refused}
+use Rattle.lapin_rules.specs.ChannelClose.{after_close_ok}
+use Rattle.lapin_rules.specs.ConnectionClose.{after_connection_close}
+use Rattle.lapin_rules.specs.Loss.{after_lost}
+use Rattle.lapin_rules.specs.Handing.{after_next, sent, handed_as, began_on}
+use Rattle.lapin_rules.specs.History.{History, Past, longer, past_on, past}
 use Rattle.lapin_machine.specs.World.{World, next, told_anew}
 use Rattle.lapin_machine.proofs.Back.{next_keeps}
 use Rattle.lapin_machine.specs.Stands.{Stands}
 use Rattle.lapin_machine.specs.Numbers.{HasNumbersFor, EventUsedUp, LacksNumber, LacksConsumer, FrameUsedUp, AckUsedUp}
-use Rattle.lapin_machine.proofs.Inboxes.{consumers-next, switches-next}
-use Rattle.lapin_history.specs.declared.broker_frames.ContentPart.{ContentPart}
-use Rattle.lapin_history.specs.declared.broker_frames.ContentPart.TheVariants as part
-use Rattle.lapin_history.specs.Content.{after_part}
-use Rattle.lapin_history.specs.declared.broker_frames.ConsumerPart.{ConsumerPart}
-use Rattle.lapin_history.specs.declared.broker_frames.ConsumerPart.TheVariants as consumer
-use Rattle.lapin_consumer.specs.Roster.{Consumer, consumer_at}
-use Rattle.lapin_history.specs.Consumers.{after_consumer, lets_go_of, cancel_noted, after_let_go, after_drop}
-use Rattle.lapin_history.specs.Ackers.{acker_asked, usable_at, acked_wire}
+use Rattle.lapin_machine.proofs.Deliveries.{consumers-next, switches-next}
+use Rattle.lapin_rules.specs.declared.broker_frames.ContentPart.{ContentPart}
+use Rattle.lapin_rules.specs.declared.broker_frames.ContentPart.TheVariants as part
+use Rattle.lapin_rules.specs.Content.{after_part}
+use Rattle.lapin_rules.specs.declared.broker_frames.ConsumerPart.{ConsumerPart}
+use Rattle.lapin_rules.specs.declared.broker_frames.ConsumerPart.TheVariants as consumer
+use Rattle.lapin_consumer.specs.Subscriptions.{Consumer, consumer_at}
+use Rattle.lapin_rules.specs.Consumers.{after_consumer, lets_go_of, cancel_noted, after_let_go, after_drop}
+use Rattle.lapin_rules.specs.Ackers.{acker_asked, usable_at, acked_wire}
 
 choose_le : (t : Bool) (x y : Wire) (n : ℕ) (f : Wire → ℕ) → f x ≤ n → f y ≤ n → f (cond t x y) ≤ n
 choose_le true x y n f h k = h
@@ -145,7 +145,7 @@ tickets-next b (event.Call c k) r = tickets_asked c (asked_by k r) b
 tickets-next b (event.Next flow) r = let same : (after_next r b).tickets ≡ b.tickets = (next_counts r b).0 in omega arith
 tickets-next b (event.Receive f) r = let same : (after_incoming (incoming_of f) r b).tickets ≡ b.tickets = (incoming_counts (incoming_of f) r b).0 in omega arith
 tickets-next b (event.Acker n k) r = tickets_acked (usable_at n b) k b
-tickets-next b (event.DropConsumer n) r = let same : (after_drop n b).tickets ≡ b.tickets = (let_go_counts (consumer_at n b.inbox.roster) b).0 in omega arith
+tickets-next b (event.DropConsumer n) r = let same : (after_drop n b).tickets ≡ b.tickets = (let_go_counts (consumer_at n b.deliveries.subscriptions) b).0 in omega arith
 tickets-next b event.Lost r = let same : (after_lost b).tickets ≡ b.tickets = (lost_counts b).0 in omega arith
 tickets-next b _ r = omega arith
 
@@ -154,7 +154,7 @@ published-next b (event.Call c k) r = published_asked c (asked_by k r) b
 published-next b (event.Next flow) r = let same : (after_next r b).published ≡ b.published = (next_counts r b).1 in omega arith
 published-next b (event.Receive f) r = let same : (after_incoming (incoming_of f) r b).published ≡ b.published = (incoming_counts (incoming_of f) r b).1 in omega arith
 published-next b (event.Acker n k) r = published_acked (usable_at n b) k b
-published-next b (event.DropConsumer n) r = let same : (after_drop n b).published ≡ b.published = (let_go_counts (consumer_at n b.inbox.roster) b).1 in omega arith
+published-next b (event.DropConsumer n) r = let same : (after_drop n b).published ≡ b.published = (let_go_counts (consumer_at n b.deliveries.subscriptions) b).1 in omega arith
 published-next b event.Lost r = let same : (after_lost b).published ≡ b.published = (lost_counts b).1 in omega arith
 published-next b _ r = omega arith
 
@@ -162,20 +162,20 @@ pub numbers-next : (n : ℕ) (w : World) (e : Event) → HasNumbersFor (suc n) w
 numbers-next n w e h =
     let tickets : w.wire.tickets + suc n < 2 ^ 64 = h.tickets in
     let confirms : w.wire.published + suc n < 2 ^ 64 = h.confirms in
-    let consumers : length w.wire.inbox.roster.consumers + suc n < 2 ^ 64 = h.consumers in
-    let ackers : length w.wire.inbox.switches + suc n < 2 ^ 64 = h.ackers in
+    let consumers : length w.wire.deliveries.subscriptions.consumers + suc n < 2 ^ 64 = h.consumers in
+    let ackers : length w.wire.deliveries.switches + suc n < 2 ^ 64 = h.ackers in
     let told : Record = told_anew w e in
     let t : (next w e).wire.tickets ≤ w.wire.tickets + 1 = next_keeps (λ v. v.wire.tickets ≤ w.wire.tickets + 1) w e (tickets-next w.wire e told) (omega arith) in
     let p : (next w e).wire.published ≤ w.wire.published + 1 = next_keeps (λ v. v.wire.published ≤ w.wire.published + 1) w e (published-next w.wire e told) (omega arith) in
-    let c : length (next w e).wire.inbox.roster.consumers ≤ length w.wire.inbox.roster.consumers + 1 = next_keeps (λ v. length v.wire.inbox.roster.consumers ≤ length w.wire.inbox.roster.consumers + 1) w e (consumers-next w.wire e told) (omega arith) in
-    let a : length (next w e).wire.inbox.switches ≤ length w.wire.inbox.switches + 1 = next_keeps (λ v. length v.wire.inbox.switches ≤ length w.wire.inbox.switches + 1) w e (switches-next w.wire e told) (omega arith) in
+    let c : length (next w e).wire.deliveries.subscriptions.consumers ≤ length w.wire.deliveries.subscriptions.consumers + 1 = next_keeps (λ v. length v.wire.deliveries.subscriptions.consumers ≤ length w.wire.deliveries.subscriptions.consumers + 1) w e (consumers-next w.wire e told) (omega arith) in
+    let a : length (next w e).wire.deliveries.switches ≤ length w.wire.deliveries.switches + 1 = next_keeps (λ v. length v.wire.deliveries.switches ≤ length w.wire.deliveries.switches + 1) w e (switches-next w.wire e told) (omega arith) in
     record { tickets = omega (arith, tickets, t); confirms = omega (arith, confirms, p); consumers = omega (arith, consumers, c); ackers = omega (arith, ackers, a) }
 
 more : (n : ℕ) (w : World) → HasNumbersFor (suc n) w → w.wire.tickets + 1 ≡ 2 ^ 64 → ⊥
 more n w h full = let t : w.wire.tickets + suc n < 2 ^ 64 = h.tickets in omega arith
 
-more_consumers : (n : ℕ) (w : World) → HasNumbersFor (suc n) w → length w.wire.inbox.roster.consumers + 1 ≡ 2 ^ 64 → ⊥
-more_consumers n w h full = let c : length w.wire.inbox.roster.consumers + suc n < 2 ^ 64 = h.consumers in omega arith
+more_consumers : (n : ℕ) (w : World) → HasNumbersFor (suc n) w → length w.wire.deliveries.subscriptions.consumers + 1 ≡ 2 ^ 64 → ⊥
+more_consumers n w h full = let c : length w.wire.deliveries.subscriptions.consumers + suc n < 2 ^ 64 = h.consumers in omega arith
 
 -- a call lacks no number where each counter has a further one
 no_lack : (n : ℕ) (w : World) (k : Asked) → HasNumbersFor (suc n) w → LacksNumber k w.wire → ⊥
@@ -192,7 +192,7 @@ no_part n w c (consumer.ConsumeOk tag) h u = more_consumers n w h u.1
 no_part n w c _ h u = absurd u
 
 no_frame : (n : ℕ) (w : World) (i : Incoming) → HasNumbersFor (suc n) w → FrameUsedUp i w.wire → ⊥
-no_frame n w (incoming.Content c p) h u = let some : length w.wire.inbox.switches + suc n < 2 ^ 64 = h.ackers in let full : length w.wire.inbox.switches + 1 ≡ 2 ^ 64 = u.2 in omega arith
+no_frame n w (incoming.Content c p) h u = let some : length w.wire.deliveries.switches + suc n < 2 ^ 64 = h.ackers in let full : length w.wire.deliveries.switches + 1 ≡ 2 ^ 64 = u.2 in omega arith
 no_frame n w (incoming.Consumer c p) h u = no_part n w c p h u
 no_frame n w _ h u = absurd u
 
@@ -212,8 +212,8 @@ has_number n w _ h u = absurd u
 record IsWithin (most : ℕ) (old new : Wire) : Type 0 where
   tickets : new.tickets ≤ old.tickets + most
   published : new.published ≤ old.published + most
-  consumers : length new.inbox.roster.consumers ≤ length old.inbox.roster.consumers + most
-  ackers : length new.inbox.switches ≤ length old.inbox.switches + most
+  consumers : length new.deliveries.subscriptions.consumers ≤ length old.deliveries.subscriptions.consumers + most
+  ackers : length new.deliveries.switches ≤ length old.deliveries.switches + most
 
 within_on : (p : Past) (h : History) → IsWithin (length h) p.wire (past_on p h).wire
 within_on p [] = record { tickets = omega arith; published = omega arith; consumers = omega arith; ackers = omega arith }
@@ -221,8 +221,8 @@ within_on p (x ∷ h) =
     let rest = within_on (longer p x.0 x.1) h in
     let t : (longer p x.0 x.1).wire.tickets ≤ p.wire.tickets + 1 = tickets-next p.wire x.0 x.1 in
     let n : (longer p x.0 x.1).wire.published ≤ p.wire.published + 1 = published-next p.wire x.0 x.1 in
-    let c : length (longer p x.0 x.1).wire.inbox.roster.consumers ≤ length p.wire.inbox.roster.consumers + 1 = consumers-next p.wire x.0 x.1 in
-    let a : length (longer p x.0 x.1).wire.inbox.switches ≤ length p.wire.inbox.switches + 1 = switches-next p.wire x.0 x.1 in
+    let c : length (longer p x.0 x.1).wire.deliveries.subscriptions.consumers ≤ length p.wire.deliveries.subscriptions.consumers + 1 = consumers-next p.wire x.0 x.1 in
+    let a : length (longer p x.0 x.1).wire.deliveries.switches ≤ length p.wire.deliveries.switches + 1 = switches-next p.wire x.0 x.1 in
     record { tickets = omega (arith, rest.tickets, t); published = omega (arith, rest.published, n); consumers = omega (arith, rest.consumers, c); ackers = omega (arith, rest.ackers, a) }
 
 -- a session that stands for a history has used at most one number of each counter an event
@@ -231,6 +231,6 @@ standing_numbers n m h w s few =
     let within = within_on (past n []) h in
     let t : w.wire.tickets ≡ (past n h).wire.tickets = ap (λ b. b.tickets) s.wire in
     let p : w.wire.published ≡ (past n h).wire.published = ap (λ b. b.published) s.wire in
-    let c : length w.wire.inbox.roster.consumers ≡ length (past n h).wire.inbox.roster.consumers = ap (λ b. length b.inbox.roster.consumers) s.wire in
-    let a : length w.wire.inbox.switches ≡ length (past n h).wire.inbox.switches = ap (λ b. length b.inbox.switches) s.wire in
+    let c : length w.wire.deliveries.subscriptions.consumers ≡ length (past n h).wire.deliveries.subscriptions.consumers = ap (λ b. length b.deliveries.subscriptions.consumers) s.wire in
+    let a : length w.wire.deliveries.switches ≡ length (past n h).wire.deliveries.switches = ap (λ b. length b.deliveries.switches) s.wire in
     record { tickets = omega (arith, within.tickets, t); confirms = omega (arith, within.published, p); consumers = omega (arith, within.consumers, c); ackers = omega (arith, within.ackers, a) }

@@ -12,46 +12,46 @@ use Rattle.lapin_types.specs.Types.method
 use Rattle.lapin_types.specs.Types.channel
 use Rattle.lapin_types.specs.Types.basic
 use Rattle.lapin_types.specs.Types.channel_state as state
-use Rattle.lapin_history.specs.ConfirmMarks.{ConfirmMark}
-use Rattle.lapin_history.specs.ConfirmMarks as mark
-use Rattle.lapin_history.specs.declared.calls.Asked.{Asked}
-use Rattle.lapin_history.specs.declared.calls.Asked.TheVariants as ask
-use Rattle.lapin_history.specs.declared.broker_frames.Incoming.{Incoming}
-use Rattle.lapin_history.specs.declared.broker_frames.Incoming.TheVariants as incoming
-use Rattle.lapin_history.specs.declared.marks.Settlement.{Settlement}
-use Rattle.lapin_history.specs.declared.phases.Closer.TheVariants as closer
-use Rattle.lapin_history.specs.declared.phases.ConnectionPhase.{ConnectionPhase}
-use Rattle.lapin_history.specs.declared.phases.ConnectionPhase.TheVariants as link
-use Rattle.lapin_history.specs.declared.phases.ChannelPhase.{ChannelPhase}
-use Rattle.lapin_history.specs.declared.phases.ChannelPhase.TheVariants as phase
-use Rattle.lapin_history.specs.Readings.{Readings}
-use Rattle.lapin_history.specs.Incoming.{incoming_of, frame_class, frame_method}
-use Rattle.lapin_history.specs.Phases.{is_up, is_lost}
-use Rattle.lapin_history.specs.Polls.{is_confirmed, is_returned, is_aside}
-use Rattle.lapin_history.specs.Select.{is_select}
-use Rattle.lapin_history.specs.declared.broker_frames.ContentPart.{ContentPart}
-use Rattle.lapin_history.specs.declared.broker_frames.ContentPart.TheVariants as part
+use Rattle.lapin_rules.specs.ConfirmMarks.{ConfirmMark}
+use Rattle.lapin_rules.specs.ConfirmMarks as mark
+use Rattle.lapin_rules.specs.declared.calls.Asked.{Asked}
+use Rattle.lapin_rules.specs.declared.calls.Asked.TheVariants as ask
+use Rattle.lapin_rules.specs.declared.broker_frames.Incoming.{Incoming}
+use Rattle.lapin_rules.specs.declared.broker_frames.Incoming.TheVariants as incoming
+use Rattle.lapin_rules.specs.declared.marks.Settlement.{Settlement}
+use Rattle.lapin_rules.specs.declared.phases.Closer.TheVariants as closer
+use Rattle.lapin_rules.specs.declared.phases.ConnectionPhase.{ConnectionPhase}
+use Rattle.lapin_rules.specs.declared.phases.ConnectionPhase.TheVariants as link
+use Rattle.lapin_rules.specs.declared.phases.ChannelPhase.{ChannelPhase}
+use Rattle.lapin_rules.specs.declared.phases.ChannelPhase.TheVariants as phase
+use Rattle.lapin_rules.specs.Readings.{Readings}
+use Rattle.lapin_rules.specs.Incoming.{incoming_of, frame_class, frame_method}
+use Rattle.lapin_rules.specs.Phases.{is_up, is_lost}
+use Rattle.lapin_rules.specs.Polls.{is_confirmed, is_returned, is_aside}
+use Rattle.lapin_rules.specs.Select.{is_select}
+use Rattle.lapin_rules.specs.declared.broker_frames.ContentPart.{ContentPart}
+use Rattle.lapin_rules.specs.declared.broker_frames.ContentPart.TheVariants as part
 use Rattle.lapin_content.specs.declared.start.Start.{Start}
 use Rattle.lapin_content.specs.declared.start.Start.TheVariants as start
 use Rattle.lapin_content.specs.declared.start.Whole.{Whole}
-use Rattle.lapin_history.specs.Content.{receives_part, start_marks, whole_marks, whole_on}
-use Rattle.lapin_history.specs.declared.broker_frames.ConsumerPart.{ConsumerPart}
-use Rattle.lapin_history.specs.declared.broker_frames.ConsumerPart.TheVariants as consumer
-use Rattle.lapin_consumer.specs.Roster.{Consumer, consumer_at}
-use Rattle.lapin_history.specs.Consumers.{receives_consumer, lets_go_of, cancel_noted, after_let_go}
-use Rattle.lapin_history.specs.Ackers.{acker_asked, acked_wire, usable_at}
-use Rattle.lapin_history.specs.Words.{with_channel}
-use Rattle.lapin_history.specs.Wire.{Wire, state_of, phase_of, is_open, is_base, receives_on, noted}
-use Rattle.lapin_history.specs.Asking.{asked_by, is_allowed, after_call, call_marks}
-use Rattle.lapin_history.specs.Ends.{ends, live_channels, end_with}
-use Rattle.lapin_history.specs.Reply.{receives_reply}
-use Rattle.lapin_history.specs.ChannelClose.{closing, failed_at_close, receives_close, receives_close_ok, close_ok_end, after_close_ok}
-use Rattle.lapin_history.specs.Unexpected.{refused}
-use Rattle.lapin_history.specs.Settlement.{settlement_record, session_close}
-use Rattle.lapin_history.specs.Receiving.{incoming_up, incoming_record, after_incoming, incoming_marks}
-use Rattle.lapin_history.specs.Handing.{left_marks, handed_as}
-use Rattle.lapin_history.specs.Loss.{after_lost, lost_marks}
-use Rattle.lapin_history.specs.Events.{confirm_marks}
+use Rattle.lapin_rules.specs.Content.{receives_part, start_marks, whole_marks, whole_on}
+use Rattle.lapin_rules.specs.declared.broker_frames.ConsumerPart.{ConsumerPart}
+use Rattle.lapin_rules.specs.declared.broker_frames.ConsumerPart.TheVariants as consumer
+use Rattle.lapin_consumer.specs.Subscriptions.{Consumer, consumer_at}
+use Rattle.lapin_rules.specs.Consumers.{receives_consumer, lets_go_of, cancel_noted, after_let_go}
+use Rattle.lapin_rules.specs.Ackers.{acker_asked, acked_wire, usable_at}
+use Rattle.lapin_rules.specs.Words.{with_channel}
+use Rattle.lapin_rules.specs.Wire.{Wire, state_of, phase_of, is_open, is_base, receives_on, noted}
+use Rattle.lapin_rules.specs.Asking.{asked_by, is_allowed, after_call, call_marks}
+use Rattle.lapin_rules.specs.Ends.{ends, live_channels, end_with}
+use Rattle.lapin_rules.specs.Reply.{receives_reply}
+use Rattle.lapin_rules.specs.ChannelClose.{closing, failed_at_close, receives_close, receives_close_ok, close_ok_end, after_close_ok}
+use Rattle.lapin_rules.specs.Unexpected.{refused}
+use Rattle.lapin_rules.specs.Settlement.{settlement_record, session_close}
+use Rattle.lapin_rules.specs.Receiving.{incoming_up, incoming_record, after_incoming, incoming_marks}
+use Rattle.lapin_rules.specs.Handing.{left_marks, handed_as}
+use Rattle.lapin_rules.specs.Loss.{after_lost, lost_marks}
+use Rattle.lapin_rules.specs.Events.{confirm_marks}
 use Rattle.lapin_machine.specs.Returned.{given_back, is_emptied, without_ended, after_ends}
 use Rattle.lapin_machine.specs.Returned as back
 use Rattle.lapin_machine.specs.Stands.{IsShut}
@@ -257,7 +257,7 @@ goes_anew w (event.Next flow) step shut =
     let marks : List ConfirmMark = left_marks (handed_as (told_anew w (event.Next flow)) w.wire) in
     let P : Option Left → Type 0 = λ r. r ≡ after_ends w.wire.link L marks r in
     subst P (sym step) (none_goes w.wire.link L marks)
-goes_anew w (event.Receive f) step shut = incoming_goes w.wire.link (readings_of w.post w.slots) (frame_class f) (frame_method f) (incoming_of f) w.wire w.returned refl shut
+goes_anew w (event.Receive f) step shut = incoming_goes w.wire.link (readings_of w.confirm_state w.slots) (frame_class f) (frame_method f) (incoming_of f) w.wire w.returned refl shut
 goes_anew w (event.PollTicket n) step shut = quiet w.wire.link w.returned
 goes_anew w (event.PollConfirm n) step shut = quiet_marks w.wire.link (confirm_marks w.wire (event.PollConfirm n) (told_anew w (event.PollConfirm n))) w.returned (select_quiet (is_confirmed (told_anew w (event.PollConfirm n))) (mark.Taken n) w.returned refl)
 goes_anew w (event.PollConsumer n) step shut = quiet w.wire.link w.returned
@@ -266,7 +266,7 @@ goes_anew w (event.AsideTicket n) step shut = quiet w.wire.link w.returned
 goes_anew w (event.AsideConfirm n) step shut = quiet_marks w.wire.link (confirm_marks w.wire (event.AsideConfirm n) (told_anew w (event.AsideConfirm n))) w.returned (select_quiet (is_aside (told_anew w (event.AsideConfirm n))) (mark.SetAside n) w.returned refl)
 goes_anew w (event.Acker n k) step shut = quiet_at w.wire.link _ w.returned (acked_link (usable_at n w.wire) k w.wire)
 goes_anew w (event.Delegate n) step shut = quiet w.wire.link w.returned
-goes_anew w (event.DropConsumer n) step shut = quiet_at w.wire.link _ w.returned (let_go_link (consumer_at n w.wire.inbox.roster) w.wire)
+goes_anew w (event.DropConsumer n) step shut = quiet_at w.wire.link _ w.returned (let_go_link (consumer_at n w.wire.deliveries.subscriptions) w.wire)
 goes_anew w event.NextJob step shut = quiet w.wire.link w.returned
 goes_anew w (event.State c) step shut = quiet w.wire.link w.returned
 goes_anew w event.Lost step shut = lost_goes w.wire.link w.wire w.returned refl shut

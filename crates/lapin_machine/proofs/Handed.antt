@@ -8,14 +8,14 @@ use Rattle.lapin_types.specs.declared.leaving.Left.{Left}
 use Rattle.lapin_types.specs.declared.record.Record.{Record}
 use Rattle.lapin_types.specs.declared.record.Record.TheVariants as record_
 use Rattle.lapin_types.specs.declared.event.Event.TheVariants as event
-use Rattle.lapin_history.specs.Words.{without_first}
-use Rattle.lapin_history.specs.Frames.{RestEntry, MethodEntry, left_publish}
-use Rattle.lapin_history.specs.Leaving.{Lists, may_begin, begun_rest, handed_of, left_of, left_lists}
-use Rattle.lapin_history.specs.Flow.{begins_on, is_flowing, unless_full}
-use Rattle.lapin_history.specs.Handing.{handed, handed_out, handed_as, began_on, frame_record, sent, left_marks, left_tickets}
-use Rattle.lapin_history.specs.Wire.{Wire, lists_of, with_lists}
-use Rattle.lapin_confirm.specs.Machine as post
-use Rattle.lapin_ticket.specs.Slots as desk
+use Rattle.lapin_rules.specs.Words.{without_first}
+use Rattle.lapin_rules.specs.Frames.{RestEntry, MethodEntry, left_publish}
+use Rattle.lapin_rules.specs.Leaving.{Lists, may_begin, begun_rest, handed_of, left_of, left_lists}
+use Rattle.lapin_rules.specs.Flow.{begins_on, is_flowing, unless_full}
+use Rattle.lapin_rules.specs.Handing.{handed, handed_out, handed_as, began_on, frame_record, sent, left_marks, left_tickets}
+use Rattle.lapin_rules.specs.Wire.{Wire, lists_of, with_lists}
+use Rattle.lapin_confirm.specs.Machine as confirm_state
+use Rattle.lapin_ticket.specs.Slots as slots_of_tickets
 use Rattle.lapin_machine.specs.World.{World, next_anew, told_anew, handing, full_in}
 use Rattle.lapin_machine.proofs.Seen.{world_is}
 use Rattle.lapin_machine.proofs.Brought.{none_begins, never_begins}
@@ -81,17 +81,17 @@ pub left_told : (t : ℕ → Bool) (b : Wire) → left_lists b.frame_max (began_
 left_told t b = (by_record b.frame_max t b.rest b.methods b.publishes).left
 
 -- a request leaves what its record says
-pub handing_told : (flow : Bool) (w : World) → next_anew w (event.Next flow) ≡ handing (begins_on flow (full_in w.post) w.wire) w
+pub handing_told : (flow : Bool) (w : World) → next_anew w (event.Next flow) ≡ handing (begins_on flow (full_in w.confirm_state) w.wire) w
 handing_told flow w =
-    let t : ℕ → Bool = begins_on flow (full_in w.post) w.wire in
+    let t : ℕ → Bool = begins_on flow (full_in w.confirm_state) w.wire in
     let r : Record = frame_record (handed_out t w.wire) in
     let o : handed_as r w.wire ≡ handed_out t w.wire = handed_told t w.wire in
     world_is _ _
     (ap (λ x. sent x (with_lists (left_lists w.wire.frame_max (began_on r) (lists_of w.wire)) w.wire)) o ∙ ap (λ ls. sent (handed_out t w.wire) (with_lists ls w.wire)) (left_told t w.wire))
-    (ap (λ x. fold post.after_mark w.post (left_marks x)) o)
-    (ap (λ x. fold desk.after_mark w.slots (left_tickets x)) o)
+    (ap (λ x. fold confirm_state.after_mark w.confirm_state (left_marks x)) o)
+    (ap (λ x. fold outstanding.after_mark w.slots (left_tickets x)) o)
     refl
 
-pub next_handed : {E : Type 0} (res : Result (Option Left) E) (v w : World) (flow flowing : Bool) → flowing ≡ is_flowing flow w.wire → OnOk res (v ≡ handing (unless_full flowing (full_in w.post)) w) → OnOk res (v ≡ next_anew w (event.Next flow))
-next_handed (Ok x) v w flow flowing is made = made ∙ ap (λ t. handing (unless_full t (full_in w.post)) w) is ∙ sym (handing_told flow w)
+pub next_handed : {E : Type 0} (res : Result (Option Left) E) (v w : World) (flow flowing : Bool) → flowing ≡ is_flowing flow w.wire → OnOk res (v ≡ handing (unless_full flowing (full_in w.confirm_state)) w) → OnOk res (v ≡ next_anew w (event.Next flow))
+next_handed (Ok x) v w flow flowing is made = made ∙ ap (λ t. handing (unless_full t (full_in w.confirm_state)) w) is ∙ sym (handing_told flow w)
 next_handed (Err e) v w flow flowing is made = tt

@@ -22,7 +22,7 @@ pub mod Growing
 pub mod Ways
 pub mod Alone
 pub mod Shut
-pub mod Inboxes
+pub mod Deliveries
 pub mod Causes
 pub mod Refusals
 pub mod Wholes

@@ -6,12 +6,12 @@ use Rattle.lapin_types.specs.declared.record.Record.{Record}
 use Rattle.lapin_types.specs.declared.record.Record.TheVariants as record_
 use Rattle.lapin_types.specs.declared.event.Event.TheVariants as event
 use Rattle.lapin_types.specs.Types.error
-use Rattle.lapin_history.specs.declared.calls.Asked.{Asked}
-use Rattle.lapin_history.specs.declared.calls.Asked.TheVariants as ask
-use Rattle.lapin_history.specs.Calls.{asked, is_try, publishes}
-use Rattle.lapin_history.specs.Asking.{is_allowed, is_held, call_told, call_record, accepted_record, asked_by, is_outstanding}
-use Rattle.lapin_history.specs.Readings.{Readings}
-use Rattle.lapin_history.specs.Wire.{Wire, state_of}
+use Rattle.lapin_rules.specs.declared.calls.Asked.{Asked}
+use Rattle.lapin_rules.specs.declared.calls.Asked.TheVariants as ask
+use Rattle.lapin_rules.specs.Calls.{asked, is_try, publishes}
+use Rattle.lapin_rules.specs.Asking.{is_allowed, is_held, call_told, call_record, accepted_record, asked_by, is_outstanding}
+use Rattle.lapin_rules.specs.Readings.{Readings}
+use Rattle.lapin_rules.specs.Wire.{Wire, state_of}
 use Rattle.lapin_machine.specs.World.{World, told_anew, next_anew, asking, readings_of}
 
 -- a call that publishes nothing is no try publish
@@ -36,15 +36,15 @@ pub asked_plain : (c : ℕ) (k : Call) (b : Wire) → asked_by k (call_record c 
 asked_plain c k b = ap (λ t. cond (is_try k && t) ask.Nothing (asked k)) (plain_record c (asked k) b) ∙ ap (λ t. cond t ask.Nothing (asked k)) (and_none (is_try k))
 
 -- a call that publishes nothing is refused at no limit
-pub never_held : (w : World) (c : ℕ) (k : Call) → publishes (asked k) ≡ false → is_held c k w.wire (readings_of w.post w.slots) ≡ false
+pub never_held : (w : World) (c : ℕ) (k : Call) → publishes (asked k) ≡ false → is_held c k w.wire (readings_of w.confirm_state w.slots) ≡ false
 never_held w c k h = rw (no_try k h) refl
 
 -- what it tells and leaves
 module _ (w : World) (c : ℕ) (k : Call) where
-  pub told_free : is_held c k w.wire (readings_of w.post w.slots) ≡ false → told_anew w (event.Call c k) ≡ call_record c (asked k) w.wire
+  pub told_free : is_held c k w.wire (readings_of w.confirm_state w.slots) ≡ false → told_anew w (event.Call c k) ≡ call_record c (asked k) w.wire
   told_free free = rw free refl
 
-  pub next_free : is_held c k w.wire (readings_of w.post w.slots) ≡ false → next_anew w (event.Call c k) ≡ asking c (asked k) w
+  pub next_free : is_held c k w.wire (readings_of w.confirm_state w.slots) ≡ false → next_anew w (event.Call c k) ≡ asking c (asked k) w
   next_free free = next_as (told_anew w (event.Call c k)) (told_free free)
     where
       leaves : Asked → World
@@ -54,10 +54,10 @@ module _ (w : World) (c : ℕ) (k : Call) where
       next_as r is = ap (λ x. leaves (asked_by k x)) is ∙ ap leaves (asked_plain c k w.wire)
 
   -- one that is refused at the limit changes nothing
-  pub told_held : is_held c k w.wire (readings_of w.post w.slots) ≡ true → told_anew w (event.Call c k) ≡ record_.Refused (error.ConfirmsOutstanding ((readings_of w.post w.slots).limit c))
+  pub told_held : is_held c k w.wire (readings_of w.confirm_state w.slots) ≡ true → told_anew w (event.Call c k) ≡ record_.Refused (error.ConfirmsOutstanding ((readings_of w.confirm_state w.slots).limit c))
   told_held held = rw held refl
 
-  pub next_held : is_held c k w.wire (readings_of w.post w.slots) ≡ true → next_anew w (event.Call c k) ≡ w
+  pub next_held : is_held c k w.wire (readings_of w.confirm_state w.slots) ≡ true → next_anew w (event.Call c k) ≡ w
   next_held held = next_as (told_anew w (event.Call c k)) (told_held held)
     where
       tried : (x y : Bool) → (x && y) ≡ true → x ≡ true
@@ -67,5 +67,5 @@ module _ (w : World) (c : ℕ) (k : Call) where
       is_a_try : is_try k ≡ true
       is_a_try = tried (is_try k) _ held
 
-      next_as : (r : Record) → r ≡ record_.Refused (error.ConfirmsOutstanding ((readings_of w.post w.slots).limit c)) → asking c (asked_by k r) w ≡ w
+      next_as : (r : Record) → r ≡ record_.Refused (error.ConfirmsOutstanding ((readings_of w.confirm_state w.slots).limit c)) → asking c (asked_by k r) w ≡ w
       next_as r is = ap (λ x. asking c (asked_by k x) w) is ∙ ap (λ t. asking c (cond (t && true) ask.Nothing (asked k)) w) is_a_try

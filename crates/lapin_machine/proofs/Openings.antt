@@ -6,21 +6,21 @@ use Rattle.lapin_types.specs.Types.{ChannelState}
 use Rattle.lapin_types.specs.Types.channel_state as state
 use Rattle.lapin_types.specs.declared.request.ReplyKind.{ReplyKind}
 use Rattle.lapin_tables.specs.ByChannel.{at_channel}
-use Rattle.lapin_history.specs.declared.phases.ChannelPhase.{ChannelPhase}
-use Rattle.lapin_history.specs.declared.phases.ChannelPhase.TheVariants as phase
-use Rattle.lapin_history.specs.declared.phases.ConnectionPhase.{ConnectionPhase}
-use Rattle.lapin_history.specs.declared.phases.ConnectionPhase.TheVariants as link
-use Rattle.lapin_history.specs.Words.{is_some, with_channel}
-use Rattle.lapin_history.specs.Phases.{channel_state, is_live, is_up, phase_in}
-use Rattle.lapin_history.specs.ChannelClose.{close_ok_end}
-use Rattle.lapin_history.specs.Wire.{is_closed, is_open, is_opening, receives_on}
-use Rattle.lapin_history.specs.Opening.{opens, phases_with}
-use Rattle.lapin_history.specs.Reply.{receives}
-use Rattle.lapin_history.specs.ChannelClose.{receives_close, receives_close_ok}
-use Rattle.lapin_confirm.specs.Book.{Book, ended}
+use Rattle.lapin_rules.specs.declared.phases.ChannelPhase.{ChannelPhase}
+use Rattle.lapin_rules.specs.declared.phases.ChannelPhase.TheVariants as phase
+use Rattle.lapin_rules.specs.declared.phases.ConnectionPhase.{ConnectionPhase}
+use Rattle.lapin_rules.specs.declared.phases.ConnectionPhase.TheVariants as link
+use Rattle.lapin_rules.specs.Words.{is_some, with_channel}
+use Rattle.lapin_rules.specs.Phases.{channel_state, is_live, is_up, phase_in}
+use Rattle.lapin_rules.specs.ChannelClose.{close_ok_end}
+use Rattle.lapin_rules.specs.Wire.{is_closed, is_open, is_opening, receives_on}
+use Rattle.lapin_rules.specs.Opening.{opens, phases_with}
+use Rattle.lapin_rules.specs.Reply.{receives}
+use Rattle.lapin_rules.specs.ChannelClose.{receives_close, receives_close_ok}
+use Rattle.lapin_confirm.specs.PublishStates.{PublishStates, ended}
 use Rattle.lapin_machine.specs.Kept.{is_close_sent}
 use Rattle.lapin_outbox.specs.Outgoing.{OutboxState}
-use Rattle.lapin_desk.specs.Ended.{emptied_outbox}
+use Rattle.lapin_outstanding.specs.Ended.{emptied_outbox}
 use Rattle.lapin_machine.specs.Tied.{IsTied, NotPoisoned, is_live_on}
 use Rattle.lapin_machine.proofs.Keeping.{tied_live, tied_further, tied_dropped}
 
@@ -90,14 +90,14 @@ replied_opening l c k phases some h = reply_opening l c k phases (first (receive
     first true b h = refl
     first false b h = cc
 
-pub tied_replied : (l : ConnectionPhase) (c : ℕ) (k : ReplyKind) (phases : List (ℕ × ChannelPhase)) (ps : List Publish) (b : Book) → HasOpening l c phases → IsTied l phases ps b → IsTied l (phases_with c k phases) ps b
+pub tied_replied : (l : ConnectionPhase) (c : ℕ) (k : ReplyKind) (phases : List (ℕ × ChannelPhase)) (ps : List Publish) (b : PublishStates) → HasOpening l c phases → IsTied l phases ps b → IsTied l (phases_with c k phases) ps b
 tied_replied l c k phases ps b h t = elim (opens k) as (λ o. IsTied l (cond o (with_channel c (phase.Open false) phases) phases) ps b) [
   | true ↦ tied_live l c (phase.Open false) phases ps b h.up refl h.some t
   | false ↦ t
 ]
 
 -- a pause, or its end, leaves an open channel open
-pub tied_paused : (l : ConnectionPhase) (c : ℕ) (paused : Bool) (phases : List (ℕ × ChannelPhase)) (ps : List Publish) (b : Book) → HasOpening l c phases → IsTied l phases ps b → IsTied l (with_channel c (phase.Open paused) phases) ps b
+pub tied_paused : (l : ConnectionPhase) (c : ℕ) (paused : Bool) (phases : List (ℕ × ChannelPhase)) (ps : List Publish) (b : PublishStates) → HasOpening l c phases → IsTied l phases ps b → IsTied l (with_channel c (phase.Open paused) phases) ps b
 tied_paused l c paused phases ps b h t = tied_live l c (phase.Open paused) phases ps b h.up refl h.some t
 
 -- close-ok is received on a channel that was opened
@@ -119,11 +119,11 @@ closed_over l c phases h =
     over (Some phase.Crossed) h = cc
 
 -- an open channel has a line
-pub open_ledger : (l : ConnectionPhase) (c : ℕ) (phases : List (ℕ × ChannelPhase)) (ps : List Publish) (b : Book) → is_open (state_at l c (at_channel c phases)) ≡ true → IsTied l phases ps b → IsSome (at_channel c b.ledgers)
-open_ledger l c phases ps b h t = t.ledgers c (open_opening l c phases h).some
+pub open_confirm_mode : (l : ConnectionPhase) (c : ℕ) (phases : List (ℕ × ChannelPhase)) (ps : List Publish) (b : PublishStates) → is_open (state_at l c (at_channel c phases)) ≡ true → IsTied l phases ps b → IsSome (at_channel c b.confirm_modes)
+open_confirm_mode l c phases ps b h t = t.confirm_modes c (open_opening l c phases h).some
 
-pub heard_ledger : (l : ConnectionPhase) (c : ℕ) (phases : List (ℕ × ChannelPhase)) (ps : List Publish) (b : Book) → receives_on (state_at l c (at_channel c phases)) ≡ true → IsTied l phases ps b → IsSome (at_channel c b.ledgers)
-heard_ledger l c phases ps b h t = t.ledgers c (heard_opening l c phases h).some
+pub heard_confirm_mode : (l : ConnectionPhase) (c : ℕ) (phases : List (ℕ × ChannelPhase)) (ps : List Publish) (b : PublishStates) → receives_on (state_at l c (at_channel c phases)) ≡ true → IsTied l phases ps b → IsSome (at_channel c b.confirm_modes)
+heard_confirm_mode l c phases ps b h t = t.confirm_modes c (heard_opening l c phases h).some
 
 -- a channel whose opening a crossed close ended
 pub crossed_over : (l : ConnectionPhase) (c : ℕ) (phases : List (ℕ × ChannelPhase)) → close_ok_end (phase_in (at_channel c phases)) ≡ None → receives_close_ok (state_at l c (at_channel c phases)) ≡ true → is_live_on l (at_channel c phases) ≡ false
@@ -144,7 +144,7 @@ sent_down (link.Closing sent received) h = refl
 sent_down link.Closed h = refl
 sent_down link.Lost h = refl
 
-pub tied_unsent : (t : Bool) (o : OutboxState) (l m : ConnectionPhase) (phases : List (ℕ × ChannelPhase)) (b : Book) → is_up l ≡ false → IsTied l phases o.lists.publishes b → IsTied m phases (cond t o (emptied_outbox o)).lists.publishes b
+pub tied_unsent : (t : Bool) (o : OutboxState) (l m : ConnectionPhase) (phases : List (ℕ × ChannelPhase)) (b : PublishStates) → is_up l ≡ false → IsTied l phases o.lists.publishes b → IsTied m phases (cond t o (emptied_outbox o)).lists.publishes b
 tied_unsent true o l m phases b down t = tied_further l m phases o.lists.publishes b down t
 tied_unsent false o l m phases b down t = tied_dropped l m phases o.lists.publishes b down t
 

@@ -12,43 +12,43 @@ use Rattle.lapin_content.specs.declared.start.Start.{Start}
 use Rattle.lapin_content.specs.declared.start.Start.TheVariants as start
 use Rattle.lapin_content.specs.declared.start.Whole.{Whole}
 use Rattle.lapin_content.specs.Channels.{Channels}
-use Rattle.lapin_history.specs.declared.broker_frames.ContentPart.{ContentPart}
-use Rattle.lapin_history.specs.declared.broker_frames.Incoming.TheVariants as incoming
-use Rattle.lapin_history.specs.declared.phases.ChannelPhase.{ChannelPhase}
-use Rattle.lapin_history.specs.declared.phases.ConnectionPhase.{ConnectionPhase}
-use Rattle.lapin_history.specs.ConfirmMarks as mark
-use Rattle.lapin_history.specs.Requests.{resolved_with}
-use Rattle.lapin_history.specs.Words.{is_some}
-use Rattle.lapin_consumer.specs.Roster.{is_registered}
-use Rattle.lapin_inbox.specs.Inbox.{Inbox}
-use Rattle.lapin_inbox.specs.Inbox as inbox
-use Rattle.lapin_inbox.specs.Marks as inbox_mark
-use Rattle.lapin_history.specs.Wire.{with_inbox}
-use Rattle.lapin_history.specs.Content.{whole_on, whole_marks, start_marks, whole_tickets, start_tickets, next_acker, arrival, start_inbox, whole_inbox, part_inbox, delivered_message, got_message, returned_message, after_part}
+use Rattle.lapin_rules.specs.declared.broker_frames.ContentPart.{ContentPart}
+use Rattle.lapin_rules.specs.declared.broker_frames.Incoming.TheVariants as incoming
+use Rattle.lapin_rules.specs.declared.phases.ChannelPhase.{ChannelPhase}
+use Rattle.lapin_rules.specs.declared.phases.ConnectionPhase.{ConnectionPhase}
+use Rattle.lapin_rules.specs.ConfirmMarks as mark
+use Rattle.lapin_rules.specs.Requests.{resolved_with}
+use Rattle.lapin_rules.specs.Words.{is_some}
+use Rattle.lapin_consumer.specs.Subscriptions.{is_registered}
+use Rattle.lapin_delivery.specs.Deliveries.{Deliveries}
+use Rattle.lapin_delivery.specs.Deliveries as deliveries
+use Rattle.lapin_delivery.specs.Marks as delivery_mark
+use Rattle.lapin_rules.specs.Wire.{with_deliveries}
+use Rattle.lapin_rules.specs.Content.{whole_on, whole_marks, start_marks, whole_tickets, start_tickets, next_acker, arrival, start_deliveries, whole_deliveries, part_deliveries, delivered_message, got_message, returned_message, after_part}
 use Rattle.lapin_outbox.specs.Outgoing.{OutboxState}
 use Rattle.lapin_ticket.specs.declared.Slot.{Slot}
 use Rattle.lapin_ticket.specs.Slots.{after_mark}
-use Rattle.lapin_confirm.specs.Book.{Book}
-use Rattle.lapin_confirm.specs.Machine as post
-use Rattle.lapin_confirm.specs.Post.{Post}
+use Rattle.lapin_confirm.specs.PublishStates.{PublishStates}
+use Rattle.lapin_confirm.specs.Machine as confirm_state
+use Rattle.lapin_confirm.specs.ConfirmState.{ConfirmState}
 use Rattle.lapin_machine.specs.World.{World, receiving}
 use Rattle.lapin_machine.proofs.Counts.{resolved-count}
 use Rattle.lapin_machine.proofs.Seen.{seen, base_is, world_is}
 
 -- ---- a whole content changes no tag and no outcome, and gives no ticket
 
-start-book : (c : ℕ) (s : Start) (w : Whole) (p : Post) → (fold post.after_mark p (start_marks c s w)).book ≡ p.book
-start-book c (start.Return code text exchange key) w p = refl
-start-book c (start.Get ticket tag exchange key redelivered count) w p = refl
-start-book c (start.Deliver consumer tag exchange key redelivered) w p = refl
+start-publish_states : (c : ℕ) (s : Start) (w : Whole) (p : ConfirmState) → (fold confirm_state.after_mark p (start_marks c s w)).publish_states ≡ p.publish_states
+start-publish_states c (start.Return code text exchange key) w p = refl
+start-publish_states c (start.Get ticket tag exchange key redelivered count) w p = refl
+start-publish_states c (start.Deliver consumer tag exchange key redelivered) w p = refl
 
-pub whole-book : (c : ℕ) (w : Option Whole) (p : Post) → (fold post.after_mark p (whole_marks c w)).book ≡ p.book
-whole-book c None p = refl
-whole-book c (Some w) p = start-book c w.start w p
+pub whole-publish_states : (c : ℕ) (w : Option Whole) (p : ConfirmState) → (fold confirm_state.after_mark p (whole_marks c w)).publish_states ≡ p.publish_states
+whole-publish_states c None p = refl
+whole-publish_states c (Some w) p = start-publish_states c w.start w p
 
 -- the same of confirms that a whole content came to
-pub whole_book : (c : ℕ) (w : Option Whole) (p new : Post) → new ≡ fold post.after_mark p (whole_marks c w) → new.book ≡ p.book
-whole_book c w p new is = ap (λ (q : Post). q.book) is ∙ whole-book c w p
+pub whole_publish_states : (c : ℕ) (w : Option Whole) (p new : ConfirmState) → new ≡ fold confirm_state.after_mark p (whole_marks c w) → new.publish_states ≡ p.publish_states
+whole_publish_states c w p new is = ap (λ (q : ConfirmState). q.publish_states) is ∙ whole-publish_states c w p
 
 start-count : (c n : ℕ) (s : Start) (w : Whole) (slots : List (Option Slot)) → length (fold after_mark slots (start_tickets c n s w)) ≡ length slots
 start-count c n (start.Return code text exchange key) w slots = refl
@@ -67,28 +67,28 @@ got_slots c n w ticket tag exchange key redelivered count m slots new is got res
     ∙ ap (λ (x : BasicGetMessage). fold after_mark slots (resolved_with (Ok (answer.Got (Some x))) ticket)) got
     ∙ ap (λ (x : Start). fold after_mark slots (start_tickets c n x w)) (sym is)
 
-pub returned_marks : (c : ℕ) (w : Whole) (code : ℕ) (text exchange key : List ℕ) (m : BasicReturnMessage) (p new : Post) → w.start ≡ start.Return code text exchange key → m ≡ returned_message code text exchange key w → new ≡ post.after_mark p (mark.Arrived c m) → new ≡ fold post.after_mark p (whole_marks c (Some w))
+pub returned_marks : (c : ℕ) (w : Whole) (code : ℕ) (text exchange key : List ℕ) (m : BasicReturnMessage) (p new : ConfirmState) → w.start ≡ start.Return code text exchange key → m ≡ returned_message code text exchange key w → new ≡ confirm_state.after_mark p (mark.Arrived c m) → new ≡ fold confirm_state.after_mark p (whole_marks c (Some w))
 returned_marks c w code text exchange key m p new is came arrived =
     arrived
-    ∙ ap (λ (x : BasicReturnMessage). post.after_mark p (mark.Arrived c x)) came
-    ∙ ap (λ (x : Start). fold post.after_mark p (start_marks c x w)) (sym is)
+    ∙ ap (λ (x : BasicReturnMessage). confirm_state.after_mark p (mark.Arrived c x)) came
+    ∙ ap (λ (x : Start). fold confirm_state.after_mark p (start_marks c x w)) (sym is)
 
 -- consumers and ackers: the message of a get takes an acker, and so does a delivery for a consumer that is registered
-pub got_inbox : (c : ℕ) (w : Whole) (ticket : Option ℕ) (tag : ℕ) (exchange key : List ℕ) (redelivered : Bool) (count : ℕ) (i new : Inbox) → w.start ≡ start.Get ticket tag exchange key redelivered count → new ≡ inbox.after_mark i (inbox_mark.Got c tag) → new ≡ fold inbox.after_mark i (whole_inbox c i (Some w))
-got_inbox c w ticket tag exchange key redelivered count i new is got = got ∙ ap (λ (x : Start). fold inbox.after_mark i (start_inbox c i x w)) (sym is)
+pub got_deliveries : (c : ℕ) (w : Whole) (ticket : Option ℕ) (tag : ℕ) (exchange key : List ℕ) (redelivered : Bool) (count : ℕ) (i new : Deliveries) → w.start ≡ start.Get ticket tag exchange key redelivered count → new ≡ deliveries.after_mark i (delivery_mark.Got c tag) → new ≡ fold deliveries.after_mark i (whole_deliveries c i (Some w))
+got_deliveries c w ticket tag exchange key redelivered count i new is got = got ∙ ap (λ (x : Start). fold deliveries.after_mark i (start_deliveries c i x w)) (sym is)
 
-pub delivered_inbox : (c : ℕ) (w : Whole) (k tag : ℕ) (exchange key : List ℕ) (redelivered : Bool) (d : Delivery) (i new : Inbox) → w.start ≡ start.Deliver (Some k) tag exchange key redelivered → is_registered k i.roster ≡ true → d ≡ delivered_message c (next_acker i) tag exchange key redelivered w → new ≡ inbox.after_mark i (inbox_mark.Delivered k d) → new ≡ fold inbox.after_mark i (whole_inbox c i (Some w))
-delivered_inbox c w k tag exchange key redelivered d i new is registered made came =
-    let arrived : arrival k (delivered_message c (next_acker i) tag exchange key redelivered w) i ≡ inbox_mark.Delivered k (delivered_message c (next_acker i) tag exchange key redelivered w) ∷ [] = rw registered refl in
+pub delivered_deliveries : (c : ℕ) (w : Whole) (k tag : ℕ) (exchange key : List ℕ) (redelivered : Bool) (d : Delivery) (i new : Deliveries) → w.start ≡ start.Deliver (Some k) tag exchange key redelivered → is_registered k i.subscriptions ≡ true → d ≡ delivered_message c (next_acker i) tag exchange key redelivered w → new ≡ deliveries.after_mark i (delivery_mark.Delivered k d) → new ≡ fold deliveries.after_mark i (whole_deliveries c i (Some w))
+delivered_deliveries c w k tag exchange key redelivered d i new is registered made came =
+    let arrived : arrival k (delivered_message c (next_acker i) tag exchange key redelivered w) i ≡ delivery_mark.Delivered k (delivered_message c (next_acker i) tag exchange key redelivered w) ∷ [] = rw registered refl in
     came
-    ∙ ap (λ (x : Delivery). inbox.after_mark i (inbox_mark.Delivered k x)) made
-    ∙ ap (fold inbox.after_mark i) (sym arrived)
-    ∙ ap (λ (x : Start). fold inbox.after_mark i (start_inbox c i x w)) (sym is)
+    ∙ ap (λ (x : Delivery). deliveries.after_mark i (delivery_mark.Delivered k x)) made
+    ∙ ap (fold deliveries.after_mark i) (sym arrived)
+    ∙ ap (λ (x : Start). fold deliveries.after_mark i (start_deliveries c i x w)) (sym is)
 
-pub missed_inbox : (c : ℕ) (w : Whole) (k tag : ℕ) (exchange key : List ℕ) (redelivered : Bool) (i : Inbox) → w.start ≡ start.Deliver (Some k) tag exchange key redelivered → is_registered k i.roster ≡ false → i ≡ fold inbox.after_mark i (whole_inbox c i (Some w))
-missed_inbox c w k tag exchange key redelivered i is gone =
+pub missed_deliveries : (c : ℕ) (w : Whole) (k tag : ℕ) (exchange key : List ℕ) (redelivered : Bool) (i : Deliveries) → w.start ≡ start.Deliver (Some k) tag exchange key redelivered → is_registered k i.subscriptions ≡ false → i ≡ fold deliveries.after_mark i (whole_deliveries c i (Some w))
+missed_deliveries c w k tag exchange key redelivered i is gone =
     let none : arrival k (delivered_message c (next_acker i) tag exchange key redelivered w) i ≡ [] = rw gone refl in
-    ap (fold inbox.after_mark i) (sym none) ∙ ap (λ (x : Start). fold inbox.after_mark i (start_inbox c i x w)) (sym is)
+    ap (fold deliveries.after_mark i) (sym none) ∙ ap (λ (x : Start). fold deliveries.after_mark i (start_deliveries c i x w)) (sym is)
 
 -- ---- a request that is open is found
 
@@ -96,31 +96,31 @@ pub found : (r : Option Request) (P : Type 0) → is_some r ≡ true → OnSome 
 found None P some h = cc
 found (Some r) P some h = h
 
-module _ (l : ConnectionPhase) (p : List (ℕ × ChannelPhase)) (o : OutboxState) (rs : List (ℕ × List Request)) (cs : Channels) (i : Inbox) (s : List (Option Slot)) (b : Post) where
+module _ (l : ConnectionPhase) (p : List (ℕ × ChannelPhase)) (o : OutboxState) (rs : List (ℕ × List Request)) (cs : Channels) (i : Deliveries) (s : List (Option Slot)) (b : ConfirmState) where
   abbrev old : World
   old = seen l p o rs cs i s b
 
   -- a header or a body, and the content that it makes whole, if it does
-  pub part_seen : (c : ℕ) (q : ContentPart) (w : Option Whole) (O : OutboxState) (R : List (ℕ × List Request)) (C : Channels) (J : Inbox) (S : List (Option Slot)) (B : Post)
+  pub part_seen : (c : ℕ) (q : ContentPart) (w : Option Whole) (O : OutboxState) (R : List (ℕ × List Request)) (C : Channels) (J : Deliveries) (S : List (Option Slot)) (B : ConfirmState)
       → whole_on c q old.wire ≡ w
       → after_part c q old.wire ≡ record old.wire { contents = (after_part c q old.wire).contents }
       → O ≡ o
       → R ≡ rs
       → C ≡ (after_part c q old.wire).contents
-      → J ≡ fold inbox.after_mark i (whole_inbox c i w)
+      → J ≡ fold deliveries.after_mark i (whole_deliveries c i w)
       → S ≡ fold after_mark s (whole_tickets c (next_acker i) w)
-      → B ≡ fold post.after_mark b (whole_marks c w)
+      → B ≡ fold confirm_state.after_mark b (whole_marks c w)
       → seen l p O R C J S B ≡ receiving (incoming.Content c q) record_.Received old
   part_seen c q w O R C J S B whole after eO eR eC eI eS eB =
       world_is _ _
-      (base_is _ (with_inbox (part_inbox c q old.wire) (record old.wire { contents = (after_part c q old.wire).contents }))
+      (base_is _ (with_deliveries (part_deliveries c q old.wire) (record old.wire { contents = (after_part c q old.wire).contents }))
       (ap (λ (y : OutboxState). y.frame_max) eO) refl refl
       (ap (λ (y : OutboxState). y.lists.rest) eO) (ap (λ (y : OutboxState). y.lists.methods) eO) (ap (λ (y : OutboxState). y.lists.publishes) eO)
       eR eC
       (ap length eS ∙ whole-count c (next_acker i) w s)
-      (ap (λ (y : Book). length y.cells) (whole_book c w b B eB))
-      (eI ∙ ap (λ x. fold inbox.after_mark i (whole_inbox c i x)) (sym whole))
-      ∙ ap (with_inbox (part_inbox c q old.wire)) (sym after))
-      (eB ∙ ap (λ x. fold post.after_mark b (whole_marks c x)) (sym whole))
+      (ap (λ (y : PublishStates). length y.cells) (whole_publish_states c w b B eB))
+      (eI ∙ ap (λ x. fold deliveries.after_mark i (whole_deliveries c i x)) (sym whole))
+      ∙ ap (with_deliveries (part_deliveries c q old.wire)) (sym after))
+      (eB ∙ ap (λ x. fold confirm_state.after_mark b (whole_marks c x)) (sym whole))
       (eS ∙ ap (λ x. fold after_mark s (whole_tickets c (next_acker i) x)) (sym whole))
       (ap (λ (y : OutboxState). y.returned) eO)

@@ -7,24 +7,24 @@ use Rattle.lapin_types.specs.declared.message.BasicReturnMessage.{BasicReturnMes
 use Rattle.lapin_types.specs.declared.record.Record.TheVariants as record_
 use Rattle.lapin_types.specs.Types.error
 use Rattle.lapin_tables.specs.Numbered.{under}
-use Rattle.lapin_history.specs.declared.marks.Outcome.{Outcome}
-use Rattle.lapin_history.specs.declared.marks.Outcome.TheVariants as outcome
-use Rattle.lapin_history.specs.ConfirmMarks.{ConfirmMark}
-use Rattle.lapin_history.specs.ConfirmReadings.{outcome_at, is_finished, was_added}
-use Rattle.lapin_history.specs.ReturnReadings.{message_of}
-use Rattle.lapin_history.specs.declared.marks.AtLeaving.{AtLeaving}
-use Rattle.lapin_history.specs.TicketReadings.{TicketMark, given, begins as begins_ticket, closes, first_answer, is_collected, answer_of, channel_of as channel_of_ticket, leaving_of, life as life_of_ticket}
-use Rattle.lapin_history.specs.Polls.{confirmed, wait_record}
-use Rattle.lapin_history.specs.History.{polled_outcome, confirm_poll, confirm_aside, polled_answer, was_given, ticket_poll, ticket_aside}
-use Rattle.lapin_history.specs.History as history
-use Rattle.lapin_history.specs.Wire.{Wire}
+use Rattle.lapin_rules.specs.declared.marks.Outcome.{Outcome}
+use Rattle.lapin_rules.specs.declared.marks.Outcome.TheVariants as outcome
+use Rattle.lapin_rules.specs.ConfirmMarks.{ConfirmMark}
+use Rattle.lapin_rules.specs.ConfirmReadings.{outcome_at, is_finished, was_added}
+use Rattle.lapin_rules.specs.ReturnReadings.{message_of}
+use Rattle.lapin_rules.specs.declared.marks.AtLeaving.{AtLeaving}
+use Rattle.lapin_rules.specs.TicketReadings.{TicketMark, given, begins as begins_ticket, closes, first_answer, is_collected, answer_of, channel_of as channel_of_ticket, leaving_of, life as life_of_ticket}
+use Rattle.lapin_rules.specs.Polls.{confirmed, wait_record}
+use Rattle.lapin_rules.specs.History.{polled_outcome, confirm_poll, confirm_aside, polled_answer, was_given, ticket_poll, ticket_aside}
+use Rattle.lapin_rules.specs.History as history
+use Rattle.lapin_rules.specs.Wire.{Wire}
 use Rattle.lapin_confirm.specs.Answers.{result_of, result_with}
 use Rattle.lapin_confirm.specs.Aside.{taken_answer, set_answer, refused_as}
-use Rattle.lapin_confirm.specs.Post.{Post}
+use Rattle.lapin_confirm.specs.ConfirmState.{ConfirmState}
 use Rattle.lapin_confirm.specs.Polled.{polled as polled_confirm, shown_with}
 use Rattle.lapin_confirm.specs.Follows.{Follows}
 use Rattle.lapin_confirm.proofs.Polling.{polled-read}
-use Rattle.lapin_confirm.proofs.LetterFollowing.{drained-read}
+use Rattle.lapin_confirm.proofs.ReturnFollowing.{drained-read}
 use Rattle.lapin_confirm.proofs.Asking.{asked-read}
 use Rattle.lapin_confirm.proofs.Reading.{waits-read, full-read, limit-read, at-limit-read, unbegun_unlimited}
 use Rattle.lapin_ticket.specs.declared.Slot.{Slot}
@@ -32,13 +32,13 @@ use Rattle.lapin_ticket.specs.Slots.{polled, polled_slot, laid, laid_slot}
 use Rattle.lapin_ticket.specs.Follows.{held, slot_in, slot_of}
 use Rattle.lapin_ticket.specs.Follows as tickets
 use Rattle.lapin_types.specs.declared.call.Call.{Call}
-use Rattle.lapin_history.specs.ConfirmReadings.{is_begun, is_full, is_at_limit}
-use Rattle.lapin_history.specs.Calls.{is_try}
-use Rattle.lapin_history.specs.Wire.{is_open, state_of}
-use Rattle.lapin_history.specs.Asking.{call_told}
-use Rattle.lapin_history.specs.Flow.{is_flowing, begins_on}
-use Rattle.lapin_history.specs.Handing.{handed}
-use Rattle.lapin_confirm.specs.Book.{at_limit_on}
+use Rattle.lapin_rules.specs.ConfirmReadings.{is_begun, is_full, is_at_limit}
+use Rattle.lapin_rules.specs.Calls.{is_try}
+use Rattle.lapin_rules.specs.Wire.{is_open, state_of}
+use Rattle.lapin_rules.specs.Asking.{call_told}
+use Rattle.lapin_rules.specs.Flow.{is_flowing, begins_on}
+use Rattle.lapin_rules.specs.Handing.{handed}
+use Rattle.lapin_confirm.specs.PublishStates.{at_limit_on}
 use Rattle.lapin_machine.proofs.Brought.{handed_same}
 use Rattle.lapin_machine.specs.World.{outcome_record, poll_record, aside_record, readings_of, full_in}
 
@@ -61,7 +61,7 @@ polled_record n ms =
       | false ↦ refl
     ]
 
-pub confirm_shown : (n : ℕ) (ms : List ConfirmMark) (p : Post) → Follows ms p → outcome_record (taken_answer n p) ≡ confirm_poll ms n
+pub confirm_shown : (n : ℕ) (ms : List ConfirmMark) (p : ConfirmState) → Follows ms p → outcome_record (taken_answer n p) ≡ confirm_poll ms n
 confirm_shown n ms p f = ap outcome_record (polled-read n ms p f) ∙ polled_record n ms
 
 -- setting a confirm aside
@@ -72,12 +72,12 @@ laid_record n ms =
       | false ↦ refl
     ]
 
-pub confirm_aside_shown : (n : ℕ) (ms : List ConfirmMark) (p : Post) → Follows ms p → aside_record (set_answer n p) ≡ confirm_aside ms n
+pub confirm_aside_shown : (n : ℕ) (ms : List ConfirmMark) (p : ConfirmState) → Follows ms p → aside_record (set_answer n p) ≡ confirm_aside ms n
 confirm_aside_shown n ms p f = ap (λ r. aside_record (refused_as r)) (polled-read n ms p f) ∙ laid_record n ms
 
 -- ---- the wait
 
-pub wait_shown : (c : ℕ) (b : Wire) (ms : List ConfirmMark) (tms : List TicketMark) (p : Post) (slots : List (Option Slot)) → Follows ms p → wait_record c b (readings_of p slots) ≡ wait_record c b (history.readings_of ms tms)
+pub wait_shown : (c : ℕ) (b : Wire) (ms : List ConfirmMark) (tms : List TicketMark) (p : ConfirmState) (slots : List (Option Slot)) → Follows ms p → wait_record c b (readings_of p slots) ≡ wait_record c b (history.readings_of ms tms)
 wait_shown c b ms tms p slots f = rw (waits-read c ms p f, asked-read c ms p f, drained-read c ms p f) refl
 
 -- whether a number is one of so many, from 1
@@ -92,18 +92,18 @@ both_none true false = refl
 both_none false y = refl
 
 -- a call is refused at the limit that the history says, or is not
-pub call_shown : (c : ℕ) (k : Call) (b : Wire) (ms : List ConfirmMark) (tms : List TicketMark) (p : Post) (slots : List (Option Slot)) → Follows ms p → call_told c k b (readings_of p slots) ≡ call_told c k b (history.readings_of ms tms)
+pub call_shown : (c : ℕ) (k : Call) (b : Wire) (ms : List ConfirmMark) (tms : List TicketMark) (p : ConfirmState) (slots : List (Option Slot)) → Follows ms p → call_told c k b (readings_of p slots) ≡ call_told c k b (history.readings_of ms tms)
 call_shown c k b ms tms p slots f =
     elim (is_begun c ms) as (λ t. is_begun c ms ≡ t → call_told c k b (readings_of p slots) ≡ call_told c k b (history.readings_of ms tms)) [
       | true ↦ λ begun. rw (at-limit-read c ms p f, limit-read c ms p f begun) refl
       | false ↦ λ none.
-          let here : at_limit_on c p.book ≡ false = unbegun_unlimited c ms p f none in
+          let here : at_limit_on c p.publish_states ≡ false = unbegun_unlimited c ms p f none in
           let there : is_at_limit c ms ≡ false = sym (at-limit-read c ms p f) ∙ here in
           rw (here, there, both_none (is_try k) (is_open (state_of c b))) refl
     ] refl
 
 -- the same channels are full, so the same frame leaves
-pub handed_shown : (flow : Bool) (b : Wire) (ms : List ConfirmMark) (p : Post) → Follows ms p → handed flow (full_in p) b ≡ handed flow (λ c. is_full c ms) b
+pub handed_shown : (flow : Bool) (b : Wire) (ms : List ConfirmMark) (p : ConfirmState) → Follows ms p → handed flow (full_in p) b ≡ handed flow (λ c. is_full c ms) b
 handed_shown flow b ms p f = handed_same (begins_on flow (full_in p) b) (begins_on flow (λ c. is_full c ms) b) b (λ c. ap (λ x. is_flowing flow b && not x) (full-read c ms p f))
 
 -- ---- polls of tickets

@@ -3,9 +3,9 @@ use Rattle.std.proofs.Common.{◌≡◌, ◌∙◌, ◌⊎◌, inl, inr, Result,
 use Rattle.lapin_types.specs.declared.record.Record.{Record}
 use Rattle.lapin_types.specs.Types.{Error}
 use Rattle.lapin_types.specs.Types.error
-use Rattle.lapin_history.specs.declared.broker_frames.Incoming.{Incoming}
-use Rattle.lapin_history.specs.declared.broker_frames.Incoming.TheVariants as incoming
-use Rattle.lapin_history.specs.Receiving.{incoming_up}
+use Rattle.lapin_rules.specs.declared.broker_frames.Incoming.{Incoming}
+use Rattle.lapin_rules.specs.declared.broker_frames.Incoming.TheVariants as incoming
+use Rattle.lapin_rules.specs.Receiving.{incoming_up}
 use Rattle.lapin_machine.specs.declared.channel.Heard.{Heard}
 use Rattle.lapin_machine.specs.World.{World, receiving, readings_of}
 use Rattle.lapin_machine.specs.Told.{WasHeard}
@@ -18,7 +18,7 @@ incoming_so r P R Q f h = f h
 
 -- the record of a frame while the connection is open
 abbrev pub up : World → Record → Incoming → Record
-up w f i = incoming_up w.wire (readings_of w.post w.slots) f i
+up w f i = incoming_up w.wire (readings_of w.confirm_state w.slots) f i
 
 -- a frame was refused
 abbrev pub WasRefused : Result Heard Error → World → World → Record → Type 0

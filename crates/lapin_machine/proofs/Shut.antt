@@ -1,7 +1,7 @@
 -- No channel stands open once the connection does not: kept by every event.
 use Rattle.std.proofs.Common.{◌≡◌, ℕ, Bool, true, false, cond, not, ◌||◌, ◌&&◌, subst, [], Option, Some, None, refl, sym, ◌∙◌, ap, inl, inr}
-use Rattle.lapin_history.specs.declared.calls.Asked.{Asked}
-use Rattle.lapin_history.specs.declared.calls.Asked.TheVariants as ask
+use Rattle.lapin_rules.specs.declared.calls.Asked.{Asked}
+use Rattle.lapin_rules.specs.declared.calls.Asked.TheVariants as ask
 use Rattle.lapin_types.specs.declared.event.Event.{Event}
 use Rattle.lapin_types.specs.declared.event.Event.TheVariants as event
 use Rattle.lapin_types.specs.declared.record.Record.{Record}
@@ -15,39 +15,39 @@ use Rattle.lapin_types.specs.Types.method
 use Rattle.lapin_types.specs.Types.connection
 use Rattle.lapin_types.specs.Types.channel
 use Rattle.lapin_types.specs.Types.basic
-use Rattle.lapin_history.specs.declared.broker_frames.Incoming.{Incoming}
-use Rattle.lapin_history.specs.declared.broker_frames.Incoming.TheVariants as incoming
-use Rattle.lapin_history.specs.declared.phases.ChannelPhase.{ChannelPhase}
-use Rattle.lapin_history.specs.declared.phases.ChannelPhase.TheVariants as phase
-use Rattle.lapin_history.specs.declared.phases.ConnectionPhase.{ConnectionPhase}
-use Rattle.lapin_history.specs.declared.phases.ConnectionPhase.TheVariants as link
-use Rattle.lapin_history.specs.Incoming.{incoming_of, frame_class, frame_method}
-use Rattle.lapin_history.specs.Phases.{is_up, is_lost}
-use Rattle.lapin_history.specs.ConnectionClose.{link_close_sent, link_sent, after_connection_close}
-use Rattle.lapin_history.specs.Readings.{Readings}
-use Rattle.lapin_history.specs.Unexpected.{refused}
-use Rattle.lapin_history.specs.declared.marks.Settlement.{Settlement}
-use Rattle.lapin_history.specs.Settlement.{settlement_record, session_close, after_failed_on}
-use Rattle.lapin_history.specs.declared.phases.Closer.TheVariants as closer
-use Rattle.lapin_history.specs.Words.{with_channel}
-use Rattle.lapin_history.specs.Leaving.{left_lists}
-use Rattle.lapin_history.specs.Ends.{down}
-use Rattle.lapin_history.specs.Flow.{after_flow}
-use Rattle.lapin_history.specs.Reply.{receives_reply, after_reply}
-use Rattle.lapin_history.specs.Wire.{Wire, state_of, phase_of, is_open, receives_on, noted, lists_of, with_lists}
-use Rattle.lapin_history.specs.Asking.{call_told, asked_by, is_allowed, after_call}
-use Rattle.lapin_history.specs.Receiving.{incoming_up, incoming_record, after_incoming}
-use Rattle.lapin_history.specs.ChannelClose.{receives_close, receives_close_ok, phases_sent, closing, after_channel_close, after_close_ok}
-use Rattle.lapin_history.specs.Handing.{sent, handed_as, began_on}
-use Rattle.lapin_history.specs.Events.{record_of, after_event}
-use Rattle.lapin_history.specs.declared.broker_frames.ContentPart.{ContentPart}
-use Rattle.lapin_history.specs.declared.broker_frames.ContentPart.TheVariants as part
-use Rattle.lapin_history.specs.Content.{receives_part, after_part}
-use Rattle.lapin_history.specs.declared.broker_frames.ConsumerPart.{ConsumerPart}
-use Rattle.lapin_history.specs.declared.broker_frames.ConsumerPart.TheVariants as consumer
-use Rattle.lapin_consumer.specs.Roster.{Consumer, consumer_at}
-use Rattle.lapin_history.specs.Consumers.{receives_consumer, after_consumer, lets_go_of, cancel_noted, after_let_go}
-use Rattle.lapin_history.specs.Ackers.{acker_asked, acked_wire, usable_at}
+use Rattle.lapin_rules.specs.declared.broker_frames.Incoming.{Incoming}
+use Rattle.lapin_rules.specs.declared.broker_frames.Incoming.TheVariants as incoming
+use Rattle.lapin_rules.specs.declared.phases.ChannelPhase.{ChannelPhase}
+use Rattle.lapin_rules.specs.declared.phases.ChannelPhase.TheVariants as phase
+use Rattle.lapin_rules.specs.declared.phases.ConnectionPhase.{ConnectionPhase}
+use Rattle.lapin_rules.specs.declared.phases.ConnectionPhase.TheVariants as link
+use Rattle.lapin_rules.specs.Incoming.{incoming_of, frame_class, frame_method}
+use Rattle.lapin_rules.specs.Phases.{is_up, is_lost}
+use Rattle.lapin_rules.specs.ConnectionClose.{link_close_sent, link_sent, after_connection_close}
+use Rattle.lapin_rules.specs.Readings.{Readings}
+use Rattle.lapin_rules.specs.Unexpected.{refused}
+use Rattle.lapin_rules.specs.declared.marks.Settlement.{Settlement}
+use Rattle.lapin_rules.specs.Settlement.{settlement_record, session_close, after_failed_on}
+use Rattle.lapin_rules.specs.declared.phases.Closer.TheVariants as closer
+use Rattle.lapin_rules.specs.Words.{with_channel}
+use Rattle.lapin_rules.specs.Leaving.{left_lists}
+use Rattle.lapin_rules.specs.Ends.{down}
+use Rattle.lapin_rules.specs.Flow.{after_flow}
+use Rattle.lapin_rules.specs.Reply.{receives_reply, after_reply}
+use Rattle.lapin_rules.specs.Wire.{Wire, state_of, phase_of, is_open, receives_on, noted, lists_of, with_lists}
+use Rattle.lapin_rules.specs.Asking.{call_told, asked_by, is_allowed, after_call}
+use Rattle.lapin_rules.specs.Receiving.{incoming_up, incoming_record, after_incoming}
+use Rattle.lapin_rules.specs.ChannelClose.{receives_close, receives_close_ok, phases_sent, closing, after_channel_close, after_close_ok}
+use Rattle.lapin_rules.specs.Handing.{sent, handed_as, began_on}
+use Rattle.lapin_rules.specs.Events.{record_of, after_event}
+use Rattle.lapin_rules.specs.declared.broker_frames.ContentPart.{ContentPart}
+use Rattle.lapin_rules.specs.declared.broker_frames.ContentPart.TheVariants as part
+use Rattle.lapin_rules.specs.Content.{receives_part, after_part}
+use Rattle.lapin_rules.specs.declared.broker_frames.ConsumerPart.{ConsumerPart}
+use Rattle.lapin_rules.specs.declared.broker_frames.ConsumerPart.TheVariants as consumer
+use Rattle.lapin_consumer.specs.Subscriptions.{Consumer, consumer_at}
+use Rattle.lapin_rules.specs.Consumers.{receives_consumer, after_consumer, lets_go_of, cancel_noted, after_let_go}
+use Rattle.lapin_rules.specs.Ackers.{acker_asked, acked_wire, usable_at}
 use Rattle.lapin_machine.specs.Stands.{IsShut}
 use Rattle.lapin_machine.proofs.Alone.{down_refuses}
 
@@ -201,7 +201,7 @@ shut-next b readings (event.AsideTicket n) h = h
 shut-next b readings (event.AsideConfirm n) h = h
 shut-next b readings (event.Acker n k) h = acked_shut (usable_at n b) k b h
 shut-next b readings (event.Delegate n) h = h
-shut-next b readings (event.DropConsumer n) h = let_go_shut (consumer_at n b.inbox.roster) b h
+shut-next b readings (event.DropConsumer n) h = let_go_shut (consumer_at n b.deliveries.subscriptions) b h
 shut-next b readings event.NextJob h = h
 shut-next b readings (event.State c) h = h
 shut-next b readings event.Lost h = choose_shut (is_lost b.link) b (down link.Lost b) h (λ _. refl)

@@ -5,26 +5,26 @@ use Rattle.lapin_types.specs.declared.event.Event.{Event}
 use Rattle.lapin_types.specs.declared.event.Event.TheVariants as event
 use Rattle.lapin_types.specs.declared.record.Record.{Record}
 use Rattle.lapin_types.specs.declared.record.Record.TheVariants as record_
-use Rattle.lapin_history.specs.ConfirmMarks.{ConfirmMark}
-use Rattle.lapin_history.specs.declared.broker_frames.Incoming.{Incoming}
-use Rattle.lapin_history.specs.declared.broker_frames.Incoming.TheVariants as incoming
-use Rattle.lapin_history.specs.TicketReadings.{TicketMark}
-use Rattle.lapin_history.specs.Incoming.{incoming_of, frame_class, frame_method}
-use Rattle.lapin_history.specs.Phases.{is_up}
-use Rattle.lapin_history.specs.Wire.{Wire}
-use Rattle.lapin_history.specs.Handing.{frame_record}
-use Rattle.lapin_history.specs.Events.{after_event}
-use Rattle.lapin_history.specs.ConnectionClose.{receives_down}
-use Rattle.lapin_history.specs.Events.{confirm_marks, ticket_marks}
-use Rattle.lapin_history.specs.Events.{record_of}
-use Rattle.lapin_history.specs.Unexpected.{refused}
-use Rattle.lapin_history.specs.Receiving.{incoming_up, incoming_record}
-use Rattle.lapin_history.specs.History.{History, Past, longer, past_on, past, record_after, rec, run_from, run}
-use Rattle.lapin_history.specs.History as history
-use Rattle.lapin_confirm.specs.Post.{Post}
+use Rattle.lapin_rules.specs.ConfirmMarks.{ConfirmMark}
+use Rattle.lapin_rules.specs.declared.broker_frames.Incoming.{Incoming}
+use Rattle.lapin_rules.specs.declared.broker_frames.Incoming.TheVariants as incoming
+use Rattle.lapin_rules.specs.TicketReadings.{TicketMark}
+use Rattle.lapin_rules.specs.Incoming.{incoming_of, frame_class, frame_method}
+use Rattle.lapin_rules.specs.Phases.{is_up}
+use Rattle.lapin_rules.specs.Wire.{Wire}
+use Rattle.lapin_rules.specs.Handing.{frame_record}
+use Rattle.lapin_rules.specs.Events.{after_event}
+use Rattle.lapin_rules.specs.ConnectionClose.{receives_down}
+use Rattle.lapin_rules.specs.Events.{confirm_marks, ticket_marks}
+use Rattle.lapin_rules.specs.Events.{record_of}
+use Rattle.lapin_rules.specs.Unexpected.{refused}
+use Rattle.lapin_rules.specs.Receiving.{incoming_up, incoming_record}
+use Rattle.lapin_rules.specs.History.{History, Past, longer, past_on, past, record_after, rec, run_from, run}
+use Rattle.lapin_rules.specs.History as history
+use Rattle.lapin_confirm.specs.ConfirmState.{ConfirmState}
 use Rattle.lapin_confirm.specs.Follows as confirms
 use Rattle.lapin_confirm.proofs.Reading.{selected-read, last-read, tag-read}
-use Rattle.lapin_confirm.proofs.Books.{nothing}
+use Rattle.lapin_confirm.proofs.PublishStates.{nothing}
 use Rattle.lapin_ticket.specs.declared.Slot.{Slot}
 use Rattle.lapin_ticket.specs.Follows as tickets
 use Rattle.lapin_types.specs.declared.leaving.Left.{Left}
@@ -43,7 +43,7 @@ use Rattle.lapin_machine.proofs.ConfirmStanding.{confirms-next}
 
 -- ---- what is seen of the parts is what the marks show
 
-up_same : (b : Wire) (ms : List ConfirmMark) (tms : List TicketMark) (bk : Post) (slots : List (Option Slot)) (f : Record) (i : Incoming) → confirms.Follows ms bk → incoming_up b (readings_of bk slots) f i ≡ incoming_up b (history.readings_of ms tms) f i
+up_same : (b : Wire) (ms : List ConfirmMark) (tms : List TicketMark) (bk : ConfirmState) (slots : List (Option Slot)) (f : Record) (i : Incoming) → confirms.Follows ms bk → incoming_up b (readings_of bk slots) f i ≡ incoming_up b (history.readings_of ms tms) f i
 up_same b ms tms bk slots f (incoming.Settlement c s) h = rw (selected-read c ms bk h, last-read c ms bk h, tag-read c s.tag ms bk h) refl
 up_same b ms tms bk slots f (incoming.Content c p) h = refl
 up_same b ms tms bk slots f (incoming.Consumer c p) h = refl
@@ -55,10 +55,10 @@ up_same b ms tms bk slots f incoming.ConnectionCloseOk h = refl
 up_same b ms tms bk slots f (incoming.Flow c active) h = refl
 up_same b ms tms bk slots f incoming.Other h = refl
 
-incoming_same : (b : Wire) (ms : List ConfirmMark) (tms : List TicketMark) (bk : Post) (slots : List (Option Slot)) (f : Record) (i : Incoming) → confirms.Follows ms bk → incoming_record b (readings_of bk slots) f i ≡ incoming_record b (history.readings_of ms tms) f i
+incoming_same : (b : Wire) (ms : List ConfirmMark) (tms : List TicketMark) (bk : ConfirmState) (slots : List (Option Slot)) (f : Record) (i : Incoming) → confirms.Follows ms bk → incoming_record b (readings_of bk slots) f i ≡ incoming_record b (history.readings_of ms tms) f i
 incoming_same b ms tms bk slots f i h = ap (λ r. cond (is_up b.link) r (cond (receives_down b.link i) record_.Received record_.Passed)) (up_same b ms tms bk slots f i h)
 
-record_same : (b : Wire) (ms : List ConfirmMark) (tms : List TicketMark) (bk : Post) (slots : List (Option Slot)) (e : Event) → confirms.Follows ms bk → tickets.Follows tms slots → record_of b (readings_of bk slots) e ≡ record_of b (history.readings_of ms tms) e
+record_same : (b : Wire) (ms : List ConfirmMark) (tms : List TicketMark) (bk : ConfirmState) (slots : List (Option Slot)) (e : Event) → confirms.Follows ms bk → tickets.Follows tms slots → record_of b (readings_of bk slots) e ≡ record_of b (history.readings_of ms tms) e
 record_same b ms tms bk slots (event.Call c k) h t = call_shown c k b ms tms bk slots h
 record_same b ms tms bk slots (event.Next flow) h t = ap frame_record (handed_shown flow b ms bk h)
 record_same b ms tms bk slots (event.Receive f) h t = incoming_same b ms tms bk slots (refused (frame_class f) (frame_method f)) (incoming_of f) h
@@ -80,27 +80,27 @@ record_same b ms tms bk slots event.Lost h t = refl
 pub record Ready (p : Past) (w : World) : Type 0 where
   pub wire : w.wire ≡ p.wire
   pub shut : IsShut w.wire
-  pub tied : IsTied w.wire.link w.wire.phases w.wire.publishes w.post.book
-  pub confirms : ConfirmsStand w.wire p.confirms w.post
+  pub tied : IsTied w.wire.link w.wire.phases w.wire.publishes w.confirm_state.publish_states
+  pub confirms : ConfirmsStand w.wire p.confirms w.confirm_state
   pub tickets : TicketsStand w.wire p.tickets w.slots
 
 told_same_anew : (p : Past) (w : World) (e : Event) → Ready p w → told_anew w e ≡ record_after p e
 told_same_anew p w e r =
-    record_same w.wire p.confirms p.tickets w.post w.slots e r.confirms.post r.tickets.kept
+    record_same w.wire p.confirms p.tickets w.confirm_state w.slots e r.confirms.confirm_state r.tickets.kept
     ∙ ap (λ b. record_of b (history.readings_of p.confirms p.tickets) e) r.wire
 
 ready-anew : (p : Past) (w : World) (e : Event) → Ready p w → Ready (longer p e (told_anew w e)) (next_anew w e)
 ready-anew p w e r =
     let told : Record = told_anew w e in
-    let same : told ≡ record_of w.wire (history.readings_of p.confirms p.tickets) e = record_same w.wire p.confirms p.tickets w.post w.slots e r.confirms.post r.tickets.kept in
-    let confirms_stand = confirms-next w.wire p.confirms p.tickets w.post e told same r.shut r.tied r.confirms in
+    let same : told ≡ record_of w.wire (history.readings_of p.confirms p.tickets) e = record_same w.wire p.confirms p.tickets w.confirm_state w.slots e r.confirms.confirm_state r.tickets.kept in
+    let confirms_stand = confirms-next w.wire p.confirms p.tickets w.confirm_state e told same r.shut r.tied r.confirms in
     let tickets_stand = tickets-next w.wire p.tickets w.slots e told r.tickets in
-    let D : Wire → Type 0 = λ b. ConfirmsStand (after_event w.wire e told) (p.confirms ++ confirm_marks b e told) (next_anew w e).post in
+    let D : Wire → Type 0 = λ b. ConfirmsStand (after_event w.wire e told) (p.confirms ++ confirm_marks b e told) (next_anew w e).confirm_state in
     let T : Wire → Type 0 = λ b. TicketsStand (after_event w.wire e told) (p.tickets ++ ticket_marks b e told) (next_anew w e).slots in
     record {
       wire = ap (λ b. after_event b e told) r.wire;
-      shut = shut-next w.wire (readings_of w.post w.slots) e r.shut;
-      tied = tied_anew w e (r.confirms.published ∙ sym r.confirms.post.count) r.tied;
+      shut = shut-next w.wire (readings_of w.confirm_state w.slots) e r.shut;
+      tied = tied_anew w e (r.confirms.published ∙ sym r.confirms.confirm_state.count) r.tied;
       confirms = subst D r.wire confirms_stand;
       tickets = subst T r.wire tickets_stand;
     }
@@ -144,7 +144,7 @@ new_ready n = record {
   shut = λ _. refl;
   tied = tied_new;
   confirms = record {
-    post = nothing;
+    confirm_state = nothing;
     published = refl;
     queue = tt;
   };

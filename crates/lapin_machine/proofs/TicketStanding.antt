@@ -2,8 +2,8 @@
 use Rattle.std.proofs.Common.{◌≡◌, ℕ, ◌+◌, Bool, true, false, cond, List, [], ◌∷◌, ◌++◌, Option, Some, None, Result, refl, sym, ◌∙◌, ap, subst, append_assoc, append-nil}
 use Rattle.std.specs.List.{fold, filter}
 use Rattle.lapin_types.specs.declared.answer.Answer.{Answer}
-use Rattle.lapin_history.specs.declared.calls.Asked.{Asked}
-use Rattle.lapin_history.specs.declared.calls.Asked.TheVariants as ask
+use Rattle.lapin_rules.specs.declared.calls.Asked.{Asked}
+use Rattle.lapin_rules.specs.declared.calls.Asked.TheVariants as ask
 use Rattle.lapin_types.specs.declared.event.Event.{Event}
 use Rattle.lapin_types.specs.declared.event.Event.TheVariants as event
 use Rattle.lapin_types.specs.declared.acker_call.AckerCall.{AckerCall}
@@ -15,43 +15,43 @@ use Rattle.lapin_types.specs.declared.request.ReplyKind.TheVariants as reply_kin
 use Rattle.lapin_tables.specs.ByChannel.{at_channel}
 use Rattle.lapin_types.specs.Types.{Error}
 use Rattle.lapin_types.specs.Types.error
-use Rattle.lapin_history.specs.declared.broker_frames.Incoming.{Incoming}
-use Rattle.lapin_history.specs.declared.broker_frames.Incoming.TheVariants as incoming
-use Rattle.lapin_history.specs.declared.phases.ConnectionPhase.{ConnectionPhase}
-use Rattle.lapin_history.specs.declared.phases.ConnectionPhase.TheVariants as link
-use Rattle.lapin_history.specs.Phases.{is_lost}
-use Rattle.lapin_history.specs.declared.phases.Closer.TheVariants as closer
-use Rattle.lapin_history.specs.ChannelClose.{failed_at_close, close_ok_end}
-use Rattle.lapin_history.specs.TicketReadings.{TicketMark, Given, ClosedHere, OpeningFailed, AllFailed, Collected, SetAside, gives, given}
-use Rattle.lapin_history.specs.Incoming.{incoming_of}
+use Rattle.lapin_rules.specs.declared.broker_frames.Incoming.{Incoming}
+use Rattle.lapin_rules.specs.declared.broker_frames.Incoming.TheVariants as incoming
+use Rattle.lapin_rules.specs.declared.phases.ConnectionPhase.{ConnectionPhase}
+use Rattle.lapin_rules.specs.declared.phases.ConnectionPhase.TheVariants as link
+use Rattle.lapin_rules.specs.Phases.{is_lost}
+use Rattle.lapin_rules.specs.declared.phases.Closer.TheVariants as closer
+use Rattle.lapin_rules.specs.ChannelClose.{failed_at_close, close_ok_end}
+use Rattle.lapin_rules.specs.TicketReadings.{TicketMark, Given, ClosedHere, OpeningFailed, AllFailed, Collected, SetAside, gives, given}
+use Rattle.lapin_rules.specs.Incoming.{incoming_of}
 use Rattle.lapin_content.specs.declared.start.Start.{Start}
 use Rattle.lapin_content.specs.declared.start.Start.TheVariants as start
 use Rattle.lapin_content.specs.declared.start.Whole.{Whole}
-use Rattle.lapin_history.specs.Content.{next_acker, start_tickets, whole_tickets, whole_on}
-use Rattle.lapin_history.specs.Wire.{Wire, state_of, phase_of, is_open, with_inbox}
-use Rattle.lapin_history.specs.Asking.{asked_by, is_allowed, after_call}
-use Rattle.lapin_history.specs.Events.{after_event}
-use Rattle.lapin_history.specs.Receiving.{after_incoming}
-use Rattle.lapin_history.specs.Handing.{handed_as}
-use Rattle.lapin_history.specs.declared.marks.AtLeaving.{AtLeaving}
-use Rattle.lapin_history.specs.Events.{ticket_marks}
-use Rattle.lapin_history.specs.Asking.{made_answer, made_marks, leaving_answer, call_tickets}
-use Rattle.lapin_history.specs.Asking.{closing_tickets, asking_inbox, asked_wire, asking_tickets}
-use Rattle.lapin_history.specs.Handing.{begun_ticket, last_ticket, left_tickets}
-use Rattle.lapin_history.specs.Requests.{is_kind, requests_in, resolved_with}
-use Rattle.lapin_history.specs.Ends.{live_channels, done_with, cancels_at, cancels_on, end_tickets, all_failed}
-use Rattle.lapin_history.specs.ConnectionClose.{failed_at_connection_close, connection_close_tickets}
-use Rattle.lapin_history.specs.Unexpected.{failed_at_unexpected}
-use Rattle.lapin_history.specs.Loss.{after_lost, lost_inbox}
-use Rattle.lapin_history.specs.declared.broker_frames.ConsumerPart.{ConsumerPart}
-use Rattle.lapin_history.specs.declared.broker_frames.ConsumerPart.TheVariants as consumer
-use Rattle.lapin_consumer.specs.Roster.{consumer_at}
-use Rattle.lapin_inbox.specs.Marks.{InboxMark}
-use Rattle.lapin_history.specs.Consumers.{consumer_tickets}
-use Rattle.lapin_history.specs.Ackers.{acker_asked, usable_at, acked_wire, acker_inbox, acked_tickets}
-use Rattle.lapin_history.specs.Receiving.{received_tickets, failed_tickets, refused_tickets, incoming_tickets}
-use Rattle.lapin_history.specs.Polls.{is_answer, is_aside}
-use Rattle.lapin_history.proofs.TicketLaws.{given-push}
+use Rattle.lapin_rules.specs.Content.{next_acker, start_tickets, whole_tickets, whole_on}
+use Rattle.lapin_rules.specs.Wire.{Wire, state_of, phase_of, is_open, with_deliveries}
+use Rattle.lapin_rules.specs.Asking.{asked_by, is_allowed, after_call}
+use Rattle.lapin_rules.specs.Events.{after_event}
+use Rattle.lapin_rules.specs.Receiving.{after_incoming}
+use Rattle.lapin_rules.specs.Handing.{handed_as}
+use Rattle.lapin_rules.specs.declared.marks.AtLeaving.{AtLeaving}
+use Rattle.lapin_rules.specs.Events.{ticket_marks}
+use Rattle.lapin_rules.specs.Asking.{made_answer, made_marks, leaving_answer, call_tickets}
+use Rattle.lapin_rules.specs.Asking.{closing_tickets, asking_deliveries, asked_wire, asking_tickets}
+use Rattle.lapin_rules.specs.Handing.{begun_ticket, last_ticket, left_tickets}
+use Rattle.lapin_rules.specs.Requests.{is_kind, requests_in, resolved_with}
+use Rattle.lapin_rules.specs.Ends.{live_channels, done_with, cancels_at, cancels_on, end_tickets, all_failed}
+use Rattle.lapin_rules.specs.ConnectionClose.{failed_at_connection_close, connection_close_tickets}
+use Rattle.lapin_rules.specs.Unexpected.{failed_at_unexpected}
+use Rattle.lapin_rules.specs.Loss.{after_lost, lost_deliveries}
+use Rattle.lapin_rules.specs.declared.broker_frames.ConsumerPart.{ConsumerPart}
+use Rattle.lapin_rules.specs.declared.broker_frames.ConsumerPart.TheVariants as consumer
+use Rattle.lapin_consumer.specs.Subscriptions.{consumer_at}
+use Rattle.lapin_delivery.specs.Marks.{DeliveryMark}
+use Rattle.lapin_rules.specs.Consumers.{consumer_tickets}
+use Rattle.lapin_rules.specs.Ackers.{acker_asked, usable_at, acked_wire, acker_deliveries, acked_tickets}
+use Rattle.lapin_rules.specs.Receiving.{received_tickets, failed_tickets, refused_tickets, incoming_tickets}
+use Rattle.lapin_rules.specs.Polls.{is_answer, is_aside}
+use Rattle.lapin_rules.proofs.TicketLaws.{given-push}
 use Rattle.lapin_ticket.specs.declared.Slot.{Slot}
 use Rattle.lapin_ticket.specs.Slots.{after_mark}
 use Rattle.lapin_ticket.specs.Follows.{Follows}
@@ -157,7 +157,7 @@ consumer_none c (consumer.Cancel tag nowait) b = tt
 received_none : (i : Incoming) (b : Wire) → gives_none (received_tickets i b)
 received_none (incoming.Reply c k a) b = resolved_none _ _
 received_none (incoming.Settlement c s) b = tt
-received_none (incoming.Content c p) b = whole_none c (next_acker b.inbox) (whole_on c p b)
+received_none (incoming.Content c p) b = whole_none c (next_acker b.deliveries) (whole_on c p b)
 received_none (incoming.Consumer c p) b = consumer_none c p b
 received_none (incoming.ChannelClose c code) b = join_none (cancels_at c b.requests) (OpeningFailed c _ (error.ProtocolError code) ∷ []) (cancels_none c b.requests) (refl, tt)
 received_none (incoming.ChannelCloseOk c) b = join_none _ (end_tickets c (close_ok_end (phase_of c b)) b) (resolved_none _ _) (end_none c (close_ok_end (phase_of c b)) b)
@@ -232,7 +232,7 @@ stand_lost link.Lost b d ms new slots same none s = stand_quiet b b ms [] slots 
 stand_lost _ b d ms new slots same none s = stand_quiet b d ms new slots s none same
 
 -- what happens to consumers and ackers is nothing to the tickets
-stand_boxed : (xs : List InboxMark) (b : Wire) (ms : List TicketMark) (slots : List (Option Slot)) → TicketsStand b ms slots → TicketsStand (with_inbox xs b) ms slots
+stand_boxed : (xs : List DeliveryMark) (b : Wire) (ms : List TicketMark) (slots : List (Option Slot)) → TicketsStand b ms slots → TicketsStand (with_deliveries xs b) ms slots
 stand_boxed xs b ms slots s = record { kept = s.kept; given = s.given }
 
 stand_asked : (c : ℕ) (k : Asked) (b : Wire) (ms : List TicketMark) (slots : List (Option Slot)) → TicketsStand b ms slots → TicketsStand (asked_wire c k b) (ms ++ asking_tickets c k b) (fold after_mark slots (asking_tickets c k b))
@@ -243,7 +243,7 @@ stand_acked None k b ms slots s = stand_quiet b b ms [] slots s tt refl
 stand_acked (Some x) k b ms slots s = stand_asked x.0 (acker_asked k x.1) b ms slots s
 
 pub tickets-next : (b : Wire) (ms : List TicketMark) (slots : List (Option Slot)) (e : Event) (r : Record) → TicketsStand b ms slots → TicketsStand (after_event b e r) (ms ++ ticket_marks b e r) (fold after_mark slots (ticket_marks b e r))
-tickets-next b ms slots (event.Call c k) r s = stand_boxed (asking_inbox c (asked_by k r) b) (asked_wire c (asked_by k r) b) _ _ (stand_asked c (asked_by k r) b ms slots s)
+tickets-next b ms slots (event.Call c k) r s = stand_boxed (asking_deliveries c (asked_by k r) b) (asked_wire c (asked_by k r) b) _ _ (stand_asked c (asked_by k r) b ms slots s)
 tickets-next b ms slots (event.Next flow) r s = stand_quiet b (after_event b (event.Next flow) r) ms (left_tickets (handed_as r b)) slots s (left_none (handed_as r b)) (next_counts r b).0
 tickets-next b ms slots (event.Receive f) r s = stand_quiet b (after_incoming (incoming_of f) r b) ms (incoming_tickets (incoming_of f) r b) slots s (incoming_none (incoming_of f) r b) (incoming_counts (incoming_of f) r b).0
 tickets-next b ms slots (event.PollTicket n) r s = stand_quiet b b ms (cond (is_answer r) (Collected n ∷ []) []) slots s (choose_none (is_answer r) (Collected n ∷ []) [] (refl, tt) tt) refl
@@ -252,9 +252,9 @@ tickets-next b ms slots (event.PollConfirm n) r s = stand_quiet b b ms [] slots 
 tickets-next b ms slots (event.PollConsumer n) r s = stand_quiet b (after_event b (event.PollConsumer n) r) ms [] slots s tt refl
 tickets-next b ms slots (event.PollWait c) r s = stand_quiet b b ms [] slots s tt refl
 tickets-next b ms slots (event.AsideConfirm n) r s = stand_quiet b b ms [] slots s tt refl
-tickets-next b ms slots (event.Acker n k) r s = stand_boxed (acker_inbox n k b) (acked_wire (usable_at n b) k b) _ _ (stand_acked (usable_at n b) k b ms slots s)
+tickets-next b ms slots (event.Acker n k) r s = stand_boxed (acker_deliveries n k b) (acked_wire (usable_at n b) k b) _ _ (stand_acked (usable_at n b) k b ms slots s)
 tickets-next b ms slots (event.Delegate n) r s = stand_quiet b (after_event b (event.Delegate n) r) ms [] slots s tt refl
-tickets-next b ms slots (event.DropConsumer n) r s = stand_quiet b (after_event b (event.DropConsumer n) r) ms [] slots s tt (let_go_counts (consumer_at n b.inbox.roster) b).0
+tickets-next b ms slots (event.DropConsumer n) r s = stand_quiet b (after_event b (event.DropConsumer n) r) ms [] slots s tt (let_go_counts (consumer_at n b.deliveries.subscriptions) b).0
 tickets-next b ms slots event.NextJob r s = stand_quiet b (after_event b event.NextJob r) ms [] slots s tt refl
 tickets-next b ms slots (event.State c) r s = stand_quiet b b ms [] slots s tt refl
-tickets-next b ms slots event.Lost r s = stand_boxed (lost_inbox b) (after_lost b) _ _ (stand_lost b.link b _ ms (all_failed error.ConnectionLost b) slots refl (failed_all_none error.ConnectionLost b) s)
+tickets-next b ms slots event.Lost r s = stand_boxed (lost_deliveries b) (after_lost b) _ _ (stand_lost b.link b _ ms (all_failed error.ConnectionLost b) slots refl (failed_all_none error.ConnectionLost b) s)

@@ -1,7 +1,7 @@
 -- A session that stands for a history goes on as the history does, where no frame was given back to it; and the numbers that it has left.
 use Rattle.std.proofs.Common.{◌≡◌, ◌∙◌, ℕ, suc, ◌+◌, ◌≤◌, ◌<◌, ◌^◌, List, [], ◌∷◌, ◌++◌, length, None, refl, sym, arith}
 use Rattle.lapin_types.specs.declared.event.Event.{Event}
-use Rattle.lapin_history.specs.History.{History, rec}
+use Rattle.lapin_rules.specs.History.{History, rec}
 use Rattle.lapin_machine.specs.World.{World, told_by}
 use Rattle.lapin_machine.specs.World as world
 use Rattle.lapin_machine.specs.Stands.{Stands}
@@ -28,8 +28,8 @@ pub fewer : (n m : ℕ) (w : World) → HasNumbersFor n w → m ≤ n → HasNum
 fewer n m w h le =
     let t : w.wire.tickets + n < 2 ^ 64 = h.tickets in
     let p : w.wire.published + n < 2 ^ 64 = h.confirms in
-    let c : length w.wire.inbox.roster.consumers + n < 2 ^ 64 = h.consumers in
-    let a : length w.wire.inbox.switches + n < 2 ^ 64 = h.ackers in
+    let c : length w.wire.deliveries.subscriptions.consumers + n < 2 ^ 64 = h.consumers in
+    let a : length w.wire.deliveries.switches + n < 2 ^ 64 = h.ackers in
     record { tickets = omega arith; confirms = omega arith; consumers = omega arith; ackers = omega arith }
 
 -- what lasts over events: the numbers that are left, and that no frame was given back

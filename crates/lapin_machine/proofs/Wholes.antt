@@ -3,16 +3,16 @@ use Rattle.std.proofs.Common.{◌≡◌, ◌≢◌, ℕ, ◌-◌, ◌<◌, ◌�
 use Rattle.std.proofs.lemmas.Bool.{leb-true}
 use Rattle.lapin_types.specs.Types.{Error}
 use Rattle.lapin_types.specs.Types.error
-use Rattle.lapin_confirm.specs.Kept.{Kept}
-use Rattle.lapin_inbox.specs.declared.inbox.Inbox.{Inbox as Held}
+use Rattle.lapin_confirm.specs.WithRoom.{WithRoom}
+use Rattle.lapin_delivery.specs.declared.deliveries.Deliveries.{Deliveries as Held}
 use Rattle.lapin_ticket.specs.declared.held.Place.{Place}
 use Rattle.lapin_machine.specs.Whole.{Fits, FitsFront}
 use Rattle.lapin_methods.specs.declared.frame.ContentHeader.{ContentHeader}
 use Rattle.lapin_content.specs.declared.start.Start.{Start}
 use Rattle.lapin_content.specs.declared.start.Whole.{Whole}
 use Rattle.lapin_content.specs.Contents.{Begun, Expected, front_start, front_waits, front_takes, heard_header, heard_body, refused_header, begun_with, if_whole, waits_for, has_left, lacked, awaited, UnlessNoMemory}
-use Rattle.lapin_history.specs.declared.broker_frames.ContentPart.TheVariants as part
-use Rattle.lapin_history.specs.Content.{whole_by, whole_in}
+use Rattle.lapin_rules.specs.declared.broker_frames.ContentPart.TheVariants as part
+use Rattle.lapin_rules.specs.Content.{whole_by, whole_in}
 
 -- the content at the front is whole
 pub record Ends (es : List Expected) (r : Result (Option Whole) Error) : Type 0 where
@@ -69,7 +69,7 @@ and_right true y h = h
 and_right false y h = cc
 
 -- there is room for it where there is room for what stands at the front
-pub fits_whole : (es : List Expected) (r : Result (Option Whole) Error) (w : Whole) (c : ℕ) (h : Held) (k : Kept) (p : Option Place) → Ends es r → r ≡ Ok (Some w) → FitsFront (front_start es) c h k p → Fits w.start c h k p
+pub fits_whole : (es : List Expected) (r : Result (Option Whole) Error) (w : Whole) (c : ℕ) (h : Held) (k : WithRoom) (p : Option Place) → Ends es r → r ≡ Ok (Some w) → FitsFront (front_start es) c h k p → Fits w.start c h k p
 fits_whole es r w c h k p e is room =
     let at_end : r ≡ Ok (Some e.whole) = e.is in
     let same : e.whole ≡ w = cc in

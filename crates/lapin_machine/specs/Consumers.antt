@@ -1,7 +1,7 @@
 -- A consumer that is let go: where its cancel goes, and under which tag.
 use Rattle.std.specs.Prelude.{ℕ, if◌then◌else◌, List, [], Option, Some, None}
-use Rattle.lapin_consumer.specs.Roster.{Consumer}
-use Rattle.lapin_history.specs.Wire.{Wire, state_of, is_open}
+use Rattle.lapin_consumer.specs.Subscriptions.{Consumer}
+use Rattle.lapin_rules.specs.Wire.{Wire, state_of, is_open}
 
 -- the channel of the consumer, where it is open
 abbrev pub let_go_on : Option Consumer → Wire → Option ℕ

@@ -2,32 +2,32 @@
 use Rattle.std.specs.Prelude.{◌≡◌, ℕ, ◌+◌, ◌<◌, ◌^◌, ◌⊎◌, true, false, Option, Some, None, Result, Ok, Err, length}
 use Rattle.lapin_types.specs.declared.call.Call.{Call}
 use Rattle.lapin_types.specs.declared.acker_call.AckerCall.{AckerCall}
-use Rattle.lapin_history.specs.declared.calls.Asked.{Asked}
-use Rattle.lapin_history.specs.declared.calls.Asked.TheVariants as ask
-use Rattle.lapin_history.specs.Calls.{asked}
+use Rattle.lapin_rules.specs.declared.calls.Asked.{Asked}
+use Rattle.lapin_rules.specs.declared.calls.Asked.TheVariants as ask
+use Rattle.lapin_rules.specs.Calls.{asked}
 use Rattle.lapin_types.specs.declared.event.Event.{Event}
 use Rattle.lapin_types.specs.declared.event.Event.TheVariants as event
 use Rattle.lapin_types.specs.Types.{Error}
 use Rattle.lapin_types.specs.Types.error
-use Rattle.lapin_history.specs.declared.broker_frames.Incoming.{Incoming}
-use Rattle.lapin_history.specs.declared.broker_frames.Incoming.TheVariants as incoming
-use Rattle.lapin_history.specs.Incoming.{incoming_of}
-use Rattle.lapin_history.specs.declared.broker_frames.ConsumerPart.{ConsumerPart}
-use Rattle.lapin_history.specs.declared.broker_frames.ConsumerPart.TheVariants as part
-use Rattle.lapin_history.specs.Content.{receives_part, whole_on, takes_acker, next_acker}
-use Rattle.lapin_history.specs.Consumers.{receives_consumer, next_consumer}
-use Rattle.lapin_history.specs.Ackers.{usable_at, acker_asked}
-use Rattle.lapin_history.specs.Wire.{Wire, state_of}
-use Rattle.lapin_history.specs.Asking.{is_allowed, is_held}
-use Rattle.lapin_confirm.specs.Book.{limit_on}
+use Rattle.lapin_rules.specs.declared.broker_frames.Incoming.{Incoming}
+use Rattle.lapin_rules.specs.declared.broker_frames.Incoming.TheVariants as incoming
+use Rattle.lapin_rules.specs.Incoming.{incoming_of}
+use Rattle.lapin_rules.specs.declared.broker_frames.ConsumerPart.{ConsumerPart}
+use Rattle.lapin_rules.specs.declared.broker_frames.ConsumerPart.TheVariants as part
+use Rattle.lapin_rules.specs.Content.{receives_part, whole_on, takes_acker, next_acker}
+use Rattle.lapin_rules.specs.Consumers.{receives_consumer, next_consumer}
+use Rattle.lapin_rules.specs.Ackers.{usable_at, acker_asked}
+use Rattle.lapin_rules.specs.Wire.{Wire, state_of}
+use Rattle.lapin_rules.specs.Asking.{is_allowed, is_held}
+use Rattle.lapin_confirm.specs.PublishStates.{limit_on}
 use Rattle.lapin_machine.specs.World.{World, readings_of}
 
 -- each counter has n further numbers
 pub record HasNumbersFor (n : ℕ) (w : World) : Type 0 where
   pub tickets : w.wire.tickets + n < 2 ^ 64
   pub confirms : w.wire.published + n < 2 ^ 64
-  pub consumers : length w.wire.inbox.roster.consumers + n < 2 ^ 64
-  pub ackers : length w.wire.inbox.switches + n < 2 ^ 64
+  pub consumers : length w.wire.deliveries.subscriptions.consumers + n < 2 ^ 64
+  pub ackers : length w.wire.deliveries.switches + n < 2 ^ 64
 
 -- the next ticket would pass the greatest u64
 abbrev pub NoTicket : Wire → Type 0
@@ -39,11 +39,11 @@ NoConfirm b = b.published + 1 ≡ 2 ^ 64
 
 -- the next consumer would pass the greatest u64
 abbrev pub NoConsumer : Wire → Type 0
-NoConsumer b = next_consumer b.inbox ≡ 2 ^ 64
+NoConsumer b = next_consumer b.deliveries ≡ 2 ^ 64
 
 -- the next acker would pass the greatest u64
 abbrev pub NoAcker : Wire → Type 0
-NoAcker b = next_acker b.inbox ≡ 2 ^ 64
+NoAcker b = next_acker b.deliveries ≡ 2 ^ 64
 
 -- a number that the call needs would pass the greatest u64
 abbrev pub LacksNumber : Asked → Wire → Type 0
@@ -67,7 +67,7 @@ LacksConsumer c _ b = ⊥
 
 -- numbers are used up at a frame of the broker: it makes a message whole that lacks its acker, or a consumer lacks its number
 abbrev pub FrameUsedUp : Incoming → Wire → Type 0
-FrameUsedUp (incoming.Content c p) b = (receives_part c p b ≡ true) × (takes_acker b.inbox (whole_on c p b) ≡ true) × NoAcker b
+FrameUsedUp (incoming.Content c p) b = (receives_part c p b ≡ true) × (takes_acker b.deliveries (whole_on c p b) ≡ true) × NoAcker b
 FrameUsedUp (incoming.Consumer c p) b = LacksConsumer c p b
 FrameUsedUp _ b = ⊥
 
@@ -93,9 +93,9 @@ CallCause r c k b = AskCause r c (asked k) b
 
 -- a try publish: it is refused by the limit only where the limit holds it back, and then for nothing else
 abbrev pub TryCause : {T : Type 0} → Result T Error → ℕ → Call → World → Type 0
-TryCause (Err (error.ConfirmsOutstanding limit)) c k w = (is_held c k w.wire (readings_of w.post w.slots) ≡ true) × (limit ≡ limit_on c w.post.book)
+TryCause (Err (error.ConfirmsOutstanding limit)) c k w = (is_held c k w.wire (readings_of w.confirm_state w.slots) ≡ true) × (limit ≡ limit_on c w.confirm_state.publish_states)
 TryCause (Err error.NoMemory) c k w = Unit {0}
-TryCause r c k w = (is_held c k w.wire (readings_of w.post w.slots) ≡ false) × CallCause r c k w.wire
+TryCause r c k w = (is_held c k w.wire (readings_of w.confirm_state w.slots) ≡ false) × CallCause r c k w.wire
 
 -- want of memory is the only error
 abbrev pub OnlyMemory : {T : Type 0} → Result T Error → Type 0

@@ -1,7 +1,7 @@
 -- The room for an answer that a call makes itself.
 use Rattle.std.specs.Prelude.{Option, IsSome}
-use Rattle.lapin_history.specs.declared.calls.Answered.{Answered}
-use Rattle.lapin_history.specs.declared.calls.Answered.TheVariants as answered
+use Rattle.lapin_rules.specs.declared.calls.Answered.{Answered}
+use Rattle.lapin_rules.specs.declared.calls.Answered.TheVariants as answered
 use Rattle.lapin_ticket.specs.declared.held.Place.{Place}
 
 -- there is room for the answer of a line that is answered at once; another needs none

@@ -9,20 +9,20 @@ use Rattle.lapin_types.specs.Types.{Error}
 use Rattle.lapin_types.specs.declared.event.Event.TheVariants as event
 use Rattle.lapin_types.specs.declared.record.Record.TheVariants as record_
 use Rattle.lapin_types.specs.Types.error
-use Rattle.lapin_history.specs.declared.calls.Asked.{Asked}
-use Rattle.lapin_history.specs.declared.calls.Asked.TheVariants as ask
-use Rattle.lapin_history.specs.declared.broker_frames.Incoming.{Incoming}
-use Rattle.lapin_history.specs.declared.broker_frames.Incoming.TheVariants as incoming
-use Rattle.lapin_history.specs.declared.phases.ConnectionPhase.{ConnectionPhase}
-use Rattle.lapin_history.specs.declared.phases.ConnectionPhase.TheVariants as link
-use Rattle.lapin_history.specs.Incoming.{incoming_of}
-use Rattle.lapin_history.specs.ConfirmMarks.{ConfirmMark}
-use Rattle.lapin_history.specs.ConfirmMarks as mark
-use Rattle.lapin_history.specs.Phases.{is_up, is_lost}
-use Rattle.lapin_history.specs.Wire.{Wire, state_of, phase_of}
-use Rattle.lapin_history.specs.Asking.{is_allowed, asked_by}
-use Rattle.lapin_history.specs.ChannelClose.{close_ok_end}
-use Rattle.lapin_history.specs.ConnectionClose.{has_sent}
+use Rattle.lapin_rules.specs.declared.calls.Asked.{Asked}
+use Rattle.lapin_rules.specs.declared.calls.Asked.TheVariants as ask
+use Rattle.lapin_rules.specs.declared.broker_frames.Incoming.{Incoming}
+use Rattle.lapin_rules.specs.declared.broker_frames.Incoming.TheVariants as incoming
+use Rattle.lapin_rules.specs.declared.phases.ConnectionPhase.{ConnectionPhase}
+use Rattle.lapin_rules.specs.declared.phases.ConnectionPhase.TheVariants as link
+use Rattle.lapin_rules.specs.Incoming.{incoming_of}
+use Rattle.lapin_rules.specs.ConfirmMarks.{ConfirmMark}
+use Rattle.lapin_rules.specs.ConfirmMarks as mark
+use Rattle.lapin_rules.specs.Phases.{is_up, is_lost}
+use Rattle.lapin_rules.specs.Wire.{Wire, state_of, phase_of}
+use Rattle.lapin_rules.specs.Asking.{is_allowed, asked_by}
+use Rattle.lapin_rules.specs.ChannelClose.{close_ok_end}
+use Rattle.lapin_rules.specs.ConnectionClose.{has_sent}
 use Rattle.lapin_outbox.specs.Returned.{returned_off}
 
 -- the frame that a frame request hands out once more, if the event is one

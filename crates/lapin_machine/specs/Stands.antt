@@ -2,14 +2,14 @@
 use Rattle.std.specs.Prelude.{◌≡◌, ◌≢◌, ℕ, false, List, [], ◌∷◌, Option}
 use Rattle.std.specs.List.{AllByRecursion}
 use Rattle.lapin_types.specs.declared.leaving.Publish.{Publish}
-use Rattle.lapin_history.specs.ConfirmMarks.{ConfirmMark}
-use Rattle.lapin_history.specs.ConfirmMarks as mark
-use Rattle.lapin_history.specs.ConfirmReadings.{added}
-use Rattle.lapin_history.specs.TicketReadings.{TicketMark, given}
-use Rattle.lapin_history.specs.Phases.{is_up}
-use Rattle.lapin_history.specs.Wire.{Wire}
-use Rattle.lapin_history.specs.History.{History, past}
-use Rattle.lapin_confirm.specs.Post.{Post}
+use Rattle.lapin_rules.specs.ConfirmMarks.{ConfirmMark}
+use Rattle.lapin_rules.specs.ConfirmMarks as mark
+use Rattle.lapin_rules.specs.ConfirmReadings.{added}
+use Rattle.lapin_rules.specs.TicketReadings.{TicketMark, given}
+use Rattle.lapin_rules.specs.Phases.{is_up}
+use Rattle.lapin_rules.specs.Wire.{Wire}
+use Rattle.lapin_rules.specs.History.{History, past}
+use Rattle.lapin_confirm.specs.ConfirmState.{ConfirmState}
 use Rattle.lapin_confirm.specs.Follows.{MayCome}
 use Rattle.lapin_confirm.specs.Follows as confirms
 use Rattle.lapin_ticket.specs.declared.Slot.{Slot}
@@ -23,8 +23,8 @@ AreFresh ms [] = Unit {0}
 AreFresh ms (p ∷ ps) = MayCome ms (mark.Left p.channel p.confirm) × AllByRecursion (λ q. p.confirm ≢ q.confirm) ps × AreFresh ms ps
 
 -- the confirms are what the marks say
-pub record ConfirmsStand (b : Wire) (ms : List ConfirmMark) (p : Post) : Type 0 where
-  pub post : confirms.Follows ms p
+pub record ConfirmsStand (b : Wire) (ms : List ConfirmMark) (p : ConfirmState) : Type 0 where
+  pub confirm_state : confirms.Follows ms p
   pub published : b.published ≡ added ms
   pub queue : AreFresh ms b.publishes
 
@@ -43,6 +43,6 @@ IsShut b = is_up b.link ≡ false → b.phases ≡ []
 pub record Stands (frame_max : ℕ) (h : History) (w : World) : Type 0 where
   pub wire : w.wire ≡ (past frame_max h).wire
   pub shut : IsShut w.wire
-  pub tied : IsTied w.wire.link w.wire.phases w.wire.publishes w.post.book
-  pub confirms : ConfirmsStand w.wire (past frame_max h).confirms w.post
+  pub tied : IsTied w.wire.link w.wire.phases w.wire.publishes w.confirm_state.publish_states
+  pub confirms : ConfirmsStand w.wire (past frame_max h).confirms w.confirm_state
   pub tickets : TicketsStand w.wire (past frame_max h).tickets w.slots

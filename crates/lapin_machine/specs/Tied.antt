@@ -6,14 +6,14 @@ use Rattle.lapin_types.specs.declared.leaving.Left.{Left}
 use Rattle.lapin_types.specs.Types.{Frame}
 use Rattle.lapin_tables.specs.ByChannel.{at_channel}
 use Rattle.lapin_tables.specs.Numbered.{under}
-use Rattle.lapin_history.specs.Words.{is_some}
-use Rattle.lapin_history.specs.declared.phases.ChannelPhase.{ChannelPhase}
-use Rattle.lapin_history.specs.declared.phases.ConnectionPhase.{ConnectionPhase}
-use Rattle.lapin_history.specs.Drops.{frame_channel}
-use Rattle.lapin_history.specs.Phases.{is_live, is_up, phase_in}
+use Rattle.lapin_rules.specs.Words.{is_some}
+use Rattle.lapin_rules.specs.declared.phases.ChannelPhase.{ChannelPhase}
+use Rattle.lapin_rules.specs.declared.phases.ConnectionPhase.{ConnectionPhase}
+use Rattle.lapin_rules.specs.Drops.{frame_channel}
+use Rattle.lapin_rules.specs.Phases.{is_live, is_up, phase_in}
 use Rattle.lapin_outbox.specs.Outgoing.{OutboxState}
-use Rattle.lapin_desk.specs.Queued.{AreQueued}
-use Rattle.lapin_confirm.specs.Book.{Book, is_open_on}
+use Rattle.lapin_outstanding.specs.Queued.{AreQueued}
+use Rattle.lapin_confirm.specs.PublishStates.{PublishStates, is_open_on}
 use Rattle.lapin_confirm.specs.declared.cell.Cell.{Cell}
 use Rattle.lapin_confirm.specs.declared.cell.Cell.TheVariants as cell
 
@@ -23,9 +23,9 @@ is_live_on l p = is_up l && is_live (phase_in p)
 
 -- States, waiting publishes and confirms hang together: a publish that waits is queued, a channel that was ever opened has a
 -- line, a channel without a live opening has nothing unresolved, and no channel stands open once the connection does not.
-pub record IsTied (l : ConnectionPhase) (phases : List (ℕ × ChannelPhase)) (publishes : List Publish) (b : Book) : Type 0 where
+pub record IsTied (l : ConnectionPhase) (phases : List (ℕ × ChannelPhase)) (publishes : List Publish) (b : PublishStates) : Type 0 where
   pub queued : AreQueued b.cells publishes
-  pub ledgers : (c : ℕ) → is_some (at_channel c phases) ≡ true → IsSome (at_channel c b.ledgers)
+  pub confirm_modes : (c : ℕ) → is_some (at_channel c phases) ≡ true → IsSome (at_channel c b.confirm_modes)
   pub done : (c : ℕ) → is_live_on l (at_channel c phases) ≡ false → list_any (is_open_on c) b.cells ≡ false
   pub down : is_up l ≡ false → phases ≡ []
 
@@ -34,7 +34,7 @@ abbrev pub NotPoisoned : OutboxState → Type 0
 NotPoisoned o = (o.poison ≡ None) × (o.errors ≡ [])
 
 -- what a session keeps true of its parts
-pub record IsKept (l : ConnectionPhase) (phases : List (ℕ × ChannelPhase)) (o : OutboxState) (b : Book) : Type 0 where
+pub record IsKept (l : ConnectionPhase) (phases : List (ℕ × ChannelPhase)) (o : OutboxState) (b : PublishStates) : Type 0 where
   pub tied : IsTied l phases o.lists.publishes b
   pub unpoisoned : NotPoisoned o
 

@@ -7,7 +7,7 @@ use Rattle.lapin_types.specs.declared.poll.Poll.{Poll}
 use Rattle.lapin_types.specs.declared.poll.Poll.TheVariants as poll
 use Rattle.lapin_types.specs.declared.record.Record.{Record}
 use Rattle.lapin_types.specs.declared.record.Record.TheVariants as record_
-use Rattle.lapin_consumer.specs.Roster.{Handed}
+use Rattle.lapin_consumer.specs.Subscriptions.{Handed}
 use Rattle.lapin_types.specs.Types.{Error}
 use Rattle.lapin_types.specs.Types.error
 use Rattle.lapin_machine.specs.declared.channel.Ticket.{Ticket}

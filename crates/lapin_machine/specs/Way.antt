@@ -3,9 +3,9 @@
 use Rattle.std.specs.Prelude.{ℕ, Bool, List, [], ◌∷◌, ◌++◌}
 use Rattle.lapin_types.specs.declared.event.Event.{Event}
 use Rattle.lapin_types.specs.declared.record.Record.{Record}
-use Rattle.lapin_history.specs.Wire.{Wire}
-use Rattle.lapin_history.specs.ConfirmReadings.{is_full}
-use Rattle.lapin_history.specs.History.{History, past, rec}
+use Rattle.lapin_rules.specs.Wire.{Wire}
+use Rattle.lapin_rules.specs.ConfirmReadings.{is_full}
+use Rattle.lapin_rules.specs.History.{History, past, rec}
 use Rattle.lapin_machine.specs.World.{World, told_by, full_in}
 use Rattle.lapin_machine.specs.World as world
 
@@ -22,4 +22,4 @@ by_history frame_max = record { told = λ h e. rec frame_max h e; next = λ h e.
 
 -- as the machine does it
 abbrev pub by_machine : Way World
-by_machine = record { told = λ w e. told_by w e; next = λ w e. world.next w e; wire = λ w. w.wire; full = λ w. full_in w.post }
+by_machine = record { told = λ w e. told_by w e; next = λ w e. world.next w e; wire = λ w. w.wire; full = λ w. full_in w.confirm_state }

@@ -7,29 +7,29 @@ use Rattle.lapin_types.specs.declared.record.Record.TheVariants as record_
 use Rattle.lapin_types.specs.declared.answer.Answer.{Answer}
 use Rattle.lapin_types.specs.Types.{Error}
 use Rattle.lapin_types.specs.declared.confirmation.Confirmation.{Confirmation}
-use Rattle.lapin_history.specs.declared.marks.Settlement.{Settlement}
-use Rattle.lapin_history.specs.declared.calls.Asked.{Asked}
-use Rattle.lapin_history.specs.declared.broker_frames.Incoming.{Incoming}
-use Rattle.lapin_inbox.specs.Marks as inbox
-use Rattle.lapin_history.specs.Wire.{Wire, start, with_inbox}
-use Rattle.lapin_history.specs.Handing.{handed_out, after_handing}
-use Rattle.lapin_history.specs.Events.{after_event}
-use Rattle.lapin_history.specs.Asking.{after_asking}
-use Rattle.lapin_history.specs.Receiving.{after_incoming}
-use Rattle.lapin_history.specs.Events.{confirm_marks, ticket_marks}
-use Rattle.lapin_history.specs.Asking.{asking_marks, asking_tickets}
-use Rattle.lapin_history.specs.Handing.{left_marks, left_tickets}
-use Rattle.lapin_history.specs.Receiving.{incoming_marks, incoming_tickets}
-use Rattle.lapin_history.specs.Readings.{Readings}
-use Rattle.lapin_history.specs.Events.{record_of}
-use Rattle.lapin_history.specs.Settlement.{settlement_record}
+use Rattle.lapin_rules.specs.declared.marks.Settlement.{Settlement}
+use Rattle.lapin_rules.specs.declared.calls.Asked.{Asked}
+use Rattle.lapin_rules.specs.declared.broker_frames.Incoming.{Incoming}
+use Rattle.lapin_delivery.specs.Marks as deliveries
+use Rattle.lapin_rules.specs.Wire.{Wire, start, with_deliveries}
+use Rattle.lapin_rules.specs.Handing.{handed_out, after_handing}
+use Rattle.lapin_rules.specs.Events.{after_event}
+use Rattle.lapin_rules.specs.Asking.{after_asking}
+use Rattle.lapin_rules.specs.Receiving.{after_incoming}
+use Rattle.lapin_rules.specs.Events.{confirm_marks, ticket_marks}
+use Rattle.lapin_rules.specs.Asking.{asking_marks, asking_tickets}
+use Rattle.lapin_rules.specs.Handing.{left_marks, left_tickets}
+use Rattle.lapin_rules.specs.Receiving.{incoming_marks, incoming_tickets}
+use Rattle.lapin_rules.specs.Readings.{Readings}
+use Rattle.lapin_rules.specs.Events.{record_of}
+use Rattle.lapin_rules.specs.Settlement.{settlement_record}
 use Rattle.lapin_confirm.specs.Aside.{taken_answer, set_answer}
-use Rattle.lapin_confirm.specs.Book.{selected_on, last_on, is_pending, asked_on, limit_on, full_on, at_limit_on}
+use Rattle.lapin_confirm.specs.PublishStates.{selected_on, last_on, is_pending, asked_on, limit_on, full_on, at_limit_on}
 use Rattle.lapin_confirm.specs.Drain.{drained_on}
-use Rattle.lapin_confirm.specs.Post.{Post, empty_post, waits_on}
-use Rattle.lapin_confirm.specs.Machine as post
+use Rattle.lapin_confirm.specs.ConfirmState.{ConfirmState, empty_confirm_state, waits_on}
+use Rattle.lapin_confirm.specs.Machine as confirm_state
 use Rattle.lapin_ticket.specs.declared.Slot.{Slot}
-use Rattle.lapin_ticket.specs.Slots as desk
+use Rattle.lapin_ticket.specs.Slots as slots_of_tickets
 use Rattle.lapin_types.specs.declared.leaving.Left.{Left}
 use Rattle.lapin_machine.specs.Returned.{given_back}
 use Rattle.lapin_machine.specs.Returned as back
@@ -38,13 +38,13 @@ use Rattle.lapin_machine.specs.Returned as back
 -- again
 pub record World : Type 0 where
   pub wire : Wire
-  pub post : Post
+  pub confirm_state : ConfirmState
   pub slots : List (Option Slot)
   pub returned : Option Left
 
 -- a new session with this greatest frame: nothing was asked for yet, and nothing waits
 abbrev pub new_world : ℕ → World
-new_world frame_max = record { wire = start frame_max; post = empty_post; slots = []; returned = None }
+new_world frame_max = record { wire = start frame_max; confirm_state = empty_confirm_state; slots = []; returned = None }
 
 -- ---- what polls meet
 
@@ -66,30 +66,30 @@ aside_record (Ok x) = record_.Aside
 aside_record (Err e) = record_.Refused e
 
 -- which channels are full
-abbrev pub full_in : Post → ℕ → Bool
-full_in p c = full_on c p.book
+abbrev pub full_in : ConfirmState → ℕ → Bool
+full_in p c = full_on c p.publish_states
 
 -- what is seen of confirms and tickets
-abbrev pub readings_of : Post → List (Option Slot) → Readings
+abbrev pub readings_of : ConfirmState → List (Option Slot) → Readings
 readings_of p slots = record {
-  selected = λ c. selected_on c p.book;
-  last = λ c. last_on c p.book;
-  pending = λ c t. is_pending c t p.book;
+  selected = λ c. selected_on c p.publish_states;
+  last = λ c. last_on c p.publish_states;
+  pending = λ c t. is_pending c t p.publish_states;
   confirm = λ n. outcome_record (taken_answer n p);
-  ticket = λ n. poll_record (desk.polled n slots);
+  ticket = λ n. poll_record (outstanding.polled n slots);
   confirm_aside = λ n. aside_record (set_answer n p);
-  ticket_aside = λ n. aside_record (desk.laid n slots);
-  asked = λ c. asked_on c p.book;
-  waited = λ c. waits_on c p.book;
+  ticket_aside = λ n. aside_record (outstanding.laid n slots);
+  asked = λ c. asked_on c p.publish_states;
+  waited = λ c. waits_on c p.publish_states;
   full = full_in p;
-  limit = λ c. limit_on c p.book;
-  at_limit = λ c. at_limit_on c p.book;
+  limit = λ c. limit_on c p.publish_states;
+  at_limit = λ c. at_limit_on c p.publish_states;
   returned = λ c. drained_on c p;
 }
 
 -- the record of an event, where no frame is handed out once more
 abbrev pub told_anew : World → Event → Record
-told_anew w e = record_of w.wire (readings_of w.post w.slots) e
+told_anew w e = record_of w.wire (readings_of w.confirm_state w.slots) e
 
 -- the record of an event: a frame request gives the frame that was given back
 abbrev pub told_or : Option Left → Record → Record
@@ -104,14 +104,14 @@ told_by w e = told_or (given_back w.returned e) (told_anew w e)
 abbrev pub next_anew : World → Event → World
 next_anew w e = record {
   wire = after_event w.wire e (told_anew w e);
-  post = fold post.after_mark w.post (confirm_marks w.wire e (told_anew w e));
-  slots = fold desk.after_mark w.slots (ticket_marks w.wire e (told_anew w e));
+  confirm_state = fold confirm_state.after_mark w.confirm_state (confirm_marks w.wire e (told_anew w e));
+  slots = fold outstanding.after_mark w.slots (ticket_marks w.wire e (told_anew w e));
   returned = back.after_event w.wire e (told_anew w e) w.returned;
 }
 
 -- a session with this as the frame that was given back
 abbrev pub with_returned : Option Left → World → World
-with_returned r w = record { wire = w.wire; post = w.post; slots = w.slots; returned = r }
+with_returned r w = record { wire = w.wire; confirm_state = w.confirm_state; slots = w.slots; returned = r }
 
 -- what an event leaves: a frame that is handed out once more has left before, so nothing else changes
 abbrev pub next_or : Option Left → World → World → World
@@ -126,21 +126,21 @@ next w e = next_or (given_back w.returned e) (next_anew w e) w
 abbrev pub asking : ℕ → Asked → World → World
 asking c k w = record {
   wire = after_asking c k w.wire;
-  post = fold post.after_mark w.post (asking_marks c k w.wire);
-  slots = fold desk.after_mark w.slots (asking_tickets c k w.wire);
+  confirm_state = fold confirm_state.after_mark w.confirm_state (asking_marks c k w.wire);
+  slots = fold outstanding.after_mark w.slots (asking_tickets c k w.wire);
   returned = back.after_asked c k w.wire w.returned;
 }
 
 -- an acker is used up
 abbrev pub spending : ℕ → World → World
-spending n w = record w { wire = with_inbox (inbox.Spent n ∷ []) w.wire }
+spending n w = record w { wire = with_deliveries (deliveries.Spent n ∷ []) w.wire }
 
 -- what a frame request leaves where no frame was given back, and t tells on which channels a publish may begin
 abbrev pub handing : (ℕ → Bool) → World → World
 handing t w = record {
   wire = after_handing t w.wire;
-  post = fold post.after_mark w.post (left_marks (handed_out t w.wire));
-  slots = fold desk.after_mark w.slots (left_tickets (handed_out t w.wire));
+  confirm_state = fold confirm_state.after_mark w.confirm_state (left_marks (handed_out t w.wire));
+  slots = fold outstanding.after_mark w.slots (left_tickets (handed_out t w.wire));
   returned = w.returned;
 }
 
@@ -148,14 +148,14 @@ handing t w = record {
 abbrev pub receiving : Incoming → Record → World → World
 receiving i r w = record {
   wire = after_incoming i r w.wire;
-  post = fold post.after_mark w.post (incoming_marks i r w.wire);
-  slots = fold desk.after_mark w.slots (incoming_tickets i r w.wire);
+  confirm_state = fold confirm_state.after_mark w.confirm_state (incoming_marks i r w.wire);
+  slots = fold outstanding.after_mark w.slots (incoming_tickets i r w.wire);
   returned = back.after_incoming i r w.wire w.returned;
 }
 
 -- what a settlement on a channel that receives it is answered by
 abbrev pub settlement_told : ℕ → Settlement → World → Record
-settlement_told c s w = settlement_record (readings_of w.post w.slots) c s
+settlement_told c s w = settlement_record (readings_of w.confirm_state w.slots) c s
 
 -- the records of a list of events
 abbrev pub outputs : World → List Event → List Record

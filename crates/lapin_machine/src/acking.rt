@@ -5,16 +5,16 @@
 
 ghost use Rattle.std.specs.Prelude.{◌≡◌, IfOk, OnOk, OnErr};
 ghost use Rattle.lapin_types.specs.declared.event.Event.TheVariants as event;
-ghost use Rattle.lapin_history.specs.declared.calls.Asked.TheVariants as ask;
-ghost use Rattle.lapin_history.specs.Asking.{call_record};
-ghost use Rattle.lapin_history.specs.Ackers.{usable_at};
+ghost use Rattle.lapin_rules.specs.declared.calls.Asked.TheVariants as ask;
+ghost use Rattle.lapin_rules.specs.Asking.{call_record};
+ghost use Rattle.lapin_rules.specs.Ackers.{usable_at};
 ghost use Rattle.lapin_machine.specs.World.{told_by, next, asking, spending};
 ghost use Rattle.lapin_machine.specs.Told.{TicketTold, AckTold, WasMade, ack_told};
 ghost use Rattle.lapin_machine.specs.Numbers.{HasCause, AskCause, AckCause};
 
 use crate::channel::Ticket;
 use crate::session::Session;
-use lapin_history::{Row, acker_row};
+use lapin_rules::{Row, acker_row};
 use lapin_types::{AckerCall, Error, Record};
 use std::alloc::Global;
 
@@ -36,7 +36,7 @@ impl Session {
         ensures ok { WasMade result (self.new ≡ next self.old (event.Acker acker call)) (self.new ≡ self.old) }
         ensures cause { AckCause result (usable_at acker self.old.wire) call self.old.wire }
     {
-        let Some((channel, delivery_tag)) = self.inbox.peek(acker) else {
+        let Some((channel, delivery_tag)) = self.deliveries.peek(acker) else {
             return Ok(None);
         };
         let row = acker_row(call, delivery_tag);
@@ -54,13 +54,13 @@ impl Session {
     {
         match self.queue_row(alloc, channel, row) {
             Ok(ticket) => {
-                let _used = self.inbox.spend(acker);
+                let _used = self.deliveries.spend(acker);
                 Ok(ticket)
             }
             Err(Error::NoMemory) => Err(Error::NoMemory),
             Err(Error::NumbersUsedUp) => Err(Error::NumbersUsedUp),
             Err(error) => {
-                let _used = self.inbox.spend(acker);
+                let _used = self.deliveries.spend(acker);
                 Err(error)
             }
         }

@@ -6,22 +6,22 @@ ghost use Rattle.std.specs.Prelude.{◌≡◌, ◌&&◌, ◌+◌, ◌^◌, ◌<�
 ghost use Rattle.std.specs.List.{fold};
 ghost use Rattle.lapin_types.specs.declared.event.Event.TheVariants.{Call as CallEvent};
 ghost use Rattle.lapin_types.specs.declared.call.Call.TheVariants.{OpenChannel, BasicPublish, TryBasicPublish};
-ghost use Rattle.lapin_history.specs.declared.calls.Asked.TheVariants as ask;
-ghost use Rattle.lapin_history.specs.Calls.{asked as asked_lem, publishes, awaited_by, made_by, leaving_by};
-ghost use Rattle.lapin_history.specs.Asking.{call_record, is_held, made_marks};
-ghost use Rattle.lapin_history.specs.Wire.{state_of, is_open as is_open_lem, requests_with};
-ghost use Rattle.lapin_history.specs.TicketReadings as mark;
+ghost use Rattle.lapin_rules.specs.declared.calls.Asked.TheVariants as ask;
+ghost use Rattle.lapin_rules.specs.Calls.{asked as asked_lem, publishes, awaited_by, made_by, leaving_by};
+ghost use Rattle.lapin_rules.specs.Asking.{call_record, is_held, made_marks};
+ghost use Rattle.lapin_rules.specs.Wire.{state_of, is_open as is_open_lem, requests_with};
+ghost use Rattle.lapin_rules.specs.TicketReadings as mark;
 ghost use Rattle.lapin_outbox.specs.Outgoing.{with_method, with_lists};
 ghost use Rattle.lapin_outbox.specs.Poison.{poison_on};
 ghost use Rattle.lapin_ticket.specs.Slots as answers;
-ghost use Rattle.lapin_desk.specs.Rooms.{HasRoom};
-ghost use Rattle.lapin_confirm.specs.Book.{at_limit_on};
-ghost use Rattle.lapin_history.specs.Select.{queued_marks};
-ghost use Rattle.lapin_history.specs.Consumers.{called_inbox, cancel_inbox, all_inbox};
-ghost use Rattle.lapin_history.specs.Registry.{line_inbox, at_once_inbox};
-ghost use Rattle.lapin_inbox.specs.Held.{what};
-ghost use Rattle.lapin_inbox.specs.Inbox.{after_mark as after_inbox_mark};
-ghost use Rattle.lapin_confirm.specs.Machine as post;
+ghost use Rattle.lapin_outstanding.specs.Rooms.{HasRoom};
+ghost use Rattle.lapin_confirm.specs.PublishStates.{at_limit_on};
+ghost use Rattle.lapin_rules.specs.Select.{queued_marks};
+ghost use Rattle.lapin_rules.specs.Consumers.{called_deliveries, cancel_deliveries, all_deliveries};
+ghost use Rattle.lapin_rules.specs.Registry.{line_deliveries, at_once_deliveries};
+ghost use Rattle.lapin_delivery.specs.WithRoom.{what};
+ghost use Rattle.lapin_delivery.specs.Deliveries.{after_mark as after_deliveries_mark};
+ghost use Rattle.lapin_confirm.specs.Machine as confirm_state;
 ghost use Rattle.lapin_machine.specs.World.{told_by, next, asking, readings_of};
 ghost use Rattle.lapin_machine.specs.Told.{TicketTold, PublishTold, ticket_told, publish_told};
 ghost use Rattle.lapin_machine.specs.Numbers.{HasCause, CallCause, TryCause, AskCause};
@@ -30,9 +30,9 @@ ghost use Rattle.lapin_machine.specs.Places.{HasPlace};
 use crate::channel::{Published, PublisherConfirm, Ticket};
 use crate::session::{Session, is_closed, is_open};
 use lapin_confirm::Confirms;
-use lapin_desk::Desk;
-use lapin_history::{Answered, Asked, AtLeaving, ChannelPhase, Row, is_try, sort_call};
-use lapin_inbox::Inbox;
+use lapin_outstanding::Outstanding;
+use lapin_rules::{Answered, Asked, AtLeaving, ChannelPhase, Row, is_try, sort_call};
+use lapin_delivery::Deliveries;
 use lapin_ticket::Place;
 use lapin_types::{
     BasicMethod, BasicProperties, BasicPublishOptions, Call, ChannelMethod, ConfirmMethod, Error,
@@ -57,18 +57,18 @@ impl Session {
         if !is_closed(state) {
             return Err(Error::InvalidChannelState(state));
         }
-        if self.desk.tickets.next_number().is_none() {
+        if self.outstanding.tickets.next_number().is_none() {
             return Err(Error::NumbersUsedUp);
         }
         self.phases.reserve(channel)?;
-        self.desk.reserve(alloc, channel)?;
-        self.inbox.reserve_opening(channel)?;
+        self.outstanding.reserve(alloc, channel)?;
+        self.deliveries.reserve_opening(channel)?;
         self.confirms.begin(alloc, channel)?;
-        self.inbox.begin(alloc, channel);
+        self.deliveries.begin(alloc, channel);
         self.phases.set(channel, ChannelPhase::Opening);
         let method = Method::Channel(ChannelMethod::Open);
         let number = self
-            .desk
+            .outstanding
             .queue_awaiting(alloc, channel, method, Reply::ChannelOpenOk);
         Ok(Ticket { number })
     }
@@ -136,11 +136,11 @@ impl Session {
             drop(row);
             return Err(Error::InvalidChannelState(state));
         }
-        if self.desk.tickets.next_number().is_none() {
+        if self.outstanding.tickets.next_number().is_none() {
             drop(row);
             return Err(Error::NumbersUsedUp);
         }
-        if self.desk.reserve(alloc, channel).is_err() {
+        if self.outstanding.reserve(alloc, channel).is_err() {
             drop(row);
             return Err(Error::NoMemory);
         }
@@ -148,12 +148,12 @@ impl Session {
             drop(row);
             return Err(Error::NoMemory);
         };
-        if let Err(NoMemory) = line_called(&mut self.inbox, alloc, channel, &row) {
+        if let Err(NoMemory) = line_called(&mut self.deliveries, alloc, channel, &row) {
             drop(row);
             return Err(Error::NoMemory);
         }
         confirms_called(&mut self.confirms, channel, &row.method);
-        let number = queue_line(&mut self.desk, alloc, channel, row, place);
+        let number = queue_line(&mut self.outstanding, alloc, channel, row, place);
         Ok(Ticket { number })
     }
 
@@ -177,12 +177,12 @@ impl Session {
         if !is_open(state) {
             return Err(Error::InvalidChannelState(state));
         }
-        if self.desk.tickets.next_number().is_none() {
+        if self.outstanding.tickets.next_number().is_none() {
             return Err(Error::NumbersUsedUp);
         }
-        self.desk.reserve(alloc, channel)?;
+        self.outstanding.reserve(alloc, channel)?;
         let confirm = self.confirms.add(alloc, channel)?;
-        let ticket = self.desk.tickets.give(channel, AtLeaving::Confirm(confirm));
+        let ticket = self.outstanding.tickets.give(channel, AtLeaving::Confirm(confirm));
         let publish = Publish {
             confirm,
             ticket,
@@ -193,7 +193,7 @@ impl Session {
             payload,
             properties,
         };
-        let _queued = self.desk.outbox.push_publish(alloc, publish).unwrap();
+        let _queued = self.outstanding.outbox.push_publish(alloc, publish).unwrap();
         Ok(Published {
             ticket: Ticket { number: ticket },
             confirm: PublisherConfirm { number: confirm },
@@ -234,7 +234,7 @@ impl Session {
 
     // Whether a channel is open and at its limit, so that a try publish is refused.
     fn is_at_limit(&self, channel: u16) -> bool
-        ensures { result ≡ (is_open_lem (state_of channel self.now.wire) && at_limit_on channel self.now.post.book) }
+        ensures { result ≡ (is_open_lem (state_of channel self.now.wire) && at_limit_on channel self.now.confirm_state.publish_states) }
     {
         is_open(self.channel_state(channel)) && self.confirms.at_limit(channel)
     }
@@ -250,12 +250,12 @@ impl Session {
         if !is_open(state) {
             return Err(Error::InvalidChannelState(state));
         }
-        if self.desk.tickets.next_number().is_none() {
+        if self.outstanding.tickets.next_number().is_none() {
             return Err(Error::NumbersUsedUp);
         }
-        self.desk.tickets.reserve(alloc, channel)?;
-        let number = self.desk.tickets.give(channel, AtLeaving::Nothing);
-        self.desk.done(Some(number));
+        self.outstanding.tickets.reserve(alloc, channel)?;
+        let number = self.outstanding.tickets.give(channel, AtLeaving::Nothing);
+        self.outstanding.done(Some(number));
         self.confirms.set_limit(channel, limit);
         Ok(Ticket { number })
     }
@@ -281,7 +281,7 @@ impl Session {
 
     // A call that no limit refuses.
     fn step_asked(&mut self, alloc: Global, channel: u16, call: Call) -> Result<Record, Error>
-        requires { is_held channel call self.old.wire (readings_of self.old.post self.old.slots) ≡ false }
+        requires { is_held channel call self.old.wire (readings_of self.old.confirm_state self.old.slots) ≡ false }
         ensures told { IfOk result (λ r. r ≡ call_record channel (asked_lem call) self.old.wire) }
         ensures ok { OnOk result (self.new ≡ asking channel (asked_lem call) self.old) }
         ensures err { OnErr result (self.new ≡ self.old) }
@@ -321,116 +321,116 @@ fn place_at_once(alloc: Global, answered: &Answered) -> Result<Option<Place>, No
 
 // A line is queued under the next ticket, in the room that was made: it opens the request of the reply that it awaits, or answers
 // the ticket, or the leaving of its frame does.
-fn queue_line(desk: &mut Desk, alloc: Global, channel: u16, row: Row, place: Option<Place>) -> u64
-    requires room { HasRoom channel desk.old }
-    requires numbers { length desk.old.tickets.slots + 1 < 2 ^ 64 }
-    requires unpoisoned { poison_on channel desk.old.outbox.what ≡ None }
+fn queue_line(outstanding: &mut Outstanding, alloc: Global, channel: u16, row: Row, place: Option<Place>) -> u64
+    requires room { HasRoom channel outstanding.old }
+    requires numbers { length outstanding.old.tickets.slots + 1 < 2 ^ 64 }
+    requires unpoisoned { poison_on channel outstanding.old.outbox.what ≡ None }
     requires place { HasPlace row.answered place }
-    ensures ticket { result ≡ length desk.old.tickets.slots + 1 }
-    ensures outbox { desk.new.outbox.what ≡ with_lists (with_method (record { channel = channel; method = row.method; ticket = Some (length desk.old.tickets.slots + 1) }) desk.old.outbox.what.lists) desk.old.outbox.what }
-    ensures requests { desk.new.replies.what ≡ requests_with channel (length desk.old.tickets.slots + 1) (awaited_by row.answered) desk.old.replies.what }
-    ensures slots { desk.new.tickets.slots ≡ fold answers.after_mark (answers.after_mark desk.old.tickets.slots (mark.Given channel (leaving_by row.answered))) (made_marks (length desk.old.tickets.slots + 1) (made_by row.answered)) }
+    ensures ticket { result ≡ length outstanding.old.tickets.slots + 1 }
+    ensures outbox { outstanding.new.outbox.what ≡ with_lists (with_method (record { channel = channel; method = row.method; ticket = Some (length outstanding.old.tickets.slots + 1) }) outstanding.old.outbox.what.lists) outstanding.old.outbox.what }
+    ensures requests { outstanding.new.replies.what ≡ requests_with channel (length outstanding.old.tickets.slots + 1) (awaited_by row.answered) outstanding.old.replies.what }
+    ensures slots { outstanding.new.tickets.slots ≡ fold answers.after_mark (answers.after_mark outstanding.old.tickets.slots (mark.Given channel (leaving_by row.answered))) (made_marks (length outstanding.old.tickets.slots + 1) (made_by row.answered)) }
 {
     let Row { method, answered } = row;
     match answered {
-        Answered::ByReply(reply) => desk.queue_awaiting(alloc, channel, method, reply),
+        Answered::ByReply(reply) => outstanding.queue_awaiting(alloc, channel, method, reply),
         Answered::AtOnce(reply, answer) => {
             drop(reply);
-            desk.queue_answered(alloc, channel, method, answer, place.unwrap())
+            outstanding.queue_answered(alloc, channel, method, answer, place.unwrap())
         }
-        Answered::AsItLeaves(at_leaving) => desk.queue(alloc, channel, method, at_leaving),
+        Answered::AsItLeaves(at_leaving) => outstanding.queue(alloc, channel, method, at_leaving),
     }
 }
 
 // A call of this line was accepted: one of the class basic says something of consumers, any other that is made without wait has its
 // answer, and what it declared is recorded.
-fn line_called(inbox: &mut Inbox, alloc: Global, channel: u16, row: &Row) -> Result<(), NoMemory>
-    ensures ok { OnOk result (what inbox.new ≡ fold after_inbox_mark (what inbox.old) (line_inbox channel row.now.method row.now.answered)) }
-    ensures err { OnErr result (what inbox.new ≡ what inbox.old) }
+fn line_called(deliveries: &mut Deliveries, alloc: Global, channel: u16, row: &Row) -> Result<(), NoMemory>
+    ensures ok { OnOk result (what deliveries.new ≡ fold after_deliveries_mark (what deliveries.old) (line_deliveries channel row.now.method row.now.answered)) }
+    ensures err { OnErr result (what deliveries.new ≡ what deliveries.old) }
 {
     match &row.method {
-        Method::Basic(method) => consumers_called(inbox, alloc, channel, method),
-        _ => completed_at_once(inbox, alloc, channel, &row.answered),
+        Method::Basic(method) => consumers_called(deliveries, alloc, channel, method),
+        _ => completed_at_once(deliveries, alloc, channel, &row.answered),
     }
 }
 
 // A call that queues this method was accepted: a cancel asks for its consumer's end, an acknowledgement of all there is and
 // `basic.recover-async` make void what was handed on before.
 fn consumers_called(
-    inbox: &mut Inbox,
+    deliveries: &mut Deliveries,
     alloc: Global,
     channel: u16,
     method: &BasicMethod,
 ) -> Result<(), NoMemory>
-    ensures ok { OnOk result (what inbox.new ≡ fold after_inbox_mark (what inbox.old) (called_inbox channel method.now)) }
-    ensures err { OnErr result (what inbox.new ≡ what inbox.old) }
+    ensures ok { OnOk result (what deliveries.new ≡ fold after_deliveries_mark (what deliveries.old) (called_deliveries channel method.now)) }
+    ensures err { OnErr result (what deliveries.new ≡ what deliveries.old) }
 {
     match method {
         BasicMethod::Cancel {
             consumer_tag,
             nowait,
-        } => cancel_called(inbox, alloc, channel, consumer_tag, *nowait),
+        } => cancel_called(deliveries, alloc, channel, consumer_tag, *nowait),
         BasicMethod::Ack {
             delivery_tag,
             multiple,
-        } => ack_called(inbox, alloc, channel, *delivery_tag, *multiple),
+        } => ack_called(deliveries, alloc, channel, *delivery_tag, *multiple),
         BasicMethod::Nack {
             delivery_tag,
             multiple,
             ..
-        } => ack_called(inbox, alloc, channel, *delivery_tag, *multiple),
-        BasicMethod::RecoverAsync { .. } => inbox.discard(alloc, channel),
+        } => ack_called(deliveries, alloc, channel, *delivery_tag, *multiple),
+        BasicMethod::RecoverAsync { .. } => deliveries.discard(alloc, channel),
         _ => Ok(()),
     }
 }
 
 // A call that is answered so was accepted: without wait its request is completed in the call.
 fn completed_at_once(
-    inbox: &mut Inbox,
+    deliveries: &mut Deliveries,
     alloc: Global,
     channel: u16,
     answered: &Answered,
 ) -> Result<(), NoMemory>
-    ensures ok { OnOk result (what inbox.new ≡ fold after_inbox_mark (what inbox.old) (at_once_inbox channel answered.now)) }
-    ensures err { OnErr result (what inbox.new ≡ what inbox.old) }
+    ensures ok { OnOk result (what deliveries.new ≡ fold after_deliveries_mark (what deliveries.old) (at_once_deliveries channel answered.now)) }
+    ensures err { OnErr result (what deliveries.new ≡ what deliveries.old) }
 {
     match answered {
-        Answered::AtOnce(reply, answer) => inbox.complete(alloc, channel, reply, answer),
+        Answered::AtOnce(reply, answer) => deliveries.complete(alloc, channel, reply, answer),
         _ => Ok(()),
     }
 }
 
 // A cancel was called.
 fn cancel_called(
-    inbox: &mut Inbox,
+    deliveries: &mut Deliveries,
     alloc: Global,
     channel: u16,
     tag: &ShortString,
     nowait: bool,
 ) -> Result<(), NoMemory>
-    ensures ok { OnOk result (what inbox.new ≡ fold after_inbox_mark (what inbox.old) (cancel_inbox channel tag.now nowait)) }
-    ensures err { OnErr result (what inbox.new ≡ what inbox.old) }
+    ensures ok { OnOk result (what deliveries.new ≡ fold after_deliveries_mark (what deliveries.old) (cancel_deliveries channel tag.now nowait)) }
+    ensures err { OnErr result (what deliveries.new ≡ what deliveries.old) }
 {
     if nowait {
-        return inbox.cancel_at_once(alloc, channel, tag.as_str());
+        return deliveries.cancel_at_once(alloc, channel, tag.as_str());
     }
-    inbox.ask_cancel(channel, tag.as_str());
+    deliveries.ask_cancel(channel, tag.as_str());
     Ok(())
 }
 
 // An acknowledgement was called: one of all there is discards.
 fn ack_called(
-    inbox: &mut Inbox,
+    deliveries: &mut Deliveries,
     alloc: Global,
     channel: u16,
     tag: u64,
     multiple: bool,
 ) -> Result<(), NoMemory>
-    ensures ok { OnOk result (what inbox.new ≡ fold after_inbox_mark (what inbox.old) (all_inbox channel tag multiple)) }
-    ensures err { OnErr result (what inbox.new ≡ what inbox.old) }
+    ensures ok { OnOk result (what deliveries.new ≡ fold after_deliveries_mark (what deliveries.old) (all_deliveries channel tag multiple)) }
+    ensures err { OnErr result (what deliveries.new ≡ what deliveries.old) }
 {
     if multiple && tag == 0 {
-        inbox.discard(alloc, channel)
+        deliveries.discard(alloc, channel)
     } else {
         Ok(())
     }
@@ -438,7 +438,7 @@ fn ack_called(
 
 // A call that queues this method was accepted: `confirm.select` asks for confirms.
 fn confirms_called(confirms: &mut Confirms, channel: u16, method: &Method)
-    ensures { confirms.new.what ≡ fold post.after_mark confirms.old.what (queued_marks channel method.now) }
+    ensures { confirms.new.what ≡ fold confirm_state.after_mark confirms.old.what (queued_marks channel method.now) }
 {
     if let Method::Confirm(ConfirmMethod::Select { .. }) = method {
         confirms.select_called(channel);

@@ -5,7 +5,7 @@
 ghost use Rattle.std.specs.Prelude.{◌≡◌, OnOk, OnErr};
 ghost use Rattle.lapin_types.specs.declared.event.Event.TheVariants.{PollTicket, AsideTicket, PollConfirm, PollConsumer, AsideConfirm, Delegate, DropConsumer};
 ghost use Rattle.std.specs.Option.{option_copied, option_map};
-ghost use Rattle.lapin_consumer.specs.Roster.{consumer_at};
+ghost use Rattle.lapin_consumer.specs.Subscriptions.{consumer_at};
 ghost use Rattle.lapin_machine.specs.World.{told_by, next, aside_record};
 ghost use Rattle.lapin_machine.specs.Told.{AsideTold, DelegateTold, DropTold, ticket_record, confirm_record, next_record};
 ghost use Rattle.lapin_machine.specs.Numbers.{HasNumbers};
@@ -92,14 +92,14 @@ impl PublisherConfirm {
 impl Consumer {
     /// The tag under which it was registered; `None` exactly where the number was never given.
     pub fn tag<'a>(&self, session: &'a Session) -> Option<&'a ShortString>
-        ensures { option_copied result ≡ option_map (λ x. x.tag) (consumer_at self.now.number session.now.wire.inbox.roster) }
+        ensures { option_copied result ≡ option_map (λ x. x.tag) (consumer_at self.now.number session.now.wire.deliveries.subscriptions) }
     {
         session.consumers().tag(self.number)
     }
 
     /// The queue that it consumes from; `None` exactly where the number was never given.
     pub fn queue<'a>(&self, session: &'a Session) -> Option<&'a ShortString>
-        ensures { option_copied result ≡ option_map (λ x. x.queue) (consumer_at self.now.number session.now.wire.inbox.roster) }
+        ensures { option_copied result ≡ option_map (λ x. x.queue) (consumer_at self.now.number session.now.wire.deliveries.subscriptions) }
     {
         session.consumers().queue(self.number)
     }

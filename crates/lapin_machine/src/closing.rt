@@ -1,29 +1,29 @@
 //! Closes of this side, and the loss.
 //!
 //! A close is refused by state, then for want of numbers; then all room is made; then what the close rejects or ends is
-//! resolved, and the close is queued. What is dropped and resolved stands in `lapin_desk`.
+//! resolved, and the close is queued. What is dropped and resolved stands in `lapin_outstanding`.
 
 ghost use Rattle.std.specs.Prelude.{◌≡◌, ◌≤◌, ◌++◌, ◌∷◌, [], true, false, IfOk, OnOk, OnErr, length};
 ghost use Rattle.std.specs.List.{fold};
 ghost use Rattle.lapin_tables.specs.ByChannel.{at_channel};
 ghost use Rattle.lapin_types.specs.declared.event.Event.TheVariants.{Call as CallEvent, Lost as LostEvent};
 ghost use Rattle.lapin_types.specs.declared.call.Call.TheVariants.{ChannelClose, ConnectionClose};
-ghost use Rattle.lapin_history.specs.Words.{is_some, with_channel};
-ghost use Rattle.lapin_history.specs.Phases.{is_lost as is_lost_lem};
-ghost use Rattle.lapin_history.specs.ChannelClose.{failed_at_close as failed_at_close_lem};
-ghost use Rattle.lapin_history.specs.Drops.{without_publishes_of};
+ghost use Rattle.lapin_rules.specs.Words.{is_some, with_channel};
+ghost use Rattle.lapin_rules.specs.Phases.{is_lost as is_lost_lem};
+ghost use Rattle.lapin_rules.specs.ChannelClose.{failed_at_close as failed_at_close_lem};
+ghost use Rattle.lapin_rules.specs.Drops.{without_publishes_of};
 ghost use Rattle.lapin_outbox.specs.Outgoing.{with_lists};
-ghost use Rattle.lapin_history.specs.Ends.{ends, inbox_ends, cancels_on, live_channels};
-ghost use Rattle.lapin_inbox.specs.Held.{what};
-ghost use Rattle.lapin_inbox.specs.Inbox.{after_mark as after_inbox_mark};
-ghost use Rattle.lapin_consumer.specs.Kept.{HasEnds};
-ghost use Rattle.lapin_desk.specs.Live.{live_at};
-ghost use Rattle.lapin_history.specs.TicketReadings as mark;
-ghost use Rattle.lapin_confirm.specs.Machine as post;
-ghost use Rattle.lapin_history.specs.ConfirmMarks as confirm_mark;
+ghost use Rattle.lapin_rules.specs.Ends.{ends, deliveries_ends, cancels_on, live_channels};
+ghost use Rattle.lapin_delivery.specs.WithRoom.{what};
+ghost use Rattle.lapin_delivery.specs.Deliveries.{after_mark as after_deliveries_mark};
+ghost use Rattle.lapin_consumer.specs.WithRoom.{HasEnds};
+ghost use Rattle.lapin_outstanding.specs.Live.{live_at};
+ghost use Rattle.lapin_rules.specs.TicketReadings as mark;
+ghost use Rattle.lapin_confirm.specs.Machine as confirm_state;
+ghost use Rattle.lapin_rules.specs.ConfirmMarks as confirm_mark;
 ghost use Rattle.lapin_ticket.specs.Slots as answers;
-ghost use Rattle.lapin_desk.specs.Queued.{AreQueued};
-ghost use Rattle.lapin_desk.specs.Ended.{emptied_outbox};
+ghost use Rattle.lapin_outstanding.specs.Queued.{AreQueued};
+ghost use Rattle.lapin_outstanding.specs.Ended.{emptied_outbox};
 ghost use Rattle.lapin_machine.specs.World.{told_by, next};
 ghost use Rattle.lapin_machine.specs.Told.{TicketTold};
 ghost use Rattle.lapin_machine.specs.Numbers.{HasCause, CallCause};
@@ -32,9 +32,9 @@ use crate::channel::Ticket;
 use crate::session::{Session, is_base, is_open};
 use lapin_confirm::Confirms;
 use lapin_content::Contents;
-use lapin_desk::Desk;
-use lapin_history::{ChannelPhase, Closer, ConnectionPhase, failed_at_close};
-use lapin_inbox::Inbox;
+use lapin_outstanding::Outstanding;
+use lapin_rules::{ChannelPhase, Closer, ConnectionPhase, failed_at_close};
+use lapin_delivery::Deliveries;
 use lapin_outbox::Replies;
 use lapin_phases::Phases;
 use lapin_types::{
@@ -61,18 +61,18 @@ impl Session {
         if !is_open(state) {
             return Err(Error::InvalidChannelState(state));
         }
-        if self.desk.tickets.next_number().is_none() {
+        if self.outstanding.tickets.next_number().is_none() {
             return Err(Error::NumbersUsedUp);
         }
-        self.desk.reserve(alloc, channel)?;
+        self.outstanding.reserve(alloc, channel)?;
         begin_close(
             &mut self.phases,
-            &mut self.desk,
+            &mut self.outstanding,
             &mut self.confirms,
             channel,
             Closer::Application,
         );
-        self.inbox.ask_close(channel);
+        self.deliveries.ask_close(channel);
         let method = Method::Channel(ChannelMethod::Close {
             reply_code,
             reply_text,
@@ -80,7 +80,7 @@ impl Session {
             method_id: 0,
         });
         let number = self
-            .desk
+            .outstanding
             .queue_awaiting(alloc, channel, method, Reply::ChannelCloseOk);
         Ok(Ticket { number })
     }
@@ -123,13 +123,13 @@ impl Session {
         if !is_base(state) {
             return Err(Error::InvalidChannelState(state));
         }
-        if self.desk.tickets.next_number().is_none() {
+        if self.outstanding.tickets.next_number().is_none() {
             return Err(Error::NumbersUsedUp);
         }
         let mut replies = Replies::new(alloc)?;
         replies.reserve(alloc, channel)?;
-        self.desk.reserve(alloc, channel)?;
-        self.inbox.reserve_ends(alloc)?;
+        self.outstanding.reserve(alloc, channel)?;
+        self.deliveries.reserve_ends(alloc)?;
         let to = ConnectionPhase::Closing {
             sent: false,
             received: false,
@@ -139,10 +139,10 @@ impl Session {
             alloc,
             &mut self.link,
             &mut self.phases,
-            &mut self.desk,
+            &mut self.outstanding,
             &mut self.confirms,
             &mut self.contents,
-            &mut self.inbox,
+            &mut self.deliveries,
             replies,
             to,
             error,
@@ -154,7 +154,7 @@ impl Session {
             method_id: 0,
         });
         let number = self
-            .desk
+            .outstanding
             .queue_awaiting(alloc, channel, method, Reply::ConnectionCloseOk);
         Ok(Ticket { number })
     }
@@ -172,15 +172,15 @@ impl Session {
             return Ok(());
         }
         let replies = Replies::new(alloc)?;
-        self.inbox.reserve_ends(alloc)?;
+        self.deliveries.reserve_ends(alloc)?;
         go_down(
             alloc,
             &mut self.link,
             &mut self.phases,
-            &mut self.desk,
+            &mut self.outstanding,
             &mut self.confirms,
             &mut self.contents,
-            &mut self.inbox,
+            &mut self.deliveries,
             replies,
             ConnectionPhase::Lost,
             Error::ConnectionLost,
@@ -210,23 +210,23 @@ fn is_lost(link: ConnectionPhase) -> bool
 // This side closes a channel: publishes that have not begun are rejected.
 pub(crate) fn begin_close(
     phases: &mut Phases,
-    desk: &mut Desk,
+    outstanding: &mut Outstanding,
     confirms: &mut Confirms,
     channel: u16,
     closer: Closer,
 )
     requires present { is_some (at_channel channel phases.old.entries) ≡ true }
-    requires queued { AreQueued confirms.old.what.book.cells desk.old.outbox.what.lists.publishes }
+    requires queued { AreQueued confirms.old.what.publish_states.cells outstanding.old.outbox.what.lists.publishes }
     ensures phases { phases.new.entries ≡ with_channel channel (ChannelPhase.Closing closer false) phases.old.entries }
-    ensures outbox { desk.new.outbox.what ≡ with_lists (without_publishes_of channel desk.old.outbox.what.lists) desk.old.outbox.what }
-    ensures slots { desk.new.tickets.slots ≡ answers.after_mark desk.old.tickets.slots (mark.ClosedHere channel (failed_at_close_lem closer)) }
-    ensures confirms { confirms.new.what ≡ post.after_mark confirms.old.what (confirm_mark.ClosedHere channel (failed_at_close_lem closer)) }
-    ensures queued { AreQueued confirms.new.what.book.cells desk.new.outbox.what.lists.publishes }
-    ensures requests { desk.new.replies ≡ desk.old.replies }
-    ensures room { (desk.old.outbox.spare ≤ desk.new.outbox.spare) × (desk.new.tickets.ready ≡ desk.old.tickets.ready) }
-    ensures counts { (length desk.new.tickets.slots ≡ length desk.old.tickets.slots) × (length confirms.new.what.book.cells ≡ length confirms.old.what.book.cells) }
+    ensures outbox { outstanding.new.outbox.what ≡ with_lists (without_publishes_of channel outstanding.old.outbox.what.lists) outstanding.old.outbox.what }
+    ensures slots { outstanding.new.tickets.slots ≡ answers.after_mark outstanding.old.tickets.slots (mark.ClosedHere channel (failed_at_close_lem closer)) }
+    ensures confirms { confirms.new.what ≡ confirm_state.after_mark confirms.old.what (confirm_mark.ClosedHere channel (failed_at_close_lem closer)) }
+    ensures queued { AreQueued confirms.new.what.publish_states.cells outstanding.new.outbox.what.lists.publishes }
+    ensures requests { outstanding.new.replies ≡ outstanding.old.replies }
+    ensures room { (outstanding.old.outbox.spare ≤ outstanding.new.outbox.spare) × (outstanding.new.tickets.ready ≡ outstanding.old.tickets.ready) }
+    ensures counts { (length outstanding.new.tickets.slots ≡ length outstanding.old.tickets.slots) × (length confirms.new.what.publish_states.cells ≡ length confirms.old.what.publish_states.cells) }
 {
-    desk.reject_unbegun(confirms, channel, failed_at_close(closer));
+    outstanding.reject_unbegun(confirms, channel, failed_at_close(closer));
     phases.set(
         channel,
         ChannelPhase::Closing {
@@ -243,55 +243,55 @@ pub(crate) fn go_down(
     alloc: Global,
     link: &mut ConnectionPhase,
     phases: &mut Phases,
-    desk: &mut Desk,
+    outstanding: &mut Outstanding,
     confirms: &mut Confirms,
     contents: &mut Contents,
-    inbox: &mut Inbox,
+    deliveries: &mut Deliveries,
     replies: Replies,
     to: ConnectionPhase,
     error: Error,
 )
-    requires queued { AreQueued confirms.old.what.book.cells desk.old.outbox.what.lists.publishes }
-    requires ends { HasEnds inbox.old.consumers }
+    requires queued { AreQueued confirms.old.what.publish_states.cells outstanding.old.outbox.what.lists.publishes }
+    requires ends { HasEnds deliveries.old.consumers }
     ensures link { link.new ≡ to }
     ensures phases { phases.new.entries ≡ [] }
-    ensures outbox { desk.new.outbox.what ≡ emptied_outbox desk.old.outbox.what }
-    ensures slots { desk.new.tickets.slots ≡ fold answers.after_mark desk.old.tickets.slots (cancels_on (live_channels phases.old.entries) desk.old.replies.what ++ mark.AllFailed error ∷ []) }
-    ensures confirms { confirms.new.what ≡ fold post.after_mark confirms.old.what (ends error (live_channels phases.old.entries)) }
+    ensures outbox { outstanding.new.outbox.what ≡ emptied_outbox outstanding.old.outbox.what }
+    ensures slots { outstanding.new.tickets.slots ≡ fold answers.after_mark outstanding.old.tickets.slots (cancels_on (live_channels phases.old.entries) outstanding.old.replies.what ++ mark.AllFailed error ∷ []) }
+    ensures confirms { confirms.new.what ≡ fold confirm_state.after_mark confirms.old.what (ends error (live_channels phases.old.entries)) }
     ensures contents { contents.new ≡ [] }
-    ensures inbox { what inbox.new ≡ fold after_inbox_mark (what inbox.old) (inbox_ends error (live_channels phases.old.entries)) }
-    ensures requests { desk.new.replies ≡ replies }
-    ensures room { (desk.old.outbox.spare ≤ desk.new.outbox.spare) × (desk.new.tickets.ready ≡ desk.old.tickets.ready) }
-    ensures counts { (length desk.new.tickets.slots ≡ length desk.old.tickets.slots) × (length confirms.new.what.book.cells ≡ length confirms.old.what.book.cells) }
+    ensures deliveries { what deliveries.new ≡ fold after_deliveries_mark (what deliveries.old) (deliveries_ends error (live_channels phases.old.entries)) }
+    ensures requests { outstanding.new.replies ≡ replies }
+    ensures room { (outstanding.old.outbox.spare ≤ outstanding.new.outbox.spare) × (outstanding.new.tickets.ready ≡ outstanding.old.tickets.ready) }
+    ensures counts { (length outstanding.new.tickets.slots ≡ length outstanding.old.tickets.slots) × (length confirms.new.what.publish_states.cells ≡ length confirms.old.what.publish_states.cells) }
 {
-    end_consumers(alloc, inbox, phases, error);
-    desk.end_all(confirms, phases, replies, error);
+    end_consumers(alloc, deliveries, phases, error);
+    outstanding.end_all(confirms, phases, replies, error);
     phases.clear();
     contents.drop_all();
     *link = to;
 }
 
 // The consumers of every live opening get the error and their end, in rising number of its channel.
-fn end_consumers(alloc: Global, inbox: &mut Inbox, phases: &Phases, error: Error)
-    requires { HasEnds inbox.old.consumers }
-    ensures { what inbox.new ≡ fold after_inbox_mark (what inbox.old) (inbox_ends error (live_channels phases.now.entries)) }
+fn end_consumers(alloc: Global, deliveries: &mut Deliveries, phases: &Phases, error: Error)
+    requires { HasEnds deliveries.old.consumers }
+    ensures { what deliveries.new ≡ fold after_deliveries_mark (what deliveries.old) (deliveries_ends error (live_channels phases.now.entries)) }
 {
     let reach = phases.reach();
     let mut number = 0;
     while number < reach {
-        end_consumers_at(alloc, inbox, phases, number, error);
+        end_consumers_at(alloc, deliveries, phases, number, error);
         number += 1;
     }
 }
 
 // The consumers of the opening of this channel, if it has a live one.
-fn end_consumers_at(alloc: Global, inbox: &mut Inbox, phases: &Phases, number: usize, error: Error)
-    requires { HasEnds inbox.old.consumers }
-    ensures ended { what inbox.new ≡ fold after_inbox_mark (what inbox.old) (inbox_ends error (live_at number phases.now.entries)) }
-    ensures room { HasEnds inbox.new.consumers }
+fn end_consumers_at(alloc: Global, deliveries: &mut Deliveries, phases: &Phases, number: usize, error: Error)
+    requires { HasEnds deliveries.old.consumers }
+    ensures ended { what deliveries.new ≡ fold after_deliveries_mark (what deliveries.old) (deliveries_ends error (live_at number phases.now.entries)) }
+    ensures room { HasEnds deliveries.new.consumers }
 {
     let Some(channel) = phases.live_at(number) else {
         return;
     };
-    inbox.end(alloc, channel, Some(error));
+    deliveries.end(alloc, channel, Some(error));
 }

@@ -5,10 +5,10 @@
 
 ghost use Rattle.std.specs.Prelude.{◌≡◌, true, Some, Ok, IfOk, OnOk, OnErr};
 ghost use Rattle.lapin_types.specs.declared.event.Event.TheVariants as event;
-ghost use Rattle.lapin_history.specs.declared.calls.Asked.TheVariants as ask;
-ghost use Rattle.lapin_history.specs.Asking.{call_record};
-ghost use Rattle.lapin_consumer.specs.Roster.{consumer_at, let_go_answer};
-ghost use Rattle.lapin_history.specs.Consumers.{job_record as job_record_lem};
+ghost use Rattle.lapin_rules.specs.declared.calls.Asked.TheVariants as ask;
+ghost use Rattle.lapin_rules.specs.Asking.{call_record};
+ghost use Rattle.lapin_consumer.specs.Subscriptions.{consumer_at, let_go_answer};
+ghost use Rattle.lapin_rules.specs.Consumers.{job_record as job_record_lem};
 ghost use Rattle.lapin_machine.specs.Consumers.{let_go_on, let_go_tag};
 ghost use Rattle.lapin_machine.specs.World.{told_by, next, asking};
 ghost use Rattle.lapin_machine.specs.Told.{TicketTold, DelegateTold, DropTold, next_record as next_record_lem};
@@ -44,22 +44,22 @@ impl Session {
             drop(method);
             return Err(Error::InvalidChannelState(state));
         }
-        if self.desk.tickets.next_number().is_none() {
+        if self.outstanding.tickets.next_number().is_none() {
             drop(method);
             return Err(Error::NumbersUsedUp);
         }
-        let Ok(place) = self.desk.reserve_answered(alloc, channel) else {
+        let Ok(place) = self.outstanding.reserve_answered(alloc, channel) else {
             drop(method);
             return Err(Error::NoMemory);
         };
         match self
-            .inbox
+            .deliveries
             .consume(alloc, channel, consumer_tag, queue, options)
         {
             Ok(consumer) => {
                 let answer = Answer::Consumer(consumer);
                 let number = self
-                    .desk
+                    .outstanding
                     .queue_answered(alloc, channel, method, answer, place);
                 Ok(Ticket { number })
             }
@@ -79,7 +79,7 @@ impl Session {
         ensures told { next_record_lem result ≡ told_by self.old (event.PollConsumer consumer) }
         ensures ok { self.new ≡ next self.old (event.PollConsumer consumer) }
     {
-        match self.inbox.poll(consumer) {
+        match self.deliveries.poll(consumer) {
             Ok(Some(item)) => Ok(Poll::Ready(item)),
             Ok(None) => Ok(Poll::Pending),
             Err(error) => Err(error),
@@ -96,7 +96,7 @@ impl Session {
         ensures err { OnErr result (self.new ≡ self.old) }
         ensures numbers { HasNumbers result }
     {
-        self.inbox.delegate(alloc, consumer)
+        self.deliveries.delegate(alloc, consumer)
     }
 
     /// Takes out the oldest job; `None` exactly where there is none.
@@ -104,7 +104,7 @@ impl Session {
         ensures told { job_record_lem result ≡ told_by self.old event.NextJob }
         ensures ok { self.new ≡ next self.old event.NextJob }
     {
-        self.inbox.next_job()
+        self.deliveries.next_job()
     }
 
     /// Lets go of a consumer. Where it is active and registered and its channel open, its `basic.cancel` is queued, with a request
@@ -119,7 +119,7 @@ impl Session {
         ensures err { OnErr result (self.new ≡ self.old) }
         ensures numbers { HasNumbers result }
     {
-        if !self.inbox.would_let_go(consumer)? {
+        if !self.deliveries.would_let_go(consumer)? {
             return Ok(false);
         }
         match self.let_go_channel(consumer) {
@@ -130,9 +130,9 @@ impl Session {
 
     // The channel of a consumer, where it is open.
     fn let_go_channel(&self, consumer: u64) -> Option<u16>
-        ensures { result ≡ let_go_on (consumer_at consumer self.now.wire.inbox.roster) self.now.wire }
+        ensures { result ≡ let_go_on (consumer_at consumer self.now.wire.deliveries.subscriptions) self.now.wire }
     {
-        let channel = self.inbox.channel(consumer)?;
+        let channel = self.deliveries.channel(consumer)?;
         if is_open(self.channel_state(channel)) {
             Some(channel)
         } else {
@@ -142,30 +142,30 @@ impl Session {
 
     // The cancel of a consumer that is let go is queued.
     fn cancel_let_go(&mut self, alloc: Global, consumer: u64, channel: u16) -> Result<bool, Error>
-        requires idle { let_go_answer (consumer_at consumer self.old.wire.inbox.roster) ≡ Ok true }
-        requires open { let_go_on (consumer_at consumer self.old.wire.inbox.roster) self.old.wire ≡ Some channel }
+        requires idle { let_go_answer (consumer_at consumer self.old.wire.deliveries.subscriptions) ≡ Ok true }
+        requires open { let_go_on (consumer_at consumer self.old.wire.deliveries.subscriptions) self.old.wire ≡ Some channel }
         ensures told { DropTold result (told_by self.old (event.DropConsumer consumer)) }
         ensures ok { OnOk result (self.new ≡ next self.old (event.DropConsumer consumer)) }
         ensures err { OnErr result (self.new ≡ self.old) }
         ensures numbers { HasNumbers result }
     {
         let consumer_tag = self.tag_of(alloc, consumer)?;
-        self.desk.reserve(alloc, channel)?;
-        self.inbox.let_go(consumer);
+        self.outstanding.reserve(alloc, channel)?;
+        self.deliveries.let_go(consumer);
         let method = Method::Basic(BasicMethod::Cancel {
             consumer_tag,
             nowait: false,
         });
-        self.desk
+        self.outstanding
             .queue_unheld(alloc, channel, method, Reply::BasicCancelOk);
         Ok(true)
     }
 
     // A copy of the tag of a consumer; none was given for a number that was never given.
     fn tag_of(&self, alloc: Global, consumer: u64) -> Result<ShortString, NoMemory>
-        ensures { IfOk result (λ tag. tag ≡ let_go_tag (consumer_at consumer self.now.wire.inbox.roster)) }
+        ensures { IfOk result (λ tag. tag ≡ let_go_tag (consumer_at consumer self.now.wire.deliveries.subscriptions)) }
     {
-        match self.inbox.tag(consumer) {
+        match self.deliveries.tag(consumer) {
             Some(tag) => tag.try_clone(alloc),
             None => no_text(alloc),
         }

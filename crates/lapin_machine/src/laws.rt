@@ -4,18 +4,18 @@ ghost use Rattle.std.specs.Prelude.{◌≡◌, ℕ, ◌+◌, ◌<◌, ◌^◌, t
 ghost use Rattle.std.specs.List.{list_any, fold};
 ghost use Rattle.lapin_tables.specs.ByChannel.{at_channel};
 ghost use Rattle.lapin_types.specs.declared.event.Event.{Event as AnEvent};
-ghost use Rattle.lapin_history.specs.Wire.{lists_of};
-ghost use Rattle.lapin_history.specs.ConnectionClose.{has_sent};
-ghost use Rattle.lapin_history.specs.Drops.{no_lists};
-ghost use Rattle.lapin_confirm.specs.Book.{is_open_on};
+ghost use Rattle.lapin_rules.specs.Wire.{lists_of};
+ghost use Rattle.lapin_rules.specs.ConnectionClose.{has_sent};
+ghost use Rattle.lapin_rules.specs.Drops.{no_lists};
+ghost use Rattle.lapin_confirm.specs.PublishStates.{is_open_on};
 ghost use Rattle.lapin_machine.specs.Alone.{WaitsAlone, without_own_close};
 ghost use Rattle.lapin_machine.specs.Tied.{is_live_on};
-ghost use Rattle.lapin_history.specs.History.{History, rec};
+ghost use Rattle.lapin_rules.specs.History.{History, rec};
 ghost use Rattle.lapin_machine.specs.Numbers.{HasNumbersFor};
 ghost use Rattle.lapin_machine.specs.Stands.{IsShut, Stands};
 ghost use Rattle.lapin_types.specs.declared.leaving.Left.{Left as ALeft};
-ghost use Rattle.lapin_history.specs.Events.{confirm_marks};
-ghost use Rattle.lapin_history.specs.Phases.{is_lost};
+ghost use Rattle.lapin_rules.specs.Events.{confirm_marks};
+ghost use Rattle.lapin_rules.specs.Phases.{is_lost};
 ghost use Rattle.lapin_machine.specs.Returned.{given_back, after_ends};
 ghost use Rattle.lapin_machine.specs.World.{World, told_by, next, new_world, with_returned};
 
@@ -64,7 +64,7 @@ impl Session {
     /// No confirm is lost: on a channel without a live opening, and on every channel once the connection is not open, each
     /// publish that was accepted has its outcome.
     pub fn no_confirm_is_lost(&self)
-        ensures { (c : ℕ) → is_live_on self.now.wire.link (at_channel c self.now.wire.phases) ≡ false → list_any (is_open_on c) self.now.post.book.cells ≡ false }
+        ensures { (c : ℕ) → is_live_on self.now.wire.link (at_channel c self.now.wire.phases) ≡ false → list_any (is_open_on c) self.now.confirm_state.publish_states.cells ≡ false }
     {
         let _link = self.link;
     }

@@ -3,16 +3,16 @@
 ghost use Rattle.std.specs.Prelude.{◌≡◌, ◌⊎◌, true, false, OnOk, OnErr, IfOk, IfSome, IfNone, is_some, not};
 ghost use Rattle.lapin_types.specs.declared.event.Event.TheVariants as event;
 ghost use Rattle.lapin_types.specs.declared.record.Record.TheVariants as record_;
-ghost use Rattle.lapin_history.specs.Polls.{is_waited_on};
+ghost use Rattle.lapin_rules.specs.Polls.{is_waited_on};
 ghost use Rattle.lapin_confirm.specs.Answers.{result_of};
 ghost use Rattle.lapin_confirm.specs.Aside.{is_giving};
-ghost use Rattle.lapin_confirm.specs.Post.{message_of};
+ghost use Rattle.lapin_confirm.specs.ConfirmState.{message_of};
 ghost use Rattle.lapin_machine.specs.World.{told_by, next, readings_of, aside_record as aside_record_lem};
 ghost use Rattle.lapin_machine.specs.Told.{AsideTold, wait_told, ticket_record as ticket_record_lem, confirm_record as confirm_record_lem, is_pending_record};
 ghost use Rattle.lapin_machine.specs.Numbers.{HasCause, HasNumbers, OnlyMemory};
 
 use crate::session::Session;
-use lapin_history::Outcome;
+use lapin_rules::Outcome;
 use lapin_types::{Answer, Confirmation, Error, NoMemory, Poll, Record, ReturnedList};
 use std::alloc::Global;
 
@@ -25,7 +25,7 @@ impl Session {
         ensures told { ticket_record_lem result ≡ told_by self.old (event.PollTicket number) }
         ensures ok { self.new ≡ next self.old (event.PollTicket number) }
     {
-        match self.desk.tickets.take(number) {
+        match self.outstanding.tickets.take(number) {
             Ok(Some(answer)) => Ok(Poll::Ready(answer.into_answer())),
             Ok(None) => Ok(Poll::Pending),
             Err(error) => Err(error),
@@ -55,7 +55,7 @@ impl Session {
         ensures told { IfSome result (λ o. told_by self.old (event.PollConfirm number) ≡ record_.Confirmed (result_of o)) }
         ensures ok { IfSome result (λ _. self.new ≡ next self.old (event.PollConfirm number)) }
         ensures none { IfNone result (self.new ≡ self.old) }
-        ensures only { IfNone result ((is_giving number self.old.post ≡ false) ⊎ (is_some (message_of number self.old.post) ≡ true)) }
+        ensures only { IfNone result ((is_giving number self.old.confirm_state ≡ false) ⊎ (is_some (message_of number self.old.confirm_state) ≡ true)) }
     {
         self.confirms.take_bare(number)
     }
@@ -70,7 +70,7 @@ impl Session {
         ensures ok { self.new ≡ next self.old (event.AsideTicket number) }
         ensures err { OnErr result (self.new ≡ self.old) }
     {
-        self.desk.tickets.set_aside(number)
+        self.outstanding.tickets.set_aside(number)
     }
 
     /// Sets a confirm aside: its outcome, there or to come, is asked for no more. The message that it took, now or later, is given by
@@ -115,19 +115,19 @@ impl Session {
 
     // Whether there is something to wait for on a channel.
     fn is_waited_on(&self, channel: u16) -> bool
-        ensures { result ≡ is_waited_on channel self.now.wire (readings_of self.now.post self.now.slots) }
+        ensures { result ≡ is_waited_on channel self.now.wire (readings_of self.now.confirm_state self.now.slots) }
     {
         self.confirms.asked(channel)
             && (self.confirms.queued(channel) > 0
                 || self.confirms.pending(channel) > 0
-                || self.desk.outbox.is_amid(channel))
+                || self.outstanding.outbox.is_amid(channel))
     }
 
     /// Whether a poll of the ticket would not be pending.
     pub fn ticket_ready(&self, number: u64) -> bool
         ensures { result ≡ not (is_pending_record (told_by self.now (event.PollTicket number))) }
     {
-        self.desk.tickets.ready(number)
+        self.outstanding.tickets.ready(number)
     }
 
     /// Whether a poll of the confirm would not be pending.

@@ -6,38 +6,38 @@ ghost use Rattle.lapin_tables.specs.ByChannel.{at_channel};
 ghost use Rattle.lapin_types.specs.declared.event.Event.TheVariants as event;
 ghost use Rattle.lapin_types.specs.Types.error;
 ghost use Rattle.lapin_types.specs.declared.record.Record.TheVariants.{Received, Passed, Refused};
-ghost use Rattle.lapin_confirm.specs.Book.{single_of, multiple_of, selected_on};
-ghost use Rattle.lapin_history.specs.declared.broker_frames.Incoming.{Incoming as AnIncoming};
-ghost use Rattle.lapin_history.specs.declared.broker_frames.Incoming.TheVariants.{Reply as ReplyFrame, Settlement as SettlementFrame, Flow as FlowFrame};
-ghost use Rattle.lapin_history.specs.Words.{is_some};
-ghost use Rattle.lapin_history.specs.Phases.{is_up};
-ghost use Rattle.lapin_history.specs.Unexpected.{refused};
+ghost use Rattle.lapin_confirm.specs.PublishStates.{single_of, multiple_of, selected_on};
+ghost use Rattle.lapin_rules.specs.declared.broker_frames.Incoming.{Incoming as AnIncoming};
+ghost use Rattle.lapin_rules.specs.declared.broker_frames.Incoming.TheVariants.{Reply as ReplyFrame, Settlement as SettlementFrame, Flow as FlowFrame};
+ghost use Rattle.lapin_rules.specs.Words.{is_some};
+ghost use Rattle.lapin_rules.specs.Phases.{is_up};
+ghost use Rattle.lapin_rules.specs.Unexpected.{refused};
 ghost use Rattle.std.specs.List.{fold};
-ghost use Rattle.lapin_inbox.specs.Held.{what};
-ghost use Rattle.lapin_inbox.specs.Inbox.{after_mark as after_inbox_mark};
-ghost use Rattle.lapin_history.specs.Receiving.{incoming_up, when};
-ghost use Rattle.lapin_history.specs.Registry.{request_inbox};
-ghost use Rattle.lapin_history.specs.Requests.{first_request};
+ghost use Rattle.lapin_delivery.specs.WithRoom.{what};
+ghost use Rattle.lapin_delivery.specs.Deliveries.{after_mark as after_deliveries_mark};
+ghost use Rattle.lapin_rules.specs.Receiving.{incoming_up, when};
+ghost use Rattle.lapin_rules.specs.Registry.{request_deliveries};
+ghost use Rattle.lapin_rules.specs.Requests.{first_request};
 ghost use Rattle.lapin_outbox.specs.Open.{requests_at};
-ghost use Rattle.lapin_history.specs.Wire.{state_of, receives_on as receives_on_lem};
-ghost use Rattle.lapin_history.specs.Reply.{receives_reply};
-ghost use Rattle.lapin_history.specs.ConnectionClose.{receives_down as receives_down_lem};
-ghost use Rattle.lapin_history.specs.Opening.{phases_with};
+ghost use Rattle.lapin_rules.specs.Wire.{state_of, receives_on as receives_on_lem};
+ghost use Rattle.lapin_rules.specs.Reply.{receives_reply};
+ghost use Rattle.lapin_rules.specs.ConnectionClose.{receives_down as receives_down_lem};
+ghost use Rattle.lapin_rules.specs.Opening.{phases_with};
 ghost use Rattle.lapin_machine.specs.World.{told_by, next, receiving, readings_of, settlement_told};
 ghost use Rattle.lapin_machine.specs.Told.{HeardTold, WasHeard};
 ghost use Rattle.lapin_machine.specs.Numbers.{HasCause, HasNumbers, ReceiveCause};
-ghost use Rattle.lapin_history.specs.Incoming.{incoming_of};
+ghost use Rattle.lapin_rules.specs.Incoming.{incoming_of};
 
 use crate::channel::Heard;
 use crate::closing::{begin_close, go_down};
 use crate::receiving_consumers::answer_first;
 use crate::session::{Session, is_open, no_replies};
-use lapin_history::{
+use lapin_rules::{
     ChannelPhase, Closer, ConnectionPhase, Incoming, SettleKind, Settlement, class_of, method_of,
     opens, receives_close, receives_close_ok, receives_down, receives_on, session_close,
     sort_frame, unexpected_close,
 };
-use lapin_inbox::Inbox;
+use lapin_delivery::Deliveries;
 use lapin_outbox::Replies;
 use lapin_phases::Phases;
 use lapin_ticket::Place;
@@ -86,8 +86,8 @@ impl Session {
         incoming: Incoming,
     ) -> Result<Heard, Error>
         requires { is_up self.old.wire.link ≡ true }
-        ensures told { HeardTold result (incoming_up self.old.wire (readings_of self.old.post self.old.slots) (refused class number) incoming) }
-        ensures ok { WasHeard result (self.new ≡ receiving incoming (incoming_up self.old.wire (readings_of self.old.post self.old.slots) (refused class number) incoming) self.old) (self.new ≡ self.old) }
+        ensures told { HeardTold result (incoming_up self.old.wire (readings_of self.old.confirm_state self.old.slots) (refused class number) incoming) }
+        ensures ok { WasHeard result (self.new ≡ receiving incoming (incoming_up self.old.wire (readings_of self.old.confirm_state self.old.slots) (refused class number) incoming) self.old) (self.new ≡ self.old) }
         ensures cause { ReceiveCause result incoming self.old.wire }
     {
         match incoming {
@@ -160,8 +160,8 @@ impl Session {
         ensures ok { WasHeard result ((i : AnIncoming) → self.new ≡ receiving i (refused class number) self.old) (self.new ≡ self.old) }
         ensures numbers { HasNumbers result }
     {
-        self.desk.outbox.reserve(alloc)?;
-        self.inbox.reserve_ends(alloc)?;
+        self.outstanding.outbox.reserve(alloc)?;
+        self.deliveries.reserve_ends(alloc)?;
         let method = unexpected_close(alloc, class, number)?;
         let replies = no_replies(alloc);
         let to = ConnectionPhase::Closing {
@@ -173,15 +173,15 @@ impl Session {
             alloc,
             &mut self.link,
             &mut self.phases,
-            &mut self.desk,
+            &mut self.outstanding,
             &mut self.confirms,
             &mut self.contents,
-            &mut self.inbox,
+            &mut self.deliveries,
             replies,
             to,
             error,
         );
-        self.desk.queue_own(alloc, 0, method);
+        self.outstanding.queue_own(alloc, 0, method);
         Err(Error::UnexpectedFrame {
             class,
             method: number,
@@ -230,8 +230,8 @@ impl Session {
             return Err(Error::NoMemory);
         };
         let completed = complete_first(
-            &mut self.inbox,
-            &self.desk.replies,
+            &mut self.deliveries,
+            &self.outstanding.replies,
             alloc,
             channel,
             kind,
@@ -242,7 +242,7 @@ impl Session {
             return Err(Error::NoMemory);
         }
         phase_replied(&mut self.phases, channel, kind);
-        answer_first(&mut self.desk, channel, kind, answer, place);
+        answer_first(&mut self.outstanding, channel, kind, answer, place);
         Ok(Heard::Received)
     }
 
@@ -255,11 +255,11 @@ impl Session {
         if !is_open(self.channel_state(channel)) {
             return Ok(Heard::Received);
         }
-        self.desk.outbox.reserve(alloc)?;
+        self.outstanding.outbox.reserve(alloc)?;
         self.phases
             .set(channel, ChannelPhase::Open { paused: !active });
         let method = Method::Channel(ChannelMethod::FlowOk { active });
-        self.desk.queue_own(alloc, channel, method);
+        self.outstanding.queue_own(alloc, channel, method);
         Ok(Heard::Received)
     }
 
@@ -304,7 +304,7 @@ impl Session {
         kind: SettleKind,
         tag: u64,
     ) -> Result<Heard, Error>
-        requires { selected_on channel self.old.post.book ≡ true }
+        requires { selected_on channel self.old.confirm_state.publish_states ≡ true }
         ensures told { HeardTold result (settlement_told channel (single_of kind tag) self.old) }
         ensures ok { WasHeard result (self.new ≡ receiving (SettlementFrame channel (single_of kind tag)) (settlement_told channel (single_of kind tag) self.old) self.old) (self.new ≡ self.old) }
         ensures numbers { HasNumbers result }
@@ -332,15 +332,15 @@ impl Session {
             return Ok(());
         }
         let method = session_close(alloc, kind)?;
-        self.desk.outbox.reserve(alloc)?;
+        self.outstanding.outbox.reserve(alloc)?;
         begin_close(
             &mut self.phases,
-            &mut self.desk,
+            &mut self.outstanding,
             &mut self.confirms,
             channel,
             Closer::Session,
         );
-        self.desk.queue_own(alloc, channel, method);
+        self.outstanding.queue_own(alloc, channel, method);
         Ok(())
     }
 
@@ -362,18 +362,18 @@ impl Session {
 
 // The oldest request of a kind on a channel is completed with an answer: what it declared is recorded.
 fn complete_first(
-    inbox: &mut Inbox,
+    deliveries: &mut Deliveries,
     replies: &Replies,
     alloc: Global,
     channel: u16,
     kind: ReplyKind,
     answer: &Answer,
 ) -> Result<(), NoMemory>
-    ensures ok { OnOk result (what inbox.new ≡ fold after_inbox_mark (what inbox.old) (request_inbox channel answer.now (first_request kind (requests_at channel replies.now.what)))) }
-    ensures err { OnErr result (what inbox.new ≡ what inbox.old) }
+    ensures ok { OnOk result (what deliveries.new ≡ fold after_deliveries_mark (what deliveries.old) (request_deliveries channel answer.now (first_request kind (requests_at channel replies.now.what)))) }
+    ensures err { OnErr result (what deliveries.new ≡ what deliveries.old) }
 {
     match replies.first(channel, kind) {
-        Some(request) => inbox.complete(alloc, channel, &request.reply, answer),
+        Some(request) => deliveries.complete(alloc, channel, &request.reply, answer),
         None => Ok(()),
     }
 }

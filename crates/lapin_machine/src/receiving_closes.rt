@@ -1,22 +1,22 @@
 //! Closes of the broker and its answers to closes of this side, on a channel and on the connection.
 //!
-//! The session comes here once it knows that the frame is received. What an end drops and resolves stands in `lapin_desk`.
+//! The session comes here once it knows that the frame is received. What an end drops and resolves stands in `lapin_outstanding`.
 
 ghost use Rattle.std.specs.Prelude.{◌≡◌, ◌<◌, true, false, Some, None, if◌then◌else◌};
 ghost use Rattle.lapin_tables.specs.ByChannel.{on_channel};
 ghost use Rattle.lapin_types.specs.declared.record.Record.TheVariants.{Received};
-ghost use Rattle.lapin_history.specs.declared.broker_frames.Incoming.TheVariants.{ChannelClose as ChannelCloseFrame, ChannelCloseOk as ChannelCloseOkFrame, ConnectionClose as ConnectionCloseFrame, ConnectionCloseOk as ConnectionCloseOkFrame};
-ghost use Rattle.lapin_history.specs.Ends.{cancels_at};
+ghost use Rattle.lapin_rules.specs.declared.broker_frames.Incoming.TheVariants.{ChannelClose as ChannelCloseFrame, ChannelCloseOk as ChannelCloseOkFrame, ConnectionClose as ConnectionCloseFrame, ConnectionCloseOk as ConnectionCloseOkFrame};
+ghost use Rattle.lapin_rules.specs.Ends.{cancels_at};
 ghost use Rattle.lapin_types.specs.declared.request.ReplyKind.TheVariants.{ChannelCloseOk as ChannelCloseOkKind};
-ghost use Rattle.lapin_history.specs.Requests.{first_request, without_kind, no_requests, ticket_of as ticket_of_lem};
-ghost use Rattle.lapin_history.specs.Phases.{is_up};
-ghost use Rattle.lapin_history.specs.ChannelClose.{has_sent_close as has_sent_close_lem};
-ghost use Rattle.lapin_history.specs.Wire.{state_of, phase_of};
-ghost use Rattle.lapin_history.specs.ChannelClose.{receives_close as receives_close_lem, receives_close_ok as receives_close_ok_lem};
-ghost use Rattle.lapin_history.specs.ConnectionClose.{has_sent};
-ghost use Rattle.lapin_history.specs.ChannelClose.{close_ok_end as close_ok_end_lem};
+ghost use Rattle.lapin_rules.specs.Requests.{first_request, without_kind, no_requests, ticket_of as ticket_of_lem};
+ghost use Rattle.lapin_rules.specs.Phases.{is_up};
+ghost use Rattle.lapin_rules.specs.ChannelClose.{has_sent_close as has_sent_close_lem};
+ghost use Rattle.lapin_rules.specs.Wire.{state_of, phase_of};
+ghost use Rattle.lapin_rules.specs.ChannelClose.{receives_close as receives_close_lem, receives_close_ok as receives_close_ok_lem};
+ghost use Rattle.lapin_rules.specs.ConnectionClose.{has_sent};
+ghost use Rattle.lapin_rules.specs.ChannelClose.{close_ok_end as close_ok_end_lem};
 ghost use Rattle.lapin_outbox.specs.Open.{requests_at, spare_on, KeepsRoom};
-ghost use Rattle.lapin_desk.specs.Ended.{emptied_outbox};
+ghost use Rattle.lapin_outstanding.specs.Ended.{emptied_outbox};
 ghost use Rattle.lapin_machine.specs.Kept.{kept_request, with_kept, is_close_sent as is_close_sent_lem};
 ghost use Rattle.lapin_machine.specs.World.{receiving};
 ghost use Rattle.lapin_machine.specs.Told.{HeardTold, WasHeard};
@@ -25,8 +25,8 @@ ghost use Rattle.lapin_machine.specs.Numbers.{HasNumbers};
 use crate::channel::Heard;
 use crate::closing::go_down;
 use crate::session::Session;
-use lapin_desk::Desk;
-use lapin_history::{
+use lapin_outstanding::Outstanding;
+use lapin_rules::{
     ChannelPhase, ConnectionPhase, after_broker_close, close_ok_end, consumers_end, has_sent_close,
 };
 use lapin_outbox::Replies;
@@ -47,18 +47,18 @@ impl Session {
         ensures numbers { HasNumbers result }
     {
         let phase = self.phase(channel);
-        self.desk.outbox.reserve(alloc)?;
-        self.desk.replies.reserve(alloc, channel)?;
+        self.outstanding.outbox.reserve(alloc)?;
+        self.outstanding.replies.reserve(alloc, channel)?;
         let error = Error::ProtocolError(code);
-        self.inbox.end_channel(alloc, channel, Some(error))?;
-        let close = kept_close(&mut self.desk.replies, channel, phase);
+        self.deliveries.end_channel(alloc, channel, Some(error))?;
+        let close = kept_close(&mut self.outstanding.replies, channel, phase);
         let kept = ticket_of(&close);
-        self.desk
+        self.outstanding
             .end_opening(&mut self.confirms, channel, kept, error);
         self.contents.drop_channel(channel);
         self.phases.set(channel, after_broker_close(phase));
-        keep(&mut self.desk.replies, alloc, channel, close);
-        self.desk
+        keep(&mut self.outstanding.replies, alloc, channel, close);
+        self.outstanding
             .queue_own(alloc, channel, Method::Channel(ChannelMethod::CloseOk));
         Ok(Heard::Received)
     }
@@ -93,10 +93,10 @@ impl Session {
         ensures numbers { HasNumbers result }
     {
         let due = consumers_end(self.phase(channel));
-        self.inbox.end_channel(alloc, channel, due)?;
-        let close = take_close(&mut self.desk.replies, channel);
-        self.desk.done(into_ticket(close));
-        self.desk
+        self.deliveries.end_channel(alloc, channel, due)?;
+        let close = take_close(&mut self.outstanding.replies, channel);
+        self.outstanding.done(into_ticket(close));
+        self.outstanding
             .end_opening(&mut self.confirms, channel, None, error);
         self.contents.drop_channel(channel);
         self.phases.set(channel, ChannelPhase::Closed);
@@ -109,9 +109,9 @@ impl Session {
         requires end { close_ok_end_lem (phase_of channel self.old.wire) ≡ None }
         ensures { self.new ≡ receiving (ChannelCloseOkFrame channel) Received self.old }
     {
-        let close = take_request(&mut self.desk.replies, channel, ReplyKind::ChannelCloseOk);
+        let close = take_request(&mut self.outstanding.replies, channel, ReplyKind::ChannelCloseOk);
         self.phases.set(channel, ChannelPhase::Closed);
-        self.desk.done(into_ticket(close));
+        self.outstanding.done(into_ticket(close));
     }
 
     // The broker closes the connection, which is open, or which this side is closing: close-ok is queued. Where this side's close
@@ -125,31 +125,31 @@ impl Session {
         ensures ok { WasHeard result (self.new ≡ receiving (ConnectionCloseFrame code) Received self.old) (self.new ≡ self.old) }
         ensures numbers { HasNumbers result }
     {
-        self.desk.outbox.reserve(alloc)?;
+        self.outstanding.outbox.reserve(alloc)?;
         if is_close_sent(self.link) {
             self.link = ConnectionPhase::Closing {
                 sent: true,
                 received: true,
             };
-            self.desk
+            self.outstanding
                 .queue_own(alloc, 0, Method::Connection(ConnectionMethod::CloseOk));
             return Ok(Heard::Received);
         }
         let replies = Replies::new(alloc)?;
-        self.inbox.reserve_ends(alloc)?;
+        self.deliveries.reserve_ends(alloc)?;
         go_down(
             alloc,
             &mut self.link,
             &mut self.phases,
-            &mut self.desk,
+            &mut self.outstanding,
             &mut self.confirms,
             &mut self.contents,
-            &mut self.inbox,
+            &mut self.deliveries,
             replies,
             ConnectionPhase::Closed,
             Error::ProtocolError(code),
         );
-        self.desk
+        self.outstanding
             .queue_own(alloc, 0, Method::Connection(ConnectionMethod::CloseOk));
         Ok(Heard::Received)
     }
@@ -160,10 +160,10 @@ impl Session {
         requires { is_up self.old.wire.link ≡ false }
         ensures { self.new ≡ receiving ConnectionCloseOkFrame Received self.old }
     {
-        let close = take_request(&mut self.desk.replies, 0, ReplyKind::ConnectionCloseOk);
-        drop_unsent(self.link, &mut self.desk);
+        let close = take_request(&mut self.outstanding.replies, 0, ReplyKind::ConnectionCloseOk);
+        drop_unsent(self.link, &mut self.outstanding);
         self.link = ConnectionPhase::Closed;
-        self.desk.done(into_ticket(close));
+        self.outstanding.done(into_ticket(close));
     }
 }
 
@@ -210,13 +210,13 @@ fn take_request(replies: &mut Replies, channel: u16, kind: ReplyKind) -> Option<
 }
 
 // A close of the connection that has not left is dropped; it is then all that waits.
-fn drop_unsent(link: ConnectionPhase, desk: &mut Desk)
-    ensures outbox { desk.new.outbox.what ≡ (if has_sent link then desk.old.outbox.what else emptied_outbox desk.old.outbox.what) }
-    ensures requests { desk.new.replies ≡ desk.old.replies }
-    ensures tickets { desk.new.tickets ≡ desk.old.tickets }
+fn drop_unsent(link: ConnectionPhase, outstanding: &mut Outstanding)
+    ensures outbox { outstanding.new.outbox.what ≡ (if has_sent link then outstanding.old.outbox.what else emptied_outbox outstanding.old.outbox.what) }
+    ensures requests { outstanding.new.replies ≡ outstanding.old.replies }
+    ensures tickets { outstanding.new.tickets ≡ outstanding.old.tickets }
 {
     if let ConnectionPhase::Closing { sent: false, .. } = link {
-        desk.drop_waiting();
+        outstanding.drop_waiting();
     }
 }
 

@@ -5,26 +5,26 @@
 ghost use Rattle.std.specs.Prelude.{◌≡◌, true, false, [], IfOk};
 ghost use Rattle.std.specs.List.{fold};
 ghost use Rattle.lapin_types.specs.declared.record.Record.TheVariants.{Received};
-ghost use Rattle.lapin_history.specs.declared.broker_frames.Incoming.TheVariants.{Consumer as ConsumerFrame};
-ghost use Rattle.lapin_history.specs.declared.broker_frames.ConsumerPart.TheVariants.{ConsumeOk, CancelOk, RecoverOk, Cancel};
-ghost use Rattle.lapin_history.specs.Consumers.{receives_consumer as receives_consumer_lem, queue_asked as queue_asked_lem, queue_in as queue_in_lem};
-ghost use Rattle.lapin_history.specs.Words.{is_some};
-ghost use Rattle.lapin_history.specs.Requests.{first_request, without_request};
+ghost use Rattle.lapin_rules.specs.declared.broker_frames.Incoming.TheVariants.{Consumer as ConsumerFrame};
+ghost use Rattle.lapin_rules.specs.declared.broker_frames.ConsumerPart.TheVariants.{ConsumeOk, CancelOk, RecoverOk, Cancel};
+ghost use Rattle.lapin_rules.specs.Consumers.{receives_consumer as receives_consumer_lem, queue_asked as queue_asked_lem, queue_in as queue_in_lem};
+ghost use Rattle.lapin_rules.specs.Words.{is_some};
+ghost use Rattle.lapin_rules.specs.Requests.{first_request, without_request};
 ghost use Rattle.lapin_outbox.specs.Open.{requests_at};
 ghost use Rattle.lapin_ticket.specs.Slots as answers;
-ghost use Rattle.lapin_history.specs.Reply.{receives_reply, reply_marks};
-ghost use Rattle.lapin_history.specs.Wire.{state_of, is_open as is_open_lem};
-ghost use Rattle.lapin_history.specs.Phases.{is_up};
-ghost use Rattle.lapin_history.specs.Unexpected.{refused};
-ghost use Rattle.lapin_history.specs.Receiving.{incoming_up};
+ghost use Rattle.lapin_rules.specs.Reply.{receives_reply, reply_marks};
+ghost use Rattle.lapin_rules.specs.Wire.{state_of, is_open as is_open_lem};
+ghost use Rattle.lapin_rules.specs.Phases.{is_up};
+ghost use Rattle.lapin_rules.specs.Unexpected.{refused};
+ghost use Rattle.lapin_rules.specs.Receiving.{incoming_up};
 ghost use Rattle.lapin_machine.specs.World.{receiving, readings_of};
 ghost use Rattle.lapin_machine.specs.Told.{HeardTold, WasHeard};
 ghost use Rattle.lapin_machine.specs.Numbers.{HasNumbers, ReceiveCause};
 
 use crate::channel::Heard;
 use crate::session::{Session, is_open};
-use lapin_desk::Desk;
-use lapin_history::{ConsumerPart, receives, receives_on};
+use lapin_outstanding::Outstanding;
+use lapin_rules::{ConsumerPart, receives, receives_on};
 use lapin_ticket::Place;
 use lapin_types::{
     Answer, BasicConsumeOptions, BasicMethod, Error, Method, NoMemory, Reply, ReplyKind,
@@ -51,7 +51,7 @@ impl Session {
         ensures { result ≡ receives_reply channel kind self.now.wire }
     {
         receives(kind, self.channel_state(channel))
-            && self.desk.replies.first(channel, kind).is_some()
+            && self.outstanding.replies.first(channel, kind).is_some()
     }
 
     // What the broker says of consumers while the connection is open: it is received, or the connection is closed.
@@ -65,8 +65,8 @@ impl Session {
         part: ConsumerPart,
     ) -> Result<Heard, Error>
         requires { is_up self.old.wire.link ≡ true }
-        ensures told { HeardTold result (incoming_up self.old.wire (readings_of self.old.post self.old.slots) (refused class number) (ConsumerFrame channel part)) }
-        ensures ok { WasHeard result (self.new ≡ receiving (ConsumerFrame channel part) (incoming_up self.old.wire (readings_of self.old.post self.old.slots) (refused class number) (ConsumerFrame channel part)) self.old) (self.new ≡ self.old) }
+        ensures told { HeardTold result (incoming_up self.old.wire (readings_of self.old.confirm_state self.old.slots) (refused class number) (ConsumerFrame channel part)) }
+        ensures ok { WasHeard result (self.new ≡ receiving (ConsumerFrame channel part) (incoming_up self.old.wire (readings_of self.old.confirm_state self.old.slots) (refused class number) (ConsumerFrame channel part)) self.old) (self.new ≡ self.old) }
         ensures cause { ReceiveCause result (ConsumerFrame channel part) self.old.wire }
     {
         if self.receives_consumer(channel, &part) {
@@ -112,10 +112,10 @@ impl Session {
         let place = Place::new(alloc)?;
         let queue = self.queue_asked(alloc, channel)?;
         let options = BasicConsumeOptions::default();
-        let number = self.inbox.consume(alloc, channel, tag, queue, options)?;
+        let number = self.deliveries.consume(alloc, channel, tag, queue, options)?;
         let answer = Answer::Consumer(number);
         answer_first(
-            &mut self.desk,
+            &mut self.outstanding,
             channel,
             ReplyKind::BasicConsumeOk,
             answer,
@@ -137,9 +137,9 @@ impl Session {
         ensures numbers { HasNumbers result }
     {
         let place = Place::new(alloc)?;
-        self.inbox.cancel(alloc, channel, tag.as_str())?;
+        self.deliveries.cancel(alloc, channel, tag.as_str())?;
         answer_first(
-            &mut self.desk,
+            &mut self.outstanding,
             channel,
             ReplyKind::BasicCancelOk,
             Answer::Done,
@@ -156,9 +156,9 @@ impl Session {
         ensures numbers { HasNumbers result }
     {
         let place = Place::new(alloc)?;
-        self.inbox.discard(alloc, channel)?;
+        self.deliveries.discard(alloc, channel)?;
         answer_first(
-            &mut self.desk,
+            &mut self.outstanding,
             channel,
             ReplyKind::BasicRecoverOk,
             Answer::Done,
@@ -182,7 +182,7 @@ impl Session {
         if is_open(self.channel_state(channel)) && !nowait {
             return self.answer_cancel(alloc, channel, tag);
         }
-        self.inbox.cancel(alloc, channel, tag.as_str())?;
+        self.deliveries.cancel(alloc, channel, tag.as_str())?;
         Ok(Heard::Received)
     }
 
@@ -198,10 +198,10 @@ impl Session {
         ensures ok { WasHeard result (self.new ≡ receiving (ConsumerFrame channel (Cancel tag false)) Received self.old) (self.new ≡ self.old) }
         ensures numbers { HasNumbers result }
     {
-        self.desk.outbox.reserve(alloc)?;
-        self.inbox.cancel(alloc, channel, tag.as_str())?;
+        self.outstanding.outbox.reserve(alloc)?;
+        self.deliveries.cancel(alloc, channel, tag.as_str())?;
         let method = Method::Basic(BasicMethod::CancelOk { consumer_tag: tag });
-        self.desk.queue_own(alloc, channel, method);
+        self.outstanding.queue_own(alloc, channel, method);
         Ok(Heard::Received)
     }
 
@@ -209,7 +209,7 @@ impl Session {
     fn queue_asked(&self, alloc: Global, channel: u16) -> Result<ShortString, NoMemory>
         ensures { IfOk result (λ queue. queue ≡ queue_asked_lem channel self.now.wire) }
     {
-        match self.desk.replies.first(channel, ReplyKind::BasicConsumeOk) {
+        match self.outstanding.replies.first(channel, ReplyKind::BasicConsumeOk) {
             Some(request) => queue_in(alloc, &request.reply),
             None => no_text(alloc),
         }
@@ -239,19 +239,19 @@ pub(crate) fn no_text(alloc: Global) -> Result<ShortString, NoMemory>
 // The oldest request of a kind on a channel is taken, and its ticket answered, if somebody holds it, in the room that was made for
 // the answer.
 pub(crate) fn answer_first(
-    desk: &mut Desk,
+    outstanding: &mut Outstanding,
     channel: u16,
     kind: ReplyKind,
     answer: Answer,
     place: Place,
 )
-    requires { is_some (first_request kind (requests_at channel desk.old.replies.what)) ≡ true }
-    ensures requests { desk.new.replies.what ≡ without_request channel kind desk.old.replies.what }
-    ensures slots { desk.new.tickets.slots ≡ fold answers.after_mark desk.old.tickets.slots (reply_marks answer (first_request kind (requests_at channel desk.old.replies.what))) }
-    ensures outbox { desk.new.outbox ≡ desk.old.outbox }
+    requires { is_some (first_request kind (requests_at channel outstanding.old.replies.what)) ≡ true }
+    ensures requests { outstanding.new.replies.what ≡ without_request channel kind outstanding.old.replies.what }
+    ensures slots { outstanding.new.tickets.slots ≡ fold answers.after_mark outstanding.old.tickets.slots (reply_marks answer (first_request kind (requests_at channel outstanding.old.replies.what))) }
+    ensures outbox { outstanding.new.outbox ≡ outstanding.old.outbox }
 {
-    match desk.replies.take_first(channel, kind) {
-        Some(request) => desk.resolve(request.into_ticket(), answer, place),
+    match outstanding.replies.take_first(channel, kind) {
+        Some(request) => outstanding.resolve(request.into_ticket(), answer, place),
         None => drop(answer),
     }
 }

@@ -7,17 +7,17 @@ ghost use Rattle.std.specs.Prelude.{◌≡◌, ◌≢◌, ◌<◌, true, Some, l
 ghost use Rattle.std.specs.Bool.{Decides};
 ghost use Rattle.lapin_types.specs.declared.record.Record.TheVariants.{Received};
 ghost use Rattle.lapin_types.specs.declared.request.ReplyKind.TheVariants.{BasicGetOk};
-ghost use Rattle.lapin_history.specs.declared.broker_frames.Incoming.TheVariants.{Content};
-ghost use Rattle.lapin_history.specs.declared.broker_frames.ContentPart.TheVariants.{GetOk, Return, Deliver, Header, Body};
-ghost use Rattle.lapin_history.specs.Words.{is_some};
-ghost use Rattle.lapin_history.specs.Requests.{first_request};
-ghost use Rattle.lapin_history.specs.Wire.{requests_of};
-ghost use Rattle.lapin_history.specs.Content.{receives_part as receives_part_lem, get_ticket as get_ticket_lem};
+ghost use Rattle.lapin_rules.specs.declared.broker_frames.Incoming.TheVariants.{Content};
+ghost use Rattle.lapin_rules.specs.declared.broker_frames.ContentPart.TheVariants.{GetOk, Return, Deliver, Header, Body};
+ghost use Rattle.lapin_rules.specs.Words.{is_some};
+ghost use Rattle.lapin_rules.specs.Requests.{first_request};
+ghost use Rattle.lapin_rules.specs.Wire.{requests_of};
+ghost use Rattle.lapin_rules.specs.Content.{receives_part as receives_part_lem, get_ticket as get_ticket_lem};
 ghost use Rattle.lapin_content.specs.Contents.{awaited};
 ghost use Rattle.lapin_content.specs.Channels.{expected_on};
-ghost use Rattle.lapin_history.specs.Phases.{is_up};
-ghost use Rattle.lapin_history.specs.Unexpected.{refused};
-ghost use Rattle.lapin_history.specs.Receiving.{incoming_up};
+ghost use Rattle.lapin_rules.specs.Phases.{is_up};
+ghost use Rattle.lapin_rules.specs.Unexpected.{refused};
+ghost use Rattle.lapin_rules.specs.Receiving.{incoming_up};
 ghost use Rattle.lapin_machine.specs.World.{receiving, readings_of};
 ghost use Rattle.lapin_machine.specs.Told.{HeardTold, WasHeard};
 ghost use Rattle.lapin_machine.specs.Numbers.{HasNumbers, ReceiveCause};
@@ -26,7 +26,7 @@ use crate::channel::Heard;
 use crate::session::Session;
 use crate::whole::{complete, make_room};
 use lapin_content::Start;
-use lapin_history::{ContentPart, receives_on};
+use lapin_rules::{ContentPart, receives_on};
 use lapin_types::{ContentHeader, Error, Payload, ReplyKind, ShortString};
 use std::alloc::Global;
 
@@ -56,7 +56,7 @@ impl Session {
     fn has_get(&self, channel: u16) -> bool
         ensures { result ≡ is_some (first_request BasicGetOk (requests_of channel self.now.wire)) }
     {
-        match self.desk.replies.first(channel, ReplyKind::BasicGetOk) {
+        match self.outstanding.replies.first(channel, ReplyKind::BasicGetOk) {
             Some(_) => true,
             None => false,
         }
@@ -66,7 +66,7 @@ impl Session {
     fn get_ticket(&self, channel: u16) -> Option<u64>
         ensures { result ≡ get_ticket_lem channel self.now.wire }
     {
-        match self.desk.replies.first(channel, ReplyKind::BasicGetOk) {
+        match self.outstanding.replies.first(channel, ReplyKind::BasicGetOk) {
             Some(request) => request.ticket,
             None => None,
         }
@@ -83,8 +83,8 @@ impl Session {
         part: ContentPart,
     ) -> Result<Heard, Error>
         requires { is_up self.old.wire.link ≡ true }
-        ensures told { HeardTold result (incoming_up self.old.wire (readings_of self.old.post self.old.slots) (refused class number) (Content channel part)) }
-        ensures ok { WasHeard result (self.new ≡ receiving (Content channel part) (incoming_up self.old.wire (readings_of self.old.post self.old.slots) (refused class number) (Content channel part)) self.old) (self.new ≡ self.old) }
+        ensures told { HeardTold result (incoming_up self.old.wire (readings_of self.old.confirm_state self.old.slots) (refused class number) (Content channel part)) }
+        ensures ok { WasHeard result (self.new ≡ receiving (Content channel part) (incoming_up self.old.wire (readings_of self.old.confirm_state self.old.slots) (refused class number) (Content channel part)) self.old) (self.new ≡ self.old) }
         ensures cause { ReceiveCause result (Content channel part) self.old.wire }
     {
         if self.receives_part(channel, &part) {
@@ -126,7 +126,7 @@ impl Session {
     {
         let start = start.for_ticket(self.get_ticket(channel));
         self.contents.expect(alloc, channel, BASIC_CLASS, start)?;
-        let request = self.desk.replies.take_first(channel, ReplyKind::BasicGetOk);
+        let request = self.outstanding.replies.take_first(channel, ReplyKind::BasicGetOk);
         drop(request);
         Ok(Heard::Received)
     }
@@ -155,7 +155,7 @@ impl Session {
         ensures ok { WasHeard result (self.new ≡ receiving (Content channel (Deliver tag start)) Received self.old) (self.new ≡ self.old) }
         ensures numbers { HasNumbers result }
     {
-        let start = start.for_consumer(self.inbox.find(channel, tag.as_str()));
+        let start = start.for_consumer(self.deliveries.find(channel, tag.as_str()));
         self.contents.expect(alloc, channel, BASIC_CLASS, start)?;
         Ok(Heard::Received)
     }
@@ -206,7 +206,7 @@ impl Session {
             alloc,
             &self.contents,
             &mut self.confirms,
-            &mut self.inbox,
+            &mut self.deliveries,
             channel,
         );
         let place = match made {
@@ -220,9 +220,9 @@ impl Session {
             Ok(Some(whole)) => {
                 complete(
                     alloc,
-                    &mut self.desk,
+                    &mut self.outstanding,
                     &mut self.confirms,
-                    &mut self.inbox,
+                    &mut self.deliveries,
                     channel,
                     whole,
                     place,
@@ -304,7 +304,7 @@ impl Session {
             alloc,
             &self.contents,
             &mut self.confirms,
-            &mut self.inbox,
+            &mut self.deliveries,
             channel,
         );
         let place = match made {
@@ -318,9 +318,9 @@ impl Session {
             Ok(Some(whole)) => {
                 complete(
                     alloc,
-                    &mut self.desk,
+                    &mut self.outstanding,
                     &mut self.confirms,
-                    &mut self.inbox,
+                    &mut self.deliveries,
                     channel,
                     whole,
                     place,

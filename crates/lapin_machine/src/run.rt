@@ -1,7 +1,7 @@
 //! A whole run: a new session, and the record of each event.
 
 ghost use Rattle.std.specs.Prelude.{◌≡◌, ◌≤◌, ◌++◌, OnOk, OnErr, length};
-ghost use Rattle.lapin_history.specs.History.{run};
+ghost use Rattle.lapin_rules.specs.History.{run};
 ghost use Rattle.lapin_machine.specs.World.{outputs};
 ghost use Rattle.lapin_machine.specs.Growing.{IsStarted};
 ghost use Rattle.lapin_machine.specs.Numbers.{HasNumbersFor};

@@ -3,29 +3,29 @@
 ghost use Rattle.std.specs.Prelude.{◌≡◌, ◌&&◌, ℕ, true, false, Option, Some, None, IfOk, OnOk, OnErr};
 ghost use Rattle.std.specs.List.{fold, list_any};
 ghost use Rattle.lapin_types.specs.declared.event.Event.TheVariants as event;
-ghost use Rattle.lapin_history.specs.Handing.{handed, handed_out};
-ghost use Rattle.lapin_history.specs.Flow.{is_flowing, unless_full};
-ghost use Rattle.lapin_history.specs.ConnectionClose.{link_sent};
-ghost use Rattle.lapin_history.specs.ChannelClose.{phases_sent};
-ghost use Rattle.lapin_history.specs.Handing.{frame_record as frame_record_lem};
-ghost use Rattle.lapin_history.specs.Handing.{left_marks, frame_marks};
-ghost use Rattle.lapin_confirm.specs.Machine as post;
+ghost use Rattle.lapin_rules.specs.Handing.{handed, handed_out};
+ghost use Rattle.lapin_rules.specs.Flow.{is_flowing, unless_full};
+ghost use Rattle.lapin_rules.specs.ConnectionClose.{link_sent};
+ghost use Rattle.lapin_rules.specs.ChannelClose.{phases_sent};
+ghost use Rattle.lapin_rules.specs.Handing.{frame_record as frame_record_lem};
+ghost use Rattle.lapin_rules.specs.Handing.{left_marks, frame_marks};
+ghost use Rattle.lapin_confirm.specs.Machine as confirm_state;
 ghost use Rattle.lapin_tables.specs.ByChannel.{on_channel};
-ghost use Rattle.lapin_history.specs.ChannelClose.{close_sent as close_sent_lem};
-ghost use Rattle.lapin_history.specs.Phases.{is_up, is_lost};
-ghost use Rattle.lapin_history.specs.History.{History};
+ghost use Rattle.lapin_rules.specs.ChannelClose.{close_sent as close_sent_lem};
+ghost use Rattle.lapin_rules.specs.Phases.{is_up, is_lost};
+ghost use Rattle.lapin_rules.specs.History.{History};
 ghost use Rattle.lapin_types.specs.declared.leaving.Left.{Left as ALeft};
 ghost use Rattle.lapin_outbox.specs.Returned.{is_retried, given};
 ghost use Rattle.lapin_machine.specs.Stands.{Stands};
-ghost use Rattle.lapin_history.specs.Wire.{is_closing as is_closing_lem};
-ghost use Rattle.lapin_history.specs.Phases.{channel_state};
+ghost use Rattle.lapin_rules.specs.Wire.{is_closing as is_closing_lem};
+ghost use Rattle.lapin_rules.specs.Phases.{channel_state};
 ghost use Rattle.lapin_machine.specs.World.{told_by, next, next_anew, full_in, handing, with_returned};
 ghost use Rattle.lapin_machine.specs.Numbers.{HasCause, OnlyMemory};
 ghost use Rattle.lapin_machine.specs.Tied.{CanRegister};
 
 use crate::session::Session;
 use lapin_confirm::Confirms;
-use lapin_history::{ChannelPhase, ConnectionPhase, close_sent, link_close_sent};
+use lapin_rules::{ChannelPhase, ConnectionPhase, close_sent, link_close_sent};
 use lapin_phases::Phases;
 use lapin_types::{
     ChannelMethod, ConfirmMethod, ConnectionMethod, Error, Frame, Left, Method, NoMemory, Record,
@@ -41,7 +41,7 @@ impl Session {
     /// # Errors
     /// `NoMemory` alone. Nothing changes then.
     pub fn next_frame(&mut self, alloc: Global, flow: bool) -> Result<Option<Left>, Error>
-        ensures told { IfOk result (λ left. left ≡ given self.old.returned (handed flow (full_in self.old.post) self.old.wire)) }
+        ensures told { IfOk result (λ left. left ≡ given self.old.returned (handed flow (full_in self.old.confirm_state) self.old.wire)) }
         ensures ok { OnOk result (self.new ≡ next self.old (event.Next flow)) }
         ensures err { OnErr result (self.new ≡ self.old) }
         ensures cause { OnlyMemory result }
@@ -64,14 +64,14 @@ impl Session {
         // The session stands for what it stood for.
         ensures stands { (frame_max : ℕ) (h : History) → Stands frame_max h self.old → Stands frame_max h self.new }
     {
-        self.desk.outbox.retry(left);
+        self.outstanding.outbox.retry(left);
     }
 
     /// Whether a frame is given back that no frame request has handed out again and no end has taken away.
     pub fn retrying(&self) -> bool
         ensures { result ≡ is_retried self.now.returned }
     {
-        self.desk.outbox.retrying()
+        self.outstanding.outbox.retrying()
     }
 
     // Hands out the frame that was given back once more. It has left before, so nothing goes by it.
@@ -82,13 +82,13 @@ impl Session {
         ensures err { OnErr result (self.new ≡ self.old) }
         ensures cause { OnlyMemory result }
     {
-        Ok(self.desk.outbox.pop(alloc, false, &[])?)
+        Ok(self.outstanding.outbox.pop(alloc, false, &[])?)
     }
 
     // Hands out the next frame, where none was given back.
     fn hand_next(&mut self, alloc: Global, flow: bool) -> Result<Option<Left>, Error>
         requires { is_retried self.old.returned ≡ false }
-        ensures told { IfOk result (λ left. left ≡ handed flow (full_in self.old.post) self.old.wire) }
+        ensures told { IfOk result (λ left. left ≡ handed flow (full_in self.old.confirm_state) self.old.wire) }
         ensures ok { OnOk result (self.new ≡ next_anew self.old (event.Next flow)) }
         ensures err { OnErr result (self.new ≡ self.old) }
         ensures cause { OnlyMemory result }
@@ -108,18 +108,18 @@ impl Session {
     // outbox handed it out: taken apart it would be moved once more.
     fn hand_out(&mut self, alloc: Global, flowing: bool) -> Result<Option<Left>, Error>
         requires { is_retried self.old.returned ≡ false }
-        ensures told { IfOk result (λ left. left ≡ handed_out (unless_full flowing (full_in self.old.post)) self.old.wire) }
-        ensures ok { OnOk result (self.new ≡ handing (unless_full flowing (full_in self.old.post)) self.old) }
+        ensures told { IfOk result (λ left. left ≡ handed_out (unless_full flowing (full_in self.old.confirm_state)) self.old.wire) }
+        ensures ok { OnOk result (self.new ≡ handing (unless_full flowing (full_in self.old.confirm_state)) self.old) }
         ensures err { OnErr result (self.new ≡ self.old) }
         ensures cause { OnlyMemory result }
     {
-        match self.desk.outbox.pop_unless(alloc, flowing, &self.confirms) {
+        match self.outstanding.outbox.pop_unless(alloc, flowing, &self.confirms) {
             Ok(handed) => {
                 let Some(left) = &handed else {
                     return Ok(handed);
                 };
                 confirms_left(&mut self.confirms, left);
-                self.desk.leave(left);
+                self.outstanding.leave(left);
                 link_left(&mut self.link, &left.frame);
                 phases_left(&mut self.phases, &left.frame);
                 Ok(handed)
@@ -149,8 +149,8 @@ fn frame_record(left: Option<Left>) -> Record
 
 // A frame leaves: the first `confirm.select` selects, the method frame of a publish takes a tag.
 fn confirms_left(confirms: &mut Confirms, left: &Left)
-    requires { CanRegister left.now confirms.old.what.book.cells }
-    ensures { confirms.new.what ≡ fold post.after_mark confirms.old.what (left_marks (Some left.now)) }
+    requires { CanRegister left.now confirms.old.what.publish_states.cells }
+    ensures { confirms.new.what ≡ fold confirm_state.after_mark confirms.old.what (left_marks (Some left.now)) }
 {
     match (left.publish, left.first) {
         (None, _) => select_left(confirms, &left.frame),
@@ -162,7 +162,7 @@ fn confirms_left(confirms: &mut Confirms, left: &Left)
 }
 
 fn select_left(confirms: &mut Confirms, frame: &Frame)
-    ensures { confirms.new.what ≡ fold post.after_mark confirms.old.what (frame_marks frame.now) }
+    ensures { confirms.new.what ≡ fold confirm_state.after_mark confirms.old.what (frame_marks frame.now) }
 {
     if let Frame::Method(channel, Method::Confirm(ConfirmMethod::Select { .. })) = frame {
         confirms.select_left(*channel);

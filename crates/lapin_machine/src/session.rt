@@ -9,14 +9,14 @@ ghost use Rattle.lapin_tables.specs.ByChannel.{at_channel};
 ghost use Rattle.lapin_types.specs.declared.event.Event.TheVariants as event;
 ghost use Rattle.lapin_types.specs.declared.leaving.Left.{Left as ALeft};
 ghost use Rattle.lapin_types.specs.declared.record.Record.TheVariants as record_;
-ghost use Rattle.lapin_history.specs.Wire.{lists_of, state_of, phase_of, is_open as is_open_lem, is_closed as is_closed_lem, is_base as is_base_lem};
-ghost use Rattle.lapin_history.specs.Phases.{connection_state as connection_state_lem};
-ghost use Rattle.lapin_history.specs.History.{History, rec};
+ghost use Rattle.lapin_rules.specs.Wire.{lists_of, state_of, phase_of, is_open as is_open_lem, is_closed as is_closed_lem, is_base as is_base_lem};
+ghost use Rattle.lapin_rules.specs.Phases.{connection_state as connection_state_lem};
+ghost use Rattle.lapin_rules.specs.History.{History, rec};
 ghost use Rattle.lapin_machine.specs.World.{told_by, next, new_world};
 ghost use Rattle.lapin_machine.specs.Numbers.{HasCause};
-ghost use Rattle.lapin_confirm.specs.Post.{empty_post};
-ghost use Rattle.lapin_inbox.specs.Held.{what};
-ghost use Rattle.lapin_inbox.specs.Inbox.{empty_inbox};
+ghost use Rattle.lapin_confirm.specs.ConfirmState.{empty_confirm_state};
+ghost use Rattle.lapin_delivery.specs.WithRoom.{what};
+ghost use Rattle.lapin_delivery.specs.Deliveries.{empty_deliveries};
 ghost use Rattle.lapin_outbox.specs.Outgoing.{empty};
 ghost use Rattle.lapin_outbox.specs.Returned.{is_retried};
 ghost use Rattle.lapin_machine.specs.Returned.{given_back};
@@ -26,9 +26,9 @@ use lapin_acker::Switches;
 use lapin_confirm::Confirms;
 use lapin_consumer::Consumers;
 use lapin_content::Contents;
-use lapin_desk::Desk;
-use lapin_history::{ChannelPhase, ConnectionPhase};
-use lapin_inbox::Inbox;
+use lapin_outstanding::Outstanding;
+use lapin_rules::{ChannelPhase, ConnectionPhase};
+use lapin_delivery::Deliveries;
 use lapin_outbox::{Outbox, Replies};
 use lapin_phases::Phases;
 use lapin_registry::ChannelDefinition;
@@ -42,10 +42,10 @@ use std::marker::Model;
 pub struct Session {
     pub(crate) link: ConnectionPhase,
     pub(crate) phases: Phases,
-    pub(crate) desk: Desk,
+    pub(crate) outstanding: Outstanding,
     pub(crate) confirms: Confirms,
     pub(crate) contents: Contents,
-    pub(crate) inbox: Inbox,
+    pub(crate) deliveries: Deliveries,
 }
 
 impl Drop for Session {
@@ -53,10 +53,10 @@ impl Drop for Session {
         let Session {
             link: _,
             phases: _,
-            desk: _,
+            outstanding: _,
             confirms: _,
             contents: _,
-            inbox: _,
+            deliveries: _,
         } = self;
     }
 }
@@ -71,28 +71,28 @@ impl Model for Session {
     ghost coded = { world_code };
 
     ghost use Rattle.lapin_machine.specs.Tied.{IsKept};
-    ghost use Rattle.lapin_inbox.specs.Held.{what};
+    ghost use Rattle.lapin_delivery.specs.WithRoom.{what};
 
     ghost view = { λ a. record {
       wire = record {
-        frame_max = a.desk.outbox.what.frame_max;
+        frame_max = a.outstanding.outbox.what.frame_max;
         link = a.link;
         phases = a.phases.entries;
-        rest = a.desk.outbox.what.lists.rest;
-        methods = a.desk.outbox.what.lists.methods;
-        publishes = a.desk.outbox.what.lists.publishes;
-        requests = a.desk.replies.what;
+        rest = a.outstanding.outbox.what.lists.rest;
+        methods = a.outstanding.outbox.what.lists.methods;
+        publishes = a.outstanding.outbox.what.lists.publishes;
+        requests = a.outstanding.replies.what;
         contents = a.contents;
-        tickets = length a.desk.tickets.slots;
-        published = length a.confirms.what.book.cells;
-        inbox = what a.inbox;
+        tickets = length a.outstanding.tickets.slots;
+        published = length a.confirms.what.publish_states.cells;
+        deliveries = what a.deliveries;
       };
-      post = a.confirms.what;
-      slots = a.desk.tickets.slots;
-      returned = a.desk.outbox.what.returned;
+      confirm_state = a.confirms.what;
+      slots = a.outstanding.tickets.slots;
+      returned = a.outstanding.outbox.what.returned;
     } };
 
-    ghost invariant = { λ a. IsKept a.link a.phases.entries a.desk.outbox.what a.confirms.what.book };
+    ghost invariant = { λ a. IsKept a.link a.phases.entries a.outstanding.outbox.what a.confirms.what.publish_states };
 }
 
 impl Session {
@@ -109,17 +109,17 @@ impl Session {
         ensures stands { IfOk result (λ session. Stands frame_max [] session) }
     {
         let phases = Phases::new(alloc);
-        let desk = new_desk(alloc, frame_max);
+        let outstanding = new_outstanding(alloc, frame_max);
         let confirms = no_confirms(alloc);
         let contents = no_contents(alloc);
-        let inbox = no_inbox(alloc);
+        let deliveries = no_deliveries(alloc);
         Ok(Session {
             link: ConnectionPhase::Open,
             phases,
-            desk,
+            outstanding,
             confirms,
             contents,
-            inbox,
+            deliveries,
         })
     }
 
@@ -150,19 +150,19 @@ impl Session {
         ensures returned { result.now.what.returned ≡ self.now.returned }
         ensures poison { (result.now.what.poison ≡ None) × (result.now.what.errors ≡ []) }
     {
-        &self.desk.outbox
+        &self.outstanding.outbox
     }
 
     /// The open requests of each channel.
     pub fn replies(&self) -> &Replies
         ensures { result.now.what ≡ self.now.wire.requests }
     {
-        &self.desk.replies
+        &self.outstanding.replies
     }
 
     /// The publishes that were accepted, each until its outcome was given, and the messages that came back.
     pub fn confirms(&self) -> &Confirms
-        ensures { result.now.what ≡ self.now.post }
+        ensures { result.now.what ≡ self.now.confirm_state }
     {
         &self.confirms
     }
@@ -176,24 +176,24 @@ impl Session {
 
     /// The consumers with what waits for them, and the jobs.
     pub fn consumers(&self) -> &Consumers
-        ensures { result.now.roster ≡ self.now.wire.inbox.roster }
+        ensures { result.now.subscriptions ≡ self.now.wire.deliveries.subscriptions }
     {
-        &self.inbox.consumers
+        &self.deliveries.consumers
     }
 
     /// The ackers of the messages that consumers and gets were given.
     pub fn switches(&self) -> &Switches
-        ensures { result.now.switches ≡ self.now.wire.inbox.switches }
+        ensures { result.now.switches ≡ self.now.wire.deliveries.switches }
     {
-        &self.inbox.switches
+        &self.deliveries.switches
     }
 
     /// What a channel declared and bound in its present or last opening, as far as the broker answered or was asked not to; None
     /// exactly where the channel never had an opening.
     pub fn topology(&self, channel: u16) -> Option<&ChannelDefinition>
-        ensures { option_copied result ≡ at_channel channel self.now.wire.inbox.topologies }
+        ensures { option_copied result ≡ at_channel channel self.now.wire.deliveries.topologies }
     {
-        self.inbox.topology(channel)
+        self.deliveries.topology(channel)
     }
 
     // Where a channel stands while the connection is open.
@@ -253,14 +253,14 @@ impl Session {
     }
 }
 
-// A desk on which nothing waits. The parts of a new session take no memory yet, so that none of them fails.
-fn new_desk(alloc: Global, frame_max: u32) -> Desk
+// A outstanding on which nothing waits. The parts of a new session take no memory yet, so that none of them fails.
+fn new_outstanding(alloc: Global, frame_max: u32) -> Outstanding
     requires { 4096 ≤ frame_max }
     ensures outbox { result.outbox.what ≡ empty frame_max }
     ensures replies { result.replies.what ≡ [] }
     ensures tickets { result.tickets.slots ≡ [] }
 {
-    Desk {
+    Outstanding {
         outbox: Outbox::new(alloc, frame_max).unwrap(),
         replies: no_replies(alloc),
         tickets: Tickets::new(alloc),
@@ -275,7 +275,7 @@ pub(crate) fn no_replies(alloc: Global) -> Replies
 }
 
 fn no_confirms(alloc: Global) -> Confirms
-    ensures { result.what ≡ empty_post }
+    ensures { result.what ≡ empty_confirm_state }
 {
     Confirms::new(alloc).unwrap()
 }
@@ -286,10 +286,10 @@ fn no_contents(alloc: Global) -> Contents
     Contents::new(alloc).unwrap()
 }
 
-fn no_inbox(alloc: Global) -> Inbox
-    ensures { what result ≡ empty_inbox }
+fn no_deliveries(alloc: Global) -> Deliveries
+    ensures { what result ≡ empty_deliveries }
 {
-    Inbox::new(alloc).unwrap()
+    Deliveries::new(alloc).unwrap()
 }
 
 pub(crate) fn is_open(state: ChannelState) -> bool

@@ -5,21 +5,21 @@
 
 ghost use Rattle.std.specs.Prelude.{◌≡◌, Some, IfOk, OnOk};
 ghost use Rattle.std.specs.List.{fold};
-ghost use Rattle.lapin_history.specs.Content.{next_acker, start_inbox, whole_inbox, whole_marks, whole_tickets, delivered_message, returned_message};
+ghost use Rattle.lapin_rules.specs.Content.{next_acker, start_deliveries, whole_deliveries, whole_marks, whole_tickets, delivered_message, returned_message};
 ghost use Rattle.lapin_content.specs.declared.start.Start.TheVariants.{Deliver as DeliverStart};
-ghost use Rattle.lapin_inbox.specs.Held.{what};
-ghost use Rattle.lapin_inbox.specs.Inbox.{after_mark as after_inbox_mark};
+ghost use Rattle.lapin_delivery.specs.WithRoom.{what};
+ghost use Rattle.lapin_delivery.specs.Deliveries.{after_mark as after_deliveries_mark};
 ghost use Rattle.lapin_content.specs.declared.start.Start.{Start as AStart};
 ghost use Rattle.lapin_content.specs.Contents.{front_start};
 ghost use Rattle.lapin_content.specs.Channels.{expected_on};
-ghost use Rattle.lapin_confirm.specs.Machine as post;
+ghost use Rattle.lapin_confirm.specs.Machine as confirm_state;
 ghost use Rattle.lapin_ticket.specs.Slots as answers;
 ghost use Rattle.lapin_machine.specs.Whole.{Fits, FitsAt, FitsFront, MakesRoom, MakesRoomAt};
 
 use lapin_confirm::Confirms;
 use lapin_content::{Contents, Start, Whole};
-use lapin_desk::Desk;
-use lapin_inbox::Inbox;
+use lapin_outstanding::Outstanding;
+use lapin_delivery::Deliveries;
 use lapin_ticket::Place;
 use lapin_types::{
     Acker, Answer, BasicGetMessage, BasicProperties, BasicReturnMessage, Delivery, Error, Payload,
@@ -32,15 +32,15 @@ pub(crate) fn make_room(
     alloc: Global,
     contents: &Contents,
     confirms: &mut Confirms,
-    inbox: &mut Inbox,
+    deliveries: &mut Deliveries,
     channel: u16,
 ) -> Result<Option<Place>, Error>
-    ensures same { (confirms.new.what ≡ confirms.old.what) × (what inbox.new ≡ what inbox.old) }
-    ensures room { IfOk result (λ place. FitsFront (front_start (expected_on channel contents.now)) channel inbox.new confirms.new place) }
-    ensures cause { MakesRoom result (front_start (expected_on channel contents.now)) (what inbox.old) }
+    ensures same { (confirms.new.what ≡ confirms.old.what) × (what deliveries.new ≡ what deliveries.old) }
+    ensures room { IfOk result (λ place. FitsFront (front_start (expected_on channel contents.now)) channel deliveries.new confirms.new place) }
+    ensures cause { MakesRoom result (front_start (expected_on channel contents.now)) (what deliveries.old) }
 {
     match contents.front(channel) {
-        Some(start) => make_room_for(alloc, start, confirms, inbox, channel),
+        Some(start) => make_room_for(alloc, start, confirms, deliveries, channel),
         None => Ok(None),
     }
 }
@@ -51,16 +51,16 @@ fn make_room_for(
     alloc: Global,
     start: &Start,
     confirms: &mut Confirms,
-    inbox: &mut Inbox,
+    deliveries: &mut Deliveries,
     channel: u16,
 ) -> Result<Option<Place>, Error>
-    ensures same { (confirms.new.what ≡ confirms.old.what) × (what inbox.new ≡ what inbox.old) }
-    ensures room { IfOk result (λ place. Fits start.now channel inbox.new confirms.new place) }
-    ensures cause { MakesRoom result (Some start.now) (what inbox.old) }
+    ensures same { (confirms.new.what ≡ confirms.old.what) × (what deliveries.new ≡ what deliveries.old) }
+    ensures room { IfOk result (λ place. Fits start.now channel deliveries.new confirms.new place) }
+    ensures cause { MakesRoom result (Some start.now) (what deliveries.old) }
 {
     match start {
         Start::Get { .. } => {
-            inbox.reserve_acker(alloc)?;
+            deliveries.reserve_acker(alloc)?;
             Ok(Some(Place::new(alloc)?))
         }
         Start::Return { .. } => {
@@ -68,44 +68,44 @@ fn make_room_for(
             Ok(None)
         }
         Start::Deliver { consumer, .. } => {
-            make_room_at(alloc, *consumer, inbox)?;
+            make_room_at(alloc, *consumer, deliveries)?;
             Ok(None)
         }
     }
 }
 
 // The delivery of a consumer that is registered takes an acker and a place; another is dropped.
-fn make_room_at(alloc: Global, consumer: Option<u64>, inbox: &mut Inbox) -> Result<(), Error>
-    ensures same { what inbox.new ≡ what inbox.old }
-    ensures room { OnOk result (FitsAt consumer inbox.new) }
-    ensures cause { MakesRoomAt result consumer (what inbox.old) }
+fn make_room_at(alloc: Global, consumer: Option<u64>, deliveries: &mut Deliveries) -> Result<(), Error>
+    ensures same { what deliveries.new ≡ what deliveries.old }
+    ensures room { OnOk result (FitsAt consumer deliveries.new) }
+    ensures cause { MakesRoomAt result consumer (what deliveries.old) }
 {
     let Some(number) = consumer else {
         return Ok(());
     };
-    if !inbox.is_registered(number) {
+    if !deliveries.is_registered(number) {
         return Ok(());
     }
-    inbox.reserve_delivery(alloc, number)
+    deliveries.reserve_delivery(alloc, number)
 }
 
 // A content is whole: the message of a get answers the get's ticket, a delivery goes to its consumer, a returned message to the
 // confirms.
 pub(crate) fn complete(
     alloc: Global,
-    desk: &mut Desk,
+    outstanding: &mut Outstanding,
     confirms: &mut Confirms,
-    inbox: &mut Inbox,
+    deliveries: &mut Deliveries,
     channel: u16,
     whole: Whole,
     place: Option<Place>,
 )
-    requires { Fits whole.start channel inbox.old confirms.old place }
-    ensures confirms { confirms.new.what ≡ fold post.after_mark confirms.old.what (whole_marks channel (Some whole)) }
-    ensures slots { desk.new.tickets.slots ≡ fold answers.after_mark desk.old.tickets.slots (whole_tickets channel (next_acker (what inbox.old)) (Some whole)) }
-    ensures inbox { what inbox.new ≡ fold after_inbox_mark (what inbox.old) (whole_inbox channel (what inbox.old) (Some whole)) }
-    ensures outbox { desk.new.outbox ≡ desk.old.outbox }
-    ensures replies { desk.new.replies ≡ desk.old.replies }
+    requires { Fits whole.start channel deliveries.old confirms.old place }
+    ensures confirms { confirms.new.what ≡ fold confirm_state.after_mark confirms.old.what (whole_marks channel (Some whole)) }
+    ensures slots { outstanding.new.tickets.slots ≡ fold answers.after_mark outstanding.old.tickets.slots (whole_tickets channel (next_acker (what deliveries.old)) (Some whole)) }
+    ensures deliveries { what deliveries.new ≡ fold after_deliveries_mark (what deliveries.old) (whole_deliveries channel (what deliveries.old) (Some whole)) }
+    ensures outbox { outstanding.new.outbox ≡ outstanding.old.outbox }
+    ensures replies { outstanding.new.replies ≡ outstanding.old.replies }
 {
     let Whole {
         start,
@@ -121,7 +121,7 @@ pub(crate) fn complete(
             redelivered,
             message_count,
         } => {
-            let number = inbox.got(alloc, channel, delivery_tag);
+            let number = deliveries.got(alloc, channel, delivery_tag);
             let delivery = delivered(
                 channel,
                 number,
@@ -136,7 +136,7 @@ pub(crate) fn complete(
                 delivery,
                 message_count,
             };
-            desk.resolve(ticket, Answer::Got(Some(message)), place.unwrap());
+            outstanding.resolve(ticket, Answer::Got(Some(message)), place.unwrap());
         }
         Start::Return {
             reply_code,
@@ -162,7 +162,7 @@ pub(crate) fn complete(
             redelivered,
         } => arrive(
             alloc,
-            inbox,
+            deliveries,
             channel,
             consumer,
             delivery_tag,
@@ -178,7 +178,7 @@ pub(crate) fn complete(
 // A delivery is whole: it goes to its consumer, if that is registered still, else it is dropped.
 fn arrive(
     alloc: Global,
-    inbox: &mut Inbox,
+    deliveries: &mut Deliveries,
     channel: u16,
     consumer: Option<u64>,
     delivery_tag: u64,
@@ -188,12 +188,12 @@ fn arrive(
     properties: BasicProperties,
     payload: Payload,
 )
-    requires { FitsAt consumer inbox.old }
-    ensures { (start : AStart) → what inbox.new ≡ fold after_inbox_mark (what inbox.old) (start_inbox channel (what inbox.old) (DeliverStart consumer delivery_tag exchange routing_key redelivered) (record { start = start; properties = properties; payload = payload })) }
+    requires { FitsAt consumer deliveries.old }
+    ensures { (start : AStart) → what deliveries.new ≡ fold after_deliveries_mark (what deliveries.old) (start_deliveries channel (what deliveries.old) (DeliverStart consumer delivery_tag exchange routing_key redelivered) (record { start = start; properties = properties; payload = payload })) }
 {
     match consumer {
-        Some(number) if inbox.is_registered(number) => {
-            let acker = inbox.next_acker();
+        Some(number) if deliveries.is_registered(number) => {
+            let acker = deliveries.next_acker();
             let delivery = delivered(
                 channel,
                 acker,
@@ -204,7 +204,7 @@ fn arrive(
                 properties,
                 payload,
             );
-            inbox.deliver(alloc, number, delivery);
+            deliveries.deliver(alloc, number, delivery);
         }
         _ => let_go(exchange, routing_key, properties, payload),
     }

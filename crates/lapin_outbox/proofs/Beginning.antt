@@ -4,11 +4,11 @@ use Rattle.std.specs.List.{find}
 use Rattle.std.proofs.lemmas.Bool.{true≢false, eq-eqb}
 use Rattle.std.proofs.lemmas.Bool.Decides.{eqb_tells}
 use Rattle.std.proofs.lemmas.List.Elements.{All-nil, All-cons}
-use Rattle.lapin_history.specs.Words.{without_first}
+use Rattle.lapin_rules.specs.Words.{without_first}
 use Rattle.lapin_types.specs.declared.leaving.Publish.{Publish}
-use Rattle.lapin_history.specs.Drops.{is_on, publish_channel}
-use Rattle.lapin_history.specs.Flow.{unless_full}
-use Rattle.lapin_history.specs.Leaving.{may_begin}
+use Rattle.lapin_rules.specs.Drops.{is_on, publish_channel}
+use Rattle.lapin_rules.specs.Flow.{unless_full}
+use Rattle.lapin_rules.specs.Leaving.{may_begin}
 use Rattle.lapin_outbox.specs.Passing.{of_key}
 use Rattle.lapin_outbox.proofs.PassedOver.{decide}
 

@@ -3,12 +3,12 @@
 use Rattle.std.proofs.Common.{◌≡◌, ℕ, suc, ◌<◌, Bool, true, false, not, List, [], ◌∷◌, ◌++◌, drop, Option, Some, None, refl, sym, ◌∙◌, ap, subst, arith, slice_get, inl, inr}
 use Rattle.std.specs.Prelude.{is_some}
 use Rattle.std.specs.Option.{option_map}
-use Rattle.lapin_history.specs.Frames.{is_empty}
+use Rattle.lapin_rules.specs.Frames.{is_empty}
 use Rattle.std.specs.List.{find}
 use Rattle.std.proofs.lemmas.Bool.Decides.{eqb_tells}
 use Rattle.lapin_tables.specs.Numbered.{under, with_under, first_kept}
-use Rattle.lapin_history.specs.Words.{without_first}
-use Rattle.lapin_history.specs.Drops.{is_on}
+use Rattle.lapin_rules.specs.Words.{without_first}
+use Rattle.lapin_rules.specs.Drops.{is_on}
 use Rattle.lapin_outbox.specs.Order.{first_on, without_number}
 use Rattle.lapin_outbox.specs.ChannelQueue.{kept, keys_by}
 use Rattle.lapin_outbox.proofs.Chains.{under-behind, with-behind, map-with}

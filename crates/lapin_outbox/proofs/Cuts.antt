@@ -4,7 +4,7 @@ use Rattle.std.specs.List.{concat}
 use Rattle.std.proofs.lemmas.List.{length-take, take-append-drop, take_at, drop_at, append-nil}
 use Rattle.std.proofs.lemmas.List.Elements.{All-cons, All-nil}
 use Rattle.lapin_types.specs.Types.frame
-use Rattle.lapin_history.specs.Frames.{pieces, cut}
+use Rattle.lapin_rules.specs.Frames.{pieces, cut}
 use Rattle.lapin_outbox.specs.Cut.{IsCut, AreFull, body_payloads}
 use Rattle.lapin_outbox.proofs.Pieces.{cut-step, cut-one}
 

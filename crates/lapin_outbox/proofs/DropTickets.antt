@@ -5,9 +5,9 @@ use Rattle.std.specs.Bool.{if◌then◌else◌}
 use Rattle.std.specs.List.{filter}
 use Rattle.std.proofs.lemmas.List.{append-nil, map-append}
 use Rattle.lapin_types.specs.declared.leaving.Publish.{Publish}
-use Rattle.lapin_history.specs.Frames.{MethodEntry, RestEntry}
-use Rattle.lapin_history.specs.Leaving.{Lists}
-use Rattle.lapin_history.specs.Drops.{frame_channel, is_on, is_off, method_channel, publish_channel, is_rest_of, unbegun, without_publishes_of, without_channel, rest_tickets, rest_tickets_of, method_tickets_of, publish_tickets_of}
+use Rattle.lapin_rules.specs.Frames.{MethodEntry, RestEntry}
+use Rattle.lapin_rules.specs.Leaving.{Lists}
+use Rattle.lapin_rules.specs.Drops.{frame_channel, is_on, is_off, method_channel, publish_channel, is_rest_of, unbegun, without_publishes_of, without_channel, rest_tickets, rest_tickets_of, method_tickets_of, publish_tickets_of}
 use Rattle.lapin_outbox.specs.declared.dropped.Dropped.{Dropped}
 use Rattle.lapin_outbox.specs.Drops.{told_rest, told_rest_of, told_method, told_publish, dropped_ticket, unbegun_of, entries_of}
 

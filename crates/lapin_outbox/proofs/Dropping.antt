@@ -5,10 +5,10 @@ use Rattle.std.specs.Option.{option_map}
 use Rattle.std.specs.List.{find, filter, list_any}
 use Rattle.std.proofs.lemmas.Bool.Decides.{eqb_tells}
 use Rattle.lapin_types.specs.Types.{Frame, ContentHeader}
-use Rattle.lapin_history.specs.Words.{without_first}
-use Rattle.lapin_history.specs.Frames.{MethodEntry, RestEntry, is_empty}
-use Rattle.lapin_history.specs.Drops.{frame_channel, no_lists, is_on, method_channel, publish_channel, is_rest_of, without_publishes_of, without_channel}
-use Rattle.lapin_history.specs.Leaving.{Lists}
+use Rattle.lapin_rules.specs.Words.{without_first}
+use Rattle.lapin_rules.specs.Frames.{MethodEntry, RestEntry, is_empty}
+use Rattle.lapin_rules.specs.Drops.{frame_channel, no_lists, is_on, method_channel, publish_channel, is_rest_of, without_publishes_of, without_channel}
+use Rattle.lapin_rules.specs.Leaving.{Lists}
 use Rattle.lapin_types.specs.declared.leaving.Publish.{Publish}
 use Rattle.lapin_outbox.specs.declared.dropped.Dropped.{Dropped}
 use Rattle.lapin_outbox.specs.declared.queues.Waiting.{Waiting}

@@ -8,7 +8,7 @@ use Rattle.std.proofs.lemmas.Bool.Decides.{eqb_tells}
 use Rattle.std.proofs.lemmas.List.Elements.{Contains-push, Contains-append_left}
 use Rattle.lapin_tables.specs.Numbered.{under, with_under, first_kept}
 use Rattle.lapin_tables.proofs.SlotLaws.{given, first-there, first-least, first-none, under-pushed, under-map, length-with}
-use Rattle.lapin_history.specs.Words.{without_first}
+use Rattle.lapin_rules.specs.Words.{without_first}
 use Rattle.lapin_outbox.specs.Order.{first_on, without_number}
 use Rattle.lapin_outbox.specs.ChannelQueue.{kept, keys_by}
 use Rattle.lapin_outbox.specs.Passing.{of_key, waits_where, first_where, AreHeld, NonePasses, is_up_to, bound, IsClear, IsOpen}

@@ -3,7 +3,7 @@ use Rattle.std.proofs.Common.{◌≡◌, ℕ, zero, suc, ◌+◌, ◌<◌, ◌�
 use Rattle.std.specs.Prelude.{slice_get}
 use Rattle.std.specs.Bool.{◌==◌}
 use Rattle.std.proofs.lemmas.List.{take_all, drop_all, drop-drop}
-use Rattle.lapin_history.specs.Frames.{pieces, cut}
+use Rattle.lapin_rules.specs.Frames.{pieces, cut}
 use Rattle.lapin_outbox.specs.Bodies.{pieces_left}
 
 -- enough steps make no difference

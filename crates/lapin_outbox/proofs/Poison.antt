@@ -5,7 +5,7 @@ use Rattle.std.proofs.lemmas.Bool.{eq-eqb}
 use Rattle.lapin_tables.specs.ByChannel.{at_channel}
 use Rattle.lapin_tables.proofs.Channels.{at-on_same, at-on_other}
 use Rattle.lapin_types.specs.Types.{Error}
-use Rattle.lapin_history.proofs.ChannelLaws.{at-with}
+use Rattle.lapin_rules.proofs.ChannelLaws.{at-with}
 use Rattle.lapin_outbox.specs.Outgoing.{OutboxState}
 use Rattle.lapin_outbox.specs.Poison.{poison_on, channel_poisoned, channel_cleared}
 

@@ -2,7 +2,7 @@
 use Rattle.std.proofs.Common.{◌≡◌, ℕ, Option, Some, None, drop, refl, inl, inr}
 use Rattle.std.proofs.lemmas.Bool.Decides.{eqb_tells}
 use Rattle.lapin_types.specs.declared.leaving.Left.{Left}
-use Rattle.lapin_history.specs.Drops.{frame_channel}
+use Rattle.lapin_rules.specs.Drops.{frame_channel}
 use Rattle.lapin_outbox.specs.Outgoing.{OutboxState}
 use Rattle.lapin_outbox.specs.Returned.{with_returned, channel_entries, after_drop_channel}
 use Rattle.lapin_outbox.proofs.Dropping.{channel-told}

@@ -5,8 +5,8 @@ use Rattle.std.proofs.lemmas.List.{map_push}
 use Rattle.lapin_tables.specs.ByChannel.{at_channel, on_channel}
 use Rattle.lapin_tables.proofs.Channels.{at-values, on-values, on-same}
 use Rattle.lapin_types.specs.declared.request.Request.{Request}
-use Rattle.lapin_history.specs.Words.{with_channel}
-use Rattle.lapin_history.specs.Requests.{requests_in}
+use Rattle.lapin_rules.specs.Words.{with_channel}
+use Rattle.lapin_rules.specs.Requests.{requests_in}
 use Rattle.lapin_outbox.specs.Open.{OpenOnChannel, OpenRequests, waiting_in, seen, requests_at}
 
 -- what a contract sees of the table's entries

@@ -3,7 +3,7 @@ use Rattle.std.specs.Prelude.{ℕ, List, [], ◌∷◌, map, Option, Some, None}
 use Rattle.lapin_types.specs.declared.leaving.Left.{Left}
 use Rattle.lapin_types.specs.Types.{Frame, ContentHeader}
 use Rattle.lapin_types.specs.Types.frame
-use Rattle.lapin_history.specs.Frames.{RestEntry, left_rest, is_empty}
+use Rattle.lapin_rules.specs.Frames.{RestEntry, left_rest, is_empty}
 
 -- frames behind a publish's method with the publish's numbers, the last of them marked
 abbrev pub following : ℕ → ℕ → List Frame → List RestEntry

@@ -1,6 +1,6 @@
 -- What is left of a payload that leaves body by body.
 use Rattle.std.specs.Prelude.{ℕ, ◌≤◌, List, [], drop, length, Option, Some, None}
-use Rattle.lapin_history.specs.Frames.{cut}
+use Rattle.lapin_rules.specs.Frames.{cut}
 
 -- the pieces of a payload behind the bytes that have left, each of at most room bytes; none once the payload is gone
 abbrev pub pieces_left : ℕ → ℕ → Option (List ℕ) → List (List ℕ)

@@ -13,8 +13,8 @@ use Rattle.lapin_types.specs.contracts.leaving.Left as left_row
 use Rattle.lapin_methods.specs.contracts.error.Error as error_row
 use Rattle.lapin_types.specs.declared.request.Request.{Request}
 use Rattle.lapin_types.specs.contracts.request.Request as request_row
-use Rattle.lapin_history.specs.Frames.{MethodEntry, RestEntry}
-use Rattle.lapin_history.specs.Leaving.{Lists}
+use Rattle.lapin_rules.specs.Frames.{MethodEntry, RestEntry}
+use Rattle.lapin_rules.specs.Leaving.{Lists}
 use Rattle.lapin_outbox.specs.Outgoing.{InQueues, OutboxState, Outgoing}
 use Rattle.lapin_outbox.specs.Open.{OpenOnChannel, OpenRequests}
 

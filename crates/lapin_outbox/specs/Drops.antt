@@ -4,10 +4,10 @@
 use Rattle.std.specs.Prelude.{◌≡◌, ℕ, if◌then◌else◌, List, [], ◌∷◌, ◌++◌, map, drop, Option, Some, None}
 use Rattle.std.specs.List.{filter, list_any}
 use Rattle.lapin_types.specs.declared.leaving.Publish.{Publish}
-use Rattle.lapin_history.specs.Frames.{MethodEntry, RestEntry}
-use Rattle.lapin_history.specs.Leaving.{Lists}
-use Rattle.lapin_history.specs.Drops.{frame_channel, is_on, method_channel, publish_channel, is_rest_of, unbegun}
-use Rattle.lapin_history.specs.Words.{without_first}
+use Rattle.lapin_rules.specs.Frames.{MethodEntry, RestEntry}
+use Rattle.lapin_rules.specs.Leaving.{Lists}
+use Rattle.lapin_rules.specs.Drops.{frame_channel, is_on, method_channel, publish_channel, is_rest_of, unbegun}
+use Rattle.lapin_rules.specs.Words.{without_first}
 use Rattle.lapin_outbox.specs.declared.dropped.Dropped.{Dropped}
 
 -- all frames are on this channel

@@ -1,6 +1,6 @@
 -- How the outbox's own entries are seen.
 use Rattle.std.specs.Prelude.{List, [], Option, Some, None}
-use Rattle.lapin_history.specs.Frames.{MethodEntry, RestEntry}
+use Rattle.lapin_rules.specs.Frames.{MethodEntry, RestEntry}
 use Rattle.lapin_outbox.specs.declared.queues.Waiting.{Waiting}
 
 -- a method that waits, with its ticket, if it has one

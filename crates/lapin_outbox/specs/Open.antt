@@ -2,8 +2,8 @@
 use Rattle.std.specs.Prelude.{◌≡◌, ◌≢◌, ℕ, ◌<◌, ◌≤◌, List, [], ◌++◌, Option, Some, None, map, drop}
 use Rattle.lapin_tables.specs.ByChannel.{Table, at_channel}
 use Rattle.lapin_types.specs.declared.request.Request.{Request}
-use Rattle.lapin_history.specs.Words.{with_channel}
-use Rattle.lapin_history.specs.Requests.{requests_in}
+use Rattle.lapin_rules.specs.Words.{with_channel}
+use Rattle.lapin_rules.specs.Requests.{requests_in}
 
 -- the open requests of one channel, the oldest first, and for how many more there is room
 pub record OpenOnChannel : Type 0 where

@@ -3,9 +3,9 @@ use Rattle.std.specs.Prelude.{◌≡◌, ℕ, Bool, true, false, ◌&&◌, not, 
 use Rattle.lapin_types.specs.Types.{Error}
 use Rattle.lapin_types.specs.declared.leaving.Left.{Left}
 use Rattle.lapin_types.specs.declared.leaving.Publish.{Publish}
-use Rattle.lapin_history.specs.Frames.{MethodEntry, is_empty}
-use Rattle.lapin_history.specs.Leaving.{Lists}
-use Rattle.lapin_history.specs.Drops.{no_lists}
+use Rattle.lapin_rules.specs.Frames.{MethodEntry, is_empty}
+use Rattle.lapin_rules.specs.Leaving.{Lists}
+use Rattle.lapin_rules.specs.Drops.{no_lists}
 
 -- the three lists, and for how many more entries there is room
 pub record InQueues : Type 0 where

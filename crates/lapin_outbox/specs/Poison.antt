@@ -4,8 +4,8 @@ use Rattle.std.specs.Option.{option_or, option_flatten}
 use Rattle.lapin_tables.specs.ByChannel.{at_channel, on_channel}
 use Rattle.lapin_types.specs.Types.{Error}
 use Rattle.lapin_types.specs.declared.leaving.Publish.{Publish}
-use Rattle.lapin_history.specs.Frames.{MethodEntry}
-use Rattle.lapin_history.specs.Words.{with_channel}
+use Rattle.lapin_rules.specs.Frames.{MethodEntry}
+use Rattle.lapin_rules.specs.Words.{with_channel}
 use Rattle.lapin_outbox.specs.declared.outbox.Pushed.{Pushed}
 use Rattle.lapin_outbox.specs.declared.outbox.Pushed.TheVariants as pushed
 use Rattle.lapin_outbox.specs.Outgoing.{OutboxState, with_lists, with_method, with_publish}

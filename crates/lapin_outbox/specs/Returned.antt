@@ -3,8 +3,8 @@
 use Rattle.std.specs.Prelude.{ℕ, ◌==◌, Bool, true, false, ◌||◌, if◌then◌else◌, List, [], ◌∷◌, ◌++◌, Option, Some, None}
 use Rattle.std.specs.List.{list_any}
 use Rattle.lapin_types.specs.declared.leaving.Left.{Left}
-use Rattle.lapin_history.specs.Leaving.{Lists, handed_of, left_lists}
-use Rattle.lapin_history.specs.Drops.{frame_channel}
+use Rattle.lapin_rules.specs.Leaving.{Lists, handed_of, left_lists}
+use Rattle.lapin_rules.specs.Drops.{frame_channel}
 use Rattle.lapin_outbox.specs.declared.dropped.Dropped.{Dropped}
 use Rattle.lapin_outbox.specs.Outgoing.{OutboxState, with_lists, has_entries}
 use Rattle.lapin_outbox.specs.Drops.{entries_of, without_unbegun, without_entry_of, all_entries, without_entry}

@@ -5,10 +5,10 @@
 ghost use Rattle.std.specs.Prelude.{◌≡◌, ℕ, true, ◌<◌, IfOk, OnOk, OnErr, drop, length, slice_get};
 ghost use Rattle.lapin_types.specs.Types.method;
 ghost use Rattle.lapin_types.specs.Types.basic;
-ghost use Rattle.lapin_history.specs.Frames.{is_empty, left_publish, rest_of};
+ghost use Rattle.lapin_rules.specs.Frames.{is_empty, left_publish, rest_of};
 ghost use Rattle.lapin_outbox.specs.Begun.{first_left};
 ghost use Rattle.lapin_outbox.specs.Drops.{AreOn, told_rest};
-ghost use Rattle.lapin_history.specs.Drops.{is_rest_of};
+ghost use Rattle.lapin_rules.specs.Drops.{is_rest_of};
 
 use crate::bodies::Bodies;
 use crate::dropped::Dropped;
@@ -38,7 +38,7 @@ pub(crate) struct Begun {
 
 impl Model for Begun {
     ghost use Rattle.std.specs.Prelude.{List};
-    ghost use Rattle.lapin_history.specs.Frames.{RestEntry};
+    ghost use Rattle.lapin_rules.specs.Frames.{RestEntry};
     ghost use Rattle.std.specs.Coded.{coded_list};
     ghost use Rattle.lapin_outbox.specs.Begun.{following, frames_left};
     ghost use Rattle.lapin_outbox.specs.Codes.{rest_entry_code};

@@ -4,7 +4,7 @@
 //! here: `begun` calls this file.
 
 ghost use Rattle.std.specs.Prelude.{◌≡◌, ◌<◌, IfOk, OnOk, OnErr, slice_get, drop};
-ghost use Rattle.lapin_history.specs.Frames.{cut, is_empty};
+ghost use Rattle.lapin_rules.specs.Frames.{cut, is_empty};
 
 use lapin_types::{NoMemory, Payload};
 use std::alloc::Global;

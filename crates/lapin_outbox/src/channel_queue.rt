@@ -7,13 +7,13 @@
 ghost use Rattle.std.specs.Prelude.{◌≡◌, ℕ, ◌+◌, ◌<◌, ◌≤◌, ◌++◌, ◌∷◌, [], IsOk, IfOk, OnOk, OnErr, drop, slice_get};
 ghost use Rattle.std.specs.List.{find};
 ghost use Rattle.std.specs.Option.{option_copied};
-ghost use Rattle.lapin_history.specs.Frames.{is_empty};
-ghost use Rattle.lapin_history.specs.Words.{without_first};
-ghost use Rattle.lapin_history.specs.Drops.{is_on};
+ghost use Rattle.lapin_rules.specs.Frames.{is_empty};
+ghost use Rattle.lapin_rules.specs.Words.{without_first};
+ghost use Rattle.lapin_rules.specs.Drops.{is_on};
 ghost use Rattle.lapin_outbox.specs.Passing.{not_full, of_key};
 
 use crate::passing::Passing;
-use lapin_history::FullChannels;
+use lapin_rules::FullChannels;
 use lapin_tables::Numbered;
 use lapin_types::NoMemory;
 use std::alloc::Global;

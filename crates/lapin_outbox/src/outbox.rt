@@ -5,9 +5,9 @@
 //! and why something is poisoned, is not known here.
 
 ghost use Rattle.std.specs.Prelude.{◌≡◌, ℕ, true, false, ◌+◌, ◌<◌, ◌≤◌, ◌++◌, ◌∷◌, [], Some, None, IsOk, IsSome, IfOk, OnOk, OnErr, slice_get, is_some, if◌then◌else◌};
-ghost use Rattle.lapin_history.specs.Words.{with_channel};
-ghost use Rattle.lapin_history.specs.Drops.{is_rest_of, frame_channel as frame_channel_lem};
-ghost use Rattle.lapin_history.specs.Flow.{unless_full};
+ghost use Rattle.lapin_rules.specs.Words.{with_channel};
+ghost use Rattle.lapin_rules.specs.Drops.{is_rest_of, frame_channel as frame_channel_lem};
+ghost use Rattle.lapin_rules.specs.Flow.{unless_full};
 ghost use Rattle.lapin_tables.specs.ByChannel.{on_channel};
 ghost use Rattle.lapin_outbox.specs.Outgoing.{empty};
 ghost use Rattle.lapin_outbox.specs.Poison.{error_at, poison_on, push_told, method_pushed, publish_pushed, with_poison, channel_poisoned, channel_cleared};
@@ -16,7 +16,7 @@ ghost use Rattle.lapin_outbox.specs.Drops.{AreOn, unbegun_of};
 
 use crate::dropped::Dropped;
 use crate::queues::Queues;
-use lapin_history::FullChannels;
+use lapin_rules::FullChannels;
 use lapin_tables::ByChannel;
 use lapin_types::{Error, Frame, Left, Method, NoMemory, Publish};
 use std::alloc::Global;

@@ -11,7 +11,7 @@ ghost use Rattle.lapin_outbox.specs.Order.{first_on, without_number};
 ghost use Rattle.lapin_outbox.specs.Passing.{not_full, waits_where, first_where, AreHeld, NonePasses, is_up_to, bound, IsClear, IsOpen};
 
 use crate::order::Order;
-use lapin_history::FullChannels;
+use lapin_rules::FullChannels;
 use lapin_types::NoMemory;
 use std::alloc::Global;
 use std::marker::Model;

@@ -9,19 +9,19 @@
 ghost use Rattle.std.specs.Prelude.{◌≡◌, ℕ, true, ◌+◌, ◌<◌, ◌≤◌, ◌++◌, ◌∷◌, [], IsOk, IfOk, OnOk, OnErr, slice_get, is_some, if◌then◌else◌};
 ghost use Rattle.std.specs.List.{find};
 ghost use Rattle.std.specs.Option.{option_map};
-ghost use Rattle.lapin_history.specs.Frames.{left_publish};
-ghost use Rattle.lapin_history.specs.Leaving.{handed_of, left_lists, may_begin, begun_rest};
-ghost use Rattle.lapin_history.specs.Words.{without_first};
-ghost use Rattle.lapin_history.specs.Flow.{unless_full};
+ghost use Rattle.lapin_rules.specs.Frames.{left_publish};
+ghost use Rattle.lapin_rules.specs.Leaving.{handed_of, left_lists, may_begin, begun_rest};
+ghost use Rattle.lapin_rules.specs.Words.{without_first};
+ghost use Rattle.lapin_rules.specs.Flow.{unless_full};
 ghost use Rattle.lapin_outbox.specs.Outgoing.{with_method, with_publish, has_entries as has_entries_lem};
-ghost use Rattle.lapin_history.specs.Drops.{no_lists, is_rest_of};
+ghost use Rattle.lapin_rules.specs.Drops.{no_lists, is_rest_of};
 ghost use Rattle.lapin_outbox.specs.Entries.{rest_in};
 ghost use Rattle.lapin_outbox.specs.Drops.{AreOn, told_rest, told_rest_of, told_publish, unbegun_of, without_unbegun, entries_of, without_entry_of, all_entries, without_entry};
 
 use crate::begun::Begun;
 use crate::channel_queue::{ChannelQueue, Keyed};
 use crate::dropped::Dropped;
-use lapin_history::FullChannels;
+use lapin_rules::FullChannels;
 use lapin_types::{Frame, Left, Method, NoMemory, Publish};
 use std::alloc::Global;
 use std::marker::Model;
@@ -35,7 +35,7 @@ struct Waiting {
 }
 
 impl Waiting {
-    ghost use Rattle.lapin_history.specs.Frames.{left_method};
+    ghost use Rattle.lapin_rules.specs.Frames.{left_method};
     ghost use Rattle.lapin_outbox.specs.Entries.{entry_of};
     ghost use Rattle.lapin_outbox.specs.Drops.{told_method};
 
@@ -111,7 +111,7 @@ impl Model for Queues {
 }
 
 impl Queues {
-    ghost use Rattle.lapin_history.specs.Frames.{is_empty};
+    ghost use Rattle.lapin_rules.specs.Frames.{is_empty};
 
     /// Nothing waits. It takes no memory yet.
     pub(crate) fn new(alloc: Global) -> Queues

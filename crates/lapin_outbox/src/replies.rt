@@ -7,7 +7,7 @@
 ghost use Rattle.std.specs.Prelude.{◌≡◌, ◌+◌, ◌<◌, ◌≤◌, [], None, IsOk, IfOk, IfNone, OnOk, OnErr, OnSome, slice_get};
 ghost use Rattle.std.specs.Option.{option_copied};
 ghost use Rattle.lapin_tables.specs.ByChannel.{at_channel};
-ghost use Rattle.lapin_history.specs.Requests.{first_request, with_request, without_request};
+ghost use Rattle.lapin_rules.specs.Requests.{first_request, with_request, without_request};
 ghost use Rattle.lapin_outbox.specs.Open.{requests_at, without_oldest, spare_on, KeepsRoom, KeepsOtherRoom};
 
 use crate::requests::Requests;

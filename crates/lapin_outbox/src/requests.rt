@@ -7,8 +7,8 @@
 ghost use Rattle.std.specs.Prelude.{◌≡◌, ◌+◌, ◌<◌, ◌≤◌, ◌++◌, ◌∷◌, [], IsOk, OnOk, IfNone, drop, slice_get};
 ghost use Rattle.std.specs.Option.{option_copied};
 ghost use Rattle.lapin_types.specs.Requests.{kind_of};
-ghost use Rattle.lapin_history.specs.Words.{without_first};
-ghost use Rattle.lapin_history.specs.Requests.{is_kind, first_request};
+ghost use Rattle.lapin_rules.specs.Words.{without_first};
+ghost use Rattle.lapin_rules.specs.Requests.{is_kind, first_request};
 ghost use Rattle.lapin_outbox.specs.KindNumbers.{kind_number};
 
 use crate::channel_queue::{ChannelQueue, Keyed};

@@ -9,42 +9,42 @@ abbrev pub covers : ℕ → Settle → Bool
 covers t s = if s.multiple then nat_le t s.tag else t == s.tag
 
 -- the broker's count: what it is reading, whether it read a select, the publishes read whole since then, the settlements sent
-pub record Book : Type 0 where
+pub record TagCount : Type 0 where
   pub current : ℕ
   pub chosen : Bool
   pub numbered : List ℕ
   pub log : List Settle
 
 -- the count of a new opening: no select read, nothing numbered and nothing settled
-abbrev pub new_book : Book
-new_book = record { current = 0; chosen = false; numbered = []; log = [] }
+abbrev pub new_tag_count : TagCount
+new_tag_count = record { current = 0; chosen = false; numbered = []; log = [] }
 
 -- a content that is whole takes the next number
-abbrev pub counted : Book → Option Content → Book
+abbrev pub counted : TagCount → Option Content → TagCount
 counted b (Some Idle) = record b { numbered = if b.chosen then b.numbered ++ b.current ∷ [] else b.numbered }
 counted b _ = b
 
 -- the broker's count after a frame that it reads: open begins it anew, and a publish that is whole takes the next number
 -- where a select was read
-abbrev pub book_next : Peer → Option Content → Book → UpF → Book
-book_next Free r b FOpen = new_book
-book_next Open r b FSelect = record b { chosen = true }
-book_next Open r b (FPublish i) = record b { current = i }
-book_next Open r b (FHeader n) = counted b (reading_in Open r (FHeader n))
-book_next Open r b (FBody n) = counted b (reading_in Open r (FBody n))
-book_next _ r b _ = b
+abbrev pub tag_count_next : Peer → Option Content → TagCount → UpF → TagCount
+tag_count_next Free r b FOpen = new_tag_count
+tag_count_next Open r b FSelect = record b { chosen = true }
+tag_count_next Open r b (FPublish i) = record b { current = i }
+tag_count_next Open r b (FHeader n) = counted b (reading_in Open r (FHeader n))
+tag_count_next Open r b (FBody n) = counted b (reading_in Open r (FBody n))
+tag_count_next _ r b _ = b
 
 -- the settlement's tag is one of a numbered publish, and where it is a single one no settlement before covers that tag
-abbrev pub may_tag : Settle → Book → Bool
+abbrev pub may_tag : Settle → TagCount → Bool
 may_tag s b = nat_lt 0 s.tag && nat_le s.tag (length b.numbered) && (s.multiple || not (list_any (covers s.tag) b.log))
 
 -- the frame is no settlement, or one that the broker may send: it read a select, and the tag fits
-abbrev pub may_settle : Book → DownF → Bool
+abbrev pub may_settle : TagCount → DownF → Bool
 may_settle b (BSettle s) = b.chosen && may_tag s b
 may_settle b _ = true
 
 -- the broker's count after a frame that it sent: a settlement is noted
-abbrev pub logged : Book → DownF → Book
+abbrev pub logged : TagCount → DownF → TagCount
 logged b (BSettle s) = record b { log = b.log ++ s ∷ [] }
 logged b _ = b
 
@@ -55,7 +55,7 @@ pub record World3 : Type 0 where
   pub tagged : List ℕ
   pub received : List Settle
   pub refusals : Bool
-  pub book : Book
+  pub tag_count : TagCount
 
 -- the settlements that came, with this frame where it is one
 abbrev pub with_settle : List Settle → DownF → List Settle
@@ -85,7 +85,7 @@ begins3 w _ _ i ns = w
 -- the broker reads the front of the link up, where there is one, and counts
 abbrev pub reads3 : World3 → List UpF → World3
 reads3 w [] = w
-reads3 w (u ∷ us) = record w { base = reads2 w.base (u ∷ us); book = book_next w.base.peer w.base.reading w.book u }
+reads3 w (u ∷ us) = record w { base = reads2 w.base (u ∷ us); tag_count = tag_count_next w.base.peer w.base.reading w.tag_count u }
 
 -- the session receives the front of the link down, where there is one; a settlement is noted, and a refused one is marked
 abbrev pub delivers3 : World3 → List DownF → World3
@@ -94,7 +94,7 @@ delivers3 w (d ∷ ds) = record w { base = delivers2 w.base (d ∷ ds); received
 
 -- the broker sends the frame; a settlement is noted
 abbrev pub sends3 : World3 → DownF → World3
-sends3 w d = record w { base = sends2 w.base d; book = logged w.book d }
+sends3 w d = record w { base = sends2 w.base d; tag_count = logged w.tag_count d }
 
 -- the world after a step; a frame that the broker may not send is not sent
 abbrev pub happens3 : World3 → Step2 → World3
@@ -103,7 +103,7 @@ happens3 w CallSelect2 = selects3 w w.base.sess
 happens3 w (Begin2 i ns) = begins3 w w.base.sess w.base.unsent i ns
 happens3 w Read2 = reads3 w w.base.up
 happens3 w Deliver2 = delivers3 w w.base.down
-happens3 w (Send2 d) = if may_send w.base.peer (kind_down d) && may_data w.base.peer w.base.kept d && may_settle w.book d then sends3 w d else w
+happens3 w (Send2 d) = if may_send w.base.peer (kind_down d) && may_data w.base.peer w.base.kept d && may_settle w.tag_count d then sends3 w d else w
 happens3 w s = record w { base = happens2 w.base s }
 
 -- the world after the steps, the first one first
@@ -113,7 +113,7 @@ run3 (s ∷ ss) w = run3 ss (happens3 w s)
 
 -- the world at the start: the channel is closed, nothing is kept or under way, nothing is selected or numbered
 abbrev pub start3 : World3
-start3 = record { base = start2; selected = false; tagged = []; received = []; refusals = false; book = new_book }
+start3 = record { base = start2; selected = false; tagged = []; received = []; refusals = false; tag_count = new_tag_count }
 
 -- the first settlement that covers a tag
 abbrev pub first_covering : ℕ → List Settle → Option Settle

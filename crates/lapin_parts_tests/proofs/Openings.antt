@@ -7,7 +7,7 @@ use Rattle.lapin_tables.proofs.Counts.{count-cons}
 use Rattle.lapin_tables.proofs.SlotLaws.{under-last, under-push, under-other}
 use Rattle.lapin_confirm.specs.declared.cell.Cell.{Cell}
 use Rattle.lapin_confirm.specs.declared.cell.Cell.TheVariants as cell
-use Rattle.lapin_confirm.specs.Book.{is_queued, is_queued_on, is_pending_on, is_open_on}
+use Rattle.lapin_confirm.specs.PublishStates.{is_queued, is_queued_on, is_pending_on, is_open_on}
 
 module _ {X : Type 0} (p : X → Bool) where
   none_behind : (x : X) (xs : List X) → count_by p (x ∷ xs) ≡ 0 → count_by p xs ≡ 0

@@ -2,7 +2,7 @@
 ghost use Rattle.std.specs.Prelude.{◌≡◌, false, IsTrue, IsSome};
 ghost use Rattle.std.specs.List.{list_any};
 ghost use Rattle.lapin_tables.specs.ByChannel.{at_channel};
-ghost use Rattle.lapin_confirm.specs.Book.{is_open_on};
+ghost use Rattle.lapin_confirm.specs.PublishStates.{is_open_on};
 
 use crate::alike::put;
 use crate::confirm_scripts::{
@@ -13,7 +13,7 @@ use crate::texts::{
     bit, channel, digits, done, error, failed, number, refused, returned, said, unread, unused,
 };
 use lapin_confirm::{Confirms, SettleKind};
-use lapin_history::Outcome;
+use lapin_rules::Outcome;
 use lapin_types::{BasicReturnMessage, Confirmation, Error, NoMemory, ReturnedList};
 use std::alloc::Global;
 use std::test::Fail;
@@ -126,14 +126,14 @@ impl Office {
 
 // Whether a channel is seen to have an opening: something was set on it.
 fn has_opening(confirms: &Confirms, channel: u16) -> bool
-    ensures { IsTrue result → IsSome (at_channel channel confirms.now.what.book.ledgers) }
+    ensures { IsTrue result → IsSome (at_channel channel confirms.now.what.publish_states.confirm_modes) }
 {
     confirms.selected(channel) || confirms.asked(channel) || confirms.limit(channel) > 0
 }
 
 // Whether nothing of a channel is open.
 fn is_over(confirms: &Confirms, channel: u16) -> bool
-    ensures { IsTrue result → list_any (is_open_on channel) confirms.now.what.book.cells ≡ false }
+    ensures { IsTrue result → list_any (is_open_on channel) confirms.now.what.publish_states.cells ≡ false }
 {
     confirms.pending(channel) == 0 && confirms.queued(channel) == 0
 }

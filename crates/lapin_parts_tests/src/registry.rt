@@ -182,7 +182,7 @@ const QUEUES: &str = "\
     bind-queue mail logs info x -> done
     bind-queue mail trade info -> done
     queues -> audit declared;mail durable logs-info logs-error logs-info logs-info trade-info;news durable;
-    unbind-queue post logs info -> done
+    unbind-queue confirm_state logs info -> done
     unbind-queue mail logs warning -> done
     unbind-queue mail logs info -> done
     queues -> audit declared;mail durable logs-error logs-info trade-info;news durable;

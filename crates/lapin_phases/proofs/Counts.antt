@@ -3,11 +3,11 @@ use Rattle.std.proofs.Common.{rules, ◌≡◌, ℕ, suc, ◌+◌, ◌<◌, ◌�
 use Rattle.std.specs.List.{list_any}
 use Rattle.lapin_phases.specs.Paused.{paused_among}
 use Rattle.lapin_tables.specs.ByChannel.{at_channel, on_channel}
-use Rattle.lapin_history.specs.declared.phases.ChannelPhase.{ChannelPhase}
-use Rattle.lapin_history.specs.declared.phases.ChannelPhase.TheVariants as phase
-use Rattle.lapin_history.specs.Words.{is_some, with_channel}
-use Rattle.lapin_history.specs.Phases.{is_paused, phase_in}
-use Rattle.lapin_history.specs.Flow.{is_paused_on}
+use Rattle.lapin_rules.specs.declared.phases.ChannelPhase.{ChannelPhase}
+use Rattle.lapin_rules.specs.declared.phases.ChannelPhase.TheVariants as phase
+use Rattle.lapin_rules.specs.Words.{is_some, with_channel}
+use Rattle.lapin_rules.specs.Phases.{is_paused, phase_in}
+use Rattle.lapin_rules.specs.Flow.{is_paused_on}
 
 abbrev pub one : Bool → ℕ
 one b = cond b 1 0

@@ -1,7 +1,7 @@
 -- How many channels are open and paused.
 use Rattle.std.specs.Prelude.{ℕ, suc, if◌then◌else◌, List, [], ◌∷◌}
-use Rattle.lapin_history.specs.declared.phases.ChannelPhase.{ChannelPhase}
-use Rattle.lapin_history.specs.Flow.{is_paused_on}
+use Rattle.lapin_rules.specs.declared.phases.ChannelPhase.{ChannelPhase}
+use Rattle.lapin_rules.specs.Flow.{is_paused_on}
 
 -- how many of these channels are open and paused by the broker's `channel.flow` (AMQP 0-9-1, channel class)
 abbrev pub paused_among : List (ℕ × ChannelPhase) → ℕ

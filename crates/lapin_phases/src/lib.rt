@@ -6,12 +6,12 @@
 ghost use Rattle.std.specs.Prelude.{◌≡◌, ◌+◌, ◌<◌, ◌≤◌, ◌^◌, true, [], Some, None, OnOk, if◌then◌else◌};
 ghost use Rattle.std.specs.List.{list_any};
 ghost use Rattle.lapin_tables.specs.ByChannel.{at_channel, HasRoom};
-ghost use Rattle.lapin_history.specs.Words.{with_channel};
-ghost use Rattle.lapin_history.specs.Phases.{phase_in, is_live};
-ghost use Rattle.lapin_history.specs.Ends.{live_below, live_channels};
-ghost use Rattle.lapin_history.specs.Flow.{is_paused_on};
+ghost use Rattle.lapin_rules.specs.Words.{with_channel};
+ghost use Rattle.lapin_rules.specs.Phases.{phase_in, is_live};
+ghost use Rattle.lapin_rules.specs.Ends.{live_below, live_channels};
+ghost use Rattle.lapin_rules.specs.Flow.{is_paused_on};
 
-use lapin_history::ChannelPhase;
+use lapin_rules::ChannelPhase;
 use lapin_tables::ByChannel;
 use std::alloc::{AllocError, Global};
 use std::marker::Model;
@@ -34,8 +34,8 @@ impl Drop for Phases {
 impl Model for Phases {
     ghost use Rattle.std.specs.Prelude.{◌≡◌};
     ghost use Rattle.lapin_tables.specs.ByChannel.{Table, table_code};
-    ghost use Rattle.lapin_history.specs.declared.phases.ChannelPhase.{ChannelPhase};
-    ghost use Rattle.lapin_history.specs.contracts.phases.ChannelPhase as phase_row;
+    ghost use Rattle.lapin_rules.specs.declared.phases.ChannelPhase.{ChannelPhase};
+    ghost use Rattle.lapin_rules.specs.contracts.phases.ChannelPhase as phase_row;
     ghost use Rattle.lapin_phases.specs.Paused.{paused_among};
 
     ghost Value = { Table ChannelPhase };

@@ -4,7 +4,7 @@ use denote.Param.Send.{IsSend, sendable}
 use denote.Param.SendFields.{declared_send}
 use Rattle.std.proofs.Crossing.{crosses}
 use Rattle.std.specs.declared.sync.ledger.Ledger.{Ghosts}
-use Rattle.lapin_crossing.proofs.Callers.{caller_send}
+use Rattle.lapin_send.proofs.Callers.{caller_send}
 use Rattle.lapin_pool.proofs.card.Card.TheSendSync as card
 use Rattle.lapin_pool.specs.contracts.seat.Seat as seat_
 

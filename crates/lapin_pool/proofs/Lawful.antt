@@ -6,8 +6,8 @@ use Rattle.lapin_types.specs.declared.event.Event.TheVariants as event
 use Rattle.lapin_types.specs.declared.job.Job.{Job}
 use Rattle.lapin_types.specs.declared.record.Record.{Record}
 use Rattle.lapin_types.specs.declared.record.Record.TheVariants as record_
-use Rattle.lapin_history.specs.Consumers.{job_record}
-use Rattle.lapin_history.specs.History.{History, rec, run_from}
+use Rattle.lapin_rules.specs.Consumers.{job_record}
+use Rattle.lapin_rules.specs.History.{History, rec, run_from}
 use Rattle.lapin_shared.specs.declared.entry.Entry.{Entry}
 use Rattle.lapin_shared.specs.Lawful.{event_of, answer_of, IsLawful}
 use Rattle.lapin_pool.specs.Turns.{tells_job}

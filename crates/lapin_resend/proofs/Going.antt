@@ -2,7 +2,7 @@
 use Rattle.std.proofs.Common.{◌≡◌, ◌∙◌, ℕ, ◌+◌, ◌<◌, ◌≤◌, Bool, false, cond, List, [], ◌∷◌, ◌++◌, length, map, take, drop, get_or, refl, sym, ap, subst, append_assoc, append-nil, arith}
 use Rattle.std.specs.Prelude.{set}
 use Rattle.std.proofs.lemmas.List.{map-append, drop-set-lt, take_more_set, drop_more, drop_all, take_all}
-use Rattle.lapin_joint.specs.Kept.{Kept, StandsFor}
+use Rattle.lapin_joint.specs.JoinedRun.{JoinedRun, StandsFor}
 use Rattle.lapin_resend.specs.declared.message.Submitted.{Submitted}
 use Rattle.lapin_resend.specs.Messages.{Standing, waits, confirm_of}
 use Rattle.lapin_resend.specs.Publisher.{Steps, Met, All, told, with_event, in_front, publishing, publish_one, each}
@@ -14,14 +14,14 @@ after_front xs a = (xs ++ a.0, a.1)
 
 module _ (meet : ℕ → Steps → Standing → Met) where
   -- the messages below place i are done, and the joined run came to now
-  pub record Going (all : List Submitted) (start now : Kept) (items : List Submitted) (i : ℕ) : Type 0 where
+  pub record Going (all : List Submitted) (start now : JoinedRun) (items : List Submitted) (i : ℕ) : Type 0 where
     pub leads : (n : ℕ) (made : Steps) → StandsFor n made start → (mid : Steps) × StandsFor n mid now × (each (meet n) made (map standing all) ≡ after_front (map standing (take i items)) (each (meet n) mid (map standing (drop i items))))
 
-  pub going_start : (all : List Submitted) (start : Kept) → Going all start start all 0
+  pub going_start : (all : List Submitted) (start : JoinedRun) → Going all start start all 0
   going_start all start = record { leads = λ n made h. (made, h, refl) }
 
   -- one more is done
-  pub going_next : (all : List Submitted) (start old new : Kept) (items : List Submitted) (i : ℕ) (x y : Submitted) → Going all start old items i → i < length items → x ≡ get_or items i x → Meets meet old new x y → Going all start new (set items i y) (i + 1)
+  pub going_next : (all : List Submitted) (start old new : JoinedRun) (items : List Submitted) (i : ℕ) (x y : Submitted) → Going all start old items i → i < length items → x ≡ get_or items i x → Meets meet old new x y → Going all start new (set items i y) (i + 1)
   going_next all start old new items i x y going lt is met = record {
     leads = λ n made h.
         let before = going.leads n made h in
@@ -50,7 +50,7 @@ module _ (meet : ℕ → Steps → Standing → Met) where
   }
 
   -- all are done
-  pub going_end : (all : List Submitted) (start now : Kept) (items : List Submitted) (i : ℕ) → Going all start now items i → length items ≤ i → MeetEach meet start now all items
+  pub going_end : (all : List Submitted) (start now : JoinedRun) (items : List Submitted) (i : ℕ) → Going all start now items i → length items ≤ i → MeetEach meet start now all items
   going_end all start now items i going le n made h =
       let last = going.leads n made h in
       let whole : each (meet n) made (map standing all) ≡ (map standing items, last.0) =
@@ -61,7 +61,7 @@ module _ (meet : ℕ → Steps → Standing → Met) where
       (sym (ap (λ (a : All). a.0) whole), subst (λ (ss : Steps). StandsFor n ss now) (sym (ap (λ (a : All). a.1) whole)) last.1)
 
 -- one that doesn't wait isn't published
-pub publish_none : (s : Submitted) (k : Kept) → waits (standing s) ≡ false → Meets publish_one k k s s
+pub publish_none : (s : Submitted) (k : JoinedRun) → waits (standing s) ≡ false → Meets publish_one k k s s
 publish_none s k still n made h =
     let P : Bool → Type 0 = λ b.
     (standing s ≡ (cond {A = Met} b (record (standing s) { outstanding = confirm_of (told n made (publishing (standing s))) }, with_event (publishing (standing s)) made) (standing s, made)).0)

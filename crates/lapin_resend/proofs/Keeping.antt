@@ -10,7 +10,7 @@ use Rattle.lapin_resend.specs.Publisher.{Publisher, Steps, Met, All, told, with_
 use Rattle.lapin_resend.specs.Resend.{after_loss, message_at, whether_stored, status_of}
 use Rattle.lapin_resend.specs.Follows.{standing, place, entry_of, is_kept}
 use Rattle.lapin_resend.specs.Keeping.{kept_from, but, IsSettled, AreSettled, known_report, noted}
-use Rattle.lapin_history.specs.Wire.{is_closed, is_open}
+use Rattle.lapin_rules.specs.Wire.{is_closed, is_open}
 
 -- the message of an entry
 abbrev pub second : List (ℕ × Standing) → List Standing

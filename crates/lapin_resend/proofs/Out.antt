@@ -3,9 +3,9 @@ use Rattle.std.proofs.Common.{◌≡◌, ℕ, Bool, true, false, true≢false, �
 use Rattle.std.specs.Option.{is_some}
 use Rattle.lapin_types.specs.declared.record.Record.{Record}
 use Rattle.lapin_types.specs.declared.record.Record.TheVariants as record_
-use Rattle.lapin_history.specs.Wire.{Wire, start, state_of, is_open}
-use Rattle.lapin_history.specs.History.{History, Past, past}
-use Rattle.lapin_history.specs.Events.{after_event}
+use Rattle.lapin_rules.specs.Wire.{Wire, start, state_of, is_open}
+use Rattle.lapin_rules.specs.History.{History, Past, past}
+use Rattle.lapin_rules.specs.Events.{after_event}
 use Rattle.lapin_machine.proofs.Standing.{past-push}
 use Rattle.lapin_joint.specs.declared.step.Step.TheVariants as joined
 use Rattle.lapin_joint.specs.Joint.{Joint, new_joint, joined_to}
@@ -15,7 +15,7 @@ use Rattle.lapin_resend.specs.declared.step.ResendStep.{ResendStep}
 use Rattle.lapin_resend.specs.Messages.{Standing, waits, confirm_of}
 use Rattle.lapin_resend.specs.Publisher.{Publisher, Steps, Met, told, state_in, with_event, with_all, publishing, publish_one, each, after_polls, after_opening, after_selecting, tended}
 use Rattle.lapin_resend.specs.Resend.{begun, after_step, no_publisher, new_publisher, publisher_from, publisher_after}
-use Rattle.lapin_resend.specs.Kept.{IsOut, AreOut}
+use Rattle.lapin_resend.specs.ResendRun.{IsOut, AreOut}
 
 -- ---- the present session after one step more
 

@@ -6,7 +6,7 @@ use Rattle.lapin_types.specs.declared.event.Event.TheVariants as event
 use Rattle.lapin_types.specs.declared.record.Record.{Record}
 use Rattle.lapin_types.specs.declared.record.Record.TheVariants as record_
 use Rattle.lapin_types.specs.declared.confirmation.Confirmation.TheVariants as confirmation
-use Rattle.lapin_history.specs.Wire.{is_closed, is_open}
+use Rattle.lapin_rules.specs.Wire.{is_closed, is_open}
 use Rattle.lapin_resend.specs.declared.step.ResendStep.{ResendStep}
 use Rattle.lapin_resend.specs.declared.step.ResendStep.TheVariants as step
 use Rattle.lapin_resend.specs.Messages.{Standing, submitted, polled, waits, confirm_of, forgotten}

@@ -7,7 +7,7 @@ use Rattle.lapin_resend.specs.declared.step.ResendReport.{ResendReport}
 use Rattle.lapin_resend.specs.declared.message.Submitted.{Submitted}
 use Rattle.lapin_resend.specs.declared.publisher.Publisher as code
 use Rattle.lapin_resend.specs.declared.step.ResendStep.TheVariants as step
-use Rattle.lapin_joint.specs.Kept.{Kept, StandsFor}
+use Rattle.lapin_joint.specs.JoinedRun.{JoinedRun, StandsFor}
 use Rattle.lapin_resend.specs.Messages.{Standing, submitted, forgotten}
 use Rattle.lapin_resend.specs.Publisher.{Publisher, tended}
 use Rattle.lapin_resend.specs.Follows.{entry_of, is_kept}
@@ -79,8 +79,8 @@ noted_follows n b known new_known p mid new h long quiet noted_is joined selects
       known_is,
       record {
         follows = record {
-          joined = subst (λ (k : Kept). StandsFor n p.present k) (sym joined) h.follows.joined;
-          running = ap (λ (k : Kept). k.stopped) joined ∙ h.follows.running;
+          joined = subst (λ (k : JoinedRun). StandsFor n p.present k) (sym joined) h.follows.joined;
+          running = ap (λ (k : JoinedRun). k.stopped) joined ∙ h.follows.running;
           messages = parts.1;
           selects = selects ∙ h.follows.selects;
         };

@@ -10,20 +10,20 @@ use Rattle.lapin_types.specs.declared.leaving.Left.{Left}
 use Rattle.lapin_types.specs.Types.{Frame}
 use Rattle.lapin_types.specs.declared.record.Record.{Record}
 use Rattle.lapin_types.specs.declared.record.Record.TheVariants as record_
-use Rattle.lapin_consumer.specs.Roster.{consumer_at}
-use Rattle.lapin_history.specs.declared.calls.Asked.{Asked}
-use Rattle.lapin_history.specs.declared.calls.Asked.TheVariants as ask
-use Rattle.lapin_history.specs.Ackers.{acker_asked, usable_at, acked_wire}
-use Rattle.lapin_history.specs.Asking.{asked_by, is_allowed, after_call, asked_wire}
-use Rattle.lapin_history.specs.Calls.{asked}
-use Rattle.lapin_history.specs.Consumers.{after_drop}
-use Rattle.lapin_history.specs.Events.{after_event}
-use Rattle.lapin_history.specs.Handing.{after_next}
-use Rattle.lapin_history.specs.History.{History, Past, past, rec}
-use Rattle.lapin_history.specs.Incoming.{incoming_of}
-use Rattle.lapin_history.specs.Loss.{after_lost}
-use Rattle.lapin_history.specs.Receiving.{after_incoming}
-use Rattle.lapin_history.specs.Wire.{Wire, start, state_of, is_closed, is_open}
+use Rattle.lapin_consumer.specs.Subscriptions.{consumer_at}
+use Rattle.lapin_rules.specs.declared.calls.Asked.{Asked}
+use Rattle.lapin_rules.specs.declared.calls.Asked.TheVariants as ask
+use Rattle.lapin_rules.specs.Ackers.{acker_asked, usable_at, acked_wire}
+use Rattle.lapin_rules.specs.Asking.{asked_by, is_allowed, after_call, asked_wire}
+use Rattle.lapin_rules.specs.Calls.{asked}
+use Rattle.lapin_rules.specs.Consumers.{after_drop}
+use Rattle.lapin_rules.specs.Events.{after_event}
+use Rattle.lapin_rules.specs.Handing.{after_next}
+use Rattle.lapin_rules.specs.History.{History, Past, past, rec}
+use Rattle.lapin_rules.specs.Incoming.{incoming_of}
+use Rattle.lapin_rules.specs.Loss.{after_lost}
+use Rattle.lapin_rules.specs.Receiving.{after_incoming}
+use Rattle.lapin_rules.specs.Wire.{Wire, start, state_of, is_closed, is_open}
 use Rattle.lapin_machine.proofs.Counting.{incoming_counts, lost_counts, next_counts, let_go_counts}
 use Rattle.lapin_machine.proofs.Standing.{past-push}
 use Rattle.lapin_broker.specs.Sends.{may}
@@ -36,7 +36,7 @@ use Rattle.lapin_resend.specs.declared.step.ResendStep.TheVariants as step
 use Rattle.lapin_resend.specs.Messages.{Standing, submitted, publish_of, polled, waits, confirm_of, forgotten}
 use Rattle.lapin_resend.specs.Publisher.{Publisher, Steps, Met, told, state_in, with_event, poll_at, poll_one, publishing, publish_one, each, after_polls, after_opening, after_selecting, tended}
 use Rattle.lapin_resend.specs.Resend.{begun, after_step, no_publisher, new_publisher, publisher_from, publisher_after}
-use Rattle.lapin_resend.specs.Kept.{DoNotShare, NoneShare}
+use Rattle.lapin_resend.specs.ResendRun.{DoNotShare, NoneShare}
 use Rattle.lapin_joint.proofs.Steps.{run-push}
 use Rattle.lapin_resend.proofs.Out.{wire_in, published_wire}
 
@@ -68,7 +68,7 @@ event_rises b (event.Call c k) r = asked_rises c (asked_by k r) b
 event_rises b (event.Next flow) r = let same : (after_next r b).published ≡ b.published = (next_counts r b).1 in omega (arith, same)
 event_rises b (event.Receive f) r = let same : (after_incoming (incoming_of f) r b).published ≡ b.published = (incoming_counts (incoming_of f) r b).1 in omega (arith, same)
 event_rises b (event.Acker n k) r = acked_rises (usable_at n b) k b
-event_rises b (event.DropConsumer n) r = let same : (after_drop n b).published ≡ b.published = (let_go_counts (consumer_at n b.inbox.roster) b).1 in omega (arith, same)
+event_rises b (event.DropConsumer n) r = let same : (after_drop n b).published ≡ b.published = (let_go_counts (consumer_at n b.deliveries.subscriptions) b).1 in omega (arith, same)
 event_rises b event.Lost r = let same : (after_lost b).published ≡ b.published = (lost_counts b).1 in omega (arith, same)
 event_rises b _ r = omega arith
 

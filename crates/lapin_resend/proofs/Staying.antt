@@ -4,13 +4,13 @@ use Rattle.std.specs.Prelude.{Ok, Err}
 use Rattle.lapin_types.specs.declared.record.Record.{Record}
 use Rattle.lapin_types.specs.declared.record.Record.TheVariants as record_
 use Rattle.lapin_types.specs.declared.confirmation.Confirmation.TheVariants as confirmation
-use Rattle.lapin_history.specs.Wire.{is_closed, is_open}
+use Rattle.lapin_rules.specs.Wire.{is_closed, is_open}
 use Rattle.lapin_resend.specs.declared.step.ResendStep.{ResendStep}
 use Rattle.lapin_resend.specs.declared.step.ResendStep.TheVariants as step
 use Rattle.lapin_resend.specs.Messages.{Standing, submitted, polled, waits, confirm_of, forgotten}
 use Rattle.lapin_resend.specs.Publisher.{Publisher, Steps, Met, told, state_in, with_event, poll_at, poll_one, publishing, publish_one, each, after_polls, after_opening, after_selecting, after_publishing, tended}
 use Rattle.lapin_resend.specs.Resend.{begun, after_step, new_publisher, publisher_from, publisher_after}
-use Rattle.lapin_resend.specs.Kept.{StayStored}
+use Rattle.lapin_resend.specs.ResendRun.{StayStored}
 
 -- ---- lists of messages
 

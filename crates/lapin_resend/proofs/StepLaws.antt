@@ -4,7 +4,7 @@ use Rattle.std.proofs.lemmas.List.{map-append, take_all, drop_all}
 use Rattle.lapin_joint.specs.declared.step.Step as joined_step
 use Rattle.lapin_joint.specs.declared.step.Reported.{Reported}
 use Rattle.lapin_joint.specs.Joint as joint
-use Rattle.lapin_joint.specs.Kept.{Kept, StandsFor}
+use Rattle.lapin_joint.specs.JoinedRun.{JoinedRun, StandsFor}
 use Rattle.lapin_resend.specs.declared.message.Message.{Message}
 use Rattle.lapin_resend.specs.declared.message.Submitted.{Submitted}
 use Rattle.lapin_resend.specs.declared.publisher.Publisher as code
@@ -30,13 +30,13 @@ tend_goes a b c d e polls opens selects publishes n p h = publishes n _ (selects
 -- ---- a step of the joined run
 
 -- what Joined says of its step
-abbrev pub Longer : joined_step.Step → Kept → Kept → Reported → Type 0
+abbrev pub Longer : joined_step.Step → JoinedRun → JoinedRun → Reported → Type 0
 Longer s old new r = (n : ℕ) (made : Steps) → StandsFor n made old → (joint.joined n (made ++ s ∷ []) ≡ joint.joined n made ++ r ∷ []) × StandsFor n (made ++ s ∷ []) new
 
-joined_told : (s : joined_step.Step) (old : code.Publisher) (new : Kept) (r : Reported) → Longer s old.joined new r → (n : ℕ) (p : Publisher) → Follows n p old → told.Joined r ≡ joined_report n s p
+joined_told : (s : joined_step.Step) (old : code.Publisher) (new : JoinedRun) (r : Reported) → Longer s old.joined new r → (n : ℕ) (p : Publisher) → Follows n p old → told.Joined r ≡ joined_report n s p
 joined_told s old new r stands n p h = ap told.Joined (last_report n p.present s r (stands n p.present h.joined).0)
 
-pub joined_tells : (s : joined_step.Step) (old : code.Publisher) (new : Kept) (r : Reported) → Longer s old.joined new r → (n : ℕ) (known : List Bool) (p : Publisher) → Knows n known p old → told.Joined r ≡ joined_report n s p
+pub joined_tells : (s : joined_step.Step) (old : code.Publisher) (new : JoinedRun) (r : Reported) → Longer s old.joined new r → (n : ℕ) (known : List Bool) (p : Publisher) → Knows n known p old → told.Joined r ≡ joined_report n s p
 joined_tells s old new r stands n known p h = joined_told s old new r stands n (but known p) h.follows.follows
 
 pub joined_goes : (s : joined_step.Step) (old new : code.Publisher) (r : Reported) → Longer s old.joined new.joined r → new.joined.stopped ≡ false → new.messages ≡ old.messages → new.selects ≡ old.selects → (n : ℕ) (known : List Bool) (p : Publisher) → FollowsBut n known p old → FollowsBut n known (with_step s p) new
@@ -85,8 +85,8 @@ submit_goes m known old new x at is joined selects messages n p h =
     kept_more 0 known p.messages (submitted m) before.settled ∙ ap (λ (i : ℕ). kept_from 0 known p.messages ++ (i, submitted m) ∷ []) (zero-add (length p.messages)) in
     record {
       follows = record {
-        joined = subst (λ (k : Kept). StandsFor n p.present k) (sym joined) before.follows.joined;
-        running = ap (λ (k : Kept). k.stopped) joined ∙ before.follows.running;
+        joined = subst (λ (k : JoinedRun). StandsFor n p.present k) (sym joined) before.follows.joined;
+        running = ap (λ (k : JoinedRun). k.stopped) joined ∙ before.follows.running;
         messages =
             ap (map standing) messages
             ∙ map-append standing old.messages.items (x ∷ [])

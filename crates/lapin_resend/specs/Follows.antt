@@ -3,7 +3,7 @@ use Rattle.std.specs.Prelude.{◌≡◌, ℕ, Bool, not, List, map, Option, None
 use Rattle.lapin_types.specs.declared.event.Event.{Event}
 use Rattle.lapin_joint.specs.declared.step.Reported.{Reported}
 use Rattle.lapin_joint.specs.declared.step.Reported.TheVariants as reported
-use Rattle.lapin_joint.specs.Kept.{Kept, StandsFor}
+use Rattle.lapin_joint.specs.JoinedRun.{JoinedRun, StandsFor}
 use Rattle.lapin_resend.specs.declared.message.Submitted.{Submitted}
 use Rattle.lapin_resend.specs.Messages.{Standing, polled, confirm_of}
 use Rattle.lapin_resend.specs.Publisher.{Steps, Met, told, with_event, each}
@@ -35,15 +35,15 @@ confirm_report (reported.Client r) = confirm_of r
 confirm_report _ = None
 
 -- an event of the client is told as the definition says, and the joined run then stands for the longer list of steps
-abbrev pub Tells : Event → Kept → Kept → Reported → Type 0
+abbrev pub Tells : Event → JoinedRun → JoinedRun → Reported → Type 0
 Tells e old new r = (n : ℕ) (made : Steps) → StandsFor n made old → (r ≡ reported.Client (told n made e)) × StandsFor n (with_event e made) new
 
 -- a message and the joined run become what the definition makes of them
-abbrev pub Meets : (ℕ → Steps → Standing → Met) → Kept → Kept → Submitted → Submitted → Type 0
+abbrev pub Meets : (ℕ → Steps → Standing → Met) → JoinedRun → JoinedRun → Submitted → Submitted → Type 0
 Meets meet old new s t =
     (n : ℕ) (made : Steps) → StandsFor n made old → (standing t ≡ (meet n made (standing s)).0) × StandsFor n (meet n made (standing s)).1 new
 
 -- so do all messages
-abbrev pub MeetEach : (ℕ → Steps → Standing → Met) → Kept → Kept → List Submitted → List Submitted → Type 0
+abbrev pub MeetEach : (ℕ → Steps → Standing → Met) → JoinedRun → JoinedRun → List Submitted → List Submitted → Type 0
 MeetEach meet old new ss ts =
     (n : ℕ) (made : Steps) → StandsFor n made old → (map standing ts ≡ (each (meet n) made (map standing ss)).0) × StandsFor n (each (meet n) made (map standing ss)).1 new

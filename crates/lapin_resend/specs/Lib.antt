@@ -1,7 +1,7 @@
 pub mod Messages
 pub mod Publisher
 pub mod Resend
-pub mod Kept
+pub mod ResendRun
 pub mod Follows
 pub mod Tending
 pub mod Keeping

@@ -6,8 +6,8 @@ use Rattle.lapin_types.specs.declared.call.Call.TheVariants as call
 use Rattle.lapin_types.specs.declared.event.Event.{Event}
 use Rattle.lapin_types.specs.declared.event.Event.TheVariants as event
 use Rattle.lapin_types.specs.declared.record.Record.{Record}
-use Rattle.lapin_history.specs.Wire.{state_of, is_closed, is_open}
-use Rattle.lapin_history.specs.History.{past, rec}
+use Rattle.lapin_rules.specs.Wire.{state_of, is_closed, is_open}
+use Rattle.lapin_rules.specs.History.{past, rec}
 use Rattle.lapin_joint.specs.declared.step.Step as joined_step
 use Rattle.lapin_joint.specs.declared.step.Step.TheVariants as joined
 use Rattle.lapin_joint.specs.Joint.{joined_to}

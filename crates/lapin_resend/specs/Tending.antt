@@ -1,6 +1,6 @@
 -- How the code's publisher stands for that of the definition.
 use Rattle.std.specs.Prelude.{◌≡◌, ℕ, false, map}
-use Rattle.lapin_joint.specs.Kept.{StandsFor}
+use Rattle.lapin_joint.specs.JoinedRun.{StandsFor}
 use Rattle.lapin_resend.specs.declared.publisher.Publisher as code
 use Rattle.lapin_resend.specs.Publisher.{Publisher}
 use Rattle.lapin_resend.specs.Follows.{standing}

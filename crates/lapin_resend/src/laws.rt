@@ -1,11 +1,11 @@
 //! What holds of a publisher after every list of steps, each law the contract of a function that does nothing.
 
 ghost use Rattle.std.specs.Prelude.{◌≡◌, ℕ, List, ◌++◌, true};
-ghost use Rattle.lapin_history.specs.Wire.{is_open};
+ghost use Rattle.lapin_rules.specs.Wire.{is_open};
 ghost use Rattle.lapin_resend.specs.declared.step.ResendStep.{ResendStep as AStep};
 ghost use Rattle.lapin_resend.specs.Publisher.{state_in};
 ghost use Rattle.lapin_resend.specs.Resend.{publisher_after};
-ghost use Rattle.lapin_resend.specs.Kept.{StayStored, AreOut, NoneShare};
+ghost use Rattle.lapin_resend.specs.ResendRun.{StayStored, AreOut, NoneShare};
 
 /// A message that is stored is stored at every later step.
 pub fn stored_stays()

@@ -6,7 +6,7 @@ ghost use Rattle.lapin_types.specs.declared.event.Event.TheVariants as event_;
 ghost use Rattle.lapin_joint.specs.Joint.{is_lawful};
 ghost use Rattle.lapin_resend.specs.Publisher.{poll_one as poll_one_lem, publish_one as publish_one_lem};
 ghost use Rattle.lapin_resend.specs.Messages.{waits};
-ghost use Rattle.lapin_history.specs.Wire.{state_of, is_open as is_open_lem, is_closed as is_closed_lem};
+ghost use Rattle.lapin_rules.specs.Wire.{state_of, is_open as is_open_lem, is_closed as is_closed_lem};
 ghost use Rattle.lapin_resend.specs.Publisher.{after_polls, after_opening, after_selecting, after_publishing, tended};
 ghost use Rattle.lapin_resend.specs.Tending.{GoesTo};
 ghost use Rattle.lapin_resend.specs.Follows.{standing, place as place_lem, confirm_report, Tells, Meets, MeetEach};

@@ -4,16 +4,16 @@ use Rattle.std.specs.Prelude.{nat_lt, nat_le}
 use Rattle.std.specs.List.{list_any, AllByRecursion}
 use Rattle.std.specs.Option.{option_or}
 use Rattle.std.proofs.lemmas.Bool.Decides.{nat_tests}
-use Rattle.lapin_history.specs.declared.marks.SettleKind.{SettleKind}
-use Rattle.lapin_history.specs.declared.marks.SettleKind.TheVariants as kind
-use Rattle.lapin_history.specs.declared.marks.Settlement.{Settlement}
-use Rattle.lapin_history.specs.declared.marks.Outcome.{Outcome}
-use Rattle.lapin_history.specs.declared.marks.Outcome.TheVariants as outcome
-use Rattle.lapin_history.specs.ConfirmMarks.{ConfirmMark}
-use Rattle.lapin_history.specs.ConfirmMarks as mark
-use Rattle.lapin_history.specs.ConfirmReadings.{begins, adds, selects, leaves, is_begun, is_selected, place, channel_in, channel_of, added, was_added, has_left, tag_of, tag_on, covers, kind_outcome, outcome_of, first_settled, first_rejected, outcome_at, outcome_after, life}
-use Rattle.lapin_history.specs.Words.{since, through, after, many, one_after}
-use Rattle.lapin_history.proofs.ListLaws.{since-push, since_none}
+use Rattle.lapin_rules.specs.declared.marks.SettleKind.{SettleKind}
+use Rattle.lapin_rules.specs.declared.marks.SettleKind.TheVariants as kind
+use Rattle.lapin_rules.specs.declared.marks.Settlement.{Settlement}
+use Rattle.lapin_rules.specs.declared.marks.Outcome.{Outcome}
+use Rattle.lapin_rules.specs.declared.marks.Outcome.TheVariants as outcome
+use Rattle.lapin_rules.specs.ConfirmMarks.{ConfirmMark}
+use Rattle.lapin_rules.specs.ConfirmMarks as mark
+use Rattle.lapin_rules.specs.ConfirmReadings.{begins, adds, selects, leaves, is_begun, is_selected, place, channel_in, channel_of, added, was_added, has_left, tag_of, tag_on, covers, kind_outcome, outcome_of, first_settled, first_rejected, outcome_at, outcome_after, life}
+use Rattle.lapin_rules.specs.Words.{since, through, after, many, one_after}
+use Rattle.lapin_rules.proofs.ListLaws.{since-push, since_none}
 use Rattle.lapin_effects.specs.Effects.{grows}
 
 -- ---- a list with one more

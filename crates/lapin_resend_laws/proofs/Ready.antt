@@ -15,32 +15,32 @@ use Rattle.lapin_types.specs.Types.error
 use Rattle.lapin_types.specs.Types.frame
 use Rattle.lapin_types.specs.Types.method
 use Rattle.lapin_types.specs.Types.confirm
-use Rattle.lapin_history.specs.declared.broker_frames.Incoming.{Incoming}
-use Rattle.lapin_history.specs.declared.broker_frames.Incoming.TheVariants as incoming
-use Rattle.lapin_history.specs.declared.phases.ChannelPhase.{ChannelPhase}
-use Rattle.lapin_history.specs.declared.phases.ChannelPhase.TheVariants as phase
-use Rattle.lapin_history.specs.ConfirmMarks.{ConfirmMark}
-use Rattle.lapin_history.specs.ConfirmMarks as mark
-use Rattle.lapin_history.specs.ConfirmReadings.{begins, is_begun, is_selected}
-use Rattle.lapin_history.specs.Drops.{is_off, publish_channel, method_channel}
-use Rattle.lapin_history.specs.Ends.{ends, ends_all, live_channels, end_with}
-use Rattle.lapin_history.specs.Events.{record_of, after_event, confirm_marks}
-use Rattle.lapin_history.specs.Frames.{MethodEntry, RestEntry, left_rest, left_method, left_publish, publish_method, rest_of}
-use Rattle.lapin_history.specs.Handing.{handed_out, began_on, after_handing, left_marks, sent}
-use Rattle.lapin_history.specs.Leaving.{may_begin, begun_rest}
-use Rattle.lapin_history.specs.Words.{without_first}
-use Rattle.lapin_history.specs.Phases.{is_up, is_live, channel_state, phase_in}
-use Rattle.lapin_history.specs.ChannelClose.{phases_sent}
-use Rattle.lapin_history.specs.ConnectionClose.{link_sent}
+use Rattle.lapin_rules.specs.declared.broker_frames.Incoming.{Incoming}
+use Rattle.lapin_rules.specs.declared.broker_frames.Incoming.TheVariants as incoming
+use Rattle.lapin_rules.specs.declared.phases.ChannelPhase.{ChannelPhase}
+use Rattle.lapin_rules.specs.declared.phases.ChannelPhase.TheVariants as phase
+use Rattle.lapin_rules.specs.ConfirmMarks.{ConfirmMark}
+use Rattle.lapin_rules.specs.ConfirmMarks as mark
+use Rattle.lapin_rules.specs.ConfirmReadings.{begins, is_begun, is_selected}
+use Rattle.lapin_rules.specs.Drops.{is_off, publish_channel, method_channel}
+use Rattle.lapin_rules.specs.Ends.{ends, ends_all, live_channels, end_with}
+use Rattle.lapin_rules.specs.Events.{record_of, after_event, confirm_marks}
+use Rattle.lapin_rules.specs.Frames.{MethodEntry, RestEntry, left_rest, left_method, left_publish, publish_method, rest_of}
+use Rattle.lapin_rules.specs.Handing.{handed_out, began_on, after_handing, left_marks, sent}
+use Rattle.lapin_rules.specs.Leaving.{may_begin, begun_rest}
+use Rattle.lapin_rules.specs.Words.{without_first}
+use Rattle.lapin_rules.specs.Phases.{is_up, is_live, channel_state, phase_in}
+use Rattle.lapin_rules.specs.ChannelClose.{phases_sent}
+use Rattle.lapin_rules.specs.ConnectionClose.{link_sent}
 use Rattle.lapin_tables.specs.ByChannel.{at_channel}
-use Rattle.lapin_history.specs.Readings.{Readings}
-use Rattle.lapin_history.specs.Receiving.{incoming_marks, received_marks, refused_marks, failed_marks}
-use Rattle.lapin_history.specs.Content.{whole_marks, start_marks, whole_on}
+use Rattle.lapin_rules.specs.Readings.{Readings}
+use Rattle.lapin_rules.specs.Receiving.{incoming_marks, received_marks, refused_marks, failed_marks}
+use Rattle.lapin_rules.specs.Content.{whole_marks, start_marks, whole_on}
 use Rattle.lapin_content.specs.declared.start.Start.{Start}
 use Rattle.lapin_content.specs.declared.start.Start.TheVariants as start
 use Rattle.lapin_content.specs.declared.Whole.{Whole}
-use Rattle.lapin_history.specs.Select.{is_select, method_marks}
-use Rattle.lapin_history.specs.Wire.{Wire, state_of, phase_of, is_closed, is_open, with_lists}
+use Rattle.lapin_rules.specs.Select.{is_select, method_marks}
+use Rattle.lapin_rules.specs.Wire.{Wire, state_of, phase_of, is_closed, is_open, with_lists}
 use Rattle.lapin_effects.specs.Effects.{Effect, Stays, Closes, Opens, Adds, Ends, Falls, Sinks, live, grows, is_next}
 use Rattle.lapin_effects.proofs.Events.{has_effect}
 use Rattle.lapin_machine.proofs.Brought.{none_begins}

@@ -5,10 +5,10 @@ use Rattle.lapin_types.specs.declared.call.Call.TheVariants as call
 use Rattle.lapin_types.specs.declared.event.Event.TheVariants as event
 use Rattle.lapin_types.specs.declared.leaving.Left.{Left}
 use Rattle.lapin_types.specs.Types.{Frame}
-use Rattle.lapin_history.specs.History.{History, Past, past, rec, readings_of}
-use Rattle.lapin_history.specs.Incoming.{incoming_of}
-use Rattle.lapin_history.specs.Polls.{is_confirmed}
-use Rattle.lapin_history.specs.Wire.{start, is_closed, is_open}
+use Rattle.lapin_rules.specs.History.{History, Past, past, rec, readings_of}
+use Rattle.lapin_rules.specs.Incoming.{incoming_of}
+use Rattle.lapin_rules.specs.Polls.{is_confirmed}
+use Rattle.lapin_rules.specs.Wire.{start, is_closed, is_open}
 use Rattle.lapin_machine.proofs.Standing.{past-push}
 use Rattle.lapin_machine.specs.Way.{by_history}
 use Rattle.lapin_broker.specs.Sends.{may}

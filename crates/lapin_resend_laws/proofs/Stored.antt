@@ -12,27 +12,27 @@ use Rattle.lapin_types.specs.declared.record.Record.{Record}
 use Rattle.lapin_types.specs.declared.record.Record.TheVariants as record_
 use Rattle.lapin_types.specs.Types.{Frame}
 use Rattle.lapin_types.specs.Types.error
-use Rattle.lapin_history.specs.declared.marks.Outcome.{Outcome}
-use Rattle.lapin_history.specs.declared.marks.Outcome.TheVariants as outcome
-use Rattle.lapin_history.specs.declared.marks.SettleKind.{SettleKind}
-use Rattle.lapin_history.specs.declared.marks.SettleKind.TheVariants as settle
-use Rattle.lapin_history.specs.ConfirmMarks.{ConfirmMark}
-use Rattle.lapin_history.specs.ConfirmMarks as mark
+use Rattle.lapin_rules.specs.declared.marks.Outcome.{Outcome}
+use Rattle.lapin_rules.specs.declared.marks.Outcome.TheVariants as outcome
+use Rattle.lapin_rules.specs.declared.marks.SettleKind.{SettleKind}
+use Rattle.lapin_rules.specs.declared.marks.SettleKind.TheVariants as settle
+use Rattle.lapin_rules.specs.ConfirmMarks.{ConfirmMark}
+use Rattle.lapin_rules.specs.ConfirmMarks as mark
 use Rattle.std.specs.Option.{option_or}
-use Rattle.lapin_history.specs.ConfirmReadings.{channel_of, tag_of, outcome_at, outcome_after, kind_outcome, was_added, is_finished, has_left, first_rejected, life, leaves}
-use Rattle.lapin_history.specs.Words.{after}
-use Rattle.lapin_history.specs.ReturnReadings.{message_of}
-use Rattle.lapin_history.specs.Polls.{confirmed}
-use Rattle.lapin_history.specs.History.{History, Past, past, rec, confirm_poll, polled_outcome}
+use Rattle.lapin_rules.specs.ConfirmReadings.{channel_of, tag_of, outcome_at, outcome_after, kind_outcome, was_added, is_finished, has_left, first_rejected, life, leaves}
+use Rattle.lapin_rules.specs.Words.{after}
+use Rattle.lapin_rules.specs.ReturnReadings.{message_of}
+use Rattle.lapin_rules.specs.Polls.{confirmed}
+use Rattle.lapin_rules.specs.History.{History, Past, past, rec, confirm_poll, polled_outcome}
 use Rattle.lapin_machine.specs.Way.{by_history}
 use Rattle.lapin_broker.specs.Sends.{may}
 use Rattle.lapin_joint.specs.declared.step.Step as joined_step
 use Rattle.lapin_joint.specs.declared.step.Step.TheVariants as joined
 use Rattle.lapin_joint.specs.Joint.{Joint, new_joint, after as step_after, client, is_lawful, read_first, send_down, deliver_first, joined_to}
 use Rattle.lapin_joint.proofs.Steps.{run-push}
-use Rattle.lapin_history.specs.Events.{after_event}
-use Rattle.lapin_history.specs.Incoming.{incoming_of}
-use Rattle.lapin_history.specs.Wire.{Wire, start, state_of, is_closed, is_open}
+use Rattle.lapin_rules.specs.Events.{after_event}
+use Rattle.lapin_rules.specs.Incoming.{incoming_of}
+use Rattle.lapin_rules.specs.Wire.{Wire, start, state_of, is_closed, is_open}
 use Rattle.lapin_machine.proofs.Counting.{incoming_counts, lost_counts, next_counts}
 use Rattle.lapin_machine.proofs.Standing.{past-push}
 use Rattle.lapin_resend.proofs.Out.{still_open}

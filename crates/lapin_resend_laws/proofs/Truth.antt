@@ -4,8 +4,8 @@ use Rattle.std.specs.List.{AllByRecursion}
 use Rattle.lapin_types.specs.declared.event.Event.TheVariants as event
 use Rattle.lapin_types.specs.declared.leaving.Left.{Left}
 use Rattle.lapin_types.specs.Types.{Frame}
-use Rattle.lapin_history.specs.History.{History}
-use Rattle.lapin_history.specs.Wire.{is_closed, is_open}
+use Rattle.lapin_rules.specs.History.{History}
+use Rattle.lapin_rules.specs.Wire.{is_closed, is_open}
 use Rattle.lapin_machine.specs.Way.{by_history}
 use Rattle.lapin_broker.specs.Sends.{may}
 use Rattle.lapin_joint.specs.declared.step.Step as joined_step

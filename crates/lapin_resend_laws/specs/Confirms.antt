@@ -1,9 +1,9 @@
 -- What becomes of the confirms of a joined run.
 use Rattle.std.specs.Prelude.{◌≡◌, ℕ, true, List, Some}
-use Rattle.lapin_history.specs.declared.marks.Outcome.TheVariants as outcome
-use Rattle.lapin_history.specs.ConfirmMarks.{ConfirmMark}
-use Rattle.lapin_history.specs.ConfirmReadings.{was_added, outcome_at}
-use Rattle.lapin_history.specs.History.{past}
+use Rattle.lapin_rules.specs.declared.marks.Outcome.TheVariants as outcome
+use Rattle.lapin_rules.specs.ConfirmMarks.{ConfirmMark}
+use Rattle.lapin_rules.specs.ConfirmReadings.{was_added, outcome_at}
+use Rattle.lapin_rules.specs.History.{past}
 use Rattle.lapin_joint.specs.Joint.{joined_to}
 use Rattle.lapin_resend.specs.Publisher.{Steps}
 

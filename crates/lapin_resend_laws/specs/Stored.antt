@@ -1,7 +1,7 @@
 -- What it means that a message of a publisher is stored: a broker read it whole, and settled it by an ack.
 use Rattle.std.specs.Prelude.{◌≡◌, ◌⊎◌, ℕ, true, false, List, [], ◌∷◌, ◌++◌}
 use Rattle.lapin_values.specs.Properties.{no_properties}
-use Rattle.lapin_history.specs.declared.marks.SettleKind.TheVariants as settle
+use Rattle.lapin_rules.specs.declared.marks.SettleKind.TheVariants as settle
 use Rattle.lapin_resend.specs.declared.message.Message.{Message}
 use Rattle.lapin_resend.specs.Messages.{Standing}
 use Rattle.lapin_resend.specs.Publisher.{Steps}

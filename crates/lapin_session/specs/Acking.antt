@@ -7,7 +7,7 @@ use Rattle.lapin_types.specs.declared.event.Event.TheVariants as event
 use Rattle.lapin_types.specs.declared.record.Record.{Record}
 use Rattle.lapin_types.specs.declared.record.Record.TheVariants as record_
 use Rattle.lapin_types.specs.Types.{Error}
-use Rattle.lapin_history.specs.Ackers.{usable_at}
+use Rattle.lapin_rules.specs.Ackers.{usable_at}
 use Rattle.lapin_acker.specs.declared.switch.Switch.{Switch}
 use Rattle.lapin_acker.specs.Switches.{switch_at, is_usable as is_usable_as, is_over}
 use Rattle.lapin_machine.specs.World.{World, told_by, next}

@@ -71,12 +71,12 @@ pub trait AckerCalls {
     /// Whether the opening of the acker's channel ended. It is false of an acker without a number, and of a number that the session
     /// never gave.
     fn poisoned(&self, session: &Session) -> bool
-        ensures { result ≡ is_poisoned (acker self.now) session.now.wire.inbox.switches };
+        ensures { result ≡ is_poisoned (acker self.now) session.now.wire.deliveries.switches };
 
     /// Whether a call would be made: the opening of the acker's channel is live, and the acker is neither used nor void. Of an acker
     /// without a number it is whether `used` is not set; of a number that the session never gave it is false.
     fn usable(&self, session: &Session) -> bool
-        ensures { result ≡ is_usable (acker self.now) session.now.wire.inbox.switches };
+        ensures { result ≡ is_usable (acker self.now) session.now.wire.deliveries.switches };
 }
 
 impl AckerCalls for Acker {

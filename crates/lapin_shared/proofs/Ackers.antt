@@ -1,7 +1,7 @@
 -- An acker is used once in a lawful history, since it is once in the run whose records that history holds.
 use Rattle.std.proofs.Common.{◌≡◌, ℕ, ◌≤◌, List, [], ◌∷◌, map, zip, refl, sym, ap, ◌∙◌, subst}
-use Rattle.lapin_history.specs.History.{History}
-use Rattle.lapin_history.specs.Words.{many}
+use Rattle.lapin_rules.specs.History.{History}
+use Rattle.lapin_rules.specs.Words.{many}
 use Rattle.lapin_laws.specs.Consumers.{uses_acker}
 use Rattle.lapin_laws.proofs.Once.{used_once}
 use Rattle.lapin_shared.specs.declared.entry.Entry.{Entry}

@@ -3,14 +3,14 @@ use Rattle.std.proofs.Common.{◌≡◌, ℕ, ◌+◌, ◌<◌, ◌^◌, ◌++�
 use Rattle.std.proofs.lemmas.List.{map-append, length-map}
 use Rattle.lapin_types.specs.declared.event.Event.{Event}
 use Rattle.lapin_types.specs.declared.record.Record.{Record}
-use Rattle.lapin_history.specs.History.{History, rec, run_from}
+use Rattle.lapin_rules.specs.History.{History, rec, run_from}
 use Rattle.lapin_machine.specs.World.{World}
 use Rattle.lapin_machine.specs.Numbers.{HasNumbersFor}
 use Rattle.lapin_machine.specs.Stands.{Stands}
 use Rattle.lapin_machine.proofs.Counting.{standing_numbers}
 use Rattle.lapin_shared.specs.declared.entry.Entry.{Entry}
 use Rattle.lapin_shared.specs.Lawful.{history_of, told_in, event_of, answer_of, IsLawful}
-use Rattle.lapin_shared.specs.Kept.{entry, IsKept}
+use Rattle.lapin_shared.specs.UnderLock.{entry, IsKept}
 
 -- the session under the lock has numbers for one more event
 pub kept_numbers : (n : ℕ) (es : List Entry) (w : World) (t : ℕ) → IsKept n es w t → length es + 1 < 2 ^ 64 → HasNumbersFor 1 w

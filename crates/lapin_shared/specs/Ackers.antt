@@ -1,6 +1,6 @@
 -- How often an acker is used in a history.
 use Rattle.std.specs.Prelude.{ℕ, ◌≤◌, List}
-use Rattle.lapin_history.specs.Words.{many}
+use Rattle.lapin_rules.specs.Words.{many}
 use Rattle.lapin_laws.specs.Consumers.{uses_acker}
 use Rattle.lapin_shared.specs.declared.entry.Entry.{Entry}
 use Rattle.lapin_shared.specs.Lawful.{history_of}

@@ -8,7 +8,7 @@ use Rattle.lapin_shared.specs.declared.entry.Entry.{Entry}
 use Rattle.lapin_shared.specs.declared.entry.Told.{Told}
 use Rattle.lapin_shared.specs.contracts.entry.Entry as entry_row
 use Rattle.lapin_shared.specs.contracts.entry.Told as told_row
-use Rattle.lapin_shared.specs.Kept.{Kept}
+use Rattle.lapin_shared.specs.UnderLock.{UnderLock}
 use Rattle.lapin_shared.specs.Grown.{Seen}
 
 -- the entries of a history, stored as the list of their tuples
@@ -16,7 +16,7 @@ abbrev pub entries_code : Coded (List Entry)
 entries_code = coded_list entry_row.the_row.coded
 
 -- what lies under the lock, stored as its greatest frame size, its entries and its session
-abbrev pub kept_code : Coded Kept
+abbrev pub kept_code : Coded UnderLock
 kept_code =
     code_by
     (ℕ × (List Entry × World))

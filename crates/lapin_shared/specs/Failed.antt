@@ -8,7 +8,7 @@ use Rattle.lapin_types.specs.declared.event.Event.TheVariants as event
 use Rattle.lapin_types.specs.declared.record.Record.{Record}
 use Rattle.lapin_shared.specs.declared.entry.Told.{Told}
 use Rattle.lapin_shared.specs.Grown.{Seen, Grew, told, Stepped, IsOver}
-use Rattle.lapin_shared.specs.Kept.{Kept}
+use Rattle.lapin_shared.specs.UnderLock.{UnderLock}
 
 -- before the step nothing changed; behind it the log got its entry, without an answer; no step is left unsent
 abbrev pub IfFailed : Seen → Event → StepError → Seen → Type 0
@@ -17,7 +17,7 @@ IfFailed old e (failed.Unread p) new = Grew old new (told p e None)
 IfFailed old e (failed.Unsent a v) new = ⊥
 
 -- the history got the entry where the step was made
-abbrev pub IsStored : Result ℕ StepError → Kept → Entry → Kept → Type 0
+abbrev pub IsStored : Result ℕ StepError → UnderLock → Entry → UnderLock → Type 0
 IsStored (Ok p) old x new = new.entries ≡ old.entries ++ x ∷ []
 IsStored (Err failed.NoMemory) old x new = new.entries ≡ old.entries
 IsStored (Err (failed.Unread p)) old x new = new.entries ≡ old.entries ++ x ∷ []

@@ -2,7 +2,7 @@
 use Rattle.std.specs.Prelude.{◌≡◌, ℕ, List, map}
 use Rattle.lapin_types.specs.declared.event.Event.{Event}
 use Rattle.lapin_types.specs.declared.record.Record.{Record}
-use Rattle.lapin_history.specs.History.{History, run}
+use Rattle.lapin_rules.specs.History.{History, run}
 use Rattle.lapin_shared.specs.declared.entry.Entry.{Entry}
 
 -- the event of an entry with its record

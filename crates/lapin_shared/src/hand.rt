@@ -4,9 +4,9 @@
 
 ghost use Rattle.std.specs.Prelude.{◌≡◌, ℕ, ◌+◌, ◌<◌, ◌≤◌, ◌^◌, [], ◌∷◌, ◌++◌, length, IfOk, OnOk, OnErr, IfErr, IfSome, Some, None, slice_get, ◌-◌};
 ghost use Rattle.lapin_machine.specs.World.{told_by};
-ghost use Rattle.lapin_history.specs.History.{rec};
+ghost use Rattle.lapin_rules.specs.History.{rec};
 ghost use Rattle.lapin_shared.specs.Lawful.{history_of};
-ghost use Rattle.lapin_shared.specs.Kept.{entry};
+ghost use Rattle.lapin_shared.specs.UnderLock.{entry};
 ghost use Rattle.lapin_shared.specs.Grown.{Grew, told, last_of, Rise};
 ghost use Rattle.lapin_shared.specs.Read.{HasPlace, IsPlaceAt, IsReadAt, answered};
 ghost use Rattle.lapin_shared.specs.Failed.{IfFailed, IsStored};

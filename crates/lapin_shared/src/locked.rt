@@ -4,13 +4,13 @@
 
 ghost use Rattle.std.specs.Prelude.{◌≡◌, ℕ, None, ◌+◌, ◌<◌, [], ◌∷◌, ◌++◌, length, ◌-◌, ◌≤◌, IfOk, IfSome, OnOk, OnErr, not, slice_get};
 ghost use Rattle.lapin_types.specs.declared.event.Event.TheVariants as event;
-ghost use Rattle.lapin_history.specs.History.{History, rec};
+ghost use Rattle.lapin_rules.specs.History.{History, rec};
 ghost use Rattle.lapin_machine.specs.World.{new_world, told_by};
 ghost use Rattle.lapin_machine.specs.Told.{is_pending_record};
 ghost use Rattle.lapin_machine.specs.Numbers.{HasNumbersFor};
 ghost use Rattle.lapin_machine.specs.Stands.{Stands};
 ghost use Rattle.lapin_shared.specs.Lawful.{history_of, IsLawful};
-ghost use Rattle.lapin_shared.specs.Kept.{entry};
+ghost use Rattle.lapin_shared.specs.UnderLock.{entry};
 
 use crate::entry::Entry;
 use lapin_session::Session;
@@ -46,9 +46,9 @@ impl<L: Crew> Drop for Locked<L> {
 }
 
 impl<L: Crew> Model for Locked<L> {
-    ghost use Rattle.lapin_shared.specs.Kept.{Kept, IsKept};
+    ghost use Rattle.lapin_shared.specs.UnderLock.{UnderLock, IsKept};
 
-    ghost Value = { Kept };
+    ghost Value = { UnderLock };
 
     ghost use Rattle.lapin_shared.specs.Codes.{kept_code};
 

@@ -13,8 +13,8 @@ use denote.Param.SendFields.{declared_send, declared_sync, as_row_sync}
 use Rattle.std.proofs.Crossing.{crosses}
 use Rattle.std.specs.declared.sync.ledger.Ledger.{Ghosts}
 use Rattle.std.specs.contracts.alloc.Global as Global
-use Rattle.lapin_crossing.proofs.Callers.{caller_send}
-use Rattle.lapin_crossing.proofs.Types.{event_send}
+use Rattle.lapin_send.proofs.Callers.{caller_send}
+use Rattle.lapin_send.proofs.Types.{event_send}
 use Rattle.lapin_shared_commands.specs.contracts.shifts.Shift as shift_
 
 module _ (L : RattleType) (g : Ghosts L.Denot) where

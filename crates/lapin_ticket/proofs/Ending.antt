@@ -5,9 +5,9 @@ use Rattle.lapin_types.specs.declared.Error.{Error}
 use Rattle.lapin_types.specs.declared.answer.Answer.{Answer}
 use Rattle.lapin_tables.specs.Numbered.{under, with_under}
 use Rattle.lapin_tables.proofs.SlotLaws.{under-other}
-use Rattle.lapin_history.specs.TicketReadings.{TicketMark, given, channel_of, leaving_of, life, begins, answer_of, first_answer, is_publish, is_spared, is_awaited as is_unanswered}
-use Rattle.lapin_history.specs.TicketReadings as mark
-use Rattle.lapin_history.proofs.TicketLaws.{answer-push, nth-push, life-push}
+use Rattle.lapin_rules.specs.TicketReadings.{TicketMark, given, channel_of, leaving_of, life, begins, answer_of, first_answer, is_publish, is_spared, is_awaited as is_unanswered}
+use Rattle.lapin_rules.specs.TicketReadings as mark
+use Rattle.lapin_rules.proofs.TicketLaws.{answer-push, nth-push, life-push}
 use Rattle.lapin_ticket.specs.declared.Slot.{Slot}
 use Rattle.lapin_ticket.specs.declared.Slot.TheVariants as slot
 use Rattle.lapin_ticket.specs.Slots.{answered_slot, failed_slot, closed_slot, failed, rejects, is_open_on, after_mark}

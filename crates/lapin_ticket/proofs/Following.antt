@@ -10,11 +10,11 @@ use Rattle.lapin_types.specs.Types.{Error}
 use Rattle.lapin_tables.specs.Numbered.{under, with_under}
 use Rattle.lapin_tables.proofs.Lists.{get-set_same, get-set_other}
 use Rattle.lapin_tables.proofs.SlotLaws.{length-with}
-use Rattle.lapin_history.specs.declared.marks.AtLeaving.{AtLeaving}
-use Rattle.lapin_history.specs.TicketReadings.{TicketMark, gives, given, channel_of, leaving_of, channel_in, leaving_in, life, begins, is_publish, is_spared, answer_at, answer_by, first_answer, closes}
-use Rattle.lapin_history.specs.TicketReadings as mark
-use Rattle.lapin_history.proofs.ListLaws.{any-push}
-use Rattle.lapin_history.proofs.TicketLaws.{given-push, answer-push, nth-push, life-push, nth_new, life_new}
+use Rattle.lapin_rules.specs.declared.marks.AtLeaving.{AtLeaving}
+use Rattle.lapin_rules.specs.TicketReadings.{TicketMark, gives, given, channel_of, leaving_of, channel_in, leaving_in, life, begins, is_publish, is_spared, answer_at, answer_by, first_answer, closes}
+use Rattle.lapin_rules.specs.TicketReadings as mark
+use Rattle.lapin_rules.proofs.ListLaws.{any-push}
+use Rattle.lapin_rules.proofs.TicketLaws.{given-push, answer-push, nth-push, life-push, nth_new, life_new}
 use Rattle.lapin_ticket.specs.declared.Slot.{Slot}
 use Rattle.lapin_ticket.specs.declared.Slot.TheVariants as slot
 use Rattle.lapin_ticket.specs.Slots.{after_mark, answered_slot, begun_slot, left_slot, held_or, closed_slot, failed_slot, failed}

@@ -7,9 +7,9 @@ use Rattle.lapin_tables.specs.ByChannel.{at_channel, on_channel}
 use Rattle.lapin_tables.specs.Numbered.{under, with_under}
 use Rattle.lapin_tables.proofs.Channels.{at-push, at-on_same, at-on_other}
 use Rattle.lapin_tables.proofs.SlotLaws.{under-pushed}
-use Rattle.lapin_history.specs.declared.marks.AtLeaving.{AtLeaving}
-use Rattle.lapin_history.specs.TicketReadings.{is_publish, answer_at}
-use Rattle.lapin_history.proofs.ChannelLaws.{at-on}
+use Rattle.lapin_rules.specs.declared.marks.AtLeaving.{AtLeaving}
+use Rattle.lapin_rules.specs.TicketReadings.{is_publish, answer_at}
+use Rattle.lapin_rules.proofs.ChannelLaws.{at-on}
 use Rattle.lapin_ticket.specs.declared.Slot.{Slot}
 use Rattle.lapin_ticket.specs.declared.Slot.TheVariants as slot
 use Rattle.lapin_ticket.specs.Slots.{begun_slot, left_slot, held_or, rejects, is_open_on, failed_slot, failed}

@@ -4,9 +4,9 @@ use Rattle.std.specs.List.{list_any}
 use Rattle.std.proofs.Math.Bool.{or-true}
 use Rattle.lapin_types.specs.declared.Error.{Error}
 use Rattle.lapin_types.specs.declared.answer.Answer.{Answer}
-use Rattle.lapin_history.specs.TicketReadings.{TicketMark, given, channel_of, leaving_of, life, answer_of, is_collected, closes}
-use Rattle.lapin_history.proofs.ListLaws.{any-push}
-use Rattle.lapin_history.proofs.TicketLaws.{answer-push, nth-push, life-push}
+use Rattle.lapin_rules.specs.TicketReadings.{TicketMark, given, channel_of, leaving_of, life, answer_of, is_collected, closes}
+use Rattle.lapin_rules.proofs.ListLaws.{any-push}
+use Rattle.lapin_rules.proofs.TicketLaws.{answer-push, nth-push, life-push}
 use Rattle.lapin_ticket.specs.Follows.{WasGiven}
 
 pub answer-stays : (n : ℕ) (ms : List TicketMark) (m : TicketMark) (a : Result Answer Error) → WasGiven n ms → answer_of n ms ≡ Some a → answer_of n (ms ++ m ∷ []) ≡ Some a

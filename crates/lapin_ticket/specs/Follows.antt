@@ -3,8 +3,8 @@ use Rattle.std.specs.Prelude.{◌≡◌, ℕ, suc, ◌<◌, ◌≤◌, Bool, fal
 use Rattle.std.specs.List.{list_any}
 use Rattle.lapin_types.specs.declared.answer.Answer.{Answer}
 use Rattle.lapin_types.specs.Types.{Error}
-use Rattle.lapin_history.specs.declared.marks.AtLeaving.{AtLeaving}
-use Rattle.lapin_history.specs.TicketReadings.{TicketMark, given, channel_of, leaving_of, life, begins, first_answer, closes}
+use Rattle.lapin_rules.specs.declared.marks.AtLeaving.{AtLeaving}
+use Rattle.lapin_rules.specs.TicketReadings.{TicketMark, given, channel_of, leaving_of, life, begins, first_answer, closes}
 use Rattle.lapin_ticket.specs.declared.Slot.{Slot}
 use Rattle.lapin_ticket.specs.declared.Slot.TheVariants as slot
 

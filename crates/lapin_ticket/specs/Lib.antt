@@ -1,4 +1,4 @@
-pub mod Kept
+pub mod Stored
 pub mod Slots
 pub mod Follows
 pub mod Given

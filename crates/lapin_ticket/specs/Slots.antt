@@ -4,8 +4,8 @@ use Rattle.lapin_types.specs.declared.answer.Answer.{Answer}
 use Rattle.lapin_types.specs.Types.{Error}
 use Rattle.lapin_types.specs.Types.error
 use Rattle.lapin_tables.specs.Numbered.{under, with_under}
-use Rattle.lapin_history.specs.TicketReadings.{TicketMark, is_publish, answer_at}
-use Rattle.lapin_history.specs.TicketReadings as mark
+use Rattle.lapin_rules.specs.TicketReadings.{TicketMark, is_publish, answer_at}
+use Rattle.lapin_rules.specs.TicketReadings as mark
 use Rattle.lapin_ticket.specs.declared.Slot.{Slot}
 use Rattle.lapin_ticket.specs.declared.Slot.TheVariants as slot
 

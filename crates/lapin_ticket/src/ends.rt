@@ -5,14 +5,14 @@
 
 ghost use Rattle.std.specs.Prelude.{◌≡◌, ◌≢◌, ℕ, true, false, map, slice_get, Some};
 ghost use Rattle.lapin_tables.specs.Numbered.{under};
-ghost use Rattle.lapin_history.specs.TicketReadings.{is_publish as is_publish_lem, is_spared as is_spared_lem};
-ghost use Rattle.lapin_history.specs.TicketReadings as mark;
+ghost use Rattle.lapin_rules.specs.TicketReadings.{is_publish as is_publish_lem, is_spared as is_spared_lem};
+ghost use Rattle.lapin_rules.specs.TicketReadings as mark;
 ghost use Rattle.lapin_ticket.specs.Slots.{after_mark, rejects, is_open_on as is_open_on_lem, closed_slot, failed};
 ghost use Rattle.lapin_ticket.specs.Given.{AreListed, numbers_on, starts_closed as starts_closed_lem};
 
 use crate::given::Given;
 use crate::{Slot, Tickets, slots};
-use lapin_history::AtLeaving;
+use lapin_rules::AtLeaving;
 use lapin_tables::Numbered;
 use lapin_types::Error;
 

@@ -44,7 +44,7 @@ impl Place {
 
 // Where an answer stands: in the slot itself, or in a box of its own.
 #[derive(Debug, Drop)]
-enum Kept {
+enum Stored {
     Done,
     Yes,
     Confirm(u64),
@@ -55,7 +55,7 @@ enum Kept {
 /// An answer, or the error with which its call failed. A contract sees the result that it is.
 #[derive(Debug)]
 pub struct Held {
-    kept: Kept,
+    kept: Stored,
 }
 
 impl Drop for Held {
@@ -71,7 +71,7 @@ impl Model for Held {
     ghost use Rattle.lapin_types.specs.declared.Error.{Error as AnError};
     ghost use Rattle.lapin_types.specs.contracts.answer.Answer as answer_row;
     ghost use Rattle.lapin_types.specs.contracts.Error as error_row;
-    ghost use Rattle.lapin_ticket.specs.Kept.{held_by};
+    ghost use Rattle.lapin_ticket.specs.Stored.{held_by};
 
     ghost Value = { Result AnAnswer AnError };
 
@@ -85,14 +85,14 @@ impl Held {
     pub fn done() -> Held
         ensures { result ≡ Ok answer.Done }
     {
-        Held { kept: Kept::Done }
+        Held { kept: Stored::Done }
     }
 
     /// An acknowledgement that has left. It takes no memory.
     pub fn yes() -> Held
         ensures { result ≡ Ok answer.Yes }
     {
-        Held { kept: Kept::Yes }
+        Held { kept: Stored::Yes }
     }
 
     /// The last frame of the publish with this confirm number has left. It takes no memory.
@@ -100,7 +100,7 @@ impl Held {
         ensures { result ≡ Ok (answer.Confirm number) }
     {
         Held {
-            kept: Kept::Confirm(number),
+            kept: Stored::Confirm(number),
         }
     }
 
@@ -109,7 +109,7 @@ impl Held {
         ensures { result ≡ Err error }
     {
         Held {
-            kept: Kept::Failed(error),
+            kept: Stored::Failed(error),
         }
     }
 
@@ -118,7 +118,7 @@ impl Held {
         ensures { result ≡ Ok answer }
     {
         Held {
-            kept: Kept::Boxed(place.filled(answer)),
+            kept: Stored::Boxed(place.filled(answer)),
         }
     }
 
@@ -128,11 +128,11 @@ impl Held {
     {
         let Held { kept } = self;
         match kept {
-            Kept::Done => Ok(Answer::Done),
-            Kept::Yes => Ok(Answer::Yes),
-            Kept::Confirm(number) => Ok(Answer::Confirm(number)),
-            Kept::Failed(error) => Err(error),
-            Kept::Boxed(room) => Ok(Box::into_inner(room)),
+            Stored::Done => Ok(Answer::Done),
+            Stored::Yes => Ok(Answer::Yes),
+            Stored::Confirm(number) => Ok(Answer::Confirm(number)),
+            Stored::Failed(error) => Err(error),
+            Stored::Boxed(room) => Ok(Box::into_inner(room)),
         }
     }
 }

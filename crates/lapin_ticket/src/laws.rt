@@ -3,7 +3,7 @@
 ghost use Rattle.std.specs.Prelude.{◌≡◌, ℕ, true, List, [], ◌∷◌, ◌++◌, Some, Result};
 ghost use Rattle.lapin_types.specs.declared.Error.{Error as AnError};
 ghost use Rattle.lapin_types.specs.declared.answer.Answer.{Answer as AnAnswer};
-ghost use Rattle.lapin_history.specs.TicketReadings.{TicketMark, answer_of, is_collected, closes};
+ghost use Rattle.lapin_rules.specs.TicketReadings.{TicketMark, answer_of, is_collected, closes};
 ghost use Rattle.lapin_ticket.specs.Follows.{WasGiven};
 
 /// A ticket is answered once: its answer never changes. And it is given once: from the moment it was given, or the ticket was set

@@ -3,11 +3,11 @@
 //! What many tickets get at once stands in `ends`. A slot is changed where it stands.
 
 ghost use Rattle.std.specs.Prelude.{◌≡◌, Some, Err};
-ghost use Rattle.lapin_history.specs.TicketReadings as mark;
+ghost use Rattle.lapin_rules.specs.TicketReadings as mark;
 ghost use Rattle.lapin_ticket.specs.Slots.{after_mark, left_slot};
 
 use crate::{Held, Slot};
-use lapin_history::AtLeaving;
+use lapin_rules::AtLeaving;
 use lapin_tables::Numbered;
 use lapin_types::Error;
 

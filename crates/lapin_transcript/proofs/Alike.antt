@@ -1,6 +1,6 @@
 -- What is seen of a joined run by the machine is what is seen of one by the history.
 use Rattle.std.proofs.Common.{◌≡◌, ◌∙◌, ℕ, cond, None, List, [], ◌∷◌, ◌++◌, refl, ap, append_assoc}
-use Rattle.lapin_history.specs.History.{History}
+use Rattle.lapin_rules.specs.History.{History}
 use Rattle.lapin_machine.specs.World.{World, new_world}
 use Rattle.lapin_broker.specs.States.{Broker}
 use Rattle.lapin_broker.specs.Sends.{may}
@@ -8,7 +8,7 @@ use Rattle.lapin_joint.specs.declared.step.Step.{Step}
 use Rattle.lapin_joint.specs.declared.step.Step.TheVariants as step
 use Rattle.lapin_joint.specs.Joint.{Joint, new_joint, after}
 use Rattle.lapin_machine.specs.Way.{by_history, by_machine}
-use Rattle.lapin_joint.specs.Kept.{AreAlike}
+use Rattle.lapin_joint.specs.JoinedRun.{AreAlike}
 use Rattle.lapin_joint.specs.Order.{along}
 use Rattle.lapin_joint.proofs.Alike.{alike-next, unreturned-next, new_alike}
 use Rattle.lapin_check.specs.declared.seen.Seen.{Seen}

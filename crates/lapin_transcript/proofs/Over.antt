@@ -5,14 +5,14 @@ use Rattle.lapin_types.specs.declared.event.Event.{Event}
 use Rattle.lapin_types.specs.declared.event.Event.TheVariants as event
 use Rattle.lapin_types.specs.declared.leaving.Left.{Left}
 use Rattle.lapin_types.specs.Types.{Frame}
-use Rattle.lapin_history.specs.Drops.{no_lists}
-use Rattle.lapin_history.specs.History.{History}
-use Rattle.lapin_history.specs.Leaving.{Lists, handed_of}
-use Rattle.lapin_history.specs.Flow.{begins_on}
-use Rattle.lapin_history.specs.declared.phases.ConnectionPhase.TheVariants as link
-use Rattle.lapin_history.specs.Phases.{is_lost}
-use Rattle.lapin_history.specs.Ends.{down}
-use Rattle.lapin_history.specs.Wire.{lists_of}
+use Rattle.lapin_rules.specs.Drops.{no_lists}
+use Rattle.lapin_rules.specs.History.{History}
+use Rattle.lapin_rules.specs.Leaving.{Lists, handed_of}
+use Rattle.lapin_rules.specs.Flow.{begins_on}
+use Rattle.lapin_rules.specs.declared.phases.ConnectionPhase.TheVariants as link
+use Rattle.lapin_rules.specs.Phases.{is_lost}
+use Rattle.lapin_rules.specs.Ends.{down}
+use Rattle.lapin_rules.specs.Wire.{lists_of}
 use Rattle.lapin_machine.specs.World.{World, new_world, next}
 use Rattle.lapin_machine.specs.Way.{by_history, by_machine}
 use Rattle.lapin_laws.specs.Runs.{world_after}
@@ -26,7 +26,7 @@ use Rattle.lapin_broker.specs.States.{Broker, is_up, owes_connection, connection
 use Rattle.lapin_joint.specs.declared.step.Step.{Step}
 use Rattle.lapin_joint.specs.declared.step.Step.TheVariants as step
 use Rattle.lapin_joint.specs.Joint.{Joint, new_joint, client, send_down, read_first, deliver_first, is_lawful, left_alone, handed_by, after, run, joined_to}
-use Rattle.lapin_joint.specs.Kept.{AreAlike}
+use Rattle.lapin_joint.specs.JoinedRun.{AreAlike}
 use Rattle.lapin_joint.specs.Order.{along}
 use Rattle.lapin_joint.proofs.Alike.{alike-next, unreturned-next, new_alike}
 use Rattle.lapin_check.specs.declared.seen.Seen.{Seen}

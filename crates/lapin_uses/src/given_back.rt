@@ -1,6 +1,6 @@
 //! What a writer does with a frame that it could not write: it gives it back, and the next frame request hands it out once more.
 ghost use Rattle.std.specs.Prelude.{◌≡◌, Some, not, ◌||◌, if◌then◌else◌};
-ghost use Rattle.lapin_history.specs.Phases.{is_lost as is_lost_lem};
+ghost use Rattle.lapin_rules.specs.Phases.{is_lost as is_lost_lem};
 ghost use Rattle.lapin_outbox.specs.Returned.{is_retried};
 ghost use Rattle.lapin_machine.specs.World.{with_returned};
 

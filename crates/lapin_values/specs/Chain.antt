@@ -1,6 +1,6 @@
 -- The texts of properties as they are held: in a chain of links.
 use Rattle.std.specs.Prelude.{ℕ, ◌≤◌, List, [], ◌∷◌, Option, None, Some, box_value, length}
-use Rattle.lapin_values.specs.Kept.{kept}
+use Rattle.lapin_values.specs.Stored.{kept}
 use Rattle.lapin_values.specs.declared.properties.texts.Place.{Place}
 
 -- the texts from a place on, each with the number of its property

@@ -7,5 +7,5 @@ pub mod Falls
 pub mod ValueOf
 pub mod Properties
 pub mod Chain
-pub mod Kept
+pub mod Stored
 pub mod Texts

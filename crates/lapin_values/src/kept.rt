@@ -2,7 +2,7 @@
 
 ghost use Rattle.std.specs.Prelude.{◌≡◌, ◌≤◌, length, IfOk};
 ghost use Rattle.std.specs.Str.{IsUtf8};
-ghost use Rattle.lapin_values.specs.Kept.{kept};
+ghost use Rattle.lapin_values.specs.Stored.{kept};
 
 use arrayvec::ArrayString;
 use std::alloc::{AllocError, Global};
@@ -13,21 +13,21 @@ const IN_PLACE: usize = 16;
 
 /// A text, in place where it has at most 16 bytes.
 #[derive(Drop)]
-pub(crate) enum Kept {
+pub(crate) enum Stored {
     Short(ArrayString<16>),
     Long(String),
 }
 
-impl Kept {
+impl Stored {
     /// A copy of the text. It takes memory where the text has more bytes than stand in place.
     #[inline(always)]
-    pub(crate) fn new(alloc: Global, text: &str) -> Result<Kept, AllocError>
+    pub(crate) fn new(alloc: Global, text: &str) -> Result<Stored, AllocError>
         ensures { IfOk result (λ it. kept it ≡ text.now) }
     {
         if text.len() > IN_PLACE {
-            return Ok(Kept::Long(String::from_str(alloc, text)?));
+            return Ok(Stored::Long(String::from_str(alloc, text)?));
         }
-        Ok(Kept::Short(in_place(text)))
+        Ok(Stored::Short(in_place(text)))
     }
 
     /// The text.
@@ -37,25 +37,25 @@ impl Kept {
         ensures utf8 { IsUtf8 (kept self.now) }
     {
         match self {
-            Kept::Short(text) => text.as_str(),
-            Kept::Long(text) => text.as_str(),
+            Stored::Short(text) => text.as_str(),
+            Stored::Long(text) => text.as_str(),
         }
     }
 
     /// A text equal to this one.
     #[inline(always)]
-    pub(crate) fn try_clone(&self, alloc: Global) -> Result<Kept, AllocError>
+    pub(crate) fn try_clone(&self, alloc: Global) -> Result<Stored, AllocError>
         ensures { IfOk result (λ it. kept it ≡ kept self.now) }
     {
         match self {
-            Kept::Short(text) => Ok(Kept::Short(*text)),
-            Kept::Long(text) => Ok(Kept::Long(String::from_str(alloc, text.as_str())?)),
+            Stored::Short(text) => Ok(Stored::Short(*text)),
+            Stored::Long(text) => Ok(Stored::Long(String::from_str(alloc, text.as_str())?)),
         }
     }
 }
 
 /// The text alone is shown, wherever it stands.
-impl fmt::Debug for Kept {
+impl fmt::Debug for Stored {
     fn fmt<W: fmt::Write>(&self, f: &mut fmt::Formatter<W>) -> fmt::Result {
         fmt::Debug::fmt(self.as_str(), f)
     }

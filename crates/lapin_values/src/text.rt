@@ -2,12 +2,12 @@
 //! Their limits are kept here, so that no crate above has to test a length again.
 
 ghost use Rattle.std.specs.Prelude.{◌≡◌, ◌<◌, ◌≤◌, ◌↔◌, length, IfOk, IsErrOf, nat_eq, box_value};
-ghost use Rattle.lapin_values.specs.Kept.{kept};
+ghost use Rattle.lapin_values.specs.Stored.{kept};
 ghost use Rattle.std.specs.Cmp.Lexicographic.{pointwise, nat_list_eq_equiv};
 ghost use Rattle.std.specs.Cmp.{partial_equiv_from_equiv};
 ghost use Rattle.std.specs.Str.{IsUtf8};
 
-use crate::kept::Kept;
+use crate::kept::Stored;
 use crate::memory::NoMemory;
 use crate::properties::texts::{Link, Place};
 use std::alloc::{AllocError, AllocFailed, Global};
@@ -65,7 +65,7 @@ impl Drop for ShortString {
 
 impl Model for ShortString {
     ghost use Rattle.std.specs.Prelude.{ℕ, List, box_value, length, ◌≤◌};
-    ghost use Rattle.lapin_values.specs.Kept.{kept};
+    ghost use Rattle.lapin_values.specs.Stored.{kept};
 
     ghost Value = { List ℕ };
 
@@ -87,7 +87,7 @@ impl ShortString {
         if text.len() > 255 {
             return Err(ShortStringError::TooLong { length: text.len() });
         }
-        let text = Kept::new(alloc, text)?;
+        let text = Stored::new(alloc, text)?;
         Ok(ShortString {
             link: Box::new(alloc, Link::alone(text))?,
         })

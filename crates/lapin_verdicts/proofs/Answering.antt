@@ -8,7 +8,7 @@ use Rattle.lapin_types.specs.declared.leaving.Left.{Left}
 use Rattle.lapin_types.specs.Types.{Frame}
 use Rattle.lapin_tables.specs.ByChannel.{at_channel, on_channel as on_table}
 use Rattle.lapin_tables.proofs.Channels.{at-on_same, at-on_other}
-use Rattle.lapin_history.specs.Wire.{state_of, receives_on}
+use Rattle.lapin_rules.specs.Wire.{state_of, receives_on}
 use Rattle.lapin_broker.specs.declared.frames.BrokerFrame.{BrokerFrame}
 use Rattle.lapin_broker.specs.declared.frames.BrokerFrame.TheVariants as broker
 use Rattle.lapin_broker.specs.declared.request.Request.{Request}
@@ -33,7 +33,7 @@ use Rattle.lapin_verdicts.specs.Session.{past_of}
 use Rattle.lapin_verdicts.specs.Verdicts.{at_place}
 use Rattle.lapin_verdicts.specs.Answers.{replies_as, replies, requests_in, replies_in, kind_asked, kind_answered, are_same, IsAnswer}
 use Rattle.lapin_verdicts.proofs.Sending.{own_down}
-use Rattle.lapin_verdicts.proofs.Books.{last-push, last-sent, lost_down}
+use Rattle.lapin_verdicts.proofs.TagCounts.{last-push, last-sent, lost_down}
 use Rattle.lapin_verdicts.proofs.Reading.{not_both}
 use Rattle.lapin_verdicts.proofs.Runs.{split_at}
 use Rattle.lapin_verdicts.proofs.Owing.{AreOf, Waiting, Owes, Goes, Owing, goes_at, same_waiting, requests-append, replies-append, read_owes}

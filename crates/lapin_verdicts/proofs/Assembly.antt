@@ -9,20 +9,20 @@ use Rattle.lapin_types.specs.declared.record.Record.{Record}
 use Rattle.lapin_types.specs.declared.leaving.Left.{Left}
 use Rattle.lapin_types.specs.declared.leaving.Publish.{Publish}
 use Rattle.lapin_types.specs.Types.{Frame}
-use Rattle.lapin_history.specs.declared.phases.ConnectionPhase.{ConnectionPhase}
-use Rattle.lapin_history.specs.declared.phases.ConnectionPhase.TheVariants as link
-use Rattle.lapin_history.specs.Phases.{is_up, is_lost, is_live, phase_in}
-use Rattle.lapin_history.specs.Ends.{down}
+use Rattle.lapin_rules.specs.declared.phases.ConnectionPhase.{ConnectionPhase}
+use Rattle.lapin_rules.specs.declared.phases.ConnectionPhase.TheVariants as link
+use Rattle.lapin_rules.specs.Phases.{is_up, is_lost, is_live, phase_in}
+use Rattle.lapin_rules.specs.Ends.{down}
 use Rattle.lapin_tables.specs.ByChannel.{at_channel}
-use Rattle.lapin_history.specs.Leaving.{handed_of, may_begin}
-use Rattle.lapin_history.specs.Frames.{left_publish, MethodEntry, RestEntry}
-use Rattle.lapin_history.specs.Handing.{handed, handed_out, began_on, frame_record, after_handing, left_marks}
-use Rattle.lapin_history.specs.Flow.{begins_on}
-use Rattle.lapin_history.specs.Readings.{Readings}
-use Rattle.lapin_history.specs.Wire.{Wire}
-use Rattle.lapin_history.specs.Events.{after_event, confirm_marks}
-use Rattle.lapin_history.specs.History.{History, Past, past, rec, longer, readings_of}
-use Rattle.lapin_history.specs.ConfirmReadings.{is_full}
+use Rattle.lapin_rules.specs.Leaving.{handed_of, may_begin}
+use Rattle.lapin_rules.specs.Frames.{left_publish, MethodEntry, RestEntry}
+use Rattle.lapin_rules.specs.Handing.{handed, handed_out, began_on, frame_record, after_handing, left_marks}
+use Rattle.lapin_rules.specs.Flow.{begins_on}
+use Rattle.lapin_rules.specs.Readings.{Readings}
+use Rattle.lapin_rules.specs.Wire.{Wire}
+use Rattle.lapin_rules.specs.Events.{after_event, confirm_marks}
+use Rattle.lapin_rules.specs.History.{History, Past, past, rec, longer, readings_of}
+use Rattle.lapin_rules.specs.ConfirmReadings.{is_full}
 use Rattle.lapin_verdicts.specs.Verdicts.{message_by, messages_in}
 use Rattle.lapin_effects.specs.Effects.{is_next, publish_by, live}
 use Rattle.lapin_effects.proofs.Events.{has_effect}
@@ -35,7 +35,7 @@ use Rattle.lapin_machine.specs.Way.{by_history}
 use Rattle.lapin_joint.specs.Order.{front}
 use Rattle.lapin_verdicts.specs.Deeds.{Deed, Read, Sent, reads, reads_of, deed_in, deeds}
 use Rattle.lapin_verdicts.specs.Session.{frames_of, handed_frames}
-use Rattle.lapin_verdicts.proofs.Books.{reads-append}
+use Rattle.lapin_verdicts.proofs.TagCounts.{reads-append}
 use Rattle.lapin_verdicts.proofs.Runs.{past-push, joined-push, deeds-push}
 use Rattle.lapin_verdicts.proofs.Whole.{messages-append}
 use Rattle.lapin_verdicts.proofs.Numbering.{Inv}

@@ -9,15 +9,15 @@ use Rattle.lapin_types.specs.declared.leaving.Publish.{Publish}
 use Rattle.lapin_types.specs.declared.leaving.Left.{Left}
 use Rattle.lapin_types.specs.Types.{Frame}
 use Rattle.lapin_types.specs.Types.frame
-use Rattle.lapin_history.specs.ConfirmMarks.{ConfirmMark}
-use Rattle.lapin_history.specs.ConfirmMarks as mark
-use Rattle.lapin_history.specs.Words.{after, through, without_first}
-use Rattle.lapin_history.specs.ConfirmReadings.{adds, begins, selects, leaves, leaves_on, opening, added, channel_of, has_left, tag_of, tag_on, is_selected, place}
-use Rattle.lapin_history.specs.Frames.{MethodEntry, RestEntry, cut, room_for_body, publish_method, contents as contents_of, behind, rest_of, left_publish}
-use Rattle.lapin_history.specs.Leaving.{may_begin, begun_rest}
-use Rattle.lapin_history.specs.Handing.{handed_out, after_handing, left_marks, sent}
-use Rattle.lapin_history.specs.Drops.{is_on, publish_channel}
-use Rattle.lapin_history.specs.Wire.{Wire, with_lists}
+use Rattle.lapin_rules.specs.ConfirmMarks.{ConfirmMark}
+use Rattle.lapin_rules.specs.ConfirmMarks as mark
+use Rattle.lapin_rules.specs.Words.{after, through, without_first}
+use Rattle.lapin_rules.specs.ConfirmReadings.{adds, begins, selects, leaves, leaves_on, opening, added, channel_of, has_left, tag_of, tag_on, is_selected, place}
+use Rattle.lapin_rules.specs.Frames.{MethodEntry, RestEntry, cut, room_for_body, publish_method, contents as contents_of, behind, rest_of, left_publish}
+use Rattle.lapin_rules.specs.Leaving.{may_begin, begun_rest}
+use Rattle.lapin_rules.specs.Handing.{handed_out, after_handing, left_marks, sent}
+use Rattle.lapin_rules.specs.Drops.{is_on, publish_channel}
+use Rattle.lapin_rules.specs.Wire.{Wire, with_lists}
 use Rattle.lapin_verdicts.specs.Publishes.{Message, Tally, no_tally, with_whole, tally_after}
 use Rattle.lapin_verdicts.specs.Verdicts.{at_place}
 use Rattle.lapin_verdicts.specs.Session.{IsPending, whole_tally, rest_on, next_on}

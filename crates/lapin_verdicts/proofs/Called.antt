@@ -7,18 +7,18 @@ use Rattle.lapin_types.specs.declared.event.Event.TheVariants as event
 use Rattle.lapin_types.specs.declared.leaving.Left.{Left}
 use Rattle.lapin_types.specs.declared.leaving.Publish.{Publish}
 use Rattle.lapin_types.specs.Types.{Frame}
-use Rattle.lapin_history.specs.ConfirmMarks.{ConfirmMark}
-use Rattle.lapin_history.specs.ConfirmMarks as mark
-use Rattle.lapin_history.specs.ConfirmReadings.{adds, begins, leaves, added, channel_of, has_left}
-use Rattle.lapin_history.specs.Drops.{is_off, is_on, publish_channel}
-use Rattle.lapin_history.specs.Events.{after_event, confirm_marks}
-use Rattle.lapin_history.specs.Frames.{MethodEntry, RestEntry}
-use Rattle.lapin_history.specs.Handing.{handed_out, began_on, after_handing, sent, left_marks}
-use Rattle.lapin_history.specs.History.{History, Past, past, rec, readings_of}
-use Rattle.lapin_history.specs.Leaving.{left_of, left_lists, may_begin}
-use Rattle.lapin_history.specs.Phases.{is_up}
-use Rattle.lapin_history.specs.Words.{many, through, without_first}
-use Rattle.lapin_history.specs.Wire.{Wire, lists_of, with_lists}
+use Rattle.lapin_rules.specs.ConfirmMarks.{ConfirmMark}
+use Rattle.lapin_rules.specs.ConfirmMarks as mark
+use Rattle.lapin_rules.specs.ConfirmReadings.{adds, begins, leaves, added, channel_of, has_left}
+use Rattle.lapin_rules.specs.Drops.{is_off, is_on, publish_channel}
+use Rattle.lapin_rules.specs.Events.{after_event, confirm_marks}
+use Rattle.lapin_rules.specs.Frames.{MethodEntry, RestEntry}
+use Rattle.lapin_rules.specs.Handing.{handed_out, began_on, after_handing, sent, left_marks}
+use Rattle.lapin_rules.specs.History.{History, Past, past, rec, readings_of}
+use Rattle.lapin_rules.specs.Leaving.{left_of, left_lists, may_begin}
+use Rattle.lapin_rules.specs.Phases.{is_up}
+use Rattle.lapin_rules.specs.Words.{many, through, without_first}
+use Rattle.lapin_rules.specs.Wire.{Wire, lists_of, with_lists}
 use Rattle.lapin_joint.specs.declared.step.Step.{Step}
 use Rattle.lapin_joint.specs.declared.step.Step.TheVariants as step
 use Rattle.lapin_joint.specs.Joint.{Joint, is_lawful, client, read_first, send_down, deliver_first, after, joined_to}

@@ -5,7 +5,7 @@ use Rattle.std.proofs.lemmas.Bool.Decides.{eqb_tells}
 use Rattle.lapin_types.specs.declared.leaving.Publish.{Publish}
 use Rattle.lapin_types.specs.Types.{Frame}
 use Rattle.lapin_types.specs.Types.frame
-use Rattle.lapin_history.specs.Frames.{RestEntry, pieces, cut, room_for_body, publish_method, contents, behind}
+use Rattle.lapin_rules.specs.Frames.{RestEntry, pieces, cut, room_for_body, publish_method, contents, behind}
 use Rattle.lapin_verdicts.specs.Publishes.{Message, Begun, Headed, Tally, with_whole, with_bytes, tally_after}
 
 -- the message of a publish that waits

@@ -11,7 +11,7 @@ use Rattle.lapin_types.specs.Types.method
 use Rattle.lapin_types.specs.Types.channel
 use Rattle.lapin_tables.specs.ByChannel.{at_channel, on_channel as on_table}
 use Rattle.lapin_tables.proofs.Channels.{at-on_same, at-on_other}
-use Rattle.lapin_history.specs.Phases.{is_up as is_link_up}
+use Rattle.lapin_rules.specs.Phases.{is_up as is_link_up}
 use Rattle.lapin_broker.specs.declared.content.Content.{Content}
 use Rattle.lapin_broker.specs.declared.content.Content.TheVariants as content
 use Rattle.lapin_broker.specs.declared.frames.ClientFrame.{ClientFrame}
@@ -37,7 +37,7 @@ use Rattle.lapin_verdicts.specs.Publishes.{no_tally}
 use Rattle.lapin_verdicts.specs.Answers.{is_open_ok}
 use Rattle.lapin_verdicts.proofs.Sending.{own_down}
 use Rattle.lapin_verdicts.proofs.Sorting.{Sorts, sorted}
-use Rattle.lapin_verdicts.proofs.Books.{last-push, last-sent, sents-append, lost_down}
+use Rattle.lapin_verdicts.proofs.TagCounts.{last-push, last-sent, sents-append, lost_down}
 use Rattle.lapin_verdicts.proofs.Reading.{at_with, at_other, of_if, not_both, closed_down, answered_down}
 use Rattle.lapin_verdicts.specs.InStep.{is_frame_on}
 use Rattle.lapin_verdicts.specs.Session.{past_of}

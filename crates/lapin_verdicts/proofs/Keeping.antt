@@ -7,14 +7,14 @@ use Rattle.std.proofs.lemmas.List.Folds.{list_any-append}
 use Rattle.std.proofs.lemmas.List.Elements.{filter-append}
 use Rattle.lapin_types.specs.declared.leaving.Publish.{Publish}
 use Rattle.lapin_types.specs.Types.{Frame, Error}
-use Rattle.lapin_history.specs.ConfirmMarks.{ConfirmMark}
-use Rattle.lapin_history.specs.ConfirmMarks as mark
-use Rattle.lapin_history.specs.ConfirmReadings.{adds, begins, added, channel_of, channel_in, has_left, outcome_at}
-use Rattle.lapin_history.specs.Phases.{is_up, is_live}
-use Rattle.lapin_history.specs.Words.{many, one_after}
-use Rattle.lapin_history.specs.Frames.{MethodEntry, RestEntry}
-use Rattle.lapin_history.specs.Drops.{is_off, is_on, is_rest_of, publish_channel, method_channel, frame_channel}
-use Rattle.lapin_history.specs.Wire.{Wire, phase_of}
+use Rattle.lapin_rules.specs.ConfirmMarks.{ConfirmMark}
+use Rattle.lapin_rules.specs.ConfirmMarks as mark
+use Rattle.lapin_rules.specs.ConfirmReadings.{adds, begins, added, channel_of, channel_in, has_left, outcome_at}
+use Rattle.lapin_rules.specs.Phases.{is_up, is_live}
+use Rattle.lapin_rules.specs.Words.{many, one_after}
+use Rattle.lapin_rules.specs.Frames.{MethodEntry, RestEntry}
+use Rattle.lapin_rules.specs.Drops.{is_off, is_on, is_rest_of, publish_channel, method_channel, frame_channel}
+use Rattle.lapin_rules.specs.Wire.{Wire, phase_of}
 use Rattle.lapin_verdicts.specs.Publishes.{Message}
 use Rattle.lapin_verdicts.specs.Verdicts.{at_place}
 use Rattle.lapin_verdicts.specs.Session.{rest_on}

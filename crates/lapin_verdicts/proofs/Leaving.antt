@@ -14,22 +14,22 @@ use Rattle.lapin_types.specs.Types.channel
 use Rattle.lapin_types.specs.Types.connection
 use Rattle.lapin_types.specs.Types.confirm
 use Rattle.lapin_types.specs.Types.channel_state as state
-use Rattle.lapin_history.specs.declared.phases.ChannelPhase.{ChannelPhase}
-use Rattle.lapin_history.specs.declared.phases.ChannelPhase.TheVariants as phase
-use Rattle.lapin_history.specs.declared.phases.ConnectionPhase.{ConnectionPhase}
-use Rattle.lapin_history.specs.declared.phases.ConnectionPhase.TheVariants as link
-use Rattle.lapin_history.specs.ConfirmMarks.{ConfirmMark}
-use Rattle.lapin_history.specs.ConfirmMarks as mark
-use Rattle.lapin_history.specs.Select.{is_select}
-use Rattle.lapin_history.specs.Words.{after}
-use Rattle.lapin_history.specs.ConfirmReadings.{adds, begins, selects, leaves_on, opening, added, channel_of, has_left, outcome_at, is_selected, place}
-use Rattle.lapin_history.specs.Phases.{is_up, is_live, channel_state, phase_in}
-use Rattle.lapin_history.specs.Frames.{MethodEntry, RestEntry}
-use Rattle.lapin_history.specs.Handing.{after_handing, sent}
-use Rattle.lapin_history.specs.ChannelClose.{close_sent, phases_sent}
-use Rattle.lapin_history.specs.ConnectionClose.{link_sent, link_close_sent}
-use Rattle.lapin_history.specs.Drops.{is_on, is_rest_of, publish_channel, frame_channel}
-use Rattle.lapin_history.specs.Wire.{Wire, phase_of, receives_on}
+use Rattle.lapin_rules.specs.declared.phases.ChannelPhase.{ChannelPhase}
+use Rattle.lapin_rules.specs.declared.phases.ChannelPhase.TheVariants as phase
+use Rattle.lapin_rules.specs.declared.phases.ConnectionPhase.{ConnectionPhase}
+use Rattle.lapin_rules.specs.declared.phases.ConnectionPhase.TheVariants as link
+use Rattle.lapin_rules.specs.ConfirmMarks.{ConfirmMark}
+use Rattle.lapin_rules.specs.ConfirmMarks as mark
+use Rattle.lapin_rules.specs.Select.{is_select}
+use Rattle.lapin_rules.specs.Words.{after}
+use Rattle.lapin_rules.specs.ConfirmReadings.{adds, begins, selects, leaves_on, opening, added, channel_of, has_left, outcome_at, is_selected, place}
+use Rattle.lapin_rules.specs.Phases.{is_up, is_live, channel_state, phase_in}
+use Rattle.lapin_rules.specs.Frames.{MethodEntry, RestEntry}
+use Rattle.lapin_rules.specs.Handing.{after_handing, sent}
+use Rattle.lapin_rules.specs.ChannelClose.{close_sent, phases_sent}
+use Rattle.lapin_rules.specs.ConnectionClose.{link_sent, link_close_sent}
+use Rattle.lapin_rules.specs.Drops.{is_on, is_rest_of, publish_channel, frame_channel}
+use Rattle.lapin_rules.specs.Wire.{Wire, phase_of, receives_on}
 use Rattle.lapin_tables.specs.ByChannel.{at_channel, on_channel}
 use Rattle.lapin_tables.proofs.Channels.{at-on_same, at-on_other}
 use Rattle.lapin_broker.specs.Frames.{channel_of as broker_channel}

@@ -2,7 +2,7 @@ pub mod Sorting
 pub mod Counting
 pub mod Reading
 pub mod Sending
-pub mod Books
+pub mod TagCounts
 pub mod Marks
 pub mod Settles
 pub mod Runs

@@ -3,17 +3,17 @@ use Rattle.std.proofs.Common.{◌≡◌, ◌∙◌, ℕ, zero, suc, ◌+◌, ◌
 use Rattle.std.specs.List.{list_any}
 use Rattle.std.specs.Option.{option_or}
 use Rattle.std.proofs.lemmas.List.Folds.{list_any-append}
-use Rattle.lapin_history.specs.declared.marks.Outcome.{Outcome}
-use Rattle.lapin_history.specs.declared.marks.Outcome.TheVariants as outcome
-use Rattle.lapin_history.specs.declared.marks.SettleKind.{SettleKind}
-use Rattle.lapin_history.specs.declared.marks.SettleKind.TheVariants as settle
-use Rattle.lapin_history.specs.declared.marks.Settlement.{Settlement}
-use Rattle.lapin_history.specs.ConfirmMarks.{ConfirmMark}
+use Rattle.lapin_rules.specs.declared.marks.Outcome.{Outcome}
+use Rattle.lapin_rules.specs.declared.marks.Outcome.TheVariants as outcome
+use Rattle.lapin_rules.specs.declared.marks.SettleKind.{SettleKind}
+use Rattle.lapin_rules.specs.declared.marks.SettleKind.TheVariants as settle
+use Rattle.lapin_rules.specs.declared.marks.Settlement.{Settlement}
+use Rattle.lapin_rules.specs.ConfirmMarks.{ConfirmMark}
 use Rattle.lapin_types.specs.Types.{Error}
-use Rattle.lapin_history.specs.ConfirmMarks as mark
-use Rattle.lapin_history.specs.Words.{after, through, many, one_after}
+use Rattle.lapin_rules.specs.ConfirmMarks as mark
+use Rattle.lapin_rules.specs.Words.{after, through, many, one_after}
 use Rattle.lapin_verdicts.specs.Session.{IsPending}
-use Rattle.lapin_history.specs.ConfirmReadings.{adds, leaves, added, channel_of, has_left, tag_of, outcome_at, outcome_after, first_settled, settlement_on, outcome_of, kind_outcome, covers, channel_in, first_rejected, life}
+use Rattle.lapin_rules.specs.ConfirmReadings.{adds, leaves, added, channel_of, has_left, tag_of, outcome_at, outcome_after, first_settled, settlement_on, outcome_of, kind_outcome, covers, channel_in, first_rejected, life}
 
 module _ {X : Type 0} (p : X → Bool) where
   pub after-append : (xs ys : List X) → list_any p xs ≡ true → after p (xs ++ ys) ≡ after p xs ++ ys

@@ -10,19 +10,19 @@ use Rattle.lapin_types.specs.declared.leaving.Left.{Left}
 use Rattle.lapin_types.specs.declared.leaving.Publish.{Publish}
 use Rattle.lapin_types.specs.Types.{Frame}
 use Rattle.lapin_types.specs.Types.frame
-use Rattle.lapin_history.specs.ConfirmMarks.{ConfirmMark}
-use Rattle.lapin_history.specs.ConfirmMarks as mark
-use Rattle.lapin_history.specs.Select.{is_select}
-use Rattle.lapin_history.specs.Words.{through, many}
-use Rattle.lapin_history.specs.ConfirmReadings.{begins, selects, leaves, leaves_on, opening, added, channel_of, has_left, tag_of, outcome_at, is_selected, is_pending, is_pending_as, is_tag, is_open_outcome, place}
-use Rattle.lapin_history.specs.Frames.{MethodEntry, RestEntry, left_publish}
-use Rattle.lapin_history.specs.Leaving.{handed_of, may_begin}
-use Rattle.lapin_history.specs.Handing.{handed_as, began_on, left_marks, frame_marks}
-use Rattle.lapin_history.specs.Wire.{Wire, state_of, receives_on}
-use Rattle.lapin_history.specs.Ends.{ends_all}
-use Rattle.lapin_history.specs.Readings.{Readings}
-use Rattle.lapin_history.specs.Events.{after_event, confirm_marks}
-use Rattle.lapin_history.specs.History.{History, rec, readings_of}
+use Rattle.lapin_rules.specs.ConfirmMarks.{ConfirmMark}
+use Rattle.lapin_rules.specs.ConfirmMarks as mark
+use Rattle.lapin_rules.specs.Select.{is_select}
+use Rattle.lapin_rules.specs.Words.{through, many}
+use Rattle.lapin_rules.specs.ConfirmReadings.{begins, selects, leaves, leaves_on, opening, added, channel_of, has_left, tag_of, outcome_at, is_selected, is_pending, is_pending_as, is_tag, is_open_outcome, place}
+use Rattle.lapin_rules.specs.Frames.{MethodEntry, RestEntry, left_publish}
+use Rattle.lapin_rules.specs.Leaving.{handed_of, may_begin}
+use Rattle.lapin_rules.specs.Handing.{handed_as, began_on, left_marks, frame_marks}
+use Rattle.lapin_rules.specs.Wire.{Wire, state_of, receives_on}
+use Rattle.lapin_rules.specs.Ends.{ends_all}
+use Rattle.lapin_rules.specs.Readings.{Readings}
+use Rattle.lapin_rules.specs.Events.{after_event, confirm_marks}
+use Rattle.lapin_rules.specs.History.{History, rec, readings_of}
 use Rattle.lapin_joint.specs.declared.step.Step.{Step}
 use Rattle.lapin_joint.specs.declared.step.Step.TheVariants as step
 use Rattle.lapin_joint.specs.Joint.{Joint, is_lawful, joined_to}

@@ -12,16 +12,16 @@ use Rattle.lapin_types.specs.Types.method
 use Rattle.lapin_types.specs.Types.basic
 use Rattle.lapin_types.specs.Types.channel
 use Rattle.lapin_types.specs.Types.channel_state as state
-use Rattle.lapin_history.specs.declared.phases.ChannelPhase.{ChannelPhase}
-use Rattle.lapin_history.specs.declared.phases.ChannelPhase.TheVariants as phase
-use Rattle.lapin_history.specs.ConfirmMarks.{ConfirmMark}
-use Rattle.lapin_history.specs.ConfirmMarks as mark
-use Rattle.lapin_history.specs.ConfirmReadings.{adds, opening, begins, added, channel_of, has_left, outcome_at, is_selected, place}
-use Rattle.lapin_history.specs.Phases.{is_up, is_live, channel_state}
-use Rattle.lapin_history.specs.Frames.{MethodEntry, RestEntry}
-use Rattle.lapin_history.specs.Drops.{is_on, is_rest_of, publish_channel, frame_channel}
-use Rattle.lapin_history.specs.Select.{is_select}
-use Rattle.lapin_history.specs.Wire.{Wire, phase_of, receives_on}
+use Rattle.lapin_rules.specs.declared.phases.ChannelPhase.{ChannelPhase}
+use Rattle.lapin_rules.specs.declared.phases.ChannelPhase.TheVariants as phase
+use Rattle.lapin_rules.specs.ConfirmMarks.{ConfirmMark}
+use Rattle.lapin_rules.specs.ConfirmMarks as mark
+use Rattle.lapin_rules.specs.ConfirmReadings.{adds, opening, begins, added, channel_of, has_left, outcome_at, is_selected, place}
+use Rattle.lapin_rules.specs.Phases.{is_up, is_live, channel_state}
+use Rattle.lapin_rules.specs.Frames.{MethodEntry, RestEntry}
+use Rattle.lapin_rules.specs.Drops.{is_on, is_rest_of, publish_channel, frame_channel}
+use Rattle.lapin_rules.specs.Select.{is_select}
+use Rattle.lapin_rules.specs.Wire.{Wire, phase_of, receives_on}
 use Rattle.lapin_verdicts.specs.Deeds.{is_open}
 use Rattle.lapin_verdicts.specs.Publishes.{Message, Idle, Tally, no_tally, tally_after}
 use Rattle.lapin_verdicts.specs.Verdicts.{at_place}

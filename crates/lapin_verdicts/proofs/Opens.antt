@@ -18,31 +18,31 @@ use Rattle.lapin_types.specs.Types.error
 use Rattle.lapin_content.specs.declared.start.Start.{Start}
 use Rattle.lapin_content.specs.declared.start.Start.TheVariants as start_
 use Rattle.lapin_content.specs.declared.start.Whole.{Whole}
-use Rattle.lapin_history.specs.declared.calls.Asked.{Asked}
-use Rattle.lapin_history.specs.declared.calls.Asked.TheVariants as ask
-use Rattle.lapin_history.specs.declared.broker_frames.Incoming.{Incoming}
-use Rattle.lapin_history.specs.declared.broker_frames.Incoming.TheVariants as incoming
-use Rattle.lapin_history.specs.declared.phases.ConnectionPhase.{ConnectionPhase}
-use Rattle.lapin_history.specs.declared.phases.ConnectionPhase.TheVariants as link
-use Rattle.lapin_history.specs.ConfirmMarks.{ConfirmMark}
-use Rattle.lapin_history.specs.ConfirmMarks as mark
-use Rattle.lapin_history.specs.ConfirmReadings.{begins}
-use Rattle.lapin_history.specs.Words.{many}
-use Rattle.lapin_history.specs.Phases.{is_up}
-use Rattle.lapin_history.specs.Frames.{MethodEntry, RestEntry, left_publish}
-use Rattle.lapin_history.specs.Drops.{is_off, method_channel}
-use Rattle.lapin_history.specs.Select.{is_select}
-use Rattle.lapin_history.specs.Leaving.{handed_of, left_of, left_lists, may_begin}
-use Rattle.lapin_history.specs.Handing.{after_handing, handed_out, left_marks, entry_marks, frame_marks, sent}
-use Rattle.lapin_history.specs.ConnectionClose.{link_sent, after_connection_close}
-use Rattle.lapin_history.specs.ChannelClose.{close_ok_end}
-use Rattle.lapin_history.specs.Ends.{end_with}
-use Rattle.lapin_history.specs.Content.{start_marks, whole_marks, whole_on}
-use Rattle.lapin_history.specs.Asking.{is_allowed, after_call, asked_by, after_asking, call_marks, asking_marks}
-use Rattle.lapin_history.specs.Polls.{is_confirmed, is_returned, is_aside}
-use Rattle.lapin_history.specs.Receiving.{after_incoming, incoming_marks}
-use Rattle.lapin_history.specs.Events.{after_event, confirm_marks}
-use Rattle.lapin_history.specs.Wire.{Wire, state_of, phase_of, is_open as is_open_state, with_lists, lists_of}
+use Rattle.lapin_rules.specs.declared.calls.Asked.{Asked}
+use Rattle.lapin_rules.specs.declared.calls.Asked.TheVariants as ask
+use Rattle.lapin_rules.specs.declared.broker_frames.Incoming.{Incoming}
+use Rattle.lapin_rules.specs.declared.broker_frames.Incoming.TheVariants as incoming
+use Rattle.lapin_rules.specs.declared.phases.ConnectionPhase.{ConnectionPhase}
+use Rattle.lapin_rules.specs.declared.phases.ConnectionPhase.TheVariants as link
+use Rattle.lapin_rules.specs.ConfirmMarks.{ConfirmMark}
+use Rattle.lapin_rules.specs.ConfirmMarks as mark
+use Rattle.lapin_rules.specs.ConfirmReadings.{begins}
+use Rattle.lapin_rules.specs.Words.{many}
+use Rattle.lapin_rules.specs.Phases.{is_up}
+use Rattle.lapin_rules.specs.Frames.{MethodEntry, RestEntry, left_publish}
+use Rattle.lapin_rules.specs.Drops.{is_off, method_channel}
+use Rattle.lapin_rules.specs.Select.{is_select}
+use Rattle.lapin_rules.specs.Leaving.{handed_of, left_of, left_lists, may_begin}
+use Rattle.lapin_rules.specs.Handing.{after_handing, handed_out, left_marks, entry_marks, frame_marks, sent}
+use Rattle.lapin_rules.specs.ConnectionClose.{link_sent, after_connection_close}
+use Rattle.lapin_rules.specs.ChannelClose.{close_ok_end}
+use Rattle.lapin_rules.specs.Ends.{end_with}
+use Rattle.lapin_rules.specs.Content.{start_marks, whole_marks, whole_on}
+use Rattle.lapin_rules.specs.Asking.{is_allowed, after_call, asked_by, after_asking, call_marks, asking_marks}
+use Rattle.lapin_rules.specs.Polls.{is_confirmed, is_returned, is_aside}
+use Rattle.lapin_rules.specs.Receiving.{after_incoming, incoming_marks}
+use Rattle.lapin_rules.specs.Events.{after_event, confirm_marks}
+use Rattle.lapin_rules.specs.Wire.{Wire, state_of, phase_of, is_open as is_open_state, with_lists, lists_of}
 use Rattle.lapin_joint.specs.Joint.{is_lawful, left_alone}
 use Rattle.lapin_verdicts.specs.Deeds.{is_open}
 use Rattle.lapin_verdicts.specs.InStep.{is_frame_on, is_open_on, is_open_waiting}

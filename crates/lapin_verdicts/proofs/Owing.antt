@@ -26,7 +26,7 @@ use Rattle.lapin_verdicts.specs.Deeds.{Deed, Read, Sent, is_open, joined_opening
 use Rattle.lapin_verdicts.specs.Publishes.{no_tally}
 use Rattle.lapin_verdicts.specs.Answers.{awaits_as, awaits, replies, requests_in, replies_in, kind_asked}
 use Rattle.lapin_verdicts.proofs.Sorting.{Sorts, sorted}
-use Rattle.lapin_verdicts.proofs.Books.{sents-append}
+use Rattle.lapin_verdicts.proofs.TagCounts.{sents-append}
 use Rattle.lapin_verdicts.proofs.Reading.{at_with, at_other, of_if, not_both, closed_down, answered_down}
 
 -- ---- what waits

@@ -13,11 +13,11 @@ use Rattle.lapin_types.specs.Types.method
 use Rattle.lapin_types.specs.Types.basic
 use Rattle.lapin_types.specs.Types.confirm
 use Rattle.lapin_methods.specs.declared.frame.ContentHeader.{ContentHeader}
-use Rattle.lapin_history.specs.declared.marks.Settlement.{Settlement}
-use Rattle.lapin_history.specs.ConfirmMarks.{ConfirmMark}
-use Rattle.lapin_history.specs.ConfirmReadings.{covers}
-use Rattle.lapin_history.specs.History.{History, Past, past, past_on, longer, rec}
-use Rattle.lapin_history.specs.Events.{confirm_marks}
+use Rattle.lapin_rules.specs.declared.marks.Settlement.{Settlement}
+use Rattle.lapin_rules.specs.ConfirmMarks.{ConfirmMark}
+use Rattle.lapin_rules.specs.ConfirmReadings.{covers}
+use Rattle.lapin_rules.specs.History.{History, Past, past, past_on, longer, rec}
+use Rattle.lapin_rules.specs.Events.{confirm_marks}
 use Rattle.lapin_broker.specs.Frames.{channel_of}
 use Rattle.lapin_broker.specs.Sends.{may}
 use Rattle.lapin_joint.specs.declared.step.Step.{Step}
@@ -31,7 +31,7 @@ use Rattle.lapin_verdicts.specs.Verdicts.{at_place, settles_by, settles, settlem
 use Rattle.lapin_verdicts.specs.InStep.{is_open_on, is_frame_on}
 use Rattle.lapin_verdicts.specs.Session.{told, next_tally, next_on, frames_of}
 use Rattle.lapin_verdicts.proofs.Sending.{InRange, RangeBy}
-use Rattle.lapin_verdicts.proofs.Books.{tally_on, tally-grown, reads-sent, AreDue}
+use Rattle.lapin_verdicts.proofs.TagCounts.{tally_on, tally-grown, reads-sent, AreDue}
 
 -- ---- one step more
 

@@ -8,13 +8,13 @@ use Rattle.lapin_types.specs.declared.record.Record.{Record}
 use Rattle.lapin_types.specs.declared.record.Record.TheVariants as record_
 use Rattle.lapin_types.specs.Types.{Error}
 use Rattle.lapin_types.specs.Types.error
-use Rattle.lapin_history.specs.declared.calls.Asked.{Asked}
-use Rattle.lapin_history.specs.declared.calls.Asked.TheVariants as ask
-use Rattle.lapin_history.specs.Calls.{asked, is_try}
-use Rattle.lapin_history.specs.Asking.{is_allowed, accepted_record, call_record, is_held, is_outstanding, asked_by}
-use Rattle.lapin_history.specs.Events.{record_of}
-use Rattle.lapin_history.specs.Readings.{Readings}
-use Rattle.lapin_history.specs.Wire.{Wire, state_of}
+use Rattle.lapin_rules.specs.declared.calls.Asked.{Asked}
+use Rattle.lapin_rules.specs.declared.calls.Asked.TheVariants as ask
+use Rattle.lapin_rules.specs.Calls.{asked, is_try}
+use Rattle.lapin_rules.specs.Asking.{is_allowed, accepted_record, call_record, is_held, is_outstanding, asked_by}
+use Rattle.lapin_rules.specs.Events.{record_of}
+use Rattle.lapin_rules.specs.Readings.{Readings}
+use Rattle.lapin_rules.specs.Wire.{Wire, state_of}
 use Rattle.lapin_effects.specs.Effects.{publish_asked, publish_asking, publish_by}
 use Rattle.lapin_verdicts.specs.Verdicts.{message_asked, message_by}
 use Rattle.lapin_verdicts.proofs.Cutting.{message_in}

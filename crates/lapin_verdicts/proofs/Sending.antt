@@ -8,7 +8,7 @@ use Rattle.lapin_types.specs.Types.{Frame, BasicMethod}
 use Rattle.lapin_types.specs.Types.frame
 use Rattle.lapin_types.specs.Types.method
 use Rattle.lapin_types.specs.Types.basic
-use Rattle.lapin_history.specs.declared.marks.Settlement.{Settlement}
+use Rattle.lapin_rules.specs.declared.marks.Settlement.{Settlement}
 use Rattle.lapin_tables.specs.ByChannel.{at_channel, on_channel as on_table}
 use Rattle.lapin_tables.specs.Numbered.{under}
 use Rattle.lapin_tables.proofs.Channels.{at-on_same, at-on_other}

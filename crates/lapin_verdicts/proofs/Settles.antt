@@ -18,29 +18,29 @@ use Rattle.lapin_types.specs.Types.method
 use Rattle.lapin_types.specs.Types.basic
 use Rattle.lapin_types.specs.Types.connection
 use Rattle.lapin_types.specs.Types.error
-use Rattle.lapin_history.specs.declared.marks.Settlement.{Settlement}
-use Rattle.lapin_history.specs.declared.calls.Asked.{Asked}
-use Rattle.lapin_history.specs.declared.calls.Asked.TheVariants as ask
-use Rattle.lapin_history.specs.declared.broker_frames.Incoming.{Incoming}
-use Rattle.lapin_history.specs.declared.broker_frames.Incoming.TheVariants as incoming
+use Rattle.lapin_rules.specs.declared.marks.Settlement.{Settlement}
+use Rattle.lapin_rules.specs.declared.calls.Asked.{Asked}
+use Rattle.lapin_rules.specs.declared.calls.Asked.TheVariants as ask
+use Rattle.lapin_rules.specs.declared.broker_frames.Incoming.{Incoming}
+use Rattle.lapin_rules.specs.declared.broker_frames.Incoming.TheVariants as incoming
 use Rattle.lapin_content.specs.declared.start.Start.{Start}
 use Rattle.lapin_content.specs.declared.start.Start.TheVariants as start_
 use Rattle.lapin_content.specs.declared.start.Whole.{Whole}
-use Rattle.lapin_history.specs.ConfirmMarks.{ConfirmMark}
-use Rattle.lapin_history.specs.ConfirmMarks as mark
-use Rattle.lapin_history.specs.Select.{is_select}
-use Rattle.lapin_history.specs.Ends.{ends, ends_all, end_with, live_channels}
-use Rattle.lapin_history.specs.ChannelClose.{close_ok_end}
-use Rattle.lapin_history.specs.Asking.{is_allowed, call_marks, asked_by}
-use Rattle.lapin_history.specs.Handing.{entry_marks, left_marks, frame_marks, handed_as}
-use Rattle.lapin_history.specs.Content.{start_marks, whole_marks, whole_on}
-use Rattle.lapin_history.specs.Incoming.{incoming_of, incoming_method}
-use Rattle.lapin_history.specs.Receiving.{incoming_marks}
-use Rattle.lapin_history.specs.Settlement.{failed_marks_on}
-use Rattle.lapin_history.specs.Polls.{is_confirmed, is_returned, is_aside}
-use Rattle.lapin_history.specs.Wire.{Wire, state_of, phase_of, is_open}
-use Rattle.lapin_history.specs.Unexpected.{failed_at_unexpected}
-use Rattle.lapin_history.specs.Events.{confirm_marks}
+use Rattle.lapin_rules.specs.ConfirmMarks.{ConfirmMark}
+use Rattle.lapin_rules.specs.ConfirmMarks as mark
+use Rattle.lapin_rules.specs.Select.{is_select}
+use Rattle.lapin_rules.specs.Ends.{ends, ends_all, end_with, live_channels}
+use Rattle.lapin_rules.specs.ChannelClose.{close_ok_end}
+use Rattle.lapin_rules.specs.Asking.{is_allowed, call_marks, asked_by}
+use Rattle.lapin_rules.specs.Handing.{entry_marks, left_marks, frame_marks, handed_as}
+use Rattle.lapin_rules.specs.Content.{start_marks, whole_marks, whole_on}
+use Rattle.lapin_rules.specs.Incoming.{incoming_of, incoming_method}
+use Rattle.lapin_rules.specs.Receiving.{incoming_marks}
+use Rattle.lapin_rules.specs.Settlement.{failed_marks_on}
+use Rattle.lapin_rules.specs.Polls.{is_confirmed, is_returned, is_aside}
+use Rattle.lapin_rules.specs.Wire.{Wire, state_of, phase_of, is_open}
+use Rattle.lapin_rules.specs.Unexpected.{failed_at_unexpected}
+use Rattle.lapin_rules.specs.Events.{confirm_marks}
 use Rattle.lapin_broker.specs.Frames.{channel_of}
 use Rattle.lapin_joint.specs.Joint.{is_lawful}
 use Rattle.lapin_verdicts.specs.Verdicts.{settlement_in}

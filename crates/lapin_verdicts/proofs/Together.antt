@@ -8,24 +8,24 @@ use Rattle.lapin_types.specs.declared.record.Record.{Record}
 use Rattle.lapin_types.specs.declared.leaving.Left.{Left}
 use Rattle.lapin_types.specs.Types.{Frame, ChannelState, Error}
 use Rattle.lapin_types.specs.Types.channel_state as state
-use Rattle.lapin_history.specs.declared.broker_frames.Incoming.{Incoming}
-use Rattle.lapin_history.specs.declared.broker_frames.Incoming.TheVariants as incoming
-use Rattle.lapin_history.specs.declared.phases.ChannelPhase.{ChannelPhase}
-use Rattle.lapin_history.specs.declared.phases.ChannelPhase.TheVariants as phase
-use Rattle.lapin_history.specs.declared.phases.ConnectionPhase.{ConnectionPhase}
-use Rattle.lapin_history.specs.declared.phases.ConnectionPhase.TheVariants as link
-use Rattle.lapin_history.specs.ConfirmMarks.{ConfirmMark}
-use Rattle.lapin_history.specs.ConfirmMarks as mark
-use Rattle.lapin_history.specs.ConfirmReadings.{begins, is_full}
-use Rattle.lapin_history.specs.Ends.{down}
-use Rattle.lapin_history.specs.Flow.{begins_on}
-use Rattle.lapin_history.specs.Handing.{handed, handed_out, began_on, frame_record, left_marks}
-use Rattle.lapin_history.specs.History.{History, Past, past, rec, record_after, longer, readings_of}
-use Rattle.lapin_history.specs.Events.{after_event, confirm_marks}
-use Rattle.lapin_history.specs.Incoming.{incoming_of}
-use Rattle.lapin_history.specs.Phases.{is_up, is_lost, channel_state}
-use Rattle.lapin_history.specs.Words.{many}
-use Rattle.lapin_history.specs.Wire.{Wire, phase_of, receives_on}
+use Rattle.lapin_rules.specs.declared.broker_frames.Incoming.{Incoming}
+use Rattle.lapin_rules.specs.declared.broker_frames.Incoming.TheVariants as incoming
+use Rattle.lapin_rules.specs.declared.phases.ChannelPhase.{ChannelPhase}
+use Rattle.lapin_rules.specs.declared.phases.ChannelPhase.TheVariants as phase
+use Rattle.lapin_rules.specs.declared.phases.ConnectionPhase.{ConnectionPhase}
+use Rattle.lapin_rules.specs.declared.phases.ConnectionPhase.TheVariants as link
+use Rattle.lapin_rules.specs.ConfirmMarks.{ConfirmMark}
+use Rattle.lapin_rules.specs.ConfirmMarks as mark
+use Rattle.lapin_rules.specs.ConfirmReadings.{begins, is_full}
+use Rattle.lapin_rules.specs.Ends.{down}
+use Rattle.lapin_rules.specs.Flow.{begins_on}
+use Rattle.lapin_rules.specs.Handing.{handed, handed_out, began_on, frame_record, left_marks}
+use Rattle.lapin_rules.specs.History.{History, Past, past, rec, record_after, longer, readings_of}
+use Rattle.lapin_rules.specs.Events.{after_event, confirm_marks}
+use Rattle.lapin_rules.specs.Incoming.{incoming_of}
+use Rattle.lapin_rules.specs.Phases.{is_up, is_lost, channel_state}
+use Rattle.lapin_rules.specs.Words.{many}
+use Rattle.lapin_rules.specs.Wire.{Wire, phase_of, receives_on}
 use Rattle.lapin_broker.specs.Frames.{channel_of}
 use Rattle.lapin_broker.specs.Sends.{may}
 use Rattle.lapin_joint.specs.declared.step.Step.{Step}
@@ -44,7 +44,7 @@ use Rattle.lapin_verdicts.specs.Deeds.{Deed, Read, Sent, is_open, is_on, opens, 
 use Rattle.lapin_verdicts.specs.InStep.{is_frame_on, is_open_on, is_open_waiting, InStep}
 use Rattle.lapin_verdicts.specs.Session.{past_of}
 use Rattle.lapin_verdicts.proofs.Marks.{many-append}
-use Rattle.lapin_verdicts.proofs.Books.{sents-append, last-push, last-sent}
+use Rattle.lapin_verdicts.proofs.TagCounts.{sents-append, last-push, last-sent}
 use Rattle.lapin_verdicts.proofs.Runs.{past-push, joined-push, deeds-push}
 use Rattle.lapin_verdicts.proofs.Numbering.{AreRest}
 use Rattle.lapin_effects.specs.Effects.{is_next}

@@ -9,15 +9,15 @@ use Rattle.std.proofs.lemmas.List.Folds.{list_any-append}
 use Rattle.std.proofs.lemmas.List.Sums.{fold-append}
 use Rattle.std.proofs.Math.Bool.{or-true}
 use Rattle.lapin_types.specs.Types.{Error}
-use Rattle.lapin_history.specs.declared.marks.Outcome.TheVariants as outcome
-use Rattle.lapin_history.specs.declared.phases.ChannelPhase.{ChannelPhase}
-use Rattle.lapin_history.specs.ConfirmMarks.{ConfirmMark}
-use Rattle.lapin_history.specs.ConfirmMarks as mark
-use Rattle.lapin_history.specs.Phases.{is_live, phase_in}
-use Rattle.lapin_history.specs.Ends.{beyond, live_below, ends, ends_all}
-use Rattle.lapin_history.specs.Words.{after, since, many, rest_after}
-use Rattle.lapin_history.specs.ConfirmReadings.{adds, begins, selects, leaves, leaves_on, added, channel_of, has_left, tag_of, outcome_at, outcome_after, first_settled, first_rejected, rejection_on, life, opening, is_selected, place}
-use Rattle.lapin_history.specs.Wire.{Wire, phase_of}
+use Rattle.lapin_rules.specs.declared.marks.Outcome.TheVariants as outcome
+use Rattle.lapin_rules.specs.declared.phases.ChannelPhase.{ChannelPhase}
+use Rattle.lapin_rules.specs.ConfirmMarks.{ConfirmMark}
+use Rattle.lapin_rules.specs.ConfirmMarks as mark
+use Rattle.lapin_rules.specs.Phases.{is_live, phase_in}
+use Rattle.lapin_rules.specs.Ends.{beyond, live_below, ends, ends_all}
+use Rattle.lapin_rules.specs.Words.{after, since, many, rest_after}
+use Rattle.lapin_rules.specs.ConfirmReadings.{adds, begins, selects, leaves, leaves_on, added, channel_of, has_left, tag_of, outcome_at, outcome_after, first_settled, first_rejected, rejection_on, life, opening, is_selected, place}
+use Rattle.lapin_rules.specs.Wire.{Wire, phase_of}
 use Rattle.lapin_tables.specs.ByChannel.{at_channel}
 use Rattle.lapin_verdicts.proofs.Marks.{after-append, channel-append, tag-append, settled-append, many-append, or-assoc}
 use Rattle.lapin_effects.specs.Effects.{moves, grows}

@@ -15,25 +15,25 @@ use Rattle.lapin_types.specs.Types.{Frame}
 use Rattle.lapin_types.specs.Types.{ChannelState}
 use Rattle.lapin_types.specs.Types.error
 use Rattle.lapin_types.specs.Types.channel_state as state
-use Rattle.lapin_history.specs.declared.marks.Settlement.{Settlement}
-use Rattle.lapin_history.specs.declared.marks.SettleKind.{SettleKind}
-use Rattle.lapin_history.specs.declared.broker_frames.Incoming.TheVariants as incoming
-use Rattle.lapin_history.specs.declared.phases.ConnectionPhase.{ConnectionPhase}
-use Rattle.lapin_history.specs.declared.phases.ConnectionPhase.TheVariants as link
-use Rattle.lapin_history.specs.ConfirmMarks.{ConfirmMark}
-use Rattle.lapin_history.specs.ConfirmMarks as mark
-use Rattle.lapin_history.specs.ConfirmReadings.{outcome_at, first_settled, outcome_of, kind_outcome, covers, is_pending, place}
-use Rattle.lapin_history.specs.Incoming.{incoming_of, frame_class, frame_method}
-use Rattle.lapin_history.specs.Phases.{is_up, is_lost, channel_state}
-use Rattle.lapin_history.specs.ConnectionClose.{receives_down}
-use Rattle.lapin_history.specs.Readings.{Readings}
-use Rattle.lapin_history.specs.Unexpected.{refused}
-use Rattle.lapin_history.specs.Settlement.{settlement_record}
-use Rattle.lapin_history.specs.Receiving.{incoming_record, incoming_up, incoming_marks}
-use Rattle.lapin_history.specs.Ends.{down}
-use Rattle.lapin_history.specs.Wire.{Wire, state_of, phase_of, receives_on}
-use Rattle.lapin_history.specs.Events.{confirm_marks}
-use Rattle.lapin_history.specs.History.{History, Past, longer, rec, readings_of}
+use Rattle.lapin_rules.specs.declared.marks.Settlement.{Settlement}
+use Rattle.lapin_rules.specs.declared.marks.SettleKind.{SettleKind}
+use Rattle.lapin_rules.specs.declared.broker_frames.Incoming.TheVariants as incoming
+use Rattle.lapin_rules.specs.declared.phases.ConnectionPhase.{ConnectionPhase}
+use Rattle.lapin_rules.specs.declared.phases.ConnectionPhase.TheVariants as link
+use Rattle.lapin_rules.specs.ConfirmMarks.{ConfirmMark}
+use Rattle.lapin_rules.specs.ConfirmMarks as mark
+use Rattle.lapin_rules.specs.ConfirmReadings.{outcome_at, first_settled, outcome_of, kind_outcome, covers, is_pending, place}
+use Rattle.lapin_rules.specs.Incoming.{incoming_of, frame_class, frame_method}
+use Rattle.lapin_rules.specs.Phases.{is_up, is_lost, channel_state}
+use Rattle.lapin_rules.specs.ConnectionClose.{receives_down}
+use Rattle.lapin_rules.specs.Readings.{Readings}
+use Rattle.lapin_rules.specs.Unexpected.{refused}
+use Rattle.lapin_rules.specs.Settlement.{settlement_record}
+use Rattle.lapin_rules.specs.Receiving.{incoming_record, incoming_up, incoming_marks}
+use Rattle.lapin_rules.specs.Ends.{down}
+use Rattle.lapin_rules.specs.Wire.{Wire, state_of, phase_of, receives_on}
+use Rattle.lapin_rules.specs.Events.{confirm_marks}
+use Rattle.lapin_rules.specs.History.{History, Past, longer, rec, readings_of}
 use Rattle.lapin_broker.specs.Frames.{channel_of}
 use Rattle.lapin_broker.specs.Sends.{may}
 use Rattle.lapin_joint.specs.declared.step.Step.{Step}
@@ -49,7 +49,7 @@ use Rattle.lapin_verdicts.specs.Session.{IsPending, Numbers, past_of, handed_fra
 use Rattle.lapin_verdicts.proofs.Marks.{pending_on, pending_back, only_settled, is_settlement, settled_so}
 use Rattle.lapin_verdicts.proofs.Settles.{client_quiet, all_quiet, frame_settles, is_this, comes_as}
 use Rattle.lapin_verdicts.proofs.Sending.{RangeBy}
-use Rattle.lapin_verdicts.proofs.Books.{tally_on, AreDue, book_of, last-push, last-sent, sents-append, reads-append}
+use Rattle.lapin_verdicts.proofs.TagCounts.{tally_on, AreDue, tag_count_of, last-push, last-sent, sents-append, reads-append}
 use Rattle.lapin_verdicts.proofs.Runs.{joined-push, deeds-push, past-push, past_at, delivered_marks, marks_in, marks_after, cancel, any-first, at-first, Grows, grows_then, fold_grows, way_grows, grown_length, tally_folds, none_covers, split_at, due_at, covered_counted}
 
 -- ---- no earlier settlement
@@ -138,7 +138,7 @@ module _ (n : ℕ) (S : Numbers n) (I : InStep n) where
       let le = grown_length y _ grown in
       let count = h.count in
       let small : length y.numbered < t = omega (arith, le, count, e) in
-      let none : list_any (settles t) (sents (last_opening c (deeds n ss))) ≡ false = none_covers no_tally (last_opening c (deeds n ss)) t (book_of n c ss).due small in
+      let none : list_any (settles t) (sents (last_opening c (deeds n ss))) ≡ false = none_covers no_tally (last_opening c (deeds n ss)) t (tag_count_of n c ss).due small in
       any-first (settles t) came way (ap (list_any (settles t)) (sym all) ∙ none)
 
   -- a frame that comes covers no tag that is pending behind it
@@ -283,7 +283,7 @@ module _ (n : ℕ) (S : Numbers n) (I : InStep n) where
       let on' : (channel_of f == c) ≡ true = eq-eqb _ _ on in
       let way : sents o ≡ together.came ++ (f ∷ filter (is_frame_on c) fs) = together.way ∙ (ap (λ v. together.came ++ filter (is_frame_on c) v) e ∙ ap (λ b. together.came ++ cond b (f ∷ filter (is_frame_on c) fs) (filter (is_frame_on c) fs)) on') in
       let cut = split_at o together.came f (filter (is_frame_on c) fs) way in
-      let due : RangeBy (settlement_in f) (tally (reads cut.before)) = due_at no_tally cut.before cut.behind f (subst (AreDue no_tally) cut.all (book_of n c ss).due) in
+      let due : RangeBy (settlement_in f) (tally (reads cut.before)) = due_at no_tally cut.before cut.behind f (subst (AreDue no_tally) cut.all (tag_count_of n c ss).due) in
       let le : t ≤ length (tally (reads cut.before)).numbered = covered_counted (settlement_in f) s (tally (reads cut.before)) t is due cov in
       let grown : Grows (tally (reads cut.before)) (whole_tally c (past_of n ss).wire (handed_frames n ss)) = grows_then _ (tally_on c (deeds n ss)) _ (opening_grows o cut.before f cut.behind cut.all) (handed_grows c ss hears) in
       let taken = (S.numbered ss c hears together.left).taken k t p in

@@ -10,16 +10,16 @@ use Rattle.lapin_types.specs.Types.{Frame}
 use Rattle.lapin_types.specs.Types.error
 use Rattle.lapin_types.specs.declared.leaving.Left.{Left}
 use Rattle.lapin_broker.specs.Sends.{may}
-use Rattle.lapin_history.specs.Incoming.{incoming_of}
-use Rattle.lapin_history.specs.declared.marks.Outcome.{Outcome}
-use Rattle.lapin_history.specs.declared.marks.Outcome.TheVariants as outcome
-use Rattle.lapin_history.specs.declared.marks.SettleKind.{SettleKind}
-use Rattle.lapin_history.specs.declared.marks.SettleKind.TheVariants as settle
-use Rattle.lapin_history.specs.ConfirmMarks.{ConfirmMark}
-use Rattle.lapin_history.specs.ConfirmMarks as mark
-use Rattle.lapin_history.specs.Words.{after, through, rest_after, many}
-use Rattle.lapin_history.specs.ConfirmReadings.{begins, leaves, added, channel_of, has_left, tag_of, outcome_at, outcome_after, first_settled, first_rejected, life, kind_outcome}
-use Rattle.lapin_history.specs.History.{History, rec}
+use Rattle.lapin_rules.specs.Incoming.{incoming_of}
+use Rattle.lapin_rules.specs.declared.marks.Outcome.{Outcome}
+use Rattle.lapin_rules.specs.declared.marks.Outcome.TheVariants as outcome
+use Rattle.lapin_rules.specs.declared.marks.SettleKind.{SettleKind}
+use Rattle.lapin_rules.specs.declared.marks.SettleKind.TheVariants as settle
+use Rattle.lapin_rules.specs.ConfirmMarks.{ConfirmMark}
+use Rattle.lapin_rules.specs.ConfirmMarks as mark
+use Rattle.lapin_rules.specs.Words.{after, through, rest_after, many}
+use Rattle.lapin_rules.specs.ConfirmReadings.{begins, leaves, added, channel_of, has_left, tag_of, outcome_at, outcome_after, first_settled, first_rejected, life, kind_outcome}
+use Rattle.lapin_rules.specs.History.{History, rec}
 use Rattle.lapin_joint.specs.declared.step.Step.{Step}
 use Rattle.lapin_joint.specs.declared.step.Step.TheVariants as step
 use Rattle.lapin_joint.specs.Joint.{Joint, after as after_step, joined_to, is_lawful, client, read_first, send_down, deliver_first}

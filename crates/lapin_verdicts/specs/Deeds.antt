@@ -6,7 +6,7 @@ use Rattle.lapin_types.specs.Types.method
 use Rattle.lapin_types.specs.Types.channel
 use Rattle.lapin_types.specs.declared.leaving.Left.{Left}
 use Rattle.std.specs.List.{fold}
-use Rattle.lapin_history.specs.Words.{after_nth}
+use Rattle.lapin_rules.specs.Words.{after_nth}
 use Rattle.lapin_broker.specs.Frames.{channel_of}
 use Rattle.lapin_broker.specs.Sends.{may}
 use Rattle.lapin_joint.specs.declared.step.Step.{Step}

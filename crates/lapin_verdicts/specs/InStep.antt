@@ -2,14 +2,14 @@
 -- last `channel.open`, and all that is on the way down on the channel was sent since.
 use Rattle.std.specs.Prelude.{◌≡◌, ℕ, ◌==◌, Bool, true, false, ◌&&◌, List, ◌++◌, filter}
 use Rattle.std.specs.List.{list_any}
-use Rattle.lapin_history.specs.Words.{many}
+use Rattle.lapin_rules.specs.Words.{many}
 use Rattle.lapin_types.specs.declared.leaving.Left.{Left}
 use Rattle.lapin_types.specs.Types.{Frame}
 use Rattle.lapin_types.specs.Types.frame
-use Rattle.lapin_history.specs.Frames.{MethodEntry}
-use Rattle.lapin_history.specs.History.{past}
-use Rattle.lapin_history.specs.ConfirmReadings.{begins}
-use Rattle.lapin_history.specs.Wire.{state_of, receives_on}
+use Rattle.lapin_rules.specs.Frames.{MethodEntry}
+use Rattle.lapin_rules.specs.History.{past}
+use Rattle.lapin_rules.specs.ConfirmReadings.{begins}
+use Rattle.lapin_rules.specs.Wire.{state_of, receives_on}
 use Rattle.lapin_broker.specs.Frames.{channel_of}
 use Rattle.lapin_joint.specs.declared.step.Step.{Step}
 use Rattle.lapin_joint.specs.Joint.{joined_to}

@@ -12,7 +12,7 @@ use Rattle.lapin_types.specs.declared.acker.Acker.{Acker}
 use Rattle.lapin_types.specs.declared.message.Delivery.{Delivery}
 use Rattle.lapin_types.specs.declared.message.BasicGetMessage.{BasicGetMessage}
 use Rattle.lapin_broker.specs.Tags.{same_text}
-use Rattle.lapin_consumer.specs.Roster.{Handed}
+use Rattle.lapin_consumer.specs.Subscriptions.{Handed}
 use Rattle.lapin_consumer.specs.Readings.{Entry, arrivals}
 use Rattle.lapin_verdicts.specs.Deeds.{Deed, sents}
 

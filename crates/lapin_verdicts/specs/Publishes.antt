@@ -8,7 +8,7 @@ use Rattle.lapin_types.specs.Types.{Frame, Method}
 use Rattle.lapin_types.specs.Types.frame
 use Rattle.lapin_types.specs.Types.method
 use Rattle.lapin_types.specs.Types.basic
-use Rattle.lapin_history.specs.Select.{is_select}
+use Rattle.lapin_rules.specs.Select.{is_select}
 
 -- a message as a client publishes it: where to, with which options, and what
 pub record Message : Type 0 where

@@ -2,15 +2,15 @@
 -- t-th numbered publish of all that it hands out on a channel is the message of the call that has tag t.
 use Rattle.std.specs.Prelude.{◌≡◌, ◌==◌, ◌<◌, ◌≤◌, ◌+◌, ℕ, true, false, if◌then◌else◌, List, [], ◌∷◌, ◌++◌, map, length, Some, None, ◌⊎◌}
 use Rattle.std.specs.List.{fold, list_any}
-use Rattle.lapin_history.specs.Words.{many}
+use Rattle.lapin_rules.specs.Words.{many}
 use Rattle.lapin_types.specs.declared.leaving.Left.{Left}
 use Rattle.lapin_types.specs.Types.{Frame}
-use Rattle.lapin_history.specs.ConfirmMarks.{ConfirmMark}
-use Rattle.lapin_history.specs.ConfirmReadings.{begins, added, channel_of, has_left, tag_of, outcome_at, is_selected, is_pending, place}
-use Rattle.lapin_history.specs.Frames.{RestEntry}
-use Rattle.lapin_history.specs.Drops.{is_rest_of}
-use Rattle.lapin_history.specs.History.{History, Past, past}
-use Rattle.lapin_history.specs.Wire.{Wire, state_of, receives_on}
+use Rattle.lapin_rules.specs.ConfirmMarks.{ConfirmMark}
+use Rattle.lapin_rules.specs.ConfirmReadings.{begins, added, channel_of, has_left, tag_of, outcome_at, is_selected, is_pending, place}
+use Rattle.lapin_rules.specs.Frames.{RestEntry}
+use Rattle.lapin_rules.specs.Drops.{is_rest_of}
+use Rattle.lapin_rules.specs.History.{History, Past, past}
+use Rattle.lapin_rules.specs.Wire.{Wire, state_of, receives_on}
 use Rattle.lapin_broker.specs.Frames.{channel_of as frame_channel}
 use Rattle.lapin_joint.specs.declared.step.Step.{Step}
 use Rattle.lapin_joint.specs.Joint.{joined_to}

@@ -5,21 +5,21 @@ use Rattle.lapin_types.specs.declared.event.Event.{Event}
 use Rattle.lapin_types.specs.declared.event.Event.TheVariants as event
 use Rattle.lapin_types.specs.declared.record.Record.{Record}
 use Rattle.lapin_types.specs.declared.record.Record.TheVariants as record_
-use Rattle.lapin_history.specs.declared.calls.Asked.{Asked}
-use Rattle.lapin_history.specs.declared.calls.Asked.TheVariants as ask
-use Rattle.lapin_history.specs.Calls.{asked}
-use Rattle.lapin_history.specs.History.{History}
+use Rattle.lapin_rules.specs.declared.calls.Asked.{Asked}
+use Rattle.lapin_rules.specs.declared.calls.Asked.TheVariants as ask
+use Rattle.lapin_rules.specs.Calls.{asked}
+use Rattle.lapin_rules.specs.History.{History}
 use Rattle.lapin_types.specs.Types.{Frame}
 use Rattle.lapin_types.specs.Types.frame
 use Rattle.lapin_types.specs.Types.method
 use Rattle.lapin_types.specs.Types.basic
-use Rattle.lapin_history.specs.declared.marks.Settlement.{Settlement}
-use Rattle.lapin_history.specs.declared.marks.SettleKind.{SettleKind}
-use Rattle.lapin_history.specs.declared.marks.SettleKind.TheVariants as settle
-use Rattle.lapin_history.specs.Incoming.{settlement}
-use Rattle.lapin_history.specs.ConfirmMarks.{ConfirmMark}
-use Rattle.lapin_history.specs.ConfirmReadings.{adds, begins, channel_of, covers}
-use Rattle.lapin_history.specs.Words.{many}
+use Rattle.lapin_rules.specs.declared.marks.Settlement.{Settlement}
+use Rattle.lapin_rules.specs.declared.marks.SettleKind.{SettleKind}
+use Rattle.lapin_rules.specs.declared.marks.SettleKind.TheVariants as settle
+use Rattle.lapin_rules.specs.Incoming.{settlement}
+use Rattle.lapin_rules.specs.ConfirmMarks.{ConfirmMark}
+use Rattle.lapin_rules.specs.ConfirmReadings.{adds, begins, channel_of, covers}
+use Rattle.lapin_rules.specs.Words.{many}
 use Rattle.lapin_verdicts.specs.Deeds.{Deed, Sent, reads, sents}
 use Rattle.lapin_verdicts.specs.Publishes.{Message, tally}
 

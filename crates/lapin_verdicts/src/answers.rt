@@ -2,8 +2,8 @@
 
 ghost use Rattle.std.specs.Prelude.{◌≡◌, ◌≤◌, ◌==◌, ℕ, List, [], ◌∷◌, ◌++◌, true, false};
 ghost use Rattle.lapin_types.specs.Types.{Frame as AFrame};
-ghost use Rattle.lapin_history.specs.Phases.{is_up};
-ghost use Rattle.lapin_history.specs.Wire.{state_of, receives_on};
+ghost use Rattle.lapin_rules.specs.Phases.{is_up};
+ghost use Rattle.lapin_rules.specs.Wire.{state_of, receives_on};
 ghost use Rattle.lapin_broker.specs.Frames.{channel_of};
 ghost use Rattle.lapin_joint.specs.declared.step.Step.{Step as AStep};
 ghost use Rattle.lapin_joint.specs.Joint.{joined_to};

@@ -2,8 +2,8 @@
 
 ghost use Rattle.std.specs.Prelude.{◌≡◌, ◌<◌, ◌≤◌, ℕ, List, [], ◌∷◌, ◌++◌, Some, true};
 ghost use Rattle.lapin_types.specs.Types.{Frame as AFrame};
-ghost use Rattle.lapin_history.specs.declared.marks.SettleKind.{SettleKind as AKind};
-ghost use Rattle.lapin_history.specs.ConfirmReadings.{has_left, channel_of, tag_of, outcome_at, kind_outcome};
+ghost use Rattle.lapin_rules.specs.declared.marks.SettleKind.{SettleKind as AKind};
+ghost use Rattle.lapin_rules.specs.ConfirmReadings.{has_left, channel_of, tag_of, outcome_at, kind_outcome};
 ghost use Rattle.lapin_joint.specs.declared.step.Step.{Step as AStep};
 ghost use Rattle.lapin_joint.specs.Joint.{joined_to};
 ghost use Rattle.lapin_verdicts.specs.Deeds.{deeds, last_opening, opening};

@@ -7,7 +7,7 @@ use Rattle.lapin_types.specs.declared.job.JobKind.{JobKind}
 use Rattle.lapin_types.specs.declared.job.JobKind.TheVariants as job_kind
 use Rattle.lapin_types.specs.declared.event.Event.TheVariants as event
 use Rattle.lapin_types.specs.declared.record.Record.TheVariants as record_
-use Rattle.lapin_history.specs.Consumers.{job_record}
+use Rattle.lapin_rules.specs.Consumers.{job_record}
 use Rattle.lapin_machine.specs.World.{World, told_by}
 use Rattle.lapin_acker.specs.declared.verdict.Verdict.{Verdict}
 use Rattle.lapin_shared.specs.declared.caller.StepError.{StepError}

@@ -5,7 +5,7 @@ ghost use Rattle.std.specs.Prelude.{◌≡◌, ℕ, ◌<◌, ◌==◌, [], ◌�
 ghost use Rattle.std.specs.Bool.{Decides};
 ghost use Rattle.lapin_values.specs.Texts.{text_of, without};
 
-use crate::kept::Kept;
+use crate::kept::Stored;
 use crate::memory::NoMemory;
 use crate::text::{self, ShortString};
 use std::alloc::Global;
@@ -38,7 +38,7 @@ pub(crate) const CLUSTER_ID: u8 = 9;
 #[cycle(texts)]
 #[derive(Debug, Drop)]
 pub(crate) struct Link {
-    pub(crate) text: Kept,
+    pub(crate) text: Stored,
     property: u8,
     next: Texts,
 }
@@ -76,7 +76,7 @@ impl Model for Texts {
 
 impl Link {
     /// A text in no chain.
-    pub(crate) fn alone(text: Kept) -> Link
+    pub(crate) fn alone(text: Stored) -> Link
         ensures { result.text ≡ text }
     {
         Link {

@@ -4,7 +4,7 @@ use Rattle.std.specs.Prelude.{Result, Ok, Err}
 use Rattle.lapin_call.specs.declared.step.CallReport.{CallReport}
 use Rattle.lapin_machine.specs.Way.{by_machine}
 use Rattle.lapin_call.specs.Calls.{reports}
-use Rattle.lapin_call.specs.Kept.{Kept}
+use Rattle.lapin_call.specs.CallRun.{CallRun}
 use Rattle.lapin_machine.specs.Growing.{IsStarted}
 use Rattle.lapin_machine.proofs.Growing.{not_started}
 use Rattle.lapin_call.proofs.Alike.{reports_calls}
@@ -22,14 +22,14 @@ returns-in_err-made-clause-err c = on_err c.from_residual-in_err-made.result _ (
 
 pub returns-clause-ok : goal.returns-clause-ok
 returns-clause-ok c =
-    let T : List CallReport → Type 0 = λ old. OnOk c.run_steps.result (c.run_steps.new.report.items ≡ old ++ reports by_machine c.args.steps.items c.in_ok-made.made.desk) in
-    let P : Kept → Type 0 = λ k. OnOk c.run_steps.result (c.run_steps.new.report.items ≡ c.args.report.now.items ++ reports by_machine c.args.steps.items k.desk) in
+    let T : List CallReport → Type 0 = λ old. OnOk c.run_steps.result (c.run_steps.new.report.items ≡ old ++ reports by_machine c.args.steps.items c.in_ok-made.made.requester) in
+    let P : CallRun → Type 0 = λ k. OnOk c.run_steps.result (c.run_steps.new.report.items ≡ c.args.report.now.items ++ reports by_machine c.args.steps.items k.requester) in
     let Q : List CallReport → Type 0 = λ rs. OnOk c.run_steps.result (c.run_steps.new.report.items ≡ c.args.report.now.items ++ rs) in
     subst Q (reports_calls c.args.frame_max c.args.queue c.args.steps.items) (subst P c.in_ok-made.ensures.made (subst T c.reserve_exact.ensures.items c.run_steps.ensures.ok))
 
 pub returns-clause-err : goal.returns-clause-err
 returns-clause-err c =
-    let T : List CallReport → Type 0 = λ old. OnErr c.run_steps.result (IsStarted old c.run_steps.new.report.items (reports by_machine c.args.steps.items c.in_ok-made.made.desk)) in
-    let P : Kept → Type 0 = λ k. OnErr c.run_steps.result (IsStarted c.args.report.now.items c.run_steps.new.report.items (reports by_machine c.args.steps.items k.desk)) in
+    let T : List CallReport → Type 0 = λ old. OnErr c.run_steps.result (IsStarted old c.run_steps.new.report.items (reports by_machine c.args.steps.items c.in_ok-made.made.requester)) in
+    let P : CallRun → Type 0 = λ k. OnErr c.run_steps.result (IsStarted c.args.report.now.items c.run_steps.new.report.items (reports by_machine c.args.steps.items k.requester)) in
     let Q : List CallReport → Type 0 = λ rs. OnErr c.run_steps.result (IsStarted c.args.report.now.items c.run_steps.new.report.items rs) in
     subst Q (reports_calls c.args.frame_max c.args.queue c.args.steps.items) (subst P c.in_ok-made.ensures.made (subst T c.reserve_exact.ensures.items c.run_steps.ensures.err))

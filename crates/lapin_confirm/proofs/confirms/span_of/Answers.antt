@@ -1,5 +1,5 @@
 use Rattle.std.proofs.Common.{◌≡◌, ◌+◌, ◌-◌, ◌≤◌, sym, ap, ◌∙◌, arith, length}
-use Rattle.lapin_confirm.specs.Book.{span_from}
+use Rattle.lapin_confirm.specs.PublishStates.{span_from}
 use Rattle.lapin_confirm.proofs.Spans.{first_given}
 use Rattle.lapin_confirm.proofs.confirms.span_of.Goals as goal
 

@@ -1,17 +1,17 @@
 use Rattle.std.proofs.Common.{◌≡◌, ◌≤◌, ℕ, List, length}
-use Rattle.lapin_confirm.specs.declared.ledger.Ledger.{Ledger}
+use Rattle.lapin_confirm.specs.declared.confirm_mode.ConfirmMode.{ConfirmMode}
 use Rattle.lapin_confirm.specs.Drain.{remaining, less_all}
 use Rattle.lapin_confirm.specs.Ties.{AllTied}
 use Rattle.lapin_confirm.proofs.draining.leave_all.Given as goal
 
 abbrev pub invariant-loop-number : goal.invariant-loop-number
 invariant-loop-number l = record {
-  same : less_all l.over.items (remaining l.cells.slots l.homes.slots) ≡ less_all l.initial.over.items (remaining l.initial.cells.slots l.initial.homes.slots);
-  tied : (es : List (ℕ × Ledger)) → AllTied es l.initial.cells.slots → AllTied es l.cells.slots;
+  same : less_all l.over.items (remaining l.cells.slots l.origins.slots) ≡ less_all l.initial.over.items (remaining l.initial.cells.slots l.initial.origins.slots);
+  tied : (es : List (ℕ × ConfirmMode)) → AllTied es l.initial.cells.slots → AllTied es l.cells.slots;
   cells : length l.cells.slots ≡ length l.initial.cells.slots;
-  homes : length l.homes.slots ≡ length l.initial.homes.slots;
+  origins : length l.origins.slots ≡ length l.initial.origins.slots;
   spare : l.initial.cells.spare ≤ l.cells.spare;
-  room : l.initial.homes.spare ≤ l.homes.spare;
+  room : l.initial.origins.spare ≤ l.origins.spare;
 }
 
 abbrev pub decreases-loop-number : goal.decreases-loop-number

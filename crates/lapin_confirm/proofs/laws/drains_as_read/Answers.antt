@@ -1,4 +1,4 @@
-use Rattle.lapin_confirm.proofs.LetterFollowing.{drained-read}
+use Rattle.lapin_confirm.proofs.ReturnFollowing.{drained-read}
 use Rattle.lapin_confirm.proofs.laws.drains_as_read.Goals as goal
 
 pub returns : goal.returns

@@ -1,4 +1,4 @@
-use Rattle.lapin_confirm.proofs.Books.{up_to}
+use Rattle.lapin_confirm.proofs.PublishStates.{up_to}
 use Rattle.lapin_confirm.proofs.laws.multiple_covers.Goals as goal
 
 pub returns-clause-up_to : goal.returns-clause-up_to

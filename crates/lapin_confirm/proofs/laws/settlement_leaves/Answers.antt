@@ -1,5 +1,5 @@
-use Rattle.lapin_history.specs.ConfirmReadings.{covers, outcome_of}
-use Rattle.lapin_confirm.proofs.Books.{any-stays}
+use Rattle.lapin_rules.specs.ConfirmReadings.{covers, outcome_of}
+use Rattle.lapin_confirm.proofs.PublishStates.{any-stays}
 use Rattle.lapin_confirm.proofs.laws.settlement_leaves.Goals as goal
 
 pub returns : goal.returns

@@ -1,5 +1,5 @@
 use Rattle.std.proofs.Common.{◌≡◌, ℕ, ◌<◌, ◌-◌, false, slice_get, length}
-use Rattle.lapin_confirm.specs.Tray.{is_of}
+use Rattle.lapin_confirm.specs.ReturnedMessages.{is_of}
 use Rattle.lapin_confirm.proofs.returned.place_of.Given as goal
 
 abbrev pub invariant-loop-place : goal.invariant-loop-place

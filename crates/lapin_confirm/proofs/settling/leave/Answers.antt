@@ -2,7 +2,7 @@ use Rattle.std.proofs.Common.{◌≤◌, ◌+◌, length, eq-eqb, refl, arith}
 use Rattle.std.specs.List.{count_by}
 use Rattle.lapin_tables.proofs.SlotLaws.{counted}
 use Rattle.lapin_confirm.specs.declared.cell.Cell.TheVariants as cell
-use Rattle.lapin_confirm.specs.Book.{is_queued_on, is_pending_on}
+use Rattle.lapin_confirm.specs.PublishStates.{is_queued_on, is_pending_on}
 use Rattle.lapin_confirm.proofs.Tying.{counts_fit, tied-left}
 use Rattle.lapin_confirm.proofs.settling.leave.Goals as goal
 
@@ -15,5 +15,5 @@ take_tag-tag-requires-clause-pending c =
 pub returns-clause-tied : goal.returns-clause-tied
 returns-clause-tied c =
     rw (c.set.ensures.slots, c.cell_for.ensures)
-    (tied-left c.args.channel c.args.number c.take_tag-tag.result c.args.ledger.now c.take_tag-tag.new.ledger c.args.cells.now.slots
+    (tied-left c.args.channel c.args.number c.take_tag-tag.result c.args.confirm_mode.now c.take_tag-tag.new.confirm_mode c.args.cells.now.slots
     c.requires.tied c.requires.queued c.take_tag-tag.ensures.tag c.take_tag-tag.ensures.tags c.take_tag-tag.ensures.queued c.take_tag-tag.ensures.pending c.take_tag-tag.ensures.room)

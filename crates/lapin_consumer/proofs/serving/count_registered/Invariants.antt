@@ -1,6 +1,6 @@
 use Rattle.std.proofs.Common.{◌≡◌, ◌+◌, map, drop}
 use Rattle.std.specs.List.{count_by}
-use Rattle.lapin_consumer.specs.Kept.{is_registered_one}
+use Rattle.lapin_consumer.specs.WithRoom.{is_registered_one}
 use Rattle.lapin_consumer.proofs.serving.count_registered.Given as goal
 
 abbrev pub invariant-loop-seat : goal.invariant-loop-seat

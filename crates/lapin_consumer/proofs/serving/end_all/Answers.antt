@@ -1,9 +1,9 @@
 use Rattle.std.proofs.Common.{◌<◌, ◌≤◌, ◌+◌, ◌-◌, ◌*◌, ◌++◌, length, drop, get_or, sym, ap, ◌∙◌, arith, deque_len, deque_capacity}
 use Rattle.std.proofs.lemmas.List.{append-nil}
-use Rattle.lapin_consumer.specs.Roster.{Consumer, offered, last_words}
+use Rattle.lapin_consumer.specs.Subscriptions.{Consumer, offered, last_words}
 use Rattle.lapin_consumer.proofs.Ending.{consumers_of, left_now, left_none, next, next_within, next_room, step_left, step_consumers, step_jobs, step_room, done_consumers, done_jobs}
 use Rattle.lapin_consumer.proofs.EndRooms.{fit_without}
-use Rattle.lapin_consumer.specs.Kept.{is_registered_one}
+use Rattle.lapin_consumer.specs.WithRoom.{is_registered_one}
 use Rattle.lapin_consumer.proofs.serving.end_all.Goals as goal
 
 pub number_at-number-requires : goal.number_at-number-requires

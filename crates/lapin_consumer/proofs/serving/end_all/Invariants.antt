@@ -2,8 +2,8 @@ use Rattle.std.proofs.Common.{◌≡◌, ◌≤◌, ◌+◌, ◌-◌, ◌*◌, �
 use Rattle.lapin_consumer.specs.Words.{places_at, map_at, gather_at}
 use Rattle.lapin_consumer.specs.Marks as mark
 use Rattle.lapin_consumer.specs.Indexed.{EndsFit, FitWhere}
-use Rattle.lapin_consumer.specs.Kept.{is_registered_one}
-use Rattle.lapin_consumer.specs.Roster.{is_on, moved, owed}
+use Rattle.lapin_consumer.specs.WithRoom.{is_registered_one}
+use Rattle.lapin_consumer.specs.Subscriptions.{is_on, moved, owed}
 use Rattle.lapin_consumer.proofs.serving.end_all.Given as goal
 
 abbrev pub invariant-loop-place : goal.invariant-loop-place

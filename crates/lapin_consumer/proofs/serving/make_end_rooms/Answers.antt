@@ -1,8 +1,8 @@
 use Rattle.std.proofs.lemmas.Option.{slice_get_read}
-use Rattle.lapin_consumer.specs.Kept.{is_registered_one}
+use Rattle.lapin_consumer.specs.WithRoom.{is_registered_one}
 use Rattle.std.proofs.Common.{◌≡◌, true, false, ◌<◌, ◌+◌, length, drop, get_or, ap, ◌∙◌, arith, refl}
 use Rattle.lapin_consumer.specs.Words.{places_at}
-use Rattle.lapin_consumer.specs.Roster.{is_on}
+use Rattle.lapin_consumer.specs.Subscriptions.{is_on}
 use Rattle.lapin_consumer.proofs.Ending.{place_seated, same_seat, fitted_first, fitted_next, fitted_all, drop_none, drop_next}
 use Rattle.lapin_consumer.proofs.EndRooms.{place_on, fit_kept}
 use Rattle.lapin_consumer.proofs.serving.make_end_rooms.Goals as goal

@@ -1,6 +1,6 @@
 use Rattle.std.proofs.Common.{◌≡◌, Bool, map, drop}
 use Rattle.lapin_consumer.specs.Indexed.{FitWhere}
-use Rattle.lapin_consumer.specs.Roster.{Consumer}
+use Rattle.lapin_consumer.specs.Subscriptions.{Consumer}
 use Rattle.lapin_consumer.proofs.Ending.{Fitted}
 use Rattle.lapin_consumer.proofs.serving.make_end_rooms.Given as goal
 

@@ -4,7 +4,7 @@ use Rattle.lapin_consumer.specs.Words.{on_places, from_places}
 use Rattle.lapin_consumer.specs.Marks as mark
 use Rattle.lapin_acker.specs.Switches.{voided}
 use Rattle.lapin_consumer.specs.Ackers.{ackers_of}
-use Rattle.lapin_consumer.specs.Roster.{is_on, is_marked, emptied, due, discard}
+use Rattle.lapin_consumer.specs.Subscriptions.{is_on, is_marked, emptied, due, discard}
 use Rattle.lapin_consumer.proofs.Ending.{consumers_of, place_seated}
 use Rattle.lapin_acker.proofs.Numbers.{voided-append}
 use Rattle.lapin_consumer.proofs.Several.{several_step, several_done, several_gives, gives_none, same_length, on_all, from_all}

@@ -1,7 +1,7 @@
 use Rattle.std.proofs.Common.{◌≡◌, ◌≤◌, ◌-◌, ◌++◌, suc, map, length, drop, deque_len, deque_capacity}
 use Rattle.lapin_consumer.specs.Words.{on_places, from_places}
 use Rattle.lapin_consumer.specs.Marks as mark
-use Rattle.lapin_consumer.specs.Roster.{emptied, due}
+use Rattle.lapin_consumer.specs.Subscriptions.{emptied, due}
 use Rattle.lapin_acker.specs.Switches.{voided}
 use Rattle.lapin_consumer.specs.Ackers.{ackers_of}
 use Rattle.lapin_consumer.proofs.serving.void_all.Given as goal

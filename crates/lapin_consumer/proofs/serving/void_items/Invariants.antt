@@ -1,5 +1,5 @@
 use Rattle.std.proofs.Common.{◌≡◌, length}
-use Rattle.lapin_consumer.specs.Roster.{emptied}
+use Rattle.lapin_consumer.specs.Subscriptions.{emptied}
 use Rattle.lapin_acker.specs.Switches.{voided}
 use Rattle.lapin_consumer.specs.Ackers.{ackers_of}
 use Rattle.lapin_consumer.proofs.serving.void_items.Given as goal

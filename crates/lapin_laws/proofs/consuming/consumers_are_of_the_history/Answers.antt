@@ -1,4 +1,4 @@
-use Rattle.lapin_laws.proofs.Rosters.{consumers_after, jobs_after, ackers_after}
+use Rattle.lapin_laws.proofs.Subscriptions.{consumers_after, jobs_after, ackers_after}
 use Rattle.lapin_laws.proofs.consuming.consumers_are_of_the_history.Goals as goal
 
 pub returns-clause-consumers : goal.returns-clause-consumers

@@ -3,7 +3,7 @@ use Rattle.lapin_content.specs.Contents.{heard_header, heard_body}
 use Rattle.lapin_content.specs.Readings.{contents}
 use Rattle.lapin_content.proofs.Fitting.{contents-fit}
 use Rattle.lapin_content.proofs.Messages.{by-body, by-header}
-use Rattle.lapin_history.specs.History.{run}
+use Rattle.lapin_rules.specs.History.{run}
 use Rattle.lapin_laws.specs.Contents.{content_history}
 use Rattle.lapin_laws.proofs.Contents.{contents_follow, contents_live}
 use Rattle.lapin_laws.proofs.messages.contents_are_of_the_history.Goals as goal

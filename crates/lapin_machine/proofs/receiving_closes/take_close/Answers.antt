@@ -1,6 +1,6 @@
 use Rattle.std.proofs.Common.{◌∙◌, ap}
-use Rattle.lapin_history.specs.Ends.{cancels_at}
-use Rattle.lapin_desk.proofs.Cancels.{cancels-beside_close}
+use Rattle.lapin_rules.specs.Ends.{cancels_at}
+use Rattle.lapin_outstanding.proofs.Cancels.{cancels-beside_close}
 use Rattle.lapin_machine.proofs.receiving_closes.take_close.Goals as goal
 
 pub returns-clause-cancels : goal.returns-clause-cancels

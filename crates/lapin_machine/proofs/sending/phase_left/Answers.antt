@@ -1,8 +1,8 @@
 use Rattle.std.proofs.Common.{◌∙◌, sym, ap}
 use Rattle.lapin_tables.specs.ByChannel.{at_channel}
-use Rattle.lapin_history.specs.Phases.{channel_state}
-use Rattle.lapin_history.specs.Wire.{is_closing}
-use Rattle.lapin_history.specs.declared.phases.ChannelPhase.{ChannelPhase}
+use Rattle.lapin_rules.specs.Phases.{channel_state}
+use Rattle.lapin_rules.specs.Wire.{is_closing}
+use Rattle.lapin_rules.specs.declared.phases.ChannelPhase.{ChannelPhase}
 use Rattle.lapin_machine.proofs.Channels.{closing_there, closing_left, others_left}
 use Rattle.lapin_machine.proofs.sending.phase_left.Goals as goal
 

@@ -1,6 +1,6 @@
 use Rattle.std.proofs.Common.{◌∷◌, ◌-◌, ◌<◌, arith, ap, sym, ◌∙◌, map}
 use Rattle.lapin_types.specs.Types.frame
-use Rattle.lapin_history.specs.Frames.{cut, room_for_body, content_header}
+use Rattle.lapin_rules.specs.Frames.{cut, room_for_body, content_header}
 use Rattle.lapin_outbox.proofs.Cuts.{cut-is, body_payloads-bodies}
 use Rattle.lapin_outbox.proofs.laws.bodies_carry_the_payload.Goals as goal
 

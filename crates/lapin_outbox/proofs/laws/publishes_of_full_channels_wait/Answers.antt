@@ -1,4 +1,4 @@
-use Rattle.lapin_history.specs.Drops.{publish_channel}
+use Rattle.lapin_rules.specs.Drops.{publish_channel}
 use Rattle.lapin_outbox.proofs.Beginning.{none-begins, may-begin, first-of-channel, front-of}
 use Rattle.lapin_outbox.proofs.laws.publishes_of_full_channels_wait.Goals as goal
 

@@ -1,4 +1,4 @@
-use Rattle.lapin_history.proofs.EndLaws.{live-all}
+use Rattle.lapin_rules.proofs.EndLaws.{live-all}
 use Rattle.lapin_phases.proofs.Phases.reach.Goals as goal
 
 pub returns : goal.returns

@@ -1,7 +1,7 @@
 use Rattle.std.proofs.Common.{◌≡◌, ◌∙◌, sym, ap}
 use Rattle.lapin_tables.specs.ByChannel.{Table, at_channel}
-use Rattle.lapin_history.specs.declared.phases.ChannelPhase.{ChannelPhase}
-use Rattle.lapin_history.specs.Phases.{is_paused, phase_in}
+use Rattle.lapin_rules.specs.declared.phases.ChannelPhase.{ChannelPhase}
+use Rattle.lapin_rules.specs.Phases.{is_paused, phase_in}
 use Rattle.lapin_phases.proofs.Counts.{was-some, bounded, counted}
 use Rattle.lapin_phases.proofs.Phases.set.Goals as goal
 

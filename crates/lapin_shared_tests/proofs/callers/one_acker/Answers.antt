@@ -1,6 +1,6 @@
 use denote.Param.Send.{sendable}
 use Rattle.std.proofs.Crossing.{crosses}
-use Rattle.lapin_crossing.proofs.Callers.{caller_send}
+use Rattle.lapin_send.proofs.Callers.{caller_send}
 use Rattle.lapin_shared_tests.proofs.callers.one_acker.Goals as goal
 
 pub each_mut-requires-send-T : goal.each_mut-requires-send-T

@@ -1,6 +1,6 @@
 use Rattle.std.proofs.Common.{◌≡◌, ℕ, ◌≤◌, ◌-◌, true, false, Some, slice_get}
 use Rattle.lapin_tables.specs.Numbered.{under}
-use Rattle.lapin_history.specs.TicketReadings.{is_spared}
+use Rattle.lapin_rules.specs.TicketReadings.{is_spared}
 use Rattle.lapin_ticket.specs.Slots.{is_open_on, failed}
 use Rattle.lapin_ticket.specs.Given.{numbers_on}
 use Rattle.lapin_ticket.proofs.ends.end.Given as goal

@@ -22,7 +22,7 @@ use denote.Triple.Walked.{Stays, walk_of, says, stay_dropped, Goes-dropped, ends
 use Rattle.std.proofs.raw_atomic.Walks.{proved}
 use Rattle.std.proofs.VecSteps.Shapes.{after}
 use Rattle.std.specs.Prelude.{ℕ, ◌≤◌, length, box_value}
-use Rattle.lapin_values.specs.Kept.{kept}
+use Rattle.lapin_values.specs.Stored.{kept}
 use Rattle.lapin_values.specs.contracts.text.at as f
 use Rattle.lapin_values.specs.contracts.text.ShortString as S
 use Rattle.lapin_values.specs.contracts.text.ShortString.TheInside as I

@@ -1,6 +1,6 @@
 use denote.Param.Send.{sendable}
 use Rattle.std.proofs.Crossing.{crosses}
-use Rattle.lapin_crossing.proofs.Callers.{caller_send}
+use Rattle.lapin_send.proofs.Callers.{caller_send}
 use Rattle.lapin_threads.proofs.Sums.{tallied_map, tallied_length}
 use Rattle.lapin_work.proofs.workers.work_all.Goals as goal
 

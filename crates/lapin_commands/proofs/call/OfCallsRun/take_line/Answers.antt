@@ -1,5 +1,5 @@
 use Rattle.std.proofs.Common.{[], ◌∷◌, Some, sym, subst}
-use Rattle.lapin_call.specs.Kept.{Kept}
+use Rattle.lapin_call.specs.CallRun.{CallRun}
 use Rattle.lapin_commands.specs.Call.{CallsGoOn}
 use Rattle.lapin_commands.proofs.CallRuns.{calls_add_from, calls_stop}
 use Rattle.lapin_commands.proofs.call.OfCallsRun.take_line.Goals as goal
@@ -12,4 +12,4 @@ returns-in_ok-print_step-in-Some-clause-good c =
 pub returns-in-None-clause-bad : goal.returns-in-None-clause-bad
 returns-in-None-clause-bad c =
     let none = rw c.in-None.is at c.in_ok-step.ensures.none in
-    λ _ past n lines here. subst (λ (x : Kept). CallsGoOn x n (c.args.line.now ∷ lines) (Some n) []) (sym here) (calls_stop c.args.run.now n lines c.args.line.now none)
+    λ _ past n lines here. subst (λ (x : CallRun). CallsGoOn x n (c.args.line.now ∷ lines) (Some n) []) (sym here) (calls_stop c.args.run.now n lines c.args.line.now none)

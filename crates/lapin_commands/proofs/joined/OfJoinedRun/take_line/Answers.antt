@@ -1,5 +1,5 @@
 use Rattle.std.proofs.Common.{[], ◌∷◌, Some, sym, subst}
-use Rattle.lapin_joint.specs.Kept.{Kept}
+use Rattle.lapin_joint.specs.JoinedRun.{JoinedRun}
 use Rattle.lapin_commands.specs.Joined.{JoinedGoesOn}
 use Rattle.lapin_commands.proofs.Runs.{joined_adds_from, joined_stops}
 use Rattle.lapin_commands.proofs.joined.OfJoinedRun.take_line.Goals as goal
@@ -12,4 +12,4 @@ returns-in_ok-print_step-in-Some-clause-good c =
 pub returns-in-None-clause-bad : goal.returns-in-None-clause-bad
 returns-in-None-clause-bad c =
     let none = rw c.in-None.is at c.in_ok-step.ensures.none in
-    λ _ past n lines here. subst (λ (x : Kept). JoinedGoesOn x n (c.args.line.now ∷ lines) (Some n) []) (sym here) (joined_stops c.args.run.now n lines c.args.line.now none)
+    λ _ past n lines here. subst (λ (x : JoinedRun). JoinedGoesOn x n (c.args.line.now ∷ lines) (Some n) []) (sym here) (joined_stops c.args.run.now n lines c.args.line.now none)

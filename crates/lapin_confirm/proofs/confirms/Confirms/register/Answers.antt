@@ -4,11 +4,11 @@ use Rattle.std.proofs.Common.{◌≡◌, ◌∙◌, ℕ, refl, sym, subst, Some,
 use Rattle.lapin_confirm.specs.declared.cell.Cell.TheVariants as cell
 use Rattle.lapin_confirm.specs.declared.cell.Cell.{Cell}
 use Rattle.lapin_tables.specs.ByChannel.{at_channel, on_channel}
-use Rattle.lapin_confirm.specs.Book.{tag_for, cell_with, left}
-use Rattle.lapin_confirm.specs.Ties.{ledger_states}
-use Rattle.lapin_confirm.proofs.Ledgers.{book, tag-there, left-book, same-post}
+use Rattle.lapin_confirm.specs.PublishStates.{tag_for, cell_with, left}
+use Rattle.lapin_confirm.specs.Ties.{confirm_mode_states}
+use Rattle.lapin_confirm.proofs.ConfirmModes.{publish_states, tag-there, left-publish_states, same-confirm_state}
 use Rattle.lapin_confirm.proofs.Tying.{tied_at-other, left-closed}
-use Rattle.lapin_confirm.proofs.Roomy.{same-homes, room-kept}
+use Rattle.lapin_confirm.proofs.Roomy.{same-origins, room-kept}
 use Rattle.lapin_confirm.proofs.Whole.{all-on}
 use Rattle.lapin_confirm.proofs.confirms.Confirms.register.Goals as goal
 
@@ -19,24 +19,24 @@ pub invariant_of-self : goal.invariant_of-self
 invariant_of-self c =
     record {
       tied =
-          all-on c.queued_channel-channel.result c.in-Some.ledger.now c.leave.new.ledger c.self.inside.ledgers.entries c.self.inside.cells.slots c.leave.new.cells.slots (sym c.in-Some.ensures.value) c.self.invariant.tied
+          all-on c.queued_channel-channel.result c.in-Some.confirm_mode.now c.leave.new.confirm_mode c.self.inside.confirm_modes.entries c.self.inside.cells.slots c.leave.new.cells.slots (sym c.in-Some.ensures.value) c.self.invariant.tied
           c.leave.ensures.tied
           (λ d o other tied. rw c.leave.ensures.cells
           (tied_at-other d c.args.number (cell.Queued c.queued_channel-channel.result) (Some (cell_with c.queued_channel-channel.result c.leave.result)) o c.self.inside.cells.slots
           c.queued_channel-channel.ensures.queued (ne_eqb c.queued_channel-channel.result d other) (left-closed c.queued_channel-channel.result d c.leave.result other) tied));
-      room = room-kept c.queued_channel-channel.result c.in-Some.ledger.now c.leave.new.ledger c.self.inside.rooms.entries c.self.inside.ledgers.entries c.self.inside.trays.entries c.self.inside.cells.spare _ (sym c.in-Some.ensures.value) c.self.invariant.room c.leave.ensures.room c.leave.ensures.spare;
-      homes = same-homes _ _ c.leave.new.cells.slots _ c.self.invariant.homes (ap length c.leave.ensures.cells ∙ length-with c.args.number _ c.self.inside.cells.slots);
+      room = room-kept c.queued_channel-channel.result c.in-Some.confirm_mode.now c.leave.new.confirm_mode c.self.inside.rooms.entries c.self.inside.confirm_modes.entries c.self.inside.returned_by_channel.entries c.self.inside.cells.spare _ (sym c.in-Some.ensures.value) c.self.invariant.room c.leave.ensures.room c.leave.ensures.spare;
+      origins = same-origins _ _ c.leave.new.cells.slots _ c.self.invariant.origins (ap length c.leave.ensures.cells ∙ length-with c.args.number _ c.self.inside.cells.slots);
     }
 
 pub returns-clause-tag : goal.returns-clause-tag
 returns-clause-tag c = λ d there.
     let was : _ ≡ Some (cell.Queued d) = rw (← c.self.view_is) at there in
-    let P : ℕ → Type 0 = λ e. c.leave.result ≡ tag_for (at_channel e (ledger_states c.self.inside.ledgers.entries)) in
-    rw (← c.self.view_is) (subst P (same_channel c.queued_channel-channel.result d _ c.queued_channel-channel.ensures.queued was) (tag-there c.queued_channel-channel.result c.leave.result c.in-Some.ledger.now c.self.inside.ledgers.entries (sym c.in-Some.ensures.value) c.leave.ensures.tag))
+    let P : ℕ → Type 0 = λ e. c.leave.result ≡ tag_for (at_channel e (confirm_mode_states c.self.inside.confirm_modes.entries)) in
+    rw (← c.self.view_is) (subst P (same_channel c.queued_channel-channel.result d _ c.queued_channel-channel.ensures.queued was) (tag-there c.queued_channel-channel.result c.leave.result c.in-Some.confirm_mode.now c.self.inside.confirm_modes.entries (sym c.in-Some.ensures.value) c.leave.ensures.tag))
 
 pub returns-clause-left : goal.returns-clause-left
 returns-clause-left c = λ d there.
     let was : _ ≡ Some (cell.Queued d) = rw (← c.self.view_is) at there in
-    let P : ℕ → Type 0 = λ e. book (ledger_states (on_channel c.queued_channel-channel.result (λ _. c.leave.new.ledger) c.self.inside.ledgers.entries)) c.leave.new.cells.slots ≡ left e c.args.number (book (ledger_states c.self.inside.ledgers.entries) c.self.inside.cells.slots) in
-    rw (← c.self.view_is) (same-post _ _ _ _ _ _ (subst P (same_channel c.queued_channel-channel.result d _ c.queued_channel-channel.ensures.queued was)
-    (left-book c.queued_channel-channel.result c.args.number c.leave.result c.in-Some.ledger.now c.leave.new.ledger c.self.inside.ledgers.entries c.self.inside.cells.slots c.leave.new.cells.slots (sym c.in-Some.ensures.value) c.leave.ensures.tag c.leave.ensures.ledger c.leave.ensures.cells)) refl refl)
+    let P : ℕ → Type 0 = λ e. publish_states (confirm_mode_states (on_channel c.queued_channel-channel.result (λ _. c.leave.new.confirm_mode) c.self.inside.confirm_modes.entries)) c.leave.new.cells.slots ≡ left e c.args.number (publish_states (confirm_mode_states c.self.inside.confirm_modes.entries) c.self.inside.cells.slots) in
+    rw (← c.self.view_is) (same-confirm_state _ _ _ _ _ _ (subst P (same_channel c.queued_channel-channel.result d _ c.queued_channel-channel.ensures.queued was)
+    (left-publish_states c.queued_channel-channel.result c.args.number c.leave.result c.in-Some.confirm_mode.now c.leave.new.confirm_mode c.self.inside.confirm_modes.entries c.self.inside.cells.slots c.leave.new.cells.slots (sym c.in-Some.ensures.value) c.leave.ensures.tag c.leave.ensures.confirm_mode c.leave.ensures.cells)) refl refl)

@@ -6,7 +6,7 @@ pub invariant_of-self : goal.invariant_of-self
 invariant_of-self c = record {
   tied = c.self.invariant.tied;
   room = record { cells = c.self.invariant.room.cells; tags = c.self.invariant.room.tags; messages = c.put_by.ensures.room c.self.inside.rooms.entries c.self.invariant.room.messages };
-  homes = c.self.invariant.homes;
+  origins = c.self.invariant.origins;
 }
 
 pub invariant_of-self-then-resolved : goal.invariant_of-self-then-resolved
@@ -17,8 +17,8 @@ pub invariant_of-self-2 : goal.invariant_of-self-2
 invariant_of-self-2 c = record {
   tied = c.self.invariant.tied;
   room = record { cells = c.self.invariant.room.cells; tags = c.self.invariant.room.tags; messages = c.put_by.ensures.room c.self.inside.rooms.entries c.self.invariant.room.messages };
-  homes = record {
-    count = ap length c.mark_aside.ensures.slots ∙ length-marked c.args.number _ c.self.inside.homes.slots ∙ c.self.invariant.homes.count;
-    room = omega (arith, c.self.invariant.homes.room, c.mark_aside.ensures.spare);
+  origins = record {
+    count = ap length c.mark_aside.ensures.slots ∙ length-marked c.args.number _ c.self.inside.origins.slots ∙ c.self.invariant.origins.count;
+    room = omega (arith, c.self.invariant.origins.room, c.mark_aside.ensures.spare);
   };
 }

@@ -3,18 +3,18 @@ use Rattle.std.proofs.lemmas.List.{length-map}
 use Rattle.std.proofs.Common.{◌≡◌, ℕ, List, [], Some, None, ap, ◌≤◌, ◌∙◌, nat_le, length, sym, refl, arith}
 use Rattle.std.proofs.lemmas.Bool.{le-leb}
 use Rattle.lapin_tables.proofs.SlotLaws.{given}
-use Rattle.lapin_history.specs.ConfirmReadings.{covers, kind_outcome}
+use Rattle.lapin_rules.specs.ConfirmReadings.{covers, kind_outcome}
 use Rattle.std.specs.List.{range_with_len}
-use Rattle.lapin_history.specs.Letters.{attached_to_all}
-use Rattle.lapin_history.specs.ReturnReadings.{taking}
+use Rattle.lapin_rules.specs.ReturnLists.{attached_to_all}
+use Rattle.lapin_rules.specs.ReturnReadings.{taking}
 use Rattle.lapin_tables.specs.ByChannel.{at_channel, on_channel}
-use Rattle.lapin_confirm.specs.Book.{last_in, multiple_of}
-use Rattle.lapin_confirm.specs.Post.{number_from}
-use Rattle.lapin_confirm.specs.Ties.{ledger_states, trays_of}
+use Rattle.lapin_confirm.specs.PublishStates.{last_in, multiple_of}
+use Rattle.lapin_confirm.specs.ConfirmState.{number_from}
+use Rattle.lapin_confirm.specs.Ties.{confirm_mode_states, returned_by_channel_of}
 use Rattle.lapin_confirm.proofs.Covered.{covered-all}
-use Rattle.lapin_confirm.proofs.Trays.{on-still}
-use Rattle.lapin_confirm.proofs.Ledgers.{ledger-at, ledgers-same, same-book, same-post}
-use Rattle.lapin_confirm.proofs.Roomy.{same-homes, room-kept}
+use Rattle.lapin_confirm.proofs.ReturnedByChannel.{on-still}
+use Rattle.lapin_confirm.proofs.ConfirmModes.{confirm_mode-at, confirm_modes-same, same-publish_states, same-confirm_state}
+use Rattle.lapin_confirm.proofs.Roomy.{same-origins, room-kept}
 use Rattle.lapin_confirm.proofs.Whole.{tied-of, untouched-of, all-settled}
 use Rattle.lapin_confirm.proofs.Settled.{settled-same, settled-untouched}
 use Rattle.lapin_confirm.proofs.confirms.Confirms.settle_all.Goals as goal
@@ -22,36 +22,36 @@ use Rattle.lapin_confirm.proofs.confirms.Confirms.settle_all.Goals as goal
 pub invariant_of-self-2 : goal.invariant_of-self-2
 invariant_of-self-2 c =
     let is = sym c.in-Some.ensures.value in
-    let room = room-kept c.args.channel c.in-Some.ledger.now c.settle_through.new.ledger c.self.inside.rooms.entries c.self.inside.ledgers.entries c.self.inside.trays.entries c.self.inside.cells.spare c.settle_through.new.cells.spare is c.self.invariant.room c.settle_through.ensures.room c.settle_through.ensures.spare in
+    let room = room-kept c.args.channel c.in-Some.confirm_mode.now c.settle_through.new.confirm_mode c.self.inside.rooms.entries c.self.inside.confirm_modes.entries c.self.inside.returned_by_channel.entries c.self.inside.cells.spare c.settle_through.new.cells.spare is c.self.invariant.room c.settle_through.ensures.room c.settle_through.ensures.spare in
     record {
-      tied = all-settled c.args.channel _ _ c.in-Some.ledger.now c.settle_through.new.ledger c.self.inside.ledgers.entries c.self.inside.cells.slots c.settle_through.new.cells.slots is c.self.invariant.tied c.settle_through.ensures.tied c.settle_through.ensures.cells;
+      tied = all-settled c.args.channel _ _ c.in-Some.confirm_mode.now c.settle_through.new.confirm_mode c.self.inside.confirm_modes.entries c.self.inside.cells.slots c.settle_through.new.cells.slots is c.self.invariant.tied c.settle_through.ensures.tied c.settle_through.ensures.cells;
       room = record { cells = room.cells; tags = room.tags; messages = c.attach_on.ensures.room c.self.inside.rooms.entries c.self.invariant.room.messages };
-      homes = same-homes _ _ c.settle_through.new.cells.slots _ c.self.invariant.homes (ap length c.settle_through.ensures.cells ∙ length-map c.self.inside.cells.slots _);
+      origins = same-origins _ _ c.settle_through.new.cells.slots _ c.self.invariant.origins (ap length c.settle_through.ensures.cells ∙ length-map c.self.inside.cells.slots _);
     }
 
 pub returns-in_default-clause-what : goal.returns-in_default-clause-what
 returns-in_default-clause-what c =
     let absent = sym c.in_default.ensures.value in
-    let none : last_in (at_channel c.args.channel (ledger_states c.self.inside.ledgers.entries)) ≡ 0 = ap last_in (ledger-at c.args.channel c.self.inside.ledgers.entries None absent) in
+    let none : last_in (at_channel c.args.channel (confirm_mode_states c.self.inside.confirm_modes.entries)) ≡ 0 = ap last_in (confirm_mode-at c.args.channel c.self.inside.confirm_modes.entries None absent) in
     rw (← c.self.view_is)
-    (same-post _ _ _ _ _ _
-    (same-book _ _ _ _ refl (sym (settled-untouched c.args.channel _ _ c.self.inside.cells.slots (untouched-of c.args.channel c.self.inside.ledgers.entries c.self.inside.cells.slots absent c.self.invariant.tied))))
-    (rw none (sym (on-still c.args.channel (attached_to_all []) (trays_of c.self.inside.trays.entries) (λ l. refl))))
+    (same-confirm_state _ _ _ _ _ _
+    (same-publish_states _ _ _ _ refl (sym (settled-untouched c.args.channel _ _ c.self.inside.cells.slots (untouched-of c.args.channel c.self.inside.confirm_modes.entries c.self.inside.cells.slots absent c.self.invariant.tied))))
+    (rw none (sym (on-still c.args.channel (attached_to_all []) (returned_by_channel_of c.self.inside.returned_by_channel.entries) (λ l. refl))))
     refl)
 
 pub returns-clause-what : goal.returns-clause-what
 returns-clause-what c =
     let is = sym c.in-Some.ensures.value in
-    let tied = tied-of c.args.channel c.in-Some.ledger.now c.self.inside.ledgers.entries c.self.inside.cells.slots is c.self.invariant.tied in
+    let tied = tied-of c.args.channel c.in-Some.confirm_mode.now c.self.inside.confirm_modes.entries c.self.inside.cells.slots is c.self.invariant.tied in
     rw (← c.self.view_is)
-    (same-post _ _ _ _ _ _
-    (same-book _ _ _ _
-    (ledgers-same c.args.channel c.in-Some.ledger.now c.settle_through.new.ledger c.self.inside.ledgers.entries (sym c.in-Some.ensures.value) c.settle_through.ensures.ledger)
+    (same-confirm_state _ _ _ _ _ _
+    (same-publish_states _ _ _ _
+    (confirm_modes-same c.args.channel c.in-Some.confirm_mode.now c.settle_through.new.confirm_mode c.self.inside.confirm_modes.entries (sym c.in-Some.ensures.value) c.settle_through.ensures.confirm_mode)
     (c.settle_through.ensures.cells ∙ rw c.outcome_of.ensures (settled-same c.args.channel (λ t. nat_le t c.count-last.result) _ (kind_outcome c.args.kind) c.self.inside.cells.slots (λ n t there.
-    let last : t ≤ length c.in-Some.ledger.now.tags.slots = given t n c.in-Some.ledger.now.tags.slots (tied.named n t there) in
+    let last : t ≤ length c.in-Some.confirm_mode.now.tags.slots = given t n c.in-Some.confirm_mode.now.tags.slots (tied.named n t there) in
     le-leb t c.count-last.result (omega (arith, c.count-last.ensures))))))
-    (c.attach_on.ensures.letters ∙ ap (λ (ns : List ℕ). on_channel c.args.channel (attached_to_all ns) (trays_of c.self.inside.trays.entries))
-    (covered-all c.args.channel c.args.kind c.in-Some.ledger.now c.self.inside.cells.slots (range_with_len 1 c.count-last.result) tied
+    (c.attach_on.ensures.return_lists ∙ ap (λ (ns : List ℕ). on_channel c.args.channel (attached_to_all ns) (returned_by_channel_of c.self.inside.returned_by_channel.entries))
+    (covered-all c.args.channel c.args.kind c.in-Some.confirm_mode.now c.self.inside.cells.slots (range_with_len 1 c.count-last.result) tied
     ∙ ap (λ (n : ℕ). taking (covers (multiple_of c.args.kind 0)) (λ t. number_from c.args.channel t 1 c.self.inside.cells.slots) (range_with_len 1 n))
-    (c.count-last.ensures ∙ ap last_in (sym (ledger-at c.args.channel c.self.inside.ledgers.entries (Some c.in-Some.ledger.now) is)))))
+    (c.count-last.ensures ∙ ap last_in (sym (confirm_mode-at c.args.channel c.self.inside.confirm_modes.entries (Some c.in-Some.confirm_mode.now) is)))))
     refl)

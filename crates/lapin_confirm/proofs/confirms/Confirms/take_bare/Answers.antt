@@ -1,10 +1,10 @@
 use Rattle.std.proofs.Common.{◌∙◌, ap, sym}
-use Rattle.lapin_confirm.specs.Book.{is_resolved}
-use Rattle.lapin_confirm.specs.Kept.{Kept}
-use Rattle.lapin_confirm.specs.Post.{given}
-use Rattle.lapin_confirm.specs.Ties.{ledger_states, trays_of}
+use Rattle.lapin_confirm.specs.PublishStates.{is_resolved}
+use Rattle.lapin_confirm.specs.WithRoom.{WithRoom}
+use Rattle.lapin_confirm.specs.ConfirmState.{given}
+use Rattle.lapin_confirm.specs.Ties.{confirm_mode_states, returned_by_channel_of}
 use Rattle.lapin_confirm.proofs.Asides.{forget-kept}
-use Rattle.lapin_confirm.proofs.Trays.{given-bare}
+use Rattle.lapin_confirm.proofs.ReturnedByChannel.{given-bare}
 use Rattle.lapin_confirm.proofs.confirms.Confirms.take_bare.Goals as goal
 
 pub invariant_of-self : goal.invariant_of-self
@@ -16,5 +16,5 @@ pub returns-clause-taken : goal.returns-clause-taken
 returns-clause-taken c =
     let old = c.self.inside in
     rw (c.take.ensures.slots, c.take-2.ensures.slots)
-    (given-bare c.args.number (record { book = record { ledgers = ledger_states old.ledgers.entries; cells = old.cells.slots }; trays = trays_of old.trays.entries; homes = old.homes.slots }) (sym c.if-has_message.ensures)
-    ∙ ap (λ (k : Kept). given c.args.number k.what) c.self.view_is)
+    (given-bare c.args.number (record { publish_states = record { confirm_modes = confirm_mode_states old.confirm_modes.entries; cells = old.cells.slots }; returned_by_channel = returned_by_channel_of old.returned_by_channel.entries; origins = old.origins.slots }) (sym c.if-has_message.ensures)
+    ∙ ap (λ (k : WithRoom). given c.args.number k.what) c.self.view_is)

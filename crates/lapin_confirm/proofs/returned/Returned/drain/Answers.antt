@@ -2,9 +2,9 @@ use Rattle.std.proofs.Common.{◌≡◌, ◌∙◌, ◌++◌, ℕ, List, not, ap
 use Rattle.std.specs.List.{filter}
 use Rattle.std.proofs.lemmas.List.{append_assoc}
 use Rattle.lapin_types.specs.declared.message.BasicReturnMessage.{BasicReturnMessage}
-use Rattle.lapin_history.specs.Letters.{messages_of}
+use Rattle.lapin_rules.specs.ReturnLists.{messages_of}
 use Rattle.lapin_confirm.specs.Drain.{is_over, Swept}
-use Rattle.lapin_confirm.proofs.Sweeping.{sweep-is, same-letters}
+use Rattle.lapin_confirm.proofs.Sweeping.{sweep-is, same-return_lists}
 use Rattle.lapin_confirm.proofs.returned.Returned.drain.Goals as goal
 
 pub returns-clause-given : goal.returns-clause-given
@@ -19,9 +19,9 @@ returns-clause-over c =
     let all = c.sweep_all.ensures.swept ∙ sweep-is (is_over c.args.cells.now.slots) c.self.inside.aside.items c.in_ok-sweep.sweep.left.items c.in_ok-sweep.sweep.over.items c.pour-2.new.into.items c.self.inside.attached.items in
     rw (← c.self.view_is) (ap (λ (s : Swept). s.over) all ∙ ap (λ (xs : List ℕ). xs ++ filter (is_over c.args.cells.now.slots) c.self.inside.aside.items) c.in_ok-sweep.ensures.over)
 
-pub returns-clause-letters : goal.returns-clause-letters
-returns-clause-letters c =
+pub returns-clause-return_lists : goal.returns-clause-return_lists
+returns-clause-return_lists c =
     let all = c.sweep_all.ensures.swept ∙ sweep-is (is_over c.args.cells.now.slots) c.self.inside.aside.items c.in_ok-sweep.sweep.left.items c.in_ok-sweep.sweep.over.items c.pour-2.new.into.items c.self.inside.attached.items in
     rw (← c.self.view_is)
-    (same-letters _ _ c.self.inside.waiting.items _ _ _ _ _ _ (ap (λ (s : Swept). s.attached) all) c.pour.ensures.from c.pour-2.ensures.from
+    (same-return_lists _ _ c.self.inside.waiting.items _ _ _ _ _ _ (ap (λ (s : Swept). s.attached) all) c.pour.ensures.from c.pour-2.ensures.from
     (ap (λ (s : Swept). s.left) all ∙ ap (λ (xs : List ℕ). xs ++ filter (λ n. not (is_over c.args.cells.now.slots n)) c.self.inside.aside.items) c.in_ok-sweep.ensures.left))

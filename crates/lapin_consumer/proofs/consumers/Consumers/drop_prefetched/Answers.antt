@@ -2,11 +2,11 @@ use Rattle.std.proofs.Common.{◌≡◌, OnOk, refl, sym, ap, ◌∙◌, subst}
 use Rattle.lapin_acker.specs.Switches.{voided, after_mark as after_acker_mark}
 use Rattle.lapin_acker.specs.Marks as acker_mark
 use Rattle.lapin_acker.proofs.Numbers.{voided-is}
-use Rattle.lapin_consumer.specs.Kept.{Kept}
+use Rattle.lapin_consumer.specs.WithRoom.{WithRoom}
 use Rattle.lapin_consumer.specs.Marks as mark
 use Rattle.lapin_consumer.specs.Indexed.{places_in}
 use Rattle.lapin_consumer.specs.Ackers.{ackers_on}
-use Rattle.lapin_consumer.specs.Roster.{after_mark}
+use Rattle.lapin_consumer.specs.Subscriptions.{after_mark}
 use Rattle.lapin_consumer.proofs.Indices.{kept_or_same}
 use Rattle.lapin_consumer.proofs.Lines.{on_ok}
 use Rattle.lapin_consumer.proofs.Several.{void_nobody, void_no_ackers}
@@ -14,19 +14,19 @@ use Rattle.lapin_consumer.proofs.consumers.Consumers.drop_prefetched.Goals as go
 
 pub returns-in_default-clause-ok : goal.returns-in_default-clause-ok
 returns-in_default-clause-ok c =
-    subst (λ (k : Kept). k.roster ≡ after_mark k.roster (mark.Discarded c.args.channel)) c.self.view_is
-    (void_nobody c.args.channel c.self.inside.hall.roster (sym (c.self.invariant.lists c.args.channel) ∙ ap places_in (sym c.in_default.ensures)))
+    subst (λ (k : WithRoom). k.subscriptions ≡ after_mark k.subscriptions (mark.Discarded c.args.channel)) c.self.view_is
+    (void_nobody c.args.channel c.self.inside.hall.subscriptions (sym (c.self.invariant.lists c.args.channel) ∙ ap places_in (sym c.in_default.ensures)))
 
 pub returns-in_default-clause-void : goal.returns-in_default-clause-void
 returns-in_default-clause-void c =
-    subst (λ (k : Kept). c.args.switches.now.switches ≡ after_acker_mark c.args.switches.now.switches (acker_mark.Voided (ackers_on c.args.channel k.roster.consumers))) c.self.view_is
-    (ap (λ ns. voided ns c.args.switches.now.switches) (sym (void_no_ackers c.args.channel c.self.inside.hall.roster.consumers (sym (c.self.invariant.lists c.args.channel) ∙ ap places_in (sym c.in_default.ensures))))
-    ∙ voided-is (ackers_on c.args.channel c.self.inside.hall.roster.consumers) c.args.switches.now.switches)
+    subst (λ (k : WithRoom). c.args.switches.now.switches ≡ after_acker_mark c.args.switches.now.switches (acker_mark.Voided (ackers_on c.args.channel k.subscriptions.consumers))) c.self.view_is
+    (ap (λ ns. voided ns c.args.switches.now.switches) (sym (void_no_ackers c.args.channel c.self.inside.hall.subscriptions.consumers (sym (c.self.invariant.lists c.args.channel) ∙ ap places_in (sym c.in_default.ensures))))
+    ∙ voided-is (ackers_on c.args.channel c.self.inside.hall.subscriptions.consumers) c.args.switches.now.switches)
 
 pub invariant_of-self : goal.invariant_of-self
-invariant_of-self c = kept_or_same (mark.Discarded c.args.channel) _ c.self.inside.hall.roster c.void.new.self.roster c.void.result refl c.self.invariant c.void.ensures.ok c.void.ensures.err
+invariant_of-self c = kept_or_same (mark.Discarded c.args.channel) _ c.self.inside.hall.subscriptions c.void.new.self.subscriptions c.void.result refl c.self.invariant c.void.ensures.ok c.void.ensures.err
 
 pub returns-clause-void : goal.returns-clause-void
 returns-clause-void c =
-    subst (λ (k : Kept). OnOk c.void.result (c.void.new.switches.switches ≡ after_acker_mark c.args.switches.now.switches (acker_mark.Voided (ackers_on c.args.channel k.roster.consumers)))) c.self.view_is
-    (on_ok _ _ c.void.result (λ e. e ∙ voided-is (ackers_on c.args.channel c.self.inside.hall.roster.consumers) c.args.switches.now.switches) c.void.ensures.void)
+    subst (λ (k : WithRoom). OnOk c.void.result (c.void.new.switches.switches ≡ after_acker_mark c.args.switches.now.switches (acker_mark.Voided (ackers_on c.args.channel k.subscriptions.consumers)))) c.self.view_is
+    (on_ok _ _ c.void.result (λ e. e ∙ voided-is (ackers_on c.args.channel c.self.inside.hall.subscriptions.consumers) c.args.switches.now.switches) c.void.ensures.void)

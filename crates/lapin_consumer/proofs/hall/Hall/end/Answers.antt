@@ -1,7 +1,7 @@
 use Rattle.std.proofs.Common.{◌≡◌, true, false, refl, ap, ◌∙◌}
 use Rattle.lapin_consumer.specs.Words.{places_at}
-use Rattle.lapin_consumer.specs.Roster.{is_on}
-use Rattle.lapin_consumer.specs.Kept.{Kept}
+use Rattle.lapin_consumer.specs.Subscriptions.{is_on}
+use Rattle.lapin_consumer.specs.WithRoom.{WithRoom}
 use Rattle.lapin_consumer.proofs.Ending.{consumers_of}
 use Rattle.lapin_consumer.proofs.EndRooms.{ends_fit, ends_enough, ends_left, fit_on}
 use Rattle.lapin_consumer.proofs.hall.Hall.end.Goals as goal
@@ -12,11 +12,11 @@ never h = cc
 pub returns-in_err-make_end_rooms-clause-room : goal.returns-in_err-make_end_rooms-clause-room
 returns-in_err-make_end_rooms-clause-room c ends =
     let fit = ends_fit c.self.inside.seats.items c.self.inside.jobs.items _ c.args.self.now c.self.view_is ends in
-    let are = ap (λ (k : Kept). places_at (λ _ x. is_on c.args.channel x) k.roster.consumers) c.self.view_is ∙ c.requires in
+    let are = ap (λ (k : WithRoom). places_at (λ _ x. is_on c.args.channel x) k.subscriptions.consumers) c.self.view_is ∙ c.requires in
     absurd (never (c.in_err-make_end_rooms.ensures.succeeds (ends_enough c.args.channel _ c.args.places.now (consumers_of c.self.inside.seats.items) are fit.1) (fit_on c.args.channel c.self.inside.seats.items fit.0)))
 
 pub returns-clause-room : goal.returns-clause-room
 returns-clause-room c ends =
     let fit = ends_fit c.self.inside.seats.items c.self.inside.jobs.items _ c.args.self.now c.self.view_is ends in
-    let are = ap (λ (k : Kept). places_at (λ _ x. is_on c.args.channel x) k.roster.consumers) c.self.view_is ∙ c.requires in
+    let are = ap (λ (k : WithRoom). places_at (λ _ x. is_on c.args.channel x) k.subscriptions.consumers) c.self.view_is ∙ c.requires in
     (refl, ends_left c.args.channel c.args.error c.args.places.now c.self.inside.seats.items c.make_end_rooms.new.seats.items c.end_all.new.seats.items c.end_all.new.jobs.items _ _ _ c.in_ok-make_end_rooms.ensures.same are c.end_all.ensures.consumers fit.1 c.in_ok-make_end_rooms.ensures.jobs_kept c.end_all.ensures.jobs_left (c.end_all.ensures.kept (c.in_ok-make_end_rooms.ensures.kept fit.0)))

@@ -1,8 +1,8 @@
 use Rattle.std.proofs.Common.{◌≡◌, ◌∙◌, sym, ap, subst}
 use Rattle.std.specs.Prelude.{OnOk}
 use Rattle.lapin_types.specs.declared.record.Record.{Record}
-use Rattle.lapin_history.specs.declared.calls.Asked.{Asked}
-use Rattle.lapin_history.specs.Asking.{call_record}
+use Rattle.lapin_rules.specs.declared.calls.Asked.{Asked}
+use Rattle.lapin_rules.specs.Asking.{call_record}
 use Rattle.lapin_machine.specs.Told.{TicketTold}
 use Rattle.lapin_machine.specs.World.{World, asking}
 use Rattle.lapin_machine.proofs.Limited.{never_held, told_free, next_free}

@@ -1,21 +1,21 @@
 use Rattle.std.proofs.Common.{◌∙◌, refl, sym, ap, subst, None}
-use Rattle.lapin_inbox.specs.Held.{what}
+use Rattle.lapin_delivery.specs.WithRoom.{what}
 use Rattle.lapin_types.specs.declared.record.Record.TheVariants as record_
 use Rattle.lapin_types.specs.Types.{Method}
 use Rattle.lapin_types.specs.Types.error
 use Rattle.lapin_ticket.specs.Room.{Issued}
-use Rattle.lapin_history.specs.declared.broker_frames.Incoming.TheVariants as incoming
-use Rattle.lapin_history.specs.declared.phases.Closer.TheVariants as closer
-use Rattle.lapin_history.specs.Frames.{MethodEntry}
-use Rattle.lapin_history.specs.ChannelClose.{failed_at_close}
-use Rattle.lapin_history.specs.Wire.{is_open, state_of}
+use Rattle.lapin_rules.specs.declared.broker_frames.Incoming.TheVariants as incoming
+use Rattle.lapin_rules.specs.declared.phases.Closer.TheVariants as closer
+use Rattle.lapin_rules.specs.Frames.{MethodEntry}
+use Rattle.lapin_rules.specs.ChannelClose.{failed_at_close}
+use Rattle.lapin_rules.specs.Wire.{is_open, state_of}
 use Rattle.lapin_outbox.specs.Open.{OpenRequests}
 use Rattle.lapin_outbox.specs.Outgoing.{OutboxState}
-use Rattle.lapin_history.specs.ConfirmMarks as confirm
-use Rattle.lapin_confirm.specs.Book.{single_of}
-use Rattle.lapin_confirm.specs.Post.{Post}
-use Rattle.lapin_confirm.specs.Machine as post
-use Rattle.lapin_desk.specs.Queued.{AreQueued}
+use Rattle.lapin_rules.specs.ConfirmMarks as confirm
+use Rattle.lapin_confirm.specs.PublishStates.{single_of}
+use Rattle.lapin_confirm.specs.ConfirmState.{ConfirmState}
+use Rattle.lapin_confirm.specs.Machine as confirm_state
+use Rattle.lapin_outstanding.specs.Queued.{AreQueued}
 use Rattle.lapin_machine.specs.World.{World, receiving}
 use Rattle.lapin_machine.proofs.Keeping.{tied_closing, kept_by}
 use Rattle.lapin_machine.proofs.Openings.{open_opening}
@@ -29,10 +29,10 @@ invariant_of-self-2 c =
     let here = open_opening c.self.inside.link c.args.channel c.self.inside.phases.entries open_ in
     let entry : MethodEntry = record { channel = c.args.channel; method = c.in_ok-method.method; ticket = None } in
     let taken = c.begin_close.ensures.outbox ∙ ap (without_unbegun c.args.channel) c.reserve.ensures.same in
-    let Q : Post → Type 0 = λ p. AreQueued p.book.cells c.begin_close.new.desk.outbox.what.lists.publishes in
-    let R : OutboxState → Type 0 = λ o. AreQueued (post.after_mark c.self.inside.confirms.what (confirm.ClosedHere c.args.channel (failed_at_close closer.Session))).book.cells o.lists.publishes in
-    kept_by _ _ _ _ _ _ _ _ refl c.begin_close.ensures.phases (c.queue_own.ensures.outbox ∙ ap (with_entry entry) taken) (ap (λ (p : Post). p.book) c.begin_close.ensures.confirms)
-    (tied_closing c.self.inside.link c.args.channel closer.Session (failed_at_close closer.Session) c.self.inside.phases.entries _ _ c.self.inside.confirms.what.book here.up here.some
+    let Q : ConfirmState → Type 0 = λ p. AreQueued p.publish_states.cells c.begin_close.new.outstanding.outbox.what.lists.publishes in
+    let R : OutboxState → Type 0 = λ o. AreQueued (confirm_state.after_mark c.self.inside.confirms.what (confirm.ClosedHere c.args.channel (failed_at_close closer.Session))).publish_states.cells o.lists.publishes in
+    kept_by _ _ _ _ _ _ _ _ refl c.begin_close.ensures.phases (c.queue_own.ensures.outbox ∙ ap (with_entry entry) taken) (ap (λ (p : ConfirmState). p.publish_states) c.begin_close.ensures.confirms)
+    (tied_closing c.self.inside.link c.args.channel closer.Session (failed_at_close closer.Session) c.self.inside.phases.entries _ _ c.self.inside.confirms.what.publish_states here.up here.some
     (subst R taken (subst Q c.begin_close.ensures.confirms c.begin_close.ensures.queued)) c.self.invariant.tied)
     c.self.invariant.unpoisoned
 
@@ -42,9 +42,9 @@ returns-clause-ok c = λ tag current.
     let entry : Method → MethodEntry = λ k. record { channel = c.args.channel; method = k; ticket = None } in
     let outbox = c.queue_own.ensures.outbox
     ∙ ap (with_entry (entry c.in_ok-method.method)) (c.begin_close.ensures.outbox ∙ ap (without_unbegun c.args.channel) c.reserve.ensures.same)
-    ∙ ap (λ (k : Method). with_entry (entry k) (without_unbegun c.args.channel c.self.inside.desk.outbox.what)) c.in_ok-method.ensures in
+    ∙ ap (λ (k : Method). with_entry (entry k) (without_unbegun c.args.channel c.self.inside.outstanding.outbox.what)) c.in_ok-method.ensures in
     seen_is _ _ _ _ c.queue_own.new.self.outbox.what _ _ _ _ _ _ _ _ _ _ _ refl refl refl (ap (λ (r : OpenRequests). r.what) (c.queue_own.ensures.replies ∙ c.begin_close.ensures.requests)) refl refl refl refl
-    ∙ failed_seen c.self.inside.link c.self.inside.phases.entries c.self.inside.desk.outbox.what c.self.inside.desk.replies.what c.self.inside.contents (what c.self.inside.inbox) c.self.inside.desk.tickets.slots c.self.inside.confirms.what c.args.channel (single_of c.args.kind tag) tag current _ _ _ _
+    ∙ failed_seen c.self.inside.link c.self.inside.phases.entries c.self.inside.outstanding.outbox.what c.self.inside.outstanding.replies.what c.self.inside.contents (what c.self.inside.deliveries) c.self.inside.outstanding.tickets.slots c.self.inside.confirms.what c.args.channel (single_of c.args.kind tag) tag current _ _ _ _
     open_
     c.begin_close.ensures.phases
     outbox

@@ -1,7 +1,7 @@
 use Rattle.std.proofs.Common.{◌∙◌, refl, ap}
-use Rattle.lapin_history.specs.ChannelClose.{close_ok_end}
-use Rattle.lapin_history.specs.ChannelClose.{receives_close_ok}
-use Rattle.lapin_history.specs.Wire.{state_of, phase_of}
+use Rattle.lapin_rules.specs.ChannelClose.{close_ok_end}
+use Rattle.lapin_rules.specs.ChannelClose.{receives_close_ok}
+use Rattle.lapin_rules.specs.Wire.{state_of, phase_of}
 use Rattle.lapin_outbox.specs.Outgoing.{Outgoing}
 use Rattle.lapin_machine.specs.World.{World}
 use Rattle.lapin_machine.proofs.Keeping.{tied_closed, kept_by}

@@ -1,23 +1,23 @@
 use Rattle.std.proofs.Common.{◌∙◌, refl, sym, ap, None}
-use Rattle.lapin_inbox.specs.Held.{what}
+use Rattle.lapin_delivery.specs.WithRoom.{what}
 use Rattle.lapin_types.specs.declared.record.Record.TheVariants as record_
 use Rattle.lapin_types.specs.Types.error
 use Rattle.lapin_types.specs.Types.method
 use Rattle.lapin_types.specs.Types.connection
 use Rattle.lapin_ticket.specs.Room.{Issued}
-use Rattle.lapin_history.specs.declared.broker_frames.Incoming.TheVariants as incoming
-use Rattle.lapin_history.specs.Frames.{MethodEntry}
+use Rattle.lapin_rules.specs.declared.broker_frames.Incoming.TheVariants as incoming
+use Rattle.lapin_rules.specs.Frames.{MethodEntry}
 use Rattle.lapin_outbox.specs.Open.{OpenRequests}
-use Rattle.lapin_desk.specs.Ended.{emptied_outbox}
-use Rattle.lapin_confirm.specs.Post.{Post}
+use Rattle.lapin_outstanding.specs.Ended.{emptied_outbox}
+use Rattle.lapin_confirm.specs.ConfirmState.{ConfirmState}
 use Rattle.lapin_machine.specs.World.{World, receiving}
 use Rattle.lapin_machine.proofs.Keeping.{tied_down, tied_further, kept_by}
 use Rattle.lapin_machine.proofs.Openings.{sent_down}
 use Rattle.std.specs.List.{fold}
-use Rattle.lapin_history.specs.Ends.{inbox_ends}
-use Rattle.lapin_history.specs.Ends.{live_channels}
-use Rattle.lapin_inbox.specs.Inbox.{Inbox}
-use Rattle.lapin_inbox.specs.Inbox as inbox
+use Rattle.lapin_rules.specs.Ends.{deliveries_ends}
+use Rattle.lapin_rules.specs.Ends.{live_channels}
+use Rattle.lapin_delivery.specs.Deliveries.{Deliveries}
+use Rattle.lapin_delivery.specs.Deliveries as deliveries
 use Rattle.lapin_machine.proofs.Seen.{with_entry, seen_is}
 use Rattle.lapin_machine.proofs.Worlds.{connection_close_crossed, connection_close_incoming}
 use Rattle.lapin_machine.proofs.session.Session.receive_connection_close.Goals as goal
@@ -32,7 +32,7 @@ invariant_of-self-then-is_close_sent c =
 pub invariant_of-self-2 : goal.invariant_of-self-2
 invariant_of-self-2 c =
     let entry : MethodEntry = record { channel = 0; method = method.Connection connection.CloseOk; ticket = None } in
-    kept_by _ _ _ _ _ _ _ _ refl c.go_down.ensures.phases (c.queue_own-2.ensures.outbox ∙ ap (with_entry entry) (c.go_down.ensures.outbox ∙ ap emptied_outbox c.reserve.ensures.same)) (ap (λ (p : Post). p.book) c.go_down.ensures.confirms)
+    kept_by _ _ _ _ _ _ _ _ refl c.go_down.ensures.phases (c.queue_own-2.ensures.outbox ∙ ap (with_entry entry) (c.go_down.ensures.outbox ∙ ap emptied_outbox c.reserve.ensures.same)) (ap (λ (p : ConfirmState). p.publish_states) c.go_down.ensures.confirms)
     (tied_down c.self.inside.link c.go_down.new.link (error.ProtocolError c.args.code) _ _ c.self.inside.confirms.what c.self.invariant.tied)
     c.self.invariant.unpoisoned
 
@@ -41,7 +41,7 @@ returns-then-is_close_sent-clause-ok c =
     let sent = sym c.is_close_sent.ensures ∙ c.if-is_close_sent.true in
     let entry : MethodEntry = record { channel = 0; method = method.Connection connection.CloseOk; ticket = None } in
     seen_is _ _ _ _ c.queue_own.new.self.outbox.what _ _ _ _ _ _ _ _ _ _ _ refl refl refl (ap (λ (r : OpenRequests). r.what) c.queue_own.ensures.replies) refl refl (ap (λ (t : Issued). t.slots) c.queue_own.ensures.tickets) refl
-    ∙ connection_close_crossed c.self.inside.link c.self.inside.phases.entries c.self.inside.desk.outbox.what c.self.inside.desk.replies.what c.self.inside.contents (what c.self.inside.inbox) c.self.inside.desk.tickets.slots c.self.inside.confirms.what c.args.code _ _
+    ∙ connection_close_crossed c.self.inside.link c.self.inside.phases.entries c.self.inside.outstanding.outbox.what c.self.inside.outstanding.replies.what c.self.inside.contents (what c.self.inside.deliveries) c.self.inside.outstanding.tickets.slots c.self.inside.confirms.what c.args.code _ _
     sent
     (c.self.invariant.tied.down (sent_down c.self.inside.link sent))
     refl
@@ -51,7 +51,7 @@ returns-then-is_close_sent-clause-ok c =
 pub returns-clause-ok : goal.returns-clause-ok
 returns-clause-ok c =
     let entry : MethodEntry = record { channel = 0; method = method.Connection connection.CloseOk; ticket = None } in
-    connection_close_incoming c.self.inside.link c.self.inside.phases.entries c.self.inside.desk.outbox.what c.self.inside.desk.replies.what c.self.inside.contents (what c.self.inside.inbox) c.self.inside.desk.tickets.slots c.self.inside.confirms.what c.args.code _ _ _ _ _ _ _ _
+    connection_close_incoming c.self.inside.link c.self.inside.phases.entries c.self.inside.outstanding.outbox.what c.self.inside.outstanding.replies.what c.self.inside.contents (what c.self.inside.deliveries) c.self.inside.outstanding.tickets.slots c.self.inside.confirms.what c.args.code _ _ _ _ _ _ _ _
     (sym c.is_close_sent.ensures ∙ c.if-is_close_sent.false)
     c.go_down.ensures.link
     c.go_down.ensures.phases
@@ -60,5 +60,5 @@ returns-clause-ok c =
     c.go_down.ensures.contents
     (ap (λ (t : Issued). t.slots) c.queue_own-2.ensures.tickets ∙ c.go_down.ensures.slots)
     c.go_down.ensures.confirms
-    (c.go_down.ensures.inbox ∙ ap (λ (x : Inbox). fold inbox.after_mark x (inbox_ends (error.ProtocolError c.args.code) (live_channels c.self.inside.phases.entries))) c.reserve_ends.ensures.same)
+    (c.go_down.ensures.deliveries ∙ ap (λ (x : Deliveries). fold deliveries.after_mark x (deliveries_ends (error.ProtocolError c.args.code) (live_channels c.self.inside.phases.entries))) c.reserve_ends.ensures.same)
     ∙ ap (λ (w : World). receiving (incoming.ConnectionClose c.args.code) record_.Received w) c.self.view_is

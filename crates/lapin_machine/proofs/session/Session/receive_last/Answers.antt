@@ -1,6 +1,6 @@
 use Rattle.std.proofs.Common.{◌≡◌, ◌∙◌, ℕ, true, Option, Some, None, Ok, Err, List, length, refl, sym, ap, subst}
 use Rattle.std.specs.List.{fold}
-use Rattle.lapin_inbox.specs.Held.{what}
+use Rattle.lapin_delivery.specs.WithRoom.{what}
 use Rattle.lapin_types.specs.declared.record.Record.TheVariants as record_
 use Rattle.lapin_types.specs.Types.error
 use Rattle.std.proofs.Common.{Result, ◌⊎◌}
@@ -11,23 +11,23 @@ use Rattle.lapin_content.specs.Contents.{Expected, UnlessNoMemory, front_start, 
 use Rattle.lapin_content.specs.Channels as contents
 use Rattle.lapin_content.specs.Marks as content
 use Rattle.lapin_content.specs.Channels.{expected_on}
-use Rattle.lapin_history.specs.declared.broker_frames.ContentPart.TheVariants as part
-use Rattle.lapin_history.specs.declared.broker_frames.Incoming.TheVariants as incoming
-use Rattle.lapin_history.specs.Content.{receives_part, next_acker, whole_in, whole_inbox, whole_marks, whole_tickets}
-use Rattle.lapin_inbox.specs.Inbox.{Inbox}
-use Rattle.lapin_inbox.specs.Inbox as inbox
+use Rattle.lapin_rules.specs.declared.broker_frames.ContentPart.TheVariants as part
+use Rattle.lapin_rules.specs.declared.broker_frames.Incoming.TheVariants as incoming
+use Rattle.lapin_rules.specs.Content.{receives_part, next_acker, whole_in, whole_deliveries, whole_marks, whole_tickets}
+use Rattle.lapin_delivery.specs.Deliveries.{Deliveries}
+use Rattle.lapin_delivery.specs.Deliveries as deliveries
 use Rattle.lapin_ticket.specs.Slots as answers
 use Rattle.lapin_outbox.specs.Open.{OpenRequests}
 use Rattle.lapin_outbox.specs.Outgoing.{Outgoing}
-use Rattle.lapin_confirm.specs.Machine as post
-use Rattle.lapin_confirm.specs.Post.{Post}
+use Rattle.lapin_confirm.specs.Machine as confirm_state
+use Rattle.lapin_confirm.specs.ConfirmState.{ConfirmState}
 use Rattle.lapin_machine.specs.declared.channel.Heard.{Heard}
 use Rattle.lapin_machine.specs.Numbers.{ReceiveCause}
 use Rattle.lapin_machine.specs.World.{World, receiving}
 use Rattle.lapin_machine.specs.contracts.session.Session as session_view
 use Rattle.lapin_machine.proofs.Causes.{room_told, room_heard, room_cause}
 use Rattle.lapin_machine.proofs.Keeping.{kept_by}
-use Rattle.lapin_machine.proofs.Parts.{part_seen, whole_book}
+use Rattle.lapin_machine.proofs.Parts.{part_seen, whole_publish_states}
 use Rattle.lapin_machine.proofs.Seen.{seen_is}
 use Rattle.lapin_machine.proofs.Wholes.{Ends, and_right, body_ends, body_heard, body_same, fits_whole}
 use Rattle.lapin_machine.proofs.session.Session.receive_last.Goals as goal
@@ -37,13 +37,13 @@ ends : (bytes : List ℕ) (c : ℕ) (v w : World) → v ≡ w → receives_part 
 ends bytes c v w same received last = body_ends bytes (expected_on c v.wire.contents) (and_right _ _ (ap (λ (x : World). receives_part c (part.Body bytes) x.wire) same ∙ received)) (ap (λ (x : World). awaited (expected_on c x.wire.contents)) same ∙ last)
 
 pub invariant_of-self : goal.invariant_of-self
-invariant_of-self c = kept_by _ _ _ _ _ _ _ _ refl refl refl (ap (λ (p : Post). p.book) c.make_room-made.ensures.same.0) c.self.invariant.tied c.self.invariant.unpoisoned
+invariant_of-self c = kept_by _ _ _ _ _ _ _ _ refl refl refl (ap (λ (p : ConfirmState). p.publish_states) c.make_room-made.ensures.same.0) c.self.invariant.tied c.self.invariant.unpoisoned
 
 pub returns-in-Err-clause-told : goal.returns-in-Err-clause-told
-returns-in-Err-clause-told c = room_told c.in-Err.error (front_start (expected_on c.args.channel c.self.inside.contents)) (what c.self.inside.inbox) record_.Received c.in-Err.ensures.cause
+returns-in-Err-clause-told c = room_told c.in-Err.error (front_start (expected_on c.args.channel c.self.inside.contents)) (what c.self.inside.deliveries) record_.Received c.in-Err.ensures.cause
 
 pub returns-in-Err-clause-ok : goal.returns-in-Err-clause-ok
-returns-in-Err-clause-ok c = room_heard c.in-Err.error (front_start (expected_on c.args.channel c.self.inside.contents)) (what c.self.inside.inbox) _ _ c.in-Err.ensures.cause (seen_is _ _ _ _ c.self.inside.desk.outbox.what _ _ _ _ _ _ _ _ _ _ _ refl refl refl refl refl c.make_room-made.ensures.same.1 refl c.make_room-made.ensures.same.0 ∙ c.self.view_is)
+returns-in-Err-clause-ok c = room_heard c.in-Err.error (front_start (expected_on c.args.channel c.self.inside.contents)) (what c.self.inside.deliveries) _ _ c.in-Err.ensures.cause (seen_is _ _ _ _ c.self.inside.outstanding.outbox.what _ _ _ _ _ _ _ _ _ _ _ refl refl refl refl refl c.make_room-made.ensures.same.1 refl c.make_room-made.ensures.same.0 ∙ c.self.view_is)
 
 pub returns-in-Err-clause-cause : goal.returns-in-Err-clause-cause
 returns-in-Err-clause-cause c =
@@ -56,28 +56,28 @@ pub complete-requires : goal.complete-requires
 complete-requires c =
     let old : World = session_view.the_view c.self.inside in
     let e = ends c.args.payload c.args.channel old c.args.self.now c.self.view_is c.requires.received c.requires.last in
-    fits_whole (expected_on c.args.channel c.self.inside.contents) _ c.in-Ok-Some.whole c.args.channel c.make_room-made.new.inbox c.make_room-made.new.confirms _ e
+    fits_whole (expected_on c.args.channel c.self.inside.contents) _ c.in-Ok-Some.whole c.args.channel c.make_room-made.new.deliveries c.make_room-made.new.confirms _ e
     (body_heard c.body.result (heard_body c.args.payload (expected_on c.args.channel c.self.inside.contents)) (Some c.in-Ok-Some.whole) c.body.ensures.told (c.in-Ok-Some.is ∙ ap Ok c.in-Ok-Some.field-0-is))
     c.in-Ok.ensures.room
 
 pub invariant_of-self-in-Ok-Some : goal.invariant_of-self-in-Ok-Some
 invariant_of-self-in-Ok-Some c =
     kept_by _ _ _ _ _ _ _ _ refl refl (ap (λ (o : Outgoing). o.what) c.complete.ensures.outbox)
-    (whole_book c.args.channel (Some c.in-Ok-Some.whole) c.self.inside.confirms.what c.complete.new.confirms.what
-    (c.complete.ensures.confirms ∙ ap (λ (p : Post). fold post.after_mark p (whole_marks c.args.channel (Some c.in-Ok-Some.whole))) c.make_room-made.ensures.same.0))
+    (whole_publish_states c.args.channel (Some c.in-Ok-Some.whole) c.self.inside.confirms.what c.complete.new.confirms.what
+    (c.complete.ensures.confirms ∙ ap (λ (p : ConfirmState). fold confirm_state.after_mark p (whole_marks c.args.channel (Some c.in-Ok-Some.whole))) c.make_room-made.ensures.same.0))
     c.self.invariant.tied c.self.invariant.unpoisoned
 
 pub returns-in-Ok-Some-clause-ok : goal.returns-in-Ok-Some-clause-ok
 returns-in-Ok-Some-clause-ok c =
-    part_seen c.self.inside.link c.self.inside.phases.entries c.self.inside.desk.outbox.what c.self.inside.desk.replies.what c.self.inside.contents (what c.self.inside.inbox) c.self.inside.desk.tickets.slots c.self.inside.confirms.what c.args.channel (part.Body c.args.payload) (Some c.in-Ok-Some.whole) _ _ _ _ _ _
+    part_seen c.self.inside.link c.self.inside.phases.entries c.self.inside.outstanding.outbox.what c.self.inside.outstanding.replies.what c.self.inside.contents (what c.self.inside.deliveries) c.self.inside.outstanding.tickets.slots c.self.inside.confirms.what c.args.channel (part.Body c.args.payload) (Some c.in-Ok-Some.whole) _ _ _ _ _ _
     (ap whole_in (body_heard c.body.result (heard_body c.args.payload (expected_on c.args.channel c.self.inside.contents)) (Some c.in-Ok-Some.whole) c.body.ensures.told (c.in-Ok-Some.is ∙ ap Ok c.in-Ok-Some.field-0-is)))
     refl
     (ap (λ (o : Outgoing). o.what) c.complete.ensures.outbox)
     (ap (λ (r : OpenRequests). r.what) c.complete.ensures.replies)
     c.in-Ok-Some.ensures.after
-    (c.complete.ensures.inbox ∙ ap (λ (x : Inbox). fold inbox.after_mark x (whole_inbox c.args.channel x (Some c.in-Ok-Some.whole))) c.make_room-made.ensures.same.1)
-    (c.complete.ensures.slots ∙ ap (λ (x : Inbox). fold answers.after_mark c.self.inside.desk.tickets.slots (whole_tickets c.args.channel (next_acker x) (Some c.in-Ok-Some.whole))) c.make_room-made.ensures.same.1)
-    (c.complete.ensures.confirms ∙ ap (λ (p : Post). fold post.after_mark p (whole_marks c.args.channel (Some c.in-Ok-Some.whole))) c.make_room-made.ensures.same.0)
+    (c.complete.ensures.deliveries ∙ ap (λ (x : Deliveries). fold deliveries.after_mark x (whole_deliveries c.args.channel x (Some c.in-Ok-Some.whole))) c.make_room-made.ensures.same.1)
+    (c.complete.ensures.slots ∙ ap (λ (x : Deliveries). fold answers.after_mark c.self.inside.outstanding.tickets.slots (whole_tickets c.args.channel (next_acker x) (Some c.in-Ok-Some.whole))) c.make_room-made.ensures.same.1)
+    (c.complete.ensures.confirms ∙ ap (λ (p : ConfirmState). fold confirm_state.after_mark p (whole_marks c.args.channel (Some c.in-Ok-Some.whole))) c.make_room-made.ensures.same.0)
     ∙ ap (λ (w : World). receiving (incoming.Content c.args.channel (part.Body c.args.payload)) record_.Received w) c.self.view_is
 
 pub unreachable-requires : goal.unreachable-requires
@@ -91,12 +91,12 @@ same_contents : (es : List Expected) (r a : Result (Option Whole) Error) (e : Er
 same_contents es r a e new old after told whole is h = body_same es r a e (new ≡ after) (new ≡ old) told whole is h
 
 pub invariant_of-self-in-Err-body : goal.invariant_of-self-in-Err-body
-invariant_of-self-in-Err-body c = kept_by _ _ _ _ _ _ _ _ refl refl refl (ap (λ (p : Post). p.book) c.make_room-made.ensures.same.0) c.self.invariant.tied c.self.invariant.unpoisoned
+invariant_of-self-in-Err-body c = kept_by _ _ _ _ _ _ _ _ refl refl refl (ap (λ (p : ConfirmState). p.publish_states) c.make_room-made.ensures.same.0) c.self.invariant.tied c.self.invariant.unpoisoned
 
 pub returns-in-Err-body-clause-ok : goal.returns-in-Err-body-clause-ok
 returns-in-Err-body-clause-ok c =
     let e = ends c.args.payload c.args.channel (session_view.the_view c.self.inside) c.args.self.now c.self.view_is c.requires.received c.requires.last in
-    seen_is _ _ _ _ c.self.inside.desk.outbox.what _ _ _ _ _ _ _ _ _ _ _ refl refl refl refl
+    seen_is _ _ _ _ c.self.inside.outstanding.outbox.what _ _ _ _ _ _ _ _ _ _ _ refl refl refl refl
     (same_contents (expected_on c.args.channel c.self.inside.contents) c.body.result _ c.in-Err-body.field-0 c.body.new.self c.self.inside.contents _ c.body.ensures.told e c.in-Err-body.is c.body.ensures.after)
     c.make_room-made.ensures.same.1 refl c.make_room-made.ensures.same.0
     ∙ c.self.view_is

@@ -1,7 +1,7 @@
 use Rattle.std.proofs.Common.{Bool, refl, sym, ap}
-use Rattle.lapin_history.specs.declared.broker_frames.Incoming.TheVariants as incoming
-use Rattle.lapin_history.specs.Receiving.{when}
-use Rattle.lapin_history.specs.Unexpected.{refused}
+use Rattle.lapin_rules.specs.declared.broker_frames.Incoming.TheVariants as incoming
+use Rattle.lapin_rules.specs.Receiving.{when}
+use Rattle.lapin_rules.specs.Unexpected.{refused}
 use Rattle.lapin_machine.proofs.Refusals.{refused_up}
 use Rattle.lapin_machine.proofs.session.Session.receive_of_consumer.Goals as goal
 

@@ -1,9 +1,9 @@
 use Rattle.std.proofs.Common.{◌∙◌, Bool, cond, refl, sym, ap}
-use Rattle.lapin_history.specs.Receiving.{when}
-use Rattle.lapin_history.specs.Unexpected.{refused}
-use Rattle.lapin_history.specs.Settlement.{settlement_record}
-use Rattle.lapin_history.specs.Wire.{receives_on}
-use Rattle.lapin_history.specs.ChannelClose.{receives_close, receives_close_ok}
+use Rattle.lapin_rules.specs.Receiving.{when}
+use Rattle.lapin_rules.specs.Unexpected.{refused}
+use Rattle.lapin_rules.specs.Settlement.{settlement_record}
+use Rattle.lapin_rules.specs.Wire.{receives_on}
+use Rattle.lapin_rules.specs.ChannelClose.{receives_close, receives_close_ok}
 use Rattle.lapin_machine.specs.World.{readings_of}
 use Rattle.lapin_machine.proofs.Refusals.{refused_up, never_told}
 use Rattle.lapin_machine.proofs.session.Session.receive_up.Goals as goal
@@ -12,7 +12,7 @@ pub returns-else-receives_on-clause-ok : goal.returns-else-receives_on-clause-ok
 returns-else-receives_on-clause-ok c =
     let w = c.args.self.now in
     let state = ap receives_on c.channel_state.ensures in
-    let told = ap (λ (b : Bool). cond b (settlement_record (readings_of w.post w.slots) c.in-Settlement.channel c.in-Settlement.settlement) (refused c.args.class c.args.number)) (sym (c.if-receives_on.ensures ∙ state)) in
+    let told = ap (λ (b : Bool). cond b (settlement_record (readings_of w.confirm_state w.slots) c.in-Settlement.channel c.in-Settlement.settlement) (refused c.args.class c.args.number)) (sym (c.if-receives_on.ensures ∙ state)) in
     refused_up c.refuse.result c.refuse.new.self c.args.self.now (refused c.args.class c.args.number) c.args.incoming _ c.in-Settlement.is told c.refuse.ensures.ok
 
 pub returns-else-receives_close-clause-ok : goal.returns-else-receives_close-clause-ok

@@ -1,5 +1,5 @@
 use Rattle.std.proofs.Common.{◌≡◌, ◌∙◌, true, ap, refl}
-use Rattle.lapin_history.specs.Reply.{receives_reply}
+use Rattle.lapin_rules.specs.Reply.{receives_reply}
 use Rattle.lapin_outbox.specs.Outgoing.{Outgoing}
 use Rattle.lapin_machine.specs.World.{World}
 use Rattle.lapin_machine.proofs.Keeping.{kept_by}

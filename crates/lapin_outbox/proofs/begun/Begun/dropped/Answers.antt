@@ -1,5 +1,5 @@
 use Rattle.std.proofs.Common.{List, sym, ◌∙◌, ap, slice_get}
-use Rattle.lapin_history.specs.Frames.{RestEntry, is_empty}
+use Rattle.lapin_rules.specs.Frames.{RestEntry, is_empty}
 use Rattle.lapin_outbox.specs.Drops.{told_rest}
 use Rattle.lapin_outbox.proofs.Dropping.{rest-told}
 use Rattle.lapin_outbox.proofs.begun.Begun.dropped.Goals as goal

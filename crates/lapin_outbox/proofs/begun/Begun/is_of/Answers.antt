@@ -1,6 +1,6 @@
 use Rattle.std.proofs.Common.{sym, ◌∙◌, ap}
-use Rattle.lapin_history.specs.Frames.{is_empty}
-use Rattle.lapin_history.specs.Drops.{is_rest_of}
+use Rattle.lapin_rules.specs.Frames.{is_empty}
+use Rattle.lapin_rules.specs.Drops.{is_rest_of}
 use Rattle.lapin_outbox.proofs.Dropping.{rest-on}
 use Rattle.lapin_outbox.proofs.begun.Begun.is_of.Goals as goal
 

@@ -2,7 +2,7 @@
 use Rattle.std.proofs.Common.{sym, ◌∙◌, ap}
 use Rattle.std.specs.List.{find}
 use Rattle.std.specs.Option.{option_copied}
-use Rattle.lapin_history.specs.Drops.{is_on}
+use Rattle.lapin_rules.specs.Drops.{is_on}
 use Rattle.lapin_outbox.specs.Order.{first_on}
 use Rattle.lapin_outbox.specs.ChannelQueue.{InQueue}
 use Rattle.lapin_outbox.proofs.ChannelQueues.{found-of, none-of}

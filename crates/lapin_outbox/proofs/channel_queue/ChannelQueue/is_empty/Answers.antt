@@ -1,6 +1,6 @@
 use Rattle.std.proofs.Common.{Option, ℕ, ◌∙◌, ap, not}
 use Rattle.std.specs.Prelude.{is_some}
-use Rattle.lapin_history.specs.Frames.{is_empty}
+use Rattle.lapin_rules.specs.Frames.{is_empty}
 use Rattle.lapin_outbox.specs.ChannelQueue.{InQueue}
 use Rattle.lapin_outbox.proofs.ChannelQueues.{none-kept, not-other}
 use Rattle.lapin_outbox.proofs.channel_queue.ChannelQueue.is_empty.Goals as goal

@@ -1,8 +1,8 @@
 -- The number of a key's first entry tells which entry is taken, and what stays.
 use Rattle.std.proofs.Common.{sym, ◌∙◌, ap}
 use Rattle.std.specs.List.{find}
-use Rattle.lapin_history.specs.Words.{without_first}
-use Rattle.lapin_history.specs.Drops.{is_on}
+use Rattle.lapin_rules.specs.Words.{without_first}
+use Rattle.lapin_rules.specs.Drops.{is_on}
 use Rattle.lapin_outbox.specs.Order.{first_on}
 use Rattle.lapin_outbox.specs.ChannelQueue.{InQueue, kept}
 use Rattle.lapin_outbox.proofs.ChannelQueues.{found-of, left-of, none-of, keys-left}

@@ -1,7 +1,7 @@
 -- The first number of a key that isn't full tells which entry is taken, and what stays.
 use Rattle.std.proofs.Common.{sym, ◌∙◌, ap}
 use Rattle.std.specs.List.{find}
-use Rattle.lapin_history.specs.Words.{without_first}
+use Rattle.lapin_rules.specs.Words.{without_first}
 use Rattle.lapin_outbox.specs.Order.{first_on}
 use Rattle.lapin_outbox.specs.Passing.{not_full, of_key, first_where}
 use Rattle.lapin_outbox.specs.ChannelQueue.{InQueue, kept, keys_by}

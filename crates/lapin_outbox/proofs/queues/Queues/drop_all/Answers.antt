@@ -1,6 +1,6 @@
 -- A publish is dropped where nothing stands before it.
 use Rattle.std.proofs.Common.{Some, map, drop, sym, ◌∙◌, ap, slice_get}
-use Rattle.lapin_history.specs.Leaving.{Lists}
+use Rattle.lapin_rules.specs.Leaving.{Lists}
 use Rattle.lapin_outbox.specs.Entries.{entry_of, rest_in}
 use Rattle.lapin_outbox.specs.Outgoing.{InQueues, has_entries}
 use Rattle.lapin_outbox.specs.Drops.{all_entries, without_entry}

@@ -1,11 +1,11 @@
 -- A method or a publish is dropped where nothing of the channel stands before it.
 use Rattle.std.proofs.Common.{Some, map, refl, sym, ◌∙◌, ap, slice_get}
 use Rattle.std.specs.Option.{option_map}
-use Rattle.lapin_history.specs.Leaving.{Lists}
+use Rattle.lapin_rules.specs.Leaving.{Lists}
 use Rattle.lapin_outbox.specs.Entries.{entry_of, rest_in}
 use Rattle.lapin_outbox.specs.Outgoing.{InQueues}
 use Rattle.lapin_outbox.specs.Drops.{told_publish, entries_of, without_entry_of}
-use Rattle.lapin_history.specs.Drops.{is_on, method_channel}
+use Rattle.lapin_rules.specs.Drops.{is_on, method_channel}
 use Rattle.lapin_outbox.proofs.Dropping.{waiting_channel, rest-stays, method-told, method-left, publish-told, publish-left, map-find, map-without, none-without, lists-are}
 use Rattle.lapin_outbox.proofs.queues.Queues.drop_channel.Goals as goal
 

@@ -1,9 +1,9 @@
 use Rattle.std.proofs.Common.{Some, sym, ◌∙◌, ap, slice_get}
 use Rattle.std.specs.Option.{option_map}
-use Rattle.lapin_history.specs.Leaving.{Lists}
+use Rattle.lapin_rules.specs.Leaving.{Lists}
 use Rattle.lapin_outbox.specs.Outgoing.{InQueues}
 use Rattle.lapin_outbox.specs.Drops.{told_publish, unbegun_of}
-use Rattle.lapin_history.specs.Drops.{is_on, publish_channel}
+use Rattle.lapin_rules.specs.Drops.{is_on, publish_channel}
 use Rattle.lapin_outbox.proofs.Dropping.{first-told}
 use Rattle.lapin_outbox.proofs.queues.Queues.drop_unbegun.Goals as goal
 

@@ -1,6 +1,6 @@
 use Rattle.std.proofs.Common.{sym, ◌∙◌, ap}
 use Rattle.std.specs.Option.{option_copied}
-use Rattle.lapin_history.specs.Requests.{first_request}
+use Rattle.lapin_rules.specs.Requests.{first_request}
 use Rattle.lapin_outbox.proofs.Waiting.{waiting-is, requests-found, requests-absent}
 use Rattle.lapin_outbox.proofs.replies.Replies.first.Goals as goal
 

@@ -1,7 +1,7 @@
 use Rattle.std.proofs.Common.{sym, ◌∙◌, ap}
 use Rattle.std.specs.Option.{option_copied_mut}
-use Rattle.lapin_history.specs.Words.{without_first}
-use Rattle.lapin_history.specs.Requests.{first_request, is_kind}
+use Rattle.lapin_rules.specs.Words.{without_first}
+use Rattle.lapin_rules.specs.Requests.{first_request, is_kind}
 use Rattle.lapin_outbox.proofs.Waiting.{waiting-is, requests-found, requests-absent, written, kept, on-some, if-none}
 use Rattle.lapin_outbox.proofs.Rooms.{room-kept}
 use Rattle.lapin_outbox.proofs.replies.Replies.take_first.Goals as goal

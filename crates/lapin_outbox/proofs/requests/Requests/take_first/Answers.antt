@@ -2,10 +2,10 @@
 use Rattle.std.proofs.Common.{◌≡◌, ℕ, Bool, List, Option, Some, None, IfNone, sym, ◌∙◌, ap}
 use Rattle.std.specs.List.{find}
 use Rattle.lapin_types.specs.Requests.{kind_of}
-use Rattle.lapin_history.specs.Drops.{is_on}
+use Rattle.lapin_rules.specs.Drops.{is_on}
 use Rattle.lapin_outbox.specs.KindNumbers.{kind_number}
-use Rattle.lapin_history.specs.Words.{without_first}
-use Rattle.lapin_history.specs.Requests.{is_kind}
+use Rattle.lapin_rules.specs.Words.{without_first}
+use Rattle.lapin_rules.specs.Requests.{is_kind}
 use Rattle.lapin_types.specs.declared.request.Request.{Request}
 use Rattle.lapin_outbox.specs.Open.{OpenOnChannel}
 use Rattle.lapin_outbox.proofs.Dropping.{none-without}

@@ -1,5 +1,5 @@
 use Rattle.std.proofs.Common.{◌∙◌, [], false, map, refl, ap}
-use Rattle.lapin_joint.specs.Kept.{Kept}
+use Rattle.lapin_joint.specs.JoinedRun.{JoinedRun}
 use Rattle.lapin_resend.specs.declared.publisher.Publisher as code
 use Rattle.lapin_resend.specs.Follows.{standing, place}
 use Rattle.lapin_resend.specs.Publisher.{tended}
@@ -15,7 +15,7 @@ returns c =
     let begins : FollowsBut c.args.frame_max [] no_publisher first = record {
       follows = record {
         joined = c.in_ok-new.ensures.stands;
-        running = ap (λ (k : Kept). k.stopped) c.in_ok-new.ensures.made;
+        running = ap (λ (k : JoinedRun). k.stopped) c.in_ok-new.ensures.made;
         messages = ap (map standing) c.new-2.ensures.items;
         selects = refl;
       };

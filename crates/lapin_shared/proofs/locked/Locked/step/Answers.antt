@@ -1,8 +1,8 @@
 use Rattle.std.proofs.Common.{rules, ◌≡◌, ◌+◌, ◌<◌, ◌^◌, length, arith, sym, ◌∙◌, subst}
-use Rattle.lapin_history.specs.History.{rec}
+use Rattle.lapin_rules.specs.History.{rec}
 use Rattle.lapin_machine.specs.World.{told_by}
 use Rattle.lapin_shared.specs.Lawful.{history_of}
-use Rattle.lapin_shared.specs.Kept.{Kept}
+use Rattle.lapin_shared.specs.UnderLock.{UnderLock}
 use Rattle.lapin_shared.proofs.Keeping.{kept_numbers, kept_step}
 use Rattle.lapin_shared.proofs.locked.Locked.step.Goals as goal
 
@@ -23,4 +23,4 @@ invariant_of-self-2 g c =
 pub returns-clause-machine : goal.returns-clause-machine
 returns-clause-machine g c =
     let stood = c.in-Ok-step_session.ensures.stands c.self.inside.frame_max (history_of c.self.inside.history.items) c.self.invariant.stands in
-    subst (λ (k : Kept). rec k.frame_max (history_of k.entries) c.args.event ≡ told_by k.world c.args.event) c.self.view_is (sym stood.0 ∙ c.in-Ok-step_session.ensures.told)
+    subst (λ (k : UnderLock). rec k.frame_max (history_of k.entries) c.args.event ≡ told_by k.world c.args.event) c.self.view_is (sym stood.0 ∙ c.in-Ok-step_session.ensures.told)

@@ -1,5 +1,0 @@
-use Rattle.lapin_crossing.proofs.Types.{event_sync}
-use Rattle.lapin_crossing.proofs.laws.events_may_be_shared.Goals as goal
-
-pub returns : goal.returns
-returns c = event_sync

@@ -1,5 +1,0 @@
-use Rattle.lapin_history.proofs.Runs.{length-run}
-use Rattle.lapin_history.proofs.laws.one_record_an_event.Goals as goal
-
-pub returns : goal.returns
-returns c = length-run

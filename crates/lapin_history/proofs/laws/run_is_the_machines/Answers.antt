@@ -1,5 +1,0 @@
-use Rattle.lapin_history.proofs.Runs.{machines-run}
-use Rattle.lapin_history.proofs.laws.run_is_the_machines.Goals as goal
-
-pub returns : goal.returns
-returns c = machines-run

@@ -1,0 +1,140 @@
+//! Closes of this side: the errors that they resolve with, and the methods that the session queues itself.
+//!
+//! The definitions stand in `specs/`, with the rules of channel and connection closes, of settlements and of unexpected frames.
+//! The session asks here.
+
+ghost use Rattle.std.specs.Prelude.{◌≡◌, IfOk};
+ghost use Rattle.lapin_rules.specs.ChannelClose.{failed_at_close as failed_at_close_lem, failed_at_close_ok as failed_at_close_ok_lem, close_ok_end as close_ok_end_lem, consumers_end as consumers_end_lem, after_broker_close as after_broker_close_lem, has_sent_close as has_sent_close_lem, close_sent as close_sent_lem};
+ghost use Rattle.lapin_rules.specs.ConnectionClose.{link_close_sent as link_close_sent_lem};
+ghost use Rattle.lapin_rules.specs.Settlement.{settle_method as settle_method_lem, session_close as session_close_lem};
+ghost use Rattle.lapin_rules.specs.Unexpected.{unexpected_close as unexpected_close_lem};
+
+use crate::marks::SettleKind;
+use crate::phases::{ChannelPhase, Closer, ConnectionPhase};
+use lapin_types::{
+    ChannelMethod, ChannelState, ConnectionMethod, Error, Method, NoMemory, ShortString,
+};
+use std::alloc::Global;
+
+/// What a publish that has not begun is resolved with as this side closes its channel.
+pub fn failed_at_close(closer: Closer) -> Error
+    ensures { result ≡ failed_at_close_lem closer }
+{
+    match closer {
+        Closer::Application => Error::InvalidChannelState(ChannelState::Closing),
+        Closer::Session => Error::ProtocolError(406),
+    }
+}
+
+/// What is unresolved is resolved with as the broker's close-ok ends the opening.
+pub fn failed_at_close_ok(closer: Closer) -> Error
+    ensures { result ≡ failed_at_close_ok_lem closer }
+{
+    match closer {
+        Closer::Application => Error::InvalidChannelState(ChannelState::Closed),
+        Closer::Session => Error::ProtocolError(406),
+    }
+}
+
+/// The error with which `channel.close-ok` ends an opening; `None` where a crossed close ended it before.
+pub fn close_ok_end(phase: ChannelPhase) -> Option<Error>
+    ensures { result ≡ close_ok_end_lem phase }
+{
+    match phase {
+        ChannelPhase::Closing { closer, .. } => Some(failed_at_close_ok(closer)),
+        _ => None,
+    }
+}
+
+/// The error that the consumers of a channel get before their end as `channel.close-ok` ends the opening: none where the
+/// application closed it.
+pub fn consumers_end(phase: ChannelPhase) -> Option<Error>
+    ensures { result ≡ consumers_end_lem phase }
+{
+    match phase {
+        ChannelPhase::Closing {
+            closer: Closer::Session,
+            ..
+        } => Some(Error::ProtocolError(406)),
+        _ => None,
+    }
+}
+
+/// Where a channel stands once the broker's `channel.close` came.
+pub fn after_broker_close(phase: ChannelPhase) -> ChannelPhase
+    ensures { result ≡ after_broker_close_lem phase }
+{
+    match phase {
+        ChannelPhase::Closing { sent: true, .. } => ChannelPhase::Crossed,
+        _ => ChannelPhase::Closed,
+    }
+}
+
+/// Whether a channel is closing and this side's `channel.close` has left.
+pub fn has_sent_close(phase: ChannelPhase) -> bool
+    ensures { result ≡ has_sent_close_lem phase }
+{
+    matches!(phase, ChannelPhase::Closing { sent: true, .. })
+}
+
+/// Where a channel stands once this side's `channel.close` left.
+pub fn close_sent(phase: ChannelPhase) -> ChannelPhase
+    ensures { result ≡ close_sent_lem phase }
+{
+    match phase {
+        ChannelPhase::Closing { closer, .. } => ChannelPhase::Closing { closer, sent: true },
+        phase => phase,
+    }
+}
+
+/// Where the connection stands once this side's `connection.close` left.
+pub fn link_close_sent(link: ConnectionPhase) -> ConnectionPhase
+    ensures { result ≡ link_close_sent_lem link }
+{
+    match link {
+        ConnectionPhase::Closing { received, .. } => ConnectionPhase::Closing {
+            sent: true,
+            received,
+        },
+        link => link,
+    }
+}
+
+/// The close of a channel on which a single settlement named a tag that is not pending.
+pub fn session_close(alloc: Global, kind: SettleKind) -> Result<Method, NoMemory>
+    ensures { IfOk result (λ m. m ≡ session_close_lem kind) }
+{
+    let Ok(reply_text) = ShortString::new(alloc, "PRECONDITION_FAILED") else {
+        return Err(NoMemory);
+    };
+    Ok(Method::Channel(ChannelMethod::Close {
+        reply_code: 406,
+        reply_text,
+        class_id: 60,
+        method_id: settle_method(kind),
+    }))
+}
+
+/// The close of the connection on which a frame of this class and method was not received.
+pub fn unexpected_close(alloc: Global, class: u16, number: u16) -> Result<Method, NoMemory>
+    ensures { IfOk result (λ m. m ≡ unexpected_close_lem class number) }
+{
+    let Ok(reply_text) = ShortString::new(alloc, "UNEXPECTED_FRAME") else {
+        return Err(NoMemory);
+    };
+    Ok(Method::Connection(ConnectionMethod::Close {
+        reply_code: 505,
+        reply_text,
+        class_id: class,
+        method_id: number,
+    }))
+}
+
+fn settle_method(kind: SettleKind) -> u16
+    ensures { result ≡ settle_method_lem kind }
+{
+    match kind {
+        SettleKind::Ack => 80,
+        SettleKind::Nack => 120,
+    }
+}
