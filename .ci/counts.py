@@ -1,6 +1,9 @@
-"""Hands on what the gate prints, a line behind, and puts before its last line what was done in this run and what was kept."""
+"""Hands on what the gate prints, a line behind, and puts before its last line what was done in this run and what was kept, and what
+the run took."""
+import os
 import re
 import sys
+import time
 
 # The kit's own words at the end, where all is well and not all was done in this run.
 SHARE = re.compile(r"done in this run: (\d+) of the (\d+) proofs")
@@ -41,8 +44,23 @@ class Counts:
         )
 
 
+def processor_seconds():
+    """What all processors of the machine have worked since it began, if it tells."""
+    try:
+        ticks = open("/proc/stat", encoding="ascii").readline().split()[1:4]
+    except OSError:
+        return None
+    return sum(map(int, ticks)) / os.sysconf("SC_CLK_TCK")
+
+
+def took(begun, worked):
+    """What the run took: by the clock, and of the machine's processors, with all else that they did meanwhile."""
+    told = f"gate: {(time.time() - begun) / 60:.1f} minutes by the clock"
+    return told if worked is None else told + f", {(processor_seconds() - worked) / 60:.1f} processor minutes of this machine"
+
+
 def main():
-    counts, last = Counts(), None
+    counts, last, begun, worked = Counts(), None, time.time(), processor_seconds()
     sys.stdin.reconfigure(errors="replace")
     sys.stdout.reconfigure(errors="replace")
     for line in iter(sys.stdin.readline, ""):
@@ -51,6 +69,7 @@ def main():
         last = line.rstrip("\n")
         counts.read(last)
     print(counts.told())
+    print(took(begun, worked))
     print(last if last is not None else "0 passed, 1 failed", flush=True)
 
 

@@ -2,11 +2,13 @@
 """Writes what is made from the code's tables of methods, so that nobody has to keep it in step by hand.
 
 The tables stand in `crates/lapin_method_text/src/`, one a class; which methods a caller may call stands in
-`crates/lapin_text/src/queued.rt`. Made from them is the section "Methods" of `docs/FORMAT.md`.
+`crates/lapin_text/src/queued.rt`. Made from them is the section "Methods" of `docs/FORMAT.md`; and from the names of methods the
+table by which a name finds its method at once: `PLACES` of `kinds.rt`, with the factors of a name's slot, there and in `Slots.antt`.
 
     bench/method_tables.py            writes it
     bench/method_tables.py --check    says what is out of step, and ends with status 1 where something is
 """
+import itertools
 import os
 import re
 import sys
@@ -14,6 +16,11 @@ import sys
 TOP = os.path.dirname(os.path.dirname(os.path.abspath(__file__)))
 CLASSES = ["connection", "channel", "access", "exchange", "queue", "basic", "confirm", "tx"]
 FORMAT = f"{TOP}/docs/FORMAT.md"
+KINDS_FILE = f"{TOP}/crates/lapin_method_text/src/kinds.rt"
+SLOTS_FILE = f"{TOP}/crates/lapin_method_text/specs/Slots.antt"
+
+# A slot in the code: its factors, and the size of the table.
+SLOT = r"\((\d+) \* name\.len\(\) \+ (\d+) \* ends \+ (\d+) \* \(name\[name\.len\(\) - 5\] as usize\)\) % (\d+)"
 
 # What a kind of field is called in the format.
 KINDS = {"text": "STR", "table": "TABLE", "flag": "BOOL", "short": "u16", "long": "u32", "wide": "u64"}
@@ -59,13 +66,72 @@ def in_format(found):
     return "\n".join(lines) + "\n\n"
 
 
+def slot(name, factors):
+    """The slot of a name, as `slot_of` in `kinds.rt` has it: from its length, its fourth byte, its last and the fifth from the end."""
+    by_length, by_ends, by_fifth, size = factors
+    text = name.encode()
+    return (by_length * len(text) + by_ends * (text[3] + text[-1]) + by_fifth * text[-5]) % size
+
+
+def kinds():
+    """The names of the methods in the order of `KINDS`."""
+    text = open(KINDS_FILE, encoding="utf-8").read()
+    names = {}
+    for one, body in re.findall(r"fn name_of_(\w+)\(kind: \w+\).*?match kind \{\n(.*?)\n    \}", text, re.S):
+        for enum, variant, name in re.findall(r'(\w+)::(\w+) => b"([a-z.-]+)"', body):
+            names[enum, variant] = name
+    listed = text[text.index("pub const KINDS:") : text.index("fn name_of_connection")]
+    return [names[pair] for pair in re.findall(r"MethodKind::\w+\((\w+)::(\w+)\)", listed)]
+
+
+def factors_for(names, now):
+    """Factors and a size of the table by which no two names share a slot: those that stand, or the first others."""
+    others = (found[1:] + found[:1] for found in itertools.product((128, 256, 512), *[range(1, 40)] * 3))
+    for factors in itertools.chain([now], others):
+        if len({slot(name, factors) for name in names}) == len(names):
+            return factors
+    sys.exit("no factors give each name a slot of its own: a slot has to be made of other bytes too")
+
+
+def in_kinds(text, names, factors):
+    """`kinds.rt` with its table of places and its factors."""
+    size = factors[3]
+    places = [len(names)] * size
+    for place, name in enumerate(names):
+        places[slot(name, factors)] = place
+    rows, row = [], "   "
+    for place in places:
+        if len(row) + len(f" {place},") > 99:
+            rows.append(row)
+            row = "   "
+        row += f" {place},"
+    table = f"pub const PLACES: [u8; {size}] = [\n" + "\n".join(rows + [row]) + "\n];"
+    text = re.sub(r"pub const PLACES: \[u8; \d+\] = \[.*?\];", table, text, flags=re.S)
+    return re.sub(SLOT, "(%d * name.len() + %d * ends + %d * (name[name.len() - 5] as usize)) %% %d" % factors, text)
+
+
+def in_slots(text, factors):
+    """`Slots.antt` with the factors."""
+    text = re.sub(r"below \d+, made", f"below {factors[3]}, made", text)
+    line = "slot name = (%d * length name + %d * (slice_index name 3 + slice_index name (length name - 1)) + %d * slice_index name (length name - 5)) %% %d"
+    return re.sub(r"slot name = .*", line % factors, text)
+
+
 def made():
     """What each file should be."""
     found = methods()
+    names = kinds()
+    old_kinds, old_slots = (open(path, encoding="utf-8").read() for path in (KINDS_FILE, SLOTS_FILE))
+    now = tuple(int(one) for one in re.search(SLOT, old_kinds).groups())
+    factors = factors_for(names, now)
     text = open(FORMAT, encoding="utf-8").read()
     start = text.find("## Methods\n")
     end = text.index("## Input\n")
-    return {FORMAT: text[: start if start >= 0 else end] + in_format(found) + text[end:]}
+    return {
+        FORMAT: text[: start if start >= 0 else end] + in_format(found) + text[end:],
+        KINDS_FILE: in_kinds(old_kinds, names, factors),
+        SLOTS_FILE: in_slots(old_slots, factors),
+    }
 
 
 def main(words):

@@ -9,6 +9,9 @@ smaller one of the same kind, by the events that the larger one has more. They d
 Time is user and system time, the least of some runs, as a slope between the same inputs. Memory is the most that the
 process held on the larger input, in all.
 
+A row of the third table is what a session holds by the end for each turn of its input: the memory of the process while it waits to
+write its last output, without the input, as a slope between two sizes.
+
     bench/run.py [--program PATH] [--repeat N] [--only WORD] [--growth] [--no-valgrind]
 """
 import argparse
@@ -17,6 +20,7 @@ import re
 import subprocess
 import sys
 import tempfile
+import time
 
 FRAME_MAX = 131072
 FIRST_LINE = f"frame_max {FRAME_MAX}"
@@ -158,6 +162,92 @@ def returns(count, length):
         yield from settled(1, number, number)
 
 
+def channels(count):
+    """Channels that are opened, each with its ticket polled."""
+    for channel in range(1, count + 1):
+        yield f"call {channel} channel.open"
+        yield "next 1"
+        yield f"recv method {channel} channel.open-ok"
+        yield f"ticket {channel}"
+
+
+def name(kind, number):
+    """A name: those of one kind come in no order of their bytes."""
+    return "x" + f"{kind}{number * 7919 % 100003:06d}".encode().hex()
+
+
+def consumes(first, last):
+    for number in range(first, last + 1):
+        yield f"call 1 basic.consume x71 {name('t', number)} 0 0 0 1 {{}}"
+        yield "next 1"
+
+
+def started(count, others):
+    """Starts of consumers on a channel that has as many others."""
+    yield from opened(1)
+    yield from consumes(1, others + count)
+
+
+def canceled(count, others):
+    """Starts of consumers among others, each with its cancel."""
+    yield from opened(1)
+    yield from consumes(1, others)
+    for number in range(others + 1, others + count + 1):
+        yield from consumes(number, number)
+        yield f"call 1 basic.cancel {name('t', number)} 1"
+        yield "next 1"
+
+
+def strangers(count, others):
+    """Deliveries under tags that are nobody's."""
+    yield from opened(1)
+    yield from consumes(1, others)
+    for number in range(1, count + 1):
+        yield f"recv method 1 basic.deliver {name('u', number)} {number} 0 x65 x6b"
+        yield "recv header 1 60 0 []"
+
+
+def declares(first, last):
+    for number in range(first, last + 1):
+        yield f"call 1 queue.declare {name('q', number)} 0 0 0 0 1 {{}}"
+        yield "next 1"
+
+
+def declared(count, others):
+    yield from opened(1)
+    yield from declares(1, others + count)
+
+
+def bound(count, others):
+    """Bindings of queues, each of another one, among as many that are declared."""
+    yield from opened(1)
+    yield from declares(1, others)
+    for number in range(1, count + 1):
+        yield f"call 1 queue.bind {name('q', number % others + 1)} x65 x6b 1 {{}}"
+        yield "next 1"
+
+
+def unpolled(count, polled_from):
+    """Publishes that are settled, their confirms polled, and their tickets from one of them on."""
+    yield from opened(1)
+    for number in range(1, count + 1):
+        yield from publish(1)
+        yield from settled(1, number, number)
+        if number >= polled_from:
+            yield f"ticket {number + 2}"
+
+
+def acked(count):
+    """Deliveries for one consumer, each polled and acked, and the ticket of the ack polled."""
+    number = 0
+    for line in deliveries(count, 1):
+        yield line
+        if line.startswith("acker"):
+            number += 1
+        elif number and line == "next 1":
+            yield f"ticket {number + 3}"
+
+
 def transcript(count, window=0, multiple=1):
     """What a broker read and sent: publishes, each settled once `window` others came after it, `multiple` by one settlement."""
     yield "up method 1 channel.open"
@@ -223,6 +313,26 @@ GROWTH = [
 ] + [
     (f"messages sent and stored by resend, {few:,} to {many:,} steps", resent, few // 7, many // 7, ["resend"])
     for few, many in [(5_000, 10_000), (50_000, 100_000)]
+] + [
+    (f"{name_of} {others:,}", lambda n, make=make, others=others: make(n, others), few, many)
+    for name_of, make, sizes, few, many in [
+        ("start of a consumer among", started, (10, 500, 5_000), 100, 500),
+        ("start and cancel of a consumer among", canceled, (10, 500, 4_000), 100, 500),
+        ("delivery under nobody's tag beside", strangers, (10, 500, 4_000), 100, 1_000),
+        ("declare of a queue among", declared, (10, 500, 4_000), 100, 500),
+        ("binding of a queue among", bound, (10, 500, 4_000), 100, 600),
+    ]
+    for others in sizes
+] + [
+    ("open a channel, and poll", channels, 1_000, 6_000),
+]
+
+# What is held by the end for each turn: its name, its input of so many turns, and the turns of the smaller and of the larger one.
+HELD = [
+    ("publishes whose tickets nobody polls", lambda n: unpolled(n, n + 1), 30_000, 150_000),
+    ("publishes of which the first ticket nobody polls", lambda n: unpolled(n, 2), 30_000, 120_000),
+    ("deliveries that were acked", acked, 20_000, 70_000),
+    ("channels that are open", channels, 10_000, 60_000),
 ]
 
 
@@ -268,6 +378,37 @@ def peak(command, path):
     return 1024 * int(run(["/usr/bin/time", "-f", "%M", *command], path).split()[-1])
 
 
+def waiting(command, path):
+    """What the process holds, in bytes, while it waits to write its last output, less the input."""
+    with open(path, "rb") as source:
+        written = len(subprocess.run(command, stdin=source, stdout=subprocess.PIPE, check=True).stdout)
+    with open(path, "rb") as source, subprocess.Popen(command, stdin=source, stdout=subprocess.PIPE) as process:
+        # A pipe takes 65,536 bytes, and the program writes as many at once.
+        left = written - 2 * 65_536
+        while left > 0:
+            left -= len(process.stdout.read(min(left, 65_536)))
+        told = None
+        while True:
+            with open(f"/proc/{process.pid}/status", encoding="utf-8") as status:
+                now = int(re.search(r"VmRSS:\s+(\d+)", status.read())[1])
+            if now == told:
+                break
+            told = now
+            time.sleep(0.2)
+        process.stdout.read()
+    return 1024 * told - os.path.getsize(path)
+
+
+def held_row(program, folder, workload):
+    name_of, make, few, many = workload
+    small, large = os.path.join(folder, "small"), os.path.join(folder, "large")
+    write_input(small, make(few))
+    write_input(large, make(many))
+    command = [program, "session"]
+    each = (waiting(command, large) - waiting(command, small)) / (many - few)
+    return f"| {name_of} | {few:,} to {many:,} | {each:,.1f} |"
+
+
 def row(program, folder, repeat, counted, workload):
     name, make, few, many, *words = workload
     command = [program, *(words[0] if words else ["session"])]
@@ -299,6 +440,13 @@ def main():
         for workload in WORKLOADS + (GROWTH if given.growth else []):
             if given.only in workload[0]:
                 print(row(given.program, folder, given.repeat, not given.no_valgrind, workload), flush=True)
+        if not given.growth:
+            return
+        print("\n| held by the end | turns | bytes a turn |")
+        print("|---|---|---|")
+        for workload in HELD:
+            if given.only in workload[0]:
+                print(held_row(given.program, folder, workload), flush=True)
 
 
 if __name__ == "__main__":

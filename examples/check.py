@@ -16,10 +16,10 @@ HERE = os.path.dirname(os.path.abspath(__file__))
 TOP = os.path.dirname(HERE)
 TABLES = {
     "session": ["lapin_tests/src/examples.rt", "lapin_tests/src/tutorials.rt"],
-    "joined": ["lapin_joined_tests/src/examples.rt"],
-    "check": ["lapin_check_tests/src/examples.rt"],
-    "resend": ["lapin_resend_tests/src/examples.rt"],
-    "call replies": ["lapin_call_tests/src/examples.rt"],
+    "joined": ["lapin_command_tests/src/joined/examples.rt"],
+    "check": ["lapin_command_tests/src/check/examples.rt"],
+    "resend": ["lapin_command_tests/src/resend/examples.rt"],
+    "call replies": ["lapin_command_tests/src/calls/examples.rt"],
     "pool 1": ["lapin_pool_tests/src/examples.rt"],
 }
 PROGRAM = os.path.join(TOP, "crates", "lapin_run", "out", "lapin_run")

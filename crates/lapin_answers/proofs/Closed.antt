@@ -133,7 +133,7 @@ module _ (n : ℕ) (big : 4096 ≤ n) (k : ℕ) (ss : List Step) (f : Frame) (fs
 
 -- ---- the marks of a close-ok
 
-is_close_ok : (c : ℕ) (i : Incoming) → is_close_ok_in c (Some i) ≡ true → i ≡ incoming.ChannelCloseOk c
+pub is_close_ok : (c : ℕ) (i : Incoming) → is_close_ok_in c (Some i) ≡ true → i ≡ incoming.ChannelCloseOk c
 is_close_ok c (incoming.ChannelCloseOk d) h = elim (eqb_tells d c) [ inl y ↦ ap incoming.ChannelCloseOk y.1 | inr n ↦ let w : false ≡ true = sym n.0 ∙ h in absurd cc ]
 is_close_ok c _ h = absurd cc
 
@@ -157,7 +157,7 @@ ok_heard c class number b readings r = (elim (is_up b.link) as (λ v. is_up b.li
   | false ↦ λ _ f. subst (OkComes c b) (ap (λ w. cond w record_.Received record_.Passed) (sym (ok_down c b.link))) (inr refl)
 ]) refl r
 
-either : (n : ℕ) (xs ys : List TicketMark) (y : Result Answer Error) → Answers n (xs ++ ys) y → Answers n xs y ⊎ Answers n ys y
+pub either : (n : ℕ) (xs ys : List TicketMark) (y : Result Answer Error) → Answers n (xs ++ ys) y → Answers n xs y ⊎ Answers n ys y
 either n xs ys y a =
     let both = answers-append n a.channel a.leaving a.begun xs ys in
     by (first_answer n a.channel a.leaving a.begun xs) refl both.0 (sym both.1 ∙ a.is)
@@ -166,18 +166,18 @@ either n xs ys y a =
     by None e v t = inr (record { channel = a.channel; leaving = a.leaving; begun = v; is = ap (λ o. option_or o (first_answer n a.channel a.leaving v ys)) (sym e) ∙ t })
     by (Some z) e v t = inl (record { channel = a.channel; leaving = a.leaving; begun = a.begun; is = e ∙ (ap (λ o. option_or o (first_answer n a.channel a.leaving v ys)) (sym e) ∙ t) })
 
-no_gives : (xs ys : List TicketMark) → list_any gives xs ≡ false → list_any gives ys ≡ false → list_any gives (xs ++ ys) ≡ false
+pub no_gives : (xs ys : List TicketMark) → list_any gives xs ≡ false → list_any gives ys ≡ false → list_any gives (xs ++ ys) ≡ false
 no_gives xs ys a d = list_any-append gives xs ys ∙ (ap (λ v. v || list_any gives ys) a ∙ d)
 
-done_gives : (rs : List Request) → list_any gives (done_with rs) ≡ false
+pub done_gives : (rs : List Request) → list_any gives (done_with rs) ≡ false
 done_gives [] = refl
 done_gives (r ∷ rs) = no_gives (resolved_with (Ok answer.Done) r.ticket) (done_with rs) (resolved_gives r.ticket (Ok answer.Done)) (done_gives rs)
 
-end_gives : (c : ℕ) (e : Option Error) (b : Wire) → list_any gives (end_tickets c e b) ≡ false
+pub end_gives : (c : ℕ) (e : Option Error) (b : Wire) → list_any gives (end_tickets c e b) ≡ false
 end_gives c None b = refl
 end_gives c (Some e) b = no_gives (cancels_done c b) (ticket.OpeningFailed c None e ∷ []) (done_gives (filter (is_kind reply_kind.BasicCancelOk) (requests_of c b))) refl
 
-done_is : (n : ℕ) (rs : List Request) (y : Result Answer Error) → Answers n (done_with rs) y → list_any (λ (r : Request). is_ticket n r.ticket) rs ≡ true
+pub done_is : (n : ℕ) (rs : List Request) (y : Result Answer Error) → Answers n (done_with rs) y → list_any (λ (r : Request). is_ticket n r.ticket) rs ≡ true
 done_is n [] y a = absurd (none_answers n y a)
 done_is n (r ∷ rs) y a = elim (either n (resolved_with (Ok answer.Done) r.ticket) (done_with rs) y a) [
   | inl s ↦ (let t : is_ticket n r.ticket ≡ true = ap (is_ticket n) (resolved_is n r.ticket (Ok answer.Done) y s).0 ∙ eq-eqb n n refl in ap (λ v. v || list_any (λ (r : Request). is_ticket n r.ticket) rs) t)

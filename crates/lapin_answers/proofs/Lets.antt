@@ -106,7 +106,7 @@ open_leaves c ls (Some l) h = handed-more c ls l ∙ by (channel_of l.frame == c
 
 -- ---- the request
 
-sent_requests : (o : Option Left) (b : Wire) → (sent o b).requests ≡ b.requests
+pub sent_requests : (o : Option Left) (b : Wire) → (sent o b).requests ≡ b.requests
 sent_requests None b = refl
 sent_requests (Some l) b = refl
 

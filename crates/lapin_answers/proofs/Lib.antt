@@ -27,4 +27,13 @@ pub mod Closed
 pub mod Ending
 pub mod EndOks
 pub mod Ended
+pub mod OneKind
+pub mod OpenMoves
+pub mod OpenStands
+pub mod OpenOks
+pub mod Ticketed
+pub mod Cancels
+pub mod Causes
+pub mod Awaited
+pub mod OneCause
 pub mod Whole

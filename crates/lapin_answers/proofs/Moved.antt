@@ -69,9 +69,10 @@ use Rattle.lapin_answers.proofs.Shuts.{close_requests, waiting_closes, shuts, as
 use Rattle.lapin_answers.proofs.Moving.{Moves, Stays, Passes, Breaks, Ends, Closes, Uncrosses, Falls, is_crossed_at, place_of, place_in, is_close_ok_in, place_up, place_down, place_here, place_away, open_is, call_move, acker_move, let_go_move}
 use Rattle.lapin_answers.proofs.Turns.{At, entry}
 
--- no frame is sorted as a reply that is close-ok
+-- no frame is sorted as a reply that is a close-ok, of a channel or of the connection
 abbrev pub is_plain : Incoming → Bool
 is_plain (incoming.Reply d reply_kind.ChannelCloseOk a) = false
+is_plain (incoming.Reply d reply_kind.ConnectionCloseOk a) = false
 is_plain _ = true
 
 abbrev note : ℕ → Method → MethodEntry
@@ -129,7 +130,7 @@ module _ (c : ℕ) (e : Event) (x : Record) (class number : ℕ) where
 
   closed_reply : (d : ℕ) (k : ReplyKind) (a : Answer) (b : Wire) → is_plain (incoming.Reply d k a) ≡ true → opens k ≡ false → is_asked k ≡ false → Hears c e x b (incoming.Reply d k a) record_.Received
   closed_reply d reply_kind.ChannelCloseOk a b p o k = absurd cc
-  closed_reply d reply_kind.ConnectionCloseOk a b p o k = Stays refl refl (shut_without c d reply_kind.ConnectionCloseOk b.requests refl) refl
+  closed_reply d reply_kind.ConnectionCloseOk a b p o k = absurd cc
   closed_reply d reply_kind.ChannelOpenOk a b p o k = absurd cc
   closed_reply d _ a b p o k = absurd cc
 
@@ -370,7 +371,7 @@ plain_tx c _ = refl
 plain_own : (c : ℕ) (i : Incoming) → is_plain i ≡ true → is_plain (on_connection c i) ≡ true
 plain_own c i h = elim (c == 0) as (λ v. is_plain (cond v i incoming.Other) ≡ true) [ true ↦ h | false ↦ refl ]
 
-plain_frame : (f : Frame) → is_plain (incoming_of f) ≡ true
+pub plain_frame : (f : Frame) → is_plain (incoming_of f) ≡ true
 plain_frame (frame.Header c h) = refl
 plain_frame (frame.Body c bytes) = refl
 plain_frame (frame.Method c (method.Connection (connection.Close code text class number))) = plain_own c (incoming.ConnectionClose code) refl

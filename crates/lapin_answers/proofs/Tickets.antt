@@ -14,7 +14,7 @@ use Rattle.lapin_verdicts.proofs.Turns.{life-append}
 
 -- ---- lists
 
-one-append : {X : Type 0} (p : X → Bool) (n : ℕ) (xs ys : List X) → n < many p xs → one_after p n (xs ++ ys) ≡ one_after p n xs
+pub one-append : {X : Type 0} (p : X → Bool) (n : ℕ) (xs ys : List X) → n < many p xs → one_after p n (xs ++ ys) ≡ one_after p n xs
 one-append p n [] ys h = let z : ⊥ = omega (arith, h) in absurd z
 one-append p zero (x ∷ xs) ys h = elim (p x) as (λ b. zero < cond b (many p xs + 1) (many p xs) → cond b (Some x) (one_after p zero (xs ++ ys)) ≡ cond b (Some x) (one_after p zero xs)) [ true ↦ λ _. refl | false ↦ λ e. one-append p zero xs ys e ] h
 one-append p (suc n) (x ∷ xs) ys h = elim (p x) as (λ b. suc n < cond b (many p xs + 1) (many p xs) → cond b (one_after p n (xs ++ ys)) (one_after p (suc n) (xs ++ ys)) ≡ cond b (one_after p n xs) (one_after p (suc n) xs)) [ true ↦ λ e. one-append p n xs ys (omega (arith, e)) | false ↦ λ e. one-append p (suc n) xs ys e ] h

@@ -18,10 +18,14 @@ use Rattle.lapin_verdicts.proofs.Whole.{whole}
 use Rattle.lapin_verdicts.proofs.Called.{leaves_where_called}
 use Rattle.lapin_messages.proofs.Laws.{logs_sent, logs_carried}
 use Rattle.lapin_answers.specs.Truth.{ConfirmsAreVerdicts, IsTrue}
+use Rattle.lapin_answers.proofs.Awaited.{awaited}
 use Rattle.lapin_answers.proofs.Closed.{closed}
 use Rattle.lapin_answers.proofs.Ended.{ended}
 use Rattle.lapin_answers.proofs.Replying.{replied}
 use Rattle.lapin_answers.proofs.GetAnswer.{got_message_is}
+use Rattle.lapin_answers.proofs.OpenOks.{opened}
+use Rattle.lapin_answers.proofs.Causes.{resolved}
+use Rattle.lapin_answers.proofs.OneCause.{unwaited, closes_by_ok, ends_by_ok}
 
 -- ---- a publish that was settled has left
 
@@ -73,8 +77,14 @@ all_true n big ss = record {
   apart = λ k l t. tags_in n ss k l t;
   replies = λ k a f fs down r was now. replied n big k ss f fs (Ok a) down r was now;
   gets = λ k message was now. got_message_is n big k ss message was now;
+  opens = λ k a f fs down ok was now. opened n big ss k a f fs down ok was now;
   closes = λ k a f fs down ok was now. closed n big ss k a f fs down ok was now;
   end = λ k a f fs down ok was now. ended n big ss k a f fs down ok was now;
+  causes = λ k a f fs down was now. resolved n big k a ss f fs down was now;
+  unwaited = unwaited n big ss;
+  awaited = awaited n ss;
+  closes_by_ok = closes_by_ok n big ss;
+  end_by_ok = ends_by_ok n big ss;
   logs = logs_sent n big ss;
   carried = logs_carried n big ss;
 }

@@ -2,7 +2,7 @@
 
 ghost use Rattle.std.specs.Prelude.{◌≤◌, ℕ, List};
 ghost use Rattle.lapin_joint.specs.declared.step.Step.{Step as AStep};
-ghost use Rattle.lapin_answers.specs.Truth.{RepliesAnswerCalls, GetsCarryContents, ClosesAreAnswered, EndIsAnswered};
+ghost use Rattle.lapin_answers.specs.Truth.{RepliesAnswerCalls, GetsCarryContents, OpensAreAnswered, ClosesAreAnswered, EndIsAnswered, DeliveriesResolve, UnwaitedAreNotReplied, AwaitedAreDelivered, ClosesAreByCloseOk, EndIsByCloseOk};
 
 /// In every joined run: where the reply that is delivered resolves ticket n, the call of that ticket was made on the reply's channel, the
 /// broker had read that very call's method, with that ticket, in the channel's last opening, and after that it sent this reply as the
@@ -18,6 +18,14 @@ pub fn a_get_carries_what_was_sent_after_its_answer()
     ensures { (frame_max : ℕ) → 4096 ≤ frame_max → (steps : List AStep) → GetsCarryContents frame_max steps }
 {}
 
+/// In every joined run: where the open-ok that is delivered resolves ticket n with an answer, the call of that ticket was a `channel.open`
+/// of the open-ok's channel, the broker had read that very call's frame, with that ticket, and read no other `channel.open` of the channel
+/// since; and this open-ok is the first that it sent on the channel after it. An opening that the broker ends by a close in place of
+/// open-ok has none.
+pub fn an_open_ok_is_for_that_very_open()
+    ensures { (frame_max : ℕ) → 4096 ≤ frame_max → (steps : List AStep) → OpensAreAnswered frame_max steps }
+{}
+
 /// In every joined run: where the close-ok that is delivered resolves ticket n with an answer, the call of that ticket was a close of the
 /// close-ok's channel, the broker had read that very call's close, with that ticket, and after that it sent this close-ok for it: as many
 /// close-oks were sent on the channel before as closes were read before that one, also where the two closes crossed. Or n is the ticket of
@@ -31,4 +39,30 @@ pub fn a_close_ok_is_for_that_very_close()
 /// the two closes crossed.
 pub fn a_close_ok_of_the_connection_is_for_that_very_close()
     ensures { (frame_max : ℕ) → 4096 ≤ frame_max → (steps : List AStep) → EndIsAnswered frame_max steps }
+{}
+
+/// In every joined run: what a delivered frame of the broker resolves with an answer awaits it. The frame is a reply, and the ticket that of
+/// a call which awaits one; or it makes the content of a get whole, is open-ok for an open, or close-ok for a close. Or it ends an opening,
+/// and the ticket is that of a `basic.cancel` that was open there: this one is done, and no reply resolved it.
+pub fn what_a_frame_resolves_awaits_it()
+    ensures { (frame_max : ℕ) → 4096 ≤ frame_max → (steps : List AStep) → DeliveriesResolve frame_max steps }
+{}
+
+/// In every joined run: no frame of the broker resolves the ticket of a call without wait with an answer, nor that of a publish, of an
+/// acknowledgement, of a limit or of an acker's call. The call answers it, or its frame as it leaves.
+pub fn no_reply_resolves_a_call_without_wait()
+    ensures { (frame_max : ℕ) → 4096 ≤ frame_max → (steps : List AStep) → UnwaitedAreNotReplied frame_max steps }
+{}
+
+/// In every joined run: a step that is no delivery resolves the ticket of a call that awaits a reply with an answer only where the ticket is
+/// that of a `basic.cancel` that was open. The step, a call of `connection.close` or a loss, ends its opening, and it is done.
+pub fn what_no_frame_resolves_is_a_cancel()
+    ensures { (frame_max : ℕ) → 4096 ≤ frame_max → (steps : List AStep) → AwaitedAreDelivered frame_max steps }
+{}
+
+/// In every joined run: where a step resolves the ticket of a close with an answer, it is the delivery of the broker's close-ok for that very
+/// close, of a channel (`channel`) or of the connection (`connection`).
+pub fn a_close_is_answered_by_its_close_ok()
+    ensures channel { (frame_max : ℕ) → 4096 ≤ frame_max → (steps : List AStep) → ClosesAreByCloseOk frame_max steps }
+    ensures connection { (frame_max : ℕ) → 4096 ≤ frame_max → (steps : List AStep) → EndIsByCloseOk frame_max steps }
 {}

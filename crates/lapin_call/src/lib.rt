@@ -8,9 +8,9 @@
 mod asking;
 mod calls;
 mod collecting;
-mod requester;
 mod fates;
 mod laws;
+mod requester;
 mod run;
 mod server;
 mod step;

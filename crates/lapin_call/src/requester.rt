@@ -50,7 +50,11 @@ impl Model for Requester {
 }
 
 impl Requester {
-    pub(crate) fn new(alloc: Global, frame_max: u32, queue: ShortString) -> Result<Requester, NoMemory>
+    pub(crate) fn new(
+        alloc: Global,
+        frame_max: u32,
+        queue: ShortString,
+    ) -> Result<Requester, NoMemory>
         requires { 4096 ≤ frame_max }
         ensures { IfOk result (λ requester. requester ≡ new_requester by_machine (new_world frame_max) queue) }
     {

@@ -26,8 +26,8 @@ pub fn first_failure<'a>(
     Ok(None)
 }
 
-// The first line of a history that doesn't hold.
-fn failure_in<'a>(
+/// The first line of a history that doesn't hold, on a session that has run what came before it.
+pub fn failure_in<'a>(
     alloc: Global,
     session: &mut Session,
     history: &'a str,

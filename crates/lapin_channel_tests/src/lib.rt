@@ -12,6 +12,8 @@ mod driver;
 #[cfg(test)]
 mod methods;
 #[cfg(test)]
+mod parts;
+#[cfg(test)]
 mod surface;
 #[cfg(test)]
 mod whole;

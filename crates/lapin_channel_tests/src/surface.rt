@@ -2,7 +2,7 @@
 
 use crate::calling::{called, refused};
 use lapin_session::{Consumer, Heard, PublisherConfirm, Session, Ticket};
-use lapin_types::{Error, Event, Frame, Poll, Record};
+use lapin_types::{AckerCall, Error, Event, Frame, Poll, Record};
 use std::alloc::Global;
 
 /// Makes the event by its own call, and tells its record.
@@ -25,7 +25,13 @@ pub fn made(alloc: Global, session: &mut Session, event: Event) -> Result<Record
             Ok(()) => Ok(Record::Lost),
             Err(_) => Err(Error::NoMemory),
         },
-        event => session.step(alloc, event),
+        Event::Acker(number, call) => acker(alloc, session, number, call),
+        Event::Delegate(number) => delegate(alloc, session, number),
+        Event::DropConsumer(number) => let_go(alloc, session, number),
+        Event::NextJob => Ok(match session.next_job() {
+            Some(job) => Record::Job(job),
+            None => Record::NoJob,
+        }),
     }
 }
 
@@ -78,6 +84,44 @@ fn wait(alloc: Global, session: &mut Session, channel: u16) -> Result<Record, Er
 fn aside(answer: Result<(), Error>) -> Result<Record, Error> {
     match answer {
         Ok(()) => Ok(Record::Aside),
+        Err(error) => refused(error),
+    }
+}
+
+fn acker(
+    alloc: Global,
+    session: &mut Session,
+    number: u64,
+    call: AckerCall,
+) -> Result<Record, Error> {
+    match session.acker_call(alloc, number, call) {
+        Ok(Some(ticket)) => Ok(Record::Ticket(ticket.number)),
+        Ok(None) => Ok(Record::No),
+        Err(error) => refused(error),
+    }
+}
+
+// Each of the two names of the call is taken once: the consumer's for one that was given, the session's for any other.
+fn delegate(alloc: Global, session: &mut Session, number: u64) -> Result<Record, Error> {
+    let answer = if session.consumers().channel(number).is_some() {
+        Consumer { number }.set_delegate(alloc, session)
+    } else {
+        session.set_delegate(alloc, number)
+    };
+    match answer {
+        Ok(()) => Ok(Record::Delegated),
+        Err(error) => refused(error),
+    }
+}
+
+fn let_go(alloc: Global, session: &mut Session, number: u64) -> Result<Record, Error> {
+    let answer = if session.consumers().registered(number) {
+        Consumer { number }.close(alloc, session)
+    } else {
+        session.close_consumer(alloc, number)
+    };
+    match answer {
+        Ok(canceled) => Ok(Record::Dropped(canceled)),
         Err(error) => refused(error),
     }
 }

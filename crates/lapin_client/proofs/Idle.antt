@@ -17,7 +17,7 @@ idle_lists t [] (m ∷ ms) ps h = grind (h, arith)
 idle_lists t [] [] ps h = (refl, refl)
 
 idle_or : (o : Option Left) (w : World) → told_or o (told_anew w (event.Next false)) ≡ record_.NoFrame → (w.wire.rest ≡ []) × (w.wire.methods ≡ [])
-idle_or None w h = idle_lists (begins_on false (full_in w.post) w.wire) w.wire.rest w.wire.methods w.wire.publishes h
+idle_or None w h = idle_lists (begins_on false (full_in w.confirm_state) w.wire) w.wire.rest w.wire.methods w.wire.publishes h
 idle_or (Some l) w h = grind (h, arith)
 
 pub idle : (w : World) → IsIdle false w → (w.wire.rest ≡ []) × (w.wire.methods ≡ [])

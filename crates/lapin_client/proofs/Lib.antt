@@ -1,5 +1,6 @@
 pub mod Heard
 pub mod Idle
+pub mod Parts
 pub mod Requests
 pub mod Room
 pub mod Running

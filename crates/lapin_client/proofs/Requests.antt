@@ -1,11 +1,11 @@
 -- Requests one after the other.
-use Rattle.std.proofs.Common.{◌≡◌, ◌≤◌, ℕ, suc, List, [], ◌++◌, Bool, length, refl, sym, ap, ◌∙◌, subst, arith}
+use Rattle.std.proofs.Common.{◌≡◌, ◌<◌, ◌≤◌, ℕ, suc, List, [], ◌++◌, Bool, length, refl, sym, ap, ◌∙◌, subst, arith}
 use Rattle.std.proofs.lemmas.List.{append_assoc, append-nil}
 use Rattle.lapin_client.specs.declared.status.Status.{Status}
 use Rattle.lapin_client.specs.declared.status.Status.TheVariants as status
 use Rattle.lapin_types.specs.declared.record.Record.{Record}
 use Rattle.lapin_client.specs.declared.client.Client.{Client}
-use Rattle.lapin_client.specs.Sending.{record_bytes, after_requests, bytes_handed, HandsOut, IsIdle, IsLoss, SameElse, Pulls, Finishes, Sends}
+use Rattle.lapin_client.specs.Sending.{record_bytes, after_requests, bytes_handed, HandsOut, IsIdle, IsLoss, SameElse, AllWanted, Pulls, Finishes, Sends}
 use Rattle.lapin_machine.specs.World.{World, next, told_by}
 use Rattle.lapin_types.specs.declared.event.Event.TheVariants as event
 
@@ -36,14 +36,18 @@ hands_idle n flow c b d h same e f idle =
 pub same_else : (c b d : Client) → SameElse c b → SameElse b d → SameElse c d
 same_else c b d x y = (y.0 ∙ x.0, y.1 ∙ x.1, y.2 ∙ x.2, y.3 ∙ x.3)
 
-pub sends_after : (r : Status) (flow : Bool) (c b d : Client) → Pulls status.Done flow c b → Finishes r b d → Sends r flow c d
-sends_after status.Done flow c b d p f = (b, (p, f))
-sends_after status.NoMemory flow c b d p f = (tt, f.1, same_else c b d p.1 f.2)
-sends_after status.TooLong flow c b d p f = (tt, f.1, same_else c b d p.1 f.2)
-sends_after status.Ended flow c b d p f = (tt, f.1, same_else c b d p.1 f.2)
-sends_after status.Refused flow c b d p f = absurd f.0
-sends_after status.NotInGrammar flow c b d p f = absurd f.0
-sends_after status.Malformed flow c b d p f = absurd f.0
-sends_after status.Closed flow c b d p f = absurd f.0
-sends_after status.Pending flow c b d p f = absurd f.0
-sends_after status.Gone flow c b d p f = absurd f.0
+-- one more request was wanted
+pub wanted_next : (enough n : ℕ) (flow : Bool) (c b : Client) → HandsOut n flow c b → AllWanted enough n flow c → length b.leaving.items < enough → AllWanted enough (suc n) flow c
+wanted_next enough n flow c b h all few = (all, subst (λ (l : List ℕ). length l < enough) h.1.0 few)
+
+pub sends_after : (r : Status) (flow : Bool) (enough : ℕ) (c b d : Client) → Pulls status.Done enough flow c b → Finishes r b d → Sends r flow enough c d
+sends_after status.Done flow enough c b d p f = (b, (p, f))
+sends_after status.NoMemory flow enough c b d p f = (tt, f.1, same_else c b d p.1 f.2)
+sends_after status.TooLong flow enough c b d p f = (tt, f.1, same_else c b d p.1 f.2)
+sends_after status.Ended flow enough c b d p f = (tt, f.1, same_else c b d p.1 f.2)
+sends_after status.Refused flow enough c b d p f = absurd f.0
+sends_after status.NotInGrammar flow enough c b d p f = absurd f.0
+sends_after status.Malformed flow enough c b d p f = absurd f.0
+sends_after status.Closed flow enough c b d p f = absurd f.0
+sends_after status.Pending flow enough c b d p f = absurd f.0
+sends_after status.Gone flow enough c b d p f = absurd f.0

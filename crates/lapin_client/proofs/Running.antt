@@ -1,5 +1,5 @@
 -- What a run over what came leaves.
-use Rattle.std.proofs.Common.{◌≡◌, ◌<◌, ℕ, zero, suc, sym, refl, subst}
+use Rattle.std.proofs.Common.{◌≡◌, ◌<◌, ℕ, zero, suc, length, sym, refl, subst}
 use Rattle.lapin_client.specs.declared.client.Client.{Client}
 use Rattle.lapin_client.specs.declared.status.Status.{Status}
 use Rattle.lapin_client.specs.declared.status.Status.TheVariants as status
@@ -15,8 +15,8 @@ unfolding Comes
 comes_more n c b d comes turn = (b, comes, turn)
 
 -- it ends where no whole frame is left
-pub runs_out : (n : ℕ) (b l d : Client) → Comes n b l → 0 < wanted_behind l.came → d ≡ l → Runs status.Done b d
-runs_out n b l d comes wanted same = (n, (subst (λ (x : Client). Comes n b x) (sym same) comes, subst (λ (x : Client). 0 < wanted_behind x.came) (sym same) wanted))
+pub runs_out : (n : ℕ) (b l d : Client) → Comes n b l → 0 < wanted_behind l.came → length l.came < l.frame_max → d ≡ l → Runs status.Done b d
+runs_out n b l d comes wanted short same = (n, (subst (λ (x : Client). Comes n b x) (sym same) comes, subst (λ (x : Client). 0 < wanted_behind x.came) (sym same) wanted, subst (λ (x : Client). length x.came < x.frame_max) (sym same) short))
 
 -- or at a frame that isn't taken
 pub runs_to : (r : Status) (n : ℕ) (b l d : Client) → (r ≡ status.Done → ⊥) → Comes n b l → Turns r l d → Runs r b d

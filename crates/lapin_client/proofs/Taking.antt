@@ -24,8 +24,8 @@ idle_taken f b p d h ses leav =
     (h.0.0, h.0.2, ses ∙ ap (heard f) h.0.1.0, leav ∙ h.0.1.1.0)
 
 pub takes_after : (r : Status) (f : Frame) (b p d : Client) → Finishes status.Done b p → TakesIdle r f p d → Takes r f b d
-takes_after status.Done f b p d h t = (idle_taken f b p d h t.0 t.1.0, t.1.1 ∙ h.1.1, t.1.2 ∙ h.1.2)
-takes_after status.Refused f b p d h t = (idle_taken f b p d h t.0 t.1.0, t.1.1 ∙ h.1.1, t.1.2 ∙ h.1.2)
+takes_after status.Done f b p d h t = (idle_taken f b p d h t.0 t.1.0, t.1.1 ∙ h.1.1, t.1.2 ∙ h.1.2, t.1.3 ∙ h.1.3)
+takes_after status.Refused f b p d h t = (idle_taken f b p d h t.0 t.1.0, t.1.1 ∙ h.1.1, t.1.2 ∙ h.1.2, t.1.3 ∙ h.1.3)
 takes_after status.NoMemory f b p d h t = t
 takes_after status.TooLong f b p d h t = t
 takes_after status.Ended f b p d h t = t
@@ -36,15 +36,15 @@ takes_after status.Pending f b p d h t = absurd t.0
 takes_after status.Gone f b p d h t = absurd t.0
 
 -- the frame at the head of what came was taken
-pub turns_frame : (r : Status) (f : Frame) (n : ℕ) (b p d : Client) → read_at b.came ≡ Some (read.Frame f n) → p.came ≡ drop n b.came → p.session ≡ b.session → p.leaving.items ≡ b.leaving.items →
+pub turns_frame : (r : Status) (f : Frame) (n : ℕ) (b p d : Client) → read_at b.came ≡ Some (read.Frame f n) → p.came ≡ drop n b.came → p.session ≡ b.session → p.leaving.items ≡ b.leaving.items → p.blocked ≡ b.blocked →
     Takes r f p d → Turns r b d
-turns_frame status.Done f n b p d head came ses leav t = (Some f, n, head, t.1 ∙ came, leaves_of f p b d ses leav t.0)
-turns_frame status.Refused f n b p d head came ses leav t = (Some f, n, head, t.1 ∙ came, leaves_of f p b d ses leav t.0)
-turns_frame status.NoMemory f n b p d head came ses leav t = inl t.1
-turns_frame status.TooLong f n b p d head came ses leav t = inr t.1
-turns_frame status.Ended f n b p d head came ses leav t = inl t.1
-turns_frame status.NotInGrammar f n b p d head came ses leav t = absurd t.0
-turns_frame status.Malformed f n b p d head came ses leav t = absurd t.0
-turns_frame status.Closed f n b p d head came ses leav t = absurd t.0
-turns_frame status.Pending f n b p d head came ses leav t = absurd t.0
-turns_frame status.Gone f n b p d head came ses leav t = absurd t.0
+turns_frame status.Done f n b p d head came ses leav blo t = (Some f, n, (head, t.3 ∙ blo), t.1 ∙ came, leaves_of f p b d ses leav t.0)
+turns_frame status.Refused f n b p d head came ses leav blo t = (Some f, n, (head, t.3 ∙ blo), t.1 ∙ came, leaves_of f p b d ses leav t.0)
+turns_frame status.NoMemory f n b p d head came ses leav blo t = inl t.1
+turns_frame status.TooLong f n b p d head came ses leav blo t = inr t.1
+turns_frame status.Ended f n b p d head came ses leav blo t = inl t.1
+turns_frame status.NotInGrammar f n b p d head came ses leav blo t = absurd t.0
+turns_frame status.Malformed f n b p d head came ses leav blo t = absurd t.0
+turns_frame status.Closed f n b p d head came ses leav blo t = absurd t.0
+turns_frame status.Pending f n b p d head came ses leav blo t = absurd t.0
+turns_frame status.Gone f n b p d head came ses leav blo t = absurd t.0

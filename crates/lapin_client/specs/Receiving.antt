@@ -1,5 +1,5 @@
 -- Octets of the broker, frame by frame.
-use Rattle.std.specs.Prelude.{◌≡◌, ◌<◌, ◌⊎◌, ◌&&◌, ℕ, zero, suc, ◌+◌, Bool, true, false, List, [], ◌∷◌, ◌++◌, drop, Option, Some, None, if◌then◌else◌}
+use Rattle.std.specs.Prelude.{◌≡◌, ◌<◌, ◌⊎◌, ◌&&◌, ℕ, zero, suc, ◌+◌, Bool, true, false, List, [], ◌∷◌, ◌++◌, drop, length, Option, Some, None, if◌then◌else◌}
 use Rattle.std.specs.Int.{w32, from_be_bytes}
 use Rattle.lapin_client.specs.declared.client.Client.{Client}
 use Rattle.lapin_client.specs.declared.receiving.Head.{Head}
@@ -61,10 +61,11 @@ abbrev pub notice : Bool → Said
 notice true = said.Blocked
 notice false = said.Unblocked
 
--- the frame of n octets at the head is for the session; or it is none that the session hears: a heartbeat, or whether the broker takes messages
-abbrev pub IsHead : List ℕ → Option Frame → ℕ → Type 0
-IsHead bytes (Some f) n = read_at bytes ≡ Some (read.Frame f n)
-IsHead bytes None n = (read_at bytes ≡ Some (read.Heartbeat n)) ⊎ ((b : Bool) × (frame_said_at bytes ≡ Some (notice b)) × (n ≡ length_at bytes))
+-- The frame of n octets at the head is for the session; or it is none that the session hears: a heartbeat, or a notice whether the broker
+-- takes messages, which alone changes whether it was blocked.
+abbrev pub IsHead : List ℕ → Option Frame → ℕ → Bool → Bool → Type 0
+IsHead bytes (Some f) n was is = (read_at bytes ≡ Some (read.Frame f n)) × (is ≡ was)
+IsHead bytes None n was is = ((read_at bytes ≡ Some (read.Heartbeat n)) × (is ≡ was)) ⊎ ((frame_said_at bytes ≡ Some (notice is)) × (n ≡ length_at bytes))
 
 -- What a frame leaves: first all leaves that has begun here or is no publish, so that the session is idle, and then the session hears it.
 abbrev pub TurnLeaves : Option Frame → Client → Client → Type 0
@@ -74,7 +75,7 @@ TurnLeaves (Some f) b d = (m : ℕ) × IsIdle false (after_requests m false b.se
 
 -- of two clients all is the same but the session, the answer and the steps that are left
 abbrev pub SameHeard : Client → Client → Type 0
-SameHeard b d = (d.leaving.items ≡ b.leaving.items) × (d.came ≡ b.came) × (d.frame_max ≡ b.frame_max)
+SameHeard b d = (d.leaving.items ≡ b.leaving.items) × (d.came ≡ b.came) × (d.frame_max ≡ b.frame_max) × (d.blocked ≡ b.blocked)
 
 -- what becomes of a frame that the session hears
 abbrev pub Hears : Status → Frame → Client → Client → Type 0
@@ -90,13 +91,13 @@ TakesIdle r f b d = IsLoss r × (d.left ≡ 0)
 
 -- what becomes of a frame that came
 abbrev pub Takes : Status → Frame → Client → Client → Type 0
-Takes status.Done f b d = TurnLeaves (Some f) b d × (d.came ≡ b.came) × (d.frame_max ≡ b.frame_max)
-Takes status.Refused f b d = TurnLeaves (Some f) b d × (d.came ≡ b.came) × (d.frame_max ≡ b.frame_max)
+Takes status.Done f b d = TurnLeaves (Some f) b d × (d.came ≡ b.came) × (d.frame_max ≡ b.frame_max) × (d.blocked ≡ b.blocked)
+Takes status.Refused f b d = TurnLeaves (Some f) b d × (d.came ≡ b.came) × (d.frame_max ≡ b.frame_max) × (d.blocked ≡ b.blocked)
 Takes r f b d = IsLoss r × (d.left ≡ 0)
 
 -- what stands at the head of octets, where a frame has no more than frame_max
 abbrev pub HeadIs : Head → List ℕ → ℕ → Type 0
-HeadIs head.Part bytes frame_max = 0 < wanted_behind bytes
+HeadIs head.Part bytes frame_max = (0 < wanted_behind bytes) × (length bytes < frame_max)
 HeadIs (head.Frame f n) bytes frame_max = read_at bytes ≡ Some (read.Frame f n)
 HeadIs (head.Passed n) bytes frame_max = read_at bytes ≡ Some (read.Heartbeat n)
 HeadIs head.TooLong bytes frame_max = frame_max < length_at bytes
@@ -106,13 +107,13 @@ HeadIs head.NoMemory bytes frame_max = Unit {0}
 
 -- the frame at the head of what came is taken
 abbrev pub IsTurn : Client → Client → Type 0
-IsTurn b d = (o : Option Frame) × (n : ℕ) × IsHead b.came o n × (d.came ≡ drop n b.came) × TurnLeaves o b d
+IsTurn b d = (o : Option Frame) × (n : ℕ) × IsHead b.came o n b.blocked d.blocked × (d.came ≡ drop n b.came) × TurnLeaves o b d
 
 -- what becomes of the head of what came
 abbrev pub Turns : Status → Client → Client → Type 0
 Turns status.Done b d = IsTurn b d
 Turns status.Refused b d = IsTurn b d
-Turns status.Pending b d = (0 < wanted_behind b.came) × (d ≡ b)
+Turns status.Pending b d = (0 < wanted_behind b.came) × (length b.came < b.frame_max) × (d ≡ b)
 Turns status.Malformed b d = (wanted_behind b.came ≡ 0) × (read_at b.came ≡ None) × (d ≡ b)
 Turns status.TooLong b d = ((b.frame_max < length_at b.came) × (d ≡ b)) ⊎ (d.left ≡ 0)
 Turns _ b d = (d.left ≡ 0) ⊎ (d ≡ b)
@@ -124,11 +125,12 @@ Comes (suc n) c d = (b : Client) × Comes n c b × IsTurn b d
 
 -- what a client is once more came
 abbrev pub IsLonger : List ℕ → Client → Client → Type 0
-IsLonger bytes c b = (b.came ≡ c.came ++ bytes) × (b.session ≡ c.session) × (b.leaving.items ≡ c.leaving.items) × (b.frame_max ≡ c.frame_max)
+IsLonger bytes c b = (b.came ≡ c.came ++ bytes) × (b.session ≡ c.session) × (b.leaving.items ≡ c.leaving.items) × (b.frame_max ≡ c.frame_max) × (b.blocked ≡ c.blocked)
 
--- What a run over what came leaves: each frame that was whole was taken, in order; where the status isn't Done the last of them has it.
+-- What a run over what came leaves: each frame that was whole was taken, in order, and what is kept is the beginning of one, shorter than a
+-- frame may be; where the status isn't Done the last of them has it.
 abbrev pub Runs : Status → Client → Client → Type 0
-Runs status.Done b d = (n : ℕ) × (Comes n b d × (0 < wanted_behind d.came))
+Runs status.Done b d = (n : ℕ) × (Comes n b d × (0 < wanted_behind d.came) × (length d.came < d.frame_max))
 Runs r b d = (n : ℕ) × ((e : Client) × (Comes n b e × Turns r e d))
 
 -- What octets of the broker leave: they stand behind those that came before, and then each frame that is whole was taken, in order. Where

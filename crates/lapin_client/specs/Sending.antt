@@ -1,5 +1,5 @@
 -- Frames that leave, as octets.
-use Rattle.std.specs.Prelude.{◌≡◌, ◌≤◌, ◌+◌, ℕ, zero, suc, Bool, true, false, List, [], ◌++◌, length}
+use Rattle.std.specs.Prelude.{◌≡◌, ◌<◌, ◌≤◌, ◌+◌, ◌⊎◌, ℕ, zero, suc, Bool, true, false, List, [], ◌++◌, length}
 use Rattle.lapin_client.specs.declared.client.Client.{Client}
 use Rattle.lapin_client.specs.declared.status.Status.{Status}
 use Rattle.lapin_client.specs.declared.sending.Step.{Step}
@@ -61,17 +61,27 @@ abbrev pub Counts : Step → Client → Client → Type 0
 Counts (step.Lost s) c d = Unit {0}
 Counts _ c d = d.left + 1 ≡ c.left
 
+-- each of n requests was made where fewer octets than enough were to be sent
+abbrev pub AllWanted : ℕ → ℕ → Bool → Client → Type 0
+AllWanted enough zero flow c = Unit {0}
+AllWanted enough (suc n) flow c = AllWanted enough n flow c × (length (c.leaving.items ++ bytes_handed n flow c.session) < enough)
+
+-- n requests were made, and no more: the last of them handed nothing out, or there are octets enough
+abbrev pub Suffices : ℕ → ℕ → Bool → Client → Client → Type 0
+Suffices enough n flow c d = ((m : ℕ) × (n ≡ suc m) × IsIdle flow (after_requests m flow c.session)) ⊎ (enough ≤ length d.leaving.items)
+
 -- What leaves: frames were asked for until there was none, or until there were octets enough; a client that lost a frame ends.
-abbrev pub Pulls : Status → Bool → Client → Client → Type 0
-Pulls status.Done flow c d = ((n : ℕ) × HandsOut n flow c d) × SameElse c d
-Pulls r flow c d = IsLoss r × (d.left ≡ 0) × SameElse c d
+abbrev pub Pulls : Status → ℕ → Bool → Client → Client → Type 0
+Pulls status.Done enough flow c d = ((n : ℕ) × HandsOut n flow c d × AllWanted enough n flow c × Suffices enough n flow c d) × SameElse c d
+Pulls r enough flow c d = IsLoss r × (d.left ≡ 0) × SameElse c d
 
 -- What leaves where no publish may begin: frames were asked for until there was none.
 abbrev pub Finishes : Status → Client → Client → Type 0
 Finishes status.Done c d = ((n : ℕ) × HandsOut (suc n) false c d × IsIdle false (after_requests n false c.session)) × SameElse c d
 Finishes r c d = IsLoss r × (d.left ≡ 0) × SameElse c d
 
--- What leaves: frames were asked for, m times where publishes may begin as the caller says, and then until none is left where none may begin.
-abbrev pub Sends : Status → Bool → Client → Client → Type 0
-Sends status.Done flow c d = ((b : Client) × (Pulls status.Done flow c b × Finishes status.Done b d))
-Sends r flow c d = IsLoss r × (d.left ≡ 0) × SameElse c d
+-- What leaves: frames were asked for where publishes may begin as the caller says, until there were octets enough, and then until none is
+-- left where none may begin.
+abbrev pub Sends : Status → Bool → ℕ → Client → Client → Type 0
+Sends status.Done flow enough c d = ((b : Client) × (Pulls status.Done enough flow c b × Finishes status.Done b d))
+Sends r flow enough c d = IsLoss r × (d.left ≡ 0) × SameElse c d

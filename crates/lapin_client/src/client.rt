@@ -22,6 +22,8 @@ pub struct Client {
     pub answer: Vec<u8>,
     /// The bytes that are to be sent.
     pub leaving: Vec<u8>,
+    /// Room in which a frame is made.
+    pub room: Vec<u8>,
     /// The bytes that came and were not read yet.
     pub came: Inlet,
     /// How many further steps the client takes.
@@ -47,6 +49,7 @@ impl Client {
             session,
             answer: Vec::new(alloc),
             leaving: Vec::new(alloc),
+            room: Vec::new(alloc),
             came: Inlet::new(alloc),
             left: u64::MAX >> 1,
             frame_max,

@@ -1,6 +1,6 @@
 //! Bytes of the broker, in whatever pieces they come: each frame that is whole is handed to the session, once nothing of this side waits
 //! that has begun.
-ghost use Rattle.std.specs.Prelude.{◌≡◌, Some, IfSome};
+ghost use Rattle.std.specs.Prelude.{◌≡◌, ◌≤◌, Some, IfSome};
 ghost use Rattle.lapin_handshake.specs.Saying.{frame_said_at};
 ghost use Rattle.lapin_client.specs.Clients.{IsSound};
 ghost use Rattle.lapin_client.specs.Receiving.{Receives, Runs, Turns, Takes, TakesIdle, Hears, HeadIs, notice, is_of_content as is_of_content_lem, begins_content as begins_content_lem, is_stray as is_stray_lem, is_refusal, length_at};
@@ -201,7 +201,9 @@ fn is_stray(session: &Session, frame: &Frame) -> bool
 }
 
 // What stands at the head of bytes, where no frame has more than so many.
+#[tactic(auto, using(crate::proofs::Parts::part_short))]
 fn head_of(alloc: Global, bytes: &[u8], frame_max: u32) -> Head
+    requires { 4096 ≤ frame_max }
     ensures { HeadIs result bytes.now frame_max }
 {
     if length_of(bytes) > frame_max as usize {

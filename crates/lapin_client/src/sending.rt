@@ -17,7 +17,7 @@ impl Client {
     pub fn send(&mut self, alloc: Global, flow: bool, enough: usize) -> Status
         requires { IsSound self.old }
         ensures sound { IsSound self.new }
-        ensures told { Sends result flow self.old self.new }
+        ensures told { Sends result flow enough self.old self.new }
     {
         match self.pull(alloc, flow, enough) {
             Status::Done => self.finish(alloc),
@@ -47,7 +47,7 @@ impl Client {
     fn pull(&mut self, alloc: Global, flow: bool, enough: usize) -> Status
         requires { IsSound self.old }
         ensures sound { IsSound self.new }
-        ensures told { Pulls result flow self.old self.new }
+        ensures told { Pulls result enough flow self.old self.new }
     {
         while self.leaving.len() < enough {
             if self.left == 0 {
@@ -73,7 +73,13 @@ impl Client {
         match self.session.next_frame(alloc, flow) {
             Ok(Some(left)) => {
                 self.left -= 1;
-                let put = put_left(alloc, &mut self.leaving, &left.frame, self.frame_max);
+                let put = put_left(
+                    alloc,
+                    &mut self.leaving,
+                    &mut self.room,
+                    &left.frame,
+                    self.frame_max,
+                );
                 drop(left);
                 match put {
                     Ok(()) => Step::Left,
@@ -109,13 +115,14 @@ enum Step {
 fn put_left(
     alloc: Global,
     out: &mut Vec<u8>,
+    room: &mut Vec<u8>,
     frame: &Frame,
     frame_max: u32,
 ) -> Result<(), WriteFault>
     ensures ok { OnOk result ((out.new.items ≡ out.old.items ++ bytes_of frame.now) × (length (bytes_of frame.now) ≤ frame_max)) }
     ensures err { OnErr result (out.new.items ≡ out.old.items) }
 {
-    put_frame_within(alloc, out, frame, frame_max as usize)
+    put_frame_within(alloc, out, room, frame, frame_max as usize)
 }
 
 // Why a frame was lost.

@@ -30,7 +30,7 @@ pub resend_ends : (m : ℕ) (made : List ResendStep) (n : ℕ) → ResendGoesOn 
 resend_ends m made n = record { steps = []; are = refl; printed = refl }
 
 -- calls that go on print no text for no line
-pub calls_end : (k : calls.Kept) (n : ℕ) → CallsGoOn k n [] None []
+pub calls_end : (k : calls.CallRun) (n : ℕ) → CallsGoOn k n [] None []
 calls_end k n = record { steps = []; are = refl; printed = refl }
 
 -- ---- without a first line nothing is run

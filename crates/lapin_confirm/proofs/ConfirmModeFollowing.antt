@@ -19,12 +19,12 @@ use Rattle.lapin_confirm.specs.Aside.{kept_by, laid_by}
 use Rattle.lapin_confirm.specs.Machine.{after_mark}
 use Rattle.lapin_confirm.specs.Follows.{confirm_mode_in}
 
-abbrev confirm_mode : Bool → ℕ → Bool → ℕ → ConfirmModeState
-confirm_mode s n a l = record { selected = s; last = n; asked = a; limit = l }
+abbrev mode : Bool → ℕ → Bool → ℕ → ConfirmModeState
+mode s n a l = record { selected = s; last = n; asked = a; limit = l }
 
 -- what one more mark does to a confirm mode that is there
 abbrev moved : ℕ → ConfirmMark → ConfirmModeState → ConfirmModeState
-moved c m l = confirm_mode (l.selected || selects c m) (cond (l.selected && leaves_on c m) (l.last + 1) l.last) (cond (turns c m) false (l.asked || asks c m)) (cond (turns c m) 0 (limit_after c l.limit m))
+moved c m l = mode (l.selected || selects c m) (cond (l.selected && leaves_on c m) (l.last + 1) l.last) (cond (turns c m) false (l.asked || asks c m)) (cond (turns c m) 0 (limit_after c l.limit m))
 
 -- and to the confirm mode of channel c
 abbrev confirm_mode_after : ℕ → ConfirmMark → Option ConfirmModeState → Option ConfirmModeState
@@ -69,13 +69,13 @@ limited-push c ms m h =
 begun_new : (c : ℕ) (ms : List ConfirmMark) (m : ConfirmMark) → begins c m ≡ true → confirm_mode_in c (ms ++ m ∷ []) ≡ Some fresh_confirm_mode
 begun_new c ms m new = rw (any-push (begins c) ms m, new, or-true (is_begun c ms), since-push (begins c) ms m, new, since-push (turns c) ms m, turned c m new) refl
 
-confirm_mode-push : (c : ℕ) (ms : List ConfirmMark) (m : ConfirmMark) → confirm_mode_in c (ms ++ m ∷ []) ≡ confirm_mode_after c m (confirm_mode_in c ms)
-confirm_mode-push c ms m =
+mode-push : (c : ℕ) (ms : List ConfirmMark) (m : ConfirmMark) → confirm_mode_in c (ms ++ m ∷ []) ≡ confirm_mode_after c m (confirm_mode_in c ms)
+mode-push c ms m =
     elim (begins c m) as (λ n. begins c m ≡ n → confirm_mode_in c (ms ++ m ∷ []) ≡ confirm_mode_after c m (confirm_mode_in c ms)) [
       | true ↦ λ new. begun_new c ms m new ∙
-          (elim (is_begun c ms) as (λ b. Some fresh_confirm_mode ≡ confirm_mode_after c m (cond b (Some (confirm_mode (is_selected c ms) (place c ms) (is_asked c ms) (limit_of c ms))) None)) [ true ↦ rw new refl | false ↦ rw new refl ])
+          (elim (is_begun c ms) as (λ b. Some fresh_confirm_mode ≡ confirm_mode_after c m (cond b (Some (mode (is_selected c ms) (place c ms) (is_asked c ms) (limit_of c ms))) None)) [ true ↦ rw new refl | false ↦ rw new refl ])
       | false ↦ λ old.
-          elim (is_begun c ms) as (λ b. is_begun c ms ≡ b → confirm_mode_in c (ms ++ m ∷ []) ≡ confirm_mode_after c m (cond b (Some (confirm_mode (is_selected c ms) (place c ms) (is_asked c ms) (limit_of c ms))) None)) [
+          elim (is_begun c ms) as (λ b. is_begun c ms ≡ b → confirm_mode_in c (ms ++ m ∷ []) ≡ confirm_mode_after c m (cond b (Some (mode (is_selected c ms) (place c ms) (is_asked c ms) (limit_of c ms))) None)) [
             | true ↦ λ h. rw (any-push (begins c) ms m, h, selected-push c ms m old h, place-push c ms m old h, asked-push c ms m h, limited-push c ms m h, old) refl
             | false ↦ λ h. rw (any-push (begins c) ms m, h, old) refl
           ] refl
@@ -90,7 +90,7 @@ pub record Quiet (d : ℕ) (m : ConfirmMark) : Type 0 where
   pub asks : asks d m ≡ false
   pub limit : (l : ℕ) → limit_after d l m ≡ l
 
-still : (s a : Bool) (n l : ℕ) → confirm_mode s n a l ≡ confirm_mode (s || false) (cond (s && false) (n + 1) n) (a || false) l
+still : (s a : Bool) (n l : ℕ) → mode s n a l ≡ mode (s || false) (cond (s && false) (n + 1) n) (a || false) l
 still true true n l = refl
 still true false n l = refl
 still false true n l = refl
@@ -100,7 +100,7 @@ same_confirm_mode : (d : ℕ) (m : ConfirmMark) (o : Option ConfirmModeState) �
 same_confirm_mode d m None q = rw q.begins refl
 same_confirm_mode d m (Some x) q = rw (q.begins, q.turns, q.selects, q.leaves, q.asks, q.limit x.limit) (ap Some (still x.selected x.asked x.last x.limit))
 
-left_confirm_mode : (c d k n q : ℕ) (s a : Bool) (ls : List (ℕ × ConfirmModeState)) → (c == d) ≡ true → at_channel d ls ≡ Some (confirm_mode s n a q) → at_channel d (confirm_modes_with c (tag_for (Some (confirm_mode s n a q))) ls) ≡ confirm_mode_after d (mark.Left c k) (Some (confirm_mode s n a q))
+left_confirm_mode : (c d k n q : ℕ) (s a : Bool) (ls : List (ℕ × ConfirmModeState)) → (c == d) ≡ true → at_channel d ls ≡ Some (mode s n a q) → at_channel d (confirm_modes_with c (tag_for (Some (mode s n a q))) ls) ≡ confirm_mode_after d (mark.Left c k) (Some (mode s n a q))
 left_confirm_mode c d k n q true true ls e is = at-on c d next_confirm_mode ls ∙ rw (e, is) refl
 left_confirm_mode c d k n q true false ls e is = at-on c d next_confirm_mode ls ∙ rw (e, is) refl
 left_confirm_mode c d k n q false true ls e is = is
@@ -119,43 +119,43 @@ changed_confirm_mode c d f m ls old quiet does =
       | false ↦ λ e. same_confirm_mode d m (at_channel d ls) (quiet e)
     ] refl
 
-select_moves : (s a : Bool) (n l : ℕ) → confirm_mode true n a l ≡ confirm_mode (s || true) (cond (s && false) (n + 1) n) (a || false) l
+select_moves : (s a : Bool) (n l : ℕ) → mode true n a l ≡ mode (s || true) (cond (s && false) (n + 1) n) (a || false) l
 select_moves true true n l = refl
 select_moves true false n l = refl
 select_moves false true n l = refl
 select_moves false false n l = refl
 
-ask_moves : (s a : Bool) (n l : ℕ) → confirm_mode s n true l ≡ confirm_mode (s || false) (cond (s && false) (n + 1) n) (a || true) l
+ask_moves : (s a : Bool) (n l : ℕ) → mode s n true l ≡ mode (s || false) (cond (s && false) (n + 1) n) (a || true) l
 ask_moves true true n l = refl
 ask_moves true false n l = refl
 ask_moves false true n l = refl
 ask_moves false false n l = refl
 
-end_moves : (s : Bool) (n : ℕ) → confirm_mode s n false 0 ≡ confirm_mode (s || false) (cond (s && false) (n + 1) n) false 0
+end_moves : (s : Bool) (n : ℕ) → mode s n false 0 ≡ mode (s || false) (cond (s && false) (n + 1) n) false 0
 end_moves true n = refl
 end_moves false n = refl
 
 -- each mark does to a confirm mode what the readings say
-confirm_mode-step : (p : ConfirmState) (m : ConfirmMark) (d : ℕ) → at_channel d (after_mark p m).publish_states.confirm_modes ≡ confirm_mode_after d m (at_channel d p.publish_states.confirm_modes)
-confirm_mode-step p (mark.Begun c) d =
+mode-step : (p : ConfirmState) (m : ConfirmMark) (d : ℕ) → at_channel d (after_mark p m).publish_states.confirm_modes ≡ confirm_mode_after d m (at_channel d p.publish_states.confirm_modes)
+mode-step p (mark.Begun c) d =
     at-with c d fresh_confirm_mode p.publish_states.confirm_modes ∙
     elim (c == d) as (λ e. (c == d) ≡ e → cond e (Some fresh_confirm_mode) (at_channel d p.publish_states.confirm_modes) ≡ confirm_mode_after d (mark.Begun c) (at_channel d p.publish_states.confirm_modes)) [
       | true ↦ λ e. elim (at_channel d p.publish_states.confirm_modes) as (λ o. Some fresh_confirm_mode ≡ confirm_mode_after d (mark.Begun c) o) [ None ↦ rw e refl | Some l ↦ rw e refl ]
       | false ↦ λ e. same_confirm_mode d (mark.Begun c) (at_channel d p.publish_states.confirm_modes) (record { begins = e; turns = e; selects = refl; leaves = refl; asks = refl; limit = λ l. refl })
     ] refl
-confirm_mode-step p (mark.SelectCalled c) d =
+mode-step p (mark.SelectCalled c) d =
     changed_confirm_mode c d asked_confirm_mode (mark.SelectCalled c) p.publish_states.confirm_modes refl
     (λ e. record { begins = refl; turns = refl; selects = refl; leaves = refl; asks = e; limit = λ l. refl })
     (λ e l. rw e (ask_moves l.selected l.asked l.last l.limit))
-confirm_mode-step p (mark.LimitSet c n) d =
+mode-step p (mark.LimitSet c n) d =
     changed_confirm_mode c d (limited_confirm_mode n) (mark.LimitSet c n) p.publish_states.confirm_modes refl
     (λ e. record { begins = refl; turns = refl; selects = refl; leaves = refl; asks = refl; limit = λ l. rw e refl })
     (λ e l. rw e (still l.selected l.asked l.last n))
-confirm_mode-step p (mark.SelectLeft c) d =
+mode-step p (mark.SelectLeft c) d =
     changed_confirm_mode c d selected_confirm_mode (mark.SelectLeft c) p.publish_states.confirm_modes refl
     (λ e. record { begins = refl; turns = refl; selects = e; leaves = refl; asks = refl; limit = λ l. refl })
     (λ e l. rw e (select_moves l.selected l.asked l.last l.limit))
-confirm_mode-step p (mark.Left c k) d =
+mode-step p (mark.Left c k) d =
     elim (eqb_tells c d) [
       | inl same ↦
           let P : ℕ → Type 0 = λ a. at_channel d (confirm_modes_with c (tag_for (at_channel a p.publish_states.confirm_modes)) p.publish_states.confirm_modes) ≡ confirm_mode_after d (mark.Left c k) (at_channel d p.publish_states.confirm_modes) in
@@ -166,27 +166,27 @@ confirm_mode-step p (mark.Left c k) d =
           ] refl)
       | inr other ↦ left_elsewhere c d (tag_for (at_channel c p.publish_states.confirm_modes)) p.publish_states.confirm_modes other.0 ∙ same_confirm_mode d (mark.Left c k) (at_channel d p.publish_states.confirm_modes) (record { begins = refl; turns = refl; selects = refl; leaves = other.0; asks = refl; limit = λ l. refl })
     ]
-confirm_mode-step p (mark.Ended c e) d =
+mode-step p (mark.Ended c e) d =
     changed_confirm_mode c d ended_confirm_mode (mark.Ended c e) p.publish_states.confirm_modes refl
     (λ e. record { begins = refl; turns = e; selects = refl; leaves = refl; asks = refl; limit = λ l. refl })
     (λ e l. rw e (end_moves l.selected l.last))
-confirm_mode-step p (mark.Added c) d = same_confirm_mode d (mark.Added c) (at_channel d p.publish_states.confirm_modes) (record { begins = refl; turns = refl; selects = refl; leaves = refl; asks = refl; limit = λ l. refl })
-confirm_mode-step p (mark.Settled c s) d = same_confirm_mode d (mark.Settled c s) (at_channel d p.publish_states.confirm_modes) (record { begins = refl; turns = refl; selects = refl; leaves = refl; asks = refl; limit = λ l. refl })
-confirm_mode-step p (mark.Arrived c x) d = same_confirm_mode d (mark.Arrived c x) (at_channel d p.publish_states.confirm_modes) (record { begins = refl; turns = refl; selects = refl; leaves = refl; asks = refl; limit = λ l. refl })
-confirm_mode-step p (mark.ClosedHere c e) d = same_confirm_mode d (mark.ClosedHere c e) (at_channel d p.publish_states.confirm_modes) (record { begins = refl; turns = refl; selects = refl; leaves = refl; asks = refl; limit = λ l. refl })
-confirm_mode-step p (mark.Taken n) d = same_confirm_mode d (mark.Taken n) (at_channel d p.publish_states.confirm_modes) (record { begins = refl; turns = refl; selects = refl; leaves = refl; asks = refl; limit = λ l. refl })
-confirm_mode-step p (mark.SetAside n) d =
+mode-step p (mark.Added c) d = same_confirm_mode d (mark.Added c) (at_channel d p.publish_states.confirm_modes) (record { begins = refl; turns = refl; selects = refl; leaves = refl; asks = refl; limit = λ l. refl })
+mode-step p (mark.Settled c s) d = same_confirm_mode d (mark.Settled c s) (at_channel d p.publish_states.confirm_modes) (record { begins = refl; turns = refl; selects = refl; leaves = refl; asks = refl; limit = λ l. refl })
+mode-step p (mark.Arrived c x) d = same_confirm_mode d (mark.Arrived c x) (at_channel d p.publish_states.confirm_modes) (record { begins = refl; turns = refl; selects = refl; leaves = refl; asks = refl; limit = λ l. refl })
+mode-step p (mark.ClosedHere c e) d = same_confirm_mode d (mark.ClosedHere c e) (at_channel d p.publish_states.confirm_modes) (record { begins = refl; turns = refl; selects = refl; leaves = refl; asks = refl; limit = λ l. refl })
+mode-step p (mark.Taken n) d = same_confirm_mode d (mark.Taken n) (at_channel d p.publish_states.confirm_modes) (record { begins = refl; turns = refl; selects = refl; leaves = refl; asks = refl; limit = λ l. refl })
+mode-step p (mark.SetAside n) d =
     elim (is_resolved (under n p.publish_states.cells)) as (λ (b : Bool). at_channel d (cond b (kept_by n p) (laid_by n p)).publish_states.confirm_modes ≡ at_channel d p.publish_states.confirm_modes) [ true ↦ refl | false ↦ refl ]
     ∙ same_confirm_mode d (mark.SetAside n) (at_channel d p.publish_states.confirm_modes) (record { begins = refl; turns = refl; selects = refl; leaves = refl; asks = refl; limit = λ l. refl })
-confirm_mode-step p (mark.Drained c) d = same_confirm_mode d (mark.Drained c) (at_channel d p.publish_states.confirm_modes) (record { begins = refl; turns = refl; selects = refl; leaves = refl; asks = refl; limit = λ l. refl })
+mode-step p (mark.Drained c) d = same_confirm_mode d (mark.Drained c) (at_channel d p.publish_states.confirm_modes) (record { begins = refl; turns = refl; selects = refl; leaves = refl; asks = refl; limit = λ l. refl })
 
-pub confirm_mode-follows : (ms : List ConfirmMark) (p : ConfirmState) (m : ConfirmMark) → ((c : ℕ) → at_channel c p.publish_states.confirm_modes ≡ confirm_mode_in c ms) → (c : ℕ) → at_channel c (after_mark p m).publish_states.confirm_modes ≡ confirm_mode_in c (ms ++ m ∷ [])
-confirm_mode-follows ms p m h c = confirm_mode-step p m c ∙ ap (confirm_mode_after c m) (h c) ∙ sym (confirm_mode-push c ms m)
+pub mode-follows : (ms : List ConfirmMark) (p : ConfirmState) (m : ConfirmMark) → ((c : ℕ) → at_channel c p.publish_states.confirm_modes ≡ confirm_mode_in c ms) → (c : ℕ) → at_channel c (after_mark p m).publish_states.confirm_modes ≡ confirm_mode_in c (ms ++ m ∷ [])
+mode-follows ms p m h c = mode-step p m c ∙ ap (confirm_mode_after c m) (h c) ∙ sym (mode-push c ms m)
 
 -- the tag that a publish takes as it leaves
 pub tag-push : (c k : ℕ) (ms : List ConfirmMark) → cond (is_selected c (ms ++ mark.Left c k ∷ [])) (Some (place c (ms ++ mark.Left c k ∷ []))) None ≡ tag_for (confirm_mode_in c ms)
 tag-push c k ms =
-    elim (is_begun c ms) as (λ b. is_begun c ms ≡ b → cond (is_selected c (ms ++ mark.Left c k ∷ [])) (Some (place c (ms ++ mark.Left c k ∷ []))) None ≡ tag_for (cond b (Some (confirm_mode (is_selected c ms) (place c ms) (is_asked c ms) (limit_of c ms))) None)) [
+    elim (is_begun c ms) as (λ b. is_begun c ms ≡ b → cond (is_selected c (ms ++ mark.Left c k ∷ [])) (Some (place c (ms ++ mark.Left c k ∷ []))) None ≡ tag_for (cond b (Some (mode (is_selected c ms) (place c ms) (is_asked c ms) (limit_of c ms))) None)) [
       | true ↦ λ h.
           let here : (c == c) ≡ true = eq-eqb c c refl in
           rw (selected-push c ms (mark.Left c k) refl h, place-push c ms (mark.Left c k) refl h, here)

@@ -15,54 +15,54 @@ use Rattle.lapin_confirm.specs.Ties.{IsFresh, confirm_mode_state, confirm_mode_a
 use Rattle.lapin_tables.specs.Numbered.{with_under}
 use Rattle.lapin_confirm.specs.declared.cell.Cell.{Cell}
 
-pub confirm_mode-at : (c : ℕ) (es : List (ℕ × ConfirmMode)) (o : Option ConfirmMode) → at_channel c es ≡ o → at_channel c (confirm_mode_states es) ≡ option_map confirm_mode_state o
-confirm_mode-at c es o is = at-values confirm_mode_state c es ∙ ap (option_map confirm_mode_state) is
+pub mode-at : (c : ℕ) (es : List (ℕ × ConfirmMode)) (o : Option ConfirmMode) → at_channel c es ≡ o → at_channel c (confirm_mode_states es) ≡ option_map confirm_mode_state o
+mode-at c es o is = at-values confirm_mode_state c es ∙ ap (option_map confirm_mode_state) is
 
 -- a channel without a confirm mode has no confirm mode
-pub no-confirm_mode : (c : ℕ) (es : List (ℕ × ConfirmMode)) → at_channel c es ≡ None → IsSome (at_channel c (confirm_mode_states es)) → ⊥
-no-confirm_mode c es none has = let never : false ≡ true = rw (confirm_mode-at c es None none) at has in cc
+pub no-mode : (c : ℕ) (es : List (ℕ × ConfirmMode)) → at_channel c es ≡ None → IsSome (at_channel c (confirm_mode_states es)) → ⊥
+no-mode c es none has = let never : false ≡ true = rw (mode-at c es None none) at has in cc
 
 -- and with a confirm mode it has one
-pub has-confirm_mode : (c : ℕ) (es : List (ℕ × ConfirmMode)) → IsSome (at_channel c (confirm_mode_states es)) → IsSome (at_channel c es)
-has-confirm_mode c es has = by (at_channel c es) refl
+pub has-mode : (c : ℕ) (es : List (ℕ × ConfirmMode)) → IsSome (at_channel c (confirm_mode_states es)) → IsSome (at_channel c es)
+has-mode c es has = by (at_channel c es) refl
   where
     by : (o : Option ConfirmMode) → at_channel c es ≡ o → IsSome (at_channel c es)
-    by None none = absurd (no-confirm_mode c es none has)
+    by None none = absurd (no-mode c es none has)
     by (Some l) is = rw is refl
 
 -- and none to change
 pub confirm_modes-absent : (c : ℕ) (f : ConfirmModeState → ConfirmModeState) (es : List (ℕ × ConfirmMode)) → at_channel c es ≡ None → on_channel c f (confirm_mode_states es) ≡ confirm_mode_states es
-confirm_modes-absent c f es none = on-absent c f (confirm_mode_states es) (confirm_mode-at c es None none)
+confirm_modes-absent c f es none = on-absent c f (confirm_mode_states es) (mode-at c es None none)
 
 -- a channel's confirm mode changes with its confirm mode
 pub confirm_modes-on : (c : ℕ) (f : ConfirmModeState → ConfirmModeState) (l k : ConfirmMode) (es : List (ℕ × ConfirmMode)) → at_channel c es ≡ Some l → confirm_mode_state k ≡ f (confirm_mode_state l) → confirm_mode_states (on_channel c (λ _. k) es) ≡ on_channel c f (confirm_mode_states es)
-confirm_modes-on c f l k es is confirm_mode =
+confirm_modes-on c f l k es is mode =
     on-values confirm_mode_state c k es
-    ∙ ap (λ (n : ConfirmModeState). on_channel c (λ _. n) (confirm_mode_states es)) confirm_mode
-    ∙ sym (on-known c f (confirm_mode_state l) (confirm_mode_states es) (confirm_mode-at c es (Some l) is))
+    ∙ ap (λ (n : ConfirmModeState). on_channel c (λ _. n) (confirm_mode_states es)) mode
+    ∙ sym (on-known c f (confirm_mode_state l) (confirm_mode_states es) (mode-at c es (Some l) is))
 
 -- a confirm mode with the same confirm mode
 pub confirm_modes-same : (c : ℕ) (l k : ConfirmMode) (es : List (ℕ × ConfirmMode)) → at_channel c es ≡ Some l → confirm_mode_state k ≡ confirm_mode_state l → confirm_mode_states (on_channel c (λ _. k) es) ≡ confirm_mode_states es
-confirm_modes-same c l k es is confirm_mode =
+confirm_modes-same c l k es is mode =
     on-values confirm_mode_state c k es
-    ∙ ap (λ (n : ConfirmModeState). on_channel c (λ _. n) (confirm_mode_states es)) confirm_mode
-    ∙ on-same c (confirm_mode_state l) (confirm_mode_states es) (confirm_mode-at c es (Some l) is)
+    ∙ ap (λ (n : ConfirmModeState). on_channel c (λ _. n) (confirm_mode_states es)) mode
+    ∙ on-same c (confirm_mode_state l) (confirm_mode_states es) (mode-at c es (Some l) is)
 
 -- a new opening, where the channel had one
 pub confirm_modes-again : (c : ℕ) (l k : ConfirmMode) (es : List (ℕ × ConfirmMode)) → at_channel c es ≡ Some l → confirm_mode_state k ≡ fresh_confirm_mode → confirm_mode_states (on_channel c (λ _. k) es) ≡ with_channel c fresh_confirm_mode (confirm_mode_states es)
-confirm_modes-again c l k es is confirm_mode = rw (confirm_mode-at c es (Some l) is) (on-values confirm_mode_state c k es ∙ ap (λ (n : ConfirmModeState). on_channel c (λ _. n) (confirm_mode_states es)) confirm_mode)
+confirm_modes-again c l k es is mode = rw (mode-at c es (Some l) is) (on-values confirm_mode_state c k es ∙ ap (λ (n : ConfirmModeState). on_channel c (λ _. n) (confirm_mode_states es)) mode)
 
 -- and where it had none
 pub confirm_modes-new : (c : ℕ) (k : ConfirmMode) (es : List (ℕ × ConfirmMode)) → at_channel c es ≡ None → confirm_mode_state k ≡ fresh_confirm_mode → confirm_mode_states (es ++ (c, k) ∷ []) ≡ with_channel c fresh_confirm_mode (confirm_mode_states es)
-confirm_modes-new c k es none confirm_mode = rw (confirm_mode-at c es None none) (map_push (λ (e : ℕ × ConfirmMode). (e.0, confirm_mode_state e.1)) es (c, k) ∙ ap (λ (n : ConfirmModeState). confirm_mode_states es ++ (c, n) ∷ []) confirm_mode)
+confirm_modes-new c k es none mode = rw (mode-at c es None none) (map_push (λ (e : ℕ × ConfirmMode). (e.0, confirm_mode_state e.1)) es (c, k) ∙ ap (λ (n : ConfirmModeState). confirm_mode_states es ++ (c, n) ∷ []) mode)
 
 -- in either case
 pub confirm_modes-begun : (c : ℕ) (k : ConfirmMode) (es : List (ℕ × ConfirmMode)) → confirm_mode_state k ≡ fresh_confirm_mode → confirm_mode_states (with_channel c k es) ≡ with_channel c fresh_confirm_mode (confirm_mode_states es)
-confirm_modes-begun c k es confirm_mode = by (at_channel c es) refl
+confirm_modes-begun c k es mode = by (at_channel c es) refl
   where
     by : (o : Option ConfirmMode) → at_channel c es ≡ o → confirm_mode_states (with_channel c k es) ≡ with_channel c fresh_confirm_mode (confirm_mode_states es)
-    by None none = subst (λ b. confirm_mode_states (cond b (on_channel c (λ _. k) es) (es ++ (c, k) ∷ [])) ≡ with_channel c fresh_confirm_mode (confirm_mode_states es)) (sym (ap is_some none)) (confirm_modes-new c k es none confirm_mode)
-    by (Some l) is = subst (λ b. confirm_mode_states (cond b (on_channel c (λ _. k) es) (es ++ (c, k) ∷ [])) ≡ with_channel c fresh_confirm_mode (confirm_mode_states es)) (sym (ap is_some is)) (confirm_modes-again c l k es is confirm_mode)
+    by None none = subst (λ b. confirm_mode_states (cond b (on_channel c (λ _. k) es) (es ++ (c, k) ∷ [])) ≡ with_channel c fresh_confirm_mode (confirm_mode_states es)) (sym (ap is_some none)) (confirm_modes-new c k es none mode)
+    by (Some l) is = subst (λ b. confirm_mode_states (cond b (on_channel c (λ _. k) es) (es ++ (c, k) ∷ [])) ≡ with_channel c fresh_confirm_mode (confirm_mode_states es)) (sym (ap is_some is)) (confirm_modes-again c l k es is mode)
 
 -- ---- publish states
 
@@ -79,12 +79,12 @@ pub on-err : {T E : Type 0} (r : Result T E) (P : Type 0) → P → OnErr r P
 on-err (Ok x) P p = tt
 on-err (Err e) P p = p
 
-pub fresh-confirm_mode : (l : ConfirmMode) → IsFresh l → confirm_mode_state l ≡ fresh_confirm_mode
-fresh-confirm_mode l fresh = rw (fresh.selected, fresh.tags, fresh.asked, fresh.limit) refl
+pub fresh-mode : (l : ConfirmMode) → IsFresh l → confirm_mode_state l ≡ fresh_confirm_mode
+fresh-mode l fresh = rw (fresh.selected, fresh.tags, fresh.asked, fresh.limit) refl
 
 -- a confirm mode with other room alone
-pub same-confirm_mode : (l k : ConfirmMode) → k ≡ record l { tags = k.tags } → k.tags.slots ≡ l.tags.slots → confirm_mode_state k ≡ confirm_mode_state l
-same-confirm_mode l k rest tags =
+pub same-mode : (l k : ConfirmMode) → k ≡ record l { tags = k.tags } → k.tags.slots ≡ l.tags.slots → confirm_mode_state k ≡ confirm_mode_state l
+same-mode l k rest tags =
     let selected : k.selected ≡ l.selected = ap (λ (x : ConfirmMode). x.selected) rest in
     let asked : k.asked ≡ l.asked = ap (λ (x : ConfirmMode). x.asked) rest in
     let limit : k.limit ≡ l.limit = ap (λ (x : ConfirmMode). x.limit) rest in
@@ -93,15 +93,15 @@ same-confirm_mode l k rest tags =
 -- ---- a publish leaves
 
 confirm_modes-left : (c : ℕ) (t : Option ℕ) (l k : ConfirmMode) (es : List (ℕ × ConfirmMode)) → at_channel c es ≡ Some l → confirm_mode_state k ≡ confirm_mode_after t (confirm_mode_state l) → confirm_mode_states (on_channel c (λ _. k) es) ≡ confirm_modes_with c t (confirm_mode_states es)
-confirm_modes-left c None l k es is confirm_mode = confirm_modes-same c l k es is confirm_mode
-confirm_modes-left c (Some t) l k es is confirm_mode = confirm_modes-on c next_confirm_mode l k es is confirm_mode
+confirm_modes-left c None l k es is mode = confirm_modes-same c l k es is mode
+confirm_modes-left c (Some t) l k es is mode = confirm_modes-on c next_confirm_mode l k es is mode
 
 pub tag-there : (c : ℕ) (t : Option ℕ) (l : ConfirmMode) (es : List (ℕ × ConfirmMode)) → at_channel c es ≡ Some l → t ≡ tag_for (Some (confirm_mode_state l)) → t ≡ tag_for (at_channel c (confirm_mode_states es))
-tag-there c t l es is tag = tag ∙ ap tag_for (sym (confirm_mode-at c es (Some l) is))
+tag-there c t l es is tag = tag ∙ ap tag_for (sym (mode-at c es (Some l) is))
 
 pub left-publish_states : (c n : ℕ) (t : Option ℕ) (l k : ConfirmMode) (es : List (ℕ × ConfirmMode)) (cells after : List (Option Cell)) → at_channel c es ≡ Some l → t ≡ tag_for (Some (confirm_mode_state l)) → confirm_mode_state k ≡ confirm_mode_after t (confirm_mode_state l) → after ≡ with_under n (Some (cell_with c t)) cells → publish_states (confirm_mode_states (on_channel c (λ _. k) es)) after ≡ left c n (publish_states (confirm_mode_states es) cells)
-left-publish_states c n t l k es cells after is tag confirm_mode same =
+left-publish_states c n t l k es cells after is tag mode same =
     let there : t ≡ tag_for (at_channel c (confirm_mode_states es)) = tag-there c t l es is tag in
     same-publish_states _ _ _ _
-    (confirm_modes-left c t l k es is confirm_mode ∙ ap (λ u. confirm_modes_with c u (confirm_mode_states es)) there)
+    (confirm_modes-left c t l k es is mode ∙ ap (λ u. confirm_modes_with c u (confirm_mode_states es)) there)
     (same ∙ ap (λ u. with_under n (Some (cell_with c u)) cells) there)

@@ -23,7 +23,7 @@ use Rattle.lapin_confirm.specs.Aside.{kept_by, laid_by, put_aside, marked}
 use Rattle.lapin_confirm.specs.Drain.{remaining, is_over, over_aside}
 use Rattle.lapin_confirm.specs.Machine.{after_mark}
 use Rattle.lapin_confirm.specs.Follows.{Follows, MayCome, cell_in, origin_in, open_cell}
-use Rattle.lapin_confirm.proofs.ConfirmModeFollowing.{confirm_mode-follows}
+use Rattle.lapin_confirm.proofs.ConfirmModeFollowing.{mode-follows}
 use Rattle.lapin_confirm.proofs.CellFollowing.{stood, cell-step, origin-step, open-step, cell-left, cell-added, origin-added, aside-push}
 use Rattle.lapin_confirm.proofs.AsideFollowing.{stands, stands-filter}
 use Rattle.lapin_confirm.proofs.Facts.{facts, came-push, untrue, unfinished, unfinished-kept}
@@ -300,7 +300,7 @@ counts-follow ms p m f =
 pub follows-push : (ms : List ConfirmMark) (p : ConfirmState) (m : ConfirmMark) → Follows ms p → MayCome ms m → Follows (ms ++ m ∷ []) (after_mark p m)
 follows-push ms p m f may = record {
   came = came-push ms m f.came may;
-  confirm_modes = confirm_mode-follows ms p m f.confirm_modes;
+  confirm_modes = mode-follows ms p m f.confirm_modes;
   count = (counts-follow ms p m f).0;
   cells = cells-follow ms p m f may;
   places = (counts-follow ms p m f).1;

@@ -156,7 +156,7 @@ pending_count c b = count_by (is_pending_on c) b.cells
 abbrev pub queued_count : ℕ → PublishStates → ℕ
 queued_count c b = count_by (is_queued_on c) b.cells
 
--- the last tag that was taken by this ledger's opening, 0 if none, and 0 where there is no confirm mode
+-- the last tag that was taken by this confirm mode's opening, 0 if none, and 0 where there is no confirm mode
 abbrev pub last_in : Option ConfirmModeState → ℕ
 last_in None = 0
 last_in (Some l) = l.last
@@ -165,7 +165,7 @@ last_in (Some l) = l.last
 abbrev pub last_on : ℕ → PublishStates → ℕ
 last_on c b = last_in (at_channel c b.confirm_modes)
 
--- this ledger's opening is selected; where there is no confirm mode none is
+-- this confirm mode's opening is selected; where there is no confirm mode none is
 abbrev pub selected_in : Option ConfirmModeState → Bool
 selected_in None = false
 selected_in (Some l) = l.selected
@@ -174,7 +174,7 @@ selected_in (Some l) = l.selected
 abbrev pub selected_on : ℕ → PublishStates → Bool
 selected_on c b = selected_in (at_channel c b.confirm_modes)
 
--- this ledger's live opening accepted a `confirm.select` call; where there is no confirm mode none did
+-- this confirm mode's live opening accepted a `confirm.select` call; where there is no confirm mode none did
 abbrev pub asked_in : Option ConfirmModeState → Bool
 asked_in None = false
 asked_in (Some l) = l.asked
@@ -183,7 +183,7 @@ asked_in (Some l) = l.asked
 abbrev pub asked_on : ℕ → PublishStates → Bool
 asked_on c b = asked_in (at_channel c b.confirm_modes)
 
--- the limit of this ledger's live opening, 0 for none, and 0 where there is no confirm mode
+-- the limit of this confirm mode's live opening, 0 for none, and 0 where there is no confirm mode
 abbrev pub limit_in : Option ConfirmModeState → ℕ
 limit_in None = 0
 limit_in (Some l) = l.limit

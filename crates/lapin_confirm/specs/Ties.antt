@@ -103,7 +103,7 @@ pub record HasMore (c : ℕ) (rooms : List (ℕ × Bool)) (es : List (ℕ × Con
   pub tags : TagFits 1 (at_channel c es)
   pub messages : MessageFits 1 (at_channel c ts)
 
--- each publish has a origin, and what is promised has room for one
+-- each publish has an origin, and what is promised has room for one
 pub record OriginsKept (rooms : List (ℕ × Bool)) (cells : List (Option Cell)) (origins : Slots Origin) : Type 0 where
   pub count : length origins.slots ≡ length cells
   pub room : promised rooms ≤ origins.spare

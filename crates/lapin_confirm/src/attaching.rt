@@ -33,7 +33,12 @@ pub fn attach_through(returned_messages: &mut Returned, tags: &Numbered<u64>, li
 }
 
 /// The same on one of the channels.
-pub fn attach_on(returned_by_channel: &mut ByChannel<Returned>, channel: u16, tags: &Numbered<u64>, limit: u64)
+pub fn attach_on(
+    returned_by_channel: &mut ByChannel<Returned>,
+    channel: u16,
+    tags: &Numbered<u64>,
+    limit: u64,
+)
     ensures return_lists { returned_by_channel_of returned_by_channel.new.entries ≡ on_channel channel (attached_to_all (pending_through limit tags.now.slots)) (returned_by_channel_of returned_by_channel.old.entries) }
     ensures room { (rooms : List (ℕ × Bool)) → MessagesFit rooms returned_by_channel.old.entries → MessagesFit rooms returned_by_channel.new.entries }
 {
@@ -44,7 +49,12 @@ pub fn attach_on(returned_by_channel: &mut ByChannel<Returned>, channel: u16, ta
 }
 
 /// The oldest waiting message of a channel is attached to the publish that is pending with a tag, if one is.
-pub fn attach_one(returned_by_channel: &mut ByChannel<Returned>, channel: u16, tags: &Numbered<u64>, settled: u64)
+pub fn attach_one(
+    returned_by_channel: &mut ByChannel<Returned>,
+    channel: u16,
+    tags: &Numbered<u64>,
+    settled: u64,
+)
     ensures return_lists { returned_by_channel_of returned_by_channel.new.entries ≡ on_channel channel (attached_to_all (joined (under settled tags.now.slots) [])) (returned_by_channel_of returned_by_channel.old.entries) }
     ensures room { (rooms : List (ℕ × Bool)) → MessagesFit rooms returned_by_channel.old.entries → MessagesFit rooms returned_by_channel.new.entries }
 {

@@ -43,13 +43,13 @@ impl ConfirmMode {
 
     /// The same, with room for the tag of a publish where that is promised.
     pub fn with_room(alloc: Global, promised: bool) -> Result<Self, AllocError>
-        ensures made { IfOk result (λ confirm_mode. IsFresh confirm_mode × ((if promised then 1 else 0) ≤ confirm_mode.tags.spare)) }
+        ensures made { IfOk result (λ mode. IsFresh mode × ((if promised then 1 else 0) ≤ mode.tags.spare)) }
         ensures succeeds { promised ≡ false → IsOk result }
     {
-        let mut confirm_mode = ConfirmMode::new(alloc);
+        let mut mode = ConfirmMode::new(alloc);
         if promised {
-            confirm_mode.tags.reserve(1)?;
+            mode.tags.reserve(1)?;
         }
-        Ok(confirm_mode)
+        Ok(mode)
     }
 }

@@ -16,9 +16,9 @@ ghost use Rattle.lapin_confirm.specs.WithRoom.{spare_on, KeepsRoom};
 
 use crate::attaching::{attach_on, attach_one};
 use crate::cell::Cell;
-use crate::origin::Origin;
 use crate::confirm_mode::ConfirmMode;
 use crate::openings::{make_place, put_confirm_mode, renew_returned_messages};
+use crate::origin::Origin;
 use crate::returned::{Returned, let_go};
 use crate::rooms::{give_up, is_promised, make_room, promise, use_room};
 use crate::settling::{end_opening, enqueue, leave, reject, settle_tag, settle_through};
@@ -119,7 +119,7 @@ impl Confirms {
         ensures succeeds { IsSome (at_channel channel self.old.what.publish_states.confirm_modes) → IsSome (at_channel channel self.old.what.returned_by_channel) → spare_on channel self.old ≡ 0 → IsOk result }
     {
         let promised = is_promised(&self.rooms, channel);
-        let confirm_mode = ConfirmMode::with_room(alloc, promised)?;
+        let mode = ConfirmMode::with_room(alloc, promised)?;
         make_place(&mut self.confirm_modes, channel)?;
         renew_returned_messages(
             &mut self.returned_by_channel,
@@ -129,7 +129,7 @@ impl Confirms {
             channel,
             promised,
         )?;
-        put_confirm_mode(&mut self.confirm_modes, channel, confirm_mode);
+        put_confirm_mode(&mut self.confirm_modes, channel, mode);
         Ok(())
     }
 
@@ -151,7 +151,7 @@ impl Confirms {
         if self.cells.next_number().is_none() {
             return Err(Error::NumbersUsedUp);
         }
-        let Some(confirm_mode) = self.confirm_modes.get_mut(channel) else {
+        let Some(mode) = self.confirm_modes.get_mut(channel) else {
             unreachable!()
         };
         if let Err(_) = use_room(
@@ -159,7 +159,7 @@ impl Confirms {
             &mut self.rooms,
             &mut self.cells,
             &mut self.origins,
-            confirm_mode,
+            mode,
         ) {
             return Err(Error::NoMemory);
         }
@@ -167,7 +167,7 @@ impl Confirms {
             channel,
             aside: false,
         });
-        Ok(enqueue(channel, confirm_mode, &mut self.cells))
+        Ok(enqueue(channel, mode, &mut self.cells))
     }
 
     /// A `confirm.select` frame of a channel leaves: the opening is selected from now on.
@@ -175,10 +175,10 @@ impl Confirms {
         ensures what { self.new.what ≡ after_mark self.old.what (mark.SelectLeft channel) }
         ensures spare { self.new.spare ≡ self.old.spare }
     {
-        let Some(confirm_mode) = self.confirm_modes.get_mut(channel) else {
+        let Some(mode) = self.confirm_modes.get_mut(channel) else {
             return;
         };
-        confirm_mode.selected = true;
+        mode.selected = true;
     }
 
     /// A `confirm.select` call is accepted on a channel with a live opening.
@@ -186,10 +186,10 @@ impl Confirms {
         ensures what { self.new.what ≡ after_mark self.old.what (mark.SelectCalled channel) }
         ensures spare { self.new.spare ≡ self.old.spare }
     {
-        let Some(confirm_mode) = self.confirm_modes.get_mut(channel) else {
+        let Some(mode) = self.confirm_modes.get_mut(channel) else {
             return;
         };
-        confirm_mode.asked = true;
+        mode.asked = true;
     }
 
     /// Sets the limit of pending tags of a channel with a live opening, 0 for none.
@@ -197,10 +197,10 @@ impl Confirms {
         ensures what { self.new.what ≡ after_mark self.old.what (mark.LimitSet channel limit) }
         ensures spare { self.new.spare ≡ self.old.spare }
     {
-        let Some(confirm_mode) = self.confirm_modes.get_mut(channel) else {
+        let Some(mode) = self.confirm_modes.get_mut(channel) else {
             return;
         };
-        confirm_mode.limit = limit;
+        mode.limit = limit;
     }
 
     /// The method frame of a publish leaves. Answers the tag that it takes: none where the opening isn't selected, and it is
@@ -212,10 +212,10 @@ impl Confirms {
         ensures spare { self.new.spare ≡ self.old.spare }
     {
         let channel = queued_channel(&self.cells, number);
-        let Some(confirm_mode) = self.confirm_modes.get_mut(channel) else {
+        let Some(mode) = self.confirm_modes.get_mut(channel) else {
             unreachable!()
         };
-        leave(channel, confirm_mode, &mut self.cells, number)
+        leave(channel, mode, &mut self.cells, number)
     }
 
     /// The broker settles one tag of a channel (AMQP 0-9-1, basic.ack; RabbitMQ, basic.nack). Its confirm takes the oldest returned
@@ -228,12 +228,12 @@ impl Confirms {
         ensures err { OnErr result (self.new.what ≡ self.old.what) }
         ensures spare { self.new.spare ≡ self.old.spare }
     {
-        let Some(confirm_mode) = self.confirm_modes.get_mut(channel) else {
+        let Some(mode) = self.confirm_modes.get_mut(channel) else {
             return Err(Error::PreconditionFailed { tag, current: 0 });
         };
-        let current = confirm_mode.tags.count();
-        attach_one(&mut self.returned_by_channel, channel, &confirm_mode.tags, tag);
-        if !settle_tag(channel, confirm_mode, &mut self.cells, tag, outcome_of(kind)) {
+        let current = mode.tags.count();
+        attach_one(&mut self.returned_by_channel, channel, &mode.tags, tag);
+        if !settle_tag(channel, mode, &mut self.cells, tag, outcome_of(kind)) {
             return Err(Error::PreconditionFailed { tag, current });
         }
         Ok(())
@@ -246,12 +246,12 @@ impl Confirms {
         ensures what { self.new.what ≡ after_mark self.old.what (mark.Settled channel (multiple_of kind tag)) }
         ensures spare { self.new.spare ≡ self.old.spare }
     {
-        let Some(confirm_mode) = self.confirm_modes.get_mut(channel) else {
+        let Some(mode) = self.confirm_modes.get_mut(channel) else {
             return;
         };
-        let limit = lesser(tag, confirm_mode.tags.count());
-        attach_on(&mut self.returned_by_channel, channel, &confirm_mode.tags, limit);
-        settle_through(channel, confirm_mode, &mut self.cells, limit, outcome_of(kind));
+        let limit = lesser(tag, mode.tags.count());
+        attach_on(&mut self.returned_by_channel, channel, &mode.tags, limit);
+        settle_through(channel, mode, &mut self.cells, limit, outcome_of(kind));
     }
 
     /// The broker settles every pending tag of a channel, in rising order: a multiple settlement with tag 0. Messages are
@@ -260,12 +260,12 @@ impl Confirms {
         ensures what { self.new.what ≡ after_mark self.old.what (mark.Settled channel (multiple_of kind 0)) }
         ensures spare { self.new.spare ≡ self.old.spare }
     {
-        let Some(confirm_mode) = self.confirm_modes.get_mut(channel) else {
+        let Some(mode) = self.confirm_modes.get_mut(channel) else {
             return;
         };
-        let last = confirm_mode.tags.count();
-        attach_on(&mut self.returned_by_channel, channel, &confirm_mode.tags, last);
-        settle_through(channel, confirm_mode, &mut self.cells, last, outcome_of(kind));
+        let last = mode.tags.count();
+        attach_on(&mut self.returned_by_channel, channel, &mode.tags, last);
+        settle_through(channel, mode, &mut self.cells, last, outcome_of(kind));
     }
 
     /// A publish whose method frame has not left is resolved with an error.
@@ -275,10 +275,10 @@ impl Confirms {
         ensures spare { self.new.spare ≡ self.old.spare }
     {
         let channel = queued_channel(&self.cells, number);
-        let Some(confirm_mode) = self.confirm_modes.get_mut(channel) else {
+        let Some(mode) = self.confirm_modes.get_mut(channel) else {
             unreachable!()
         };
-        reject(channel, confirm_mode, &mut self.cells, number, error);
+        reject(channel, mode, &mut self.cells, number, error);
     }
 
     /// The opening of a channel ends: all of it that is unresolved is resolved with the error.
@@ -289,10 +289,10 @@ impl Confirms {
         ensures what { self.new.what ≡ after_mark self.old.what (mark.Ended channel error) }
         ensures spare { self.new.spare ≡ self.old.spare }
     {
-        let Some(confirm_mode) = self.confirm_modes.get_mut(channel) else {
+        let Some(mode) = self.confirm_modes.get_mut(channel) else {
             return;
         };
-        end_opening(channel, confirm_mode, &mut self.cells, error);
+        end_opening(channel, mode, &mut self.cells, error);
     }
 
     /// The last tag that was taken on a channel, 0 where none was.
@@ -300,7 +300,7 @@ impl Confirms {
         ensures { result ≡ last_on channel self.now.what.publish_states }
     {
         match self.confirm_modes.get(channel) {
-            Some(confirm_mode) => confirm_mode.tags.count(),
+            Some(mode) => mode.tags.count(),
             None => 0,
         }
     }
@@ -310,7 +310,7 @@ impl Confirms {
         ensures { result ≡ pending_count channel self.now.what.publish_states }
     {
         match self.confirm_modes.get(channel) {
-            Some(confirm_mode) => confirm_mode.pending,
+            Some(mode) => mode.pending,
             None => 0,
         }
     }
@@ -346,7 +346,7 @@ impl Confirms {
         ensures { result ≡ queued_count channel self.now.what.publish_states }
     {
         match self.confirm_modes.get(channel) {
-            Some(confirm_mode) => confirm_mode.queued,
+            Some(mode) => mode.queued,
             None => 0,
         }
     }
@@ -356,7 +356,7 @@ impl Confirms {
         ensures { result ≡ asked_on channel self.now.what.publish_states }
     {
         match self.confirm_modes.get(channel) {
-            Some(confirm_mode) => confirm_mode.asked,
+            Some(mode) => mode.asked,
             None => false,
         }
     }
@@ -366,7 +366,7 @@ impl Confirms {
         ensures { result ≡ limit_on channel self.now.what.publish_states }
     {
         match self.confirm_modes.get(channel) {
-            Some(confirm_mode) => confirm_mode.limit,
+            Some(mode) => mode.limit,
             None => 0,
         }
     }
@@ -385,7 +385,7 @@ impl Confirms {
         ensures { result ≡ span_on channel self.now.what.publish_states }
     {
         match self.confirm_modes.get(channel) {
-            Some(confirm_mode) => span_of(&confirm_mode.tags),
+            Some(mode) => span_of(&mode.tags),
             None => 0,
         }
     }
@@ -395,7 +395,7 @@ impl Confirms {
         ensures { result ≡ selected_on channel self.now.what.publish_states }
     {
         match self.confirm_modes.get(channel) {
-            Some(confirm_mode) => confirm_mode.selected,
+            Some(mode) => mode.selected,
             None => false,
         }
     }

@@ -9,15 +9,15 @@
 
 mod attaching;
 mod cell;
+mod confirm_mode;
 mod confirms;
 mod draining;
-mod origin;
 mod laws;
-mod confirm_mode;
-mod return_lists;
 mod limits;
 mod openings;
+mod origin;
 mod results;
+mod return_lists;
 mod returned;
 mod rooms;
 mod settling;
@@ -25,7 +25,6 @@ mod sweep;
 
 pub use cell::Cell;
 pub use confirms::Confirms;
-pub use origin::Origin;
 pub use lapin_rules::SettleKind;
 pub use laws::{
     a_close_one_by_one, a_close_rejects_what_waits, an_end_leaves_nothing_open,
@@ -34,3 +33,4 @@ pub use laws::{
     nothing_follows, openings_as_read, outcome_stays, polls_as_read, resolved_by_its_settlement,
     settlement_leaves, tag_stays, tags_as_read, tags_count_up, waits_as_read, what_is_gone,
 };
+pub use origin::Origin;

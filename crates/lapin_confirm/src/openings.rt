@@ -11,14 +11,17 @@ ghost use Rattle.lapin_confirm.specs.Drain.{remaining, less_all};
 ghost use Rattle.lapin_confirm.specs.Ties.{returned_by_channel_of, MessagesFit, AllTied};
 
 use crate::cell::Cell;
-use crate::origin::Origin;
 use crate::confirm_mode::ConfirmMode;
+use crate::origin::Origin;
 use crate::returned::Returned;
 use lapin_tables::{ByChannel, Numbered};
 use std::alloc::{AllocError, Global};
 
 /// Makes the place where the confirm mode of a channel will stand, if there is none yet.
-pub fn make_place(confirm_modes: &mut ByChannel<ConfirmMode>, channel: u16) -> Result<(), AllocError>
+pub fn make_place(
+    confirm_modes: &mut ByChannel<ConfirmMode>,
+    channel: u16,
+) -> Result<(), AllocError>
     ensures same { confirm_modes.new.entries ≡ confirm_modes.old.entries }
     ensures place { OnOk result (at_channel channel confirm_modes.new.entries ≡ None → HasRoom channel confirm_modes.new) }
     ensures succeeds { IsSome (at_channel channel confirm_modes.old.entries) → IsOk result }
@@ -31,15 +34,19 @@ pub fn make_place(confirm_modes: &mut ByChannel<ConfirmMode>, channel: u16) -> R
 }
 
 /// Puts the confirm mode of a new opening at its channel, in the place that was made.
-pub fn put_confirm_mode(confirm_modes: &mut ByChannel<ConfirmMode>, channel: u16, fresh: ConfirmMode)
+pub fn put_confirm_mode(
+    confirm_modes: &mut ByChannel<ConfirmMode>,
+    channel: u16,
+    fresh: ConfirmMode,
+)
     requires { at_channel channel confirm_modes.old.entries ≡ None → HasRoom channel confirm_modes.old }
     ensures { confirm_modes.new.entries ≡ with_channel channel fresh confirm_modes.old.entries }
 {
-    let Some(confirm_mode) = confirm_modes.get_mut(channel) else {
+    let Some(mode) = confirm_modes.get_mut(channel) else {
         confirm_modes.insert_reserved(channel, fresh);
         return;
     };
-    *confirm_mode = fresh;
+    *mode = fresh;
 }
 
 /// The returned messages of a channel is as a new opening needs it, and of those that stood aside and are resolved nothing is kept; a first one has room for a message where that is promised.

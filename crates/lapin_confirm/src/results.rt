@@ -49,7 +49,11 @@ impl Confirms {
             Some(Cell::Resolved(outcome)) => {
                 let outcome = *outcome;
                 let _ = self.cells.take(number);
-                let message = take_message(&mut self.origins, &mut self.returned_by_channel, number);
+                let message = take_message(
+                    &mut self.origins,
+                    &mut self.returned_by_channel,
+                    number,
+                );
                 Ok(Some(result_of(outcome, message)))
             }
             Some(_) => Ok(None),
@@ -69,7 +73,9 @@ impl Confirms {
             return None;
         };
         let outcome = *outcome;
-        if is_aside(&self.origins, number) || has_message(&self.origins, &self.returned_by_channel, number) {
+        if is_aside(&self.origins, number)
+            || has_message(&self.origins, &self.returned_by_channel, number)
+        {
             return None;
         }
         let _ = self.cells.take(number);
@@ -97,7 +103,12 @@ impl Confirms {
             return Err(Error::AlreadyTaken);
         }
         let resolved = is_over(&self.cells, number);
-        if let Err(_) = put_by(&self.origins, &mut self.returned_by_channel, number, resolved) {
+        if let Err(_) = put_by(
+            &self.origins,
+            &mut self.returned_by_channel,
+            number,
+            resolved,
+        ) {
             return Err(Error::NoMemory);
         }
         if resolved {

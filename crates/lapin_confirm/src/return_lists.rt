@@ -35,7 +35,11 @@ pub fn take_message(
 }
 
 /// Whether a confirm took a message, and still has it.
-pub fn has_message(origins: &Numbered<Origin>, returned_by_channel: &ByChannel<Returned>, number: u64) -> bool
+pub fn has_message(
+    origins: &Numbered<Origin>,
+    returned_by_channel: &ByChannel<Returned>,
+    number: u64,
+) -> bool
     ensures { result ≡ is_some (return_of number (origin_return_lists (under number origins.now.slots) (returned_by_channel_of returned_by_channel.now.entries))) }
 {
     let Some(origin) = origins.get(number) else {

@@ -9,8 +9,8 @@ ghost use Rattle.lapin_confirm.specs.WithRoom.{spare_in};
 ghost use Rattle.lapin_confirm.specs.Ties.{confirm_mode_states, returned_by_channel_of, promised, AllTied, TagFits, TagsFit, MessageFits, MessagesFit, HaveRoom, HasMore};
 
 use crate::cell::Cell;
-use crate::origin::Origin;
 use crate::confirm_mode::ConfirmMode;
+use crate::origin::Origin;
 use crate::returned::Returned;
 use lapin_tables::{ByChannel, Numbered};
 use std::alloc::AllocError;
@@ -88,22 +88,28 @@ fn note(channel: u16, rooms: &mut ByChannel<bool>) -> Result<(), AllocError>
 }
 
 // The next publish of the channel has room for its tag, beside those that are queued.
-fn make_room_for_tag(channel: u16, confirm_modes: &mut ByChannel<ConfirmMode>) -> Result<(), AllocError>
+fn make_room_for_tag(
+    channel: u16,
+    confirm_modes: &mut ByChannel<ConfirmMode>,
+) -> Result<(), AllocError>
     requires { TagFits 0 (at_channel channel confirm_modes.old.entries) }
     ensures confirm_modes { confirm_mode_states confirm_modes.new.entries ≡ confirm_mode_states confirm_modes.old.entries }
     ensures tied { (cells : List (Option ACell)) → AllTied confirm_modes.old.entries cells → AllTied confirm_modes.new.entries cells }
     ensures tags { (rooms : List (ℕ × Bool)) → TagsFit rooms confirm_modes.old.entries → TagsFit rooms confirm_modes.new.entries }
     ensures more { OnOk result (TagFits 1 (at_channel channel confirm_modes.new.entries)) }
 {
-    let Some(confirm_mode) = confirm_modes.get_mut(channel) else {
+    let Some(mode) = confirm_modes.get_mut(channel) else {
         return Ok(());
     };
-    confirm_mode.tags.reserve_beside(confirm_mode.queued)?;
+    mode.tags.reserve_beside(mode.queued)?;
     Ok(())
 }
 
 // The next message of the channel has room.
-fn make_room_for_message(channel: u16, returned_by_channel: &mut ByChannel<Returned>) -> Result<(), AllocError>
+fn make_room_for_message(
+    channel: u16,
+    returned_by_channel: &mut ByChannel<Returned>,
+) -> Result<(), AllocError>
     ensures returned_by_channel { returned_by_channel_of returned_by_channel.new.entries ≡ returned_by_channel_of returned_by_channel.old.entries }
     ensures messages { (rooms : List (ℕ × Bool)) → MessagesFit rooms returned_by_channel.old.entries → MessagesFit rooms returned_by_channel.new.entries }
     ensures more { OnOk result (MessageFits 1 (at_channel channel returned_by_channel.new.entries)) }
@@ -121,23 +127,23 @@ pub fn use_room(
     rooms: &mut ByChannel<bool>,
     cells: &mut Numbered<Cell>,
     origins: &mut Numbered<Origin>,
-    confirm_mode: &mut ConfirmMode,
+    mode: &mut ConfirmMode,
 ) -> Result<(), AllocError>
     requires cells { promised rooms.old.entries ≤ cells.old.spare }
     requires origins { promised rooms.old.entries ≤ origins.old.spare }
-    requires tags { TagFits (spare_in (at_channel channel rooms.old.entries)) (Some confirm_mode.old) }
+    requires tags { TagFits (spare_in (at_channel channel rooms.old.entries)) (Some mode.old) }
     ensures cells { cells.new.slots ≡ cells.old.slots }
     ensures origins { origins.new.slots ≡ origins.old.slots }
-    ensures tags { confirm_mode.new.tags.slots ≡ confirm_mode.old.tags.slots }
-    ensures rest { confirm_mode.new ≡ record confirm_mode.old { tags = confirm_mode.new.tags } }
+    ensures tags { mode.new.tags.slots ≡ mode.old.tags.slots }
+    ensures rest { mode.new ≡ record mode.old { tags = mode.new.tags } }
     ensures others { (c : ℕ) → c ≢ channel → at_channel c rooms.new.entries ≡ at_channel c rooms.old.entries }
     ensures used { spare_in (at_channel channel rooms.new.entries) ≡ 0 }
     ensures unused { OnErr result (rooms.new.entries ≡ rooms.old.entries) }
     ensures spare { OnOk result (promised rooms.new.entries < cells.new.spare) }
     ensures origin { OnOk result (promised rooms.new.entries < origins.new.spare) }
     ensures fits { (promised rooms.new.entries ≤ cells.new.spare) × (promised rooms.new.entries ≤ origins.new.spare) }
-    ensures room { OnOk result (confirm_mode.new.queued < confirm_mode.new.tags.spare) }
-    ensures kept { confirm_mode.new.queued ≤ confirm_mode.new.tags.spare }
+    ensures room { OnOk result (mode.new.queued < mode.new.tags.spare) }
+    ensures kept { mode.new.queued ≤ mode.new.tags.spare }
     ensures succeeds { 0 < spare_in (at_channel channel rooms.old.entries) → IsOk result }
 {
     if is_promised(rooms, channel) {
@@ -146,6 +152,6 @@ pub fn use_room(
     }
     cells.reserve(rooms.entries().len() + 1)?;
     origins.reserve(rooms.entries().len() + 1)?;
-    confirm_mode.tags.reserve_beside(confirm_mode.queued)?;
+    mode.tags.reserve_beside(mode.queued)?;
     Ok(())
 }

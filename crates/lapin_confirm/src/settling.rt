@@ -17,62 +17,62 @@ use lapin_tables::Numbered;
 use lapin_types::Error;
 
 /// Adds a publish of the channel, in the room that was made.
-pub fn enqueue(channel: u16, confirm_mode: &mut ConfirmMode, cells: &mut Numbered<Cell>) -> u64
-    requires tied { Tied channel confirm_mode.old cells.old.slots }
+pub fn enqueue(channel: u16, mode: &mut ConfirmMode, cells: &mut Numbered<Cell>) -> u64
+    requires tied { Tied channel mode.old cells.old.slots }
     requires spare { 0 < cells.old.spare }
-    requires room { confirm_mode.old.queued < confirm_mode.old.tags.spare }
+    requires room { mode.old.queued < mode.old.tags.spare }
     requires numbers { length cells.old.slots + 1 < 2 ^ 64 }
     ensures number { result ≡ length cells.old.slots + 1 }
     ensures cells { cells.new.slots ≡ cells.old.slots ++ Some (Cell.Queued channel) ∷ [] }
     ensures spare { cells.old.spare ≡ cells.new.spare + 1 }
-    ensures tied { Tied channel confirm_mode.new cells.new.slots }
-    ensures confirm_mode { confirm_mode_state confirm_mode.new ≡ confirm_mode_state confirm_mode.old }
+    ensures tied { Tied channel mode.new cells.new.slots }
+    ensures mode { confirm_mode_state mode.new ≡ confirm_mode_state mode.old }
 {
-    confirm_mode.queued += 1;
+    mode.queued += 1;
     cells.push_reserved(Cell::Queued(channel))
 }
 
 /// The method frame of a publish of the channel leaves: it takes its tag, if the opening is selected.
 pub fn leave(
     channel: u16,
-    confirm_mode: &mut ConfirmMode,
+    mode: &mut ConfirmMode,
     cells: &mut Numbered<Cell>,
     number: u64,
 ) -> Option<u64>
-    requires tied { Tied channel confirm_mode.old cells.old.slots }
+    requires tied { Tied channel mode.old cells.old.slots }
     requires queued { under number cells.old.slots ≡ Some (Cell.Queued channel) }
     requires fits { length cells.old.slots < 2 ^ 64 }
-    ensures tag { result ≡ tag_for (Some (confirm_mode_state confirm_mode.old)) }
+    ensures tag { result ≡ tag_for (Some (confirm_mode_state mode.old)) }
     ensures cells { cells.new.slots ≡ with_under number (Some (cell_with channel result)) cells.old.slots }
-    ensures tied { Tied channel confirm_mode.new cells.new.slots }
-    ensures confirm_mode { confirm_mode_state confirm_mode.new ≡ confirm_mode_after result (confirm_mode_state confirm_mode.old) }
+    ensures tied { Tied channel mode.new cells.new.slots }
+    ensures mode { confirm_mode_state mode.new ≡ confirm_mode_after result (confirm_mode_state mode.old) }
     ensures spare { cells.old.spare ≤ cells.new.spare }
-    ensures room { KeepsTags confirm_mode.old confirm_mode.new }
+    ensures room { KeepsTags mode.old mode.new }
 {
-    let tag = take_tag(confirm_mode, number);
+    let tag = take_tag(mode, number);
     cells.set(number, cell_for(channel, tag));
     tag
 }
 
-fn take_tag(confirm_mode: &mut ConfirmMode, number: u64) -> Option<u64>
-    requires queued { 0 < confirm_mode.old.queued }
-    requires room { confirm_mode.old.queued ≤ confirm_mode.old.tags.spare }
-    requires numbers { length confirm_mode.old.tags.slots + 1 < 2 ^ 64 }
-    requires pending { confirm_mode.old.pending + 1 < 2 ^ 64 }
-    ensures tag { result ≡ tag_for (Some (confirm_mode_state confirm_mode.old)) }
-    ensures queued { confirm_mode.new.queued + 1 ≡ confirm_mode.old.queued }
-    ensures room { confirm_mode.new.queued ≤ confirm_mode.new.tags.spare }
-    ensures kept { KeepsTags confirm_mode.old confirm_mode.new }
-    ensures confirm_mode { confirm_mode_state confirm_mode.new ≡ confirm_mode_after result (confirm_mode_state confirm_mode.old) }
-    ensures tags { confirm_mode.new.tags.slots ≡ (if is_some result then confirm_mode.old.tags.slots ++ Some number ∷ [] else confirm_mode.old.tags.slots) }
-    ensures pending { confirm_mode.new.pending ≡ (if is_some result then confirm_mode.old.pending + 1 else confirm_mode.old.pending) }
+fn take_tag(mode: &mut ConfirmMode, number: u64) -> Option<u64>
+    requires queued { 0 < mode.old.queued }
+    requires room { mode.old.queued ≤ mode.old.tags.spare }
+    requires numbers { length mode.old.tags.slots + 1 < 2 ^ 64 }
+    requires pending { mode.old.pending + 1 < 2 ^ 64 }
+    ensures tag { result ≡ tag_for (Some (confirm_mode_state mode.old)) }
+    ensures queued { mode.new.queued + 1 ≡ mode.old.queued }
+    ensures room { mode.new.queued ≤ mode.new.tags.spare }
+    ensures kept { KeepsTags mode.old mode.new }
+    ensures mode { confirm_mode_state mode.new ≡ confirm_mode_after result (confirm_mode_state mode.old) }
+    ensures tags { mode.new.tags.slots ≡ (if is_some result then mode.old.tags.slots ++ Some number ∷ [] else mode.old.tags.slots) }
+    ensures pending { mode.new.pending ≡ (if is_some result then mode.old.pending + 1 else mode.old.pending) }
 {
-    confirm_mode.queued -= 1;
-    if !confirm_mode.selected {
+    mode.queued -= 1;
+    if !mode.selected {
         return None;
     }
-    confirm_mode.pending += 1;
-    Some(confirm_mode.tags.push_reserved(number))
+    mode.pending += 1;
+    Some(mode.tags.push_reserved(number))
 }
 
 fn cell_for(channel: u16, tag: Option<u64>) -> Cell
@@ -87,68 +87,68 @@ fn cell_for(channel: u16, tag: Option<u64>) -> Cell
 /// Settles one tag of the channel, and says whether it was pending.
 pub fn settle_tag(
     channel: u16,
-    confirm_mode: &mut ConfirmMode,
+    mode: &mut ConfirmMode,
     cells: &mut Numbered<Cell>,
     tag: u64,
     outcome: Outcome,
 ) -> bool
-    requires { Tied channel confirm_mode.old cells.old.slots }
-    ensures found { result ≡ is_some (under tag confirm_mode.old.tags.slots) }
+    requires { Tied channel mode.old cells.old.slots }
+    ensures found { result ≡ is_some (under tag mode.old.tags.slots) }
     ensures cells { cells.new.slots ≡ map (option_map (settled_cell channel (λ t. tag == t) outcome)) cells.old.slots }
-    ensures tied { Tied channel confirm_mode.new cells.new.slots }
-    ensures confirm_mode { confirm_mode_state confirm_mode.new ≡ confirm_mode_state confirm_mode.old }
-    ensures pending { result ≡ true → confirm_mode.new.pending + 1 ≡ confirm_mode.old.pending }
+    ensures tied { Tied channel mode.new cells.new.slots }
+    ensures mode { confirm_mode_state mode.new ≡ confirm_mode_state mode.old }
+    ensures pending { result ≡ true → mode.new.pending + 1 ≡ mode.old.pending }
     ensures spare { cells.old.spare ≤ cells.new.spare }
-    ensures room { KeepsTags confirm_mode.old confirm_mode.new }
+    ensures room { KeepsTags mode.old mode.new }
 {
-    let Some(number) = confirm_mode.tags.take(tag) else {
+    let Some(number) = mode.tags.take(tag) else {
         return false;
     };
     cells.set(number, Cell::Resolved(outcome));
-    confirm_mode.pending -= 1;
+    mode.pending -= 1;
     true
 }
 
 /// Settles the pending tags of the channel up to one, in rising order.
 pub fn settle_through(
     channel: u16,
-    confirm_mode: &mut ConfirmMode,
+    mode: &mut ConfirmMode,
     cells: &mut Numbered<Cell>,
     limit: u64,
     outcome: Outcome,
 )
-    requires { Tied channel confirm_mode.old cells.old.slots }
+    requires { Tied channel mode.old cells.old.slots }
     ensures cells { cells.new.slots ≡ map (option_map (settled_cell channel (λ t. nat_le t limit) outcome)) cells.old.slots }
-    ensures tied { Tied channel confirm_mode.new cells.new.slots }
-    ensures confirm_mode { confirm_mode_state confirm_mode.new ≡ confirm_mode_state confirm_mode.old }
+    ensures tied { Tied channel mode.new cells.new.slots }
+    ensures mode { confirm_mode_state mode.new ≡ confirm_mode_state mode.old }
     ensures spare { cells.old.spare ≤ cells.new.spare }
-    ensures room { KeepsTags confirm_mode.old confirm_mode.new }
+    ensures room { KeepsTags mode.old mode.new }
 {
-    while let Some(tag) = confirm_mode.tags.first_number() {
+    while let Some(tag) = mode.tags.first_number() {
         if tag > limit {
             break;
         }
-        let _ = settle_tag(channel, confirm_mode, cells, tag, outcome);
+        let _ = settle_tag(channel, mode, cells, tag, outcome);
     }
 }
 
 /// Rejects a publish of the channel that has not left: it gives up the room of its tag.
 pub fn reject(
     channel: u16,
-    confirm_mode: &mut ConfirmMode,
+    mode: &mut ConfirmMode,
     cells: &mut Numbered<Cell>,
     number: u64,
     error: Error,
 )
-    requires tied { Tied channel confirm_mode.old cells.old.slots }
+    requires tied { Tied channel mode.old cells.old.slots }
     requires queued { under number cells.old.slots ≡ Some (Cell.Queued channel) }
     ensures cells { cells.new.slots ≡ with_under number (Some (Cell.Resolved (Outcome.Failed error))) cells.old.slots }
-    ensures tied { Tied channel confirm_mode.new cells.new.slots }
-    ensures confirm_mode { confirm_mode_state confirm_mode.new ≡ confirm_mode_state confirm_mode.old }
+    ensures tied { Tied channel mode.new cells.new.slots }
+    ensures mode { confirm_mode_state mode.new ≡ confirm_mode_state mode.old }
     ensures spare { cells.old.spare ≤ cells.new.spare }
-    ensures room { KeepsTags confirm_mode.old confirm_mode.new }
+    ensures room { KeepsTags mode.old mode.new }
 {
-    confirm_mode.queued -= 1;
+    mode.queued -= 1;
     cells.set(number, Cell::Resolved(Outcome::Failed(error)));
 }
 
@@ -164,54 +164,54 @@ fn is_queued_on(channel: u16, cells: &Numbered<Cell>, number: u64) -> bool
 // Rejects the publish under a number, if it is one of the channel that has not left.
 fn reject_if_queued(
     channel: u16,
-    confirm_mode: &mut ConfirmMode,
+    mode: &mut ConfirmMode,
     cells: &mut Numbered<Cell>,
     number: u64,
     error: Error,
 )
-    requires { Tied channel confirm_mode.old cells.old.slots }
+    requires { Tied channel mode.old cells.old.slots }
     ensures same { map (option_map (ended_cell channel error)) cells.new.slots ≡ map (option_map (ended_cell channel error)) cells.old.slots }
     ensures queued { (n : ℕ) → under n cells.new.slots ≡ Some (Cell.Queued channel) → (n ≢ number) × (under n cells.old.slots ≡ Some (Cell.Queued channel)) }
-    ensures tied { Tied channel confirm_mode.new cells.new.slots }
-    ensures confirm_mode { confirm_mode_state confirm_mode.new ≡ confirm_mode_state confirm_mode.old }
+    ensures tied { Tied channel mode.new cells.new.slots }
+    ensures mode { confirm_mode_state mode.new ≡ confirm_mode_state mode.old }
     ensures spare { cells.old.spare ≤ cells.new.spare }
-    ensures room { KeepsTags confirm_mode.old confirm_mode.new }
+    ensures room { KeepsTags mode.old mode.new }
 {
     if !is_queued_on(channel, cells, number) {
         return;
     }
-    reject(channel, confirm_mode, cells, number, error);
+    reject(channel, mode, cells, number, error);
 }
 
 // Rejects every publish of the channel that has not left, from the last number down to the oldest of them.
-fn reject_queued(channel: u16, confirm_mode: &mut ConfirmMode, cells: &mut Numbered<Cell>, error: Error)
-    requires { Tied channel confirm_mode.old cells.old.slots }
+fn reject_queued(channel: u16, mode: &mut ConfirmMode, cells: &mut Numbered<Cell>, error: Error)
+    requires { Tied channel mode.old cells.old.slots }
     ensures same { map (option_map (ended_cell channel error)) cells.new.slots ≡ map (option_map (ended_cell channel error)) cells.old.slots }
-    ensures none { confirm_mode.new.queued ≡ 0 }
-    ensures tied { Tied channel confirm_mode.new cells.new.slots }
-    ensures confirm_mode { confirm_mode_state confirm_mode.new ≡ confirm_mode_state confirm_mode.old }
+    ensures none { mode.new.queued ≡ 0 }
+    ensures tied { Tied channel mode.new cells.new.slots }
+    ensures mode { confirm_mode_state mode.new ≡ confirm_mode_state mode.old }
     ensures spare { cells.old.spare ≤ cells.new.spare }
-    ensures room { KeepsTags confirm_mode.old confirm_mode.new }
+    ensures room { KeepsTags mode.old mode.new }
 {
     let mut number = cells.count();
-    while confirm_mode.queued > 0 {
-        reject_if_queued(channel, confirm_mode, cells, number, error);
+    while mode.queued > 0 {
+        reject_if_queued(channel, mode, cells, number, error);
         number -= 1;
     }
 }
 
 /// Ends the opening of the channel: all of it that is unresolved is resolved with the error.
-pub fn end_opening(channel: u16, confirm_mode: &mut ConfirmMode, cells: &mut Numbered<Cell>, error: Error)
-    requires { Tied channel confirm_mode.old cells.old.slots }
+pub fn end_opening(channel: u16, mode: &mut ConfirmMode, cells: &mut Numbered<Cell>, error: Error)
+    requires { Tied channel mode.old cells.old.slots }
     ensures cells { cells.new.slots ≡ map (option_map (ended_cell channel error)) cells.old.slots }
-    ensures tied { Tied channel confirm_mode.new cells.new.slots }
-    ensures confirm_mode { confirm_mode_state confirm_mode.new ≡ ended_confirm_mode (confirm_mode_state confirm_mode.old) }
+    ensures tied { Tied channel mode.new cells.new.slots }
+    ensures mode { confirm_mode_state mode.new ≡ ended_confirm_mode (confirm_mode_state mode.old) }
     ensures spare { cells.old.spare ≤ cells.new.spare }
-    ensures room { KeepsTags confirm_mode.old confirm_mode.new }
+    ensures room { KeepsTags mode.old mode.new }
 {
-    reject_queued(channel, confirm_mode, cells, error);
-    let last = confirm_mode.tags.count();
-    settle_through(channel, confirm_mode, cells, last, Outcome::Failed(error));
-    confirm_mode.asked = false;
-    confirm_mode.limit = 0;
+    reject_queued(channel, mode, cells, error);
+    let last = mode.tags.count();
+    settle_through(channel, mode, cells, last, Outcome::Failed(error));
+    mode.asked = false;
+    mode.limit = 0;
 }

@@ -11,8 +11,8 @@ use Rattle.lapin_tables.proofs.Counts.{count-cons}
 use Rattle.lapin_tables.proofs.Lists.{get-set_same, get-set_other}
 use Rattle.lapin_consumer.specs.Words.{map_at, places_at}
 use Rattle.lapin_consumer.specs.Marks as mark
-use Rattle.lapin_consumer.specs.Indexed.{Seated, FitWhere}
-use Rattle.lapin_consumer.specs.WithRoom.{WithRoom, HasEnds, is_registered_one}
+use Rattle.lapin_consumer.specs.Indexed.{Seated, reserved_of, FitWhere}
+use Rattle.lapin_consumer.specs.WithRoom.{WithRoom, Reserved, HasEnds, is_registered_one}
 use Rattle.lapin_consumer.specs.Subscriptions.{Consumer, is_on, moved}
 use Rattle.lapin_consumer.proofs.Places.{tested, get-map}
 use Rattle.lapin_consumer.proofs.Ending.{consumers_of, ended, seat_consumer, mapped}
@@ -57,9 +57,9 @@ fit_kept q p s t seats within is same more fit k u at on =
           let back : slice_get (slice_set seats p t) p ≡ Some u = subst P (sym here.1) at in
           let e : t ≡ u = the_same t u (sym (get-set_same seats p t within) ∙ back) in
           let passes : q s.consumer ≡ true = ap q (sym same ∙ ap (λ (v : Seated). v.consumer) e) ∙ on in
-          let room : 2 ≤ s.spare = fit p s (slice_get_read seats (length seats) p s refl within is) passes in
-          let now : 2 ≤ t.spare = omega arith in
-          subst (λ (v : Seated). 2 ≤ v.spare) e now
+          let room : 3 ≤ s.spare = fit p s (slice_get_read seats (length seats) p s refl within is) passes in
+          let now : 3 ≤ t.spare = omega arith in
+          subst (λ (v : Seated). 3 ≤ v.spare) e now
       | inr other ↦ fit k u (sym (get-set_other seats p k t other.1) ∙ at) on
     ]
   where
@@ -119,31 +119,36 @@ count_ended c e (x ∷ xs) =
     mapped_length (p ∷ ps) = ap suc (mapped_length ps)
 
 -- the room of a hall, as its seats and jobs have it
-pub ends_fit : (seats : List Seated) (jobs : List Job) (spare : ℕ) (k : WithRoom) → record { subscriptions = record { consumers = consumers_of seats; jobs = jobs }; rooms = map (λ s. s.spare) seats; spare = spare } ≡ k → HasEnds k → FitWhere is_registered_one seats × (2 * count_by is_registered_one (consumers_of seats) ≤ spare)
+pub ends_fit : (seats : List Seated) (jobs : List Job) (spare : ℕ) (k : WithRoom) → record { subscriptions = record { consumers = consumers_of seats; jobs = jobs }; rooms = map reserved_of seats; spare = spare } ≡ k → HasEnds k → FitWhere is_registered_one seats × (length seats + 2 * count_by is_registered_one (consumers_of seats) ≤ spare)
 ends_fit seats jobs spare k view ends =
     let P : WithRoom → Type 0 = λ j. HasEnds j in
-    let here : HasEnds (record { subscriptions = record { consumers = consumers_of seats; jobs = jobs }; rooms = map (λ s. s.spare) seats; spare = spare }) = subst P (sym view) ends in
-    ((λ p s at on. here.items p s.spare s.consumer (seat_consumer p s seats at) (get-map (λ (u : Seated). u.spare) p seats ∙ ap (option_map (λ (u : Seated). u.spare)) at) on), here.jobs)
+    let here : HasEnds (record { subscriptions = record { consumers = consumers_of seats; jobs = jobs }; rooms = map reserved_of seats; spare = spare }) = subst P (sym view) ends in
+    let long : length (consumers_of seats) ≡ length seats = length-map seats (λ (u : Seated). u.consumer) in
+    let fits : length (consumers_of seats) + 2 * count_by is_registered_one (consumers_of seats) ≤ spare = here.jobs in
+    ((λ p s at on. here.items p (reserved_of s) s.consumer (seat_consumer p s seats at) (get-map reserved_of p seats ∙ ap (option_map reserved_of) at) on), omega arith)
 
-pub has_ends : (seats : List Seated) (jobs : List Job) (spare : ℕ) → FitWhere is_registered_one seats → 2 * count_by is_registered_one (consumers_of seats) ≤ spare → HasEnds (record { subscriptions = record { consumers = consumers_of seats; jobs = jobs }; rooms = map (λ s. s.spare) seats; spare = spare })
-has_ends seats jobs spare fit fits = record {
-  items = λ p n x at_x at_n on. by_seat p n x (slice_get seats p) refl (sym (get-map (λ (u : Seated). u.consumer) p seats) ∙ at_x) (sym (get-map (λ (u : Seated). u.spare) p seats) ∙ at_n) on;
-  jobs = fits;
-}
+pub has_ends : (seats : List Seated) (jobs : List Job) (spare : ℕ) → FitWhere is_registered_one seats → length seats + 2 * count_by is_registered_one (consumers_of seats) ≤ spare → HasEnds (record { subscriptions = record { consumers = consumers_of seats; jobs = jobs }; rooms = map reserved_of seats; spare = spare })
+has_ends seats jobs spare fit fits =
+    let long : length (consumers_of seats) ≡ length seats = length-map seats (λ (u : Seated). u.consumer) in
+    record {
+      items = λ p r x at_x at_r on. by_seat p r x (slice_get seats p) refl (sym (get-map (λ (u : Seated). u.consumer) p seats) ∙ at_x) (sym (get-map reserved_of p seats) ∙ at_r) on;
+      jobs = omega arith;
+    }
   where
-    by_seat : (p n : ℕ) (x : Consumer) (o : Option Seated) → slice_get seats p ≡ o → option_map (λ (u : Seated). u.consumer) (slice_get seats p) ≡ Some x → option_map (λ (u : Seated). u.spare) (slice_get seats p) ≡ Some n → x.registered ≡ true → 2 ≤ n
-    by_seat p n x None at at_x at_n on = let no_more : option_map (λ (u : Seated). u.spare) None ≡ Some n = sym (ap (option_map (λ (u : Seated). u.spare)) at) ∙ at_n in cc
-    by_seat p n x (Some s) at at_x at_n on =
+    by_seat : (p : ℕ) (r : Reserved) (x : Consumer) (o : Option Seated) → slice_get seats p ≡ o → option_map (λ (u : Seated). u.consumer) (slice_get seats p) ≡ Some x → option_map reserved_of (slice_get seats p) ≡ Some r → x.registered ≡ true → 3 ≤ r.items
+    by_seat p r x None at at_x at_r on = let no_more : option_map reserved_of None ≡ Some r = sym (ap (option_map reserved_of) at) ∙ at_r in cc
+    by_seat p r x (Some s) at at_x at_r on =
         let same_x : Some s.consumer ≡ Some x = sym (ap (option_map (λ (u : Seated). u.consumer)) at) ∙ at_x in
-        let same_n : Some s.spare ≡ Some n = sym (ap (option_map (λ (u : Seated). u.spare)) at) ∙ at_n in
+        let same_r : Some (reserved_of s) ≡ Some r = sym (ap (option_map reserved_of) at) ∙ at_r in
         let is_x : s.consumer ≡ x = cc in
-        let is_n : s.spare ≡ n = cc in
-        let room : 2 ≤ s.spare = fit p s at (ap (λ (z : Consumer). z.registered) is_x ∙ on) in
+        let is_r : reserved_of s ≡ r = cc in
+        let is_n : s.spare ≡ r.items = ap (λ (q : Reserved). q.items) is_r in
+        let room : 3 ≤ s.spare = fit p s at (ap (λ (z : Consumer). z.registered) is_x ∙ on) in
         omega arith
 
 -- what is left of it after an end
-pub ends_left : (c : ℕ) (e : Option Error) (places : List ℕ) (old rooms new : List Seated) (jobs : List Job) (before made after : ℕ) → consumers_of rooms ≡ consumers_of old → places_at (λ _ x. is_on c x) (consumers_of old) ≡ places → consumers_of new ≡ map_at (moved (mark.Ended c e)) (consumers_of rooms) → 2 * count_by is_registered_one (consumers_of old) ≤ before → before ≤ made → made ≤ after + 2 * length places → FitWhere is_registered_one new → HasEnds (record { subscriptions = record { consumers = consumers_of new; jobs = jobs }; rooms = map (λ s. s.spare) new; spare = after })
-ends_left c e places old rooms new jobs before made after same are moves fits more left fit =
+pub ends_left : (c : ℕ) (e : Option Error) (places : List ℕ) (old rooms new : List Seated) (jobs : List Job) (before made after : ℕ) → consumers_of rooms ≡ consumers_of old → places_at (λ _ x. is_on c x) (consumers_of old) ≡ places → consumers_of new ≡ map_at (moved (mark.Ended c e)) (consumers_of rooms) → length new ≡ length old → length old + 2 * count_by is_registered_one (consumers_of old) ≤ before → before ≤ made → made ≤ after + 2 * length places → FitWhere is_registered_one new → HasEnds (record { subscriptions = record { consumers = consumers_of new; jobs = jobs }; rooms = map reserved_of new; spare = after })
+ends_left c e places old rooms new jobs before made after same are moves many fits more left fit =
     let xs : consumers_of new ≡ map_at (moved (mark.Ended c e)) (consumers_of old) = moves ∙ ap (map_at (moved (mark.Ended c e))) same in
     let sum : count_by is_registered_one (map_at (moved (mark.Ended c e)) (consumers_of old)) + length (places_at (λ _ x. is_on c x) (consumers_of old)) ≡ count_by is_registered_one (consumers_of old) = count_ended c e (consumers_of old) in
     let long : length (places_at (λ _ x. is_on c x) (consumers_of old)) ≡ length places = ap length are in
@@ -151,24 +156,25 @@ ends_left c e places old rooms new jobs before made after same are moves fits mo
     has_ends new jobs after fit (omega arith)
 
 -- as many jobs as the channel's consumers need
-pub ends_enough : (c spare : ℕ) (places : List ℕ) (xs : List Consumer) → places_at (λ _ x. is_on c x) xs ≡ places → 2 * count_by is_registered_one xs ≤ spare → 2 * length places ≤ spare
-ends_enough c spare places xs are fits =
+pub ends_enough : (c n spare : ℕ) (places : List ℕ) (xs : List Consumer) → places_at (λ _ x. is_on c x) xs ≡ places → n + 2 * count_by is_registered_one xs ≤ spare → n + 2 * length places ≤ spare
+ends_enough c n spare places xs are fits =
     let sum : count_by is_registered_one (map_at (moved (mark.Ended c None)) xs) + length (places_at (λ _ x. is_on c x) xs) ≡ count_by is_registered_one xs = count_ended c None xs in
     let long : length (places_at (λ _ x. is_on c x) xs) ≡ length places = ap length are in
     omega arith
 
-pub has_ends_now : (old new : List Seated) (jobs : List Job) (spare : ℕ) → consumers_of new ≡ consumers_of old → FitWhere is_registered_one new → 2 * count_by is_registered_one (consumers_of old) ≤ spare → HasEnds (record { subscriptions = record { consumers = consumers_of new; jobs = jobs }; rooms = map (λ s. s.spare) new; spare = spare })
+pub has_ends_now : (old new : List Seated) (jobs : List Job) (spare : ℕ) → consumers_of new ≡ consumers_of old → FitWhere is_registered_one new → length old + 2 * count_by is_registered_one (consumers_of old) ≤ spare → HasEnds (record { subscriptions = record { consumers = consumers_of new; jobs = jobs }; rooms = map reserved_of new; spare = spare })
 has_ends_now old new jobs spare same fit fits =
     let now : count_by is_registered_one (consumers_of new) ≡ count_by is_registered_one (consumers_of old) = ap (count_by is_registered_one) same in
+    let many : length new ≡ length old = sym (length-map new (λ (u : Seated). u.consumer)) ∙ ap length same ∙ length-map old (λ (u : Seated). u.consumer) in
     has_ends new jobs spare fit (omega arith)
 
 -- ---- one seat after another gets room
 
 -- those before a place have it
 abbrev pub FitBelow : ℕ → List Seated → Type 0
-FitBelow i seats = (p : ℕ) (s : Seated) → p < i → slice_get seats p ≡ Some s → s.consumer.registered ≡ true → 2 ≤ s.spare
+FitBelow i seats = (p : ℕ) (s : Seated) → p < i → slice_get seats p ≡ Some s → s.consumer.registered ≡ true → 3 ≤ s.spare
 
-pub below_next : (i : ℕ) (s t : Seated) (seats : List Seated) → i < length seats → t.consumer ≡ s.consumer → (s.consumer.registered ≡ true → 2 ≤ t.spare) → FitBelow i seats → FitBelow (i + 1) (slice_set seats i t)
+pub below_next : (i : ℕ) (s t : Seated) (seats : List Seated) → i < length seats → t.consumer ≡ s.consumer → (s.consumer.registered ≡ true → 3 ≤ t.spare) → FitBelow i seats → FitBelow (i + 1) (slice_set seats i t)
 below_next i s t seats within same room fit p u low at on =
     elim (eqb_tells i p) [
       | inl here ↦
@@ -176,7 +182,7 @@ below_next i s t seats within same room fit p u low at on =
           let back : slice_get (slice_set seats i t) i ≡ Some u = subst P (sym here.1) at in
           let e : t ≡ u = the_same t u (sym (get-set_same seats i t within) ∙ back) in
           let was : s.consumer.registered ≡ true = ap (λ (x : Consumer). x.registered) (sym same) ∙ ap (λ (v : Seated). v.consumer.registered) e ∙ on in
-          subst (λ (v : Seated). 2 ≤ v.spare) e (room was)
+          subst (λ (v : Seated). 3 ≤ v.spare) e (room was)
       | inr other ↦
           let apart : i ≢ p = other.1 in
           fit p u (omega arith) (sym (get-set_other seats i p t other.1) ∙ at) on

@@ -10,14 +10,16 @@ use Rattle.lapin_types.specs.Types.{Error}
 use Rattle.lapin_tables.proofs.Lists.{get-set_same, get-set_other}
 use Rattle.lapin_consumer.specs.Words.{map_at, gather_at, places_at, on_place}
 use Rattle.lapin_consumer.specs.Marks as mark
-use Rattle.lapin_consumer.specs.Indexed.{Seated, Line, Indexed, EndsFit, places_in, without_place}
-use Rattle.lapin_consumer.specs.WithRoom.{WithRoom}
+use Rattle.lapin_consumer.specs.Indexed.{Seated, Line, Listed, Indexed, EndsFit, nobody, listed_in, places_in, tagged_in, without_place, times, tag_at}
+use Rattle.lapin_consumer.specs.WithRoom.{WithRoom, Reserved}
 use Rattle.lapin_tables.specs.ByChannel.{at_channel}
+use Rattle.lapin_registry.specs.ByName.{rises}
 use Rattle.lapin_consumer.specs.Subscriptions.{Handed, Consumer, is_on, is_marked, handed, offered, canceled, last_words, first_place, moved, owed, is_under, Subscriptions, after_mark}
 use Rattle.lapin_consumer.proofs.Places.{tested, at_where, given_where, map_at-none, gather-none, get-map, map-set, places-map_at, get-map_at}
 use Rattle.lapin_consumer.proofs.Found.{Placed, first_placed, unplaced, get-within, after-suc, first-map}
 use Rattle.lapin_consumer.proofs.Leaving.{Ends, lists_left, suc_eqb, elsewhere}
-use Rattle.lapin_consumer.proofs.Indices.{Was, was}
+use Rattle.lapin_consumer.proofs.Indices.{Was, was, tag-map_at, handed_post}
+use Rattle.lapin_consumer.proofs.Sought.{rise-kept}
 use Rattle.lapin_consumer.proofs.Single.{placed, same_subscriptions, untouched}
 
 -- ---- two things handed, one after the other
@@ -158,14 +160,14 @@ left_none c i places xs past left = left ∙ none i places past
     none zero (p ∷ ps) past = absurd (omega arith)
     none (suc i) (p ∷ ps) past = none i ps (omega arith)
 
-pub next_room : (c p : ℕ) (rest : List ℕ) (s : Seated) (seats : List Seated) → Next c p rest s seats → p < length seats → s ≡ get_or seats p s → EndsFit c seats → 2 ≤ s.spare
+pub next_room : (c p : ℕ) (rest : List ℕ) (s : Seated) (seats : List Seated) → Next c p rest s seats → p < length seats → s ≡ get_or seats p s → EndsFit c seats → 3 ≤ s.spare
 next_room c p rest s seats n within is fit = fit p s (slice_get_read seats (length seats) p s refl within is) n.on
 
 -- ---- room for the ends
 
 -- a seat of the channel has room, or its place is still to come
 abbrev pub Fitted : ℕ → List ℕ → List Seated → Type 0
-Fitted c later seats = (p : ℕ) (s : Seated) → slice_get seats p ≡ Some s → is_on c s.consumer ≡ true → (2 ≤ s.spare) ⊎ (list_any (λ k. k == p) later ≡ true)
+Fitted c later seats = (p : ℕ) (s : Seated) → slice_get seats p ≡ Some s → is_on c s.consumer ≡ true → (3 ≤ s.spare) ⊎ (list_any (λ k. k == p) later ≡ true)
 
 member-suc : (p : ℕ) (ps : List ℕ) → list_any (λ k. k == suc p) (map suc ps) ≡ list_any (λ k. k == p) ps
 member-suc p [] = refl
@@ -185,14 +187,14 @@ seat_consumer p s seats at = get-map (λ (u : Seated). u.consumer) p seats ∙ a
 pub fitted_first : (c : ℕ) (places : List ℕ) (seats : List Seated) → places_at (λ _ x. is_on c x) (consumers_of seats) ≡ places → Fitted c places seats
 fitted_first c places seats e p s at on = inr (ap (list_any (λ k. k == p)) (sym e) ∙ member (is_on c) p s.consumer (consumers_of seats) (seat_consumer p s seats at) on)
 
-pub fitted_next : (c p : ℕ) (later rest : List ℕ) (s t : Seated) (seats : List Seated) → later ≡ p ∷ rest → p < length seats → s ≡ get_or seats p s → t.consumer ≡ s.consumer → 2 ≤ t.spare → Fitted c later seats → Fitted c rest (slice_set seats p t)
+pub fitted_next : (c p : ℕ) (later rest : List ℕ) (s t : Seated) (seats : List Seated) → later ≡ p ∷ rest → p < length seats → s ≡ get_or seats p s → t.consumer ≡ s.consumer → 3 ≤ t.spare → Fitted c later seats → Fitted c rest (slice_set seats p t)
 fitted_next c p later rest s t seats split within is same room fit k u at on =
     elim (eqb_tells p k) [
       | inl here ↦
           let P : ℕ → Type 0 = λ i. slice_get (slice_set seats p t) i ≡ Some u in
           let back : slice_get (slice_set seats p t) p ≡ Some u = subst P (sym here.1) at in
           let e : t ≡ u = the_same t u (sym (get-set_same seats p t within) ∙ back) in
-          inl (subst (λ (v : Seated). 2 ≤ v.spare) e room)
+          inl (subst (λ (v : Seated). 3 ≤ v.spare) e room)
       | inr other ↦ elim (fit k u (sym (get-set_other seats p k t other.1) ∙ at) on) [
         | inl done ↦ inl done
         | inr coming ↦ inr (shorter (ap (list_any (λ j. j == k)) (sym split) ∙ coming) other.0)
@@ -282,15 +284,33 @@ ended_under c d t e i x h =
     (λ on. let gone : is_under d t (ended e x) ≡ true = ap (λ b. is_under d t (cond b (ended e x) x)) (sym on) ∙ h in let no_more : false ≡ true = gone in cc)
     (λ away. ap (λ b. is_under d t (cond b (ended e x) x)) (sym away) ∙ h)
 
-pub ended_index : (c : ℕ) (e : Option Error) (before after : List (ℕ × Line)) (old new : Subscriptions) → Indexed before old.consumers → new ≡ after_mark old (mark.Ended c e) → places_at (λ _ x. is_on c x) new.consumers ≡ [] → places_in (at_channel c after) ≡ [] → ((d : ℕ) → c ≢ d → places_in (at_channel d after) ≡ places_in (at_channel d before)) → Indexed after new.consumers
+-- it leaves every tag
+ended_tag : (c : ℕ) (e : Option Error) (i : ℕ) (x : Consumer) → (moved (mark.Ended c e) i x).tag ≡ x.tag
+ended_tag c e i x = tested (is_on c x) (λ on. rw on (handed_post (last_words e) x).tag) (λ off. rw off refl)
+
+pub ended_index : (c : ℕ) (e : Option Error) (before after : List (ℕ × Line)) (old new : Subscriptions) → Indexed before old.consumers → new ≡ after_mark old (mark.Ended c e) → places_at (λ _ x. is_on c x) new.consumers ≡ [] → listed_in (at_channel c after) ≡ nobody → ((d : ℕ) → c ≢ d → listed_in (at_channel d after) ≡ listed_in (at_channel d before)) → Indexed after new.consumers
 ended_index c e before after old new index is none here others =
     let xs : new.consumers ≡ map_at (moved (mark.Ended c e)) old.consumers = ap (λ (r : Subscriptions). r.consumers) is in
     record {
       lists = λ d. elim (eqb_tells c d) [
         | inl same ↦
             let Q : ℕ → Type 0 = λ k. places_in (at_channel k after) ≡ places_at (λ _ x. is_on k x) new.consumers in
-            subst Q same.1 (here ∙ sym none)
-        | inr other ↦ others d other.1 ∙ index.lists d ∙ sym (ap (places_at (λ _ x. is_on d x)) xs ∙ places-map_at (λ _ x. is_on d x) (λ _ x. is_on d x) (moved (mark.Ended c e)) old.consumers (λ i x. ended_off c d e i x other.1))
+            subst Q same.1 (ap (λ (l : Listed). l.places) here ∙ sym none)
+        | inr other ↦ ap (λ (l : Listed). l.places) (others d other.1) ∙ index.lists d ∙ sym (ap (places_at (λ _ x. is_on d x)) xs ∙ places-map_at (λ _ x. is_on d x) (λ _ x. is_on d x) (moved (mark.Ended c e)) old.consumers (λ i x. ended_off c d e i x other.1))
+      ];
+      same = λ d p. elim (eqb_tells c d) [
+        | inl same ↦
+            let Q : ℕ → Type 0 = λ k. times p (tagged_in (at_channel k after)) ≡ times p (places_in (at_channel k after)) in
+            subst Q same.1 (ap (λ (l : Listed). times p l.tagged) here ∙ sym (ap (λ (l : Listed). times p l.places) here))
+        | inr other ↦ ap (λ (l : Listed). times p l.tagged) (others d other.1) ∙ index.same d p ∙ sym (ap (λ (l : Listed). times p l.places) (others d other.1))
+      ];
+      rise = λ d. elim (eqb_tells c d) [
+        | inl same ↦
+            let Q : ℕ → Type 0 = λ k. rises (tag_at new.consumers) (tagged_in (at_channel k after)) ≡ true in
+            subst Q same.1 (ap (λ (l : Listed). rises (tag_at new.consumers) l.tagged) here)
+        | inr other ↦
+            let kept : (p : ℕ) → tag_at new.consumers p ≡ tag_at old.consumers p = λ p. ap (λ ys. tag_at ys p) xs ∙ tag-map_at (moved (mark.Ended c e)) (ended_tag c e) old.consumers p in
+            ap (λ (l : Listed). rises (tag_at new.consumers) l.tagged) (others d other.1) ∙ rise-kept old.consumers new.consumers (tagged_in (at_channel d before)) kept (index.rise d)
       ];
       alone = λ d t i j x y at_i at_j ux uy.
           let wx : Was (moved (mark.Ended c e) i) (slice_get old.consumers i) x = was (moved (mark.Ended c e) i) (slice_get old.consumers i) x (sym (get-map_at (moved (mark.Ended c e)) i old.consumers) ∙ ap (λ zs. slice_get zs i) (sym xs) ∙ at_i) in
@@ -305,7 +325,7 @@ pub ended_nobody : (c : ℕ) (e : Option Error) (r : Subscriptions) → places_a
 ended_nobody c e r none = untouched (mark.Ended c e) r (λ xs. refl) (λ js. refl) (unplaced (λ _ x. is_on c x) r.consumers (ap first_place none))
 
 -- a hall's fields after the end
-pub hall_ended : (c : ℕ) (e : Option Error) (seats rooms new : List Seated) (jobs same more : List Job) (spares : List ℕ) (spare : ℕ) (k : WithRoom) → record { subscriptions = record { consumers = consumers_of seats; jobs = jobs }; rooms = spares; spare = spare } ≡ k → consumers_of rooms ≡ consumers_of seats → same ≡ jobs → consumers_of new ≡ map_at (moved (mark.Ended c e)) (consumers_of rooms) → more ≡ same ++ gather_at (owed (mark.Ended c e)) (consumers_of rooms) → ◌≡◌ {A = Subscriptions} (record { consumers = consumers_of new; jobs = more }) (after_mark k.subscriptions (mark.Ended c e))
+pub hall_ended : (c : ℕ) (e : Option Error) (seats rooms new : List Seated) (jobs same more : List Job) (spares : List Reserved) (spare : ℕ) (k : WithRoom) → record { subscriptions = record { consumers = consumers_of seats; jobs = jobs }; rooms = spares; spare = spare } ≡ k → consumers_of rooms ≡ consumers_of seats → same ≡ jobs → consumers_of new ≡ map_at (moved (mark.Ended c e)) (consumers_of rooms) → more ≡ same ++ gather_at (owed (mark.Ended c e)) (consumers_of rooms) → ◌≡◌ {A = Subscriptions} (record { consumers = consumers_of new; jobs = more }) (after_mark k.subscriptions (mark.Ended c e))
 hall_ended c e seats rooms new jobs same more spares spare k view kept stay moves owes =
     let P : WithRoom → Type 0 = λ j. ◌≡◌ {A = Subscriptions} (record { consumers = consumers_of new; jobs = more }) (after_mark j.subscriptions (mark.Ended c e)) in
     subst P view (same_subscriptions (consumers_of new) (map_at (moved (mark.Ended c e)) (consumers_of seats)) more (jobs ++ gather_at (owed (mark.Ended c e)) (consumers_of seats))

@@ -2,8 +2,9 @@ pub mod Places
 pub mod Single
 pub mod Indices
 pub mod Rooms
-pub mod Firsts
 pub mod Found
+pub mod Tags
+pub mod Sought
 pub mod Lines
 pub mod Leaving
 pub mod Registering

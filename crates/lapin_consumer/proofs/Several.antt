@@ -3,7 +3,7 @@ use Rattle.std.proofs.Common.{◌≡◌, ℕ, zero, suc, ◌+◌, ◌<◌, ◌�
 use Rattle.std.proofs.lemmas.List.{append-nil}
 use Rattle.lapin_consumer.specs.Words.{map_at, gather_at, places_at, on_place, on_places, from_place, from_places}
 use Rattle.lapin_consumer.specs.Indexed.{Seated}
-use Rattle.lapin_consumer.specs.WithRoom.{WithRoom}
+use Rattle.lapin_consumer.specs.WithRoom.{WithRoom, Reserved}
 use Rattle.lapin_consumer.specs.Marks as mark
 use Rattle.lapin_acker.specs.declared.switch.Switch.{Switch}
 use Rattle.lapin_acker.specs.Switches.{voided}
@@ -69,7 +69,7 @@ closing_owes : (c : ℕ) (xs : List Consumer) → gather_at (owed (mark.CloseAsk
 closing_owes c [] = refl
 closing_owes c (x ∷ xs) = elim (is_on c x) as (λ b. cond b [] [] ++ gather_at (λ i y. owed (mark.CloseAsked c) (suc i) y) xs ≡ []) [ true ↦ closing_owes c xs | false ↦ closing_owes c xs ]
 
-pub hall_closing : (c : ℕ) (seats new : List Seated) (jobs : List Job) (rooms : List ℕ) (spare : ℕ) (k : WithRoom) → record { subscriptions = record { consumers = consumers_of seats; jobs = jobs }; rooms = rooms; spare = spare } ≡ k → consumers_of new ≡ map_at (moved (mark.CloseAsked c)) (consumers_of seats) → ◌≡◌ {A = Subscriptions} (record { consumers = consumers_of new; jobs = jobs }) (after_mark k.subscriptions (mark.CloseAsked c))
+pub hall_closing : (c : ℕ) (seats new : List Seated) (jobs : List Job) (rooms : List Reserved) (spare : ℕ) (k : WithRoom) → record { subscriptions = record { consumers = consumers_of seats; jobs = jobs }; rooms = rooms; spare = spare } ≡ k → consumers_of new ≡ map_at (moved (mark.CloseAsked c)) (consumers_of seats) → ◌≡◌ {A = Subscriptions} (record { consumers = consumers_of new; jobs = jobs }) (after_mark k.subscriptions (mark.CloseAsked c))
 hall_closing c seats new jobs rooms spare k view moves =
     let P : WithRoom → Type 0 = λ j. ◌≡◌ {A = Subscriptions} (record { consumers = consumers_of new; jobs = jobs }) (after_mark j.subscriptions (mark.CloseAsked c)) in
     subst P view (same_subscriptions (consumers_of new) (map_at (moved (mark.CloseAsked c)) (consumers_of seats)) jobs (jobs ++ gather_at (owed (mark.CloseAsked c)) (consumers_of seats)) moves (sym (append-nil jobs) ∙ ap (λ js. jobs ++ js) (sym (closing_owes c (consumers_of seats)))))

@@ -237,6 +237,11 @@ abbrev pub answered : Option Consumer → Result (Option Handed) Error
 answered None = Err error.UnknownTicket
 answered (Some x) = Ok (poll_of x)
 
+-- whether a poll would give something, or a refusal where there is no such consumer
+abbrev pub is_ready : Option Consumer → Bool
+is_ready None = true
+is_ready (Some x) = is_some (poll_of x)
+
 -- what is answered to who lets go of a consumer: whether it has to be cancelled
 abbrev pub is_idle : Consumer → Bool
 is_idle x = x.registered && is_active x.state
@@ -245,21 +250,3 @@ is_idle x = x.registered && is_active x.state
 abbrev pub let_go_answer : Option Consumer → Result Bool Error
 let_go_answer None = Err error.UnknownTicket
 let_go_answer (Some x) = Ok (is_idle x)
-
--- the consumer at a place is registered on the channel under the tag
-abbrev pub under_in : ℕ → List ℕ → Option Consumer → Bool
-under_in c t None = false
-under_in c t (Some x) = is_under c t x
-
--- there is a consumer at place p, and it is registered on the channel under the tag
-abbrev pub is_under_at : ℕ → List ℕ → ℕ → List Consumer → Bool
-is_under_at c t p xs = under_in c t (slice_get xs p)
-
--- the consumer at a place has the tag
-abbrev pub tagged_in : List ℕ → Option Consumer → Bool
-tagged_in t None = false
-tagged_in t (Some x) = pointwise nat_eq x.tag t
-
--- there is a consumer at place p, and it has the tag, whether or not it is registered
-abbrev pub is_tagged : List ℕ → ℕ → List Consumer → Bool
-is_tagged t p xs = tagged_in t (slice_get xs p)

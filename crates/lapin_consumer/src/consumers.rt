@@ -1,15 +1,19 @@
 //! The consumers of a session: the public calls.
 //!
-//! Beside the seats stands an index of the registered consumers, so that a delivery or a cancel looks at its channel alone.
+//! Beside the seats stands an index of the registered consumers, so that a delivery or a cancel looks at its channel alone, and
+//! finds a tag by halves.
 
-ghost use Rattle.std.specs.Prelude.{◌≡◌, ◌+◌, ◌<◌, ◌^◌, ◌↔◌, ◌⊎◌, ◌≤◌, suc, Some, None, Ok, Err, OnOk, OnErr, IsOk, IfOk, IfErr, IfSome, IfNone, length, slice_get};
-ghost use Rattle.lapin_consumer.specs.Subscriptions.{empty_subscriptions, after_mark, is_registered, found, place_under, consumer_at, answered, let_go_answer};
+ghost use Rattle.std.specs.Prelude.{◌≡◌, ℕ, ◌+◌, ◌<◌, ◌^◌, ◌↔◌, ◌⊎◌, ◌≤◌, suc, Some, None, Ok, Err, OnOk, OnErr, IsOk, IsTrue, IfOk, IfErr, IfSome, IfNone, length, slice_get};
+ghost use Rattle.lapin_consumer.specs.Subscriptions.{empty_subscriptions, after_mark, is_registered, found, place_under, consumer_at, answered, let_go_answer, is_ready};
 ghost use Rattle.lapin_consumer.specs.Marks as mark;
 ghost use Rattle.lapin_acker.specs.Switches.{after_mark as after_acker_mark};
 ghost use Rattle.lapin_acker.specs.Marks as acker_mark;
 ghost use Rattle.lapin_consumer.specs.Ackers.{ackers_on};
-ghost use Rattle.lapin_consumer.specs.WithRoom.{HasRoom, HasEnds};
+ghost use Rattle.lapin_consumer.specs.WithRoom.{HasRoom, HasEnds, KeepsRoom, KeepsOthers};
 ghost use Rattle.std.specs.Option.{option_copied, option_map};
+ghost use Rattle.lapin_tables.specs.ByChannel.{at_channel};
+ghost use Rattle.lapin_registry.specs.ByName.{rises};
+ghost use Rattle.lapin_consumer.specs.Indexed.{tag_at, tagged_in, IsSought};
 
 use crate::hall::Hall;
 use crate::line::{Line, clear, make_line_room, replace, take_out};
@@ -25,7 +29,7 @@ use std::marker::Model;
 /// All consumers of a session, and the jobs of their delegates. Contracts see a `Subscriptions`, and the room beside it.
 pub struct Consumers {
     hall: Hall,
-    // By channel: the places of its registered consumers, rising.
+    // By channel: the places of its registered consumers, rising and in order of tags.
     lines: ByChannel<Line>,
 }
 
@@ -80,13 +84,15 @@ impl Consumers {
         ensures err { OnErr result (self.new.subscriptions ≡ self.old.subscriptions) }
         ensures cause { IfErr result (λ e. (e ≡ Error.NumbersUsedUp) ⊎ (e ≡ Error.NoMemory)) }
         ensures used_up { (result ≡ Err Error.NumbersUsedUp) ↔ (length self.old.subscriptions.consumers + 1 ≡ 2 ^ 64) }
+        ensures kept { (n : ℕ) → n ≤ length self.old.subscriptions.consumers → HasRoom n self.old → HasRoom n self.new }
     {
         let place = self.hall.count();
         if place as u64 == u64::MAX {
             return Err(Error::NumbersUsedUp);
         }
-        let gone = self.find_place(channel, tag.as_str());
-        let at = self.rank(channel, tag.as_str());
+        let text = tag.as_str();
+        let gone = self.find_place(channel, text);
+        let at = look_up(&self.hall, &self.lines, channel, text).1;
         if make_line_room(&mut self.lines, alloc, channel).is_err() {
             return Err(Error::NoMemory);
         }
@@ -108,51 +114,12 @@ impl Consumers {
         }
     }
 
-    // The place of the consumer that is registered on a channel under a tag: the hint mostly is it.
+    // The place of the consumer that is registered on a channel under a tag.
     fn find_place(&self, channel: u16, tag: &str) -> Option<usize>
         ensures place { result ≡ place_under channel tag.now self.now.subscriptions.consumers }
         ensures within { IfSome result (λ p. p < length self.now.subscriptions.consumers) }
     {
-        match self.find_hinted(channel, tag) {
-            Some(place) => Some(place),
-            None => self.find_among(channel, tag),
-        }
-    }
-
-    // The place that is hinted at, where its consumer is registered on the channel under the tag.
-    fn find_hinted(&self, channel: u16, tag: &str) -> Option<usize>
-        ensures { IfSome result (λ p. Some p ≡ place_under channel tag.now self.now.subscriptions.consumers) }
-    {
-        let place = self.hinted(channel, tag)?;
-        if !self.hall.is_under(place, channel, tag) {
-            return None;
-        }
-        Some(place)
-    }
-
-    // Where to look first.
-    fn hinted(&self, channel: u16, tag: &str) -> Option<usize> {
-        let at = self.rank(channel, tag);
-        self.lines.get(channel)?.hints().get(at).copied()
-    }
-
-    // Where among the hints of a channel the first with this tag stands, or would stand.
-    fn rank(&self, channel: u16, tag: &str) -> usize {
-        match self.lines.get(channel) {
-            Some(line) => self.hall.rank(line.hints(), tag),
-            None => 0,
-        }
-    }
-
-    // The place of the consumer that is registered on a channel under a tag, by a look at each that is registered there.
-    fn find_among(&self, channel: u16, tag: &str) -> Option<usize>
-        ensures place { result ≡ place_under channel tag.now self.now.subscriptions.consumers }
-        ensures within { IfSome result (λ p. p < length self.now.subscriptions.consumers) }
-    {
-        match self.lines.get(channel) {
-            Some(line) => self.hall.first_tagged(line.as_slice(), tag),
-            None => None,
-        }
+        look_up(&self.hall, &self.lines, channel, tag).0
     }
 
     /// Whether a consumer is registered: false also for a number that was never given.
@@ -163,7 +130,7 @@ impl Consumers {
     }
 
     /// Makes room for the next `complete` of a consumer, or, while it is registered, for the next `deregister` of its channel and
-    /// tag; a `start_cancel_one` between the two leaves this room.
+    /// tag. Each consumer has room of its own, which lasts until it is used, whatever else is called before.
     ///
     /// # Errors
     /// `NoMemory`; nothing but the room changes.
@@ -171,6 +138,7 @@ impl Consumers {
         ensures room { OnOk result (HasRoom consumer self.new) }
         ensures same { self.new.subscriptions ≡ self.old.subscriptions }
         ensures succeeds { HasRoom consumer self.old → IsOk result }
+        ensures kept { KeepsRoom self.old self.new }
     {
         self.hall.reserve(consumer)
     }
@@ -184,6 +152,7 @@ impl Consumers {
     pub fn reserve_ends(&mut self, _alloc: Global) -> Result<(), NoMemory>
         ensures room { OnOk result (HasEnds self.new) }
         ensures same { self.new.subscriptions ≡ self.old.subscriptions }
+        ensures kept { KeepsRoom self.old self.new }
     {
         self.hall.reserve_ends()
     }
@@ -203,6 +172,10 @@ impl Consumers {
         ensures ok { OnOk result (self.new.subscriptions ≡ after_mark self.old.subscriptions (mark.Completed consumer delivery)) }
         ensures err { OnErr result (self.new.subscriptions ≡ self.old.subscriptions) }
         ensures succeeds { HasRoom consumer self.old → IsOk result }
+
+        // It uses up the room of its own consumer alone, and that only where the delivery is taken.
+        ensures others { KeepsOthers (Some consumer) self.old self.new }
+        ensures unused { OnErr result (KeepsRoom self.old self.new) }
     {
         if !self.hall.registered(consumer) {
             let_go(delivery);
@@ -225,14 +198,19 @@ impl Consumers {
         ensures ok { OnOk result (self.new.subscriptions ≡ after_mark self.old.subscriptions (mark.Canceled channel tag.now)) }
         ensures err { OnErr result (self.new.subscriptions ≡ self.old.subscriptions) }
         ensures succeeds { IfSome (found channel tag.now self.old.subscriptions) (λ n. HasRoom n self.old) → IsOk result }
+
+        // It uses up the room of the consumer of that tag alone.
+        ensures others { KeepsOthers (found channel tag.now self.old.subscriptions) self.old self.new }
+        ensures unused { OnErr result (KeepsRoom self.old self.new) }
     {
         let Some(place) = self.find_place(channel, tag) else {
             return Ok(());
         };
+        let at = look_up(&self.hall, &self.lines, channel, tag).1;
         let number = self.hall.number(place);
         self.hall.reserve(number)?;
         self.hall.finish(place);
-        take_out(&mut self.lines, channel, place);
+        take_out(&mut self.lines, channel, place, at);
         Ok(())
     }
 
@@ -251,6 +229,7 @@ impl Consumers {
         ensures err { OnErr result (self.new.subscriptions ≡ self.old.subscriptions) }
         ensures void { OnOk result (switches.new.switches ≡ after_acker_mark switches.old.switches (acker_mark.Voided (ackers_on channel self.old.subscriptions.consumers))) }
         ensures same { OnErr result (switches.new.switches ≡ switches.old.switches) }
+        ensures kept { KeepsRoom self.old self.new }
     {
         let Some(line) = self.lines.get(channel) else {
             return Ok(());
@@ -260,7 +239,8 @@ impl Consumers {
 
     /// The registered consumers of a channel start to be cancelled: they have no delegate from now on.
     pub fn start_cancel(&mut self, channel: u16)
-        ensures { self.new.subscriptions ≡ after_mark self.old.subscriptions (mark.CloseAsked channel) }
+        ensures change { self.new.subscriptions ≡ after_mark self.old.subscriptions (mark.CloseAsked channel) }
+        ensures kept { KeepsRoom self.old self.new }
     {
         if let Some(line) = self.lines.get(channel) {
             self.hall.start_cancels(channel, line.as_slice());
@@ -271,9 +251,7 @@ impl Consumers {
     /// none.
     pub fn start_cancel_one(&mut self, channel: u16, tag: &str)
         ensures change { self.new.subscriptions ≡ after_mark self.old.subscriptions (mark.CancelAsked channel tag.now) }
-
-        // The room that `reserve_item` made stays.
-        ensures room { (self.new.rooms ≡ self.old.rooms) × (self.new.spare ≡ self.old.spare) }
+        ensures kept { KeepsRoom self.old self.new }
     {
         let found = self.find_place(channel, tag);
         self.hall.start_cancel(found);
@@ -290,6 +268,7 @@ impl Consumers {
 
         // In the room that `reserve_ends` made it does not fail, and leaves the room of the other channels.
         ensures room { HasEnds self.old → IsOk result × HasEnds self.new }
+        ensures kept { KeepsRoom self.old self.new }
     {
         self.end(channel, None)
     }
@@ -305,6 +284,7 @@ impl Consumers {
 
         // In the room that `reserve_ends` made it does not fail, and leaves the room of the other channels.
         ensures room { HasEnds self.old → IsOk result × HasEnds self.new }
+        ensures kept { KeepsRoom self.old self.new }
     {
         self.end(channel, Some(error))
     }
@@ -313,6 +293,7 @@ impl Consumers {
         ensures ok { OnOk result (self.new.subscriptions ≡ after_mark self.old.subscriptions (mark.Ended channel error)) }
         ensures err { OnErr result (self.new.subscriptions ≡ self.old.subscriptions) }
         ensures room { HasEnds self.old → IsOk result × HasEnds self.new }
+        ensures kept { KeepsRoom self.old self.new }
     {
         let Some(line) = self.lines.get(channel) else {
             return Ok(());
@@ -330,8 +311,16 @@ impl Consumers {
     pub fn poll_next(&mut self, consumer: u64) -> Result<Option<DeliveryResult>, Error>
         ensures answer { result ≡ answered (consumer_at consumer self.old.subscriptions) }
         ensures polled { self.new.subscriptions ≡ after_mark self.old.subscriptions (mark.Polled consumer) }
+        ensures kept { KeepsRoom self.old self.new }
     {
         self.hall.poll(consumer)
+    }
+
+    /// Whether `poll_next` would answer something but `None`: an item, the end, or the refusal of a number that was never given.
+    pub fn ready(&self, consumer: u64) -> bool
+        ensures { result ≡ is_ready (consumer_at consumer self.now.subscriptions) }
+    {
+        self.hall.is_ready(consumer)
     }
 
     /// Gives a consumer a delegate: all that is queued becomes jobs, in order, and so does what comes, where it is active.
@@ -343,6 +332,7 @@ impl Consumers {
         ensures ok { OnOk result (self.new.subscriptions ≡ after_mark self.old.subscriptions (mark.Delegated consumer)) }
         ensures err { OnErr result (self.new.subscriptions ≡ self.old.subscriptions) }
         ensures cause { IfErr result (λ e. (e ≡ Error.UnknownTicket) ⊎ (e ≡ Error.NoMemory)) }
+        ensures kept { KeepsRoom self.old self.new }
     {
         self.hall.delegate(consumer)
     }
@@ -355,6 +345,7 @@ impl Consumers {
     pub fn close(&mut self, consumer: u64) -> Result<bool, Error>
         ensures answer { result ≡ let_go_answer (consumer_at consumer self.old.subscriptions) }
         ensures change { self.new.subscriptions ≡ after_mark self.old.subscriptions (mark.LetGo consumer) }
+        ensures kept { KeepsRoom self.old self.new }
     {
         self.hall.let_go(consumer)
     }
@@ -394,7 +385,24 @@ impl Consumers {
     pub fn next_job(&mut self) -> Option<Job>
         ensures job { result ≡ slice_get self.old.subscriptions.jobs 0 }
         ensures rest { self.new.subscriptions ≡ after_mark self.old.subscriptions mark.JobAsked }
+        ensures kept { KeepsRoom self.old self.new }
     {
         self.hall.next_job()
+    }
+}
+
+// The place of the consumer that is registered on a channel under a tag, if one is, and where that stands in the order of tags, or
+// would stand.
+fn look_up(hall: &Hall, lines: &ByChannel<Line>, channel: u16, tag: &str) -> (Option<usize>, usize)
+    requires { IsTrue (rises (tag_at hall.now.subscriptions.consumers) (tagged_in (at_channel channel lines.now.entries))) }
+    ensures { IsSought tag.now hall.now.subscriptions.consumers (tagged_in (at_channel channel lines.now.entries)) result }
+{
+    let Some(line) = lines.get(channel) else {
+        return (None, 0);
+    };
+    let tagged = line.tagged();
+    match hall.seek(tagged, tag) {
+        Ok(at) => (Some(tagged[at]), at),
+        Err(at) => (None, at),
     }
 }

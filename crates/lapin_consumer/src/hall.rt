@@ -1,28 +1,31 @@
 //! The seats of all consumers and the jobs of their delegates. Who is registered under which tag is looked up elsewhere:
 //! `consumers` alone calls this file.
 
-ghost use Rattle.std.specs.Prelude.{◌≡◌, ℕ, ◌+◌, ◌-◌, ◌<◌, ◌^◌, ◌↔◌, ◌⊎◌, ◌≤◌, suc, ◌++◌, ◌∷◌, [], true, Some, None, Ok, Err, OnOk, OnErr, IsOk, IfOk, IfErr, IfSome, IfNone, length, slice_get};
-ghost use Rattle.lapin_consumer.specs.Subscriptions.{empty_subscriptions, after_mark, is_registered, consumer_at, answered, let_go_answer, is_tagged, is_under_at, newcomer, unregistered, canceling, finished, offered, last_words, is_on};
+ghost use Rattle.std.specs.Prelude.{◌≡◌, ℕ, ◌+◌, ◌-◌, ◌<◌, ◌^◌, ◌↔◌, ◌⊎◌, ◌≤◌, suc, ◌++◌, ◌∷◌, [], true, IsTrue, Some, None, Ok, Err, OnOk, OnErr, IsOk, IfOk, IfErr, IfSome, IfNone, length, slice_get};
+ghost use Rattle.lapin_consumer.specs.Subscriptions.{empty_subscriptions, after_mark, is_registered, consumer_at, answered, let_go_answer, newcomer, unregistered, canceling, finished, offered, last_words, is_on, is_ready};
 ghost use Rattle.lapin_consumer.specs.Words.{on_place, on_place_if, from_place, places_at};
 ghost use Rattle.std.specs.Option.{option_copied, option_map};
-ghost use Rattle.std.specs.List.{find};
 ghost use Rattle.lapin_consumer.specs.Marks as mark;
 ghost use Rattle.lapin_acker.specs.Switches.{voided};
 ghost use Rattle.lapin_consumer.specs.Ackers.{ackers_on};
-ghost use Rattle.lapin_consumer.specs.WithRoom.{HasRoom, HasEnds};
+ghost use Rattle.lapin_consumer.specs.WithRoom.{HasRoom, HasEnds, KeepsRoom, KeepsOthers};
+ghost use Rattle.lapin_consumer.specs.Indexed.{tag_at};
+ghost use Rattle.lapin_registry.specs.ByName.{name_cmp, rises, IsAt, IsGapFor};
 
 use crate::seat::Seat;
 use crate::serving::{
-    cancel_if_idle, end_all, finish, give_delegate, hand, make_all_end_rooms, make_end_rooms,
+    cancel_if_idle, end_all, finish, give_delegate, hand_next, make_all_end_rooms, make_end_rooms,
     make_room, poll, start_cancels, void_all,
 };
 use lapin_acker::Switches;
 use lapin_types::{Delivery, DeliveryResult, Error, Job, NoMemory, ShortString};
 use std::alloc::Global;
+use std::cmp::Ordering;
 use std::collections::VecDeque;
 use std::marker::Model;
 
-/// The seats of all consumers, and the jobs. Contracts see a `Subscriptions`, and the room beside it.
+/// The seats of all consumers, and the jobs. Contracts see a `Subscriptions`, and the room beside it. There is room for a job for each
+/// seat that room was promised to.
 #[derive(Drop)]
 pub(crate) struct Hall {
     seats: Vec<Seat>,
@@ -30,7 +33,8 @@ pub(crate) struct Hall {
 }
 
 impl Model for Hall {
-    ghost use Rattle.std.specs.Prelude.{◌-◌, map};
+    ghost use Rattle.std.specs.Prelude.{◌-◌, ◌≤◌, map};
+    ghost use Rattle.lapin_consumer.specs.Indexed.{reserved_of, promised_of, count_promised};
     ghost use Rattle.std.specs.VecDeque.{deque_len, deque_capacity};
     ghost use Rattle.lapin_consumer.specs.WithRoom.{WithRoom};
     ghost use Rattle.lapin_consumer.specs.Codes.{kept_code};
@@ -41,9 +45,11 @@ impl Model for Hall {
 
     ghost view = { λ a. record {
       subscriptions = record { consumers = map (λ s. s.consumer) a.seats.items; jobs = a.jobs.items };
-      rooms = map (λ s. s.spare) a.seats.items;
+      rooms = map reserved_of a.seats.items;
       spare = deque_capacity a.jobs - deque_len a.jobs;
     } };
+
+    ghost invariant = { λ a. count_promised (promised_of a.seats.items) ≤ deque_capacity a.jobs - deque_len a.jobs };
 }
 
 impl Hall {
@@ -95,6 +101,7 @@ impl Hall {
     ) -> Result<(), NoMemory>
         ensures ok { OnOk result (self.new.subscriptions ≡ record self.old.subscriptions { consumers = self.old.subscriptions.consumers ++ newcomer channel tag queue ∷ [] }) }
         ensures err { OnErr result (self.new.subscriptions ≡ self.old.subscriptions) }
+        ensures kept { (n : ℕ) → n ≤ length self.old.subscriptions.consumers → HasRoom n self.old → HasRoom n self.new }
     {
         self.seats.push(Seat::new(alloc, channel, tag, queue))?;
         Ok(())
@@ -103,7 +110,8 @@ impl Hall {
     /// The consumer at a place is no longer registered, if a place is named.
     pub(crate) fn unregister(&mut self, gone: Option<usize>)
         requires { IfSome gone (λ p. p < length self.old.subscriptions.consumers) }
-        ensures { self.new.subscriptions ≡ record self.old.subscriptions { consumers = on_place_if unregistered gone self.old.subscriptions.consumers } }
+        ensures change { self.new.subscriptions ≡ record self.old.subscriptions { consumers = on_place_if unregistered gone self.old.subscriptions.consumers } }
+        ensures kept { KeepsRoom self.old self.new }
     {
         if let Some(place) = gone {
             self.seats[place].unregister();
@@ -114,8 +122,7 @@ impl Hall {
     pub(crate) fn start_cancel(&mut self, found: Option<usize>)
         requires { IfSome found (λ p. p < length self.old.subscriptions.consumers) }
         ensures change { self.new.subscriptions ≡ record self.old.subscriptions { consumers = on_place_if canceling found self.old.subscriptions.consumers } }
-        ensures rooms { self.new.rooms ≡ self.old.rooms }
-        ensures spare { self.new.spare ≡ self.old.spare }
+        ensures kept { KeepsRoom self.old self.new }
     {
         if let Some(place) = found {
             self.seats[place].start_cancel();
@@ -128,6 +135,7 @@ impl Hall {
         requires room { HasRoom (suc place) self.old }
         ensures consumers { self.new.subscriptions.consumers ≡ on_place finished place self.old.subscriptions.consumers }
         ensures jobs { self.new.subscriptions.jobs ≡ self.old.subscriptions.jobs ++ from_place (offered (suc place) (last_words None)) place self.old.subscriptions.consumers }
+        ensures others { KeepsOthers (Some (suc place)) self.old self.new }
     {
         let number = self.number(place);
         finish(number, &mut self.seats[place], &mut self.jobs);
@@ -145,6 +153,7 @@ impl Hall {
         ensures none { OnOk result (places_at (λ _ x. is_on channel x) self.new.subscriptions.consumers ≡ []) }
         ensures err { OnErr result (self.new.subscriptions ≡ self.old.subscriptions) }
         ensures room { HasEnds self.old → IsOk result × HasEnds self.new }
+        ensures kept { KeepsRoom self.old self.new }
     {
         make_end_rooms(channel, places, &mut self.seats, &mut self.jobs)?;
         end_all(channel, places, &mut self.seats, &mut self.jobs, error);
@@ -155,6 +164,7 @@ impl Hall {
     pub(crate) fn reserve_ends(&mut self) -> Result<(), NoMemory>
         ensures room { OnOk result (HasEnds self.new) }
         ensures same { self.new.subscriptions ≡ self.old.subscriptions }
+        ensures kept { KeepsRoom self.old self.new }
     {
         make_all_end_rooms(&mut self.seats, &mut self.jobs)?;
         Ok(())
@@ -163,7 +173,8 @@ impl Hall {
     /// The registered consumers of a channel start to be cancelled. The places are theirs.
     pub(crate) fn start_cancels(&mut self, channel: u16, places: &[usize])
         requires { places_at (λ _ x. is_on channel x) self.old.subscriptions.consumers ≡ places.now }
-        ensures { self.new.subscriptions ≡ after_mark self.old.subscriptions (mark.CloseAsked channel) }
+        ensures change { self.new.subscriptions ≡ after_mark self.old.subscriptions (mark.CloseAsked channel) }
+        ensures kept { KeepsRoom self.old self.new }
     {
         start_cancels(channel, places, &mut self.seats);
     }
@@ -180,8 +191,9 @@ impl Hall {
         ensures err { OnErr result (self.new.subscriptions ≡ self.old.subscriptions) }
         ensures void { OnOk result (switches.new.switches ≡ voided (ackers_on channel self.old.subscriptions.consumers) switches.old.switches) }
         ensures same { OnErr result (switches.new.switches ≡ switches.old.switches) }
+        ensures kept { KeepsRoom self.old self.new }
     {
-        self.jobs.reserve(places.len())?;
+        self.jobs.reserve(self.seats.len() + places.len())?;
         void_all(channel, places, &mut self.seats, &mut self.jobs, switches);
         Ok(())
     }
@@ -198,6 +210,7 @@ impl Hall {
     pub(crate) fn poll(&mut self, consumer: u64) -> Result<Option<DeliveryResult>, Error>
         ensures answer { result ≡ answered (consumer_at consumer self.old.subscriptions) }
         ensures polled { self.new.subscriptions ≡ after_mark self.old.subscriptions (mark.Polled consumer) }
+        ensures kept { KeepsRoom self.old self.new }
     {
         let Some(place) = self.place(consumer) else {
             return Err(Error::UnknownTicket);
@@ -205,23 +218,39 @@ impl Hall {
         Ok(poll(&mut self.seats[place]))
     }
 
+    /// Whether a poll of the consumer would give something, or a refusal.
+    pub(crate) fn is_ready(&self, consumer: u64) -> bool
+        ensures { result ≡ is_ready (consumer_at consumer self.now.subscriptions) }
+    {
+        match self.place(consumer) {
+            Some(place) => self.seats[place].is_ready(),
+            None => true,
+        }
+    }
+
     pub(crate) fn next_job(&mut self) -> Option<Job>
         ensures job { result ≡ slice_get self.old.subscriptions.jobs 0 }
         ensures rest { self.new.subscriptions ≡ after_mark self.old.subscriptions mark.JobAsked }
+        ensures kept { KeepsRoom self.old self.new }
     {
         self.jobs.pop_front()
     }
 
-    /// Makes room for the next thing that a consumer is handed. The subscriptions stays, also where there is no memory.
+    /// Promises room to the next thing that a consumer is handed. The subscriptions stays, also where there is no memory.
     pub(crate) fn reserve(&mut self, consumer: u64) -> Result<(), NoMemory>
         ensures room { OnOk result (HasRoom consumer self.new) }
         ensures same { self.new.subscriptions ≡ self.old.subscriptions }
         ensures succeeds { HasRoom consumer self.old → IsOk result }
+        ensures kept { KeepsRoom self.old self.new }
     {
         let Some(place) = self.place(consumer) else {
             return Ok(());
         };
-        make_room(&mut self.seats[place], &mut self.jobs, 1)?;
+        if self.seats[place].is_promised() {
+            return Ok(());
+        }
+        let consumers = self.seats.len();
+        make_room(&mut self.seats[place], &mut self.jobs, consumers)?;
         Ok(())
     }
 
@@ -229,12 +258,13 @@ impl Hall {
     pub(crate) fn deliver(&mut self, consumer: u64, delivery: Delivery)
         requires registered { is_registered consumer self.old.subscriptions ≡ true }
         requires room { HasRoom consumer self.old }
-        ensures { self.new.subscriptions ≡ after_mark self.old.subscriptions (mark.Completed consumer delivery) }
+        ensures change { self.new.subscriptions ≡ after_mark self.old.subscriptions (mark.Completed consumer delivery) }
+        ensures others { KeepsOthers (Some consumer) self.old self.new }
     {
         let Some(place) = self.place(consumer) else {
             unreachable!()
         };
-        hand(
+        hand_next(
             consumer,
             &mut self.seats[place],
             &mut self.jobs,
@@ -248,12 +278,16 @@ impl Hall {
         ensures ok { OnOk result (self.new.subscriptions ≡ after_mark self.old.subscriptions (mark.Delegated consumer)) }
         ensures err { OnErr result (self.new.subscriptions ≡ self.old.subscriptions) }
         ensures cause { IfErr result (λ e. (e ≡ Error.UnknownTicket) ⊎ (e ≡ Error.NoMemory)) }
+        ensures kept { KeepsRoom self.old self.new }
     {
         let Some(place) = self.place(consumer) else {
             return Err(Error::UnknownTicket);
         };
         let count = self.seats[place].count();
-        if self.jobs.reserve(count).is_err() {
+        let Some(wanted) = self.seats.len().checked_add(count) else {
+            return Err(Error::NoMemory);
+        };
+        if self.jobs.reserve(wanted).is_err() {
             return Err(Error::NoMemory);
         }
         give_delegate(consumer, &mut self.seats[place], &mut self.jobs);
@@ -264,6 +298,7 @@ impl Hall {
     pub(crate) fn let_go(&mut self, consumer: u64) -> Result<bool, Error>
         ensures answer { result ≡ let_go_answer (consumer_at consumer self.old.subscriptions) }
         ensures change { self.new.subscriptions ≡ after_mark self.old.subscriptions (mark.LetGo consumer) }
+        ensures kept { KeepsRoom self.old self.new }
     {
         let Some(place) = self.place(consumer) else {
             return Err(Error::UnknownTicket);
@@ -308,45 +343,22 @@ impl Hall {
         }
     }
 
-    /// Whether the consumer at a place has the tag.
-    pub(crate) fn has_tag(&self, place: usize, tag: &str) -> bool
-        ensures { result ≡ is_tagged tag.now place self.now.subscriptions.consumers }
+    // How the tag of the consumer at a place compares to this one.
+    fn compare(&self, place: usize, tag: &str) -> Ordering
+        ensures { result ≡ name_cmp (tag_at self.now.subscriptions.consumers place) tag.now }
     {
         match self.seats.get(place) {
-            Some(seat) => seat.has_tag(tag),
-            None => false,
+            Some(seat) => seat.tag().as_str().cmp(tag),
+            None => "".cmp(tag),
         }
     }
 
-    /// Whether the consumer at a place is registered on the channel under the tag.
-    pub(crate) fn is_under(&self, place: usize, channel: u16, tag: &str) -> bool
-        ensures { result ≡ is_under_at channel tag.now place self.now.subscriptions.consumers }
+    /// Among places in order of their consumers' tags, where the one with this tag stands, or would stand.
+    pub(crate) fn seek(&self, places: &[usize], tag: &str) -> Result<usize, usize>
+        requires { IsTrue (rises (tag_at self.now.subscriptions.consumers) places.now) }
+        ensures found { IfOk result (λ at. IsAt (tag_at self.now.subscriptions.consumers) tag.now places.now at) }
+        ensures absent { IfErr result (λ at. IsGapFor (tag_at self.now.subscriptions.consumers) tag.now places.now at) }
     {
-        match self.seats.get(place) {
-            Some(seat) => seat.is_under(channel, tag),
-            None => false,
-        }
-    }
-
-    /// Among places in order of their consumers' tags, where the first with this tag stands, or would stand.
-    pub(crate) fn rank(&self, places: &[usize], tag: &str) -> usize {
-        places.partition_point(|place| self.is_before(*place, tag))
-    }
-
-    fn is_before(&self, place: usize, tag: &str) -> bool {
-        match self.seats.get(place) {
-            Some(seat) => seat.is_before(tag),
-            None => false,
-        }
-    }
-
-    /// The first of the places whose consumer has the tag.
-    pub(crate) fn first_tagged(&self, places: &[usize], tag: &str) -> Option<usize>
-        ensures { result ≡ find (λ p. is_tagged tag.now p self.now.subscriptions.consumers) places.now }
-    {
-        places
-            .iter()
-            .copied()
-            .find(|place| self.has_tag(*place, tag))
+        places.binary_search_by(|place| self.compare(*place, tag))
     }
 }

@@ -1,13 +1,13 @@
 //! What is done to one consumer's seat and the jobs.
 
-ghost use Rattle.std.specs.Prelude.{◌≡◌, suc, ◌<◌, ◌≤◌, ◌-◌, ◌+◌, ◌*◌, ◌∷◌, ◌++◌, [], Some, None, IfOk, OnOk, OnErr, IsOk, map, length, true, if◌then◌else◌};
+ghost use Rattle.std.specs.Prelude.{◌≡◌, suc, ◌<◌, ◌≤◌, ◌-◌, ◌+◌, ◌*◌, ◌∷◌, ◌++◌, [], Some, None, IfOk, OnOk, OnErr, IsOk, map, length, true, false, if◌then◌else◌};
 ghost use Rattle.std.specs.VecDeque.{deque_len, deque_capacity};
 ghost use Rattle.lapin_consumer.specs.Subscriptions.{handed, is_marked, discard as discarded, canceled, finished, last_words, offered, is_on, moved, owed, deliver as delivered, delegated, emptied, canceling, is_idle, polled, poll_of};
 ghost use Rattle.lapin_consumer.specs.Words.{places_at, map_at, gather_at};
 ghost use Rattle.lapin_consumer.specs.Marks as mark;
 ghost use Rattle.lapin_acker.specs.Switches.{voided};
 ghost use Rattle.lapin_consumer.specs.Ackers.{ackers_of, ackers_on};
-ghost use Rattle.lapin_consumer.specs.Indexed.{EndsFit, FitWhere};
+ghost use Rattle.lapin_consumer.specs.Indexed.{EndsFit, FitWhere, promised_of};
 ghost use Rattle.lapin_consumer.specs.WithRoom.{is_registered_one};
 ghost use Rattle.std.specs.List.{count_by};
 
@@ -17,29 +17,59 @@ use lapin_types::{Delivery, DeliveryResult, Error, Job, JobKind};
 use std::alloc::AllocError;
 use std::collections::VecDeque;
 
-/// Makes room for so many more items of a consumer, and for as many jobs.
+/// Promises room to what a consumer is handed next, as an item and as a job. There is then room for a job of each consumer, so
+/// that to promise it to one takes it from no other.
 pub(crate) fn make_room(
     seat: &mut Seat,
     jobs: &mut VecDeque<Job>,
-    additional: usize,
+    consumers: usize,
 ) -> Result<(), AllocError>
     ensures same { seat.new.consumer ≡ seat.old.consumer }
     ensures jobs { jobs.new.items ≡ jobs.old.items }
-    ensures room { OnOk result (additional ≤ seat.new.spare) }
-    ensures job_room { OnOk result (additional ≤ deque_capacity jobs.new - deque_len jobs.new) }
-    ensures succeeds { additional ≤ deque_capacity jobs.old - deque_len jobs.old → additional ≤ seat.old.spare → IsOk result }
+    ensures room { OnOk result (seat.new.promised ≡ true) }
+    ensures job_room { OnOk result (consumers ≤ deque_capacity jobs.new - deque_len jobs.new) }
+    ensures unpromised { OnErr result (seat.new.promised ≡ seat.old.promised) }
+    ensures jobs_kept { deque_capacity jobs.old - deque_len jobs.old ≤ deque_capacity jobs.new - deque_len jobs.new }
 {
-    seat.reserve(additional)?;
-    jobs.reserve(additional)
+    seat.reserve(1)?;
+    jobs.reserve(consumers)?;
+    seat.promise();
+    Ok(())
 }
 
-/// Hands something to a consumer, in the room that was made: as a job where it has a delegate.
+/// Hands a consumer the next thing, in the room that was promised: as a job where it has a delegate.
+pub(crate) fn hand_next(
+    number: u64,
+    seat: &mut Seat,
+    jobs: &mut VecDeque<Job>,
+    item: DeliveryResult,
+)
+    requires promised { seat.old.promised ≡ true }
+    requires job_room { 0 < deque_capacity jobs.old - deque_len jobs.old }
+    ensures seat { seat.new.consumer ≡ handed (item ∷ []) seat.old.consumer }
+    ensures jobs { jobs.new.items ≡ jobs.old.items ++ offered number (item ∷ []) seat.old.consumer }
+    ensures used { seat.new.promised ≡ false }
+    ensures jobs_left { deque_capacity jobs.old - deque_len jobs.old ≤ deque_capacity jobs.new - deque_len jobs.new + 1 }
+{
+    if seat.is_marked() {
+        jobs.push_back_reserved(Job {
+            consumer: number,
+            kind: JobKind::Deliver(item),
+        });
+        seat.give_up();
+    } else {
+        seat.push_promised(item);
+    }
+}
+
+/// Hands something to a consumer, in the room that was made beside what may be promised: as a job where it has a delegate.
 pub(crate) fn hand(number: u64, seat: &mut Seat, jobs: &mut VecDeque<Job>, item: DeliveryResult)
-    requires room { 0 < seat.old.spare }
+    requires room { 1 < seat.old.spare }
     requires job_room { 0 < deque_capacity jobs.old - deque_len jobs.old }
     ensures seat { seat.new.consumer ≡ handed (item ∷ []) seat.old.consumer }
     ensures jobs { jobs.new.items ≡ jobs.old.items ++ offered number (item ∷ []) seat.old.consumer }
     ensures left { seat.old.spare ≤ seat.new.spare + 1 }
+    ensures promised { seat.new.promised ≡ seat.old.promised }
     ensures jobs_left { deque_capacity jobs.old - deque_len jobs.old ≤ deque_capacity jobs.new - deque_len jobs.new + 1 }
 {
     if seat.is_marked() {
@@ -52,23 +82,26 @@ pub(crate) fn hand(number: u64, seat: &mut Seat, jobs: &mut VecDeque<Job>, item:
     }
 }
 
-/// A consumer gets its end, in the room that was made.
+/// A consumer gets its end, in the room that was promised.
 pub(crate) fn finish(number: u64, seat: &mut Seat, jobs: &mut VecDeque<Job>)
-    requires room { 0 < seat.old.spare }
+    requires promised { seat.old.promised ≡ true }
     requires job_room { 0 < deque_capacity jobs.old - deque_len jobs.old }
     ensures seat { seat.new.consumer ≡ finished seat.old.consumer }
     ensures jobs { jobs.new.items ≡ jobs.old.items ++ offered number (last_words None) seat.old.consumer }
+    ensures used { seat.new.promised ≡ false }
+    ensures jobs_left { deque_capacity jobs.old - deque_len jobs.old ≤ deque_capacity jobs.new - deque_len jobs.new + 1 }
 {
-    hand(number, seat, jobs, Ok(None));
+    hand_next(number, seat, jobs, Ok(None));
     seat.cancel();
 }
 
 // A consumer gets what is due to it as its channel's opening ends, in the room that was made.
 fn end_one(number: u64, seat: &mut Seat, jobs: &mut VecDeque<Job>, error: Option<Error>)
-    requires room { 2 ≤ seat.old.spare }
+    requires room { 3 ≤ seat.old.spare }
     requires job_room { 2 ≤ deque_capacity jobs.old - deque_len jobs.old }
     ensures seat { seat.new.consumer ≡ canceled (handed (last_words error) seat.old.consumer) }
     ensures jobs { jobs.new.items ≡ jobs.old.items ++ offered number (last_words error) seat.old.consumer }
+    ensures promised { seat.new.promised ≡ seat.old.promised }
     ensures jobs_left { deque_capacity jobs.old - deque_len jobs.old ≤ deque_capacity jobs.new - deque_len jobs.new + 2 }
 {
     match error {
@@ -93,7 +126,7 @@ fn number_at(seats: &Vec<Seat>, place: usize) -> u64
     place as u64 + 1
 }
 
-/// Makes room for an error and an end of every registered consumer of a channel.
+/// Makes room for an error and an end of every registered consumer of a channel, beside what is promised.
 pub(crate) fn make_end_rooms(
     channel: u16,
     places: &[usize],
@@ -104,15 +137,16 @@ pub(crate) fn make_end_rooms(
     ensures same { map (λ s. s.consumer) seats.new.items ≡ map (λ s. s.consumer) seats.old.items }
     ensures jobs { jobs.new.items ≡ jobs.old.items }
     ensures room { OnOk result (EndsFit channel seats.new.items) }
-    ensures job_room { OnOk result (2 * length places.now ≤ deque_capacity jobs.new - deque_len jobs.new) }
+    ensures job_room { OnOk result (length seats.old.items + 2 * length places.now ≤ deque_capacity jobs.new - deque_len jobs.new) }
     ensures kept { FitWhere is_registered_one seats.old.items → FitWhere is_registered_one seats.new.items }
+    ensures promised { promised_of seats.new.items ≡ promised_of seats.old.items }
     ensures jobs_kept { deque_capacity jobs.old - deque_len jobs.old ≤ deque_capacity jobs.new - deque_len jobs.new }
-    ensures succeeds { 2 * length places.now ≤ deque_capacity jobs.old - deque_len jobs.old → EndsFit channel seats.old.items → IsOk result }
+    ensures succeeds { length seats.old.items + 2 * length places.now ≤ deque_capacity jobs.old - deque_len jobs.old → EndsFit channel seats.old.items → IsOk result }
 {
-    jobs.reserve(2 * places.len())?;
+    jobs.reserve(seats.len() + 2 * places.len())?;
     for place in places {
         let place = *place;
-        seats[place].reserve(2)?;
+        seats[place].reserve(3)?;
     }
     Ok(())
 }
@@ -135,18 +169,32 @@ fn one_if(passes: bool) -> usize
     if passes { 1 } else { 0 }
 }
 
+// A job for each of so many consumers, and two for each of those that end.
+fn jobs_wanted(consumers: usize, ending: usize) -> Result<usize, AllocError>
+    ensures { IfOk result (λ n. n ≡ consumers + 2 * ending) }
+{
+    let Some(last) = ending.checked_mul(2) else {
+        return Err(AllocError);
+    };
+    match consumers.checked_add(last) {
+        Some(wanted) => Ok(wanted),
+        None => Err(AllocError),
+    }
+}
+
 // Makes room for an error and an end of a consumer, where it is registered.
 fn make_room_if_registered(seat: &mut Seat) -> Result<(), AllocError>
     ensures same { seat.new.consumer ≡ seat.old.consumer }
-    ensures room { OnOk result (seat.old.consumer.registered ≡ true → 2 ≤ seat.new.spare) }
+    ensures promised { seat.new.promised ≡ seat.old.promised }
+    ensures room { OnOk result (seat.old.consumer.registered ≡ true → 3 ≤ seat.new.spare) }
 {
     if seat.is_registered() {
-        seat.reserve(2)?;
+        seat.reserve(3)?;
     }
     Ok(())
 }
 
-/// Makes room for an error and an end of every registered consumer.
+/// Makes room for an error and an end of every registered consumer, beside what is promised.
 pub(crate) fn make_all_end_rooms(
     seats: &mut Vec<Seat>,
     jobs: &mut VecDeque<Job>,
@@ -154,9 +202,11 @@ pub(crate) fn make_all_end_rooms(
     ensures same { map (λ s. s.consumer) seats.new.items ≡ map (λ s. s.consumer) seats.old.items }
     ensures jobs { jobs.new.items ≡ jobs.old.items }
     ensures room { OnOk result (FitWhere is_registered_one seats.new.items) }
-    ensures job_room { OnOk result (2 * count_by is_registered_one (map (λ s. s.consumer) seats.old.items) ≤ deque_capacity jobs.new - deque_len jobs.new) }
+    ensures job_room { OnOk result (length seats.old.items + 2 * count_by is_registered_one (map (λ s. s.consumer) seats.old.items) ≤ deque_capacity jobs.new - deque_len jobs.new) }
+    ensures promised { promised_of seats.new.items ≡ promised_of seats.old.items }
+    ensures jobs_kept { deque_capacity jobs.old - deque_len jobs.old ≤ deque_capacity jobs.new - deque_len jobs.new }
 {
-    jobs.reserve(2 * count_registered(seats))?;
+    jobs.reserve(jobs_wanted(seats.len(), count_registered(seats))?)?;
     for place in 0..seats.len() {
         make_room_if_registered(&mut seats[place])?;
     }
@@ -178,6 +228,7 @@ pub(crate) fn end_all(
     ensures jobs { jobs.new.items ≡ jobs.old.items ++ gather_at (owed (mark.Ended channel error)) (map (λ s. s.consumer) seats.old.items) }
     ensures none { places_at (λ _ x. is_on channel x) (map (λ s. s.consumer) seats.new.items) ≡ [] }
     ensures kept { FitWhere is_registered_one seats.old.items → FitWhere is_registered_one seats.new.items }
+    ensures promised { promised_of seats.new.items ≡ promised_of seats.old.items }
     ensures jobs_left { deque_capacity jobs.old - deque_len jobs.old ≤ deque_capacity jobs.new - deque_len jobs.new + 2 * length places.now }
 {
     for place in places {
@@ -190,7 +241,8 @@ pub(crate) fn end_all(
 /// The registered consumers of a channel start to be cancelled.
 pub(crate) fn start_cancels(channel: u16, places: &[usize], seats: &mut Vec<Seat>)
     requires { places_at (λ _ x. is_on channel x) (map (λ s. s.consumer) seats.old.items) ≡ places.now }
-    ensures { map (λ s. s.consumer) seats.new.items ≡ map_at (moved (mark.CloseAsked channel)) (map (λ s. s.consumer) seats.old.items) }
+    ensures consumers { map (λ s. s.consumer) seats.new.items ≡ map_at (moved (mark.CloseAsked channel)) (map (λ s. s.consumer) seats.old.items) }
+    ensures promised { promised_of seats.new.items ≡ promised_of seats.old.items }
 {
     for place in places {
         let place = *place;
@@ -215,6 +267,7 @@ fn void_item(item: DeliveryResult, switches: &mut Switches)
 // What is queued for a consumer is dropped, and its ackers are void.
 fn void_items(seat: &mut Seat, switches: &mut Switches)
     ensures seat { seat.new.consumer ≡ emptied seat.old.consumer }
+    ensures promised { seat.new.promised ≡ seat.old.promised }
     ensures switches { switches.new.switches ≡ voided (ackers_of seat.old.consumer.items) switches.old.switches }
 {
     while let Some(item) = seat.pop() {
@@ -226,6 +279,7 @@ fn void_items(seat: &mut Seat, switches: &mut Switches)
 fn void_one(number: u64, seat: &mut Seat, jobs: &mut VecDeque<Job>, switches: &mut Switches)
     requires { 0 < deque_capacity jobs.old - deque_len jobs.old }
     ensures seat { seat.new.consumer ≡ emptied seat.old.consumer }
+    ensures promised { seat.new.promised ≡ seat.old.promised }
     ensures jobs { jobs.new.items ≡ jobs.old.items ++ (if is_marked seat.old.consumer.state then discarded number ∷ [] else []) }
     ensures jobs_left { deque_capacity jobs.old - deque_len jobs.old ≤ deque_capacity jobs.new - deque_len jobs.new + 1 }
     ensures switches { switches.new.switches ≡ voided (ackers_of seat.old.consumer.items) switches.old.switches }
@@ -249,6 +303,8 @@ pub(crate) fn void_all(
 )
     requires places { places_at (λ _ x. is_on channel x) (map (λ s. s.consumer) seats.old.items) ≡ places.now }
     requires job_room { length places.now ≤ deque_capacity jobs.old - deque_len jobs.old }
+    ensures promised { promised_of seats.new.items ≡ promised_of seats.old.items }
+    ensures jobs_left { deque_capacity jobs.old - deque_len jobs.old ≤ deque_capacity jobs.new - deque_len jobs.new + length places.now }
     ensures consumers { map (λ s. s.consumer) seats.new.items ≡ map_at (moved (mark.Discarded channel)) (map (λ s. s.consumer) seats.old.items) }
     ensures jobs { jobs.new.items ≡ jobs.old.items ++ gather_at (owed (mark.Discarded channel)) (map (λ s. s.consumer) seats.old.items) }
     ensures switches { switches.new.switches ≡ voided (ackers_on channel (map (λ s. s.consumer) seats.old.items)) switches.old.switches }
@@ -265,6 +321,7 @@ pub(crate) fn poll(seat: &mut Seat) -> Option<DeliveryResult>
     ensures answer { result ≡ poll_of seat.old.consumer }
     ensures rest { seat.new.consumer ≡ polled seat.old.consumer }
     ensures kept { seat.old.spare ≤ seat.new.spare }
+    ensures promised { seat.new.promised ≡ seat.old.promised }
 {
     match seat.pop() {
         Some(item) => Some(item),
@@ -281,6 +338,8 @@ pub(crate) fn poll(seat: &mut Seat) -> Option<DeliveryResult>
 /// What is queued becomes jobs, in order, in the room that was made.
 fn pour(number: u64, seat: &mut Seat, jobs: &mut VecDeque<Job>)
     requires { length seat.old.consumer.items ≤ deque_capacity jobs.old - deque_len jobs.old }
+    ensures promised { seat.new.promised ≡ seat.old.promised }
+    ensures jobs_left { deque_capacity jobs.old - deque_len jobs.old ≤ deque_capacity jobs.new - deque_len jobs.new + length seat.old.consumer.items }
     ensures seat { seat.new.consumer ≡ emptied seat.old.consumer }
     ensures jobs { jobs.new.items ≡ jobs.old.items ++ map (delivered number) seat.old.consumer.items }
 {
@@ -295,6 +354,8 @@ fn pour(number: u64, seat: &mut Seat, jobs: &mut VecDeque<Job>)
 /// A consumer is given a delegate: what is queued becomes jobs, in the room that was made.
 pub(crate) fn give_delegate(number: u64, seat: &mut Seat, jobs: &mut VecDeque<Job>)
     requires { length seat.old.consumer.items ≤ deque_capacity jobs.old - deque_len jobs.old }
+    ensures promised { seat.new.promised ≡ seat.old.promised }
+    ensures jobs_left { deque_capacity jobs.old - deque_len jobs.old ≤ deque_capacity jobs.new - deque_len jobs.new + length seat.old.consumer.items }
     ensures seat { seat.new.consumer ≡ delegated seat.old.consumer }
     ensures jobs { jobs.new.items ≡ jobs.old.items ++ map (delivered number) seat.old.consumer.items }
 {
@@ -306,6 +367,7 @@ pub(crate) fn give_delegate(number: u64, seat: &mut Seat, jobs: &mut VecDeque<Jo
 pub(crate) fn cancel_if_idle(seat: &mut Seat) -> bool
     ensures answer { result ≡ is_idle seat.old.consumer }
     ensures change { seat.new.consumer ≡ (if result then canceling seat.old.consumer else seat.old.consumer) }
+    ensures promised { seat.new.promised ≡ seat.old.promised }
 {
     if !seat.is_registered() || !seat.is_active() {
         return false;

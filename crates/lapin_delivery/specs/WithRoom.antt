@@ -1,4 +1,4 @@
--- What contracts see of an deliveries: what it holds, and for what there is room.
+-- What contracts see of deliveries: what it holds, and for what there is room.
 use Rattle.std.specs.Prelude.{ℕ, ◌+◌, ◌<◌, ◌^◌, length}
 use Rattle.lapin_consumer.specs.WithRoom.{HasRoom}
 use Rattle.lapin_delivery.specs.Deliveries.{Deliveries}

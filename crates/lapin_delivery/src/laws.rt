@@ -1,4 +1,4 @@
-//! Laws of an deliveries, each on a function with an empty body: what they say holds of every history.
+//! Laws of deliveries, each on a function with an empty body: what they say holds of every history.
 
 ghost use Rattle.std.specs.Prelude.{◌≡◌, List};
 ghost use Rattle.std.specs.List.{fold};

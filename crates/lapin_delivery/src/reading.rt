@@ -1,4 +1,4 @@
-//! What may be asked of an deliveries without a change: who is registered, and which ackers may be used.
+//! What may be asked of deliveries without a change: who is registered, and which ackers may be used.
 
 ghost use Rattle.std.specs.Prelude.{◌≡◌, ◌+◌, length};
 ghost use Rattle.std.specs.Option.{option_copied, option_map};

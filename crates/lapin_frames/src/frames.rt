@@ -1,8 +1,8 @@
 //! Frames: a method, a content header or a body with what stands around it (AMQP 0-9-1, section 4.2.3).
 
-ghost use Rattle.std.specs.Prelude.{◌≡◌, ◌++◌, ◌<◌, ◌≤◌, [], length, OnOk, OnErr, IfOk, Ok};
+ghost use Rattle.std.specs.Prelude.{◌≡◌, ◌++◌, ◌∷◌, ◌<◌, ◌≤◌, [], length, OnOk, OnErr, IfOk, Ok};
 ghost use Rattle.lapin_fields.specs.Around.{around, wanted_behind};
-ghost use Rattle.lapin_fields.specs.Fits.{Refused};
+ghost use Rattle.lapin_fields.specs.Fits.{Refused, StringFits};
 ghost use Rattle.lapin_fields.specs.Reading.{GivesWhole};
 ghost use Rattle.lapin_frames.specs.FrameFits.{FrameFits, RefusedWithin};
 ghost use Rattle.lapin_frames.specs.FrameReading.{frame_in, heartbeat_in, read_in, read_at, used};
@@ -16,7 +16,7 @@ use crate::methods::{put_method, take_method};
 use lapin_fields::{Around, Octets, ReadFault, WriteFault, put_around, take_around, wanted};
 use lapin_methods::{Frame, Method};
 use lapin_values::Payload;
-use std::alloc::Global;
+use std::alloc::{AllocError, Global};
 
 const METHOD: u8 = 1;
 
@@ -25,6 +25,9 @@ const HEADER: u8 = 2;
 const BODY: u8 = 3;
 
 const HEARTBEAT: u8 = 8;
+
+// The byte that ends a frame.
+const END: u8 = 0xCE;
 
 // The bytes of a frame beside what is in it.
 const AROUND: usize = 8;
@@ -88,26 +91,60 @@ pub fn put_frame(alloc: Global, out: &mut Vec<u8>, frame: &Frame) -> Result<(), 
     Ok(())
 }
 
-// Adds bytes that are at most so many, or nothing.
-fn put_within(out: &mut Vec<u8>, bytes: &[u8], limit: usize) -> Result<(), WriteFault>
-    ensures ok { OnOk result ((out.new.items ≡ out.old.items ++ bytes.now) × (length bytes.now ≤ limit)) }
+// Adds bytes, others behind them and the end of a frame, or nothing.
+fn put_pieces(out: &mut Vec<u8>, head: &[u8], payload: &[u8]) -> Result<(), AllocError>
+    ensures ok { OnOk result (out.new.items ≡ out.old.items ++ head.now ++ payload.now ++ 206 ∷ []) }
     ensures err { OnErr result (out.new.items ≡ out.old.items) }
-    ensures refused { RefusedWithin result (Unit {0}) (limit < length bytes.now) }
 {
-    if bytes.len() > limit {
-        return Err(WriteFault::AboveLimit);
+    let before = out.len();
+    out.extend_from_slice(head)?;
+    if let Err(error) = out.extend_from_slice(payload) {
+        out.truncate(before);
+        return Err(error);
     }
-    out.extend_from_slice(bytes)?;
+    if let Err(error) = out.push(END) {
+        out.truncate(before);
+        return Err(error.into());
+    }
     Ok(())
 }
 
-/// Adds the bytes of a frame that has at most so many bytes, or nothing.
+// Adds what stands around a payload, and the payload, if that is at most so many bytes; or nothing.
+fn put_within(
+    out: &mut Vec<u8>,
+    kind: u8,
+    channel: u16,
+    payload: &[u8],
+    limit: usize,
+) -> Result<(), WriteFault>
+    ensures ok { OnOk result ((out.new.items ≡ out.old.items ++ around kind channel payload.now) × (length (around kind channel payload.now) ≤ limit)) }
+    ensures fits { OnOk result (StringFits payload.now) }
+    ensures err { OnErr result (out.new.items ≡ out.old.items) }
+    ensures refused { RefusedWithin result (StringFits payload.now) (limit < length (around kind channel payload.now)) }
+{
+    let Ok(count) = u32::try_from(payload.len()) else {
+        return Err(WriteFault::TooLong);
+    };
+    if limit < AROUND || payload.len() > limit - AROUND {
+        return Err(WriteFault::AboveLimit);
+    }
+    let [a, b] = channel.to_be_bytes();
+    let [c, d, e, f] = count.to_be_bytes();
+    match put_pieces(out, &[kind, a, b, c, d, e, f], payload) {
+        Ok(()) => Ok(()),
+        Err(_) => Err(WriteFault::NoMemory),
+    }
+}
+
+/// Adds the bytes of a frame that has at most so many bytes, or nothing. What is in the frame is made in the room, which loses what it has:
+/// who keeps it saves an allocation a frame.
 ///
 /// # Errors
 /// `AboveLimit` exactly where the frame could be written and has more bytes; `TooLong` and `TooDeep` where it could not, and `NoMemory`.
 pub fn put_frame_within(
     alloc: Global,
     out: &mut Vec<u8>,
+    room: &mut Vec<u8>,
     frame: &Frame,
     limit: usize,
 ) -> Result<(), WriteFault>
@@ -116,10 +153,20 @@ pub fn put_frame_within(
     ensures err { OnErr result (out.new.items ≡ out.old.items) }
     ensures refused { RefusedWithin result (FrameFits frame.now) (limit < length (bytes_of frame.now)) }
 {
-    let mut whole = Vec::with_capacity(alloc, room_of(frame))?;
-    match put_parts(alloc, &mut whole, frame) {
-        Ok(()) => put_within(out, &whole, limit),
-        Err(fault) => Err(fault),
+    match frame {
+        Frame::Method(channel, method) => {
+            room.clear();
+            put_method(alloc, room, method)?;
+            put_within(out, METHOD, *channel, room, limit)
+        }
+        Frame::Header(channel, header) => {
+            room.clear();
+            put_header(alloc, room, header)?;
+            put_within(out, HEADER, *channel, room, limit)
+        }
+        Frame::Body(channel, payload) => {
+            put_within(out, BODY, *channel, payload.as_bytes(), limit)
+        }
     }
 }
 

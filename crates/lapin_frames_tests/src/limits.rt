@@ -10,10 +10,11 @@ use std::test::Fail;
 fn a_frame_above_the_limit_is_not_written(rt: HostRuntime) -> Result<(), Fail> {
     let frame = Frame::Body(1, Payload::new(rt.alloc(), &[7; 10])?);
     let mut out = Vec::new(rt.alloc());
-    let above = put_frame_within(rt.alloc(), &mut out, &frame, 17);
+    let mut room = Vec::new(rt.alloc());
+    let above = put_frame_within(rt.alloc(), &mut out, &mut room, &frame, 17);
     assert!(rt; above == Err(WriteFault::AboveLimit));
     assert!(rt; out.is_empty());
-    let within = put_frame_within(rt.alloc(), &mut out, &frame, 18);
+    let within = put_frame_within(rt.alloc(), &mut out, &mut room, &frame, 18);
     drop(frame);
     assert!(rt; within == Ok(()));
     assert!(rt; out.len() == 18);

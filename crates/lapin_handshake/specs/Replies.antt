@@ -1,7 +1,8 @@
 -- What this side says while a connection is opened, octet by octet (AMQP 0-9-1, sections 2.2.4 and 4.2.7, class 10).
-use Rattle.std.specs.Prelude.{ℕ, List, [], ◌∷◌, ◌++◌, length}
+use Rattle.std.specs.Prelude.{ℕ, ◌≤◌, List, [], ◌∷◌, ◌++◌, length}
 use Rattle.lapin_fields.specs.Fields.{octet, short, long, counted}
 use Rattle.lapin_fields.specs.Around.{around}
+use Rattle.lapin_fields.specs.Fits.{StringFits}
 use Rattle.lapin_handshake.specs.declared.handshake.Limits.{Limits}
 use Rattle.lapin_handshake.specs.declared.handshake.Reply.{Reply}
 use Rattle.lapin_handshake.specs.declared.handshake.Reply.TheVariants as reply
@@ -54,3 +55,10 @@ reply_bytes user password vhost reply.StartOk = around 1 0 (start_ok_fields user
 reply_bytes user password vhost reply.SecureOk = around 1 0 (secure_ok_fields user password)
 reply_bytes user password vhost (reply.Open limits) = around 1 0 (tune_ok_fields limits) ++ around 1 0 (open_fields vhost)
 reply_bytes user password vhost reply.CloseOk = around 1 0 (0 ∷ 10 ∷ 0 ∷ 51 ∷ [])
+
+-- A reply has room: the user and the password in a frame, the name of the virtual host in a short text.
+abbrev pub ReplyFits : List ℕ → List ℕ → List ℕ → Reply → Type 0
+ReplyFits user password vhost reply.StartOk = StringFits (start_ok_fields user password)
+ReplyFits user password vhost reply.SecureOk = StringFits (secure_ok_fields user password)
+ReplyFits user password vhost (reply.Open limits) = length vhost ≤ 255
+ReplyFits user password vhost _ = Unit {0}

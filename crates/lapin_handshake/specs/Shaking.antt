@@ -1,6 +1,8 @@
 -- What becomes of bytes of the broker while a connection is opened.
 use Rattle.std.specs.Prelude.{◌≡◌, ◌<◌, ◌≤◌, ℕ, List, ◌++◌, Option, Some, None, Result, Ok, Err, ◌⊎◌}
 use Rattle.lapin_fields.specs.Around.{wanted_behind}
+use Rattle.lapin_fields.specs.declared.fault.WriteFault.{WriteFault}
+use Rattle.lapin_fields.specs.declared.fault.WriteFault.TheVariants as faults
 use Rattle.lapin_handshake.specs.declared.handshake.Handshake.{Handshake}
 use Rattle.lapin_handshake.specs.declared.handshake.Stage.TheVariants as stage
 use Rattle.lapin_handshake.specs.declared.handshake.Refusal.{Refusal}
@@ -12,7 +14,7 @@ use Rattle.lapin_handshake.specs.declared.shaking.Shaken.{Shaken}
 use Rattle.lapin_handshake.specs.declared.shaking.Shaken.TheVariants as shaken
 use Rattle.lapin_handshake.specs.Saying.{frame_said_at}
 use Rattle.lapin_handshake.specs.Handshaking.{reply_to, after}
-use Rattle.lapin_handshake.specs.Replies.{reply_bytes}
+use Rattle.lapin_handshake.specs.Replies.{reply_bytes, ReplyFits}
 
 -- the connection isn't opened
 abbrev pub refused : Handshake → Handshake
@@ -38,3 +40,13 @@ IsShaken shaken.Part bytes user password vhost h h' old new = (0 < wanted_behind
 IsShaken r bytes user password vhost h h' old new =
     ((s : Said) × (frame_said_at bytes ≡ Some s) × IsAnswered r s user password vhost h h' old new)
     ⊎ ((r ≡ shaken.Refused refusal.Malformed) × (h' ≡ refused h) × (new ≡ old) × ((frame_said_at bytes ≡ None) ⊎ (131072 < wanted_behind bytes)))
+
+-- Why something that was said isn't answered: its reply has no room, unless memory ran out.
+abbrev pub Unanswered : WriteFault → Said → List ℕ → List ℕ → List ℕ → Handshake → Type 0
+Unanswered faults.NoMemory said user password vhost h = Unit {0}
+Unanswered _ said user password vhost h = (r : Reply) × (reply_to h said ≡ Ok r) × (ReplyFits user password vhost r → ⊥)
+
+-- Why nothing was done with octets of the broker: what their first frame says isn't answered.
+abbrev pub Unshaken : WriteFault → List ℕ → List ℕ → List ℕ → List ℕ → Handshake → Type 0
+Unshaken faults.NoMemory bytes user password vhost h = Unit {0}
+Unshaken e bytes user password vhost h = (s : Said) × (frame_said_at bytes ≡ Some s) × Unanswered e s user password vhost h

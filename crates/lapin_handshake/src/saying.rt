@@ -1,9 +1,10 @@
 //! What this side says while a connection is opened, and heartbeats, as bytes (AMQP 0-9-1, sections 2.2.4 and 4.2.7, class 10).
 
-ghost use Rattle.std.specs.Prelude.{◌≡◌, ◌++◌, ◌≤◌, length, OnOk};
+ghost use Rattle.std.specs.Prelude.{◌≡◌, ◌++◌, ◌≤◌, length, OnOk, ⊤};
 ghost use Rattle.lapin_fields.specs.Around.{around};
+ghost use Rattle.lapin_fields.specs.Fits.{StringFits, Refused};
 ghost use Rattle.lapin_fields.specs.Fields.{counted};
-ghost use Rattle.lapin_handshake.specs.Replies.{client_properties, protocol_header, heartbeat, start_ok_fields, secure_ok_fields, tune_ok_fields, open_fields, start_end, reply_bytes, short_text, plain_response};
+ghost use Rattle.lapin_handshake.specs.Replies.{client_properties, protocol_header, heartbeat, start_ok_fields, secure_ok_fields, tune_ok_fields, open_fields, start_end, reply_bytes, short_text, plain_response, ReplyFits};
 
 use crate::handshake::{Limits, Reply};
 use lapin_fields::{WriteFault, put_around, put_counted, put_long, put_octet, put_short};
@@ -30,7 +31,8 @@ pub fn put_heartbeat(out: &mut Vec<u8>) -> Result<(), WriteFault>
 
 // Adds a short text behind its length.
 fn put_short_text(out: &mut Vec<u8>, bytes: &[u8]) -> Result<(), WriteFault>
-    ensures { OnOk result ((out.new.items ≡ out.old.items ++ short_text bytes.now) × (length bytes.now ≤ 255)) }
+    ensures bytes { OnOk result ((out.new.items ≡ out.old.items ++ short_text bytes.now) × (length bytes.now ≤ 255)) }
+    ensures refused { Refused result (length bytes.now ≤ 255) }
 {
     let Ok(count) = u8::try_from(bytes.len()) else {
         return Err(WriteFault::TooLong);
@@ -42,7 +44,8 @@ fn put_short_text(out: &mut Vec<u8>, bytes: &[u8]) -> Result<(), WriteFault>
 
 // Adds the frame of a method of channel 0.
 fn put_method(out: &mut Vec<u8>, fields: &[u8]) -> Result<(), WriteFault>
-    ensures { OnOk result (out.new.items ≡ out.old.items ++ around 1 0 fields.now) }
+    ensures bytes { OnOk result (out.new.items ≡ out.old.items ++ around 1 0 fields.now) }
+    ensures refused { Refused result (StringFits fields.now) }
 {
     put_around(out, 1, 0, fields)
 }
@@ -50,7 +53,8 @@ fn put_method(out: &mut Vec<u8>, fields: &[u8]) -> Result<(), WriteFault>
 // The response of PLAIN: the user and the password, each behind a 0.
 #[tactic(auto, unfolding(crate::specs::Replies::plain_response))]
 fn put_response(out: &mut Vec<u8>, user: &[u8], password: &[u8]) -> Result<(), WriteFault>
-    ensures { OnOk result (out.new.items ≡ out.old.items ++ plain_response user.now password.now) }
+    ensures bytes { OnOk result (out.new.items ≡ out.old.items ++ plain_response user.now password.now) }
+    ensures refused { Refused result ⊤ }
 {
     out.push(0)?;
     out.extend_from_slice(user)?;
@@ -62,7 +66,8 @@ fn put_response(out: &mut Vec<u8>, user: &[u8], password: &[u8]) -> Result<(), W
 // What this side tells of itself.
 #[tactic(auto, unfolding(crate::specs::Replies::client_properties))]
 fn put_client(out: &mut Vec<u8>) -> Result<(), WriteFault>
-    ensures { OnOk result (out.new.items ≡ out.old.items ++ counted client_properties) }
+    ensures bytes { OnOk result (out.new.items ≡ out.old.items ++ counted client_properties) }
+    ensures refused { Refused result ⊤ }
 {
     put_counted(out, &PROPERTIES)
 }
@@ -74,7 +79,8 @@ fn put_start_ok(
     user: &[u8],
     password: &[u8],
 ) -> Result<(), WriteFault>
-    ensures { OnOk result (out.new.items ≡ out.old.items ++ start_ok_fields user.now password.now) }
+    ensures bytes { OnOk result (out.new.items ≡ out.old.items ++ start_ok_fields user.now password.now) }
+    ensures refused { Refused result (StringFits (start_ok_fields user.now password.now)) }
 {
     let mut response = Vec::new(alloc);
     put_response(&mut response, user, password)?;
@@ -87,7 +93,8 @@ fn put_start_ok(
 // The mechanism, its response and the locale.
 #[tactic(auto, unfolding(crate::specs::Replies::start_end))]
 fn put_start_end(out: &mut Vec<u8>, response: &[u8]) -> Result<(), WriteFault>
-    ensures { OnOk result (out.new.items ≡ out.old.items ++ start_end response.now) }
+    ensures bytes { OnOk result (out.new.items ≡ out.old.items ++ start_end response.now) }
+    ensures refused { Refused result (StringFits (start_end response.now)) }
 {
     put_short_text(out, b"PLAIN")?;
     put_counted(out, response)?;
@@ -100,7 +107,8 @@ fn put_secure_ok(
     user: &[u8],
     password: &[u8],
 ) -> Result<(), WriteFault>
-    ensures { OnOk result (out.new.items ≡ out.old.items ++ secure_ok_fields user.now password.now) }
+    ensures bytes { OnOk result (out.new.items ≡ out.old.items ++ secure_ok_fields user.now password.now) }
+    ensures refused { Refused result (StringFits (plain_response user.now password.now)) }
 {
     let mut response = Vec::new(alloc);
     put_response(&mut response, user, password)?;
@@ -110,7 +118,8 @@ fn put_secure_ok(
 }
 
 fn put_tune_ok(out: &mut Vec<u8>, limits: Limits) -> Result<(), WriteFault>
-    ensures { OnOk result (out.new.items ≡ out.old.items ++ tune_ok_fields limits) }
+    ensures bytes { OnOk result (out.new.items ≡ out.old.items ++ tune_ok_fields limits) }
+    ensures refused { Refused result ⊤ }
 {
     put_short(out, 10)?;
     put_short(out, 31)?;
@@ -121,7 +130,8 @@ fn put_tune_ok(out: &mut Vec<u8>, limits: Limits) -> Result<(), WriteFault>
 }
 
 fn put_open(out: &mut Vec<u8>, vhost: &[u8]) -> Result<(), WriteFault>
-    ensures { OnOk result (out.new.items ≡ out.old.items ++ open_fields vhost.now) }
+    ensures bytes { OnOk result (out.new.items ≡ out.old.items ++ open_fields vhost.now) }
+    ensures refused { Refused result (length vhost.now ≤ 255) }
 {
     put_short(out, 10)?;
     put_short(out, 40)?;
@@ -138,7 +148,8 @@ fn put_tuned(
     limits: Limits,
     vhost: &[u8],
 ) -> Result<(), WriteFault>
-    ensures { OnOk result (out.new.items ≡ out.old.items ++ around 1 0 (tune_ok_fields limits) ++ around 1 0 (open_fields vhost.now)) }
+    ensures bytes { OnOk result (out.new.items ≡ out.old.items ++ around 1 0 (tune_ok_fields limits) ++ around 1 0 (open_fields vhost.now)) }
+    ensures refused { Refused result (length vhost.now ≤ 255) }
 {
     let mut tune = Vec::new(alloc);
     put_tune_ok(&mut tune, limits)?;
@@ -151,7 +162,7 @@ fn put_tuned(
 /// Adds the frames of a reply. After a fault a part of them may stand there.
 ///
 /// # Errors
-/// `TooLong` where the name of the virtual host has more than 255 bytes or a response more than its length has room for, and `NoMemory`.
+/// `TooLong` only where the name of the virtual host has more than 255 bytes, or a response more than a frame has room for; `NoMemory`.
 pub fn put_reply(
     alloc: Global,
     out: &mut Vec<u8>,
@@ -160,7 +171,8 @@ pub fn put_reply(
     password: &[u8],
     vhost: &[u8],
 ) -> Result<(), WriteFault>
-    ensures { OnOk result (out.new.items ≡ out.old.items ++ reply_bytes user.now password.now vhost.now reply) }
+    ensures bytes { OnOk result (out.new.items ≡ out.old.items ++ reply_bytes user.now password.now vhost.now reply) }
+    ensures refused { Refused result (ReplyFits user.now password.now vhost.now reply) }
 {
     match reply {
         Reply::Nothing => Ok(()),

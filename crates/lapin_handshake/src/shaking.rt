@@ -1,7 +1,7 @@
 //! An opening by its bytes: what stands at the head of the broker's bytes is read, and answered.
 
-ghost use Rattle.std.specs.Prelude.{◌≡◌, IfOk};
-ghost use Rattle.lapin_handshake.specs.Shaking.{IsShaken, IsAnswered, refused};
+ghost use Rattle.std.specs.Prelude.{◌≡◌, IfOk, IfErr};
+ghost use Rattle.lapin_handshake.specs.Shaking.{IsShaken, IsAnswered, Unshaken, Unanswered, refused};
 
 use crate::handshake::{Handshake, Refusal, Reply, Stage};
 use crate::said::{Said, read_said};
@@ -26,7 +26,8 @@ pub enum Shaken {
 /// Takes the frame at the head of the bytes of the broker, if it is there, and adds what is answered to it.
 ///
 /// # Errors
-/// `NoMemory`, and `TooLong` where the name of the virtual host has more than 255 bytes.
+/// `TooLong` only where the reply has no room: the name of the virtual host has more than 255 bytes, or the user and the password more than
+/// a frame; `NoMemory`. After either the opening doesn't go on.
 pub fn shake(
     alloc: Global,
     handshake: &mut Handshake,
@@ -36,7 +37,8 @@ pub fn shake(
     vhost: &[u8],
     out: &mut Vec<u8>,
 ) -> Result<Shaken, WriteFault>
-    ensures { IfOk result (λ shaken. IsShaken shaken bytes.now user.now password.now vhost.now handshake.old handshake.new out.old.items out.new.items) }
+    ensures told { IfOk result (λ shaken. IsShaken shaken bytes.now user.now password.now vhost.now handshake.old handshake.new out.old.items out.new.items) }
+    ensures failed { IfErr result (λ fault. Unshaken fault bytes.now user.now password.now vhost.now handshake.old) }
 {
     let more = wanted(bytes);
     if more > LONGEST {
@@ -62,6 +64,7 @@ fn refuse(handshake: &mut Handshake, refusal: Refusal) -> Shaken
 }
 
 // Answers what the broker says. A close is answered though it refuses.
+#[tactic(auto, using(crate::proofs::Faults::unanswered, crate::proofs::Faults::always))]
 fn answer(
     alloc: Global,
     handshake: &mut Handshake,
@@ -71,7 +74,8 @@ fn answer(
     vhost: &[u8],
     out: &mut Vec<u8>,
 ) -> Result<Shaken, WriteFault>
-    ensures { IfOk result (λ shaken. IsAnswered shaken said user.now password.now vhost.now handshake.old handshake.new out.old.items out.new.items) }
+    ensures told { IfOk result (λ shaken. IsAnswered shaken said user.now password.now vhost.now handshake.old handshake.new out.old.items out.new.items) }
+    ensures failed { IfErr result (λ fault. Unanswered fault said user.now password.now vhost.now handshake.old) }
 {
     match handshake.hear(said) {
         Ok(reply) => {

@@ -5,27 +5,18 @@
 
 use anyhow::Result;
 use lapin_session::{Channel, Session};
-use lapin_text::write_frame;
 use lapin_types::{
     BasicMethod, BasicProperties, BasicPublishOptions, ChannelMethod, ConfirmMethod,
     ConfirmSelectOptions, Frame, Method, Poll, ShortString,
 };
 use std::alloc::Global;
 
-// Shows a frame as docs/FORMAT.md writes it.
-fn show(rt: &HostRuntime, alloc: Global, way: &str, frame: &Frame) -> Result<()> {
-    let mut text = Vec::new(alloc);
-    write_frame(alloc, &mut text, frame)?;
-    println!(rt; "{way} {}", str::from_utf8(&text)?)?;
-    Ok(())
-}
-
 // Sends all that waits to leave.
 fn send_all(rt: &HostRuntime, alloc: Global, session: &mut Session) -> Result<()> {
     for _ in 0..u64::MAX {
         match session.next_frame(alloc, true)? {
             Some(left) => {
-                let shown = show(rt, alloc, "->", &left.frame);
+                let shown = println!(rt; "-> {}", left.frame);
                 drop(left);
                 shown?;
             }
@@ -38,9 +29,10 @@ fn send_all(rt: &HostRuntime, alloc: Global, session: &mut Session) -> Result<()
 // Hands in a frame that the broker sent on channel 1.
 fn hear(rt: &HostRuntime, alloc: Global, session: &mut Session, method: Method) -> Result<()> {
     let frame = Frame::Method(1, method);
-    let shown = show(rt, alloc, "<-", &frame);
+    let shown = println!(rt; "<- {frame}");
     session.receive(alloc, frame)?;
-    shown
+    shown?;
+    Ok(())
 }
 
 fn main(rt: HostRuntime) -> Result<()> {
@@ -70,8 +62,8 @@ fn main(rt: HostRuntime) -> Result<()> {
     let published = channel.basic_publish(
         alloc,
         &mut session,
-        ShortString::new(alloc, "")?,
-        ShortString::new(alloc, "hello")?,
+        ShortString::empty(alloc)?,
+        ShortString::literal(alloc, "hello")?,
         BasicPublishOptions::default(),
         b"Hello world!",
         BasicProperties::default().with_delivery_mode(2),

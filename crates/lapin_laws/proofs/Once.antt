@@ -15,7 +15,7 @@ use Rattle.lapin_acker.specs.Marks.{AckerMark}
 use Rattle.lapin_acker.specs.Marks as acker
 use Rattle.lapin_acker.specs.Switches.{switch_at, usable_as, used, over_on, names, map_numbered, moved, joined, after_mark}
 use Rattle.lapin_delivery.specs.Deliveries.{Deliveries, all_acker_marks}
-use Rattle.lapin_delivery.specs.Deliveries as deliveries
+use Rattle.lapin_delivery.specs.Deliveries as moves
 use Rattle.lapin_delivery.specs.Marks.{DeliveryMark}
 use Rattle.lapin_delivery.specs.Marks as deliveries
 use Rattle.lapin_delivery.proofs.Histories.{ackers-follow}
@@ -119,10 +119,10 @@ usable_given (Some s) x e = refl
 abbrev IsGone : ℕ → Wire → Type 0
 IsGone n b = Gone n b.deliveries.switches
 
-gone_marks : (n : ℕ) (i : Deliveries) (ms : List DeliveryMark) → Gone n i.switches → Gone n (fold deliveries.after_mark i ms).switches
+gone_marks : (n : ℕ) (i : Deliveries) (ms : List DeliveryMark) → Gone n i.switches → Gone n (fold moves.after_mark i ms).switches
 gone_marks n i ms h = let P : List Switch → Type 0 = λ ss. Gone n ss in subst P (sym (ackers-follow i ms)) (kept_all is_gone refl moved_gone n i.switches (all_acker_marks i ms) h)
 
-given_marks : (n : ℕ) (i : Deliveries) (ms : List DeliveryMark) → is_some (switch_at n i.switches) ≡ true → is_some (switch_at n (fold deliveries.after_mark i ms).switches) ≡ true
+given_marks : (n : ℕ) (i : Deliveries) (ms : List DeliveryMark) → is_some (switch_at n i.switches) ≡ true → is_some (switch_at n (fold moves.after_mark i ms).switches) ≡ true
 given_marks n i ms h = ap (λ ss. is_some (switch_at n ss)) (ackers-follow i ms) ∙ kept_all is_some refl moved_given n i.switches (all_acker_marks i ms) h
 
 stays_gone : (n : ℕ) (b : Wire) (e : Event) (r : Record) → IsGone n b → IsGone n (after_event b e r)
@@ -132,11 +132,11 @@ call_gone : (n : ℕ) (k : AckerCall) (b : Wire) (r : Record) (o : Option (ℕ �
 call_gone n k b r None e h = absurd cc
 call_gone n k b r (Some x) e h =
     let P : Deliveries → Type 0 = λ i. Gone n i.switches in
-    let Q : Option (ℕ × ℕ) → Type 0 = λ o. Gone n (fold deliveries.after_mark b.deliveries (acked_deliveries n o k b)).switches in
+    let Q : Option (ℕ × ℕ) → Type 0 = λ o. Gone n (fold moves.after_mark b.deliveries (acked_deliveries n o k b)).switches in
     let made : List DeliveryMark = asking_deliveries x.0 (acker_asked k x.1) b in
-    let first : Deliveries = fold deliveries.after_mark b.deliveries made in
-    let spent : Gone n (deliveries.after_mark first (deliveries.Spent n)).switches = spent_gone n first.switches (given_marks n b.deliveries made (usable_given (switch_at n b.deliveries.switches) x e)) in
-    let after : Q (Some x) = subst P (sym (fold-append deliveries.after_mark b.deliveries made (deliveries.Spent n ∷ []))) spent in
+    let first : Deliveries = fold moves.after_mark b.deliveries made in
+    let spent : Gone n (moves.after_mark first (deliveries.Spent n)).switches = spent_gone n first.switches (given_marks n b.deliveries made (usable_given (switch_at n b.deliveries.switches) x e)) in
+    let after : Q (Some x) = subst P (sym (fold-append moves.after_mark b.deliveries made (deliveries.Spent n ∷ []))) spent in
     subst P (sym (deliveries-next b (event.Acker n k) r)) (subst Q (sym e) after)
 
 -- of an acker that is not usable a call says no

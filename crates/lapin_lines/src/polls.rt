@@ -12,8 +12,8 @@ ghost use Rattle.lapin_text.specs.declared.words.Word.TheVariants as word;
 ghost use Rattle.lapin_lines.specs.Lines.{IsMet, IsTaken};
 
 use crate::steps::{last, put_refusal};
-use lapin_rules::Outcome;
 use lapin_machine::Session;
+use lapin_rules::Outcome;
 use lapin_text::{put_answered, put_confirmed, put_item, put_refused};
 use lapin_tokens::{Tokens, put_word, u64_at};
 use lapin_types::{Answer, Confirmation, DeliveryResult, Error, NoMemory, Poll};

@@ -13,7 +13,7 @@ use Rattle.lapin_rules.specs.ConfirmMarks.{ConfirmMark}
 use Rattle.lapin_rules.specs.Wire.{Wire, state_of, with_deliveries}
 use Rattle.lapin_rules.specs.Asking.{is_allowed, call_record, asked_wire, asking_deliveries, asking_marks}
 use Rattle.lapin_rules.specs.Ackers.{acker_asked, usable_at, acked_record, acked_wire, acked_deliveries, acked_tickets}
-use Rattle.lapin_ticket.specs.Slots as slots_of_tickets
+use Rattle.lapin_ticket.specs.Slots as answers
 use Rattle.lapin_confirm.specs.Machine as confirm_state
 use Rattle.lapin_machine.specs.World.{World, next, asking, spending, told_by}
 use Rattle.lapin_machine.proofs.Seen.{world_is}
@@ -46,7 +46,7 @@ module _ (n : ℕ) (k : AckerCall) (w : World) where
       world_is _ _
       (boxed_twice ms (deliveries.Spent n) (asked_wire x.0 (acker_asked k x.1) b) ∙ ap (λ (o : Option (ℕ × ℕ)). with_deliveries (acked_deliveries n o k b) (acked_wire o k b)) (sym is))
       (ap (λ (xs : List ConfirmMark). fold confirm_state.after_mark w.confirm_state xs) (no_marks x.0 k x.1 b))
-      (ap (λ (o : Option (ℕ × ℕ)). fold outstanding.after_mark w.slots (acked_tickets o k b)) (sym is))
+      (ap (λ (o : Option (ℕ × ℕ)). fold answers.after_mark w.slots (acked_tickets o k b)) (sym is))
       refl
 
   -- another says no
@@ -58,5 +58,5 @@ module _ (n : ℕ) (k : AckerCall) (w : World) where
       world_is _ _
       (ap (λ (o : Option (ℕ × ℕ)). with_deliveries (acked_deliveries n o k b) (acked_wire o k b)) (sym is))
       refl
-      (ap (λ (o : Option (ℕ × ℕ)). fold outstanding.after_mark w.slots (acked_tickets o k b)) (sym is))
+      (ap (λ (o : Option (ℕ × ℕ)). fold answers.after_mark w.slots (acked_tickets o k b)) (sym is))
       refl

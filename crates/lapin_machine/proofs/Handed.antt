@@ -15,7 +15,7 @@ use Rattle.lapin_rules.specs.Flow.{begins_on, is_flowing, unless_full}
 use Rattle.lapin_rules.specs.Handing.{handed, handed_out, handed_as, began_on, frame_record, sent, left_marks, left_tickets}
 use Rattle.lapin_rules.specs.Wire.{Wire, lists_of, with_lists}
 use Rattle.lapin_confirm.specs.Machine as confirm_state
-use Rattle.lapin_ticket.specs.Slots as slots_of_tickets
+use Rattle.lapin_ticket.specs.Slots as answers
 use Rattle.lapin_machine.specs.World.{World, next_anew, told_anew, handing, full_in}
 use Rattle.lapin_machine.proofs.Seen.{world_is}
 use Rattle.lapin_machine.proofs.Brought.{none_begins, never_begins}
@@ -89,7 +89,7 @@ handing_told flow w =
     world_is _ _
     (ap (λ x. sent x (with_lists (left_lists w.wire.frame_max (began_on r) (lists_of w.wire)) w.wire)) o ∙ ap (λ ls. sent (handed_out t w.wire) (with_lists ls w.wire)) (left_told t w.wire))
     (ap (λ x. fold confirm_state.after_mark w.confirm_state (left_marks x)) o)
-    (ap (λ x. fold outstanding.after_mark w.slots (left_tickets x)) o)
+    (ap (λ x. fold answers.after_mark w.slots (left_tickets x)) o)
     refl
 
 pub next_handed : {E : Type 0} (res : Result (Option Left) E) (v w : World) (flow flowing : Bool) → flowing ≡ is_flowing flow w.wire → OnOk res (v ≡ handing (unless_full flowing (full_in w.confirm_state)) w) → OnOk res (v ≡ next_anew w (event.Next flow))

@@ -10,7 +10,10 @@ use Rattle.lapin_rules.specs.declared.phases.ChannelPhase.{ChannelPhase}
 use Rattle.lapin_rules.specs.declared.phases.ChannelPhase.TheVariants as phase
 use Rattle.lapin_rules.specs.declared.phases.ConnectionPhase.{ConnectionPhase}
 use Rattle.lapin_rules.specs.declared.phases.ConnectionPhase.TheVariants as link
+use Rattle.lapin_rules.specs.declared.phases.ConnectionPhase.TheVariants as link
+use Rattle.lapin_rules.specs.declared.phases.ConnectionMove.TheVariants as link_move
 use Rattle.lapin_rules.specs.Words.{is_some, with_channel}
+use Rattle.lapin_rules.specs.Moves.{link_after}
 use Rattle.lapin_rules.specs.Phases.{channel_state, is_live, is_up, phase_in}
 use Rattle.lapin_rules.specs.ChannelClose.{close_ok_end}
 use Rattle.lapin_rules.specs.Wire.{is_closed, is_open, is_opening, receives_on}
@@ -143,6 +146,21 @@ sent_down link.Open h = cc
 sent_down (link.Closing sent received) h = refl
 sent_down link.Closed h = refl
 sent_down link.Lost h = refl
+
+-- the broker's close crosses this side's where that has left, and closes the connection where it hasn't
+pub crossed_by : (l : ConnectionPhase) → is_close_sent l ≡ true → link_after l link_move.Close ≡ link.Closing true true
+crossed_by link.Open h = cc
+crossed_by (link.Closing true received) h = refl
+crossed_by (link.Closing false received) h = cc
+crossed_by link.Closed h = cc
+crossed_by link.Lost h = cc
+
+pub closed_by : (l : ConnectionPhase) → is_close_sent l ≡ false → link_after l link_move.Close ≡ link.Closed
+closed_by link.Open h = refl
+closed_by (link.Closing true received) h = cc
+closed_by (link.Closing false received) h = refl
+closed_by link.Closed h = refl
+closed_by link.Lost h = refl
 
 pub tied_unsent : (t : Bool) (o : OutboxState) (l m : ConnectionPhase) (phases : List (ℕ × ChannelPhase)) (b : PublishStates) → is_up l ≡ false → IsTied l phases o.lists.publishes b → IsTied m phases (cond t o (emptied_outbox o)).lists.publishes b
 tied_unsent true o l m phases b down t = tied_further l m phases o.lists.publishes b down t

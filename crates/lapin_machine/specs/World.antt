@@ -29,7 +29,7 @@ use Rattle.lapin_confirm.specs.Drain.{drained_on}
 use Rattle.lapin_confirm.specs.ConfirmState.{ConfirmState, empty_confirm_state, waits_on}
 use Rattle.lapin_confirm.specs.Machine as confirm_state
 use Rattle.lapin_ticket.specs.declared.Slot.{Slot}
-use Rattle.lapin_ticket.specs.Slots as slots_of_tickets
+use Rattle.lapin_ticket.specs.Slots as answers
 use Rattle.lapin_types.specs.declared.leaving.Left.{Left}
 use Rattle.lapin_machine.specs.Returned.{given_back}
 use Rattle.lapin_machine.specs.Returned as back
@@ -76,9 +76,9 @@ readings_of p slots = record {
   last = λ c. last_on c p.publish_states;
   pending = λ c t. is_pending c t p.publish_states;
   confirm = λ n. outcome_record (taken_answer n p);
-  ticket = λ n. poll_record (outstanding.polled n slots);
+  ticket = λ n. poll_record (answers.polled n slots);
   confirm_aside = λ n. aside_record (set_answer n p);
-  ticket_aside = λ n. aside_record (outstanding.laid n slots);
+  ticket_aside = λ n. aside_record (answers.laid n slots);
   asked = λ c. asked_on c p.publish_states;
   waited = λ c. waits_on c p.publish_states;
   full = full_in p;
@@ -105,7 +105,7 @@ abbrev pub next_anew : World → Event → World
 next_anew w e = record {
   wire = after_event w.wire e (told_anew w e);
   confirm_state = fold confirm_state.after_mark w.confirm_state (confirm_marks w.wire e (told_anew w e));
-  slots = fold outstanding.after_mark w.slots (ticket_marks w.wire e (told_anew w e));
+  slots = fold answers.after_mark w.slots (ticket_marks w.wire e (told_anew w e));
   returned = back.after_event w.wire e (told_anew w e) w.returned;
 }
 
@@ -127,7 +127,7 @@ abbrev pub asking : ℕ → Asked → World → World
 asking c k w = record {
   wire = after_asking c k w.wire;
   confirm_state = fold confirm_state.after_mark w.confirm_state (asking_marks c k w.wire);
-  slots = fold outstanding.after_mark w.slots (asking_tickets c k w.wire);
+  slots = fold answers.after_mark w.slots (asking_tickets c k w.wire);
   returned = back.after_asked c k w.wire w.returned;
 }
 
@@ -140,7 +140,7 @@ abbrev pub handing : (ℕ → Bool) → World → World
 handing t w = record {
   wire = after_handing t w.wire;
   confirm_state = fold confirm_state.after_mark w.confirm_state (left_marks (handed_out t w.wire));
-  slots = fold outstanding.after_mark w.slots (left_tickets (handed_out t w.wire));
+  slots = fold answers.after_mark w.slots (left_tickets (handed_out t w.wire));
   returned = w.returned;
 }
 
@@ -149,7 +149,7 @@ abbrev pub receiving : Incoming → Record → World → World
 receiving i r w = record {
   wire = after_incoming i r w.wire;
   confirm_state = fold confirm_state.after_mark w.confirm_state (incoming_marks i r w.wire);
-  slots = fold outstanding.after_mark w.slots (incoming_tickets i r w.wire);
+  slots = fold answers.after_mark w.slots (incoming_tickets i r w.wire);
   returned = back.after_incoming i r w.wire w.returned;
 }
 

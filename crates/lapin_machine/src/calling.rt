@@ -30,9 +30,9 @@ ghost use Rattle.lapin_machine.specs.Places.{HasPlace};
 use crate::channel::{Published, PublisherConfirm, Ticket};
 use crate::session::{Session, is_closed, is_open};
 use lapin_confirm::Confirms;
-use lapin_outstanding::Outstanding;
-use lapin_rules::{Answered, Asked, AtLeaving, ChannelPhase, Row, is_try, sort_call};
 use lapin_delivery::Deliveries;
+use lapin_outstanding::Outstanding;
+use lapin_rules::{Answered, Asked, AtLeaving, ChannelMove, Row, is_try, sort_call};
 use lapin_ticket::Place;
 use lapin_types::{
     BasicMethod, BasicProperties, BasicPublishOptions, Call, ChannelMethod, ConfirmMethod, Error,
@@ -65,7 +65,7 @@ impl Session {
         self.deliveries.reserve_opening(channel)?;
         self.confirms.begin(alloc, channel)?;
         self.deliveries.begin(alloc, channel);
-        self.phases.set(channel, ChannelPhase::Opening);
+        self.phases.go(channel, ChannelMove::OpenCalled);
         let method = Method::Channel(ChannelMethod::Open);
         let number = self
             .outstanding
@@ -182,7 +182,10 @@ impl Session {
         }
         self.outstanding.reserve(alloc, channel)?;
         let confirm = self.confirms.add(alloc, channel)?;
-        let ticket = self.outstanding.tickets.give(channel, AtLeaving::Confirm(confirm));
+        let ticket = self
+            .outstanding
+            .tickets
+            .give(channel, AtLeaving::Confirm(confirm));
         let publish = Publish {
             confirm,
             ticket,
@@ -193,7 +196,11 @@ impl Session {
             payload,
             properties,
         };
-        let _queued = self.outstanding.outbox.push_publish(alloc, publish).unwrap();
+        let _queued = self
+            .outstanding
+            .outbox
+            .push_publish(alloc, publish)
+            .unwrap();
         Ok(Published {
             ticket: Ticket { number: ticket },
             confirm: PublisherConfirm { number: confirm },
@@ -321,7 +328,13 @@ fn place_at_once(alloc: Global, answered: &Answered) -> Result<Option<Place>, No
 
 // A line is queued under the next ticket, in the room that was made: it opens the request of the reply that it awaits, or answers
 // the ticket, or the leaving of its frame does.
-fn queue_line(outstanding: &mut Outstanding, alloc: Global, channel: u16, row: Row, place: Option<Place>) -> u64
+fn queue_line(
+    outstanding: &mut Outstanding,
+    alloc: Global,
+    channel: u16,
+    row: Row,
+    place: Option<Place>,
+) -> u64
     requires room { HasRoom channel outstanding.old }
     requires numbers { length outstanding.old.tickets.slots + 1 < 2 ^ 64 }
     requires unpoisoned { poison_on channel outstanding.old.outbox.what ≡ None }
@@ -344,7 +357,12 @@ fn queue_line(outstanding: &mut Outstanding, alloc: Global, channel: u16, row: R
 
 // A call of this line was accepted: one of the class basic says something of consumers, any other that is made without wait has its
 // answer, and what it declared is recorded.
-fn line_called(deliveries: &mut Deliveries, alloc: Global, channel: u16, row: &Row) -> Result<(), NoMemory>
+fn line_called(
+    deliveries: &mut Deliveries,
+    alloc: Global,
+    channel: u16,
+    row: &Row,
+) -> Result<(), NoMemory>
     ensures ok { OnOk result (what deliveries.new ≡ fold after_deliveries_mark (what deliveries.old) (line_deliveries channel row.now.method row.now.answered)) }
     ensures err { OnErr result (what deliveries.new ≡ what deliveries.old) }
 {

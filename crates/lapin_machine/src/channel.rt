@@ -58,8 +58,7 @@ impl Ticket {
         session.poll_ticket(self.number)
     }
 
-    /// The session's `set_aside_ticket` on this number. A ticket that is neither polled nor set aside is held, and all that were given
-    /// after it are too.
+    /// The session's `set_aside_ticket` on this number. A ticket that is neither polled nor set aside is held for ever.
     pub fn set_aside(&self, session: &mut Session) -> Result<(), Error>
         ensures told { aside_record result ≡ told_by session.old (AsideTicket self.now.number) }
         ensures ok { session.new ≡ next session.old (AsideTicket self.now.number) }

@@ -9,7 +9,8 @@ ghost use Rattle.lapin_tables.specs.ByChannel.{at_channel};
 ghost use Rattle.lapin_types.specs.declared.event.Event.TheVariants.{Call as CallEvent, Lost as LostEvent};
 ghost use Rattle.lapin_types.specs.declared.call.Call.TheVariants.{ChannelClose, ConnectionClose};
 ghost use Rattle.lapin_rules.specs.Words.{is_some, with_channel};
-ghost use Rattle.lapin_rules.specs.Phases.{is_lost as is_lost_lem};
+ghost use Rattle.lapin_rules.specs.Phases.{phase_in, is_lost as is_lost_lem};
+ghost use Rattle.lapin_rules.specs.Moves.{after};
 ghost use Rattle.lapin_rules.specs.ChannelClose.{failed_at_close as failed_at_close_lem};
 ghost use Rattle.lapin_rules.specs.Drops.{without_publishes_of};
 ghost use Rattle.lapin_outbox.specs.Outgoing.{with_lists};
@@ -32,11 +33,11 @@ use crate::channel::Ticket;
 use crate::session::{Session, is_base, is_open};
 use lapin_confirm::Confirms;
 use lapin_content::Contents;
-use lapin_outstanding::Outstanding;
-use lapin_rules::{ChannelPhase, Closer, ConnectionPhase, failed_at_close};
 use lapin_delivery::Deliveries;
 use lapin_outbox::Replies;
+use lapin_outstanding::Outstanding;
 use lapin_phases::Phases;
+use lapin_rules::{ChannelMove, Closer, ConnectionMove, ConnectionPhase, failed_at_close};
 use lapin_types::{
     ChannelMethod, ChannelState, ConnectionMethod, Error, Method, NoMemory, Record, Reply,
     ShortString,
@@ -130,10 +131,7 @@ impl Session {
         replies.reserve(alloc, channel)?;
         self.outstanding.reserve(alloc, channel)?;
         self.deliveries.reserve_ends(alloc)?;
-        let to = ConnectionPhase::Closing {
-            sent: false,
-            received: false,
-        };
+        let to = self.link.after(ConnectionMove::CloseBegun);
         let error = Error::InvalidChannelState(ChannelState::Down);
         go_down(
             alloc,
@@ -173,6 +171,7 @@ impl Session {
         }
         let replies = Replies::new(alloc)?;
         self.deliveries.reserve_ends(alloc)?;
+        let to = self.link.after(ConnectionMove::Lost);
         go_down(
             alloc,
             &mut self.link,
@@ -182,7 +181,7 @@ impl Session {
             &mut self.contents,
             &mut self.deliveries,
             replies,
-            ConnectionPhase::Lost,
+            to,
             Error::ConnectionLost,
         );
         Ok(())
@@ -217,7 +216,7 @@ pub(crate) fn begin_close(
 )
     requires present { is_some (at_channel channel phases.old.entries) ≡ true }
     requires queued { AreQueued confirms.old.what.publish_states.cells outstanding.old.outbox.what.lists.publishes }
-    ensures phases { phases.new.entries ≡ with_channel channel (ChannelPhase.Closing closer false) phases.old.entries }
+    ensures phases { phases.new.entries ≡ with_channel channel (after (phase_in (at_channel channel phases.old.entries)) (ChannelMove.CloseBegun closer)) phases.old.entries }
     ensures outbox { outstanding.new.outbox.what ≡ with_lists (without_publishes_of channel outstanding.old.outbox.what.lists) outstanding.old.outbox.what }
     ensures slots { outstanding.new.tickets.slots ≡ answers.after_mark outstanding.old.tickets.slots (mark.ClosedHere channel (failed_at_close_lem closer)) }
     ensures confirms { confirms.new.what ≡ confirm_state.after_mark confirms.old.what (confirm_mark.ClosedHere channel (failed_at_close_lem closer)) }
@@ -227,13 +226,7 @@ pub(crate) fn begin_close(
     ensures counts { (length outstanding.new.tickets.slots ≡ length outstanding.old.tickets.slots) × (length confirms.new.what.publish_states.cells ≡ length confirms.old.what.publish_states.cells) }
 {
     outstanding.reject_unbegun(confirms, channel, failed_at_close(closer));
-    phases.set(
-        channel,
-        ChannelPhase::Closing {
-            closer,
-            sent: false,
-        },
-    );
+    phases.go(channel, ChannelMove::CloseBegun(closer));
 }
 
 // The connection leaves the open state, or is lost: every live opening ends and no channel stands open, nothing waits any more,
@@ -285,7 +278,13 @@ fn end_consumers(alloc: Global, deliveries: &mut Deliveries, phases: &Phases, er
 }
 
 // The consumers of the opening of this channel, if it has a live one.
-fn end_consumers_at(alloc: Global, deliveries: &mut Deliveries, phases: &Phases, number: usize, error: Error)
+fn end_consumers_at(
+    alloc: Global,
+    deliveries: &mut Deliveries,
+    phases: &Phases,
+    number: usize,
+    error: Error,
+)
     requires { HasEnds deliveries.old.consumers }
     ensures ended { what deliveries.new ≡ fold after_deliveries_mark (what deliveries.old) (deliveries_ends error (live_at number phases.now.entries)) }
     ensures room { HasEnds deliveries.new.consumers }

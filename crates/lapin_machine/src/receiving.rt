@@ -32,14 +32,14 @@ use crate::channel::Heard;
 use crate::closing::{begin_close, go_down};
 use crate::receiving_consumers::answer_first;
 use crate::session::{Session, is_open, no_replies};
-use lapin_rules::{
-    ChannelPhase, Closer, ConnectionPhase, Incoming, SettleKind, Settlement, class_of, method_of,
-    opens, receives_close, receives_close_ok, receives_down, receives_on, session_close,
-    sort_frame, unexpected_close,
-};
 use lapin_delivery::Deliveries;
 use lapin_outbox::Replies;
 use lapin_phases::Phases;
+use lapin_rules::{
+    ChannelMove, Closer, ConnectionMove, Incoming, SettleKind, Settlement, class_of, method_of,
+    opens, receives_close, receives_close_ok, receives_down, receives_on, session_close,
+    sort_frame, unexpected_close,
+};
 use lapin_ticket::Place;
 use lapin_types::{Answer, ChannelMethod, Error, Frame, Method, NoMemory, Record, ReplyKind};
 use std::alloc::Global;
@@ -164,10 +164,7 @@ impl Session {
         self.deliveries.reserve_ends(alloc)?;
         let method = unexpected_close(alloc, class, number)?;
         let replies = no_replies(alloc);
-        let to = ConnectionPhase::Closing {
-            sent: false,
-            received: false,
-        };
+        let to = self.link.after(ConnectionMove::CloseBegun);
         let error = Error::ProtocolError(505);
         go_down(
             alloc,
@@ -256,8 +253,7 @@ impl Session {
             return Ok(Heard::Received);
         }
         self.outstanding.outbox.reserve(alloc)?;
-        self.phases
-            .set(channel, ChannelPhase::Open { paused: !active });
+        self.phases.go(channel, ChannelMove::Flow { active });
         let method = Method::Channel(ChannelMethod::FlowOk { active });
         self.outstanding.queue_own(alloc, channel, method);
         Ok(Heard::Received)
@@ -384,6 +380,6 @@ fn phase_replied(phases: &mut Phases, channel: u16, kind: ReplyKind)
     ensures { phases.new.entries ≡ phases_with channel kind phases.old.entries }
 {
     if opens(kind) {
-        phases.set(channel, ChannelPhase::Open { paused: false });
+        phases.go(channel, ChannelMove::OpenOk);
     }
 }

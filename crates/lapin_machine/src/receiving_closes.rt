@@ -25,11 +25,12 @@ ghost use Rattle.lapin_machine.specs.Numbers.{HasNumbers};
 use crate::channel::Heard;
 use crate::closing::go_down;
 use crate::session::Session;
+use lapin_outbox::Replies;
 use lapin_outstanding::Outstanding;
 use lapin_rules::{
-    ChannelPhase, ConnectionPhase, after_broker_close, close_ok_end, consumers_end, has_sent_close,
+    ChannelMove, ChannelPhase, ConnectionMove, ConnectionPhase, close_ok_end, consumers_end,
+    has_sent_close,
 };
-use lapin_outbox::Replies;
 use lapin_types::{ChannelMethod, ConnectionMethod, Error, Method, ReplyKind, Request};
 use std::alloc::Global;
 
@@ -56,7 +57,7 @@ impl Session {
         self.outstanding
             .end_opening(&mut self.confirms, channel, kept, error);
         self.contents.drop_channel(channel);
-        self.phases.set(channel, after_broker_close(phase));
+        self.phases.go(channel, ChannelMove::Close);
         keep(&mut self.outstanding.replies, alloc, channel, close);
         self.outstanding
             .queue_own(alloc, channel, Method::Channel(ChannelMethod::CloseOk));
@@ -99,7 +100,7 @@ impl Session {
         self.outstanding
             .end_opening(&mut self.confirms, channel, None, error);
         self.contents.drop_channel(channel);
-        self.phases.set(channel, ChannelPhase::Closed);
+        self.phases.go(channel, ChannelMove::CloseOk);
         Ok(Heard::Received)
     }
 
@@ -109,8 +110,12 @@ impl Session {
         requires end { close_ok_end_lem (phase_of channel self.old.wire) ≡ None }
         ensures { self.new ≡ receiving (ChannelCloseOkFrame channel) Received self.old }
     {
-        let close = take_request(&mut self.outstanding.replies, channel, ReplyKind::ChannelCloseOk);
-        self.phases.set(channel, ChannelPhase::Closed);
+        let close = take_request(
+            &mut self.outstanding.replies,
+            channel,
+            ReplyKind::ChannelCloseOk,
+        );
+        self.phases.go(channel, ChannelMove::CloseOk);
         self.outstanding.done(into_ticket(close));
     }
 
@@ -127,16 +132,14 @@ impl Session {
     {
         self.outstanding.outbox.reserve(alloc)?;
         if is_close_sent(self.link) {
-            self.link = ConnectionPhase::Closing {
-                sent: true,
-                received: true,
-            };
+            self.link = self.link.after(ConnectionMove::Close);
             self.outstanding
                 .queue_own(alloc, 0, Method::Connection(ConnectionMethod::CloseOk));
             return Ok(Heard::Received);
         }
         let replies = Replies::new(alloc)?;
         self.deliveries.reserve_ends(alloc)?;
+        let to = self.link.after(ConnectionMove::Close);
         go_down(
             alloc,
             &mut self.link,
@@ -146,7 +149,7 @@ impl Session {
             &mut self.contents,
             &mut self.deliveries,
             replies,
-            ConnectionPhase::Closed,
+            to,
             Error::ProtocolError(code),
         );
         self.outstanding
@@ -160,9 +163,13 @@ impl Session {
         requires { is_up self.old.wire.link ≡ false }
         ensures { self.new ≡ receiving ConnectionCloseOkFrame Received self.old }
     {
-        let close = take_request(&mut self.outstanding.replies, 0, ReplyKind::ConnectionCloseOk);
+        let close = take_request(
+            &mut self.outstanding.replies,
+            0,
+            ReplyKind::ConnectionCloseOk,
+        );
         drop_unsent(self.link, &mut self.outstanding);
-        self.link = ConnectionPhase::Closed;
+        self.link = self.link.after(ConnectionMove::CloseOk);
         self.outstanding.done(into_ticket(close));
     }
 }

@@ -112,7 +112,9 @@ impl Session {
         let place = Place::new(alloc)?;
         let queue = self.queue_asked(alloc, channel)?;
         let options = BasicConsumeOptions::default();
-        let number = self.deliveries.consume(alloc, channel, tag, queue, options)?;
+        let number = self
+            .deliveries
+            .consume(alloc, channel, tag, queue, options)?;
         let answer = Answer::Consumer(number);
         answer_first(
             &mut self.outstanding,
@@ -209,7 +211,11 @@ impl Session {
     fn queue_asked(&self, alloc: Global, channel: u16) -> Result<ShortString, NoMemory>
         ensures { IfOk result (λ queue. queue ≡ queue_asked_lem channel self.now.wire) }
     {
-        match self.outstanding.replies.first(channel, ReplyKind::BasicConsumeOk) {
+        match self
+            .outstanding
+            .replies
+            .first(channel, ReplyKind::BasicConsumeOk)
+        {
             Some(request) => queue_in(alloc, &request.reply),
             None => no_text(alloc),
         }

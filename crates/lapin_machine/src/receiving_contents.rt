@@ -56,7 +56,11 @@ impl Session {
     fn has_get(&self, channel: u16) -> bool
         ensures { result ≡ is_some (first_request BasicGetOk (requests_of channel self.now.wire)) }
     {
-        match self.outstanding.replies.first(channel, ReplyKind::BasicGetOk) {
+        match self
+            .outstanding
+            .replies
+            .first(channel, ReplyKind::BasicGetOk)
+        {
             Some(_) => true,
             None => false,
         }
@@ -66,7 +70,11 @@ impl Session {
     fn get_ticket(&self, channel: u16) -> Option<u64>
         ensures { result ≡ get_ticket_lem channel self.now.wire }
     {
-        match self.outstanding.replies.first(channel, ReplyKind::BasicGetOk) {
+        match self
+            .outstanding
+            .replies
+            .first(channel, ReplyKind::BasicGetOk)
+        {
             Some(request) => request.ticket,
             None => None,
         }
@@ -126,7 +134,10 @@ impl Session {
     {
         let start = start.for_ticket(self.get_ticket(channel));
         self.contents.expect(alloc, channel, BASIC_CLASS, start)?;
-        let request = self.outstanding.replies.take_first(channel, ReplyKind::BasicGetOk);
+        let request = self
+            .outstanding
+            .replies
+            .take_first(channel, ReplyKind::BasicGetOk);
         drop(request);
         Ok(Heard::Received)
     }

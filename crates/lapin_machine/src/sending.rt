@@ -25,8 +25,8 @@ ghost use Rattle.lapin_machine.specs.Tied.{CanRegister};
 
 use crate::session::Session;
 use lapin_confirm::Confirms;
-use lapin_rules::{ChannelPhase, ConnectionPhase, close_sent, link_close_sent};
 use lapin_phases::Phases;
+use lapin_rules::{ChannelMove, ChannelPhase, ConnectionMove, ConnectionPhase};
 use lapin_types::{
     ChannelMethod, ConfirmMethod, ConnectionMethod, Error, Frame, Left, Method, NoMemory, Record,
 };
@@ -113,7 +113,11 @@ impl Session {
         ensures err { OnErr result (self.new ≡ self.old) }
         ensures cause { OnlyMemory result }
     {
-        match self.outstanding.outbox.pop_unless(alloc, flowing, &self.confirms) {
+        match self
+            .outstanding
+            .outbox
+            .pop_unless(alloc, flowing, &self.confirms)
+        {
             Ok(handed) => {
                 let Some(left) = &handed else {
                     return Ok(handed);
@@ -174,7 +178,7 @@ fn link_left(link: &mut ConnectionPhase, frame: &Frame)
     ensures { link.new ≡ link_sent frame.now link.old }
 {
     if let Frame::Method(_, Method::Connection(ConnectionMethod::Close { .. })) = frame {
-        *link = link_close_sent(*link);
+        *link = link.after(ConnectionMove::CloseLeft);
     }
 }
 
@@ -192,7 +196,7 @@ fn phase_left(phases: &mut Phases, channel: u16)
 {
     let phase = phases.get(channel);
     if is_closing(phase) {
-        phases.set(channel, close_sent(phase));
+        phases.go(channel, ChannelMove::CloseLeft);
     }
 }
 

@@ -18,8 +18,8 @@ ghost use Rattle.lapin_machine.specs.Whole.{Fits, FitsAt, FitsFront, MakesRoom, 
 
 use lapin_confirm::Confirms;
 use lapin_content::{Contents, Start, Whole};
-use lapin_outstanding::Outstanding;
 use lapin_delivery::Deliveries;
+use lapin_outstanding::Outstanding;
 use lapin_ticket::Place;
 use lapin_types::{
     Acker, Answer, BasicGetMessage, BasicProperties, BasicReturnMessage, Delivery, Error, Payload,
@@ -75,7 +75,11 @@ fn make_room_for(
 }
 
 // The delivery of a consumer that is registered takes an acker and a place; another is dropped.
-fn make_room_at(alloc: Global, consumer: Option<u64>, deliveries: &mut Deliveries) -> Result<(), Error>
+fn make_room_at(
+    alloc: Global,
+    consumer: Option<u64>,
+    deliveries: &mut Deliveries,
+) -> Result<(), Error>
     ensures same { what deliveries.new ≡ what deliveries.old }
     ensures room { OnOk result (FitsAt consumer deliveries.new) }
     ensures cause { MakesRoomAt result consumer (what deliveries.old) }

@@ -303,7 +303,8 @@ pub fn name_of(kind: MethodKind) -> &'static [u8]
 }
 
 /// Where the method stands in `KINDS` whose name has the slot; 54, behind the last, where none has. A slot is made of a name's
-/// length and of three of its bytes, with factors for which no two names share one: for another name they may have to change.
+/// length and of three of its bytes, with factors for which no two names share one; where a name joins,
+/// `bench/method_tables.py` makes table and factors anew.
 pub const PLACES: [u8; 128] = [
     54, 54, 3, 54, 20, 54, 4, 54, 54, 54, 54, 25, 48, 54, 9, 54, 54, 54, 54, 54, 54, 54, 54, 54,
     54, 54, 54, 22, 17, 54, 54, 30, 54, 54, 12, 54, 54, 0, 47, 38, 54, 11, 18, 54, 54, 54, 54, 21,

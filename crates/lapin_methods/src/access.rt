@@ -11,7 +11,7 @@ use lapin_values::{NoMemory, ShortString};
 use std::alloc::Global;
 
 /// A method of the class access.
-#[derive(Clone, Debug, PartialEq, Drop)]
+#[derive(Clone, PartialEq, Drop)]
 pub enum AccessMethod {
     /// Asks for access to a realm.
     Request {

@@ -11,7 +11,7 @@ use lapin_values::{FieldTable, NoMemory, ShortString};
 use std::alloc::Global;
 
 /// A method of the class basic.
-#[derive(Clone, Debug, PartialEq, Drop)]
+#[derive(Clone, PartialEq, Drop)]
 pub enum BasicMethod {
     /// Sets how many deliveries may be unacknowledged. The prefetch size is always 0, no limit.
     Qos {

@@ -11,7 +11,7 @@ use lapin_values::{NoMemory, ShortString};
 use std::alloc::Global;
 
 /// A method of the class channel.
-#[derive(Clone, Debug, PartialEq, Drop)]
+#[derive(Clone, PartialEq, Drop)]
 pub enum ChannelMethod {
     /// Opens a channel.
     Open,

@@ -11,7 +11,7 @@ use lapin_values::NoMemory;
 use std::alloc::Global;
 
 /// A method of the class confirm.
-#[derive(Clone, Debug, PartialEq, Drop)]
+#[derive(Clone, PartialEq, Drop)]
 pub enum ConfirmMethod {
     /// Asks the broker to confirm what is published on the channel.
     Select { nowait: bool },

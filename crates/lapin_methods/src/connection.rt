@@ -11,7 +11,7 @@ use lapin_values::{NoMemory, ShortString};
 use std::alloc::Global;
 
 /// A method of the class connection.
-#[derive(Clone, Debug, PartialEq, Drop)]
+#[derive(Clone, PartialEq, Drop)]
 pub enum ConnectionMethod {
     /// Asks the peer to close the connection. Either side sends it. The class and method are those of the
     /// frame that failed, or 0.

@@ -11,7 +11,7 @@ use lapin_values::{FieldTable, NoMemory, ShortString};
 use std::alloc::Global;
 
 /// A method of the class exchange.
-#[derive(Clone, Debug, PartialEq, Drop)]
+#[derive(Clone, PartialEq, Drop)]
 pub enum ExchangeMethod {
     /// Declares an exchange of a kind, as `direct`.
     Declare {

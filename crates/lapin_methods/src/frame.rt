@@ -10,7 +10,7 @@ use lapin_values::{BasicProperties, NoMemory, Payload};
 use std::alloc::Global;
 
 /// The header of a content (AMQP 0-9-1, section 4.2.6.1, "The Content Header").
-#[derive(Debug, Drop)]
+#[derive(Drop)]
 pub struct ContentHeader {
     /// The class of the content: 60, basic.
     pub class_id: u16,
@@ -56,7 +56,7 @@ impl PartialEq for ContentHeader {
 }
 
 /// A frame with the number of its channel (AMQP 0-9-1, section 4.2.3, "General Frame Format").
-#[derive(Debug, Drop)]
+#[derive(Drop)]
 pub enum Frame {
     /// A method.
     Method(u16, Method),

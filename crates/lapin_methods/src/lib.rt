@@ -15,6 +15,7 @@ pub mod frame;
 pub mod method;
 pub mod options;
 pub mod queue;
+mod shown;
 pub mod states;
 pub mod tx;
 

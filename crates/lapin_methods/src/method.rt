@@ -18,7 +18,7 @@ use lapin_values::NoMemory;
 use std::alloc::Global;
 
 /// A method of any class (AMQP 0-9-1).
-#[derive(Debug, Drop)]
+#[derive(Drop)]
 pub enum Method {
     Connection(ConnectionMethod),
     Channel(ChannelMethod),

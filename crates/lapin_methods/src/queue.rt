@@ -11,7 +11,7 @@ use lapin_values::{FieldTable, NoMemory, ShortString};
 use std::alloc::Global;
 
 /// A method of the class queue.
-#[derive(Clone, Debug, PartialEq, Drop)]
+#[derive(Clone, PartialEq, Drop)]
 pub enum QueueMethod {
     /// Declares a queue. The broker names it where the name is empty.
     Declare {

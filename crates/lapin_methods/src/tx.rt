@@ -11,7 +11,7 @@ use lapin_values::NoMemory;
 use std::alloc::Global;
 
 /// A method of the class tx.
-#[derive(Clone, Debug, PartialEq, Drop)]
+#[derive(Clone, PartialEq, Drop)]
 pub enum TxMethod {
     /// Makes the channel transactional.
     Select,

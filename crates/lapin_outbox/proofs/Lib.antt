@@ -10,3 +10,4 @@ pub mod Dropping
 pub mod DropTickets
 pub mod Poison
 pub mod Returned
+pub mod Firsts

@@ -4,7 +4,6 @@ pub mod Codes
 pub mod Cut
 pub mod Drops
 pub mod Entries
-pub mod KindNumbers
 pub mod ChannelQueue
 pub mod Links
 pub mod Open

@@ -1,12 +1,10 @@
 //! Entries in order of joining, from which the first of a key can be taken as well as the first of all.
 //!
-//! The outbox keeps its methods in one line and its publishes in another, by their channels; the open requests of a channel
-//! stand in a line by their kinds. What an entry is, and when it is taken, is `queues` and `requests`, which alone call this
-//! file.
+//! The outbox keeps its methods in one line and its publishes in another, by their channels. What an entry is, and when it is
+//! taken, is `queues`, which alone calls this file.
 
 ghost use Rattle.std.specs.Prelude.{◌≡◌, ℕ, ◌+◌, ◌<◌, ◌≤◌, ◌++◌, ◌∷◌, [], IsOk, IfOk, OnOk, OnErr, drop, slice_get};
 ghost use Rattle.std.specs.List.{find};
-ghost use Rattle.std.specs.Option.{option_copied};
 ghost use Rattle.lapin_rules.specs.Frames.{is_empty};
 ghost use Rattle.lapin_rules.specs.Words.{without_first};
 ghost use Rattle.lapin_rules.specs.Drops.{is_on};
@@ -102,14 +100,6 @@ impl<T: Keyed> ChannelQueue<T> {
         let entry = self.entries.take(number)?;
         let _ = self.order.take_first(entry.key());
         Some(entry)
-    }
-
-    /// The first entry of a key; `None` exactly where there is none.
-    pub(crate) fn first_of(&self, key: u16) -> Option<&T>
-        ensures { option_copied result ≡ find (is_on T.key_of key) self.now.entries }
-    {
-        let number = self.order.first(key)?;
-        self.entries.get(number)
     }
 
     /// Takes out the first entry of a key; `None` exactly where there is none. The others keep their order.

@@ -1,28 +1,28 @@
 //! The open requests of one channel, oldest first.
 //!
-//! They stand in a line by the numbers of their kinds, so that the oldest of a kind is found at once, however many requests of
-//! other kinds are open. The table of all channels, and which request a reply takes where, live in `replies`, which alone calls
-//! this file.
+//! A broker answers a channel's requests in their order, so the one that a reply takes mostly is the oldest of all. The table of all
+//! channels, and which request a reply takes where, live in `replies`, which alone calls this file.
 
 ghost use Rattle.std.specs.Prelude.{◌≡◌, ◌+◌, ◌<◌, ◌≤◌, ◌++◌, ◌∷◌, [], IsOk, OnOk, IfNone, drop, slice_get};
+ghost use Rattle.std.specs.List.{position};
 ghost use Rattle.std.specs.Option.{option_copied};
-ghost use Rattle.lapin_types.specs.Requests.{kind_of};
 ghost use Rattle.lapin_rules.specs.Words.{without_first};
 ghost use Rattle.lapin_rules.specs.Requests.{is_kind, first_request};
-ghost use Rattle.lapin_outbox.specs.KindNumbers.{kind_number};
 
-use crate::channel_queue::{ChannelQueue, Keyed};
 use lapin_types::{NoMemory, ReplyKind, Request};
 use std::alloc::Global;
+use std::collections::VecDeque;
 use std::marker::Model;
 
 /// The open requests of a channel. A contract sees their list, and for how many more there is room.
 #[derive(Drop)]
 pub(crate) struct Requests {
-    channel_queue: ChannelQueue<Request>,
+    requests: VecDeque<Request>,
 }
 
 impl Model for Requests {
+    ghost use Rattle.std.specs.Prelude.{◌-◌};
+    ghost use Rattle.std.specs.VecDeque.{deque_len, deque_capacity};
     ghost use Rattle.lapin_outbox.specs.Open.{OpenOnChannel};
     ghost use Rattle.lapin_outbox.specs.Codes.{open_code};
 
@@ -30,15 +30,7 @@ impl Model for Requests {
 
     ghost coded = { open_code };
 
-    ghost view = { λ r. record { open_requests = r.channel_queue.entries; spare = r.channel_queue.spare } };
-}
-
-impl Keyed for Request {
-    ghost key_of = { λ r. kind_number (kind_of r.reply) };
-
-    fn key(&self) -> u16 {
-        number_of(self.reply.kind())
-    }
+    ghost view = { λ r. record { open_requests = r.requests.items; spare = deque_capacity r.requests - deque_len r.requests } };
 }
 
 impl Requests {
@@ -47,18 +39,22 @@ impl Requests {
         ensures { result.open_requests ≡ [] }
     {
         Requests {
-            channel_queue: ChannelQueue::new(alloc),
+            requests: VecDeque::new(alloc),
         }
     }
 
-    /// Makes room for the next request. The requests stay.
+    /// Makes room for the next request. The requests stay. The first room is for one alone, since most channels never have two.
     pub(crate) fn reserve(&mut self) -> Result<(), NoMemory>
         ensures room { OnOk result (0 < self.new.spare) }
         ensures same { self.new.open_requests ≡ self.old.open_requests }
         ensures kept { self.old.spare ≤ self.new.spare }
         ensures succeeds { 0 < self.old.spare → IsOk result }
     {
-        self.channel_queue.reserve()
+        if self.requests.capacity() == 0 {
+            self.requests.reserve_exact(1)?;
+        }
+        self.requests.reserve(1)?;
+        Ok(())
     }
 
     /// Adds a request behind the others, in the room that was made.
@@ -67,14 +63,15 @@ impl Requests {
         ensures others { self.new.open_requests ≡ self.old.open_requests ++ request ∷ [] }
         ensures used { self.old.spare ≤ self.new.spare + 1 }
     {
-        self.channel_queue.push(request).unwrap();
+        self.requests.push_back_reserved(request);
     }
 
     /// The oldest request of a kind.
     pub(crate) fn first(&self, kind: ReplyKind) -> Option<&Request>
         ensures { option_copied result ≡ first_request kind self.now.open_requests }
     {
-        self.channel_queue.first_of(number_of(kind))
+        let place = self.place_of(kind)?;
+        self.requests.get(place)
     }
 
     /// Takes out the oldest request of a kind. The others keep their order.
@@ -84,7 +81,8 @@ impl Requests {
         ensures none { IfNone result (self.new.open_requests ≡ self.old.open_requests) }
         ensures kept { self.old.spare ≤ self.new.spare }
     {
-        self.channel_queue.pop_of(number_of(kind))
+        let place = self.place_of(kind)?;
+        self.requests.remove(place)
     }
 
     /// Takes out the oldest request.
@@ -94,13 +92,15 @@ impl Requests {
         ensures none { IfNone result (self.new.open_requests ≡ self.old.open_requests) }
         ensures kept { self.old.spare ≤ self.new.spare }
     {
-        self.channel_queue.pop()
+        self.requests.pop_front()
     }
-}
 
-// The number of a kind.
-fn number_of(kind: ReplyKind) -> u16
-    ensures { result ≡ kind_number kind }
-{
-    kind as u16
+    // The place of the oldest request of a kind.
+    fn place_of(&self, kind: ReplyKind) -> Option<usize>
+        ensures { result ≡ position (is_kind kind) self.now.open_requests }
+    {
+        self.requests
+            .iter()
+            .position(|request| request.reply.kind() == kind)
+    }
 }

@@ -13,7 +13,7 @@ ghost use Rattle.lapin_outbox.specs.Returned.{is_returned_on};
 ghost use Rattle.lapin_outbox.specs.Open.{KeepsRoom};
 ghost use Rattle.lapin_rules.specs.Ends.{ends, live_channels, cancels_in, cancels_at, cancels_on};
 ghost use Rattle.lapin_rules.specs.TicketReadings as mark;
-ghost use Rattle.lapin_ticket.specs.Slots as slots_of_tickets;
+ghost use Rattle.lapin_ticket.specs.Slots as answers;
 ghost use Rattle.lapin_rules.specs.ConfirmMarks as confirm;
 ghost use Rattle.lapin_confirm.specs.Machine as confirm_state;
 ghost use Rattle.lapin_outstanding.specs.Live.{live_at};
@@ -22,9 +22,9 @@ ghost use Rattle.lapin_outstanding.specs.Queued.{AreQueued, MayReject, rejected_
 
 use crate::outstanding::Outstanding;
 use lapin_confirm::Confirms;
-use lapin_rules::is_kind;
 use lapin_outbox::Replies;
 use lapin_phases::Phases;
+use lapin_rules::is_kind;
 use lapin_types::{Error, ReplyKind, Request};
 
 impl Outstanding {
@@ -33,7 +33,7 @@ impl Outstanding {
     pub fn reject_unbegun(&mut self, confirms: &mut Confirms, channel: u16, error: Error)
         requires queued { AreQueued confirms.old.what.publish_states.cells self.old.outbox.what.lists.publishes }
         ensures outbox { self.new.outbox.what ≡ with_lists (without_publishes_of channel self.old.outbox.what.lists) self.old.outbox.what }
-        ensures slots { self.new.tickets.slots ≡ outstanding.after_mark self.old.tickets.slots (mark.ClosedHere channel error) }
+        ensures slots { self.new.tickets.slots ≡ answers.after_mark self.old.tickets.slots (mark.ClosedHere channel error) }
         ensures confirms { confirms.new.what ≡ confirm_state.after_mark confirms.old.what (confirm.ClosedHere channel error) }
         ensures queued { AreQueued confirms.new.what.publish_states.cells self.new.outbox.what.lists.publishes }
         ensures requests { self.new.replies ≡ self.old.replies }
@@ -55,7 +55,7 @@ impl Outstanding {
         requires queued { AreQueued confirms.old.what.publish_states.cells self.old.outbox.what.lists.publishes }
         ensures outbox { self.new.outbox.what ≡ ended_outbox channel self.old.outbox.what }
         ensures requests { self.new.replies.what ≡ on_channel channel no_requests self.old.replies.what }
-        ensures slots { self.new.tickets.slots ≡ fold outstanding.after_mark self.old.tickets.slots (cancels_at channel self.old.replies.what ++ mark.OpeningFailed channel spared error ∷ []) }
+        ensures slots { self.new.tickets.slots ≡ fold answers.after_mark self.old.tickets.slots (cancels_at channel self.old.replies.what ++ mark.OpeningFailed channel spared error ∷ []) }
         ensures confirms { confirms.new.what ≡ confirm_state.after_mark confirms.old.what (confirm.Ended channel error) }
         ensures queued { AreQueued confirms.new.what.publish_states.cells self.new.outbox.what.lists.publishes }
         ensures room { (self.old.outbox.spare ≤ self.new.outbox.spare) × KeepsRoom self.old.replies self.new.replies × (self.new.tickets.ready ≡ self.old.tickets.ready) }
@@ -79,7 +79,7 @@ impl Outstanding {
         requires queued { AreQueued confirms.old.what.publish_states.cells self.old.outbox.what.lists.publishes }
         ensures outbox { self.new.outbox.what ≡ emptied_outbox self.old.outbox.what }
         ensures requests { self.new.replies ≡ replies }
-        ensures slots { self.new.tickets.slots ≡ fold outstanding.after_mark self.old.tickets.slots (cancels_on (live_channels phases.now.entries) self.old.replies.what ++ mark.AllFailed error ∷ []) }
+        ensures slots { self.new.tickets.slots ≡ fold answers.after_mark self.old.tickets.slots (cancels_on (live_channels phases.now.entries) self.old.replies.what ++ mark.AllFailed error ∷ []) }
         ensures confirms { confirms.new.what ≡ fold confirm_state.after_mark confirms.old.what (ends error (live_channels phases.now.entries)) }
         ensures room { (self.old.outbox.spare ≤ self.new.outbox.spare) × (self.new.tickets.ready ≡ self.old.tickets.ready) }
     {
@@ -147,7 +147,7 @@ impl Outstanding {
     // Takes out every request of a channel. A `basic.cancel` among them is done.
     fn end_requests(&mut self, channel: u16)
         ensures requests { self.new.replies.what ≡ on_channel channel no_requests self.old.replies.what }
-        ensures slots { self.new.tickets.slots ≡ fold outstanding.after_mark self.old.tickets.slots (cancels_at channel self.old.replies.what) }
+        ensures slots { self.new.tickets.slots ≡ fold answers.after_mark self.old.tickets.slots (cancels_at channel self.old.replies.what) }
         ensures outbox { self.new.outbox ≡ self.old.outbox }
         ensures room { KeepsRoom self.old.replies self.new.replies × (self.new.tickets.ready ≡ self.old.tickets.ready) }
     {
@@ -158,7 +158,7 @@ impl Outstanding {
 
     // A request ends with the opening of its channel: a `basic.cancel` is done, since its consumer is gone.
     fn end_request(&mut self, request: Request)
-        ensures slots { self.new.tickets.slots ≡ fold outstanding.after_mark self.old.tickets.slots (cancels_in (request ∷ [])) }
+        ensures slots { self.new.tickets.slots ≡ fold answers.after_mark self.old.tickets.slots (cancels_in (request ∷ [])) }
         ensures outbox { self.new.outbox ≡ self.old.outbox }
         ensures requests { self.new.replies ≡ self.old.replies }
         ensures room { self.new.tickets.ready ≡ self.old.tickets.ready }
@@ -173,7 +173,7 @@ impl Outstanding {
     fn end_live(&mut self, confirms: &mut Confirms, phases: &Phases, error: Error)
         requires queued { AreQueued confirms.old.what.publish_states.cells self.old.outbox.what.lists.publishes }
         ensures confirms { confirms.new.what ≡ fold confirm_state.after_mark confirms.old.what (ends error (live_channels phases.now.entries)) }
-        ensures slots { self.new.tickets.slots ≡ fold outstanding.after_mark self.old.tickets.slots (cancels_on (live_channels phases.now.entries) self.old.replies.what) }
+        ensures slots { self.new.tickets.slots ≡ fold answers.after_mark self.old.tickets.slots (cancels_on (live_channels phases.now.entries) self.old.replies.what) }
         ensures rest { same_but_lists self.new.outbox.what ≡ same_but_lists self.old.outbox.what }
         ensures room { (self.old.outbox.spare ≤ self.new.outbox.spare) × (self.new.tickets.ready ≡ self.old.tickets.ready) }
     {
@@ -189,7 +189,7 @@ impl Outstanding {
     fn end_live_at(&mut self, confirms: &mut Confirms, phases: &Phases, number: usize, error: Error)
         requires queued { AreQueued confirms.old.what.publish_states.cells self.old.outbox.what.lists.publishes }
         ensures confirms { confirms.new.what ≡ fold confirm_state.after_mark confirms.old.what (ends error (live_at number phases.now.entries)) }
-        ensures slots { self.new.tickets.slots ≡ fold outstanding.after_mark self.old.tickets.slots (cancels_on (live_at number phases.now.entries) self.old.replies.what) }
+        ensures slots { self.new.tickets.slots ≡ fold answers.after_mark self.old.tickets.slots (cancels_on (live_at number phases.now.entries) self.old.replies.what) }
         ensures queued { AreQueued confirms.new.what.publish_states.cells self.new.outbox.what.lists.publishes }
         ensures others { KeepsOtherRequests number self.old.replies.what self.new.replies.what }
         ensures rest { same_but_lists self.new.outbox.what ≡ same_but_lists self.old.outbox.what }

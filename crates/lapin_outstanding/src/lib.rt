@@ -5,7 +5,7 @@
 //! of the connection lives here: when a close or an end comes is the session's.
 #![tactic(auto)]
 
-mod outstanding;
 mod ending;
+mod outstanding;
 
 pub use outstanding::Outstanding;

@@ -18,13 +18,13 @@ ghost use Rattle.lapin_rules.specs.Handing.{left_tickets, begun_ticket, last_tic
 ghost use Rattle.lapin_ticket.specs.Slots.{after_mark};
 ghost use Rattle.lapin_outstanding.specs.Rooms.{HasRoom, SameOutstanding};
 
-use lapin_rules::AtLeaving;
 use lapin_outbox::{Outbox, Replies};
+use lapin_rules::AtLeaving;
 use lapin_ticket::{Held, Place, Tickets};
 use lapin_types::{Answer, Left, Method, NoMemory, Reply, Request};
 use std::alloc::Global;
 
-/// Frames that wait, open requests and tickets. Nobody poisons the outbox of a outstanding: what is queued is queued.
+/// Frames that wait, open requests and tickets. Nobody poisons the outbox here: what is queued is queued.
 pub struct Outstanding {
     pub outbox: Outbox,
     pub replies: Replies,

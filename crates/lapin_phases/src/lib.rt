@@ -8,10 +8,11 @@ ghost use Rattle.std.specs.List.{list_any};
 ghost use Rattle.lapin_tables.specs.ByChannel.{at_channel, HasRoom};
 ghost use Rattle.lapin_rules.specs.Words.{with_channel};
 ghost use Rattle.lapin_rules.specs.Phases.{phase_in, is_live};
+ghost use Rattle.lapin_rules.specs.Moves.{after};
 ghost use Rattle.lapin_rules.specs.Ends.{live_below, live_channels};
 ghost use Rattle.lapin_rules.specs.Flow.{is_paused_on};
 
-use lapin_rules::ChannelPhase;
+use lapin_rules::{ChannelMove, ChannelPhase};
 use lapin_tables::ByChannel;
 use std::alloc::{AllocError, Global};
 use std::marker::Model;
@@ -100,7 +101,7 @@ impl Phases {
         self.paused = 0;
     }
 
-    /// Makes room for `set` on a channel.
+    /// Makes room for `go` on a channel.
     pub fn reserve(&mut self, channel: u16) -> Result<(), AllocError>
         ensures room { OnOk result (HasRoom channel self.new) }
         ensures same { self.new.entries ≡ self.old.entries }
@@ -108,8 +109,16 @@ impl Phases {
         self.table.reserve(channel)
     }
 
-    /// Puts a channel where an open, a close or a flow leads it.
-    pub fn set(&mut self, channel: u16, phase: ChannelPhase)
+    /// Moves a channel. Nothing else does, but for the end of all of them by `clear`.
+    pub fn go(&mut self, channel: u16, happening: ChannelMove)
+        requires { at_channel channel self.old.entries ≡ None → HasRoom channel self.old }
+        ensures { self.new.entries ≡ with_channel channel (after (phase_in (at_channel channel self.old.entries)) happening) self.old.entries }
+    {
+        let phase = self.get(channel);
+        self.set(channel, phase.after(happening));
+    }
+
+    fn set(&mut self, channel: u16, phase: ChannelPhase)
         requires { at_channel channel self.old.entries ≡ None → HasRoom channel self.old }
         ensures { self.new.entries ≡ with_channel channel phase self.old.entries }
     {

@@ -17,11 +17,13 @@ use Rattle.lapin_rules.specs.declared.phases.Closer.{Closer}
 use Rattle.lapin_rules.specs.declared.phases.Closer.TheVariants as closer
 use Rattle.lapin_rules.specs.declared.phases.ChannelPhase.{ChannelPhase}
 use Rattle.lapin_rules.specs.declared.phases.ChannelPhase.TheVariants as phase
+use Rattle.lapin_rules.specs.declared.phases.ChannelMove.TheVariants as move
 use Rattle.lapin_rules.specs.ConfirmMarks.{ConfirmMark}
 use Rattle.lapin_rules.specs.ConfirmMarks as mark
 use Rattle.lapin_rules.specs.TicketReadings.{TicketMark}
 use Rattle.lapin_rules.specs.TicketReadings as ticket
 use Rattle.lapin_rules.specs.Words.{with_channel}
+use Rattle.lapin_rules.specs.Moves.{after}
 use Rattle.lapin_rules.specs.Drops.{without_publishes_of}
 use Rattle.lapin_rules.specs.Requests.{first_request, without_kind, close_alone, no_requests, ticket_of, resolved_with}
 use Rattle.lapin_rules.specs.Wire.{Wire, lists_of, with_lists, phase_of, requests_of, is_opening, is_closing, is_crossed, receives_on, queued, noted}
@@ -36,7 +38,7 @@ failed_at_close closer.Session = error.ProtocolError 406
 
 -- the channel is closing, and its publishes that have not begun will not leave; what was begun or queued earlier still does
 abbrev pub closing : ℕ → Closer → Wire → Wire
-closing c who b = record (with_lists (without_publishes_of c (lists_of b)) b) { phases = with_channel c (phase.Closing who false) b.phases }
+closing c who b = record (with_lists (without_publishes_of c (lists_of b)) b) { phases = with_channel c (after (phase_of c b) (move.CloseBegun who)) b.phases }
 
 -- this side closes the channel's opening: the confirms of its publishes that have not begun fail with that error
 abbrev pub close_marks : ℕ → Closer → List ConfirmMark
@@ -62,10 +64,9 @@ after_close_call c code text b = queued c (own_close code text) (Some reply.Chan
 
 -- ---- this side's `channel.close` leaves
 
--- where a channel stands as this side's `channel.close` leaves: on a closing one the close has left now, any other is as it was
+-- where a channel stands as this side's `channel.close` leaves
 abbrev pub close_sent : ChannelPhase → ChannelPhase
-close_sent (phase.Closing who sent) = phase.Closing who true
-close_sent p = p
+close_sent p = after p move.CloseLeft
 
 -- where the channels stand as a frame leaves: a `channel.close` has left on its channel, and any other frame moves none
 abbrev pub phases_sent : Frame → List (ℕ × ChannelPhase) → List (ℕ × ChannelPhase)
@@ -87,13 +88,12 @@ close_ticket c b = ticket_of (first_request reply_kind.ChannelCloseOk (requests_
 abbrev pub receives_close : ChannelState → Bool
 receives_close s = is_opening s || receives_on s
 
--- The channel is closed. Where this side's close has left the two crossed: the broker's close-ok is still to come, and the
--- request of this side's close stays open for it.
+-- where a channel stands once the broker's `channel.close` came
 abbrev pub after_broker_close : ChannelPhase → ChannelPhase
-after_broker_close (phase.Closing who true) = phase.Crossed
-after_broker_close p = phase.Closed
+after_broker_close p = after p move.Close
 
--- which of the channel's requests stay open: where this side's close has left, that of the close alone, and else none
+-- which of the channel's requests stay open: where this side's close has left and the two cross, that of the close alone, for the
+-- broker's close-ok; and else none
 abbrev pub kept_at : ChannelPhase → List Request → List Request
 kept_at p rs = if has_sent_close p then close_alone rs else no_requests rs
 
@@ -136,8 +136,8 @@ close_ok_end _ = None
 
 -- the channel is closed; the opening ends where a crossed close did not end it before
 abbrev pub after_close_ok : ℕ → ChannelPhase → Wire → Wire
-after_close_ok c (phase.Closing who sent) b = ended c phase.Closed no_requests b
-after_close_ok c p b = record b { phases = with_channel c phase.Closed b.phases; requests = on_channel c (without_kind reply_kind.ChannelCloseOk) b.requests }
+after_close_ok c (phase.Closing who sent) b = ended c (after (phase.Closing who sent) move.CloseOk) no_requests b
+after_close_ok c p b = record b { phases = with_channel c (after p move.CloseOk) b.phases; requests = on_channel c (without_kind reply_kind.ChannelCloseOk) b.requests }
 
 -- what `channel.close-ok` does to confirms: the opening ends where a crossed close did not end it before
 abbrev pub close_ok_marks : ℕ → Wire → List ConfirmMark

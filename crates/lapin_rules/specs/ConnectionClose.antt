@@ -13,12 +13,14 @@ use Rattle.lapin_types.specs.declared.request.ReplyKind.TheVariants as reply_kin
 use Rattle.lapin_delivery.specs.Marks.{DeliveryMark}
 use Rattle.lapin_rules.specs.declared.phases.ConnectionPhase.{ConnectionPhase}
 use Rattle.lapin_rules.specs.declared.phases.ConnectionPhase.TheVariants as link
+use Rattle.lapin_rules.specs.declared.phases.ConnectionMove.TheVariants as link_move
 use Rattle.lapin_rules.specs.declared.broker_frames.Incoming.{Incoming}
 use Rattle.lapin_rules.specs.declared.broker_frames.Incoming.TheVariants as incoming
 use Rattle.lapin_rules.specs.ConfirmMarks.{ConfirmMark}
 use Rattle.lapin_rules.specs.TicketReadings.{TicketMark}
 use Rattle.lapin_rules.specs.TicketReadings as ticket
 use Rattle.lapin_rules.specs.Leaving.{Lists}
+use Rattle.lapin_rules.specs.Moves.{link_after}
 use Rattle.lapin_rules.specs.Drops.{no_lists}
 use Rattle.lapin_rules.specs.Requests.{first_request, without_kind, ticket_of, resolved_with}
 use Rattle.lapin_rules.specs.Wire.{Wire, lists_of, with_lists, requests_of, queued, noted}
@@ -36,7 +38,7 @@ own_connection_close code text = method.Connection (connection.Close code text 0
 
 -- all that waits is dropped before it is queued
 abbrev pub after_connection_close_call : ℕ → ℕ → List ℕ → Wire → Wire
-after_connection_close_call c code text b = queued c (own_connection_close code text) (Some reply.ConnectionCloseOk) (down (link.Closing false false) b)
+after_connection_close_call c code text b = queued c (own_connection_close code text) (Some reply.ConnectionCloseOk) (down (link_after b.link link_move.CloseBegun) b)
 
 -- what the call does to confirms: every live opening ends with that error
 abbrev pub connection_close_call_marks : Wire → List ConfirmMark
@@ -52,10 +54,9 @@ connection_close_call_tickets b = all_failed failed_at_connection_close b
 
 -- ---- this side's `connection.close` leaves
 
--- where the connection stands as this side's `connection.close` leaves: where it is closing the close has left now, else it is as it was
+-- where the connection stands as this side's `connection.close` leaves
 abbrev pub link_close_sent : ConnectionPhase → ConnectionPhase
-link_close_sent (link.Closing sent received) = link.Closing true received
-link_close_sent l = l
+link_close_sent l = link_after l link_move.CloseLeft
 
 -- where the connection stands as a frame leaves: `connection.close` has left, and any other frame does not move it
 abbrev pub link_sent : Frame → ConnectionPhase → ConnectionPhase
@@ -76,8 +77,8 @@ receives_down _ _ = false
 -- It is answered by close-ok. Where this side's close has left the connection is still closing. Else it is closed, and this
 -- side's close, if it was called, is dropped with all that waits.
 abbrev pub after_connection_close : ConnectionPhase → Wire → Wire
-after_connection_close (link.Closing true received) b = noted 0 (method.Connection connection.CloseOk) (record b { link = link.Closing true true })
-after_connection_close l b = noted 0 (method.Connection connection.CloseOk) (down link.Closed b)
+after_connection_close (link.Closing true received) b = noted 0 (method.Connection connection.CloseOk) (record b { link = link_after (link.Closing true received) link_move.Close })
+after_connection_close l b = noted 0 (method.Connection connection.CloseOk) (down (link_after l link_move.Close) b)
 
 -- what the broker's `connection.close` does to confirms: every live opening ends with the broker's code
 abbrev pub connection_close_marks : ℕ → Wire → List ConfirmMark
@@ -105,7 +106,7 @@ has_sent _ = true
 
 -- the connection is closed, and the request of this side's close is gone; a close that has not left is dropped
 abbrev pub after_connection_close_ok : Wire → Wire
-after_connection_close_ok b = record (with_lists (unless_sent (has_sent b.link) (lists_of b)) b) { link = link.Closed; requests = on_channel 0 (without_kind reply_kind.ConnectionCloseOk) b.requests }
+after_connection_close_ok b = record (with_lists (unless_sent (has_sent b.link) (lists_of b)) b) { link = link_after b.link link_move.CloseOk; requests = on_channel 0 (without_kind reply_kind.ConnectionCloseOk) b.requests }
 
 -- this side's close is done
 abbrev pub connection_close_ok_tickets : Wire → List TicketMark

@@ -4,17 +4,18 @@ use Rattle.std.specs.List.{list_any}
 use Rattle.lapin_types.specs.Types.method
 use Rattle.lapin_types.specs.Types.channel
 use Rattle.lapin_rules.specs.declared.phases.ChannelPhase.{ChannelPhase}
-use Rattle.lapin_rules.specs.declared.phases.ChannelPhase.TheVariants as phase
+use Rattle.lapin_rules.specs.declared.phases.ChannelMove.TheVariants as move
 use Rattle.lapin_rules.specs.Words.{with_channel}
 use Rattle.lapin_rules.specs.Phases.{is_paused}
-use Rattle.lapin_rules.specs.Wire.{Wire, state_of, is_open, noted}
+use Rattle.lapin_rules.specs.Moves.{after}
+use Rattle.lapin_rules.specs.Wire.{Wire, phase_of, state_of, is_open, noted}
 
 -- The broker pauses an open channel, or ends its pause, and is answered by flow-ok with the same mark. On a channel that this side
 -- is closing a pause has nothing left to hold, so it changes nothing and is not answered.
 abbrev pub after_flow : ℕ → Bool → Wire → Wire
 after_flow c active b =
     if is_open (state_of c b)
-    then noted c (method.Channel (channel.FlowOk active)) (record b { phases = with_channel c (phase.Open (not active)) b.phases })
+    then noted c (method.Channel (channel.FlowOk active)) (record b { phases = with_channel c (after (phase_of c b) (move.Flow active)) b.phases })
     else b
 
 -- whether an open channel is paused

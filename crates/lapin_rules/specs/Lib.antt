@@ -9,6 +9,7 @@ pub mod Frames
 pub mod Leaving
 pub mod Drops
 pub mod Phases
+pub mod Moves
 pub mod Requests
 pub mod Wire
 pub mod Ends

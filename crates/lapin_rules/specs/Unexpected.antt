@@ -6,10 +6,11 @@ use Rattle.lapin_types.specs.declared.record.Record.TheVariants as record_
 use Rattle.lapin_types.specs.Types.method
 use Rattle.lapin_types.specs.Types.connection
 use Rattle.lapin_types.specs.Types.error
-use Rattle.lapin_rules.specs.declared.phases.ConnectionPhase.TheVariants as link
+use Rattle.lapin_rules.specs.declared.phases.ConnectionMove.TheVariants as link_move
 use Rattle.lapin_delivery.specs.Marks.{DeliveryMark}
 use Rattle.lapin_rules.specs.ConfirmMarks.{ConfirmMark}
 use Rattle.lapin_rules.specs.TicketReadings.{TicketMark}
+use Rattle.lapin_rules.specs.Moves.{link_after}
 use Rattle.lapin_rules.specs.Wire.{Wire, noted}
 use Rattle.lapin_rules.specs.Ends.{down, ends_all, deliveries_ends_all, all_failed}
 
@@ -27,7 +28,7 @@ unexpected_close class number = method.Connection (connection.Close 505 (codes "
 
 -- all that waits is dropped before it is queued
 abbrev pub after_unexpected : ℕ → ℕ → Wire → Wire
-after_unexpected class number b = noted 0 (unexpected_close class number) (down (link.Closing false false) b)
+after_unexpected class number b = noted 0 (unexpected_close class number) (down (link_after b.link link_move.CloseBegun) b)
 
 -- every live opening ends with `ProtocolError 505`
 abbrev pub unexpected_marks : Wire → List ConfirmMark

@@ -4,13 +4,12 @@
 //! The session asks here.
 
 ghost use Rattle.std.specs.Prelude.{◌≡◌, IfOk};
-ghost use Rattle.lapin_rules.specs.ChannelClose.{failed_at_close as failed_at_close_lem, failed_at_close_ok as failed_at_close_ok_lem, close_ok_end as close_ok_end_lem, consumers_end as consumers_end_lem, after_broker_close as after_broker_close_lem, has_sent_close as has_sent_close_lem, close_sent as close_sent_lem};
-ghost use Rattle.lapin_rules.specs.ConnectionClose.{link_close_sent as link_close_sent_lem};
+ghost use Rattle.lapin_rules.specs.ChannelClose.{failed_at_close as failed_at_close_lem, failed_at_close_ok as failed_at_close_ok_lem, close_ok_end as close_ok_end_lem, consumers_end as consumers_end_lem, has_sent_close as has_sent_close_lem};
 ghost use Rattle.lapin_rules.specs.Settlement.{settle_method as settle_method_lem, session_close as session_close_lem};
 ghost use Rattle.lapin_rules.specs.Unexpected.{unexpected_close as unexpected_close_lem};
 
 use crate::marks::SettleKind;
-use crate::phases::{ChannelPhase, Closer, ConnectionPhase};
+use crate::phases::{ChannelPhase, Closer};
 use lapin_types::{
     ChannelMethod, ChannelState, ConnectionMethod, Error, Method, NoMemory, ShortString,
 };
@@ -60,44 +59,11 @@ pub fn consumers_end(phase: ChannelPhase) -> Option<Error>
     }
 }
 
-/// Where a channel stands once the broker's `channel.close` came.
-pub fn after_broker_close(phase: ChannelPhase) -> ChannelPhase
-    ensures { result ≡ after_broker_close_lem phase }
-{
-    match phase {
-        ChannelPhase::Closing { sent: true, .. } => ChannelPhase::Crossed,
-        _ => ChannelPhase::Closed,
-    }
-}
-
 /// Whether a channel is closing and this side's `channel.close` has left.
 pub fn has_sent_close(phase: ChannelPhase) -> bool
     ensures { result ≡ has_sent_close_lem phase }
 {
     matches!(phase, ChannelPhase::Closing { sent: true, .. })
-}
-
-/// Where a channel stands once this side's `channel.close` left.
-pub fn close_sent(phase: ChannelPhase) -> ChannelPhase
-    ensures { result ≡ close_sent_lem phase }
-{
-    match phase {
-        ChannelPhase::Closing { closer, .. } => ChannelPhase::Closing { closer, sent: true },
-        phase => phase,
-    }
-}
-
-/// Where the connection stands once this side's `connection.close` left.
-pub fn link_close_sent(link: ConnectionPhase) -> ConnectionPhase
-    ensures { result ≡ link_close_sent_lem link }
-{
-    match link {
-        ConnectionPhase::Closing { received, .. } => ConnectionPhase::Closing {
-            sent: true,
-            received,
-        },
-        link => link,
-    }
 }
 
 /// The close of a channel on which a single settlement named a tag that is not pending.

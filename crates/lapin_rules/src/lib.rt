@@ -19,9 +19,8 @@ pub use broker_frames::{
 };
 pub use calls::{Answered, Asked, Row, acker_row, is_allowed, is_select, is_try, sort_call};
 pub use closes::{
-    after_broker_close, close_ok_end, close_sent, consumers_end, failed_at_close, has_sent_close,
-    link_close_sent, session_close, unexpected_close,
+    close_ok_end, consumers_end, failed_at_close, has_sent_close, session_close, unexpected_close,
 };
 pub use flow::FullChannels;
 pub use marks::{AtLeaving, Outcome, SettleKind, Settlement};
-pub use phases::{ChannelPhase, Closer, ConnectionPhase};
+pub use phases::{ChannelMove, ChannelPhase, Closer, ConnectionMove, ConnectionPhase};

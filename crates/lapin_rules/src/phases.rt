@@ -1,10 +1,11 @@
 //! Where the connection and its channels stand between their opens and closes.
 //!
 //! Plain data: a state as a caller sees it, and beside it what the rules of closing ask of the past (who closed, whether
-//! the close has left). The moves stand in `specs/`, each with its rule.
+//! the close has left). What moves them stands in one table for channels and one for the connection, `after`; nothing else does.
 
 ghost use Rattle.std.specs.Prelude.{◌≡◌};
 ghost use Rattle.lapin_rules.specs.Phases.{is_live as is_live_lem, is_paused as is_paused_lem, is_up as is_up_lem, channel_state, connection_state};
+ghost use Rattle.lapin_rules.specs.Moves.{after as after_lem, link_after as link_after_lem};
 
 use lapin_types::{ChannelState, ConnectionState};
 
@@ -58,7 +59,74 @@ pub enum ConnectionPhase {
     Lost,
 }
 
+/// What moves a channel above 0 while the connection is open (AMQP 0-9-1, channel class).
+#[derive(Clone, Copy, Debug, PartialEq, Eq)]
+pub enum ChannelMove {
+    /// The application calls `channel.open`.
+    OpenCalled,
+    /// The broker answers `channel.open-ok`.
+    OpenOk,
+    /// The broker's `channel.flow`.
+    Flow {
+        /// Whether publishes may go on; false pauses the channel.
+        active: bool,
+    },
+    /// A close of this side begins.
+    CloseBegun(Closer),
+    /// This side's `channel.close` leaves.
+    CloseLeft,
+    /// The broker's `channel.close`.
+    Close,
+    /// The broker's `channel.close-ok`.
+    CloseOk,
+}
+
+/// What moves the connection (AMQP 0-9-1, connection class).
+#[derive(Clone, Copy, Debug, PartialEq, Eq)]
+pub enum ConnectionMove {
+    /// A close of this side begins: by the call, or because of a frame that no rule hears.
+    CloseBegun,
+    /// This side's `connection.close` leaves.
+    CloseLeft,
+    /// The broker's `connection.close`.
+    Close,
+    /// The broker's `connection.close-ok`.
+    CloseOk,
+    /// The connection is gone.
+    Lost,
+}
+
 impl ChannelPhase {
+    /// Where a move leads from here.
+    pub fn after(self, happening: ChannelMove) -> ChannelPhase
+        ensures { result ≡ after_lem self happening }
+    {
+        match happening {
+            ChannelMove::OpenCalled => ChannelPhase::Opening,
+            ChannelMove::OpenOk => ChannelPhase::Open { paused: false },
+            ChannelMove::Flow { active } => ChannelPhase::Open { paused: !active },
+            ChannelMove::CloseBegun(closer) => ChannelPhase::Closing {
+                closer,
+                sent: false,
+            },
+            ChannelMove::CloseLeft => self.with_close_left(),
+            ChannelMove::Close => match self {
+                ChannelPhase::Closing { sent: true, .. } => ChannelPhase::Crossed,
+                _ => ChannelPhase::Closed,
+            },
+            ChannelMove::CloseOk => ChannelPhase::Closed,
+        }
+    }
+
+    fn with_close_left(self) -> ChannelPhase
+        ensures { result ≡ after_lem self ChannelMove.CloseLeft }
+    {
+        match self {
+            ChannelPhase::Closing { closer, .. } => ChannelPhase::Closing { closer, sent: true },
+            phase => phase,
+        }
+    }
+
     /// Whether the channel has a live opening: it was opened and has not ended.
     pub fn is_live(self) -> bool
         ensures { result ≡ is_live_lem self }
@@ -91,6 +159,40 @@ impl ChannelPhase {
 }
 
 impl ConnectionPhase {
+    /// Where a move leads from here.
+    pub fn after(self, happening: ConnectionMove) -> ConnectionPhase
+        ensures { result ≡ link_after_lem self happening }
+    {
+        match happening {
+            ConnectionMove::CloseBegun => ConnectionPhase::Closing {
+                sent: false,
+                received: false,
+            },
+            ConnectionMove::CloseLeft => self.with_close_left(),
+            ConnectionMove::Close => match self {
+                ConnectionPhase::Closing { sent: true, .. } => ConnectionPhase::Closing {
+                    sent: true,
+                    received: true,
+                },
+                _ => ConnectionPhase::Closed,
+            },
+            ConnectionMove::CloseOk => ConnectionPhase::Closed,
+            ConnectionMove::Lost => ConnectionPhase::Lost,
+        }
+    }
+
+    fn with_close_left(self) -> ConnectionPhase
+        ensures { result ≡ link_after_lem self ConnectionMove.CloseLeft }
+    {
+        match self {
+            ConnectionPhase::Closing { received, .. } => ConnectionPhase::Closing {
+                sent: true,
+                received,
+            },
+            link => link,
+        }
+    }
+
     /// Whether the connection is open.
     pub fn is_up(self) -> bool
         ensures { result ≡ is_up_lem self }

@@ -3,3 +3,4 @@ pub mod NumberLaws
 pub mod SignedLaws
 pub mod HexLaws
 pub mod PlainLaws
+pub mod DigitLaws

@@ -2,7 +2,8 @@
 //!
 //! Where memory runs out, the text may end within the value: the caller drops it.
 
-ghost use Rattle.std.specs.Prelude.{◌≡◌, ◌++◌, ◌^◌, OnOk};
+ghost use Rattle.std.specs.Prelude.{◌≡◌, ◌++◌, ◌+◌, ◌<◌, ◌≤◌, ◌^◌, OnOk, decimal, vec_len, vec_capacity};
+ghost use Rattle.lapin_scalars.specs.Numerals.{two_digits};
 ghost use Rattle.lapin_scalars.specs.Scalars.{scalar_text};
 ghost use Rattle.lapin_scalars.specs.Scalars.Scalar.{bytes as some_bytes, pairs as some_pairs, flag as a_flag, number as a_number, signed as a_signed};
 
@@ -33,16 +34,88 @@ pub fn put_hex(alloc: Global, out: &mut Vec<u8>, bytes: &[u8]) -> Result<(), All
 }
 
 /// Adds a number in decimal.
-#[tactic(auto, using(std::proofs::lemmas::Fmt::decimal_digit))]
 pub fn put_number(out: &mut Vec<u8>, number: u64) -> Result<(), AllocError>
     ensures { OnOk result (out.new.items ≡ out.old.items ++ scalar_text (a_number (2 ^ 64)) number) }
 {
-    if number < 10 {
-        out.push(b'0' + number as u8)?;
-        return Ok(());
+    if number >= 100_000_000 {
+        return put_long_number(out, number);
     }
+    out.reserve(8)?;
+    put_eight(out, number as u32);
+    Ok(())
+}
+
+#[inline(never)]
+fn put_long_number(out: &mut Vec<u8>, number: u64) -> Result<(), AllocError>
+    ensures { OnOk result (out.new.items ≡ out.old.items ++ decimal number) }
+{
     let mut buffer = Buffer::new();
     out.extend_from_slice(buffer.format(number).as_bytes())
+}
+
+// Adds a number of at most eight digits, where there is room for these.
+#[inline(always)]
+#[tactic(auto, using(crate::proofs::DigitLaws::decimal_four))]
+fn put_eight(out: &mut Vec<u8>, number: u32)
+    requires below { number < 100000000 }
+    requires room { vec_len out.old + 8 ≤ vec_capacity out.old }
+    ensures { out.new.items ≡ out.old.items ++ decimal number }
+{
+    if number < 10_000 {
+        put_four(out, number);
+    } else {
+        put_four(out, number / 10_000);
+        put_two_digits(out, number % 10_000 / 100);
+        put_two_digits(out, number % 100);
+    }
+}
+
+// Adds a number of at most four digits, where there is room for these.
+#[inline(always)]
+#[tactic(auto, using(crate::proofs::DigitLaws::decimal_hundreds))]
+fn put_four(out: &mut Vec<u8>, number: u32)
+    requires below { number < 10000 }
+    requires room { vec_len out.old + 4 ≤ vec_capacity out.old }
+    ensures items { out.new.items ≡ out.old.items ++ decimal number }
+    ensures len { vec_len out.new ≤ vec_len out.old + 4 }
+    ensures capacity { vec_capacity out.new ≡ vec_capacity out.old }
+{
+    if number < 100 {
+        put_two(out, number);
+    } else {
+        put_two(out, number / 100);
+        put_two_digits(out, number % 100);
+    }
+}
+
+// Adds a number of at most two digits, where there is room for these.
+#[inline(always)]
+#[tactic(auto, using(std::proofs::lemmas::Fmt::decimal_digit, crate::proofs::DigitLaws::decimal_tens))]
+fn put_two(out: &mut Vec<u8>, number: u32)
+    requires below { number < 100 }
+    requires room { vec_len out.old + 2 ≤ vec_capacity out.old }
+    ensures items { out.new.items ≡ out.old.items ++ decimal number }
+    ensures len { vec_len out.new ≤ vec_len out.old + 2 }
+    ensures capacity { vec_capacity out.new ≡ vec_capacity out.old }
+{
+    if number < 10 {
+        out.push_reserved(b'0' + number as u8);
+    } else {
+        put_two_digits(out, number);
+    }
+}
+
+// Adds the two digits of a number below 100, where there is room for them.
+#[inline(always)]
+fn put_two_digits(out: &mut Vec<u8>, number: u32)
+    requires below { number < 100 }
+    requires room { vec_len out.old + 2 ≤ vec_capacity out.old }
+    ensures items { out.new.items ≡ out.old.items ++ two_digits number }
+    ensures len { vec_len out.new ≡ vec_len out.old + 2 }
+    ensures capacity { vec_capacity out.new ≡ vec_capacity out.old }
+{
+    out.push_reserved(b'0' + (number / 10) as u8);
+    out.push_reserved(b'0' + (number % 10) as u8);
 }
 
 /// Adds a signed number in decimal.

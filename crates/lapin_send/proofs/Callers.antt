@@ -2,9 +2,9 @@
 use denote.RattleType.{RattleType}
 use denote.Param.Send.{IsSend, IsSync, recorded_send, view_send, sendable}
 use denote.Param.SendFields.{declared_send, declared_sync}
-use Rattle.std.specs.declared.sync.confirm_mode.ConfirmMode.{Ghosts}
-use Rattle.std.proofs.sync.confirm_mode.Book.TheSendSync as book
-use Rattle.std.proofs.sync.confirm_mode.Share.TheSendSync as share
+use Rattle.std.specs.declared.sync.ledger.Ledger.{Ghosts}
+use Rattle.std.proofs.sync.ledger.Book.TheSendSync as book
+use Rattle.std.proofs.sync.ledger.Share.TheSendSync as share
 use Rattle.std.proofs.Crossing.{crosses}
 use Rattle.lapin_send.proofs.Types.{event_field_send, record_field_send}
 use Rattle.lapin_send.proofs.Parts.{session_send}

@@ -8,7 +8,7 @@ use lapin_shared::Crew;
 
 /// A caller may move to another thread, and with it its end of the session that all callers share.
 pub fn callers_may_move<L: Crew>()
-    ensures { IsSend (caller.the_row L.row L.ConfirmMode) }
+    ensures { IsSend (caller.the_row L.row L.Ledger) }
 {}
 
 /// Several threads may read an event at once.

@@ -44,7 +44,7 @@ fn input_of(alloc: Global, length: usize) -> Result<Vec<u8>, AllocError> {
 
 // 271 bytes in pieces of 8, and the end, are 35 reads. Nothing is written where one of them fails.
 #[test]
-fn each_failing_read_ends_the_run(rt: HostRuntime) -> Result<(), Fail> {
+fn faults_table_of_failing_reads(rt: HostRuntime) -> Result<(), Fail> {
     let alloc = rt.alloc();
     let words = words_of(alloc, &["session"])?;
     for done in 0..36 {
@@ -65,7 +65,7 @@ fn each_failing_read_ends_the_run(rt: HostRuntime) -> Result<(), Fail> {
 
 // 260 bytes in pieces of 8 are 33 writes. What the writes before it took is left where one of them fails.
 #[test]
-fn each_failing_write_leaves_a_prefix_of_the_text(rt: HostRuntime) -> Result<(), Fail> {
+fn faults_table_of_failing_writes(rt: HostRuntime) -> Result<(), Fail> {
     let alloc = rt.alloc();
     let words = words_of(alloc, &["session"])?;
     for done in 0..34 {
@@ -86,9 +86,36 @@ fn each_failing_write_leaves_a_prefix_of_the_text(rt: HostRuntime) -> Result<(),
     Ok(())
 }
 
+// A bad line behind an event: 28 bytes in pieces of 8 are 4 writes. Where one of them fails the status is the sink's.
+#[test]
+fn faults_table_of_a_bad_line(rt: HostRuntime) -> Result<(), Fail> {
+    let alloc = rt.alloc();
+    let words = words_of(alloc, &["session"])?;
+    let text = b"state open closed\nbadline 3\n".as_slice();
+    for done in 0..5 {
+        let call = done + 1;
+        let mut source = SureSource::new(b"frame_max 4096\nstate 1\nnxt 1\n".to_vec(alloc)?);
+        let mut sink = MemorySink::new(alloc, 8, vec![in alloc; call]?);
+        let status = run_program(alloc, &words, &mut source, &mut sink);
+        let wanted = if call <= 4 {
+            Status::WriteFault
+        } else {
+            Status::BadLine
+        };
+        let taken = done * 8;
+        assert_eq!(rt; status, wanted, "at call {call}");
+        assert_eq!(rt;
+            sink.bytes(),
+            text.get(..taken as usize).unwrap_or(text),
+            "at call {call}"
+        );
+    }
+    Ok(())
+}
+
 // In pieces of one byte or more the output is the same. A sink that takes nothing is a fault, also behind a bad line.
 #[test]
-fn pieces_of_any_length_give_the_same(rt: HostRuntime) -> Result<(), Fail> {
+fn faults_table_of_pieces(rt: HostRuntime) -> Result<(), Fail> {
     let alloc = rt.alloc();
     let words = words_of(alloc, &["session"])?;
     for (input, most, room, wanted, output) in [

@@ -1,5 +1,5 @@
 //! What runs a table of pieces. A line is the kind of a piece, the piece, and behind an arrow what is read of it: a number or a
-//! text as it is, bytes as a list, `kept` where it is read and written again as it was, `read`, or `none`.
+//! text as it is, bytes as a list, `kept` where it is read, and written and shown again as it was, `read`, or `none`.
 use crate::pieces::PIECES;
 use lapin_method_text::{put_method, read_method};
 use lapin_scalars::{
@@ -9,6 +9,7 @@ use lapin_scalars::{
 use lapin_text::{read_event, read_frame, write_frame};
 use lapin_tokens::{Token, Tokens, properties_of, put_tokens, table_of};
 use std::alloc::Global;
+use std::fmt;
 use std::test::Fail;
 
 #[test]
@@ -105,10 +106,24 @@ fn word_of(text: &[u8], piece: &[u8]) -> &'static str {
     }
 }
 
+// Whether both `{}` and `{:?}` show a value as the piece that it was read of.
+fn shown<T: fmt::Display + fmt::Debug>(alloc: Global, value: &T, piece: &[u8]) -> Result<(), Fail> {
+    let plain = format!(in alloc; "{value}")?;
+    let debug = format!(in alloc; "{value:?}")?;
+    if plain.as_bytes() == piece && debug.as_bytes() == piece {
+        Ok(())
+    } else {
+        Err(Fail::from("a value is shown otherwise than it is read"))
+    }
+}
+
 fn table(alloc: Global, piece: &[u8]) -> Result<Option<Vec<u8>>, Fail> {
     let mut text = Vec::new(alloc);
     match table_of(alloc, piece) {
-        Ok(table) => put_tokens(alloc, &mut text, &[Token::Table(&table)])?,
+        Ok(table) => {
+            put_tokens(alloc, &mut text, &[Token::Table(&table)])?;
+            shown(alloc, &table, piece)?;
+        }
         Err(_) => return Ok(None),
     }
     Ok(Some(text))
@@ -117,7 +132,10 @@ fn table(alloc: Global, piece: &[u8]) -> Result<Option<Vec<u8>>, Fail> {
 fn properties(alloc: Global, piece: &[u8]) -> Result<Option<Vec<u8>>, Fail> {
     let mut text = Vec::new(alloc);
     match properties_of(alloc, piece) {
-        Ok(properties) => put_tokens(alloc, &mut text, &[Token::Properties(&properties)])?,
+        Ok(properties) => {
+            put_tokens(alloc, &mut text, &[Token::Properties(&properties)])?;
+            shown(alloc, &properties, piece)?;
+        }
         Err(_) => return Ok(None),
     }
     Ok(Some(text))
@@ -126,7 +144,10 @@ fn properties(alloc: Global, piece: &[u8]) -> Result<Option<Vec<u8>>, Fail> {
 fn method(alloc: Global, piece: &[u8]) -> Result<Option<Vec<u8>>, Fail> {
     let mut text = Vec::new(alloc);
     match read_method(alloc, &mut Tokens::new(piece)) {
-        Ok(method) => put_method(alloc, &mut text, &method)?,
+        Ok(method) => {
+            put_method(alloc, &mut text, &method)?;
+            shown(alloc, &method, piece)?;
+        }
         Err(_) => return Ok(None),
     }
     Ok(Some(text))
@@ -135,7 +156,10 @@ fn method(alloc: Global, piece: &[u8]) -> Result<Option<Vec<u8>>, Fail> {
 fn frame(alloc: Global, piece: &[u8]) -> Result<Option<Vec<u8>>, Fail> {
     let mut text = Vec::new(alloc);
     match read_frame(alloc, piece)? {
-        Some(frame) => write_frame(alloc, &mut text, &frame)?,
+        Some(frame) => {
+            write_frame(alloc, &mut text, &frame)?;
+            shown(alloc, &frame, piece)?;
+        }
         None => return Ok(None),
     }
     Ok(Some(text))

@@ -122,6 +122,45 @@ method exchange.declare x6c x66 0 1 0 0 0 {} -> kept
 method exchange.unbind-ok -> kept
 method queue.declare x71 0 0 0 0 0 {x61=I-1,x62=F{}} -> kept
 method queue.declare-ok x71 5 4294967295 -> kept
+method connection.close-ok -> kept
+method channel.open -> kept
+method channel.open-ok -> kept
+method channel.flow-ok 0 -> kept
+method channel.close 2 x64 4 5 -> kept
+method channel.close-ok -> kept
+method access.request-ok -> kept
+method exchange.declare-ok -> kept
+method exchange.delete x67 0 1 -> kept
+method exchange.delete-ok -> kept
+method exchange.bind x6a x6b x6c 0 {x65=I13} -> kept
+method exchange.bind-ok -> kept
+method exchange.unbind x6f x70 x71 0 {x61=I18} -> kept
+method queue.bind x74 x75 x76 0 {x66=I23} -> kept
+method queue.bind-ok -> kept
+method queue.purge x79 0 -> kept
+method queue.purge-ok 26 -> kept
+method queue.delete x62 0 1 0 -> kept
+method queue.delete-ok 31 -> kept
+method queue.unbind x67 x68 x69 {x69=I35} -> kept
+method queue.unbind-ok -> kept
+method basic.qos 36 0 -> kept
+method basic.qos-ok -> kept
+method basic.consume x6d x6e 0 1 0 1 {x69=I44} -> kept
+method basic.consume-ok x74 -> kept
+method basic.cancel x75 0 -> kept
+method basic.cancel-ok x77 -> kept
+method basic.return 49 x79 x7a x61 -> kept
+method basic.ack 53 0 -> kept
+method basic.reject 55 0 -> kept
+method basic.recover-async 0 -> kept
+method basic.recover 0 -> kept
+method basic.recover-ok -> kept
+method confirm.select-ok -> kept
+method tx.select -> kept
+method tx.select-ok -> kept
+method tx.commit -> kept
+method tx.commit-ok -> kept
+method tx.rollback -> kept
 method  -> none
 method basic.Publish x x 0 0 -> none
 method basic.publish x x 0 -> none
@@ -133,6 +172,7 @@ method queue.purge-ok 07 -> none
 
 frame method 0 confirm.select-ok -> kept
 frame header 1 60 5000 [priority=42] -> kept
+frame header 2 90 0 [headers={x61=A[t1,F{x62=V}]},app_id=x6a] -> kept
 frame body 65535 x00ff -> kept
 frame body 65536 x -> none
 frame body 1 x  -> none

@@ -14,3 +14,4 @@ pub mod PartTurns
 pub mod Plain
 pub mod PlainFields
 pub mod WritingLaws
+pub mod SaidLaws

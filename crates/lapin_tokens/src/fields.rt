@@ -1,4 +1,6 @@
 //! The fields of a line, each the next of its pieces. Every reader takes the piece, also where it is bad.
+//!
+//! A flag and a number of at most 19 digits are read as the piece is cut; any other piece is cut first and then read.
 
 ghost use Rattle.std.specs.Prelude.{◌≡◌, IfOk, IsTrue};
 ghost use Rattle.lapin_tokens.specs.Fields.{short_number, long_number, wide_number};
@@ -90,8 +92,20 @@ pub fn properties(alloc: Global, tokens: &mut Tokens) -> Result<BasicProperties,
 }
 
 /// A flag.
-#[tactic(auto, unfolding(crate::specs::Reading::field_at, crate::specs::Reading::value_of))]
+#[inline(always)]
+#[tactic(auto, using(crate::proofs::SaidLaws::flag_said))]
 pub fn flag(tokens: &mut Tokens) -> Result<bool, ReadError>
+    ensures { Gives result tokens.new (field_at flag_field tokens.old) }
+{
+    match tokens.flag() {
+        Some(flag) => Ok(flag),
+        None => any_flag(tokens),
+    }
+}
+
+#[inline(never)]
+#[tactic(auto, unfolding(crate::specs::Reading::field_at, crate::specs::Reading::value_of))]
+fn any_flag(tokens: &mut Tokens) -> Result<bool, ReadError>
     ensures { Gives result tokens.new (field_at flag_field tokens.old) }
 {
     match tokens.next() {
@@ -101,8 +115,20 @@ pub fn flag(tokens: &mut Tokens) -> Result<bool, ReadError>
 }
 
 /// A number of 16 bits.
-#[tactic(auto, unfolding(crate::specs::Reading::field_at, crate::specs::Reading::value_of))]
+#[inline(always)]
 pub fn u16_at(tokens: &mut Tokens) -> Result<u16, ReadError>
+    ensures { Gives result tokens.new (field_at short_number tokens.old) }
+{
+    match tokens.number() {
+        Some(number) if number <= 0xffff => Ok(number as u16),
+        Some(_) => Err(ReadError::Bad),
+        None => any_u16_at(tokens),
+    }
+}
+
+#[inline(never)]
+#[tactic(auto, unfolding(crate::specs::Reading::field_at, crate::specs::Reading::value_of))]
+fn any_u16_at(tokens: &mut Tokens) -> Result<u16, ReadError>
     ensures { Gives result tokens.new (field_at short_number tokens.old) }
 {
     match tokens.next() {
@@ -112,8 +138,20 @@ pub fn u16_at(tokens: &mut Tokens) -> Result<u16, ReadError>
 }
 
 /// A number of 32 bits.
-#[tactic(auto, unfolding(crate::specs::Reading::field_at, crate::specs::Reading::value_of))]
+#[inline(always)]
 pub fn u32_at(tokens: &mut Tokens) -> Result<u32, ReadError>
+    ensures { Gives result tokens.new (field_at long_number tokens.old) }
+{
+    match tokens.number() {
+        Some(number) if number <= 0xffff_ffff => Ok(number as u32),
+        Some(_) => Err(ReadError::Bad),
+        None => any_u32_at(tokens),
+    }
+}
+
+#[inline(never)]
+#[tactic(auto, unfolding(crate::specs::Reading::field_at, crate::specs::Reading::value_of))]
+fn any_u32_at(tokens: &mut Tokens) -> Result<u32, ReadError>
     ensures { Gives result tokens.new (field_at long_number tokens.old) }
 {
     match tokens.next() {
@@ -123,8 +161,19 @@ pub fn u32_at(tokens: &mut Tokens) -> Result<u32, ReadError>
 }
 
 /// A number of 64 bits.
-#[tactic(auto, unfolding(crate::specs::Reading::field_at, crate::specs::Reading::value_of))]
+#[inline(always)]
 pub fn u64_at(tokens: &mut Tokens) -> Result<u64, ReadError>
+    ensures { Gives result tokens.new (field_at wide_number tokens.old) }
+{
+    match tokens.number() {
+        Some(number) => Ok(number),
+        None => any_u64_at(tokens),
+    }
+}
+
+#[inline(never)]
+#[tactic(auto, unfolding(crate::specs::Reading::field_at, crate::specs::Reading::value_of))]
+fn any_u64_at(tokens: &mut Tokens) -> Result<u64, ReadError>
     ensures { Gives result tokens.new (field_at wide_number tokens.old) }
 {
     match tokens.next() {

@@ -5,6 +5,7 @@
 #![tactic(auto)]
 
 pub mod cursor;
+mod digits;
 pub mod fields;
 pub mod leaves;
 pub mod letters;

@@ -1,9 +1,12 @@
 //! The pieces of a line, between single spaces. A doubled space has an empty piece in between.
 
-ghost use Rattle.std.specs.Prelude.{◌≡◌, ◌==◌, ◌∷◌, ℕ, List, [], IfNone, IfSome, position, if◌then◌else◌};
+ghost use Rattle.std.specs.Prelude.{◌≡◌, ◌==◌, ◌∷◌, ◌<◌, ◌^◌, ℕ, List, [], IfNone, IfSome, decimal, position, if◌then◌else◌};
 ghost use Rattle.std.specs.List.{slice_split};
 ghost use Rattle.std.specs.Str.{bytes_eq};
+ghost use Rattle.lapin_tokens.specs.Fields.{token};
+ghost use Rattle.lapin_tokens.specs.Fields.Field.{flag as flag_field};
 
+use crate::digits::{begins_plainly, digits_ahead};
 use memchr::memchr;
 use std::marker::Model;
 
@@ -79,6 +82,57 @@ impl<'a> Tokens<'a> {
             rest: line,
             more: true,
         }
+    }
+
+    /// The number that the next piece says, where it is a decimal of at most 19 digits: the piece is then read. `None` where it
+    /// isn't, and nothing is read then.
+    #[inline(always)]
+    pub(crate) fn number(&mut self) -> Option<u64>
+        ensures some { IfSome result (λ n. (self.old ≡ decimal n ∷ self.new) × (n < 2 ^ 64)) }
+        ensures none { IfNone result (self.new ≡ self.old) }
+    {
+        if !self.more {
+            return None;
+        }
+        let line = self.rest;
+        let (number, place) = digits_ahead(line);
+        if !begins_plainly(line, place) {
+            return None;
+        }
+        if place == line.len() {
+            self.more = false;
+            return Some(number);
+        }
+        if line[place] != b' ' {
+            return None;
+        }
+        self.rest = &line[place + 1..];
+        Some(number)
+    }
+
+    /// The flag that the next piece says: the piece is then read. `None` where it says none, and nothing is read then.
+    #[inline(always)]
+    pub(crate) fn flag(&mut self) -> Option<bool>
+        ensures some { IfSome result (λ flag. self.old ≡ token flag_field flag ∷ self.new) }
+        ensures none { IfNone result (self.new ≡ self.old) }
+    {
+        if !self.more {
+            return None;
+        }
+        let line = self.rest;
+        if line.is_empty() || (line[0] != b'0' && line[0] != b'1') {
+            return None;
+        }
+        let flag = line[0] == b'1';
+        if line.len() == 1 {
+            self.more = false;
+            return Some(flag);
+        }
+        if line[1] != b' ' {
+            return None;
+        }
+        self.rest = &line[2..];
+        Some(flag)
     }
 
     /// The next piece, which is then read; `None` where all were read.

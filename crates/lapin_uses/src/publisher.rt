@@ -109,7 +109,7 @@ impl Publisher {
         ensures ok { IsSent result session.old session.new (publishing self.now.channel.id self.now.queue message.now) }
         ensures err { OnErr result (session.new ≡ session.old) }
     {
-        let exchange = default_exchange(alloc)?;
+        let exchange = ShortString::empty(alloc)?;
         let queue = self.queue.try_clone(alloc)?;
         let id = message.id.try_clone(alloc)?;
         let options = BasicPublishOptions {
@@ -142,15 +142,5 @@ impl Publisher {
         drop(outcome);
         let Waiting { message, .. } = self.waiting.pop_front()?;
         Some(Settled { message, advice })
-    }
-}
-
-// The name of the default exchange, which routes by the queue's name (AMQP 0-9-1, section 3.1.3.1).
-fn default_exchange(alloc: Global) -> Result<ShortString, NoMemory>
-    ensures { IfOk result (λ name. name ≡ []) }
-{
-    match ShortString::new(alloc, "") {
-        Ok(name) => Ok(name),
-        Err(_) => Err(NoMemory),
     }
 }

@@ -6,7 +6,6 @@ ghost use Rattle.lapin_values.specs.Stored.{kept};
 
 use arrayvec::ArrayString;
 use std::alloc::{AllocError, Global};
-use std::fmt;
 
 /// The bytes that stand in place: exchanges, queues, keys and tags mostly have no more.
 const IN_PLACE: usize = 16;
@@ -51,13 +50,6 @@ impl Stored {
             Stored::Short(text) => Ok(Stored::Short(*text)),
             Stored::Long(text) => Ok(Stored::Long(String::from_str(alloc, text.as_str())?)),
         }
-    }
-}
-
-/// The text alone is shown, wherever it stands.
-impl fmt::Debug for Stored {
-    fn fmt<W: fmt::Write>(&self, f: &mut fmt::Formatter<W>) -> fmt::Result {
-        fmt::Debug::fmt(self.as_str(), f)
     }
 }
 

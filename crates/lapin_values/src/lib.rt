@@ -5,6 +5,7 @@ mod kept;
 pub mod memory;
 pub mod payload;
 pub mod properties;
+mod shown;
 pub mod text;
 pub mod value;
 

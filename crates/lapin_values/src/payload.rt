@@ -11,7 +11,6 @@ use std::marker::Model;
 
 /// The bytes of a message's body, a piece of one, or a field value that is a byte array. A contract sees
 /// them as a list.
-#[derive(Debug)]
 pub struct Payload {
     bytes: Vec<u8>,
 }

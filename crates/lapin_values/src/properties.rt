@@ -17,7 +17,6 @@ pub(crate) mod texts;
 /// them on as they were published. A contract sees them as the record `Properties`.
 ///
 /// It is handed on by value, so it is kept narrow: the texts that are set stand in a chain, behind one pointer.
-#[derive(Debug)]
 pub struct BasicProperties {
     texts: Texts,
     headers: FieldTable,

@@ -1,7 +1,7 @@
 //! Short texts and long strings, the two kinds of string of the protocol (AMQP 0-9-1, section 4.2.5.3).
 //! Their limits are kept here, so that no crate above has to test a length again.
 
-ghost use Rattle.std.specs.Prelude.{◌≡◌, ◌<◌, ◌≤◌, ◌↔◌, length, IfOk, IsErrOf, nat_eq, box_value};
+ghost use Rattle.std.specs.Prelude.{◌≡◌, ◌<◌, ◌≤◌, ◌↔◌, [], length, IfOk, IsErrOf, nat_eq, box_value};
 ghost use Rattle.lapin_values.specs.Stored.{kept};
 ghost use Rattle.std.specs.Cmp.Lexicographic.{pointwise, nat_list_eq_equiv};
 ghost use Rattle.std.specs.Cmp.{partial_equiv_from_equiv};
@@ -52,7 +52,6 @@ impl<T: Drop> From<AllocFailed<T>> for ShortStringError {
 ///
 /// It is one pointer wide, since it is handed on by value. What it points to has room for its place among the texts of a message's
 /// properties, so that to set one takes no memory.
-#[derive(Debug)]
 pub struct ShortString {
     link: Box<Link>,
 }
@@ -91,6 +90,33 @@ impl ShortString {
         Ok(ShortString {
             link: Box::new(alloc, Link::alone(text))?,
         })
+    }
+
+    /// A copy of a text that is known to have at most 255 bytes, as a literal.
+    ///
+    /// # Errors
+    ///
+    /// `NoMemory` alone.
+    pub fn literal(alloc: Global, text: &str) -> Result<ShortString, NoMemory>
+        requires { length text.now ≤ 255 }
+        ensures { IfOk result (λ short. short ≡ text.now) }
+    {
+        let text = Stored::new(alloc, text)?;
+        Ok(ShortString {
+            link: Box::new(alloc, Link::alone(text))?,
+        })
+    }
+
+    /// The empty text: the name of the default exchange (AMQP 0-9-1, section 3.1.3.1), of a queue that the broker names, and of a
+    /// consumer tag that it makes up.
+    ///
+    /// # Errors
+    ///
+    /// `NoMemory` alone.
+    pub fn empty(alloc: Global) -> Result<ShortString, NoMemory>
+        ensures { IfOk result (λ short. short ≡ []) }
+    {
+        ShortString::literal(alloc, "")
     }
 
     /// The text. It has at most 255 bytes, and they are UTF-8.
@@ -166,7 +192,6 @@ impl Clone for ShortString {
 
 /// The bytes of a string value (AMQP 0-9-1, section 4.2.5.3, "long strings"), which need not be text.
 /// A contract sees it as the list of its bytes.
-#[derive(Debug)]
 pub struct LongString {
     bytes: Vec<u8>,
 }

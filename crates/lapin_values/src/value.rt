@@ -13,7 +13,7 @@ mod table;
 
 /// One field value, of one of the types that the protocol's tables know.
 #[cycle(value)]
-#[derive(Debug, Drop)]
+#[derive(Drop)]
 pub enum AMQPValue {
     Boolean(bool),
     ShortShortInt(i8),
@@ -36,7 +36,7 @@ pub enum AMQPValue {
 /// A list of field values, in the order in which they were pushed. A contract sees it as the list of their
 /// trees, each a value of `Data`.
 #[cycle(value)]
-#[derive(Debug, Drop)]
+#[derive(Drop)]
 pub struct FieldArray {
     items: Vec<AMQPValue>,
 }
@@ -65,7 +65,6 @@ impl Model for FieldArray {
 /// pairs, in rising order of the names' bytes. It is two words wide, since properties, which hold one, are handed on by value; a table
 /// with no entries takes no memory.
 #[cycle(value)]
-#[derive(Debug)]
 pub struct FieldTable {
     entries: Option<Box<Vec<(ShortString, AMQPValue)>>>,
 }

@@ -36,7 +36,7 @@ pub(crate) const CLUSTER_ID: u8 = 9;
 /// What a short string points to: its text, and the room by which it is chained among the texts of a message's properties. Outside a
 /// chain the number means nothing, and no text follows.
 #[cycle(texts)]
-#[derive(Debug, Drop)]
+#[derive(Drop)]
 pub(crate) struct Link {
     pub(crate) text: Stored,
     property: u8,
@@ -45,14 +45,14 @@ pub(crate) struct Link {
 
 /// A short string as it lies in memory: the pointer to its link. A contract sees all of it, the texts that follow too.
 #[cycle(texts)]
-#[derive(Debug, Drop)]
+#[derive(Drop)]
 pub(crate) struct Place {
     pub(crate) link: Box<Link>,
 }
 
 /// A chain of texts, each with the number of its property. A contract sees it as the list of these pairs.
 #[cycle(texts)]
-#[derive(Debug, Drop)]
+#[derive(Drop)]
 pub(crate) struct Texts {
     first: Option<Place>,
 }

@@ -5,5 +5,5 @@ use Rattle.lapin_confirm.proofs.settling.enqueue.Goals as goal
 pub returns-clause-tied : goal.returns-clause-tied
 returns-clause-tied c =
     let here : (c.args.channel == c.args.channel) ≡ true = eq-eqb c.args.channel c.args.channel refl in
-    let queued : c.args.confirm_mode.now.queued + 1 ≡ c.args.confirm_mode.now.queued + cond (c.args.channel == c.args.channel) 1 0 = rw here refl in
-    rw c.push_reserved.ensures.slots (tied-joined c.args.channel c.args.channel c.args.confirm_mode.now _ c.args.cells.now.slots c.requires.tied refl queued refl (omega arith))
+    let queued : c.args.mode.now.queued + 1 ≡ c.args.mode.now.queued + cond (c.args.channel == c.args.channel) 1 0 = rw here refl in
+    rw c.push_reserved.ensures.slots (tied-joined c.args.channel c.args.channel c.args.mode.now _ c.args.cells.now.slots c.requires.tied refl queued refl (omega arith))

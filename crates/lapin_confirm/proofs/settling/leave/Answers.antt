@@ -15,5 +15,5 @@ take_tag-tag-requires-clause-pending c =
 pub returns-clause-tied : goal.returns-clause-tied
 returns-clause-tied c =
     rw (c.set.ensures.slots, c.cell_for.ensures)
-    (tied-left c.args.channel c.args.number c.take_tag-tag.result c.args.confirm_mode.now c.take_tag-tag.new.confirm_mode c.args.cells.now.slots
+    (tied-left c.args.channel c.args.number c.take_tag-tag.result c.args.mode.now c.take_tag-tag.new.mode c.args.cells.now.slots
     c.requires.tied c.requires.queued c.take_tag-tag.ensures.tag c.take_tag-tag.ensures.tags c.take_tag-tag.ensures.queued c.take_tag-tag.ensures.pending c.take_tag-tag.ensures.room)

@@ -7,6 +7,7 @@ use Rattle.lapin_consumer.proofs.serving.void_items.Given as goal
 abbrev pub invariant-loop-item : goal.invariant-loop-item
 invariant-loop-item l = record {
   same : emptied l.seat.consumer ≡ emptied l.fn.seat.consumer;
+  promised : l.seat.promised ≡ l.fn.seat.promised;
   void : voided (ackers_of l.seat.consumer.items) l.switches.switches ≡ voided (ackers_of l.fn.seat.consumer.items) l.fn.switches.switches;
 }
 

@@ -17,5 +17,5 @@ pub returns-then-refuses-clause-told : goal.returns-then-refuses-clause-told
 returns-then-refuses-clause-told c =
     let same = c.refuse.ensures.same in (
       same.0 ∙ did c.in-Err.error (c.receive.new.self ≡ next c.args.self.now.session (event.Receive c.args.frame)) (c.receive.new.self ≡ c.args.self.now.session) c.in-Err.ensures.ok (sym c.refuses.ensures ∙ c.if-refuses.true),
-      (same.2.0, same.2.1, same.2.2),
+      (same.2.0, same.2.1, same.2.2, same.2.3),
     )

@@ -13,7 +13,7 @@ loop-turn-preserved c =
 pub returns-in-Pending-clause-told : goal.returns-in-Pending-clause-told
 returns-in-Pending-clause-told c =
     let i = c.loop-turn.invariant in let t = c.in-Pending.ensures.told in
-    runs_out i.told.0 c.args.self.now c.loop-turn.self c.turn.new.self i.told.1 t.0 t.1
+    runs_out i.told.0 c.args.self.now c.loop-turn.self c.turn.new.self i.told.1 t.0 t.1 t.2
 
 pub returns-clause-told : goal.returns-clause-told
 returns-clause-told c =

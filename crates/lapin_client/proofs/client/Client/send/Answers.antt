@@ -3,4 +3,4 @@ use Rattle.lapin_client.proofs.client.Client.send.Goals as goal
 
 pub returns-in-Done-clause-told : goal.returns-in-Done-clause-told
 returns-in-Done-clause-told c =
-    sends_after c.finish.result c.args.flow c.args.self.now c.pull.new.self c.finish.new.self c.in-Done.ensures.told c.finish.ensures.told
+    sends_after c.finish.result c.args.flow c.args.enough c.args.self.now c.pull.new.self c.finish.new.self c.in-Done.ensures.told c.finish.ensures.told

@@ -6,7 +6,7 @@ use Rattle.lapin_confirm.specs.ConfirmState.{return_lists_in}
 use Rattle.lapin_confirm.specs.Drain.{Remains, remaining}
 use Rattle.lapin_confirm.specs.Ties.{returned_by_channel_of, promised}
 use Rattle.lapin_confirm.proofs.Asides.{none-open}
-use Rattle.lapin_confirm.proofs.ConfirmModes.{has-confirm_mode, confirm_modes-begun, fresh-confirm_mode, same-publish_states, same-confirm_state, on-err}
+use Rattle.lapin_confirm.proofs.ConfirmModes.{has-mode, confirm_modes-begun, fresh-mode, same-publish_states, same-confirm_state, on-err}
 use Rattle.lapin_confirm.proofs.Whole.{tied-fresh}
 use Rattle.lapin_confirm.proofs.Roomy.{all-begun, room-begun}
 use Rattle.lapin_confirm.proofs.confirms.Confirms.begin.Goals as goal
@@ -17,14 +17,14 @@ invariant_of-self-2 c =
     let still : list_any (is_open_on c.args.channel) c.renew_returned_messages.new.cells.slots ≡ false =
     ap (λ (r : Remains). list_any (is_open_on c.args.channel) r.cells) c.in_ok-renew_returned_messages.ensures.remains
     ∙ none-open c.args.channel (return_lists_in (at_channel c.args.channel (returned_by_channel_of c.self.inside.returned_by_channel.entries))).aside (remaining c.self.inside.cells.slots c.self.inside.origins.slots) closed in
-    let fresh = c.in_ok-confirm_mode.ensures.made in
+    let fresh = c.in_ok-mode.ensures.made in
     let cells : promised c.self.inside.rooms.entries ≤ c.renew_returned_messages.new.cells.spare = omega (arith, c.self.invariant.room.cells, c.renew_returned_messages.ensures.kept.0) in
     rw (c.put_confirm_mode.ensures, c.make_place.ensures.same)
     (record {
-      tied = all-begun c.args.channel c.in_ok-confirm_mode.confirm_mode c.self.inside.confirm_modes.entries c.renew_returned_messages.new.cells.slots (c.renew_returned_messages.ensures.tied c.self.inside.confirm_modes.entries c.self.invariant.tied) (tied-fresh c.args.channel c.in_ok-confirm_mode.confirm_mode c.renew_returned_messages.new.cells.slots fresh.0 still);
+      tied = all-begun c.args.channel c.in_ok-mode.mode c.self.inside.confirm_modes.entries c.renew_returned_messages.new.cells.slots (c.renew_returned_messages.ensures.tied c.self.inside.confirm_modes.entries c.self.invariant.tied) (tied-fresh c.args.channel c.in_ok-mode.mode c.renew_returned_messages.new.cells.slots fresh.0 still);
       room = record {
         cells = cells;
-        tags = room-begun c.args.channel _ c.in_ok-confirm_mode.confirm_mode c.self.inside.rooms.entries c.self.inside.confirm_modes.entries c.self.invariant.room.tags fresh.0.queued fresh.1 c.is_promised-promised.ensures;
+        tags = room-begun c.args.channel _ c.in_ok-mode.mode c.self.inside.rooms.entries c.self.inside.confirm_modes.entries c.self.invariant.room.tags fresh.0.queued fresh.1 c.is_promised-promised.ensures;
         messages = c.renew_returned_messages.ensures.messages c.self.inside.rooms.entries c.is_promised-promised.ensures c.self.invariant.room.messages;
       };
       origins = record {
@@ -37,7 +37,7 @@ pub returns-clause-ok : goal.returns-clause-ok
 returns-clause-ok c =
     rw (← c.self.view_is, c.put_confirm_mode.ensures, c.make_place.ensures.same)
     (same-confirm_state _ _ _ _ _ _
-    (same-publish_states _ _ _ _ (confirm_modes-begun c.args.channel c.in_ok-confirm_mode.confirm_mode c.self.inside.confirm_modes.entries (fresh-confirm_mode c.in_ok-confirm_mode.confirm_mode c.in_ok-confirm_mode.ensures.made.0)) (ap (λ (r : Remains). r.cells) c.in_ok-renew_returned_messages.ensures.remains))
+    (same-publish_states _ _ _ _ (confirm_modes-begun c.args.channel c.in_ok-mode.mode c.self.inside.confirm_modes.entries (fresh-mode c.in_ok-mode.mode c.in_ok-mode.ensures.made.0)) (ap (λ (r : Remains). r.cells) c.in_ok-renew_returned_messages.ensures.remains))
     c.in_ok-renew_returned_messages.ensures.ok
     (ap (λ (r : Remains). r.origins) c.in_ok-renew_returned_messages.ensures.remains))
 
@@ -65,5 +65,5 @@ returns-in_err-renew_returned_messages-clause-err c =
 
 pub returns-in_err-make_place-clause-succeeds : goal.returns-in_err-make_place-clause-succeeds
 returns-in_err-make_place-clause-succeeds c = λ lined returned_messages none.
-    let no : false ≡ true = c.in_err-make_place.ensures.succeeds (has-confirm_mode c.args.channel c.self.inside.confirm_modes.entries (rw (← c.self.view_is) at lined)) in
+    let no : false ≡ true = c.in_err-make_place.ensures.succeeds (has-mode c.args.channel c.self.inside.confirm_modes.entries (rw (← c.self.view_is) at lined)) in
     cc

@@ -15,12 +15,12 @@ pub invariant_of-self-2 : goal.invariant_of-self-2
 invariant_of-self-2 c =
     record {
       tied =
-          all-on c.args.channel c.in-Some.confirm_mode.now c.end_opening.new.confirm_mode c.self.inside.confirm_modes.entries c.self.inside.cells.slots c.end_opening.new.cells.slots (sym c.in-Some.ensures.value) c.self.invariant.tied
+          all-on c.args.channel c.in-Some.mode.now c.end_opening.new.mode c.self.inside.confirm_modes.entries c.self.inside.cells.slots c.end_opening.new.cells.slots (sym c.in-Some.ensures.value) c.self.invariant.tied
           c.end_opening.ensures.tied
           (λ d o other tied. rw c.end_opening.ensures.cells (tied_at-ended c.args.channel d c.args.error o c.self.inside.cells.slots other tied));
-      room = room-kept c.args.channel c.in-Some.confirm_mode.now c.end_opening.new.confirm_mode c.self.inside.rooms.entries c.self.inside.confirm_modes.entries c.self.inside.returned_by_channel.entries c.self.inside.cells.spare _ (sym c.in-Some.ensures.value) c.self.invariant.room c.end_opening.ensures.room c.end_opening.ensures.spare;
+      room = room-kept c.args.channel c.in-Some.mode.now c.end_opening.new.mode c.self.inside.rooms.entries c.self.inside.confirm_modes.entries c.self.inside.returned_by_channel.entries c.self.inside.cells.spare _ (sym c.in-Some.ensures.value) c.self.invariant.room c.end_opening.ensures.room c.end_opening.ensures.spare;
       origins = same-origins _ _ c.end_opening.new.cells.slots _ c.self.invariant.origins (ap length c.end_opening.ensures.cells ∙ length-map c.self.inside.cells.slots _);
     }
 
 pub returns-clause-what : goal.returns-clause-what
-returns-clause-what c = rw (← c.self.view_is) (same-confirm_state _ _ _ _ _ _ (same-publish_states _ _ _ _ (confirm_modes-on c.args.channel ended_confirm_mode c.in-Some.confirm_mode.now c.end_opening.new.confirm_mode c.self.inside.confirm_modes.entries (sym c.in-Some.ensures.value) c.end_opening.ensures.confirm_mode) c.end_opening.ensures.cells) refl refl)
+returns-clause-what c = rw (← c.self.view_is) (same-confirm_state _ _ _ _ _ _ (same-publish_states _ _ _ _ (confirm_modes-on c.args.channel ended_confirm_mode c.in-Some.mode.now c.end_opening.new.mode c.self.inside.confirm_modes.entries (sym c.in-Some.ensures.value) c.end_opening.ensures.mode) c.end_opening.ensures.cells) refl refl)

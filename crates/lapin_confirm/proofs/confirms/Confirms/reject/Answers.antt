@@ -13,14 +13,14 @@ pub invariant_of-self : goal.invariant_of-self
 invariant_of-self c =
     record {
       tied =
-          all-on c.queued_channel-channel.result c.in-Some.confirm_mode.now c.reject.new.confirm_mode c.self.inside.confirm_modes.entries c.self.inside.cells.slots c.reject.new.cells.slots (sym c.in-Some.ensures.value) c.self.invariant.tied
+          all-on c.queued_channel-channel.result c.in-Some.mode.now c.reject.new.mode c.self.inside.confirm_modes.entries c.self.inside.cells.slots c.reject.new.cells.slots (sym c.in-Some.ensures.value) c.self.invariant.tied
           c.reject.ensures.tied
           (λ d o other tied. rw c.reject.ensures.cells
           (tied_at-other d c.args.number (cell.Queued c.queued_channel-channel.result) (Some (cell.Resolved (outcome.Failed c.args.error))) o c.self.inside.cells.slots
           c.queued_channel-channel.ensures.queued (ne_eqb c.queued_channel-channel.result d other) refl tied));
-      room = room-kept c.queued_channel-channel.result c.in-Some.confirm_mode.now c.reject.new.confirm_mode c.self.inside.rooms.entries c.self.inside.confirm_modes.entries c.self.inside.returned_by_channel.entries c.self.inside.cells.spare _ (sym c.in-Some.ensures.value) c.self.invariant.room c.reject.ensures.room c.reject.ensures.spare;
+      room = room-kept c.queued_channel-channel.result c.in-Some.mode.now c.reject.new.mode c.self.inside.rooms.entries c.self.inside.confirm_modes.entries c.self.inside.returned_by_channel.entries c.self.inside.cells.spare _ (sym c.in-Some.ensures.value) c.self.invariant.room c.reject.ensures.room c.reject.ensures.spare;
       origins = same-origins _ _ c.reject.new.cells.slots _ c.self.invariant.origins (ap length c.reject.ensures.cells ∙ length-with c.args.number _ c.self.inside.cells.slots);
     }
 
 pub returns-clause-what : goal.returns-clause-what
-returns-clause-what c = rw (← c.self.view_is) (same-confirm_state _ _ _ _ _ _ (same-publish_states _ _ _ _ (confirm_modes-same c.queued_channel-channel.result c.in-Some.confirm_mode.now c.reject.new.confirm_mode c.self.inside.confirm_modes.entries (sym c.in-Some.ensures.value) c.reject.ensures.confirm_mode) c.reject.ensures.cells) refl refl)
+returns-clause-what c = rw (← c.self.view_is) (same-confirm_state _ _ _ _ _ _ (same-publish_states _ _ _ _ (confirm_modes-same c.queued_channel-channel.result c.in-Some.mode.now c.reject.new.mode c.self.inside.confirm_modes.entries (sym c.in-Some.ensures.value) c.reject.ensures.mode) c.reject.ensures.cells) refl refl)

@@ -10,15 +10,15 @@ returns-in_default-clause-what c = rw (← c.self.view_is) (same-confirm_state _
 
 pub invariant_of-self-2 : goal.invariant_of-self-2
 invariant_of-self-2 c =
-    let tied = tied-of c.args.channel c.in-Some.confirm_mode.now c.self.inside.confirm_modes.entries c.self.inside.cells.slots (sym c.in-Some.ensures.value) c.self.invariant.tied in
+    let tied = tied-of c.args.channel c.in-Some.mode.now c.self.inside.confirm_modes.entries c.self.inside.cells.slots (sym c.in-Some.ensures.value) c.self.invariant.tied in
     record {
       tied =
-          all-on c.args.channel c.in-Some.confirm_mode.now _ c.self.inside.confirm_modes.entries c.self.inside.cells.slots c.self.inside.cells.slots (sym c.in-Some.ensures.value) c.self.invariant.tied
-          (tied-room c.args.channel c.in-Some.confirm_mode.now _ c.self.inside.cells.slots tied refl refl refl tied.room)
+          all-on c.args.channel c.in-Some.mode.now _ c.self.inside.confirm_modes.entries c.self.inside.cells.slots c.self.inside.cells.slots (sym c.in-Some.ensures.value) c.self.invariant.tied
+          (tied-room c.args.channel c.in-Some.mode.now _ c.self.inside.cells.slots tied refl refl refl tied.room)
           (λ d o other tied. tied);
-      room = room-kept c.args.channel c.in-Some.confirm_mode.now (record c.in-Some.confirm_mode.now { selected = true }) c.self.inside.rooms.entries c.self.inside.confirm_modes.entries c.self.inside.returned_by_channel.entries c.self.inside.cells.spare _ (sym c.in-Some.ensures.value) c.self.invariant.room (keeps-same c.in-Some.confirm_mode.now (record c.in-Some.confirm_mode.now { selected = true }) refl refl) (omega arith);
+      room = room-kept c.args.channel c.in-Some.mode.now (record c.in-Some.mode.now { selected = true }) c.self.inside.rooms.entries c.self.inside.confirm_modes.entries c.self.inside.returned_by_channel.entries c.self.inside.cells.spare _ (sym c.in-Some.ensures.value) c.self.invariant.room (keeps-same c.in-Some.mode.now (record c.in-Some.mode.now { selected = true }) refl refl) (omega arith);
       origins = c.self.invariant.origins;
     }
 
 pub returns-clause-what : goal.returns-clause-what
-returns-clause-what c = rw (← c.self.view_is) (same-confirm_state _ _ _ _ _ _ (same-publish_states _ _ _ _ (confirm_modes-on c.args.channel selected_confirm_mode c.in-Some.confirm_mode.now _ c.self.inside.confirm_modes.entries (sym c.in-Some.ensures.value) refl) refl) refl refl)
+returns-clause-what c = rw (← c.self.view_is) (same-confirm_state _ _ _ _ _ _ (same-publish_states _ _ _ _ (confirm_modes-on c.args.channel selected_confirm_mode c.in-Some.mode.now _ c.self.inside.confirm_modes.entries (sym c.in-Some.ensures.value) refl) refl) refl refl)

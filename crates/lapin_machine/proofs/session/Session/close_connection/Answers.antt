@@ -43,7 +43,7 @@ returns-clause-ok c =
     let entry : MethodEntry = record { channel = c.args.channel; method = method.Connection (connection.Close c.args.reply_code c.args.reply_text 0 0); ticket = Some number } in
     connection_close_seen c.self.inside.link c.self.inside.phases.entries c.self.inside.outstanding.outbox.what c.self.inside.outstanding.replies.what c.self.inside.contents (what c.self.inside.deliveries) c.self.inside.outstanding.tickets.slots c.self.inside.confirms.what c.args.channel c.args.reply_code c.args.reply_text _ _ _ _ _ _ c.go_down.new.outstanding.tickets.slots _ _
     base_
-    c.go_down.ensures.link
+    (c.go_down.ensures.link ∙ c.after-to.ensures)
     c.go_down.ensures.phases
     (c.go_down.ensures.slots
     ∙ ap (λ (y : List (Option Slot)). fold after_mark y (failed c.reserve-2.new.self.replies.what)) c.reserve-2.ensures.same.slots

@@ -43,7 +43,7 @@ invariant_of-self-2 c =
     let outbox = c.end_opening.ensures.outbox ∙ ap (λ (o : Outgoing). ended_outbox c.args.channel o.what) c.done.ensures.outbox in
     let Q : ConfirmState → Type 0 = λ p. AreQueued p.publish_states.cells c.end_opening.new.self.outbox.what.lists.publishes in
     let R : OutboxState → Type 0 = λ o. AreQueued (confirm_state.after_mark c.self.inside.confirms.what (confirm.Ended c.args.channel c.args.error)).publish_states.cells o.lists.publishes in
-    kept_by _ _ _ _ _ _ _ _ refl c.set.ensures outbox (ap (λ (p : ConfirmState). p.publish_states) c.end_opening.ensures.confirms)
+    kept_by _ _ _ _ _ _ _ _ refl c.go.ensures outbox (ap (λ (p : ConfirmState). p.publish_states) c.end_opening.ensures.confirms)
     (tied_ended c.self.inside.link c.args.channel phase.Closed c.args.error c.self.inside.phases.entries _ _ c.self.inside.confirms.what.publish_states here.0 here.1 (subst R outbox (subst Q c.end_opening.ensures.confirms c.end_opening.ensures.queued)) c.self.invariant.tied)
     c.self.invariant.unpoisoned
 
@@ -52,7 +52,7 @@ returns-clause-ok c =
     let waiting = ap (λ (r : OpenRequests). r.what) c.done.ensures.replies ∙ c.take_close-close.ensures.waiting in
     closing_answered c.self.inside.link c.self.inside.phases.entries c.self.inside.outstanding.outbox.what c.self.inside.outstanding.replies.what c.self.inside.contents (what c.self.inside.deliveries) c.self.inside.outstanding.tickets.slots c.self.inside.confirms.what c.args.channel c.args.error _ _ _ _ _ _ _
     (ap (λ (w : World). close_ok_end (phase_of c.args.channel w.wire)) c.self.view_is ∙ c.requires.end)
-    c.set.ensures
+    c.go.ensures
     (c.end_opening.ensures.outbox ∙ ap (λ (o : Outgoing). ended_outbox c.args.channel o.what) c.done.ensures.outbox)
     (c.end_opening.ensures.requests ∙ ap (on_channel c.args.channel no_requests) waiting ∙ on_twice c.args.channel (without_kind reply_kind.ChannelCloseOk) no_requests c.self.inside.outstanding.replies.what)
     c.drop_channel.ensures

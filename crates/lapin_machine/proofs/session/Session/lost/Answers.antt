@@ -22,7 +22,7 @@ invariant_of-self-2 c =
 
 pub returns-clause-ok : goal.returns-clause-ok
 returns-clause-ok c =
-    seen_is _ _ _ _ _ _ _ _ _ _ _ _ _ _ _ _ c.go_down.ensures.link c.go_down.ensures.phases c.go_down.ensures.outbox (ap (λ (r : OpenRequests). r.what) c.go_down.ensures.requests ∙ c.in_ok-replies.ensures.made) c.go_down.ensures.contents refl c.go_down.ensures.slots c.go_down.ensures.confirms
+    seen_is _ _ _ _ _ _ _ _ _ _ _ _ _ _ _ _ (c.go_down.ensures.link ∙ c.after-to.ensures) c.go_down.ensures.phases c.go_down.ensures.outbox (ap (λ (r : OpenRequests). r.what) c.go_down.ensures.requests ∙ c.in_ok-replies.ensures.made) c.go_down.ensures.contents refl c.go_down.ensures.slots c.go_down.ensures.confirms
     ∙ lost_seen c.self.inside.link c.self.inside.phases.entries c.self.inside.outstanding.outbox.what c.self.inside.outstanding.replies.what c.self.inside.contents (what c.self.inside.deliveries) c.self.inside.outstanding.tickets.slots c.self.inside.confirms.what _ (sym c.is_lost.ensures ∙ c.if-is_lost.false)
     (c.go_down.ensures.deliveries ∙ ap (λ (x : Deliveries). fold deliveries.after_mark x (deliveries_ends error.ConnectionLost (live_channels c.self.inside.phases.entries))) c.reserve_ends.ensures.same)
     ∙ ap (λ (w : World). next w event.Lost) c.self.view_is

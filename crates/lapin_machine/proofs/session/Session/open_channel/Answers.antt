@@ -32,7 +32,7 @@ invariant_of-self-2 c =
     let closed = ap (λ (w : World). is_closed (state_of c.args.channel w.wire)) c.self.view_is ∙ sym (ap is_closed c.channel_state-state.ensures) ∙ sym c.is_closed.ensures ∙ c.if-not-is_closed.false in
     let entry : MethodEntry = record { channel = c.args.channel; method = method.Channel channel.Open; ticket = Some (length c.reserve-2.new.self.tickets.slots + 1) } in
     kept_by _ _ _ _ _ _ _ _ refl
-    (c.set.ensures ∙ ap (with_channel c.args.channel phase.Opening) c.reserve.ensures.same)
+    (c.go.ensures ∙ ap (with_channel c.args.channel phase.Opening) c.reserve.ensures.same)
     (c.queue_awaiting-number.ensures.outbox ∙ ap (with_entry entry) c.reserve-2.ensures.same.outbox)
     (ap (λ (p : ConfirmState). p.publish_states) c.in_ok-begin.ensures.ok)
     (tied_opened c.self.inside.link c.args.channel _ _ c.self.inside.confirms.what (closed_over c.self.inside.link c.args.channel c.self.inside.phases.entries closed).0 c.self.invariant.tied)
@@ -46,7 +46,7 @@ returns-clause-ok c =
     let count : length c.reserve-2.new.self.tickets.slots ≡ length c.self.inside.outstanding.tickets.slots = ap length slots in
     open_seen c.self.inside.link c.self.inside.phases.entries c.self.inside.outstanding.outbox.what c.self.inside.outstanding.replies.what c.self.inside.contents (what c.self.inside.deliveries) c.self.inside.outstanding.tickets.slots c.self.inside.confirms.what c.args.channel _ _ _ _ _ _
     closed
-    (c.set.ensures ∙ ap (with_channel c.args.channel phase.Opening) c.reserve.ensures.same)
+    (c.go.ensures ∙ ap (with_channel c.args.channel phase.Opening) c.reserve.ensures.same)
     (c.queue_awaiting-number.ensures.outbox ∙ ap (λ n. with_entry (entry n) c.reserve-2.new.self.outbox.what) count ∙ ap (with_entry (entry (length c.self.inside.outstanding.tickets.slots))) c.reserve-2.ensures.same.outbox)
     (c.queue_awaiting-number.ensures.requests
     ∙ ap (λ n. requests_with c.args.channel (n + 1) (Some reply.ChannelOpenOk) c.reserve-2.new.self.replies.what) count

@@ -9,7 +9,6 @@ use Rattle.lapin_tables.specs.ByChannel.{at_channel, on_channel}
 use Rattle.lapin_ticket.specs.Room.{Issued}
 use Rattle.lapin_rules.specs.declared.phases.ChannelPhase.{ChannelPhase}
 use Rattle.lapin_rules.specs.declared.broker_frames.Incoming.TheVariants as incoming
-use Rattle.lapin_rules.specs.Words.{with_channel}
 use Rattle.lapin_rules.specs.Frames.{MethodEntry}
 use Rattle.lapin_rules.specs.Phases.{phase_in}
 use Rattle.lapin_rules.specs.ChannelClose.{after_broker_close, has_sent_close}
@@ -44,8 +43,8 @@ invariant_of-self-2 c =
     let taken = c.end_opening.ensures.outbox ∙ ap (ended_outbox c.args.channel) c.reserve.ensures.same in
     let Q : ConfirmState → Type 0 = λ p. AreQueued p.publish_states.cells c.end_opening.new.self.outbox.what.lists.publishes in
     let R : OutboxState → Type 0 = λ o. AreQueued (confirm_state.after_mark c.self.inside.confirms.what (confirm.Ended c.args.channel (error.ProtocolError c.args.code))).publish_states.cells o.lists.publishes in
-    kept_by _ _ _ _ _ _ _ _ refl c.set.ensures (c.queue_own.ensures.outbox ∙ ap (with_entry entry) taken) (ap (λ (p : ConfirmState). p.publish_states) c.end_opening.ensures.confirms)
-    (tied_ended c.self.inside.link c.args.channel c.after_broker_close.result (error.ProtocolError c.args.code) c.self.inside.phases.entries _ _ c.self.inside.confirms.what.publish_states here.up here.some (subst R taken (subst Q c.end_opening.ensures.confirms c.end_opening.ensures.queued)) c.self.invariant.tied)
+    kept_by _ _ _ _ _ _ _ _ refl c.go.ensures (c.queue_own.ensures.outbox ∙ ap (with_entry entry) taken) (ap (λ (p : ConfirmState). p.publish_states) c.end_opening.ensures.confirms)
+    (tied_ended c.self.inside.link c.args.channel (after_broker_close (phase_in (at_channel c.args.channel c.self.inside.phases.entries))) (error.ProtocolError c.args.code) c.self.inside.phases.entries _ _ c.self.inside.confirms.what.publish_states here.up here.some (subst R taken (subst Q c.end_opening.ensures.confirms c.end_opening.ensures.queued)) c.self.invariant.tied)
     c.self.invariant.unpoisoned
 
 pub returns-clause-ok : goal.returns-clause-ok
@@ -62,7 +61,7 @@ returns-clause-ok c =
     c.kept_close-close.ensures.cancels ∙ ap (cancels_at c.args.channel) c.reserve-2.ensures.same in
     let entry : MethodEntry = record { channel = c.args.channel; method = method.Channel channel.CloseOk; ticket = None } in
     channel_close_incoming c.self.inside.link c.self.inside.phases.entries c.self.inside.outstanding.outbox.what c.self.inside.outstanding.replies.what c.self.inside.contents (what c.self.inside.deliveries) c.self.inside.outstanding.tickets.slots c.self.inside.confirms.what c.args.channel c.args.code _ _ _ _ _ _ _
-    (c.set.ensures ∙ ap (λ (q : ChannelPhase). with_channel c.args.channel q c.self.inside.phases.entries) (c.after_broker_close.ensures ∙ ap after_broker_close stood))
+    c.go.ensures
     (c.queue_own.ensures.outbox ∙ ap (with_entry entry) (c.end_opening.ensures.outbox ∙ ap (ended_outbox c.args.channel) c.reserve.ensures.same))
     (ap (λ (r : OpenRequests). r.what) c.queue_own.ensures.replies ∙ c.keep.ensures
     ∙ ap (λ (o : Option Request). with_kept c.args.channel o c.end_opening.new.self.replies.what) close

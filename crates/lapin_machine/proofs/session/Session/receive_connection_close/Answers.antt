@@ -12,7 +12,7 @@ use Rattle.lapin_outstanding.specs.Ended.{emptied_outbox}
 use Rattle.lapin_confirm.specs.ConfirmState.{ConfirmState}
 use Rattle.lapin_machine.specs.World.{World, receiving}
 use Rattle.lapin_machine.proofs.Keeping.{tied_down, tied_further, kept_by}
-use Rattle.lapin_machine.proofs.Openings.{sent_down}
+use Rattle.lapin_machine.proofs.Openings.{sent_down, crossed_by, closed_by}
 use Rattle.std.specs.List.{fold}
 use Rattle.lapin_rules.specs.Ends.{deliveries_ends}
 use Rattle.lapin_rules.specs.Ends.{live_channels}
@@ -44,7 +44,7 @@ returns-then-is_close_sent-clause-ok c =
     ∙ connection_close_crossed c.self.inside.link c.self.inside.phases.entries c.self.inside.outstanding.outbox.what c.self.inside.outstanding.replies.what c.self.inside.contents (what c.self.inside.deliveries) c.self.inside.outstanding.tickets.slots c.self.inside.confirms.what c.args.code _ _
     sent
     (c.self.invariant.tied.down (sent_down c.self.inside.link sent))
-    refl
+    (c.after-self-inside.ensures ∙ crossed_by c.self.inside.link sent)
     (c.queue_own.ensures.outbox ∙ ap (with_entry entry) c.reserve.ensures.same)
     ∙ ap (λ (w : World). receiving (incoming.ConnectionClose c.args.code) record_.Received w) c.self.view_is
 
@@ -53,7 +53,7 @@ returns-clause-ok c =
     let entry : MethodEntry = record { channel = 0; method = method.Connection connection.CloseOk; ticket = None } in
     connection_close_incoming c.self.inside.link c.self.inside.phases.entries c.self.inside.outstanding.outbox.what c.self.inside.outstanding.replies.what c.self.inside.contents (what c.self.inside.deliveries) c.self.inside.outstanding.tickets.slots c.self.inside.confirms.what c.args.code _ _ _ _ _ _ _ _
     (sym c.is_close_sent.ensures ∙ c.if-is_close_sent.false)
-    c.go_down.ensures.link
+    (c.go_down.ensures.link ∙ c.after-to.ensures ∙ closed_by c.self.inside.link (sym c.is_close_sent.ensures ∙ c.if-is_close_sent.false))
     c.go_down.ensures.phases
     (c.queue_own-2.ensures.outbox ∙ ap (with_entry entry) (c.go_down.ensures.outbox ∙ ap emptied_outbox c.reserve.ensures.same))
     (ap (λ (r : OpenRequests). r.what) (c.queue_own-2.ensures.replies ∙ c.go_down.ensures.requests) ∙ c.in_ok-replies.ensures.made)

@@ -30,7 +30,7 @@ invariant_of-self c =
 pub returns : goal.returns
 returns c =
     connection_answered c.self.inside.link c.self.inside.phases.entries c.self.inside.outstanding.outbox.what c.self.inside.outstanding.replies.what c.self.inside.contents (what c.self.inside.deliveries) c.self.inside.outstanding.tickets.slots c.self.inside.confirms.what _ _ _ _
-    refl
+    c.after-self-inside.ensures
     (ap (λ (o : Outgoing). o.what) c.done.ensures.outbox ∙ c.drop_unsent.ensures.outbox)
     (ap (λ (r : OpenRequests). r.what) (c.done.ensures.replies ∙ c.drop_unsent.ensures.requests) ∙ c.take_request-close.ensures.waiting)
     (c.done.ensures.slots

@@ -31,7 +31,7 @@ returns-clause-ok c = λ i.
     let entry : Method → MethodEntry = λ k. record { channel = 0; method = k; ticket = None } in
     let outbox = c.queue_own.ensures.outbox ∙ ap (with_entry (entry c.in_ok-method.method)) (c.go_down.ensures.outbox ∙ ap emptied_outbox c.reserve.ensures.same) ∙ ap (λ (k : Method). with_entry (entry k) (emptied_outbox c.self.inside.outstanding.outbox.what)) c.in_ok-method.ensures in
     unexpected_seen c.self.inside.link c.self.inside.phases.entries c.self.inside.outstanding.outbox.what c.self.inside.outstanding.replies.what c.self.inside.contents (what c.self.inside.deliveries) c.self.inside.outstanding.tickets.slots c.self.inside.confirms.what i c.args.class c.args.number _ _ _ _ _ _ _ _
-    c.go_down.ensures.link
+    (c.go_down.ensures.link ∙ c.after-to.ensures)
     c.go_down.ensures.phases
     outbox
     (ap (λ (r : OpenRequests). r.what) (c.queue_own.ensures.replies ∙ c.go_down.ensures.requests) ∙ c.no_replies-replies.ensures)
