@@ -1,5 +1,5 @@
-"""Hands on what the gate prints, a line behind, and puts before its last line what was done in this run and what was kept, and what
-the run took."""
+"""Hands on what the gate prints, a line behind, and behind it what was done in this run, what was kept and what the run took. Its last line
+goes to the file that is named, for what the gate has to say before it."""
 import os
 import re
 import sys
@@ -69,8 +69,9 @@ def main():
         last = line.rstrip("\n")
         counts.read(last)
     print(counts.told())
-    print(took(begun, worked))
-    print(last if last is not None else "0 passed, 1 failed", flush=True)
+    print(took(begun, worked), flush=True)
+    with open(sys.argv[1], "w", encoding="utf-8") as kept:
+        print(last if last is not None else "0 passed, 1 failed", file=kept)
 
 
 main()

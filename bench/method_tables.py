@@ -2,10 +2,11 @@
 """Writes what is made from the code's tables of methods, so that nobody has to keep it in step by hand.
 
 The tables stand in `crates/lapin_method_text/src/`, one a class; which methods a caller may call stands in
-`crates/lapin_text/src/queued.rt`. Made from them is the section "Methods" of `docs/FORMAT.md`; and from the names of methods the
+`crates/lapin_text/src/queued.rt`. Made from them are the section "Methods" of `docs/FORMAT.md`, and the rows
+in `crates/lapin_reasons/src/rows.rt` by which a bad line is explained; and from the names of methods the
 table by which a name finds its method at once: `PLACES` of `kinds.rt`, with the factors of a name's slot, there and in `Slots.antt`.
 
-    bench/method_tables.py            writes it
+    bench/method_tables.py            writes them
     bench/method_tables.py --check    says what is out of step, and ends with status 1 where something is
 """
 import itertools
@@ -15,7 +16,7 @@ import sys
 
 TOP = os.path.dirname(os.path.dirname(os.path.abspath(__file__)))
 CLASSES = ["connection", "channel", "access", "exchange", "queue", "basic", "confirm", "tx"]
-FORMAT = f"{TOP}/docs/FORMAT.md"
+FORMAT, ROWS = f"{TOP}/docs/FORMAT.md", f"{TOP}/crates/lapin_reasons/src/rows.rt"
 KINDS_FILE = f"{TOP}/crates/lapin_method_text/src/kinds.rt"
 SLOTS_FILE = f"{TOP}/crates/lapin_method_text/specs/Slots.antt"
 
@@ -64,6 +65,41 @@ def in_format(found):
             star = " \\*" if name in calls else ""
             lines.append(f"| `{name}`{star} | {told} |")
     return "\n".join(lines) + "\n\n"
+
+
+def in_rows(found):
+    """The rows as code."""
+    kinds = sorted([kinds for kinds, _ in found.values()] + ["MethodKind"])
+    calls = called(found)
+    out = [
+        "//! The fields of each method as a text, and which methods a caller may call, to explain a bad line by.",
+        "//!",
+        "//! This file is made by bench/method_tables.py from the tables of methods. What a line is read by stands there; here is what is said.",
+        "",
+        f"use lapin_method_text::kinds::{{{', '.join(kinds)}}};",
+        "",
+        "/// The fields of a method, each as its name, a colon and its kind.",
+        "pub(crate) fn fields_of(kind: MethodKind) -> &'static str {",
+        "    match kind {",
+        *[f"        MethodKind::{name.capitalize()}(kind) => {name}_fields(kind)," for name in found],
+        "    }",
+        "}",
+        "",
+        "/// Whether a caller may call it, as a method that a call queues.",
+        "pub(crate) fn is_called(kind: MethodKind) -> bool {",
+        "    match kind {",
+    ]
+    for name, (kinds, rows) in found.items():
+        theirs = [f"MethodKind::{name.capitalize()}({kinds}::{variant})" for variant, text, _ in rows if text in calls]
+        out += [f"        {it} => true," for it in theirs]
+    out += ["        _ => false,", "    }", "}"]
+    for name, (kinds, rows) in found.items():
+        out += ["", f"fn {name}_fields(kind: {kinds}) -> &'static str {{", "    match kind {"]
+        for variant, _, fields in rows:
+            row = " ".join(":".join(it) for it in fields)
+            out.append(f'        {kinds}::{variant} => "{row}",')
+        out += ["    }", "}"]
+    return "\n".join(out) + "\n"
 
 
 def slot(name, factors):
@@ -129,6 +165,7 @@ def made():
     end = text.index("## Input\n")
     return {
         FORMAT: text[: start if start >= 0 else end] + in_format(found) + text[end:],
+        ROWS: in_rows(found),
         KINDS_FILE: in_kinds(old_kinds, names, factors),
         SLOTS_FILE: in_slots(old_slots, factors),
     }
@@ -138,7 +175,8 @@ def main(words):
     stale = []
     for path, text in made().items():
         old = open(path, encoding="utf-8").read() if os.path.isfile(path) else ""
-        if old != text:
+        # The code is laid out by `rt fmt` afterwards, which breaks long lines alone.
+        if re.sub(r"\s+|,(?=\s*})", "", old) != re.sub(r"\s+|,(?=\s*})", "", text):
             stale.append(os.path.relpath(path, TOP))
             if words != ["--check"]:
                 os.makedirs(os.path.dirname(path), exist_ok=True)

@@ -1,6 +1,6 @@
 #!/usr/bin/env python3
 """What an event costs the program: instructions, time and memory, a row a workload. Most rows are of the command `session`, two of
-`shared N` on the same input, others of `check` (a frame is an event there) and of `resend` (a step is).
+`shared N` on the same input, others of `check` (a frame is an event there), and of `joined`, `generate` and `resend` (a step is).
 
 It stands outside the gate: `rt run` in crates/lapin_run builds the program, and this script makes inputs and runs it.
 
@@ -248,6 +248,24 @@ def acked(count):
             yield f"ticket {number + 3}"
 
 
+def joined(count):
+    """Steps of a session that is joined to a free broker: publishes, each read, acked and polled."""
+    for call, answer in ("channel.open", "channel.open-ok"), ("confirm.select 0", "confirm.select-ok"):
+        yield from [f"client call 1 {call}", "client next 1", "read", f"send method 1 {answer}", "deliver"]
+    for number in range(1, count + 1):
+        yield "client call 1 basic.publish x x6b6579 0 0 x []"
+        yield from ["client next 1", "client next 1", "read", "read"]
+        yield f"send method 1 basic.ack {number} 0"
+        yield from ["deliver", f"client confirm {number}"]
+
+
+def generated(count):
+    """As many lines as `generate` makes steps for so many publishes. It reads none of them."""
+    yield from ["step"] * 10
+    for number in range(1, count + 1):
+        yield from ["step"] * (4 + 2 * (2 + -(-(number * 37 % 9000) // 4088)))
+
+
 def transcript(count, window=0, multiple=1):
     """What a broker read and sent: publishes, each settled once `window` others came after it, `multiple` by one settlement."""
     yield "up method 1 channel.open"
@@ -273,7 +291,8 @@ def resent(count):
         yield "deliver"
 
 
-# A row: its name, its input of so many turns, the turns of the smaller and of the larger input, and the words of its command.
+# A row: its name, its input of so many turns, the turns of the smaller and of the larger input, and the words of its command, where {}
+# stands for the turns.
 WORKLOADS = [
     ("publish and confirm, empty", lambda n: published(n), 2_000, 20_000),
     ("publish and confirm, 100 bytes", lambda n: published(n, length=100), 2_000, 10_000),
@@ -292,6 +311,8 @@ WORKLOADS = [
     ("publishes of 100 bytes that come back", lambda n: returns(n, 100), 2_000, 10_000),
     ("publish and confirm, empty, by shared 1", lambda n: published(n), 2_000, 10_000, ["shared", "1"]),
     ("publish and confirm, empty, by shared 4", lambda n: published(n), 2_000, 10_000, ["shared", "4"]),
+    ("publish and confirm, empty, by joined", joined, 1_000, 5_000, ["joined"]),
+    ("publishes of 0 to 9,000 bytes, by generate", generated, 1_000, 9_000, ["generate", "{}"]),
     ("publishes and acks checked", transcript, 2_000, 10_000, ["check"]),
     ("messages sent and stored by resend", resent, 1_000, 5_000, ["resend"]),
 ]
@@ -411,13 +432,13 @@ def held_row(program, folder, workload):
 
 def row(program, folder, repeat, counted, workload):
     name, make, few, many, *words = workload
-    command = [program, *(words[0] if words else ["session"])]
+    fewer, command = ([program, *(word.format(turns) for word in (words[0] if words else ["session"]))] for turns in (few, many))
     small, large = os.path.join(folder, "small"), os.path.join(folder, "large")
     more = -write_input(small, make(few)) + write_input(large, make(many))
     count = "-"
     if counted:
-        count = f"{(instructions(command, large) - instructions(command, small)) / more:,.0f}"
-    spent = max(0.0, seconds(command, large, repeat) - seconds(command, small, repeat)) / more * 1e9
+        count = f"{(instructions(command, large) - instructions(fewer, small)) / more:,.0f}"
+    spent = max(0.0, seconds(command, large, repeat) - seconds(fewer, small, repeat)) / more * 1e9
     mebi = 1 << 20
     return f"| {name} | {count} | {spent:,.0f} | {os.path.getsize(large) / mebi:.2f} | {peak(command, large) / mebi:.2f} |"
 

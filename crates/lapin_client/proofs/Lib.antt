@@ -1,6 +1,7 @@
 pub mod Heard
 pub mod Idle
 pub mod Parts
+pub mod Refused
 pub mod Requests
 pub mod Room
 pub mod Running

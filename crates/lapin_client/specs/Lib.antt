@@ -2,4 +2,5 @@ pub mod Calls
 pub mod Clients
 pub mod Receiving
 pub mod Sending
+pub mod Showing
 pub mod Statuses

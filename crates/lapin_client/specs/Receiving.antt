@@ -6,6 +6,7 @@ use Rattle.lapin_client.specs.declared.receiving.Head.{Head}
 use Rattle.lapin_client.specs.declared.receiving.Head.TheVariants as head
 use Rattle.lapin_client.specs.declared.status.Status.{Status}
 use Rattle.lapin_client.specs.declared.status.Status.TheVariants as status
+use Rattle.lapin_client.specs.Showing.{ShowsError}
 use Rattle.lapin_client.specs.Sending.{after_requests, bytes_handed, IsIdle, IsLoss}
 use Rattle.lapin_fields.specs.Around.{wanted_behind}
 use Rattle.lapin_frames.specs.FrameReading.{read_at}
@@ -15,7 +16,7 @@ use Rattle.lapin_handshake.specs.declared.said.Said.{Said}
 use Rattle.lapin_handshake.specs.declared.said.Said.TheVariants as said
 use Rattle.lapin_rules.specs.Drops.{frame_channel}
 use Rattle.lapin_rules.specs.Wire.{state_of, is_closed}
-use Rattle.lapin_machine.specs.World.{World, next}
+use Rattle.lapin_machine.specs.World.{World, next, told_by}
 use Rattle.lapin_types.specs.Types.{Frame, Error}
 use Rattle.lapin_types.specs.Types.frame
 use Rattle.lapin_types.specs.Types.error
@@ -23,6 +24,7 @@ use Rattle.lapin_methods.specs.declared.basic.BasicMethod.{BasicMethod}
 use Rattle.lapin_methods.specs.declared.basic.BasicMethod.TheVariants as basic
 use Rattle.lapin_methods.specs.declared.method.Method.TheVariants as method
 use Rattle.lapin_types.specs.declared.event.Event.TheVariants as event
+use Rattle.lapin_types.specs.declared.record.Record.TheVariants as record_
 
 -- a method that a content follows
 abbrev pub begins_content : BasicMethod → Bool
@@ -77,22 +79,39 @@ TurnLeaves (Some f) b d = (m : ℕ) × IsIdle false (after_requests m false b.se
 abbrev pub SameHeard : Client → Client → Type 0
 SameHeard b d = (d.leaving.items ≡ b.leaving.items) × (d.came ≡ b.came) × (d.frame_max ≡ b.frame_max) × (d.blocked ≡ b.blocked)
 
+-- the session takes a frame, or it is passed over
+abbrev pub IsHeard : Frame → World → Type 0
+IsHeard f w = (is_stray f w ≡ true) ⊎ ((told_by w (event.Receive f) ≡ record_.Received) ⊎ (told_by w (event.Receive f) ≡ record_.Passed))
+
+-- the session refuses a frame, and the line of the refusal is the answer
+abbrev pub Refuses : Frame → World → Client → Type 0
+Refuses f w d = (e : Error) × (told_by w (event.Receive f) ≡ record_.Refused e) × ShowsError e d
+
 -- what becomes of a frame that the session hears
 abbrev pub Hears : Status → Frame → Client → Client → Type 0
-Hears status.Done f b d = (d.session ≡ next b.session (event.Receive f)) × SameHeard b d
-Hears status.Refused f b d = (d.session ≡ next b.session (event.Receive f)) × SameHeard b d
+Hears status.Done f b d = IsHeard f b.session × (d.session ≡ next b.session (event.Receive f)) × SameHeard b d
+Hears status.Refused f b d = Refuses f b.session d × (d.session ≡ next b.session (event.Receive f)) × SameHeard b d
 Hears r f b d = IsLoss r × (d.left ≡ 0)
 
 -- what becomes of a frame where nothing waits here that has begun
 abbrev pub TakesIdle : Status → Frame → Client → Client → Type 0
-TakesIdle status.Done f b d = (d.session ≡ heard f b.session) × SameHeard b d
-TakesIdle status.Refused f b d = (d.session ≡ heard f b.session) × SameHeard b d
+TakesIdle status.Done f b d = IsHeard f b.session × (d.session ≡ heard f b.session) × SameHeard b d
+TakesIdle status.Refused f b d = Refuses f b.session d × (d.session ≡ heard f b.session) × SameHeard b d
 TakesIdle r f b d = IsLoss r × (d.left ≡ 0)
+
+-- the session takes a frame once it is idle
+abbrev pub TurnHears : Option Frame → Client → Type 0
+TurnHears None b = Unit {0}
+TurnHears (Some f) b = (m : ℕ) × IsIdle false (after_requests m false b.session) × IsHeard f (after_requests (suc m) false b.session)
+
+-- the session refuses a frame once it is idle
+abbrev pub TurnRefuses : Frame → Client → Client → Type 0
+TurnRefuses f b d = (m : ℕ) × IsIdle false (after_requests m false b.session) × Refuses f (after_requests (suc m) false b.session) d
 
 -- what becomes of a frame that came
 abbrev pub Takes : Status → Frame → Client → Client → Type 0
-Takes status.Done f b d = TurnLeaves (Some f) b d × (d.came ≡ b.came) × (d.frame_max ≡ b.frame_max) × (d.blocked ≡ b.blocked)
-Takes status.Refused f b d = TurnLeaves (Some f) b d × (d.came ≡ b.came) × (d.frame_max ≡ b.frame_max) × (d.blocked ≡ b.blocked)
+Takes status.Done f b d = TurnHears (Some f) b × TurnLeaves (Some f) b d × (d.came ≡ b.came) × (d.frame_max ≡ b.frame_max) × (d.blocked ≡ b.blocked)
+Takes status.Refused f b d = TurnRefuses f b d × TurnLeaves (Some f) b d × (d.came ≡ b.came) × (d.frame_max ≡ b.frame_max) × (d.blocked ≡ b.blocked)
 Takes r f b d = IsLoss r × (d.left ≡ 0)
 
 -- what stands at the head of octets, where a frame has no more than frame_max
@@ -105,18 +124,24 @@ HeadIs head.Malformed bytes frame_max = (wanted_behind bytes ≡ 0) × (read_at 
 HeadIs (head.Blocked b n) bytes frame_max = (frame_said_at bytes ≡ Some (notice b)) × (n ≡ length_at bytes)
 HeadIs head.NoMemory bytes frame_max = Unit {0}
 
--- the frame at the head of what came is taken
+-- the frame at the head of what came is taken from it, and what it leaves
+abbrev pub IsTurnOf : Option Frame → Client → Client → Type 0
+IsTurnOf o b d = (n : ℕ) × IsHead b.came o n b.blocked d.blocked × (d.came ≡ drop n b.came) × TurnLeaves o b d
+
+-- it is taken, and not refused
 abbrev pub IsTurn : Client → Client → Type 0
-IsTurn b d = (o : Option Frame) × (n : ℕ) × IsHead b.came o n b.blocked d.blocked × (d.came ≡ drop n b.came) × TurnLeaves o b d
+IsTurn b d = (o : Option Frame) × IsTurnOf o b d × TurnHears o b
 
 -- what becomes of the head of what came
 abbrev pub Turns : Status → Client → Client → Type 0
 Turns status.Done b d = IsTurn b d
-Turns status.Refused b d = IsTurn b d
+Turns status.Refused b d = (f : Frame) × IsTurnOf (Some f) b d × TurnRefuses f b d
 Turns status.Pending b d = (0 < wanted_behind b.came) × (length b.came < b.frame_max) × (d ≡ b)
 Turns status.Malformed b d = (wanted_behind b.came ≡ 0) × (read_at b.came ≡ None) × (d ≡ b)
 Turns status.TooLong b d = ((b.frame_max < length_at b.came) × (d ≡ b)) ⊎ (d.left ≡ 0)
-Turns _ b d = (d.left ≡ 0) ⊎ (d ≡ b)
+Turns status.NoMemory b d = (d.left ≡ 0) ⊎ (d ≡ b)
+Turns status.Ended b d = d.left ≡ 0
+Turns _ b d = ⊥
 
 -- n frames were taken, one after the other
 unfoldable pub Comes : ℕ → Client → Client → Type 0

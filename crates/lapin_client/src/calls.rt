@@ -1,8 +1,8 @@
 //! The calls of which a caller makes many, without a line: a publish and its outcome, a consumer's next message and its fate.
-ghost use Rattle.std.specs.Prelude.{◌≡◌, ◌<◌, ◌++◌, ◌∷◌, [], length, IfOk, IfSome};
+ghost use Rattle.std.specs.Prelude.{◌≡◌, ◌<◌, ◌++◌, ◌∷◌, [], length, IfSome, MatchResult};
 ghost use Rattle.lapin_tokens.specs.Fields.{token as token_of};
 ghost use Rattle.lapin_tokens.specs.Fields.Field.{props as props_field};
-ghost use Rattle.lapin_client.specs.Calls.{Published, PublishedBy, OutcomeTold, Delivered, Settled, Forgotten, Shown, StaysBut, outcome_code, fate_call, message_bytes, message_of};
+ghost use Rattle.lapin_client.specs.Calls.{Published, PublishedBy, OutcomeTold, Delivered, Settled, Forgotten, Shown, StaysBut, NoText, OutcomeShown, forget_fault as forget_fault_lem, outcome_code, fate_call, message_bytes, message_of};
 ghost use Rattle.lapin_client.specs.Clients.{IsSound, SameBytes};
 ghost use Rattle.lapin_machine.specs.World.{next};
 ghost use Rattle.lapin_types.specs.declared.call.Call.TheVariants as call;
@@ -43,15 +43,15 @@ pub enum Fate {
 
 // A short text of bytes.
 fn short(alloc: Global, bytes: &[u8]) -> Result<ShortString, Status>
-    ensures { IfOk result (λ text. text ≡ bytes.now) }
+    ensures { MatchResult result (λ text. text ≡ bytes.now) (λ s. NoText s bytes.now) }
 {
-    let Ok(text) = std::str::from_utf8(bytes) else {
-        return Err(Status::NotInGrammar);
-    };
-    match ShortString::new(alloc, text) {
-        Ok(text) => Ok(text),
-        Err(ShortStringError::TooLong { length: _ }) => Err(Status::NotInGrammar),
-        Err(ShortStringError::NoMemory) => Err(Status::NoMemory),
+    match std::str::from_utf8(bytes) {
+        Ok(text) => match ShortString::new(alloc, text) {
+            Ok(short) => Ok(short),
+            Err(ShortStringError::TooLong { .. }) => Err(Status::NotInGrammar),
+            Err(ShortStringError::NoMemory) => Err(Status::NoMemory),
+        },
+        Err(_) => Err(Status::NotInGrammar),
     }
 }
 
@@ -174,6 +174,7 @@ impl Client {
     // The number of an outcome. The line of an error is the answer.
     fn tell(&mut self, alloc: Global, outcome: Outcome) -> u32
         ensures code { result ≡ outcome_code outcome }
+        ensures shown { OutcomeShown outcome self.old self.new }
         ensures same { StaysBut self.old self.new }
     {
         match outcome {
@@ -230,6 +231,7 @@ impl Client {
     }
 
     /// Settles a message by its acker. Done: the call is queued, and the acker used up. `Gone`: the acker isn't usable, and nothing is sent.
+    /// `Refused`: its channel's state refuses the call, as the answer says, which uses the acker up. `NoMemory`, `Ended`: nothing was done.
     pub fn settle(
         &mut self,
         alloc: Global,
@@ -272,7 +274,7 @@ impl Client {
         }
     }
 
-    /// The confirm will not be asked for any more.
+    /// The confirm will not be asked for any more. `Gone`: its outcome was given, or never will be. `NoMemory`, `Ended`: nothing was done.
     pub fn forget(&mut self, alloc: Global, confirm: u64) -> Status
         requires { IsSound self.old }
         ensures sound { IsSound self.new }
@@ -286,9 +288,18 @@ impl Client {
                 self.left -= 1;
                 Status::Done
             }
-            Err(Error::NoMemory) => Status::NoMemory,
-            Err(_) => Status::Gone,
+            Err(error) => forget_fault(error),
         }
+    }
+}
+
+// Why a confirm was not set aside.
+fn forget_fault(error: Error) -> Status
+    ensures { result ≡ forget_fault_lem error }
+{
+    match error {
+        Error::NoMemory => Status::NoMemory,
+        _ => Status::Gone,
     }
 }
 

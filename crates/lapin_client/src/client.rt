@@ -2,10 +2,12 @@
 ghost use Rattle.std.specs.Prelude.{◌≡◌, ◌≤◌, ◌++◌, ◌∷◌, [], IfOk, OnOk};
 ghost use Rattle.lapin_text.specs.Records.{record_tokens, line_onto};
 ghost use Rattle.lapin_types.specs.declared.record.Record.TheVariants as told;
-ghost use Rattle.lapin_client.specs.Calls.{RefusedTold, StaysBut};
+ghost use Rattle.lapin_client.specs.Calls.{StaysBut};
+ghost use Rattle.lapin_client.specs.Showing.{ShowsError, status_of as status_of_lem};
 ghost use Rattle.lapin_client.specs.Clients.{IsSound, Answers, IsNew, IsSent};
 
 use crate::inlet::Inlet;
+use crate::receiving::refuses;
 use crate::status::Status;
 use lapin_lines::take_line;
 use lapin_machine::Session;
@@ -91,18 +93,38 @@ impl Client {
 
     // The line of a refusal is the answer. Want of memory and of numbers have none.
     pub(crate) fn refuse(&mut self, alloc: Global, error: Error) -> Status
-        ensures told { RefusedTold result error self.new }
+        ensures told { result ≡ status_of_lem error }
+        ensures shown { ShowsError error self.new }
+        ensures same { StaysBut self.old self.new }
+    {
+        self.show_error(alloc, error);
+        status_of(error)
+    }
+
+    // The line of a refusal is the answer, and nothing is where there was no memory for it.
+    fn show_error(&mut self, alloc: Global, error: Error)
+        ensures shown { ShowsError error self.new }
         ensures same { StaysBut self.old self.new }
     {
         self.answer.clear();
-        match error {
-            Error::NoMemory => Status::NoMemory,
-            Error::NumbersUsedUp => Status::Ended,
-            error => match put_refusal(alloc, &mut self.answer, error) {
-                Ok(()) => Status::Refused,
-                Err(_) => Status::NoMemory,
-            },
+        if !refuses(error) {
+            return;
         }
+        match put_refusal(alloc, &mut self.answer, error) {
+            Ok(()) => {}
+            Err(_) => self.answer.clear(),
+        }
+    }
+}
+
+// What an error of the session is told as.
+fn status_of(error: Error) -> Status
+    ensures { result ≡ status_of_lem error }
+{
+    match error {
+        Error::NoMemory => Status::NoMemory,
+        Error::NumbersUsedUp => Status::Ended,
+        _ => Status::Refused,
     }
 }
 

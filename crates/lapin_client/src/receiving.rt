@@ -62,6 +62,7 @@ impl Client {
                 status => return status,
             }
         }
+        self.left = 0;
         Status::Ended
     }
 
@@ -131,7 +132,8 @@ impl Client {
             return Status::Ended;
         }
         match self.session.receive(alloc, frame) {
-            Ok(_) => {
+            Ok(heard) => {
+                drop(heard);
                 self.left -= 1;
                 Status::Done
             }

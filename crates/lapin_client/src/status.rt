@@ -7,7 +7,7 @@ ghost use Rattle.lapin_client.specs.Statuses.{code_of};
 pub enum Status {
     /// It was done.
     Done,
-    /// The session refused it: the answer is the line of the refusal.
+    /// The session refused it: the answer is the line of the refusal, or nothing where there was no memory for that.
     Refused,
     /// A line is not in the grammar, or an argument is no short text. Nothing was done.
     NotInGrammar,

@@ -1,4 +1,4 @@
--- What a session and a joined run owe as runs that an input drives.
+-- What a session owes as a run that an input drives.
 use Rattle.std.proofs.Common.{◌≡◌, ℕ, suc, Bool, true, true≢false, ◌+◌, ◌-◌, ◌<◌, ◌≤◌, ◌^◌, List, [], ◌∷◌, ◌++◌, Option, Some, None, false, refl, sym, ap, subst, ◌∙◌, append_assoc, arith}
 use Rattle.std.specs.Prelude.{Result, Ok, Err, IfOk}
 use Rattle.std.specs.List.{join_with_byte}
@@ -14,19 +14,10 @@ use Rattle.lapin_text.specs.LineReading.{line_at}
 use Rattle.lapin_text.proofs.Printed.{line_onto_is}
 use Rattle.lapin_text.proofs.LineLaws.{line_found, refused}
 use Rattle.lapin_lines.specs.Lines.{IsTaken}
-use Rattle.lapin_joint.specs.declared.step.Step.{Step}
-use Rattle.lapin_joint.specs.Joint.{new_joint, after, report, reports}
-use Rattle.lapin_machine.specs.Way.{by_machine}
-use Rattle.lapin_joint.specs.JoinedRun.{JoinedRun}
-use Rattle.lapin_joint.proofs.Alike.{reports_joined}
 use Rattle.lapin_joint.proofs.Steps.{new_goes_on}
 use Rattle.lapin_machine.proofs.Ways.{fewer as numbers_fewer}
-use Rattle.lapin_joint_text.specs.Steps as steps
-use Rattle.lapin_joint_text.specs.Reports.{report_tokens, report_line, reports_text}
-use Rattle.lapin_inputs.specs.Lines.{AreSteps, AreParsed as AreParsedSteps}
 use Rattle.lapin_inputs.specs.Printing.{Adds, bad_line_text}
 use Rattle.lapin_commands.specs.Session.{session_text, PrintsSession, SessionGoesOn}
-use Rattle.lapin_commands.specs.Joined.{joined_text, PrintsJoined, JoinedGoesOn}
 use Rattle.lapin_inputs.proofs.Streaming.{adds_by, prints_by}
 
 -- a line behind a text
@@ -93,7 +84,7 @@ pub session_begins : {E : Type 0} (r : Result World E) (m : ℕ) → IfOk r (λ 
 session_begins (Ok w) m new = (w, refl, λ input lines bad text ok is p. session_whole m w input lines bad text new ok is p)
 session_begins (Err e) m new = tt
 
-numbers_first : (m n : ℕ) (w : World) → w ≡ new_world m → n ≤ 2 ^ 31 → HasNumbersFor n w
+pub numbers_first : (m n : ℕ) (w : World) → w ≡ new_world m → n ≤ 2 ^ 31 → HasNumbersFor n w
 numbers_first m n w new few =
     let first = new_goes_on m w new in
     numbers_fewer (2 ^ 64 - 1 - 0) n w first.numbers (omega (arith, few))
@@ -101,32 +92,3 @@ numbers_first m n w new few =
 pub session_takes : {E : Type 0} (r : Result World E) (m : ℕ) → IfOk r (λ w. w ≡ new_world m) → IfOk r (λ w. (n : ℕ) → n ≤ 2 ^ 31 → HasNumbersFor n w)
 session_takes (Ok w) m new = λ n few. numbers_first m n w new few
 session_takes (Err e) m new = tt
-
--- ---- a joined run
-
-joined_adds : (k m : JoinedRun) (s : Step) (line old new : List ℕ) → steps.HasLine s → line ≡ steps.step_line s → m ≡ record { joint = after by_machine s k.joint; steps = k.steps + 1; stopped = false } → new ≡ line_onto old (report_tokens (report by_machine s k.joint)) ++ 10 ∷ [] → Adds (JoinedGoesOn k) (JoinedGoesOn m) line old new
-joined_adds k m s line old new fit is made grown =
-    subst (λ (x : JoinedRun). Adds (JoinedGoesOn k) (JoinedGoesOn x) line old new) (sym made)
-    (adds_by (AreSteps steps.step_line steps.HasLine) report_line (λ ss. reports by_machine ss k.joint) (λ ss. reports by_machine ss (after by_machine s k.joint)) s (report by_machine s k.joint) line old new (λ n lines ss bad are. (fit, is, are)) (λ ss. refl) (grown ∙ line_grown old (report_tokens (report by_machine s k.joint))))
-
--- a run that stands where it stands adds what that adds
-pub joined_adds_from : (k m : JoinedRun) (s : Step) (line old new : List ℕ) → steps.HasLine s → line ≡ steps.step_line s → m ≡ record { joint = after by_machine s k.joint; steps = k.steps + 1; stopped = false } → new ≡ line_onto old (report_tokens (report by_machine s k.joint)) ++ 10 ∷ [] → (past : JoinedRun) → past ≡ k → (now : JoinedRun) × (now ≡ m) × Adds (JoinedGoesOn past) (JoinedGoesOn now) line old new
-joined_adds_from k m s line old new fit is made grown past here = (m, refl, subst (λ (x : JoinedRun). Adds (JoinedGoesOn x) (JoinedGoesOn m) line old new) (sym here) (joined_adds k m s line old new fit is made grown))
-
-pub joined_stops : (k : JoinedRun) (n : ℕ) (lines : List (List ℕ)) (line : List ℕ) → steps.NoLine line → JoinedGoesOn k n (line ∷ lines) (Some n) []
-joined_stops k n lines line none = record { steps = []; are = (refl, none); printed = refl }
-
-joined_whole : (m : ℕ) (k : JoinedRun) (input : List ℕ) (lines : List (List ℕ)) (bad : Option ℕ) (text : List ℕ) → k ≡ record { joint = new_joint (new_world m) m; steps = 0; stopped = false } → IsMax m → lines_of input ≡ max_line m ∷ lines → JoinedGoesOn k 2 lines bad text → PrintsJoined input bad (text ++ bad_line_text bad)
-joined_whole m k input lines bad text new ok is p =
-    prints_by (AreParsedSteps steps.step_line steps.HasLine) (AreSteps steps.step_line steps.HasLine) joined_text (λ ss. reports_text (reports by_machine ss k.joint)) m input lines bad text
-    (λ ss are. subst (λ (ls : List (List ℕ)). AreParsedSteps steps.step_line steps.HasLine ls (Some m) ss bad) (sym is) (ok, refl, are))
-    (λ ss. ap reports_text (ap (λ (x : JoinedRun). reports by_machine ss x.joint) new ∙ reports_joined m ss))
-    p
-
-pub joined_begins : {E : Type 0} (r : Result JoinedRun E) (m : ℕ) → IfOk r (λ k. k ≡ record { joint = new_joint (new_world m) m; steps = 0; stopped = false }) → IfOk r (λ k. (past : JoinedRun) × (past ≡ k) × ((input : List ℕ) (lines : List (List ℕ)) (bad : Option ℕ) (text : List ℕ) → IsMax m → lines_of input ≡ max_line m ∷ lines → JoinedGoesOn past 2 lines bad text → PrintsJoined input bad (text ++ bad_line_text bad)))
-joined_begins (Ok k) m new = (k, refl, λ input lines bad text ok is p. joined_whole m k input lines bad text new ok is p)
-joined_begins (Err e) m new = tt
-
-pub joined_takes : {E : Type 0} (r : Result JoinedRun E) (m : ℕ) → IfOk r (λ k. k ≡ record { joint = new_joint (new_world m) m; steps = 0; stopped = false }) → IfOk r (λ k. (n : ℕ) → n ≤ 2 ^ 31 → k.steps + n < 2 ^ 64)
-joined_takes (Ok k) m new = λ n few. let none : k.steps ≡ 0 = ap (λ (x : JoinedRun). x.steps) new in omega (arith, none, few)
-joined_takes (Err e) m new = tt

@@ -11,8 +11,7 @@ use Rattle.lapin_text.specs.Input.{AreEvents}
 use Rattle.lapin_text.specs.Records.{records_text}
 use Rattle.lapin_text.proofs.LineLaws.{line_found, refused, text_found, text_refused}
 use Rattle.lapin_joint.specs.declared.step.Step.TheVariants as step
-use Rattle.lapin_joint.specs.Joint.{reports}
-use Rattle.lapin_joint.specs.JoinedRun.{JoinedRun}
+use Rattle.lapin_joint.specs.Joint.{Joint, reports}
 use Rattle.lapin_joint_text.specs.Steps.{step_line, HasLine}
 use Rattle.lapin_joint_text.specs.Reports.{reports_text}
 use Rattle.lapin_joint_text.proofs.StepLaws.{client_found, client_none, send_found, send_none, bare_found, bare_none}
@@ -90,7 +89,7 @@ step_of line = client_first (begins (codes "client ") line)
     client_first (inr client) = send_second client (begins (codes "send ") line)
 
 -- for lines, whatever they are, a joined run that goes on prints some text
-pub joined_goes : (k : JoinedRun) (n : ℕ) (lines : List (List ℕ)) → (bad : Option ℕ) × (text : List ℕ) × JoinedGoesOn k n lines bad text
-joined_goes k n lines =
+pub joined_goes : (j : Joint World) (n : ℕ) (lines : List (List ℕ)) → (bad : Option ℕ) × (text : List ℕ) × JoinedGoesOn j n lines bad text
+joined_goes j n lines =
     let some = some_steps step_line HasLine step_of n lines in
-    (some.1, reports_text (reports by_machine some.0 k.joint), record { steps = some.0; are = some.2; printed = refl })
+    (some.1, reports_text (reports by_machine some.0 j), record { steps = some.0; are = some.2; printed = refl })

@@ -2,7 +2,7 @@
 use Rattle.std.specs.Prelude.{ℕ, List, [], ◌∷◌, Some, None, refl}
 use Rattle.lapin_machine.specs.World.{World}
 use Rattle.lapin_text.specs.Input.{lines_of, AreParsed}
-use Rattle.lapin_joint.specs.JoinedRun.{JoinedRun}
+use Rattle.lapin_joint.specs.Joint.{Joint}
 use Rattle.lapin_joint_text.specs.Steps as joint_text
 use Rattle.lapin_resend.specs.declared.step.ResendStep.{ResendStep}
 use Rattle.lapin_resend_text.specs.Steps as resend_text
@@ -22,8 +22,8 @@ pub session_ends : (w : World) (n : ℕ) → SessionGoesOn w n [] None []
 session_ends w n = record { steps = []; are = refl; printed = refl }
 
 -- a joined run that goes on prints no text for no line
-pub joined_ends : (k : JoinedRun) (n : ℕ) → JoinedGoesOn k n [] None []
-joined_ends k n = record { steps = []; are = refl; printed = refl }
+pub joined_ends : (j : Joint World) (n : ℕ) → JoinedGoesOn j n [] None []
+joined_ends j n = record { steps = []; are = refl; printed = refl }
 
 -- a publisher that goes on prints no text for no line
 pub resend_ends : (m : ℕ) (made : List ResendStep) (n : ℕ) → ResendGoesOn m made n [] None []

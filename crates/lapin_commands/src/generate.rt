@@ -1,21 +1,15 @@
 //! The command `generate`: it makes the steps of so many publishes, each with its ack, and prints what their reports come to. It
 //! reads nothing.
 //!
-//! The steps and the summary of a run's reports stand in `lapin_generate`.
+//! The steps, the run and the summary of its reports stand in `lapin_generate`.
 ghost use Rattle.std.specs.Prelude.{◌≡◌, ◌≤◌, ◌++◌, IfOk, OnOk};
-ghost use Rattle.lapin_joint.specs.Joint.{joined};
-ghost use Rattle.lapin_generate.specs.Generated.{most_publishes, generated};
-ghost use Rattle.lapin_generate.specs.Summed.{summed};
+ghost use Rattle.lapin_generate.specs.Generated.{most_publishes};
 ghost use Rattle.lapin_commands.specs.Generate.{summary_text, generated_text};
 
-use lapin_generate::{Summary, generated_steps, summarize};
+use lapin_generate::{Summary, run_generated};
 use lapin_inputs::put_number;
-use lapin_joint::run_joined;
 use lapin_types::NoMemory;
 use std::alloc::Global;
-
-/// The size of a frame in bytes, at most.
-const FRAME_MAX: u32 = 4096;
 
 /// What is printed for so many publishes.
 ///
@@ -29,17 +23,6 @@ pub fn print_generated(alloc: Global, publishes: u64) -> Result<Vec<u8>, NoMemor
     let mut text = Vec::new(alloc);
     put_summary(alloc, &mut text, &summary)?;
     Ok(text)
-}
-
-// The summary of the run.
-fn run_generated(alloc: Global, publishes: u64) -> Result<Summary, NoMemory>
-    requires { publishes ≤ most_publishes }
-    ensures { IfOk result (λ summary. summary ≡ summed (joined 4096 (generated publishes))) }
-{
-    let steps = generated_steps(alloc, publishes)?;
-    let mut reports = Vec::new(alloc);
-    run_joined(alloc, FRAME_MAX, steps, &mut reports)?;
-    Ok(summarize(&reports))
 }
 
 // Appends the four lines of a summary.

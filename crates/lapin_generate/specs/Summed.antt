@@ -1,5 +1,5 @@
 -- What the reports of a run come to.
-use Rattle.std.specs.Prelude.{ℕ, List, length, Ok, sum_by}
+use Rattle.std.specs.Prelude.{ℕ, ◌+◌, List, [], ◌∷◌, length, Ok, sum_by}
 use Rattle.lapin_types.specs.declared.record.Record.{Record}
 use Rattle.lapin_types.specs.declared.record.Record.TheVariants as record_
 use Rattle.lapin_types.specs.declared.confirmation.Confirmation.{Confirmation}
@@ -43,3 +43,21 @@ summed rs = record {
   bytes = sum_by body_length rs;
   acks = sum_by ack_count rs;
 }
+
+-- a summary with one report more
+abbrev pub with_report : Summary → Reported → Summary
+with_report s r = record {
+  publishes = s.publishes + publish_count r;
+  frames = s.frames + frame_count r;
+  bytes = s.bytes + body_length r;
+  acks = s.acks + ack_count r;
+}
+
+-- with more reports, one after another
+abbrev pub with_reports : Summary → List Reported → Summary
+with_reports s [] = s
+with_reports s (r ∷ rs) = with_reports (with_report s r) rs
+
+-- the summary of no report
+abbrev pub nothing : Summary
+nothing = record { publishes = 0; frames = 0; bytes = 0; acks = 0 }

@@ -1,11 +1,12 @@
-//! A joined run of any length, as data: the steps that publish a number of messages over a free broker, each to its ack, and the
-//! summary of a run's reports.
+//! A joined run of any length: the steps that publish a number of messages over a free broker, each to its ack, and the summary of the
+//! run's reports, which are summed as they come.
 //!
-//! Nothing is run and nothing printed here: runs stand in `lapin_joint`, the command in `lapin_commands`.
+//! What a step does stands in `lapin_joint`, what is printed in `lapin_commands`.
 #![tactic(auto)]
 
 mod steps;
 mod summary;
+mod tally;
 
-pub use steps::generated_steps;
-pub use summary::{Summary, summarize};
+pub use summary::Summary;
+pub use tally::run_generated;

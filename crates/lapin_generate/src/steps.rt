@@ -3,7 +3,7 @@
 ghost use Rattle.std.specs.Prelude.{◌≡◌, ◌≤◌, ◌++◌, true, replicate, IfOk, OnOk};
 ghost use Rattle.lapin_types.specs.declared.event.Event.TheVariants as event;
 ghost use Rattle.lapin_joint.specs.declared.step.Step.TheVariants as step;
-ghost use Rattle.lapin_generate.specs.Generated.{most_publishes, opening, selecting, publish_call, payload_of, frames_of, answered, acked, published, publish_steps, generated};
+ghost use Rattle.lapin_generate.specs.Generated.{most_publishes, opening, selecting, publish_call, payload_of, frames_of, answered, acked, publish_steps as publish_steps_lem};
 
 use lapin_joint::Step;
 use lapin_types::{
@@ -18,20 +18,31 @@ const CHANNEL: u16 = 1;
 /// The longest body of a frame of 4096 bytes, 8 of which are not the payload's (AMQP 0-9-1, section 4.2.3).
 const LONGEST_BODY: u64 = 4088;
 
-/// The steps that publish this many messages on channel 1 and get an ack for each.
+/// The steps before the first publish: channel 1 is opened, and confirms are asked for.
+///
+/// # Errors
+/// `NoMemory`.
+pub(crate) fn opening_steps(alloc: Global) -> Result<Vec<Step>, NoMemory>
+    ensures { IfOk result (λ steps. steps.items ≡ opening ++ selecting) }
+{
+    let mut steps = Vec::new(alloc);
+    push_opening(&mut steps)?;
+    push_selecting(&mut steps)?;
+    Ok(steps)
+}
+
+/// The steps of a publish on channel 1 with its ack: it is called; its frames leave, and are read; it is acked, and its confirm polled.
 ///
 /// Publish i has (37 i) mod 9000 bytes, each of them i mod 256, and goes to the default exchange under the key `hello`.
 ///
 /// # Errors
 /// `NoMemory`.
-pub fn generated_steps(alloc: Global, publishes: u64) -> Result<Vec<Step>, NoMemory>
-    requires { publishes ≤ most_publishes }
-    ensures { IfOk result (λ steps. steps.items ≡ generated publishes) }
+pub(crate) fn publish_steps(alloc: Global, number: u64) -> Result<Vec<Step>, NoMemory>
+    requires { number ≤ most_publishes }
+    ensures { IfOk result (λ steps. steps.items ≡ publish_steps_lem number) }
 {
     let mut steps = Vec::new(alloc);
-    push_opening(&mut steps)?;
-    push_selecting(&mut steps)?;
-    push_publishes(alloc, &mut steps, publishes)?;
+    push_publish(alloc, &mut steps, number)?;
     Ok(steps)
 }
 
@@ -68,21 +79,10 @@ fn push_answered(steps: &mut Vec<Step>, answer: Method) -> Result<(), NoMemory>
     Ok(())
 }
 
-// The publishes from 1 to this one, each with all its steps.
-fn push_publishes(alloc: Global, steps: &mut Vec<Step>, publishes: u64) -> Result<(), NoMemory>
-    requires { publishes ≤ most_publishes }
-    ensures { OnOk result (steps.new.items ≡ steps.old.items ++ published publishes) }
-{
-    for done in 0..publishes {
-        push_publish(alloc, steps, done + 1)?;
-    }
-    Ok(())
-}
-
 // A publish is called; its frames leave, and are read; it is acked, and its confirm polled.
 fn push_publish(alloc: Global, steps: &mut Vec<Step>, number: u64) -> Result<(), NoMemory>
     requires { number ≤ most_publishes }
-    ensures { OnOk result (steps.new.items ≡ steps.old.items ++ publish_steps number) }
+    ensures { OnOk result (steps.new.items ≡ steps.old.items ++ publish_steps_lem number) }
 {
     let call = publish(alloc, number)?;
     steps.push(Step::Client(Event::Call(CHANNEL, call)))?;

@@ -1,8 +1,9 @@
-//! The summary of a run's reports: how many publishes were accepted, how many frames left with how many bytes in their bodies, and
-//! how many confirms gave an ack.
+//! The summary of a run's reports, one after another: how many publishes were accepted, how many frames left with how many bytes in
+//! their bodies, and how many confirms gave an ack.
 
-ghost use Rattle.std.specs.Prelude.{◌≡◌, ◌≤◌, sum_by};
-ghost use Rattle.lapin_generate.specs.Summed.{summed, publish_count as publish_count_lem, frame_count as frame_count_lem, body_length, ack_count as ack_count_lem, acks_told as acks_told_lem};
+ghost use Rattle.std.specs.Prelude.{◌≡◌, ◌≤◌, ℕ, suc};
+ghost use Rattle.lapin_generate.specs.Summed.{nothing, with_report as with_report_lem, publish_count as publish_count_lem, frame_count as frame_count_lem, body_length, ack_count as ack_count_lem, acks_told as acks_told_lem};
+ghost use Rattle.lapin_generate.specs.Tally.{HasRoom};
 
 use lapin_joint::Reported;
 use lapin_types::{Confirmation, Frame, Record};
@@ -20,60 +21,30 @@ pub struct Summary {
     pub acks: u64,
 }
 
-/// The summary of these reports.
-pub fn summarize(reports: &[Reported]) -> Summary
-    ensures { result ≡ summed reports.now }
+/// The summary of no report.
+pub(crate) fn none() -> Summary
+    ensures { result ≡ nothing }
 {
     Summary {
-        publishes: publishes(reports),
-        frames: frames(reports),
-        bytes: bytes(reports),
-        acks: acks(reports),
+        publishes: 0,
+        frames: 0,
+        bytes: 0,
+        acks: 0,
     }
 }
 
-// How many publishes were accepted.
-fn publishes(reports: &[Reported]) -> u64
-    ensures { result ≡ sum_by publish_count_lem reports.now }
+/// The summary with one report more.
+pub(crate) fn with_report(summary: Summary, report: &Reported) -> Summary
+    requires { HasRoom 1 summary }
+    ensures sum { result ≡ with_report_lem summary report.now }
+    ensures room { (n : ℕ) → HasRoom (suc n) summary → HasRoom n result }
 {
-    let mut all = 0u64;
-    for report in reports {
-        all += publish_count(report);
+    Summary {
+        publishes: summary.publishes + publish_count(report),
+        frames: summary.frames + frame_count(report),
+        bytes: summary.bytes + u128::from(bytes_in(report)),
+        acks: summary.acks + ack_count(report),
     }
-    all
-}
-
-// How many frames left.
-fn frames(reports: &[Reported]) -> u64
-    ensures { result ≡ sum_by frame_count_lem reports.now }
-{
-    let mut all = 0u64;
-    for report in reports {
-        all += frame_count(report);
-    }
-    all
-}
-
-// How many confirms gave an ack.
-fn acks(reports: &[Reported]) -> u64
-    ensures { result ≡ sum_by ack_count_lem reports.now }
-{
-    let mut all = 0u64;
-    for report in reports {
-        all += ack_count(report);
-    }
-    all
-}
-
-// The bytes of all bodies that left. A list of them can be longer than a `u64` says.
-fn bytes(reports: &[Reported]) -> u128
-    ensures { result ≡ sum_by body_length reports.now }
-{
-    let mut all = 0u128;
-    for report in reports {
-        all += u128::from(bytes_in(report));
-    }
-    all
 }
 
 // 1 where a publish was accepted.

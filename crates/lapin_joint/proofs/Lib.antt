@@ -1,3 +1,4 @@
 pub mod Alike
 pub mod Steps
 pub mod Ordered
+pub mod Newest

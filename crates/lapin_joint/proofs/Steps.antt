@@ -17,7 +17,7 @@ use Rattle.lapin_joint.specs.declared.step.Step.TheVariants as step
 use Rattle.lapin_joint.specs.declared.step.Reported.{Reported}
 use Rattle.lapin_joint.specs.Joint.{Joint, new_joint, is_lawful, after, report, reports, run, joined, joined_to}
 use Rattle.lapin_machine.specs.Way.{Way, by_history, by_machine}
-use Rattle.lapin_joint.specs.JoinedRun.{JoinedRun, AreAlike, StandsFor, GoesOn}
+use Rattle.lapin_joint.specs.JoinedRun.{JoinedRun, AreAlike, StandsFor, GoesOn, CanTake}
 use Rattle.lapin_joint.proofs.Alike.{alike-next, unreturned-next, new_alike}
 
 -- ---- lists of steps
@@ -91,6 +91,13 @@ numbers_after n step.Read j h = read_numbers n j.up j (fewer (suc n) n j.session
 numbers_after n (step.Send f) j h = chosen_numbers n (may j.broker f) _ j (fewer (suc n) n j.session h (omega arith)) (fewer (suc n) n j.session h (omega arith))
 numbers_after n step.Deliver j h = deliver_numbers n j.down j h
 numbers_after n step.Lose j h = numbers-next n j.session event.Lost h
+
+-- where a step was made, one less may still be made
+pub can_take_rest : (n : ℕ) (s : Step) (j k : Joint World) → k ≡ after by_machine s j → CanTake (suc n) j → CanTake n k
+can_take_rest n s j k is can = subst (λ (x : Joint World). CanTake n x) (sym is) (numbers_after n s j can.0, unreturned-next s j can.1)
+
+pub can_take_fewer : (n m : ℕ) (j : Joint World) → CanTake n j → m ≤ n → CanTake m j
+can_take_fewer n m j can le = (fewer n m j.session can.0 le, can.1)
 
 -- the next step has a number
 pub number_left : (steps : ℕ) (w : World) → HasNumbersFor (2 ^ 64 - 1 - steps) w → steps + 1 < 2 ^ 64 → HasNumbersFor 1 w

@@ -34,3 +34,7 @@ pub record GoesOn (steps : ℕ) (w : World) : Type 0 where
 -- so it is as long as no step found that there is no memory
 abbrev pub IsKept : Bool → ℕ → World → Type 0
 IsKept stopped steps w = stopped ≡ false → GoesOn steps w
+
+-- so many steps may still be made: the session has a number of each counter for each of them, and no frame was given back to it
+abbrev pub CanTake : ℕ → Joint World → Type 0
+CanTake n j = HasNumbersFor n j.session × (j.session.returned ≡ None)

@@ -1,11 +1,15 @@
 -- A joined run: a session and a free broker, with a link each way. What a step does, and what it reports.
 --
 -- The link up holds each frame with the numbers of its call, which no frame carries, so that a law can say whose a frame is.
-use Rattle.std.specs.Prelude.{ℕ, Bool, true, false, if◌then◌else◌, List, [], ◌∷◌, ◌++◌, Option, Some, None}
+use Rattle.std.specs.Prelude.{◌≡◌, ℕ, Bool, true, false, if◌then◌else◌, List, [], ◌∷◌, ◌++◌, Option, Some, None, Result, Ok, Err}
 use Rattle.lapin_types.specs.declared.event.Event.{Event}
 use Rattle.lapin_types.specs.declared.event.Event.TheVariants as event
 use Rattle.lapin_types.specs.declared.leaving.Left.{Left}
-use Rattle.lapin_types.specs.Types.{Frame}
+use Rattle.lapin_types.specs.declared.record.Record.{Record}
+use Rattle.lapin_types.specs.declared.record.Record.TheVariants as record_
+use Rattle.lapin_types.specs.Types.{Frame, Error}
+use Rattle.lapin_machine.specs.declared.channel.Heard.{Heard}
+use Rattle.lapin_machine.specs.declared.channel.Heard.TheVariants as heard
 use Rattle.lapin_rules.specs.Handing.{handed}
 use Rattle.lapin_rules.specs.History.{History}
 use Rattle.lapin_machine.specs.Way.{Way, by_history}
@@ -34,6 +38,21 @@ new_joint s frame_max = record { session = s; broker = new_broker frame_max; up 
 abbrev pub front_frame : List Left → Option Frame
 front_frame [] = None
 front_frame (l ∷ ls) = Some l.frame
+
+-- the frame at the back of a link up, if there is one
+abbrev pub back_frame : List Left → Option Frame
+back_frame [] = None
+back_frame (l ∷ []) = Some l.frame
+back_frame (l ∷ k ∷ ls) = back_frame (k ∷ ls)
+
+-- the frame that a request handed out, if it did: then it is at the back of the link up
+abbrev pub newest : Bool → List Left → Option Frame
+newest some up = if some then back_frame up else None
+
+-- the record of a frame request that handed this frame out, or none
+abbrev pub handed_record : Option Frame → Record
+handed_record None = record_.NoFrame
+handed_record (Some f) = record_.Frame f
 
 -- ---- What a step does.
 
@@ -94,6 +113,13 @@ read_report (l ∷ ls) = reported.Read
 abbrev pub deliver_report : {S : Type 0} → Way S → List Frame → S → Reported
 deliver_report m [] s = reported.Nothing
 deliver_report m (f ∷ fs) s = reported.Delivered (m.told s (event.Receive f))
+
+-- what became of a frame that was delivered, if there was one, is told by the report
+abbrev pub IsDelivered : Option (Result Heard Error) → Reported → Type 0
+IsDelivered None r = r ≡ reported.Nothing
+IsDelivered (Some (Ok heard.Received)) r = r ≡ reported.Delivered record_.Received
+IsDelivered (Some (Ok heard.Passed)) r = r ≡ reported.Delivered record_.Passed
+IsDelivered (Some (Err e)) r = r ≡ reported.Delivered (record_.Refused e)
 
 -- the report of a step; one that reports nothing, or that it isn't lawful, changes nothing
 abbrev pub report : {S : Type 0} → Way S → Step → Joint S → Reported

@@ -1,7 +1,6 @@
 //! A joined run, step by step: what one answers, what it stands for, and when it stops.
 
 ghost use Rattle.std.specs.Prelude.{◌≡◌, ◌↔◌, ◌≤◌, ◌<◌, ◌+◌, ◌^◌, ◌++◌, ◌∷◌, [], ℕ, List, None, Err, true, false, IfOk, OnOk, OnErr};
-ghost use Rattle.lapin_machine.specs.Numbers.{HasNumbersFor};
 ghost use Rattle.lapin_machine.specs.World.{new_world};
 ghost use Rattle.lapin_joint.specs.declared.step.Step.{Step as AStep};
 ghost use Rattle.std.specs.Option.{option_copied};
@@ -104,7 +103,7 @@ impl Joined {
             drop(step);
             return Err(RunError::Stopped);
         }
-        match make(alloc, &mut self.links, step) {
+        match self.links.make(alloc, step) {
             Ok(reported) => {
                 self.steps += 1;
                 Ok(reported)
@@ -149,21 +148,5 @@ impl Joined {
         ensures { result ≡ self.now.steps }
     {
         self.steps
-    }
-}
-
-// Each kind of step has a method of the links.
-fn make(alloc: Global, links: &mut Links, step: Step) -> Result<Reported, NoMemory>
-    requires numbers { HasNumbersFor 1 links.old.session }
-    requires unreturned { links.old.session.returned ≡ None }
-    ensures told { IfOk result (λ r. r ≡ report by_machine step links.old) }
-    ensures ok { OnOk result (links.new ≡ after by_machine step links.old) }
-{
-    match step {
-        Step::Client(event) => links.client(alloc, event),
-        Step::Read => links.read(alloc),
-        Step::Send(frame) => links.try_send(alloc, frame),
-        Step::Deliver => links.deliver(alloc),
-        Step::Lose => links.lose(alloc),
     }
 }

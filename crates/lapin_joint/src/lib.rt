@@ -13,5 +13,6 @@ mod step;
 
 pub use joined::Joined;
 pub use laws::links_keep_order;
+pub use links::Links;
 pub use run::run_joined;
 pub use step::{Reported, Step};

@@ -1,6 +1,6 @@
 -- The lines of steps: no two steps have one, and which step a line is of is told by the word in front.
-use Rattle.std.proofs.Common.{◌≡◌, ◌≢◌, ℕ, ◌<◌, ◌+◌, List, [], ◌∷◌, ◌++◌, length, get_or, refl, sym, ap, subst, ◌∙◌, arith, eqb, false}
-use Rattle.std.specs.Prelude.{codes}
+use Rattle.std.proofs.Common.{◌≡◌, ◌≢◌, ℕ, ◌<◌, ◌+◌, List, [], ◌∷◌, ◌++◌, length, get_or, Option, Some, None, refl, sym, ap, subst, ◌∙◌, arith, eqb, false}
+use Rattle.std.specs.Prelude.{Result, Ok, Err, IfOk, IfSome, IfNone, codes}
 use Rattle.std.specs.List.{join_with_byte}
 use Rattle.lapin_types.specs.Types.{Frame}
 use Rattle.lapin_types.specs.declared.event.Event.{Event}
@@ -51,6 +51,17 @@ send_none line rest is other step.Read fit same = absurd (omega (arith, first_is
 send_none line rest is other (step.Send f) fit same = other f fit (behind_send rest (frame_text f) (sym is ∙ same))
 send_none line rest is other step.Deliver fit same = absurd (omega (arith, first_is 115 100 _ _ (sym is ∙ same)))
 send_none line rest is other step.Lose fit same = absurd (omega (arith, first_is 115 108 _ _ (sym is ∙ same)))
+
+-- so the frame that was read is that of the line
+pub sent_found : {E : Type 0} (r : Result (Option Frame) E) (line rest : List ℕ) → line ≡ codes "send " ++ rest → IfOk r (λ o. IfSome o (λ f. (rest ≡ frame_text f) × FrameFits f)) → IfOk r (λ o. IfSome o (λ f. IsLineOf line (step.Send f)))
+sent_found (Ok (Some f)) line rest is h = send_found line rest f is h
+sent_found (Ok None) line rest is h = tt
+sent_found (Err e) line rest is h = tt
+
+pub sent_none : {E : Type 0} (r : Result (Option Frame) E) (line rest : List ℕ) → line ≡ codes "send " ++ rest → IfOk r (λ o. IfNone o ((f : Frame) → FrameFits f → rest ≡ frame_text f → ⊥)) → IfOk r (λ o. IfNone o (NoLine line))
+sent_none (Ok (Some f)) line rest is h = tt
+sent_none (Ok None) line rest is h = send_none line rest is h
+sent_none (Err e) line rest is h = tt
 
 -- ---- a word alone
 

@@ -12,4 +12,4 @@ mod steps;
 pub use laws::{one_step_line, steps_parsed_as_printed};
 pub use parsing::{ParsedSteps, parse_steps};
 pub use reports::{print_reports, put_report};
-pub use steps::read_step;
+pub use steps::{client_event, read_sent, read_step, sent_frame};

@@ -1,11 +1,12 @@
 //! The lines of steps: `client EVENT`, `read`, `send FRAME`, `deliver` and `lose`.
 
 ghost use Rattle.std.specs.Prelude.{◌≡◌, ◌≢◌, ◌++◌, ℕ, List, codes, IfOk, IfSome, IfNone, MatchOption};
+ghost use Rattle.lapin_joint.specs.declared.step.Step.TheVariants as step;
 ghost use Rattle.lapin_joint_text.specs.Steps.{IsLineOf, NoLine, IsBare, NoBare};
 
 use lapin_joint::Step;
 use lapin_text::{read_event, read_frame};
-use lapin_types::NoMemory;
+use lapin_types::{Frame, NoMemory};
 use std::alloc::Global;
 
 /// The step whose line the bytes are, without a line end, or `None` where no step that has a line has this one.
@@ -16,10 +17,24 @@ pub fn read_step(alloc: Global, line: &[u8]) -> Result<Option<Step>, NoMemory>
     ensures found { IfOk result (λ o. IfSome o (λ s. IsLineOf line.now s)) }
     ensures none { IfOk result (λ o. IfNone o (NoLine line.now)) }
 {
-    match behind_word(b"client ", line) {
+    match client_event(line) {
         Some(rest) => client_step(alloc, line, rest),
         None => other_step(alloc, line),
     }
+}
+
+/// What stands behind `client `, where the line begins so: the line of an event of the client, if the line is in the grammar.
+pub fn client_event(line: &[u8]) -> Option<&[u8]>
+    ensures { MatchOption result ((rest : List ℕ) → line.now ≢ codes "client " ++ rest) (λ rest. line.now ≡ codes "client " ++ rest.now) }
+{
+    behind_word(b"client ", line)
+}
+
+/// What stands behind `send `, where the line begins so: the text of a frame of the broker, if the line is in the grammar.
+pub fn sent_frame(line: &[u8]) -> Option<&[u8]>
+    ensures { MatchOption result ((rest : List ℕ) → line.now ≢ codes "send " ++ rest) (λ rest. line.now ≡ codes "send " ++ rest.now) }
+{
+    behind_word(b"send ", line)
 }
 
 // What stands behind the word that the line begins with.
@@ -47,7 +62,7 @@ fn other_step(alloc: Global, line: &[u8]) -> Result<Option<Step>, NoMemory>
     ensures found { IfOk result (λ o. IfSome o (λ s. IsLineOf line.now s)) }
     ensures none { IfOk result (λ o. IfNone o (NoLine line.now)) }
 {
-    match behind_word(b"send ", line) {
+    match sent_frame(line) {
         Some(rest) => send_step(alloc, line, rest),
         None => Ok(bare_step(line)),
     }
@@ -59,10 +74,22 @@ fn send_step(alloc: Global, line: &[u8], rest: &[u8]) -> Result<Option<Step>, No
     ensures found { IfOk result (λ o. IfSome o (λ s. IsLineOf line.now s)) }
     ensures none { IfOk result (λ o. IfNone o (NoLine line.now)) }
 {
-    match read_frame(alloc, rest)? {
+    match read_sent(alloc, line, rest)? {
         Some(frame) => Ok(Some(Step::Send(frame))),
         None => Ok(None),
     }
+}
+
+/// The frame of a line that begins with `send `, where the line is that of a step with a frame; `rest` is what `sent_frame` gave.
+///
+/// # Errors
+/// `NoMemory`.
+pub fn read_sent(alloc: Global, line: &[u8], rest: &[u8]) -> Result<Option<Frame>, NoMemory>
+    requires { line.now ≡ codes "send " ++ rest.now }
+    ensures found { IfOk result (λ o. IfSome o (λ frame. IsLineOf line.now (step.Send frame))) }
+    ensures none { IfOk result (λ o. IfNone o (NoLine line.now)) }
+{
+    read_frame(alloc, rest)
 }
 
 // A step that is a word alone.

@@ -28,3 +28,4 @@ pub mod Topologies
 pub mod Once
 pub mod Debts
 pub mod Within
+pub mod LoneRejects

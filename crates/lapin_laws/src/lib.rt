@@ -14,6 +14,7 @@ mod limits;
 mod messages;
 mod owed;
 mod registry;
+mod rejections;
 mod standing;
 mod waiting;
 
@@ -24,6 +25,7 @@ pub use limits::{a_full_channel_holds_back, at_most_the_limit_is_pending};
 pub use messages::contents_are_of_the_history;
 pub use owed::awaited_replies_are_requested;
 pub use registry::topologies_are_of_the_history;
+pub use rejections::a_rejection_lasts;
 pub use standing::a_session_stands;
 pub use waiting::{
     closes_wait_until_they_leave, only_live_openings_wait, waiting_publishes_are_queued,

@@ -6,10 +6,12 @@
 #![tactic(auto)]
 
 mod asking;
+mod laws;
 mod line;
 mod polls;
 mod receiving;
 mod requests;
 mod steps;
 
+pub use laws::a_line_fixes_what_is_kept;
 pub use line::take_line;

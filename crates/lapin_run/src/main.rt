@@ -1,15 +1,17 @@
 //! The program: it makes the real source and sink, hands them with its words to a top call, and ends with the status's code. What it
 //! does is stated by `run_shared` of `lapin_shared_commands`, where the first word is `shared`, by `run_pool_program` of
-//! `lapin_pool_commands`, where it is `pool`, else by `run_program` of `lapin_commands`; here stands only what touches the process.
+//! `lapin_pool_commands`, where it is `pool`, else by `run_program` of `lapin_commands`; what it says on standard error is made by
+//! `lapin_reasons`; here stands only what touches the process.
 #![tactic(auto)]
 
 use lapin_commands::{Status, run_program};
 use lapin_io::{StdSink, StdSource};
 use lapin_pool_commands::run_pool_program;
+use lapin_reasons::{Heard, why};
 use lapin_shared::OpenGate;
 use lapin_shared_commands::run_shared;
 use std::env;
-use std::io::ErrorKind;
+use std::io::{ErrorKind, Write};
 use std::process::ExitCode;
 
 // The words behind the program's name. Where one is not UTF-8, they are no command.
@@ -32,12 +34,20 @@ fn first_word(words: &[String]) -> &str {
     }
 }
 
+// Says on standard error why nothing came, or why the text ends early. Where there is no memory for it, or standard error takes
+// nothing, the status still tells.
+fn tell(rt: &HostRuntime, words: &[String], status: Status, input: &[u8]) {
+    if let Ok(text) = why(rt.alloc(), words, status, input) {
+        let _ = rt.stderr().write_all(&text);
+    }
+}
+
 fn main(rt: HostRuntime) -> ExitCode {
     let status = match given_words(&rt) {
         Ok(words) => {
-            let mut source = StdSource::new(rt.stdin());
+            let mut source = Heard::new(rt.alloc(), StdSource::new(rt.stdin()));
             let mut sink = StdSink::new(rt.stdout());
-            match first_word(&words) {
+            let status = match first_word(&words) {
                 "shared" => run_shared(
                     &rt,
                     rt.alloc(),
@@ -57,9 +67,14 @@ fn main(rt: HostRuntime) -> ExitCode {
                     &mut None,
                 ),
                 _ => run_program(rt.alloc(), &words, &mut source, &mut sink),
-            }
+            };
+            tell(&rt, &words, status, source.bytes());
+            status
         }
-        Err(status) => status,
+        Err(status) => {
+            tell(&rt, &[], status, &[]);
+            status
+        }
     };
     ExitCode::from(status.code())
 }

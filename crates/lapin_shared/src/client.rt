@@ -1,7 +1,7 @@
 //! The client: it makes the callers over one lock, and takes them back at the end. A caller's steps stand in `caller`, what lies under the
 //! lock in `locked`.
 
-ghost use Rattle.std.specs.Prelude.{◌≡◌, ℕ, ◌+◌, ◌-◌, ◌<◌, ◌≤◌, [], ◌∷◌, ◌++◌, length, IfOk, OnOk, OnErr, IfErr, true, All, ◌↔◌};
+ghost use Rattle.std.specs.Prelude.{◌≡◌, ℕ, ◌+◌, ◌-◌, ◌<◌, ◌≤◌, [], ◌∷◌, ◌++◌, length, IsOk, IfOk, OnOk, OnErr, IfErr, true, All, ◌↔◌};
 ghost use Rattle.std.specs.List.{sum_by};
 ghost use Rattle.std.specs.Sync.Mutex.{mutex_guard_value};
 ghost use Rattle.lapin_machine.specs.World.{new_world};
@@ -118,8 +118,10 @@ impl<L: Crew> Client<L> {
     /// Makes room in the history for so many steps more, of all callers together. Without it each step looks for room itself.
     ///
     /// # Errors
-    /// `NoMemory`. The history is the same in any case.
-    pub fn reserve<R: Wait>(&self, rt: &R, steps: usize) -> Result<(), NoMemory> {
+    /// `NoMemory`, but not for no step. The history is the same in any case.
+    pub fn reserve<R: Wait>(&self, rt: &R, steps: usize) -> Result<(), NoMemory>
+        ensures { steps ≡ 0 → IsOk result }
+    {
         let mut guard = self.shared.lock.lock(rt);
         guard.reserve(steps)
     }

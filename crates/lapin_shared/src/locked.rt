@@ -2,7 +2,7 @@
 //!
 //! No lock is taken here. `Hand` calls it for a caller.
 
-ghost use Rattle.std.specs.Prelude.{◌≡◌, ℕ, None, ◌+◌, ◌<◌, [], ◌∷◌, ◌++◌, length, ◌-◌, ◌≤◌, IfOk, IfSome, OnOk, OnErr, not, slice_get};
+ghost use Rattle.std.specs.Prelude.{◌≡◌, ℕ, None, ◌+◌, ◌<◌, [], ◌∷◌, ◌++◌, length, ◌-◌, ◌≤◌, IsOk, IfOk, IfSome, OnOk, OnErr, not, slice_get};
 ghost use Rattle.lapin_types.specs.declared.event.Event.TheVariants as event;
 ghost use Rattle.lapin_rules.specs.History.{History, rec};
 ghost use Rattle.lapin_machine.specs.World.{new_world, told_by};
@@ -122,7 +122,8 @@ impl<L: Crew> Locked<L> {
 
     // Makes room for so many steps, without which each step looks for room itself.
     pub(crate) fn reserve(&mut self, steps: usize) -> Result<(), NoMemory>
-        ensures { self.new ≡ self.old }
+        ensures same { self.new ≡ self.old }
+        ensures none { steps ≡ 0 → IsOk result }
     {
         self.history.reserve(steps)?;
         Ok(())

@@ -21,14 +21,14 @@ abbrev pub publishing : ℕ → List ℕ → Message → Event
 publishing c queue m = event.Call c (call.BasicPublish [] queue (record { mandatory = false; immediate = false }) m.payload
     (record no_properties { delivery_mode = Some 2; message_id = Some m.id }))
 
--- the call was accepted and gave this confirm
+-- the call was accepted and gave this confirm, and its ticket was set aside
 abbrev pub IsSent : Result PublisherConfirm Error → World → World → Event → Type 0
-IsSent (Ok p) before after e = (t : ℕ) × ((told_by before e ≡ record_.Publish t p.number) × (after ≡ next before e))
+IsSent (Ok p) before after e = (t : ℕ) × ((told_by before e ≡ record_.Publish t p.number) × (after ≡ next (next before e) (event.AsideTicket t)))
 IsSent (Err e) before after ev = Unit {0}
 
--- where it was accepted: its confirm stands with the message behind those that waited
+-- where it was accepted: its ticket was set aside, and its confirm stands with the message behind those that waited
 abbrev pub IsAccepted : Result Unit Error → World → World → Event → Message → List Waiting → List Waiting → Type 0
-IsAccepted (Ok u) before after e m old new = (t : ℕ) × ((n : ℕ) × ((told_by before e ≡ record_.Publish t n) × (after ≡ next before e)
+IsAccepted (Ok u) before after e m old new = (t : ℕ) × ((n : ℕ) × ((told_by before e ≡ record_.Publish t n) × (after ≡ next (next before e) (event.AsideTicket t))
     × (new ≡ old ++ record { confirm = record { number = n }; message = m } ∷ [])))
 IsAccepted (Err e) before after ev m old new = Unit {0}
 

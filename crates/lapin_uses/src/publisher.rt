@@ -99,7 +99,7 @@ impl Publisher {
         }
     }
 
-    // Makes the call.
+    // Makes the call, and sets its ticket aside: the confirm alone is asked for.
     fn send(
         &self,
         alloc: Global,
@@ -120,9 +120,10 @@ impl Publisher {
             .with_delivery_mode(2)
             .with_message_id(id);
         let payload = message.payload.as_bytes();
-        let Published { confirm, .. } = self.channel.basic_publish(
+        let Published { ticket, confirm } = self.channel.basic_publish(
             alloc, session, exchange, queue, options, payload, properties,
         )?;
+        let _ = ticket.set_aside(session);
         Ok(confirm)
     }
 

@@ -1,8 +1,8 @@
 //! A frame that a writer could not write and gives back, by what leaves next.
 
+use lapin_loop::give_back;
 use lapin_session::Session;
 use lapin_types::{ChannelMethod, ConnectionState, Error, Frame, Left, Method, Poll, ShortString};
-use lapin_uses::give_back;
 use std::alloc::Global;
 use std::test::Fail;
 
@@ -85,5 +85,19 @@ fn a_frame_of_an_ended_opening_is_gone(rt: HostRuntime) -> Result<(), Fail> {
     assert!(rt; !session.retrying());
     assert_eq!(rt; written(&mut session, alloc)?, "close-ok");
     assert_eq!(rt; written(&mut session, alloc)?, "none");
+    Ok(())
+}
+
+// The connection is lost in the meantime: the frame is gone, and nothing leaves any more.
+#[test]
+fn a_frame_of_a_lost_connection_is_gone(rt: HostRuntime) -> Result<(), Fail> {
+    let alloc = rt.alloc();
+    let mut session = Session::new(alloc, 4096)?;
+    let _opening = session.open_channel(alloc, 7)?;
+    assert_eq!(rt; given_back(&mut session, alloc)?, "open");
+    session.lost(alloc)?;
+    assert!(rt; !session.retrying());
+    assert_eq!(rt; written(&mut session, alloc)?, "none");
+    assert!(rt; session.connection_state() == ConnectionState::Lost);
     Ok(())
 }

@@ -1,4 +1,12 @@
-use Rattle.std.proofs.Common.{◌-◌}
+use Rattle.std.proofs.Common.{◌≡◌, ◌-◌, Option, Some, Result, Ok, Err, inl, inr, refl, sym, ap, ◌∙◌, subst}
+use Rattle.lapin_machine.specs.Told.{next_record}
+use Rattle.lapin_types.specs.Types.{Error}
+use Rattle.lapin_types.specs.declared.message.Delivery.{Delivery}
+use Rattle.lapin_types.specs.declared.poll.Poll.{Poll}
+use Rattle.lapin_types.specs.declared.poll.Poll.TheVariants as poll
+use Rattle.lapin_client.specs.declared.status.Status.{Status}
+use Rattle.lapin_client.specs.Calls.{Delivered}
+use Rattle.lapin_client.proofs.Refused.{delivered_error, delivered_shown}
 use Rattle.lapin_types.specs.declared.event.Event.TheVariants as event
 use Rattle.lapin_client.proofs.Room.{sound_next, sound_same}
 use Rattle.lapin_client.proofs.client.Client.delivery.Goals as goal
@@ -21,3 +29,24 @@ pub returns-in-Err-clause-sound : goal.returns-in-Err-clause-sound
 returns-in-Err-clause-sound c =
     sound_same (c.args.self.now.left - 1) c.refuse-in-Err.new.self.left c.args.self.now.frame_max c.refuse-in-Err.new.self.frame_max c.poll_next.new.self c.refuse-in-Err.new.self.session c.refuse-in-Err.ensures.same.1 c.refuse-in-Err.ensures.same.2.2 c.refuse-in-Err.ensures.same.0
     (sound_next c.args.self.now.left c.args.self.now.frame_max c.args.self.now.session c.poll_next.new.self (event.PollConsumer c.args.consumer) c.requires c.poll_next.ensures.ok)
+
+-- a message is handed on
+pub returns-in-Ok-Ready-Ok-Some-clause-told : goal.returns-in-Ok-Ready-Ok-Some-clause-told
+returns-in-Ok-Ready-Ok-Some-clause-told c =
+    let a = c.in-Ok-Ready-Ok-Some in let is : a.field-0 ≡ poll.Ready (Ok (Some a.delivery)) = cc in
+    delivered_shown c.show.result a.delivery c.args.consumer c.args.self.now (record c.args.self.now { left = c.args.self.now.left - 1; session = c.poll_next.new.self }) c.show.new.self
+    (sym a.ensures.told ∙ ap (λ (y : Poll (Result (Option Delivery) Error)). next_record (Ok y)) is) c.poll_next.ensures.ok (refl, refl, refl, refl) c.show.ensures.told
+
+-- an error is told
+pub returns-in-Ok-Ready-Err-clause-told : goal.returns-in-Ok-Ready-Err-clause-told
+returns-in-Ok-Ready-Err-clause-told c =
+    let a = c.in-Ok-Ready-Err in let is : a.field-0 ≡ poll.Ready (Err a.error) = cc in
+    subst (λ (s : Status). Delivered (Err s) c.args.consumer c.args.self.now c.refuse.new.self) (sym c.refuse.ensures.told)
+    (delivered_error a.error c.args.consumer c.args.self.now c.refuse.new.self (inr (sym a.ensures.told ∙ ap (λ (y : Poll (Result (Option Delivery) Error)). next_record (Ok y)) is)) c.refuse.ensures.shown
+    (c.refuse.ensures.same.0 ∙ c.poll_next.ensures.ok) c.refuse.ensures.same.2)
+
+pub returns-in-Err-clause-told : goal.returns-in-Err-clause-told
+returns-in-Err-clause-told c =
+    subst (λ (s : Status). Delivered (Err s) c.args.consumer c.args.self.now c.refuse-in-Err.new.self) (sym c.refuse-in-Err.ensures.told)
+    (delivered_error c.in-Err.error c.args.consumer c.args.self.now c.refuse-in-Err.new.self (inl (sym c.in-Err.ensures.told)) c.refuse-in-Err.ensures.shown
+    (c.refuse-in-Err.ensures.same.0 ∙ c.poll_next.ensures.ok) c.refuse-in-Err.ensures.same.2)

@@ -1,7 +1,8 @@
-use Rattle.std.proofs.Common.{◌≡◌, ◌-◌, sym, ◌∙◌}
+use Rattle.std.proofs.Common.{◌≡◌, ◌-◌, inr, refl, sym, ◌∙◌}
 use Rattle.lapin_types.specs.declared.event.Event.TheVariants as event
-use Rattle.lapin_machine.specs.World.{next}
-use Rattle.lapin_client.proofs.Heard.{did}
+use Rattle.lapin_machine.specs.World.{next, told_by}
+use Rattle.lapin_client.proofs.Heard.{did, heard_so}
+use Rattle.lapin_client.proofs.Refused.{refused_record}
 use Rattle.lapin_client.proofs.Room.{sound_next, sound_same}
 use Rattle.lapin_client.proofs.client.Client.hear.Goals as goal
 
@@ -16,6 +17,10 @@ returns-then-refuses-clause-sound c =
 pub returns-then-refuses-clause-told : goal.returns-then-refuses-clause-told
 returns-then-refuses-clause-told c =
     let same = c.refuse.ensures.same in (
+      (c.in-Err.error, refused_record c.in-Err.error (told_by c.args.self.now.session (event.Receive c.args.frame)) (sym c.refuses.ensures ∙ c.if-refuses.true) c.in-Err.ensures.told, c.refuse.ensures.shown),
       same.0 ∙ did c.in-Err.error (c.receive.new.self ≡ next c.args.self.now.session (event.Receive c.args.frame)) (c.receive.new.self ≡ c.args.self.now.session) c.in-Err.ensures.ok (sym c.refuses.ensures ∙ c.if-refuses.true),
       (same.2.0, same.2.1, same.2.2, same.2.3),
     )
+
+pub returns-in-Ok-clause-told : goal.returns-in-Ok-clause-told
+returns-in-Ok-clause-told c = (inr (heard_so c.in-Ok.heard (told_by c.args.self.now.session (event.Receive c.args.frame)) c.in-Ok.ensures.told), c.in-Ok.ensures.ok, (refl, refl, refl, refl))

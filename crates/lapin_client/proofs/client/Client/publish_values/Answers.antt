@@ -1,3 +1,8 @@
+use Rattle.std.proofs.Common.{◌≡◌, sym, ◌∙◌, subst}
+use Rattle.lapin_client.specs.declared.status.Status.{Status}
+use Rattle.lapin_client.specs.Calls.{NotMet}
+use Rattle.lapin_client.proofs.Refused.{not_met}
+use Rattle.lapin_machine.specs.declared.channel.Published.{Published}
 use Rattle.lapin_types.specs.declared.event.Event.TheVariants as event
 use Rattle.lapin_types.specs.declared.call.Call.TheVariants as call
 use Rattle.lapin_client.proofs.Room.{sound_next}
@@ -6,3 +11,12 @@ use Rattle.lapin_client.proofs.client.Client.publish_values.Goals as goal
 pub aside_ticket-requires-clause-sound : goal.aside_ticket-requires-clause-sound
 aside_ticket-requires-clause-sound c =
     sound_next c.args.self.now.left c.args.self.now.frame_max c.args.self.now.session c.basic_publish.new.self (event.Call c.args.channel (call.BasicPublish c.args.exchange c.args.routing_key c.args.options c.args.payload c.args.properties)) c.requires.sound c.in-Ok.ensures.ok
+
+pub returns-in-Err-clause-told : goal.returns-in-Err-clause-told
+returns-in-Err-clause-told c =
+    let k = call.BasicPublish c.args.exchange c.args.routing_key c.args.options c.args.payload c.args.properties in (
+      subst (λ (s : Status). NotMet s (event.Call c.args.channel k) c.args.self.now c.refuse.new.self) (sym c.refuse.ensures.told)
+          (not_met Published c.in-Err.error c.args.channel k c.args.self.now c.refuse.new.self c.in-Err.ensures.told c.in-Err.ensures.cause c.refuse.ensures.shown),
+      c.refuse.ensures.same.0 ∙ c.in-Err.ensures.err,
+      c.refuse.ensures.same.2,
+    )

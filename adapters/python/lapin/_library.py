@@ -1,0 +1,227 @@
+"""The shared library: the opening of a connection, its heartbeats, and the session behind a handle. No socket lives here."""
+from __future__ import annotations
+
+import ctypes
+import functools
+import os
+from typing import Optional, Tuple
+
+from .errors import Refused
+
+DONE, REFUSED, NOT_IN_GRAMMAR, NO_MEMORY, ENDED, MALFORMED, TOO_LONG, CLOSED, PENDING, GONE = range(10)
+
+
+class _Handle(ctypes.Structure):
+    _fields_ = [("at", ctypes.c_void_p), ("is_open", ctypes.c_bool)]
+
+
+class _Opening(ctypes.Structure):
+    _fields_ = [("stage", ctypes.c_uint32), ("frame_max", ctypes.c_uint32), ("channel_max", ctypes.c_uint16), ("heartbeat", ctypes.c_uint16)]
+
+
+class _Clock(ctypes.Structure):
+    _fields_ = [("sent", ctypes.c_uint64), ("heard", ctypes.c_uint64), ("seconds", ctypes.c_uint16)]
+
+
+class _Message(ctypes.Structure):
+    _fields_ = [("delivery_tag", ctypes.c_uint64), ("acker", ctypes.c_uint64), ("exchange", ctypes.c_size_t), ("routing_key", ctypes.c_size_t),
+                ("properties", ctypes.c_size_t), ("body", ctypes.c_size_t), ("redelivered", ctypes.c_bool)]
+
+
+def _load():
+    path = os.environ.get("LAPIN_LIBRARY") or os.path.join(os.path.dirname(os.path.abspath(__file__)), "liblapin.so")
+    library = ctypes.CDLL(path)
+    handle, size, text, code = ctypes.POINTER(_Handle), ctypes.c_size_t, ctypes.c_char_p, ctypes.c_uint32
+    number, flag, short = ctypes.c_uint64, ctypes.c_bool, ctypes.c_uint16
+    for name, result, given in (
+        ("open", code, [handle, ctypes.c_uint32]),
+        ("close", None, [handle]),
+        ("line", code, [handle, text, size]),
+        ("answer_length", size, [handle]),
+        ("answer", size, [handle, ctypes.c_void_p, size]),
+        ("publish", code, [handle, short, text, size, text, size, flag, text, size, text, size, ctypes.POINTER(number)]),
+        ("outcome", code, [handle, number]),
+        ("forget", code, [handle, number]),
+        ("delivery", code, [handle, number, ctypes.POINTER(_Message)]),
+        ("ack", code, [handle, number, flag]),
+        ("nack", code, [handle, number, flag, flag]),
+        ("reject", code, [handle, number, flag]),
+        ("send", code, [handle, flag, size]),
+        ("leaving_length", size, [handle]),
+        ("leaving", size, [handle, ctypes.c_void_p, size]),
+        ("receive", code, [handle, text, size]),
+        ("is_blocked", flag, [handle]),
+        ("shake", code, [ctypes.POINTER(_Opening), text, size, text, size, text, size, text, size, ctypes.c_void_p, size, ctypes.POINTER(size),
+                         ctypes.POINTER(short)]),
+        ("beat", code, [ctypes.POINTER(_Clock), number, ctypes.POINTER(number)]),
+    ):
+        function = getattr(library, f"lapin_{name}")
+        function.restype, function.argtypes = result, given
+    return library
+
+
+_library = _load()
+_publish = _library.lapin_publish
+
+
+class Opening:
+    """The first frames of a connection. Bytes of the broker go in, bytes for it come out."""
+
+    def __init__(self, user: bytes, password: bytes, vhost: bytes, frame_max: int, channel_max: int, heartbeat: int):
+        self._who = (user, len(user), password, len(password), vhost, len(vhost))
+        self._state = _Opening(0, frame_max, channel_max, heartbeat)
+        self._room = ctypes.create_string_buffer(1024 + 2 * (len(user) + len(password) + len(vhost)))
+        self._written, self._code = ctypes.c_size_t(), ctypes.c_uint16()
+
+    @property
+    def is_open(self) -> bool:
+        return self._state.stage == 3
+
+    @property
+    def stage(self) -> int:
+        return self._state.stage
+
+    @property
+    def limits(self) -> Tuple[int, int, int]:
+        """The greatest frame, the greatest channel and the seconds between heartbeats, on which both sides agreed."""
+        return self._state.frame_max, self._state.channel_max, self._state.heartbeat
+
+    def shake(self, data: bytes) -> Tuple[int, bytes, int]:
+        """What became of the frame at the head of the bytes, what is answered, and the code of a refusal."""
+        status = _library.lapin_shake(ctypes.byref(self._state), data, len(data), *self._who, self._room, len(self._room),
+                                      ctypes.byref(self._written), ctypes.byref(self._code))
+        return status, ctypes.string_at(self._room, self._written.value), self._code.value
+
+
+class Clock:
+    """Heartbeats, by times in milliseconds."""
+
+    def __init__(self, now: int, seconds: int):
+        self._clock, self._wait = _Clock(now, now, seconds), ctypes.c_uint64()
+
+    def sent(self, now: int) -> None:
+        self._clock.sent = now
+
+    def heard(self, now: int) -> None:
+        self._clock.heard = now
+
+    def due(self, now: int) -> Tuple[str, Optional[float]]:
+        """`wait` with the seconds until something is due, `send`, `silent`, or `never`."""
+        found = _library.lapin_beat(ctypes.byref(self._clock), now, ctypes.byref(self._wait))
+        return ("wait", "send", "silent", "never")[found], self._wait.value / 1000 if found == 0 else None
+
+
+class Session:
+    """One connection's session. Used by one thread at a time."""
+
+    def __init__(self, frame_max: int):
+        self._handle = _Handle(None, False)
+        self._by = ctypes.byref(self._handle)
+        self._room = ctypes.create_string_buffer(1 << 16)
+        self._size = len(self._room)
+        self._confirm, self._message = ctypes.c_uint64(), _Message()
+        self._confirm_at, self._message_at = ctypes.byref(self._confirm), ctypes.byref(self._message)
+        #: By the number of a confirm: 1 an ack, 2 a nack, 3 none was asked for, 4 an error, whose words `refusal` has; 0 where there is none
+        #: yet, or where the line of the poll tells more.
+        self.outcome = functools.partial(_library.lapin_outcome, self._by)
+        self._check(_library.lapin_open(self._by, frame_max))
+
+    def close(self) -> None:
+        _library.lapin_close(self._by)
+
+    def _check(self, status: int) -> None:
+        if status == REFUSED:
+            raise Refused(self.refusal())
+        if status == NO_MEMORY:
+            raise MemoryError
+        if status == TOO_LONG:
+            raise ValueError("longer than a frame may be")
+        if status == CLOSED:
+            raise Refused("the connection is closed")
+        if status != DONE:
+            raise ValueError("a text is longer than 255 bytes, or not in the grammar" if status == NOT_IN_GRAMMAR else f"status {status} of the session")
+
+    def _take(self, length: int, function) -> bytes:
+        if length > self._size:
+            self._room = ctypes.create_string_buffer(2 * length)
+            self._size = len(self._room)
+        return ctypes.string_at(self._room, function(self._by, self._room, self._size))
+
+    def _answer(self) -> bytes:
+        return self._take(_library.lapin_answer_length(self._by), _library.lapin_answer)
+
+    def _line(self) -> str:
+        return self._answer().decode().rstrip("\n")
+
+    def line(self, line: str) -> str:
+        """The record's line of a line of docs/FORMAT.md. A refusal is raised."""
+        given = line.encode()
+        self._check(_library.lapin_line(self._by, given, len(given)))
+        answer = self._line()
+        if answer.startswith("refused "):
+            raise Refused(answer[8:])
+        return answer
+
+    def publish(self, channel: int, exchange: bytes, routing_key: bytes, body: bytes, properties: bytes = b"[]", mandatory: bool = False) -> int:
+        """The number of the confirm of a publish."""
+        status = _publish(self._by, channel, exchange, len(exchange), routing_key, len(routing_key), mandatory, body, len(body),
+                                        properties, len(properties), self._confirm_at)
+        if status:
+            self._check(status)
+        return self._confirm.value
+
+    def refusal(self) -> str:
+        """The words of the last error or refusal."""
+        return self._line().removeprefix("refused ")
+
+    def forget(self, confirm: int) -> None:
+        """The confirm will not be asked for any more."""
+        _library.lapin_forget(self._by, confirm)
+
+    def delivery(self, consumer: int):
+        """What a consumer was handed next: the numbers, the exchange, the routing key, the text of the properties and the body. None
+        where there is nothing yet, and `end` at its end; an error that ended its channel is raised."""
+        status = _library.lapin_delivery(self._by, consumer, self._message_at)
+        if status == PENDING:
+            return None
+        if status == GONE:
+            return "end"
+        if status:
+            self._check(status)
+        found, answer = self._message, self._answer()
+        key = found.exchange + found.routing_key
+        body = key + found.properties
+        return (found.delivery_tag, found.acker, found.redelivered, answer[:found.exchange].decode(), answer[found.exchange:key].decode(),
+                answer[key:body], answer[body:])
+
+    def settle(self, call: str, acker: int, *marks: bool) -> bool:
+        """Calls an acker. Whether the call is sent: not where it was used before, or its channel has ended."""
+        status = getattr(_library, "lapin_" + call)(self._by, acker, *marks)
+        if status == GONE:
+            return False
+        self._check(status)
+        return True
+
+    def send(self, flow: bool = True, enough: int = 1 << 17) -> bytes:
+        """The bytes of the frames that may leave."""
+        status = _library.lapin_send(self._by, flow, enough)
+        if status:
+            self._check(status)
+        length = _library.lapin_leaving_length(self._by)
+        return self._take(length, _library.lapin_leaving) if length else b""
+
+    def receive(self, data: bytes) -> Optional[str]:
+        """Bytes of the broker. The words of a refusal, None where all was received; bytes that are no frame are a ValueError."""
+        status = _library.lapin_receive(self._by, data, len(data))
+        if status == DONE:
+            return None
+        if status == REFUSED:
+            return self.refusal()
+        if status == MALFORMED:
+            raise ValueError("what came is no frame")
+        self._check(status)
+        return None
+
+    @property
+    def is_blocked(self) -> bool:
+        return _library.lapin_is_blocked(self._by)

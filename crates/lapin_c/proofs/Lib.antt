@@ -1,0 +1,4 @@
+mod PointerSteps
+mod HeldBox
+mod LetsGo
+pub mod BehindLaws

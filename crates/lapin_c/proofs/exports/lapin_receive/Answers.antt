@@ -1,0 +1,12 @@
+use Rattle.std.proofs.Common.{◌≡◌, subst}
+use Rattle.lapin_client.specs.declared.client.Client.{Client}
+use Rattle.lapin_client.specs.declared.status.Status.{Status}
+use Rattle.lapin_client.specs.Receiving.{Receives}
+use Rattle.lapin_c.specs.Behind.{Coded}
+use Rattle.lapin_c.proofs.BehindLaws.{behind_some}
+use Rattle.lapin_c.proofs.exports.lapin_receive.Goals as goal
+
+pub returns-in-Some : goal.returns-in-Some
+returns-in-Some c =
+    behind_some (λ (b d : Client). Coded c.code.result (λ (s : Status). Receives s c.args.bytes.now b d)) (c.code.result ≡ 7) c.args.handle.now.pointer.held c.put.new.handle.pointer.held c.in-Some.client.value c.receive-status.new.self c.in-Some.ensures.value c.put.ensures
+    (c.receive-status.result, c.code.ensures, subst (λ (b : Client). Receives c.receive-status.result c.args.bytes.now b c.receive-status.new.self) c.deref_mut.ensures.value c.receive-status.ensures.told)

@@ -1,0 +1,12 @@
+use Rattle.std.proofs.Common.{◌≡◌, subst}
+use Rattle.lapin_client.specs.declared.client.Client.{Client}
+use Rattle.lapin_client.specs.declared.status.Status.{Status}
+use Rattle.lapin_client.specs.Sending.{Sends}
+use Rattle.lapin_c.specs.Behind.{Coded}
+use Rattle.lapin_c.proofs.BehindLaws.{behind_some}
+use Rattle.lapin_c.proofs.exports.lapin_send.Goals as goal
+
+pub returns-in-Some : goal.returns-in-Some
+returns-in-Some c =
+    behind_some (λ (b d : Client). Coded c.code.result (λ (s : Status). Sends s c.args.flow c.args.enough b d)) (c.code.result ≡ 7) c.args.handle.now.pointer.held c.put.new.handle.pointer.held c.in-Some.client.value c.send-status.new.self c.in-Some.ensures.value c.put.ensures
+    (c.send-status.result, c.code.ensures, subst (λ (b : Client). Sends c.send-status.result c.args.flow c.args.enough b c.send-status.new.self) c.deref_mut.ensures.value c.send-status.ensures.told)

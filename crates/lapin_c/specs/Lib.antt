@@ -1,0 +1,4 @@
+pub mod Behind
+pub mod Held
+pub mod Openings
+pub mod Sound
