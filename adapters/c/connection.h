@@ -216,6 +216,7 @@ static inline uint32_t lapin_wait(lapin_connection *c, uint64_t confirm) {
     for (;;) {
         uint32_t outcome = lapin_outcome(&c->session, confirm);
         if (outcome == LAPIN_ERROR) lapin_fails(c, "%s", lapin_told(c));
+        if (outcome == LAPIN_ERROR_UNTOLD) return lapin_fails(c, "no memory"), LAPIN_ERROR;
         if (outcome) return outcome;
         const char *told = lapin_say(c, line);
         if (!told || !strncmp(told, "error", 5) || !strncmp(told, "refused", 7)) return lapin_fails(c, "%s", told ? told : line), LAPIN_ERROR;

@@ -18,9 +18,9 @@ extern "C" {
 /* What became of a call. */
 enum {
     LAPIN_DONE = 0,           /* it was done */
-    LAPIN_REFUSED = 1,        /* the session refused it: the answer is the line of the refusal, empty where there was no memory for that */
+    LAPIN_REFUSED = 1,        /* the session refused it: the answer is the line of the refusal */
     LAPIN_NOT_IN_GRAMMAR = 2, /* a line is not in the grammar, or an argument is no short text: nothing was done */
-    LAPIN_NO_MEMORY = 3,      /* there was no memory */
+    LAPIN_NO_MEMORY = 3,      /* there was no memory, or none for the line of a refusal */
     LAPIN_ENDED = 4,          /* the client takes nothing further */
     LAPIN_MALFORMED = 5,      /* what came is no frame: hang up */
     LAPIN_TOO_LONG = 6,       /* longer than a frame may be */
@@ -96,10 +96,10 @@ uint32_t lapin_publish(lapin_handle *handle, uint16_t channel, const char *excha
                        size_t routing_key_length, bool mandatory, const void *payload, size_t payload_length, const char *properties,
                        size_t properties_length, uint64_t *confirm);
 
-enum { LAPIN_NONE = 0, LAPIN_ACK = 1, LAPIN_NACK = 2, LAPIN_NOT_REQUESTED = 3, LAPIN_ERROR = 4 };
+enum { LAPIN_NONE = 0, LAPIN_ACK = 1, LAPIN_NACK = 2, LAPIN_NOT_REQUESTED = 3, LAPIN_ERROR = 4, LAPIN_ERROR_UNTOLD = 5 };
 
-/* The outcome of a publish, given once: ACK, NACK, NOT_REQUESTED, or ERROR, whose line is the answer. NONE: there is none yet, or its message
- * came back: then the line "confirm N" gives it, or "pending". */
+/* The outcome of a publish, given once: ACK, NACK, NOT_REQUESTED, ERROR, whose line is the answer, or ERROR_UNTOLD, an error for whose line
+ * there was no memory. NONE: there is none yet, or its message came back: then the line "confirm N" gives it, or "pending". */
 uint32_t lapin_outcome(lapin_handle *handle, uint64_t confirm);
 /* The outcome of a publish will not be asked for any more. GONE: it was given, or never will be, and nothing changes. */
 uint32_t lapin_forget(lapin_handle *handle, uint64_t confirm);
@@ -116,11 +116,13 @@ typedef struct {
     bool redelivered;
 } lapin_message;
 
-/* What a consumer was handed next. PENDING: nothing yet. GONE: the consumer's end. REFUSED: the error that ended its channel is the answer. */
+/* What a consumer was handed next. PENDING: nothing yet. GONE: the consumer's end. REFUSED: the error that ended its channel is the answer.
+ * NO_MEMORY: there was none for the message or that line, and the client takes nothing further. */
 uint32_t lapin_delivery(lapin_handle *handle, uint64_t consumer, lapin_message *message);
 
 /* Settle a message by its acker, which works once. GONE: it was settled before, or its channel has ended, and nothing is sent. REFUSED: the
- * state of its channel refuses it, and the acker is used up. */
+ * state of its channel refuses it, and the acker is used up. NO_MEMORY: nothing was done; or there was none for the line of such a refusal,
+ * and the client takes nothing further. */
 uint32_t lapin_ack(lapin_handle *handle, uint64_t acker, bool multiple);
 uint32_t lapin_nack(lapin_handle *handle, uint64_t acker, bool multiple, bool requeue);
 uint32_t lapin_reject(lapin_handle *handle, uint64_t acker, bool requeue);

@@ -95,7 +95,7 @@ BY_NUMBER = dict(enumerate(OUTCOMES.values(), 1))
 def outcome_beyond(session: Session, code: int, confirm: int) -> Any:
     """The outcome of a publish of which the session's number tells not all; an error, or None where there is none yet."""
     if code:
-        return CallFailed(session.refusal())
+        return CallFailed(session.refusal() if code == 4 else "NoMemory")
     record = session.line(f"confirm {confirm}")
     if record == "pending":
         return None

@@ -121,8 +121,8 @@ class Session:
         self._size = len(self._room)
         self._confirm, self._message = ctypes.c_uint64(), _Message()
         self._confirm_at, self._message_at = ctypes.byref(self._confirm), ctypes.byref(self._message)
-        #: By the number of a confirm: 1 an ack, 2 a nack, 3 none was asked for, 4 an error, whose words `refusal` has; 0 where there is none
-        #: yet, or where the line of the poll tells more.
+        #: By the number of a confirm: 1 an ack, 2 a nack, 3 none was asked for, 4 an error, whose words `refusal` has, 5 one for whose words
+        #: there was no memory; 0 where there is none yet, or where the line of the poll tells more.
         self.outcome = functools.partial(_library.lapin_outcome, self._by)
         self._check(_library.lapin_open(self._by, frame_max))
 

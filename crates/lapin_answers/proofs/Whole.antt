@@ -4,8 +4,8 @@ use Rattle.std.specs.Option.{option_or}
 use Rattle.lapin_rules.specs.ConfirmMarks.{ConfirmMark}
 use Rattle.lapin_rules.specs.ConfirmMarks as mark
 use Rattle.lapin_rules.specs.ConfirmReadings.{channel_of, tag_of, has_left, outcome_at, outcome_after, first_rejected, rejection_on, kind_outcome, life, leaves}
-use Rattle.lapin_rules.specs.declared.marks.Outcome.{Outcome}
-use Rattle.lapin_rules.specs.declared.marks.Outcome.TheVariants as outcome
+use Rattle.lapin_types.specs.declared.outcome.Outcome.{Outcome}
+use Rattle.lapin_types.specs.declared.outcome.Outcome.TheVariants as outcome
 use Rattle.lapin_rules.specs.declared.marks.SettleKind.{SettleKind}
 use Rattle.lapin_rules.specs.declared.marks.SettleKind.TheVariants as settle
 use Rattle.lapin_rules.specs.Words.{after}

@@ -127,8 +127,8 @@ pub extern "C" fn lapin_publish(
     }
 }
 
-/// The outcome of a publish that didn't come back: 1 an ack, 2 a nack, 3 none was asked for, 4 an error, whose line is the answer; 0 where
-/// there is none yet, or where the line of its poll tells more.
+/// The outcome of a publish that didn't come back: 1 an ack, 2 a nack, 3 none was asked for, 4 an error, whose line is the answer, 5 an error
+/// for whose line there was no memory; 0 where there is none yet, or where the line of its poll tells more.
 #[unsafe(no_mangle)]
 pub extern "C" fn lapin_outcome(alloc: Global, handle: &mut Handle, confirm: u64) -> u32
     ensures { Behind (λ c d. OutcomeTold result confirm c d) (result ≡ 0) handle.old.pointer.held handle.new.pointer.held }

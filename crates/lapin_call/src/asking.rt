@@ -12,7 +12,7 @@ use itoa::Buffer;
 use lapin_machine::Session;
 use lapin_types::{
     BasicConsumeOptions, BasicProperties, BasicPublishOptions, Call, ChannelState, Error,
-    FieldTable, NoMemory, Payload, ShortString, ShortStringError,
+    FieldTable, NoMemory, Payload, ShortString,
 };
 use std::alloc::Global;
 
@@ -126,9 +126,5 @@ fn decimal_of(alloc: Global, number: u64) -> Result<ShortString, NoMemory>
     ensures { IfOk result (λ text. text ≡ decimal number) }
 {
     let mut buffer = Buffer::new();
-    match ShortString::new(alloc, buffer.format(number)) {
-        Ok(text) => Ok(text),
-        Err(ShortStringError::NoMemory) => Err(NoMemory),
-        Err(ShortStringError::TooLong { .. }) => unreachable!(),
-    }
+    ShortString::literal(alloc, buffer.format(number))
 }

@@ -15,7 +15,7 @@ ghost use Rattle.lapin_call.specs.Serving.{IsServed, IsNext, IsTried, IsDone, Is
 use lapin_machine::{Published, Session};
 use lapin_types::{
     AckerCall, BasicAckOptions, BasicProperties, BasicPublishOptions, BasicRejectOptions,
-    ChannelState, Delivery, Error, NoMemory, Payload, Poll, ShortString, ShortStringError,
+    ChannelState, Delivery, Error, NoMemory, Payload, Poll, ShortString,
 };
 use std::alloc::Global;
 
@@ -321,7 +321,7 @@ fn publish(
     ensures { IsPublished (answering channel (address.queue, address.id) payload) result session.old session.new }
 {
     let Address { queue, id } = address;
-    let exchange = no_text(alloc)?;
+    let exchange = ShortString::empty(alloc)?;
     let options = BasicPublishOptions {
         mandatory: false,
         immediate: false,
@@ -335,17 +335,6 @@ fn publish(
             confirm: confirm.number,
         }),
         Err(error) => Err(error),
-    }
-}
-
-// The empty text, as the name of the default exchange (AMQP 0-9-1, section 3.1.3.1).
-fn no_text(alloc: Global) -> Result<ShortString, NoMemory>
-    ensures { IfOk result (λ text. text ≡ []) }
-{
-    match ShortString::new(alloc, "") {
-        Ok(text) => Ok(text),
-        Err(ShortStringError::NoMemory) => Err(NoMemory),
-        Err(ShortStringError::TooLong { .. }) => unreachable!(),
     }
 }
 

@@ -1,11 +1,11 @@
 //! Typed answers of tickets, a free channel number and names.
 
+use crate::driver::{heard, sent};
 use lapin_loop::{
     Typed, answer_of, free_channel, has_frames, poll_channel, poll_consumer, poll_count, poll_done,
     poll_flow, poll_got, poll_queue,
 };
 use lapin_session::{Channel, Consumer, Session};
-use lapin_text::read_frame;
 use lapin_types::{
     Answer, BasicConsumeOptions, BasicGetMessage, BasicGetOptions, ChannelFlowOptions,
     ConfirmSelectOptions, Error, FieldTable, Queue, QueueDeclareOptions, QueuePurgeOptions,
@@ -13,25 +13,6 @@ use lapin_types::{
 };
 use std::alloc::Global;
 use std::test::Fail;
-
-// The broker sends a frame, which is given as its text.
-fn heard(alloc: Global, session: &mut Session, text: &str) -> Result<(), Error> {
-    match read_frame(alloc, text.as_bytes())? {
-        Some(frame) => {
-            session.receive(alloc, frame)?;
-            Ok(())
-        }
-        None => Err(Error::UnknownTicket),
-    }
-}
-
-// Lets all frames leave.
-fn sent(alloc: Global, session: &mut Session) -> Result<(), Error> {
-    for _ in 0..10 {
-        drop(session.next_frame(alloc, true)?);
-    }
-    Ok(())
-}
 
 // What a ticket tells, in a word.
 fn word<T: Drop>(typed: Typed<T>) -> &'static str {

@@ -2,7 +2,7 @@
 
 use crate::surface::made;
 use lapin_session::Session;
-use lapin_text::{read_event, write_record};
+use lapin_text::{read_event, read_frame, write_record};
 use lapin_types::{Error, Record};
 use std::alloc::Global;
 
@@ -72,6 +72,25 @@ fn failure_at<'a>(
         }
         None => Ok(None),
     }
+}
+
+/// The broker sends a frame, which is given as its text.
+pub fn heard(alloc: Global, session: &mut Session, text: &str) -> Result<(), Error> {
+    match read_frame(alloc, text.as_bytes())? {
+        Some(frame) => {
+            session.receive(alloc, frame)?;
+            Ok(())
+        }
+        None => Err(Error::UnknownTicket),
+    }
+}
+
+/// Lets as many frames leave as any of the histories has waiting.
+pub fn sent(alloc: Global, session: &mut Session) -> Result<(), Error> {
+    for _ in 0..20 {
+        drop(session.next_frame(alloc, true)?);
+    }
+    Ok(())
 }
 
 // The line of the record of an event.

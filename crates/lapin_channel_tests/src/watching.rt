@@ -1,31 +1,14 @@
 //! Which of several tickets, confirms and consumers has something.
 
+use crate::driver::{heard, sent};
 use lapin_loop::{Awaited, Watch, is_ready};
 use lapin_session::{Channel, Consumer, Published, Session};
-use lapin_text::read_frame;
 use lapin_types::{
     BasicConsumeOptions, BasicProperties, BasicPublishOptions, ConfirmSelectOptions, Error,
     FieldTable, ShortString,
 };
 use std::alloc::Global;
 use std::test::Fail;
-
-fn heard(alloc: Global, session: &mut Session, text: &str) -> Result<(), Error> {
-    match read_frame(alloc, text.as_bytes())? {
-        Some(frame) => {
-            session.receive(alloc, frame)?;
-            Ok(())
-        }
-        None => Err(Error::UnknownTicket),
-    }
-}
-
-fn sent(alloc: Global, session: &mut Session) -> Result<(), Error> {
-    for _ in 0..20 {
-        drop(session.next_frame(alloc, true)?);
-    }
-    Ok(())
-}
 
 fn published(alloc: Global, session: &mut Session) -> Result<Published, Error> {
     let exchange = ShortString::empty(alloc)?;

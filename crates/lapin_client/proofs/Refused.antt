@@ -1,23 +1,23 @@
 -- What an error of the session leaves, and what it is told as.
-use Rattle.std.proofs.Common.{◌≡◌, ◌<◌, ℕ, Bool, true, false, List, Option, Some, None, Result, Ok, Err, inl, inr, refl, ◌∙◌, arith}
+use Rattle.std.proofs.Common.{◌≡◌, ℕ, Bool, true, false, List, Option, Some, None, Result, Ok, Err, inl, inr, sym, ◌∙◌, subst, arith}
 use Rattle.lapin_client.specs.declared.calls.Message.{Message}
 use Rattle.lapin_client.specs.declared.client.Client.{Client}
 use Rattle.lapin_client.specs.declared.status.Status.{Status}
 use Rattle.lapin_client.specs.declared.status.Status.TheVariants as status
-use Rattle.lapin_client.specs.Showing.{status_of, ShowsError}
+use Rattle.lapin_client.specs.Showing.{is_refusal, EndsAt, IsTold}
 use Rattle.lapin_client.specs.Calls.{NotMet, PublishedBy, publishing, Published, TellsError, Delivered, Shown, Settled, Forgotten, forget_fault}
 use Rattle.lapin_client.specs.Clients.{SameBytes}
-use Rattle.lapin_client.specs.Receiving.{is_refusal}
+use Rattle.lapin_client.specs.Receiving.{Hears}
 use Rattle.lapin_machine.specs.declared.channel.Ticket.{Ticket}
 use Rattle.lapin_machine.specs.Numbers.{AckCause, AckUsedUp, CallCause, HasNumbers}
 use Rattle.lapin_machine.specs.Told.{IsRefusal}
-use Rattle.lapin_machine.specs.World.{World, next, told_by}
+use Rattle.lapin_machine.specs.World.{next, told_by}
 use Rattle.lapin_rules.specs.Ackers.{usable_at}
 use Rattle.lapin_rules.specs.Wire.{Wire}
 use Rattle.lapin_tokens.specs.Fields.{Value}
 use Rattle.lapin_tokens.specs.Fields.Field.{props as props_field}
 use Rattle.lapin_tokens.specs.Reading.{value_of}
-use Rattle.lapin_types.specs.Types.{Error}
+use Rattle.lapin_types.specs.Types.{Error, Frame}
 use Rattle.lapin_types.specs.Types.error
 use Rattle.lapin_types.specs.declared.acker_call.AckerCall.{AckerCall}
 use Rattle.lapin_types.specs.declared.call.Call.{Call}
@@ -38,17 +38,17 @@ refused_record error.AlreadyTaken r is told = told
 refused_record error.UnknownTicket r is told = told
 refused_record (error.ConfirmsOutstanding x) r is told = told
 
-pub not_met : (T : Type 0) (e : Error) (channel : ℕ) (k : Call) (c d : Client) → IsRefusal e (told_by c.session (event.Call channel k)) → CallCause {T = T} (Err e) channel k c.session.wire → ShowsError e d → NotMet (status_of e) (event.Call channel k) c d
-not_met T error.NoMemory channel k c d told cause shown = tt
-not_met T error.NumbersUsedUp channel k c d told cause shown = cause
-not_met T (error.InvalidChannelState s) channel k c d told cause shown = ((error.InvalidChannelState s), told, shown)
-not_met T (error.ProtocolError x) channel k c d told cause shown = ((error.ProtocolError x), told, shown)
-not_met T error.ConnectionLost channel k c d told cause shown = (error.ConnectionLost, told, shown)
-not_met T (error.UnexpectedFrame x y) channel k c d told cause shown = ((error.UnexpectedFrame x y), told, shown)
-not_met T (error.PreconditionFailed x y) channel k c d told cause shown = ((error.PreconditionFailed x y), told, shown)
-not_met T error.AlreadyTaken channel k c d told cause shown = (error.AlreadyTaken, told, shown)
-not_met T error.UnknownTicket channel k c d told cause shown = (error.UnknownTicket, told, shown)
-not_met T (error.ConfirmsOutstanding x) channel k c d told cause shown = ((error.ConfirmsOutstanding x), told, shown)
+pub not_met : (T : Type 0) (s : Status) (e : Error) (channel : ℕ) (k : Call) (c d : Client) → IsRefusal e (told_by c.session (event.Call channel k)) → CallCause {T = T} (Err e) channel k c.session.wire → IsTold s e d → NotMet s (event.Call channel k) c d
+not_met T status.Done e channel k c d told cause t = absurd t
+not_met T status.Refused e channel k c d told cause t = (e, refused_record e (told_by c.session (event.Call channel k)) t.0 told, t.1)
+not_met T status.NotInGrammar e channel k c d told cause t = absurd t
+not_met T status.NoMemory e channel k c d told cause t = tt
+not_met T status.Ended e channel k c d told cause t = subst (λ (x : Error). CallCause {T = T} (Err x) channel k c.session.wire) t cause
+not_met T status.Malformed e channel k c d told cause t = absurd t
+not_met T status.TooLong e channel k c d told cause t = absurd t
+not_met T status.Closed e channel k c d told cause t = absurd t
+not_met T status.Pending e channel k c d told cause t = absurd t
+not_met T status.Gone e channel k c d told cause t = absurd t
 
 pub published_of : (r : Result ℕ Status) (channel : ℕ) (exchange key : List ℕ) (mandatory : Bool) (payload properties : List ℕ) (p : Value props_field) (c d : Client) →
     value_of props_field properties ≡ Some p → PublishedBy r (publishing channel exchange key mandatory payload p) c d → Published r channel exchange key mandatory payload properties c d
@@ -65,17 +65,17 @@ published_of (Err status.Pending) channel exchange key mandatory payload propert
 published_of (Err status.Gone) channel exchange key mandatory payload properties p c d v h = absurd h.0
 
 -- a poll of a consumer that tells an error
-pub delivered_error : (e : Error) (consumer : ℕ) (c d : Client) → TellsError e consumer c.session → ShowsError e d → d.session ≡ next c.session (event.PollConsumer consumer) → SameBytes c d → Delivered (Err (status_of e)) consumer c d
-delivered_error error.NoMemory consumer c d told shown ses same = (inr told, ses, same)
-delivered_error error.NumbersUsedUp consumer c d told shown ses same = inr (told, ses, same)
-delivered_error (error.InvalidChannelState s) consumer c d told shown ses same = (((error.InvalidChannelState s), told, shown), ses, same)
-delivered_error (error.ProtocolError x) consumer c d told shown ses same = (((error.ProtocolError x), told, shown), ses, same)
-delivered_error error.ConnectionLost consumer c d told shown ses same = ((error.ConnectionLost, told, shown), ses, same)
-delivered_error (error.UnexpectedFrame x y) consumer c d told shown ses same = (((error.UnexpectedFrame x y), told, shown), ses, same)
-delivered_error (error.PreconditionFailed x y) consumer c d told shown ses same = (((error.PreconditionFailed x y), told, shown), ses, same)
-delivered_error error.AlreadyTaken consumer c d told shown ses same = ((error.AlreadyTaken, told, shown), ses, same)
-delivered_error error.UnknownTicket consumer c d told shown ses same = ((error.UnknownTicket, told, shown), ses, same)
-delivered_error (error.ConfirmsOutstanding x) consumer c d told shown ses same = (((error.ConfirmsOutstanding x), told, shown), ses, same)
+pub delivered_error : (s : Status) (e : Error) (consumer : ℕ) (c d : Client) → TellsError e consumer c.session → IsTold s e d → EndsAt s d → d.session ≡ next c.session (event.PollConsumer consumer) → SameBytes c d → Delivered (Err s) consumer c d
+delivered_error status.Done e consumer c d told t ends ses same = absurd t
+delivered_error status.Refused e consumer c d told t ends ses same = ((e, told, t.1), ses, same)
+delivered_error status.NotInGrammar e consumer c d told t ends ses same = absurd t
+delivered_error status.NoMemory e consumer c d told t ends ses same = (ends, ses, same)
+delivered_error status.Ended e consumer c d told t ends ses same = inr (subst (λ (x : Error). TellsError x consumer c.session) t told, ses, same)
+delivered_error status.Malformed e consumer c d told t ends ses same = absurd t
+delivered_error status.TooLong e consumer c d told t ends ses same = absurd t
+delivered_error status.Closed e consumer c d told t ends ses same = absurd t
+delivered_error status.Pending e consumer c d told t ends ses same = absurd t
+delivered_error status.Gone e consumer c d told t ends ses same = absurd t
 
 same_bytes : (c p d : Client) → SameBytes c p → SameBytes p d → SameBytes c d
 same_bytes c p d x y = (y.0 ∙ x.0, y.1 ∙ x.1, y.2 ∙ x.2, y.3 ∙ x.3)
@@ -87,7 +87,7 @@ delivered_shown (Ok m) x consumer c p d told ses same h = ((x, told, h.2 ∙ ses
 delivered_shown (Err status.Done) x consumer c p d told ses same h = absurd h
 delivered_shown (Err status.Refused) x consumer c p d told ses same h = absurd h
 delivered_shown (Err status.NotInGrammar) x consumer c p d told ses same h = absurd h
-delivered_shown (Err status.NoMemory) x consumer c p d told ses same h = (inl h.0, h.1 ∙ ses, same_bytes c p d same h.2)
+delivered_shown (Err status.NoMemory) x consumer c p d told ses same h = (h.0, h.1 ∙ ses, same_bytes c p d same h.2)
 delivered_shown (Err status.Ended) x consumer c p d told ses same h = absurd h
 delivered_shown (Err status.Malformed) x consumer c p d told ses same h = absurd h
 delivered_shown (Err status.TooLong) x consumer c p d told ses same h = absurd h
@@ -101,31 +101,50 @@ used_up : (o : Option (ℕ × ℕ)) (k : AckerCall) (b : Wire) → AckCause {T =
 used_up None k b h = absurd h
 used_up (Some x) k b h = h
 
-pub settled_refused : (e : Error) (acker : ℕ) (k : AckerCall) (c d : Client) → is_refusal e ≡ true → IsRefusal e (told_by c.session (event.Acker acker k)) → ShowsError e d →
-    d.session ≡ next c.session (event.Acker acker k) → SameBytes c d → Settled (status_of e) acker k c d
-settled_refused error.NoMemory acker k c d is told shown ses same = grind (is, arith)
-settled_refused error.NumbersUsedUp acker k c d is told shown ses same = grind (is, arith)
-settled_refused (error.InvalidChannelState s) acker k c d is told shown ses same = (((error.InvalidChannelState s), told, shown), ses, same)
-settled_refused (error.ProtocolError x) acker k c d is told shown ses same = (((error.ProtocolError x), told, shown), ses, same)
-settled_refused error.ConnectionLost acker k c d is told shown ses same = ((error.ConnectionLost, told, shown), ses, same)
-settled_refused (error.UnexpectedFrame x y) acker k c d is told shown ses same = (((error.UnexpectedFrame x y), told, shown), ses, same)
-settled_refused (error.PreconditionFailed x y) acker k c d is told shown ses same = (((error.PreconditionFailed x y), told, shown), ses, same)
-settled_refused error.AlreadyTaken acker k c d is told shown ses same = ((error.AlreadyTaken, told, shown), ses, same)
-settled_refused error.UnknownTicket acker k c d is told shown ses same = ((error.UnknownTicket, told, shown), ses, same)
-settled_refused (error.ConfirmsOutstanding x) acker k c d is told shown ses same = (((error.ConfirmsOutstanding x), told, shown), ses, same)
+no_numbers : (e : Error) → is_refusal e ≡ true → e ≡ error.NumbersUsedUp → ⊥
+no_numbers e is used = grind (subst (λ (x : Error). is_refusal x ≡ true) used is, arith)
 
-pub settled_not : (e : Error) (acker : ℕ) (k : AckerCall) (c d : Client) → is_refusal e ≡ false → AckCause {T = Option Ticket} (Err e) (usable_at acker c.session.wire) k c.session.wire →
-    d.session ≡ c.session → SameBytes c d → Settled (status_of e) acker k c d
-settled_not error.NoMemory acker k c d is cause ses same = (ses, same)
-settled_not error.NumbersUsedUp acker k c d is cause ses same = (inr (used_up (usable_at acker c.session.wire) k c.session.wire cause), ses, same)
-settled_not (error.InvalidChannelState s) acker k c d is cause ses same = grind (is, arith)
-settled_not (error.ProtocolError x) acker k c d is cause ses same = grind (is, arith)
-settled_not error.ConnectionLost acker k c d is cause ses same = grind (is, arith)
-settled_not (error.UnexpectedFrame x y) acker k c d is cause ses same = grind (is, arith)
-settled_not (error.PreconditionFailed x y) acker k c d is cause ses same = grind (is, arith)
-settled_not error.AlreadyTaken acker k c d is cause ses same = grind (is, arith)
-settled_not error.UnknownTicket acker k c d is cause ses same = grind (is, arith)
-settled_not (error.ConfirmsOutstanding x) acker k c d is cause ses same = grind (is, arith)
+no_refusal : (e : Error) → is_refusal e ≡ false → is_refusal e ≡ true → ⊥
+no_refusal e not is = grind (sym not ∙ is, arith)
+
+pub settled_refused : (s : Status) (e : Error) (acker : ℕ) (k : AckerCall) (c d : Client) → is_refusal e ≡ true → IsRefusal e (told_by c.session (event.Acker acker k)) → IsTold s e d → EndsAt s d →
+    d.session ≡ next c.session (event.Acker acker k) → SameBytes c d → Settled s acker k c d
+settled_refused status.Done e acker k c d is told t ends ses same = absurd t
+settled_refused status.Refused e acker k c d is told t ends ses same = ((e, refused_record e (told_by c.session (event.Acker acker k)) is told, t.1), ses, same)
+settled_refused status.NotInGrammar e acker k c d is told t ends ses same = absurd t
+settled_refused status.NoMemory e acker k c d is told t ends ses same = (inr (ends, (e, refused_record e (told_by c.session (event.Acker acker k)) is told), ses), same)
+settled_refused status.Ended e acker k c d is told t ends ses same = absurd (no_numbers e is t)
+settled_refused status.Malformed e acker k c d is told t ends ses same = absurd t
+settled_refused status.TooLong e acker k c d is told t ends ses same = absurd t
+settled_refused status.Closed e acker k c d is told t ends ses same = absurd t
+settled_refused status.Pending e acker k c d is told t ends ses same = absurd t
+settled_refused status.Gone e acker k c d is told t ends ses same = absurd t
+
+pub settled_not : (s : Status) (e : Error) (acker : ℕ) (k : AckerCall) (c d : Client) → is_refusal e ≡ false → AckCause {T = Option Ticket} (Err e) (usable_at acker c.session.wire) k c.session.wire →
+    IsTold s e d → d.session ≡ c.session → SameBytes c d → Settled s acker k c d
+settled_not status.Done e acker k c d is cause t ses same = absurd t
+settled_not status.Refused e acker k c d is cause t ses same = absurd (no_refusal e is t.0)
+settled_not status.NotInGrammar e acker k c d is cause t ses same = absurd t
+settled_not status.NoMemory e acker k c d is cause t ses same = (inl ses, same)
+settled_not status.Ended e acker k c d is cause t ses same = (inr (used_up (usable_at acker c.session.wire) k c.session.wire (subst (λ (x : Error). AckCause {T = Option Ticket} (Err x) (usable_at acker c.session.wire) k c.session.wire) t cause)), ses, same)
+settled_not status.Malformed e acker k c d is cause t ses same = absurd t
+settled_not status.TooLong e acker k c d is cause t ses same = absurd t
+settled_not status.Closed e acker k c d is cause t ses same = absurd t
+settled_not status.Pending e acker k c d is cause t ses same = absurd t
+settled_not status.Gone e acker k c d is cause t ses same = absurd t
+
+-- a frame that is refused
+pub hears_refused : (s : Status) (e : Error) (f : Frame) (b d : Client) → is_refusal e ≡ true → IsRefusal e (told_by b.session (event.Receive f)) → IsTold s e d → EndsAt s d → d.session ≡ next b.session (event.Receive f) → SameBytes b d → Hears s f b d
+hears_refused status.Done e f b d is told t ends ses same = absurd t
+hears_refused status.Refused e f b d is told t ends ses same = ((e, refused_record e (told_by b.session (event.Receive f)) is told, t.1), ses, same)
+hears_refused status.NotInGrammar e f b d is told t ends ses same = absurd t
+hears_refused status.NoMemory e f b d is told t ends ses same = (tt, ends)
+hears_refused status.Ended e f b d is told t ends ses same = absurd (no_numbers e is t)
+hears_refused status.Malformed e f b d is told t ends ses same = absurd t
+hears_refused status.TooLong e f b d is told t ends ses same = absurd t
+hears_refused status.Closed e f b d is told t ends ses same = absurd t
+hears_refused status.Pending e f b d is told t ends ses same = absurd t
+hears_refused status.Gone e f b d is told t ends ses same = absurd t
 
 -- a confirm that is not set aside
 pub forgotten_not : (e : Error) (confirm : ℕ) (c d : Client) → HasNumbers {T = Unit {0}} (Err e) → IsRefusal e (told_by c.session (event.AsideConfirm confirm)) → d.session ≡ c.session → SameBytes c d → Forgotten (forget_fault e) confirm c d

@@ -1,11 +1,11 @@
 -- Requests one after the other.
-use Rattle.std.proofs.Common.{◌≡◌, ◌<◌, ◌≤◌, ℕ, suc, List, [], ◌++◌, Bool, length, refl, sym, ap, ◌∙◌, subst, arith}
+use Rattle.std.proofs.Common.{◌≡◌, ◌<◌, ◌≤◌, ℕ, suc, List, ◌++◌, Bool, length, sym, ap, ◌∙◌, subst, arith}
 use Rattle.std.proofs.lemmas.List.{append_assoc, append-nil}
 use Rattle.lapin_client.specs.declared.status.Status.{Status}
 use Rattle.lapin_client.specs.declared.status.Status.TheVariants as status
 use Rattle.lapin_types.specs.declared.record.Record.{Record}
 use Rattle.lapin_client.specs.declared.client.Client.{Client}
-use Rattle.lapin_client.specs.Sending.{record_bytes, after_requests, bytes_handed, HandsOut, IsIdle, IsLoss, SameElse, AllWanted, Pulls, Finishes, Sends}
+use Rattle.lapin_client.specs.Sending.{record_bytes, after_requests, bytes_handed, HandsOut, IsIdle, SameElse, AllWanted, Pulls, Finishes, Sends}
 use Rattle.lapin_machine.specs.World.{World, next, told_by}
 use Rattle.lapin_types.specs.declared.event.Event.TheVariants as event
 

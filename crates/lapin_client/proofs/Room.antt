@@ -1,7 +1,7 @@
 -- The numbers that a client has for further steps.
-use Rattle.std.proofs.Common.{◌≡◌, ℕ, suc, ◌+◌, ◌-◌, ◌<◌, ◌≤◌, ◌^◌, true, false, List, Option, Some, None, Err, sym, subst, arith}
+use Rattle.std.proofs.Common.{◌≡◌, ℕ, suc, ◌-◌, ◌<◌, ◌≤◌, ◌^◌, true, false, List, Option, Some, None, Err, sym, subst, arith}
 use Rattle.lapin_client.specs.Clients.{HasRoomFor}
-use Rattle.lapin_client.specs.Receiving.{is_refusal}
+use Rattle.lapin_client.specs.Showing.{is_refusal}
 use Rattle.lapin_lines.specs.Lines.{IsTaken}
 use Rattle.lapin_machine.proofs.Counting.{numbers-next}
 use Rattle.lapin_machine.specs.Numbers.{HasNumbersFor}

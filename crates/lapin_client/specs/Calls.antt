@@ -1,5 +1,5 @@
 -- The calls that are made without a line, as the events of the session that they are.
-use Rattle.std.specs.Prelude.{◌≡◌, ◌<◌, ◌⊎◌, ℕ, ◌+◌, ◌-◌, ◌/◌, Bool, true, false, List, [], ◌∷◌, ◌++◌, length, Option, Some, None, Result, Ok, Err, is_some}
+use Rattle.std.specs.Prelude.{◌≡◌, ◌<◌, ◌⊎◌, ℕ, ◌-◌, ◌/◌, Bool, true, false, List, ◌∷◌, ◌++◌, length, Some, None, Result, Ok, Err, is_some}
 use Rattle.std.specs.Str.{IsUtf8}
 use Rattle.lapin_client.specs.declared.client.Client.{Client}
 use Rattle.lapin_client.specs.declared.calls.Fate.{Fate}
@@ -13,8 +13,8 @@ use Rattle.lapin_confirm.specs.Answers.{result_of}
 use Rattle.lapin_confirm.specs.Aside.{is_giving}
 use Rattle.lapin_confirm.specs.ConfirmState.{message_of as message_back}
 use Rattle.lapin_machine.specs.Numbers.{EventUsedUp}
-use Rattle.lapin_rules.specs.declared.marks.Outcome.{Outcome}
-use Rattle.lapin_rules.specs.declared.marks.Outcome.TheVariants as outcome
+use Rattle.lapin_types.specs.declared.outcome.Outcome.{Outcome}
+use Rattle.lapin_types.specs.declared.outcome.Outcome.TheVariants as outcome
 use Rattle.lapin_machine.specs.World.{World, next, told_by}
 use Rattle.lapin_tokens.specs.Reading.{value_of}
 use Rattle.lapin_tokens.specs.Fields.{Value, token as token_of}
@@ -27,7 +27,6 @@ use Rattle.lapin_types.specs.declared.call.Call.TheVariants as call
 use Rattle.lapin_types.specs.declared.event.Event.{Event}
 use Rattle.lapin_types.specs.declared.event.Event.TheVariants as event
 use Rattle.lapin_types.specs.declared.message.Delivery.{Delivery}
-use Rattle.lapin_types.specs.declared.record.Record.{Record}
 use Rattle.lapin_types.specs.declared.record.Record.TheVariants as record_
 
 -- of two clients all is the same but the answer
@@ -82,17 +81,12 @@ Published (Ok confirm) channel exchange key mandatory payload properties c d =
     × IsPublished confirm (publishing channel exchange key mandatory payload p) c.session d.session) × SameBytes c d
 Published (Err e) channel exchange key mandatory payload properties c d = Unpublished e channel exchange key mandatory payload properties c d × (d.session ≡ c.session) × SameBytes c d
 
--- the outcomes by number
-abbrev pub outcome_code : Outcome → ℕ
-outcome_code outcome.Ack = 1
-outcome_code outcome.Nack = 2
-outcome_code outcome.NotRequested = 3
-outcome_code (outcome.Failed e) = 4
-
--- an error is told by its line; else the answer stays
-abbrev pub OutcomeShown : Outcome → Client → Client → Type 0
-OutcomeShown (outcome.Failed e) c d = ShowsError e d
-OutcomeShown _ c d = d.answer.items ≡ c.answer.items
+-- the outcomes by number; an error is told by its line, or there was no memory for that; else the answer stays
+abbrev pub OutcomeShown : ℕ → Outcome → Client → Client → Type 0
+OutcomeShown code outcome.Ack c d = (code ≡ 1) × (d.answer.items ≡ c.answer.items)
+OutcomeShown code outcome.Nack c d = (code ≡ 2) × (d.answer.items ≡ c.answer.items)
+OutcomeShown code outcome.NotRequested c d = (code ≡ 3) × (d.answer.items ≡ c.answer.items)
+OutcomeShown code (outcome.Failed e) c d = ((code ≡ 4) × ShowsError e d) ⊎ (code ≡ 5)
 
 -- why no outcome is given: there is none, or not any more; its message came back; or the client takes nothing further
 abbrev pub HasNoOutcome : ℕ → Client → Type 0
@@ -101,7 +95,7 @@ HasNoOutcome confirm c = ((is_giving confirm c.session.confirm_state ≡ false) 
 -- the outcome of a confirm, given once; 0 where it is not given, and then nothing changes
 abbrev pub OutcomeTold : ℕ → ℕ → Client → Client → Type 0
 OutcomeTold code confirm c d = (((code ≡ 0) × HasNoOutcome confirm c × (d.session ≡ c.session))
-    ⊎ ((o : Outcome) × (code ≡ outcome_code o) × (told_by c.session (event.PollConfirm confirm) ≡ record_.Confirmed (result_of o)) × (d.session ≡ next c.session (event.PollConfirm confirm)) × OutcomeShown o c d)) × SameBytes c d
+    ⊎ ((o : Outcome) × (told_by c.session (event.PollConfirm confirm) ≡ record_.Confirmed (result_of o)) × (d.session ≡ next c.session (event.PollConfirm confirm)) × OutcomeShown code o c d)) × SameBytes c d
 
 -- the octets of a message: its exchange, its routing key, the text of its properties behind a space, and its body
 abbrev pub message_bytes : Delivery → List ℕ
@@ -124,14 +118,14 @@ abbrev pub TellsError : Error → ℕ → World → Type 0
 TellsError e consumer w = (told_by w (event.PollConsumer consumer) ≡ record_.Refused e) ⊎ (told_by w (event.PollConsumer consumer) ≡ record_.Item (Err e))
 
 -- What a poll of a consumer gives: a message, whose octets are the answer; nothing yet; its end; or an error, whose line is the answer. Where
--- there was no memory for a message, it is lost, and so is the client.
+-- there was no memory for a message or a line, it is lost, and so is the client.
 abbrev pub Delivered : Result Message Status → ℕ → Client → Client → Type 0
 Delivered (Ok m) consumer c d = ((x : Delivery) × (told_by c.session (event.PollConsumer consumer) ≡ record_.Item (Ok (Some x)))
     × (d.session ≡ next c.session (event.PollConsumer consumer)) × (m ≡ message_of x) × (d.answer.items ≡ message_bytes x)) × SameBytes c d
 Delivered (Err status.Pending) consumer c d = (told_by c.session (event.PollConsumer consumer) ≡ record_.Pending) × (d.session ≡ next c.session (event.PollConsumer consumer)) × SameBytes c d
 Delivered (Err status.Gone) consumer c d = (told_by c.session (event.PollConsumer consumer) ≡ record_.Item (Ok None)) × (d.session ≡ next c.session (event.PollConsumer consumer)) × SameBytes c d
 Delivered (Err status.Refused) consumer c d = ((e : Error) × TellsError e consumer c.session × ShowsError e d) × (d.session ≡ next c.session (event.PollConsumer consumer)) × SameBytes c d
-Delivered (Err status.NoMemory) consumer c d = ((d.left ≡ 0) ⊎ TellsError error.NoMemory consumer c.session) × (d.session ≡ next c.session (event.PollConsumer consumer)) × SameBytes c d
+Delivered (Err status.NoMemory) consumer c d = (d.left ≡ 0) × (d.session ≡ next c.session (event.PollConsumer consumer)) × SameBytes c d
 Delivered (Err status.Ended) consumer c d = ((c.left ≡ 0) × (d ≡ c)) ⊎ (TellsError error.NumbersUsedUp consumer c.session × (d.session ≡ next c.session (event.PollConsumer consumer)) × SameBytes c d)
 Delivered (Err _) consumer c d = ⊥
 
@@ -148,12 +142,12 @@ fate_call fate.Nack multiple requeue = acker_call.Nack (record { multiple = mult
 fate_call fate.Reject multiple requeue = acker_call.Reject (record { requeue = requeue })
 
 -- What a call of an acker leaves: it was made, and its ticket set aside; it was not, since the acker isn't usable; or it was refused, which uses
--- the acker up, and the line of the refusal is the answer. Else nothing was done.
+-- the acker up, and the line of the refusal is the answer; a client that had no memory for that line ends. Else nothing was done.
 abbrev pub Settled : Status → ℕ → AckerCall → Client → Client → Type 0
 Settled status.Done acker k c d = ((t : ℕ) × (told_by c.session (event.Acker acker k) ≡ record_.Ticket t) × (d.session ≡ next (next c.session (event.Acker acker k)) (event.AsideTicket t))) × SameBytes c d
 Settled status.Gone acker k c d = (told_by c.session (event.Acker acker k) ≡ record_.No) × (d.session ≡ next c.session (event.Acker acker k)) × SameBytes c d
 Settled status.Refused acker k c d = ((e : Error) × (told_by c.session (event.Acker acker k) ≡ record_.Refused e) × ShowsError e d) × (d.session ≡ next c.session (event.Acker acker k)) × SameBytes c d
-Settled status.NoMemory acker k c d = (d.session ≡ c.session) × SameBytes c d
+Settled status.NoMemory acker k c d = ((d.session ≡ c.session) ⊎ ((d.left ≡ 0) × ((e : Error) × (told_by c.session (event.Acker acker k) ≡ record_.Refused e)) × (d.session ≡ next c.session (event.Acker acker k)))) × SameBytes c d
 Settled status.Ended acker k c d = ((c.left < 2) ⊎ EventUsedUp (event.Acker acker k) c.session.wire) × (d.session ≡ c.session) × SameBytes c d
 Settled _ acker k c d = ⊥
 

@@ -1,5 +1,5 @@
 -- What holds of a client at all times, and what a line leaves.
-use Rattle.std.specs.Prelude.{◌≡◌, ◌<◌, ◌≤◌, ◌+◌, ◌^◌, ◌⊎◌, ℕ, Bool, true, false, List, [], length}
+use Rattle.std.specs.Prelude.{◌≡◌, ◌<◌, ◌≤◌, ◌+◌, ◌^◌, ℕ, true, false, List, [], length}
 use Rattle.lapin_client.specs.declared.client.Client.{Client}
 use Rattle.lapin_client.specs.declared.status.Status.{Status}
 use Rattle.lapin_client.specs.declared.status.Status.TheVariants as status

@@ -19,7 +19,6 @@ use Rattle.lapin_rules.specs.Wire.{state_of, is_closed}
 use Rattle.lapin_machine.specs.World.{World, next, told_by}
 use Rattle.lapin_types.specs.Types.{Frame, Error}
 use Rattle.lapin_types.specs.Types.frame
-use Rattle.lapin_types.specs.Types.error
 use Rattle.lapin_methods.specs.declared.basic.BasicMethod.{BasicMethod}
 use Rattle.lapin_methods.specs.declared.basic.BasicMethod.TheVariants as basic
 use Rattle.lapin_methods.specs.declared.method.Method.TheVariants as method
@@ -46,12 +45,6 @@ is_stray f w = is_of_content f && is_closed (state_of (frame_channel f) w.wire)
 -- what a frame of the broker leaves: a content of an opening that has ended is passed over
 abbrev pub heard : Frame → World → World
 heard f w = if is_stray f w then w else next w (event.Receive f)
-
--- an error by which the session did something with a frame
-abbrev pub is_refusal : Error → Bool
-is_refusal error.NoMemory = false
-is_refusal error.NumbersUsedUp = false
-is_refusal _ = true
 
 -- the octets of the frame at the head of octets, told by its size
 abbrev pub length_at : List ℕ → ℕ

@@ -1,5 +1,5 @@
 -- How an error of the session is told.
-use Rattle.std.specs.Prelude.{◌≡◌, ◌⊎◌, ℕ, List, [], ◌∷◌, ◌++◌}
+use Rattle.std.specs.Prelude.{◌≡◌, ℕ, Bool, true, false, List, [], ◌∷◌, ◌++◌}
 use Rattle.lapin_client.specs.declared.client.Client.{Client}
 use Rattle.lapin_client.specs.declared.status.Status.{Status}
 use Rattle.lapin_client.specs.declared.status.Status.TheVariants as status
@@ -12,12 +12,25 @@ use Rattle.lapin_types.specs.declared.record.Record.TheVariants as record_
 abbrev pub refused_line : Error → List ℕ
 refused_line e = line_onto [] (record_tokens (record_.Refused e)) ++ 10 ∷ []
 
--- what an error of the session is told as
-abbrev pub status_of : Error → Status
-status_of error.NoMemory = status.NoMemory
-status_of error.NumbersUsedUp = status.Ended
-status_of _ = status.Refused
+-- an error by which the session did something, or refused to
+abbrev pub is_refusal : Error → Bool
+is_refusal error.NoMemory = false
+is_refusal error.NumbersUsedUp = false
+is_refusal _ = true
 
--- the line of an error is the answer, and nothing is where there was no memory for it
+-- the line of an error is the answer
 abbrev pub ShowsError : Error → Client → Type 0
-ShowsError e d = (d.answer.items ≡ refused_line e) ⊎ (d.answer.items ≡ [])
+ShowsError e d = d.answer.items ≡ refused_line e
+
+-- What an error of the session is told as: a refusal by its line, want of numbers as the end, and want of memory; a refusal too where there was
+-- no memory for its line.
+abbrev pub IsTold : Status → Error → Client → Type 0
+IsTold status.Refused e d = (is_refusal e ≡ true) × ShowsError e d
+IsTold status.NoMemory e d = Unit {0}
+IsTold status.Ended e d = e ≡ error.NumbersUsedUp
+IsTold _ e d = ⊥
+
+-- want of memory is the client's end
+abbrev pub EndsAt : Status → Client → Type 0
+EndsAt status.NoMemory d = d.left ≡ 0
+EndsAt _ d = Unit {0}

@@ -2,7 +2,7 @@
 ghost use Rattle.std.specs.Prelude.{◌≡◌, ◌<◌, ◌++◌, ◌∷◌, [], length, IfSome, MatchResult};
 ghost use Rattle.lapin_tokens.specs.Fields.{token as token_of};
 ghost use Rattle.lapin_tokens.specs.Fields.Field.{props as props_field};
-ghost use Rattle.lapin_client.specs.Calls.{Published, PublishedBy, OutcomeTold, Delivered, Settled, Forgotten, Shown, StaysBut, NoText, OutcomeShown, forget_fault as forget_fault_lem, outcome_code, fate_call, message_bytes, message_of};
+ghost use Rattle.lapin_client.specs.Calls.{Published, PublishedBy, OutcomeTold, Delivered, Settled, Forgotten, Shown, StaysBut, NoText, OutcomeShown, forget_fault as forget_fault_lem, fate_call, message_bytes, message_of};
 ghost use Rattle.lapin_client.specs.Clients.{IsSound, SameBytes};
 ghost use Rattle.lapin_machine.specs.World.{next};
 ghost use Rattle.lapin_types.specs.declared.call.Call.TheVariants as call;
@@ -11,11 +11,10 @@ ghost use Rattle.lapin_types.specs.declared.event.Event.TheVariants as event;
 use crate::client::Client;
 use crate::receiving::refuses;
 use crate::status::Status;
-use lapin_rules::Outcome;
 use lapin_tokens::{ReadError, properties_of, put_properties};
 use lapin_types::{
     AckerCall, BasicAckOptions, BasicNackOptions, BasicProperties, BasicPublishOptions,
-    BasicRejectOptions, Delivery, Error, Payload, Poll, ShortString, ShortStringError,
+    BasicRejectOptions, Delivery, Error, Outcome, Payload, Poll, ShortString, ShortStringError,
 };
 use std::alloc::Global;
 
@@ -152,8 +151,8 @@ impl Client {
         let _ = self.session.set_aside_ticket(number);
     }
 
-    /// The outcome of a publish that didn't come back: 1 an ack, 2 a nack, 3 none was asked for, 4 an error, whose line is the answer;
-    /// 0 where there is none yet, or where the line of the poll tells more.
+    /// The outcome of a publish that didn't come back: 1 an ack, 2 a nack, 3 none was asked for, 4 an error, whose line is the answer, 5 an
+    /// error for whose line there was no memory; 0 where there is none yet, or where the line of the poll tells more.
     pub fn outcome(&mut self, alloc: Global, confirm: u64) -> u32
         requires { IsSound self.old }
         ensures sound { IsSound self.new }
@@ -171,20 +170,19 @@ impl Client {
         }
     }
 
-    // The number of an outcome. The line of an error is the answer.
+    // The number of an outcome. The line of an error is the answer, where there was memory for it.
     fn tell(&mut self, alloc: Global, outcome: Outcome) -> u32
-        ensures code { result ≡ outcome_code outcome }
-        ensures shown { OutcomeShown outcome self.old self.new }
+        ensures shown { OutcomeShown result outcome self.old self.new }
         ensures same { StaysBut self.old self.new }
     {
         match outcome {
             Outcome::Ack => 1,
             Outcome::Nack => 2,
             Outcome::NotRequested => 3,
-            Outcome::Failed(error) => {
-                let _ = self.refuse(alloc, error);
-                4
-            }
+            Outcome::Failed(error) => match self.show_error(alloc, error) {
+                Ok(()) => 4,
+                Err(_) => 5,
+            },
         }
     }
 
@@ -193,7 +191,7 @@ impl Client {
     ///
     /// # Errors
     /// `Pending` where there is nothing yet, `Gone` at the end of the consumer, `Refused` with its line as the answer where an error ended
-    /// its channel or there is no such consumer; `NoMemory`, where the message is lost, and `Ended`.
+    /// its channel or there is no such consumer; `NoMemory`, where the message or that line is lost and the client ends, and `Ended`.
     pub fn delivery(&mut self, alloc: Global, consumer: u64) -> Result<Message, Status>
         requires { IsSound self.old }
         ensures sound { IsSound self.new }
@@ -207,8 +205,8 @@ impl Client {
             Ok(Poll::Pending) => Err(Status::Pending),
             Ok(Poll::Ready(Ok(None))) => Err(Status::Gone),
             Ok(Poll::Ready(Ok(Some(delivery)))) => self.show(alloc, delivery),
-            Ok(Poll::Ready(Err(error))) => Err(self.refuse(alloc, error)),
-            Err(error) => Err(self.refuse(alloc, error)),
+            Ok(Poll::Ready(Err(error))) => Err(self.refuse_or_end(alloc, error)),
+            Err(error) => Err(self.refuse_or_end(alloc, error)),
         }
     }
 
@@ -231,7 +229,8 @@ impl Client {
     }
 
     /// Settles a message by its acker. Done: the call is queued, and the acker used up. `Gone`: the acker isn't usable, and nothing is sent.
-    /// `Refused`: its channel's state refuses the call, as the answer says, which uses the acker up. `NoMemory`, `Ended`: nothing was done.
+    /// `Refused`: its channel's state refuses the call, as the answer says, which uses the acker up. `NoMemory`, `Ended`: nothing was done,
+    /// or, of `NoMemory`, there was none for the line of such a refusal: then the client has ended.
     pub fn settle(
         &mut self,
         alloc: Global,
@@ -267,7 +266,7 @@ impl Client {
             Err(error) => {
                 if refuses(error) {
                     self.left -= 1;
-                    return self.refuse(alloc, error);
+                    return self.refuse_or_end(alloc, error);
                 }
                 self.refuse(alloc, error)
             }

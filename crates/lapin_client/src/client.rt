@@ -3,11 +3,10 @@ ghost use Rattle.std.specs.Prelude.{◌≡◌, ◌≤◌, ◌++◌, ◌∷◌, [
 ghost use Rattle.lapin_text.specs.Records.{record_tokens, line_onto};
 ghost use Rattle.lapin_types.specs.declared.record.Record.TheVariants as told;
 ghost use Rattle.lapin_client.specs.Calls.{StaysBut};
-ghost use Rattle.lapin_client.specs.Showing.{ShowsError, status_of as status_of_lem};
-ghost use Rattle.lapin_client.specs.Clients.{IsSound, Answers, IsNew, IsSent};
+ghost use Rattle.lapin_client.specs.Showing.{EndsAt, IsTold, ShowsError};
+ghost use Rattle.lapin_client.specs.Clients.{IsSound, SameBytes, Answers, IsNew, IsSent};
 
 use crate::inlet::Inlet;
-use crate::receiving::refuses;
 use crate::status::Status;
 use lapin_lines::take_line;
 use lapin_machine::Session;
@@ -91,40 +90,52 @@ impl Client {
         self.leaving.clear();
     }
 
-    // The line of a refusal is the answer. Want of memory and of numbers have none.
+    // The line of a refusal is the answer; where there was no memory for it, that is told. Want of memory and of numbers have none.
     pub(crate) fn refuse(&mut self, alloc: Global, error: Error) -> Status
-        ensures told { result ≡ status_of_lem error }
-        ensures shown { ShowsError error self.new }
+        ensures told { IsTold result error self.new }
         ensures same { StaysBut self.old self.new }
     {
-        self.show_error(alloc, error);
-        status_of(error)
+        match error {
+            Error::NoMemory => Status::NoMemory,
+            Error::NumbersUsedUp => Status::Ended,
+            _ => match self.show_error(alloc, error) {
+                Ok(()) => Status::Refused,
+                Err(_) => Status::NoMemory,
+            },
+        }
     }
 
-    // The line of a refusal is the answer, and nothing is where there was no memory for it.
-    fn show_error(&mut self, alloc: Global, error: Error)
-        ensures shown { ShowsError error self.new }
+    // As `refuse`, of an error that the session told as it went on: where there was no memory for its line, the client ends.
+    pub(crate) fn refuse_or_end(&mut self, alloc: Global, error: Error) -> Status
+        requires { IsSound self.old }
+        ensures sound { IsSound self.new }
+        ensures told { IsTold result error self.new }
+        ensures ends { EndsAt result self.new }
+        ensures session { self.new.session ≡ self.old.session }
+        ensures same { SameBytes self.old self.new }
+    {
+        match self.refuse(alloc, error) {
+            Status::NoMemory => {
+                self.left = 0;
+                Status::NoMemory
+            }
+            status => status,
+        }
+    }
+
+    // The line of an error is the answer, where there was memory for it; else nothing is.
+    pub(crate) fn show_error(&mut self, alloc: Global, error: Error) -> Result<(), AllocError>
+        ensures shown { OnOk result (ShowsError error self.new) }
         ensures same { StaysBut self.old self.new }
     {
         self.answer.clear();
-        if !refuses(error) {
-            return;
-        }
         match put_refusal(alloc, &mut self.answer, error) {
-            Ok(()) => {}
-            Err(_) => self.answer.clear(),
+            Ok(()) => Ok(()),
+            Err(fault) => {
+                self.answer.clear();
+                Err(fault)
+            }
         }
-    }
-}
-
-// What an error of the session is told as.
-fn status_of(error: Error) -> Status
-    ensures { result ≡ status_of_lem error }
-{
-    match error {
-        Error::NoMemory => Status::NoMemory,
-        Error::NumbersUsedUp => Status::Ended,
-        _ => Status::Refused,
     }
 }
 

@@ -3,7 +3,8 @@
 ghost use Rattle.std.specs.Prelude.{◌≡◌, ◌≤◌, Some, IfSome};
 ghost use Rattle.lapin_handshake.specs.Saying.{frame_said_at};
 ghost use Rattle.lapin_client.specs.Clients.{IsSound};
-ghost use Rattle.lapin_client.specs.Receiving.{Receives, Runs, Turns, Takes, TakesIdle, Hears, HeadIs, notice, is_of_content as is_of_content_lem, begins_content as begins_content_lem, is_stray as is_stray_lem, is_refusal, length_at};
+ghost use Rattle.lapin_client.specs.Receiving.{Receives, Runs, Turns, Takes, TakesIdle, Hears, HeadIs, notice, is_of_content as is_of_content_lem, begins_content as begins_content_lem, is_stray as is_stray_lem, length_at};
+ghost use Rattle.lapin_client.specs.Showing.{is_refusal};
 ghost use Rattle.lapin_rules.specs.Wire.{is_closed as is_closed_lem};
 ghost use Rattle.lapin_rules.specs.Drops.{frame_channel};
 
@@ -140,8 +141,7 @@ impl Client {
             Err(error) => {
                 if refuses(error) {
                     self.left -= 1;
-                    let _ = self.refuse(alloc, error);
-                    return Status::Refused;
+                    return self.refuse_or_end(alloc, error);
                 }
                 self.left = 0;
                 Status::NoMemory

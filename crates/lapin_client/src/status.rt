@@ -7,11 +7,11 @@ ghost use Rattle.lapin_client.specs.Statuses.{code_of};
 pub enum Status {
     /// It was done.
     Done,
-    /// The session refused it: the answer is the line of the refusal, or nothing where there was no memory for that.
+    /// The session refused it: the answer is the line of the refusal.
     Refused,
     /// A line is not in the grammar, or an argument is no short text. Nothing was done.
     NotInGrammar,
-    /// There was no memory.
+    /// There was no memory, or none for the line of a refusal.
     NoMemory,
     /// The client takes nothing further: a counter is at its end, or bytes that had to leave were lost for want of memory.
     Ended,

@@ -262,7 +262,8 @@ fn print_read(alloc: Global, run: &mut Links, text: &mut Vec<u8>) -> Result<(), 
     put_either(text, some, b"read\n", b"nothing\n")
 }
 
-// Appends the first line or the second one.
+// Appends the first line or the second one. Each caller knows their lengths.
+#[inline(always)]
 fn put_either(text: &mut Vec<u8>, first: bool, one: &[u8], other: &[u8]) -> Result<(), NoMemory>
     ensures { OnOk result (text.new.items ≡ text.old.items ++ (if first then one.now else other.now)) }
 {

@@ -68,9 +68,9 @@ fn called(alloc: Global, queue: &str) -> Result<Option<Command>, NoMemory>
     if queue.len() > 255 {
         return Ok(None);
     }
-    match ShortString::new(alloc, queue) {
+    match ShortString::literal(alloc, queue) {
         Ok(queue) => Ok(Some(Command::Call(queue))),
-        Err(_) => Err(NoMemory),
+        Err(NoMemory) => Err(NoMemory),
     }
 }
 

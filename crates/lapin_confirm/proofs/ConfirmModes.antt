@@ -9,6 +9,7 @@ use Rattle.lapin_tables.proofs.Channels.{at-values, on-values, on-absent, on-kno
 use Rattle.lapin_confirm.specs.declared.origin.Origin.{Origin}
 use Rattle.lapin_confirm.specs.declared.confirm_mode.ConfirmMode.{ConfirmMode}
 use Rattle.lapin_confirm.specs.PublishStates.{ConfirmModeState, PublishStates, fresh_confirm_mode, next_confirm_mode, tag_for, cell_with, confirm_modes_with, left}
+use Rattle.lapin_types.specs.declared.message.BasicReturnMessage.{BasicReturnMessage}
 use Rattle.lapin_rules.specs.ReturnLists.{ReturnLists}
 use Rattle.lapin_confirm.specs.ConfirmState.{ConfirmState}
 use Rattle.lapin_confirm.specs.Ties.{IsFresh, confirm_mode_state, confirm_mode_after, confirm_mode_states}
@@ -72,8 +73,15 @@ publish_states ls cells = record { confirm_modes = ls; cells = cells }
 pub same-publish_states : (ls ks : List (ℕ × ConfirmModeState)) (cells after : List (Option Cell)) → ls ≡ ks → cells ≡ after → publish_states ls cells ≡ publish_states ks after
 same-publish_states ls ks cells after confirm_modes same = rw (confirm_modes, same) refl
 
-pub same-confirm_state : (b d : PublishStates) (ts us : List (ℕ × ReturnLists)) (hs ks : List (Option Origin)) → b ≡ d → ts ≡ us → hs ≡ ks → ◌≡◌ {A = ConfirmState} (record { publish_states = b; returned_by_channel = ts; origins = hs }) (record { publish_states = d; returned_by_channel = us; origins = ks })
-same-confirm_state b d ts us hs ks same returned_by_channel origins = rw (same, returned_by_channel, origins) refl
+abbrev confirm_state : PublishStates → List (ℕ × ReturnLists) → List (ℕ × BasicReturnMessage) → List (Option Origin) → ConfirmState
+confirm_state b ts ms hs = record { publish_states = b; returned_by_channel = ts; early = ms; origins = hs }
+
+pub all-same : (b d : PublishStates) (ts us : List (ℕ × ReturnLists)) (ms ns : List (ℕ × BasicReturnMessage)) (hs ks : List (Option Origin)) → b ≡ d → ts ≡ us → ms ≡ ns → hs ≡ ks → confirm_state b ts ms hs ≡ confirm_state d us ns ks
+all-same b d ts us ms ns hs ks same returned_by_channel early origins = rw (same, returned_by_channel, early, origins) refl
+
+-- where the early messages stay
+pub same-confirm_state : {ms : List (ℕ × BasicReturnMessage)} (b d : PublishStates) (ts us : List (ℕ × ReturnLists)) (hs ks : List (Option Origin)) → b ≡ d → ts ≡ us → hs ≡ ks → confirm_state b ts ms hs ≡ confirm_state d us ms ks
+same-confirm_state {ms = ms} b d ts us hs ks same returned_by_channel origins = all-same b d ts us ms ms hs ks same returned_by_channel refl origins
 
 pub on-err : {T E : Type 0} (r : Result T E) (P : Type 0) → P → OnErr r P
 on-err (Ok x) P p = tt

@@ -23,6 +23,7 @@ pub mod Covered
 pub mod Roomy
 pub mod Asides
 pub mod Sweeping
+pub mod EarlyMessages
 pub mod Reading
 pub mod Polling
 pub mod Asking

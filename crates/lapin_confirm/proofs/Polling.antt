@@ -1,24 +1,28 @@
 -- What is answered to who asks for a result is what the history says.
-use Rattle.std.proofs.Common.{◌≡◌, ℕ, zero, suc, ◌<◌, ◌≤◌, ◌==◌, nat_lt, Bool, true, false, not, cond, ◌&&◌, List, Option, Some, None, length, refl, sym, ◌∙◌, ap, arith, ne_eqb, lt-ltb, ltb-true, ltb-false}
+use Rattle.std.proofs.Common.{◌≡◌, ℕ, zero, suc, ◌<◌, ◌≤◌, ◌==◌, nat_lt, Bool, true, false, not, cond, ◌&&◌, List, Option, Some, None, is_some, length, refl, sym, ◌∙◌, ap, arith, eq-eqb, ne_eqb, lt-ltb, ltb-true, ltb-false}
 use Rattle.std.specs.Prelude.{Result, Ok, Err}
+use Rattle.std.proofs.Math.Bool.{or-true}
 use Rattle.std.proofs.lemmas.Bool.{le-leb, lt-leb}
 use Rattle.lapin_types.specs.declared.Error.{Error}
 use Rattle.lapin_types.specs.declared.Error.TheVariants as error
 use Rattle.lapin_types.specs.declared.confirmation.Confirmation.{Confirmation}
 use Rattle.lapin_types.specs.declared.message.BasicReturnMessage.{BasicReturnMessage}
-use Rattle.lapin_rules.specs.declared.marks.Outcome.{Outcome}
+use Rattle.lapin_types.specs.declared.outcome.Outcome.{Outcome}
+use Rattle.lapin_types.specs.declared.outcome.Outcome.TheVariants as outcome
 use Rattle.lapin_rules.specs.ConfirmMarks.{ConfirmMark}
 use Rattle.lapin_rules.specs.Words.{after}
 use Rattle.lapin_rules.specs.ConfirmReadings.{leaves, has_left, is_taken, is_aside, channel_of, tag_of, first_settled, first_rejected, life, added, outcome_at, outcome_after, is_finished}
-use Rattle.lapin_rules.specs.ReturnLists.{return_of}
+use Rattle.lapin_rules.specs.ReturnLists.{message_at, return_of}
 use Rattle.lapin_rules.specs.ReturnReadings as read
 use Rattle.lapin_rules.specs.ReturnReadings.{is_gone}
 use Rattle.lapin_tables.specs.Numbered.{under}
 use Rattle.lapin_confirm.specs.declared.cell.Cell.{Cell}
 use Rattle.lapin_confirm.specs.declared.cell.Cell.TheVariants as cell
 use Rattle.lapin_confirm.specs.PublishStates.{is_resolved, is_unresolved}
-use Rattle.lapin_confirm.specs.ConfirmState.{ConfirmState, message_of, origin_return_lists}
-use Rattle.lapin_confirm.specs.Answers.{answer_in, answer_at, answer_with, is_unknown}
+use Rattle.lapin_tables.specs.ByChannel.{at_channel}
+use Rattle.lapin_confirm.specs.ConfirmState.{ConfirmState, given, message_of, messages_on, origin_return_lists}
+use Rattle.lapin_confirm.proofs.ReturnedByChannel.{early-attached}
+use Rattle.lapin_confirm.specs.Answers.{result_of, answer_in, answer_at, answer_with, is_unknown}
 use Rattle.lapin_confirm.specs.Aside.{is_aside_in, is_set_aside, is_giving, is_waiting, taken_answer}
 use Rattle.lapin_confirm.specs.Follows.{Follows, WasAdded, open_cell, left_cell, pending_cell, queued_cell}
 use Rattle.lapin_confirm.specs.Polled.{shown_with, polled, gives_result, is_none_yet}
@@ -69,7 +73,7 @@ gone-answer k ms p f lt gone =
 
 -- the message that a confirm took
 message-read : (n : ℕ) (ms : List ConfirmMark) (p : ConfirmState) → Follows ms p → WasAdded n ms → is_gone n ms ≡ false → message_of n p ≡ read.message_of n ms
-message-read n ms p f known kept = ap (λ o. return_of n (origin_return_lists o p.returned_by_channel)) (origin-there n ms p f known kept) ∙ ap (return_of n) (f.return_lists (channel_of n ms))
+message-read n ms p f known kept = ap (λ o. return_of n (origin_return_lists o p.returned_by_channel)) (origin-there n ms p f known kept) ∙ ap (message_at n) (early-attached (messages_on (channel_of n ms) p.early) (at_channel (channel_of n ms) p.returned_by_channel)) ∙ ap (return_of n) (f.return_lists (channel_of n ms))
 
 kept-answer : (k : ℕ) (ms : List ConfirmMark) (p : ConfirmState) → Follows ms p → k < added ms → is_gone (suc k) ms ≡ false → taken_answer (suc k) p ≡ cond (is_finished (suc k) ms) (Err error.AlreadyTaken) (Ok (shown_with (read.message_of (suc k) ms) (outcome_at (suc k) ms)))
 kept-answer k ms p f lt kept =
@@ -141,3 +145,36 @@ giving-told n p = tells is_resolved gives_result n p gives-in (λ e. refl) refl
 
 pub waiting-told : (n : ℕ) (p : ConfirmState) → is_waiting n p ≡ is_none_yet (taken_answer n p)
 waiting-told n p = tells is_unresolved is_none_yet n p waits-in (λ e. refl) refl
+
+-- ---- what a poll gives
+
+-- of a number that was never given nothing
+never-given : (n : ℕ) (p : ConfirmState) → is_unknown n p.publish_states ≡ true → p ≡ cond (is_giving n p) (given n p) p
+never-given n p unknown = sym (ap (λ (b : Bool). cond b (given n p) p) (ap (λ o. not (is_set_aside n p) && is_resolved o) (unknown-cell n p unknown) ∙ nobody (not (is_set_aside n p))))
+  where
+    nobody : (b : Bool) → (b && false) ≡ false
+    nobody true = refl
+    nobody false = refl
+
+pub zero-stays : (n : ℕ) (p : ConfirmState) → n ≡ 0 → p ≡ cond (is_giving n p) (given n p) p
+zero-stays n p none = never-given n p (rw (eq-eqb n 0 none) refl)
+
+pub past-stays : (n : ℕ) (p : ConfirmState) → length p.publish_states.cells < n → p ≡ cond (is_giving n p) (given n p) p
+past-stays n p past = never-given n p (rw (lt-ltb (length p.publish_states.cells) n past) (or-true (n == 0)))
+
+-- the outcome of a confirm that took no message
+pub bare-answer : (n : ℕ) (o : Outcome) (p : ConfirmState) → is_set_aside n p ≡ false → is_some (message_of n p) ≡ false → under n p.publish_states.cells ≡ Some (cell.Resolved o) → taken_answer n p ≡ Ok (Some (result_of o))
+bare-answer n o p free bare is = rw (free, known, is, nothing (message_of n p) bare) (alone o)
+  where
+    known : is_unknown n p.publish_states ≡ false
+    known = untrue (is_unknown n p.publish_states) (λ h. let no : None ≡ Some (cell.Resolved o) = sym (unknown-cell n p h) ∙ is in cc)
+
+    nothing : (m : Option BasicReturnMessage) → is_some m ≡ false → m ≡ None
+    nothing None h = refl
+    nothing (Some x) h = cc
+
+    alone : (x : Outcome) → answer_with None (Ok (Some (result_of x))) ≡ Ok (Some (result_of x))
+    alone outcome.NotRequested = refl
+    alone outcome.Ack = refl
+    alone outcome.Nack = refl
+    alone (outcome.Failed e) = refl

@@ -5,7 +5,7 @@ use Rattle.std.specs.List.{list_any, count_by, range_with_len, find}
 use Rattle.std.proofs.Math.Bool.{or-true}
 use Rattle.std.proofs.lemmas.Bool.{leb-true}
 use Rattle.lapin_tables.proofs.Counts.{count-cons}
-use Rattle.lapin_rules.specs.declared.marks.Outcome.{Outcome}
+use Rattle.lapin_types.specs.declared.outcome.Outcome.{Outcome}
 use Rattle.lapin_rules.specs.declared.marks.Settlement.{Settlement}
 use Rattle.lapin_rules.specs.ConfirmMarks.{ConfirmMark}
 use Rattle.lapin_rules.proofs.ListLaws.{since_none}

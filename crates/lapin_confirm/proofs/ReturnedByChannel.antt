@@ -2,11 +2,12 @@
 use Rattle.std.proofs.Common.{◌≡◌, ℕ, ◌==◌, cond, true, false, List, [], ◌∷◌, ◌++◌, Option, Some, None, is_some, refl, sym, ◌∙◌, ap}
 use Rattle.std.specs.Option.{option_map, IsSome}
 use Rattle.std.proofs.lemmas.List.{map_push}
+use Rattle.lapin_types.specs.declared.message.BasicReturnMessage.{BasicReturnMessage}
 use Rattle.lapin_rules.specs.ReturnLists.{ReturnLists, no_return_lists, return_of, taken_out, renewed}
-use Rattle.lapin_rules.specs.Words.{with_channel}
+use Rattle.lapin_rules.specs.Words.{is_some as is_there, with_channel}
 use Rattle.lapin_confirm.specs.declared.origin.Origin.{Origin}
 use Rattle.lapin_confirm.specs.PublishStates.{taken}
-use Rattle.lapin_confirm.specs.ConfirmState.{ConfirmState, return_lists_in, origin_return_lists, on_origin, message_of, given}
+use Rattle.lapin_confirm.specs.ConfirmState.{ConfirmState, return_lists_in, return_lists_or, origin_return_lists, on_origin, message_of, given}
 use Rattle.lapin_tables.specs.Numbered.{under, with_under}
 use Rattle.lapin_tables.specs.ByChannel.{at_channel, on_channel}
 use Rattle.lapin_tables.proofs.Channels.{at-values, on-values, on-absent, on-known, on-same}
@@ -53,6 +54,24 @@ returned_by_channel-new c t ts none fresh = rw (returned_messages-at c ts None n
 pub returned_by_channel-again : (c : ℕ) (t k : ReturnedMessages) (ts : List (ℕ × ReturnedMessages)) → at_channel c ts ≡ Some t → k.return_lists ≡ renewed t.return_lists → returned_by_channel_of (on_channel c (λ _. k) ts) ≡ with_channel c (renewed (return_lists_in (at_channel c (returned_by_channel_of ts)))) (returned_by_channel_of ts)
 returned_by_channel-again c t k ts is return_lists = rw (returned_messages-at c ts (Some t) is) (returned_by_channel-on c (λ _. renewed t.return_lists) t k ts is return_lists)
 
+-- ---- early messages are unconfirmed alone
+
+pub early-renewed : (ms : List BasicReturnMessage) (o : Option ReturnLists) → renewed (return_lists_in o) ≡ renewed (return_lists_or ms o)
+early-renewed ms None = refl
+early-renewed ms (Some l) = refl
+
+pub early-aside : (ms : List BasicReturnMessage) (o : Option ReturnLists) → (return_lists_in o).aside ≡ (return_lists_or ms o).aside
+early-aside ms None = refl
+early-aside ms (Some l) = refl
+
+pub early-attached : (ms : List BasicReturnMessage) (o : Option ReturnLists) → (return_lists_in o).attached ≡ (return_lists_or ms o).attached
+early-attached ms None = refl
+early-attached ms (Some l) = refl
+
+-- on a channel that had an opening no message is early
+pub early-stay : (c : ℕ) (m : BasicReturnMessage) (t : ReturnedMessages) (ts : List (ℕ × ReturnedMessages)) (es : List (ℕ × BasicReturnMessage)) → at_channel c ts ≡ Some t → cond (is_there (at_channel c (returned_by_channel_of ts))) es (es ++ (c, m) ∷ []) ≡ es
+early-stay c m t ts es is = rw (returned_messages-at c ts (Some t) is) refl
+
 -- ---- a confirm that took no message
 
 -- the return lists stay as its message is taken out
@@ -68,5 +87,5 @@ untaken n (Some h) ts none = by (at_channel h.channel ts) refl none
         ∙ on-same h.channel l ts is
 
 -- its result is given without a message
-pub given-bare : (n : ℕ) (p : ConfirmState) → is_some (message_of n p) ≡ false → record { publish_states = taken n p.publish_states; returned_by_channel = p.returned_by_channel; origins = with_under n None p.origins } ≡ given n p
-given-bare n p none = ap (λ (ts : List (ℕ × ReturnLists)). record { publish_states = taken n p.publish_states; returned_by_channel = ts; origins = with_under n None p.origins }) (sym (untaken n (under n p.origins) p.returned_by_channel none))
+pub given-bare : (n : ℕ) (p : ConfirmState) → is_some (message_of n p) ≡ false → record { publish_states = taken n p.publish_states; returned_by_channel = p.returned_by_channel; early = p.early; origins = with_under n None p.origins } ≡ given n p
+given-bare n p none = ap (λ (ts : List (ℕ × ReturnLists)). record { publish_states = taken n p.publish_states; returned_by_channel = ts; early = p.early; origins = with_under n None p.origins }) (sym (untaken n (under n p.origins) p.returned_by_channel none))

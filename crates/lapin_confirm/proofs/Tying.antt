@@ -3,8 +3,8 @@ use Rattle.std.proofs.Common.{◌≡◌, ◌≢◌, ℕ, ◌+◌, ◌≤◌, ◌
 use Rattle.std.proofs.lemmas.List.{length_push}
 use Rattle.std.specs.List.{count_by}
 use Rattle.std.proofs.lemmas.Bool.Decides.{eqb_tells}
-use Rattle.lapin_rules.specs.declared.marks.Outcome.{Outcome}
-use Rattle.lapin_rules.specs.declared.marks.Outcome.TheVariants as outcome
+use Rattle.lapin_types.specs.declared.outcome.Outcome.{Outcome}
+use Rattle.lapin_types.specs.declared.outcome.Outcome.TheVariants as outcome
 use Rattle.std.specs.Prelude.{is_some}
 use Rattle.lapin_tables.specs.Numbered.{under, with_under}
 use Rattle.lapin_tables.proofs.Counts.{count-cons}

@@ -5,7 +5,7 @@ use Rattle.std.specs.Option.{option_map, option_or}
 use Rattle.std.proofs.lemmas.Bool.Decides.{eqb_tells}
 use Rattle.std.proofs.lemmas.List.{length_push, length-map}
 use Rattle.lapin_types.specs.declared.Error.{Error}
-use Rattle.lapin_rules.specs.declared.marks.Outcome.{Outcome}
+use Rattle.lapin_types.specs.declared.outcome.Outcome.{Outcome}
 use Rattle.lapin_tables.specs.ByChannel.{at_channel, on_channel}
 use Rattle.lapin_tables.specs.Numbered.{under}
 use Rattle.lapin_tables.proofs.Channels.{at-push, at-on_same, at-on_other}
@@ -23,6 +23,13 @@ tied-of c l es cells is all = let P : Option ConfirmMode → Type 0 = λ o. Tied
 
 pub untouched-of : (c : ℕ) (es : List (ℕ × ConfirmMode)) (cells : List (Option Cell)) → at_channel c es ≡ None → AllTied es cells → Untouched c cells
 untouched-of c es cells is all = let P : Option ConfirmMode → Type 0 = λ o. TiedAt c o cells in subst P is (all c)
+
+-- and nothing of it is queued
+pub none-queued : (c n : ℕ) (es : List (ℕ × ConfirmMode)) (cells : List (Option Cell)) → at_channel c es ≡ None → AllTied es cells → under n cells ≡ Some (cell.Queued c) → ⊥
+none-queued c n es cells is all there =
+    let one : 1 ≤ count_by (is_queued_on c) cells = counted (is_queued_on c) n (cell.Queued c) cells there (eq-eqb c c refl) in
+    let none : count_by (is_queued_on c) cells ≡ 0 = (untouched-of c es cells is all).queued in
+    absurd (omega arith)
 
 -- a change of one channel's confirm mode and of the cells
 pub all-on : (c : ℕ) (l k : ConfirmMode) (es : List (ℕ × ConfirmMode)) (cells after : List (Option Cell)) → at_channel c es ≡ Some l → AllTied es cells → Tied c k after → ((d : ℕ) (o : Option ConfirmMode) → c ≢ d → TiedAt d o cells → TiedAt d o after) → AllTied (on_channel c (λ _. k) es) after

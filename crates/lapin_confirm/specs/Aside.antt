@@ -44,7 +44,7 @@ set_answer n p = refused_as (taken_answer n p)
 
 -- resolved: its message is kept, and nothing else of it
 abbrev pub kept_by : ℕ → ConfirmState → ConfirmState
-kept_by n p = record { publish_states = taken n p.publish_states; returned_by_channel = on_origin (under n p.origins) (set_by n true) p.returned_by_channel; origins = with_under n None p.origins }
+kept_by n p = record { publish_states = taken n p.publish_states; returned_by_channel = on_origin (under n p.origins) (set_by n true) p.returned_by_channel; early = p.early; origins = with_under n None p.origins }
 
 -- the origins with publish n set aside, where this is its origin; the same where it has none
 abbrev pub marked : ℕ → Option Origin → List (Option Origin) → List (Option Origin)
@@ -53,7 +53,7 @@ marked n (Some h) hs = with_under n (Some (record h { aside = true })) hs
 
 -- unresolved: its number stands aside
 abbrev pub laid_by : ℕ → ConfirmState → ConfirmState
-laid_by n p = record { publish_states = p.publish_states; returned_by_channel = on_origin (under n p.origins) (set_by n false) p.returned_by_channel; origins = marked n (under n p.origins) p.origins }
+laid_by n p = record { publish_states = p.publish_states; returned_by_channel = on_origin (under n p.origins) (set_by n false) p.returned_by_channel; early = p.early; origins = marked n (under n p.origins) p.origins }
 
 -- confirm n is set aside: where it is resolved its message, if it took one, is kept; else its number stands aside
 abbrev pub put_aside : ℕ → ConfirmState → ConfirmState

@@ -2,6 +2,7 @@
 -- cites this.
 use Rattle.std.specs.Prelude.{ℕ, Bool, List, Option, refl}
 use Rattle.std.specs.Coded.{Coded, code_by, coded×, coded_ℕ, coded_bool, coded_list, coded_option}
+use Rattle.lapin_types.specs.declared.message.BasicReturnMessage.{BasicReturnMessage}
 use Rattle.lapin_rules.specs.ReturnLists.{ReturnLists}
 use Rattle.lapin_confirm.specs.declared.cell.Cell.{Cell}
 use Rattle.lapin_confirm.specs.contracts.cell.Cell as cell_row
@@ -9,7 +10,7 @@ use Rattle.lapin_confirm.specs.declared.origin.Origin.{Origin}
 use Rattle.lapin_confirm.specs.contracts.origin.Origin as origin_row
 use Rattle.lapin_confirm.specs.PublishStates.{PublishStates, ConfirmModeState}
 use Rattle.lapin_confirm.specs.ConfirmState.{ConfirmState}
-use Rattle.lapin_confirm.specs.ReturnedMessages.{return_lists_code}
+use Rattle.lapin_confirm.specs.ReturnedMessages.{message_code, return_lists_code}
 
 -- a channel's opening
 abbrev pub confirm_mode_code : Coded ConfirmModeState
@@ -35,8 +36,8 @@ publish_states_code =
 abbrev pub confirm_state_code : Coded ConfirmState
 confirm_state_code =
     code_by
-    (PublishStates × (List (ℕ × ReturnLists) × List (Option Origin)))
-    (coded× publish_states_code (coded× (coded_list (coded× coded_ℕ return_lists_code)) (coded_list (coded_option origin_row.the_row.coded))))
-    (λ p. (p.publish_states, (p.returned_by_channel, p.origins)))
-    (λ p. record { publish_states = p.0; returned_by_channel = p.1.0; origins = p.1.1 })
+    (PublishStates × (List (ℕ × ReturnLists) × (List (ℕ × BasicReturnMessage) × List (Option Origin))))
+    (coded× publish_states_code (coded× (coded_list (coded× coded_ℕ return_lists_code)) (coded× (coded_list (coded× coded_ℕ message_code)) (coded_list (coded_option origin_row.the_row.coded)))))
+    (λ p. (p.publish_states, (p.returned_by_channel, (p.early, p.origins))))
+    (λ p. record { publish_states = p.0; returned_by_channel = p.1.0; early = p.1.1.0; origins = p.1.1.1 })
     (λ _. refl)

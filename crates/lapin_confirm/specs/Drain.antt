@@ -8,7 +8,7 @@ use Rattle.lapin_tables.specs.Numbered.{under, with_under}
 use Rattle.lapin_confirm.specs.declared.cell.Cell.{Cell}
 use Rattle.lapin_confirm.specs.declared.origin.Origin.{Origin}
 use Rattle.lapin_confirm.specs.PublishStates.{is_resolved}
-use Rattle.lapin_confirm.specs.ConfirmState.{ConfirmState, return_lists_at}
+use Rattle.lapin_confirm.specs.ConfirmState.{ConfirmState, return_lists_at, without_early}
 
 -- the outcome of confirm n is there
 abbrev pub is_over : List (Option Cell) → ℕ → Bool
@@ -44,11 +44,11 @@ over_aside c p = filter (is_over p.publish_states.cells) (return_lists_at c p).a
 
 -- this is what is kept of confirms; openings and return lists stay
 abbrev pub with_remains : Remains → ConfirmState → ConfirmState
-with_remains r p = record { publish_states = record { confirm_modes = p.publish_states.confirm_modes; cells = r.cells }; returned_by_channel = p.returned_by_channel; origins = r.origins }
+with_remains r p = record { publish_states = record { confirm_modes = p.publish_states.confirm_modes; cells = r.cells }; returned_by_channel = p.returned_by_channel; early = p.early; origins = r.origins }
 
 -- after a drain of channel c
 abbrev pub drained : ℕ → ConfirmState → ConfirmState
-drained c p = record (with_remains (less_all (over_aside c p) (remaining p.publish_states.cells p.origins)) p) { returned_by_channel = on_channel c (drained_return_lists (is_over p.publish_states.cells)) p.returned_by_channel }
+drained c p = record (with_remains (less_all (over_aside c p) (remaining p.publish_states.cells p.origins)) p) { returned_by_channel = on_channel c (drained_return_lists (is_over p.publish_states.cells)) p.returned_by_channel; early = without_early c p }
 
 -- as an opening of channel c begins: of those that stand aside nothing is kept, if they are resolved
 abbrev pub renewed_on : ℕ → ConfirmState → ConfirmState

@@ -1,7 +1,7 @@
 -- When confirms are what the marks of a history say.
 use Rattle.std.specs.Prelude.{◌≡◌, ℕ, suc, ◌<◌, ◌≤◌, true, false, if◌then◌else◌, List, [], ◌∷◌, ◌++◌, Option, Some, None, length}
-use Rattle.lapin_rules.specs.declared.marks.Outcome.{Outcome}
-use Rattle.lapin_rules.specs.declared.marks.Outcome.TheVariants as outcome
+use Rattle.lapin_types.specs.declared.outcome.Outcome.{Outcome}
+use Rattle.lapin_types.specs.declared.outcome.Outcome.TheVariants as outcome
 use Rattle.lapin_rules.specs.ConfirmMarks.{ConfirmMark}
 use Rattle.lapin_rules.specs.ConfirmMarks as mark
 use Rattle.lapin_rules.specs.Words.{after, is_some}
@@ -60,13 +60,12 @@ abbrev pub NoneWaitsAside : ℕ → List ConfirmMark → Type 0
 NoneWaitsAside c ms = (n : ℕ) → WasAdded n ms → channel_of n ms ≡ c → is_aside n ms ≡ true → is_open_outcome (outcome_at n ms) ≡ false
 
 -- Marks that a history may have next. An opening begins once every confirm that was set aside on its channel is resolved; a publish
--- or a `confirm.select` is accepted, and a message arrives, on a channel that had an opening; a publish leaves while it is queued; a result is given once
--- it is there, and it is given or set aside once.
+-- or a `confirm.select` is accepted on a channel that had an opening; a publish leaves while it is queued; a result is given once it is
+-- there, and it is given or set aside once.
 abbrev pub MayCome : List ConfirmMark → ConfirmMark → Type 0
 MayCome ms (mark.Begun c) = NoneWaitsAside c ms
 MayCome ms (mark.Added c) = is_begun c ms ≡ true
 MayCome ms (mark.SelectCalled c) = is_begun c ms ≡ true
-MayCome ms (mark.Arrived c m) = is_begun c ms ≡ true
 MayCome ms (mark.Left c n) = WasAdded n ms × (cell_in n ms ≡ Some (cell.Queued c))
 MayCome ms (mark.Taken n) = WasAdded n ms × (is_finished n ms ≡ false) × (is_open_outcome (outcome_at n ms) ≡ false)
 MayCome ms (mark.SetAside n) = WasAdded n ms × (is_finished n ms ≡ false)
@@ -87,7 +86,7 @@ pub record Follows (ms : List ConfirmMark) (p : ConfirmState) : Type 0 where
   pub cells : (k : ℕ) → k < added ms → under (suc k) p.publish_states.cells ≡ cell_in (suc k) ms
   pub places : length p.origins ≡ added ms
   pub origins : (k : ℕ) → k < added ms → under (suc k) p.origins ≡ origin_in (suc k) ms
-  -- a channel that had an opening has return lists, and they are those of the history
+  -- a channel that had an opening has return lists; those of each channel are the history's, also where a message came before any opening
   pub returned_by_channel : (c : ℕ) → is_some (at_channel c p.returned_by_channel) ≡ is_begun c ms
   pub return_lists : (c : ℕ) → return_lists_at c p ≡ return_lists_of c ms
 

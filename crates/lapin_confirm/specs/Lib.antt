@@ -6,6 +6,7 @@ pub mod Aside
 pub mod Drain
 pub mod Machine
 pub mod Sweeps
+pub mod Turns
 pub mod WithRoom
 pub mod Ties
 pub mod Follows

@@ -11,37 +11,38 @@ use Rattle.lapin_rules.specs.Words.{with_channel}
 use Rattle.lapin_tables.specs.ByChannel.{on_channel}
 use Rattle.lapin_confirm.specs.PublishStates.{PublishStates, begun, with_publish, select_left, select_called, limited, left, settled, closed_here, ended, selected_on}
 use Rattle.lapin_confirm.specs.PublishStates as publish_states
-use Rattle.lapin_confirm.specs.ConfirmState.{ConfirmState, new_origin, return_lists_at, given, covered_in}
+use Rattle.lapin_confirm.specs.ConfirmState.{ConfirmState, new_origin, return_lists_at, with_early, without_early, given, covered_in}
 use Rattle.lapin_confirm.specs.Aside.{put_aside}
 use Rattle.lapin_confirm.specs.Drain.{drained, renewed_on}
 
 -- the publish states changes to this one, and nothing else
 abbrev pub with_publish_states : PublishStates → ConfirmState → ConfirmState
-with_publish_states b p = record { publish_states = b; returned_by_channel = p.returned_by_channel; origins = p.origins }
+with_publish_states b p = record { publish_states = b; returned_by_channel = p.returned_by_channel; early = p.early; origins = p.origins }
 
 -- the return lists of channel c change, and nothing else
 abbrev pub with_return_lists : ℕ → (ReturnLists → ReturnLists) → ConfirmState → ConfirmState
-with_return_lists c f p = record { publish_states = p.publish_states; returned_by_channel = on_channel c f p.returned_by_channel; origins = p.origins }
+with_return_lists c f p = record { publish_states = p.publish_states; returned_by_channel = on_channel c f p.returned_by_channel; early = p.early; origins = p.origins }
 
--- an opening of channel c begins: no tag is taken, nothing waits, is kept or stands aside
+-- an opening of channel c begins: no tag is taken, nothing waits, is unconfirmed, kept or stands aside
 abbrev pub opened : ℕ → ConfirmState → ConfirmState
 opened c p = record {
   publish_states = begun c (renewed_on c p).publish_states;
   returned_by_channel = with_channel c (renewed (return_lists_at c p)) p.returned_by_channel;
+  early = without_early c p;
   origins = (renewed_on c p).origins;
 }
 
 -- a publish is accepted on channel c, and belongs there
 abbrev pub published : ℕ → ConfirmState → ConfirmState
-published c p = record { publish_states = with_publish c p.publish_states; returned_by_channel = p.returned_by_channel; origins = p.origins ++ Some (new_origin c) ∷ [] }
+published c p = record { publish_states = with_publish c p.publish_states; returned_by_channel = p.returned_by_channel; early = p.early; origins = p.origins ++ Some (new_origin c) ∷ [] }
 
 -- a settlement of channel c resolves what it covers, and the confirms under its tags take the oldest messages that wait, one each
 abbrev pub resolved : ℕ → Settlement → ConfirmState → ConfirmState
 resolved c s p = with_publish_states (settled c s p.publish_states) (with_return_lists c (attached_to_all (covered_in c (covers s) p.publish_states)) p)
 
--- a returned message of channel c came whole: it waits where the opening is selected
+-- a returned message of channel c came whole: it waits where the opening is selected; where the channel had no opening it is early
 abbrev pub arrived : ℕ → BasicReturnMessage → ConfirmState → ConfirmState
-arrived c m p = with_return_lists c (arrived_in (selected_on c p.publish_states) m) p
+arrived c m p = record (with_return_lists c (arrived_in (selected_on c p.publish_states) m) p) { early = with_early c m p }
 
 -- publish n, which has not left, is resolved with an error: no mark of a history is this alone, but a close of this side is these
 -- one after another

@@ -4,7 +4,7 @@ use Rattle.lapin_types.specs.declared.Error.{Error}
 use Rattle.lapin_types.specs.declared.Error.TheVariants as error
 use Rattle.lapin_types.specs.declared.confirmation.Confirmation.{Confirmation}
 use Rattle.lapin_types.specs.declared.message.BasicReturnMessage.{BasicReturnMessage}
-use Rattle.lapin_rules.specs.declared.marks.Outcome.{Outcome}
+use Rattle.lapin_types.specs.declared.outcome.Outcome.{Outcome}
 use Rattle.lapin_rules.specs.ConfirmMarks.{ConfirmMark}
 use Rattle.lapin_rules.specs.ConfirmReadings.{outcome_at, is_finished, was_added}
 use Rattle.lapin_rules.specs.ReturnReadings.{message_of}

@@ -1,10 +1,10 @@
 -- What contracts see of a channel's returned messages, and beside them the room. How code finds one of them.
-use Rattle.std.specs.Prelude.{ℕ, suc, ◌<◌, ◌==◌, Bool, true, false, if◌then◌else◌, List, [], ◌∷◌, Option, Some, None, option_map, refl}
+use Rattle.std.specs.Prelude.{Box, box_value, ℕ, suc, ◌<◌, ◌==◌, Bool, true, false, if◌then◌else◌, List, [], ◌∷◌, Option, Some, None, option_map, refl}
 use Rattle.std.specs.Coded.{Coded, code_by, coded×, coded_ℕ, coded_list}
 use Rattle.lapin_types.specs.declared.message.BasicReturnMessage.{BasicReturnMessage}
 use Rattle.lapin_types.specs.contracts.message.BasicReturnMessage as message_row
 use Rattle.std.specs.List.{range_with_len}
-use Rattle.lapin_rules.specs.ReturnLists.{ReturnLists}
+use Rattle.lapin_rules.specs.ReturnLists.{ReturnLists, no_return_lists}
 use Rattle.lapin_rules.specs.ReturnReadings.{taking}
 use Rattle.lapin_tables.specs.Numbered.{under}
 
@@ -18,6 +18,15 @@ pub record ReturnedMessages : Type 0 where
 -- one more message has room, wherever it goes
 abbrev pub HasPlace : ReturnedMessages → Type 0
 HasPlace t = (0 < t.to_wait) × (0 < t.to_attach) × (0 < t.to_stay)
+
+-- no message, and no room for one
+abbrev pub no_messages : ReturnedMessages
+no_messages = record { return_lists = no_return_lists; to_wait = 0; to_attach = 0; to_stay = 0 }
+
+-- what stands in a box, where there is one
+abbrev pub boxed : {Z : Type 0} → Option (Box ReturnedMessages Z) → ReturnedMessages
+boxed None = no_messages
+boxed (Some b) = box_value b
 
 -- a returned message, stored by its fields
 abbrev pub message_code : Coded BasicReturnMessage

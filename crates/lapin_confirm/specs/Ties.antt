@@ -1,6 +1,8 @@
 -- How confirm modes and cells hang together. No public clause cites this module.
-use Rattle.std.specs.Prelude.{◌≡◌, ℕ, ◌+◌, ◌<◌, ◌≤◌, Bool, false, List, [], Option, Some, None, length, map, IsSome}
+use Rattle.std.specs.Prelude.{◌≡◌, ℕ, ◌+◌, ◌-◌, ◌<◌, ◌≤◌, Bool, false, List, [], Option, Some, None, length, map, IsSome}
 use Rattle.std.specs.List.{count_by}
+use Rattle.std.specs.VecDeque.{deque_len, deque_capacity}
+use Rattle.std.specs.declared.collections.VecDeque.{VecDeque}
 use Rattle.lapin_tables.specs.ByChannel.{at_channel}
 use Rattle.lapin_tables.specs.Numbered.{Slots, under}
 use Rattle.lapin_confirm.specs.declared.cell.Cell.{Cell}
@@ -68,6 +70,10 @@ AllTied es cells = (c : ℕ) → TiedAt c (at_channel c es) cells
 
 -- ---- room
 
+-- for how many more elements a queue has room
+abbrev pub deque_spare : {X Z : Type 0} → VecDeque X Z → ℕ
+deque_spare q = deque_capacity q - deque_len q
+
 -- how many channels have room for their next publish or message
 abbrev pub promised : List (ℕ × Bool) → ℕ
 promised rooms = count_by (λ r. r.1) rooms
@@ -108,8 +114,9 @@ pub record OriginsKept (rooms : List (ℕ × Bool)) (cells : List (Option Cell))
   pub count : length origins.slots ≡ length cells
   pub room : promised rooms ≤ origins.spare
 
--- confirm modes and cells agree, and what is promised has room
-pub record AllKept (rooms : List (ℕ × Bool)) (es : List (ℕ × ConfirmMode)) (ts : List (ℕ × ReturnedMessages)) (cells : Slots Cell) (places : Slots Origin) : Type 0 where
+-- confirm modes and cells agree, and what is promised has room, also for so many more early messages
+pub record AllKept (rooms : List (ℕ × Bool)) (es : List (ℕ × ConfirmMode)) (ts : List (ℕ × ReturnedMessages)) (more : ℕ) (cells : Slots Cell) (places : Slots Origin) : Type 0 where
   pub tied : AllTied es cells.slots
   pub room : HaveRoom rooms es ts cells.spare
   pub origins : OriginsKept rooms cells.slots places
+  pub early : promised rooms ≤ more

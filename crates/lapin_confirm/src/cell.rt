@@ -2,7 +2,7 @@
 //!
 //! Small and plain: a message that was returned is kept elsewhere.
 
-use lapin_rules::Outcome;
+use lapin_types::Outcome;
 
 /// What is kept of a publish until its result is given.
 #[derive(Clone, Copy, Debug, PartialEq, Eq)]

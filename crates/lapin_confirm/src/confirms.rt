@@ -17,15 +17,17 @@ ghost use Rattle.lapin_confirm.specs.WithRoom.{spare_on, KeepsRoom};
 use crate::attaching::{attach_on, attach_one};
 use crate::cell::Cell;
 use crate::confirm_mode::ConfirmMode;
+use crate::early::join_early;
 use crate::openings::{make_place, put_confirm_mode, renew_returned_messages};
 use crate::origin::Origin;
-use crate::returned::{Returned, let_go};
+use crate::returned::Returned;
 use crate::rooms::{give_up, is_promised, make_room, promise, use_room};
 use crate::settling::{end_opening, enqueue, leave, reject, settle_tag, settle_through};
-use lapin_rules::{Outcome, SettleKind};
+use lapin_rules::SettleKind;
 use lapin_tables::{ByChannel, Numbered};
-use lapin_types::{BasicReturnMessage, Confirmation, Error, NoMemory};
+use lapin_types::{BasicReturnMessage, Confirmation, Error, NoMemory, Outcome};
 use std::alloc::Global;
+use std::collections::VecDeque;
 use std::marker::Model;
 
 /// The outcome of every confirm number, and the confirm mode and the returned messages of every channel. Contracts see a `ConfirmState`, and the room beside it.
@@ -34,6 +36,7 @@ pub struct Confirms {
     pub(crate) cells: Numbered<Cell>,
     pub(crate) origins: Numbered<Origin>,
     pub(crate) returned_by_channel: ByChannel<Returned>,
+    pub(crate) early: VecDeque<(u16, BasicReturnMessage)>,
     pub(crate) rooms: ByChannel<bool>,
 }
 
@@ -44,6 +47,7 @@ impl Drop for Confirms {
             cells: _,
             origins: _,
             returned_by_channel: _,
+            early: _,
             rooms: _,
         } = self;
     }
@@ -58,14 +62,14 @@ impl Model for Confirms {
 
     ghost coded = { Prim.hlevel (codes, message.the_row.coded) };
 
-    ghost use Rattle.lapin_confirm.specs.Ties.{confirm_mode_states, returned_by_channel_of, AllKept};
+    ghost use Rattle.lapin_confirm.specs.Ties.{confirm_mode_states, returned_by_channel_of, AllKept, deque_spare};
 
     ghost view = { λ a. record {
-      what = record { publish_states = record { confirm_modes = confirm_mode_states a.confirm_modes.entries; cells = a.cells.slots }; returned_by_channel = returned_by_channel_of a.returned_by_channel.entries; origins = a.origins.slots };
+      what = record { publish_states = record { confirm_modes = confirm_mode_states a.confirm_modes.entries; cells = a.cells.slots }; returned_by_channel = returned_by_channel_of a.returned_by_channel.entries; early = a.early.items; origins = a.origins.slots };
       spare = a.rooms.entries;
     } };
 
-    ghost invariant = { λ a. AllKept a.rooms.entries a.confirm_modes.entries a.returned_by_channel.entries a.cells a.origins };
+    ghost invariant = { λ a. AllKept a.rooms.entries a.confirm_modes.entries a.returned_by_channel.entries (deque_spare a.early) a.cells a.origins };
 }
 
 impl Confirms {
@@ -79,6 +83,7 @@ impl Confirms {
             cells: Numbered::new(alloc),
             origins: Numbered::new(alloc),
             returned_by_channel: ByChannel::new(alloc),
+            early: VecDeque::new(alloc),
             rooms: ByChannel::new(alloc),
         })
     }
@@ -101,6 +106,7 @@ impl Confirms {
             &mut self.origins,
             &mut self.confirm_modes,
             &mut self.returned_by_channel,
+            &mut self.early,
         ) {
             return Err(NoMemory);
         }
@@ -125,6 +131,7 @@ impl Confirms {
             &mut self.returned_by_channel,
             &mut self.cells,
             &mut self.origins,
+            &mut self.early,
             alloc,
             channel,
             promised,
@@ -315,8 +322,8 @@ impl Confirms {
         }
     }
 
-    /// A returned message of a channel came whole: it waits for a settlement where the opening is selected. It is moved, not
-    /// copied, and is gone where there is no memory.
+    /// A returned message of a channel came whole: it waits for a settlement where the opening is selected, else it is unconfirmed,
+    /// also on a channel that had no opening. It is moved, not copied, and is gone where there is no memory.
     pub fn arrived(
         &mut self,
         _alloc: Global,
@@ -331,7 +338,7 @@ impl Confirms {
     {
         let selected = self.selected(channel);
         let Some(returned_messages) = self.returned_by_channel.get_mut(channel) else {
-            let_go(message);
+            join_early(channel, &mut self.rooms, &mut self.early, message)?;
             return Ok(());
         };
         if let Err(_) = returned_messages.receive(selected, message) {

@@ -9,6 +9,7 @@ ghost use Rattle.lapin_confirm.specs.Ties.{AllTied};
 
 use crate::cell::Cell;
 use crate::confirms::Confirms;
+use crate::early::take_early;
 use crate::origin::Origin;
 use crate::sweep::leave_one;
 use lapin_tables::Numbered;
@@ -17,9 +18,9 @@ use std::alloc::Global;
 use std::collections::VecDeque;
 
 impl Confirms {
-    /// Gives the returned messages of a channel, each once: those of openings that were not selected, then those that were kept,
-    /// then those of confirms that were set aside and are resolved by now, in the order of setting aside. Messages that wait for
-    /// a settlement stay, as do the confirms that are unresolved. Where there is no memory nothing changes.
+    /// Gives the returned messages of a channel, each once: those that are unconfirmed, then those that were kept, then those of
+    /// confirms that were set aside and are resolved by now, in the order of setting aside. Messages that wait for a settlement stay,
+    /// as do the confirms that are unresolved. Where there is no memory nothing changes.
     pub fn drain(&mut self, alloc: Global, channel: u16) -> Result<ReturnedList, NoMemory>
         ensures given { IfOk result (λ list. list ≡ drained_on channel self.old.what) }
         ensures ok { OnOk result (self.new.what ≡ after_mark self.old.what (mark.Drained channel)) }
@@ -27,7 +28,7 @@ impl Confirms {
         ensures spare { self.new.spare ≡ self.old.spare }
     {
         let Some(returned_messages) = self.returned_by_channel.get_mut(channel) else {
-            return Ok(ReturnedList::new(Vec::new(alloc)));
+            return Ok(ReturnedList::new(take_early(alloc, channel, &mut self.early)?));
         };
         match returned_messages.drain(alloc, &self.cells) {
             Err(_) => Err(NoMemory),

@@ -6,7 +6,7 @@ ghost use Rattle.lapin_types.specs.declared.Error.{Error as AnError};
 ghost use Rattle.lapin_rules.specs.ConfirmMarks.{ConfirmMark as AMark};
 ghost use Rattle.lapin_rules.specs.declared.marks.SettleKind.{SettleKind as AKind};
 ghost use Rattle.lapin_rules.specs.declared.marks.Settlement.{Settlement as ASettlement};
-ghost use Rattle.lapin_rules.specs.declared.marks.Outcome.{Outcome as AnOutcome};
+ghost use Rattle.lapin_types.specs.declared.outcome.Outcome.{Outcome as AnOutcome};
 ghost use Rattle.lapin_rules.specs.ConfirmMarks as mark;
 ghost use Rattle.lapin_rules.specs.ConfirmReadings.{begins, is_begun, leaves_on, is_selected, place, has_left, channel_of, tag_of, covers, outcome_at, is_open_outcome, limit_of, is_full, is_at_limit, is_finished};
 ghost use Rattle.lapin_rules.specs.ConfirmReadings as read;

@@ -2,7 +2,8 @@
 //!
 //! Here live delivery tags, settlements and what they make of the publishes that wait, and returned messages until they are given.
 //! Which frames leave, which states a channel is in and when a settlement is received are the session's, which calls this crate.
-//! Contracts see a `ConfirmState`: a `PublishStates`, the return lists of each channel, and where each publish belongs; and beside it the room.
+//! Contracts see a `ConfirmState`: a `PublishStates`, the return lists of each channel that had an opening, the messages that came back
+//! before one, and where each publish belongs; and beside it the room.
 //! What a call does is what its mark does by `after_mark`, and `machine_follows` says that confirms which are changed by marks that
 //! may come are always what the history of those marks says.
 #![tactic(auto)]
@@ -12,8 +13,10 @@ mod cell;
 mod confirm_mode;
 mod confirms;
 mod draining;
+mod early;
 mod laws;
 mod limits;
+mod lists;
 mod openings;
 mod origin;
 mod results;

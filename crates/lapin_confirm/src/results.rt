@@ -9,11 +9,10 @@ ghost use Rattle.lapin_confirm.specs.Answers.{result_with, result_of as result_o
 
 use crate::cell::Cell;
 use crate::confirms::Confirms;
+use crate::lists::let_go_any;
 use crate::return_lists::{has_message, is_aside, mark_aside, put_by, take_message};
-use crate::returned::let_go_any;
 use crate::sweep::is_over;
-use lapin_rules::Outcome;
-use lapin_types::{BasicReturnMessage, Confirmation, Error};
+use lapin_types::{BasicReturnMessage, Confirmation, Error, Outcome};
 use std::alloc::Global;
 
 impl Confirms {

@@ -1,21 +1,20 @@
-//! The returned messages of a channel (AMQP 0-9-1, `basic.return`), until they are given.
+//! The returned messages of a channel (AMQP 0-9-1, `basic.return`), whose lists take no memory before they are needed.
 //!
-//! A message is moved from list to list, never copied. Where one waits for a settlement there is room for it to be attached to
-//! a confirm, so that a settlement takes no memory.
+//! Most channels never publish, so the lists stand in a box that is made with the first room for a message, or the first confirm that
+//! is set aside.
 
-ghost use Rattle.std.specs.Prelude.{List, ◌≡◌, ℕ, ◌+◌, ◌<◌, ◌≤◌, [], true, false, OnOk, OnErr, IsOk, IfOk, length, slice_get, is_some};
+ghost use Rattle.std.specs.Prelude.{List, ◌≡◌, ℕ, ◌≤◌, [], true, false, OnOk, OnErr, IsOk, IfOk, length, is_some};
 ghost use Rattle.std.specs.Bool.{Decides};
-ghost use Rattle.std.specs.VecDeque.{deque_len, deque_capacity};
-ghost use Rattle.lapin_rules.specs.ReturnLists.{no_return_lists, arrived_in, attached_to, message_at, without, without_all, return_of, taken_out, set_by, renewed, drained_messages, drained_return_lists};
 ghost use Rattle.std.specs.List.{filter};
+ghost use Rattle.lapin_rules.specs.ReturnLists.{no_return_lists, arrived_in, attached_to, return_of, taken_out, set_by, renewed, drained_messages, drained_return_lists};
 ghost use Rattle.lapin_confirm.specs.Drain.{is_over, remaining, less_all};
 ghost use Rattle.lapin_confirm.specs.declared.confirm_mode.ConfirmMode.{ConfirmMode as AConfirmMode};
 ghost use Rattle.lapin_confirm.specs.Ties.{AllTied};
-ghost use Rattle.lapin_confirm.specs.ReturnedMessages.{place_in, is_of as is_of_lem, HasPlace};
+ghost use Rattle.lapin_confirm.specs.ReturnedMessages.{HasPlace};
 
 use crate::cell::Cell;
+use crate::lists::{Lists, let_go};
 use crate::origin::Origin;
-use crate::sweep::{Sweep, leave_one, pour, sweep_all};
 use lapin_tables::Numbered;
 use lapin_types::{BasicReturnMessage, NoMemory};
 use std::alloc::{AllocError, Global};
@@ -25,30 +24,18 @@ use std::marker::Model;
 /// The returned messages of a channel. Contracts see its lists, and for how many more messages there is room.
 #[derive(Drop)]
 pub struct Returned {
-    attached: VecDeque<(u64, BasicReturnMessage)>,
-    waiting: VecDeque<BasicReturnMessage>,
-    unconfirmed: VecDeque<BasicReturnMessage>,
-    kept: VecDeque<BasicReturnMessage>,
-    aside: VecDeque<u64>,
+    alloc: Global,
+    lists: Option<Box<Lists>>,
 }
 
 impl Model for Returned {
-    ghost use Rattle.std.specs.Prelude.{◌-◌, ◌≤◌, ◌+◌};
-    ghost use Rattle.std.specs.VecDeque.{deque_len, deque_capacity};
-    ghost use Rattle.lapin_confirm.specs.ReturnedMessages.{ReturnedMessages, returned_messages_code};
+    ghost use Rattle.lapin_confirm.specs.ReturnedMessages.{ReturnedMessages, returned_messages_code, boxed};
 
     ghost Value = { ReturnedMessages };
 
     ghost coded = { returned_messages_code };
 
-    ghost view = { λ a. record {
-      return_lists = record { attached = a.attached.items; waiting = a.waiting.items; unconfirmed = a.unconfirmed.items; kept = a.kept.items; aside = a.aside.items };
-      to_wait = deque_capacity a.waiting - deque_len a.waiting;
-      to_attach = deque_capacity a.attached - deque_len a.attached - deque_len a.waiting;
-      to_stay = deque_capacity a.unconfirmed - deque_len a.unconfirmed;
-    } };
-
-    ghost invariant = { λ a. deque_len a.attached + deque_len a.waiting ≤ deque_capacity a.attached };
+    ghost view = { λ a. boxed a.lists };
 }
 
 impl Returned {
@@ -56,13 +43,7 @@ impl Returned {
     pub fn new(alloc: Global) -> Returned
         ensures { result.return_lists ≡ no_return_lists }
     {
-        Returned {
-            attached: VecDeque::new(alloc),
-            waiting: VecDeque::new(alloc),
-            unconfirmed: VecDeque::new(alloc),
-            kept: VecDeque::new(alloc),
-            aside: VecDeque::new(alloc),
-        }
+        Returned { alloc, lists: None }
     }
 
     /// No message, with room for the first one where that is promised.
@@ -84,9 +65,13 @@ impl Returned {
         ensures place { HasPlace self.old → HasPlace self.new }
         ensures succeeds { HasPlace self.old → IsOk result }
     {
-        self.waiting.reserve(1)?;
-        self.attached.reserve(self.waiting.len() + 1)?;
-        self.unconfirmed.reserve(1)
+        if let Some(lists) = &mut self.lists {
+            return lists.reserve();
+        }
+        let mut lists = Lists::new(self.alloc);
+        lists.reserve()?;
+        self.lists = Some(Box::new(self.alloc, lists)?);
+        Ok(())
     }
 
     /// A message arrives, in the room that was made: it waits where the opening is selected.
@@ -94,10 +79,9 @@ impl Returned {
         requires { HasPlace self.old }
         ensures { self.new.return_lists ≡ arrived_in selected message self.old.return_lists }
     {
-        if selected {
-            self.waiting.push_back_reserved(message);
-        } else {
-            self.unconfirmed.push_back_reserved(message);
+        match &mut self.lists {
+            Some(lists) => lists.arrive(selected, message),
+            None => let_go(message),
         }
     }
 
@@ -124,7 +108,10 @@ impl Returned {
     pub fn has_none_waiting(&self) -> bool
         ensures { Decides result (self.now.return_lists.waiting ≡ []) }
     {
-        self.waiting.is_empty()
+        match &self.lists {
+            Some(lists) => lists.has_none_waiting(),
+            None => true,
+        }
     }
 
     /// The oldest waiting message, if there is one, is attached to a confirm.
@@ -132,10 +119,9 @@ impl Returned {
         ensures return_lists { self.new.return_lists ≡ attached_to number self.old.return_lists }
         ensures room { HasPlace self.old → HasPlace self.new }
     {
-        let Some(message) = self.waiting.pop_front() else {
-            return;
-        };
-        self.attached.push_back_reserved((number, message));
+        if let Some(lists) = &mut self.lists {
+            lists.attach(number);
+        }
     }
 
     /// Takes out the message that a confirm took, if it took one.
@@ -144,14 +130,20 @@ impl Returned {
         ensures return_lists { self.new.return_lists ≡ taken_out number self.old.return_lists }
         ensures room { HasPlace self.old → HasPlace self.new }
     {
-        taken_from(&mut self.attached, number)
+        match &mut self.lists {
+            Some(lists) => lists.take(number),
+            None => None,
+        }
     }
 
     /// Whether a confirm took a message, and still has it.
     pub fn holds(&self, number: u64) -> bool
         ensures { result ≡ is_some (return_of number self.now.return_lists) }
     {
-        place_of(number, &self.attached).is_some()
+        match &self.lists {
+            Some(lists) => lists.holds(number),
+            None => false,
+        }
     }
 
     /// The number of a confirm that was set aside unresolved joins those that stand aside.
@@ -160,8 +152,12 @@ impl Returned {
         ensures err { OnErr result (self.new.return_lists ≡ self.old.return_lists) }
         ensures place { HasPlace self.old → HasPlace self.new }
     {
-        self.aside.reserve(1)?;
-        self.aside.push_back_reserved(number);
+        if let Some(lists) = &mut self.lists {
+            return lists.lay(number);
+        }
+        let mut lists = Lists::new(self.alloc);
+        lists.lay(number)?;
+        self.lists = Some(Box::new(self.alloc, lists)?);
         Ok(())
     }
 
@@ -191,14 +187,10 @@ impl Returned {
         ensures err { OnErr result (self.new.return_lists ≡ self.old.return_lists) }
         ensures place { HasPlace self.old → HasPlace self.new }
     {
-        let most = total(self.unconfirmed.len(), self.kept.len(), self.aside.len())?;
-        let mut sweep = Sweep::with_room(alloc, most, self.aside.len())?;
-        pour(&mut self.unconfirmed, &mut sweep.given);
-        pour(&mut self.kept, &mut sweep.given);
-        sweep_all(&mut self.aside, cells, &mut self.attached, &mut sweep);
-        let Sweep { left, over, given } = sweep;
-        self.aside = left;
-        Ok((given, over))
+        match &mut self.lists {
+            Some(lists) => lists.drain(alloc, cells),
+            None => Ok((Vec::new(alloc), VecDeque::new(alloc))),
+        }
     }
 
     /// A new opening begins: nothing waits, is kept or stands aside. Messages of confirms that were not asked for yet stay.
@@ -211,10 +203,9 @@ impl Returned {
         ensures counts { (length cells.new.slots ≡ length cells.old.slots) × (length origins.new.slots ≡ length origins.old.slots) }
         ensures kept { (cells.old.spare ≤ cells.new.spare) × (origins.old.spare ≤ origins.new.spare) }
     {
-        forget(&mut self.attached, &mut self.aside, cells, origins);
-        self.waiting.clear();
-        self.unconfirmed.clear();
-        self.kept.clear();
+        if let Some(lists) = &mut self.lists {
+            lists.renew(cells, origins);
+        }
     }
 
     /// The message of a confirm that was set aside resolved, if it took one, is kept.
@@ -223,93 +214,9 @@ impl Returned {
         ensures err { OnErr result (self.new.return_lists ≡ self.old.return_lists) }
         ensures place { HasPlace self.old → HasPlace self.new }
     {
-        self.kept.reserve(1)?;
-        if let Some(message) = taken_from(&mut self.attached, number) {
-            self.kept.push_back_reserved(message);
+        match &mut self.lists {
+            Some(lists) => lists.keep(number),
+            None => Ok(()),
         }
-        Ok(())
-    }
-}
-
-/// Takes out the message that a confirm took, if it took one. It walks those that were taken and not given.
-pub fn taken_from(
-    attached: &mut VecDeque<(u64, BasicReturnMessage)>,
-    number: u64,
-) -> Option<BasicReturnMessage>
-    ensures message { result ≡ message_at number attached.old.items }
-    ensures items { attached.new.items ≡ without number attached.old.items }
-    ensures room { (deque_len attached.new ≤ deque_len attached.old) × (deque_capacity attached.new ≡ deque_capacity attached.old) }
-{
-    let Some(place) = place_of(number, attached) else {
-        return None;
-    };
-    match attached.remove(place) {
-        Some((_number, message)) => Some(message),
-        None => None,
-    }
-}
-
-// Takes out the messages of these confirms. Of those that are resolved nothing is kept any more.
-fn forget(
-    attached: &mut VecDeque<(u64, BasicReturnMessage)>,
-    numbers: &mut VecDeque<u64>,
-    cells: &mut Numbered<Cell>,
-    origins: &mut Numbered<Origin>,
-)
-    ensures items { attached.new.items ≡ without_all numbers.old.items attached.old.items }
-    ensures none { numbers.new.items ≡ [] }
-    ensures room { (deque_len attached.new ≤ deque_len attached.old) × (deque_capacity attached.new ≡ deque_capacity attached.old) }
-    ensures remains { remaining cells.new.slots origins.new.slots ≡ less_all numbers.old.items (remaining cells.old.slots origins.old.slots) }
-    ensures tied { (es : List (ℕ × AConfirmMode)) → AllTied es cells.old.slots → AllTied es cells.new.slots }
-    ensures counts { (length cells.new.slots ≡ length cells.old.slots) × (length origins.new.slots ≡ length origins.old.slots) }
-    ensures kept { (cells.old.spare ≤ cells.new.spare) × (origins.old.spare ≤ origins.new.spare) }
-{
-    while let Some(number) = numbers.pop_front() {
-        if let Some(message) = taken_from(attached, number) {
-            let_go(message);
-        }
-        leave_one(cells, origins, number);
-    }
-}
-
-/// Lets a message go.
-pub fn let_go(_message: BasicReturnMessage) {}
-
-/// Lets a message go, if there is one.
-pub fn let_go_any(_message: Option<BasicReturnMessage>) {}
-
-// How many these are together.
-fn total(first: usize, second: usize, third: usize) -> Result<usize, NoMemory>
-    ensures { IfOk result (λ n. n ≡ first + second + third) }
-{
-    let Some(two) = first.checked_add(second) else {
-        return Err(NoMemory);
-    };
-    match two.checked_add(third) {
-        Some(most) => Ok(most),
-        None => Err(NoMemory),
-    }
-}
-
-// The place of the message that a confirm took.
-fn place_of(number: u64, attached: &VecDeque<(u64, BasicReturnMessage)>) -> Option<usize>
-    ensures { result ≡ place_in number attached.now.items }
-{
-    let mut place = 0;
-    while place < attached.len() {
-        if is_of(number, attached, place) {
-            return Some(place);
-        }
-        place += 1;
-    }
-    None
-}
-
-fn is_of(number: u64, attached: &VecDeque<(u64, BasicReturnMessage)>, place: usize) -> bool
-    ensures { result ≡ is_of_lem number (slice_get attached.now.items place) }
-{
-    match attached.get(place) {
-        Some(message) => message.0 == number,
-        None => false,
     }
 }

@@ -6,14 +6,16 @@ ghost use Rattle.std.specs.Prelude.{◌≡◌, ◌≢◌, ℕ, ◌+◌, ◌<◌,
 ghost use Rattle.lapin_tables.specs.ByChannel.{at_channel, on_channel};
 ghost use Rattle.lapin_confirm.specs.declared.cell.Cell.{Cell as ACell};
 ghost use Rattle.lapin_confirm.specs.WithRoom.{spare_in};
-ghost use Rattle.lapin_confirm.specs.Ties.{confirm_mode_states, returned_by_channel_of, promised, AllTied, TagFits, TagsFit, MessageFits, MessagesFit, HaveRoom, HasMore};
+ghost use Rattle.lapin_confirm.specs.Ties.{confirm_mode_states, returned_by_channel_of, promised, AllTied, TagFits, TagsFit, MessageFits, MessagesFit, HaveRoom, HasMore, deque_spare};
 
 use crate::cell::Cell;
 use crate::confirm_mode::ConfirmMode;
 use crate::origin::Origin;
 use crate::returned::Returned;
 use lapin_tables::{ByChannel, Numbered};
+use lapin_types::BasicReturnMessage;
 use std::alloc::AllocError;
+use std::collections::VecDeque;
 
 /// Whether there is room for the next publish or message of a channel.
 pub fn is_promised(rooms: &ByChannel<bool>, channel: u16) -> bool
@@ -51,10 +53,12 @@ pub fn make_room(
     origins: &mut Numbered<Origin>,
     confirm_modes: &mut ByChannel<ConfirmMode>,
     returned_by_channel: &mut ByChannel<Returned>,
+    early: &mut VecDeque<(u16, BasicReturnMessage)>,
 ) -> Result<(), AllocError>
     requires tied { AllTied confirm_modes.old.entries cells.old.slots }
     requires room { HaveRoom rooms.old.entries confirm_modes.old.entries returned_by_channel.old.entries cells.old.spare }
     requires origins { promised rooms.old.entries ≤ origins.old.spare }
+    requires early { promised rooms.old.entries ≤ deque_spare early.old }
     ensures cells { cells.new.slots ≡ cells.old.slots }
     ensures confirm_modes { confirm_mode_states confirm_modes.new.entries ≡ confirm_mode_states confirm_modes.old.entries }
     ensures returned_by_channel { returned_by_channel_of returned_by_channel.new.entries ≡ returned_by_channel_of returned_by_channel.old.entries }
@@ -65,10 +69,14 @@ pub fn make_room(
     ensures origins { origins.new.slots ≡ origins.old.slots }
     ensures kept { promised rooms.new.entries ≤ origins.new.spare }
     ensures origin { OnOk result (promised rooms.new.entries < origins.new.spare) }
+    ensures early { early.new.items ≡ early.old.items }
+    ensures early_kept { promised rooms.new.entries ≤ deque_spare early.new }
+    ensures early_more { OnOk result (promised rooms.new.entries < deque_spare early.new) }
 {
     note(channel, rooms)?;
     cells.reserve(rooms.entries().len() + 1)?;
     origins.reserve(rooms.entries().len() + 1)?;
+    early.reserve(rooms.entries().len() + 1)?;
     make_room_for_tag(channel, confirm_modes)?;
     make_room_for_message(channel, returned_by_channel)?;
     Ok(())
@@ -138,6 +146,7 @@ pub fn use_room(
     ensures rest { mode.new ≡ record mode.old { tags = mode.new.tags } }
     ensures others { (c : ℕ) → c ≢ channel → at_channel c rooms.new.entries ≡ at_channel c rooms.old.entries }
     ensures used { spare_in (at_channel channel rooms.new.entries) ≡ 0 }
+    ensures less { promised rooms.new.entries ≤ promised rooms.old.entries }
     ensures unused { OnErr result (rooms.new.entries ≡ rooms.old.entries) }
     ensures spare { OnOk result (promised rooms.new.entries < cells.new.spare) }
     ensures origin { OnOk result (promised rooms.new.entries < origins.new.spare) }

@@ -12,9 +12,8 @@ ghost use Rattle.lapin_confirm.specs.Ties.{Tied, KeepsTags, confirm_mode_state, 
 
 use crate::cell::Cell;
 use crate::confirm_mode::ConfirmMode;
-use lapin_rules::Outcome;
 use lapin_tables::Numbered;
-use lapin_types::Error;
+use lapin_types::{Error, Outcome};
 
 /// Adds a publish of the channel, in the room that was made.
 pub fn enqueue(channel: u16, mode: &mut ConfirmMode, cells: &mut Numbered<Cell>) -> u64

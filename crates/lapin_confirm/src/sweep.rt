@@ -13,8 +13,8 @@ ghost use Rattle.lapin_confirm.specs.Ties.{AllTied};
 ghost use Rattle.lapin_confirm.specs.Sweeps.{IsReady, SweptOne, SweptAll};
 
 use crate::cell::Cell;
+use crate::lists::taken_from;
 use crate::origin::Origin;
-use crate::returned::taken_from;
 use lapin_tables::Numbered;
 use lapin_types::BasicReturnMessage;
 use std::alloc::{AllocError, Global};

@@ -272,9 +272,7 @@ fn headers_with(
         Some(headers) => headers.try_clone(alloc)?,
         None => FieldTable::new(alloc),
     };
-    let Ok(name) = ShortString::new(alloc, "") else {
-        return Err(ReadFault::NoMemory);
-    };
+    let name = ShortString::empty(alloc)?;
     let list = Payload::new(alloc, list)?;
     headers.insert(alloc, name, AMQPValue::ByteArray(list))?;
     Ok(headers)

@@ -1,5 +1,8 @@
 -- What a run and the summary of its reports come to by steps.
-use Rattle.std.specs.Prelude.{◌≡◌, ℕ, ◌+◌, ◌*◌, ◌<◌, ◌^◌, List, length}
+use Rattle.std.specs.Prelude.{◌≡◌, ℕ, ◌+◌, ◌*◌, ◌<◌, ◌^◌, Bool, true, false, List, length}
+use Rattle.lapin_types.specs.declared.record.Record.{Record}
+use Rattle.lapin_types.specs.declared.record.Record.TheVariants as record_
+use Rattle.lapin_types.specs.Types.{Error}
 use Rattle.lapin_machine.specs.World.{World}
 use Rattle.lapin_machine.specs.Way.{by_machine}
 use Rattle.lapin_joint.specs.declared.step.Step.{Step}
@@ -24,3 +27,12 @@ pub record HasMade (steps : List Step) (j k : Joint World) (s t : Summary) : Typ
   pub joint : k ≡ run by_machine steps j
   pub summary : t ≡ with_reports s (reports by_machine steps j)
   pub goes : (n : ℕ) → CanGo (length steps + n) j s → CanGo n k t
+
+-- steps were made whose reports count nothing
+abbrev pub HasPassed : List Step → Joint World → Joint World → Type 0
+HasPassed steps j k = (s : Summary) → HasMade steps j k s s
+
+-- whether a publish was accepted, in the words of its record
+abbrev pub IsPublished : Bool → Record → Type 0
+IsPublished true r = (ticket : ℕ) × (number : ℕ) × (r ≡ record_.Publish ticket number)
+IsPublished false r = (e : Error) × (r ≡ record_.Refused e)

@@ -6,8 +6,9 @@ use Rattle.std.proofs.lemmas.Bool.{eq-eqb, ltb-true}
 use Rattle.std.proofs.lemmas.Bool.Decides.{eqb_tells}
 use Rattle.lapin_types.specs.declared.Error.{Error}
 use Rattle.lapin_types.specs.declared.Error.TheVariants as error
-use Rattle.lapin_rules.specs.declared.marks.Outcome.{Outcome}
-use Rattle.lapin_rules.specs.declared.marks.Outcome.TheVariants as outcome
+use Rattle.lapin_types.specs.declared.message.BasicReturnMessage.{BasicReturnMessage}
+use Rattle.lapin_types.specs.declared.outcome.Outcome.{Outcome}
+use Rattle.lapin_types.specs.declared.outcome.Outcome.TheVariants as outcome
 use Rattle.lapin_rules.specs.ConfirmMarks.{ConfirmMark}
 use Rattle.lapin_rules.specs.ConfirmMarks as mark
 use Rattle.lapin_rules.specs.ConfirmReadings.{covers, outcome_of, has_left, leaves, takes, lays, is_taken, is_aside, is_finished, channel_of, tag_of, added, first_rejected, life}
@@ -20,7 +21,7 @@ use Rattle.lapin_tables.proofs.SlotLaws.{under-other, under-same, length-with}
 use Rattle.lapin_confirm.specs.declared.cell.Cell.{Cell}
 use Rattle.lapin_confirm.specs.declared.cell.Cell.TheVariants as cell
 use Rattle.lapin_confirm.specs.PublishStates.{settled_cell, closed_cell, ended_cell, is_pending_as, is_resolved, last_on}
-use Rattle.lapin_confirm.specs.ConfirmState.{ConfirmState, return_lists_at, return_lists_in, number_from, covered_in, message_of}
+use Rattle.lapin_confirm.specs.ConfirmState.{ConfirmState, messages_on, return_lists_at, return_lists_or, number_from, covered_in, message_of}
 use Rattle.lapin_confirm.specs.Machine.{after_mark, rejected}
 use Rattle.lapin_confirm.specs.Drain.{Remains, remaining, is_over, less_one, less_all, over_aside}
 use Rattle.lapin_confirm.specs.Answers.{answer_in, answer_at, answer_with, is_unknown}
@@ -150,11 +151,11 @@ drained-other n e cells l none =
     same : filter (is_over (with_under n (failed e) cells)) l.aside ≡ filter (is_over cells) l.aside → filter (λ k. not (is_over (with_under n (failed e) cells) k)) l.aside ≡ filter (λ k. not (is_over cells k)) l.aside → drained_return_lists (is_over (with_under n (failed e) cells)) l ≡ drained_return_lists (is_over cells) l
     same over left = rw (over, left) refl
 
-on-agree : (c : ℕ) (f g : ReturnLists → ReturnLists) (ts : List (ℕ × ReturnLists)) → f (return_lists_in (at_channel c ts)) ≡ g (return_lists_in (at_channel c ts)) → on_channel c f ts ≡ on_channel c g ts
-on-agree c f g [] h = refl
-on-agree c f g (t ∷ ts) h =
-    elim (t.0 == c) as (λ b. f (return_lists_in (cond b (Some t.1) (at_channel c ts))) ≡ g (return_lists_in (cond b (Some t.1) (at_channel c ts))) → cond b ((t.0, f t.1) ∷ ts) (t ∷ on_channel c f ts) ≡ cond b ((t.0, g t.1) ∷ ts) (t ∷ on_channel c g ts))
-    [ true ↦ λ same. ap (λ l. (t.0, l) ∷ ts) same | false ↦ λ same. ap (λ us. t ∷ us) (on-agree c f g ts same) ] h
+on-agree : (c : ℕ) (f g : ReturnLists → ReturnLists) (early : List BasicReturnMessage) (ts : List (ℕ × ReturnLists)) → f (return_lists_or early (at_channel c ts)) ≡ g (return_lists_or early (at_channel c ts)) → on_channel c f ts ≡ on_channel c g ts
+on-agree c f g early [] h = refl
+on-agree c f g early (t ∷ ts) h =
+    elim (t.0 == c) as (λ b. f (return_lists_or early (cond b (Some t.1) (at_channel c ts))) ≡ g (return_lists_or early (cond b (Some t.1) (at_channel c ts))) → cond b ((t.0, f t.1) ∷ ts) (t ∷ on_channel c f ts) ≡ cond b ((t.0, g t.1) ∷ ts) (t ∷ on_channel c g ts))
+    [ true ↦ λ same. ap (λ l. (t.0, l) ∷ ts) same | false ↦ λ same. ap (λ us. t ∷ us) (on-agree c f g early ts same) ] h
 
 -- ---- one mark more
 
@@ -172,33 +173,34 @@ next-known n e p (mark.Begun c) k o =
     after_begun r = record {
       publish_states = record { confirm_modes = (after_mark p (mark.Begun c)).publish_states.confirm_modes; cells = r.cells };
       returned_by_channel = (after_mark p (mark.Begun c)).returned_by_channel;
+      early = (after_mark p (mark.Begun c)).early;
       origins = r.origins;
     }
 next-known n e p (mark.SelectCalled c) k o = refl
 next-known n e p (mark.LimitSet c l) k o = refl
-next-known n e p (mark.Added c) k o = ap (λ cs. record { publish_states = record { confirm_modes = p.publish_states.confirm_modes; cells = cs }; returned_by_channel = p.returned_by_channel; origins = (after_mark p (mark.Added c)).origins }) (sym (with-push n (failed e) (Some (cell.Queued c)) p.publish_states.cells k.within))
+next-known n e p (mark.Added c) k o = ap (λ cs. record { publish_states = record { confirm_modes = p.publish_states.confirm_modes; cells = cs }; returned_by_channel = p.returned_by_channel; early = p.early; origins = (after_mark p (mark.Added c)).origins }) (sym (with-push n (failed e) (Some (cell.Queued c)) p.publish_states.cells k.within))
 next-known n e p (mark.SelectLeft c) k o = refl
-next-known n e p (mark.Left c j) k o = ap (λ cs. record { publish_states = record { confirm_modes = (after_mark p (mark.Left c j)).publish_states.confirm_modes; cells = cs }; returned_by_channel = p.returned_by_channel; origins = p.origins }) (with-comm j n _ (failed e) p.publish_states.cells o)
+next-known n e p (mark.Left c j) k o = ap (λ cs. record { publish_states = record { confirm_modes = (after_mark p (mark.Left c j)).publish_states.confirm_modes; cells = cs }; returned_by_channel = p.returned_by_channel; early = p.early; origins = p.origins }) (with-comm j n _ (failed e) p.publish_states.cells o)
 next-known n e p (mark.Settled c s) k o =
-    ap (λ ns. record { publish_states = record { confirm_modes = p.publish_states.confirm_modes; cells = map (option_map (settled_cell c (covers s) (outcome_of s))) (with_under n (failed e) p.publish_states.cells) }; returned_by_channel = on_channel c (attached_to_all ns) p.returned_by_channel; origins = p.origins }) (covered-other c n e p (covers s) k.unpending)
-    ∙ ap (λ cs. record { publish_states = record { confirm_modes = p.publish_states.confirm_modes; cells = cs }; returned_by_channel = on_channel c (attached_to_all (covered_in c (covers s) p.publish_states)) p.returned_by_channel; origins = p.origins }) (map-comm (settled_cell c (covers s) (outcome_of s)) n (cell.Resolved (outcome.Failed e)) p.publish_states.cells refl)
+    ap (λ ns. record { publish_states = record { confirm_modes = p.publish_states.confirm_modes; cells = map (option_map (settled_cell c (covers s) (outcome_of s))) (with_under n (failed e) p.publish_states.cells) }; returned_by_channel = on_channel c (attached_to_all ns) p.returned_by_channel; early = p.early; origins = p.origins }) (covered-other c n e p (covers s) k.unpending)
+    ∙ ap (λ cs. record { publish_states = record { confirm_modes = p.publish_states.confirm_modes; cells = cs }; returned_by_channel = on_channel c (attached_to_all (covered_in c (covers s) p.publish_states)) p.returned_by_channel; early = p.early; origins = p.origins }) (map-comm (settled_cell c (covers s) (outcome_of s)) n (cell.Resolved (outcome.Failed e)) p.publish_states.cells refl)
 next-known n e p (mark.Arrived c m) k o = refl
-next-known n e p (mark.ClosedHere c x) k o = ap (λ cs. record { publish_states = record { confirm_modes = p.publish_states.confirm_modes; cells = cs }; returned_by_channel = p.returned_by_channel; origins = p.origins }) (map-comm (closed_cell c x) n (cell.Resolved (outcome.Failed e)) p.publish_states.cells refl)
-next-known n e p (mark.Ended c x) k o = ap (λ cs. record { publish_states = record { confirm_modes = (after_mark p (mark.Ended c x)).publish_states.confirm_modes; cells = cs }; returned_by_channel = p.returned_by_channel; origins = p.origins }) (map-comm (ended_cell c x) n (cell.Resolved (outcome.Failed e)) p.publish_states.cells refl)
-next-known n e p (mark.Taken j) k o = ap (λ cs. record { publish_states = record { confirm_modes = p.publish_states.confirm_modes; cells = cs }; returned_by_channel = (after_mark p (mark.Taken j)).returned_by_channel; origins = (after_mark p (mark.Taken j)).origins }) (with-comm j n None (failed e) p.publish_states.cells o)
+next-known n e p (mark.ClosedHere c x) k o = ap (λ cs. record { publish_states = record { confirm_modes = p.publish_states.confirm_modes; cells = cs }; returned_by_channel = p.returned_by_channel; early = p.early; origins = p.origins }) (map-comm (closed_cell c x) n (cell.Resolved (outcome.Failed e)) p.publish_states.cells refl)
+next-known n e p (mark.Ended c x) k o = ap (λ cs. record { publish_states = record { confirm_modes = (after_mark p (mark.Ended c x)).publish_states.confirm_modes; cells = cs }; returned_by_channel = p.returned_by_channel; early = p.early; origins = p.origins }) (map-comm (ended_cell c x) n (cell.Resolved (outcome.Failed e)) p.publish_states.cells refl)
+next-known n e p (mark.Taken j) k o = ap (λ cs. record { publish_states = record { confirm_modes = p.publish_states.confirm_modes; cells = cs }; returned_by_channel = (after_mark p (mark.Taken j)).returned_by_channel; early = p.early; origins = (after_mark p (mark.Taken j)).origins }) (with-comm j n None (failed e) p.publish_states.cells o)
 next-known n e p (mark.SetAside j) k o =
     ap (λ b. cond b (kept_by j (rejected n e p)) (laid_by j (rejected n e p))) (ap is_resolved (under-other j n (failed e) p.publish_states.cells o))
     ∙ by (is_resolved (under j p.publish_states.cells))
   where
     by : (b : Bool) → cond b (kept_by j (rejected n e p)) (laid_by j (rejected n e p)) ≡ rejected n e (cond b (kept_by j p) (laid_by j p))
-    by true = ap (λ cs. record { publish_states = record { confirm_modes = p.publish_states.confirm_modes; cells = cs }; returned_by_channel = (kept_by j p).returned_by_channel; origins = (kept_by j p).origins }) (with-comm j n None (failed e) p.publish_states.cells o)
+    by true = ap (λ cs. record { publish_states = record { confirm_modes = p.publish_states.confirm_modes; cells = cs }; returned_by_channel = (kept_by j p).returned_by_channel; early = p.early; origins = (kept_by j p).origins }) (with-comm j n None (failed e) p.publish_states.cells o)
     by false = refl
 next-known n e p (mark.Drained c) k o =
     ap (λ (r : Remains). made r (on_channel c (drained_return_lists (is_over (with_under n (failed e) p.publish_states.cells))) p.returned_by_channel)) left
-    ∙ ap (λ (ts : List (ℕ × ReturnLists)). made (wrote n e (less_all (over_aside c p) (remaining p.publish_states.cells p.origins))) ts) (on-agree c (drained_return_lists (is_over (with_under n (failed e) p.publish_states.cells))) (drained_return_lists (is_over p.publish_states.cells)) p.returned_by_channel (drained-other n e p.publish_states.cells (return_lists_at c p) (k.unlaid c)))
+    ∙ ap (λ (ts : List (ℕ × ReturnLists)). made (wrote n e (less_all (over_aside c p) (remaining p.publish_states.cells p.origins))) ts) (on-agree c (drained_return_lists (is_over (with_under n (failed e) p.publish_states.cells))) (drained_return_lists (is_over p.publish_states.cells)) (messages_on c p.early) p.returned_by_channel (drained-other n e p.publish_states.cells (return_lists_at c p) (k.unlaid c)))
   where
     made : Remains → List (ℕ × ReturnLists) → ConfirmState
-    made r ts = record { publish_states = record { confirm_modes = p.publish_states.confirm_modes; cells = r.cells }; returned_by_channel = ts; origins = r.origins }
+    made r ts = record { publish_states = record { confirm_modes = p.publish_states.confirm_modes; cells = r.cells }; returned_by_channel = ts; early = (after_mark p (mark.Drained c)).early; origins = r.origins }
 
     over : over_aside c (rejected n e p) ≡ over_aside c p
     over = filter-same n (is_over (with_under n (failed e) p.publish_states.cells)) (is_over p.publish_states.cells) (return_lists_at c p).aside (over-other n e p.publish_states.cells) (k.unlaid c)
@@ -249,13 +251,13 @@ rejected-next ms p m n e f u o = next-known n e p m (known-of n ms p f u) o
 -- ---- its result is given, or set aside
 
 pub rejected-given : (p : ConfirmState) (n : ℕ) (e : Error) → after_mark (rejected n e p) (mark.Taken n) ≡ after_mark p (mark.Taken n)
-rejected-given p n e = ap (λ cs. record { publish_states = record { confirm_modes = p.publish_states.confirm_modes; cells = cs }; returned_by_channel = (after_mark p (mark.Taken n)).returned_by_channel; origins = (after_mark p (mark.Taken n)).origins }) (with-twice n None (failed e) p.publish_states.cells)
+rejected-given p n e = ap (λ cs. record { publish_states = record { confirm_modes = p.publish_states.confirm_modes; cells = cs }; returned_by_channel = (after_mark p (mark.Taken n)).returned_by_channel; early = p.early; origins = (after_mark p (mark.Taken n)).origins }) (with-twice n None (failed e) p.publish_states.cells)
 
 pub rejected-aside : (ms : List ConfirmMark) (p : ConfirmState) (n : ℕ) (e : Error) → Follows ms p → IsUnasked n ms → after_mark (rejected n e p) (mark.SetAside n) ≡ kept_by n p
 rejected-aside ms p zero e f u = let none : 1 ≤ 0 = u.added.0 in absurd (omega arith)
 rejected-aside ms p (suc k) e f u =
     ap (λ (b : Bool). cond b (kept_by (suc k) (rejected (suc k) e p)) (laid_by (suc k) (rejected (suc k) e p))) (ap is_resolved (rejected-there k ms p e f u))
-    ∙ ap (λ cs. record { publish_states = record { confirm_modes = p.publish_states.confirm_modes; cells = cs }; returned_by_channel = (kept_by (suc k) p).returned_by_channel; origins = (kept_by (suc k) p).origins }) (with-twice (suc k) None (failed e) p.publish_states.cells)
+    ∙ ap (λ cs. record { publish_states = record { confirm_modes = p.publish_states.confirm_modes; cells = cs }; returned_by_channel = (kept_by (suc k) p).returned_by_channel; early = p.early; origins = (kept_by (suc k) p).origins }) (with-twice (suc k) None (failed e) p.publish_states.cells)
 
 -- ---- it goes on to be so
 

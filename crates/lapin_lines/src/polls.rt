@@ -2,7 +2,7 @@
 ghost use Rattle.std.specs.Prelude.{◌≡◌, ◌++◌, ◌∷◌, [], IfOk, IsOk, OnOk};
 ghost use Rattle.lapin_types.specs.declared.event.Event.TheVariants as event;
 ghost use Rattle.lapin_types.specs.declared.record.Record.TheVariants as told;
-ghost use Rattle.lapin_rules.specs.declared.marks.Outcome.TheVariants as outcome;
+ghost use Rattle.lapin_types.specs.declared.outcome.Outcome.TheVariants as outcome;
 ghost use Rattle.lapin_confirm.specs.Answers.{result_of};
 ghost use Rattle.lapin_machine.specs.Numbers.{HasNumbersFor};
 ghost use Rattle.lapin_machine.specs.Told.{ticket_record, confirm_record, next_record};
@@ -13,10 +13,9 @@ ghost use Rattle.lapin_lines.specs.Lines.{IsMet, IsTaken};
 
 use crate::steps::{last, put_refusal};
 use lapin_machine::Session;
-use lapin_rules::Outcome;
 use lapin_text::{put_answered, put_confirmed, put_item, put_refused};
 use lapin_tokens::{Tokens, put_word, u64_at};
-use lapin_types::{Answer, Confirmation, DeliveryResult, Error, NoMemory, Poll};
+use lapin_types::{Answer, Confirmation, DeliveryResult, Error, NoMemory, Outcome, Poll};
 use std::alloc::Global;
 
 // Takes a line that began with `confirm`.

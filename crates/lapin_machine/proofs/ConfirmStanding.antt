@@ -18,7 +18,7 @@ use Rattle.lapin_types.specs.Types.{Method, Error}
 use Rattle.lapin_types.specs.Types.error
 use Rattle.lapin_rules.specs.ConfirmMarks.{ConfirmMark}
 use Rattle.lapin_rules.specs.ConfirmMarks as mark
-use Rattle.lapin_rules.specs.declared.marks.Outcome.{Outcome}
+use Rattle.lapin_types.specs.declared.outcome.Outcome.{Outcome}
 use Rattle.lapin_rules.specs.declared.broker_frames.Incoming.{Incoming}
 use Rattle.lapin_rules.specs.declared.broker_frames.Incoming.TheVariants as incoming
 use Rattle.lapin_rules.specs.ConfirmReadings.{leaves, has_left, is_begun, is_selected, place, is_asked, limit_of, added, outcome_at, is_open_outcome, is_finished, was_added}
@@ -36,7 +36,7 @@ use Rattle.lapin_rules.specs.Phases.{is_up, is_lost}
 use Rattle.lapin_rules.specs.Drops.{is_off, publish_channel}
 use Rattle.lapin_rules.specs.ChannelClose.{close_ok_end}
 use Rattle.lapin_rules.specs.Incoming.{incoming_of, frame_class, frame_method}
-use Rattle.lapin_rules.specs.Wire.{Wire, state_of, phase_of, is_open, receives_on, lists_of, with_lists, with_deliveries}
+use Rattle.lapin_rules.specs.Wire.{Wire, state_of, phase_of, is_open, lists_of, with_lists, with_deliveries}
 use Rattle.lapin_rules.specs.Loss.{after_lost, lost_deliveries}
 use Rattle.lapin_rules.specs.declared.broker_frames.ConsumerPart.{ConsumerPart}
 use Rattle.lapin_rules.specs.declared.broker_frames.ConsumerPart.TheVariants as consumer
@@ -63,7 +63,7 @@ use Rattle.lapin_rules.specs.declared.broker_frames.ContentPart.TheVariants as p
 use Rattle.lapin_content.specs.declared.start.Start.{Start}
 use Rattle.lapin_content.specs.declared.start.Start.TheVariants as start
 use Rattle.lapin_content.specs.declared.start.Whole.{Whole}
-use Rattle.lapin_rules.specs.Content.{receives_part, after_part, part_marks, start_marks, whole_marks, whole_on, returned_message}
+use Rattle.lapin_rules.specs.Content.{after_part, part_marks, start_marks, whole_marks, whole_on, returned_message}
 use Rattle.lapin_rules.specs.Events.{record_of}
 use Rattle.lapin_rules.specs.History.{readings_of, polled_outcome, confirm_poll, confirm_aside}
 use Rattle.lapin_rules.proofs.ConfirmLaws.{added-push}
@@ -73,13 +73,13 @@ use Rattle.lapin_confirm.specs.ConfirmState.{ConfirmState}
 use Rattle.lapin_confirm.specs.Machine.{after_mark}
 use Rattle.lapin_confirm.specs.Follows.{Follows, WasAdded, MayCome, cell_in}
 use Rattle.lapin_confirm.proofs.CellFollowing.{stood, cell-added}
-use Rattle.lapin_confirm.proofs.Facts.{facts, and_split, leaving-stays}
+use Rattle.lapin_confirm.proofs.Facts.{facts, leaving-stays}
 use Rattle.lapin_confirm.proofs.Reading.{may-begin}
 use Rattle.lapin_confirm.proofs.Following.{follows-push}
 use Rattle.lapin_machine.specs.Tied.{IsTied}
 use Rattle.lapin_machine.proofs.Brought.{none_begins, fresh_brought}
 use Rattle.lapin_machine.proofs.HeardParts.{IsHeard, is_heard}
-use Rattle.lapin_machine.proofs.Openings.{closed_over, open_confirm_mode, heard_confirm_mode}
+use Rattle.lapin_machine.proofs.Openings.{closed_over, open_confirm_mode}
 use Rattle.lapin_machine.specs.Stands.{AreFresh, ConfirmsStand, IsShut}
 
 -- the mark is of another publish than this, and leaves it queued
@@ -320,22 +320,22 @@ stand_flow : (t : Bool) (d b : Wire) (ms : List ConfirmMark) (bk : ConfirmState)
 stand_flow true d b ms bk n q s = stand_still b d ms bk s n q
 stand_flow false d b ms bk n q s = stand_still b b ms bk s refl refl
 
--- contents: a returned message that came whole is known to the confirms of a channel that had an opening
-stand_start : (c : ℕ) (x : Start) (w : Whole) (b d : Wire) (ms : List ConfirmMark) (bk : ConfirmState) → is_begun c ms ≡ true → ConfirmsStand b ms bk → d.published ≡ b.published → d.publishes ≡ b.publishes → HeardStands b d ms (start_marks c x w) bk
-stand_start c (start.Return code text exchange key) w b d ms bk begun s n q = stand_quiet b d ms bk (mark.Arrived c (returned_message code text exchange key w)) s begun (spares_all (mark.Arrived c (returned_message code text exchange key w)) b.publishes (λ k. refl) (λ d. refl)) (added-push ms (mark.Arrived c (returned_message code text exchange key w))) n q
-stand_start c (start.Get ticket tag exchange key redelivered count) w b d ms bk begun s n q = stand_still b d ms bk s n q
-stand_start c (start.Deliver consumer tag exchange key redelivered) w b d ms bk begun s n q = stand_still b d ms bk s n q
+-- contents: a returned message that came whole
+stand_start : (c : ℕ) (x : Start) (w : Whole) (b d : Wire) (ms : List ConfirmMark) (bk : ConfirmState) → ConfirmsStand b ms bk → d.published ≡ b.published → d.publishes ≡ b.publishes → HeardStands b d ms (start_marks c x w) bk
+stand_start c (start.Return code text exchange key) w b d ms bk s n q = stand_quiet b d ms bk (mark.Arrived c (returned_message code text exchange key w)) s tt (spares_all (mark.Arrived c (returned_message code text exchange key w)) b.publishes (λ k. refl) (λ d. refl)) (added-push ms (mark.Arrived c (returned_message code text exchange key w))) n q
+stand_start c (start.Get ticket tag exchange key redelivered count) w b d ms bk s n q = stand_still b d ms bk s n q
+stand_start c (start.Deliver consumer tag exchange key redelivered) w b d ms bk s n q = stand_still b d ms bk s n q
 
-stand_whole : (c : ℕ) (w : Option Whole) (b d : Wire) (ms : List ConfirmMark) (bk : ConfirmState) → is_begun c ms ≡ true → ConfirmsStand b ms bk → d.published ≡ b.published → d.publishes ≡ b.publishes → HeardStands b d ms (whole_marks c w) bk
-stand_whole c None b d ms bk begun s n q = stand_still b d ms bk s n q
-stand_whole c (Some w) b d ms bk begun s n q = stand_start c w.start w b d ms bk begun s n q
+stand_whole : (c : ℕ) (w : Option Whole) (b d : Wire) (ms : List ConfirmMark) (bk : ConfirmState) → ConfirmsStand b ms bk → d.published ≡ b.published → d.publishes ≡ b.publishes → HeardStands b d ms (whole_marks c w) bk
+stand_whole c None b d ms bk s n q = stand_still b d ms bk s n q
+stand_whole c (Some w) b d ms bk s n q = stand_start c w.start w b d ms bk s n q
 
-stand_part : (c : ℕ) (p : ContentPart) (b : Wire) (ms : List ConfirmMark) (bk : ConfirmState) → receives_part c p b ≡ true → T b bk → ConfirmsStand b ms bk → HeardStands b (after_part c p b) ms (part_marks c p b) bk
-stand_part c (part.GetOk x) b ms bk h t s = stand_still b _ ms bk s refl refl
-stand_part c (part.Return x) b ms bk h t s = stand_still b _ ms bk s refl refl
-stand_part c (part.Deliver tag x) b ms bk h t s = stand_still b _ ms bk s refl refl
-stand_part c (part.Header x) b ms bk h t s = stand_whole c (whole_on c (part.Header x) b) b _ ms bk (begun_by c ms bk s.confirm_state (heard_confirm_mode b.link c b.phases b.publishes bk.publish_states (and_split (receives_on (state_of c b)) _ h).0 t)) s refl refl
-stand_part c (part.Body bytes) b ms bk h t s = stand_whole c (whole_on c (part.Body bytes) b) b _ ms bk (begun_by c ms bk s.confirm_state (heard_confirm_mode b.link c b.phases b.publishes bk.publish_states (and_split (receives_on (state_of c b)) _ h).0 t)) s refl refl
+stand_part : (c : ℕ) (p : ContentPart) (b : Wire) (ms : List ConfirmMark) (bk : ConfirmState) → ConfirmsStand b ms bk → HeardStands b (after_part c p b) ms (part_marks c p b) bk
+stand_part c (part.GetOk x) b ms bk s = stand_still b _ ms bk s refl refl
+stand_part c (part.Return x) b ms bk s = stand_still b _ ms bk s refl refl
+stand_part c (part.Deliver tag x) b ms bk s = stand_still b _ ms bk s refl refl
+stand_part c (part.Header x) b ms bk s = stand_whole c (whole_on c (part.Header x) b) b _ ms bk s refl refl
+stand_part c (part.Body bytes) b ms bk s = stand_whole c (whole_on c (part.Body bytes) b) b _ ms bk s refl refl
 
 stand_consumer : (c : ℕ) (p : ConsumerPart) (b : Wire) (ms : List ConfirmMark) (bk : ConfirmState) → ConfirmsStand b ms bk → ConfirmsStand (after_consumer c p b) (ms ++ []) bk
 stand_consumer c (consumer.ConsumeOk tag) b ms bk s = stand_still b _ ms bk s refl refl
@@ -346,7 +346,7 @@ stand_consumer c (consumer.Cancel tag nowait) b ms bk s = stand_flow (is_open (s
 stand_received : (i : Incoming) (b : Wire) (ms : List ConfirmMark) (bk : ConfirmState) → IsHeard i record_.Received b → IsShut b → T b bk → ConfirmsStand b ms bk → HeardStands b (after_received i b) ms (received_marks i b) bk
 stand_received (incoming.Reply c k a) b ms bk heard shut t s = stand_still b _ ms bk s refl refl
 stand_received (incoming.Settlement c x) b ms bk heard shut t s = stand_quiet b b ms bk (mark.Settled c x) s tt (spares_all (mark.Settled c x) b.publishes (λ k. refl) (λ d. refl)) (added-push ms (mark.Settled c x)) refl refl
-stand_received (incoming.Content c p) b ms bk heard shut t s = stand_part c p b ms bk heard t s
+stand_received (incoming.Content c p) b ms bk heard shut t s = stand_part c p b ms bk s
 stand_received (incoming.Consumer c p) b ms bk heard shut t s = stand_consumer c p b ms bk s
 stand_received (incoming.ChannelClose c code) b ms bk heard shut t s = stand_ended c _ b _ ms bk s refl refl
 stand_received (incoming.ChannelCloseOk c) b ms bk heard shut t s = stand_close_ok c (phase_of c b) b ms bk s

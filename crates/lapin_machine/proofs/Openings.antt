@@ -125,9 +125,6 @@ closed_over l c phases h =
 pub open_confirm_mode : (l : ConnectionPhase) (c : ℕ) (phases : List (ℕ × ChannelPhase)) (ps : List Publish) (b : PublishStates) → is_open (state_at l c (at_channel c phases)) ≡ true → IsTied l phases ps b → IsSome (at_channel c b.confirm_modes)
 open_confirm_mode l c phases ps b h t = t.confirm_modes c (open_opening l c phases h).some
 
-pub heard_confirm_mode : (l : ConnectionPhase) (c : ℕ) (phases : List (ℕ × ChannelPhase)) (ps : List Publish) (b : PublishStates) → receives_on (state_at l c (at_channel c phases)) ≡ true → IsTied l phases ps b → IsSome (at_channel c b.confirm_modes)
-heard_confirm_mode l c phases ps b h t = t.confirm_modes c (heard_opening l c phases h).some
-
 -- a channel whose opening a crossed close ended
 pub crossed_over : (l : ConnectionPhase) (c : ℕ) (phases : List (ℕ × ChannelPhase)) → close_ok_end (phase_in (at_channel c phases)) ≡ None → receives_close_ok (state_at l c (at_channel c phases)) ≡ true → is_live_on l (at_channel c phases) ≡ false
 crossed_over l c phases ended h = let s = stood l c (at_channel c phases) receives_close_ok refl refl h in rw s.up (over (at_channel c phases) ended s.at)

@@ -7,8 +7,8 @@ use Rattle.lapin_types.specs.declared.message.BasicReturnMessage.{BasicReturnMes
 use Rattle.lapin_types.specs.declared.record.Record.TheVariants as record_
 use Rattle.lapin_types.specs.Types.error
 use Rattle.lapin_tables.specs.Numbered.{under}
-use Rattle.lapin_rules.specs.declared.marks.Outcome.{Outcome}
-use Rattle.lapin_rules.specs.declared.marks.Outcome.TheVariants as outcome
+use Rattle.lapin_types.specs.declared.outcome.Outcome.{Outcome}
+use Rattle.lapin_types.specs.declared.outcome.Outcome.TheVariants as outcome
 use Rattle.lapin_rules.specs.ConfirmMarks.{ConfirmMark}
 use Rattle.lapin_rules.specs.ConfirmReadings.{outcome_at, is_finished, was_added}
 use Rattle.lapin_rules.specs.ReturnReadings.{message_of}

@@ -3,7 +3,7 @@
 //! What a consumer was handed and what waits for it stands in `lapin_consumer`; how deliveries come stands in
 //! `receiving_contents` and `whole`, ends in `closing` and `receiving_closes`.
 
-ghost use Rattle.std.specs.Prelude.{◌≡◌, true, Some, Ok, IfOk, OnOk, OnErr};
+ghost use Rattle.std.specs.Prelude.{◌≡◌, true, Some, Ok, IfOk, OnOk, OnErr, not};
 ghost use Rattle.lapin_types.specs.declared.event.Event.TheVariants as event;
 ghost use Rattle.lapin_rules.specs.declared.calls.Asked.TheVariants as ask;
 ghost use Rattle.lapin_rules.specs.Asking.{call_record};
@@ -11,11 +11,10 @@ ghost use Rattle.lapin_consumer.specs.Subscriptions.{consumer_at, let_go_answer}
 ghost use Rattle.lapin_rules.specs.Consumers.{job_record as job_record_lem};
 ghost use Rattle.lapin_machine.specs.Consumers.{let_go_on, let_go_tag};
 ghost use Rattle.lapin_machine.specs.World.{told_by, next, asking};
-ghost use Rattle.lapin_machine.specs.Told.{TicketTold, DelegateTold, DropTold, next_record as next_record_lem};
+ghost use Rattle.lapin_machine.specs.Told.{TicketTold, DelegateTold, DropTold, next_record as next_record_lem, is_pending_record};
 ghost use Rattle.lapin_machine.specs.Numbers.{HasCause, HasNumbers, AskCause};
 
 use crate::channel::Ticket;
-use crate::receiving_consumers::no_text;
 use crate::session::{Session, is_open};
 use lapin_types::{
     Answer, BasicConsumeOptions, BasicMethod, DeliveryResult, Error, Job, Method, NoMemory, Poll,
@@ -84,6 +83,13 @@ impl Session {
             Ok(None) => Ok(Poll::Pending),
             Err(error) => Err(error),
         }
+    }
+
+    /// Whether a poll of the consumer would not be pending.
+    pub fn consumer_ready(&self, consumer: u64) -> bool
+        ensures { result ≡ not (is_pending_record (told_by self.now (event.PollConsumer consumer))) }
+    {
+        self.deliveries.consumers.ready(consumer)
     }
 
     /// Gives a consumer a delegate: all that waits for it becomes jobs, in order, and so does what comes, where it is active.
@@ -167,7 +173,7 @@ impl Session {
     {
         match self.deliveries.tag(consumer) {
             Some(tag) => tag.try_clone(alloc),
-            None => no_text(alloc),
+            None => ShortString::empty(alloc),
         }
     }
 

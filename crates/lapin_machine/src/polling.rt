@@ -12,8 +12,7 @@ ghost use Rattle.lapin_machine.specs.Told.{AsideTold, wait_told, ticket_record a
 ghost use Rattle.lapin_machine.specs.Numbers.{HasCause, HasNumbers, OnlyMemory};
 
 use crate::session::Session;
-use lapin_rules::Outcome;
-use lapin_types::{Answer, Confirmation, Error, NoMemory, Poll, Record, ReturnedList};
+use lapin_types::{Answer, Confirmation, Error, NoMemory, Outcome, Poll, Record, ReturnedList};
 use std::alloc::Global;
 
 impl Session {

@@ -217,7 +217,7 @@ impl Session {
             .first(channel, ReplyKind::BasicConsumeOk)
         {
             Some(request) => queue_in(alloc, &request.reply),
-            None => no_text(alloc),
+            None => ShortString::empty(alloc),
         }
     }
 }
@@ -228,17 +228,7 @@ fn queue_in(alloc: Global, reply: &Reply) -> Result<ShortString, NoMemory>
 {
     match reply {
         Reply::BasicConsumeOk { queue, .. } => queue.try_clone(alloc),
-        _ => no_text(alloc),
-    }
-}
-
-// No text.
-pub(crate) fn no_text(alloc: Global) -> Result<ShortString, NoMemory>
-    ensures { IfOk result (λ text. text ≡ []) }
-{
-    match ShortString::new(alloc, "") {
-        Ok(text) => Ok(text),
-        Err(_) => Err(NoMemory),
+        _ => ShortString::empty(alloc),
     }
 }
 

@@ -1,6 +1,6 @@
 //! Frames that leave: what a frame request hands out, and what leaving does to confirms, tickets and closes.
 
-ghost use Rattle.std.specs.Prelude.{◌≡◌, ◌&&◌, ℕ, true, false, Option, Some, None, IfOk, OnOk, OnErr};
+ghost use Rattle.std.specs.Prelude.{◌≡◌, ◌&&◌, ℕ, true, false, Option, Some, None, IfOk, OnOk, OnErr, is_some};
 ghost use Rattle.std.specs.List.{fold, list_any};
 ghost use Rattle.lapin_types.specs.declared.event.Event.TheVariants as event;
 ghost use Rattle.lapin_rules.specs.Handing.{handed, handed_out};
@@ -50,6 +50,20 @@ impl Session {
             return self.hand_again(alloc);
         }
         self.hand_next(alloc, flow)
+    }
+
+    /// Whether `next_frame` would hand out a frame, so that whoever writes to a socket is woken for nothing else. Nothing changes.
+    ///
+    /// # Errors
+    /// `NoMemory` alone, to pass over the publishes of a full channel.
+    pub fn has_next(&mut self, flow: bool) -> Result<bool, NoMemory>
+        ensures told { IfOk result (λ has. has ≡ is_some (given self.old.returned (handed flow (full_in self.old.confirm_state) self.old.wire))) }
+        ensures same { self.new ≡ self.old }
+    {
+        let content_flows = self.flows(flow);
+        self.outstanding
+            .outbox
+            .has_next_unless(content_flows, &self.confirms)
     }
 
     /// Gives the frame back that was handed out last: the next frame request hands it out once more. It counts as left, so no

@@ -1,6 +1,7 @@
 -- The first number of a key that passes, and what is kept of the numbers that were passed over.
-use Rattle.std.proofs.Common.{◌≡◌, ◌≢◌, ℕ, zero, suc, ◌+◌, ◌-◌, ◌<◌, ◌≤◌, ◌==◌, nat_le, nat_lt, Bool, true, false, cond, List, [], ◌∷◌, ◌++◌, length, get_or, Contains, MatchOption, Option, Some, None, refl, sym, ◌∙◌, ap, subst, arith, length-append, ◌⊎◌, inl, inr}
+use Rattle.std.proofs.Common.{◌≡◌, ◌≢◌, ℕ, zero, suc, ◌+◌, ◌-◌, ◌<◌, ◌≤◌, ◌==◌, nat_le, nat_lt, Bool, true, false, cond, List, [], ◌∷◌, ◌++◌, length, get_or, Contains, MatchOption, Option, Some, None, is_some, refl, sym, ◌∙◌, ap, subst, arith, length-append, ◌⊎◌, inl, inr}
 use Rattle.std.specs.Bool.{if◌then◌else◌}
+use Rattle.std.specs.Prelude.{◌||◌}
 use Rattle.std.specs.List.{filter, find}
 use Rattle.std.specs.Option.{option_map, IsSome}
 use Rattle.std.proofs.lemmas.Bool.{true≢false, leb-true, leb-false, ltb-true, ltb-false}
@@ -253,11 +254,23 @@ contains-filtered test c (x ∷ xs) h passes = elim (contains-tail x c xs h) [
 abbrev pub still_waits : ℕ → List (Option ℕ) → ℕ → Bool
 still_waits passed keys c = is_up_to passed (first_on c keys)
 
-pub held-filtered : (passed : ℕ) (held new : List ℕ) (keys : List (Option ℕ)) → AreHeld passed held keys → new ≡ filter (still_waits passed keys) held → AreHeld passed new keys
-held-filtered passed held new keys h is = record {
+-- what is filtered by a test that each key passes of which a number waits
+pub held-filtered : (test : ℕ → Bool) (passed : ℕ) (held new : List ℕ) (keys : List (Option ℕ)) → ((c : ℕ) → still_waits passed keys c ≡ true → test c ≡ true) → AreHeld passed held keys → new ≡ filter test held → AreHeld passed new keys
+held-filtered test passed held new keys waits h is = record {
   within = h.within;
-  each = λ n c le at. subst (λ (xs : List ℕ). Contains xs c) (sym is) (contains-filtered (still_waits passed keys) c held (h.each n c le at) (waits-up-to passed n c keys le at));
+  each = λ n c le at. subst (λ (xs : List ℕ). Contains xs c) (sym is) (contains-filtered test c held (h.each n c le at) (waits c (waits-up-to passed n c keys le at)));
 }
+
+-- a full key is kept too
+abbrev pub full_or_waits : (ℕ → Bool) → ℕ → List (Option ℕ) → ℕ → Bool
+full_or_waits full passed keys c = full c || still_waits passed keys c
+
+pub waits-kept : (full : ℕ → Bool) (passed : ℕ) (keys : List (Option ℕ)) (c : ℕ) → still_waits passed keys c ≡ true → full_or_waits full passed keys c ≡ true
+waits-kept full passed keys c waits = or-right (full c) (still_waits passed keys c) waits
+  where
+    or-right : (a b : Bool) → b ≡ true → (a || b) ≡ true
+    or-right true b e = refl
+    or-right false b e = e
 
 up-to-next : (n passed number : ℕ) → number ≡ passed + 1 → n ≤ number → (n ≡ number) ⊎ (n ≤ passed)
 up-to-next n passed number next le = elim (eqb_tells n number) [
@@ -278,13 +291,18 @@ held-next passed number held new keys h next lt more here = record {
 pub held-none : (passed number : ℕ) (held : List ℕ) (keys : List (Option ℕ)) → AreHeld passed held keys → number ≡ passed + 1 → passed < length keys → under number keys ≡ None → AreHeld number held keys
 held-none passed number held keys h next lt none = held-next passed number held held keys h next lt (λ c x. x) (λ c at. let no : ◌≡◌ {A = Option ℕ} (Some c) None = sym at ∙ none in cc)
 
-pub held-already : (passed number key : ℕ) (held : List ℕ) (keys : List (Option ℕ)) → AreHeld passed held keys → number ≡ passed + 1 → passed < length keys → under number keys ≡ Some key → is_up_to passed (first_on key keys) ≡ true → AreHeld number held keys
-held-already passed number key held keys h next lt is waits =
-    let old = up-to-waits passed key keys waits in
+-- a key that is held already stays so
+pub held-standing : (passed number key : ℕ) (held : List ℕ) (keys : List (Option ℕ)) → AreHeld passed held keys → number ≡ passed + 1 → passed < length keys → under number keys ≡ Some key → Contains held key → AreHeld number held keys
+held-standing passed number key held keys h next lt is stands =
     held-next passed number held held keys h next lt (λ c x. x) (λ c at.
     let some : Some key ≡ Some c = sym is ∙ at in
     let same : key ≡ c = cc in
-    subst (λ (d : ℕ). Contains held d) same (h.each old.0 key old.1 old.2))
+    subst (λ (d : ℕ). Contains held d) same stands)
+
+pub held-already : (passed number key : ℕ) (held : List ℕ) (keys : List (Option ℕ)) → AreHeld passed held keys → number ≡ passed + 1 → passed < length keys → under number keys ≡ Some key → is_up_to passed (first_on key keys) ≡ true → AreHeld number held keys
+held-already passed number key held keys h next lt is waits =
+    let old = up-to-waits passed key keys waits in
+    held-standing passed number key held keys h next lt is (h.each old.0 key old.1 old.2)
 
 pub held-now : (passed number key : ℕ) (held new : List ℕ) (keys : List (Option ℕ)) → AreHeld passed held keys → number ≡ passed + 1 → passed < length keys → under number keys ≡ Some key → new ≡ held ++ key ∷ [] → AreHeld number new keys
 held-now passed number key held new keys h next lt is pushed =
@@ -364,6 +382,10 @@ clear-later t keys c m b is not = clear-first t keys c b m is (ltb-false m b not
 
 -- ---- the entries under the numbers
 
+next_is_some : (o : Option ℕ) → is_some (option_map suc o) ≡ is_some o
+next_is_some None = refl
+next_is_some (Some n) = refl
+
 module _ {X : Type 0} (f : X → ℕ) (t : ℕ → Bool) where
   pub found-where : (n : ℕ) (os : List (Option X)) → first_where t (keys_by f os) ≡ Some n → under n os ≡ find (of_key f t) (kept os)
   found-where n [] h = cc
@@ -411,6 +433,15 @@ module _ {X : Type 0} (f : X → ℕ) (t : ℕ → Bool) where
     | inr other ↦
         let rest = none-found os (no-number (first_where t (keys_by f os)) (sym (goes-on t (Some (f x)) (keys_by f os) other) ∙ h)) in
         (rw other rest.0, rw other (ap (λ xs. x ∷ xs) rest.1))
+  ]
+
+  -- a number is found exactly where an entry is
+  pub any_where : (os : List (Option X)) → is_some (first_where t (keys_by f os)) ≡ is_some (find (of_key f t) (kept os))
+  any_where [] = refl
+  any_where (None ∷ os) = next_is_some (first_where t (keys_by f os)) ∙ any_where os
+  any_where (Some x ∷ os) = elim (decide (t (f x))) [
+    | inl passes ↦ rw passes refl
+    | inr other ↦ rw other (next_is_some (first_where t (keys_by f os)) ∙ any_where os)
   ]
 
   -- the entry under the number is there

@@ -3,7 +3,7 @@
 //! The outbox keeps its methods in one line and its publishes in another, by their channels. What an entry is, and when it is
 //! taken, is `queues`, which alone calls this file.
 
-ghost use Rattle.std.specs.Prelude.{◌≡◌, ℕ, ◌+◌, ◌<◌, ◌≤◌, ◌++◌, ◌∷◌, [], IsOk, IfOk, OnOk, OnErr, drop, slice_get};
+ghost use Rattle.std.specs.Prelude.{◌≡◌, ℕ, ◌+◌, ◌<◌, ◌≤◌, ◌++◌, ◌∷◌, [], IsOk, IfOk, OnOk, OnErr, drop, slice_get, is_some};
 ghost use Rattle.std.specs.List.{find};
 ghost use Rattle.lapin_rules.specs.Frames.{is_empty};
 ghost use Rattle.lapin_rules.specs.Words.{without_first};
@@ -111,6 +111,20 @@ impl<T: Keyed> ChannelQueue<T> {
         let number = self.order.take_first(key)?;
         self.entries.take(number)
     }
+
+    /// Whether there is an entry of a key that isn't full. The entries stay, also where there is no memory to pass over one.
+    #[tactic(auto, using(crate::proofs::PassedOver::any_where))]
+    pub(crate) fn has_unless<F: FullChannels>(&mut self, full: &F) -> Result<bool, NoMemory>
+        ensures told { IfOk result (λ has. has ≡ is_some (find (of_key T.key_of (not_full (F.full full.now))) self.old.entries)) }
+        ensures same { self.new.entries ≡ self.old.entries }
+        ensures kept { self.old.spare ≤ self.new.spare }
+    {
+        match self.order.first_unless(full) {
+            Ok(number) => Ok(number.is_some()),
+            Err(NoMemory) => Err(NoMemory),
+        }
+    }
+
     /// Takes out the first entry of a key that isn't full; `None` exactly where there is none. The others keep their order. Where
     /// there is no memory all stay.
     pub(crate) fn pop_unless<F: FullChannels>(&mut self, full: &F) -> Result<Option<T>, NoMemory>

@@ -199,6 +199,22 @@ impl Outbox {
         self.queues.pop(alloc, self.frame_max, flow, full)
     }
 
+    /// Whether `pop_unless` would hand out a frame. All stays, also where there is no memory to pass over a publish.
+    pub fn has_next_unless<F: FullChannels>(
+        &mut self,
+        flow: bool,
+        full: &F,
+    ) -> Result<bool, NoMemory>
+        ensures told { IfOk result (λ has. has ≡ is_some (popped (unless_full flow (F.full full.now)) self.old.what)) }
+        ensures same { self.new.what ≡ self.old.what }
+        ensures room { self.old.spare ≤ self.new.spare }
+    {
+        if self.retrying() {
+            return Ok(true);
+        }
+        self.queues.has_next(flow, full)
+    }
+
     // Takes out the frame that was given back, marked as handed out once more. It stands apart, so that a request that finds none
     // moves no empty place.
     #[inline(never)]

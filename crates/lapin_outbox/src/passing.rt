@@ -102,7 +102,7 @@ impl Passing {
             return Ok(Some(first));
         }
         skip_taken(&self.order, &mut self.passed, &self.held, first);
-        let_go(&self.order, self.passed, &mut self.held);
+        let_go(&self.order, self.passed, &mut self.held, full);
         match first_held(&self.order, self.passed, &self.held, full) {
             Some(number) => Ok(Some(number)),
             None => pass_over(&self.order, &mut self.passed, &mut self.held, full),
@@ -131,12 +131,12 @@ fn skip_taken(order: &Order, passed: &mut u64, held: &[u16], first: u64)
     }
 }
 
-// Lets go of the held keys of which no number that was passed over waits.
-fn let_go(order: &Order, passed: u64, held: &mut Vec<u16>)
+// Lets go of the held keys that aren't full and of which no number that was passed over waits. A full key needs no look-up: it is kept.
+fn let_go<F: FullChannels>(order: &Order, passed: u64, held: &mut Vec<u16>, full: &F)
     requires { AreHeld passed held.old.items order.now.keys }
     ensures { AreHeld passed held.new.items order.now.keys }
 {
-    held.retain(|key| waits_up_to(order, *key, passed));
+    held.retain(|key| full.is_full(*key) || waits_up_to(order, *key, passed));
 }
 
 // Whether a number of a key waits that was passed over.
@@ -215,7 +215,8 @@ fn pass_over<F: FullChannels>(
     Ok(None)
 }
 
-// The key of the next number is held, where one waits there. It is held already where a number of it waits that was passed over.
+// The key of the next number is held, where one waits there. It is held already where a number of it waits that was passed over, and maybe
+// where none does and it is full; none is held twice.
 fn hold(order: &Order, passed: u64, number: u64, held: &mut Vec<u16>) -> Result<(), NoMemory>
     requires next { number ≡ passed + 1 }
     requires within { passed < length order.now.keys }
@@ -227,6 +228,9 @@ fn hold(order: &Order, passed: u64, number: u64, held: &mut Vec<u16>) -> Result<
         return Ok(());
     };
     if waits_up_to(order, key, passed) {
+        return Ok(());
+    }
+    if held.contains(&key) {
         return Ok(());
     }
     held.push(key)?;

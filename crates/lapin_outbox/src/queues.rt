@@ -203,6 +203,22 @@ impl Queues {
         begin_publish(&mut self.publishes, &mut self.begun, frame_max, flow, full)
     }
 
+    /// Whether `pop` would hand out a frame. The lists stay, also where there is no memory to pass over a publish.
+    pub(crate) fn has_next<F: FullChannels>(
+        &mut self,
+        flow: bool,
+        full: &F,
+    ) -> Result<bool, NoMemory>
+        ensures told { IfOk result (λ has. has ≡ is_some (handed_of (unless_full flow (F.full full.now)) self.old.lists.rest self.old.lists.methods self.old.lists.publishes)) }
+        ensures same { self.new.lists ≡ self.old.lists }
+        ensures room { self.old.spare ≤ self.new.spare }
+    {
+        if !self.rest_is_empty() || !self.methods.is_empty() {
+            return Ok(true);
+        }
+        may_one_begin(&mut self.publishes, flow, full)
+    }
+
     /// Takes out the first publish of a channel that has not begun; `None` exactly where there is none.
     pub(crate) fn drop_unbegun(&mut self, channel: u16) -> Option<Dropped>
         ensures told { result ≡ slice_get (unbegun_of channel self.old.lists) 0 }
@@ -318,6 +334,23 @@ fn next_publish<F: FullChannels>(
         publishes.pop_unless(full)
     } else {
         Ok(None)
+    }
+}
+
+// Whether a publish may begin.
+fn may_one_begin<F: FullChannels>(
+    publishes: &mut ChannelQueue<Publish>,
+    flow: bool,
+    full: &F,
+) -> Result<bool, NoMemory>
+    ensures told { IfOk result (λ may. may ≡ is_some (find (may_begin (unless_full flow (F.full full.now))) publishes.old.entries)) }
+    ensures same { publishes.new.entries ≡ publishes.old.entries }
+    ensures kept { publishes.old.spare ≤ publishes.new.spare }
+{
+    if flow {
+        publishes.has_unless(full)
+    } else {
+        Ok(false)
     }
 }
 

@@ -166,6 +166,27 @@ pub const RETURNED: &str = "\
     take 4 -> ack -
     drain 2 -> 0";
 
+// A message that comes on a channel without any opening is unconfirmed, whatever else is called there: a drain of its channel gives it,
+// and the first opening lets it go, that of its own channel alone.
+pub const EARLY: &str = "\
+    arrived 1 a -> done
+    arrived 2 b -> done
+    reserve 1 -> done
+    reserve 2 -> done
+    select 1 -> done
+    arrived 1 c -> done
+    ack-all 1 -> done
+    drain 3 -> 0
+    drain 1 -> 2 a c
+    drain 1 -> 0
+    arrived 1 d -> done
+    arrived 2 e -> done
+    begin 1 -> done
+    drain 1 -> 0
+    arrived 1 f -> done
+    drain 2 -> 2 b e
+    drain 1 -> 1 f";
+
 // A message that waits at an end stays until the next opening begins, and none is left then.
 pub const EMPTIED: &str = "\
     begin 1 -> done

@@ -6,15 +6,14 @@ ghost use Rattle.lapin_confirm.specs.PublishStates.{is_open_on};
 
 use crate::alike::put;
 use crate::confirm_scripts::{
-    BARE, EMPTIED, LEAVING, REJECTS, RETURNED, SETTLEMENTS, TAGS, WINDOW,
+    BARE, EARLY, EMPTIED, LEAVING, REJECTS, RETURNED, SETTLEMENTS, TAGS, WINDOW,
 };
 use crate::script::{Part, Words, runs};
 use crate::texts::{
     bit, channel, digits, done, error, failed, number, refused, returned, said, unread, unused,
 };
 use lapin_confirm::{Confirms, SettleKind};
-use lapin_rules::Outcome;
-use lapin_types::{BasicReturnMessage, Confirmation, Error, NoMemory, ReturnedList};
+use lapin_types::{BasicReturnMessage, Confirmation, Error, NoMemory, Outcome, ReturnedList};
 use std::alloc::Global;
 use std::test::Fail;
 
@@ -276,6 +275,7 @@ fn confirms_take_tags_and_are_settled(rt: HostRuntime) -> Result<(), Fail> {
         SETTLEMENTS,
         WINDOW,
         RETURNED,
+        EARLY,
         EMPTIED,
         REJECTS,
         BARE,

@@ -5,8 +5,8 @@ use Rattle.std.specs.Option.{option_or}
 use Rattle.lapin_rules.specs.declared.marks.SettleKind.{SettleKind}
 use Rattle.lapin_rules.specs.declared.marks.SettleKind.TheVariants as kind
 use Rattle.lapin_rules.specs.declared.marks.Settlement.{Settlement}
-use Rattle.lapin_rules.specs.declared.marks.Outcome.{Outcome}
-use Rattle.lapin_rules.specs.declared.marks.Outcome.TheVariants as outcome
+use Rattle.lapin_types.specs.declared.outcome.Outcome.{Outcome}
+use Rattle.lapin_types.specs.declared.outcome.Outcome.TheVariants as outcome
 use Rattle.lapin_rules.specs.ConfirmMarks.{ConfirmMark}
 use Rattle.lapin_rules.specs.ConfirmMarks as mark
 use Rattle.lapin_rules.specs.Words.{after, through, since, many, nth, after_nth}

@@ -8,7 +8,7 @@ use Rattle.lapin_types.specs.Types.{Error}
 use Rattle.lapin_types.specs.declared.record.Record.TheVariants as record_
 use Rattle.lapin_types.specs.Types.error
 use Rattle.lapin_rules.specs.ConfirmMarks.{ConfirmMark}
-use Rattle.lapin_rules.specs.declared.marks.Outcome.{Outcome}
+use Rattle.lapin_types.specs.declared.outcome.Outcome.{Outcome}
 use Rattle.lapin_rules.specs.ConfirmReadings.{is_selected, place, is_pending, was_added, is_finished, is_asked, limit_of, is_full, is_at_limit, outcome_at}
 use Rattle.lapin_rules.specs.ReturnReadings.{message_of, drained, is_waited}
 use Rattle.lapin_rules.specs.TicketReadings.{TicketMark, given, is_collected, answer_of}

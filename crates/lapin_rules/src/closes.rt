@@ -70,9 +70,7 @@ pub fn has_sent_close(phase: ChannelPhase) -> bool
 pub fn session_close(alloc: Global, kind: SettleKind) -> Result<Method, NoMemory>
     ensures { IfOk result (λ m. m ≡ session_close_lem kind) }
 {
-    let Ok(reply_text) = ShortString::new(alloc, "PRECONDITION_FAILED") else {
-        return Err(NoMemory);
-    };
+    let reply_text = ShortString::literal(alloc, "PRECONDITION_FAILED")?;
     Ok(Method::Channel(ChannelMethod::Close {
         reply_code: 406,
         reply_text,
@@ -85,9 +83,7 @@ pub fn session_close(alloc: Global, kind: SettleKind) -> Result<Method, NoMemory
 pub fn unexpected_close(alloc: Global, class: u16, number: u16) -> Result<Method, NoMemory>
     ensures { IfOk result (λ m. m ≡ unexpected_close_lem class number) }
 {
-    let Ok(reply_text) = ShortString::new(alloc, "UNEXPECTED_FRAME") else {
-        return Err(NoMemory);
-    };
+    let reply_text = ShortString::literal(alloc, "UNEXPECTED_FRAME")?;
     Ok(Method::Connection(ConnectionMethod::Close {
         reply_code: 505,
         reply_text,

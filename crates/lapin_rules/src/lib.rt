@@ -22,5 +22,5 @@ pub use closes::{
     close_ok_end, consumers_end, failed_at_close, has_sent_close, session_close, unexpected_close,
 };
 pub use flow::FullChannels;
-pub use marks::{AtLeaving, Outcome, SettleKind, Settlement};
+pub use marks::{AtLeaving, SettleKind, Settlement};
 pub use phases::{ChannelMove, ChannelPhase, Closer, ConnectionMove, ConnectionPhase};

@@ -1,8 +1,6 @@
-//! The small words in which marks speak of settlements, outcomes and leaving. The marks stand in `specs/`.
+//! The small words in which marks speak of settlements and leaving. The marks stand in `specs/`.
 //!
 //! Plain data alone: nothing here decides anything.
-
-use lapin_types::Error;
 
 /// Whether the broker took a publish over or refused it (RabbitMQ publisher confirms: `basic.ack`, `basic.nack`).
 #[derive(Clone, Copy, Debug, PartialEq, Eq)]
@@ -18,17 +16,6 @@ pub struct Settlement {
     /// The delivery tag of the frame.
     pub tag: u64,
     pub multiple: bool,
-}
-
-/// How a confirm ended.
-#[derive(Clone, Copy, Debug, PartialEq, Eq)]
-pub enum Outcome {
-    /// Its method frame left before the opening's first `confirm.select`.
-    NotRequested,
-    Ack,
-    Nack,
-    /// The opening ended, or this side closed it before the method frame left.
-    Failed(Error),
 }
 
 /// The answer that the leaving of its last frame gives a call's ticket.

@@ -14,6 +14,7 @@ use Rattle.lapin_outbox.specs.contracts.replies.Replies as replies_
 use Rattle.lapin_ticket.specs.contracts.Slot as slot_
 use Rattle.lapin_ticket.specs.contracts.given.Given as given_
 use Rattle.lapin_ticket.specs.contracts.Tickets as tickets_
+use Rattle.lapin_confirm.specs.contracts.lists.Lists as lists_
 use Rattle.lapin_confirm.specs.contracts.returned.Returned as returned_messages_
 use Rattle.lapin_confirm.specs.contracts.confirms.Confirms as confirms_
 use Rattle.lapin_content.specs.contracts.entry.Entry as entry_
@@ -67,11 +68,14 @@ given_send = search (crosses, sendable) depth 400 fits 200000
 pub tickets_send : IsSend tickets_.the_row
 tickets_send = search (slot_field_send, given_send, crosses, sendable) depth 400 fits 200000
 
+pub lists_send : IsSend lists_.the_row
+lists_send = search (returned_send, crosses, sendable) depth 400 fits 200000
+
 pub returned_messages_send : IsSend returned_messages_.the_row
-returned_messages_send = search (returned_send, crosses, sendable) depth 400 fits 200000
+returned_messages_send = search (lists_send, crosses, sendable) depth 400 fits 200000
 
 pub confirms_send : IsSend confirms_.the_row
-confirms_send = search (returned_messages_send, crosses, sendable) depth 400 fits 200000
+confirms_send = search (returned_messages_send, returned_send, crosses, sendable) depth 400 fits 200000
 
 pub entry_send : IsSend entry_.the_row
 entry_send = search (properties_send, text_send, crosses, sendable) depth 400 fits 200000

@@ -20,4 +20,3 @@ pub use lapin_machine::{
     Consumer, Heard, Published, PublisherConfirm, Session, Ticket, own_close_waits_alone,
     run_session,
 };
-pub use lapin_rules::Outcome;

@@ -1,12 +1,11 @@
 -- Laws of the words of a table by channel number, for its own code and for crates above.
-use Rattle.std.proofs.Common.{◌≡◌, ◌≢◌, ℕ, zero, suc, ◌<◌, ◌==◌, Bool, true, false, cond, List, [], ◌∷◌, ◌++◌, length, map, Option, Some, None, refl, sym, ◌∙◌, ap, subst, arith, slice_get, slice_set, get_or, inl, inr, ne_eqb}
-use Rattle.std.specs.Option.{option_map, option_flatten, option_or}
+use Rattle.std.proofs.Common.{◌≡◌, ◌≢◌, ℕ, zero, suc, ◌<◌, ◌==◌, Bool, true, false, cond, List, [], ◌∷◌, ◌++◌, length, map, Option, Some, None, refl, sym, ◌∙◌, ap, arith, slice_set, get_or, inl, inr, ne_eqb}
+use Rattle.std.specs.Option.{option_map, option_or}
 use Rattle.std.proofs.lemmas.Bool.Decides.{eqb_tells}
 use Rattle.lapin_tables.specs.ByChannel.{at_channel, on_channel}
-use Rattle.lapin_tables.specs.Index.{place_of, IsIndex}
-use Rattle.lapin_tables.proofs.Lists.{get-set_same, get-set_other}
+use Rattle.lapin_tables.specs.Index.{place_of}
 
-nowhere-later : (o : Option ℕ) → option_map suc o ≡ None → o ≡ None
+pub nowhere-later : (o : Option ℕ) → option_map suc o ≡ None → o ≡ None
 nowhere-later None h = refl
 nowhere-later (Some q) h = cc
 
@@ -87,22 +86,6 @@ module _ {T : Type 0} where
       elim (e.0 == d) as (λ b. cond b (Some 0) (option_map suc (place_of d (es ++ (c, v) ∷ []))) ≡ option_or (cond b (Some 0) (option_map suc (place_of d es))) (cond (c == d) (Some (suc (length es))) None)) [
         | true ↦ refl
         | false ↦ ap (option_map suc) (place-push c d v es) ∙ suc-or (place_of d es) (c == d) (length es)
-      ]
-
-  -- an index stays one as a new channel gets its place
-  pub index-push : (c : ℕ) (v : T) (ps : List (Option ℕ)) (es : List (ℕ × T)) → IsIndex ps es → c < length ps → at_channel c es ≡ None → IsIndex (slice_set ps c (Some (length es))) (es ++ (c, v) ∷ [])
-  index-push c v ps es index within none d =
-      elim (eqb_tells c d) [
-        | inl same ↦
-            let P : ℕ → Type 0 = λ k. slice_get (slice_set ps c (Some (length es))) k ≡ Some (Some (length es)) in
-            let Q : ℕ → Type 0 = λ k. place_of k es ≡ None in
-            let nowhere : place_of d es ≡ None = subst Q same.1 (unplaced c es none) in
-            ap option_flatten (subst P same.1 (get-set_same ps c (Some (length es)) within))
-            ∙ sym (place-push c d v es ∙ rw (nowhere, same.0) refl)
-        | inr other ↦
-            ap option_flatten (get-set_other ps c d (Some (length es)) other.1)
-            ∙ index d
-            ∙ sym (place-push c d v es ∙ rw other.0 (or-none (place_of d es)))
       ]
 
   -- the value of a channel after a new channel was added

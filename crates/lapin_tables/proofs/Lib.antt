@@ -1,5 +1,6 @@
 pub mod Lists
 pub mod Channels
+pub mod Index
 pub mod Passed
 pub mod Slots
 pub mod Counts

@@ -17,14 +17,14 @@ use std::marker::Model;
 #[derive(Drop)]
 pub struct ByChannel<T> {
     entries: Vec<(u16, T)>,
-    // By channel number: the place of its entry, if it has one.
-    places: Vec<Option<usize>>,
+    // By channel number: the place of its entry, if it has one; that it has one is told by the entry that stands there.
+    places: Vec<u16>,
 }
 
 impl<T> Model for ByChannel<T> {
     ghost use Rattle.std.specs.Prelude.{◌-◌, vec_len, vec_capacity};
     ghost use Rattle.lapin_tables.specs.ByChannel.{Table, table_code};
-    ghost use Rattle.lapin_tables.specs.Index.{IsIndex};
+    ghost use Rattle.lapin_tables.specs.Index.{IsFitting};
 
     ghost Value = { Table T };
 
@@ -36,7 +36,7 @@ impl<T> Model for ByChannel<T> {
       reach = vec_len a.places;
     } };
 
-    ghost invariant = { λ a. IsIndex a.places.items a.entries.items };
+    ghost invariant = { λ a. IsFitting a.places.items a.entries.items };
 }
 
 impl<T> ByChannel<T> {
@@ -105,9 +105,17 @@ impl<T> ByChannel<T> {
     fn place_at(&self, number: usize) -> Option<usize>
         ensures { result ≡ place_of number self.now.entries }
     {
-        match self.places.get(number) {
-            Some(place) => *place,
-            None => None,
+        if number >= self.places.len() {
+            return None;
+        }
+        let place = usize::from(self.places[number]);
+        if place >= self.entries.len() {
+            return None;
+        }
+        if usize::from(self.entries[place].0) == number {
+            Some(place)
+        } else {
+            None
         }
     }
 
@@ -127,11 +135,7 @@ impl<T> ByChannel<T> {
         ensures kept { (self.old.spare ≤ self.new.spare) × (self.old.reach ≤ self.new.reach) }
     {
         self.entries.reserve(1)?;
-        let reach = usize::from(channel) + 1;
-        if self.places.len() < reach {
-            self.places.resize(reach, None)?;
-        }
-        Ok(())
+        self.reach_to(channel)
     }
 
     /// Makes room for the `insert_reserved` of a channel beside so many that are promised theirs. The entries stay, also where
@@ -143,9 +147,18 @@ impl<T> ByChannel<T> {
         ensures kept { (self.old.spare ≤ self.new.spare) × (self.old.reach ≤ self.new.reach) }
     {
         self.entries.reserve(promised + 1)?;
+        self.reach_to(channel)
+    }
+
+    // Reaches far enough for a channel.
+    fn reach_to(&mut self, channel: u16) -> Result<(), AllocError>
+        ensures reached { OnOk result (channel < self.new.reach) }
+        ensures same { self.new ≡ record self.old { reach = self.new.reach } }
+        ensures kept { self.old.reach ≤ self.new.reach }
+    {
         let reach = usize::from(channel) + 1;
         if self.places.len() < reach {
-            self.places.resize(reach, None)?;
+            self.places.resize(reach, 0)?;
         }
         Ok(())
     }
@@ -160,7 +173,7 @@ impl<T> ByChannel<T> {
     {
         let place = self.entries.len();
         self.entries.push_reserved((channel, value));
-        self.places[usize::from(channel)] = Some(place);
+        self.places[usize::from(channel)] = place as u16;
     }
 }
 

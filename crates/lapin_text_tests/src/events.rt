@@ -43,7 +43,7 @@ fn a_line_says_its_call_of_an_acker(rt: HostRuntime) -> Result<(), Fail> {
 #[test]
 fn a_line_says_its_get(rt: HostRuntime) -> Result<(), Fail> {
     let alloc = rt.alloc();
-    let queue = ShortString::new(alloc, "q")?;
+    let queue = ShortString::literal(alloc, "q")?;
     let options = BasicGetOptions { no_ack: true };
     let get = Event::Call(1, Call::BasicGet { queue, options });
     assert!(rt; says(alloc, "call 1 basic.get x71 1", get)?);
@@ -53,7 +53,7 @@ fn a_line_says_its_get(rt: HostRuntime) -> Result<(), Fail> {
 #[test]
 fn a_line_says_its_cancel(rt: HostRuntime) -> Result<(), Fail> {
     let alloc = rt.alloc();
-    let consumer_tag = ShortString::new(alloc, "t")?;
+    let consumer_tag = ShortString::literal(alloc, "t")?;
     let options = BasicCancelOptions { nowait: true };
     let cancel = Event::Call(
         1,
@@ -93,8 +93,8 @@ fn a_line_says_its_publish_that_may_be_refused(rt: HostRuntime) -> Result<(), Fa
 
 fn publish_that_may_be_refused(alloc: Global) -> Result<Event, Fail> {
     let call = Call::TryBasicPublish {
-        exchange: ShortString::new(alloc, "e")?,
-        routing_key: ShortString::new(alloc, "k")?,
+        exchange: ShortString::literal(alloc, "e")?,
+        routing_key: ShortString::literal(alloc, "k")?,
         options: BasicPublishOptions {
             mandatory: true,
             immediate: false,

@@ -37,7 +37,7 @@ get-map f (y ∷ xs) zero x h = let same : y ≡ x = cc in ap (λ z. Some (f z))
 get-map f (y ∷ xs) (suc k) x h = get-map f xs k x h
 
 -- what a mark does to the slot of ticket n
-abbrev slot_after : ℕ → TicketMark → Option Slot → Option Slot
+abbrev pub slot_after : ℕ → TicketMark → Option Slot → Option Slot
 slot_after n (mark.Begun j) o = cond (j == n) (begun_slot o) o
 slot_after n (mark.LastLeft j) o = cond (j == n) (left_slot o) o
 slot_after n (mark.Answered j a) o = cond (j == n) (answered_slot a o) o
@@ -53,7 +53,7 @@ same_or true o = refl
 same_or false o = refl
 
 -- a slot that is empty stays so
-gone_stays : (n : ℕ) (m : TicketMark) → None ≡ slot_after n m None
+pub gone_stays : (n : ℕ) (m : TicketMark) → None ≡ slot_after n m None
 gone_stays n (mark.Given c l) = refl
 gone_stays n (mark.Begun j) = same_or (j == n) None
 gone_stays n (mark.LastLeft j) = same_or (j == n) None
@@ -65,7 +65,7 @@ gone_stays n (mark.Collected j) = same_or (j == n) None
 gone_stays n (mark.SetAside j) = same_or (j == n) None
 
 -- what a mark does to a ticket that has an answer
-held_stays : (n c : ℕ) (l : AtLeaving) (b : Bool) (x : Result Answer Error) (m : TicketMark) → cond (closes n m) None (Some (slot.Held x)) ≡ slot_after n m (Some (slot.Held x))
+pub held_stays : (n c : ℕ) (l : AtLeaving) (b : Bool) (x : Result Answer Error) (m : TicketMark) → cond (closes n m) None (Some (slot.Held x)) ≡ slot_after n m (Some (slot.Held x))
 held_stays n c l b x (mark.Given d k) = refl
 held_stays n c l b x (mark.Begun j) = same_or (j == n) (Some (slot.Held x))
 held_stays n c l b x (mark.LastLeft j) = same_or (j == n) (Some (slot.Held x))
@@ -77,7 +77,7 @@ held_stays n c l b x (mark.Collected j) = refl
 held_stays n c l b x (mark.SetAside j) = refl
 
 -- and to one that is open
-open_moves : (n c : ℕ) (l : AtLeaving) (b : Bool) (m : TicketMark) → cond (closes n m) None (Some (held c l (b || begins n m) (answer_by n c l b m))) ≡ slot_after n m (Some (slot.Open c l b))
+pub open_moves : (n c : ℕ) (l : AtLeaving) (b : Bool) (m : TicketMark) → cond (closes n m) None (Some (held c l (b || begins n m) (answer_by n c l b m))) ≡ slot_after n m (Some (slot.Open c l b))
 open_moves n c l true (mark.Given d k) = refl
 open_moves n c l false (mark.Given d k) = refl
 open_moves n c l true (mark.Begun j) = elim (j == n) as (λ x. Some (slot.Open c l true) ≡ cond x (Some (slot.Open c l true)) (Some (slot.Open c l true))) [ true ↦ refl | false ↦ refl ]
@@ -164,17 +164,20 @@ failed_get : (k d : ℕ) (spared : Option ℕ) (e : Error) (xs : List (Option Sl
 failed_get k d None e xs o lt is = get-map (failed_slot d e) xs k o is
 failed_get k d (Some j) e xs o lt is = let long : length (map (failed_slot d e) xs) ≡ length xs = length-map xs (failed_slot d e) in put_back j k xs (map (failed_slot d e) xs) o (failed_slot d e o) (omega arith) is (get-map (failed_slot d e) xs k o is)
 
--- a mark that gives no ticket
+-- a mark that gives no ticket, as ticket k + 1 sees it
+pub marked-slot : (xs : List (Option Slot)) (m : TicketMark) (k : ℕ) (o : Option Slot) → gives m ≡ false → k < length xs → slice_get xs k ≡ Some o → slice_get (after_mark xs m) k ≡ Some (slot_after (suc k) m o)
+marked-slot xs (mark.Given c l) k o none lt is = cc
+marked-slot xs (mark.Begun j) k o none lt is = under_write j k begun_slot xs o lt is
+marked-slot xs (mark.LastLeft j) k o none lt is = under_write j k left_slot xs o lt is
+marked-slot xs (mark.Answered j a) k o none lt is = under_write j k (answered_slot a) xs o lt is
+marked-slot xs (mark.ClosedHere c e) k o none lt is = get-map (closed_slot c e) xs k o is
+marked-slot xs (mark.OpeningFailed c spared e) k o none lt is = failed_get k c spared e xs o lt is
+marked-slot xs (mark.AllFailed e) k o none lt is = get-map (answered_slot (Err e)) xs k o is
+marked-slot xs (mark.Collected j) k o none lt is = under_write j k (λ _. None) xs o lt is
+marked-slot xs (mark.SetAside j) k o none lt is = under_write j k (λ _. None) xs o lt is
+
 moved-slot : (ms : List TicketMark) (xs : List (Option Slot)) (m : TicketMark) → Follows ms xs → gives m ≡ false → (k : ℕ) → k < given ms → slice_get (after_mark xs m) k ≡ Some (slot_after (suc k) m (slot_of (suc k) ms))
-moved-slot ms xs (mark.Given c l) f none k old = cc
-moved-slot ms xs (mark.Begun j) f none k old = let count : length xs ≡ given ms = f.count in under_write j k begun_slot xs (slot_of (suc k) ms) (omega arith) (f.slot k old)
-moved-slot ms xs (mark.LastLeft j) f none k old = let count : length xs ≡ given ms = f.count in under_write j k left_slot xs (slot_of (suc k) ms) (omega arith) (f.slot k old)
-moved-slot ms xs (mark.Answered j a) f none k old = let count : length xs ≡ given ms = f.count in under_write j k (answered_slot a) xs (slot_of (suc k) ms) (omega arith) (f.slot k old)
-moved-slot ms xs (mark.ClosedHere c e) f none k old = get-map (closed_slot c e) xs k (slot_of (suc k) ms) (f.slot k old)
-moved-slot ms xs (mark.OpeningFailed c spared e) f none k old = let count : length xs ≡ given ms = f.count in failed_get k c spared e xs (slot_of (suc k) ms) (omega arith) (f.slot k old)
-moved-slot ms xs (mark.AllFailed e) f none k old = get-map (answered_slot (Err e)) xs k (slot_of (suc k) ms) (f.slot k old)
-moved-slot ms xs (mark.Collected j) f none k old = let count : length xs ≡ given ms = f.count in under_write j k (λ _. None) xs (slot_of (suc k) ms) (omega arith) (f.slot k old)
-moved-slot ms xs (mark.SetAside j) f none k old = let count : length xs ≡ given ms = f.count in under_write j k (λ _. None) xs (slot_of (suc k) ms) (omega arith) (f.slot k old)
+moved-slot ms xs m f none k old = let count : length xs ≡ given ms = f.count in marked-slot xs m k (slot_of (suc k) ms) none (omega arith) (f.slot k old)
 
 quiet-slot : (ms : List TicketMark) (xs : List (Option Slot)) (m : TicketMark) → Follows ms xs → gives m ≡ false → (k : ℕ) → k < given (ms ++ m ∷ []) → slice_get (after_mark xs m) k ≡ Some (slot_of (suc k) (ms ++ m ∷ []))
 quiet-slot ms xs m f none k lt =
@@ -203,6 +206,17 @@ slots-follow ms xs (mark.SetAside j) f k lt = quiet-slot ms xs (mark.SetAside j)
 length-failed : (c : ℕ) (spared : Option ℕ) (e : Error) (xs : List (Option Slot)) → length (failed c spared e xs) ≡ length xs
 length-failed c None e xs = length-map xs (failed_slot c e)
 length-failed c (Some j) e xs = length-with j (under j xs) (map (failed_slot c e) xs) ∙ length-map xs (failed_slot c e)
+
+pub length-marked : (xs : List (Option Slot)) (m : TicketMark) → gives m ≡ false → length (after_mark xs m) ≡ length xs
+length-marked xs (mark.Given c l) none = cc
+length-marked xs (mark.Begun j) none = length-with j _ xs
+length-marked xs (mark.LastLeft j) none = length-with j _ xs
+length-marked xs (mark.Answered j a) none = length-with j _ xs
+length-marked xs (mark.ClosedHere c x) none = length-map xs (closed_slot c x)
+length-marked xs (mark.OpeningFailed c spared x) none = length-failed c spared x xs
+length-marked xs (mark.AllFailed x) none = length-map xs (answered_slot (Err x))
+length-marked xs (mark.Collected j) none = length-with j None xs
+length-marked xs (mark.SetAside j) none = length-with j None xs
 
 count-follows : (ms : List TicketMark) (xs : List (Option Slot)) (m : TicketMark) → length xs ≡ given ms → length (after_mark xs m) ≡ given (ms ++ m ∷ [])
 count-follows ms xs (mark.Given c l) e = rw (given-push ms (mark.Given c l)) (omega (arith, length-append xs (Some (slot.Open c l false) ∷ [])))

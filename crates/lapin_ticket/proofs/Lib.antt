@@ -4,3 +4,5 @@ pub mod Ending
 pub mod Walking
 pub mod Listing
 pub mod Once
+pub mod Shown
+pub mod Blocks

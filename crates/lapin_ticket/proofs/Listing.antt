@@ -1,18 +1,17 @@
 -- The numbers of a channel after a write, and the open tickets that stand among them.
-use Rattle.std.proofs.Common.{◌≡◌, ℕ, zero, suc, ◌<◌, ◌≤◌, ◌==◌, true, false, cond, not, ◌&&◌, ◌+◌, ◌⊎◌, List, [], ◌∷◌, ◌++◌, drop, map, length, Bool, Err, Option, Some, None, refl, sym, ◌∙◌, ap, subst, arith, slice_get, inl, inr, eq-eqb}
+use Rattle.std.proofs.Common.{◌≡◌, ℕ, zero, suc, ◌<◌, ◌≤◌, ◌==◌, true, false, cond, not, ◌&&◌, ◌+◌, ◌⊎◌, List, [], ◌∷◌, ◌++◌, drop, length, Bool, Option, Some, None, refl, sym, ◌∙◌, ap, subst, arith, slice_get, inl, inr, eq-eqb}
 use Rattle.std.specs.Option.{option_or, option_map}
 use Rattle.std.proofs.lemmas.Bool.Decides.{eqb_tells}
-use Rattle.lapin_types.specs.Types.{Error}
 use Rattle.lapin_tables.specs.ByChannel.{at_channel, on_channel}
-use Rattle.lapin_tables.specs.Numbered.{under, with_under}
+use Rattle.lapin_tables.specs.Numbered.{under}
 use Rattle.lapin_tables.proofs.Channels.{at-push, at-on_same, at-on_other}
 use Rattle.lapin_tables.proofs.SlotLaws.{under-pushed}
 use Rattle.lapin_rules.specs.declared.marks.AtLeaving.{AtLeaving}
-use Rattle.lapin_rules.specs.TicketReadings.{is_publish, answer_at}
+use Rattle.lapin_rules.specs.TicketReadings.{is_publish}
 use Rattle.lapin_rules.proofs.ChannelLaws.{at-on}
 use Rattle.lapin_ticket.specs.declared.Slot.{Slot}
 use Rattle.lapin_ticket.specs.declared.Slot.TheVariants as slot
-use Rattle.lapin_ticket.specs.Slots.{begun_slot, left_slot, held_or, rejects, is_open_on, failed_slot, failed}
+use Rattle.lapin_ticket.specs.Slots.{rejects, is_open_on}
 use Rattle.lapin_ticket.specs.Given.{GivenOnChannel, numbers_in, numbers_on, HasRoomIn, IsReady, Stands, AreListed, starts_closed}
 
 -- ---- a write of one channel's numbers
@@ -175,67 +174,11 @@ listed-drop c slots old new closed is listed = λ d n h.
         cc
     behind (m ∷ ns) d n closed h (suc k, e) = (k, e)
 
--- ---- marks of one ticket
-
-spared-open : (c : ℕ) (f : Option Slot → Option Slot) → ((o : Option Slot) → is_open_on c (f o) ≡ true → is_open_on c o ≡ true) → (j n : ℕ) (xs : List (Option Slot)) → is_open_on c (under n (with_under j (f (under j xs)) xs)) ≡ true → is_open_on c (under n xs) ≡ true
-spared-open c f back zero n xs h = h
-spared-open c f back (suc k) zero xs h = h
-spared-open c f back (suc k) (suc n) [] h = h
-spared-open c f back (suc zero) (suc zero) (o ∷ xs) h = back o h
-spared-open c f back (suc zero) (suc (suc n)) (o ∷ xs) h = h
-spared-open c f back (suc (suc k)) (suc zero) (o ∷ xs) h = h
-spared-open c f back (suc (suc k)) (suc (suc n)) (o ∷ xs) h = spared-open c f back (suc k) (suc n) xs h
-
-pub open-begun : (c j n : ℕ) (xs : List (Option Slot)) → is_open_on c (under n (with_under j (begun_slot (under j xs)) xs)) ≡ true → is_open_on c (under n xs) ≡ true
-open-begun c j n xs h = spared-open c begun_slot back j n xs h
-  where
-    back : (o : Option Slot) → is_open_on c (begun_slot o) ≡ true → is_open_on c o ≡ true
-    back None h = h
-    back (Some (slot.Open d l b)) h = h
-    back (Some (slot.Held a)) h = h
-
-pub open-left : (c j n : ℕ) (xs : List (Option Slot)) → is_open_on c (under n (with_under j (left_slot (under j xs)) xs)) ≡ true → is_open_on c (under n xs) ≡ true
-open-left c j n xs h = spared-open c left_slot back j n xs h
-  where
-    back : (o : Option Slot) → is_open_on c (left_slot o) ≡ true → is_open_on c o ≡ true
-    back None h = h
-    back (Some (slot.Open d l b)) h = elim (answer_at l) as (λ a. is_open_on c (Some (held_or (slot.Open d l b) a)) ≡ true → (c == d) ≡ true) [ None ↦ λ h. h | Some a ↦ λ h. cc ] h
-    back (Some (slot.Held a)) h = h
-
+-- what a close looks for is open
 pub rejects-open : (c : ℕ) (o : Option Slot) → rejects c o ≡ true → is_open_on c o ≡ true
 rejects-open c None h = cc
 rejects-open c (Some (slot.Open d l b)) h = elim (c == d) as (λ x. (x && (is_publish l && not b)) ≡ true → x ≡ true) [ true ↦ λ h. refl | false ↦ λ h. cc ] h
 rejects-open c (Some (slot.Held a)) h = cc
-
--- ---- the end of an opening
-
-module _ (d : ℕ) (f : Option Slot → Option Slot) (back : (o : Option Slot) → is_open_on d (f o) ≡ true → is_open_on d o ≡ true) where
-  open-mapped : (n : ℕ) (xs : List (Option Slot)) → is_open_on d (under n (map f xs)) ≡ true → is_open_on d (under n xs) ≡ true
-  open-mapped zero xs h = h
-  open-mapped (suc n) [] h = h
-  open-mapped (suc zero) (o ∷ xs) h = back o h
-  open-mapped (suc (suc n)) (o ∷ xs) h = open-mapped (suc n) xs h
-
-  open-but : (k n : ℕ) (xs : List (Option Slot)) → is_open_on d (under n (with_under k (under k xs) (map f xs))) ≡ true → is_open_on d (under n xs) ≡ true
-  open-but zero n xs h = open-mapped n xs h
-  open-but (suc k) zero xs h = h
-  open-but (suc k) (suc n) [] h = h
-  open-but (suc zero) (suc zero) (o ∷ xs) h = h
-  open-but (suc zero) (suc (suc n)) (o ∷ xs) h = open-mapped (suc n) xs h
-  open-but (suc (suc k)) (suc zero) (o ∷ xs) h = back o h
-  open-but (suc (suc k)) (suc (suc n)) (o ∷ xs) h = open-but (suc k) (suc n) xs h
-
-pub open-failed : (d c n : ℕ) (spared : Option ℕ) (e : Error) (xs : List (Option Slot)) → is_open_on d (under n (failed c spared e xs)) ≡ true → is_open_on d (under n xs) ≡ true
-open-failed d c n spared e xs h = at spared h
-  where
-    back : (o : Option Slot) → is_open_on d (failed_slot c e o) ≡ true → is_open_on d o ≡ true
-    back None h = h
-    back (Some (slot.Open k l b)) h = elim (c == k) as (λ x. is_open_on d (cond x (Some (slot.Held (Err e))) (Some (slot.Open k l b))) ≡ true → (d == k) ≡ true) [ true ↦ λ h. cc | false ↦ λ h. h ] h
-    back (Some (slot.Held a)) h = h
-
-    at : (o : Option ℕ) → is_open_on d (under n (failed c o e xs)) ≡ true → is_open_on d (under n xs) ≡ true
-    at None h = open-mapped d (failed_slot c e) back n xs h
-    at (Some k) h = open-but d (failed_slot c e) back k n xs h
 
 -- the channel of an open ticket
 pub open-here : (d c : ℕ) (l : AtLeaving) (b : Bool) → is_open_on d (Some (slot.Open c l b)) ≡ true → c ≡ d

@@ -3,3 +3,4 @@ pub mod Slots
 pub mod Follows
 pub mod Given
 pub mod Room
+pub mod Packed

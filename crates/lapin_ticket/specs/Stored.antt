@@ -11,5 +11,6 @@ abbrev pub held_by : Stored → Result Answer Error
 held_by kept.Done = Ok answer.Done
 held_by kept.Yes = Ok answer.Yes
 held_by (kept.Confirm n) = Ok (answer.Confirm n)
+held_by (kept.Channel c) = Ok (answer.Channel c)
 held_by (kept.Failed e) = Err e
 held_by (kept.Boxed b) = Ok b.value

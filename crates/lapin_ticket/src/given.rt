@@ -39,12 +39,15 @@ impl Numbers {
         }
     }
 
-    // Makes room for one more.
+    // Makes room for one more. The first room is for one alone, since a channel mostly has no more at once.
     fn reserve(&mut self) -> Result<(), NoMemory>
         ensures room { OnOk result (0 < self.new.spare) }
         ensures same { self.new.numbers ≡ self.old.numbers }
         ensures spared { self.old.spare ≤ self.new.spare }
     {
+        if self.queue.capacity() == 0 {
+            self.queue.reserve_exact(1)?;
+        }
         self.queue.reserve(1)?;
         Ok(())
     }

@@ -3,8 +3,9 @@
 //! An answer that is wide stands in a box, so that each slot is narrow, and the box is made before anything changes: a `Place`.
 //! Answers that many calls get need none. Nothing here says which call gets which answer.
 
-ghost use Rattle.std.specs.Prelude.{◌≡◌, Ok, Err};
+ghost use Rattle.std.specs.Prelude.{◌≡◌, Some, Ok, Err, IfSome};
 ghost use Rattle.lapin_types.specs.declared.answer.Answer.TheVariants as answer;
+ghost use Rattle.lapin_ticket.specs.Packed.{read_mark};
 
 use lapin_types::{Answer, Error, NoMemory};
 use std::alloc::Global;
@@ -48,6 +49,7 @@ enum Stored {
     Done,
     Yes,
     Confirm(u64),
+    Channel(u16),
     Failed(Error),
     Boxed(Box<Answer>),
 }
@@ -113,12 +115,54 @@ impl Held {
         }
     }
 
-    /// Any answer, in the room that was made for it.
+    /// Any answer, in the room that was made for it. That of an opening needs none, so it takes none while nobody asks for it.
     pub fn in_place(place: Place, answer: Answer) -> Held
         ensures { result ≡ Ok answer }
     {
+        if let Answer::Channel(channel) = answer {
+            return Held {
+                kept: Stored::Channel(channel),
+            };
+        }
         Held {
             kept: Stored::Boxed(place.filled(answer)),
+        }
+    }
+
+    /// The mark of the answer, where it takes no memory and is no error: 1 where the call is done, 2 where an acknowledgement has
+    /// left, from 3 on the confirm that is so many behind the first one; none where that is too far.
+    pub(crate) fn mark(&self, first: u64) -> Option<u8>
+        ensures { IfSome result (λ m. read_mark first m ≡ Some self.now) }
+    {
+        match &self.kept {
+            Stored::Done => Some(1),
+            Stored::Yes => Some(2),
+            Stored::Confirm(number) => confirm_mark(first, *number),
+            Stored::Channel(_) | Stored::Failed(_) | Stored::Boxed(_) => None,
+        }
+    }
+
+    /// The answer of a mark; none for 0.
+    pub(crate) fn of_mark(first: u64, mark: u8) -> Option<Held>
+        ensures { result ≡ read_mark first mark }
+    {
+        if mark == 0 {
+            return None;
+        }
+        if mark == 1 {
+            return Some(Held::done());
+        }
+        if mark == 2 {
+            return Some(Held::yes());
+        }
+        Some(Held::confirm(first.wrapping_add(u64::from(mark - 3))))
+    }
+
+    /// The number of the confirm, where the answer is one.
+    pub(crate) fn confirm_number(&self) -> Option<u64> {
+        match &self.kept {
+            Stored::Confirm(number) => Some(*number),
+            _ => None,
         }
     }
 
@@ -131,8 +175,23 @@ impl Held {
             Stored::Done => Ok(Answer::Done),
             Stored::Yes => Ok(Answer::Yes),
             Stored::Confirm(number) => Ok(Answer::Confirm(number)),
+            Stored::Channel(channel) => Ok(Answer::Channel(channel)),
             Stored::Failed(error) => Err(error),
             Stored::Boxed(room) => Ok(Box::into_inner(room)),
         }
     }
+}
+
+// The mark of a confirm, where it is not too far behind the first one.
+fn confirm_mark(first: u64, number: u64) -> Option<u8>
+    ensures { IfSome result (λ m. read_mark first m ≡ Some (Ok (answer.Confirm number))) }
+{
+    if number < first {
+        return None;
+    }
+    let away = number - first;
+    if away > 252 {
+        return None;
+    }
+    Some(away as u8 + 3)
 }

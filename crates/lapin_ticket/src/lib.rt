@@ -7,6 +7,8 @@ mod ends;
 mod given;
 mod held;
 pub mod laws;
+mod packed;
+mod settling;
 mod slots;
 
 ghost use Rattle.std.specs.Prelude.{◌≡◌, ℕ, ◌+◌, ◌^◌, ◌<◌, ◌++◌, ◌∷◌, true, false, List, [], length, map, not, is_ok, OnOk, MatchOption, Option, Some, None, Err, if◌then◌else◌};
@@ -21,6 +23,8 @@ ghost use Rattle.lapin_ticket.specs.Follows.{Follows, WasGiven};
 
 use crate::ends::let_go;
 use crate::given::Given;
+use crate::packed::{Block, drop_packed, give_packed};
+use crate::settling::settle;
 pub use held::{Held, Place};
 use lapin_rules::AtLeaving;
 use lapin_tables::Numbered;
@@ -43,11 +47,17 @@ pub enum Slot {
 pub struct Tickets {
     slots: Numbered<Slot>,
     given: Given,
+    // The answers that nobody asked for while many further tickets were given; such a ticket has no slot.
+    blocks: Numbered<Block>,
 }
 
 impl Drop for Tickets {
     fn drop(self) {
-        let Tickets { slots: _, given: _ } = self;
+        let Tickets {
+            slots: _,
+            given: _,
+            blocks: _,
+        } = self;
     }
 }
 
@@ -60,9 +70,11 @@ impl Model for Tickets {
 
     ghost coded = { issued_code };
 
-    ghost view = { λ a. record { slots = a.slots.slots; ready = a.given.ready } };
+    ghost use Rattle.lapin_ticket.specs.Packed.{IsPacked, shown};
 
-    ghost invariant = { λ a. AreListed a.slots.slots a.given.channels × HasSlot a.given.ready a.slots.spare };
+    ghost view = { λ a. record { slots = shown 0 a.blocks.slots a.slots.slots; ready = a.given.ready } };
+
+    ghost invariant = { λ a. AreListed a.slots.slots a.given.channels × (HasSlot a.given.ready a.slots.spare × IsPacked a.blocks.slots a.slots.slots) };
 }
 
 impl Tickets {
@@ -73,10 +85,12 @@ impl Tickets {
         Tickets {
             slots: Numbered::new(alloc),
             given: Given::new(alloc),
+            blocks: Numbered::new(alloc),
         }
     }
 
     /// How many tickets were given.
+    #[tactic(auto, using(crate::proofs::Shown::length_shown))]
     pub fn count(&self) -> u64
         ensures { result ≡ length self.now.slots }
     {
@@ -84,6 +98,7 @@ impl Tickets {
     }
 
     /// The number that the next ticket gets, or `None` where it would pass the greatest `u64`.
+    #[tactic(auto, using(crate::proofs::Shown::length_shown))]
     pub fn next_number(&self) -> Option<u64>
         ensures { MatchOption result (length self.now.slots + 1 ≡ 2 ^ 64) (λ n. n ≡ length self.now.slots + 1) }
     {
@@ -100,6 +115,7 @@ impl Tickets {
     }
 
     /// Gives the next ticket to a call on a channel, in the room that `reserve` made for the channel. It takes no memory.
+    #[tactic(auto, using(crate::proofs::Shown::length_shown))]
     pub fn give(&mut self, channel: u16, at_leaving: AtLeaving) -> u64
         requires room { self.old.ready ≡ Some channel }
         requires numbers { length self.old.slots + 1 < 2 ^ 64 }
@@ -111,6 +127,7 @@ impl Tickets {
             .slots
             .push_reserved(Slot::Open(channel, at_leaving, false));
         self.given.push(channel, number);
+        settle(&mut self.slots, &mut self.blocks);
         number
     }
 
@@ -139,6 +156,7 @@ impl Tickets {
     }
 
     /// Whether `take` would not say that the answer is still awaited.
+    #[tactic(auto, using(crate::proofs::Shown::awaited_shown))]
     pub fn ready(&self, number: u64) -> bool
         ensures { result ≡ not (is_awaited (under number self.now.slots)) }
     {
@@ -149,6 +167,7 @@ impl Tickets {
     ///
     /// # Errors
     /// `UnknownTicket` where the ticket was never given, `AlreadyTaken` where its answer was given.
+    #[tactic(auto, using(crate::proofs::Shown::length_shown))]
     pub fn take(&mut self, number: u64) -> Result<Option<Held>, Error>
         ensures told { result ≡ polled number self.old.slots }
         ensures slots { self.new.slots ≡ after_poll number self.old.slots }
@@ -165,12 +184,9 @@ impl Tickets {
         ensures slots { self.new.slots ≡ after_poll number self.old.slots }
     {
         match self.slots.get(number) {
-            None => Err(Error::AlreadyTaken),
+            None => give_packed(&mut self.blocks, number),
             Some(Slot::Open(..)) => Ok(None),
-            Some(Slot::Held(_)) => match self.slots.take(number) {
-                Some(Slot::Held(answer)) => Ok(Some(answer)),
-                _ => Ok(None),
-            },
+            Some(Slot::Held(_)) => Ok(slots::take_held(&mut self.slots, number)),
         }
     }
 
@@ -178,6 +194,7 @@ impl Tickets {
     ///
     /// # Errors
     /// As `take`.
+    #[tactic(auto, using(crate::proofs::Shown::length_shown))]
     pub fn set_aside(&mut self, number: u64) -> Result<(), Error>
         ensures told { result ≡ laid number self.old.slots }
         ensures slots { self.new.slots ≡ (if is_ok result then after_mark self.old.slots (mark.SetAside number) else self.old.slots) }
@@ -185,11 +202,23 @@ impl Tickets {
         if number == 0 || number > self.slots.count() {
             return Err(Error::UnknownTicket);
         }
-        if self.slots.get(number).is_none() {
-            return Err(Error::AlreadyTaken);
+        self.drop_answer(number)
+    }
+}
+
+impl Tickets {
+    // Drops the answer of a ticket that was given, there or to come.
+    fn drop_answer(&mut self, number: u64) -> Result<(), Error>
+        ensures told { result ≡ laid_slot (under number self.old.slots) }
+        ensures slots { self.new.slots ≡ (if is_ok result then after_mark self.old.slots (mark.SetAside number) else self.old.slots) }
+    {
+        match self.slots.get(number) {
+            None => drop_packed(&mut self.blocks, number),
+            Some(_) => {
+                drop(self.slots.take(number));
+                Ok(())
+            }
         }
-        drop(self.slots.take(number));
-        Ok(())
     }
 }
 

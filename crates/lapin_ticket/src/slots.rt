@@ -2,9 +2,11 @@
 //!
 //! What many tickets get at once stands in `ends`. A slot is changed where it stands.
 
-ghost use Rattle.std.specs.Prelude.{◌≡◌, Some, Err};
+ghost use Rattle.std.specs.Prelude.{◌≡◌, ◌≤◌, Some, None, Err};
 ghost use Rattle.lapin_rules.specs.TicketReadings as mark;
 ghost use Rattle.lapin_ticket.specs.Slots.{after_mark, left_slot};
+ghost use Rattle.lapin_ticket.specs.Packed.{held_in};
+ghost use Rattle.lapin_tables.specs.Numbered.{under, with_under};
 
 use crate::{Held, Slot};
 use lapin_rules::AtLeaving;
@@ -51,6 +53,18 @@ pub(crate) fn fail(slots: &mut Numbered<Slot>, number: u64, error: Error)
     ensures room { slots.new.spare ≡ slots.old.spare }
 {
     answer(slots, number, Held::failed(error));
+}
+
+// Takes the answer of a ticket that has one out, and its slot with it.
+pub(crate) fn take_held(slots: &mut Numbered<Slot>, number: u64) -> Option<Held>
+    ensures answer { result ≡ held_in (under number slots.old.slots) }
+    ensures slots { slots.new.slots ≡ with_under number None slots.old.slots }
+    ensures room { slots.old.spare ≤ slots.new.spare }
+{
+    match slots.take(number) {
+        Some(Slot::Held(answer)) => Some(answer),
+        _ => None,
+    }
 }
 
 // An open slot holds the answer that its last frame's leaving gives, if it gives one.

@@ -15,6 +15,7 @@ pub mod job;
 pub mod laws;
 pub mod leaving;
 pub mod message;
+pub mod outcome;
 pub mod poll;
 pub mod queue;
 pub mod record;
@@ -49,6 +50,7 @@ pub use leaving::{Left, Publish};
 pub use message::{
     BasicGetMessage, BasicReturnMessage, Delivery, DeliveryResult, copied_result, same_result,
 };
+pub use outcome::Outcome;
 pub use poll::Poll;
 pub use queue::Queue;
 pub use record::Record;

@@ -45,9 +45,7 @@ fn given_back(session: &mut Session, alloc: Global) -> Result<&'static str, Erro
 
 // The broker closes channel 7.
 fn closed(session: &mut Session, alloc: Global) -> Result<(), Error> {
-    let Ok(reply_text) = ShortString::new(alloc, "NOT_FOUND") else {
-        return Err(Error::NoMemory);
-    };
+    let reply_text = ShortString::literal(alloc, "NOT_FOUND")?;
     let close = ChannelMethod::Close {
         reply_code: 404,
         reply_text,

@@ -8,8 +8,8 @@ use std::alloc::Global;
 use std::test::Fail;
 
 fn mock(alloc: Global, delivery_tag: u64) -> Result<Delivery, Fail> {
-    let exchange = ShortString::new(alloc, "")?;
-    let routing_key = ShortString::new(alloc, "mail")?;
+    let exchange = ShortString::empty(alloc)?;
+    let routing_key = ShortString::literal(alloc, "mail")?;
     let payload = Payload::new(alloc, b"hi")?;
     Ok(Delivery::mock(delivery_tag, exchange, routing_key, false, payload))
 }

@@ -3,8 +3,8 @@ use Rattle.std.proofs.Common.{◌≡◌, ◌∙◌, ℕ, zero, suc, ◌+◌, ◌
 use Rattle.std.specs.List.{list_any}
 use Rattle.std.specs.Option.{option_or}
 use Rattle.std.proofs.lemmas.List.Folds.{list_any-append}
-use Rattle.lapin_rules.specs.declared.marks.Outcome.{Outcome}
-use Rattle.lapin_rules.specs.declared.marks.Outcome.TheVariants as outcome
+use Rattle.lapin_types.specs.declared.outcome.Outcome.{Outcome}
+use Rattle.lapin_types.specs.declared.outcome.Outcome.TheVariants as outcome
 use Rattle.lapin_rules.specs.declared.marks.SettleKind.{SettleKind}
 use Rattle.lapin_rules.specs.declared.marks.SettleKind.TheVariants as settle
 use Rattle.lapin_rules.specs.declared.marks.Settlement.{Settlement}

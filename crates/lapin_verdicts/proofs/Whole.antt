@@ -11,8 +11,8 @@ use Rattle.lapin_types.specs.Types.error
 use Rattle.lapin_types.specs.declared.leaving.Left.{Left}
 use Rattle.lapin_broker.specs.Sends.{may}
 use Rattle.lapin_rules.specs.Incoming.{incoming_of}
-use Rattle.lapin_rules.specs.declared.marks.Outcome.{Outcome}
-use Rattle.lapin_rules.specs.declared.marks.Outcome.TheVariants as outcome
+use Rattle.lapin_types.specs.declared.outcome.Outcome.{Outcome}
+use Rattle.lapin_types.specs.declared.outcome.Outcome.TheVariants as outcome
 use Rattle.lapin_rules.specs.declared.marks.SettleKind.{SettleKind}
 use Rattle.lapin_rules.specs.declared.marks.SettleKind.TheVariants as settle
 use Rattle.lapin_rules.specs.ConfirmMarks.{ConfirmMark}

@@ -1,7 +1,7 @@
 //! A whole run of a caller by the calls of the library: its steps are read, made, and their reports printed.
 use lapin_call::{CallStep, run_calls};
 use lapin_call_text::{put_report, read_step};
-use lapin_types::{NoMemory, ShortString, ShortStringError};
+use lapin_types::{NoMemory, ShortString};
 use std::alloc::Global;
 use std::test::Fail;
 
@@ -35,11 +35,7 @@ fn steps_of(alloc: Global, text: &str) -> Result<Vec<CallStep>, NoMemory> {
 
 // The text of the reports of at most a thousand steps, whose replies come to the queue `replies`.
 fn printed(alloc: Global, text: &str) -> Result<Vec<u8>, NoMemory> {
-    let queue = match ShortString::new(alloc, "replies") {
-        Ok(queue) => queue,
-        Err(ShortStringError::TooLong { .. }) => return Ok(Vec::new(alloc)),
-        Err(ShortStringError::NoMemory) => return Err(NoMemory),
-    };
+    let queue = ShortString::literal(alloc, "replies")?;
     let steps = steps_of(alloc, text)?;
     let mut reports = Vec::new(alloc);
     if steps.len() <= 1000 {

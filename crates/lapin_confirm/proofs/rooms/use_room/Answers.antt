@@ -2,6 +2,7 @@ use Rattle.std.proofs.Common.{◌≡◌, false, sym, arith}
 use Rattle.lapin_tables.specs.ByChannel.{at_channel}
 use Rattle.lapin_tables.proofs.Channels.{at-on_other}
 use Rattle.lapin_confirm.specs.WithRoom.{spare_in}
+use Rattle.lapin_confirm.specs.Ties.{promised}
 use Rattle.lapin_confirm.proofs.Roomy.{given-none, given-count, given-fits}
 use Rattle.lapin_confirm.proofs.rooms.use_room.Goals as goal
 
@@ -23,3 +24,6 @@ returns-then-is_promised-clause-origin c =
 
 pub returns-then-is_promised-clause-fits : goal.returns-then-is_promised-clause-fits
 returns-then-is_promised-clause-fits c = rw c.give_up.ensures (given-fits c.args.channel c.args.rooms.now.entries c.args.cells.now.spare c.requires.cells, given-fits c.args.channel c.args.rooms.now.entries c.args.origins.now.spare c.requires.origins)
+
+pub returns-then-is_promised-clause-less : goal.returns-then-is_promised-clause-less
+returns-then-is_promised-clause-less c = rw c.give_up.ensures (given-fits c.args.channel c.args.rooms.now.entries (promised c.args.rooms.now.entries) (omega arith))

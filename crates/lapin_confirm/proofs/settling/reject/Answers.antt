@@ -1,5 +1,5 @@
 use Rattle.std.proofs.Common.{◌≤◌, refl, arith}
-use Rattle.lapin_rules.specs.declared.marks.Outcome.TheVariants as outcome
+use Rattle.lapin_types.specs.declared.outcome.Outcome.TheVariants as outcome
 use Rattle.lapin_confirm.proofs.Tying.{tied-untagged, queued-counted}
 use Rattle.lapin_confirm.proofs.settling.reject.Goals as goal
 

@@ -1,5 +1,5 @@
 use Rattle.std.proofs.Common.{◌≡◌, ℕ, true, false, Some, refl, subst}
-use Rattle.lapin_rules.specs.declared.marks.Outcome.TheVariants as outcome
+use Rattle.lapin_types.specs.declared.outcome.Outcome.TheVariants as outcome
 use Rattle.lapin_tables.specs.Numbered.{under}
 use Rattle.lapin_confirm.specs.declared.cell.Cell.TheVariants as cell
 use Rattle.lapin_confirm.proofs.Ended.{ended-rejected, still-queued}

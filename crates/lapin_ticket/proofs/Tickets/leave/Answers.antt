@@ -1,14 +1,22 @@
-use Rattle.std.proofs.Common.{ℕ, List, Option, sym, ◌∙◌, ap, subst}
-use Rattle.lapin_tables.specs.Numbered.{under}
+use Rattle.std.proofs.Common.{ℕ, List, Option, sym, ◌∙◌, ap, subst, refl}
+use Rattle.lapin_rules.specs.TicketReadings as mark
 use Rattle.lapin_ticket.specs.declared.Slot.{Slot}
-use Rattle.lapin_ticket.specs.Slots.{is_open_on}
+use Rattle.lapin_ticket.specs.Given.{AreListed}
+use Rattle.lapin_ticket.specs.Packed.{IsPacked, shown}
 use Rattle.lapin_ticket.specs.Room.{HasSlot}
-use Rattle.lapin_ticket.proofs.Listing.{open-left}
+use Rattle.lapin_ticket.proofs.Shown.{listed-marked, shown-marked, packed-marked}
 use Rattle.lapin_ticket.proofs.Tickets.leave.Goals as goal
 
 pub invariant_of-self : goal.invariant_of-self
 invariant_of-self c =
+    let L : List (Option Slot) → Type 0 = λ xs. AreListed xs c.self.inside.given.channels in
     let P : ℕ → Type 0 = λ k. HasSlot c.self.inside.given.ready k in (
-      λ d n h. c.self.invariant.0 d n (open-left d c.args.number n c.self.inside.slots.slots (sym (ap (λ (xs : List (Option Slot)). is_open_on d (under n xs)) c.leave.ensures.slots) ∙ h)),
-      subst P (sym c.leave.ensures.room) c.self.invariant.1,
+      subst L (sym c.leave.ensures.slots) (listed-marked c.self.inside.slots.slots (mark.LastLeft c.args.number) c.self.inside.given.channels refl c.self.invariant.0),
+      (
+        subst P (sym c.leave.ensures.room) c.self.invariant.1.0,
+        subst (IsPacked c.self.inside.blocks.slots) (sym c.leave.ensures.slots) (packed-marked c.self.inside.blocks.slots c.self.inside.slots.slots (mark.LastLeft c.args.number) refl c.self.invariant.1.1),
+      ),
     )
+
+pub returns-clause-slots : goal.returns-clause-slots
+returns-clause-slots c = rw (← c.self.view_is) (ap (shown 0 c.self.inside.blocks.slots) c.leave.ensures.slots ∙ shown-marked c.self.inside.blocks.slots c.self.inside.slots.slots (mark.LastLeft c.args.number) refl (λ n. refl))

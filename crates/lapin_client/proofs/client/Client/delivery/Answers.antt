@@ -1,14 +1,12 @@
-use Rattle.std.proofs.Common.{◌≡◌, ◌-◌, Option, Some, Result, Ok, Err, inl, inr, refl, sym, ap, ◌∙◌, subst}
+use Rattle.std.proofs.Common.{◌≡◌, ◌-◌, Option, Some, Result, Ok, Err, inl, inr, refl, sym, ap, ◌∙◌}
 use Rattle.lapin_machine.specs.Told.{next_record}
 use Rattle.lapin_types.specs.Types.{Error}
 use Rattle.lapin_types.specs.declared.message.Delivery.{Delivery}
 use Rattle.lapin_types.specs.declared.poll.Poll.{Poll}
 use Rattle.lapin_types.specs.declared.poll.Poll.TheVariants as poll
-use Rattle.lapin_client.specs.declared.status.Status.{Status}
-use Rattle.lapin_client.specs.Calls.{Delivered}
 use Rattle.lapin_client.proofs.Refused.{delivered_error, delivered_shown}
 use Rattle.lapin_types.specs.declared.event.Event.TheVariants as event
-use Rattle.lapin_client.proofs.Room.{sound_next, sound_same}
+use Rattle.lapin_client.proofs.Room.{sound_next}
 use Rattle.lapin_client.proofs.client.Client.delivery.Goals as goal
 
 pub show-requires : goal.show-requires
@@ -20,15 +18,11 @@ returns-in-Ok-Pending-clause-sound c = sound_next c.args.self.now.left c.args.se
 pub returns-in-Ok-Ready-Ok-None-clause-sound : goal.returns-in-Ok-Ready-Ok-None-clause-sound
 returns-in-Ok-Ready-Ok-None-clause-sound c = sound_next c.args.self.now.left c.args.self.now.frame_max c.args.self.now.session c.poll_next.new.self (event.PollConsumer c.args.consumer) c.requires c.poll_next.ensures.ok
 
-pub returns-in-Ok-Ready-Err-clause-sound : goal.returns-in-Ok-Ready-Err-clause-sound
-returns-in-Ok-Ready-Err-clause-sound c =
-    sound_same (c.args.self.now.left - 1) c.refuse.new.self.left c.args.self.now.frame_max c.refuse.new.self.frame_max c.poll_next.new.self c.refuse.new.self.session c.refuse.ensures.same.1 c.refuse.ensures.same.2.2 c.refuse.ensures.same.0
-    (sound_next c.args.self.now.left c.args.self.now.frame_max c.args.self.now.session c.poll_next.new.self (event.PollConsumer c.args.consumer) c.requires c.poll_next.ensures.ok)
+pub refuse_or_end-requires : goal.refuse_or_end-requires
+refuse_or_end-requires c = sound_next c.args.self.now.left c.args.self.now.frame_max c.args.self.now.session c.poll_next.new.self (event.PollConsumer c.args.consumer) c.requires c.poll_next.ensures.ok
 
-pub returns-in-Err-clause-sound : goal.returns-in-Err-clause-sound
-returns-in-Err-clause-sound c =
-    sound_same (c.args.self.now.left - 1) c.refuse-in-Err.new.self.left c.args.self.now.frame_max c.refuse-in-Err.new.self.frame_max c.poll_next.new.self c.refuse-in-Err.new.self.session c.refuse-in-Err.ensures.same.1 c.refuse-in-Err.ensures.same.2.2 c.refuse-in-Err.ensures.same.0
-    (sound_next c.args.self.now.left c.args.self.now.frame_max c.args.self.now.session c.poll_next.new.self (event.PollConsumer c.args.consumer) c.requires c.poll_next.ensures.ok)
+pub refuse_or_end-requires-in-Err : goal.refuse_or_end-requires-in-Err
+refuse_or_end-requires-in-Err c = sound_next c.args.self.now.left c.args.self.now.frame_max c.args.self.now.session c.poll_next.new.self (event.PollConsumer c.args.consumer) c.requires c.poll_next.ensures.ok
 
 -- a message is handed on
 pub returns-in-Ok-Ready-Ok-Some-clause-told : goal.returns-in-Ok-Ready-Ok-Some-clause-told
@@ -41,12 +35,10 @@ returns-in-Ok-Ready-Ok-Some-clause-told c =
 pub returns-in-Ok-Ready-Err-clause-told : goal.returns-in-Ok-Ready-Err-clause-told
 returns-in-Ok-Ready-Err-clause-told c =
     let a = c.in-Ok-Ready-Err in let is : a.field-0 ≡ poll.Ready (Err a.error) = cc in
-    subst (λ (s : Status). Delivered (Err s) c.args.consumer c.args.self.now c.refuse.new.self) (sym c.refuse.ensures.told)
-    (delivered_error a.error c.args.consumer c.args.self.now c.refuse.new.self (inr (sym a.ensures.told ∙ ap (λ (y : Poll (Result (Option Delivery) Error)). next_record (Ok y)) is)) c.refuse.ensures.shown
-    (c.refuse.ensures.same.0 ∙ c.poll_next.ensures.ok) c.refuse.ensures.same.2)
+    delivered_error c.refuse_or_end.result a.error c.args.consumer c.args.self.now c.refuse_or_end.new.self (inr (sym a.ensures.told ∙ ap (λ (y : Poll (Result (Option Delivery) Error)). next_record (Ok y)) is)) c.refuse_or_end.ensures.told c.refuse_or_end.ensures.ends
+    (c.refuse_or_end.ensures.session ∙ c.poll_next.ensures.ok) c.refuse_or_end.ensures.same
 
 pub returns-in-Err-clause-told : goal.returns-in-Err-clause-told
 returns-in-Err-clause-told c =
-    subst (λ (s : Status). Delivered (Err s) c.args.consumer c.args.self.now c.refuse-in-Err.new.self) (sym c.refuse-in-Err.ensures.told)
-    (delivered_error c.in-Err.error c.args.consumer c.args.self.now c.refuse-in-Err.new.self (inl (sym c.in-Err.ensures.told)) c.refuse-in-Err.ensures.shown
-    (c.refuse-in-Err.ensures.same.0 ∙ c.poll_next.ensures.ok) c.refuse-in-Err.ensures.same.2)
+    delivered_error c.refuse_or_end-in-Err.result c.in-Err.error c.args.consumer c.args.self.now c.refuse_or_end-in-Err.new.self (inl (sym c.in-Err.ensures.told)) c.refuse_or_end-in-Err.ensures.told c.refuse_or_end-in-Err.ensures.ends
+    (c.refuse_or_end-in-Err.ensures.session ∙ c.poll_next.ensures.ok) c.refuse_or_end-in-Err.ensures.same

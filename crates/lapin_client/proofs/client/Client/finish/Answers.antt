@@ -1,5 +1,5 @@
-use Rattle.std.proofs.Common.{◌≡◌, ℕ, suc, false}
-use Rattle.lapin_client.proofs.Requests.{hands_next, hands_idle, same_else}
+use Rattle.std.proofs.Common.{suc, false}
+use Rattle.lapin_client.proofs.Requests.{hands_next, same_else}
 use Rattle.lapin_client.proofs.client.Client.finish.Goals as goal
 
 -- one more frame left

@@ -1,4 +1,4 @@
-use Rattle.std.proofs.Common.{◌≡◌, ℕ, false}
+use Rattle.std.proofs.Common.{ℕ, false}
 use Rattle.lapin_client.specs.Clients.{IsSound}
 use Rattle.lapin_client.specs.Sending.{HandsOut, SameElse}
 use Rattle.lapin_client.proofs.client.Client.finish.Given as goal

@@ -1,6 +1,4 @@
-use Rattle.std.proofs.Common.{◌≡◌, sym, ◌∙◌, subst}
-use Rattle.lapin_client.specs.declared.status.Status.{Status}
-use Rattle.lapin_client.specs.Calls.{NotMet}
+use Rattle.std.proofs.Common.{◌∙◌}
 use Rattle.lapin_client.proofs.Refused.{not_met}
 use Rattle.lapin_machine.specs.declared.channel.Published.{Published}
 use Rattle.lapin_types.specs.declared.event.Event.TheVariants as event
@@ -15,8 +13,7 @@ aside_ticket-requires-clause-sound c =
 pub returns-in-Err-clause-told : goal.returns-in-Err-clause-told
 returns-in-Err-clause-told c =
     let k = call.BasicPublish c.args.exchange c.args.routing_key c.args.options c.args.payload c.args.properties in (
-      subst (λ (s : Status). NotMet s (event.Call c.args.channel k) c.args.self.now c.refuse.new.self) (sym c.refuse.ensures.told)
-          (not_met Published c.in-Err.error c.args.channel k c.args.self.now c.refuse.new.self c.in-Err.ensures.told c.in-Err.ensures.cause c.refuse.ensures.shown),
+      not_met Published c.refuse.result c.in-Err.error c.args.channel k c.args.self.now c.refuse.new.self c.in-Err.ensures.told c.in-Err.ensures.cause c.refuse.ensures.told,
       c.refuse.ensures.same.0 ∙ c.in-Err.ensures.err,
       c.refuse.ensures.same.2,
     )

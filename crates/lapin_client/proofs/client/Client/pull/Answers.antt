@@ -1,4 +1,4 @@
-use Rattle.std.proofs.Common.{◌≡◌, ◌<◌, ◌≤◌, ℕ, suc, length, false, inl, inr, refl, subst, arith}
+use Rattle.std.proofs.Common.{◌<◌, ◌≤◌, suc, length, inl, inr, refl, subst, arith}
 use Rattle.lapin_client.proofs.Requests.{hands_next, hands_idle, wanted_next, same_else}
 use Rattle.lapin_client.specs.Sending.{IsIdle}
 use Rattle.lapin_machine.specs.World.{World}

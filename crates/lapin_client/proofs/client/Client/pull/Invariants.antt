@@ -1,4 +1,4 @@
-use Rattle.std.proofs.Common.{◌≡◌, ℕ}
+use Rattle.std.proofs.Common.{ℕ}
 use Rattle.lapin_client.specs.Clients.{IsSound}
 use Rattle.lapin_client.specs.Sending.{HandsOut, AllWanted, SameElse}
 use Rattle.lapin_client.proofs.client.Client.pull.Given as goal

@@ -1,4 +1,4 @@
-use Rattle.std.proofs.Common.{◌≡◌, ℕ, zero, suc, refl}
+use Rattle.std.proofs.Common.{zero, suc, refl}
 use Rattle.lapin_client.proofs.Running.{comes_none, comes_more, runs_out, runs_to}
 use Rattle.lapin_client.proofs.client.Client.run.Goals as goal
 

@@ -1,4 +1,4 @@
-use Rattle.std.proofs.Common.{◌≡◌, ℕ}
+use Rattle.std.proofs.Common.{ℕ}
 use Rattle.lapin_client.specs.Clients.{IsSound}
 use Rattle.lapin_client.specs.Receiving.{Comes}
 use Rattle.lapin_client.proofs.client.Client.run.Given as goal

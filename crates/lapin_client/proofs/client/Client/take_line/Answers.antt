@@ -1,4 +1,4 @@
-use Rattle.std.proofs.Common.{◌≡◌, Bool, true, false, subst, arith}
+use Rattle.std.proofs.Common.{Bool, subst, arith}
 use Rattle.lapin_lines.specs.Lines.{IsTaken}
 use Rattle.lapin_text.specs.LineReading.{line_at}
 use Rattle.lapin_client.proofs.Room.{room_one, sound_line}

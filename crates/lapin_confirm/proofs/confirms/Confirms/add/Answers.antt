@@ -32,6 +32,7 @@ invariant_of-self c =
           (λ d o other tied. rw c.use_room.ensures.cells tied);
       room = room-used c.args.channel c.in-Some.mode.now c.use_room.new.mode c.self.inside.rooms.entries c.use_room.new.rooms.entries c.self.inside.confirm_modes.entries c.self.inside.returned_by_channel.entries c.self.inside.cells.spare _ is c.self.invariant.room c.use_room.ensures.others c.use_room.ensures.used c.use_room.ensures.fits.0 c.use_room.ensures.kept;
       origins = record { count = ap length c.use_room.ensures.origins ∙ c.self.invariant.origins.count ∙ sym (ap length c.use_room.ensures.cells); room = c.use_room.ensures.fits.1 };
+      early = omega (arith, c.self.invariant.early, c.use_room.ensures.less);
     }
 
 pub invariant_of-self-2 : goal.invariant_of-self-2
@@ -44,6 +45,7 @@ invariant_of-self-2 c =
           (λ d o other tied. rw (c.enqueue.ensures.cells, c.use_room.ensures.cells) (tied_at-joined c.args.channel d o c.self.inside.cells.slots other tied));
       room = room-used c.args.channel c.in-Some.mode.now c.enqueue.new.mode c.self.inside.rooms.entries c.use_room.new.rooms.entries c.self.inside.confirm_modes.entries c.self.inside.returned_by_channel.entries c.self.inside.cells.spare _ is c.self.invariant.room c.use_room.ensures.others c.use_room.ensures.used (omega (arith, c.in_default-use_room.ensures.spare, c.enqueue.ensures.spare)) c.enqueue.ensures.tied.room;
       origins = record { count = pushed c.use_room.new.origins.slots c.use_room.new.cells.slots _ _ c.push_reserved.new.self.slots c.enqueue.new.cells.slots (ap length c.use_room.ensures.origins ∙ c.self.invariant.origins.count ∙ sym (ap length c.use_room.ensures.cells)) c.push_reserved.ensures.slots c.enqueue.ensures.cells; room = omega (arith, c.in_default-use_room.ensures.origin, c.push_reserved.ensures.spare) };
+      early = omega (arith, c.self.invariant.early, c.use_room.ensures.less);
     }
 
 pub returns-in-Err-clause-err : goal.returns-in-Err-clause-err

@@ -1,12 +1,15 @@
-use Rattle.std.proofs.Common.{◌≡◌, ◌∙◌, ◌≤◌, ap, sym, arith, refl, true, false}
+use Rattle.std.proofs.Common.{◌≡◌, ◌∙◌, ◌≤◌, ℕ, List, ap, sym, arith, refl, true, false}
+use Rattle.lapin_rules.specs.ReturnLists.{ReturnLists}
+use Rattle.lapin_rules.specs.Words.{with_channel}
 use Rattle.std.specs.List.{list_any}
 use Rattle.lapin_confirm.specs.PublishStates.{is_open_on}
 use Rattle.lapin_tables.specs.ByChannel.{at_channel}
-use Rattle.lapin_confirm.specs.ConfirmState.{return_lists_in}
-use Rattle.lapin_confirm.specs.Drain.{Remains, remaining}
+use Rattle.lapin_confirm.specs.ConfirmState.{return_lists_in, messages_on}
+use Rattle.lapin_confirm.specs.Drain.{Remains, remaining, less_all}
 use Rattle.lapin_confirm.specs.Ties.{returned_by_channel_of, promised}
 use Rattle.lapin_confirm.proofs.Asides.{none-open}
-use Rattle.lapin_confirm.proofs.ConfirmModes.{has-mode, confirm_modes-begun, fresh-mode, same-publish_states, same-confirm_state, on-err}
+use Rattle.lapin_confirm.proofs.ConfirmModes.{has-mode, confirm_modes-begun, fresh-mode, same-publish_states, all-same, on-err}
+use Rattle.lapin_confirm.proofs.ReturnedByChannel.{early-renewed, early-aside}
 use Rattle.lapin_confirm.proofs.Whole.{tied-fresh}
 use Rattle.lapin_confirm.proofs.Roomy.{all-begun, room-begun}
 use Rattle.lapin_confirm.proofs.confirms.Confirms.begin.Goals as goal
@@ -31,15 +34,20 @@ invariant_of-self-2 c =
         count = c.renew_returned_messages.ensures.counts.1 ∙ c.self.invariant.origins.count ∙ sym c.renew_returned_messages.ensures.counts.0;
         room = omega (arith, c.self.invariant.origins.room, c.renew_returned_messages.ensures.kept.1);
       };
+      early = omega (arith, c.self.invariant.early, c.renew_returned_messages.ensures.early_room);
     })
 
 pub returns-clause-ok : goal.returns-clause-ok
 returns-clause-ok c =
+    let lists = returned_by_channel_of c.self.inside.returned_by_channel.entries in
+    let early = messages_on c.args.channel c.self.inside.early.items in
+    let remains = c.in_ok-renew_returned_messages.ensures.remains ∙ ap (λ (ns : List ℕ). less_all ns (remaining c.self.inside.cells.slots c.self.inside.origins.slots)) (early-aside early (at_channel c.args.channel lists)) in
     rw (← c.self.view_is, c.put_confirm_mode.ensures, c.make_place.ensures.same)
-    (same-confirm_state _ _ _ _ _ _
-    (same-publish_states _ _ _ _ (confirm_modes-begun c.args.channel c.in_ok-mode.mode c.self.inside.confirm_modes.entries (fresh-mode c.in_ok-mode.mode c.in_ok-mode.ensures.made.0)) (ap (λ (r : Remains). r.cells) c.in_ok-renew_returned_messages.ensures.remains))
-    c.in_ok-renew_returned_messages.ensures.ok
-    (ap (λ (r : Remains). r.origins) c.in_ok-renew_returned_messages.ensures.remains))
+    (all-same _ _ _ _ _ _ _ _
+    (same-publish_states _ _ _ _ (confirm_modes-begun c.args.channel c.in_ok-mode.mode c.self.inside.confirm_modes.entries (fresh-mode c.in_ok-mode.mode c.in_ok-mode.ensures.made.0)) (ap (λ (r : Remains). r.cells) remains))
+    (c.in_ok-renew_returned_messages.ensures.ok ∙ ap (λ (l : ReturnLists). with_channel c.args.channel l lists) (early-renewed early (at_channel c.args.channel lists)))
+    c.in_ok-renew_returned_messages.ensures.early
+    (ap (λ (r : Remains). r.origins) remains))
 
 pub invariant_of-self-in_err-renew_returned_messages : goal.invariant_of-self-in_err-renew_returned_messages
 invariant_of-self-in_err-renew_returned_messages c =
@@ -56,12 +64,13 @@ invariant_of-self-in_err-renew_returned_messages c =
         count = c.renew_returned_messages.ensures.counts.1 ∙ c.self.invariant.origins.count ∙ sym c.renew_returned_messages.ensures.counts.0;
         room = omega (arith, c.self.invariant.origins.room, c.renew_returned_messages.ensures.kept.1);
       };
+      early = omega (arith, c.self.invariant.early, c.renew_returned_messages.ensures.early_room);
     })
 
 pub returns-in_err-renew_returned_messages-clause-err : goal.returns-in_err-renew_returned_messages-clause-err
 returns-in_err-renew_returned_messages-clause-err c =
     rw (← c.self.view_is, c.make_place.ensures.same)
-    (on-err _ _ (same-confirm_state _ _ _ _ _ _ (same-publish_states _ _ _ _ refl (ap (λ (r : Remains). r.cells) c.in_err-renew_returned_messages.ensures.same)) (ap returned_by_channel_of c.in_err-renew_returned_messages.ensures.err) (ap (λ (r : Remains). r.origins) c.in_err-renew_returned_messages.ensures.same)))
+    (on-err _ _ (all-same _ _ _ _ _ _ _ _ (same-publish_states _ _ _ _ refl (ap (λ (r : Remains). r.cells) c.in_err-renew_returned_messages.ensures.same)) (ap returned_by_channel_of c.in_err-renew_returned_messages.ensures.err) c.in_err-renew_returned_messages.ensures.early_same (ap (λ (r : Remains). r.origins) c.in_err-renew_returned_messages.ensures.same)))
 
 pub returns-in_err-make_place-clause-succeeds : goal.returns-in_err-make_place-clause-succeeds
 returns-in_err-make_place-clause-succeeds c = λ lined returned_messages none.

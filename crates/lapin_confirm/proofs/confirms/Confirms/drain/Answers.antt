@@ -1,20 +1,22 @@
 use Rattle.std.proofs.Common.{◌∙◌, ◌≤◌, ℕ, List, Some, None, refl, sym, ap, arith}
+use Rattle.std.proofs.lemmas.List.{append-nil}
 use Rattle.lapin_rules.specs.ReturnLists.{drained_return_lists}
 use Rattle.lapin_confirm.specs.Drain.{Remains, is_over, remaining, less_all}
+use Rattle.lapin_confirm.specs.ConfirmState.{messages_on}
 use Rattle.lapin_confirm.specs.Ties.{promised}
-use Rattle.lapin_confirm.proofs.ConfirmModes.{same-publish_states, same-confirm_state}
+use Rattle.lapin_confirm.proofs.ConfirmModes.{same-publish_states, all-same, same-confirm_state}
 use Rattle.lapin_confirm.proofs.ReturnedByChannel.{returned_messages-at, returned_by_channel-on, returned_by_channel-same, returned_by_channel-absent}
 use Rattle.lapin_confirm.proofs.Roomy.{messages-kept}
 use Rattle.lapin_confirm.proofs.confirms.Confirms.drain.Goals as goal
 
 pub returns-in_default-clause-given : goal.returns-in_default-clause-given
-returns-in_default-clause-given c = rw (← c.self.view_is, returned_messages-at c.args.channel c.self.inside.returned_by_channel.entries None (sym c.in_default.ensures.value)) (c.new-in_default.ensures ∙ c.new.ensures.items)
+returns-in_default-clause-given c = rw (← c.self.view_is, returned_messages-at c.args.channel c.self.inside.returned_by_channel.entries None (sym c.in_default.ensures.value), append-nil (messages_on c.args.channel c.self.inside.early.items)) (c.new.ensures ∙ c.in_ok-take_early.ensures.given)
 
 pub returns-in_default-clause-ok : goal.returns-in_default-clause-ok
 returns-in_default-clause-ok c =
     let none = sym c.in_default.ensures.value in
     rw (← c.self.view_is, returned_messages-at c.args.channel c.self.inside.returned_by_channel.entries None none)
-    (same-confirm_state _ _ _ _ _ _ refl (sym (returned_by_channel-absent c.args.channel (drained_return_lists (is_over c.self.inside.cells.slots)) c.self.inside.returned_by_channel.entries none)) refl)
+    (all-same _ _ _ _ _ _ _ _ refl (sym (returned_by_channel-absent c.args.channel (drained_return_lists (is_over c.self.inside.cells.slots)) c.self.inside.returned_by_channel.entries none)) c.in_ok-take_early.ensures.ok refl)
 
 pub invariant_of-self-in-Err : goal.invariant_of-self-in-Err
 invariant_of-self-in-Err c = record {
@@ -25,6 +27,7 @@ invariant_of-self-in-Err c = record {
     messages = messages-kept c.args.channel c.in-Some.returned_messages.now c.drain.new.self c.self.inside.rooms.entries c.self.inside.returned_by_channel.entries (sym c.in-Some.ensures.value) c.self.invariant.room.messages c.drain.ensures.place;
   };
   origins = c.self.invariant.origins;
+  early = c.self.invariant.early;
 }
 
 pub invariant_of-self-in-Ok : goal.invariant_of-self-in-Ok
@@ -41,6 +44,7 @@ invariant_of-self-in-Ok c =
         count = c.leave_all.ensures.counts.1 ∙ c.self.invariant.origins.count ∙ sym c.leave_all.ensures.counts.0;
         room = omega (arith, c.self.invariant.origins.room, c.leave_all.ensures.spare.1);
       };
+      early = c.self.invariant.early;
     }
 
 pub returns-in-Err-clause-err : goal.returns-in-Err-clause-err

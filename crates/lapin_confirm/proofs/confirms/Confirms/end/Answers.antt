@@ -20,6 +20,7 @@ invariant_of-self-2 c =
           (λ d o other tied. rw c.end_opening.ensures.cells (tied_at-ended c.args.channel d c.args.error o c.self.inside.cells.slots other tied));
       room = room-kept c.args.channel c.in-Some.mode.now c.end_opening.new.mode c.self.inside.rooms.entries c.self.inside.confirm_modes.entries c.self.inside.returned_by_channel.entries c.self.inside.cells.spare _ (sym c.in-Some.ensures.value) c.self.invariant.room c.end_opening.ensures.room c.end_opening.ensures.spare;
       origins = same-origins _ _ c.end_opening.new.cells.slots _ c.self.invariant.origins (ap length c.end_opening.ensures.cells ∙ length-map c.self.inside.cells.slots _);
+      early = c.self.invariant.early;
     }
 
 pub returns-clause-what : goal.returns-clause-what

@@ -9,7 +9,7 @@ use Rattle.lapin_confirm.specs.Ties.{confirm_mode_states}
 use Rattle.lapin_confirm.proofs.ConfirmModes.{publish_states, tag-there, left-publish_states, same-confirm_state}
 use Rattle.lapin_confirm.proofs.Tying.{tied_at-other, left-closed}
 use Rattle.lapin_confirm.proofs.Roomy.{same-origins, room-kept}
-use Rattle.lapin_confirm.proofs.Whole.{all-on}
+use Rattle.lapin_confirm.proofs.Whole.{none-queued, all-on}
 use Rattle.lapin_confirm.proofs.confirms.Confirms.register.Goals as goal
 
 same_channel : (c d : ℕ) (o : Option Cell) → o ≡ Some (cell.Queued c) → o ≡ Some (cell.Queued d) → c ≡ d
@@ -26,6 +26,7 @@ invariant_of-self c =
           c.queued_channel-channel.ensures.queued (ne_eqb c.queued_channel-channel.result d other) (left-closed c.queued_channel-channel.result d c.leave.result other) tied));
       room = room-kept c.queued_channel-channel.result c.in-Some.mode.now c.leave.new.mode c.self.inside.rooms.entries c.self.inside.confirm_modes.entries c.self.inside.returned_by_channel.entries c.self.inside.cells.spare _ (sym c.in-Some.ensures.value) c.self.invariant.room c.leave.ensures.room c.leave.ensures.spare;
       origins = same-origins _ _ c.leave.new.cells.slots _ c.self.invariant.origins (ap length c.leave.ensures.cells ∙ length-with c.args.number _ c.self.inside.cells.slots);
+      early = c.self.invariant.early;
     }
 
 pub returns-clause-tag : goal.returns-clause-tag
@@ -40,3 +41,6 @@ returns-clause-left c = λ d there.
     let P : ℕ → Type 0 = λ e. publish_states (confirm_mode_states (on_channel c.queued_channel-channel.result (λ _. c.leave.new.mode) c.self.inside.confirm_modes.entries)) c.leave.new.cells.slots ≡ left e c.args.number (publish_states (confirm_mode_states c.self.inside.confirm_modes.entries) c.self.inside.cells.slots) in
     rw (← c.self.view_is) (same-confirm_state _ _ _ _ _ _ (subst P (same_channel c.queued_channel-channel.result d _ c.queued_channel-channel.ensures.queued was)
     (left-publish_states c.queued_channel-channel.result c.args.number c.leave.result c.in-Some.mode.now c.leave.new.mode c.self.inside.confirm_modes.entries c.self.inside.cells.slots c.leave.new.cells.slots (sym c.in-Some.ensures.value) c.leave.ensures.tag c.leave.ensures.mode c.leave.ensures.cells)) refl refl)
+
+pub unreachable-requires : goal.unreachable-requires
+unreachable-requires c = none-queued c.queued_channel-channel.result c.args.number c.self.inside.confirm_modes.entries c.self.inside.cells.slots (sym c.in_default.ensures.value) c.self.invariant.tied c.queued_channel-channel.ensures.queued

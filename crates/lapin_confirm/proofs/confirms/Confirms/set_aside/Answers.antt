@@ -7,6 +7,7 @@ invariant_of-self c = record {
   tied = c.self.invariant.tied;
   room = record { cells = c.self.invariant.room.cells; tags = c.self.invariant.room.tags; messages = c.put_by.ensures.room c.self.inside.rooms.entries c.self.invariant.room.messages };
   origins = c.self.invariant.origins;
+  early = c.self.invariant.early;
 }
 
 pub invariant_of-self-then-resolved : goal.invariant_of-self-then-resolved
@@ -21,4 +22,5 @@ invariant_of-self-2 c = record {
     count = ap length c.mark_aside.ensures.slots ∙ length-marked c.args.number _ c.self.inside.origins.slots ∙ c.self.invariant.origins.count;
     room = omega (arith, c.self.invariant.origins.room, c.mark_aside.ensures.spare);
   };
+  early = c.self.invariant.early;
 }

@@ -18,6 +18,7 @@ invariant_of-self-2 c =
           (λ d o other tied. tied);
       room = room-kept c.args.channel c.in-Some.mode.now (record c.in-Some.mode.now { limit = c.args.limit }) c.self.inside.rooms.entries c.self.inside.confirm_modes.entries c.self.inside.returned_by_channel.entries c.self.inside.cells.spare _ (sym c.in-Some.ensures.value) c.self.invariant.room (keeps-same c.in-Some.mode.now (record c.in-Some.mode.now { limit = c.args.limit }) refl refl) (omega arith);
       origins = c.self.invariant.origins;
+      early = c.self.invariant.early;
     }
 
 pub returns-clause-what : goal.returns-clause-what

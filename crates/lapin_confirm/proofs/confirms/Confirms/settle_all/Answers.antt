@@ -27,6 +27,7 @@ invariant_of-self-2 c =
       tied = all-settled c.args.channel _ _ c.in-Some.mode.now c.settle_through.new.mode c.self.inside.confirm_modes.entries c.self.inside.cells.slots c.settle_through.new.cells.slots is c.self.invariant.tied c.settle_through.ensures.tied c.settle_through.ensures.cells;
       room = record { cells = room.cells; tags = room.tags; messages = c.attach_on.ensures.room c.self.inside.rooms.entries c.self.invariant.room.messages };
       origins = same-origins _ _ c.settle_through.new.cells.slots _ c.self.invariant.origins (ap length c.settle_through.ensures.cells ∙ length-map c.self.inside.cells.slots _);
+      early = c.self.invariant.early;
     }
 
 pub returns-in_default-clause-what : goal.returns-in_default-clause-what

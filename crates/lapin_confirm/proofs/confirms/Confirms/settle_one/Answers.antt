@@ -32,6 +32,7 @@ invariant_of-self-then-not-settle_tag c =
           all-settled c.args.channel _ _ c.in-Some.mode.now c.settle_tag.new.mode c.self.inside.confirm_modes.entries c.self.inside.cells.slots c.settle_tag.new.cells.slots (sym c.in-Some.ensures.value) c.self.invariant.tied c.settle_tag.ensures.tied c.settle_tag.ensures.cells;
       room = with-messages _ _ _ c.attach_one.new.returned_by_channel.entries _ (room-kept c.args.channel c.in-Some.mode.now c.settle_tag.new.mode c.self.inside.rooms.entries c.self.inside.confirm_modes.entries c.self.inside.returned_by_channel.entries c.self.inside.cells.spare _ (sym c.in-Some.ensures.value) c.self.invariant.room c.settle_tag.ensures.room c.settle_tag.ensures.spare) (c.attach_one.ensures.room c.self.inside.rooms.entries c.self.invariant.room.messages);
       origins = same-origins _ _ c.settle_tag.new.cells.slots _ c.self.invariant.origins (ap length c.settle_tag.ensures.cells ∙ length-map c.self.inside.cells.slots _);
+      early = c.self.invariant.early;
     }
 
 pub returns-then-not-settle_tag-clause-answer : goal.returns-then-not-settle_tag-clause-answer
@@ -58,6 +59,7 @@ invariant_of-self-2 c =
           all-settled c.args.channel _ _ c.in-Some.mode.now c.settle_tag.new.mode c.self.inside.confirm_modes.entries c.self.inside.cells.slots c.settle_tag.new.cells.slots (sym c.in-Some.ensures.value) c.self.invariant.tied c.settle_tag.ensures.tied c.settle_tag.ensures.cells;
       room = with-messages _ _ _ c.attach_one.new.returned_by_channel.entries _ (room-kept c.args.channel c.in-Some.mode.now c.settle_tag.new.mode c.self.inside.rooms.entries c.self.inside.confirm_modes.entries c.self.inside.returned_by_channel.entries c.self.inside.cells.spare _ (sym c.in-Some.ensures.value) c.self.invariant.room c.settle_tag.ensures.room c.settle_tag.ensures.spare) (c.attach_one.ensures.room c.self.inside.rooms.entries c.self.invariant.room.messages);
       origins = same-origins _ _ c.settle_tag.new.cells.slots _ c.self.invariant.origins (ap length c.settle_tag.ensures.cells ∙ length-map c.self.inside.cells.slots _);
+      early = c.self.invariant.early;
     }
 
 pub returns-clause-answer : goal.returns-clause-answer

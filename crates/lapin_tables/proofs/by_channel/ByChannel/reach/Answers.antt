@@ -1,11 +1,10 @@
-use Rattle.std.proofs.Common.{◌∙◌, ◌≤◌, sym, ap, arith, length}
-use Rattle.std.specs.Option.{option_flatten}
+use Rattle.std.proofs.Common.{◌≤◌, arith, length}
 use Rattle.std.proofs.lemmas.Option.{slice_get_past}
 use Rattle.lapin_tables.proofs.Channels.{absent}
+use Rattle.lapin_tables.proofs.Index.{no-place}
 use Rattle.lapin_tables.proofs.by_channel.ByChannel.reach.Goals as goal
 
 pub returns : goal.returns
 returns g c n h =
     let past : length c.self.inside.places.items ≤ n = omega (arith, c.len.ensures, h) in
-    rw (← c.self.view_is)
-    (absent n c.self.inside.entries.items (sym (c.self.invariant n) ∙ ap option_flatten (slice_get_past c.self.inside.places.items n past)))
+    rw (← c.self.view_is) (absent n c.self.inside.entries.items (no-place n _ _ c.self.invariant.0 (slice_get_past c.self.inside.places.items n past)))

@@ -1,6 +1,7 @@
 use Rattle.std.proofs.Common.{◌≡◌, ◌∙◌, ◌<◌, sym, ap, refl, arith, length, Some}
 use Rattle.lapin_tables.specs.Index.{place_of}
-use Rattle.lapin_tables.proofs.Channels.{found, written, place-on}
+use Rattle.lapin_tables.proofs.Channels.{found, written}
+use Rattle.lapin_tables.proofs.Index.{keeps-index}
 use Rattle.lapin_tables.proofs.by_channel.ByChannel.value_at.Goals as goal
 
 pub index_mut-entry-requires : goal.index_mut-entry-requires
@@ -9,10 +10,10 @@ index_mut-entry-requires g c =
     omega arith
 
 pub invariant_of-self-lent : goal.invariant_of-self-lent
-invariant_of-self-lent g c w d =
+invariant_of-self-lent g c w =
     let placed : place_of c.args.channel c.self.inside.entries.items ≡ Some c.args.place = rw (← c.self.view_is) at c.requires in
-    rw (written c.args.channel c.args.place c.self.inside.entries.items c.index_mut-entry.result.now w placed c.index_mut-entry.ensures.value, place-on)
-    (c.self.invariant d)
+    rw (written c.args.channel c.args.place c.self.inside.entries.items c.index_mut-entry.result.now w placed c.index_mut-entry.ensures.value)
+    (keeps-index c.args.channel (λ _. w) _ _ c.self.invariant)
 
 pub returns : goal.returns
 returns g c =

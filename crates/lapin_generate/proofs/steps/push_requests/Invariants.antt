@@ -1,7 +1,0 @@
-use Rattle.std.proofs.Common.{◌≡◌, ◌++◌, true, replicate}
-use Rattle.lapin_types.specs.declared.event.Event.TheVariants as event
-use Rattle.lapin_joint.specs.declared.step.Step.TheVariants as step
-use Rattle.lapin_generate.proofs.steps.push_requests.Given as goal
-
-abbrev pub invariant-loop-asked : goal.invariant-loop-asked
-invariant-loop-asked l = l.steps.items ≡ l.fn.steps.items ++ replicate l.asked (step.Client (event.Next true))

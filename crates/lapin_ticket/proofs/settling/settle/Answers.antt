@@ -1,0 +1,29 @@
+use Rattle.std.proofs.Common.{◌≡◌, ◌+◌, ◌++◌, ◌∷◌, [], Some, length, ◌∙◌, ap, arith, length-append}
+use Rattle.std.proofs.Math.Nat.{div-add-mod}
+use Rattle.lapin_ticket.specs.Packed.{packed_at}
+use Rattle.lapin_ticket.proofs.Blocks.{new-block}
+use Rattle.lapin_ticket.proofs.Shown.{packed-alike, shown-alike}
+use Rattle.lapin_ticket.proofs.settling.settle.Goals as goal
+
+pub overflow_add-index : goal.overflow_add-index
+overflow_add-index c = omega (arith, c.requires.covers, c.count-given.ensures, c.count-filled.ensures)
+
+pub fill-requires-clause-packed : goal.fill-requires-clause-packed
+fill-requires-clause-packed c =
+    let grown : c.push_reserved.new.self.slots ≡ c.args.blocks.now.slots ++ Some c.new.result ∷ [] = c.push_reserved.ensures.slots ∙ ap (λ bs. bs ++ Some c.new.result ∷ []) c.reserve.ensures.same in
+    let long : length c.push_reserved.new.self.slots ≡ length c.args.blocks.now.slots + 1 = ap length grown ∙ length-append c.args.blocks.now.slots (Some c.new.result ∷ []) in
+    packed-alike c.args.blocks.now.slots c.push_reserved.new.self.slots c.args.slots.now.slots
+    (λ n. ap (packed_at n) grown ∙ new-block c.new.result c.args.blocks.now.slots c.new.ensures n)
+    (omega (arith, long, c.count-given.ensures, c.count-filled.ensures, div-add-mod c.count-given.result 64))
+    c.requires
+
+pub returns-clause-packed : goal.returns-clause-packed
+returns-clause-packed c =
+    packed-alike c.fill.new.blocks.slots c.let_go.new.blocks.slots c.fill.new.slots.slots c.let_go.ensures.same (omega (arith, c.let_go.ensures.count, c.fill.ensures.packed.covers)) c.fill.ensures.packed
+
+pub returns-clause-same : goal.returns-clause-same
+returns-clause-same c =
+    let grown : c.push_reserved.new.self.slots ≡ c.args.blocks.now.slots ++ Some c.new.result ∷ [] = c.push_reserved.ensures.slots ∙ ap (λ bs. bs ++ Some c.new.result ∷ []) c.reserve.ensures.same in
+    shown-alike 0 c.fill.new.blocks.slots c.let_go.new.blocks.slots c.fill.new.slots.slots c.let_go.ensures.same
+    ∙ c.fill.ensures.same
+    ∙ shown-alike 0 c.args.blocks.now.slots c.push_reserved.new.self.slots c.args.slots.now.slots (λ n. ap (packed_at n) grown ∙ new-block c.new.result c.args.blocks.now.slots c.new.ensures n)
