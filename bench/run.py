@@ -9,8 +9,8 @@ smaller one of the same kind, by the events that the larger one has more. They d
 Time is user and system time, the least of some runs, as a slope between the same inputs. Memory is the most that the
 process held on the larger input, in all.
 
-A row of the third table is what a session holds by the end for each turn of its input: the memory of the process while it waits to
-write its last output, without the input, as a slope between two sizes.
+A row of the third table is what a session holds by the end for each turn of its input: what the process took from the heap and didn't give
+back, without the input, as `valgrind --tool=massif` counts it, as a slope between two sizes.
 
     bench/run.py [--program PATH] [--repeat N] [--only WORD] [--growth] [--no-valgrind]
 """
@@ -350,9 +350,9 @@ GROWTH = [
 
 # What is held by the end for each turn: its name, its input of so many turns, and the turns of the smaller and of the larger one.
 HELD = [
-    ("publishes whose tickets nobody polls", lambda n: unpolled(n, n + 1), 30_000, 150_000),
-    ("publishes of which the first ticket nobody polls", lambda n: unpolled(n, 2), 30_000, 120_000),
-    ("deliveries that were acked", acked, 20_000, 70_000),
+    ("publishes whose tickets nobody polls", lambda n: unpolled(n, n + 1), 60_000, 120_000),
+    ("publishes of which the first ticket nobody polls", lambda n: unpolled(n, 2), 40_000, 70_000),
+    ("deliveries that were acked", acked, 35_000, 60_000),
     ("channels that are open", channels, 10_000, 60_000),
 ]
 
@@ -399,25 +399,14 @@ def peak(command, path):
     return 1024 * int(run(["/usr/bin/time", "-f", "%M", *command], path).split()[-1])
 
 
-def waiting(command, path):
-    """What the process holds, in bytes, while it waits to write its last output, less the input."""
-    with open(path, "rb") as source:
-        written = len(subprocess.run(command, stdin=source, stdout=subprocess.PIPE, check=True).stdout)
-    with open(path, "rb") as source, subprocess.Popen(command, stdin=source, stdout=subprocess.PIPE) as process:
-        # A pipe takes 65,536 bytes, and the program writes as many at once.
-        left = written - 2 * 65_536
-        while left > 0:
-            left -= len(process.stdout.read(min(left, 65_536)))
-        told = None
-        while True:
-            with open(f"/proc/{process.pid}/status", encoding="utf-8") as status:
-                now = int(re.search(r"VmRSS:\s+(\d+)", status.read())[1])
-            if now == told:
-                break
-            told = now
-            time.sleep(0.2)
-        process.stdout.read()
-    return 1024 * told - os.path.getsize(path)
+def last_heap(command, path):
+    """What the process has taken from the heap by the end of its input and not given back, in bytes: the most of the last tenth of its
+    run. The input itself, which is kept whole in a buffer that doubles, isn't counted."""
+    with tempfile.NamedTemporaryFile("r", encoding="utf-8") as told:
+        run(["valgrind", "--tool=massif", "--max-snapshots=200", f"--massif-out-file={told.name}", *command], path)
+        shots = [tuple(map(int, shot)) for shot in re.findall(r"time=(\d+)\nmem_heap_B=(\d+)", told.read())]
+    buffer = 1 << (os.path.getsize(path) - 1).bit_length()
+    return max(heap for time_of, heap in shots if 10 * time_of >= 9 * shots[-1][0]) - buffer
 
 
 def held_row(program, folder, workload):
@@ -426,7 +415,7 @@ def held_row(program, folder, workload):
     write_input(small, make(few))
     write_input(large, make(many))
     command = [program, "session"]
-    each = (waiting(command, large) - waiting(command, small)) / (many - few)
+    each = (last_heap(command, large) - last_heap(command, small)) / (many - few)
     return f"| {name_of} | {few:,} to {many:,} | {each:,.1f} |"
 
 
