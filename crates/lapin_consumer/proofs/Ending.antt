@@ -1,5 +1,7 @@
 -- The consumers of a channel get their ends, one place after another.
 use Rattle.std.proofs.Common.{◌≡◌, ◌≢◌, ℕ, zero, suc, ◌+◌, ◌<◌, ◌≤◌, ◌==◌, Bool, true, false, cond, List, [], ◌∷◌, ◌++◌, length, map, drop, Option, Some, refl, sym, ◌∙◌, ap, subst, arith, slice_get, slice_set, get_or, append_assoc, ◌⊎◌, inl, inr, eq-eqb, ne_eqb}
+use Rattle.std.specs.Prelude.{◌&&◌, nat_eq}
+use Rattle.std.specs.Cmp.Lexicographic.{pointwise}
 use Rattle.std.specs.Option.{option_map}
 use Rattle.std.specs.List.{list_any}
 use Rattle.std.proofs.lemmas.Bool.Decides.{eqb_tells}
@@ -10,16 +12,15 @@ use Rattle.lapin_types.specs.Types.{Error}
 use Rattle.lapin_tables.proofs.Lists.{get-set_same, get-set_other}
 use Rattle.lapin_consumer.specs.Words.{map_at, gather_at, places_at, on_place}
 use Rattle.lapin_consumer.specs.Marks as mark
-use Rattle.lapin_consumer.specs.Indexed.{Seated, Line, Listed, Indexed, EndsFit, nobody, listed_in, places_in, tagged_in, without_place, times, tag_at}
+use Rattle.lapin_consumer.specs.Indexed.{Seated, Line, Indexed, NamesNobody, EndsFit, places_in, tagged_in, without_place}
 use Rattle.lapin_consumer.specs.WithRoom.{WithRoom, Reserved}
 use Rattle.lapin_tables.specs.ByChannel.{at_channel}
-use Rattle.lapin_registry.specs.ByName.{rises}
-use Rattle.lapin_consumer.specs.Subscriptions.{Handed, Consumer, is_on, is_marked, handed, offered, canceled, last_words, first_place, moved, owed, is_under, Subscriptions, after_mark}
+use Rattle.lapin_consumer.specs.Subscriptions.{Handed, Consumer, is_on, is_marked, handed, offered, canceled, last_words, first_place, moved, owed, is_under, place_under, Subscriptions, after_mark}
 use Rattle.lapin_consumer.proofs.Places.{tested, at_where, given_where, map_at-none, gather-none, get-map, map-set, places-map_at, get-map_at}
 use Rattle.lapin_consumer.proofs.Found.{Placed, first_placed, unplaced, get-within, after-suc, first-map}
-use Rattle.lapin_consumer.proofs.Leaving.{Ends, lists_left, suc_eqb, elsewhere}
-use Rattle.lapin_consumer.proofs.Indices.{Was, was, tag-map_at, handed_post}
-use Rattle.lapin_consumer.proofs.Sought.{rise-kept}
+use Rattle.lapin_consumer.proofs.Leaving.{Ends, lists_left, suc_eqb, elsewhere, under_on}
+use Rattle.lapin_consumer.proofs.Indices.{Was, was, handed_post}
+use Rattle.lapin_consumer.proofs.Under.{none-placed}
 use Rattle.lapin_consumer.proofs.Single.{placed, same_subscriptions, untouched}
 
 -- ---- two things handed, one after the other
@@ -288,29 +289,25 @@ ended_under c d t e i x h =
 ended_tag : (c : ℕ) (e : Option Error) (i : ℕ) (x : Consumer) → (moved (mark.Ended c e) i x).tag ≡ x.tag
 ended_tag c e i x = tested (is_on c x) (λ on. rw on (handed_post (last_words e) x).tag) (λ off. rw off refl)
 
-pub ended_index : (c : ℕ) (e : Option Error) (before after : List (ℕ × Line)) (old new : Subscriptions) → Indexed before old.consumers → new ≡ after_mark old (mark.Ended c e) → places_at (λ _ x. is_on c x) new.consumers ≡ [] → listed_in (at_channel c after) ≡ nobody → ((d : ℕ) → c ≢ d → listed_in (at_channel d after) ≡ listed_in (at_channel d before)) → Indexed after new.consumers
+ended_apart : (c d : ℕ) (t : List ℕ) (e : Option Error) (i : ℕ) (x : Consumer) → c ≢ d → is_under d t (moved (mark.Ended c e) i x) ≡ is_under d t x
+ended_apart c d t e i x apart = ap (λ b. b && pointwise nat_eq (moved (mark.Ended c e) i x).tag t) (ended_off c d e i x apart) ∙ ap (λ l. is_on d x && pointwise nat_eq l t) (ended_tag c e i x)
+
+pub ended_index : (c : ℕ) (e : Option Error) (before after : List (ℕ × Line)) (old new : Subscriptions) → Indexed before old.consumers → new ≡ after_mark old (mark.Ended c e) → places_at (λ _ x. is_on c x) new.consumers ≡ [] → NamesNobody (at_channel c after) → ((d : ℕ) → c ≢ d → at_channel d after ≡ at_channel d before) → Indexed after new.consumers
 ended_index c e before after old new index is none here others =
     let xs : new.consumers ≡ map_at (moved (mark.Ended c e)) old.consumers = ap (λ (r : Subscriptions). r.consumers) is in
     record {
       lists = λ d. elim (eqb_tells c d) [
         | inl same ↦
             let Q : ℕ → Type 0 = λ k. places_in (at_channel k after) ≡ places_at (λ _ x. is_on k x) new.consumers in
-            subst Q same.1 (ap (λ (l : Listed). l.places) here ∙ sym none)
-        | inr other ↦ ap (λ (l : Listed). l.places) (others d other.1) ∙ index.lists d ∙ sym (ap (places_at (λ _ x. is_on d x)) xs ∙ places-map_at (λ _ x. is_on d x) (λ _ x. is_on d x) (moved (mark.Ended c e)) old.consumers (λ i x. ended_off c d e i x other.1))
+            subst Q same.1 (here.places ∙ sym none)
+        | inr other ↦ ap places_in (others d other.1) ∙ index.lists d ∙ sym (ap (places_at (λ _ x. is_on d x)) xs ∙ places-map_at (λ _ x. is_on d x) (λ _ x. is_on d x) (moved (mark.Ended c e)) old.consumers (λ i x. ended_off c d e i x other.1))
       ];
-      same = λ d p. elim (eqb_tells c d) [
+      tags = λ d t. elim (eqb_tells c d) [
         | inl same ↦
-            let Q : ℕ → Type 0 = λ k. times p (tagged_in (at_channel k after)) ≡ times p (places_in (at_channel k after)) in
-            subst Q same.1 (ap (λ (l : Listed). times p l.tagged) here ∙ sym (ap (λ (l : Listed). times p l.places) here))
-        | inr other ↦ ap (λ (l : Listed). times p l.tagged) (others d other.1) ∙ index.same d p ∙ sym (ap (λ (l : Listed). times p l.places) (others d other.1))
-      ];
-      rise = λ d. elim (eqb_tells c d) [
-        | inl same ↦
-            let Q : ℕ → Type 0 = λ k. rises (tag_at new.consumers) (tagged_in (at_channel k after)) ≡ true in
-            subst Q same.1 (ap (λ (l : Listed). rises (tag_at new.consumers) l.tagged) here)
-        | inr other ↦
-            let kept : (p : ℕ) → tag_at new.consumers p ≡ tag_at old.consumers p = λ p. ap (λ ys. tag_at ys p) xs ∙ tag-map_at (moved (mark.Ended c e)) (ended_tag c e) old.consumers p in
-            ap (λ (l : Listed). rises (tag_at new.consumers) l.tagged) (others d other.1) ∙ rise-kept old.consumers new.consumers (tagged_in (at_channel d before)) kept (index.rise d)
+            let Q : ℕ → Type 0 = λ k. tagged_in t (at_channel k after) ≡ place_under k t new.consumers in
+            let left : places_at (λ _ x. is_under c t x) new.consumers ≡ [] = none-placed (is_under c t) new.consumers (λ i x at u. unplaced (λ _ y. is_on c y) new.consumers (ap first_place none) i x at (under_on c t x u)) in
+            subst Q same.1 (here.tags t ∙ sym (ap first_place left))
+        | inr other ↦ ap (tagged_in t) (others d other.1) ∙ index.tags d t ∙ sym (ap (place_under d t) xs ∙ ap first_place (places-map_at (λ _ x. is_under d t x) (λ _ x. is_under d t x) (moved (mark.Ended c e)) old.consumers (λ i x. ended_apart c d t e i x other.1)))
       ];
       alone = λ d t i j x y at_i at_j ux uy.
           let wx : Was (moved (mark.Ended c e) i) (slice_get old.consumers i) x = was (moved (mark.Ended c e) i) (slice_get old.consumers i) x (sym (get-map_at (moved (mark.Ended c e)) i old.consumers) ∙ ap (λ zs. slice_get zs i) (sym xs) ∙ at_i) in

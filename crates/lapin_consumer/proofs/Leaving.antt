@@ -80,7 +80,7 @@ Alone xs = (c : ℕ) (t : List ℕ) (i j : ℕ) (x y : Consumer) → slice_get x
 pub record Ends (f : Consumer → Consumer) : Type 0 where
   pub off : (x : Consumer) → (f x).registered ≡ false
 
-unlisted : (c : ℕ) (x : Consumer) → x.registered ≡ false → is_on c x ≡ false
+pub unlisted : (c : ℕ) (x : Consumer) → x.registered ≡ false → is_on c x ≡ false
 unlisted c x off = rw off refl
 
 pub under_on : (c : ℕ) (t : List ℕ) (x : Consumer) → is_under c t x ≡ true → is_on c x ≡ true
@@ -93,7 +93,7 @@ under_on c t x h = first (is_on c x) (pointwise nat_eq x.tag t) h
 under_off : (c : ℕ) (t : List ℕ) (x : Consumer) → x.registered ≡ false → is_under c t x ≡ true → ⊥
 under_off c t x off h = let no : is_on c x ≡ false = unlisted c x off in let yes : is_on c x ≡ true = under_on c t x h in cc
 
-on_channel : (c : ℕ) (x : Consumer) → is_on c x ≡ true → (x.registered ≡ true) × (x.channel ≡ c)
+pub on_channel : (c : ℕ) (x : Consumer) → is_on c x ≡ true → (x.registered ≡ true) × (x.channel ≡ c)
 on_channel c x h = (first x.registered (x.channel == c) h, eqb-true x.channel c (second x.registered (x.channel == c) h))
   where
     first : (a b : Bool) → a && b ≡ true → a ≡ true

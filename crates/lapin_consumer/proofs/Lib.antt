@@ -3,10 +3,11 @@ pub mod Single
 pub mod Indices
 pub mod Rooms
 pub mod Found
-pub mod Tags
-pub mod Sought
+pub mod Rising
+pub mod Texts
 pub mod Lines
 pub mod Leaving
+pub mod Under
 pub mod Registering
 pub mod Following
 pub mod Polls

@@ -1,7 +1,7 @@
 //! The consumers of a session: the public calls.
 //!
 //! Beside the seats stands an index of the registered consumers, so that a delivery or a cancel looks at its channel alone, and
-//! finds a tag by halves.
+//! finds a tag at once.
 
 ghost use Rattle.std.specs.Prelude.{◌≡◌, ℕ, ◌+◌, ◌<◌, ◌^◌, ◌↔◌, ◌⊎◌, ◌≤◌, suc, Some, None, Ok, Err, OnOk, OnErr, IsOk, IsTrue, IfOk, IfErr, IfSome, IfNone, length, slice_get};
 ghost use Rattle.lapin_consumer.specs.Subscriptions.{empty_subscriptions, after_mark, is_registered, found, place_under, consumer_at, answered, let_go_answer, is_ready};
@@ -11,12 +11,9 @@ ghost use Rattle.lapin_acker.specs.Marks as acker_mark;
 ghost use Rattle.lapin_consumer.specs.Ackers.{ackers_on};
 ghost use Rattle.lapin_consumer.specs.WithRoom.{HasRoom, HasEnds, KeepsRoom, KeepsOthers};
 ghost use Rattle.std.specs.Option.{option_copied, option_map};
-ghost use Rattle.lapin_tables.specs.ByChannel.{at_channel};
-ghost use Rattle.lapin_registry.specs.ByName.{rises};
-ghost use Rattle.lapin_consumer.specs.Indexed.{tag_at, tagged_in, IsSought};
 
 use crate::hall::Hall;
-use crate::line::{Line, clear, make_line_room, replace, take_out};
+use crate::line::{Line, clear, join, leave, make_line_room};
 use crate::serving::let_go;
 use lapin_acker::Switches;
 use lapin_tables::ByChannel;
@@ -29,7 +26,7 @@ use std::marker::Model;
 /// All consumers of a session, and the jobs of their delegates. Contracts see a `Subscriptions`, and the room beside it.
 pub struct Consumers {
     hall: Hall,
-    // By channel: the places of its registered consumers, rising and in order of tags.
+    // By channel: the places of its registered consumers, rising, and by tag.
     lines: ByChannel<Line>,
 }
 
@@ -90,17 +87,18 @@ impl Consumers {
         if place as u64 == u64::MAX {
             return Err(Error::NumbersUsedUp);
         }
-        let text = tag.as_str();
-        let gone = self.find_place(channel, text);
-        let at = look_up(&self.hall, &self.lines, channel, text).1;
+        let gone = self.find_place(channel, tag.as_str());
         if make_line_room(&mut self.lines, alloc, channel).is_err() {
             return Err(Error::NoMemory);
         }
+        let Ok(key) = String::from_str(alloc, tag.as_str()) else {
+            return Err(Error::NoMemory);
+        };
         if self.hall.add(alloc, channel, tag, queue).is_err() {
             return Err(Error::NoMemory);
         }
         self.hall.unregister(gone);
-        replace(&mut self.lines, channel, gone, place, at);
+        join(&mut self.lines, channel, gone, place, key);
         Ok(place as u64 + 1)
     }
 
@@ -119,7 +117,7 @@ impl Consumers {
         ensures place { result ≡ place_under channel tag.now self.now.subscriptions.consumers }
         ensures within { IfSome result (λ p. p < length self.now.subscriptions.consumers) }
     {
-        look_up(&self.hall, &self.lines, channel, tag).0
+        self.lines.get(channel)?.find(tag)
     }
 
     /// Whether a consumer is registered: false also for a number that was never given.
@@ -206,11 +204,10 @@ impl Consumers {
         let Some(place) = self.find_place(channel, tag) else {
             return Ok(());
         };
-        let at = look_up(&self.hall, &self.lines, channel, tag).1;
         let number = self.hall.number(place);
         self.hall.reserve(number)?;
         self.hall.finish(place);
-        take_out(&mut self.lines, channel, place, at);
+        leave(&mut self.lines, channel, place, tag);
         Ok(())
     }
 
@@ -388,21 +385,5 @@ impl Consumers {
         ensures kept { KeepsRoom self.old self.new }
     {
         self.hall.next_job()
-    }
-}
-
-// The place of the consumer that is registered on a channel under a tag, if one is, and where that stands in the order of tags, or
-// would stand.
-fn look_up(hall: &Hall, lines: &ByChannel<Line>, channel: u16, tag: &str) -> (Option<usize>, usize)
-    requires { IsTrue (rises (tag_at hall.now.subscriptions.consumers) (tagged_in (at_channel channel lines.now.entries))) }
-    ensures { IsSought tag.now hall.now.subscriptions.consumers (tagged_in (at_channel channel lines.now.entries)) result }
-{
-    let Some(line) = lines.get(channel) else {
-        return (None, 0);
-    };
-    let tagged = line.tagged();
-    match hall.seek(tagged, tag) {
-        Ok(at) => (Some(tagged[at]), at),
-        Err(at) => (None, at),
     }
 }

@@ -9,8 +9,6 @@ ghost use Rattle.lapin_consumer.specs.Marks as mark;
 ghost use Rattle.lapin_acker.specs.Switches.{voided};
 ghost use Rattle.lapin_consumer.specs.Ackers.{ackers_on};
 ghost use Rattle.lapin_consumer.specs.WithRoom.{HasRoom, HasEnds, KeepsRoom, KeepsOthers};
-ghost use Rattle.lapin_consumer.specs.Indexed.{tag_at};
-ghost use Rattle.lapin_registry.specs.ByName.{name_cmp, rises, IsAt, IsGapFor};
 
 use crate::seat::Seat;
 use crate::serving::{
@@ -20,7 +18,6 @@ use crate::serving::{
 use lapin_acker::Switches;
 use lapin_types::{Delivery, DeliveryResult, Error, Job, NoMemory, ShortString};
 use std::alloc::Global;
-use std::cmp::Ordering;
 use std::collections::VecDeque;
 use std::marker::Model;
 
@@ -341,24 +338,5 @@ impl Hall {
             Some(place) => Some(self.seats[place].queue()),
             None => None,
         }
-    }
-
-    // How the tag of the consumer at a place compares to this one.
-    fn compare(&self, place: usize, tag: &str) -> Ordering
-        ensures { result ≡ name_cmp (tag_at self.now.subscriptions.consumers place) tag.now }
-    {
-        match self.seats.get(place) {
-            Some(seat) => seat.tag().as_str().cmp(tag),
-            None => "".cmp(tag),
-        }
-    }
-
-    /// Among places in order of their consumers' tags, where the one with this tag stands, or would stand.
-    pub(crate) fn seek(&self, places: &[usize], tag: &str) -> Result<usize, usize>
-        requires { IsTrue (rises (tag_at self.now.subscriptions.consumers) places.now) }
-        ensures found { IfOk result (λ at. IsAt (tag_at self.now.subscriptions.consumers) tag.now places.now at) }
-        ensures absent { IfErr result (λ at. IsGapFor (tag_at self.now.subscriptions.consumers) tag.now places.now at) }
-    {
-        places.binary_search_by(|place| self.compare(*place, tag))
     }
 }

@@ -1,12 +1,14 @@
-//! The registered consumers of one channel: their places as they rise, and in order of their tags.
+//! The registered consumers of one channel: their places as they rise, and the place of each under its tag.
+//!
+//! The tags are hashed: one is found, joins and leaves in the same time, however many consumers the channel has.
 
-ghost use Rattle.std.specs.Prelude.{◌≡◌, ◌+◌, ◌<◌, ◌≤◌, ◌∷◌, ◌++◌, OnOk, length, ◌≢◌, ℕ};
-ghost use Rattle.std.specs.List.{insert, remove};
+ghost use Rattle.std.specs.Prelude.{◌≡◌, ◌<◌, ◌≤◌, OnOk, [], None, Some, ◌≢◌, ℕ, string_bytes};
 ghost use Rattle.lapin_tables.specs.ByChannel.{at_channel};
-ghost use Rattle.lapin_consumer.specs.Indexed.{nobody, listed_in, places_in, tagged_in, replaced, taken_out, without_place, HasLineRoom, RiseFrom, Fits};
+ghost use Rattle.lapin_consumer.specs.Indexed.{places_in, tagged_in, without_place, HasLineRoom, HasJoined, HasLeft, NamesSame, NamesNobody, RiseFrom};
 
 use lapin_tables::ByChannel;
 use std::alloc::{AllocError, Global};
+use std::collections::HashMap;
 use std::marker::Model;
 
 /// The places of a channel's registered consumers, twice. Contracts see them, and the room beside them.
@@ -14,118 +16,99 @@ use std::marker::Model;
 pub(crate) struct Line {
     // Rising.
     places: Vec<usize>,
-    // In order of the tags.
-    tagged: Vec<usize>,
+    // Each under its consumer's tag.
+    tags: HashMap<String, usize>,
 }
 
 impl Model for Line {
     ghost use Rattle.std.specs.Prelude.{◌-◌, vec_len, vec_capacity};
-    ghost use Rattle.lapin_consumer.specs.Indexed.{Line};
+    ghost use Rattle.std.specs.HashMap.{spare};
+    ghost use Rattle.lapin_consumer.specs.Indexed.{Line, by_text};
 
     ghost Value = { Line };
 
     ghost view = { λ a. record {
-      listed = record { places = a.places.items; tagged = a.tagged.items };
-      spare = vec_capacity a.places - vec_len a.places;
-      tag_spare = vec_capacity a.tagged - vec_len a.tagged;
+      places = a.places.items;
+      tags = by_text a.tags.entries;
+      place_spare = vec_capacity a.places - vec_len a.places;
+      tag_spare = spare a.tags;
     } };
 }
 
 impl Line {
     pub(crate) fn new(alloc: Global) -> Line
-        ensures { result.listed ≡ nobody }
+        ensures places { result.places ≡ [] }
+        ensures tags { result.tags ≡ [] }
     {
         Line {
             places: Vec::new(alloc),
-            tagged: Vec::new(alloc),
+            tags: HashMap::new(alloc),
         }
     }
 
     /// The places, rising.
     pub(crate) fn as_slice(&self) -> &[usize]
-        ensures { result.now ≡ self.now.listed.places }
+        ensures { result.now ≡ self.now.places }
     {
         self.places.as_slice()
     }
 
-    /// The places in order of their consumers' tags.
-    pub(crate) fn tagged(&self) -> &[usize]
-        ensures { result.now ≡ self.now.listed.tagged }
+    /// The place under a tag.
+    pub(crate) fn find(&self, tag: &str) -> Option<usize>
+        ensures { result ≡ tagged_in tag.now (Some self.now) }
     {
-        self.tagged.as_slice()
+        self.tags.get(tag).copied()
     }
 
     /// Makes room for one more. The places stay, also where there is no memory.
     pub(crate) fn reserve(&mut self) -> Result<(), AllocError>
-        ensures room { OnOk result ((0 < self.new.spare) × (0 < self.new.tag_spare)) }
-        ensures same { self.new.listed ≡ self.old.listed }
+        ensures room { OnOk result (HasLineRoom (Some self.new)) }
+        ensures same { NamesSame (Some self.old) (Some self.new) }
     {
         self.places.reserve(1)?;
-        self.tagged.reserve(1)
+        self.tags.reserve(1)
     }
 
-    // Takes a place out of those that rise.
-    fn remove_place(&mut self, place: usize)
-        requires { RiseFrom 0 self.old.listed.places }
-        ensures places { self.new.listed.places ≡ without_place (Some place) self.old.listed.places }
-        ensures tagged { self.new.listed.tagged ≡ self.old.listed.tagged }
-        ensures kept { (self.old.spare ≤ self.new.spare) × (self.new.tag_spare ≡ self.old.tag_spare) }
+    // Takes a place out of those that rise, if one is named.
+    fn remove_place(&mut self, gone: Option<usize>)
+        requires { RiseFrom 0 self.old.places }
+        ensures places { self.new.places ≡ without_place gone self.old.places }
+        ensures tags { self.new.tags ≡ self.old.tags }
+        ensures kept { (self.old.place_spare ≤ self.new.place_spare) × (self.new.tag_spare ≡ self.old.tag_spare) }
     {
+        let Some(place) = gone else {
+            return;
+        };
         if let Ok(at) = self.places.binary_search(&place) {
             let _ = self.places.remove(at);
         }
     }
 
-    /// Takes a place out, which stands there in the order of tags.
-    fn remove(&mut self, place: usize, at: usize)
-        requires rising { RiseFrom 0 self.old.listed.places }
-        requires within { at < length self.old.listed.tagged }
-        ensures { self.new.listed ≡ taken_out place at self.old.listed }
+    /// Takes out a place and its tag.
+    fn leave(&mut self, place: usize, tag: &str)
+        requires { RiseFrom 0 self.old.places }
+        ensures { HasLeft place tag.now (Some self.old) (Some self.new) }
     {
-        self.remove_place(place);
-        let _ = self.tagged.remove(at);
+        self.remove_place(Some(place));
+        let _ = self.tags.remove(tag);
     }
 
-    // Adds a place above the others, which stands there in the order of tags.
-    fn add(&mut self, place: usize, at: usize)
-        requires room { (0 < self.old.spare) × (0 < self.old.tag_spare) }
-        requires within { at ≤ length self.old.listed.tagged }
-        ensures { self.new.listed ≡ replaced None place at self.old.listed }
-    {
-        self.places.push_reserved(place);
-        let _ = self.tagged.insert(at, place);
-    }
-
-    // Puts a place above the others, which has the tag of one that leaves.
-    fn succeed(&mut self, gone: usize, place: usize, at: usize)
-        requires room { 0 < self.old.spare }
-        requires rising { RiseFrom 0 self.old.listed.places }
-        requires within { at < length self.old.listed.tagged }
-        ensures { self.new.listed ≡ replaced (Some gone) place at self.old.listed }
+    /// Adds a place above the others, under a tag. The one that was under it leaves, which is named.
+    fn join(&mut self, gone: Option<usize>, place: usize, tag: String)
+        requires room { HasLineRoom (Some self.old) }
+        requires rising { RiseFrom 0 self.old.places }
+        ensures { HasJoined gone place (string_bytes tag) (Some self.old) (Some self.new) }
     {
         self.remove_place(gone);
         self.places.push_reserved(place);
-        self.tagged[at] = place;
-    }
-
-    /// Takes a place out, if one is named, and adds another, which stands there in the order of tags.
-    fn replace(&mut self, gone: Option<usize>, place: usize, at: usize)
-        requires room { (0 < self.old.spare) × (0 < self.old.tag_spare) }
-        requires rising { RiseFrom 0 self.old.listed.places }
-        requires fits { Fits gone at self.old.listed.tagged }
-        ensures { self.new.listed ≡ replaced gone place at self.old.listed }
-    {
-        match gone {
-            Some(gone) => self.succeed(gone, place, at),
-            None => self.add(place, at),
-        }
+        let _ = self.tags.insert(tag, place);
     }
 
     pub(crate) fn clear(&mut self)
-        ensures { self.new.listed ≡ nobody }
+        ensures { NamesNobody (Some self.new) }
     {
         self.places.clear();
-        self.tagged.clear();
+        self.tags.clear();
     }
 }
 
@@ -135,7 +118,7 @@ pub(crate) fn make_line_room(
     alloc: Global,
     channel: u16,
 ) -> Result<(), AllocError>
-    ensures same { (c : ℕ) → listed_in (at_channel c lines.new.entries) ≡ listed_in (at_channel c lines.old.entries) }
+    ensures same { (c : ℕ) → NamesSame (at_channel c lines.old.entries) (at_channel c lines.new.entries) }
     ensures room { OnOk result (HasLineRoom (at_channel channel lines.new.entries)) }
 {
     let Some(line) = lines.get_mut(channel) else {
@@ -147,44 +130,41 @@ pub(crate) fn make_line_room(
     line.reserve()
 }
 
-/// One consumer of a channel leaves its line, if any does, and another joins it, above the others, which stands there in the order
-/// of tags.
-pub(crate) fn replace(
+/// A consumer joins its channel's line under its tag, above the others. The one that was under that tag leaves, which is named.
+pub(crate) fn join(
     lines: &mut ByChannel<Line>,
     channel: u16,
     gone: Option<usize>,
     place: usize,
-    at: usize,
+    tag: String,
 )
     requires room { HasLineRoom (at_channel channel lines.old.entries) }
     requires rising { RiseFrom 0 (places_in (at_channel channel lines.old.entries)) }
-    requires fits { Fits gone at (tagged_in (at_channel channel lines.old.entries)) }
-    ensures here { listed_in (at_channel channel lines.new.entries) ≡ replaced gone place at (listed_in (at_channel channel lines.old.entries)) }
-    ensures others { (c : ℕ) → channel ≢ c → listed_in (at_channel c lines.new.entries) ≡ listed_in (at_channel c lines.old.entries) }
+    ensures here { HasJoined gone place (string_bytes tag) (at_channel channel lines.old.entries) (at_channel channel lines.new.entries) }
+    ensures others { (c : ℕ) → channel ≢ c → at_channel c lines.new.entries ≡ at_channel c lines.old.entries }
 {
     let Some(line) = lines.get_mut(channel) else {
         unreachable!()
     };
-    line.replace(gone, place, at);
+    line.join(gone, place, tag);
 }
 
-/// One consumer of a channel leaves its line, which stands there in the order of tags.
-pub(crate) fn take_out(lines: &mut ByChannel<Line>, channel: u16, gone: usize, at: usize)
-    requires rising { RiseFrom 0 (places_in (at_channel channel lines.old.entries)) }
-    requires within { at < length (tagged_in (at_channel channel lines.old.entries)) }
-    ensures here { listed_in (at_channel channel lines.new.entries) ≡ taken_out gone at (listed_in (at_channel channel lines.old.entries)) }
-    ensures others { (c : ℕ) → channel ≢ c → listed_in (at_channel c lines.new.entries) ≡ listed_in (at_channel c lines.old.entries) }
+/// A consumer leaves its channel's line, where it is under a tag.
+pub(crate) fn leave(lines: &mut ByChannel<Line>, channel: u16, place: usize, tag: &str)
+    requires { RiseFrom 0 (places_in (at_channel channel lines.old.entries)) }
+    ensures here { HasLeft place tag.now (at_channel channel lines.old.entries) (at_channel channel lines.new.entries) }
+    ensures others { (c : ℕ) → channel ≢ c → at_channel c lines.new.entries ≡ at_channel c lines.old.entries }
 {
     let Some(line) = lines.get_mut(channel) else {
-        unreachable!()
+        return;
     };
-    line.remove(gone, at);
+    line.leave(place, tag);
 }
 
 /// No consumer of a channel is listed any more.
 pub(crate) fn clear(lines: &mut ByChannel<Line>, channel: u16)
-    ensures here { listed_in (at_channel channel lines.new.entries) ≡ nobody }
-    ensures others { (c : ℕ) → channel ≢ c → listed_in (at_channel c lines.new.entries) ≡ listed_in (at_channel c lines.old.entries) }
+    ensures here { NamesNobody (at_channel channel lines.new.entries) }
+    ensures others { (c : ℕ) → channel ≢ c → at_channel c lines.new.entries ≡ at_channel c lines.old.entries }
 {
     let Some(line) = lines.get_mut(channel) else {
         return;

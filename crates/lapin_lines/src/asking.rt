@@ -1,6 +1,6 @@
 //! Calls of the application and of ackers: `call C NAME ARGS` and `acker N CALL`.
 ghost use Rattle.std.specs.Prelude.{◌≡◌, ◌++◌, ◌∷◌, [], Some, IfOk, IsOk, OnOk};
-ghost use Rattle.lapin_types.specs.declared.call.Call.TheVariants.{BasicPublish};
+ghost use Rattle.lapin_types.specs.declared.call.Call.TheVariants.{BasicPublish, OpenChannel, ChannelClose};
 ghost use Rattle.lapin_types.specs.declared.event.Event.TheVariants as event;
 ghost use Rattle.lapin_machine.specs.Numbers.{HasNumbersFor};
 ghost use Rattle.lapin_text.specs.LineReading.{whole, event_of_word};
@@ -95,7 +95,75 @@ fn print_call(
             properties,
             text,
         ),
+        other => print_other(alloc, session, channel, other, text),
+    }
+}
+
+// Makes any other call, and appends the line of its answer.
+#[inline(never)]
+fn print_other(
+    alloc: Global,
+    session: &mut Session,
+    channel: u16,
+    call: Call,
+    text: &mut Vec<u8>,
+) -> Result<(), NoMemory>
+    requires { HasNumbersFor 1 session.old }
+    ensures { OnOk result (IsMet (event.Call channel call) session.old session.new text.old.items text.new.items) }
+{
+    match call {
+        Call::OpenChannel => print_opening(alloc, session, channel, text),
+        Call::ChannelClose {
+            reply_code,
+            reply_text,
+        } => print_close(alloc, session, channel, reply_code, reply_text, text),
         other => print_step(alloc, session, Event::Call(channel, other), text),
+    }
+}
+
+// Opens a channel, and appends the line of the ticket, or of the refusal.
+#[inline(never)]
+fn print_opening(
+    alloc: Global,
+    session: &mut Session,
+    channel: u16,
+    text: &mut Vec<u8>,
+) -> Result<(), NoMemory>
+    requires { HasNumbersFor 1 session.old }
+    ensures { OnOk result (IsMet (event.Call channel OpenChannel) session.old session.new text.old.items text.new.items) }
+{
+    match session.open_channel(alloc, channel) {
+        Ok(ticket) => {
+            put_ticket(text, ticket.number)?;
+            text.push(b'\n')?;
+            Ok(())
+        }
+        Err(Error::NumbersUsedUp) => unreachable!(),
+        Err(error) => put_refusal(alloc, text, error),
+    }
+}
+
+// Closes a channel, and appends the line of the ticket, or of the refusal.
+#[inline(never)]
+fn print_close(
+    alloc: Global,
+    session: &mut Session,
+    channel: u16,
+    reply_code: u16,
+    reply_text: ShortString,
+    text: &mut Vec<u8>,
+) -> Result<(), NoMemory>
+    requires { HasNumbersFor 1 session.old }
+    ensures { OnOk result (IsMet (event.Call channel (ChannelClose reply_code reply_text)) session.old session.new text.old.items text.new.items) }
+{
+    match session.channel_close(alloc, channel, reply_code, reply_text) {
+        Ok(ticket) => {
+            put_ticket(text, ticket.number)?;
+            text.push(b'\n')?;
+            Ok(())
+        }
+        Err(Error::NumbersUsedUp) => unreachable!(),
+        Err(error) => put_refusal(alloc, text, error),
     }
 }
 

@@ -8,7 +8,7 @@ ghost use Rattle.lapin_lines.specs.Lines.{IsMet, IsTaken, frame_event};
 
 use crate::steps::put_refusal;
 use lapin_machine::{Heard, Session};
-use lapin_text::{Word, first_word, read_body_frame, read_header_frame, read_method_frame};
+use lapin_text::{Word, first_frame_word, read_body_frame, read_header_frame, read_method_frame};
 use lapin_tokens::{ReadError, Tokens};
 use lapin_types::{Error, Frame, NoMemory};
 use std::alloc::Global;
@@ -24,7 +24,7 @@ pub(crate) fn take_frame(
     requires { HasNumbersFor 1 session.old }
     ensures { IfOk result (IsTaken (whole (event_of_word word.Recv tokens.old)) session.old session.new text.old.items text.new.items) }
 {
-    match first_word(tokens) {
+    match first_frame_word(tokens) {
         Some(Word::Method) => take_method(alloc, session, tokens, text),
         Some(Word::Header) => take_header(alloc, session, tokens, text),
         Some(Word::Body) => take_body(alloc, session, tokens, text),

@@ -369,8 +369,8 @@ pub fn is_publish(name: &[u8]) -> bool
     matches!(name, b"basic.publish")
 }
 
-/// Whether the name is that of a confirmation.
-pub fn is_ack(name: &[u8]) -> bool
+// Whether the name is that of a confirmation.
+fn is_ack(name: &[u8]) -> bool
     ensures { IsTrue result → name.now ≡ basic_name basic_kind.Ack }
 {
     matches!(name, b"basic.ack")

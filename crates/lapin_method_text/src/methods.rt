@@ -14,7 +14,7 @@ use crate::channel::{put_channel, read_channel};
 use crate::confirm::{put_confirm, read_confirm};
 use crate::connection::{put_connection, read_connection};
 use crate::exchange::{put_exchange, read_exchange};
-use crate::kinds::{MethodKind, is_ack, kind_named};
+use crate::kinds::{MethodKind, kind_named};
 use crate::queue::{put_queue, read_queue};
 use crate::tx::{put_tx, read_tx};
 use lapin_methods::{BasicMethod, Method};
@@ -61,15 +61,12 @@ fn read_ack(tokens: &mut Tokens) -> Result<Method, ReadError>
 pub fn read_method(alloc: Global, tokens: &mut Tokens) -> Result<Method, ReadError>
     ensures { Gives result tokens.new (method_at tokens.old) }
 {
+    if tokens.word(b"basic.ack") {
+        return read_ack(tokens);
+    }
     match tokens.next() {
         None => Err(ReadError::Bad),
-        Some(name) => {
-            if is_ack(name) {
-                read_ack(tokens)
-            } else {
-                read_named(alloc, name, tokens)
-            }
-        }
+        Some(name) => read_named(alloc, name, tokens),
     }
 }
 

@@ -8,7 +8,8 @@ use Rattle.std.proofs.lemmas.List.{map_push}
 use Rattle.lapin_tables.specs.Numbered.{under, with_under, first_kept}
 use Rattle.lapin_tables.proofs.SlotLaws.{under-push, under-map, given, length-with}
 use Rattle.lapin_outbox.specs.declared.order.Link.{Link}
-use Rattle.lapin_outbox.specs.declared.order.Ends.{Ends}
+use Rattle.lapin_outbox.specs.declared.ends.Ends.{Ends}
+use Rattle.lapin_outbox.specs.Ends.{last_of as last}
 use Rattle.lapin_outbox.specs.Order.{first_on, waits_on, without_number}
 use Rattle.lapin_outbox.specs.Links.{link_key, keys_of, is_link_of, ends_behind, ends_of, distance, AreLinked}
 
@@ -348,6 +349,15 @@ module _ (old new : ℕ → Option Ends) (c : ℕ) (os ps : List (Option Link)) 
 pub ok-then : {T E A : Type 0} (r : Result T E) → IsOk r → OnOk r A → A
 ok-then (Ok x) ok h = h
 ok-then (Err e) ok h = cc
+
+-- what is told of the last number of a key tells of its ends
+pub none-told : (o : Option Ends) → None ≡ option_map last o → o ≡ None
+none-told None h = refl
+none-told (Some e) h = cc
+
+pub last-told : (o : Option Ends) (n : ℕ) → Some n ≡ option_map last o → (e : Ends) × (o ≡ Some e) × (e.last ≡ n)
+last-told None n h = cc
+last-told (Some e) n h = (e, refl, cc)
 
 -- ---- the calls of an order
 

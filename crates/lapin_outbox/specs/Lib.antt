@@ -3,6 +3,8 @@ pub mod Bodies
 pub mod Codes
 pub mod Cut
 pub mod Drops
+pub mod Ends
+pub mod Near
 pub mod Entries
 pub mod ChannelQueue
 pub mod Links

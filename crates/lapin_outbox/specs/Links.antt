@@ -2,7 +2,7 @@
 use Rattle.std.specs.Prelude.{◌≡◌, ℕ, suc, ◌==◌, Bool, false, if◌then◌else◌, List, [], ◌∷◌, map, Option, Some, None}
 use Rattle.std.specs.Option.{option_map}
 use Rattle.lapin_outbox.specs.declared.order.Link.{Link}
-use Rattle.lapin_outbox.specs.declared.order.Ends.{Ends}
+use Rattle.lapin_outbox.specs.declared.ends.Ends.{Ends}
 
 -- the key of the number under which a link stands
 abbrev pub link_key : Link → ℕ

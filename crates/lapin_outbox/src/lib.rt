@@ -10,6 +10,7 @@ mod begun;
 mod bodies;
 mod channel_queue;
 mod dropped;
+mod ends;
 pub mod laws;
 mod order;
 pub mod outbox;

@@ -7,10 +7,10 @@ ghost use Rattle.std.specs.Prelude.{◌≡◌, ◌+◌, ◌^◌, ◌<◌, ◌≤
 ghost use Rattle.lapin_tables.specs.Numbered.{under, first_kept};
 ghost use Rattle.lapin_outbox.specs.Order.{first_on, without_number};
 
+use crate::ends::{Ends, EndsByKey};
 use lapin_tables::Numbered;
 use lapin_types::NoMemory;
 use std::alloc::Global;
-use std::collections::HashMap;
 use std::marker::Model;
 
 /// A number that waits: its key, and how far behind it the next number of that key stands, 0 where there is none.
@@ -20,23 +20,16 @@ pub(crate) struct Link {
     next: u64,
 }
 
-/// The first number of a key and its last.
-#[derive(Clone, Copy)]
-pub(crate) struct Ends {
-    first: u64,
-    last: u64,
-}
-
 /// Numbers from 1 in order of joining. A contract sees the key under each number, `None` where it was taken.
 #[derive(Drop)]
 pub(crate) struct Order {
     links: Numbered<Link>,
-    ends: HashMap<u16, Ends>,
+    ends: EndsByKey,
 }
 
 impl Model for Order {
-    ghost use Rattle.std.specs.Prelude.{◌≡◌, ℕ, ◌-◌, ◌^◌, min, length, nat_eq};
-    ghost use Rattle.std.specs.HashMap.{get, spare};
+    ghost use Rattle.std.specs.Prelude.{◌≡◌, ℕ, ◌-◌, ◌^◌, min, length};
+    ghost use Rattle.lapin_outbox.specs.Ends.{at};
     ghost use Rattle.lapin_outbox.specs.Order.{InOrder};
     ghost use Rattle.lapin_outbox.specs.Links.{ends_of, AreLinked, keys_of};
 
@@ -44,10 +37,10 @@ impl Model for Order {
 
     ghost view = { λ o. record {
       keys = keys_of o.links.slots;
-      spare = min (min o.links.spare (spare o.ends)) (2 ^ 64 - 1 - length o.links.slots);
+      spare = min (min o.links.spare o.ends.spare) (2 ^ 64 - 1 - length o.links.slots);
     } };
 
-    ghost invariant = { λ o. ((c : ℕ) → get nat_eq o.ends c ≡ ends_of c o.links.slots) × AreLinked o.links.slots };
+    ghost invariant = { λ o. ((c : ℕ) → at c o.ends ≡ ends_of c o.links.slots) × AreLinked o.links.slots };
 }
 
 impl Order {
@@ -57,7 +50,7 @@ impl Order {
     {
         Order {
             links: Numbered::new(alloc),
-            ends: HashMap::new(alloc),
+            ends: EndsByKey::new(alloc),
         }
     }
 
@@ -73,8 +66,7 @@ impl Order {
             return Err(NoMemory);
         }
         self.links.reserve(1)?;
-        self.ends.reserve(1)?;
-        Ok(())
+        self.ends.reserve()
     }
 
     /// Gives the next number to an entry of a key, in the room that was made.
@@ -84,18 +76,8 @@ impl Order {
         ensures used { self.old.spare ≤ self.new.spare + 1 }
     {
         let number = self.links.push_reserved(Link { key, next: 0 });
-        let Some(ends) = self.ends.get_mut(&key) else {
-            let only = Ends {
-                first: number,
-                last: number,
-            };
-            let _ = self.ends.insert(key, only);
+        let Some(last) = self.ends.join(key, number) else {
             return;
-        };
-        let Ends { first, last } = *ends;
-        *ends = Ends {
-            first,
-            last: number,
         };
         let next = number - last;
         self.links.set(last, Link { key, next });
@@ -126,7 +108,7 @@ impl Order {
     pub(crate) fn first(&self, key: u16) -> Option<u64>
         ensures { result ≡ first_on key self.now.keys }
     {
-        Some(self.ends.get(&key)?.first)
+        Some(self.ends.get(key)?.first)
     }
 
     /// Takes the first number of a key; `None` exactly where it has none.
@@ -135,16 +117,15 @@ impl Order {
         ensures keys { self.new.keys ≡ without_number (first_on key self.old.keys) self.old.keys }
         ensures kept { self.old.spare ≤ self.new.spare }
     {
-        let Ends { first, last } = *self.ends.get(&key)?;
-        let next = self.links.get(first)?.next;
-        let _ = self.links.take(first);
+        let Ends { first, last } = self.ends.get(key)?;
+        // Each number that was given is at most the count, so the sum below fits.
+        let _count = self.links.count();
+        let next = self.links.take(first)?.next;
         if next == 0 {
-            let _ = self.ends.remove(&key);
-        } else if let Some(ends) = self.ends.get_mut(&key) {
-            *ends = Ends {
-                first: first + next,
-                last,
-            };
+            self.ends.remove(key);
+        } else {
+            let first = first + next;
+            self.ends.set(key, Ends { first, last });
         }
         Some(first)
     }

@@ -37,6 +37,14 @@ impl Model for Passing {
     ghost invariant = { λ p. AreHeld p.passed p.held.items p.order.keys };
 }
 
+// What a look at the held keys found: the soonest number that was passed over and whose key isn't full any more, and whether a key
+// is held that isn't full and of which no such number waits.
+#[derive(Clone, Copy)]
+struct Search {
+    best: Option<u64>,
+    in_vain: bool,
+}
+
 impl Passing {
     /// No number is given yet. It takes no memory.
     pub(crate) fn new(alloc: Global) -> Passing
@@ -102,8 +110,11 @@ impl Passing {
             return Ok(Some(first));
         }
         skip_taken(&self.order, &mut self.passed, &self.held, first);
-        let_go(&self.order, self.passed, &mut self.held, full);
-        match first_held(&self.order, self.passed, &self.held, full) {
+        let search = first_held(&self.order, self.passed, &self.held, full);
+        if search.in_vain {
+            let_go(&self.order, self.passed, &mut self.held, full);
+        }
+        match search.best {
             Some(number) => Ok(Some(number)),
             None => pass_over(&self.order, &mut self.passed, &mut self.held, full),
         }
@@ -150,35 +161,43 @@ fn waits_up_to(order: &Order, key: u16, passed: u64) -> bool
 }
 
 // The first number that was passed over and whose key isn't full any more.
-fn first_held<F: FullChannels>(order: &Order, passed: u64, held: &[u16], full: &F) -> Option<u64>
+fn first_held<F: FullChannels>(order: &Order, passed: u64, held: &[u16], full: &F) -> Search
     requires { AreHeld passed held.now order.now.keys }
-    ensures { MatchOption result (NonePasses (not_full (F.full full.now)) passed order.now.keys) (λ n. first_where (not_full (F.full full.now)) order.now.keys ≡ Some n) }
+    ensures { MatchOption result.best (NonePasses (not_full (F.full full.now)) passed order.now.keys) (λ n. first_where (not_full (F.full full.now)) order.now.keys ≡ Some n) }
 {
-    let mut best = None;
+    let mut search = Search {
+        best: None,
+        in_vain: false,
+    };
     for key in held {
-        best = sooner(order, passed, best, *key, full);
+        search = sooner(order, passed, search, *key, full);
     }
-    best
+    search
 }
 
 // The sooner of the best number so far and the first of a key, where the key isn't full and it was passed over.
-fn sooner<F: FullChannels>(
-    order: &Order,
-    passed: u64,
-    best: Option<u64>,
-    key: u16,
-    full: &F,
-) -> Option<u64>
-    ensures clear { IsClear (not_full (F.full full.now)) order.now.keys key (bound passed result) }
-    ensures sooner { bound passed result ≤ bound passed best }
-    ensures open { IsOpen (not_full (F.full full.now)) order.now.keys passed best → IsOpen (not_full (F.full full.now)) order.now.keys passed result }
+fn sooner<F: FullChannels>(order: &Order, passed: u64, search: Search, key: u16, full: &F) -> Search
+    ensures clear { IsClear (not_full (F.full full.now)) order.now.keys key (bound passed result.best) }
+    ensures sooner { bound passed result.best ≤ bound passed search.best }
+    ensures open { IsOpen (not_full (F.full full.now)) order.now.keys passed search.best → IsOpen (not_full (F.full full.now)) order.now.keys passed result.best }
 {
     if full.is_full(key) {
-        return best;
+        return search;
     }
+    let Search { best, in_vain } = search;
     match order.first(key) {
-        Some(number) if is_below(number, passed, best) => Some(number),
-        _ => best,
+        Some(number) if is_below(number, passed, best) => Search {
+            best: Some(number),
+            in_vain,
+        },
+        Some(number) => Search {
+            best,
+            in_vain: in_vain || passed < number,
+        },
+        None => Search {
+            best,
+            in_vain: true,
+        },
     }
 }
 

@@ -1,6 +1,6 @@
 //! The exchanges that a channel declared or bound, in rising order of name.
 
-ghost use Rattle.std.specs.Prelude.{◌≡◌, ◌∷◌, [], OnOk, OnErr, IsTrue, length, slice_get};
+ghost use Rattle.std.specs.Prelude.{◌≡◌, ◌∷◌, [], IfOk, OnOk, OnErr, IsTrue, length, slice_get};
 ghost use Rattle.std.specs.Option.{option_copied};
 ghost use Rattle.lapin_registry.specs.ByName.{amended, changed, without, rises};
 ghost use Rattle.lapin_registry.specs.Topology.{exchange_name, undeclared_exchange, declared_exchange, bound_exchange, unbound_exchange};
@@ -9,6 +9,7 @@ use crate::bindings::{BindingDefinition, Bindings};
 use crate::by_name::{Named, place_of};
 use lapin_types::{ExchangeDeclareOptions, ExchangeKind, FieldTable, NoMemory, ShortString};
 use std::alloc::Global;
+use std::fmt;
 use std::marker::Model;
 
 /// An exchange. One that was bound and not declared has None in each Option.
@@ -28,28 +29,57 @@ pub struct ExchangeDefinition {
     pub is_declared: bool,
 }
 
-impl Named for ExchangeDefinition {
+// An exchange in memory of its own, so that the list in order moves no more than a pointer of each that stands behind. A contract sees the
+// exchange.
+#[derive(Drop)]
+struct PlacedExchange {
+    exchange: Box<ExchangeDefinition>,
+}
+
+impl Model for PlacedExchange {
+    ghost use Rattle.std.specs.Prelude.{box_value};
+    ghost use Rattle.lapin_registry.specs.declared.exchanges.ExchangeDefinition.{ExchangeDefinition};
+    ghost use Rattle.lapin_registry.specs.contracts.exchanges.ExchangeDefinition as definition;
+
+    ghost Value = { ExchangeDefinition };
+
+    ghost coded = { definition.the_row.coded };
+
+    ghost view = { λ p. box_value p.exchange };
+}
+
+// As the exchange itself.
+impl fmt::Debug for PlacedExchange {
+    fn fmt<W: fmt::Write>(&self, f: &mut fmt::Formatter<W>) -> fmt::Result {
+        fmt::Debug::fmt(&self.exchange, f)
+    }
+}
+
+impl Named for PlacedExchange {
     ghost use Rattle.lapin_registry.specs.Topology.{exchange_name};
 
     ghost name_of = { exchange_name };
 
     fn name(&self) -> &ShortString {
-        &self.name
+        &self.exchange.name
     }
 }
 
-impl ExchangeDefinition {
-    fn undeclared(alloc: Global, name: ShortString) -> ExchangeDefinition
-        ensures { result ≡ undeclared_exchange name }
+impl PlacedExchange {
+    fn undeclared(alloc: Global, name: ShortString) -> Result<PlacedExchange, NoMemory>
+        ensures { IfOk result (λ exchange. exchange ≡ undeclared_exchange name) }
     {
-        ExchangeDefinition {
+        let exchange = ExchangeDefinition {
             name,
             kind: None,
             options: None,
             arguments: None,
             bindings: Bindings::new(alloc),
             is_declared: false,
-        }
+        };
+        Ok(PlacedExchange {
+            exchange: Box::new(alloc, exchange)?,
+        })
     }
 
     fn declare(
@@ -60,30 +90,32 @@ impl ExchangeDefinition {
     )
         ensures { self.new ≡ declared_exchange kind options arguments self.old }
     {
-        self.kind = Some(kind);
-        self.options = Some(options);
-        self.arguments = Some(arguments);
-        self.is_declared = true;
+        self.exchange.kind = Some(kind);
+        self.exchange.options = Some(options);
+        self.exchange.arguments = Some(arguments);
+        self.exchange.is_declared = true;
     }
 
     fn bind(&mut self, binding: BindingDefinition) -> Result<(), NoMemory>
         ensures ok { OnOk result (self.new ≡ bound_exchange binding self.old) }
         ensures err { OnErr result (self.new ≡ self.old) }
     {
-        self.bindings.add(binding)
+        self.exchange.bindings.add(binding)
     }
 
     fn unbind(&mut self, source: &str, routing_key: &str, arguments: &FieldTable)
         ensures { self.new ≡ unbound_exchange source.now routing_key.now arguments.now self.old }
     {
-        self.bindings.remove(source, routing_key, arguments);
+        self.exchange
+            .bindings
+            .remove(source, routing_key, arguments);
     }
 }
 
 /// Exchanges, one a name. A contract sees them as a list, in rising order of the names' bytes.
 #[derive(Debug)]
 pub struct Exchanges {
-    exchanges: Vec<ExchangeDefinition>,
+    exchanges: Vec<PlacedExchange>,
 }
 
 impl Drop for Exchanges {
@@ -139,7 +171,10 @@ impl Exchanges {
     pub fn at(&self, place: usize) -> Option<&ExchangeDefinition>
         ensures { option_copied result ≡ slice_get self.now place }
     {
-        self.exchanges.get(place)
+        match self.exchanges.get(place) {
+            Some(placed) => Some(&placed.exchange),
+            None => None,
+        }
     }
 
     /// An exchange is declared. It keeps the bindings that it has.
@@ -160,7 +195,7 @@ impl Exchanges {
                 Ok(())
             }
             Err(place) => {
-                let mut exchange = ExchangeDefinition::undeclared(alloc, name);
+                let mut exchange = PlacedExchange::undeclared(alloc, name)?;
                 exchange.declare(kind, options, arguments);
                 self.exchanges.insert(place, exchange)?;
                 Ok(())
@@ -181,7 +216,7 @@ impl Exchanges {
         match place_of(&self.exchanges, name.as_str()) {
             Ok(place) => self.exchanges[place].bind(binding),
             Err(place) => {
-                let mut exchange = ExchangeDefinition::undeclared(alloc, name);
+                let mut exchange = PlacedExchange::undeclared(alloc, name)?;
                 exchange.bind(binding)?;
                 self.exchanges.insert(place, exchange)?;
                 Ok(())

@@ -1,6 +1,6 @@
 //! The queues that a channel declared or bound, in rising order of name.
 
-ghost use Rattle.std.specs.Prelude.{◌≡◌, ◌∷◌, [], OnOk, OnErr, IsTrue, length, slice_get};
+ghost use Rattle.std.specs.Prelude.{◌≡◌, ◌∷◌, [], IfOk, OnOk, OnErr, IsTrue, length, slice_get};
 ghost use Rattle.std.specs.Option.{option_copied};
 ghost use Rattle.lapin_registry.specs.ByName.{amended, changed, without, rises};
 ghost use Rattle.lapin_registry.specs.Topology.{queue_name, undeclared_queue, declared_queue, bound_queue, unbound_queue};
@@ -9,6 +9,7 @@ use crate::bindings::{BindingDefinition, Bindings};
 use crate::by_name::{Named, place_of};
 use lapin_types::{FieldTable, NoMemory, QueueDeclareOptions, ShortString};
 use std::alloc::Global;
+use std::fmt;
 use std::marker::Model;
 
 /// A queue. One that was bound and not declared has None in each Option.
@@ -26,55 +27,84 @@ pub struct QueueDefinition {
     pub is_declared: bool,
 }
 
-impl Named for QueueDefinition {
+// A queue in memory of its own, so that the list in order moves no more than a pointer of each that stands behind. A contract sees the
+// queue.
+#[derive(Drop)]
+struct PlacedQueue {
+    queue: Box<QueueDefinition>,
+}
+
+impl Model for PlacedQueue {
+    ghost use Rattle.std.specs.Prelude.{box_value};
+    ghost use Rattle.lapin_registry.specs.declared.queues.QueueDefinition.{QueueDefinition};
+    ghost use Rattle.lapin_registry.specs.contracts.queues.QueueDefinition as definition;
+
+    ghost Value = { QueueDefinition };
+
+    ghost coded = { definition.the_row.coded };
+
+    ghost view = { λ p. box_value p.queue };
+}
+
+// As the queue itself.
+impl fmt::Debug for PlacedQueue {
+    fn fmt<W: fmt::Write>(&self, f: &mut fmt::Formatter<W>) -> fmt::Result {
+        fmt::Debug::fmt(&self.queue, f)
+    }
+}
+
+impl Named for PlacedQueue {
     ghost use Rattle.lapin_registry.specs.Topology.{queue_name};
 
     ghost name_of = { queue_name };
 
     fn name(&self) -> &ShortString {
-        &self.name
+        &self.queue.name
     }
 }
 
-impl QueueDefinition {
-    fn undeclared(alloc: Global, name: ShortString) -> QueueDefinition
-        ensures { result ≡ undeclared_queue name }
+impl PlacedQueue {
+    fn undeclared(alloc: Global, name: ShortString) -> Result<PlacedQueue, NoMemory>
+        ensures { IfOk result (λ queue. queue ≡ undeclared_queue name) }
     {
-        QueueDefinition {
+        let queue = QueueDefinition {
             name,
             options: None,
             arguments: None,
             bindings: Bindings::new(alloc),
             is_declared: false,
-        }
+        };
+        Ok(PlacedQueue {
+            queue: Box::new(alloc, queue)?,
+        })
     }
 
     fn declare(&mut self, options: QueueDeclareOptions, arguments: FieldTable)
         ensures { self.new ≡ declared_queue options arguments self.old }
     {
-        self.options = Some(options);
-        self.arguments = Some(arguments);
-        self.is_declared = true;
+        self.queue.options = Some(options);
+        self.queue.arguments = Some(arguments);
+        self.queue.is_declared = true;
     }
 
     fn bind(&mut self, binding: BindingDefinition) -> Result<(), NoMemory>
         ensures ok { OnOk result (self.new ≡ bound_queue binding self.old) }
         ensures err { OnErr result (self.new ≡ self.old) }
     {
-        self.bindings.add(binding)
+        self.queue.bindings.add(binding)
     }
 
     fn unbind(&mut self, source: &str, routing_key: &str, arguments: &FieldTable)
         ensures { self.new ≡ unbound_queue source.now routing_key.now arguments.now self.old }
     {
-        self.bindings.remove(source, routing_key, arguments);
+        self.queue.bindings.remove(source, routing_key, arguments);
     }
 }
 
 /// Queues, one a name. A contract sees them as a list, in rising order of the names' bytes.
 #[derive(Debug)]
 pub struct Queues {
-    queues: Vec<QueueDefinition>,
+    queues: Vec<PlacedQueue>,
 }
 
 impl Drop for Queues {
@@ -130,7 +160,10 @@ impl Queues {
     pub fn at(&self, place: usize) -> Option<&QueueDefinition>
         ensures { option_copied result ≡ slice_get self.now place }
     {
-        self.queues.get(place)
+        match self.queues.get(place) {
+            Some(placed) => Some(&placed.queue),
+            None => None,
+        }
     }
 
     /// A queue is declared. It keeps the bindings that it has.
@@ -150,7 +183,7 @@ impl Queues {
                 Ok(())
             }
             Err(place) => {
-                let mut queue = QueueDefinition::undeclared(alloc, name);
+                let mut queue = PlacedQueue::undeclared(alloc, name)?;
                 queue.declare(options, arguments);
                 self.queues.insert(place, queue)?;
                 Ok(())
@@ -171,7 +204,7 @@ impl Queues {
         match place_of(&self.queues, name.as_str()) {
             Ok(place) => self.queues[place].bind(binding),
             Err(place) => {
-                let mut queue = QueueDefinition::undeclared(alloc, name);
+                let mut queue = PlacedQueue::undeclared(alloc, name)?;
                 queue.bind(binding)?;
                 self.queues.insert(place, queue)?;
                 Ok(())

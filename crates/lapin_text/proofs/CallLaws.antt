@@ -176,6 +176,11 @@ publish_named name pieces e =
     let kind_is : kind_at (codes "basic.publish") ≡ Some (kind.Basic basic_kind.Publish) = sym (kind_of (codes "basic.publish") (kind.Basic basic_kind.Publish) refl) in
     at_name ∙ rw kind_is (steps (basic_at basic_kind.Publish pieces) _ _ _ (λ m. refl) ∙ publish_row pieces)
 
+-- so are pieces that begin with its name
+pub publish_said : (pieces rest : List (List ℕ)) → pieces ≡ codes "basic.publish" ∷ rest → call_at pieces ≡ fields_at publish_fields publish_of rest
+unfolding call_at
+publish_said pieces rest is = rw is (publish_named (codes "basic.publish") rest refl)
+
 -- ---- no token has a space
 
 plain_queued : (queued : Option Method) → QueuedFits queued → AllPlain (queued_tokens queued)

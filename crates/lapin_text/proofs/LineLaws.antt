@@ -40,6 +40,15 @@ unfolding word_at
 word_again word.Method = refl
 word_again _ = refl
 
+-- pieces that begin with a word are what the word and the pieces behind it make
+pub event_said : (w : Word) (pieces rest : List (List ℕ)) → pieces ≡ word_text w ∷ rest → event_at pieces ≡ event_of_word w rest
+unfolding event_at
+event_said w pieces rest is = rw is (rw (word_again w) refl)
+
+pub frame_said : (w : Word) (pieces rest : List (List ℕ)) → pieces ≡ word_text w ∷ rest → frame_at pieces ≡ frame_of_word w rest
+unfolding frame_at
+frame_said w pieces rest is = rw is (rw (word_again w) refl)
+
 -- ---- frames
 
 abbrev header_made : Values header_fields → Frame

@@ -136,7 +136,7 @@ fn call_with(alloc: Global, method: Method, tokens: &mut Tokens) -> Result<Call,
     }
 }
 
-// The call of this name, whose arguments are the next tokens. A publish, which most calls are, is told apart first.
+// The call of this name, whose arguments are the next tokens.
 #[tactic(auto, using(crate::proofs::CallLaws::publish_named), unfolding(crate::specs::CallText::call_named))]
 fn call_named(alloc: Global, name: &[u8], tokens: &mut Tokens) -> Result<Call, ReadError>
     ensures { Gives result tokens.new (call_named_lem name.now tokens.old) }
@@ -159,11 +159,14 @@ fn call_named(alloc: Global, name: &[u8], tokens: &mut Tokens) -> Result<Call, R
     }
 }
 
-/// The call whose name and arguments are the next tokens.
-#[tactic(auto, unfolding(crate::specs::CallText::call_at))]
+/// The call whose name and arguments are the next tokens. A publish, which most calls are, is told apart first.
+#[tactic(auto, using(crate::proofs::CallLaws::publish_said), unfolding(crate::specs::CallText::call_at))]
 pub fn read_call(alloc: Global, tokens: &mut Tokens) -> Result<Call, ReadError>
     ensures { Gives result tokens.new (call_at tokens.old) }
 {
+    if tokens.word(b"basic.publish") {
+        return plain_publish(alloc, tokens);
+    }
     match tokens.next() {
         None => Err(ReadError::Bad),
         Some(name) => call_named(alloc, name, tokens),

@@ -11,7 +11,7 @@ ghost use Rattle.lapin_text.specs.Frames.{frame_tokens};
 ghost use Rattle.lapin_text.specs.declared.words.Word.TheVariants as word;
 ghost use Rattle.lapin_text.specs.LineReading.{frame_at, frame_of_word};
 
-use crate::words::{Word, first_word};
+use crate::words::{Word, first_frame_word};
 use lapin_method_text::{put_method, read_method};
 use lapin_tokens::{
     ReadError, Tokens, payload, properties, put_bytes, put_count, put_properties, put_word, u16_at,
@@ -72,7 +72,7 @@ pub fn read_body_frame(alloc: Global, tokens: &mut Tokens) -> Result<Frame, Read
 pub fn read_frame_tokens(alloc: Global, tokens: &mut Tokens) -> Result<Frame, ReadError>
     ensures { Gives result tokens.new (frame_at tokens.old) }
 {
-    match first_word(tokens) {
+    match first_frame_word(tokens) {
         Some(Word::Method) => read_method_frame(alloc, tokens),
         Some(Word::Header) => read_header_frame(alloc, tokens),
         Some(Word::Body) => read_body_frame(alloc, tokens),

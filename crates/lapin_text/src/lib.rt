@@ -32,4 +32,4 @@ pub use records::{
     name_of_state, put_answered, put_confirmed, put_error_line, put_handed, put_item,
     put_published, put_record, put_refused, put_ticket,
 };
-pub use words::{Word, first_word, word_named};
+pub use words::{Word, first_frame_word, first_word, word_named};

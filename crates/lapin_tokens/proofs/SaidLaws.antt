@@ -1,5 +1,5 @@
 -- Numbers and flags that are read as their pieces are cut.
-use Rattle.std.proofs.Common.{◌≡◌, ◌≢◌, ◌∙◌, ℕ, zero, suc, ◌+◌, ◌*◌, ◌<◌, ◌≤◌, ◌^◌, List, [], ◌∷◌, length, get_or, take, drop, Some, None, refl, sym, ap, subst, arith, Bool, true, false, eqb, ltb, length-take}
+use Rattle.std.proofs.Common.{◌≡◌, ◌≢◌, ◌∙◌, ℕ, zero, suc, ◌+◌, ◌*◌, ◌<◌, ◌≤◌, ◌^◌, List, [], ◌∷◌, length, get_or, take, drop, Some, None, refl, sym, ap, subst, arith, Bool, true, false, eqb, ltb, not, length-take}
 use Rattle.std.specs.Prelude.{decimal, ◌&&◌, position}
 use Rattle.std.specs.List.{slice_split}
 use Rattle.std.specs.Str.Parse.{digits_value, AllDigits}
@@ -7,10 +7,10 @@ use Rattle.std.proofs.lemmas.Bool.{lt-ltb}
 use Rattle.std.proofs.lemmas.List.{get_or-take, take_all}
 use Rattle.std.proofs.Math.Nat.{pow-le-pow_right, pow-suc}
 use Rattle.lapin_scalars.proofs.NumberLaws.{num_found, wide_past}
-use Rattle.lapin_scalars.proofs.ScalarLaws.{true_both}
+use Rattle.lapin_scalars.proofs.ScalarLaws.{both_true, true_both}
 use Rattle.lapin_tokens.specs.Fields.{token}
 use Rattle.lapin_tokens.specs.Fields.Field.{flag, number}
-use Rattle.lapin_tokens.specs.Reading.{field_at, value_of}
+use Rattle.lapin_tokens.specs.Reading.{field_at, value_of, has_no_space}
 use Rattle.lapin_tokens.proofs.FieldLaws.{field_again}
 use Rattle.lapin_tokens.proofs.FirstPlace.{first_here, first_is_position}
 use Rattle.lapin_tokens.proofs.Splits.{split_none, split_some}
@@ -73,3 +73,19 @@ one_piece line place past before =
 -- a space ends the first piece
 pub first_piece : (line : List ℕ) (place : ℕ) → place < length line → ((k : ℕ) → k < place → eqb (get_or line k 0) 32 ≡ false) → get_or line place 0 ≡ 32 → slice_split (λ b. eqb b 32) line ≡ take place line ∷ slice_split (λ b. eqb b 32) (drop (place + 1) line)
 first_piece line place within before space = split_some line place (sym (first_here (λ b. eqb b 32) line place within before (ap (λ b. eqb b 32) space)))
+
+no_space_at : (word : List ℕ) (k : ℕ) → has_no_space word ≡ true → k < length word → eqb (get_or word k 0) 32 ≡ false
+no_space_at [] k none lt = absurd (omega arith)
+no_space_at (b ∷ bs) zero none lt = let both = both_true (not (eqb b 32)) (has_no_space bs) none in not_true (eqb b 32) both.0
+  where
+    not_true : (t : Bool) → not t ≡ true → t ≡ false
+    not_true true e = absurd cc
+    not_true false e = refl
+no_space_at (b ∷ bs) (suc k) none lt = let both = both_true (not (eqb b 32)) (has_no_space bs) none in no_space_at bs k both.1 (omega arith)
+
+-- a word with a space behind it is the first piece
+pub word_piece : (line word : List ℕ) → length word < length line → take (length word) line ≡ word → get_or line (length word) 0 ≡ 32 → has_no_space word ≡ true → slice_split (λ b. eqb b 32) line ≡ word ∷ slice_split (λ b. eqb b 32) (drop (length word + 1) line)
+word_piece line word within is space none =
+    let before : (k : ℕ) → k < length word → eqb (get_or line k 0) 32 ≡ false
+    = λ k lt. ap (λ b. eqb b 32) (sym (get_or-take (length word) line k 0 lt) ∙ ap (λ (bs : List ℕ). get_or bs k 0) is) ∙ no_space_at word k none lt in
+    first_piece line (length word) within before space ∙ ap (λ (p : List ℕ). p ∷ slice_split (λ b. eqb b 32) (drop (length word + 1) line)) is

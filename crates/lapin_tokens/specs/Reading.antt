@@ -1,5 +1,5 @@
 -- Reading the pieces of a line from left to right.
-use Rattle.std.specs.Prelude.{ℕ, List, [], ◌∷◌, Option, Some, None}
+use Rattle.std.specs.Prelude.{ℕ, Bool, true, not, ◌==◌, ◌&&◌, List, [], ◌∷◌, Option, Some, None}
 use Rattle.lapin_scalars.specs.Scalars.Scalar.{text as a_text, bytes as some_bytes, flag as a_flag, number as a_number}
 use Rattle.lapin_scalars.specs.Reading.{scalar_of}
 use Rattle.lapin_tokens.specs.ValueReading.{table_at, whole}
@@ -8,6 +8,11 @@ use Rattle.lapin_tokens.specs.Fields.{Field, Value, Values}
 use Rattle.lapin_tokens.specs.Fields.Field.{text, bytes, table, props, flag, number}
 pub use Rattle.lapin_scalars.specs.Reading.{Fails, GivesValue}
 pub use Rattle.lapin_tokens.specs.Cursor.{◌>>=◌, Gives}
+
+-- a word without a space is one piece
+abbrev pub has_no_space : List ℕ → Bool
+has_no_space [] = true
+has_no_space (b ∷ bs) = not (b == 32) && has_no_space bs
 
 -- the value whose token the piece is
 unfoldable pub value_of : (f : Field) → List ℕ → Option (Value f)

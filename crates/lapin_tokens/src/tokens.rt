@@ -1,9 +1,10 @@
 //! The pieces of a line, between single spaces. A doubled space has an empty piece in between.
 
-ghost use Rattle.std.specs.Prelude.{◌≡◌, ◌==◌, ◌∷◌, ◌<◌, ◌^◌, ℕ, List, [], IfNone, IfSome, decimal, position, if◌then◌else◌};
+ghost use Rattle.std.specs.Prelude.{◌≡◌, ◌==◌, ◌∷◌, ◌<◌, ◌^◌, ℕ, List, [], true, false, IfNone, IfSome, decimal, length, position, slice_index, take, if◌then◌else◌};
 ghost use Rattle.std.specs.List.{slice_split};
 ghost use Rattle.std.specs.Str.{bytes_eq};
 ghost use Rattle.lapin_tokens.specs.Fields.{token};
+ghost use Rattle.lapin_tokens.specs.Reading.{has_no_space};
 ghost use Rattle.lapin_tokens.specs.Fields.Field.{flag as flag_field};
 
 use crate::digits::{begins_plainly, digits_ahead};
@@ -23,6 +24,27 @@ pub fn is_word(piece: &[u8], word: &[u8]) -> bool
     let mut place = 0;
     while place < piece.len() {
         if piece[place] != word[place] {
+            return false;
+        }
+        place += 1;
+    }
+    true
+}
+
+// Whether a line begins with the word and a space behind it.
+#[inline(always)]
+fn begins_with(line: &[u8], word: &[u8]) -> bool
+    ensures within { result ≡ true → length word.now < length line.now }
+    ensures word { result ≡ true → take (length word.now) line.now ≡ word.now }
+    ensures space { result ≡ true → slice_index line.now (length word.now) ≡ 32 }
+{
+    let count = word.len();
+    if line.len() <= count || line[count] != b' ' {
+        return false;
+    }
+    let mut place = 0;
+    while place < count {
+        if line[place] != word[place] {
             return false;
         }
         place += 1;
@@ -82,6 +104,25 @@ impl<'a> Tokens<'a> {
             rest: line,
             more: true,
         }
+    }
+
+    /// Reads the next piece where it is this word and another piece follows. Whether it did; else nothing is read. A word that the caller
+    /// knows costs a comparison for each of its bytes, and the piece isn't cut first.
+    #[inline(always)]
+    pub fn word(&mut self, word: &[u8]) -> bool
+        requires { has_no_space word.now ≡ true }
+        ensures read { result ≡ true → self.old ≡ word.now ∷ self.new }
+        ensures same { result ≡ false → self.new ≡ self.old }
+    {
+        if !self.more {
+            return false;
+        }
+        let line = self.rest;
+        if !begins_with(line, word) {
+            return false;
+        }
+        self.rest = &line[word.len() + 1..];
+        true
     }
 
     /// The number that the next piece says, where it is a decimal of at most 19 digits: the piece is then read. `None` where it

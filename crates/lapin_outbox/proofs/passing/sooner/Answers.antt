@@ -13,8 +13,11 @@ pub returns-in-Some-clause-open : goal.returns-in-Some-clause-open
 returns-in-Some-clause-open g c =
     sooner-open (not_full (g.F.FullChannels.full c.args.full.now)) _ _ _ _ _ (sym c.in-Some.ensures) (ap not (sym c.is_full.ensures ∙ c.if-is_full.false)) (sym c.is_below.ensures ∙ c.if-is_below.true)
 
-pub returns-in_default-clause-clear : goal.returns-in_default-clause-clear
-returns-in_default-clause-clear g c = clear-later (not_full (g.F.FullChannels.full c.args.full.now)) _ _ _ _ (sym c.in-Some.ensures) (sym c.is_below.ensures ∙ c.if-is_below.false)
+pub returns-then-in_vain-clause-clear : goal.returns-then-in_vain-clause-clear
+returns-then-in_vain-clause-clear g c = clear-later (not_full (g.F.FullChannels.full c.args.full.now)) _ _ _ _ (sym c.in-Some.ensures) (sym c.is_below.ensures ∙ c.if-is_below.false)
 
-pub returns-in_default-2-clause-clear : goal.returns-in_default-2-clause-clear
-returns-in_default-2-clause-clear g c = clear-none (not_full (g.F.FullChannels.full c.args.full.now)) _ _ _ (sym c.in_default.ensures)
+pub returns-else-in_vain-clause-clear : goal.returns-else-in_vain-clause-clear
+returns-else-in_vain-clause-clear g c = clear-later (not_full (g.F.FullChannels.full c.args.full.now)) _ _ _ _ (sym c.in-Some.ensures) (sym c.is_below.ensures ∙ c.if-is_below.false)
+
+pub returns-in-None-clause-clear : goal.returns-in-None-clause-clear
+returns-in-None-clause-clear g c = clear-none (not_full (g.F.FullChannels.full c.args.full.now)) _ _ _ (sym c.in-None.ensures)

@@ -23,7 +23,7 @@ pub invariant_of-self-in-Err : goal.invariant_of-self-in-Err
 invariant_of-self-in-Err c =
     let fresh = undeclared_exchange c.args.name in
     let f = bound_exchange c.args.binding in
-    let became = c.in_ok-bind-in-Err.ensures.ok ∙ ap f c.undeclared-exchange.ensures in
+    let became = c.in_ok-bind-in-Err.ensures.ok ∙ ap f c.in_ok-exchange-in-Err.ensures in
     subst (λ l. rises exchange_name l ≡ true)
     (sym (c.in_ok-insert-in-Err.ensures.items
     ∙ amended_beside exchange_name c.args.name fresh f c.as_str.result.now c.deref.result.now c.self.inside.exchanges.items c.self.inside.exchanges.items c.in-Err.place c.bind-in-Err.new.self
@@ -34,7 +34,7 @@ pub returns-in_ok-insert-in-Err-clause-ok : goal.returns-in_ok-insert-in-Err-cla
 returns-in_ok-insert-in-Err-clause-ok c =
     let fresh = undeclared_exchange c.args.name in
     let f = bound_exchange c.args.binding in
-    let became = c.in_ok-bind-in-Err.ensures.ok ∙ ap f c.undeclared-exchange.ensures in
+    let became = c.in_ok-bind-in-Err.ensures.ok ∙ ap f c.in_ok-exchange-in-Err.ensures in
     c.in_ok-insert-in-Err.ensures.items
     ∙ amended_beside exchange_name c.args.name fresh f c.as_str.result.now c.deref.result.now c.self.inside.exchanges.items c.args.self.now c.in-Err.place c.bind-in-Err.new.self
     c.as_str.ensures.value c.deref.ensures.value c.self.view_is c.in-Err.ensures.absent became

@@ -20,7 +20,7 @@ pub invariant_of-self-in-Err : goal.invariant_of-self-in-Err
 invariant_of-self-in-Err c =
     let fresh = undeclared_queue c.args.name in
     let f = declared_queue c.args.options c.args.arguments in
-    let became = c.declare-in-Err.ensures ∙ ap f c.undeclared-queue.ensures in
+    let became = c.declare-in-Err.ensures ∙ ap f c.in_ok-queue-in-Err.ensures in
     subst (λ l. rises queue_name l ≡ true)
     (sym (c.in_ok-insert-in-Err.ensures.items
     ∙ amended_beside queue_name c.args.name fresh f c.as_str.result.now c.deref.result.now c.self.inside.queues.items c.self.inside.queues.items c.in-Err.place c.declare-in-Err.new.self
@@ -31,7 +31,7 @@ pub returns-in_ok-insert-in-Err-clause-ok : goal.returns-in_ok-insert-in-Err-cla
 returns-in_ok-insert-in-Err-clause-ok c =
     let fresh = undeclared_queue c.args.name in
     let f = declared_queue c.args.options c.args.arguments in
-    let became = c.declare-in-Err.ensures ∙ ap f c.undeclared-queue.ensures in
+    let became = c.declare-in-Err.ensures ∙ ap f c.in_ok-queue-in-Err.ensures in
     c.in_ok-insert-in-Err.ensures.items
     ∙ amended_beside queue_name c.args.name fresh f c.as_str.result.now c.deref.result.now c.self.inside.queues.items c.args.self.now c.in-Err.place c.declare-in-Err.new.self
     c.as_str.ensures.value c.deref.ensures.value c.self.view_is c.in-Err.ensures.absent became
