@@ -11,8 +11,9 @@ ghost use Rattle.lapin_told.specs.Told.{MayComeThen};
 
 use lapin_lines::a_line_fixes_what_is_kept;
 
-/// After every list of events that may come, the record of one more is one that its event may have, and has a text: a known ticket is
-/// answered by no data of the broker, each number is in range, and each text, property and message fits.
+/// After every list of events that may come, the record of one more is one that its event may have, and has a text, where the wire machine
+/// keeps something of it: a known ticket is answered by no data of the broker, each number is in range, and each text, property and message
+/// fits. Of records of which it keeps nothing it says nothing: polls of consumers, calls of ackers, delegates, drops, jobs, other tickets.
 pub fn a_session_tells_what_it_may()
     ensures { (frame_max : ℕ) (events : List AnEvent) (e : AnEvent) → MayComeThen events e → MayTell (history_of frame_max events) e (told_behind frame_max events e) }
 {}
