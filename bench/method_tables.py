@@ -1,12 +1,13 @@
 #!/usr/bin/env python3
-"""Writes what is made from the code's tables of methods, so that nobody has to keep it in step by hand.
+"""Writes what follows from the tables of methods and of calls, so that nobody has to keep it in step by hand.
 
-The tables stand in `crates/lapin_method_text/src/`, one a class; which methods a caller may call stands in
-`crates/lapin_text/src/queued.rt`. Made from them are the section "Methods" of `docs/FORMAT.md`, and the rows
-in `crates/lapin_reasons/src/rows.rt` by which a bad line is explained; and from the names of methods the
-table by which a name finds its method at once: `PLACES` of `kinds.rt`, with the factors of a name's slot, there and in `Slots.antt`.
+The rows of methods stand in `crates/lapin_frames/src/`, a file a class; what is made of them says method_rows.py. A call is its variant
+in `crates/lapin_types/src/call.rt`, its line and its reply's in the tables of `lapin_rules`, and the lines of their methods in `Frames.antt` of
+`lapin_broker`; what is made of these say method_lines.py and method_calls.py. Made here are the section "Methods" of `docs/FORMAT.md`, the rows in
+`crates/lapin_reasons/src/rows.rt` by which a bad line is explained, and the table by which a name finds its method at once: `PLACES` of
+`kinds.rt`, with the factors of a name's slot, there and in `Slots.antt`. Proofs are among what is made: a line a method, as its form asks.
 
-    bench/method_tables.py            writes them
+    bench/method_tables.py            writes them; `rt fmt` in the crates that it names lays the code out
     bench/method_tables.py --check    says what is out of step, and ends with status 1 where something is
 """
 import itertools
@@ -14,11 +15,13 @@ import os
 import re
 import sys
 
+from method_calls import own_tables
+from method_lines import call_tables
+from method_rows import Tree, frame_tables, kinds_of, plain, rows_of
+
 TOP = os.path.dirname(os.path.dirname(os.path.abspath(__file__)))
-CLASSES = ["connection", "channel", "access", "exchange", "queue", "basic", "confirm", "tx"]
-FORMAT, ROWS = f"{TOP}/docs/FORMAT.md", f"{TOP}/crates/lapin_reasons/src/rows.rt"
-KINDS_FILE = f"{TOP}/crates/lapin_method_text/src/kinds.rt"
-SLOTS_FILE = f"{TOP}/crates/lapin_method_text/specs/Slots.antt"
+FORMAT, ROWS = "docs/FORMAT.md", "crates/lapin_reasons/src/rows.rt"
+KINDS_FILE, SLOTS_FILE = "crates/lapin_method_text/src/kinds.rt", "crates/lapin_method_text/specs/Slots.antt"
 
 # A slot in the code: its factors, and the size of the table.
 SLOT = r"\((\d+) \* name\.len\(\) \+ (\d+) \* ends \+ (\d+) \* \(name\[name\.len\(\) - 5\] as usize\)\) % (\d+)"
@@ -27,29 +30,17 @@ SLOT = r"\((\d+) \* name\.len\(\) \+ (\d+) \* ends \+ (\d+) \* \(name\[name\.len
 KINDS = {"text": "STR", "table": "TABLE", "flag": "BOOL", "short": "u16", "long": "u32", "wide": "u64"}
 
 
-def methods():
-    """Each class with its enum of kinds and its methods: variant, name, fields with their kinds."""
-    found = {}
-    for name in CLASSES:
-        text = open(f"{TOP}/crates/lapin_method_text/src/{name}.rt", encoding="utf-8").read()
-        kinds = re.search(r"\$row!\(\$\(\$given\),\*; (\w+), \w+;", text)[1]
-        rows = re.findall(r'(\w+) b"([a-z.-]+)" \{([^}]*)\}', text)
-        fields = lambda row: [tuple(it.split(": ")) for it in re.sub(r"\s+", " ", row).strip().split(", ") if it]
-        found[name] = kinds, [(variant, text, fields(row)) for variant, text, row in rows]
-    return found
-
-
-def called(found):
+def called(tree):
     """The names of the methods that a caller may call."""
-    text = open(f"{TOP}/crates/lapin_text/src/queued.rt", encoding="utf-8").read()
+    text = tree.read("crates/lapin_text/src/queued.rt")
     arms = set(re.findall(r"^        (\w+)Method::(\w+)", text, re.M))
-    names = {name for one, (_, rows) in found.items() for variant, name, _ in rows if (one.capitalize(), variant) in arms}
+    names = {m.name() for rows in rows_of(tree).values() for m in rows if (m.of.capitalize(), m.variant) in arms}
     return names | {"basic.publish", "channel.close", "connection.close"}
 
 
-def in_format(found):
+def in_format(tree):
     """The section of the format."""
-    calls = called(found)
+    calls = called(tree)
     lines = [
         "## Methods",
         "",
@@ -59,18 +50,18 @@ def in_format(found):
         "| Method | Fields |",
         "|---|---|",
     ]
-    for _, rows in found.values():
-        for _, name, fields in rows:
-            told = ", ".join(f"{field} {KINDS[kind]}" for field, kind in fields) or "none"
-            star = " \\*" if name in calls else ""
-            lines.append(f"| `{name}`{star} | {told} |")
+    for m in [m for rows in rows_of(tree).values() for m in rows]:
+        told = ", ".join(f"{field} {KINDS[kind]}" for field, kind in m.fields()) or "none"
+        star = " \\*" if m.name() in calls else ""
+        lines.append(f"| `{m.name()}`{star} | {told} |")
     return "\n".join(lines) + "\n\n"
 
 
-def in_rows(found):
+def in_rows(tree):
     """The rows as code."""
-    kinds = sorted([kinds for kinds, _ in found.values()] + ["MethodKind"])
-    calls = called(found)
+    found = rows_of(tree)
+    kinds = sorted([kinds_of(name) for name in found] + ["MethodKind"])
+    calls = called(tree)
     out = [
         "//! The fields of each method as a text, and which methods a caller may call, to explain a bad line by.",
         "//!",
@@ -89,15 +80,15 @@ def in_rows(found):
         "pub(crate) fn is_called(kind: MethodKind) -> bool {",
         "    match kind {",
     ]
-    for name, (kinds, rows) in found.items():
-        theirs = [f"MethodKind::{name.capitalize()}({kinds}::{variant})" for variant, text, _ in rows if text in calls]
+    for name, rows in found.items():
+        theirs = [f"MethodKind::{name.capitalize()}({kinds_of(name)}::{m.variant})" for m in rows if m.name() in calls]
         out += [f"        {it} => true," for it in theirs]
     out += ["        _ => false,", "    }", "}"]
-    for name, (kinds, rows) in found.items():
-        out += ["", f"fn {name}_fields(kind: {kinds}) -> &'static str {{", "    match kind {"]
-        for variant, _, fields in rows:
-            row = " ".join(":".join(it) for it in fields)
-            out.append(f'        {kinds}::{variant} => "{row}",')
+    for name, rows in found.items():
+        out += ["", f"fn {name}_fields(kind: {kinds_of(name)}) -> &'static str {{", "    match kind {"]
+        for m in rows:
+            row = " ".join(":".join(it) for it in m.fields())
+            out.append(f'        {kinds_of(name)}::{m.variant} => "{row}",')
         out += ["    }", "}"]
     return "\n".join(out) + "\n"
 
@@ -109,20 +100,9 @@ def slot(name, factors):
     return (by_length * len(text) + by_ends * (text[3] + text[-1]) + by_fifth * text[-5]) % size
 
 
-def kinds():
-    """The names of the methods in the order of `KINDS`."""
-    text = open(KINDS_FILE, encoding="utf-8").read()
-    names = {}
-    for one, body in re.findall(r"fn name_of_(\w+)\(kind: \w+\).*?match kind \{\n(.*?)\n    \}", text, re.S):
-        for enum, variant, name in re.findall(r'(\w+)::(\w+) => b"([a-z.-]+)"', body):
-            names[enum, variant] = name
-    listed = text[text.index("pub const KINDS:") : text.index("fn name_of_connection")]
-    return [names[pair] for pair in re.findall(r"MethodKind::\w+\((\w+)::(\w+)\)", listed)]
-
-
 def factors_for(names, now):
     """Factors and a size of the table by which no two names share a slot: those that stand, or the first others."""
-    others = (found[1:] + found[:1] for found in itertools.product((128, 256, 512), *[range(1, 40)] * 3))
+    others = (found[1:] + found[:1] for found in itertools.product((128, 256, 512), *[range(2, 40)] * 3))
     for factors in itertools.chain([now], others):
         if len({slot(name, factors) for name in names}) == len(names):
             return factors
@@ -143,47 +123,46 @@ def in_kinds(text, names, factors):
         row += f" {place},"
     table = f"pub const PLACES: [u8; {size}] = [\n" + "\n".join(rows + [row]) + "\n];"
     text = re.sub(r"pub const PLACES: \[u8; \d+\] = \[.*?\];", table, text, flags=re.S)
+    text = re.sub(r"has the slot; \d+, behind", f"has the slot; {len(names)}, behind", text)
+    text = re.sub(r"(?<=length name\.now ≤ )\d+|\d+(?= < name\.len\(\))", str(max(map(len, names))), text)
     return re.sub(SLOT, "(%d * name.len() + %d * ends + %d * (name[name.len() - 5] as usize)) %% %d" % factors, text)
 
 
-def in_slots(text, factors):
-    """`Slots.antt` with the factors."""
+def in_slots(text, factors, longest):
+    """Definitions and proofs with the factors and the length of the longest name."""
+    text = re.sub(r"nat_lt \d+ \(length name\)", f"nat_lt {longest} (length name)", text)
     text = re.sub(r"below \d+, made", f"below {factors[3]}, made", text)
     line = "slot name = (%d * length name + %d * (slice_index name 3 + slice_index name (length name - 1)) + %d * slice_index name (length name - 5)) %% %d"
     return re.sub(r"slot name = .*", line % factors, text)
 
 
-def made():
-    """What each file should be."""
-    found = methods()
-    names = kinds()
-    old_kinds, old_slots = (open(path, encoding="utf-8").read() for path in (KINDS_FILE, SLOTS_FILE))
-    now = tuple(int(one) for one in re.search(SLOT, old_kinds).groups())
-    factors = factors_for(names, now)
-    text = open(FORMAT, encoding="utf-8").read()
-    start = text.find("## Methods\n")
-    end = text.index("## Input\n")
-    return {
-        FORMAT: text[: start if start >= 0 else end] + in_format(found) + text[end:],
-        ROWS: in_rows(found),
-        KINDS_FILE: in_kinds(old_kinds, names, factors),
-        SLOTS_FILE: in_slots(old_slots, factors),
-    }
+def tables(tree):
+    """Each file as it should be; gives the lines that say something else than their form does."""
+    frame_tables(tree)
+    lines = call_tables(tree)
+    own_tables(tree)
+    text = tree.read(FORMAT)
+    tree.new[FORMAT] = text[: text.index("## Methods\n")] + in_format(tree) + text[text.index("## Input\n") :]
+    tree.new[ROWS] = in_rows(tree) if plain(ROWS, in_rows(tree)) != plain(ROWS, tree.read(ROWS)) else tree.read(ROWS)
+    names = [m.name() for rows in rows_of(tree).values() for m in rows]
+    factors = factors_for(names, tuple(int(one) for one in re.search(SLOT, tree.read(KINDS_FILE)).groups()))
+    tree.new[KINDS_FILE] = in_kinds(tree.read(KINDS_FILE), names, factors)
+    for path in (SLOTS_FILE, "crates/lapin_method_text/proofs/MethodLaws.antt"):
+        tree.new[path] = in_slots(tree.read(path), factors, max(map(len, names)))
+    return lines.other
 
 
 def main(words):
-    stale = []
-    for path, text in made().items():
-        old = open(path, encoding="utf-8").read() if os.path.isfile(path) else ""
-        # The code is laid out by `rt fmt` afterwards, which breaks long lines alone.
-        if re.sub(r"\s+|,(?=\s*})", "", old) != re.sub(r"\s+|,(?=\s*})", "", text):
-            stale.append(os.path.relpath(path, TOP))
-            if words != ["--check"]:
-                os.makedirs(os.path.dirname(path), exist_ok=True)
-                open(path, "w", encoding="utf-8").write(text)
-    for name in stale:
-        print(f"{name}: {'out of step with the tables of methods' if words == ['--check'] else 'written'}")
-    return 1 if stale and words == ["--check"] else 0
+    tree = Tree(TOP)
+    other = tables(tree)
+    stale = tree.stale()
+    for path, old, new in other:
+        print(f"{path}: a line says something else than its form: {old.strip()}, where {new.strip()} is meant")
+    for path in stale:
+        if words != ["--check"]:
+            open(f"{TOP}/{path}", "w", encoding="utf-8").write(tree.new[path])
+        print(f"{path}: {'out of step with the tables of methods' if words == ['--check'] else 'written'}")
+    return 1 if other or stale and words == ["--check"] else 0
 
 
 if __name__ == "__main__":

@@ -198,6 +198,16 @@ def canceled(count, others):
         yield "next 1"
 
 
+def canceled_in_order(count, others):
+    """Starts of consumers among others, each with the cancel of the one that was started first of those that are left."""
+    yield from opened(1)
+    yield from consumes(1, others)
+    for number in range(1, count + 1):
+        yield from consumes(others + number, others + number)
+        yield f"call 1 basic.cancel {name('t', number)} 1"
+        yield "next 1"
+
+
 def strangers(count, others):
     """Deliveries under tags that are nobody's."""
     yield from opened(1)
@@ -339,6 +349,7 @@ GROWTH = [
     for name_of, make, sizes, few, many in [
         ("start of a consumer among", started, (10, 500, 5_000), 100, 500),
         ("start and cancel of a consumer among", canceled, (10, 500, 4_000), 100, 500),
+        ("start, and cancel of the oldest of", canceled_in_order, (500, 4_000), 100, 4_500),
         ("delivery under nobody's tag beside", strangers, (10, 500, 4_000), 100, 1_000),
         ("declare of a queue among", declared, (10, 500, 4_000), 100, 500),
         ("binding of a queue among", bound, (10, 500, 4_000), 100, 600),

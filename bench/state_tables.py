@@ -34,8 +34,8 @@ CHANNEL = {
 }
 CONNECTION = {
     "open": "link.Open", "closed": "link.Closed", "lost": "link.Lost", "any": "l",
-    "closing": "link.Closing sent received", "closing, the own close not left": "link.Closing false false",
-    "closing, the own close left": "link.Closing true false",
+    "closing": "link.Closing s", "closing, the own close not left": "link.Closing stage.Queued",
+    "closing, the own close left": "link.Closing stage.Sent",
 }
 
 

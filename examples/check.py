@@ -35,6 +35,8 @@ def runs(table):
                 steps = found.setdefault(line.split(NAME)[1], [])
             elif steps is not None:
                 read_line(steps, line.rstrip("\";"))
+                # the table ends with its text
+                steps = None if line.endswith('";') else steps
     return found
 
 

@@ -28,6 +28,7 @@ use Rattle.lapin_rules.specs.declared.phases.ChannelPhase.{ChannelPhase}
 use Rattle.lapin_rules.specs.declared.phases.ChannelPhase.TheVariants as phase
 use Rattle.lapin_rules.specs.declared.phases.ConnectionPhase.{ConnectionPhase}
 use Rattle.lapin_rules.specs.declared.phases.ConnectionPhase.TheVariants as link
+use Rattle.lapin_rules.specs.declared.phases.CloseStage.TheVariants as stage
 use Rattle.lapin_rules.specs.Ackers.{acker_asked, acked_wire, usable_at}
 use Rattle.lapin_rules.specs.Asking.{is_allowed, after_call, asked_by}
 use Rattle.lapin_rules.specs.ChannelClose.{closing, after_close_ok}
@@ -136,8 +137,8 @@ ok_kept c d (phase.Open paused) b = inl refl
 ok_kept c d phase.Crossed b = inl refl
 
 down_kept : (c : ℕ) (l : ConnectionPhase) (b : Wire) → Kept c b (after_connection_close l b)
-down_kept c (link.Closing true was) b = inl refl
-down_kept c (link.Closing false was) b = inr refl
+down_kept c (link.Closing stage.Queued) b = inr refl
+down_kept c (link.Closing s) b = inl refl
 down_kept c link.Open b = inr refl
 down_kept c link.Closed b = inr refl
 down_kept c link.Lost b = inr refl

@@ -22,6 +22,7 @@ use Rattle.lapin_rules.specs.declared.broker_frames.Incoming.{Incoming}
 use Rattle.lapin_rules.specs.declared.broker_frames.Incoming.TheVariants as incoming
 use Rattle.lapin_rules.specs.declared.phases.ConnectionPhase.{ConnectionPhase}
 use Rattle.lapin_rules.specs.declared.phases.ConnectionPhase.TheVariants as link
+use Rattle.lapin_rules.specs.declared.phases.CloseStage.TheVariants as stage
 use Rattle.lapin_rules.specs.ChannelClose.{close_ticket, close_ok_end, kept_ticket}
 use Rattle.lapin_rules.specs.ConnectionClose.{connection_close_tickets}
 use Rattle.lapin_rules.specs.Content.{got_message, start_tickets, whole_tickets, whole_on, next_acker}
@@ -176,8 +177,8 @@ module _ (n : ℕ) (big : 4096 ≤ n) (k : ℕ) (a : Answer) (ss : List Step) (f
       ])
 
   by_end : (l : ConnectionPhase) (code : ℕ) → received_tickets i b ≡ connection_close_tickets l code b → replies f ≡ false → Found
-  by_end (link.Closing true received) code is r = by_none is
-  by_end (link.Closing false received) code is r = by_all (error.ProtocolError code) is r
+  by_end (link.Closing stage.Queued) code is r = by_all (error.ProtocolError code) is r
+  by_end (link.Closing s) code is r = by_none is
   by_end link.Open code is r = by_all (error.ProtocolError code) is r
   by_end link.Closed code is r = by_all (error.ProtocolError code) is r
   by_end link.Lost code is r = by_all (error.ProtocolError code) is r

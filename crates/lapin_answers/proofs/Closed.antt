@@ -147,7 +147,7 @@ ok_when c b r false up e f = let w : true ≡ false = sym e ∙ f in absurd cc
 
 ok_down : (c : ℕ) (l : ConnectionPhase) → receives_down l (incoming.ChannelCloseOk c) ≡ false
 ok_down c link.Open = refl
-ok_down c (link.Closing s r) = refl
+ok_down c (link.Closing s) = refl
 ok_down c link.Closed = refl
 ok_down c link.Lost = refl
 

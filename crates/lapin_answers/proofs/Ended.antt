@@ -22,6 +22,7 @@ use Rattle.lapin_rules.specs.declared.broker_frames.Incoming.{Incoming}
 use Rattle.lapin_rules.specs.declared.broker_frames.Incoming.TheVariants as incoming
 use Rattle.lapin_rules.specs.declared.phases.ConnectionPhase.{ConnectionPhase}
 use Rattle.lapin_rules.specs.declared.phases.ConnectionPhase.TheVariants as link
+use Rattle.lapin_rules.specs.declared.phases.CloseStage.TheVariants as stage
 use Rattle.lapin_rules.specs.ConfirmReadings.{is_full}
 use Rattle.lapin_rules.specs.ConnectionClose.{link_sent, link_close_sent, receives_down}
 use Rattle.lapin_rules.specs.Ends.{down}
@@ -102,8 +103,8 @@ pub record LeftEnd (h : History) (qs : List (ℕ × List Request)) (ms : List Me
 
 abbrev pub Stands : History → ConnectionPhase → List (ℕ × List Request) → List MethodEntry → List Left → Type 0
 Stands h link.Open qs ms hs = NoEnd qs ms hs
-Stands h (link.Closing false received) qs ms hs = WaitsEnd h qs ms hs
-Stands h (link.Closing true received) qs ms hs = LeftEnd h qs ms hs
+Stands h (link.Closing stage.Queued) qs ms hs = WaitsEnd h qs ms hs
+Stands h (link.Closing s) qs ms hs = LeftEnd h qs ms hs
 Stands h link.Closed qs ms hs = Unit {0}
 Stands h link.Lost qs ms hs = Unit {0}
 
@@ -111,7 +112,7 @@ gone_stands : (h : History) (k : ConnectionPhase) (qs : List (ℕ × List Reques
 gone_stands h link.Closed qs ms hs g = tt
 gone_stands h link.Lost qs ms hs g = tt
 gone_stands h link.Open qs ms hs g = absurd cc
-gone_stands h (link.Closing s r) qs ms hs g = absurd cc
+gone_stands h (link.Closing s) qs ms hs g = absurd cc
 
 end_more : (n c : ℕ) (m : Method) (h : History) (e : Event) (x : Record) → IsEndOf n c m h → IsEndOf n c m (h ++ (e, x) ∷ [])
 end_more n c m h e x k = record { before = k.before; behind = k.behind ++ (e, x) ∷ []; event = k.event; told = k.told; all = ap (λ v. v ++ (e, x) ∷ []) k.all ∙ append_assoc k.before ((k.event, k.told) ∷ k.behind) ((e, x) ∷ []); is = k.is }
@@ -123,8 +124,8 @@ are_more h l (r ∷ s ∷ rs) e x a = absurd a
 
 stands_more : (h : History) (k : ConnectionPhase) (qs : List (ℕ × List Request)) (ms : List MethodEntry) (hs : List Left) (e : Event) (x : Record) → Stands h k qs ms hs → Stands (h ++ (e, x) ∷ []) k qs ms hs
 stands_more h link.Open qs ms hs e x s = s
-stands_more h (link.Closing false received) qs ms hs e x s = record { close = s.close; waits = s.waits; handed = s.handed; are = are_more h s.close (filter ends_it (requests_at 0 qs)) e x s.are }
-stands_more h (link.Closing true received) qs ms hs e x s = record { close = s.close; waits = s.waits; handed = s.handed; are = are_more h s.close (filter ends_it (requests_at 0 qs)) e x s.are }
+stands_more h (link.Closing stage.Queued) qs ms hs e x s = record { close = s.close; waits = s.waits; handed = s.handed; are = are_more h s.close (filter ends_it (requests_at 0 qs)) e x s.are }
+stands_more h (link.Closing t) qs ms hs e x s = record { close = s.close; waits = s.waits; handed = s.handed; are = are_more h s.close (filter ends_it (requests_at 0 qs)) e x s.are }
 stands_more h link.Closed qs ms hs e x s = tt
 stands_more h link.Lost qs ms hs e x s = tt
 
@@ -201,21 +202,21 @@ module _ (h : History) (e : Event) (x : Record) (qs : List (ℕ × List Request)
 
   other_left : (k : ConnectionPhase) → filter is_end_left (lefts_of ms') ≡ filter is_end_left (lefts_of ms) → hs' ≡ hs → Stands h k qs ms hs → Stands (h ++ (e, x) ∷ []) k qs ms' hs'
   other_left link.Open w o s = record { idle = record { requests = s.idle.requests; waits = w ∙ s.idle.waits }; handed = o ∙ s.handed }
-  other_left (link.Closing false received) w o s = record { close = s.close; waits = w ∙ s.waits; handed = o ∙ s.handed; are = are_more h s.close (filter ends_it (requests_at 0 qs)) e x s.are }
-  other_left (link.Closing true received) w o s = record { close = s.close; waits = w ∙ s.waits; handed = o ∙ s.handed; are = are_more h s.close (filter ends_it (requests_at 0 qs)) e x s.are }
+  other_left (link.Closing stage.Queued) w o s = record { close = s.close; waits = w ∙ s.waits; handed = o ∙ s.handed; are = are_more h s.close (filter ends_it (requests_at 0 qs)) e x s.are }
+  other_left (link.Closing t) w o s = record { close = s.close; waits = w ∙ s.waits; handed = o ∙ s.handed; are = are_more h s.close (filter ends_it (requests_at 0 qs)) e x s.are }
   other_left link.Closed w o s = tt
   other_left link.Lost w o s = tt
 
   close_left : (k : ConnectionPhase) (l : Left) → filter is_end_left (lefts_of ms) ≡ l ∷ filter is_end_left (lefts_of ms') → hs' ≡ hs ++ l ∷ [] → Stands h k qs ms hs → Stands (h ++ (e, x) ∷ []) (link_close_sent k) qs ms' hs'
   close_left link.Open l w o s = absurd (none_waits l _ w s.idle.waits)
-  close_left (link.Closing true received) l w o s = absurd (none_waits l _ w s.waits)
-  close_left link.Closed l w o s = tt
-  close_left link.Lost l w o s = tt
-  close_left (link.Closing false received) l w o s =
+  close_left (link.Closing stage.Queued) l w o s =
       let y : l ∷ filter is_end_left (lefts_of ms') ≡ s.close ∷ [] = sym w ∙ s.waits in
       let first : l ≡ s.close = cc in
       let none : filter is_end_left (lefts_of ms') ≡ [] = cc in
       record { close = s.close; waits = none; handed = o ∙ (ap (λ v. v ++ l ∷ []) s.handed ∙ ap (λ v. v ∷ []) first); are = are_more h s.close (filter ends_it (requests_at 0 qs)) e x s.are }
+  close_left (link.Closing t) l w o s = absurd (none_waits l _ w s.waits)
+  close_left link.Closed l w o s = tt
+  close_left link.Lost l w o s = tt
 
   left_stands : (k k' : ConnectionPhase) → Leaves k k' (filter is_end_left (lefts_of ms)) (filter is_end_left (lefts_of ms')) hs hs' → Stands h k qs ms hs → Stands (h ++ (e, x) ∷ []) k' qs ms' hs'
   left_stands k k' (Other place waits out) s = subst (λ y. Stands (h ++ (e, x) ∷ []) y qs ms' hs') (sym place) (other_left k waits out s)
@@ -403,11 +404,11 @@ module _ (n : ℕ) (big : 4096 ≤ n) (k : ℕ) (ss : List Step) (f : Frame) (fs
       by link.Open s up gone before behind all owed rest parts = absurd cc
       by link.Closed s up gone before behind all owed rest parts = absurd cc
       by link.Lost s up gone before behind all owed rest parts = absurd cc
-      by (link.Closing false received) s up gone before behind all owed rest parts =
+      by (link.Closing stage.Queued) s up gone before behind all owed rest parts =
           let none : 0 ≡ length (ends_in before) + length rest = ap length (sym s.handed ∙ parts) ∙ length-append (ends_in before) rest in
           let z : ⊥ = omega (arith, none, owed) in
           absurd z
-      by (link.Closing true received) s up gone before behind all owed rest parts =
+      by (link.Closing u) s up gone before behind all owed rest parts =
           let r = first_end k (requests_of 0 b) t in
           let its = its_end (joined_to n ss).session s.close (filter ends_it (requests_of 0 b)) r.0 r.1 k s.are r.2 r.3 in
           let at : at_place 1 (ends_in before ++ rest) ≡ Some s.close = ap (at_place 1) (sym parts ∙ s.handed) in
@@ -433,7 +434,7 @@ ended n big ss k a f fs down_is ok was now =
     by link.Open s fine later = absurd cc
     by link.Closed s fine later = absurd (none_answers k (Ok a) (new_answer (past_of n ss).tickets [] (Ok a) refl k was later))
     by link.Lost s fine later = absurd (none_answers k (Ok a) (new_answer (past_of n ss).tickets [] (Ok a) refl k was later))
-    by (link.Closing sent received) s fine later =
+    by (link.Closing u) s fine later =
         let t : Option ℕ = ticket_of (first_request reply_kind.ConnectionCloseOk (requests_of 0 (past_of n ss).wire)) in
         let y : Answers k (resolved_with (Ok answer.Done) t) (Ok a) = new_answer (past_of n ss).tickets (resolved_with (Ok answer.Done) t) (Ok a) (resolved_gives t (Ok answer.Done)) k was later in
-        found n big k ss f fs down_is ok (link.Closing sent received) s refl refl (resolved_is k t (Ok answer.Done) (Ok a) y).0
+        found n big k ss f fs down_is ok (link.Closing u) s refl refl (resolved_is k t (Ok answer.Done) (Ok a) y).0

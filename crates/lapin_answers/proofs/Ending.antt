@@ -64,6 +64,7 @@ use Rattle.lapin_rules.specs.declared.broker_frames.ContentPart.TheVariants as p
 use Rattle.lapin_rules.specs.declared.broker_frames.Incoming.TheVariants as incoming
 use Rattle.lapin_rules.specs.declared.phases.ChannelPhase.TheVariants as phase
 use Rattle.lapin_rules.specs.declared.phases.ConnectionPhase.TheVariants as link
+use Rattle.lapin_rules.specs.declared.phases.CloseStage.TheVariants as stage
 use Rattle.lapin_rules.specs.declared.phases.Closer.TheVariants as closer
 use Rattle.lapin_types.specs.declared.event.Event.TheVariants as event
 use Rattle.lapin_types.specs.declared.acker_call.AckerCall.TheVariants as acker_call
@@ -112,9 +113,9 @@ pub record IsEnding (e : Event) (x : Record) (l : Left) (r : Request) : Type 0 w
 pub data Turn (e : Event) (x : Record) (k k' : ConnectionPhase) (qs qs' : List (ℕ × List Request)) (ms ms' : List MethodEntry) : Type 0 where
   Same : (links : k' ≡ k) (requests : qs' ≡ qs) (methods : ms' ≡ ms) → Turn e x k k' qs qs' ms ms'
   Calm : (was : k ≡ link.Open) (now : k' ≡ link.Open) (idle : IdleIn qs ms → IdleIn qs' ms') → Turn e x k k' qs qs' ms ms'
-  Ends : (was : k ≡ link.Open) (now : k' ≡ link.Closing false false) (l : Left) (r : Request) (requests : filter ends_it (requests_at 0 qs') ≡ r ∷ []) (waits : filter is_end_left (lefts_of ms') ≡ l ∷ []) (is : IsEnding e x l r) → Turn e x k k' qs qs' ms ms'
-  Breaks : (was : k ≡ link.Open) (now : k' ≡ link.Closing false false) (l : Left) (requests : filter ends_it (requests_at 0 qs') ≡ []) (waits : filter is_end_left (lefts_of ms') ≡ l ∷ []) → Turn e x k k' qs qs' ms ms'
-  Crosses : (was : k ≡ link.Closing true false) (now : k' ≡ link.Closing true true) (requests : qs' ≡ qs) (waits : filter is_end_left (lefts_of ms') ≡ filter is_end_left (lefts_of ms)) → Turn e x k k' qs qs' ms ms'
+  Ends : (was : k ≡ link.Open) (now : k' ≡ link.Closing stage.Queued) (l : Left) (r : Request) (requests : filter ends_it (requests_at 0 qs') ≡ r ∷ []) (waits : filter is_end_left (lefts_of ms') ≡ l ∷ []) (is : IsEnding e x l r) → Turn e x k k' qs qs' ms ms'
+  Breaks : (was : k ≡ link.Open) (now : k' ≡ link.Closing stage.Queued) (l : Left) (requests : filter ends_it (requests_at 0 qs') ≡ []) (waits : filter is_end_left (lefts_of ms') ≡ l ∷ []) → Turn e x k k' qs qs' ms ms'
+  Crosses : (was : k ≡ link.Closing stage.Sent) (now : k' ≡ link.Closing stage.Crossed) (requests : qs' ≡ qs) (waits : filter is_end_left (lefts_of ms') ≡ filter is_end_left (lefts_of ms)) → Turn e x k k' qs qs' ms ms'
   Gone : (now : is_gone k' ≡ true) → Turn e x k k' qs qs' ms ms'
 
 abbrev pub Ending : Event → Record → Wire → Wire → Type 0
@@ -362,25 +363,25 @@ module _ (e : Event) (x : Record) (class number : ℕ) where
   down_receives link.Open b i q d = absurd cc
   down_receives link.Closed b i q d = Same refl refl refl
   down_receives link.Lost b i q d = Same refl refl refl
-  down_receives (link.Closing s was) b incoming.ConnectionCloseOk q d = Gone refl
-  down_receives (link.Closing s true) b (incoming.ConnectionClose code) q d = Same refl refl refl
-  down_receives (link.Closing true false) b (incoming.ConnectionClose code) q d = subst (λ l. Ending e x b (after_connection_close l b)) (sym q) (Crosses q refl refl crossed)
+  down_receives (link.Closing s) b incoming.ConnectionCloseOk q d = Gone refl
+  down_receives (link.Closing stage.Crossed) b (incoming.ConnectionClose code) q d = Same refl refl refl
+  down_receives (link.Closing stage.Sent) b (incoming.ConnectionClose code) q d = subst (λ l. Ending e x b (after_connection_close l b)) (sym q) (Crosses q refl refl crossed)
     where
       crossed : filter is_end_left (lefts_of (b.methods ++ note 0 (method.Connection connection.CloseOk) ∷ [])) ≡ waiting_ends b
       crossed = ap (filter is_end_left) (map-append left_method b.methods (note 0 (method.Connection connection.CloseOk) ∷ [])) ∙ (filter-append is_end_left (lefts_of b.methods) (left_method (note 0 (method.Connection connection.CloseOk)) ∷ []) ∙ append-nil (waiting_ends b))
-  down_receives (link.Closing false false) b (incoming.ConnectionClose code) q d = subst (λ l. Ending e x b (after_connection_close l b)) (sym q) (Gone refl)
-  down_receives (link.Closing s was) b (incoming.Reply d k a) q z = Same refl refl refl
-  down_receives (link.Closing s was) b (incoming.Settlement d k) q z = Same refl refl refl
-  down_receives (link.Closing s was) b (incoming.Content d p) q z = Same refl refl refl
-  down_receives (link.Closing s was) b (incoming.Consumer d p) q z = Same refl refl refl
-  down_receives (link.Closing s was) b (incoming.Flow d active) q z = Same refl refl refl
-  down_receives (link.Closing s was) b (incoming.ChannelClose d code) q z = Same refl refl refl
-  down_receives (link.Closing s was) b (incoming.ChannelCloseOk d) q z = Same refl refl refl
-  down_receives (link.Closing s was) b incoming.Other q z = Same refl refl refl
+  down_receives (link.Closing stage.Queued) b (incoming.ConnectionClose code) q d = subst (λ l. Ending e x b (after_connection_close l b)) (sym q) (Gone refl)
+  down_receives (link.Closing s) b (incoming.Reply d k a) q z = Same refl refl refl
+  down_receives (link.Closing s) b (incoming.Settlement d k) q z = Same refl refl refl
+  down_receives (link.Closing s) b (incoming.Content d p) q z = Same refl refl refl
+  down_receives (link.Closing s) b (incoming.Consumer d p) q z = Same refl refl refl
+  down_receives (link.Closing s) b (incoming.Flow d active) q z = Same refl refl refl
+  down_receives (link.Closing s) b (incoming.ChannelClose d code) q z = Same refl refl refl
+  down_receives (link.Closing s) b (incoming.ChannelCloseOk d) q z = Same refl refl refl
+  down_receives (link.Closing s) b incoming.Other q z = Same refl refl refl
 
   up_open : (l : ConnectionPhase) → is_up l ≡ true → l ≡ link.Open
   up_open link.Open h = refl
-  up_open (link.Closing s y) h = cc
+  up_open (link.Closing s) h = cc
   up_open link.Closed h = cc
   up_open link.Lost h = cc
 

@@ -83,7 +83,7 @@ held_in n r ss =
 
 up_open : (l : ConnectionPhase) → is_up l ≡ true → l ≡ link.Open
 up_open link.Open h = refl
-up_open (link.Closing s x) h = absurd cc
+up_open (link.Closing s) h = absurd cc
 up_open link.Closed h = absurd cc
 up_open link.Lost h = absurd cc
 

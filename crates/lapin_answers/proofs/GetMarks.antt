@@ -26,6 +26,7 @@ use Rattle.lapin_rules.specs.declared.marks.AtLeaving.{AtLeaving}
 use Rattle.lapin_rules.specs.declared.marks.AtLeaving.TheVariants as leaving
 use Rattle.lapin_rules.specs.declared.phases.ConnectionPhase.{ConnectionPhase}
 use Rattle.lapin_rules.specs.declared.phases.ConnectionPhase.TheVariants as link
+use Rattle.lapin_rules.specs.declared.phases.CloseStage.TheVariants as stage
 use Rattle.lapin_rules.specs.ChannelClose.{close_ticket, close_ok_end}
 use Rattle.lapin_rules.specs.ConnectionClose.{connection_close_tickets}
 use Rattle.lapin_rules.specs.Consumers.{consumer_tickets, next_consumer}
@@ -123,8 +124,8 @@ answer_plain c k answer.Done h = refl
 answer_plain c k _ h = refl
 
 close_plain : (l : ConnectionPhase) (code : ℕ) (b : Wire) → list_any tells (connection_close_tickets l code b) ≡ false
-close_plain (link.Closing true was) code b = refl
-close_plain (link.Closing false was) code b = failed_plain (error.ProtocolError code) b
+close_plain (link.Closing stage.Queued) code b = failed_plain (error.ProtocolError code) b
+close_plain (link.Closing s) code b = refl
 close_plain link.Open code b = failed_plain (error.ProtocolError code) b
 close_plain link.Closed code b = failed_plain (error.ProtocolError code) b
 close_plain link.Lost code b = failed_plain (error.ProtocolError code) b

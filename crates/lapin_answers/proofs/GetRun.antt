@@ -179,7 +179,7 @@ part_hears c (part.Body bytes) b h = (and_parts (receives_on (state_of c b)) _ h
 
 pub content_down : (c : ℕ) (p : ContentPart) (l : ConnectionPhase) → receives_down l (incoming.Content c p) ≡ false
 content_down c p link.Open = refl
-content_down c p (link.Closing s r) = refl
+content_down c p (link.Closing s) = refl
 content_down c p link.Closed = refl
 content_down c p link.Lost = refl
 

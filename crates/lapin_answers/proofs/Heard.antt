@@ -28,6 +28,7 @@ use Rattle.lapin_rules.specs.declared.phases.ChannelPhase.{ChannelPhase}
 use Rattle.lapin_rules.specs.declared.phases.ChannelPhase.TheVariants as phase
 use Rattle.lapin_rules.specs.declared.phases.ConnectionPhase.{ConnectionPhase}
 use Rattle.lapin_rules.specs.declared.phases.ConnectionPhase.TheVariants as link
+use Rattle.lapin_rules.specs.declared.phases.CloseStage.TheVariants as stage
 use Rattle.lapin_rules.specs.declared.phases.Closer.TheVariants as closer
 use Rattle.lapin_rules.specs.Words.{with_channel, is_some}
 use Rattle.lapin_rules.specs.Phases.{is_up, is_live, is_lost}
@@ -70,7 +71,7 @@ Hears c e x b i r = Turns c e x (Some i) b (incoming_wire i r b)
 
 up_open : (l : ConnectionPhase) → is_up l ≡ true → l ≡ link.Open
 up_open link.Open h = refl
-up_open (link.Closing s x) h = cc
+up_open (link.Closing s) h = cc
 up_open link.Closed h = cc
 up_open link.Lost h = cc
 
@@ -306,24 +307,24 @@ module _ (c : ℕ) (e : Event) (x : Record) (class number : ℕ) where
   down_receives link.Open b i q d = absurd cc
   down_receives link.Closed b i q d = passed b i (rw q refl)
   down_receives link.Lost b i q d = passed b i (rw q refl)
-  down_receives (link.Closing s was) b incoming.ConnectionCloseOk q d = Sinks (hears_down c b (rw q refl)) refl (λ v. on_other c 0 reply_kind.ConnectionCloseOk b.requests refl ∙ v) (unsent (has_sent b.link))
+  down_receives (link.Closing s) b incoming.ConnectionCloseOk q d = Sinks (hears_down c b (rw q refl)) refl (λ v. on_other c 0 reply_kind.ConnectionCloseOk b.requests refl ∙ v) (unsent (has_sent b.link))
     where
       unsent : (t : Bool) → waiting_asks c b ≡ [] → filter (is_ask_on c) (lefts_of (unless_sent t (lists_of b)).methods) ≡ []
       unsent true h = h
       unsent false h = refl
-  down_receives (link.Closing s true) b (incoming.ConnectionClose code) q d = passed b (incoming.ConnectionClose code) (rw q refl)
-  down_receives (link.Closing true false) b (incoming.ConnectionClose code) q d =
+  down_receives (link.Closing stage.Crossed) b (incoming.ConnectionClose code) q d = passed b (incoming.ConnectionClose code) (rw q refl)
+  down_receives (link.Closing stage.Sent) b (incoming.ConnectionClose code) q d =
       subst (λ l. Turns c e x (Some (incoming.ConnectionClose code)) b (after_connection_close l b)) (sym q) (Sinks (hears_down c b (rw q refl)) refl (λ v. v) (λ v. noted_same c 0 (method.Connection connection.CloseOk) b refl ∙ v))
-  down_receives (link.Closing false false) b (incoming.ConnectionClose code) q d =
+  down_receives (link.Closing stage.Queued) b (incoming.ConnectionClose code) q d =
       subst (λ l. Turns c e x (Some (incoming.ConnectionClose code)) b (after_connection_close l b)) (sym q) (fell (incoming.ConnectionClose code) b)
-  down_receives (link.Closing s was) b (incoming.Reply d k a) q z = passed b (incoming.Reply d k a) (rw q refl)
-  down_receives (link.Closing s was) b (incoming.Settlement d k) q z = passed b (incoming.Settlement d k) (rw q refl)
-  down_receives (link.Closing s was) b (incoming.Content d p) q z = passed b (incoming.Content d p) (rw q refl)
-  down_receives (link.Closing s was) b (incoming.Consumer d p) q z = passed b (incoming.Consumer d p) (rw q refl)
-  down_receives (link.Closing s was) b (incoming.Flow d active) q z = passed b (incoming.Flow d active) (rw q refl)
-  down_receives (link.Closing s was) b (incoming.ChannelClose d code) q z = passed b (incoming.ChannelClose d code) (rw q refl)
-  down_receives (link.Closing s was) b (incoming.ChannelCloseOk d) q z = passed b (incoming.ChannelCloseOk d) (rw q refl)
-  down_receives (link.Closing s was) b incoming.Other q z = passed b incoming.Other (rw q refl)
+  down_receives (link.Closing s) b (incoming.Reply d k a) q z = passed b (incoming.Reply d k a) (rw q refl)
+  down_receives (link.Closing s) b (incoming.Settlement d k) q z = passed b (incoming.Settlement d k) (rw q refl)
+  down_receives (link.Closing s) b (incoming.Content d p) q z = passed b (incoming.Content d p) (rw q refl)
+  down_receives (link.Closing s) b (incoming.Consumer d p) q z = passed b (incoming.Consumer d p) (rw q refl)
+  down_receives (link.Closing s) b (incoming.Flow d active) q z = passed b (incoming.Flow d active) (rw q refl)
+  down_receives (link.Closing s) b (incoming.ChannelClose d code) q z = passed b (incoming.ChannelClose d code) (rw q refl)
+  down_receives (link.Closing s) b (incoming.ChannelCloseOk d) q z = passed b (incoming.ChannelCloseOk d) (rw q refl)
+  down_receives (link.Closing s) b incoming.Other q z = passed b incoming.Other (rw q refl)
 
   pub incoming_turn : (l : ConnectionPhase) (b : Wire) (readings : Readings) (i : Incoming) → b.link ≡ l → Turns c e x (Some i) b (incoming_wire i (incoming_record b readings no i) b)
   incoming_turn l b readings i q = subst (Hears c e x b i) (sym is) (elim (is_up l) as (λ t. is_up l ≡ t → Hears c e x b i (cond t (incoming_up b readings no i) (cond (receives_down l i) record_.Received record_.Passed))) [
@@ -344,6 +345,6 @@ lost_turn c e x b = elim (is_lost b.link) as (λ t. is_lost b.link ≡ t → Tur
   where
     lost_down : (l : ConnectionPhase) → is_lost l ≡ true → is_up l ≡ false
     lost_down link.Open h = cc
-    lost_down (link.Closing s y) h = refl
+    lost_down (link.Closing s) h = refl
     lost_down link.Closed h = refl
     lost_down link.Lost h = refl

@@ -36,6 +36,7 @@ use Rattle.lapin_rules.specs.declared.phases.ChannelPhase.{ChannelPhase}
 use Rattle.lapin_rules.specs.declared.phases.ChannelPhase.TheVariants as phase
 use Rattle.lapin_rules.specs.declared.phases.ConnectionPhase.{ConnectionPhase}
 use Rattle.lapin_rules.specs.declared.phases.ConnectionPhase.TheVariants as link
+use Rattle.lapin_rules.specs.declared.phases.CloseStage.TheVariants as stage
 use Rattle.lapin_rules.specs.declared.phases.Closer.TheVariants as closer
 use Rattle.lapin_rules.specs.Ackers.{acker_method, acked_wire, usable_at}
 use Rattle.lapin_rules.specs.Asking.{is_allowed, is_held, is_outstanding, asked_by, accepted_record, call_record, call_told, after_call, asked_wire}
@@ -263,7 +264,7 @@ Hears c e x b i r = Moves c e x b (incoming_wire i r b)
 
 up_open : (l : ConnectionPhase) → is_up l ≡ true → l ≡ link.Open
 up_open link.Open h = refl
-up_open (link.Closing s x) h = cc
+up_open (link.Closing s) h = cc
 up_open link.Closed h = cc
 up_open link.Lost h = cc
 
@@ -411,18 +412,18 @@ module _ (c : ℕ) (e : Event) (x : Record) (class number : ℕ) where
   down_receives link.Open b i q d = absurd cc
   down_receives link.Closed b i q d = passed b
   down_receives link.Lost b i q d = passed b
-  down_receives (link.Closing s was) b incoming.ConnectionCloseOk q d = Idles (dead c b (ap is_up q)) (kind_on_other reply_kind.ChannelOpenOk c 0 reply_kind.ConnectionCloseOk b.requests refl)
-  down_receives (link.Closing s true) b (incoming.ConnectionClose code) q d = passed b
-  down_receives (link.Closing true false) b (incoming.ConnectionClose code) q d = subst (λ l. Moves c e x b (after_connection_close l b)) (sym q) (Idles (dead c b (ap is_up q)) refl)
-  down_receives (link.Closing false false) b (incoming.ConnectionClose code) q d = subst (λ l. Moves c e x b (after_connection_close l b)) (sym q) (fell b)
-  down_receives (link.Closing s was) b (incoming.Reply d k a) q z = passed b
-  down_receives (link.Closing s was) b (incoming.Settlement d k) q z = passed b
-  down_receives (link.Closing s was) b (incoming.Content d p) q z = passed b
-  down_receives (link.Closing s was) b (incoming.Consumer d p) q z = passed b
-  down_receives (link.Closing s was) b (incoming.Flow d active) q z = passed b
-  down_receives (link.Closing s was) b (incoming.ChannelClose d code) q z = passed b
-  down_receives (link.Closing s was) b (incoming.ChannelCloseOk d) q z = passed b
-  down_receives (link.Closing s was) b incoming.Other q z = passed b
+  down_receives (link.Closing s) b incoming.ConnectionCloseOk q d = Idles (dead c b (ap is_up q)) (kind_on_other reply_kind.ChannelOpenOk c 0 reply_kind.ConnectionCloseOk b.requests refl)
+  down_receives (link.Closing stage.Crossed) b (incoming.ConnectionClose code) q d = passed b
+  down_receives (link.Closing stage.Sent) b (incoming.ConnectionClose code) q d = subst (λ l. Moves c e x b (after_connection_close l b)) (sym q) (Idles (dead c b (ap is_up q)) refl)
+  down_receives (link.Closing stage.Queued) b (incoming.ConnectionClose code) q d = subst (λ l. Moves c e x b (after_connection_close l b)) (sym q) (fell b)
+  down_receives (link.Closing s) b (incoming.Reply d k a) q z = passed b
+  down_receives (link.Closing s) b (incoming.Settlement d k) q z = passed b
+  down_receives (link.Closing s) b (incoming.Content d p) q z = passed b
+  down_receives (link.Closing s) b (incoming.Consumer d p) q z = passed b
+  down_receives (link.Closing s) b (incoming.Flow d active) q z = passed b
+  down_receives (link.Closing s) b (incoming.ChannelClose d code) q z = passed b
+  down_receives (link.Closing s) b (incoming.ChannelCloseOk d) q z = passed b
+  down_receives (link.Closing s) b incoming.Other q z = passed b
 
   incoming_move : (l : ConnectionPhase) (b : Wire) (readings : Readings) (i : Incoming) → b.link ≡ l → Moves c e x b (incoming_wire i (incoming_record b readings no i) b)
   incoming_move l b readings i q = subst (Hears c e x b i) (sym is) (elim (is_up l) as (λ t. is_up l ≡ t → Hears c e x b i (cond t (incoming_up b readings no i) (cond (receives_down l i) record_.Received record_.Passed))) [

@@ -156,7 +156,7 @@ ok_when c a b r false up e q f = let w : true ≡ false = sym e ∙ f in absurd 
 
 ok_down : (c : ℕ) (a : Answer) (l : ConnectionPhase) → receives_down l (incoming.Reply c reply_kind.ChannelOpenOk a) ≡ false
 ok_down c a link.Open = refl
-ok_down c a (link.Closing s r) = refl
+ok_down c a (link.Closing s) = refl
 ok_down c a link.Closed = refl
 ok_down c a link.Lost = refl
 

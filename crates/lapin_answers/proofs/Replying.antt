@@ -74,19 +74,19 @@ pub record IsReply (c : ℕ) (i : Incoming) : Type 0 where
 
 reply_down : (c : ℕ) (k : ReplyKind) (a : Answer) (l : ConnectionPhase) → receives_down l (incoming.Reply c k a) ≡ false
 reply_down c k a link.Open = refl
-reply_down c k a (link.Closing s r) = refl
+reply_down c k a (link.Closing s) = refl
 reply_down c k a link.Closed = refl
 reply_down c k a link.Lost = refl
 
 content_down : (c : ℕ) (p : ContentPart) (l : ConnectionPhase) → receives_down l (incoming.Content c p) ≡ false
 content_down c p link.Open = refl
-content_down c p (link.Closing s r) = refl
+content_down c p (link.Closing s) = refl
 content_down c p link.Closed = refl
 content_down c p link.Lost = refl
 
 consumer_down : (c : ℕ) (p : ConsumerPart) (l : ConnectionPhase) → receives_down l (incoming.Consumer c p) ≡ false
 consumer_down c p link.Open = refl
-consumer_down c p (link.Closing s r) = refl
+consumer_down c p (link.Closing s) = refl
 consumer_down c p link.Closed = refl
 consumer_down c p link.Lost = refl
 

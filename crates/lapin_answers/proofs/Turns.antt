@@ -229,7 +229,7 @@ shut_refuses ask.Nothing = refl
 
 pub allowed_up : (l : ConnectionPhase) (a : Asked) (s : ChannelState) → is_allowed a (cond (is_up l) s state.Down) ≡ true → l ≡ link.Open
 allowed_up link.Open a s h = refl
-allowed_up (link.Closing x y) a s h = let x = shut_refuses a in cc
+allowed_up (link.Closing x) a s h = let x = shut_refuses a in cc
 allowed_up link.Closed a s h = let x = shut_refuses a in cc
 allowed_up link.Lost a s h = let x = shut_refuses a in cc
 

@@ -67,7 +67,7 @@ shut_refuses ask.Nothing = refl
 
 pub allowed_up : (l : ConnectionPhase) (k : Asked) (s : ChannelState) → is_allowed k (cond (is_up l) s state.Down) ≡ true → l ≡ link.Open
 allowed_up link.Open k s h = refl
-allowed_up (link.Closing x y) k s h = let x = shut_refuses k in cc
+allowed_up (link.Closing x) k s h = let x = shut_refuses k in cc
 allowed_up link.Closed k s h = let x = shut_refuses k in cc
 allowed_up link.Lost k s h = let x = shut_refuses k in cc
 

@@ -27,7 +27,9 @@ use Rattle.lapin_rules.specs.declared.phases.Closer.TheVariants as closer
 use Rattle.lapin_rules.specs.declared.phases.ChannelPhase.{ChannelPhase}
 use Rattle.lapin_rules.specs.declared.phases.ChannelPhase.TheVariants as phase
 use Rattle.lapin_rules.specs.declared.phases.ConnectionPhase.{ConnectionPhase}
+use Rattle.lapin_rules.specs.declared.phases.CloseStage.{CloseStage}
 use Rattle.lapin_rules.specs.declared.phases.ConnectionPhase.TheVariants as link
+use Rattle.lapin_rules.specs.declared.phases.CloseStage.TheVariants as stage
 use Rattle.lapin_rules.specs.declared.broker_frames.ContentPart.{ContentPart}
 use Rattle.lapin_rules.specs.declared.broker_frames.ContentPart.TheVariants as part
 use Rattle.lapin_rules.specs.declared.broker_frames.ConsumerPart.{ConsumerPart}
@@ -35,7 +37,7 @@ use Rattle.lapin_rules.specs.declared.broker_frames.ConsumerPart.TheVariants as 
 use Rattle.lapin_rules.specs.declared.broker_frames.Incoming.{Incoming}
 use Rattle.lapin_rules.specs.declared.broker_frames.Incoming.TheVariants as incoming
 use Rattle.lapin_rules.specs.Words.{with_channel}
-use Rattle.lapin_rules.specs.Phases.{is_up, channel_state}
+use Rattle.lapin_rules.specs.Phases.{is_up, channel_state, is_crossed}
 use Rattle.lapin_rules.specs.Readings.{Readings}
 use Rattle.lapin_rules.specs.Wire.{Wire, phase_of, requests_of, state_of, is_open, receives_on, noted, with_deliveries}
 use Rattle.lapin_rules.specs.Incoming.{incoming_method, incoming_of}
@@ -323,7 +325,7 @@ pub record ToChannel (i : Incoming) : Type 0 where
   pub channel_ : ℕ
   pub frame_ : DownF
   pub is : income_as i ≡ ToD channel_ frame_
-  pub not_heard : (s : Bool) → receives_down (link.Closing s false) i ≡ false
+  pub not_heard : (s : CloseStage) → receives_down (link.Closing s) i ≡ false
 
 abbrev is_channel : Incoming → Bool
 is_channel (incoming.ConnectionClose code) = false
@@ -349,27 +351,32 @@ module _ (b : Wire) (see : Readings) (r : Record) (f : Frame) (br : Broker) (us 
   told_down : (l : ConnectionPhase) (i : Incoming) → b.link ≡ l → is_up l ≡ false → incoming_record b see r i ≡ cond (receives_down l i) record_.Received record_.Passed
   told_down l i e n = ap (λ k. cond (is_up k) (incoming_up b see r i) (cond (receives_down k i) record_.Received record_.Passed)) e ∙ ap (λ t. cond t (incoming_up b see r i) (cond (receives_down l i) record_.Received record_.Passed)) n
 
+  channel_passed : (s : CloseStage) (i : Incoming) → is_crossed s ≡ false → b.link ≡ link.Closing s → down_frame f ≡ income_as i → is_channel i ≡ true → Delivered b see r f i br us ds
+  channel_passed s i z e y c =
+      let t = to_channel i c in
+      delivered_by b see r record_.Passed f i br us ds (told_down (link.Closing s) i e refl ∙ ap (λ q. cond q record_.Received record_.Passed) (t.not_heard s)) (λ k. refl) (passed b f br us ds h s t.channel_ t.frame_ z e (y ∙ t.is))
+
   channel_down : (l : ConnectionPhase) (i : Incoming) → b.link ≡ l → is_up l ≡ false → down_frame f ≡ income_as i → is_channel i ≡ true → Delivered b see r f i br us ds
   channel_down link.Open i e n y c = absurd cc
   channel_down link.Closed i e n y c = absurd (gone_dead b f br us ds link.Closed refl e g)
   channel_down link.Lost i e n y c = absurd (gone_dead b f br us ds link.Lost refl e g)
-  channel_down (link.Closing s true) i e n y c = let t = to_channel i c in absurd (cross_dead b f br us ds s e (λ k. let z : ToD t.channel_ t.frame_ ≡ CloseOkD = sym (y ∙ t.is) ∙ k in cc) g)
-  channel_down (link.Closing s false) i e n y c =
-      let t = to_channel i c in
-      delivered_by b see r record_.Passed f i br us ds (told_down (link.Closing s false) i e refl ∙ ap (λ q. cond q record_.Received record_.Passed) (t.not_heard s)) (λ k. refl) (passed b f br us ds h s t.channel_ t.frame_ e (y ∙ t.is))
+  channel_down (link.Closing stage.Crossed) i e n y c = let t = to_channel i c in absurd (cross_dead b f br us ds e (λ k. let z : ToD t.channel_ t.frame_ ≡ CloseOkD = sym (y ∙ t.is) ∙ k in cc) g)
+  channel_down (link.Closing stage.Queued) i e n y c = channel_passed stage.Queued i refl e y c
+  channel_down (link.Closing stage.Sent) i e n y c = channel_passed stage.Sent i refl e y c
 
   close_down : (l : ConnectionPhase) (code : ℕ) → b.link ≡ l → is_up l ≡ false → down_frame f ≡ CloseD → Delivered b see r f (incoming.ConnectionClose code) br us ds
   close_down link.Open code e n y = absurd cc
   close_down link.Closed code e n y = absurd (gone_dead b f br us ds link.Closed refl e g)
   close_down link.Lost code e n y = absurd (gone_dead b f br us ds link.Lost refl e g)
-  close_down (link.Closing s true) code e n y = absurd (cross_dead b f br us ds s e (λ k. let z : CloseD ≡ CloseOkD = sym y ∙ k in cc) g)
-  close_down (link.Closing s false) code e n y = delivered_by b see r record_.Received f (incoming.ConnectionClose code) br us ds (told_down (link.Closing s false) (incoming.ConnectionClose code) e refl) (λ k. refl) (crosses b f br us ds h s e y)
+  close_down (link.Closing stage.Crossed) code e n y = absurd (cross_dead b f br us ds e (λ k. let z : CloseD ≡ CloseOkD = sym y ∙ k in cc) g)
+  close_down (link.Closing stage.Queued) code e n y = delivered_by b see r record_.Received f (incoming.ConnectionClose code) br us ds (told_down (link.Closing stage.Queued) (incoming.ConnectionClose code) e refl) (λ k. refl) (crosses b f br us ds h stage.Queued refl e y)
+  close_down (link.Closing stage.Sent) code e n y = delivered_by b see r record_.Received f (incoming.ConnectionClose code) br us ds (told_down (link.Closing stage.Sent) (incoming.ConnectionClose code) e refl) (λ k. refl) (crosses b f br us ds h stage.Sent refl e y)
 
   answer_down : (l : ConnectionPhase) → b.link ≡ l → is_up l ≡ false → down_frame f ≡ CloseOkD → Delivered b see r f incoming.ConnectionCloseOk br us ds
   answer_down link.Open e n y = absurd cc
   answer_down link.Closed e n y = absurd (gone_dead b f br us ds link.Closed refl e g)
   answer_down link.Lost e n y = absurd (gone_dead b f br us ds link.Lost refl e g)
-  answer_down (link.Closing s x) e n y = delivered_by b see r record_.Received f incoming.ConnectionCloseOk br us ds (told_down (link.Closing s x) incoming.ConnectionCloseOk e refl) (λ k. refl) (ended_by b f br us ds h s x e y)
+  answer_down (link.Closing s) e n y = delivered_by b see r record_.Received f incoming.ConnectionCloseOk br us ds (told_down (link.Closing s) incoming.ConnectionCloseOk e refl) (λ k. refl) (ended_by b f br us ds h s e y)
 
   takes_down : (i : Incoming) → is_up b.link ≡ false → down_frame f ≡ income_as i → Delivered b see r f i br us ds
   takes_down (incoming.ConnectionClose code) n y = close_down b.link code refl n y

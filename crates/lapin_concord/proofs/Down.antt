@@ -7,8 +7,10 @@ use Rattle.lapin_types.specs.Types.{Frame}
 use Rattle.lapin_types.specs.Types.method
 use Rattle.lapin_types.specs.Types.connection
 use Rattle.lapin_rules.specs.declared.phases.ConnectionPhase.{ConnectionPhase}
+use Rattle.lapin_rules.specs.declared.phases.CloseStage.{CloseStage}
 use Rattle.lapin_rules.specs.declared.phases.ConnectionPhase.TheVariants as link
-use Rattle.lapin_rules.specs.Phases.{is_up, is_lost}
+use Rattle.lapin_rules.specs.declared.phases.CloseStage.TheVariants as stage
+use Rattle.lapin_rules.specs.Phases.{is_up, is_lost, is_crossed}
 use Rattle.lapin_rules.specs.Requests.{without_kind}
 use Rattle.lapin_rules.specs.Wire.{Wire, lists_of, with_lists}
 use Rattle.lapin_rules.specs.ConnectionClose.{after_connection_close, unless_sent, has_sent, after_connection_close_ok}
@@ -90,22 +92,23 @@ module _ (b : Wire) (f : Frame) (br : Broker) (us : List Left) (ds : List Frame)
   shut_publishes l e n = h.shut (ap is_up e ∙ n)
 
   -- both closes
-  pub crosses : (s : Bool) → b.link ≡ link.Closing s false → down_frame f ≡ CloseD → Comes b (after_connection_close b.link b) f br us ds
-  crosses true e n =
+  pub crosses : (s : CloseStage) → is_crossed s ≡ false → b.link ≡ link.Closing s → down_frame f ≡ CloseD → Comes b (after_connection_close b.link b) f br us ds
+  crosses stage.Sent z e n =
       let k : waits_as b ≡ [] = subst (λ l. IsLinked l (waits_as b)) e h.linked in
-      let c = chans_shut (link.Closing true false) e refl in
+      let c = chans_shut (link.Closing stage.Sent) e refl in
       subst (λ l. Comes b (after_connection_close l b) f br us ds) (sym e) (record {
-        held = shut_held _ refl (shut_publishes (link.Closing true false) e refl) tt h.rest (methods-push b.frame_max b.methods _ h.methods tt);
-        follows = one_step Delivers v _ DeliverA refl (refl, tt) (got (link.Closing true false) CloseD e n
+        held = shut_held _ refl (shut_publishes (link.Closing stage.Sent) e refl) tt h.rest (methods-push b.frame_max b.methods _ h.methods tt);
+        follows = one_step Delivers v _ DeliverA refl (refl, tt) (got (link.Closing stage.Sent) CloseD e n
             ∙ (ap (λ fs. record v { conn = cond (has_close (map conn_u fs)) Closed Crossed; unsent = cond (has_close (map conn_u fs)) (CloseOkU ∷ []) (waits_as b ++ CloseOkU ∷ []); down = vs }) k
             ∙ (λ i. record v { conn = Crossed; chans = c i; unsent = sym (waits_more b.rest b.methods (record { channel = 0; method = method.Connection connection.CloseOk; ticket = None }) CloseOkU refl) i; down = vs })));
       })
-  crosses false e n =
+  crosses stage.Crossed z e n = absurd cc
+  crosses stage.Queued z e n =
       let k : waits_as b ≡ CloseU ∷ [] = subst (λ l. IsLinked l (waits_as b)) e h.linked in
-      let c = chans_shut (link.Closing false false) e refl in
+      let c = chans_shut (link.Closing stage.Queued) e refl in
       subst (λ l. Comes b (after_connection_close l b) f br us ds) (sym e) (record {
         held = shut_held _ refl refl tt tt (tt, tt);
-        follows = one_step Delivers v _ DeliverA refl (refl, tt) (got (link.Closing false false) CloseD e n
+        follows = one_step Delivers v _ DeliverA refl (refl, tt) (got (link.Closing stage.Queued) CloseD e n
             ∙ (ap (λ fs. record v { conn = cond (has_close (map conn_u fs)) Closed Crossed; unsent = cond (has_close (map conn_u fs)) (CloseOkU ∷ []) (waits_as b ++ CloseOkU ∷ []); down = vs }) k
             ∙ (λ i. record v { conn = Closed; chans = c i; unsent = CloseOkU ∷ []; down = vs })));
       })
@@ -113,31 +116,32 @@ module _ (b : Wire) (f : Frame) (br : Broker) (us : List Left) (ds : List Frame)
   abbrev over : ConnectionPhase → Wire
   over l = record (with_lists (unless_sent (has_sent l) (lists_of b)) b) { link = link.Closed; requests = on_channel 0 (without_kind reply_kind.ConnectionCloseOk) b.requests }
 
-  pub ended_by : (s x : Bool) → b.link ≡ link.Closing s x → down_frame f ≡ CloseOkD → Comes b (after_connection_close_ok b) f br us ds
-  ended_by true true e n =
-      let c = chans_shut (link.Closing true true) e refl in
+  pub ended_by : (s : CloseStage) → b.link ≡ link.Closing s → down_frame f ≡ CloseOkD → Comes b (after_connection_close_ok b) f br us ds
+  ended_by stage.Crossed e n =
+      let c = chans_shut (link.Closing stage.Crossed) e refl in
       subst (λ l. Comes b (over l) f br us ds) (sym e) (record {
-        held = shut_held _ refl (shut_publishes (link.Closing true true) e refl) tt h.rest h.methods;
-        follows = one_step Delivers v _ DeliverA refl (refl, tt) (got (link.Closing true true) CloseOkD e n ∙ (λ i. record v { conn = Closed; chans = c i; down = vs }));
+        held = shut_held _ refl (shut_publishes (link.Closing stage.Crossed) e refl) tt h.rest h.methods;
+        follows = one_step Delivers v _ DeliverA refl (refl, tt) (got (link.Closing stage.Crossed) CloseOkD e n ∙ (λ i. record v { conn = Closed; chans = c i; down = vs }));
       })
-  ended_by true false e n =
+  ended_by stage.Sent e n =
       let k : waits_as b ≡ [] = subst (λ l. IsLinked l (waits_as b)) e h.linked in
-      let c = chans_shut (link.Closing true false) e refl in
+      let c = chans_shut (link.Closing stage.Sent) e refl in
       subst (λ l. Comes b (over l) f br us ds) (sym e) (record {
-        held = shut_held _ refl (shut_publishes (link.Closing true false) e refl) tt h.rest h.methods;
-        follows = one_step Delivers v _ DeliverA refl (refl, tt) (got (link.Closing true false) CloseOkD e n ∙ (λ i. record v { conn = Closed; chans = c i; unsent = sym k i; down = vs }));
+        held = shut_held _ refl (shut_publishes (link.Closing stage.Sent) e refl) tt h.rest h.methods;
+        follows = one_step Delivers v _ DeliverA refl (refl, tt) (got (link.Closing stage.Sent) CloseOkD e n ∙ (λ i. record v { conn = Closed; chans = c i; unsent = sym k i; down = vs }));
       })
-  ended_by false false e n =
-      let c = chans_shut (link.Closing false false) e refl in
+  ended_by stage.Queued e n =
+      let c = chans_shut (link.Closing stage.Queued) e refl in
       subst (λ l. Comes b (over l) f br us ds) (sym e) (record {
         held = shut_held _ refl refl tt tt tt;
-        follows = one_step Delivers v _ DeliverA refl (refl, tt) (got (link.Closing false false) CloseOkD e n ∙ (λ i. record v { conn = Closed; chans = c i; unsent = []; down = vs }));
+        follows = one_step Delivers v _ DeliverA refl (refl, tt) (got (link.Closing stage.Queued) CloseOkD e n ∙ (λ i. record v { conn = Closed; chans = c i; unsent = []; down = vs }));
       })
-  ended_by false true e n = absurd (subst (λ l. IsLinked l (waits_as b)) e h.linked)
 
   -- a frame of a channel is passed over
-  pub passed : (s : Bool) (c : ℕ) (d : DownF) → b.link ≡ link.Closing s false → down_frame f ≡ ToD c d → Comes b b f br us ds
-  passed s c d e n = record { held = h; follows = one_step Delivers v _ DeliverA refl (refl, tt) (got (link.Closing s false) (ToD c d) e n ∙ (λ i. record v { conn = link_as (sym e i); down = vs })) }
+  pub passed : (s : CloseStage) (c : ℕ) (d : DownF) → is_crossed s ≡ false → b.link ≡ link.Closing s → down_frame f ≡ ToD c d → Comes b b f br us ds
+  passed stage.Queued c d z e n = record { held = h; follows = one_step Delivers v _ DeliverA refl (refl, tt) (got (link.Closing stage.Queued) (ToD c d) e n ∙ (λ i. record v { conn = link_as (sym e i); down = vs })) }
+  passed stage.Sent c d z e n = record { held = h; follows = one_step Delivers v _ DeliverA refl (refl, tt) (got (link.Closing stage.Sent) (ToD c d) e n ∙ (λ i. record v { conn = link_as (sym e i); down = vs })) }
+  passed stage.Crossed c d z e n = absurd cc
 
   at_link : (l : ConnectionPhase) (k : DownOn DownF) → b.link ≡ l → down_frame f ≡ k → J (happens_a asking v DeliverA) → J (received_a asking v (link_as l) k vs)
   at_link l k e n g = subst J (got l k e n) g
@@ -146,8 +150,8 @@ module _ (b : Wire) (f : Frame) (br : Broker) (us : List Left) (ds : List Frame)
 pub gone_dead : (b : Wire) (f : Frame) (br : Broker) (us : List Left) (ds : List Frame) (l : ConnectionPhase) → link_as l ≡ Closed → b.link ≡ l → J (happens_a asking (pair_as b br us (f ∷ ds)) DeliverA) → ⊥
 gone_dead b f br us ds l c e g = shut_dead (pair_as b br us (f ∷ ds)) (down_frame f) (map down_frame ds) (subst (λ s. J (received_a asking (pair_as b br us (f ∷ ds)) s (down_frame f) (map down_frame ds))) (ap link_as e ∙ c) g)
 
-pub cross_dead : (b : Wire) (f : Frame) (br : Broker) (us : List Left) (ds : List Frame) (s : Bool) → b.link ≡ link.Closing s true → (down_frame f ≡ CloseOkD → ⊥) → J (happens_a asking (pair_as b br us (f ∷ ds)) DeliverA) → ⊥
-cross_dead b f br us ds s e n g = crossed_dead (pair_as b br us (f ∷ ds)) (down_frame f) (map down_frame ds) n (subst (λ s. J (received_a asking (pair_as b br us (f ∷ ds)) s (down_frame f) (map down_frame ds))) (ap link_as e) g)
+pub cross_dead : (b : Wire) (f : Frame) (br : Broker) (us : List Left) (ds : List Frame) → b.link ≡ link.Closing stage.Crossed → (down_frame f ≡ CloseOkD → ⊥) → J (happens_a asking (pair_as b br us (f ∷ ds)) DeliverA) → ⊥
+cross_dead b f br us ds e n g = crossed_dead (pair_as b br us (f ∷ ds)) (down_frame f) (map down_frame ds) n (subst (λ s. J (received_a asking (pair_as b br us (f ∷ ds)) s (down_frame f) (map down_frame ds))) (ap link_as e) g)
 
 -- ---- a loss
 
@@ -158,7 +162,7 @@ pub record Loses (b d : Wire) (br : Broker) (us : List Left) (ds : List Frame) :
 pub lost_link : (l : ConnectionPhase) → is_lost l ≡ true → l ≡ link.Lost
 lost_link link.Lost e = refl
 lost_link link.Open e = cc
-lost_link (link.Closing s x) e = cc
+lost_link (link.Closing s) e = cc
 lost_link link.Closed e = cc
 
 lost_broker : (p : Connection) → pair.is_broken (connection_as p) ≡ false → connection_as (connection_after_loss p) ≡ pair.Free

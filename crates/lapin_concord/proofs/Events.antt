@@ -20,6 +20,7 @@ use Rattle.lapin_rules.specs.declared.phases.ChannelPhase.{ChannelPhase}
 use Rattle.lapin_rules.specs.declared.phases.ChannelPhase.TheVariants as phase
 use Rattle.lapin_rules.specs.declared.phases.ConnectionPhase.{ConnectionPhase}
 use Rattle.lapin_rules.specs.declared.phases.ConnectionPhase.TheVariants as link
+use Rattle.lapin_rules.specs.declared.phases.CloseStage.TheVariants as stage
 use Rattle.lapin_rules.specs.declared.broker_frames.ContentPart.TheVariants as part
 use Rattle.lapin_rules.specs.declared.broker_frames.ConsumerPart.TheVariants as consumer
 use Rattle.lapin_rules.specs.declared.broker_frames.Incoming.{Incoming}
@@ -84,7 +85,7 @@ right false y h = cc
 
 up_of : (l : ConnectionPhase) (s : _) → is_open (cond (is_up l) s state.Down) ≡ true → l ≡ link.Open
 up_of link.Open s h = refl
-up_of (link.Closing x y) s h = cc
+up_of (link.Closing x) s h = cc
 up_of link.Closed s h = cc
 up_of link.Lost s h = cc
 
@@ -160,11 +161,8 @@ max_close_ok c (phase.Closing who sent) b = refl
 max_close_ok c phase.Crossed b = refl
 
 max_close : (l : ConnectionPhase) (b : Wire) → (after_connection_close l b).frame_max ≡ b.frame_max
-max_close link.Open b = refl
-max_close (link.Closing true x) b = refl
-max_close (link.Closing false x) b = refl
-max_close link.Closed b = refl
-max_close link.Lost b = refl
+max_close (link.Closing stage.Queued) b = refl
+max_close _ b = refl
 
 max_received : (i : Incoming) (b : Wire) → (after_received i b).frame_max ≡ b.frame_max
 max_received (incoming.Reply c k a) b = refl

@@ -15,6 +15,7 @@ use Rattle.lapin_rules.specs.declared.phases.ChannelPhase.{ChannelPhase}
 use Rattle.lapin_rules.specs.declared.phases.ChannelPhase.TheVariants as phase
 use Rattle.lapin_rules.specs.declared.phases.ConnectionPhase.{ConnectionPhase}
 use Rattle.lapin_rules.specs.declared.phases.ConnectionPhase.TheVariants as link
+use Rattle.lapin_rules.specs.declared.phases.CloseStage.TheVariants as stage
 use Rattle.lapin_rules.specs.Words.{without_first}
 use Rattle.lapin_rules.specs.Phases.{is_up}
 use Rattle.lapin_rules.specs.ChannelClose.{close_sent, phases_sent}
@@ -47,11 +48,8 @@ use Rattle.lapin_concord.proofs.Bodies.{sizes_of, rest_frames, whole_rest, rest_
 -- ---- where the connection and the channels stand
 
 link_kept : (l : ConnectionPhase) → (link_as (link_close_sent l) ≡ link_as l) × (is_up (link_close_sent l) ≡ is_up l)
-link_kept link.Open = (refl, refl)
-link_kept (link.Closing s false) = (refl, refl)
-link_kept (link.Closing s true) = (refl, refl)
-link_kept link.Closed = (refl, refl)
-link_kept link.Lost = (refl, refl)
+link_kept (link.Closing stage.Queued) = (refl, refl)
+link_kept _ = (refl, refl)
 
 link_same : (f : Frame) (l : ConnectionPhase) → Leaves f → (link_as (link_sent f l) ≡ link_as l) × (is_up (link_sent f l) ≡ is_up l)
 link_same f l (Closing c u p k) = (ap link_as (k l), ap is_up (k l))
@@ -196,14 +194,13 @@ linked_gone : (f : Frame) (l : ConnectionPhase) (fs : List (UpOn U2)) → Leaves
 linked_gone f link.Open fs (Closing c u p k) h = subst (λ q. IsLinked q fs) (sym (k link.Open)) tt
 linked_gone f link.Open fs (Hanging u p k) h = subst (λ q. IsLinked q fs) (sym (k link.Open)) tt
 linked_gone f link.Open fs (Going u v p k) h = subst (λ q. IsLinked q fs) (sym (k link.Open)) tt
-linked_gone f (link.Closing false true) fs l h = absurd h
-linked_gone f (link.Closing true false) fs l h = cc
-linked_gone f (link.Closing true true) fs (Closing c u p k) h = subst (λ q. IsLinked q fs) (sym (k (link.Closing true true))) tt
-linked_gone f (link.Closing true true) fs (Hanging u p k) h = subst (λ q. IsLinked q fs) (sym (k (link.Closing true true))) tt
-linked_gone f (link.Closing true true) fs (Going u v p k) h = subst (λ q. IsLinked q fs) (sym (k (link.Closing true true))) tt
-linked_gone f (link.Closing false false) fs (Hanging u p k) h = subst (λ q. IsLinked q fs) (sym (k (link.Closing false false))) (let t : fs ≡ [] = cc in t)
-linked_gone f (link.Closing false false) fs (Closing c u p k) h = let x : up_frame f ≡ CloseU = cc in let y : OnU c (Plain kept.FClose) ≡ CloseU = sym u ∙ x in absurd cc
-linked_gone f (link.Closing false false) fs (Going u v p k) h = let x : up_frame f ≡ CloseU = cc in let y : true ≡ false = ap closes_all (sym x) ∙ v in absurd cc
+linked_gone f (link.Closing stage.Sent) fs l h = cc
+linked_gone f (link.Closing stage.Crossed) fs (Closing c u p k) h = subst (λ q. IsLinked q fs) (sym (k (link.Closing stage.Crossed))) tt
+linked_gone f (link.Closing stage.Crossed) fs (Hanging u p k) h = subst (λ q. IsLinked q fs) (sym (k (link.Closing stage.Crossed))) tt
+linked_gone f (link.Closing stage.Crossed) fs (Going u v p k) h = subst (λ q. IsLinked q fs) (sym (k (link.Closing stage.Crossed))) tt
+linked_gone f (link.Closing stage.Queued) fs (Hanging u p k) h = subst (λ q. IsLinked q fs) (sym (k (link.Closing stage.Queued))) (let t : fs ≡ [] = cc in t)
+linked_gone f (link.Closing stage.Queued) fs (Closing c u p k) h = let x : up_frame f ≡ CloseU = cc in let y : OnU c (Plain kept.FClose) ≡ CloseU = sym u ∙ x in absurd cc
+linked_gone f (link.Closing stage.Queued) fs (Going u v p k) h = let x : up_frame f ≡ CloseU = cc in let y : true ≡ false = ap closes_all (sym x) ∙ v in absurd cc
 linked_gone f link.Closed fs (Closing c u p k) h = subst (λ q. IsLinked q fs) (sym (k link.Closed)) tt
 linked_gone f link.Closed fs (Hanging u p k) h = subst (λ q. IsLinked q fs) (sym (k link.Closed)) tt
 linked_gone f link.Closed fs (Going u v p k) h = subst (λ q. IsLinked q fs) (sym (k link.Closed)) tt
@@ -211,7 +208,7 @@ linked_gone f link.Lost fs l h = cc
 
 pub up_open : (l : ConnectionPhase) → is_up l ≡ true → l ≡ link.Open
 up_open link.Open h = refl
-up_open (link.Closing s x) h = cc
+up_open (link.Closing s) h = cc
 up_open link.Closed h = cc
 up_open link.Lost h = cc
 

@@ -18,6 +18,7 @@ use Rattle.lapin_rules.specs.declared.phases.ChannelPhase.{ChannelPhase}
 use Rattle.lapin_rules.specs.declared.phases.ChannelPhase.TheVariants as phase
 use Rattle.lapin_rules.specs.declared.phases.ConnectionPhase.{ConnectionPhase}
 use Rattle.lapin_rules.specs.declared.phases.ConnectionPhase.TheVariants as link
+use Rattle.lapin_rules.specs.declared.phases.CloseStage.TheVariants as stage
 use Rattle.lapin_rules.specs.ChannelClose.{close_ok_end}
 use Rattle.lapin_rules.specs.ConfirmMarks.{ConfirmMark}
 use Rattle.lapin_rules.specs.ConfirmMarks as mark
@@ -181,11 +182,8 @@ part_beside c p b = by_whole (whole_on c p b)
     by_whole (Some w) = by_start w.start w
 
 not_open : (l : ConnectionPhase) → is_up l ≡ false → link_as l ≡ Opened → ⊥
-not_open link.Open y z = cc
-not_open (link.Closing x true) y z = cc
-not_open (link.Closing x false) y z = cc
-not_open link.Closed y z = cc
-not_open link.Lost y z = cc
+not_open (link.Closing stage.Queued) y z = cc
+not_open _ y z = cc
 
 module _ (t : All tagging) (b : Wire) (br : Broker) (us : List Left) (f : Frame) (ds : List Frame) (ms : List ConfirmMark) (e : bare t ≡ pair_as b br us (f ∷ ds)) (held : Held b) (h : AreNoted t ms) where
   abbrev vs : List (DownOn DownF)

@@ -11,6 +11,7 @@ use Rattle.lapin_rules.specs.declared.phases.ChannelPhase.{ChannelPhase}
 use Rattle.lapin_rules.specs.declared.phases.ChannelPhase.TheVariants as phase
 use Rattle.lapin_rules.specs.declared.phases.ConnectionPhase.{ConnectionPhase}
 use Rattle.lapin_rules.specs.declared.phases.ConnectionPhase.TheVariants as link
+use Rattle.lapin_rules.specs.declared.phases.CloseStage.TheVariants as stage
 use Rattle.lapin_rules.specs.Words.{is_some}
 use Rattle.lapin_rules.specs.Phases.{phase_in, is_up}
 use Rattle.lapin_rules.specs.Requests.{first_request}
@@ -44,9 +45,8 @@ IsMarked _ us = has_close (way us) ≡ false
 
 -- the same of the connection
 abbrev pub IsLinked : ConnectionPhase → List (UpOn U2) → Type 0
-IsLinked (link.Closing false false) fs = fs ≡ CloseU ∷ []
-IsLinked (link.Closing false true) fs = ⊥
-IsLinked (link.Closing true false) fs = fs ≡ []
+IsLinked (link.Closing stage.Queued) fs = fs ≡ CloseU ∷ []
+IsLinked (link.Closing stage.Sent) fs = fs ≡ []
 IsLinked link.Lost fs = fs ≡ []
 IsLinked _ fs = Unit {0}
 

@@ -14,6 +14,7 @@ use Rattle.lapin_rules.specs.declared.phases.ChannelPhase.{ChannelPhase}
 use Rattle.lapin_rules.specs.declared.phases.ChannelPhase.TheVariants as phase
 use Rattle.lapin_rules.specs.declared.phases.ConnectionPhase.{ConnectionPhase}
 use Rattle.lapin_rules.specs.declared.phases.ConnectionPhase.TheVariants as link
+use Rattle.lapin_rules.specs.declared.phases.CloseStage.TheVariants as stage
 use Rattle.lapin_rules.specs.Phases.{phase_in, is_up}
 use Rattle.lapin_rules.specs.Requests.{requests_in}
 use Rattle.lapin_rules.specs.Frames.{MethodEntry, RestEntry}
@@ -37,8 +38,8 @@ phase_as phase.Crossed = Crossed
 -- where the connection stands
 abbrev pub link_as : ConnectionPhase → Sess
 link_as link.Open = Opened
-link_as (link.Closing sent false) = Closing
-link_as (link.Closing sent true) = Crossed
+link_as (link.Closing stage.Crossed) = Crossed
+link_as (link.Closing s) = Closing
 link_as link.Closed = Closed
 link_as link.Lost = Closed
 

@@ -10,15 +10,17 @@ use Rattle.std.proofs.lemmas.Option.{slice_get_read}
 use Rattle.lapin_types.specs.declared.job.Job.{Job}
 use Rattle.lapin_types.specs.Types.{Error}
 use Rattle.lapin_tables.proofs.Lists.{get-set_same, get-set_other}
-use Rattle.lapin_consumer.specs.Words.{map_at, gather_at, places_at, on_place}
+use Rattle.lapin_consumer.specs.Words.{map_at, gather_at, places_at, on_place, without_first}
 use Rattle.lapin_consumer.specs.Marks as mark
-use Rattle.lapin_consumer.specs.Indexed.{Seated, Line, Indexed, NamesNobody, EndsFit, places_in, tagged_in, without_place}
+use Rattle.lapin_consumer.specs.Indexed.{Seated, Line, Indexed, NamesNobody, Lists, EndsFit, places_in, tagged_in}
 use Rattle.lapin_consumer.specs.WithRoom.{WithRoom, Reserved}
 use Rattle.lapin_tables.specs.ByChannel.{at_channel}
 use Rattle.lapin_consumer.specs.Subscriptions.{Handed, Consumer, is_on, is_marked, handed, offered, canceled, last_words, first_place, moved, owed, is_under, place_under, Subscriptions, after_mark}
 use Rattle.lapin_consumer.proofs.Places.{tested, at_where, given_where, map_at-none, gather-none, get-map, map-set, places-map_at, get-map_at}
 use Rattle.lapin_consumer.proofs.Found.{Placed, first_placed, unplaced, get-within, after-suc, first-map}
-use Rattle.lapin_consumer.proofs.Leaving.{Ends, lists_left, suc_eqb, elsewhere, under_on}
+use Rattle.lapin_consumer.proofs.Leaving.{places-off, elsewhere, under_on}
+use Rattle.lapin_consumer.proofs.Lines.{each}
+use Rattle.lapin_consumer.proofs.Rising.{those_all, exact_lists, lists_moved}
 use Rattle.lapin_consumer.proofs.Indices.{Was, was, handed_post}
 use Rattle.lapin_consumer.proofs.Under.{none-placed}
 use Rattle.lapin_consumer.proofs.Single.{placed, same_subscriptions, untouched}
@@ -72,9 +74,6 @@ consumers_of seats = map (λ s. s.consumer) seats
 abbrev pub ended : Option Error → Consumer → Consumer
 ended e x = canceled (handed (last_words e) x)
 
-ends_ended : (e : Option Error) → Ends (ended e)
-ends_ended e = record { off = λ x. refl }
-
 -- what is known before the seat at a place, the next one of the channel's, is served
 pub record Next (c p : ℕ) (rest : List ℕ) (s : Seated) (seats : List Seated) : Type 0 where
   pub there : slice_get (consumers_of seats) p ≡ Some s.consumer
@@ -95,8 +94,8 @@ next c p rest s seats left within is =
 pub step_left : (c p : ℕ) (rest : List ℕ) (e : Option Error) (s t : Seated) (seats : List Seated) → Next c p rest s seats → places_at (λ _ x. is_on c x) (consumers_of seats) ≡ p ∷ rest → p < length seats → s ≡ get_or seats p s → t.consumer ≡ ended e s.consumer → places_at (λ _ x. is_on c x) (consumers_of (slice_set seats p t)) ≡ rest
 step_left c p rest e s t seats n left within is became =
     ap (places_at (λ _ x. is_on c x)) (placed (ended e) p s t seats within is became)
-    ∙ lists_left (ended e) c p s.consumer (consumers_of seats) (ends_ended e) n.there n.on
-    ∙ ap (without_place (Some p)) left
+    ∙ places-off (is_on c) (ended e) p s.consumer (consumers_of seats) n.there n.on refl
+    ∙ ap (without_first (λ k. k == p)) left
     ∙ rw (eq-eqb p p refl) refl
 
 pub step_consumers : (c p : ℕ) (rest : List ℕ) (e : Option Error) (s t : Seated) (seats : List Seated) (all : List Consumer) → Next c p rest s seats → p < length seats → s ≡ get_or seats p s → t.consumer ≡ ended e s.consumer → map_at (moved (mark.Ended c e)) (consumers_of seats) ≡ all → map_at (moved (mark.Ended c e)) (consumers_of (slice_set seats p t)) ≡ all
@@ -170,23 +169,11 @@ next_room c p rest s seats n within is fit = fit p s (slice_get_read seats (leng
 abbrev pub Fitted : ℕ → List ℕ → List Seated → Type 0
 Fitted c later seats = (p : ℕ) (s : Seated) → slice_get seats p ≡ Some s → is_on c s.consumer ≡ true → (3 ≤ s.spare) ⊎ (list_any (λ k. k == p) later ≡ true)
 
-member-suc : (p : ℕ) (ps : List ℕ) → list_any (λ k. k == suc p) (map suc ps) ≡ list_any (λ k. k == p) ps
-member-suc p [] = refl
-member-suc p (k ∷ ps) = rw (suc_eqb k p, member-suc p ps) refl
-
-member : (q : Consumer → Bool) (p : ℕ) (x : Consumer) (xs : List Consumer) → slice_get xs p ≡ Some x → q x ≡ true → list_any (λ k. k == p) (places_at (λ _ y. q y) xs) ≡ true
-member q p x [] there on = cc
-member q zero x (y ∷ ys) there on = let e : y ≡ x = cc in rw (e, on) refl
-member q (suc p) x (y ∷ ys) there on =
-    let later : list_any (λ k. k == suc p) (map suc (places_at (λ _ z. q z) ys)) ≡ true = member-suc p (places_at (λ _ z. q z) ys) ∙ member q p x ys there on in
-    let apart : (0 == suc p) ≡ false = ne_eqb 0 (suc p) (λ e. absurd (omega arith)) in
-    tested (q y) (λ yes. rw (yes, apart) later) (λ off. rw off later)
-
 pub seat_consumer : (p : ℕ) (s : Seated) (seats : List Seated) → slice_get seats p ≡ Some s → slice_get (consumers_of seats) p ≡ Some s.consumer
 seat_consumer p s seats at = get-map (λ (u : Seated). u.consumer) p seats ∙ ap (option_map (λ (u : Seated). u.consumer)) at
 
 pub fitted_first : (c : ℕ) (places : List ℕ) (seats : List Seated) → places_at (λ _ x. is_on c x) (consumers_of seats) ≡ places → Fitted c places seats
-fitted_first c places seats e p s at on = inr (ap (list_any (λ k. k == p)) (sym e) ∙ member (is_on c) p s.consumer (consumers_of seats) (seat_consumer p s seats at) on)
+fitted_first c places seats e p s at on = inr (ap (list_any (λ k. k == p)) (sym e) ∙ those_all (is_on c) p s.consumer (consumers_of seats) (seat_consumer p s seats at) on)
 
 pub fitted_next : (c p : ℕ) (later rest : List ℕ) (s t : Seated) (seats : List Seated) → later ≡ p ∷ rest → p < length seats → s ≡ get_or seats p s → t.consumer ≡ s.consumer → 3 ≤ t.spare → Fitted c later seats → Fitted c rest (slice_set seats p t)
 fitted_next c p later rest s t seats split within is same room fit k u at on =
@@ -296,19 +283,12 @@ pub ended_index : (c : ℕ) (e : Option Error) (before after : List (ℕ × Line
 ended_index c e before after old new index is none here others =
     let xs : new.consumers ≡ map_at (moved (mark.Ended c e)) old.consumers = ap (λ (r : Subscriptions). r.consumers) is in
     record {
-      lists = λ d. elim (eqb_tells c d) [
-        | inl same ↦
-            let Q : ℕ → Type 0 = λ k. places_in (at_channel k after) ≡ places_at (λ _ x. is_on k x) new.consumers in
-            subst Q same.1 (here.places ∙ sym none)
-        | inr other ↦ ap places_in (others d other.1) ∙ index.lists d ∙ sym (ap (places_at (λ _ x. is_on d x)) xs ∙ places-map_at (λ _ x. is_on d x) (λ _ x. is_on d x) (moved (mark.Ended c e)) old.consumers (λ i x. ended_off c d e i x other.1))
-      ];
-      tags = λ d t. elim (eqb_tells c d) [
-        | inl same ↦
-            let Q : ℕ → Type 0 = λ k. tagged_in t (at_channel k after) ≡ place_under k t new.consumers in
-            let left : places_at (λ _ x. is_under c t x) new.consumers ≡ [] = none-placed (is_under c t) new.consumers (λ i x at u. unplaced (λ _ y. is_on c y) new.consumers (ap first_place none) i x at (under_on c t x u)) in
-            subst Q same.1 (here.tags t ∙ sym (ap first_place left))
-        | inr other ↦ ap (tagged_in t) (others d other.1) ∙ index.tags d t ∙ sym (ap (place_under d t) xs ∙ ap first_place (places-map_at (λ _ x. is_under d t x) (λ _ x. is_under d t x) (moved (mark.Ended c e)) old.consumers (λ i x. ended_apart c d t e i x other.1)))
-      ];
+      lists = each c (λ k. Lists k new.consumers (places_in (at_channel k after))) (exact_lists c new.consumers (places_in (at_channel c after)) (here.places ∙ sym none)) (λ d apart.
+          subst (λ o. Lists d new.consumers (places_in o)) (sym (others d apart)) (subst (λ ys. Lists d ys (places_in (at_channel d before))) (sym xs) (lists_moved (moved (mark.Ended c e)) d old.consumers (places_in (at_channel d before)) (λ i x on. sym (ended_off c d e i x apart) ∙ on) (index.lists d))));
+      tags = λ d t.
+          let left : places_at (λ _ x. is_under c t x) new.consumers ≡ [] = none-placed (is_under c t) new.consumers (λ i x at u. unplaced (λ _ y. is_on c y) new.consumers (ap first_place none) i x at (under_on c t x u)) in
+          each c (λ k. tagged_in t (at_channel k after) ≡ place_under k t new.consumers) (here.tags t ∙ sym (ap first_place left)) (λ k apart.
+          ap (tagged_in t) (others k apart) ∙ index.tags k t ∙ sym (ap (place_under k t) xs ∙ ap first_place (places-map_at (λ _ x. is_under k t x) (λ _ x. is_under k t x) (moved (mark.Ended c e)) old.consumers (λ i x. ended_apart c k t e i x apart)))) d;
       alone = λ d t i j x y at_i at_j ux uy.
           let wx : Was (moved (mark.Ended c e) i) (slice_get old.consumers i) x = was (moved (mark.Ended c e) i) (slice_get old.consumers i) x (sym (get-map_at (moved (mark.Ended c e)) i old.consumers) ∙ ap (λ zs. slice_get zs i) (sym xs) ∙ at_i) in
           let wy : Was (moved (mark.Ended c e) j) (slice_get old.consumers j) y = was (moved (mark.Ended c e) j) (slice_get old.consumers j) y (sym (get-map_at (moved (mark.Ended c e)) j old.consumers) ∙ ap (λ zs. slice_get zs j) (sym xs) ∙ at_j) in

@@ -6,7 +6,6 @@ use Rattle.std.proofs.lemmas.Bool.{eqb-true}
 use Rattle.std.proofs.lemmas.Bool.Decides.{eqb_tells}
 use Rattle.lapin_consumer.specs.Words.{without_first}
 use Rattle.lapin_consumer.specs.Words.{places_at, on_place}
-use Rattle.lapin_consumer.specs.Indexed.{without_place}
 use Rattle.lapin_consumer.specs.Subscriptions.{Consumer, is_on, is_under, newcomer}
 use Rattle.lapin_consumer.proofs.Places.{tested}
 
@@ -103,17 +102,6 @@ on_channel c x h = (first x.registered (x.channel == c) h, eqb-true x.channel c 
     second : (a b : Bool) → a && b ≡ true → b ≡ true
     second true b h = h
     second false b h = cc
-
--- the lists of places after one of channel c left
-pub lists_left : (f : Consumer → Consumer) (c p : ℕ) (x : Consumer) (xs : List Consumer) → Ends f → slice_get xs p ≡ Some x → is_on c x ≡ true → places_at (λ _ y. is_on c y) (on_place f p xs) ≡ without_place (Some p) (places_at (λ _ y. is_on c y) xs)
-lists_left f c p x xs ends there on = places-off (is_on c) f p x xs there on (unlisted c (f x) (ends.off x))
-
-pub lists_other : (f : Consumer → Consumer) (c d p : ℕ) (x : Consumer) (xs : List Consumer) → Ends f → slice_get xs p ≡ Some x → is_on c x ≡ true → c ≢ d → places_at (λ _ y. is_on d y) (on_place f p xs) ≡ places_at (λ _ y. is_on d y) xs
-lists_other f c d p x xs ends there on apart =
-    let at : x.channel ≡ c = (on_channel c x on).1 in
-    let away : (x.channel == d) ≡ false = ne_eqb x.channel d (λ e. apart (sym at ∙ e)) in
-    let not : is_on d x ≡ false = rw ((on_channel c x on).0, away) refl in
-    places-kept (is_on d) f p x xs there (unlisted d (f x) (ends.off x) ∙ sym not)
 
 pub alone_left : (f : Consumer → Consumer) (p : ℕ) (xs : List Consumer) → Ends f → Alone xs → Alone (on_place f p xs)
 alone_left f p xs ends alone c t i j x y at_i at_j ux uy =

@@ -1,10 +1,9 @@
 -- How the index by channel and the seats hang together. No public clause cites this module.
-use Rattle.std.specs.Prelude.{◌≡◌, ℕ, suc, ◌<◌, ◌≤◌, ◌==◌, Bool, true, if◌then◌else◌, List, [], ◌∷◌, ◌++◌, Option, Some, None, map, slice_get, String, string_bytes}
-use Rattle.std.specs.List.{count_by}
+use Rattle.std.specs.Prelude.{◌≡◌, ℕ, suc, ◌<◌, ◌≤◌, ◌==◌, Bool, true, false, if◌then◌else◌, List, [], ◌∷◌, ◌++◌, Option, Some, None, map, length, slice_get, String, string_bytes}
+use Rattle.std.specs.List.{count_by, list_any}
 use Rattle.std.specs.Map.{lookup}
 use Rattle.std.specs.Str.{bytes_eq}
 use Rattle.lapin_tables.specs.ByChannel.{at_channel}
-use Rattle.lapin_consumer.specs.Words.{places_at, without_first}
 use Rattle.lapin_consumer.specs.Subscriptions.{Consumer, is_on, is_under, place_under}
 use Rattle.lapin_consumer.specs.WithRoom.{Reserved}
 
@@ -30,8 +29,8 @@ count_promised bs = count_by (λ b. b) bs
 abbrev pub by_text : {Y : Type 0} → List (String Y × ℕ) → List (List ℕ × ℕ)
 by_text es = map (λ e. (string_bytes e.0, e.1)) es
 
--- the places of a channel's registered consumers, rising, and each under its consumer's tag; and for how many more there is room in
--- each of the two
+-- the places of a channel's registered consumers and of some that left, rising; the place of each registered one under its tag; and for
+-- how many more there is room in each of the two
 pub record Line : Type 0 where
   pub places : List ℕ
   pub tags : List (List ℕ × ℕ)
@@ -53,11 +52,6 @@ abbrev pub HasLineRoom : Option Line → Type 0
 HasLineRoom None = ⊥
 HasLineRoom (Some l) = (0 < l.place_spare) × (0 < l.tag_spare)
 
--- the places without one that left, if any did
-abbrev pub without_place : Option ℕ → List ℕ → List ℕ
-without_place None ps = ps
-without_place (Some p) ps = without_first (λ q. q == p) ps
-
 -- the second line names what the first does
 pub record NamesSame (l w : Option Line) : Type 0 where
   pub places : places_in w ≡ places_in l
@@ -68,24 +62,38 @@ pub record NamesNobody (l : Option Line) : Type 0 where
   pub places : places_in l ≡ []
   pub tags : (t : List ℕ) → tagged_in t l ≡ None
 
--- the second line is the first without p, which was under the tag t
-pub record HasLeft (p : ℕ) (t : List ℕ) (l w : Option Line) : Type 0 where
-  pub places : places_in w ≡ without_place (Some p) (places_in l)
+-- the second line is the first without the tag t
+pub record HasLeft (t : List ℕ) (l w : Option Line) : Type 0 where
+  pub places : places_in w ≡ places_in l
   pub tags : (u : List ℕ) → tagged_in u w ≡ (if bytes_eq t u then None else tagged_in u l)
 
--- the second line is the first with p above the others, under the tag t, and without the one that was under it
-pub record HasJoined (gone : Option ℕ) (p : ℕ) (t : List ℕ) (l w : Option Line) : Type 0 where
-  pub places : places_in w ≡ without_place gone (places_in l) ++ p ∷ []
+-- the second line is the first with p above the others, under the tag t
+pub record HasJoined (p : ℕ) (t : List ℕ) (l w : Option Line) : Type 0 where
+  pub places : places_in w ≡ places_in l ++ p ∷ []
   pub tags : (u : List ℕ) → tagged_in u w ≡ (if bytes_eq t u then Some p else tagged_in u l)
 
--- the places rise, from n on
-abbrev pub RiseFrom : ℕ → List ℕ → Type 0
-RiseFrom n [] = Unit {0}
-RiseFrom n (p ∷ ps) = (n ≤ p) × RiseFrom (suc p) ps
+-- the places rise from n on, and stay below m
+abbrev pub RiseBetween : ℕ → ℕ → List ℕ → Type 0
+RiseBetween n m [] = n ≤ m
+RiseBetween n m (p ∷ ps) = (n ≤ p) × RiseBetween (suc p) m ps
 
--- Each channel's line names exactly its registered consumers, each under its tag, and no two are registered under one tag.
+-- the place is one of them
+abbrev pub is_among : ℕ → List ℕ → Bool
+is_among p ps = list_any (λ k. k == p) ps
+
+-- there is a consumer, and it is registered on the channel
+abbrev pub stays_on : ℕ → Option Consumer → Bool
+stays_on c None = false
+stays_on c (Some x) = is_on c x
+
+-- the places rise, and those of the channel's registered consumers are among them; any other one's consumer left
+pub record Lists (c : ℕ) (xs : List Consumer) (ps : List ℕ) : Type 0 where
+  pub rise : RiseBetween 0 (length xs) ps
+  pub all : (p : ℕ) (x : Consumer) → slice_get xs p ≡ Some x → is_on c x ≡ true → is_among p ps ≡ true
+
+-- Each channel's line lists its registered consumers, and has exactly these under their tags; no two are registered under one tag.
 pub record Indexed (lines : List (ℕ × Line)) (xs : List Consumer) : Type 0 where
-  pub lists : (c : ℕ) → places_in (at_channel c lines) ≡ places_at (λ _ x. is_on c x) xs
+  pub lists : (c : ℕ) → Lists c xs (places_in (at_channel c lines))
   pub tags : (c : ℕ) (t : List ℕ) → tagged_in t (at_channel c lines) ≡ place_under c t xs
   pub alone : (c : ℕ) (t : List ℕ) (i j : ℕ) (x y : Consumer) → slice_get xs i ≡ Some x → slice_get xs j ≡ Some y → is_under c t x ≡ true → is_under c t y ≡ true → i ≡ j
 

@@ -13,7 +13,7 @@ ghost use Rattle.lapin_consumer.specs.WithRoom.{HasRoom, HasEnds, KeepsRoom, Kee
 ghost use Rattle.std.specs.Option.{option_copied, option_map};
 
 use crate::hall::Hall;
-use crate::line::{Line, clear, join, leave, make_line_room};
+use crate::line::{Line, clear, join, leave, make_line_room, thin};
 use crate::serving::let_go;
 use lapin_acker::Switches;
 use lapin_tables::ByChannel;
@@ -98,7 +98,8 @@ impl Consumers {
             return Err(Error::NoMemory);
         }
         self.hall.unregister(gone);
-        join(&mut self.lines, channel, gone, place, key);
+        join(&mut self.lines, channel, place, key);
+        thin(&mut self.lines, channel, &self.hall);
         Ok(place as u64 + 1)
     }
 
@@ -207,7 +208,8 @@ impl Consumers {
         let number = self.hall.number(place);
         self.hall.reserve(number)?;
         self.hall.finish(place);
-        leave(&mut self.lines, channel, place, tag);
+        leave(&mut self.lines, channel, tag);
+        thin(&mut self.lines, channel, &self.hall);
         Ok(())
     }
 
@@ -228,9 +230,10 @@ impl Consumers {
         ensures same { OnErr result (switches.new.switches ≡ switches.old.switches) }
         ensures kept { KeepsRoom self.old self.new }
     {
-        let Some(line) = self.lines.get(channel) else {
+        let Some(line) = self.lines.get_mut(channel) else {
             return Ok(());
         };
+        line.sweep(channel, &self.hall);
         self.hall.void(channel, line.as_slice(), switches)
     }
 
@@ -239,7 +242,8 @@ impl Consumers {
         ensures change { self.new.subscriptions ≡ after_mark self.old.subscriptions (mark.CloseAsked channel) }
         ensures kept { KeepsRoom self.old self.new }
     {
-        if let Some(line) = self.lines.get(channel) {
+        if let Some(line) = self.lines.get_mut(channel) {
+            line.sweep(channel, &self.hall);
             self.hall.start_cancels(channel, line.as_slice());
         }
     }
@@ -292,9 +296,10 @@ impl Consumers {
         ensures room { HasEnds self.old → IsOk result × HasEnds self.new }
         ensures kept { KeepsRoom self.old self.new }
     {
-        let Some(line) = self.lines.get(channel) else {
+        let Some(line) = self.lines.get_mut(channel) else {
             return Ok(());
         };
+        line.sweep(channel, &self.hall);
         self.hall.end(channel, line.as_slice(), error)?;
         clear(&mut self.lines, channel);
         Ok(())

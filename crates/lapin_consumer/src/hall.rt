@@ -1,5 +1,5 @@
 //! The seats of all consumers and the jobs of their delegates. Who is registered under which tag is looked up elsewhere:
-//! `consumers` alone calls this file.
+//! `consumers` alone calls this file, and `line` asks it who left.
 
 ghost use Rattle.std.specs.Prelude.{◌≡◌, ℕ, ◌+◌, ◌-◌, ◌<◌, ◌^◌, ◌↔◌, ◌⊎◌, ◌≤◌, suc, ◌++◌, ◌∷◌, [], true, IsTrue, Some, None, Ok, Err, OnOk, OnErr, IsOk, IfOk, IfErr, IfSome, IfNone, length, slice_get};
 ghost use Rattle.lapin_consumer.specs.Subscriptions.{empty_subscriptions, after_mark, is_registered, consumer_at, answered, let_go_answer, newcomer, unregistered, canceling, finished, offered, last_words, is_on, is_ready};
@@ -8,6 +8,7 @@ ghost use Rattle.std.specs.Option.{option_copied, option_map};
 ghost use Rattle.lapin_consumer.specs.Marks as mark;
 ghost use Rattle.lapin_acker.specs.Switches.{voided};
 ghost use Rattle.lapin_consumer.specs.Ackers.{ackers_on};
+ghost use Rattle.lapin_consumer.specs.Indexed.{stays_on};
 ghost use Rattle.lapin_consumer.specs.WithRoom.{HasRoom, HasEnds, KeepsRoom, KeepsOthers};
 
 use crate::seat::Seat;
@@ -86,6 +87,16 @@ impl Hall {
     {
         let _ = self.seats.len();
         place as u64 + 1
+    }
+
+    /// Whether the consumer at a place is registered on a channel.
+    pub(crate) fn is_on(&self, channel: u16, place: usize) -> bool
+        ensures { result ≡ stays_on channel (slice_get self.now.subscriptions.consumers place) }
+    {
+        match self.seats.get(place) {
+            Some(seat) => seat.is_registered() && seat.channel() == channel,
+            None => false,
+        }
     }
 
     /// Adds a consumer that was just registered.

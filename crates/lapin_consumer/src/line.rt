@@ -1,11 +1,15 @@
 //! The registered consumers of one channel: their places as they rise, and the place of each under its tag.
 //!
-//! The tags are hashed: one is found, joins and leaves in the same time, however many consumers the channel has.
+//! The tags are hashed: one is found, joins and leaves in the same time, however many consumers the channel has. A place outlives its
+//! consumer's registration: the places of those that left are dropped together, once they are more than the others or all are walked.
 
-ghost use Rattle.std.specs.Prelude.{◌≡◌, ◌<◌, ◌≤◌, OnOk, [], None, Some, ◌≢◌, ℕ, string_bytes};
+ghost use Rattle.std.specs.Prelude.{◌≡◌, OnOk, [], Some, ◌≢◌, ℕ, string_bytes};
 ghost use Rattle.lapin_tables.specs.ByChannel.{at_channel};
-ghost use Rattle.lapin_consumer.specs.Indexed.{places_in, tagged_in, without_place, HasLineRoom, HasJoined, HasLeft, NamesSame, NamesNobody, RiseFrom};
+ghost use Rattle.lapin_consumer.specs.Indexed.{tagged_in, HasLineRoom, HasJoined, HasLeft, NamesSame, NamesNobody, Lists, Indexed};
+ghost use Rattle.lapin_consumer.specs.Subscriptions.{is_on};
+ghost use Rattle.lapin_consumer.specs.Words.{places_at};
 
+use crate::hall::Hall;
 use lapin_tables::ByChannel;
 use std::alloc::{AllocError, Global};
 use std::collections::HashMap;
@@ -14,7 +18,7 @@ use std::marker::Model;
 /// The places of a channel's registered consumers, twice. Contracts see them, and the room beside them.
 #[derive(Drop)]
 pub(crate) struct Line {
-    // Rising.
+    // Rising, with some of consumers that left.
     places: Vec<usize>,
     // Each under its consumer's tag.
     tags: HashMap<String, usize>,
@@ -69,39 +73,41 @@ impl Line {
         self.tags.reserve(1)
     }
 
-    // Takes a place out of those that rise, if one is named.
-    fn remove_place(&mut self, gone: Option<usize>)
-        requires { RiseFrom 0 self.old.places }
-        ensures places { self.new.places ≡ without_place gone self.old.places }
-        ensures tags { self.new.tags ≡ self.old.tags }
-        ensures kept { (self.old.place_spare ≤ self.new.place_spare) × (self.new.tag_spare ≡ self.old.tag_spare) }
+    /// Takes out a tag. The place that was under it is dropped later.
+    fn leave(&mut self, tag: &str)
+        ensures { HasLeft tag.now (Some self.old) (Some self.new) }
     {
-        let Some(place) = gone else {
-            return;
-        };
-        if let Ok(at) = self.places.binary_search(&place) {
-            let _ = self.places.remove(at);
-        }
-    }
-
-    /// Takes out a place and its tag.
-    fn leave(&mut self, place: usize, tag: &str)
-        requires { RiseFrom 0 self.old.places }
-        ensures { HasLeft place tag.now (Some self.old) (Some self.new) }
-    {
-        self.remove_place(Some(place));
         let _ = self.tags.remove(tag);
     }
 
-    /// Adds a place above the others, under a tag. The one that was under it leaves, which is named.
-    fn join(&mut self, gone: Option<usize>, place: usize, tag: String)
-        requires room { HasLineRoom (Some self.old) }
-        requires rising { RiseFrom 0 self.old.places }
-        ensures { HasJoined gone place (string_bytes tag) (Some self.old) (Some self.new) }
+    /// Adds a place above the others, under a tag, also where another one was under it.
+    fn join(&mut self, place: usize, tag: String)
+        requires { HasLineRoom (Some self.old) }
+        ensures { HasJoined place (string_bytes tag) (Some self.old) (Some self.new) }
     {
-        self.remove_place(gone);
         self.places.push_reserved(place);
         let _ = self.tags.insert(tag, place);
+    }
+
+    /// Drops the places of the channel's consumers that left.
+    pub(crate) fn sweep(&mut self, channel: u16, hall: &Hall)
+        requires { Lists channel hall.now.subscriptions.consumers self.old.places }
+        ensures places { self.new.places ≡ places_at (λ _ x. is_on channel x) hall.now.subscriptions.consumers }
+        ensures tags { self.new.tags ≡ self.old.tags }
+    {
+        self.places.retain(|place| hall.is_on(channel, *place));
+    }
+
+    /// Drops the places of the channel's consumers that left, once they are more than the others. So a leaving costs the same however
+    /// many stay.
+    fn thin(&mut self, channel: u16, hall: &Hall)
+        requires { Lists channel hall.now.subscriptions.consumers self.old.places }
+        ensures places { Lists channel hall.now.subscriptions.consumers self.new.places }
+        ensures tags { self.new.tags ≡ self.old.tags }
+    {
+        if self.places.len() / 2 > self.tags.len() {
+            self.sweep(channel, hall);
+        }
     }
 
     pub(crate) fn clear(&mut self)
@@ -130,35 +136,38 @@ pub(crate) fn make_line_room(
     line.reserve()
 }
 
-/// A consumer joins its channel's line under its tag, above the others. The one that was under that tag leaves, which is named.
-pub(crate) fn join(
-    lines: &mut ByChannel<Line>,
-    channel: u16,
-    gone: Option<usize>,
-    place: usize,
-    tag: String,
-)
-    requires room { HasLineRoom (at_channel channel lines.old.entries) }
-    requires rising { RiseFrom 0 (places_in (at_channel channel lines.old.entries)) }
-    ensures here { HasJoined gone place (string_bytes tag) (at_channel channel lines.old.entries) (at_channel channel lines.new.entries) }
+/// A consumer joins its channel's line under its tag, above the others.
+pub(crate) fn join(lines: &mut ByChannel<Line>, channel: u16, place: usize, tag: String)
+    requires { HasLineRoom (at_channel channel lines.old.entries) }
+    ensures here { HasJoined place (string_bytes tag) (at_channel channel lines.old.entries) (at_channel channel lines.new.entries) }
     ensures others { (c : ℕ) → channel ≢ c → at_channel c lines.new.entries ≡ at_channel c lines.old.entries }
 {
     let Some(line) = lines.get_mut(channel) else {
         unreachable!()
     };
-    line.join(gone, place, tag);
+    line.join(place, tag);
 }
 
-/// A consumer leaves its channel's line, where it is under a tag.
-pub(crate) fn leave(lines: &mut ByChannel<Line>, channel: u16, place: usize, tag: &str)
-    requires { RiseFrom 0 (places_in (at_channel channel lines.old.entries)) }
-    ensures here { HasLeft place tag.now (at_channel channel lines.old.entries) (at_channel channel lines.new.entries) }
+/// The consumer under a tag leaves its channel's line.
+pub(crate) fn leave(lines: &mut ByChannel<Line>, channel: u16, tag: &str)
+    ensures here { HasLeft tag.now (at_channel channel lines.old.entries) (at_channel channel lines.new.entries) }
     ensures others { (c : ℕ) → channel ≢ c → at_channel c lines.new.entries ≡ at_channel c lines.old.entries }
 {
     let Some(line) = lines.get_mut(channel) else {
         return;
     };
-    line.leave(place, tag);
+    line.leave(tag);
+}
+
+/// Drops the places of a channel's consumers that left, once they are more than the others.
+pub(crate) fn thin(lines: &mut ByChannel<Line>, channel: u16, hall: &Hall)
+    requires { Indexed lines.old.entries hall.now.subscriptions.consumers }
+    ensures { Indexed lines.new.entries hall.now.subscriptions.consumers }
+{
+    let Some(line) = lines.get_mut(channel) else {
+        return;
+    };
+    line.thin(channel, hall);
 }
 
 /// No consumer of a channel is listed any more.

@@ -26,6 +26,7 @@ use Rattle.lapin_rules.specs.declared.phases.ChannelPhase.{ChannelPhase}
 use Rattle.lapin_rules.specs.declared.phases.ChannelPhase.TheVariants as phase
 use Rattle.lapin_rules.specs.declared.phases.ConnectionPhase.{ConnectionPhase}
 use Rattle.lapin_rules.specs.declared.phases.ConnectionPhase.TheVariants as link
+use Rattle.lapin_rules.specs.declared.phases.CloseStage.TheVariants as stage
 use Rattle.lapin_rules.specs.declared.phases.Closer.TheVariants as closer
 use Rattle.lapin_rules.specs.ConfirmMarks.{ConfirmMark}
 use Rattle.lapin_rules.specs.Words.{with_channel, is_some}
@@ -57,7 +58,7 @@ Hears b i r = Effect b (incoming_wire i r b) (incoming_marks i r b) []
 
 up_open : (l : ConnectionPhase) → is_up l ≡ true → l ≡ link.Open
 up_open link.Open h = refl
-up_open (link.Closing s x) h = cc
+up_open (link.Closing s) h = cc
 up_open link.Closed h = cc
 up_open link.Lost h = cc
 
@@ -225,7 +226,7 @@ module _ (class number : ℕ) where
   down_receives link.Open b i e d = absurd cc
   down_receives link.Closed b i e d = nothing b [] refl
   down_receives link.Lost b i e d = nothing b [] refl
-  down_receives (link.Closing x was) b incoming.ConnectionCloseOk e d = Sinks refl refl (rw e refl) refl (unsent_rest (has_sent b.link)) (unsent_publishes (has_sent b.link)) (unsent_quiet (has_sent b.link)) refl refl
+  down_receives (link.Closing x) b incoming.ConnectionCloseOk e d = Sinks refl refl (rw e refl) refl (unsent_rest (has_sent b.link)) (unsent_publishes (has_sent b.link)) (unsent_quiet (has_sent b.link)) refl refl
     where
       unsent_publishes : (t : Bool) → b.publishes ≡ [] → (unless_sent t (lists_of b)).publishes ≡ []
       unsent_publishes true h = h
@@ -238,19 +239,19 @@ module _ (class number : ℕ) where
       unsent_quiet : (t : Bool) → AreQuiet b.methods → AreQuiet (unless_sent t (lists_of b)).methods
       unsent_quiet true h = h
       unsent_quiet false h = tt
-  down_receives (link.Closing x true) b (incoming.ConnectionClose code) e d = nothing b [] refl
-  down_receives (link.Closing true false) b (incoming.ConnectionClose code) e d =
+  down_receives (link.Closing stage.Crossed) b (incoming.ConnectionClose code) e d = nothing b [] refl
+  down_receives (link.Closing stage.Sent) b (incoming.ConnectionClose code) e d =
       subst (λ l. Effect b (after_connection_close l b) (ends_all (error.ProtocolError code) b) []) (sym e) (Sinks refl refl (rw e refl) refl (λ h. h) (λ h. h) (quiet_push b.methods _ (record { plain = refl; select = refl })) (all_grow (error.ProtocolError code) b) refl)
-  down_receives (link.Closing false false) b (incoming.ConnectionClose code) e d =
+  down_receives (link.Closing stage.Queued) b (incoming.ConnectionClose code) e d =
       subst (λ l. Effect b (after_connection_close l b) (ends_all (error.ProtocolError code) b) []) (sym e) (Falls (error.ProtocolError code) refl refl refl refl refl (record { plain = refl; select = refl }, tt) refl refl)
-  down_receives (link.Closing x was) b (incoming.Reply c k a) e d = nothing b [] refl
-  down_receives (link.Closing x was) b (incoming.Settlement c z) e d = nothing b [] refl
-  down_receives (link.Closing x was) b (incoming.Content c p) e d = nothing b [] refl
-  down_receives (link.Closing x was) b (incoming.Consumer c p) e d = nothing b [] refl
-  down_receives (link.Closing x was) b (incoming.Flow c active) e d = nothing b [] refl
-  down_receives (link.Closing x was) b (incoming.ChannelClose c code) e d = nothing b [] refl
-  down_receives (link.Closing x was) b (incoming.ChannelCloseOk c) e d = nothing b [] refl
-  down_receives (link.Closing x was) b incoming.Other e d = nothing b [] refl
+  down_receives (link.Closing x) b (incoming.Reply c k a) e d = nothing b [] refl
+  down_receives (link.Closing x) b (incoming.Settlement c z) e d = nothing b [] refl
+  down_receives (link.Closing x) b (incoming.Content c p) e d = nothing b [] refl
+  down_receives (link.Closing x) b (incoming.Consumer c p) e d = nothing b [] refl
+  down_receives (link.Closing x) b (incoming.Flow c active) e d = nothing b [] refl
+  down_receives (link.Closing x) b (incoming.ChannelClose c code) e d = nothing b [] refl
+  down_receives (link.Closing x) b (incoming.ChannelCloseOk c) e d = nothing b [] refl
+  down_receives (link.Closing x) b incoming.Other e d = nothing b [] refl
 
   pub incoming_happens : (l : ConnectionPhase) (b : Wire) (readings : Readings) (i : Incoming) → b.link ≡ l → Effect b (after_incoming i (incoming_record b readings no i) b) (incoming_marks i (incoming_record b readings no i) b) []
   incoming_happens l b readings i e = inboxed (incoming_deliveries i (incoming_record b readings no i) b) b _ _ _ (subst (Hears b i) (sym is) (elim (is_up l) as (λ t. is_up l ≡ t → Hears b i (cond t (incoming_up b readings no i) (cond (receives_down l i) record_.Received record_.Passed))) [
@@ -269,6 +270,6 @@ lost_happens b = elim (is_lost b.link) as (λ t. is_lost b.link ≡ t → Effect
   where
     lost_down : (l : ConnectionPhase) → is_lost l ≡ true → is_up l ≡ false
     lost_down link.Open h = cc
-    lost_down (link.Closing s x) h = refl
+    lost_down (link.Closing s) h = refl
     lost_down link.Closed h = refl
     lost_down link.Lost h = refl

@@ -42,7 +42,7 @@ open_up c b h = by b.link refl
   where
     by : (l : ConnectionPhase) → b.link ≡ l → live c b ≡ true
     by link.Open e = open_lives c b e (rw e at h)
-    by (link.Closing x y) e = let z : is_open (state_of c b) ≡ false = rw e refl in let w : true ≡ false = sym h ∙ z in absurd cc
+    by (link.Closing x) e = let z : is_open (state_of c b) ≡ false = rw e refl in let w : true ≡ false = sym h ∙ z in absurd cc
     by link.Closed e = let z : is_open (state_of c b) ≡ false = rw e refl in let w : true ≡ false = sym h ∙ z in absurd cc
     by link.Lost e = let z : is_open (state_of c b) ≡ false = rw e refl in let w : true ≡ false = sym h ∙ z in absurd cc
 

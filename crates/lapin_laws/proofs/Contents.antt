@@ -32,6 +32,7 @@ use Rattle.lapin_rules.specs.declared.phases.ChannelPhase.{ChannelPhase}
 use Rattle.lapin_rules.specs.declared.phases.ChannelPhase.TheVariants as phase
 use Rattle.lapin_rules.specs.declared.phases.ConnectionPhase.{ConnectionPhase}
 use Rattle.lapin_rules.specs.declared.phases.ConnectionPhase.TheVariants as link
+use Rattle.lapin_rules.specs.declared.phases.CloseStage.TheVariants as stage
 use Rattle.lapin_rules.specs.declared.phases.Closer.TheVariants as closer
 use Rattle.lapin_rules.specs.declared.broker_frames.ContentPart.{ContentPart}
 use Rattle.lapin_rules.specs.declared.broker_frames.ContentPart.TheVariants as part
@@ -343,23 +344,23 @@ module _ (class number : ℕ) where
   down_moved link.Open b i e d none = absurd cc
   down_moved link.Closed b i e d none = stays b b refl (λ q. q)
   down_moved link.Lost b i e d none = stays b b refl (λ q. q)
-  down_moved (link.Closing x was) b incoming.ConnectionCloseOk e d none = stays b _ refl (quiet_down b.link link.Closed b.phases b.phases b.contents (rw e refl))
-  down_moved (link.Closing x true) b (incoming.ConnectionClose code) e d none = stays b b refl (λ q. q)
-  down_moved (link.Closing true false) b (incoming.ConnectionClose code) e d none =
+  down_moved (link.Closing x) b incoming.ConnectionCloseOk e d none = stays b _ refl (quiet_down b.link link.Closed b.phases b.phases b.contents (rw e refl))
+  down_moved (link.Closing stage.Crossed) b (incoming.ConnectionClose code) e d none = stays b b refl (λ q. q)
+  down_moved (link.Closing stage.Sent) b (incoming.ConnectionClose code) e d none =
       let shut : is_up b.link ≡ false = rw e refl in
       let D : ConnectionPhase → List ℕ → Type 0 = λ l cs. Moved b (after_connection_close l b) cs [] in
-      subst (D b.link) (no_ends (error.ProtocolError code) b none) (subst (λ l. D l []) (sym e) (stays b _ refl (quiet_down b.link (link.Closing true true) b.phases b.phases b.contents shut)))
-  down_moved (link.Closing false false) b (incoming.ConnectionClose code) e d none =
+      subst (D b.link) (no_ends (error.ProtocolError code) b none) (subst (λ l. D l []) (sym e) (stays b _ refl (quiet_down b.link (link.Closing stage.Crossed) b.phases b.phases b.contents shut)))
+  down_moved (link.Closing stage.Queued) b (incoming.ConnectionClose code) e d none =
       let D : ConnectionPhase → Type 0 = λ l. Moved b (after_connection_close l b) (ended_in (ends_all (error.ProtocolError code) b)) [] in
       subst D (sym e) (falls (error.ProtocolError code) b _ refl)
-  down_moved (link.Closing x was) b (incoming.Reply c k a) e d none = stays b b refl (λ q. q)
-  down_moved (link.Closing x was) b (incoming.Settlement c z) e d none = stays b b refl (λ q. q)
-  down_moved (link.Closing x was) b (incoming.Content c p) e d none = stays b b refl (λ q. q)
-  down_moved (link.Closing x was) b (incoming.Consumer c p) e d none = stays b b refl (λ q. q)
-  down_moved (link.Closing x was) b (incoming.Flow c active) e d none = stays b b refl (λ q. q)
-  down_moved (link.Closing x was) b (incoming.ChannelClose c code) e d none = stays b b refl (λ q. q)
-  down_moved (link.Closing x was) b (incoming.ChannelCloseOk c) e d none = stays b b refl (λ q. q)
-  down_moved (link.Closing x was) b incoming.Other e d none = stays b b refl (λ q. q)
+  down_moved (link.Closing x) b (incoming.Reply c k a) e d none = stays b b refl (λ q. q)
+  down_moved (link.Closing x) b (incoming.Settlement c z) e d none = stays b b refl (λ q. q)
+  down_moved (link.Closing x) b (incoming.Content c p) e d none = stays b b refl (λ q. q)
+  down_moved (link.Closing x) b (incoming.Consumer c p) e d none = stays b b refl (λ q. q)
+  down_moved (link.Closing x) b (incoming.Flow c active) e d none = stays b b refl (λ q. q)
+  down_moved (link.Closing x) b (incoming.ChannelClose c code) e d none = stays b b refl (λ q. q)
+  down_moved (link.Closing x) b (incoming.ChannelCloseOk c) e d none = stays b b refl (λ q. q)
+  down_moved (link.Closing x) b incoming.Other e d none = stays b b refl (λ q. q)
 
   incoming_moved : (l : ConnectionPhase) (b : Wire) (readings : Readings) (i : Incoming) → b.link ≡ l → IsShut b → Hears b i (incoming_record b readings no i)
   incoming_moved l b readings i e shut = subst (Hears b i) (sym (incoming_is class number b readings i l e)) (elim (is_up l) as (λ t. is_up l ≡ t → Hears b i (cond t (incoming_up b readings no i) (cond (receives_down l i) record_.Received record_.Passed))) [

@@ -35,6 +35,7 @@ use Rattle.lapin_rules.specs.declared.phases.ChannelPhase.{ChannelPhase}
 use Rattle.lapin_rules.specs.declared.phases.ChannelPhase.TheVariants as phase
 use Rattle.lapin_rules.specs.declared.phases.ConnectionPhase.{ConnectionPhase}
 use Rattle.lapin_rules.specs.declared.phases.ConnectionPhase.TheVariants as link
+use Rattle.lapin_rules.specs.declared.phases.CloseStage.TheVariants as stage
 use Rattle.lapin_rules.specs.declared.phases.Closer.TheVariants as closer
 use Rattle.lapin_rules.specs.declared.broker_frames.Incoming.{Incoming}
 use Rattle.lapin_rules.specs.declared.broker_frames.Incoming.TheVariants as incoming
@@ -246,8 +247,8 @@ module _ (b : Wire) (slots : List (Option Slot)) (h : Owes b slots) where
 
   connection_owes : (code : ℕ) (l : ConnectionPhase) → Owes (after_connection_close l b) (fold after_mark slots (connection_close_tickets l code b))
   connection_owes code link.Open = ends_all _
-  connection_owes code (link.Closing true x) = h
-  connection_owes code (link.Closing false x) = ends_all _
+  connection_owes code (link.Closing stage.Queued) = ends_all _
+  connection_owes code (link.Closing s) = h
   connection_owes code link.Closed = ends_all _
   connection_owes code link.Lost = ends_all _
 

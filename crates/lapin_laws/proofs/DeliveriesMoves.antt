@@ -31,6 +31,7 @@ use Rattle.lapin_rules.specs.declared.phases.ChannelPhase.TheVariants as phase
 use Rattle.lapin_rules.specs.declared.phases.Closer.TheVariants as closer
 use Rattle.lapin_rules.specs.declared.phases.ConnectionPhase.{ConnectionPhase}
 use Rattle.lapin_rules.specs.declared.phases.ConnectionPhase.TheVariants as link
+use Rattle.lapin_rules.specs.declared.phases.CloseStage.TheVariants as stage
 use Rattle.lapin_rules.specs.declared.broker_frames.ConsumerPart.{ConsumerPart}
 use Rattle.lapin_rules.specs.declared.broker_frames.ConsumerPart.TheVariants as consumer
 use Rattle.lapin_rules.specs.declared.broker_frames.ContentPart.{ContentPart}
@@ -74,7 +75,7 @@ close_answered c (phase.Closing who s) b = refl
 close_answered c _ b = refl
 
 connection_closed : (l : ConnectionPhase) (b : Wire) → (after_connection_close l b).deliveries ≡ b.deliveries
-connection_closed (link.Closing true x) b = refl
+connection_closed (link.Closing stage.Queued) b = refl
 connection_closed _ b = refl
 
 part_still : (c : ℕ) (p : ContentPart) (b : Wire) → (after_part c p b).deliveries ≡ b.deliveries

@@ -16,6 +16,7 @@ use Rattle.lapin_rules.specs.declared.phases.ChannelPhase.{ChannelPhase}
 use Rattle.lapin_rules.specs.declared.phases.ChannelPhase.TheVariants as phase
 use Rattle.lapin_rules.specs.declared.phases.ConnectionPhase.{ConnectionPhase}
 use Rattle.lapin_rules.specs.declared.phases.ConnectionPhase.TheVariants as link
+use Rattle.lapin_rules.specs.declared.phases.CloseStage.TheVariants as stage
 use Rattle.lapin_rules.specs.declared.phases.Closer.TheVariants as closer
 use Rattle.lapin_rules.specs.declared.broker_frames.ConsumerPart.{ConsumerPart}
 use Rattle.lapin_rules.specs.declared.broker_frames.ConsumerPart.TheVariants as consumer
@@ -66,7 +67,7 @@ right false y h = cc
 
 pub up_open : (l : ConnectionPhase) → is_up l ≡ true → l ≡ link.Open
 up_open link.Open h = refl
-up_open (link.Closing s x) h = cc
+up_open (link.Closing s) h = cc
 up_open link.Closed h = cc
 up_open link.Lost h = cc
 
@@ -206,7 +207,7 @@ module _ (class number : ℕ) where
   down_receives n link.Open b i e d none s = absurd cc
   down_receives n link.Closed b i e d none s = same n b s
   down_receives n link.Lost b i e d none s = same n b s
-  down_receives n (link.Closing x was) b incoming.ConnectionCloseOk e d none s = sinks n b _ (rw e refl) refl refl refl (unsent_publishes (has_sent b.link)) (unsent_rest (has_sent b.link)) (unsent_plain (has_sent b.link)) refl s
+  down_receives n (link.Closing x) b incoming.ConnectionCloseOk e d none s = sinks n b _ (rw e refl) refl refl refl (unsent_publishes (has_sent b.link)) (unsent_rest (has_sent b.link)) (unsent_plain (has_sent b.link)) refl s
     where
       unsent_publishes : (t : Bool) → b.publishes ≡ [] → (unless_sent t (lists_of b)).publishes ≡ []
       unsent_publishes true h = h
@@ -219,22 +220,22 @@ module _ (class number : ℕ) where
       unsent_plain : (t : Bool) → ArePlain b.methods → ArePlain (unless_sent t (lists_of b)).methods
       unsent_plain true h = h
       unsent_plain false h = tt
-  down_receives n (link.Closing x true) b (incoming.ConnectionClose code) e d none s = same n b s
-  down_receives n (link.Closing true false) b (incoming.ConnectionClose code) e d none s =
+  down_receives n (link.Closing stage.Crossed) b (incoming.ConnectionClose code) e d none s = same n b s
+  down_receives n (link.Closing stage.Sent) b (incoming.ConnectionClose code) e d none s =
       let shut : is_up b.link ≡ false = rw e refl in
       let D : ConnectionPhase → List ℕ → Type 0 = λ l cs. Moves n b (after_connection_close l b) cs [] in
       subst (D b.link) (no_ends (error.ProtocolError code) b none) (subst (λ l. D l []) (sym e) (sinks n b _ shut refl refl refl (λ h. h) (λ h. h) (plain-push b.methods _ refl) refl s))
-  down_receives n (link.Closing false false) b (incoming.ConnectionClose code) e d none s =
+  down_receives n (link.Closing stage.Queued) b (incoming.ConnectionClose code) e d none s =
       let D : ConnectionPhase → List ℕ → Type 0 = λ l cs. Moves n b (after_connection_close l b) cs [] in
       subst (λ l. D l (ended_in (ends_all (error.ProtocolError code) b))) (sym e) (falls n (error.ProtocolError code) b _ refl refl refl refl refl (refl, tt) (λ h. cc) s)
-  down_receives n (link.Closing x was) b (incoming.Reply c k a) e d none s = same n b s
-  down_receives n (link.Closing x was) b (incoming.Settlement c z) e d none s = same n b s
-  down_receives n (link.Closing x was) b (incoming.Content c p) e d none s = same n b s
-  down_receives n (link.Closing x was) b (incoming.Consumer c p) e d none s = same n b s
-  down_receives n (link.Closing x was) b (incoming.Flow c active) e d none s = same n b s
-  down_receives n (link.Closing x was) b (incoming.ChannelClose c code) e d none s = same n b s
-  down_receives n (link.Closing x was) b (incoming.ChannelCloseOk c) e d none s = same n b s
-  down_receives n (link.Closing x was) b incoming.Other e d none s = same n b s
+  down_receives n (link.Closing x) b (incoming.Reply c k a) e d none s = same n b s
+  down_receives n (link.Closing x) b (incoming.Settlement c z) e d none s = same n b s
+  down_receives n (link.Closing x) b (incoming.Content c p) e d none s = same n b s
+  down_receives n (link.Closing x) b (incoming.Consumer c p) e d none s = same n b s
+  down_receives n (link.Closing x) b (incoming.Flow c active) e d none s = same n b s
+  down_receives n (link.Closing x) b (incoming.ChannelClose c code) e d none s = same n b s
+  down_receives n (link.Closing x) b (incoming.ChannelCloseOk c) e d none s = same n b s
+  down_receives n (link.Closing x) b incoming.Other e d none s = same n b s
 
   pub incoming_moves : (n : ℕ) (l : ConnectionPhase) (b : Wire) (readings : Readings) (i : Incoming) → b.link ≡ l → IsShut b → Sound n b → Moves n b (after_incoming i (incoming_record b readings no i) b) (ended_in (incoming_marks i (incoming_record b readings no i) b)) []
   incoming_moves n l b readings i e shut s = inboxed n (incoming_deliveries i (incoming_record b readings no i) b) b _ _ _ (subst (Hears n b i) (sym (incoming_is b readings i l e)) (elim (is_up l) as (λ t. is_up l ≡ t → Hears n b i (cond t (incoming_up b readings no i) (cond (receives_down l i) record_.Received record_.Passed))) [

@@ -17,6 +17,7 @@ use Rattle.lapin_rules.specs.ConfirmMarks as mark
 use Rattle.lapin_rules.specs.declared.phases.ChannelPhase.{ChannelPhase}
 use Rattle.lapin_rules.specs.declared.phases.ConnectionPhase.{ConnectionPhase}
 use Rattle.lapin_rules.specs.declared.phases.ConnectionPhase.TheVariants as link
+use Rattle.lapin_rules.specs.declared.phases.CloseStage.TheVariants as stage
 use Rattle.lapin_rules.specs.Phases.{is_up, is_lost}
 use Rattle.lapin_rules.specs.ConnectionClose.{link_close_sent, link_sent}
 use Rattle.lapin_rules.specs.ChannelClose.{close_sent, phases_sent}
@@ -81,16 +82,12 @@ link_move (frame.Header c h) l = inl refl
 link_move (frame.Body c bytes) l = inl refl
 
 up_close : (l : ConnectionPhase) → is_up (link_close_sent l) ≡ is_up l
-up_close link.Open = refl
-up_close (link.Closing s h) = refl
-up_close link.Closed = refl
-up_close link.Lost = refl
+up_close (link.Closing stage.Queued) = refl
+up_close _ = refl
 
 lost_close : (l : ConnectionPhase) → is_lost (link_close_sent l) ≡ is_lost l
-lost_close link.Open = refl
-lost_close (link.Closing s h) = refl
-lost_close link.Closed = refl
-lost_close link.Lost = refl
+lost_close (link.Closing stage.Queued) = refl
+lost_close _ = refl
 
 pub up_sent : (f : Frame) (l : ConnectionPhase) → is_up (link_sent f l) ≡ is_up l
 up_sent f l = elim (link_move f l) [ inl e ↦ ap is_up e | inr e ↦ ap is_up e ∙ up_close l ]

@@ -80,7 +80,7 @@ stays_down n es more = stays_from n (world_after n es) more (run_kept n es)
 
 pub is_link_lost : (l : ConnectionPhase) → is_lost l ≡ true → l ≡ link.Lost
 is_link_lost link.Open h = cc
-is_link_lost (link.Closing s x) h = cc
+is_link_lost (link.Closing s) h = cc
 is_link_lost link.Closed h = cc
 is_link_lost link.Lost h = refl
 

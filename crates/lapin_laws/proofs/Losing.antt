@@ -23,6 +23,7 @@ use Rattle.lapin_rules.specs.declared.phases.ChannelPhase.{ChannelPhase}
 use Rattle.lapin_rules.specs.declared.phases.ChannelPhase.TheVariants as phase
 use Rattle.lapin_rules.specs.declared.phases.ConnectionPhase.{ConnectionPhase}
 use Rattle.lapin_rules.specs.declared.phases.ConnectionPhase.TheVariants as link
+use Rattle.lapin_rules.specs.declared.phases.CloseStage.TheVariants as stage
 use Rattle.lapin_rules.specs.declared.phases.Closer.TheVariants as closer
 use Rattle.lapin_rules.specs.declared.broker_frames.Incoming.{Incoming}
 use Rattle.lapin_rules.specs.declared.broker_frames.Incoming.TheVariants as incoming
@@ -122,11 +123,8 @@ close_answered c (phase.Closing who x) b h = h
 close_answered c phase.Crossed b h = h
 
 connection_closed : (l : ConnectionPhase) (b : Wire) → NotLost (after_connection_close l b)
-connection_closed link.Open b = refl
-connection_closed (link.Closing true x) b = refl
-connection_closed (link.Closing false x) b = refl
-connection_closed link.Closed b = refl
-connection_closed link.Lost b = refl
+connection_closed (link.Closing stage.Queued) b = refl
+connection_closed _ b = refl
 
 part_received : (c : ℕ) (p : ContentPart) (b : Wire) → NotLost b → NotLost (after_part c p b)
 part_received c (part.GetOk x) b h = h

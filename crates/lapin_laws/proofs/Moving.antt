@@ -74,7 +74,7 @@ shut_refuses ask.Nothing = refl
 
 pub lost_not_up : (l : ConnectionPhase) → is_lost l ≡ true → is_up l ≡ false
 lost_not_up link.Open h = cc
-lost_not_up (link.Closing s x) h = refl
+lost_not_up (link.Closing s) h = refl
 lost_not_up link.Closed h = refl
 lost_not_up link.Lost h = refl
 
@@ -235,13 +235,13 @@ open_here false phase.Crossed h = absurd cc
 
 pub allowed_up : (l : ConnectionPhase) (k : Asked) (s : ChannelState) → is_allowed k (cond (is_up l) s state.Down) ≡ true → l ≡ link.Open
 allowed_up link.Open k s h = refl
-allowed_up (link.Closing x y) k s h = let x = shut_refuses k in cc
+allowed_up (link.Closing x) k s h = let x = shut_refuses k in cc
 allowed_up link.Closed k s h = let x = shut_refuses k in cc
 allowed_up link.Lost k s h = let x = shut_refuses k in cc
 
 pub open_up : (l : ConnectionPhase) (s : ChannelState) → is_open (cond (is_up l) s state.Down) ≡ true → l ≡ link.Open
 open_up link.Open s h = refl
-open_up (link.Closing x y) s h = absurd cc
+open_up (link.Closing x) s h = absurd cc
 open_up link.Closed s h = absurd cc
 open_up link.Lost s h = absurd cc
 

@@ -28,6 +28,7 @@ use Rattle.lapin_rules.specs.declared.phases.ChannelPhase.{ChannelPhase}
 use Rattle.lapin_rules.specs.declared.phases.ChannelPhase.TheVariants as phase
 use Rattle.lapin_rules.specs.declared.phases.ConnectionPhase.{ConnectionPhase}
 use Rattle.lapin_rules.specs.declared.phases.ConnectionPhase.TheVariants as link
+use Rattle.lapin_rules.specs.declared.phases.CloseStage.TheVariants as stage
 use Rattle.lapin_rules.specs.declared.phases.Closer.TheVariants as closer
 use Rattle.lapin_rules.specs.declared.broker_frames.Incoming.{Incoming}
 use Rattle.lapin_rules.specs.declared.broker_frames.Incoming.TheVariants as incoming
@@ -252,18 +253,18 @@ down_receives : (l : ConnectionPhase) (b : Wire) (i : Incoming) → b.link ≡ l
 down_receives link.Open b i e d = absurd cc
 down_receives link.Closed b i e d = λ h. h
 down_receives link.Lost b i e d = λ h. h
-down_receives (link.Closing x was) b incoming.ConnectionCloseOk e d = sinks b link.Closed _ (rw e refl) (λ c n. on-away 0 c (without_kind reply_kind.ConnectionCloseOk) b.requests n)
-down_receives (link.Closing x true) b (incoming.ConnectionClose code) e d = λ h. h
-down_receives (link.Closing true false) b (incoming.ConnectionClose code) e d = subst (λ l. Settled b → Settled (after_connection_close l b)) (sym e) (sinks b (link.Closing true true) b.requests (rw e refl) (λ c n. refl))
-down_receives (link.Closing false false) b (incoming.ConnectionClose code) e d = subst (λ l. Settled b → Settled (after_connection_close l b)) (sym e) (λ h c z dead. refl)
-down_receives (link.Closing x was) b (incoming.Reply c k a) e d = λ h. h
-down_receives (link.Closing x was) b (incoming.Settlement c z) e d = λ h. h
-down_receives (link.Closing x was) b (incoming.Content c p) e d = λ h. h
-down_receives (link.Closing x was) b (incoming.Consumer c p) e d = λ h. h
-down_receives (link.Closing x was) b (incoming.Flow c active) e d = λ h. h
-down_receives (link.Closing x was) b (incoming.ChannelClose c code) e d = λ h. h
-down_receives (link.Closing x was) b (incoming.ChannelCloseOk c) e d = λ h. h
-down_receives (link.Closing x was) b incoming.Other e d = λ h. h
+down_receives (link.Closing x) b incoming.ConnectionCloseOk e d = sinks b link.Closed _ (rw e refl) (λ c n. on-away 0 c (without_kind reply_kind.ConnectionCloseOk) b.requests n)
+down_receives (link.Closing stage.Crossed) b (incoming.ConnectionClose code) e d = λ h. h
+down_receives (link.Closing stage.Sent) b (incoming.ConnectionClose code) e d = subst (λ l. Settled b → Settled (after_connection_close l b)) (sym e) (sinks b (link.Closing stage.Crossed) b.requests (rw e refl) (λ c n. refl))
+down_receives (link.Closing stage.Queued) b (incoming.ConnectionClose code) e d = subst (λ l. Settled b → Settled (after_connection_close l b)) (sym e) (λ h c z dead. refl)
+down_receives (link.Closing x) b (incoming.Reply c k a) e d = λ h. h
+down_receives (link.Closing x) b (incoming.Settlement c z) e d = λ h. h
+down_receives (link.Closing x) b (incoming.Content c p) e d = λ h. h
+down_receives (link.Closing x) b (incoming.Consumer c p) e d = λ h. h
+down_receives (link.Closing x) b (incoming.Flow c active) e d = λ h. h
+down_receives (link.Closing x) b (incoming.ChannelClose c code) e d = λ h. h
+down_receives (link.Closing x) b (incoming.ChannelCloseOk c) e d = λ h. h
+down_receives (link.Closing x) b incoming.Other e d = λ h. h
 
 module _ (class number : ℕ) where
   abbrev no : Record

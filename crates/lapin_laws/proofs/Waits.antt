@@ -19,6 +19,7 @@ use Rattle.lapin_rules.specs.declared.phases.ChannelPhase.{ChannelPhase}
 use Rattle.lapin_rules.specs.declared.phases.ChannelPhase.TheVariants as phase
 use Rattle.lapin_rules.specs.declared.phases.ConnectionPhase.{ConnectionPhase}
 use Rattle.lapin_rules.specs.declared.phases.ConnectionPhase.TheVariants as link
+use Rattle.lapin_rules.specs.declared.phases.CloseStage.TheVariants as stage
 use Rattle.lapin_rules.specs.declared.phases.Closer.TheVariants as closer
 use Rattle.lapin_rules.specs.declared.broker_frames.Incoming.{Incoming}
 use Rattle.lapin_rules.specs.declared.broker_frames.Incoming.TheVariants as incoming
@@ -134,15 +135,15 @@ module _ (b : Wire) (k : ConfirmState) (alive : AreAlive b.link b.phases b.publi
 
   close_waits : (code : ℕ) (l : ConnectionPhase) → b.link ≡ l → Waits (after_connection_close l b).publishes (fold after_mark k (ends_all (error.ProtocolError code) b))
   close_waits code link.Open e = falls _
-  close_waits code (link.Closing true x) e = still_none _ (ap is_up e)
-  close_waits code (link.Closing false x) e = falls _
+  close_waits code (link.Closing stage.Queued) e = falls _
+  close_waits code (link.Closing s) e = still_none _ (ap is_up e)
   close_waits code link.Closed e = falls _
   close_waits code link.Lost e = falls _
 
   close_ok_waits : (l : ConnectionPhase) → b.link ≡ l → Waits (after_connection_close_ok b).publishes k
   close_ok_waits link.Open e = rw e h
-  close_ok_waits (link.Closing true x) e = rw e h
-  close_ok_waits (link.Closing false x) e = let empty : b.publishes ≡ [] = none (ap is_up e) in rw e (h ∙ ap waiting empty)
+  close_ok_waits (link.Closing stage.Queued) e = let empty : b.publishes ≡ [] = none (ap is_up e) in rw e (h ∙ ap waiting empty)
+  close_ok_waits (link.Closing s) e = rw e h
   close_ok_waits link.Closed e = rw e h
   close_ok_waits link.Lost e = rw e h
 

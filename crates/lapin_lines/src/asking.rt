@@ -1,16 +1,21 @@
 //! Calls of the application and of ackers: `call C NAME ARGS` and `acker N CALL`.
-ghost use Rattle.std.specs.Prelude.{◌≡◌, ◌++◌, ◌∷◌, [], Some, IfOk, IsOk, OnOk};
+ghost use Rattle.std.specs.Prelude.{◌≡◌, ◌++◌, ◌∷◌, [], false, Some, Err, IfOk, IsOk, OnOk};
 ghost use Rattle.lapin_types.specs.declared.call.Call.TheVariants.{BasicPublish, OpenChannel, ChannelClose};
 ghost use Rattle.lapin_types.specs.declared.event.Event.TheVariants as event;
+ghost use Rattle.lapin_scalars.specs.declared.fault.ReadError.TheVariants.{Bad};
 ghost use Rattle.lapin_machine.specs.Numbers.{HasNumbersFor};
+ghost use Rattle.lapin_tokens.specs.Reading.{fields_at};
+ghost use Rattle.lapin_text.specs.CallText.{publish_fields, publish_of, call_at};
 ghost use Rattle.lapin_text.specs.LineReading.{whole, event_of_word};
 ghost use Rattle.lapin_text.specs.declared.words.Word.TheVariants as word;
-ghost use Rattle.lapin_lines.specs.Lines.{IsMet, IsTaken};
+ghost use Rattle.lapin_lines.specs.Lines.{IsMet, IsTaken, call_event};
 
 use crate::steps::{last, print_step, put_refusal};
 use lapin_machine::Session;
 use lapin_text::{put_published, put_ticket, read_acker_call, read_call};
-use lapin_tokens::{ReadError, Tokens, u16_at, u64_at};
+use lapin_tokens::{
+    ReadError, Tokens, flag, payload, properties, text as short_text, u16_at, u64_at,
+};
 use lapin_types::{
     AckerCall, BasicProperties, BasicPublishOptions, Call, Error, Event, NoMemory, Payload,
     ShortString,
@@ -33,6 +38,69 @@ pub(crate) fn take_call(
         Err(ReadError::Bad) => return Ok(false),
         Err(ReadError::Memory) => return Err(NoMemory),
     };
+    if !tokens.word(b"basic.publish") {
+        return take_other(alloc, session, channel, tokens, text);
+    }
+    match take_publish(alloc, session, channel, tokens, text) {
+        Ok(taken) => Ok(taken),
+        Err(ReadError::Bad) => Ok(false),
+        Err(ReadError::Memory) => Err(NoMemory),
+    }
+}
+
+// Takes a publish, which most calls are. Its fields go to the session as they were read, so that no call is made of them and taken
+// apart again.
+#[inline(always)]
+fn take_publish(
+    alloc: Global,
+    session: &mut Session,
+    channel: u16,
+    tokens: &mut Tokens,
+    text: &mut Vec<u8>,
+) -> Result<bool, ReadError>
+    requires { HasNumbersFor 1 session.old }
+    ensures taken { IfOk result (IsTaken (whole (call_event channel (fields_at publish_fields publish_of tokens.old))) session.old session.new text.old.items text.new.items) }
+    ensures bad { result ≡ Err Bad → IsTaken (whole (call_event channel (fields_at publish_fields publish_of tokens.old))) session.old session.new text.old.items text.new.items false }
+{
+    let exchange = short_text(alloc, tokens)?;
+    let routing_key = short_text(alloc, tokens)?;
+    let mandatory = flag(tokens)?;
+    let immediate = flag(tokens)?;
+    let payload = payload(alloc, tokens)?;
+    let properties = properties(alloc, tokens)?;
+    if tokens.next().is_some() {
+        return Ok(false);
+    }
+    let options = BasicPublishOptions {
+        mandatory,
+        immediate,
+    };
+    print_publish(
+        alloc,
+        session,
+        channel,
+        exchange,
+        routing_key,
+        options,
+        payload,
+        properties,
+        text,
+    )?;
+    Ok(true)
+}
+
+// Takes any other call.
+#[inline(never)]
+fn take_other(
+    alloc: Global,
+    session: &mut Session,
+    channel: u16,
+    tokens: &mut Tokens,
+    text: &mut Vec<u8>,
+) -> Result<bool, NoMemory>
+    requires { HasNumbersFor 1 session.old }
+    ensures { IfOk result (IsTaken (whole (call_event channel (call_at tokens.old))) session.old session.new text.old.items text.new.items) }
+{
     match read_call(alloc, tokens) {
         Ok(call) => call_last(alloc, session, channel, call, tokens, text),
         Err(ReadError::Bad) => Ok(false),
@@ -65,43 +133,9 @@ fn call_last(
     }
 }
 
-// Makes a call, and appends the line of its answer. Most calls publish.
-#[inline(always)]
-fn print_call(
-    alloc: Global,
-    session: &mut Session,
-    channel: u16,
-    call: Call,
-    text: &mut Vec<u8>,
-) -> Result<(), NoMemory>
-    requires { HasNumbersFor 1 session.old }
-    ensures { OnOk result (IsMet (event.Call channel call) session.old session.new text.old.items text.new.items) }
-{
-    match call {
-        Call::BasicPublish {
-            exchange,
-            routing_key,
-            options,
-            payload,
-            properties,
-        } => print_publish(
-            alloc,
-            session,
-            channel,
-            exchange,
-            routing_key,
-            options,
-            payload,
-            properties,
-            text,
-        ),
-        other => print_other(alloc, session, channel, other, text),
-    }
-}
-
-// Makes any other call, and appends the line of its answer.
+// Makes a call, and appends the line of its answer.
 #[inline(never)]
-fn print_other(
+fn print_call(
     alloc: Global,
     session: &mut Session,
     channel: u16,

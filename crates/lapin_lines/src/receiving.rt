@@ -1,5 +1,8 @@
 //! A frame of the broker: `recv FRAME`.
 ghost use Rattle.std.specs.Prelude.{◌≡◌, ◌++◌, ◌∷◌, [], IfOk, IsOk, OnOk};
+ghost use Rattle.lapin_types.specs.Types.basic;
+ghost use Rattle.lapin_types.specs.Types.frame;
+ghost use Rattle.lapin_types.specs.Types.method;
 ghost use Rattle.lapin_types.specs.declared.event.Event.TheVariants as event;
 ghost use Rattle.lapin_machine.specs.Numbers.{HasNumbersFor};
 ghost use Rattle.lapin_text.specs.LineReading.{whole, event_of_word, frame_of_word};
@@ -8,7 +11,10 @@ ghost use Rattle.lapin_lines.specs.Lines.{IsMet, IsTaken, frame_event};
 
 use crate::steps::put_refusal;
 use lapin_machine::{Heard, Session};
-use lapin_text::{Word, first_frame_word, read_body_frame, read_header_frame, read_method_frame};
+use lapin_text::{
+    Acked, Word, first_frame_word, read_acked, read_body_frame, read_header_frame,
+    read_method_frame,
+};
 use lapin_tokens::{ReadError, Tokens};
 use lapin_types::{Error, Frame, NoMemory};
 use std::alloc::Global;
@@ -33,6 +39,69 @@ pub(crate) fn take_frame(
 }
 
 fn take_method(
+    alloc: Global,
+    session: &mut Session,
+    tokens: &mut Tokens,
+    text: &mut Vec<u8>,
+) -> Result<bool, NoMemory>
+    requires { HasNumbersFor 1 session.old }
+    ensures { IfOk result (IsTaken (whole (frame_event (frame_of_word word.Method tokens.old))) session.old session.new text.old.items text.new.items) }
+{
+    let mut ahead = tokens.again();
+    match read_acked(&mut ahead) {
+        Some(acked) => take_ack(alloc, session, acked, &mut ahead, text),
+        None => take_other(alloc, session, tokens, text),
+    }
+}
+
+// A confirmation, which most methods are: the session takes it without its frame, where it is the last of its line.
+#[inline(always)]
+fn take_ack(
+    alloc: Global,
+    session: &mut Session,
+    acked: Acked,
+    tokens: &mut Tokens,
+    text: &mut Vec<u8>,
+) -> Result<bool, NoMemory>
+    requires { HasNumbersFor 1 session.old }
+    ensures { IfOk result (IsTaken (whole (Some (event.Receive (frame.Method acked.channel (method.Basic (basic.Ack acked.delivery_tag acked.multiple))), tokens.old))) session.old session.new text.old.items text.new.items) }
+{
+    match tokens.next() {
+        Some(_) => Ok(false),
+        None => {
+            print_ack(alloc, session, acked, text)?;
+            Ok(true)
+        }
+    }
+}
+
+#[inline(always)]
+fn print_ack(
+    alloc: Global,
+    session: &mut Session,
+    acked: Acked,
+    text: &mut Vec<u8>,
+) -> Result<(), NoMemory>
+    requires { HasNumbersFor 1 session.old }
+    ensures { OnOk result (IsMet (event.Receive (frame.Method acked.channel (method.Basic (basic.Ack acked.delivery_tag acked.multiple)))) session.old session.new text.old.items text.new.items) }
+{
+    match session.receive_ack(alloc, acked.channel, acked.delivery_tag, acked.multiple) {
+        Ok(Heard::Received) => {
+            text.extend_from_slice(b"received\n")?;
+            Ok(())
+        }
+        Ok(Heard::Passed) => {
+            text.extend_from_slice(b"passed\n")?;
+            Ok(())
+        }
+        Err(Error::NumbersUsedUp) => unreachable!(),
+        Err(error) => put_refusal(alloc, text, error),
+    }
+}
+
+// Any other method.
+#[inline(never)]
+fn take_other(
     alloc: Global,
     session: &mut Session,
     tokens: &mut Tokens,

@@ -12,7 +12,7 @@ use crate::steps::last;
 use lapin_machine::Session;
 use lapin_text::put_handed;
 use lapin_tokens::{Tokens, flag};
-use lapin_types::{Error, Left, NoMemory};
+use lapin_types::{Left, NoMemory};
 use std::alloc::Global;
 
 // Takes a line that began with `next`.
@@ -46,7 +46,7 @@ fn print_next(
     requires { HasNumbersFor 1 session.old }
     ensures { OnOk result (IsMet (event.Next flow) session.old session.new text.old.items text.new.items) }
 {
-    let handed = session.next_frame(alloc, flow);
+    let handed = session.hand_frame(alloc, flow);
     let put = put_next(alloc, text, &handed);
     drop(handed);
     put
@@ -56,7 +56,7 @@ fn print_next(
 fn put_next(
     alloc: Global,
     text: &mut Vec<u8>,
-    handed: &Result<Option<Left>, Error>,
+    handed: &Result<Option<Left>, NoMemory>,
 ) -> Result<(), NoMemory>
     ensures ok { OnOk result (IsOk handed.now) }
     ensures text { OnOk result (IfOk handed.now (λ left. text.new.items ≡ line_onto text.old.items (record_tokens (frame_record left)) ++ 10 ∷ [])) }
@@ -71,6 +71,6 @@ fn put_next(
             text.extend_from_slice(b"noframe\n")?;
             Ok(())
         }
-        Err(_) => Err(NoMemory),
+        Err(NoMemory) => Err(NoMemory),
     }
 }

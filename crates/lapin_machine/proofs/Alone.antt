@@ -21,6 +21,7 @@ use Rattle.lapin_rules.specs.declared.phases.ChannelPhase.{ChannelPhase}
 use Rattle.lapin_rules.specs.declared.phases.ChannelPhase.TheVariants as phase
 use Rattle.lapin_rules.specs.declared.phases.ConnectionPhase.{ConnectionPhase}
 use Rattle.lapin_rules.specs.declared.phases.ConnectionPhase.TheVariants as link
+use Rattle.lapin_rules.specs.declared.phases.CloseStage.TheVariants as stage
 use Rattle.lapin_rules.specs.Incoming.{incoming_of, frame_class, frame_method}
 use Rattle.lapin_rules.specs.Phases.{is_lost}
 use Rattle.lapin_rules.specs.ConnectionClose.{link_close_sent}
@@ -73,14 +74,14 @@ call_down c k b e h = rw e h
 
 pub down_refuses : (l : ConnectionPhase) (c : ℕ) (k : Asked) (b : Wire) → b.link ≡ l → (l ≡ link.Open) ⊎ (is_allowed k (state_of c b) ≡ false)
 down_refuses link.Open c k b e = inl refl
-down_refuses (link.Closing s h) c ask.Open b e = inr (rw e refl)
-down_refuses (link.Closing s h) c (ask.CloseChannel code text) b e = inr (rw e refl)
-down_refuses (link.Closing s h) c (ask.CloseConnection code text) b e = inr (rw e refl)
-down_refuses (link.Closing s h) c (ask.Method row) b e = inr (rw e refl)
-down_refuses (link.Closing s h) c (ask.Consume m tag queue o) b e = inr (rw e refl)
-down_refuses (link.Closing s h) c (ask.Limit limit) b e = inr (rw e refl)
-down_refuses (link.Closing s h) c ask.Nothing b e = inr refl
-down_refuses (link.Closing s h) c (ask.Publish exchange key o payload properties) b e = inr (rw e refl)
+down_refuses (link.Closing s) c ask.Open b e = inr (rw e refl)
+down_refuses (link.Closing s) c (ask.CloseChannel code text) b e = inr (rw e refl)
+down_refuses (link.Closing s) c (ask.CloseConnection code text) b e = inr (rw e refl)
+down_refuses (link.Closing s) c (ask.Method row) b e = inr (rw e refl)
+down_refuses (link.Closing s) c (ask.Consume m tag queue o) b e = inr (rw e refl)
+down_refuses (link.Closing s) c (ask.Limit limit) b e = inr (rw e refl)
+down_refuses (link.Closing s) c ask.Nothing b e = inr refl
+down_refuses (link.Closing s) c (ask.Publish exchange key o payload properties) b e = inr (rw e refl)
 down_refuses link.Closed c ask.Open b e = inr (rw e refl)
 down_refuses link.Closed c (ask.CloseChannel code text) b e = inr (rw e refl)
 down_refuses link.Closed c (ask.CloseConnection code text) b e = inr (rw e refl)
@@ -129,12 +130,12 @@ sent_quiet (Some x) l b e h k = rw e (elim (link_moves x.frame l) [
 ])
 
 -- the close that waits alone is what leaves
-sent_close : (received : Bool) (flow : ℕ → Bool) (d : Wire) (rest : List RestEntry) (methods : List MethodEntry) (publishes : List Publish) → d.link ≡ link.Closing false received → rest ≡ [] → IsOneClose methods → Alone (sent (handed_of flow rest methods publishes) d)
-sent_close received flow d rest [] publishes e none c = absurd c
-sent_close received flow d rest (m ∷ m' ∷ ms) publishes e none c = absurd c
-sent_close received flow d rest (m ∷ []) publishes e none c = rw none (rw e (moved m.channel m.method c))
+sent_close : (flow : ℕ → Bool) (d : Wire) (rest : List RestEntry) (methods : List MethodEntry) (publishes : List Publish) → d.link ≡ link.Closing stage.Queued → rest ≡ [] → IsOneClose methods → Alone (sent (handed_of flow rest methods publishes) d)
+sent_close flow d rest [] publishes e none c = absurd c
+sent_close flow d rest (m ∷ m' ∷ ms) publishes e none c = absurd c
+sent_close flow d rest (m ∷ []) publishes e none c = rw none (rw e (moved m.channel m.method c))
   where
-    moved : (channel : ℕ) (x : Method) → is_connection_close x ≡ true → WaitsAlone (link_sent (frame.Method channel x) (link.Closing false received)) (lists_of d)
+    moved : (channel : ℕ) (x : Method) → is_connection_close x ≡ true → WaitsAlone (link_sent (frame.Method channel x) (link.Closing stage.Queued)) (lists_of d)
     moved channel (method.Connection (connection.Close code text class number)) t = tt
     moved channel (method.Connection connection.CloseOk) t = cc
     moved channel (method.Channel x) t = cc
@@ -147,8 +148,8 @@ sent_close received flow d rest (m ∷ []) publishes e none c = rw none (rw e (m
 
 next_alone : (r : Record) (l : ConnectionPhase) (b : Wire) → b.link ≡ l → WaitsAlone l (lists_of b) → Alone (after_next r b)
 next_alone r link.Open b e h = sent_quiet (handed_as r b) link.Open _ e (λ ls. tt) (λ ls. tt)
-next_alone r (link.Closing true received) b e h = sent_quiet (handed_as r b) (link.Closing true received) _ e (λ ls. tt) (λ ls. tt)
-next_alone r (link.Closing false received) b e h = sent_close received (began_on r) _ b.rest b.methods b.publishes e h.rest h.close
+next_alone r (link.Closing stage.Queued) b e h = sent_close (began_on r) _ b.rest b.methods b.publishes e h.rest h.close
+next_alone r (link.Closing s) b e h = sent_quiet (handed_as r b) (link.Closing s) _ e (λ ls. tt) (λ ls. tt)
 next_alone r link.Closed b e h = sent_quiet (handed_as r b) link.Closed _ e (λ ls. tt) (λ ls. tt)
 next_alone r link.Lost b e h = sent_quiet (handed_as r b) link.Lost _ e (λ ls. tt) (λ ls. tt)
 
@@ -220,18 +221,18 @@ incoming_alone : (l : ConnectionPhase) (readings : Readings) (f : Record) (i : I
 incoming_alone link.Open readings f i b e h = up_alone i (incoming_record b readings f i) b e
 incoming_alone link.Closed readings f i b e h = rw e h
 incoming_alone link.Lost readings f i b e h = rw e h
-incoming_alone (link.Closing s was) readings f incoming.ConnectionCloseOk b e h = rw e tt
-incoming_alone (link.Closing s true) readings f (incoming.ConnectionClose code) b e h = rw e h
-incoming_alone (link.Closing true false) readings f (incoming.ConnectionClose code) b e h = rw e tt
-incoming_alone (link.Closing false false) readings f (incoming.ConnectionClose code) b e h = rw e tt
-incoming_alone (link.Closing s was) readings f (incoming.Reply c k a) b e h = rw e h
-incoming_alone (link.Closing s was) readings f (incoming.Settlement c x) b e h = rw e h
-incoming_alone (link.Closing s was) readings f (incoming.Content c p) b e h = rw e h
-incoming_alone (link.Closing s was) readings f (incoming.Consumer c p) b e h = rw e h
-incoming_alone (link.Closing s was) readings f (incoming.ChannelClose c code) b e h = rw e h
-incoming_alone (link.Closing s was) readings f (incoming.ChannelCloseOk c) b e h = rw e h
-incoming_alone (link.Closing s was) readings f (incoming.Flow c active) b e h = rw e h
-incoming_alone (link.Closing s was) readings f incoming.Other b e h = rw e h
+incoming_alone (link.Closing s) readings f incoming.ConnectionCloseOk b e h = rw e tt
+incoming_alone (link.Closing stage.Crossed) readings f (incoming.ConnectionClose code) b e h = rw e h
+incoming_alone (link.Closing stage.Sent) readings f (incoming.ConnectionClose code) b e h = rw e tt
+incoming_alone (link.Closing stage.Queued) readings f (incoming.ConnectionClose code) b e h = rw e tt
+incoming_alone (link.Closing s) readings f (incoming.Reply c k a) b e h = rw e h
+incoming_alone (link.Closing s) readings f (incoming.Settlement c x) b e h = rw e h
+incoming_alone (link.Closing s) readings f (incoming.Content c p) b e h = rw e h
+incoming_alone (link.Closing s) readings f (incoming.Consumer c p) b e h = rw e h
+incoming_alone (link.Closing s) readings f (incoming.ChannelClose c code) b e h = rw e h
+incoming_alone (link.Closing s) readings f (incoming.ChannelCloseOk c) b e h = rw e h
+incoming_alone (link.Closing s) readings f (incoming.Flow c active) b e h = rw e h
+incoming_alone (link.Closing s) readings f incoming.Other b e h = rw e h
 
 -- ---- ackers, and consumers that are let go
 
@@ -291,7 +292,7 @@ one_dropped l h = dropped l.rest l.methods l.publishes h.rest h.close h.publishe
 
 pub own_close_dropped : (l : ConnectionPhase) (ls : Lists) → WaitsAlone l ls → has_sent l ≡ false → without_own_close ls ≡ no_lists
 own_close_dropped link.Open ls h s = cc
-own_close_dropped (link.Closing true received) ls h s = cc
-own_close_dropped (link.Closing false received) ls h s = one_dropped ls h
+own_close_dropped (link.Closing stage.Queued) ls h s = one_dropped ls h
+own_close_dropped (link.Closing t) ls h s = cc
 own_close_dropped link.Closed ls h s = cc
 own_close_dropped link.Lost ls h s = cc

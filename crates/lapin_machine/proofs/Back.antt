@@ -14,6 +14,7 @@ use Rattle.lapin_rules.specs.declared.calls.Asked.{Asked}
 use Rattle.lapin_rules.specs.declared.calls.Asked.TheVariants as ask
 use Rattle.lapin_rules.specs.declared.phases.ConnectionPhase.{ConnectionPhase}
 use Rattle.lapin_rules.specs.declared.phases.ConnectionPhase.TheVariants as link
+use Rattle.lapin_rules.specs.declared.phases.CloseStage.TheVariants as stage
 use Rattle.lapin_rules.specs.Incoming.{incoming_of}
 use Rattle.lapin_rules.specs.Phases.{is_lost}
 use Rattle.lapin_rules.specs.Leaving.{handed_of, left_lists}
@@ -90,11 +91,8 @@ crossed_none c None = refl
 crossed_none c (Some e) = refl
 
 closing_none : (l : ConnectionPhase) → unless_closing l None ≡ None
-closing_none link.Open = refl
-closing_none (link.Closing true received) = refl
-closing_none (link.Closing false received) = refl
-closing_none link.Closed = refl
-closing_none link.Lost = refl
+closing_none (link.Closing stage.Queued) = refl
+closing_none _ = refl
 
 received_none : (i : Incoming) (b : Wire) → after_received i b None ≡ None
 received_none (incoming.Reply c k a) b = refl

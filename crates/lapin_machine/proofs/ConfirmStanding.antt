@@ -6,7 +6,6 @@ use Rattle.std.specs.Option.{option_map}
 use Rattle.std.proofs.lemmas.Bool.{leb-true}
 use Rattle.lapin_rules.specs.declared.calls.Asked.{Asked}
 use Rattle.lapin_rules.specs.declared.calls.Asked.TheVariants as ask
-use Rattle.lapin_rules.specs.Calls.{asked}
 use Rattle.lapin_types.specs.declared.event.Event.{Event}
 use Rattle.lapin_types.specs.declared.event.Event.TheVariants as event
 use Rattle.lapin_types.specs.declared.leaving.Publish.{Publish}
@@ -32,6 +31,7 @@ use Rattle.lapin_rules.specs.declared.phases.ChannelPhase.{ChannelPhase}
 use Rattle.lapin_rules.specs.declared.phases.ChannelPhase.TheVariants as phase
 use Rattle.lapin_rules.specs.declared.phases.ConnectionPhase.{ConnectionPhase}
 use Rattle.lapin_rules.specs.declared.phases.ConnectionPhase.TheVariants as link
+use Rattle.lapin_rules.specs.declared.phases.CloseStage.TheVariants as stage
 use Rattle.lapin_rules.specs.Phases.{is_up, is_lost}
 use Rattle.lapin_rules.specs.Drops.{is_off, publish_channel}
 use Rattle.lapin_rules.specs.ChannelClose.{close_ok_end}
@@ -307,8 +307,8 @@ stand_close_ok c phase.Crossed b ms bk s = stand_still b _ ms bk s refl refl
 
 stand_connection_close : (l : ConnectionPhase) (code : ℕ) (b : Wire) (ms : List ConfirmMark) (bk : ConfirmState) → b.link ≡ l → IsShut b → ConfirmsStand b ms bk → HeardStands b (after_connection_close l b) ms (ends_all (error.ProtocolError code) b) bk
 stand_connection_close link.Open code b ms bk e shut s = stand_down _ b _ ms bk s refl refl
-stand_connection_close (link.Closing true received) code b ms bk e shut s = stand_none _ b _ ms bk (shut (ap is_up e)) s refl refl
-stand_connection_close (link.Closing false received) code b ms bk e shut s = stand_down _ b _ ms bk s refl refl
+stand_connection_close (link.Closing stage.Queued) code b ms bk e shut s = stand_down _ b _ ms bk s refl refl
+stand_connection_close (link.Closing t) code b ms bk e shut s = stand_none _ b _ ms bk (shut (ap is_up e)) s refl refl
 stand_connection_close link.Closed code b ms bk e shut s = stand_down _ b _ ms bk s refl refl
 stand_connection_close link.Lost code b ms bk e shut s = stand_down _ b _ ms bk s refl refl
 
@@ -390,7 +390,7 @@ stand_incoming i _ b ms bk heard shut t s = stand_still b b ms bk s refl refl
 
 stand_lost : (l : ConnectionPhase) (b d : Wire) (ms : List ConfirmMark) (bk : ConfirmState) → b.link ≡ l → IsShut b → ConfirmsStand b ms bk → d.published ≡ b.published → d.publishes ≡ [] → HeardStands b (cond (is_lost l) b d) ms (ends_all error.ConnectionLost b) bk
 stand_lost link.Open b d ms bk e shut s n q = stand_down _ b d ms bk s n q
-stand_lost (link.Closing sent received) b d ms bk e shut s n q = stand_down _ b d ms bk s n q
+stand_lost (link.Closing _) b d ms bk e shut s n q = stand_down _ b d ms bk s n q
 stand_lost link.Closed b d ms bk e shut s n q = stand_down _ b d ms bk s n q
 stand_lost link.Lost b d ms bk e shut s n q = stand_none _ b b ms bk (shut (ap is_up e)) s refl refl
 

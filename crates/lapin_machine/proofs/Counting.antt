@@ -1,5 +1,5 @@
 -- No event uses more than one number of a counter.
-use Rattle.std.proofs.Common.{◌≡◌, ℕ, suc, ◌+◌, ◌<◌, ◌≤◌, ◌^◌, Bool, true, false, cond, not, ◌&&◌, List, [], ◌∷◌, ◌++◌, length, Option, Some, None, refl, ◌∙◌, ap, arith, append_assoc, inl, inr}
+use Rattle.std.proofs.Common.{◌≡◌, ℕ, suc, ◌+◌, ◌<◌, ◌≤◌, ◌^◌, Bool, true, false, cond, not, ◌&&◌, [], ◌∷◌, length, Option, Some, None, refl, ap, arith, inl, inr}
 use Rattle.lapin_rules.specs.declared.calls.Asked.{Asked}
 use Rattle.lapin_rules.specs.declared.calls.Asked.TheVariants as ask
 use Rattle.lapin_rules.specs.Calls.{asked}
@@ -18,6 +18,7 @@ use Rattle.lapin_rules.specs.declared.phases.ChannelPhase.{ChannelPhase}
 use Rattle.lapin_rules.specs.declared.phases.ChannelPhase.TheVariants as phase
 use Rattle.lapin_rules.specs.declared.phases.ConnectionPhase.{ConnectionPhase}
 use Rattle.lapin_rules.specs.declared.phases.ConnectionPhase.TheVariants as link
+use Rattle.lapin_rules.specs.declared.phases.CloseStage.TheVariants as stage
 use Rattle.lapin_rules.specs.Phases.{is_lost}
 use Rattle.lapin_rules.specs.Leaving.{left_lists}
 use Rattle.lapin_rules.specs.Wire.{Wire, state_of, phase_of, is_open, with_lists, lists_of}
@@ -94,7 +95,7 @@ close_ok_counts c (phase.Closing who sent) b = (refl, refl)
 close_ok_counts c _ b = (refl, refl)
 
 connection_close_counts : (l : ConnectionPhase) (b : Wire) → SameCounts (after_connection_close l b) b
-connection_close_counts (link.Closing true received) b = (refl, refl)
+connection_close_counts (link.Closing stage.Queued) b = (refl, refl)
 connection_close_counts _ b = (refl, refl)
 
 part_counts : (c : ℕ) (p : ContentPart) (b : Wire) → SameCounts (after_part c p b) b

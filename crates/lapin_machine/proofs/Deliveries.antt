@@ -42,6 +42,7 @@ use Rattle.lapin_rules.specs.declared.phases.ChannelPhase.{ChannelPhase}
 use Rattle.lapin_rules.specs.declared.phases.ChannelPhase.TheVariants as phase
 use Rattle.lapin_rules.specs.declared.phases.ConnectionPhase.{ConnectionPhase}
 use Rattle.lapin_rules.specs.declared.phases.ConnectionPhase.TheVariants as link
+use Rattle.lapin_rules.specs.declared.phases.CloseStage.TheVariants as stage
 use Rattle.lapin_rules.specs.Incoming.{incoming_of}
 use Rattle.lapin_rules.specs.Phases.{is_lost}
 use Rattle.lapin_rules.specs.Leaving.{left_lists}
@@ -92,7 +93,7 @@ close_ok_box c (phase.Closing who sent) b = refl
 close_ok_box c _ b = refl
 
 connection_close_box : (l : ConnectionPhase) (b : Wire) → (after_connection_close l b).deliveries ≡ b.deliveries
-connection_close_box (link.Closing true received) b = refl
+connection_close_box (link.Closing stage.Queued) b = refl
 connection_close_box _ b = refl
 
 part_box : (c : ℕ) (p : ContentPart) (b : Wire) → (after_part c p b).deliveries ≡ b.deliveries

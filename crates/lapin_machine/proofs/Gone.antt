@@ -21,7 +21,9 @@ use Rattle.lapin_rules.specs.declared.broker_frames.Incoming.TheVariants as inco
 use Rattle.lapin_rules.specs.declared.marks.Settlement.{Settlement}
 use Rattle.lapin_rules.specs.declared.phases.Closer.TheVariants as closer
 use Rattle.lapin_rules.specs.declared.phases.ConnectionPhase.{ConnectionPhase}
+use Rattle.lapin_rules.specs.declared.phases.CloseStage.{CloseStage}
 use Rattle.lapin_rules.specs.declared.phases.ConnectionPhase.TheVariants as link
+use Rattle.lapin_rules.specs.declared.phases.CloseStage.TheVariants as stage
 use Rattle.lapin_rules.specs.declared.phases.ChannelPhase.{ChannelPhase}
 use Rattle.lapin_rules.specs.declared.phases.ChannelPhase.TheVariants as phase
 use Rattle.lapin_rules.specs.Readings.{Readings}
@@ -60,11 +62,8 @@ use Rattle.lapin_machine.proofs.Back.{told_step, next_step}
 
 -- a connection that stays where it is drops nothing
 stays : (l : ConnectionPhase) → is_emptied l l ≡ false
-stays link.Open = refl
-stays (link.Closing true received) = refl
-stays (link.Closing false received) = refl
-stays link.Closed = refl
-stays link.Lost = refl
+stays (link.Closing stage.Queued) = refl
+stays _ = refl
 
 -- an event that drops nothing and ends no opening
 quiet : (l : ConnectionPhase) (r : Option Left) → r ≡ after_ends l l [] r
@@ -103,7 +102,7 @@ select_quiet false m r h = refl
 
 base_up : (l : ConnectionPhase) (s : ChannelState) → is_base (cond (is_up l) s state.Down) ≡ true → l ≡ link.Open
 base_up link.Open s h = refl
-base_up (link.Closing sent received) s h = cc
+base_up (link.Closing _) s h = cc
 base_up link.Closed s h = cc
 base_up link.Lost s h = cc
 
@@ -203,20 +202,21 @@ open_goes readings class number incoming.Other b r e = unheard_goes incoming.Oth
 no_ends : (e : Error) (b : Wire) (r : Option Left) → b.phases ≡ [] → without_ended (ends e (live_channels b.phases)) r ≡ r
 no_ends e b r none = ap (λ ps. without_ended (ends e (live_channels ps)) r) none
 
-closing_goes : (s was : Bool) (readings : Readings) (x : Record) (i : Incoming) (b : Wire) (r : Option Left) → b.link ≡ link.Closing s was → IsShut b → G i (incoming_record b readings x i) b r
-closing_goes true was readings x incoming.ConnectionCloseOk b r e shut = rw e refl
-closing_goes false was readings x incoming.ConnectionCloseOk b r e shut = rw e refl
-closing_goes s true readings x (incoming.ConnectionClose code) b r e shut = rw e (quiet (link.Closing s true) r)
-closing_goes true false readings x (incoming.ConnectionClose code) b r e shut = rw e (sym (no_ends (error.ProtocolError code) b r (shut (ap is_up e))))
-closing_goes false false readings x (incoming.ConnectionClose code) b r e shut = rw e refl
-closing_goes s was readings x (incoming.Reply c q a) b r e shut = rw e (quiet (link.Closing s was) r)
-closing_goes s was readings x (incoming.Settlement c y) b r e shut = rw e (quiet (link.Closing s was) r)
-closing_goes s was readings x (incoming.Content c p) b r e shut = rw e (quiet (link.Closing s was) r)
-closing_goes s was readings x (incoming.Consumer c p) b r e shut = rw e (quiet (link.Closing s was) r)
-closing_goes s was readings x (incoming.ChannelClose c code) b r e shut = rw e (quiet (link.Closing s was) r)
-closing_goes s was readings x (incoming.ChannelCloseOk c) b r e shut = rw e (quiet (link.Closing s was) r)
-closing_goes s was readings x (incoming.Flow c active) b r e shut = rw e (quiet (link.Closing s was) r)
-closing_goes s was readings x incoming.Other b r e shut = rw e (quiet (link.Closing s was) r)
+closing_goes : (s : CloseStage) (readings : Readings) (x : Record) (i : Incoming) (b : Wire) (r : Option Left) → b.link ≡ link.Closing s → IsShut b → G i (incoming_record b readings x i) b r
+closing_goes stage.Queued readings x incoming.ConnectionCloseOk b r e shut = rw e refl
+closing_goes stage.Sent readings x incoming.ConnectionCloseOk b r e shut = rw e refl
+closing_goes stage.Crossed readings x incoming.ConnectionCloseOk b r e shut = rw e refl
+closing_goes stage.Crossed readings x (incoming.ConnectionClose code) b r e shut = rw e (quiet (link.Closing stage.Crossed) r)
+closing_goes stage.Sent readings x (incoming.ConnectionClose code) b r e shut = rw e (sym (no_ends (error.ProtocolError code) b r (shut (ap is_up e))))
+closing_goes stage.Queued readings x (incoming.ConnectionClose code) b r e shut = rw e refl
+closing_goes s readings x (incoming.Reply c q a) b r e shut = rw e (quiet (link.Closing s) r)
+closing_goes s readings x (incoming.Settlement c y) b r e shut = rw e (quiet (link.Closing s) r)
+closing_goes s readings x (incoming.Content c p) b r e shut = rw e (quiet (link.Closing s) r)
+closing_goes s readings x (incoming.Consumer c p) b r e shut = rw e (quiet (link.Closing s) r)
+closing_goes s readings x (incoming.ChannelClose c code) b r e shut = rw e (quiet (link.Closing s) r)
+closing_goes s readings x (incoming.ChannelCloseOk c) b r e shut = rw e (quiet (link.Closing s) r)
+closing_goes s readings x (incoming.Flow c active) b r e shut = rw e (quiet (link.Closing s) r)
+closing_goes s readings x incoming.Other b r e shut = rw e (quiet (link.Closing s) r)
 
 incoming_goes : (l : ConnectionPhase) (readings : Readings) (class number : ℕ) (i : Incoming) (b : Wire) (r : Option Left) → b.link ≡ l → IsShut b → G i (incoming_record b readings (refused class number) i) b r
 incoming_goes link.Open readings class number i b r e shut =
@@ -224,7 +224,7 @@ incoming_goes link.Open readings class number i b r e shut =
     let same : incoming_record b readings (refused class number) i ≡ incoming_up b readings (refused class number) i = rw up refl in
     let P : Record → Type 0 = λ x. G i x b r in
     subst P (sym same) (open_goes readings class number i b r e)
-incoming_goes (link.Closing s was) readings class number i b r e shut = closing_goes s was readings (refused class number) i b r e shut
+incoming_goes (link.Closing s) readings class number i b r e shut = closing_goes s readings (refused class number) i b r e shut
 incoming_goes link.Closed readings class number i b r e shut = rw e refl
 incoming_goes link.Lost readings class number i b r e shut = rw e refl
 
@@ -232,7 +232,7 @@ incoming_goes link.Lost readings class number i b r e shut = rw e refl
 
 lost_goes : (l : ConnectionPhase) (b : Wire) (r : Option Left) → b.link ≡ l → IsShut b → cond (is_lost b.link) r None ≡ after_ends b.link (after_lost b).link (lost_marks b) r
 lost_goes link.Open b r e shut = rw e refl
-lost_goes (link.Closing s was) b r e shut = rw e refl
+lost_goes (link.Closing s) b r e shut = rw e refl
 lost_goes link.Closed b r e shut = rw e refl
 lost_goes link.Lost b r e shut = rw e (sym (no_ends error.ConnectionLost b r (shut (ap is_up e))))
 
@@ -281,13 +281,13 @@ goes_with_ends w e step shut =
 
 lost_down : (l : ConnectionPhase) → is_lost l ≡ true → is_up l ≡ false
 lost_down link.Open h = cc
-lost_down (link.Closing sent received) h = cc
+lost_down (link.Closing _) h = cc
 lost_down link.Closed h = cc
 lost_down link.Lost h = refl
 
 lost_empties : (old new : ConnectionPhase) (ms : List ConfirmMark) (r : Option Left) → (is_lost old ≡ true → r ≡ None) → is_lost new ≡ true → after_ends old new ms r ≡ None
 lost_empties link.Open new ms r silent h = rw (lost_down new h) refl
-lost_empties (link.Closing sent received) new ms r silent h = rw h refl
+lost_empties (link.Closing _) new ms r silent h = rw h refl
 lost_empties link.Closed new ms r silent h = rw h refl
 lost_empties link.Lost new ms r silent h = ap (after_ends link.Lost new ms) (silent refl) ∙ sym (none_goes link.Lost new ms)
 

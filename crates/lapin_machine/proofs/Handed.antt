@@ -6,17 +6,16 @@ use Rattle.std.specs.Option.{option_map}
 use Rattle.lapin_types.specs.declared.leaving.Publish.{Publish}
 use Rattle.lapin_types.specs.declared.leaving.Left.{Left}
 use Rattle.lapin_types.specs.declared.record.Record.{Record}
-use Rattle.lapin_types.specs.declared.record.Record.TheVariants as record_
 use Rattle.lapin_types.specs.declared.event.Event.TheVariants as event
 use Rattle.lapin_rules.specs.Words.{without_first}
 use Rattle.lapin_rules.specs.Frames.{RestEntry, MethodEntry, left_publish}
 use Rattle.lapin_rules.specs.Leaving.{Lists, may_begin, begun_rest, handed_of, left_of, left_lists}
 use Rattle.lapin_rules.specs.Flow.{begins_on, is_flowing, unless_full}
-use Rattle.lapin_rules.specs.Handing.{handed, handed_out, handed_as, began_on, frame_record, sent, left_marks, left_tickets}
+use Rattle.lapin_rules.specs.Handing.{handed_out, handed_as, began_on, frame_record, sent, left_marks, left_tickets}
 use Rattle.lapin_rules.specs.Wire.{Wire, lists_of, with_lists}
 use Rattle.lapin_confirm.specs.Machine as confirm_state
 use Rattle.lapin_ticket.specs.Slots as answers
-use Rattle.lapin_machine.specs.World.{World, next_anew, told_anew, handing, full_in}
+use Rattle.lapin_machine.specs.World.{World, next_anew, handing, full_in}
 use Rattle.lapin_machine.proofs.Seen.{world_is}
 use Rattle.lapin_machine.proofs.Brought.{none_begins, never_begins}
 

@@ -22,7 +22,7 @@ IsHeard _ r b = Unit {0}
 heard_content : (l : ConnectionPhase) (x : Bool) (class number : ℕ) (c : ℕ) (p : ContentPart) → cond (is_up l) (when x (refused class number)) (cond (receives_down l (incoming.Content c p)) record_.Received record_.Passed) ≡ record_.Received → x ≡ true
 heard_content link.Open true class number c p h = refl
 heard_content link.Open false class number c p h = cc
-heard_content (link.Closing sent received) x class number c p h = cc
+heard_content (link.Closing _) x class number c p h = cc
 heard_content link.Closed x class number c p h = cc
 heard_content link.Lost x class number c p h = cc
 

@@ -22,6 +22,7 @@ use Rattle.lapin_rules.specs.declared.phases.ChannelPhase.{ChannelPhase}
 use Rattle.lapin_rules.specs.declared.phases.ChannelPhase.TheVariants as phase
 use Rattle.lapin_rules.specs.declared.phases.ConnectionPhase.{ConnectionPhase}
 use Rattle.lapin_rules.specs.declared.phases.ConnectionPhase.TheVariants as link
+use Rattle.lapin_rules.specs.declared.phases.CloseStage.TheVariants as stage
 use Rattle.lapin_rules.specs.Words.{is_some, with_channel}
 use Rattle.lapin_rules.specs.Phases.{is_live, is_up, phase_in}
 use Rattle.lapin_rules.specs.ChannelClose.{close_sent}
@@ -344,10 +345,8 @@ tied_close_left l c phases ps b t =
     }
 
 up_sent : (l : ConnectionPhase) → is_up (link_close_sent l) ≡ is_up l
-up_sent link.Open = refl
-up_sent (link.Closing sent received) = refl
-up_sent link.Closed = refl
-up_sent link.Lost = refl
+up_sent (link.Closing stage.Queued) = refl
+up_sent _ = refl
 
 tied_link_left : (l : ConnectionPhase) (phases : List (ℕ × ChannelPhase)) (ps : List Publish) (b : PublishStates) → IsTied l phases ps b → IsTied (link_close_sent l) phases ps b
 tied_link_left l phases ps b t = record { queued = t.queued; confirm_modes = t.confirm_modes; done = λ c h. t.done c (ap (λ x. x && is_live (phase_in (at_channel c phases))) (sym (up_sent l)) ∙ h); down = λ h. t.down (sym (up_sent l) ∙ h) }

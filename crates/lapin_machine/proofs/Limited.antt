@@ -1,5 +1,5 @@
 -- Calls and the limit of outstanding confirms: only a try publish is refused at it, and what is not refused is done as its line says.
-use Rattle.std.proofs.Common.{◌≡◌, ℕ, Bool, true, false, cond, ◌&&◌, refl, sym, ◌∙◌, ap}
+use Rattle.std.proofs.Common.{◌≡◌, ℕ, Bool, true, false, cond, ◌&&◌, refl, ◌∙◌, ap}
 use Rattle.lapin_types.specs.declared.call.Call.{Call}
 use Rattle.lapin_types.specs.declared.call.Call.TheVariants as call
 use Rattle.lapin_types.specs.declared.record.Record.{Record}
@@ -9,8 +9,7 @@ use Rattle.lapin_types.specs.Types.error
 use Rattle.lapin_rules.specs.declared.calls.Asked.{Asked}
 use Rattle.lapin_rules.specs.declared.calls.Asked.TheVariants as ask
 use Rattle.lapin_rules.specs.Calls.{asked, is_try, publishes}
-use Rattle.lapin_rules.specs.Asking.{is_allowed, is_held, call_told, call_record, accepted_record, asked_by, is_outstanding}
-use Rattle.lapin_rules.specs.Readings.{Readings}
+use Rattle.lapin_rules.specs.Asking.{is_allowed, is_held, call_record, accepted_record, asked_by, is_outstanding}
 use Rattle.lapin_rules.specs.Wire.{Wire, state_of}
 use Rattle.lapin_machine.specs.World.{World, told_anew, next_anew, asking, readings_of}
 

@@ -10,6 +10,7 @@ use Rattle.lapin_rules.specs.declared.phases.ChannelPhase.{ChannelPhase}
 use Rattle.lapin_rules.specs.declared.phases.ChannelPhase.TheVariants as phase
 use Rattle.lapin_rules.specs.declared.phases.ConnectionPhase.{ConnectionPhase}
 use Rattle.lapin_rules.specs.declared.phases.ConnectionPhase.TheVariants as link
+use Rattle.lapin_rules.specs.declared.phases.CloseStage.TheVariants as stage
 use Rattle.lapin_rules.specs.declared.phases.ConnectionPhase.TheVariants as link
 use Rattle.lapin_rules.specs.declared.phases.ConnectionMove.TheVariants as link_move
 use Rattle.lapin_rules.specs.Words.{is_some, with_channel}
@@ -140,22 +141,22 @@ crossed_over l c phases ended h = let s = stood l c (at_channel c phases) receiv
 -- while this side closes the connection it is not open
 pub sent_down : (l : ConnectionPhase) → is_close_sent l ≡ true → is_up l ≡ false
 sent_down link.Open h = cc
-sent_down (link.Closing sent received) h = refl
+sent_down (link.Closing _) h = refl
 sent_down link.Closed h = refl
 sent_down link.Lost h = refl
 
 -- the broker's close crosses this side's where that has left, and closes the connection where it hasn't
-pub crossed_by : (l : ConnectionPhase) → is_close_sent l ≡ true → link_after l link_move.Close ≡ link.Closing true true
+pub crossed_by : (l : ConnectionPhase) → is_close_sent l ≡ true → link_after l link_move.Close ≡ link.Closing stage.Crossed
 crossed_by link.Open h = cc
-crossed_by (link.Closing true received) h = refl
-crossed_by (link.Closing false received) h = cc
+crossed_by (link.Closing stage.Queued) h = cc
+crossed_by (link.Closing s) h = refl
 crossed_by link.Closed h = cc
 crossed_by link.Lost h = cc
 
 pub closed_by : (l : ConnectionPhase) → is_close_sent l ≡ false → link_after l link_move.Close ≡ link.Closed
 closed_by link.Open h = refl
-closed_by (link.Closing true received) h = cc
-closed_by (link.Closing false received) h = refl
+closed_by (link.Closing stage.Queued) h = refl
+closed_by (link.Closing s) h = cc
 closed_by link.Closed h = refl
 closed_by link.Lost h = refl
 

@@ -21,6 +21,7 @@ use Rattle.lapin_rules.specs.declared.phases.ChannelPhase.{ChannelPhase}
 use Rattle.lapin_rules.specs.declared.phases.ChannelPhase.TheVariants as phase
 use Rattle.lapin_rules.specs.declared.phases.ConnectionPhase.{ConnectionPhase}
 use Rattle.lapin_rules.specs.declared.phases.ConnectionPhase.TheVariants as link
+use Rattle.lapin_rules.specs.declared.phases.CloseStage.TheVariants as stage
 use Rattle.lapin_rules.specs.Incoming.{incoming_of, frame_class, frame_method}
 use Rattle.lapin_rules.specs.Phases.{is_up, is_lost}
 use Rattle.lapin_rules.specs.ConnectionClose.{link_close_sent, link_sent, after_connection_close}
@@ -80,10 +81,8 @@ call_shut c k b h = elim (down_refuses b.link c k b refl) [
 -- ---- frames that leave
 
 close_left : (l : ConnectionPhase) → is_up (link_close_sent l) ≡ is_up l
-close_left link.Open = refl
-close_left (link.Closing sent received) = refl
-close_left link.Closed = refl
-close_left link.Lost = refl
+close_left (link.Closing stage.Queued) = refl
+close_left _ = refl
 
 frame_left : (f : Frame) (l : ConnectionPhase) → is_up (link_sent f l) ≡ is_up l
 frame_left (frame.Method c (method.Connection (connection.Close code text class number))) l = close_left l
@@ -108,8 +107,8 @@ close_ok_up c phase.Crossed b e = up_shut (after_close_ok c phase.Crossed b) e
 
 connection_close_shut : (l : ConnectionPhase) (b : Wire) → IsShut b → b.link ≡ l → IsShut (after_connection_close l b)
 connection_close_shut link.Open b h e = λ _. refl
-connection_close_shut (link.Closing true received) b h e = λ _. h (ap is_up e)
-connection_close_shut (link.Closing false received) b h e = λ _. refl
+connection_close_shut (link.Closing stage.Queued) b h e = λ _. refl
+connection_close_shut (link.Closing s) b h e = λ _. h (ap is_up e)
 connection_close_shut link.Closed b h e = λ _. refl
 connection_close_shut link.Lost b h e = λ _. refl
 
@@ -162,18 +161,17 @@ incoming_shut link.Open readings class number i b e h =
     subst P (sym same) (incoming_open readings class number i b e h)
 incoming_shut link.Closed readings class number i b e h = let none : b.phases ≡ [] = h (ap is_up e) in rw e (λ _. none)
 incoming_shut link.Lost readings class number i b e h = let none : b.phases ≡ [] = h (ap is_up e) in rw e (λ _. none)
-incoming_shut (link.Closing s was) readings class number incoming.ConnectionCloseOk b e h = let none : b.phases ≡ [] = h (ap is_up e) in rw e (λ _. none)
-incoming_shut (link.Closing s true) readings class number (incoming.ConnectionClose code) b e h = let none : b.phases ≡ [] = h (ap is_up e) in rw e (λ _. none)
-incoming_shut (link.Closing true false) readings class number (incoming.ConnectionClose code) b e h = let none : b.phases ≡ [] = h (ap is_up e) in rw e (λ _. none)
-incoming_shut (link.Closing false false) readings class number (incoming.ConnectionClose code) b e h = rw e (λ _. refl)
-incoming_shut (link.Closing s was) readings class number (incoming.Reply c k a) b e h = let none : b.phases ≡ [] = h (ap is_up e) in rw e (λ _. none)
-incoming_shut (link.Closing s was) readings class number (incoming.Settlement c x) b e h = let none : b.phases ≡ [] = h (ap is_up e) in rw e (λ _. none)
-incoming_shut (link.Closing s was) readings class number (incoming.Content c p) b e h = let none : b.phases ≡ [] = h (ap is_up e) in rw e (λ _. none)
-incoming_shut (link.Closing s was) readings class number (incoming.Consumer c p) b e h = let none : b.phases ≡ [] = h (ap is_up e) in rw e (λ _. none)
-incoming_shut (link.Closing s was) readings class number (incoming.ChannelClose c code) b e h = let none : b.phases ≡ [] = h (ap is_up e) in rw e (λ _. none)
-incoming_shut (link.Closing s was) readings class number (incoming.ChannelCloseOk c) b e h = let none : b.phases ≡ [] = h (ap is_up e) in rw e (λ _. none)
-incoming_shut (link.Closing s was) readings class number (incoming.Flow c active) b e h = let none : b.phases ≡ [] = h (ap is_up e) in rw e (λ _. none)
-incoming_shut (link.Closing s was) readings class number incoming.Other b e h = let none : b.phases ≡ [] = h (ap is_up e) in rw e (λ _. none)
+incoming_shut (link.Closing s) readings class number incoming.ConnectionCloseOk b e h = let none : b.phases ≡ [] = h (ap is_up e) in rw e (λ _. none)
+incoming_shut (link.Closing stage.Queued) readings class number (incoming.ConnectionClose code) b e h = rw e (λ _. refl)
+incoming_shut (link.Closing s) readings class number (incoming.ConnectionClose code) b e h = let none : b.phases ≡ [] = h (ap is_up e) in rw e (λ _. none)
+incoming_shut (link.Closing s) readings class number (incoming.Reply c k a) b e h = let none : b.phases ≡ [] = h (ap is_up e) in rw e (λ _. none)
+incoming_shut (link.Closing s) readings class number (incoming.Settlement c x) b e h = let none : b.phases ≡ [] = h (ap is_up e) in rw e (λ _. none)
+incoming_shut (link.Closing s) readings class number (incoming.Content c p) b e h = let none : b.phases ≡ [] = h (ap is_up e) in rw e (λ _. none)
+incoming_shut (link.Closing s) readings class number (incoming.Consumer c p) b e h = let none : b.phases ≡ [] = h (ap is_up e) in rw e (λ _. none)
+incoming_shut (link.Closing s) readings class number (incoming.ChannelClose c code) b e h = let none : b.phases ≡ [] = h (ap is_up e) in rw e (λ _. none)
+incoming_shut (link.Closing s) readings class number (incoming.ChannelCloseOk c) b e h = let none : b.phases ≡ [] = h (ap is_up e) in rw e (λ _. none)
+incoming_shut (link.Closing s) readings class number (incoming.Flow c active) b e h = let none : b.phases ≡ [] = h (ap is_up e) in rw e (λ _. none)
+incoming_shut (link.Closing s) readings class number incoming.Other b e h = let none : b.phases ≡ [] = h (ap is_up e) in rw e (λ _. none)
 
 -- ---- ackers, and consumers that are let go
 

@@ -19,6 +19,7 @@ use Rattle.lapin_rules.specs.declared.broker_frames.Incoming.{Incoming}
 use Rattle.lapin_rules.specs.declared.broker_frames.Incoming.TheVariants as incoming
 use Rattle.lapin_rules.specs.declared.phases.ConnectionPhase.{ConnectionPhase}
 use Rattle.lapin_rules.specs.declared.phases.ConnectionPhase.TheVariants as link
+use Rattle.lapin_rules.specs.declared.phases.CloseStage.TheVariants as stage
 use Rattle.lapin_rules.specs.Phases.{is_lost}
 use Rattle.lapin_rules.specs.declared.phases.Closer.TheVariants as closer
 use Rattle.lapin_rules.specs.ChannelClose.{failed_at_close, close_ok_end}
@@ -136,7 +137,8 @@ end_none c None b = tt
 end_none c (Some e) b = join_none (cancels_at c b.requests) (OpeningFailed c None e ∷ []) (cancels_none c b.requests) (refl, tt)
 
 connection_close_none : (l : ConnectionPhase) (code : ℕ) (b : Wire) → gives_none (connection_close_tickets l code b)
-connection_close_none (link.Closing true received) code b = tt
+connection_close_none (link.Closing stage.Sent) code b = tt
+connection_close_none (link.Closing stage.Crossed) code b = tt
 connection_close_none _ code b = failed_all_none (error.ProtocolError code) b
 
 start_none : (c n : ℕ) (s : Start) (w : Whole) → gives_none (start_tickets c n s w)

@@ -23,13 +23,15 @@ use Rattle.lapin_rules.specs.declared.marks.Settlement.{Settlement}
 use Rattle.lapin_rules.specs.declared.phases.Closer.{Closer}
 use Rattle.lapin_rules.specs.declared.phases.Closer.TheVariants as closer
 use Rattle.lapin_rules.specs.declared.phases.ConnectionPhase.{ConnectionPhase}
+use Rattle.lapin_rules.specs.declared.phases.CloseStage.{CloseStage}
 use Rattle.lapin_rules.specs.declared.phases.ConnectionPhase.TheVariants as link
+use Rattle.lapin_rules.specs.declared.phases.CloseStage.TheVariants as stage
 use Rattle.lapin_rules.specs.declared.phases.ChannelPhase.{ChannelPhase}
 use Rattle.lapin_rules.specs.declared.phases.ChannelPhase.TheVariants as phase
 use Rattle.lapin_rules.specs.Words.{is_some, with_channel}
 use Rattle.lapin_rules.specs.Readings.{Readings}
 use Rattle.lapin_rules.specs.Incoming.{incoming_of, frame_class, frame_method}
-use Rattle.lapin_rules.specs.Phases.{is_up}
+use Rattle.lapin_rules.specs.Phases.{is_up, has_left}
 use Rattle.lapin_rules.specs.Polls.{is_confirmed, is_returned, is_aside}
 use Rattle.lapin_rules.specs.Leaving.{left_lists}
 use Rattle.lapin_rules.specs.Drops.{is_off, publish_channel}
@@ -98,7 +100,7 @@ closing_tied c who b k h t =
 call_tied : (c : ℕ) (a : Asked) (b : Wire) (k : ConfirmState) → b.published ≡ length k.publish_states.cells → T b k → is_allowed a (state_of c b) ≡ true → T (after_call c a b) (fold after_mark k (call_marks c a b))
 call_tied c ask.Open b k n t h = tied_opened b.link c b.phases b.publishes k (closed_over b.link c b.phases h).0 t
 call_tied c (ask.CloseChannel code text) b k n t h = closing_tied c closer.Application b k h t
-call_tied c (ask.CloseConnection code text) b k n t h = tied_down b.link (link.Closing false false) failed_at_connection_close b.phases b.publishes k t
+call_tied c (ask.CloseConnection code text) b k n t h = tied_down b.link (link.Closing stage.Queued) failed_at_connection_close b.phases b.publishes k t
 call_tied c (ask.Method row) b k n t h = tied_called b.link c row.method b.phases b.publishes k t
 call_tied c (ask.Consume m tag queue o) b k n t h = t
 call_tied c (ask.Limit limit) b k n t h = tied_limited b.link c limit b.phases b.publishes k.publish_states t
@@ -115,8 +117,8 @@ sent_tied (Some l) b k t = tied_sent l.frame b.link b.phases b.publishes k.publi
 
 -- ---- frames of the broker
 
-unheard_tied : (b : Wire) (k : ConfirmState) → T b k → IsTied (link.Closing false false) [] [] (fold after_mark k (ends failed_at_unexpected (live_channels b.phases))).publish_states
-unheard_tied b k t = tied_down b.link (link.Closing false false) failed_at_unexpected b.phases b.publishes k t
+unheard_tied : (b : Wire) (k : ConfirmState) → T b k → IsTied (link.Closing stage.Queued) [] [] (fold after_mark k (ends failed_at_unexpected (live_channels b.phases))).publish_states
+unheard_tied b k t = tied_down b.link (link.Closing stage.Queued) failed_at_unexpected b.phases b.publishes k t
 
 and_left : (x y : Bool) → (x && y) ≡ true → x ≡ true
 and_left true y h = refl
@@ -213,22 +215,22 @@ unsent_tied : (s : Bool) (l m : ConnectionPhase) (b : Wire) (k : ConfirmState) �
 unsent_tied true l m b k down t = tied_further l m b.phases b.publishes k.publish_states down t
 unsent_tied false l m b k down t = tied_dropped l m b.phases b.publishes k.publish_states down t
 
-closing_incoming : (s was : Bool) (readings : Readings) (r : Record) (i : Incoming) (b : Wire) (k : ConfirmState) → b.link ≡ link.Closing s was → T b k → H i (incoming_record b readings r i) b k
-closing_incoming s was readings r incoming.ConnectionCloseOk b k e t = let down : is_up b.link ≡ false = ap is_up e in rw e (unsent_tied s b.link link.Closed b k down t)
-closing_incoming s true readings r (incoming.ConnectionClose code) b k e t = rw e (at_link (link.Closing s true) b k e t)
-closing_incoming true false readings r (incoming.ConnectionClose code) b k e t =
+closing_incoming : (s : CloseStage) (readings : Readings) (r : Record) (i : Incoming) (b : Wire) (k : ConfirmState) → b.link ≡ link.Closing s → T b k → H i (incoming_record b readings r i) b k
+closing_incoming s readings r incoming.ConnectionCloseOk b k e t = let down : is_up b.link ≡ false = ap is_up e in rw e (unsent_tied (has_left s) b.link link.Closed b k down t)
+closing_incoming stage.Crossed readings r (incoming.ConnectionClose code) b k e t = rw e (at_link (link.Closing stage.Crossed) b k e t)
+closing_incoming stage.Sent readings r (incoming.ConnectionClose code) b k e t =
     let down : is_up b.link ≡ false = ap is_up e in
-    let P : ConfirmState → Type 0 = λ x. IsTied (link.Closing true true) b.phases b.publishes x.publish_states in
-    rw e (subst P (sym (no_ends (error.ProtocolError code) b k (t.down down))) (tied_further b.link (link.Closing true true) b.phases b.publishes k.publish_states down t))
-closing_incoming false false readings r (incoming.ConnectionClose code) b k e t = rw e (tied_down b.link link.Closed (error.ProtocolError code) b.phases b.publishes k t)
-closing_incoming s was readings r (incoming.Reply c q a) b k e t = rw e (at_link (link.Closing s was) b k e t)
-closing_incoming s was readings r (incoming.Settlement c x) b k e t = rw e (at_link (link.Closing s was) b k e t)
-closing_incoming s was readings r (incoming.Content c p) b k e t = rw e (at_link (link.Closing s was) b k e t)
-closing_incoming s was readings r (incoming.Consumer c p) b k e t = rw e (at_link (link.Closing s was) b k e t)
-closing_incoming s was readings r (incoming.ChannelClose c code) b k e t = rw e (at_link (link.Closing s was) b k e t)
-closing_incoming s was readings r (incoming.ChannelCloseOk c) b k e t = rw e (at_link (link.Closing s was) b k e t)
-closing_incoming s was readings r (incoming.Flow c active) b k e t = rw e (at_link (link.Closing s was) b k e t)
-closing_incoming s was readings r incoming.Other b k e t = rw e (at_link (link.Closing s was) b k e t)
+    let P : ConfirmState → Type 0 = λ x. IsTied (link.Closing stage.Crossed) b.phases b.publishes x.publish_states in
+    rw e (subst P (sym (no_ends (error.ProtocolError code) b k (t.down down))) (tied_further b.link (link.Closing stage.Crossed) b.phases b.publishes k.publish_states down t))
+closing_incoming stage.Queued readings r (incoming.ConnectionClose code) b k e t = rw e (tied_down b.link link.Closed (error.ProtocolError code) b.phases b.publishes k t)
+closing_incoming s readings r (incoming.Reply c q a) b k e t = rw e (at_link (link.Closing s) b k e t)
+closing_incoming s readings r (incoming.Settlement c x) b k e t = rw e (at_link (link.Closing s) b k e t)
+closing_incoming s readings r (incoming.Content c p) b k e t = rw e (at_link (link.Closing s) b k e t)
+closing_incoming s readings r (incoming.Consumer c p) b k e t = rw e (at_link (link.Closing s) b k e t)
+closing_incoming s readings r (incoming.ChannelClose c code) b k e t = rw e (at_link (link.Closing s) b k e t)
+closing_incoming s readings r (incoming.ChannelCloseOk c) b k e t = rw e (at_link (link.Closing s) b k e t)
+closing_incoming s readings r (incoming.Flow c active) b k e t = rw e (at_link (link.Closing s) b k e t)
+closing_incoming s readings r incoming.Other b k e t = rw e (at_link (link.Closing s) b k e t)
 
 incoming_tied : (l : ConnectionPhase) (readings : Readings) (class number : ℕ) (i : Incoming) (b : Wire) (k : ConfirmState) → b.link ≡ l → T b k → H i (incoming_record b readings (refused class number) i) b k
 incoming_tied link.Open readings class number i b k e t =
@@ -236,7 +238,7 @@ incoming_tied link.Open readings class number i b k e t =
     let same : incoming_record b readings (refused class number) i ≡ incoming_up b readings (refused class number) i = rw up refl in
     let P : Record → Type 0 = λ r. H i r b k in
     subst P (sym same) (open_tied readings class number i b k e t)
-incoming_tied (link.Closing s was) readings class number i b k e t = closing_incoming s was readings (refused class number) i b k e t
+incoming_tied (link.Closing s) readings class number i b k e t = closing_incoming s readings (refused class number) i b k e t
 incoming_tied link.Closed readings class number i b k e t = rw e (at_link link.Closed b k e t)
 incoming_tied link.Lost readings class number i b k e t = rw e (at_link link.Lost b k e t)
 
@@ -247,7 +249,7 @@ lost_tied link.Lost b k e t =
     let P : ConfirmState → Type 0 = λ x. IsTied link.Lost b.phases b.publishes x.publish_states in
     rw e (subst P (sym (no_ends error.ConnectionLost b k (t.down (ap is_up e)))) (at_link link.Lost b k e t))
 lost_tied link.Open b k e t = rw e (tied_down b.link link.Lost error.ConnectionLost b.phases b.publishes k t)
-lost_tied (link.Closing s was) b k e t = rw e (tied_down b.link link.Lost error.ConnectionLost b.phases b.publishes k t)
+lost_tied (link.Closing s) b k e t = rw e (tied_down b.link link.Lost error.ConnectionLost b.phases b.publishes k t)
 lost_tied link.Closed b k e t = rw e (tied_down b.link link.Lost error.ConnectionLost b.phases b.publishes k t)
 
 -- a result that is given is there

@@ -1,5 +1,5 @@
 -- A session that stands for a history goes on as the history does, where no frame was given back to it; and the numbers that it has left.
-use Rattle.std.proofs.Common.{◌≡◌, ◌∙◌, ℕ, suc, ◌+◌, ◌≤◌, ◌<◌, ◌^◌, List, [], ◌∷◌, ◌++◌, length, None, refl, sym, arith}
+use Rattle.std.proofs.Common.{◌≡◌, ℕ, suc, ◌+◌, ◌≤◌, ◌<◌, ◌^◌, [], ◌∷◌, ◌++◌, length, None, refl, sym, arith}
 use Rattle.lapin_types.specs.declared.event.Event.{Event}
 use Rattle.lapin_rules.specs.History.{History, rec}
 use Rattle.lapin_machine.specs.World.{World, told_by}

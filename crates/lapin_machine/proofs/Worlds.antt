@@ -25,6 +25,7 @@ use Rattle.lapin_rules.specs.declared.phases.ChannelPhase.{ChannelPhase}
 use Rattle.lapin_rules.specs.declared.phases.ChannelPhase.TheVariants as phase
 use Rattle.lapin_rules.specs.declared.phases.ConnectionPhase.{ConnectionPhase}
 use Rattle.lapin_rules.specs.declared.phases.ConnectionPhase.TheVariants as link
+use Rattle.lapin_rules.specs.declared.phases.CloseStage.TheVariants as stage
 use Rattle.lapin_rules.specs.declared.broker_frames.Incoming.{Incoming}
 use Rattle.lapin_rules.specs.declared.broker_frames.Incoming.TheVariants as incoming
 use Rattle.lapin_rules.specs.Words.{with_channel}
@@ -203,7 +204,7 @@ module _ (l : ConnectionPhase) (p : List (ℕ × ChannelPhase)) (o : OutboxState
 
   pub connection_close_seen : (c code : ℕ) (text : List ℕ) (l2 : ConnectionPhase) (P : List (ℕ × ChannelPhase)) (O : OutboxState) (R : List (ℕ × List Request)) (C : Channels) (J : Deliveries) (S T : List (Option Slot)) (B : ConfirmState)
       → is_base (state_of c old.wire) ≡ true
-      → l2 ≡ link.Closing false false
+      → l2 ≡ link.Closing stage.Queued
       → P ≡ []
       → S ≡ fold after_mark s (cancels_on (live_channels p) rs ++ ticket.AllFailed failed_at_connection_close ∷ [])
       → O ≡ with_lists (with_method (record { channel = c; method = method.Connection (connection.Close code text 0 0); ticket = Some (length S + 1) }) no_lists) (emptied_outbox o)
@@ -276,7 +277,7 @@ module _ (l : ConnectionPhase) (p : List (ℕ × ChannelPhase)) (o : OutboxState
   -- ---- frames that are not received
 
   pub unexpected_seen : (f : Incoming) (class number : ℕ) (l2 : ConnectionPhase) (P : List (ℕ × ChannelPhase)) (O : OutboxState) (R : List (ℕ × List Request)) (C : Channels) (J : Deliveries) (S : List (Option Slot)) (B : ConfirmState)
-      → l2 ≡ link.Closing false false
+      → l2 ≡ link.Closing stage.Queued
       → P ≡ []
       → O ≡ with_lists (with_method (record { channel = 0; method = unexpected_close class number; ticket = None }) no_lists) (emptied_outbox o)
       → R ≡ []
@@ -387,18 +388,18 @@ module _ (l : ConnectionPhase) (p : List (ℕ × ChannelPhase)) (o : OutboxState
       (eS ∙ sym (marks-join done [] s) ∙ ap (λ o. fold after_mark s (done ++ end_tickets c o old.wire)) (sym h))
       (sym (ap (λ x. back.unless_crossed c x o.returned) h))
 
-  pub connection_close_crossed : (code : ℕ) (l2 : ConnectionPhase) (O : OutboxState) → is_close_sent l ≡ true → p ≡ [] → l2 ≡ link.Closing true true
+  pub connection_close_crossed : (code : ℕ) (l2 : ConnectionPhase) (O : OutboxState) → is_close_sent l ≡ true → p ≡ [] → l2 ≡ link.Closing stage.Crossed
       → O ≡ with_lists (with_method (record { channel = 0; method = method.Connection connection.CloseOk; ticket = None }) o.lists) o
       → seen l2 p O rs cs i s b ≡ receiving (incoming.ConnectionClose code) record_.Received old
   connection_close_crossed code l2 O h none el eO = at l h
     where
       at : (k : ConnectionPhase) → is_close_sent k ≡ true → seen l2 p O rs cs i s b ≡ receiving (incoming.ConnectionClose code) record_.Received (seen k p o rs cs i s b)
       at link.Open h = cc
-      at (link.Closing true received) h =
+      at (link.Closing stage.Queued) h = cc
+      at (link.Closing t) h =
           world_is _ _ (base_is _ _ (frame_max_is eO) el refl (rest_is eO) (methods_are eO) (publishes_are eO) refl refl refl refl (ap (λ (ps : List (ℕ × ChannelPhase)). fold deliveries.after_mark i (deliveries_ends (error.ProtocolError code) (live_channels ps))) (sym none)))
           (ap (λ (ps : List (ℕ × ChannelPhase)). fold confirm_state.after_mark b (ends (error.ProtocolError code) (live_channels ps))) (sym none)) refl
           (returned_is eO)
-      at (link.Closing false received) h = cc
       at link.Closed h = cc
       at link.Lost h = cc
 
@@ -429,8 +430,8 @@ module _ (l : ConnectionPhase) (p : List (ℕ × ChannelPhase)) (o : OutboxState
 
       at : (k : ConnectionPhase) → is_close_sent k ≡ false → seen l2 P O R C J S B ≡ receiving (incoming.ConnectionClose code) record_.Received (seen k p o rs cs i s b)
       at link.Open h = by_parts link.Open refl refl refl
-      at (link.Closing true received) h = cc
-      at (link.Closing false received) h = by_parts (link.Closing false received) refl refl refl
+      at (link.Closing stage.Queued) h = by_parts (link.Closing stage.Queued) refl refl refl
+      at (link.Closing t) h = cc
       at link.Closed h = by_parts link.Closed refl refl refl
       at link.Lost h = by_parts link.Lost refl refl refl
 

@@ -7,6 +7,7 @@ use Rattle.lapin_types.specs.Types.method
 use Rattle.lapin_types.specs.Types.connection
 use Rattle.lapin_rules.specs.declared.phases.ConnectionPhase.{ConnectionPhase}
 use Rattle.lapin_rules.specs.declared.phases.ConnectionPhase.TheVariants as link
+use Rattle.lapin_rules.specs.declared.phases.CloseStage.TheVariants as stage
 use Rattle.lapin_rules.specs.Frames.{MethodEntry}
 use Rattle.lapin_rules.specs.Leaving.{Lists}
 
@@ -32,7 +33,7 @@ pub record IsCloseAlone (l : Lists) : Type 0 where
 
 -- where this side's close has not left, it waits alone
 abbrev pub WaitsAlone : ConnectionPhase → Lists → Type 0
-WaitsAlone (link.Closing false received) l = IsCloseAlone l
+WaitsAlone (link.Closing stage.Queued) l = IsCloseAlone l
 WaitsAlone _ l = Unit {0}
 
 -- what waits without this side's `connection.close`

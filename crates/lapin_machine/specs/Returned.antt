@@ -15,10 +15,11 @@ use Rattle.lapin_rules.specs.declared.broker_frames.Incoming.{Incoming}
 use Rattle.lapin_rules.specs.declared.broker_frames.Incoming.TheVariants as incoming
 use Rattle.lapin_rules.specs.declared.phases.ConnectionPhase.{ConnectionPhase}
 use Rattle.lapin_rules.specs.declared.phases.ConnectionPhase.TheVariants as link
+use Rattle.lapin_rules.specs.declared.phases.CloseStage.TheVariants as stage
 use Rattle.lapin_rules.specs.Incoming.{incoming_of}
 use Rattle.lapin_rules.specs.ConfirmMarks.{ConfirmMark}
 use Rattle.lapin_rules.specs.ConfirmMarks as mark
-use Rattle.lapin_rules.specs.Phases.{is_up, is_lost}
+use Rattle.lapin_rules.specs.Phases.{is_up, is_lost, has_left}
 use Rattle.lapin_rules.specs.Wire.{Wire, state_of, phase_of}
 use Rattle.lapin_rules.specs.Asking.{is_allowed, asked_by}
 use Rattle.lapin_rules.specs.ChannelClose.{close_ok_end}
@@ -49,7 +50,8 @@ unless_crossed c (Some e) r = returned_off c r
 
 -- the broker's `connection.close` drops all that waits, but where this side's close has left
 abbrev pub unless_closing : ConnectionPhase → Option Left → Option Left
-unless_closing (link.Closing true received) r = r
+unless_closing (link.Closing stage.Sent) r = r
+unless_closing (link.Closing stage.Crossed) r = r
 unless_closing l r = None
 
 -- a frame that is received: the broker's closes, and its answers to closes of this side
@@ -84,7 +86,7 @@ after_event b _ told r = r
 -- side has not left
 abbrev pub is_emptied : ConnectionPhase → ConnectionPhase → Bool
 is_emptied link.Open l = not (is_up l)
-is_emptied (link.Closing sent received) l = is_lost l || (not sent && is_shut l)
+is_emptied (link.Closing s) l = is_lost l || (not (has_left s) && is_shut l)
 is_emptied link.Closed l = is_lost l
 is_emptied link.Lost l = false
 

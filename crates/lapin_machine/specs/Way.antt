@@ -1,6 +1,6 @@
 -- How a session goes on: the record of an event, what the event leaves, and the session's states, lists and full channels. What is
 -- built on a session is said once over any way: by its history it is what the rules say, and by the machine what the code does.
-use Rattle.std.specs.Prelude.{ℕ, Bool, List, [], ◌∷◌, ◌++◌}
+use Rattle.std.specs.Prelude.{ℕ, Bool, [], ◌∷◌, ◌++◌}
 use Rattle.lapin_types.specs.declared.event.Event.{Event}
 use Rattle.lapin_types.specs.declared.record.Record.{Record}
 use Rattle.lapin_rules.specs.Wire.{Wire}

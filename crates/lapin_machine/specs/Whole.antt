@@ -1,6 +1,6 @@
 -- The room that a whole content needs: a get's message takes the next acker and a place for the answer, a delivery the next acker and a
 -- place with its consumer, a returned message a place with the confirms.
-use Rattle.std.specs.Prelude.{◌≡◌, ℕ, ◌+◌, ◌<◌, ◌^◌, true, Option, Some, None, IsSome, Result, Ok, Err, length}
+use Rattle.std.specs.Prelude.{◌≡◌, ℕ, ◌<◌, ◌^◌, true, Option, Some, None, IsSome, Result, Ok, Err}
 use Rattle.lapin_types.specs.Types.{Error}
 use Rattle.lapin_types.specs.Types.error
 use Rattle.lapin_content.specs.declared.start.Start.{Start}

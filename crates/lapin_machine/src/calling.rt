@@ -196,11 +196,7 @@ impl Session {
             payload,
             properties,
         };
-        let _queued = self
-            .outstanding
-            .outbox
-            .push_publish(alloc, publish)
-            .unwrap();
+        let _queued = self.outstanding.outbox.push_publish_reserved(publish);
         Ok(Published {
             ticket: Ticket { number: ticket },
             confirm: PublisherConfirm { number: confirm },

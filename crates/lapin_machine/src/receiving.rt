@@ -4,7 +4,10 @@
 ghost use Rattle.std.specs.Prelude.{◌≡◌, ℕ, true, false, IfOk, OnOk, OnErr, if◌then◌else◌};
 ghost use Rattle.lapin_tables.specs.ByChannel.{at_channel};
 ghost use Rattle.lapin_types.specs.declared.event.Event.TheVariants as event;
+ghost use Rattle.lapin_types.specs.Types.basic;
 ghost use Rattle.lapin_types.specs.Types.error;
+ghost use Rattle.lapin_types.specs.Types.frame;
+ghost use Rattle.lapin_types.specs.Types.method;
 ghost use Rattle.lapin_types.specs.declared.record.Record.TheVariants.{Received, Passed, Refused};
 ghost use Rattle.lapin_confirm.specs.PublishStates.{single_of, multiple_of, selected_on};
 ghost use Rattle.lapin_rules.specs.declared.broker_frames.Incoming.{Incoming as AnIncoming};
@@ -41,7 +44,9 @@ use lapin_rules::{
     sort_frame, unexpected_close,
 };
 use lapin_ticket::Place;
-use lapin_types::{Answer, ChannelMethod, Error, Frame, Method, NoMemory, Record, ReplyKind};
+use lapin_types::{
+    Answer, BasicMethod, ChannelMethod, Error, Frame, Method, NoMemory, Record, ReplyKind,
+};
 use std::alloc::Global;
 
 impl Session {
@@ -74,6 +79,37 @@ impl Session {
         } else {
             self.receive_down(alloc, incoming)
         }
+    }
+
+    /// Receives a `basic.ack`, as `receive` does the frame that says it: without that frame.
+    ///
+    /// # Errors
+    /// Those of `receive`.
+    #[tactic(auto, using(crate::proofs::Causes::numbers_so))]
+    pub fn receive_ack(
+        &mut self,
+        alloc: Global,
+        channel: u16,
+        delivery_tag: u64,
+        multiple: bool,
+    ) -> Result<Heard, Error>
+        ensures told { HeardTold result (told_by self.old (event.Receive (frame.Method channel (method.Basic (basic.Ack delivery_tag multiple))))) }
+        ensures ok { WasHeard result (self.new ≡ next self.old (event.Receive (frame.Method channel (method.Basic (basic.Ack delivery_tag multiple))))) (self.new ≡ self.old) }
+        ensures cause { ReceiveCause result (incoming_of (frame.Method channel (method.Basic (basic.Ack delivery_tag multiple)))) self.old.wire }
+    {
+        if self.link.is_up() && receives_on(self.channel_state(channel)) {
+            let settlement = Settlement {
+                kind: SettleKind::Ack,
+                tag: delivery_tag,
+                multiple,
+            };
+            return self.receive_settlement(alloc, channel, settlement);
+        }
+        let method = Method::Basic(BasicMethod::Ack {
+            delivery_tag,
+            multiple,
+        });
+        self.receive(alloc, Frame::Method(channel, method))
     }
 
     // A frame that comes while the connection is open.

@@ -28,8 +28,8 @@ use crate::session::Session;
 use lapin_outbox::Replies;
 use lapin_outstanding::Outstanding;
 use lapin_rules::{
-    ChannelMove, ChannelPhase, ConnectionMove, ConnectionPhase, close_ok_end, consumers_end,
-    has_sent_close,
+    ChannelMove, ChannelPhase, CloseStage, ConnectionMove, ConnectionPhase, close_ok_end,
+    consumers_end, has_sent_close,
 };
 use lapin_types::{ChannelMethod, ConnectionMethod, Error, Method, ReplyKind, Request};
 use std::alloc::Global;
@@ -222,7 +222,7 @@ fn drop_unsent(link: ConnectionPhase, outstanding: &mut Outstanding)
     ensures requests { outstanding.new.replies ≡ outstanding.old.replies }
     ensures tickets { outstanding.new.tickets ≡ outstanding.old.tickets }
 {
-    if let ConnectionPhase::Closing { sent: false, .. } = link {
+    if let ConnectionPhase::Closing(CloseStage::Queued) = link {
         outstanding.drop_waiting();
     }
 }
@@ -231,7 +231,10 @@ fn drop_unsent(link: ConnectionPhase, outstanding: &mut Outstanding)
 fn is_close_sent(link: ConnectionPhase) -> bool
     ensures { result ≡ is_close_sent_lem link }
 {
-    matches!(link, ConnectionPhase::Closing { sent: true, .. })
+    matches!(
+        link,
+        ConnectionPhase::Closing(CloseStage::Sent | CloseStage::Crossed)
+    )
 }
 
 // The ticket of a request, if there is a request and somebody holds its ticket.

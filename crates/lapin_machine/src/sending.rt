@@ -8,7 +8,8 @@ ghost use Rattle.lapin_rules.specs.Flow.{is_flowing, unless_full};
 ghost use Rattle.lapin_rules.specs.ConnectionClose.{link_sent};
 ghost use Rattle.lapin_rules.specs.ChannelClose.{phases_sent};
 ghost use Rattle.lapin_rules.specs.Handing.{frame_record as frame_record_lem};
-ghost use Rattle.lapin_rules.specs.Handing.{left_marks, frame_marks};
+ghost use Rattle.lapin_rules.specs.Handing.{left_marks, left_tickets, frame_marks};
+ghost use Rattle.lapin_ticket.specs.Slots as answers;
 ghost use Rattle.lapin_confirm.specs.Machine as confirm_state;
 ghost use Rattle.lapin_tables.specs.ByChannel.{on_channel};
 ghost use Rattle.lapin_rules.specs.ChannelClose.{close_sent as close_sent_lem};
@@ -25,6 +26,7 @@ ghost use Rattle.lapin_machine.specs.Tied.{CanRegister};
 
 use crate::session::Session;
 use lapin_confirm::Confirms;
+use lapin_outstanding::Outstanding;
 use lapin_phases::Phases;
 use lapin_rules::{ChannelMove, ChannelPhase, ConnectionMove, ConnectionPhase};
 use lapin_types::{
@@ -45,6 +47,16 @@ impl Session {
         ensures ok { OnOk result (self.new ≡ next self.old (event.Next flow)) }
         ensures err { OnErr result (self.new ≡ self.old) }
         ensures cause { OnlyMemory result }
+    {
+        Ok(self.hand_frame(alloc, flow)?)
+    }
+
+    /// Does what `next_frame` does, for whoever needs no other error beside this one: a frame is wide, and so it is given on as it
+    /// comes. Where there is no memory nothing changes.
+    pub fn hand_frame(&mut self, alloc: Global, flow: bool) -> Result<Option<Left>, NoMemory>
+        ensures told { IfOk result (λ left. left ≡ given self.old.returned (handed flow (full_in self.old.confirm_state) self.old.wire)) }
+        ensures ok { OnOk result (self.new ≡ next self.old (event.Next flow)) }
+        ensures err { OnErr result (self.new ≡ self.old) }
     {
         if self.retrying() {
             return self.hand_again(alloc);
@@ -89,23 +101,22 @@ impl Session {
     }
 
     // Hands out the frame that was given back once more. It has left before, so nothing goes by it.
-    fn hand_again(&mut self, alloc: Global) -> Result<Option<Left>, Error>
+    #[inline(never)]
+    fn hand_again(&mut self, alloc: Global) -> Result<Option<Left>, NoMemory>
         requires { is_retried self.old.returned ≡ true }
         ensures told { IfOk result (λ left. left ≡ given self.old.returned None) }
         ensures ok { OnOk result (self.new ≡ with_returned None self.old) }
         ensures err { OnErr result (self.new ≡ self.old) }
-        ensures cause { OnlyMemory result }
     {
-        Ok(self.outstanding.outbox.pop(alloc, false, &[])?)
+        self.outstanding.outbox.pop(alloc, false, &[])
     }
 
     // Hands out the next frame, where none was given back.
-    fn hand_next(&mut self, alloc: Global, flow: bool) -> Result<Option<Left>, Error>
+    fn hand_next(&mut self, alloc: Global, flow: bool) -> Result<Option<Left>, NoMemory>
         requires { is_retried self.old.returned ≡ false }
         ensures told { IfOk result (λ left. left ≡ handed flow (full_in self.old.confirm_state) self.old.wire) }
         ensures ok { OnOk result (self.new ≡ next_anew self.old (event.Next flow)) }
         ensures err { OnErr result (self.new ≡ self.old) }
-        ensures cause { OnlyMemory result }
     {
         let flowing = self.flows(flow);
         self.hand_out(alloc, flowing)
@@ -118,32 +129,30 @@ impl Session {
         flow && !self.phases.is_any_paused()
     }
 
-    // Hands out the next frame, where none was given back and it is known whether content flows. The frame is given on whole, as the
-    // outbox handed it out: taken apart it would be moved once more.
-    fn hand_out(&mut self, alloc: Global, flowing: bool) -> Result<Option<Left>, Error>
+    // Hands out the next frame, where none was given back and it is known whether content flows. The frame is looked at where it
+    // stands and given on as the outbox handed it out: a value so wide costs much where it is taken apart.
+    fn hand_out(&mut self, alloc: Global, flowing: bool) -> Result<Option<Left>, NoMemory>
         requires { is_retried self.old.returned ≡ false }
         ensures told { IfOk result (λ left. left ≡ handed_out (unless_full flowing (full_in self.old.confirm_state)) self.old.wire) }
         ensures ok { OnOk result (self.new ≡ handing (unless_full flowing (full_in self.old.confirm_state)) self.old) }
         ensures err { OnErr result (self.new ≡ self.old) }
-        ensures cause { OnlyMemory result }
     {
-        match self
+        let given = self
             .outstanding
             .outbox
-            .pop_unless(alloc, flowing, &self.confirms)
-        {
-            Ok(handed) => {
-                let Some(left) = &handed else {
-                    return Ok(handed);
-                };
-                confirms_left(&mut self.confirms, left);
-                self.outstanding.leave(left);
-                link_left(&mut self.link, &left.frame);
-                phases_left(&mut self.phases, &left.frame);
-                Ok(handed)
+            .pop_unless(alloc, flowing, &self.confirms);
+        if let Ok(handed) = &given {
+            if let Some(left) = handed {
+                leaves(
+                    &mut self.confirms,
+                    &mut self.outstanding,
+                    &mut self.link,
+                    &mut self.phases,
+                    left,
+                );
             }
-            Err(NoMemory) => Err(Error::NoMemory),
         }
+        given
     }
 
     pub(crate) fn step_next(&mut self, alloc: Global, flow: bool) -> Result<Record, Error>
@@ -163,6 +172,29 @@ fn frame_record(left: Option<Left>) -> Record
         Some(left) => Record::Frame(left.frame),
         None => Record::NoFrame,
     }
+}
+
+// A frame leaves.
+#[inline(never)]
+fn leaves(
+    confirms: &mut Confirms,
+    outstanding: &mut Outstanding,
+    link: &mut ConnectionPhase,
+    phases: &mut Phases,
+    left: &Left,
+)
+    requires { CanRegister left.now confirms.old.what.publish_states.cells }
+    ensures confirms { confirms.new.what ≡ fold confirm_state.after_mark confirms.old.what (left_marks (Some left.now)) }
+    ensures slots { outstanding.new.tickets.slots ≡ fold answers.after_mark outstanding.old.tickets.slots (left_tickets (Some left.now)) }
+    ensures outbox { outstanding.new.outbox ≡ outstanding.old.outbox }
+    ensures replies { outstanding.new.replies ≡ outstanding.old.replies }
+    ensures link { link.new ≡ link_sent left.now.frame link.old }
+    ensures phases { phases.new.entries ≡ phases_sent left.now.frame phases.old.entries }
+{
+    confirms_left(confirms, left);
+    outstanding.leave(left);
+    link_left(link, &left.frame);
+    phases_left(phases, &left.frame);
 }
 
 // A frame leaves: the first `confirm.select` selects, the method frame of a publish takes a tag.

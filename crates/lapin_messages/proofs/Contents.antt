@@ -21,6 +21,7 @@ use Rattle.lapin_rules.specs.declared.phases.ChannelPhase.TheVariants as phase
 use Rattle.lapin_rules.specs.declared.phases.Closer.TheVariants as closer
 use Rattle.lapin_rules.specs.declared.phases.ConnectionPhase.{ConnectionPhase}
 use Rattle.lapin_rules.specs.declared.phases.ConnectionPhase.TheVariants as link
+use Rattle.lapin_rules.specs.declared.phases.CloseStage.TheVariants as stage
 use Rattle.lapin_rules.specs.declared.broker_frames.ConsumerPart.{ConsumerPart}
 use Rattle.lapin_rules.specs.declared.broker_frames.ConsumerPart.TheVariants as consumer
 use Rattle.lapin_rules.specs.declared.broker_frames.Incoming.{Incoming}
@@ -109,11 +110,8 @@ close_ok_leaves c (phase.Closing who sent) b = Drops c _ refl refl
 close_ok_leaves c _ b = Still refl refl
 
 connection_leaves : (l : ConnectionPhase) (b : Wire) (xs : List ConfirmMark) → Leaves b (after_connection_close l b) xs
-connection_leaves (link.Closing true x) b xs = Falls refl
-connection_leaves (link.Closing false x) b xs = Falls refl
-connection_leaves link.Open b xs = Falls refl
-connection_leaves link.Closed b xs = Falls refl
-connection_leaves link.Lost b xs = Falls refl
+connection_leaves (link.Closing stage.Queued) b xs = Falls refl
+connection_leaves _ b xs = Falls refl
 
 received_leaves : (i : Incoming) (b : Wire) → is_content i ≡ false → Leaves b (incoming_wire i record_.Received b) (incoming_marks i record_.Received b)
 received_leaves (incoming.Reply c k a) b h = Still refl refl

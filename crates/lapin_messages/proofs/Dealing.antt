@@ -31,6 +31,7 @@ use Rattle.lapin_rules.specs.declared.phases.ChannelPhase.TheVariants as phase
 use Rattle.lapin_rules.specs.declared.phases.Closer.TheVariants as closer
 use Rattle.lapin_rules.specs.declared.phases.ConnectionPhase.{ConnectionPhase}
 use Rattle.lapin_rules.specs.declared.phases.ConnectionPhase.TheVariants as link
+use Rattle.lapin_rules.specs.declared.phases.CloseStage.TheVariants as stage
 use Rattle.lapin_rules.specs.declared.broker_frames.ConsumerPart.{ConsumerPart}
 use Rattle.lapin_rules.specs.declared.broker_frames.ConsumerPart.TheVariants as consumer
 use Rattle.lapin_rules.specs.declared.broker_frames.ContentPart.{ContentPart}
@@ -165,8 +166,8 @@ abbrev answer_entry : MethodEntry
 answer_entry = unasked 0 (method.Connection connection.CloseOk)
 
 connection_deals : (l : ConnectionPhase) (code : ℕ) (b : Wire) → Deals false b (after_connection_close l b) (ends_all (error.ProtocolError code) b) (deliveries_ends_all (error.ProtocolError code) b)
-connection_deals (link.Closing true x) code b = falls b _ _ refl (plain_push answer_entry refl (λ t. refl))
-connection_deals (link.Closing false x) code b = falls b _ _ refl (alone_waits answer_entry refl (λ t. refl))
+connection_deals (link.Closing stage.Queued) code b = falls b _ _ refl (alone_waits answer_entry refl (λ t. refl))
+connection_deals (link.Closing s) code b = falls b _ _ refl (plain_push answer_entry refl (λ t. refl))
 connection_deals link.Open code b = falls b _ _ refl (alone_waits answer_entry refl (λ t. refl))
 connection_deals link.Closed code b = falls b _ _ refl (alone_waits answer_entry refl (λ t. refl))
 connection_deals link.Lost code b = falls b _ _ refl (alone_waits answer_entry refl (λ t. refl))

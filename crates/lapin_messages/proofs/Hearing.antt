@@ -173,7 +173,7 @@ module _ (class number : ℕ) (b : Wire) (readings : Readings) where
       by : (u : Bool) (l : ConnectionPhase) → b.link ≡ l → cond u (when (receives_consumer c (consumer.ConsumeOk t) b) (refused class number)) (cond (receives_down b.link (incoming.Consumer c (consumer.ConsumeOk t))) record_.Received record_.Passed) ≡ record_.Received → hears c b ≡ true
       by true l e g = reply_heard c b (when_received _ _ (λ z. cc) g)
       by false link.Open e g = absurd (let z : record_.Passed ≡ record_.Received = sym (ap (λ k. cond (receives_down k (incoming.Consumer c (consumer.ConsumeOk t))) record_.Received record_.Passed) e) ∙ g in cc)
-      by false (link.Closing x y) e g = absurd (let z : record_.Passed ≡ record_.Received = sym (ap (λ k. cond (receives_down k (incoming.Consumer c (consumer.ConsumeOk t))) record_.Received record_.Passed) e) ∙ g in cc)
+      by false (link.Closing x) e g = absurd (let z : record_.Passed ≡ record_.Received = sym (ap (λ k. cond (receives_down k (incoming.Consumer c (consumer.ConsumeOk t))) record_.Received record_.Passed) e) ∙ g in cc)
       by false link.Closed e g = absurd (let z : record_.Passed ≡ record_.Received = sym (ap (λ k. cond (receives_down k (incoming.Consumer c (consumer.ConsumeOk t))) record_.Received record_.Passed) e) ∙ g in cc)
       by false link.Lost e g = absurd (let z : record_.Passed ≡ record_.Received = sym (ap (λ k. cond (receives_down k (incoming.Consumer c (consumer.ConsumeOk t))) record_.Received record_.Passed) e) ∙ g in cc)
 
@@ -222,7 +222,7 @@ passed_content b readings f h d =
   where
     by : (i : Incoming) → is_content i ≡ true → (l : ConnectionPhase) → cond (receives_down l i) record_.Received record_.Passed ≡ record_.Passed
     by (incoming.Content c p) h link.Open = refl
-    by (incoming.Content c p) h (link.Closing x y) = refl
+    by (incoming.Content c p) h (link.Closing x) = refl
     by (incoming.Content c p) h link.Closed = refl
     by (incoming.Content c p) h link.Lost = refl
     by (incoming.Reply c k a) h l = absurd cc

@@ -121,6 +121,7 @@ impl Begun {
     }
 
     /// Takes out the next frame; None where all have left. Where there is no memory nothing is taken.
+    #[inline(never)]
     pub(crate) fn next(&mut self, alloc: Global) -> Result<Option<Left>, NoMemory>
         ensures told { IfOk result (λ left. left ≡ first_left self.old) }
         ensures ok { OnOk result (self.new ≡ drop 1 self.old) }

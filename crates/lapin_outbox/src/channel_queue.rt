@@ -56,7 +56,7 @@ impl<T: Keyed> ChannelQueue<T> {
         }
     }
 
-    /// Makes room for the next `push`. The entries stay.
+    /// Makes room for the next `push_reserved`. The entries stay.
     pub(crate) fn reserve(&mut self) -> Result<(), NoMemory>
         ensures room { OnOk result (0 < self.new.spare) }
         ensures same { self.new.entries ≡ self.old.entries }
@@ -67,20 +67,14 @@ impl<T: Keyed> ChannelQueue<T> {
         self.order.reserve()
     }
 
-    /// Adds an entry behind the others. Where there is no memory nothing is added.
-    pub(crate) fn push(&mut self, entry: T) -> Result<(), NoMemory>
-        ensures ok { OnOk result (self.new.entries ≡ self.old.entries ++ entry ∷ []) }
-        ensures err { OnErr result (self.new.entries ≡ self.old.entries) }
-
-        // In the room that `reserve` made it does not fail, and it uses up no more than one place.
-        ensures room { 0 < self.old.spare → IsOk result }
+    /// Adds an entry behind the others, in the room that was made.
+    pub(crate) fn push_reserved(&mut self, entry: T)
+        requires { 0 < self.old.spare }
+        ensures entries { self.new.entries ≡ self.old.entries ++ entry ∷ [] }
         ensures used { self.old.spare ≤ self.new.spare + 1 }
     {
-        self.entries.reserve(1)?;
-        self.order.reserve()?;
         self.order.push_reserved(entry.key());
         self.entries.push_reserved(entry);
-        Ok(())
     }
 
     /// Whether there is no entry.

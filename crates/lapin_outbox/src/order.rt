@@ -73,6 +73,7 @@ impl Order {
     pub(crate) fn push_reserved(&mut self, key: u16)
         requires { 0 < self.old.spare }
         ensures keys { self.new.keys ≡ self.old.keys ++ Some key ∷ [] }
+        ensures numbers { length self.old.keys + 1 < 2 ^ 64 }
         ensures used { self.old.spare ≤ self.new.spare + 1 }
     {
         let number = self.links.push_reserved(Link { key, next: 0 });

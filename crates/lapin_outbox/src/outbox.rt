@@ -119,8 +119,29 @@ impl Outbox {
             drop(method);
             return Ok(Pushed::Poisoned(error));
         }
-        self.queues.push_method(channel, method, ticket)?;
+        self.queues.reserve()?;
+        self.queues.push_method_reserved(channel, method, ticket);
         Ok(Pushed::Queued)
+    }
+
+    /// Does what `push_method` does, in the room that was made. It takes no memory.
+    pub fn push_method_reserved(
+        &mut self,
+        channel: u16,
+        method: Method,
+        ticket: Option<u64>,
+    ) -> Pushed
+        requires { 0 < self.old.spare }
+        ensures told { result ≡ push_told (poison_on channel self.old.what) }
+        ensures what { self.new.what ≡ method_pushed (record { channel = channel; method = method; ticket = ticket }) self.old.what }
+        ensures used { self.old.spare ≤ self.new.spare + 1 }
+    {
+        if let Some(error) = self.poisoned(channel) {
+            drop(method);
+            return Pushed::Poisoned(error);
+        }
+        self.queues.push_method_reserved(channel, method, ticket);
+        Pushed::Queued
     }
 
     /// Queues a publish behind all publishes. Where its channel or the outbox is poisoned nothing is queued, and the answer is
@@ -139,11 +160,27 @@ impl Outbox {
             drop(publish);
             return Ok(Pushed::Poisoned(error));
         }
-        self.queues.push_publish(publish)?;
+        self.queues.reserve()?;
+        self.queues.push_publish_reserved(publish);
         Ok(Pushed::Queued)
     }
 
-    /// Makes room for the next `push_method` or `push_publish`. Nothing else changes. The room lasts until a push uses it.
+    /// Does what `push_publish` does, in the room that was made. It takes no memory.
+    pub fn push_publish_reserved(&mut self, publish: Publish) -> Pushed
+        requires { 0 < self.old.spare }
+        ensures told { result ≡ push_told (poison_on publish.channel self.old.what) }
+        ensures what { self.new.what ≡ publish_pushed publish self.old.what }
+        ensures used { self.old.spare ≤ self.new.spare + 1 }
+    {
+        if let Some(error) = self.poisoned(publish.channel) {
+            drop(publish);
+            return Pushed::Poisoned(error);
+        }
+        self.queues.push_publish_reserved(publish);
+        Pushed::Queued
+    }
+
+    /// Makes room for the next push of a method or of a publish. Nothing else changes. The room lasts until a push uses it.
     pub fn reserve(&mut self, _alloc: Global) -> Result<(), NoMemory>
         ensures room { OnOk result (0 < self.new.spare) }
         ensures same { self.new.what ≡ self.old.what }

@@ -6,10 +6,10 @@
 //! an entry at a time. Neither a frame that was given back nor poison is known here: the outbox, which alone calls this file,
 //! looks at them first.
 
-ghost use Rattle.std.specs.Prelude.{◌≡◌, ℕ, true, ◌+◌, ◌<◌, ◌≤◌, ◌++◌, ◌∷◌, [], IsOk, IfOk, OnOk, OnErr, slice_get, is_some, if◌then◌else◌};
+ghost use Rattle.std.specs.Prelude.{◌≡◌, ℕ, true, ◌+◌, ◌<◌, ◌≤◌, ◌++◌, ◌∷◌, [], IsOk, IfOk, OnOk, OnErr, slice_get, drop, is_some, if◌then◌else◌};
 ghost use Rattle.std.specs.List.{find};
 ghost use Rattle.std.specs.Option.{option_map};
-ghost use Rattle.lapin_rules.specs.Frames.{left_publish};
+ghost use Rattle.lapin_rules.specs.Frames.{left_method, left_publish};
 ghost use Rattle.lapin_rules.specs.Leaving.{handed_of, left_lists, may_begin, begun_rest};
 ghost use Rattle.lapin_rules.specs.Words.{without_first};
 ghost use Rattle.lapin_rules.specs.Flow.{unless_full};
@@ -124,38 +124,26 @@ impl Queues {
         }
     }
 
-    /// Adds a method of a channel behind all methods, with the ticket of its call, if it has one. Where there is no memory
-    /// nothing is added.
-    pub(crate) fn push_method(
-        &mut self,
-        channel: u16,
-        method: Method,
-        ticket: Option<u64>,
-    ) -> Result<(), NoMemory>
-        ensures ok { OnOk result (self.new.lists ≡ with_method (record { channel = channel; method = method; ticket = ticket }) self.old.lists) }
-        ensures err { OnErr result (self.new.lists ≡ self.old.lists) }
-
-        // In the room that `reserve` made it does not fail, and it uses up no more than one place.
-        ensures room { 0 < self.old.spare → IsOk result }
+    /// Adds a method of a channel behind all methods, with the ticket of its call, if it has one, in the room that was made.
+    pub(crate) fn push_method_reserved(&mut self, channel: u16, method: Method, ticket: Option<u64>)
+        requires { 0 < self.old.spare }
+        ensures lists { self.new.lists ≡ with_method (record { channel = channel; method = method; ticket = ticket }) self.old.lists }
         ensures used { self.old.spare ≤ self.new.spare + 1 }
     {
-        self.methods.push(Waiting {
+        self.methods.push_reserved(Waiting {
             channel,
             method,
             ticket,
-        })
+        });
     }
 
-    /// Adds a publish behind all publishes. Where there is no memory nothing is added.
-    pub(crate) fn push_publish(&mut self, publish: Publish) -> Result<(), NoMemory>
-        ensures ok { OnOk result (self.new.lists ≡ with_publish publish self.old.lists) }
-        ensures err { OnErr result (self.new.lists ≡ self.old.lists) }
-
-        // In the room that `reserve` made it does not fail, and it uses up no more than one place.
-        ensures room { 0 < self.old.spare → IsOk result }
+    /// Adds a publish behind all publishes, in the room that was made.
+    pub(crate) fn push_publish_reserved(&mut self, publish: Publish)
+        requires { 0 < self.old.spare }
+        ensures lists { self.new.lists ≡ with_publish publish self.old.lists }
         ensures used { self.old.spare ≤ self.new.spare + 1 }
     {
-        self.publishes.push(publish)
+        self.publishes.push_reserved(publish);
     }
 
     /// Makes room for the next push. The lists stay.
@@ -178,7 +166,8 @@ impl Queues {
 
     /// Hands out the next frame: the first of what follows the begun publish, else the first method, else, where `flow` is
     /// true, the method frame of the first publish whose channel isn't full, whose header and bodies follow; else none. Where
-    /// there is no memory the lists stay.
+    /// there is no memory the lists stay. What is handed out is given on as it comes: a value so wide costs much where it is
+    /// taken apart and put together again.
     pub(crate) fn pop<F: FullChannels>(
         &mut self,
         alloc: Global,
@@ -192,13 +181,12 @@ impl Queues {
         ensures err { OnErr result (self.new.lists ≡ self.old.lists) }
         ensures room { self.old.spare ≤ self.new.spare }
     {
-        if let Some(begun) = &mut self.begun {
-            if let Some(left) = begun.next(alloc)? {
-                return Ok(Some(left));
-            }
+        match &mut self.begun {
+            Some(begun) if !begun.is_empty() => return begun.next(alloc),
+            _ => {}
         }
-        if let Some(waiting) = self.methods.pop() {
-            return Ok(Some(waiting.leave()));
+        if !self.methods.is_empty() {
+            return Ok(self.pop_method());
         }
         begin_publish(&mut self.publishes, &mut self.begun, frame_max, flow, full)
     }
@@ -283,6 +271,17 @@ impl Queues {
         }
     }
 
+    // Takes out the first method.
+    #[inline(never)]
+    fn pop_method(&mut self) -> Option<Left>
+        ensures told { result ≡ option_map left_method (slice_get self.old.lists.methods 0) }
+        ensures lists { self.new.lists ≡ record { rest = self.old.lists.rest; methods = drop 1 self.old.lists.methods; publishes = self.old.lists.publishes } }
+        ensures room { self.old.spare ≤ self.new.spare }
+    {
+        let waiting = self.methods.pop()?;
+        Some(waiting.leave())
+    }
+
     // Whether the begun publish has left whole, or there is none.
     fn rest_is_empty(&self) -> bool
         ensures { result ≡ is_empty self.now.lists.rest }
@@ -295,6 +294,7 @@ impl Queues {
 }
 
 // The first publish that may begin begins: its method leaves, and its other frames become what follows the begun publish.
+#[inline(never)]
 fn begin_publish<F: FullChannels>(
     publishes: &mut ChannelQueue<Publish>,
     begun: &mut Option<Begun>,

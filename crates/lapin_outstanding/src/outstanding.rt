@@ -125,8 +125,7 @@ impl Outstanding {
         let ticket = self.tickets.give(channel, at_leaving);
         let _queued = self
             .outbox
-            .push_method(alloc, channel, method, Some(ticket))
-            .unwrap();
+            .push_method_reserved(channel, method, Some(ticket));
         ticket
     }
 
@@ -149,10 +148,7 @@ impl Outstanding {
         ensures replies { self.new.replies ≡ self.old.replies }
         ensures tickets { self.new.tickets ≡ self.old.tickets }
     {
-        let _queued = self
-            .outbox
-            .push_method(alloc, channel, method, None)
-            .unwrap();
+        let _queued = self.outbox.push_method_reserved(channel, method, None);
     }
 
     /// Queues a method and opens the request of the reply that it awaits, for which nobody holds a ticket, in the room that was

@@ -13,6 +13,7 @@ use Rattle.lapin_types.specs.declared.request.ReplyKind.TheVariants as reply_kin
 use Rattle.lapin_delivery.specs.Marks.{DeliveryMark}
 use Rattle.lapin_rules.specs.declared.phases.ConnectionPhase.{ConnectionPhase}
 use Rattle.lapin_rules.specs.declared.phases.ConnectionPhase.TheVariants as link
+use Rattle.lapin_rules.specs.declared.phases.CloseStage.TheVariants as stage
 use Rattle.lapin_rules.specs.declared.phases.ConnectionMove.TheVariants as link_move
 use Rattle.lapin_rules.specs.declared.broker_frames.Incoming.{Incoming}
 use Rattle.lapin_rules.specs.declared.broker_frames.Incoming.TheVariants as incoming
@@ -21,6 +22,7 @@ use Rattle.lapin_rules.specs.TicketReadings.{TicketMark}
 use Rattle.lapin_rules.specs.TicketReadings as ticket
 use Rattle.lapin_rules.specs.Leaving.{Lists}
 use Rattle.lapin_rules.specs.Moves.{link_after}
+use Rattle.lapin_rules.specs.Phases.{has_left, is_crossed}
 use Rattle.lapin_rules.specs.Drops.{no_lists}
 use Rattle.lapin_rules.specs.Requests.{first_request, without_kind, ticket_of, resolved_with}
 use Rattle.lapin_rules.specs.Wire.{Wire, lists_of, with_lists, requests_of, queued, noted}
@@ -68,8 +70,8 @@ link_sent _ l = l
 
 -- the frame is received though the connection is not open: that is closing, and it is close-ok or the broker's first `connection.close`
 abbrev pub receives_down : ConnectionPhase → Incoming → Bool
-receives_down (link.Closing sent received) incoming.ConnectionCloseOk = true
-receives_down (link.Closing sent received) (incoming.ConnectionClose code) = not received
+receives_down (link.Closing s) incoming.ConnectionCloseOk = true
+receives_down (link.Closing s) (incoming.ConnectionClose code) = not (is_crossed s)
 receives_down _ _ = false
 
 -- ---- the broker's `connection.close`: every opening ends
@@ -77,7 +79,8 @@ receives_down _ _ = false
 -- It is answered by close-ok. Where this side's close has left the connection is still closing. Else it is closed, and this
 -- side's close, if it was called, is dropped with all that waits.
 abbrev pub after_connection_close : ConnectionPhase → Wire → Wire
-after_connection_close (link.Closing true received) b = noted 0 (method.Connection connection.CloseOk) (record b { link = link_after (link.Closing true received) link_move.Close })
+after_connection_close (link.Closing stage.Sent) b = noted 0 (method.Connection connection.CloseOk) (record b { link = link_after (link.Closing stage.Sent) link_move.Close })
+after_connection_close (link.Closing stage.Crossed) b = noted 0 (method.Connection connection.CloseOk) (record b { link = link_after (link.Closing stage.Crossed) link_move.Close })
 after_connection_close l b = noted 0 (method.Connection connection.CloseOk) (down (link_after l link_move.Close) b)
 
 -- what the broker's `connection.close` does to confirms: every live opening ends with the broker's code
@@ -90,7 +93,8 @@ connection_close_deliveries code b = deliveries_ends_all (error.ProtocolError co
 
 -- every open ticket fails, but where this side's close has left: its ticket, the only open one, awaits the broker's close-ok
 abbrev pub connection_close_tickets : ConnectionPhase → ℕ → Wire → List TicketMark
-connection_close_tickets (link.Closing true received) code b = []
+connection_close_tickets (link.Closing stage.Sent) code b = []
+connection_close_tickets (link.Closing stage.Crossed) code b = []
 connection_close_tickets l code b = all_failed (error.ProtocolError code) b
 
 -- ---- the broker's `connection.close-ok`: the connection is closed
@@ -101,7 +105,7 @@ unless_sent sent l = if sent then l else no_lists
 
 -- no close of this side waits to leave: it has left, or none is under way
 abbrev pub has_sent : ConnectionPhase → Bool
-has_sent (link.Closing sent received) = sent
+has_sent (link.Closing s) = has_left s
 has_sent _ = true
 
 -- the connection is closed, and the request of this side's close is gone; a close that has not left is dropped

@@ -7,6 +7,7 @@ use Rattle.lapin_rules.specs.declared.phases.ChannelMove.{ChannelMove}
 use Rattle.lapin_rules.specs.declared.phases.ChannelMove.TheVariants as move
 use Rattle.lapin_rules.specs.declared.phases.ConnectionPhase.{ConnectionPhase}
 use Rattle.lapin_rules.specs.declared.phases.ConnectionPhase.TheVariants as link
+use Rattle.lapin_rules.specs.declared.phases.CloseStage.TheVariants as stage
 use Rattle.lapin_rules.specs.declared.phases.ConnectionMove.{ConnectionMove}
 use Rattle.lapin_rules.specs.declared.phases.ConnectionMove.TheVariants as link_move
 
@@ -25,14 +26,15 @@ after (phase.Closing who true) move.Close = phase.Crossed
 after p move.Close = phase.Closed
 after p move.CloseOk = phase.Closed
 
--- Where a move leads the connection. A close of this side that begins has neither left nor been crossed; as it leaves, a connection
--- that is closing is so with its close sent. The broker's close closes it, but where this side's close has left: then the two
--- crossed, and the broker's close-ok is still to come. The loss leads from anywhere to lost.
+-- Where a move leads the connection. A close of this side that begins is queued, and sent as it leaves. The broker's close closes the
+-- connection, but where this side's close has left: then the two crossed, and the broker's close-ok is still to come. The loss leads
+-- from anywhere to lost.
 abbrev pub link_after : ConnectionPhase → ConnectionMove → ConnectionPhase
-link_after l link_move.CloseBegun = link.Closing false false
-link_after (link.Closing sent received) link_move.CloseLeft = link.Closing true received
+link_after l link_move.CloseBegun = link.Closing stage.Queued
+link_after (link.Closing stage.Queued) link_move.CloseLeft = link.Closing stage.Sent
 link_after l link_move.CloseLeft = l
-link_after (link.Closing true received) link_move.Close = link.Closing true true
+link_after (link.Closing stage.Sent) link_move.Close = link.Closing stage.Crossed
+link_after (link.Closing stage.Crossed) link_move.Close = link.Closing stage.Crossed
 link_after l link_move.Close = link.Closed
 link_after l link_move.CloseOk = link.Closed
 link_after l link_move.Lost = link.Lost

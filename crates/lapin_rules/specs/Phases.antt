@@ -7,6 +7,8 @@ use Rattle.lapin_rules.specs.declared.phases.ChannelPhase.{ChannelPhase}
 use Rattle.lapin_rules.specs.declared.phases.ChannelPhase.TheVariants as phase
 use Rattle.lapin_rules.specs.declared.phases.ConnectionPhase.{ConnectionPhase}
 use Rattle.lapin_rules.specs.declared.phases.ConnectionPhase.TheVariants as link
+use Rattle.lapin_rules.specs.declared.phases.CloseStage.{CloseStage}
+use Rattle.lapin_rules.specs.declared.phases.CloseStage.TheVariants as stage
 
 -- a channel's state while the connection is open
 abbrev pub channel_state : ChannelPhase → ChannelState
@@ -19,7 +21,7 @@ channel_state phase.Crossed = state.Crossed
 -- the state of the connection as a question for the states gives it
 abbrev pub connection_state : ConnectionPhase → ConnectionState
 connection_state link.Open = link_state.Open
-connection_state (link.Closing sent received) = link_state.Closing
+connection_state (link.Closing s) = link_state.Closing
 connection_state link.Closed = link_state.Closed
 connection_state link.Lost = link_state.Lost
 
@@ -39,6 +41,16 @@ is_paused _ = false
 abbrev pub is_up : ConnectionPhase → Bool
 is_up link.Open = true
 is_up _ = false
+
+-- this side's `connection.close` has left
+abbrev pub has_left : CloseStage → Bool
+has_left stage.Queued = false
+has_left _ = true
+
+-- this side's `connection.close` has left, and the broker's first came since
+abbrev pub is_crossed : CloseStage → Bool
+is_crossed stage.Crossed = true
+is_crossed _ = false
 
 -- the connection is lost, whatever it was before
 abbrev pub is_lost : ConnectionPhase → Bool

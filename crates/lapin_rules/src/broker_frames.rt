@@ -16,7 +16,7 @@ ghost use Rattle.lapin_rules.specs.ChannelClose.{receives_close as receives_clos
 ghost use Rattle.lapin_rules.specs.ConnectionClose.{receives_down as receives_down_lem};
 
 use crate::marks::{SettleKind, Settlement};
-use crate::phases::ConnectionPhase;
+use crate::phases::{CloseStage, ConnectionPhase};
 use lapin_content::Start;
 use lapin_types::{
     AccessMethod, Answer, BasicMethod, ChannelMethod, ChannelState, ConfirmMethod,
@@ -399,8 +399,11 @@ pub fn receives_down(link: ConnectionPhase, incoming: &Incoming) -> bool
     ensures { result ≡ receives_down_lem link incoming.now }
 {
     match (link, incoming) {
-        (ConnectionPhase::Closing { .. }, Incoming::ConnectionCloseOk) => true,
-        (ConnectionPhase::Closing { received, .. }, Incoming::ConnectionClose(_)) => !received,
+        (ConnectionPhase::Closing(_), Incoming::ConnectionCloseOk) => true,
+        (ConnectionPhase::Closing(stage), Incoming::ConnectionClose(_)) => !matches!(
+            stage,
+            CloseStage::Crossed
+        ),
         _ => false,
     }
 }

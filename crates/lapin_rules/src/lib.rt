@@ -23,4 +23,4 @@ pub use closes::{
 };
 pub use flow::FullChannels;
 pub use marks::{AtLeaving, SettleKind, Settlement};
-pub use phases::{ChannelMove, ChannelPhase, Closer, ConnectionMove, ConnectionPhase};
+pub use phases::{ChannelMove, ChannelPhase, CloseStage, Closer, ConnectionMove, ConnectionPhase};

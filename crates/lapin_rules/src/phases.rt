@@ -41,18 +41,24 @@ pub enum ChannelPhase {
     Crossed,
 }
 
+/// How far a close of the connection by this side has come.
+#[derive(Clone, Copy, Debug, PartialEq, Eq)]
+pub enum CloseStage {
+    /// `connection.close` waits to leave.
+    Queued,
+    /// It has left.
+    Sent,
+    /// It has left, and the broker's first `connection.close` came since; the broker's `connection.close-ok` is awaited.
+    Crossed,
+}
+
 /// Where the connection stands.
 #[derive(Clone, Copy, Debug, PartialEq, Eq)]
 pub enum ConnectionPhase {
     /// In use.
     Open,
     /// A close of this side is under way.
-    Closing {
-        /// Whether this side's `connection.close` has left.
-        sent: bool,
-        /// Whether the broker's first `connection.close` came since.
-        received: bool,
-    },
+    Closing(CloseStage),
     /// Closed by both sides.
     Closed,
     /// Gone without a close.
@@ -164,32 +170,21 @@ impl ConnectionPhase {
         ensures { result ≡ link_after_lem self happening }
     {
         match happening {
-            ConnectionMove::CloseBegun => ConnectionPhase::Closing {
-                sent: false,
-                received: false,
+            ConnectionMove::CloseBegun => ConnectionPhase::Closing(CloseStage::Queued),
+            ConnectionMove::CloseLeft => match self {
+                ConnectionPhase::Closing(CloseStage::Queued) => ConnectionPhase::Closing(
+                    CloseStage::Sent,
+                ),
+                link => link,
             },
-            ConnectionMove::CloseLeft => self.with_close_left(),
             ConnectionMove::Close => match self {
-                ConnectionPhase::Closing { sent: true, .. } => ConnectionPhase::Closing {
-                    sent: true,
-                    received: true,
-                },
+                ConnectionPhase::Closing(CloseStage::Sent | CloseStage::Crossed) => {
+                    ConnectionPhase::Closing(CloseStage::Crossed)
+                }
                 _ => ConnectionPhase::Closed,
             },
             ConnectionMove::CloseOk => ConnectionPhase::Closed,
             ConnectionMove::Lost => ConnectionPhase::Lost,
-        }
-    }
-
-    fn with_close_left(self) -> ConnectionPhase
-        ensures { result ≡ link_after_lem self ConnectionMove.CloseLeft }
-    {
-        match self {
-            ConnectionPhase::Closing { received, .. } => ConnectionPhase::Closing {
-                sent: true,
-                received,
-            },
-            link => link,
         }
     }
 
@@ -206,7 +201,7 @@ impl ConnectionPhase {
     {
         match self {
             ConnectionPhase::Open => ConnectionState::Open,
-            ConnectionPhase::Closing { .. } => ConnectionState::Closing,
+            ConnectionPhase::Closing(_) => ConnectionState::Closing,
             ConnectionPhase::Closed => ConnectionState::Closed,
             ConnectionPhase::Lost => ConnectionState::Lost,
         }

@@ -4,9 +4,9 @@ use Rattle.std.specs.Prelude.{◌&&◌, ◌||◌, ◌==◌}
 use Rattle.std.specs.Int.{from_le_bytes, w16}
 use Rattle.std.specs.Simd.{first_chunks}
 use Rattle.std.proofs.lemmas.Bool.{cases_lt, eqb-true}
-use Rattle.std.proofs.lemmas.List.{append_assoc, get_or_past, get_or-drop, get_or-take, drop-drop, take_all, take_more}
+use Rattle.std.proofs.lemmas.List.{append_assoc, append-nil, get_or_past, get_or-drop, get_or-take, drop-drop, take_all, take_more}
 use Rattle.std.specs.Str.{is_utf8, IsUtf8}
-use Rattle.std.proofs.lemmas.Str.{IsUtf8-from_is_utf8, is_utf8-from_IsUtf8}
+use Rattle.std.proofs.lemmas.Str.{IsUtf8-nil, IsUtf8-from_is_utf8, is_utf8-from_IsUtf8}
 use Rattle.std.proofs.lemmas.Bool.{lt-ltb, leb-true, le-leb}
 use Rattle.hex.specs.Hex.{IsBytes, encode_lower, encode_with, lower_digits}
 use Rattle.hex.proofs.HexLemmas.{length-encode_with}
@@ -211,6 +211,12 @@ encode_step front after bs i x y lt ex ey inv =
 pub encode_done : (front after bs : List ℕ) (i : ℕ) → length bs ≤ i → after ≡ front ++ encode_lower (take i bs) → after ≡ front ++ encode_lower bs
 encode_done front after bs i h inv = inv ∙ ap (λ (b : List ℕ). front ++ encode_lower b) (take_all i bs h)
 
+-- no bytes have no digits
+pub encode_none : (front bs : List ℕ) → length bs ≡ 0 → front ≡ front ++ encode_lower bs
+unfolding encode_with
+encode_none front [] e = sym (append-nil front)
+encode_none front (b ∷ bs) e = absurd cc
+
 -- ---- behind an x
 
 pub bytes_are_pairs : (piece digits : List ℕ) → piece ≡ 120 ∷ digits → scalar_of bytes piece ≡ scalar_of pairs digits
@@ -239,6 +245,12 @@ pub text_some : (piece v : List ℕ) → scalar_of bytes piece ≡ Some v → le
 text_some piece v e short utf8 =
     let k = scalar_found bytes piece v e in
     ap (scalar_of text) k.is ∙ scalar_again text v (true_both (leb (length v) 255 && is_utf8 v) (are_bytes v) (true_both (leb (length v) 255) (is_utf8 v) (le-leb _ _ short) (is_utf8-from_IsUtf8 v utf8)) k.fits)
+
+-- an x alone is the empty text
+pub text_empty : (digits : List ℕ) → length digits ≡ 0 → scalar_of text (120 ∷ digits) ≡ Some []
+unfolding encode_with
+text_empty [] e = text_some (120 ∷ []) [] (scalar_again bytes [] refl) (omega arith) IsUtf8-nil
+text_empty (d ∷ ds) e = absurd cc
 
 -- the bytes are those of no text
 pub text_other : (piece v : List ℕ) → scalar_of bytes piece ≡ Some v → (length v ≤ 255 → IsUtf8 v → ⊥) → scalar_of text piece ≡ None

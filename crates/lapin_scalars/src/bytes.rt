@@ -79,6 +79,7 @@ pub fn short_of(alloc: Global, piece: &[u8]) -> Result<ShortString, ReadError>
     ensures { GivesValue (λ s. s) result (scalar_of a_text piece.now) }
 {
     match behind(b'x', piece) {
+        Some([]) => Ok(ShortString::empty(alloc)?),
         Some(digits) => {
             if digits.len() > 64 {
                 return many_of(alloc, digits);

@@ -2,7 +2,7 @@
 //!
 //! Where memory runs out, the text may end within the value: the caller drops it.
 
-ghost use Rattle.std.specs.Prelude.{◌≡◌, ◌++◌, ◌+◌, ◌<◌, ◌≤◌, ◌^◌, OnOk, decimal, vec_len, vec_capacity};
+ghost use Rattle.std.specs.Prelude.{◌≡◌, ◌++◌, ◌+◌, ◌*◌, ◌<◌, ◌≤◌, ◌^◌, OnOk, length, decimal, vec_len, vec_capacity};
 ghost use Rattle.lapin_scalars.specs.Numerals.{two_digits};
 ghost use Rattle.lapin_scalars.specs.Scalars.{scalar_text};
 ghost use Rattle.lapin_scalars.specs.Scalars.Scalar.{bytes as some_bytes, pairs as some_pairs, flag as a_flag, number as a_number, signed as a_signed};
@@ -20,33 +20,53 @@ pub fn put_pairs(alloc: Global, out: &mut Vec<u8>, bytes: &[u8]) -> Result<(), A
         return Err(AllocError);
     };
     out.reserve(count)?;
+    put_reserved(alloc, out, bytes);
+    Ok(())
+}
+
+// Adds the digits of the bytes, where there is room for them.
+#[inline(always)]
+fn put_reserved(alloc: Global, out: &mut Vec<u8>, bytes: &[u8])
+    requires { vec_len out.old + 2 * length bytes.now ≤ vec_capacity out.old }
+    ensures { out.new.items ≡ out.old.items ++ scalar_text some_pairs bytes.now }
+{
+    if bytes.is_empty() {
+        return;
+    }
     let text = mem::replace(out, Vec::new(alloc));
     *out = encode(text, bytes);
-    Ok(())
 }
 
 /// Adds an x and the digits of the bytes: the text of bytes, and of a short text.
 pub fn put_hex(alloc: Global, out: &mut Vec<u8>, bytes: &[u8]) -> Result<(), AllocError>
     ensures { OnOk result (out.new.items ≡ out.old.items ++ scalar_text some_bytes bytes.now) }
 {
-    out.push(b'x')?;
-    put_pairs(alloc, out, bytes)
+    let Some(count) = bytes.len().checked_mul(2) else {
+        return Err(AllocError);
+    };
+    let Some(count) = count.checked_add(1) else {
+        return Err(AllocError);
+    };
+    out.reserve(count)?;
+    out.push_reserved(b'x');
+    put_reserved(alloc, out, bytes);
+    Ok(())
 }
 
 /// Adds a number in decimal.
 pub fn put_number(out: &mut Vec<u8>, number: u64) -> Result<(), AllocError>
     ensures { OnOk result (out.new.items ≡ out.old.items ++ scalar_text (a_number (2 ^ 64)) number) }
 {
-    if number >= 100_000_000 {
-        return put_long_number(out, number);
+    if number >= 100_000_000 || out.capacity() - out.len() < 8 {
+        return put_any_number(out, number);
     }
-    out.reserve(8)?;
     put_eight(out, number as u32);
     Ok(())
 }
 
+// Adds a number, however long, where there may be no room yet.
 #[inline(never)]
-fn put_long_number(out: &mut Vec<u8>, number: u64) -> Result<(), AllocError>
+fn put_any_number(out: &mut Vec<u8>, number: u64) -> Result<(), AllocError>
     ensures { OnOk result (out.new.items ≡ out.old.items ++ decimal number) }
 {
     let mut buffer = Buffer::new();
@@ -61,7 +81,9 @@ fn put_eight(out: &mut Vec<u8>, number: u32)
     requires room { vec_len out.old + 8 ≤ vec_capacity out.old }
     ensures { out.new.items ≡ out.old.items ++ decimal number }
 {
-    if number < 10_000 {
+    if number < 100 {
+        put_two(out, number);
+    } else if number < 10_000 {
         put_four(out, number);
     } else {
         put_four(out, number / 10_000);
@@ -130,5 +152,6 @@ pub fn put_signed(out: &mut Vec<u8>, number: i64) -> Result<(), AllocError>
 pub fn put_flag(out: &mut Vec<u8>, flag: bool) -> Result<(), AllocError>
     ensures { OnOk result (out.new.items ≡ out.old.items ++ scalar_text a_flag flag) }
 {
-    out.extend_from_slice(if flag { b"1" } else { b"0" })
+    out.push(if flag { b'1' } else { b'0' })?;
+    Ok(())
 }

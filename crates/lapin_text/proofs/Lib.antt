@@ -1,4 +1,4 @@
-mod CallLaws
+pub mod CallLaws
 pub mod LineLaws
 pub mod Printed
 pub mod InputLaws

@@ -2,7 +2,10 @@
 //!
 //! Here stand the tokens of frames. Whole texts of frames are read in `reading` and written in `printing`.
 
-ghost use Rattle.std.specs.Prelude.{◌≡◌, ◌∷◌, [], OnOk};
+ghost use Rattle.std.specs.Prelude.{◌≡◌, ◌∷◌, [], IfSome, OnOk};
+ghost use Rattle.lapin_types.specs.Types.frame;
+ghost use Rattle.lapin_types.specs.Types.method;
+ghost use Rattle.lapin_types.specs.Types.basic;
 ghost use Rattle.lapin_tokens.specs.Fields.{token, short_number, wide_number};
 ghost use Rattle.lapin_tokens.specs.Fields.Field.{props};
 ghost use Rattle.lapin_tokens.specs.Reading.{Gives};
@@ -19,6 +22,36 @@ use lapin_tokens::{
 };
 use lapin_types::{ContentHeader, Frame};
 use std::alloc::{AllocError, Global};
+
+/// What a `basic.ack` says, and on which channel.
+#[derive(Clone, Copy, Debug, PartialEq, Eq)]
+pub struct Acked {
+    /// The channel.
+    pub channel: u16,
+    /// The delivery tag; 0 stands for all where `multiple` is true.
+    pub delivery_tag: u64,
+    /// Whether it is of all tags up to this one.
+    pub multiple: bool,
+}
+
+/// What the next tokens acknowledge, where they are those of a `basic.ack`: what stands behind the word `method`. They are then read.
+/// `None` where they are another frame's or its numbers are longer than 19 digits: the tokens may then be read in part.
+#[inline(always)]
+pub fn read_acked(tokens: &mut Tokens) -> Option<Acked>
+    ensures { IfSome result (λ a. frame_of_word word.Method tokens.old ≡ Some (frame.Method a.channel (method.Basic (basic.Ack a.delivery_tag a.multiple)), tokens.new)) }
+{
+    let channel = tokens.number()?;
+    if channel > 0xffff || !tokens.word(b"basic.ack") {
+        return None;
+    }
+    let delivery_tag = tokens.number()?;
+    let multiple = tokens.flag()?;
+    Some(Acked {
+        channel: channel as u16,
+        delivery_tag,
+        multiple,
+    })
+}
 
 /// The method frame whose channel and method are the next tokens: what stands behind the word `method`.
 ///

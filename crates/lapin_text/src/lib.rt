@@ -21,7 +21,7 @@ mod words;
 
 pub use ackers::read_acker_call;
 pub use calls::read_call;
-pub use frames::{read_body_frame, read_header_frame, read_method_frame};
+pub use frames::{Acked, read_acked, read_body_frame, read_header_frame, read_method_frame};
 pub use lapin_tokens::{read_bytes, read_num, read_short};
 pub use laws::{one_line, one_reading, one_text, parsed_as_printed};
 pub use lines::Lines;

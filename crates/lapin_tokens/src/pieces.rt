@@ -45,11 +45,14 @@ pub fn put_bytes(alloc: Global, out: &mut Vec<u8>, bytes: &[u8]) -> Result<(), A
     put_hex(alloc, out, bytes)
 }
 
-/// Adds a flag behind a space. The two bytes are added at once, so that room is asked for once.
+/// Adds a flag behind a space. Room for the two bytes is asked for once.
 pub fn put_flag(out: &mut Vec<u8>, flag: bool) -> Result<(), AllocError>
     ensures { OnOk result (out.new.items ≡ out.old.items ++ 32 ∷ token_of flag_field flag) }
 {
-    out.extend_from_slice(if flag { b" 1" } else { b" 0" })
+    out.reserve(2)?;
+    out.push_reserved(b' ');
+    out.push_reserved(if flag { b'1' } else { b'0' });
+    Ok(())
 }
 
 /// Adds a table of arguments behind a space. Where memory runs out, the text may end within it.

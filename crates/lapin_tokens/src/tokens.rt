@@ -106,6 +106,17 @@ impl<'a> Tokens<'a> {
         }
     }
 
+    /// The pieces that are still to be read, once more.
+    #[inline(always)]
+    pub fn again(&self) -> Tokens<'a>
+        ensures { result ≡ self.now }
+    {
+        Tokens {
+            rest: self.rest,
+            more: self.more,
+        }
+    }
+
     /// Reads the next piece where it is this word and another piece follows. Whether it did; else nothing is read. A word that the caller
     /// knows costs a comparison for each of its bytes, and the piece isn't cut first.
     #[inline(always)]
@@ -128,7 +139,7 @@ impl<'a> Tokens<'a> {
     /// The number that the next piece says, where it is a decimal of at most 19 digits: the piece is then read. `None` where it
     /// isn't, and nothing is read then.
     #[inline(always)]
-    pub(crate) fn number(&mut self) -> Option<u64>
+    pub fn number(&mut self) -> Option<u64>
         ensures some { IfSome result (λ n. (self.old ≡ decimal n ∷ self.new) × (n < 2 ^ 64)) }
         ensures none { IfNone result (self.new ≡ self.old) }
     {
@@ -153,7 +164,7 @@ impl<'a> Tokens<'a> {
 
     /// The flag that the next piece says: the piece is then read. `None` where it says none, and nothing is read then.
     #[inline(always)]
-    pub(crate) fn flag(&mut self) -> Option<bool>
+    pub fn flag(&mut self) -> Option<bool>
         ensures some { IfSome result (λ flag. self.old ≡ token flag_field flag ∷ self.new) }
         ensures none { IfNone result (self.new ≡ self.old) }
     {

@@ -1,5 +1,5 @@
 -- What a frame of the broker that has a line leaves fits.
-use Rattle.std.proofs.Common.{ℕ, ◌&&◌, not, Bool, true, List, [], ◌∷◌, Option, Some, None, refl}
+use Rattle.std.proofs.Common.{ℕ, ◌&&◌, not, Bool, List, [], ◌∷◌, Option, Some, None, refl}
 use Rattle.std.specs.List.{AllByRecursion as Each}
 use Rattle.lapin_tables.specs.ByChannel.{on_channel}
 use Rattle.lapin_types.specs.Types.{Error}
@@ -38,6 +38,7 @@ use Rattle.lapin_rules.specs.declared.phases.ChannelPhase.TheVariants as phase
 use Rattle.lapin_rules.specs.declared.phases.ChannelMove.TheVariants as move
 use Rattle.lapin_rules.specs.declared.phases.ConnectionPhase.{ConnectionPhase}
 use Rattle.lapin_rules.specs.declared.phases.ConnectionPhase.TheVariants as link
+use Rattle.lapin_rules.specs.declared.phases.CloseStage.TheVariants as stage
 use Rattle.lapin_rules.specs.declared.phases.ConnectionMove.TheVariants as link_move
 use Rattle.lapin_rules.specs.ChannelClose.{has_sent_close, kept_at, after_broker_close, after_channel_close, after_close_ok, close_ok_deliveries_in, closing}
 use Rattle.lapin_rules.specs.ConnectionClose.{after_connection_close, after_connection_close_ok, has_sent, unless_sent}
@@ -121,7 +122,8 @@ module _ (K : ℕ → Bool) where
   answered_down l b h = note_fits K 0 (method.Connection connection.CloseOk) (down l b) refl tt (down_fits K l b h)
 
   connection_wire : (l : ConnectionPhase) (b : Wire) → WireFits K b → WireFits K (after_connection_close l b)
-  connection_wire (link.Closing true x) b h = note_fits K 0 (method.Connection connection.CloseOk) (record b { link = link_after (link.Closing true x) link_move.Close }) refl tt h
+  connection_wire (link.Closing stage.Queued) b h = answered_down link.Closed b h
+  connection_wire (link.Closing x) b h = note_fits K 0 (method.Connection connection.CloseOk) (record b { link = link_after (link.Closing x) link_move.Close }) refl tt h
   connection_wire l b h = answered_down (link_after l link_move.Close) b h
 
   connection_ok_wire : (b : Wire) → WireFits K b → WireFits K (after_connection_close_ok b)

@@ -30,6 +30,7 @@ use Rattle.lapin_rules.specs.declared.phases.ChannelPhase.{ChannelPhase}
 use Rattle.lapin_rules.specs.declared.phases.ChannelPhase.TheVariants as phase
 use Rattle.lapin_rules.specs.declared.phases.ConnectionPhase.{ConnectionPhase}
 use Rattle.lapin_rules.specs.declared.phases.ConnectionPhase.TheVariants as link
+use Rattle.lapin_rules.specs.declared.phases.CloseStage.TheVariants as stage
 use Rattle.lapin_rules.specs.Asking.{closing_tickets, made_answer, made_marks}
 use Rattle.lapin_rules.specs.Calls.{made_by}
 use Rattle.lapin_rules.specs.ChannelClose.{close_tickets, close_ticket, close_ok_end, failed_at_close_ok, kept_ticket}
@@ -152,7 +153,8 @@ module _ (K : ℕ → Bool) where
   end_quiet c _ b = tt
 
   connection_quiet : (l : ConnectionPhase) (code : ℕ) (b : Wire) → ErrorFits (error.ProtocolError code) → Each Quiet (connection_close_tickets l code b)
-  connection_quiet (link.Closing true x) code b f = tt
+  connection_quiet (link.Closing stage.Sent) code b f = tt
+  connection_quiet (link.Closing stage.Crossed) code b f = tt
   connection_quiet _ code b f = all_fail (error.ProtocolError code) b f
 
   received_quiet : (i : Incoming) (b : Wire) → IncomingFits K i → WireFits K b → Each Quiet (received_tickets i b)

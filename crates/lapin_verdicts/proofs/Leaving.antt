@@ -18,6 +18,7 @@ use Rattle.lapin_rules.specs.declared.phases.ChannelPhase.{ChannelPhase}
 use Rattle.lapin_rules.specs.declared.phases.ChannelPhase.TheVariants as phase
 use Rattle.lapin_rules.specs.declared.phases.ConnectionPhase.{ConnectionPhase}
 use Rattle.lapin_rules.specs.declared.phases.ConnectionPhase.TheVariants as link
+use Rattle.lapin_rules.specs.declared.phases.CloseStage.TheVariants as stage
 use Rattle.lapin_rules.specs.ConfirmMarks.{ConfirmMark}
 use Rattle.lapin_rules.specs.ConfirmMarks as mark
 use Rattle.lapin_rules.specs.Select.{is_select}
@@ -79,10 +80,8 @@ sent_alike c d (method.Channel (channel.Close code text class number)) all = ali
 sent_alike c d _ all = alike_same c all
 
 link_alike : (l : ConnectionPhase) → is_up (link_close_sent l) ≡ is_up l
-link_alike link.Open = refl
-link_alike (link.Closing s r) = refl
-link_alike link.Closed = refl
-link_alike link.Lost = refl
+link_alike (link.Closing stage.Queued) = refl
+link_alike _ = refl
 
 link_up : (d : ℕ) (m : Method) (l : ConnectionPhase) → is_up (link_sent (frame.Method d m) l) ≡ is_up l
 link_up d (method.Connection (connection.Close code text class number)) l = link_alike l

@@ -24,6 +24,7 @@ use Rattle.lapin_rules.specs.declared.broker_frames.Incoming.{Incoming}
 use Rattle.lapin_rules.specs.declared.broker_frames.Incoming.TheVariants as incoming
 use Rattle.lapin_rules.specs.declared.phases.ConnectionPhase.{ConnectionPhase}
 use Rattle.lapin_rules.specs.declared.phases.ConnectionPhase.TheVariants as link
+use Rattle.lapin_rules.specs.declared.phases.CloseStage.TheVariants as stage
 use Rattle.lapin_rules.specs.ConfirmMarks.{ConfirmMark}
 use Rattle.lapin_rules.specs.ConfirmMarks as mark
 use Rattle.lapin_rules.specs.ConfirmReadings.{begins}
@@ -208,11 +209,8 @@ whole_ended c d None e h = cc
 whole_ended c d (Some w) e h = start_ended c d w.start w e h
 
 close_down : (l : ConnectionPhase) (b : Wire) → is_up (after_connection_close l b).link ≡ true → ⊥
-close_down link.Open b u = cc
-close_down (link.Closing true x) b u = cc
-close_down (link.Closing false x) b u = cc
-close_down link.Closed b u = cc
-close_down link.Lost b u = cc
+close_down (link.Closing stage.Queued) b u = cc
+close_down _ b u = cc
 
 end_same : (c d : ℕ) (o : Option Error) (e : Error) → end_with d o ≡ mark.Ended c e ∷ [] → d ≡ c
 end_same c d None e h = absurd cc
@@ -263,7 +261,8 @@ sent_methods None b = refl
 sent_methods (Some l) b = refl
 
 link_up : (f : Frame) (l : ConnectionPhase) → is_up (link_sent f l) ≡ is_up l
-link_up (frame.Method c (method.Connection (connection.Close code text class number))) (link.Closing s x) = refl
+link_up (frame.Method c (method.Connection (connection.Close code text class number))) (link.Closing stage.Queued) = refl
+link_up (frame.Method c (method.Connection (connection.Close code text class number))) (link.Closing s) = refl
 link_up (frame.Method c (method.Connection (connection.Close code text class number))) link.Open = refl
 link_up (frame.Method c (method.Connection (connection.Close code text class number))) link.Closed = refl
 link_up (frame.Method c (method.Connection (connection.Close code text class number))) link.Lost = refl

@@ -163,7 +163,7 @@ opens_waiting c rs ms z h = ap (λ v. has_open (way v)) (of-append c (map rest_a
 
 up_open : (l : ConnectionPhase) → is_up l ≡ true → link_as l ≡ Opened
 up_open link.Open h = refl
-up_open (link.Closing s x) h = absurd cc
+up_open (link.Closing s) h = absurd cc
 up_open link.Closed h = absurd cc
 up_open link.Lost h = absurd cc
 

@@ -5,7 +5,7 @@ use Rattle.lapin_consumer.proofs.Lines.{written_as}
 use Rattle.lapin_consumer.proofs.line.join.Goals as goal
 
 pub returns-clause-here : goal.returns-clause-here
-returns-clause-here c = written_as (HasJoined c.args.gone c.args.place (string_bytes c.args.tag)) c.args.channel c.in-Some.line.now c.join.new.self c.args.lines.now.entries c.in-Some.ensures.value c.join.ensures
+returns-clause-here c = written_as (HasJoined c.args.place (string_bytes c.args.tag)) c.args.channel c.in-Some.line.now c.join.new.self c.args.lines.now.entries c.in-Some.ensures.value c.join.ensures
 
 pub returns-clause-others : goal.returns-clause-others
 returns-clause-others c = λ d apart. at-on_other c.args.channel d (λ _. c.join.new.self) c.args.lines.now.entries apart

@@ -1,4 +1,4 @@
-use Rattle.std.proofs.Common.{◌≡◌, ◌∙◌, sym, subst, List, ◌++◌}
+use Rattle.std.proofs.Common.{◌≡◌, subst, List, ◌++◌}
 use Rattle.std.specs.Result.{OnOk, OnErr}
 use Rattle.std.specs.Prelude.{Result, Ok, Err}
 use Rattle.lapin_types.specs.declared.record.Record.{Record}

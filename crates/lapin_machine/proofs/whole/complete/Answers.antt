@@ -1,10 +1,9 @@
-use Rattle.std.proofs.Common.{subst, refl, sym, ◌∙◌, ap}
-use Rattle.std.specs.Prelude.{◌≡◌, ℕ, Some}
+use Rattle.std.proofs.Common.{subst, sym, ◌∙◌, ap}
+use Rattle.std.specs.Prelude.{◌≡◌, ℕ}
 use Rattle.std.specs.List.{fold}
 use Rattle.lapin_types.specs.declared.message.Delivery.{Delivery}
 use Rattle.lapin_types.specs.declared.message.BasicGetMessage.{BasicGetMessage}
 use Rattle.lapin_content.specs.declared.start.Start.{Start}
-use Rattle.lapin_content.specs.declared.start.Whole.{Whole}
 use Rattle.lapin_delivery.specs.WithRoom.{what}
 use Rattle.lapin_delivery.specs.Deliveries as deliveries
 use Rattle.lapin_rules.specs.Content.{next_acker, delivered_message, start_deliveries}

@@ -1,4 +1,4 @@
-use Rattle.std.proofs.Common.{None, List, ℕ, cond, ap, ◌∙◌}
+use Rattle.std.proofs.Common.{None, ℕ, List, cond, ap, ◌∙◌}
 use Rattle.std.specs.Prelude.{bytes_eq}
 use Rattle.std.specs.Map.{lookup}
 use Rattle.lapin_consumer.specs.Indexed.{Line}
@@ -7,8 +7,7 @@ use Rattle.lapin_consumer.proofs.line.Line.leave.Goals as goal
 
 pub returns : goal.returns
 returns c = record {
-  places = ap (λ (l : Line). l.places) c.self.view_is ∙ c.remove_place.ensures.places;
+  places = ap (λ (l : Line). l.places) c.self.view_is;
   tags = λ u. after-put c.args.tag.now c.self.inside.tags c.remove.new.self None c.remove.ensures.updates u
-      ∙ ap (λ (l : Line). cond (bytes_eq c.args.tag.now u) None (lookup (bytes_eq u) l.tags)) c.self.view_is
-      ∙ ap (λ (es : List (List ℕ × ℕ)). cond (bytes_eq c.args.tag.now u) None (lookup (bytes_eq u) es)) c.remove_place.ensures.tags;
+      ∙ ap (λ (l : Line). cond (bytes_eq c.args.tag.now u) None (lookup (bytes_eq u) l.tags)) c.self.view_is;
 }

@@ -1,12 +1,9 @@
-use Rattle.std.proofs.Common.{◌≡◌, ◌∙◌, ℕ, true, Option, Some, None, Ok, Err, List, length, refl, sym, ap, subst}
+use Rattle.std.proofs.Common.{◌≡◌, ◌∙◌, ℕ, true, Some, None, Ok, Err, refl, sym, ap, subst}
 use Rattle.std.specs.List.{fold}
 use Rattle.lapin_delivery.specs.WithRoom.{what}
 use Rattle.lapin_types.specs.declared.record.Record.TheVariants as record_
-use Rattle.lapin_types.specs.Types.error
 use Rattle.lapin_methods.specs.declared.frame.ContentHeader.{ContentHeader}
 use Rattle.lapin_content.specs.Contents.{front_start, heard_header}
-use Rattle.lapin_content.specs.Channels as contents
-use Rattle.lapin_content.specs.Marks as content
 use Rattle.lapin_content.specs.Channels.{expected_on}
 use Rattle.lapin_rules.specs.declared.broker_frames.ContentPart.TheVariants as part
 use Rattle.lapin_rules.specs.declared.broker_frames.Incoming.TheVariants as incoming

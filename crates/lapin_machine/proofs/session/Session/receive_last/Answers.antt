@@ -1,4 +1,4 @@
-use Rattle.std.proofs.Common.{◌≡◌, ◌∙◌, ℕ, true, Option, Some, None, Ok, Err, List, length, refl, sym, ap, subst}
+use Rattle.std.proofs.Common.{◌≡◌, ◌∙◌, ℕ, true, Option, Some, None, Ok, Err, List, length, refl, ap, subst}
 use Rattle.std.specs.List.{fold}
 use Rattle.lapin_delivery.specs.WithRoom.{what}
 use Rattle.lapin_types.specs.declared.record.Record.TheVariants as record_
@@ -8,8 +8,6 @@ use Rattle.lapin_types.specs.Types.{Error}
 use Rattle.lapin_content.specs.declared.start.Whole.{Whole}
 use Rattle.lapin_content.specs.Channels.{Channels}
 use Rattle.lapin_content.specs.Contents.{Expected, UnlessNoMemory, front_start, heard_body, awaited}
-use Rattle.lapin_content.specs.Channels as contents
-use Rattle.lapin_content.specs.Marks as content
 use Rattle.lapin_content.specs.Channels.{expected_on}
 use Rattle.lapin_rules.specs.declared.broker_frames.ContentPart.TheVariants as part
 use Rattle.lapin_rules.specs.declared.broker_frames.Incoming.TheVariants as incoming
