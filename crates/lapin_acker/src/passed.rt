@@ -3,7 +3,7 @@
 //! Of a used acker its channel alone is told, so used ones of one channel that follow one another are stored as one run.
 //! Whether the opening of one ended is said by the ends of its channel, which stand beside it.
 
-ghost use Rattle.std.specs.Prelude.{◌≡◌, ℕ, ◌+◌, ◌<◌, ◌≤◌, ◌^◌, ◌∷◌, ◌++◌, [], List, Some, if◌then◌else◌, slice_get, length, replicate};
+ghost use Rattle.std.specs.Prelude.{◌≡◌, ℕ, ◌+◌, ◌<◌, ◌^◌, ◌∷◌, ◌++◌, [], List, Some, if◌then◌else◌, slice_get, length, replicate};
 ghost use Rattle.std.specs.Option.{option_map};
 ghost use Rattle.lapin_acker.specs.Switches.{used as used_of};
 ghost use Rattle.lapin_acker.specs.Store.{shown, spelled};

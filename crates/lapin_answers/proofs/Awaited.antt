@@ -33,7 +33,7 @@ use Rattle.lapin_rules.specs.Loss.{lost_tickets}
 use Rattle.lapin_rules.specs.Phases.{is_lost}
 use Rattle.lapin_rules.specs.Polls.{is_answer, is_aside}
 use Rattle.lapin_rules.specs.Readings.{Readings}
-use Rattle.lapin_rules.specs.TicketReadings.{TicketMark, gives, begins, answer_of, first_answer, channel_of, channel_in, leaving_of, leaving_in, life}
+use Rattle.lapin_rules.specs.TicketReadings.{TicketMark, gives, answer_of, first_answer, channel_of, channel_in, leaving_of, leaving_in, life}
 use Rattle.lapin_rules.specs.TicketReadings as ticket
 use Rattle.lapin_rules.specs.Wire.{Wire, state_of}
 use Rattle.lapin_rules.specs.Words.{many, one_after, rest_after}

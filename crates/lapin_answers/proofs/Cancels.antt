@@ -24,7 +24,7 @@ use Rattle.lapin_rules.specs.History.{History, Past, past, rec, readings_of}
 use Rattle.lapin_rules.specs.Leaving.{left_lists}
 use Rattle.lapin_rules.specs.Phases.{is_up}
 use Rattle.lapin_rules.specs.Requests.{is_kind, requests_in, resolved_with}
-use Rattle.lapin_rules.specs.TicketReadings.{TicketMark, gives}
+use Rattle.lapin_rules.specs.TicketReadings.{gives}
 use Rattle.lapin_rules.specs.TicketReadings as ticket
 use Rattle.lapin_rules.specs.Wire.{Wire, requests_of, receives_on, lists_of, with_lists}
 use Rattle.lapin_broker.specs.Sends.{may}

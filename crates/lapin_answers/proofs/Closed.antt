@@ -30,7 +30,7 @@ use Rattle.lapin_rules.specs.Phases.{is_up}
 use Rattle.lapin_rules.specs.Readings.{Readings}
 use Rattle.lapin_rules.specs.Receiving.{when, incoming_record, incoming_tickets}
 use Rattle.lapin_rules.specs.Requests.{is_kind, ticket_of, resolved_with}
-use Rattle.lapin_rules.specs.TicketReadings.{TicketMark, gives, first_answer, answer_of, is_publish}
+use Rattle.lapin_rules.specs.TicketReadings.{TicketMark, gives, first_answer, answer_of}
 use Rattle.lapin_rules.specs.TicketReadings as ticket
 use Rattle.lapin_rules.specs.Unexpected.{refused}
 use Rattle.lapin_rules.specs.Wire.{Wire, phase_of, state_of, requests_of}

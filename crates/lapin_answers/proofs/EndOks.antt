@@ -25,7 +25,7 @@ use Rattle.lapin_broker.specs.Contents.{is_idle}
 use Rattle.lapin_broker.specs.Frames.{channel_of, tag_of, client_frame, client_channel, client_exchange, client_queue, client_basic, client_confirm, client_tx, ask_unless, broker_frame}
 use Rattle.lapin_broker.specs.States.{Broker, channel_at, is_up, is_leaving, owes_connection, after_break}
 use Rattle.lapin_broker.specs.Reads.{read, read_up, with_piece, breaks_in, content_after, admits, is_connection_close, is_connection_close_ok, after_client_close_ok}
-use Rattle.lapin_broker.specs.Sends.{may, may_in, send, send_on, after_send, after_own_close_ok, is_close, is_read_on}
+use Rattle.lapin_broker.specs.Sends.{may, may_in, send, send_on, after_own_close_ok, is_close, is_read_on}
 use Rattle.lapin_broker.specs.Sends as sends
 use Rattle.lapin_joint.specs.declared.step.Step.{Step}
 use Rattle.lapin_joint.specs.declared.step.Step.TheVariants as step

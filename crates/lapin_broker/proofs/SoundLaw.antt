@@ -1,5 +1,5 @@
 -- The channel whose content is being read is open, whatever is read and sent.
-use Rattle.std.proofs.Common.{◌≡◌, ℕ, ◌==◌, Bool, true, false, cond, ◌&&◌, ◌||◌, List, [], ◌∷◌, ◌++◌, Option, Some, None, ◌⊎◌, inl, inr, refl, sym, ◌∙◌, ap, subst, eq-eqb}
+use Rattle.std.proofs.Common.{◌≡◌, ℕ, ◌==◌, Bool, true, false, cond, ◌&&◌, List, [], ◌∷◌, ◌++◌, Option, Some, None, inl, inr, refl, sym, ◌∙◌, ap, subst, eq-eqb}
 use Rattle.std.specs.Prelude.{is_some}
 use Rattle.std.specs.Option.{option_map, option_or}
 use Rattle.std.proofs.lemmas.Bool.{and_parts}
@@ -19,7 +19,7 @@ use Rattle.lapin_broker.specs.declared.peer.Connection.TheVariants as connection
 use Rattle.lapin_broker.specs.Contents.{is_idle}
 use Rattle.lapin_broker.specs.Frames.{channel_of, tag_of, client_frame, broker_frame}
 use Rattle.lapin_broker.specs.States.{Channel, Broker, channel_in, channel_at, with_channel, is_up, is_leaving, owes_connection}
-use Rattle.lapin_broker.specs.Reads.{read, read_up, read_channel, read_in, breaks_in, begins_in, content_after, admits, is_connection_close as client_closes, is_connection_close_ok as client_answers}
+use Rattle.lapin_broker.specs.Reads.{read, read_up, read_in, breaks_in, begins_in, content_after, admits, is_connection_close as client_closes, is_connection_close_ok as client_answers}
 use Rattle.lapin_broker.specs.Sends.{may, may_sorted, may_in, send, send_sorted, send_on, after_send, after_own_close_ok, is_close, is_read_on, is_connection_close, is_connection_close_ok}
 use Rattle.lapin_broker.specs.Sound.{IsReadOpen, IsSound}
 use Rattle.lapin_broker.proofs.PlainMay.{of_if, apart_of}

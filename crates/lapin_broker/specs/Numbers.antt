@@ -1,6 +1,6 @@
 -- The numbers that whole publishes took, and what a settlement does to them. (RabbitMQ's publisher confirms.)
 -- One slot a number, 1, 2, ..: filled while it isn't settled.
-use Rattle.std.specs.Prelude.{ℕ, zero, suc, Bool, ◌&&◌, if◌then◌else◌, List, [], ◌∷◌, Option, Some, None, length, nat_lt, nat_le}
+use Rattle.std.specs.Prelude.{ℕ, zero, suc, Bool, ◌&&◌, if◌then◌else◌, List, [], ◌∷◌, Option, None, length, nat_lt, nat_le}
 use Rattle.std.specs.Option.{is_some}
 use Rattle.lapin_tables.specs.Numbered.{under, with_under}
 

@@ -1,15 +1,15 @@
 //! The free broker: the state of a connection and of all its channels, and how reads and sends change it. What a single channel
 //! keeps, and the rules for it, stand in the channel's own file.
 
-ghost use Rattle.std.specs.Prelude.{◌≡◌, true, Some, None, OnOk, OnErr, IfOk, length, ℕ};
+ghost use Rattle.std.specs.Prelude.{◌≡◌, true, Some, None, OnOk, OnErr, IfOk, length};
 ghost use Rattle.std.specs.Option.{option_copied};
-ghost use Rattle.lapin_tables.specs.ByChannel.{at_channel, on_channel};
-ghost use Rattle.lapin_broker.specs.States.{Broker as State, new_broker, channel_at, channel_in, with_channel, after_break, is_broken as is_broken_lem, is_up as is_up_lem, state_of_connection, state_of_peer, owes_on, reading_on, is_sending as is_sending_lem, is_settled as is_settled_lem, after_loss};
+ghost use Rattle.lapin_tables.specs.ByChannel.{at_channel};
+ghost use Rattle.lapin_broker.specs.States.{new_broker, channel_at, is_broken as is_broken_lem, is_up as is_up_lem, state_of_connection, state_of_peer, owes_on, reading_on, is_sending as is_sending_lem, is_settled as is_settled_lem, after_loss};
 ghost use Rattle.std.specs.List.{list_any};
 ghost use Rattle.lapin_broker.specs.Plain.{is_sending_on};
 ghost use Rattle.lapin_broker.specs.Tags.{has_tag as has_tag_lem};
-ghost use Rattle.lapin_broker.specs.Reads.{read as read_lem, read_sorted as read_sorted_lem, read_up as read_up_lem, read_down as read_down_lem, read_piece as read_piece_lem, with_piece as with_piece_lem, read_on as read_on_lem, read_in, read_channel, number_on, admits as admits_lem, content_after as content_after_lem, with_next_number};
-ghost use Rattle.lapin_broker.specs.Sends.{may, may_in, send as send_lem, after_send, send_on, is_read_on as is_read_on_lem};
+ghost use Rattle.lapin_broker.specs.Reads.{read as read_lem, read_sorted as read_sorted_lem, read_up as read_up_lem, read_down as read_down_lem, read_piece as read_piece_lem, with_piece as with_piece_lem, read_on as read_on_lem, read_channel, number_on, admits as admits_lem, content_after as content_after_lem};
+ghost use Rattle.lapin_broker.specs.Sends.{may, may_in, send as send_lem, send_on, is_read_on as is_read_on_lem};
 
 use crate::channel::{BrokerChannel, begins, breaks};
 use crate::content::Content;

@@ -1,9 +1,9 @@
 //! A channel of the broker: where it stands, and what it keeps while it isn't free.
 
-ghost use Rattle.std.specs.Prelude.{◌≡◌, ◌++◌, ◌∷◌, [], drop, OnOk, OnErr, IfOk};
+ghost use Rattle.std.specs.Prelude.{◌≡◌, [], OnOk, OnErr};
 ghost use Rattle.lapin_broker.specs.States.{free_channel, is_settled as is_settled_lem, is_sending as is_sending_lem};
 ghost use Rattle.lapin_broker.specs.Tags.{has_tag as has_tag_lem};
-ghost use Rattle.lapin_broker.specs.Reads.{breaks_in, breaks_open as breaks_open_lem, begins_in, read_in, read_open as read_open_lem, read_stopping as read_stopping_lem, read_owing as read_owing_lem, with_request, with_next_number, request_of};
+ghost use Rattle.lapin_broker.specs.Reads.{breaks_in, breaks_open as breaks_open_lem, begins_in, read_in, read_open as read_open_lem, read_stopping as read_stopping_lem, read_owing as read_owing_lem, with_request, with_next_number};
 ghost use Rattle.lapin_broker.specs.Sends.{may_in, may_open as may_open_lem, may_start as may_start_lem, may_leave as may_leave_lem, first_is as first_is_lem, first_name as first_name_lem, none_waits as none_waits_lem, after_send, after_reply, after_close_ok as after_close_ok_lem};
 
 use crate::content::Content;

@@ -1,7 +1,6 @@
 //! The numbers that publishes took, until they are settled: a window from the lowest that isn't settled to the last.
 
-ghost use Rattle.std.specs.Prelude.{◌≡◌, ◌++◌, ◌∷◌, [], Some, None, OnOk, OnErr, ◌<◌, ◌≤◌, length};
-ghost use Rattle.lapin_tables.specs.Numbered.{under, with_under};
+ghost use Rattle.std.specs.Prelude.{◌≡◌, ◌++◌, ◌∷◌, [], Some, OnOk, OnErr, ◌<◌};
 ghost use Rattle.lapin_broker.specs.Numbers.{settled_through, after_settlement as after_settlement_lem, may_settle as may_settle_lem};
 ghost use Rattle.lapin_broker.specs.States.{is_settled as is_settled_lem};
 

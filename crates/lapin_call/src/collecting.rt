@@ -1,6 +1,6 @@
 //! Collecting the replies: the consumer of the replies is polled until it has nothing more.
 
-ghost use Rattle.std.specs.Prelude.{◌≡◌, suc, IfOk, OnOk};
+ghost use Rattle.std.specs.Prelude.{◌≡◌, suc, IfOk};
 ghost use Rattle.lapin_types.specs.declared.event.Event.TheVariants as event;
 ghost use Rattle.lapin_machine.specs.World.{told_by, next};
 ghost use Rattle.lapin_machine.specs.Way.{by_machine};

@@ -1,8 +1,8 @@
 //! A requester: a session, the queue of the replies and the calls, with a method for each kind of step.
 
-ghost use Rattle.std.specs.Prelude.{◌≡◌, ◌≤◌, ◌<◌, ◌^◌, length, None, IfOk, OnOk};
+ghost use Rattle.std.specs.Prelude.{◌≡◌, ◌≤◌, ◌<◌, None, IfOk, OnOk};
 ghost use Rattle.lapin_types.specs.declared.event.Event.TheVariants as event;
-ghost use Rattle.lapin_machine.specs.World.{told_by, next, new_world};
+ghost use Rattle.lapin_machine.specs.World.{told_by, new_world};
 ghost use Rattle.lapin_machine.specs.Numbers.{HasNumbersFor};
 ghost use Rattle.lapin_machine.specs.Way.{by_machine};
 ghost use Rattle.lapin_call.specs.Calls.{new_requester, met, begun, report, after};

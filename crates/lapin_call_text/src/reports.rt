@@ -1,6 +1,6 @@
 //! The lines of reports: the record's line of an event, or a word with what it tells.
 
-ghost use Rattle.std.specs.Prelude.{◌≡◌, IfOk, OnOk};
+ghost use Rattle.std.specs.Prelude.{◌≡◌, OnOk};
 ghost use Rattle.lapin_text.specs.Records.{line_onto};
 ghost use Rattle.lapin_call_text.specs.Reports.{report_tokens};
 

@@ -2,7 +2,6 @@
 
 ghost use Rattle.std.specs.Prelude.{◌≡◌, ◌≢◌, ◌++◌, ℕ, List, codes, IfOk, IfSome, IfNone, MatchOption};
 ghost use Rattle.lapin_tokens.specs.Reading.{GivesValue};
-ghost use Rattle.lapin_text.specs.Events.{line_of, HasLine as EventHasLine};
 ghost use Rattle.lapin_call_text.specs.Steps.{IsLineOf, NoLine};
 ghost use Rattle.lapin_call_text.specs.Reading.{asked_in, step_of_event};
 

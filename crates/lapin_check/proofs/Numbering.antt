@@ -21,9 +21,9 @@ use Rattle.lapin_broker.specs.Frames.{channel_of, tag_of, client_frame, broker_f
 use Rattle.lapin_broker.specs.Numbers.{settled_through, after_settlement}
 use Rattle.lapin_broker.specs.States.{Channel, Broker, free_channel, channel_in, channel_at, with_channel, is_up, is_leaving, state_of_peer}
 use Rattle.lapin_broker.specs.Reads as reads
-use Rattle.lapin_broker.specs.Reads.{read, read_in, read_open, read_up, read_on, read_piece, with_piece, number_on, with_next_number, content_after, admits, breaks_in, read_channel}
+use Rattle.lapin_broker.specs.Reads.{read, read_in, read_open, read_up, number_on, with_next_number, content_after, admits, breaks_in}
 use Rattle.lapin_broker.specs.Sends as sends
-use Rattle.lapin_broker.specs.Sends.{may, may_in, may_open, may_start, may_leave, send, after_send, is_close_ok}
+use Rattle.lapin_broker.specs.Sends.{may, may_in, send, after_send}
 use Rattle.lapin_check.specs.declared.seen.Settlement.{Settlement}
 use Rattle.lapin_check.specs.Openings.{is_free, opens}
 use Rattle.lapin_check.specs.Settlements.{settlement_in}

@@ -3,7 +3,6 @@
 ghost use Rattle.std.specs.Prelude.{◌≡◌, ◌≤◌, [], IfOk, OnOk, OnErr};
 ghost use Rattle.lapin_check.specs.Finding.{finding};
 ghost use Rattle.lapin_check.specs.Account.{account_of};
-ghost use Rattle.lapin_check.specs.Marks.{new_watch};
 
 use crate::account::Counted;
 use crate::finding::Finding;

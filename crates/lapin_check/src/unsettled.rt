@@ -3,7 +3,7 @@
 
 ghost use Rattle.std.specs.Prelude.{◌≡◌, ◌≢◌, ◌+◌, ◌^◌, ◌<◌, ◌++◌, ◌∷◌, [], ℕ, length, map, OnOk, true};
 ghost use Rattle.std.specs.Option.{IsSome};
-ghost use Rattle.lapin_tables.specs.Numbered.{under, with_under};
+ghost use Rattle.lapin_tables.specs.Numbered.{with_under};
 ghost use Rattle.lapin_check.specs.Settlements.{reaches as reaches_lem};
 ghost use Rattle.lapin_check.specs.Marks.{mark as mark_lem};
 ghost use Rattle.lapin_check.specs.Pointing.{Points, AreSettled, places_of};

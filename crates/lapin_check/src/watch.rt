@@ -1,9 +1,9 @@
 //! A broker that follows a transcript, frame by frame, with the account of what it numbered.
 
-ghost use Rattle.std.specs.Prelude.{◌≡◌, ◌≢◌, ◌≤◌, ◌<◌, ◌^◌, ◌+◌, ◌++◌, [], ◌∷◌, ℕ, suc, true, false, length, nat_lt, if◌then◌else◌, IfOk, OnOk, OnErr, IfSome, IfNone, Option, Some, None};
+ghost use Rattle.std.specs.Prelude.{◌≡◌, ◌≢◌, ◌<◌, ◌+◌, ◌++◌, [], ◌∷◌, ℕ, suc, true, false, length, nat_lt, if◌then◌else◌, IfOk, OnOk, IfSome, IfNone, Option, Some, None};
 ghost use Rattle.lapin_broker.specs.Reads.{read as read_lem};
 ghost use Rattle.lapin_broker.specs.Sends.{may, send as send_lem};
-ghost use Rattle.lapin_broker.specs.States.{is_broken, new_broker};
+ghost use Rattle.lapin_broker.specs.States.{is_broken};
 ghost use Rattle.lapin_broker.specs.Frames.{channel_of as channel_of_lem};
 ghost use Rattle.lapin_check.specs.declared.seen.Seen.TheVariants as seen;
 ghost use Rattle.lapin_check.specs.Openings.{opens as opens_lem};

@@ -1,6 +1,6 @@
 //! The lines of an account and of a finding.
 
-ghost use Rattle.std.specs.Prelude.{◌≡◌, ◌++◌, ◌∷◌, [], OnOk, codes};
+ghost use Rattle.std.specs.Prelude.{◌≡◌, ◌++◌, [], OnOk};
 ghost use Rattle.lapin_check_text.specs.Findings.{counted_line, account_onto, break_name as break_name_lem, send_name as send_name_lem, finding_line, check_text, settled_text, numbered_text, rule_text};
 
 use lapin_check::{BreakRule, Counted, Finding, SendRule, Settled};

@@ -10,7 +10,6 @@ use Rattle.lapin_machine.specs.World.{World, new_world, next, told_by}
 use Rattle.lapin_machine.specs.Way.{by_machine}
 use Rattle.lapin_machine.specs.declared.channel.Heard.{Heard}
 use Rattle.lapin_text.specs.Events.{line_of}
-use Rattle.lapin_text.specs.Events as events
 use Rattle.lapin_text.specs.Input.{lines_of, max_line, IsMax}
 use Rattle.lapin_text.specs.LineReading.{line_at}
 use Rattle.lapin_text.specs.Records.{line_onto, record_tokens}

@@ -1,5 +1,5 @@
 -- What a session owes as a run that an input drives.
-use Rattle.std.proofs.Common.{◌≡◌, ℕ, suc, Bool, true, true≢false, ◌+◌, ◌-◌, ◌<◌, ◌≤◌, ◌^◌, List, [], ◌∷◌, ◌++◌, Option, Some, None, false, refl, sym, ap, subst, ◌∙◌, append_assoc, arith}
+use Rattle.std.proofs.Common.{◌≡◌, ℕ, suc, Bool, true, true≢false, ◌+◌, ◌-◌, ◌≤◌, ◌^◌, List, [], ◌∷◌, ◌++◌, Option, Some, None, false, refl, sym, ap, subst, ◌∙◌, append_assoc, arith}
 use Rattle.std.specs.Prelude.{Result, Ok, Err, IfOk}
 use Rattle.std.specs.List.{join_with_byte}
 use Rattle.lapin_types.specs.declared.event.Event.{Event}

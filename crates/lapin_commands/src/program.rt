@@ -1,6 +1,6 @@
 //! The top call: what the program does with its words, its source and its sink. `main` calls it with the real ones,
 //! tests with some in memory.
-ghost use Rattle.std.specs.Prelude.{◌≡◌, ◌≢◌, ◌≤◌, ◌+◌, ◌↔◌, ◌⊎◌, ℕ, List, None};
+ghost use Rattle.std.specs.Prelude.{◌≡◌, ◌≤◌, ◌+◌, ◌↔◌, ◌⊎◌, None};
 ghost use Rattle.lapin_io.specs.Numbers.{Rose, RoseBy, Stayed};
 ghost use Rattle.lapin_generate.specs.Generated.{most_publishes};
 ghost use Rattle.lapin_commands.specs.Generate.{PrintsGenerated};

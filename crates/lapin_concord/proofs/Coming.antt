@@ -16,7 +16,7 @@ use Rattle.lapin_rules.specs.Wire.{Wire, phase_of, requests_of, state_of, receiv
 use Rattle.lapin_broker.specs.States.{Broker}
 use Rattle.lapin_pairs.specs.Machine.{Up, Opened, Closing, DOther, has_close, state_after, is_refused}
 use Rattle.lapin_pairs.specs.Channel as kept
-use Rattle.lapin_pairs.specs.Channel.{DownF, Data, kind_up, kind_down, takes, takes_in, is_none}
+use Rattle.lapin_pairs.specs.Channel.{DownF, kind_down, takes, is_none}
 use Rattle.lapin_pairs.specs.Every.{Push, of_u, left_all, DownOn, ToD, put, All, DeliverA, received_a, happens_a}
 use Rattle.lapin_pairs.specs.Asking.{S2, take2, left_at, left2, asking}
 use Rattle.lapin_pairs.proofs.Asking.{asks_sess, asks_data}

@@ -34,7 +34,7 @@ use Rattle.lapin_broker.specs.declared.frames.ClientFrame.TheVariants as client
 use Rattle.lapin_broker.specs.Frames.{channel_of, client_frame, ask_unless, client_exchange, client_queue, client_basic, client_confirm, client_tx}
 use Rattle.lapin_pairs.specs.Machine.{Up, UClose, UOpen, UOther, UCloseOk, Closed, Closing, Crossed, DClose, DCloseOk, has_close, state_after, is_refused}
 use Rattle.lapin_pairs.specs.Channel as kept
-use Rattle.lapin_pairs.specs.Channel.{DownF, none_kept}
+use Rattle.lapin_pairs.specs.Channel.{none_kept}
 use Rattle.lapin_pairs.specs.Every.{UpOn, OnU, CloseU, CloseOkU, of_u, off_u, left_all, ToD}
 use Rattle.lapin_pairs.specs.Asking.{U2, Plain, take2, left_at}
 use Rattle.lapin_pairs.proofs.Every.{of_off, of_off_other, of_more, of_away}

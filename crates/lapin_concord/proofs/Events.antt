@@ -32,7 +32,7 @@ use Rattle.lapin_rules.specs.Asking.{is_outstanding, asked_by, is_allowed, after
 use Rattle.lapin_rules.specs.Calls.{is_try}
 use Rattle.lapin_rules.specs.Ackers.{acker_asked, usable_at, acked_wire, acker_deliveries, after_acker}
 use Rattle.lapin_rules.specs.Consumers.{lets_go_of, let_go_cancel, cancel_noted, after_let_go, after_drop, drop_deliveries}
-use Rattle.lapin_rules.specs.Handing.{handed_out, frame_record, after_next, began_on, handed_as}
+use Rattle.lapin_rules.specs.Handing.{handed_out, began_on}
 use Rattle.lapin_rules.specs.Handing as handing
 use Rattle.lapin_rules.specs.ChannelClose.{after_close_ok}
 use Rattle.lapin_rules.specs.ConnectionClose.{after_connection_close}

@@ -24,7 +24,7 @@ use Rattle.lapin_rules.specs.Content.{expecting, get_ticket, after_get_ok}
 use Rattle.lapin_broker.specs.States.{Broker}
 use Rattle.lapin_pairs.specs.Machine.{Up, DOpenOk, has_close, state_after, is_refused}
 use Rattle.lapin_pairs.specs.Channel as kept
-use Rattle.lapin_pairs.specs.Channel.{DownF, Data, kind_down, takes, take_kind, replied, is_none}
+use Rattle.lapin_pairs.specs.Channel.{Data, takes, take_kind, replied, is_none}
 use Rattle.lapin_pairs.specs.Every.{of_u, left_all, ToD}
 use Rattle.lapin_pairs.specs.Asking.{take2, left_at}
 use Rattle.lapin_concord.specs.Frames.{down_frame}

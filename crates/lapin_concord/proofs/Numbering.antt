@@ -10,7 +10,7 @@ use Rattle.lapin_broker.specs.Numbers.{settled_through, may_settle, after_settle
 use Rattle.lapin_broker.specs.States.{Channel}
 use Rattle.lapin_broker.specs.Reads.{with_next_number}
 use Rattle.lapin_pairs.specs.Channel.{Settle, BSettle, Idle}
-use Rattle.lapin_pairs.specs.Tags.{covers, TagCount, counted, may_tag, logged}
+use Rattle.lapin_pairs.specs.Tags.{covers, TagCount, counted, logged}
 use Rattle.lapin_pairs.specs.Tags as tags
 use Rattle.lapin_concord.specs.Numbering.{IsCount}
 

@@ -20,7 +20,7 @@ use Rattle.lapin_broker.specs.Sound.{IsReadOpen}
 use Rattle.lapin_broker.proofs.SoundLaw.{read_keeps}
 use Rattle.lapin_pairs.specs.Machine as pair
 use Rattle.lapin_pairs.specs.Channel as kept
-use Rattle.lapin_pairs.specs.Channel.{UpF, is_none}
+use Rattle.lapin_pairs.specs.Channel.{is_none}
 use Rattle.lapin_pairs.specs.Every.{UpOn, OnU, CloseU, CloseOkU, conn_u, sides_after, put}
 use Rattle.lapin_pairs.specs.Asking.{U2, Plain, SelectAsk, B2, read_flat, reads2b, flat, asking}
 use Rattle.lapin_pairs.proofs.Pairs.{tight}

@@ -37,7 +37,7 @@ use Rattle.lapin_broker.specs.Contents.{is_idle}
 use Rattle.lapin_broker.specs.Frames.{channel_of, client_frame, broker_frame}
 use Rattle.lapin_broker.specs.States.{Broker, channel_at, after_break, after_loss, is_up, is_leaving, is_broken as is_broken_broker}
 use Rattle.lapin_broker.specs.Reads.{is_connection_close, is_connection_close_ok, admits, content_after, with_piece, read_piece, breaks_in, read_up, read_down, read}
-use Rattle.lapin_broker.specs.Sends.{may, send, send_sorted, send_on, is_close, is_read_on}
+use Rattle.lapin_broker.specs.Sends.{may, send}
 use Rattle.lapin_broker.specs.Sends as sends
 use Rattle.lapin_broker.specs.Sound.{IsReadOpen}
 use Rattle.lapin_joint.specs.declared.step.Step.{Step}

@@ -22,7 +22,7 @@ use Rattle.lapin_broker.specs.Sends.{is_close, none_waits, first_is, may_open, m
 use Rattle.lapin_broker.proofs.SoundLaw.{send_keeps}
 use Rattle.lapin_pairs.specs.Machine as pair
 use Rattle.lapin_pairs.specs.Channel as kept
-use Rattle.lapin_pairs.specs.Channel.{DownF, kind_down, may_data, starts_with, tail}
+use Rattle.lapin_pairs.specs.Channel.{DownF, may_data, starts_with, tail}
 use Rattle.lapin_pairs.specs.Every.{ToD, CloseD, CloseOkD, conn_d, may_a, sides_sent}
 use Rattle.lapin_pairs.specs.Asking.{B2, may2, gives2, asking}
 use Rattle.lapin_concord.specs.Frames.{number, down_kind, down_frame, IsGiven}

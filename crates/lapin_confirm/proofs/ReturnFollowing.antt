@@ -9,7 +9,7 @@ use Rattle.lapin_types.specs.declared.message.BasicReturnMessage.{BasicReturnMes
 use Rattle.lapin_rules.specs.ConfirmMarks.{ConfirmMark}
 use Rattle.lapin_rules.specs.ConfirmMarks as mark
 use Rattle.lapin_rules.specs.ConfirmReadings.{begins, is_begun, is_selected, channel_of, covers}
-use Rattle.lapin_rules.specs.ReturnLists.{ReturnLists, no_return_lists, arrived_in, attached_to_all, taken_out, set_by, drained_return_lists, drained_messages, renewed}
+use Rattle.lapin_rules.specs.ReturnLists.{ReturnLists, arrived_in, attached_to_all, taken_out, set_by, drained_return_lists, drained_messages, renewed}
 use Rattle.lapin_rules.specs.ReturnReadings.{is_done, is_gone, covered, return_lists_step, return_lists_of, drained}
 use Rattle.lapin_rules.specs.Words.{is_some}
 use Rattle.lapin_rules.proofs.ListLaws.{or_false, any-push}

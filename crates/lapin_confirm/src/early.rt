@@ -3,7 +3,7 @@
 //! A broker sends none, since nothing was published there. They stand in one queue for all channels: what is kept of a channel that
 //! had an opening is elsewhere.
 
-ghost use Rattle.std.specs.Prelude.{◌≡◌, ℕ, ◌+◌, ◌<◌, ◌≤◌, ◌∷◌, ◌++◌, [], false, OnOk, OnErr, IsOk, IfOk};
+ghost use Rattle.std.specs.Prelude.{◌≡◌, ◌+◌, ◌<◌, ◌≤◌, ◌∷◌, ◌++◌, [], false, OnOk, OnErr, IsOk, IfOk};
 ghost use Rattle.std.specs.Vec.{vec_len, vec_capacity};
 ghost use Rattle.std.specs.VecDeque.{deque_len, deque_capacity};
 ghost use Rattle.lapin_tables.specs.ByChannel.{at_channel, on_channel};

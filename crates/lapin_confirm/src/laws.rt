@@ -16,7 +16,7 @@ ghost use Rattle.lapin_rules.specs.Words.{is_some};
 ghost use Rattle.lapin_tables.specs.ByChannel.{at_channel};
 ghost use Rattle.lapin_tables.specs.Numbered.{under};
 ghost use Rattle.lapin_confirm.specs.declared.cell.Cell.TheVariants as cell;
-ghost use Rattle.lapin_confirm.specs.PublishStates.{PublishStates, settled, queued_count, is_pending, is_open_on, is_resolved, selected_on, last_on, multiple_of, limit_on, full_on, at_limit_on};
+ghost use Rattle.lapin_confirm.specs.PublishStates.{PublishStates, settled, queued_count, is_pending, is_open_on, selected_on, last_on, multiple_of, limit_on, full_on, at_limit_on};
 ghost use Rattle.lapin_confirm.specs.ConfirmState.{ConfirmState, empty_confirm_state, waits_on, covered_in};
 ghost use Rattle.lapin_confirm.specs.Machine.{after_mark, rejected};
 ghost use Rattle.lapin_confirm.specs.Drain.{drained_on};

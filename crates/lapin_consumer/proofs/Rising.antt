@@ -11,7 +11,7 @@ use Rattle.lapin_consumer.specs.Words.{map_at, places_at, on_place}
 use Rattle.lapin_consumer.specs.Indexed.{Lists, RiseBetween, is_among, stays_on}
 use Rattle.lapin_consumer.specs.Subscriptions.{Consumer, is_on, newcomer}
 use Rattle.lapin_consumer.proofs.Places.{tested, length-map_at, get-map_at}
-use Rattle.lapin_consumer.proofs.Leaving.{Ends, Stood, stood, suc_eqb, length-on, get-pushed, get-last, unlisted}
+use Rattle.lapin_consumer.proofs.Leaving.{Ends, stood, suc_eqb, length-on, get-pushed, get-last, unlisted}
 
 -- ---- places that rise
 

@@ -3,7 +3,7 @@
 //! Beside the seats stands an index of the registered consumers, so that a delivery or a cancel looks at its channel alone, and
 //! finds a tag at once.
 
-ghost use Rattle.std.specs.Prelude.{◌≡◌, ℕ, ◌+◌, ◌<◌, ◌^◌, ◌↔◌, ◌⊎◌, ◌≤◌, suc, Some, None, Ok, Err, OnOk, OnErr, IsOk, IsTrue, IfOk, IfErr, IfSome, IfNone, length, slice_get};
+ghost use Rattle.std.specs.Prelude.{◌≡◌, ℕ, ◌+◌, ◌<◌, ◌^◌, ◌↔◌, ◌⊎◌, ◌≤◌, Some, None, Ok, Err, OnOk, OnErr, IsOk, IsTrue, IfOk, IfErr, IfSome, length, slice_get};
 ghost use Rattle.lapin_consumer.specs.Subscriptions.{empty_subscriptions, after_mark, is_registered, found, place_under, consumer_at, answered, let_go_answer, is_ready};
 ghost use Rattle.lapin_consumer.specs.Marks as mark;
 ghost use Rattle.lapin_acker.specs.Switches.{after_mark as after_acker_mark};

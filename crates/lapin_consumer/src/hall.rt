@@ -1,7 +1,7 @@
 //! The seats of all consumers and the jobs of their delegates. Who is registered under which tag is looked up elsewhere:
 //! `consumers` alone calls this file, and `line` asks it who left.
 
-ghost use Rattle.std.specs.Prelude.{◌≡◌, ℕ, ◌+◌, ◌-◌, ◌<◌, ◌^◌, ◌↔◌, ◌⊎◌, ◌≤◌, suc, ◌++◌, ◌∷◌, [], true, IsTrue, Some, None, Ok, Err, OnOk, OnErr, IsOk, IfOk, IfErr, IfSome, IfNone, length, slice_get};
+ghost use Rattle.std.specs.Prelude.{◌≡◌, ℕ, ◌+◌, ◌-◌, ◌<◌, ◌↔◌, ◌⊎◌, ◌≤◌, suc, ◌++◌, ◌∷◌, [], true, IsTrue, Some, None, Ok, Err, OnOk, OnErr, IsOk, IfErr, IfSome, IfNone, length, slice_get};
 ghost use Rattle.lapin_consumer.specs.Subscriptions.{empty_subscriptions, after_mark, is_registered, consumer_at, answered, let_go_answer, newcomer, unregistered, canceling, finished, offered, last_words, is_on, is_ready};
 ghost use Rattle.lapin_consumer.specs.Words.{on_place, on_place_if, from_place, places_at};
 ghost use Rattle.std.specs.Option.{option_copied, option_map};

@@ -1,21 +1,20 @@
 -- The contents of a table that follows a history follow the longer one.
-use Rattle.std.proofs.Common.{◌≡◌, ℕ, ◌+◌, ◌-◌, ◌<◌, ◌≤◌, ◌==◌, Bool, true, false, cond, ◌&&◌, List, [], ◌∷◌, ◌++◌, map, drop, length, Option, Some, None, refl, sym, ◌∙◌, ap, arith, subst, inl, inr}
+use Rattle.std.proofs.Common.{◌≡◌, ℕ, ◌+◌, ◌-◌, ◌<◌, ◌≤◌, ◌==◌, Bool, true, false, cond, List, [], ◌∷◌, ◌++◌, map, drop, length, Option, Some, None, refl, sym, ◌∙◌, ap, arith, inl, inr}
 use Rattle.std.specs.Prelude.{nat_le}
 use Rattle.std.specs.List.{concat}
 use Rattle.std.specs.Option.{option_map, option_or}
 use Rattle.std.proofs.lemmas.Bool.{leb-true, le-leb, lt-leb}
 use Rattle.std.proofs.lemmas.Bool.Decides.{eqb_tells, leb_tells}
-use Rattle.std.proofs.lemmas.List.{length-append}
 use Rattle.lapin_values.specs.Properties.{Properties}
 use Rattle.lapin_methods.specs.declared.frame.ContentHeader.{ContentHeader}
 use Rattle.lapin_tables.specs.ByChannel.{at_channel, on_channel}
 use Rattle.lapin_tables.proofs.Channels.{at-on_same, at-on_other, at-push}
 use Rattle.lapin_content.specs.declared.start.Start.{Start}
-use Rattle.lapin_content.specs.Contents.{Begun, Expected, expected, waits_for, takes_body, is_whole, begun_with, grown_by, unless_whole, after_header, after_body}
-use Rattle.lapin_content.specs.Channels.{Channels, listed, expected_on, joined, joined_at, after_mark}
+use Rattle.lapin_content.specs.Contents.{Expected, expected, waits_for, takes_body, begun_with, grown_by, unless_whole, after_header, after_body}
+use Rattle.lapin_content.specs.Channels.{Channels, listed, expected_on, joined_at, after_mark}
 use Rattle.lapin_content.specs.Marks.{ContentMark}
 use Rattle.lapin_content.specs.Marks as mark
-use Rattle.lapin_content.specs.Readings.{Content, came, has_all, fits, given_up, lacks_header, with_header, with_body, on_front, newcomer, next_contents, contents_from, contents, seen, waiting}
+use Rattle.lapin_content.specs.Readings.{Content, came, has_all, fits, given_up, with_header, with_body, on_front, newcomer, next_contents, contents_from, contents, seen, waiting}
 use Rattle.lapin_content.specs.Follows.{Follows, Fits}
 use Rattle.lapin_content.proofs.Fitting.{concat-push, came-push, Fit, AllFit, contents-fit}
 

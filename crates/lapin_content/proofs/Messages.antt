@@ -1,5 +1,5 @@
 -- A whole message is that of the content at the front.
-use Rattle.std.proofs.Common.{◌≡◌, ℕ, ◌+◌, ◌-◌, ◌≤◌, ◌==◌, Bool, true, false, cond, ◌&&◌, List, [], ◌∷◌, ◌++◌, length, Option, Some, None, Result, Ok, Err, refl, sym, ◌∙◌, ap, arith, slice_get, inl, inr}
+use Rattle.std.proofs.Common.{◌≡◌, ℕ, ◌+◌, ◌-◌, ◌≤◌, ◌==◌, Bool, true, false, cond, List, [], ◌∷◌, ◌++◌, length, Option, Some, None, Result, Ok, Err, refl, sym, ◌∙◌, ap, arith, slice_get}
 use Rattle.std.specs.Prelude.{nat_le}
 use Rattle.std.specs.List.{concat}
 use Rattle.std.proofs.lemmas.Bool.{eqb-true, leb-true}
@@ -8,11 +8,11 @@ use Rattle.lapin_methods.specs.declared.error.Error.{Error}
 use Rattle.lapin_methods.specs.declared.frame.ContentHeader.{ContentHeader}
 use Rattle.lapin_content.specs.declared.start.Start.{Start}
 use Rattle.lapin_content.specs.declared.start.Whole.{Whole}
-use Rattle.lapin_content.specs.Contents.{Expected, heard_header, heard_body, refused_header, refused_body, if_whole, grown_by, begun_with}
+use Rattle.lapin_content.specs.Contents.{Expected, heard_header, heard_body, refused_header, refused_body}
 use Rattle.lapin_content.specs.Marks.{ContentMark}
-use Rattle.lapin_content.specs.Readings.{Content, contents, came, seen, waiting, front_of, message}
+use Rattle.lapin_content.specs.Readings.{Content, contents, came, seen, waiting, front_of}
 use Rattle.lapin_content.specs.Follows.{Fits, IsMessage}
-use Rattle.lapin_content.proofs.Fitting.{Fit, AllFit, concat-push, contents-fit, fit-at}
+use Rattle.lapin_content.proofs.Fitting.{AllFit, concat-push, contents-fit, fit-at}
 use Rattle.lapin_content.proofs.Following.{content}
 
 abbrev Told : Type 0

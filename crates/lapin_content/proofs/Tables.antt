@@ -1,5 +1,5 @@
 -- What a change of one channel's contents does to the table of all channels.
-use Rattle.std.proofs.Common.{◌≡◌, ℕ, List, [], ◌∷◌, ◌++◌, drop, Option, Some, None, Result, Ok, Err, OnOk, OnErr, refl, sym, ◌∙◌, ap}
+use Rattle.std.proofs.Common.{◌≡◌, ℕ, List, [], ◌∷◌, ◌++◌, Option, Some, None, Result, Ok, Err, OnOk, OnErr, sym, ◌∙◌, ap}
 use Rattle.lapin_methods.specs.declared.error.Error.{Error}
 use Rattle.lapin_methods.specs.declared.error.Error.TheVariants as error
 use Rattle.lapin_tables.specs.ByChannel.{at_channel, on_channel}

@@ -1,7 +1,6 @@
 -- The contents that all channels expect, as a machine: what each mark of a history does to them.
 use Rattle.std.specs.Prelude.{ℕ, List, [], ◌∷◌, ◌++◌, Option, Some, None, drop}
 use Rattle.lapin_tables.specs.ByChannel.{at_channel, on_channel}
-use Rattle.lapin_content.specs.declared.start.Start.{Start}
 use Rattle.lapin_content.specs.Contents.{Expected, expected, after_header, after_body}
 use Rattle.lapin_content.specs.Marks.{ContentMark}
 use Rattle.lapin_content.specs.Marks as mark

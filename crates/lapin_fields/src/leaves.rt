@@ -1,6 +1,5 @@
 //! Field values that hold no other, read behind the letters of their types.
 
-ghost use Rattle.std.specs.Prelude.{◌≡◌};
 ghost use Rattle.lapin_values.specs.DataOf.{data_of};
 ghost use Rattle.lapin_fields.specs.Reading.{GivesAs, GivesOne};
 ghost use Rattle.lapin_fields.specs.ValueReading.{as_octets, octets_at, leaf_at};

@@ -1,6 +1,6 @@
 //! A walk through bytes: numbers with the most significant byte first (AMQP 0-9-1, section 4.2.5.1), and runs of bytes.
 
-ghost use Rattle.std.specs.Prelude.{◌≡◌, ◌++◌, ◌∷◌, [], ℕ, List, OnOk};
+ghost use Rattle.std.specs.Prelude.{◌≡◌, ◌++◌, [], ℕ, List, OnOk};
 ghost use Rattle.std.specs.Bool.{Decides};
 ghost use Rattle.lapin_fields.specs.Reading.{octet_at, short_at, long_at, wide_at, piece_at, counted_at, Gives, GivesAs, Ends};
 ghost use Rattle.lapin_fields.specs.Fields.{octet, short, long, wide, counted};

@@ -1,6 +1,6 @@
 //! Short texts, behind their length in one octet (AMQP 0-9-1, section 4.2.5.3).
 
-ghost use Rattle.std.specs.Prelude.{◌≡◌, ◌≤◌, ◌++◌, ◌∷◌, length, OnOk, IfOk};
+ghost use Rattle.std.specs.Prelude.{◌≡◌, ◌≤◌, ◌++◌, length, OnOk, IfOk};
 ghost use Rattle.lapin_fields.specs.Reading.{text_at, string_at, passed, Gives, GivesAs, GivesText};
 ghost use Rattle.lapin_fields.specs.Fields.{text as text_bytes};
 ghost use Rattle.lapin_fields.specs.Fits.{TextFits};

@@ -3,7 +3,7 @@
 //! An array or a table within another that can't be given as one reaches the user as its octets, so that no message is refused for what
 //! its headers hold.
 
-ghost use Rattle.std.specs.Prelude.{◌≡◌, [], length, Ok, Err, IsOk};
+ghost use Rattle.std.specs.Prelude.{[], length, Ok, Err};
 ghost use Rattle.lapin_values.specs.Data.{array, table, items_of, pairs_of};
 ghost use Rattle.lapin_values.specs.DataOf.{data_of};
 ghost use Rattle.lapin_fields.specs.Reading.{Gives, GivesAs, GivesWhole, GivesOne};

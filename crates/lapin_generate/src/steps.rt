@@ -1,6 +1,6 @@
 //! The steps of a generated run: channel 1 is opened and selected, then each publish is made, handed out, read, acked and polled.
 
-ghost use Rattle.std.specs.Prelude.{◌≡◌, ◌≤◌, ◌++◌, true, replicate, OnOk};
+ghost use Rattle.std.specs.Prelude.{◌≤◌, ◌++◌, true, replicate, OnOk};
 ghost use Rattle.lapin_types.specs.declared.event.Event.TheVariants as event;
 ghost use Rattle.lapin_joint.specs.declared.step.Step.TheVariants as step;
 ghost use Rattle.lapin_generate.specs.Generated.{most_publishes, opening, selecting, answered, acked, publish_steps};

@@ -1,5 +1,5 @@
 -- The opening of a connection as a machine (AMQP 0-9-1, section 2.2.4): what is answered to what the broker says, and what is then waited for.
-use Rattle.std.specs.Prelude.{ℕ, ◌==◌, ◌&&◌, not, Bool, true, false, Result, Ok, Err, if◌then◌else◌, nat_lt}
+use Rattle.std.specs.Prelude.{ℕ, ◌==◌, ◌&&◌, Bool, true, false, Result, Ok, Err, if◌then◌else◌, nat_lt}
 use Rattle.lapin_handshake.specs.declared.said.Said.{Said}
 use Rattle.lapin_handshake.specs.declared.said.Said.TheVariants as said
 use Rattle.lapin_handshake.specs.declared.handshake.Limits.{Limits}

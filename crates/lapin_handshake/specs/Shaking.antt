@@ -1,5 +1,5 @@
 -- What becomes of bytes of the broker while a connection is opened.
-use Rattle.std.specs.Prelude.{◌≡◌, ◌<◌, ◌≤◌, ℕ, List, ◌++◌, Option, Some, None, Result, Ok, Err, ◌⊎◌}
+use Rattle.std.specs.Prelude.{◌≡◌, ◌<◌, ◌≤◌, ℕ, List, ◌++◌, Some, None, Ok, Err, ◌⊎◌}
 use Rattle.lapin_fields.specs.Around.{wanted_behind}
 use Rattle.lapin_fields.specs.declared.fault.WriteFault.{WriteFault}
 use Rattle.lapin_fields.specs.declared.fault.WriteFault.TheVariants as faults

@@ -1,6 +1,6 @@
 //! What the commands have in common that go line by line: a run that begins with the size of a frame, and takes a line at a time. What
 //! the lines of each say, and what its steps print, stands in the file of the command.
-ghost use Rattle.std.specs.Prelude.{◌≡◌, ◌≤◌, ◌<◌, ◌^◌, ◌++◌, ◌∷◌, [], ℕ, suc, List, Option, Some, None, length, true, false, IfOk, OnOk};
+ghost use Rattle.std.specs.Prelude.{◌≡◌, ◌≤◌, ◌<◌, ◌^◌, ◌++◌, ◌∷◌, [], ℕ, suc, List, Option, Some, None, true, false, IfOk};
 ghost use Rattle.lapin_text.specs.Input.{lines_of, max_line, IsMax};
 ghost use Rattle.lapin_inputs.specs.Printing.{Adds, NoFirst, bad_line_text};
 

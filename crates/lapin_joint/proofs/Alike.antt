@@ -1,5 +1,5 @@
 -- A joined run by the machine tells what one by the history tells, step by step.
-use Rattle.std.proofs.Common.{◌≡◌, ◌∙◌, ℕ, Bool, true, false, cond, List, [], ◌∷◌, ◌++◌, Option, None, refl, sym, ap, subst}
+use Rattle.std.proofs.Common.{◌≡◌, ◌∙◌, ℕ, Bool, true, false, cond, List, [], ◌∷◌, ◌++◌, None, refl, sym, ap, subst}
 use Rattle.lapin_types.specs.declared.event.Event.{Event}
 use Rattle.lapin_types.specs.declared.event.Event.TheVariants as event
 use Rattle.lapin_types.specs.declared.record.Record.{Record}
@@ -7,23 +7,20 @@ use Rattle.lapin_types.specs.declared.leaving.Left.{Left}
 use Rattle.lapin_types.specs.Types.{Frame}
 use Rattle.lapin_rules.specs.Wire.{Wire}
 use Rattle.lapin_rules.specs.Handing.{handed}
-use Rattle.lapin_rules.specs.History.{History, past, rec}
-use Rattle.lapin_machine.specs.World.{World, told_by, new_world}
-use Rattle.lapin_machine.specs.World as world
+use Rattle.lapin_rules.specs.History.{History, past}
+use Rattle.lapin_machine.specs.World.{World, new_world}
 use Rattle.lapin_machine.specs.Stands.{Stands}
 use Rattle.lapin_machine.proofs.Back.{still_none}
 use Rattle.lapin_machine.proofs.Ways.{told_same, stands_on}
 use Rattle.lapin_rules.specs.ConfirmReadings.{is_full}
 use Rattle.lapin_machine.proofs.Readings.{handed_shown}
 use Rattle.lapin_machine.proofs.Standing.{new_stands}
-use Rattle.lapin_broker.specs.States.{Broker, after_loss}
-use Rattle.lapin_broker.specs.Reads.{read}
-use Rattle.lapin_broker.specs.Sends.{may, send}
+use Rattle.lapin_broker.specs.Sends.{may}
 use Rattle.lapin_joint.specs.declared.step.Step.{Step}
 use Rattle.lapin_joint.specs.declared.step.Step.TheVariants as step
 use Rattle.lapin_joint.specs.declared.step.Reported.{Reported}
 use Rattle.lapin_joint.specs.declared.step.Reported.TheVariants as reported
-use Rattle.lapin_joint.specs.Joint.{Joint, new_joint, is_lawful, left_alone, handed_by, read_first, deliver_first, after, report, reports, run, joined, joined_to}
+use Rattle.lapin_joint.specs.Joint.{Joint, new_joint, is_lawful, left_alone, handed_by, read_first, deliver_first, after, report, reports, joined}
 use Rattle.lapin_machine.specs.Way.{by_history, by_machine}
 use Rattle.lapin_joint.specs.JoinedRun.{AreAlike}
 

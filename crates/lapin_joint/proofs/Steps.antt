@@ -1,13 +1,11 @@
 -- One step more at the end of a list of steps, and the numbers that it uses.
-use Rattle.std.proofs.Common.{◌≡◌, ◌∙◌, ℕ, suc, ◌+◌, ◌-◌, ◌^◌, ◌≤◌, ◌<◌, Bool, true, false, cond, None, List, [], ◌∷◌, ◌++◌, length, refl, sym, ap, subst, arith, append_assoc, length-append}
+use Rattle.std.proofs.Common.{◌≡◌, ◌∙◌, ℕ, suc, ◌+◌, ◌-◌, ◌^◌, ◌≤◌, ◌<◌, Bool, true, false, cond, None, List, [], ◌∷◌, ◌++◌, length, refl, sym, ap, subst, arith, length-append}
 use Rattle.std.specs.Prelude.{Result, Ok, Err, IfOk, OnOk, OnErr}
-use Rattle.lapin_types.specs.declared.event.Event.{Event}
 use Rattle.lapin_types.specs.declared.event.Event.TheVariants as event
 use Rattle.lapin_types.specs.declared.leaving.Left.{Left}
 use Rattle.lapin_types.specs.Types.{Frame}
 use Rattle.lapin_rules.specs.History.{History}
 use Rattle.lapin_machine.specs.World.{World, new_world}
-use Rattle.lapin_machine.specs.World as world
 use Rattle.lapin_machine.specs.Numbers.{HasNumbersFor}
 use Rattle.lapin_machine.proofs.Counting.{numbers-next}
 use Rattle.lapin_machine.proofs.Ways.{fewer}

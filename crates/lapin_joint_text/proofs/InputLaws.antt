@@ -5,7 +5,7 @@ use Rattle.std.specs.List.{flat_map, AllByRecursion}
 use Rattle.std.proofs.lemmas.Fmt.{decimal_injective}
 use Rattle.std.proofs.lemmas.List.{append-nil, length-append}
 use Rattle.std.proofs.lemmas.List.Concat.{flat_map-cons}
-use Rattle.lapin_text.specs.Input.{lines_of, max_line, IsMax, NoMax}
+use Rattle.lapin_text.specs.Input.{lines_of, max_line, IsMax}
 use Rattle.lapin_text.proofs.InputLaws.{lines_nil, line_first, max_plain}
 use Rattle.lapin_joint.specs.declared.step.Step.{Step}
 use Rattle.lapin_joint_text.specs.Steps.{step_line, HasLine, NoLine}

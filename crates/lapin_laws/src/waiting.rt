@@ -1,6 +1,6 @@
 //! What waits to leave, and for which openings.
 
-ghost use Rattle.std.specs.Prelude.{◌≡◌, ◌==◌, ℕ, true, false, List, [], Bool, if◌then◌else◌};
+ghost use Rattle.std.specs.Prelude.{◌≡◌, ◌==◌, ℕ, true, false, List, [], if◌then◌else◌};
 ghost use Rattle.lapin_types.specs.declared.event.Event.{Event as AnEvent};
 ghost use Rattle.lapin_types.specs.declared.request.ReplyKind.TheVariants as reply_kind;
 ghost use Rattle.lapin_rules.specs.Wire.{phase_of, requests_of};

@@ -3,6 +3,7 @@ ghost use Rattle.std.specs.Prelude.{◌≡◌, ◌++◌, ◌∷◌, [], false, S
 ghost use Rattle.lapin_types.specs.declared.call.Call.TheVariants.{BasicPublish, OpenChannel, ChannelClose};
 ghost use Rattle.lapin_types.specs.declared.event.Event.TheVariants as event;
 ghost use Rattle.lapin_scalars.specs.declared.fault.ReadError.TheVariants.{Bad};
+ghost use Rattle.lapin_rules.specs.Calls.{asked, publishes};
 ghost use Rattle.lapin_machine.specs.Numbers.{HasNumbersFor};
 ghost use Rattle.lapin_tokens.specs.Reading.{fields_at};
 ghost use Rattle.lapin_text.specs.CallText.{publish_fields, publish_of, call_at};
@@ -151,7 +152,34 @@ fn print_call(
             reply_code,
             reply_text,
         } => print_close(alloc, session, channel, reply_code, reply_text, text),
-        other => print_step(alloc, session, Event::Call(channel, other), text),
+        publish @ (Call::BasicPublish { .. } | Call::TryBasicPublish { .. }) => {
+            print_step(alloc, session, Event::Call(channel, publish), text)
+        }
+        other => print_ticket(alloc, session, channel, other, text),
+    }
+}
+
+// Makes a call that publishes nothing, and appends the line of the ticket, or of the refusal.
+#[inline(never)]
+fn print_ticket(
+    alloc: Global,
+    session: &mut Session,
+    channel: u16,
+    call: Call,
+    text: &mut Vec<u8>,
+) -> Result<(), NoMemory>
+    requires numbers { HasNumbersFor 1 session.old }
+    requires plain { publishes (asked call) ≡ false }
+    ensures { OnOk result (IsMet (event.Call channel call) session.old session.new text.old.items text.new.items) }
+{
+    match session.call(alloc, channel, call) {
+        Ok(ticket) => {
+            put_ticket(text, ticket.number)?;
+            text.push(b'\n')?;
+            Ok(())
+        }
+        Err(Error::NumbersUsedUp) => unreachable!(),
+        Err(error) => put_refusal(alloc, text, error),
     }
 }
 

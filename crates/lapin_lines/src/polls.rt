@@ -1,5 +1,5 @@
 //! Polls: `confirm N`, `ticket N` and `consumer N`.
-ghost use Rattle.std.specs.Prelude.{◌≡◌, ◌++◌, ◌∷◌, [], IfOk, IsOk, OnOk};
+ghost use Rattle.std.specs.Prelude.{◌≡◌, ◌++◌, ◌∷◌, [], IfOk, OnOk};
 ghost use Rattle.lapin_types.specs.declared.event.Event.TheVariants as event;
 ghost use Rattle.lapin_types.specs.declared.record.Record.TheVariants as told;
 ghost use Rattle.lapin_types.specs.declared.outcome.Outcome.TheVariants as outcome;

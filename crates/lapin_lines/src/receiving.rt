@@ -1,5 +1,5 @@
 //! A frame of the broker: `recv FRAME`.
-ghost use Rattle.std.specs.Prelude.{◌≡◌, ◌++◌, ◌∷◌, [], IfOk, IsOk, OnOk};
+ghost use Rattle.std.specs.Prelude.{[], IfOk, OnOk};
 ghost use Rattle.lapin_types.specs.Types.basic;
 ghost use Rattle.lapin_types.specs.Types.frame;
 ghost use Rattle.lapin_types.specs.Types.method;

@@ -2,7 +2,7 @@
 ghost use Rattle.std.specs.Prelude.{◌≡◌, ◌++◌, ◌∷◌, [], IfOk, IsOk, OnOk};
 ghost use Rattle.lapin_types.specs.declared.event.Event.TheVariants as event;
 ghost use Rattle.lapin_rules.specs.Handing.{frame_record};
-ghost use Rattle.lapin_machine.specs.Numbers.{HasNumbersFor, OnlyMemory};
+ghost use Rattle.lapin_machine.specs.Numbers.{HasNumbersFor};
 ghost use Rattle.lapin_text.specs.LineReading.{whole, event_of_word};
 ghost use Rattle.lapin_text.specs.Records.{record_tokens, line_onto};
 ghost use Rattle.lapin_text.specs.declared.words.Word.TheVariants as word;

@@ -1,6 +1,6 @@
 //! What all lines have in common: nothing follows what was read; an error that refuses is written; and the lines that go by their
 //! event and its record.
-ghost use Rattle.std.specs.Prelude.{◌≡◌, ◌++◌, ◌∷◌, [], ℕ, List, Option, IfOk, IsOk, OnOk};
+ghost use Rattle.std.specs.Prelude.{◌≡◌, ◌++◌, ◌∷◌, [], ℕ, List, Option, IfOk, OnOk};
 ghost use Rattle.lapin_types.specs.declared.record.Record.TheVariants as told;
 ghost use Rattle.lapin_types.specs.Types.error as errors;
 ghost use Rattle.lapin_machine.specs.Numbers.{HasNumbersFor};

@@ -3,7 +3,7 @@
 //! A close is refused by state, then for want of numbers; then all room is made; then what the close rejects or ends is
 //! resolved, and the close is queued. What is dropped and resolved stands in `lapin_outstanding`.
 
-ghost use Rattle.std.specs.Prelude.{◌≡◌, ◌≤◌, ◌++◌, ◌∷◌, [], true, false, IfOk, OnOk, OnErr, length};
+ghost use Rattle.std.specs.Prelude.{◌≡◌, ◌≤◌, ◌++◌, ◌∷◌, [], true, IfOk, OnOk, OnErr, length};
 ghost use Rattle.std.specs.List.{fold};
 ghost use Rattle.lapin_tables.specs.ByChannel.{at_channel};
 ghost use Rattle.lapin_types.specs.declared.event.Event.TheVariants.{Call as CallEvent, Lost as LostEvent};

@@ -1,7 +1,7 @@
 //! Frames of the broker: replies and settlements. Closes stand in `receiving_closes`. A frame that is not received closes the
 //! connection with its class and method.
 
-ghost use Rattle.std.specs.Prelude.{◌≡◌, ℕ, true, false, IfOk, OnOk, OnErr, if◌then◌else◌};
+ghost use Rattle.std.specs.Prelude.{◌≡◌, ℕ, true, IfOk, OnOk, OnErr, if◌then◌else◌};
 ghost use Rattle.lapin_tables.specs.ByChannel.{at_channel};
 ghost use Rattle.lapin_types.specs.declared.event.Event.TheVariants as event;
 ghost use Rattle.lapin_types.specs.Types.basic;

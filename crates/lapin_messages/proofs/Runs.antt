@@ -30,7 +30,6 @@ use Rattle.std.proofs.lemmas.Bool.{and_parts}
 use Rattle.lapin_rules.specs.Receiving.{after_received}
 use Rattle.lapin_rules.specs.Words.{many}
 use Rattle.lapin_rules.specs.Wire.{Wire}
-use Rattle.lapin_delivery.specs.Marks.{DeliveryMark}
 use Rattle.lapin_delivery.specs.Marks as deliveries
 use Rattle.lapin_broker.specs.Frames.{channel_of}
 use Rattle.lapin_broker.specs.Reads.{read}

@@ -6,7 +6,7 @@
 //! and leave that are repeated until there is nothing to drop, what `retry` and `pop` do together, which publish begins where
 //! channels are full, and which push meets which poison. Nothing runs here.
 
-ghost use Rattle.std.specs.Prelude.{◌≡◌, ◌≢◌, ◌<◌, [], ◌∷◌, ℕ, Bool, true, false, List, Option, Some, None, IsSome, map, drop, slice_get};
+ghost use Rattle.std.specs.Prelude.{◌≡◌, ◌≢◌, ◌<◌, [], ◌∷◌, ℕ, Bool, false, List, Some, None, IsSome, map, drop, slice_get};
 ghost use Rattle.std.specs.List.{find};
 ghost use Rattle.lapin_types.specs.Types.frame;
 ghost use Rattle.lapin_types.specs.Types.{Error as ErrorEntry};

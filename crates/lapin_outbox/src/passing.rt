@@ -5,7 +5,7 @@
 //! again. So it costs a step for each held key, however many numbers wait. What waits under a number is the line's, which alone
 //! calls this file; which keys are full is told by the caller.
 
-ghost use Rattle.std.specs.Prelude.{◌≡◌, ℕ, ◌+◌, ◌<◌, ◌≤◌, ◌++◌, ◌∷◌, [], Some, ◌^◌, length, IsOk, IfOk, OnOk, OnErr, MatchOption, nat_lt};
+ghost use Rattle.std.specs.Prelude.{◌≡◌, ◌+◌, ◌<◌, ◌≤◌, ◌++◌, ◌∷◌, [], Some, ◌^◌, length, IsOk, IfOk, OnOk, OnErr, MatchOption, nat_lt};
 ghost use Rattle.lapin_tables.specs.Numbered.{under, first_kept};
 ghost use Rattle.lapin_outbox.specs.Order.{first_on, without_number};
 ghost use Rattle.lapin_outbox.specs.Passing.{not_full, waits_where, first_where, AreHeld, NonePasses, is_up_to, bound, IsClear, IsOpen};

@@ -41,7 +41,8 @@ impl Letterbox {
 
     fn method(&mut self, alloc: Global, channel: u16, ticket: Option<u64>) -> Result<String, Fail> {
         let method = Method::Tx(TxMethod::Select);
-        let pushed = self.outbox.push_method(alloc, channel, method, ticket)?;
+        self.outbox.reserve(alloc)?;
+        let pushed = self.outbox.push_method_reserved(channel, method, ticket);
         pushed_text(alloc, pushed)
     }
 
@@ -50,7 +51,8 @@ impl Letterbox {
         let confirm = number(call.second)?;
         let length = number(call.third)?;
         let publish = made(alloc, channel, confirm, length)?;
-        let pushed = self.outbox.push_publish(alloc, publish)?;
+        self.outbox.reserve(alloc)?;
+        let pushed = self.outbox.push_publish_reserved(publish);
         pushed_text(alloc, pushed)
     }
 

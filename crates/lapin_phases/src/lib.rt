@@ -3,7 +3,7 @@
 //! The number stands beside the table, so that a frame request costs the same with one channel and with sixty thousand.
 #![tactic(auto)]
 
-ghost use Rattle.std.specs.Prelude.{◌≡◌, ◌+◌, ◌<◌, ◌≤◌, ◌^◌, true, [], Some, None, OnOk, if◌then◌else◌};
+ghost use Rattle.std.specs.Prelude.{◌≡◌, ◌+◌, ◌<◌, ◌≤◌, true, [], Some, None, OnOk, if◌then◌else◌};
 ghost use Rattle.std.specs.List.{list_any};
 ghost use Rattle.lapin_tables.specs.ByChannel.{at_channel, HasRoom};
 ghost use Rattle.lapin_rules.specs.Words.{with_channel};

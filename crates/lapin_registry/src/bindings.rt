@@ -1,6 +1,6 @@
 //! The bindings of an exchange or a queue, in the order in which they were recorded.
 
-ghost use Rattle.std.specs.Prelude.{◌≡◌, ◌∷◌, ◌++◌, [], OnOk, OnErr, IfOk, length, option_map, slice_get};
+ghost use Rattle.std.specs.Prelude.{◌≡◌, ◌∷◌, ◌++◌, [], OnOk, OnErr, length, slice_get};
 ghost use Rattle.std.specs.Option.{option_copied};
 ghost use Rattle.lapin_registry.specs.Topology.{is_binding as is_binding_of, without_binding};
 

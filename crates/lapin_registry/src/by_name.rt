@@ -1,6 +1,6 @@
 //! The search in lists that stand in rising order of the names of their elements. What the elements are stands beside it.
 
-ghost use Rattle.std.specs.Prelude.{◌≡◌, IfOk, IfErr, IsTrue, OnOk, OnErr, length};
+ghost use Rattle.std.specs.Prelude.{◌≡◌, IfOk, IfErr, IsTrue};
 ghost use Rattle.std.specs.List.{insert};
 ghost use Rattle.lapin_registry.specs.ByName.{IsAt, IsGapFor, rises};
 

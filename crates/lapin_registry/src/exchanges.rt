@@ -1,6 +1,6 @@
 //! The exchanges that a channel declared or bound, in rising order of name.
 
-ghost use Rattle.std.specs.Prelude.{◌≡◌, ◌∷◌, [], IfOk, OnOk, OnErr, IsTrue, length, slice_get};
+ghost use Rattle.std.specs.Prelude.{◌≡◌, [], IfOk, OnOk, OnErr, IsTrue, length, slice_get};
 ghost use Rattle.std.specs.Option.{option_copied};
 ghost use Rattle.lapin_registry.specs.ByName.{amended, changed, without, rises};
 ghost use Rattle.lapin_registry.specs.Topology.{exchange_name, undeclared_exchange, declared_exchange, bound_exchange, unbound_exchange};

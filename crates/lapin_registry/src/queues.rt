@@ -1,6 +1,6 @@
 //! The queues that a channel declared or bound, in rising order of name.
 
-ghost use Rattle.std.specs.Prelude.{◌≡◌, ◌∷◌, [], IfOk, OnOk, OnErr, IsTrue, length, slice_get};
+ghost use Rattle.std.specs.Prelude.{◌≡◌, [], IfOk, OnOk, OnErr, IsTrue, length, slice_get};
 ghost use Rattle.std.specs.Option.{option_copied};
 ghost use Rattle.lapin_registry.specs.ByName.{amended, changed, without, rises};
 ghost use Rattle.lapin_registry.specs.Topology.{queue_name, undeclared_queue, declared_queue, bound_queue, unbound_queue};

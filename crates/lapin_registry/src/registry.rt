@@ -1,7 +1,7 @@
 //! The registry of one channel: the calls that record what it completed.
 
 ghost use Rattle.std.specs.Prelude.{◌≡◌, OnOk, OnErr, IfOk, IsOk};
-ghost use Rattle.lapin_registry.specs.Topology.{empty_definition, after_mark, binding as binding_of};
+ghost use Rattle.lapin_registry.specs.Topology.{empty_definition, after_mark};
 ghost use Rattle.lapin_registry.specs.Marks as mark;
 
 use crate::bindings::BindingDefinition;

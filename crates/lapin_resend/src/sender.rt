@@ -1,6 +1,6 @@
 //! A publisher that sends again, step by step: what a step does and reports, and which messages are stored.
 
-ghost use Rattle.std.specs.Prelude.{◌≡◌, ◌↔◌, ◌≤◌, ◌<◌, ◌+◌, ◌++◌, ◌∷◌, [], ℕ, List, length, map, slice_set, vec_len, vec_capacity, Err, true, IfOk, OnOk, OnErr};
+ghost use Rattle.std.specs.Prelude.{◌≡◌, ◌↔◌, ◌≤◌, ◌<◌, ◌+◌, ◌++◌, ◌∷◌, [], ℕ, List, map, slice_set, vec_len, vec_capacity, Err, true, IfOk, OnOk, OnErr};
 ghost use Rattle.std.specs.List.{filter};
 ghost use Rattle.lapin_resend.specs.declared.step.ResendStep.{ResendStep as AStep};
 ghost use Rattle.lapin_resend.specs.Resend.{resend, publisher_after, stored_in, whether_stored};

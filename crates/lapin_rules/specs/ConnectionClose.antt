@@ -19,7 +19,6 @@ use Rattle.lapin_rules.specs.declared.broker_frames.Incoming.{Incoming}
 use Rattle.lapin_rules.specs.declared.broker_frames.Incoming.TheVariants as incoming
 use Rattle.lapin_rules.specs.ConfirmMarks.{ConfirmMark}
 use Rattle.lapin_rules.specs.TicketReadings.{TicketMark}
-use Rattle.lapin_rules.specs.TicketReadings as ticket
 use Rattle.lapin_rules.specs.Leaving.{Lists}
 use Rattle.lapin_rules.specs.Moves.{link_after}
 use Rattle.lapin_rules.specs.Phases.{has_left, is_crossed}

@@ -1,7 +1,7 @@
 -- Consumers (AMQP 0-9-1, class basic, `consume` and `cancel`): what calls and frames of the broker do to them, and what is asked of
 -- them. How a consumer gets its deliveries and its end stands in `lapin_consumer`; when an opening ends stands with the rule that ends
 -- it.
-use Rattle.std.specs.Prelude.{ℕ, ◌+◌, ◌==◌, Bool, true, false, not, ◌&&◌, if◌then◌else◌, List, [], ◌∷◌, ◌++◌, Option, Some, None, Result, Ok, Err, length, slice_get}
+use Rattle.std.specs.Prelude.{ℕ, ◌+◌, ◌==◌, Bool, true, false, not, ◌&&◌, if◌then◌else◌, List, [], ◌∷◌, Option, Some, None, Result, Ok, Err, length, slice_get}
 use Rattle.lapin_types.specs.declared.request.Request.{Request}
 use Rattle.lapin_types.specs.declared.request.Reply.{Reply}
 use Rattle.lapin_types.specs.declared.request.Reply.TheVariants as reply
@@ -14,7 +14,7 @@ use Rattle.lapin_types.specs.Types.{Method, BasicMethod, Error}
 use Rattle.lapin_types.specs.Types.method
 use Rattle.lapin_types.specs.Types.basic
 use Rattle.lapin_types.specs.Types.error
-use Rattle.lapin_consumer.specs.Subscriptions.{Handed, Consumer, Subscriptions, consumer_at, answered, is_idle}
+use Rattle.lapin_consumer.specs.Subscriptions.{Handed, Consumer, consumer_at, answered, is_idle}
 use Rattle.lapin_delivery.specs.Deliveries.{Deliveries}
 use Rattle.lapin_delivery.specs.Marks.{DeliveryMark}
 use Rattle.lapin_delivery.specs.Marks as deliveries

@@ -1,6 +1,6 @@
 -- The moves of a channel and of the connection: one table for each, and nothing else moves them (AMQP 0-9-1, classes channel and
 -- connection).
-use Rattle.std.specs.Prelude.{Bool, true, false, not}
+use Rattle.std.specs.Prelude.{true, false, not}
 use Rattle.lapin_rules.specs.declared.phases.ChannelPhase.{ChannelPhase}
 use Rattle.lapin_rules.specs.declared.phases.ChannelPhase.TheVariants as phase
 use Rattle.lapin_rules.specs.declared.phases.ChannelMove.{ChannelMove}

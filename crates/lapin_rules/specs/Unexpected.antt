@@ -1,5 +1,5 @@
 -- A frame of the broker that is not received closes the connection, and every opening ends (AMQP 0-9-1, reply code 505).
-use Rattle.std.specs.Prelude.{ℕ, codes, false, List, [], ◌∷◌}
+use Rattle.std.specs.Prelude.{ℕ, codes, List, [], ◌∷◌}
 use Rattle.lapin_types.specs.declared.record.Record.{Record}
 use Rattle.lapin_types.specs.Types.{Method, Error}
 use Rattle.lapin_types.specs.declared.record.Record.TheVariants as record_

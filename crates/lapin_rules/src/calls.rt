@@ -3,7 +3,7 @@
 //! One line a call, as the definition of `specs/Calls.antt` says. Six calls do something else than to queue their method; all others
 //! are their line of the table, made by class in the files below. The session asks here, and nothing here knows of a state.
 
-ghost use Rattle.std.specs.Prelude.{◌≡◌, Option, IfOk};
+ghost use Rattle.std.specs.Prelude.{◌≡◌, IfOk};
 ghost use Rattle.lapin_rules.specs.Calls.{asked, is_try as is_try_lem, awaiting as awaiting_lem, answered_at_once as answered_at_once_lem, unless_nowait as unless_nowait_lem, done_as_it_leaves as done_as_it_leaves_lem};
 ghost use Rattle.lapin_rules.specs.Asking.{is_allowed as is_allowed_lem};
 ghost use Rattle.lapin_rules.specs.Select.{is_select as is_select_lem};

@@ -1,13 +1,13 @@
 -- Bytes as pairs of hexadecimal digits, and short texts.
-use Rattle.std.proofs.Common.{◌≡◌, ℕ, suc, Bool, ◌++◌, ◌+◌, ◌-◌, ◌*◌, ◌/◌, ◌%◌, ◌<◌, ◌≤◌, ◌≢◌, zero, false, arith, take, drop, List, [], ◌∷◌, length, get_or, Option, Some, None, refl, sym, ap, subst, ◌∙◌, true, ltb, leb, ◌⊎◌, inl, inr}
-use Rattle.std.specs.Prelude.{◌&&◌, ◌||◌, ◌==◌}
+use Rattle.std.proofs.Common.{◌≡◌, ℕ, suc, Bool, cond, ◌++◌, ◌+◌, ◌-◌, ◌*◌, ◌/◌, ◌%◌, ◌<◌, ◌≤◌, ◌≢◌, zero, false, arith, take, drop, List, [], ◌∷◌, length, get_or, Option, Some, None, refl, sym, ap, subst, ◌∙◌, true, ltb, leb, ◌⊎◌, inl, inr}
+use Rattle.std.specs.Prelude.{◌&&◌, ◌||◌, ◌==◌, not}
 use Rattle.std.specs.Int.{from_le_bytes, w16}
 use Rattle.std.specs.Simd.{first_chunks}
 use Rattle.std.proofs.lemmas.Bool.{cases_lt, eqb-true}
 use Rattle.std.proofs.lemmas.List.{append_assoc, append-nil, get_or_past, get_or-drop, get_or-take, drop-drop, take_all, take_more}
 use Rattle.std.specs.Str.{is_utf8, IsUtf8}
 use Rattle.std.proofs.lemmas.Str.{IsUtf8-nil, IsUtf8-from_is_utf8, is_utf8-from_IsUtf8}
-use Rattle.std.proofs.lemmas.Bool.{lt-ltb, leb-true, le-leb}
+use Rattle.std.proofs.lemmas.Bool.{lt-ltb, ltb-true, leb-true, le-leb}
 use Rattle.hex.specs.Hex.{IsBytes, encode_lower, encode_with, lower_digits}
 use Rattle.hex.proofs.HexLemmas.{length-encode_with}
 use Rattle.lapin_scalars.specs.declared.fault.ReadError.{ReadError}
@@ -85,6 +85,27 @@ pair_text n v first second e =
     let rest : v % 16 ≡ y = omega (arith, sum, q.0) in
     (ap (λ (k : ℕ). get_or lower_digits k 0) high ∙ p.1, ap (λ (k : ℕ). get_or lower_digits k 0) rest ∙ q.1)
 
+-- what a byte and its value in a table say: a digit, or none
+abbrev says : ℕ → ℕ → Bool
+says c v = cond (ltb v 16) (is_digit c && (get_or lower_digits v 0 == c)) (not (is_digit c))
+
+not_true : (b : Bool) → not b ≡ true → b ≡ false
+not_true true e = absurd cc
+not_true false e = refl
+
+says_so : (c v : ℕ) (low : Bool) → ltb v 16 ≡ low → cond low (is_digit c && (get_or lower_digits v 0 == c)) (not (is_digit c)) ≡ true
+    → (v < 16 → (is_digit c ≡ true) × (get_or lower_digits v 0 ≡ c)) × (16 ≤ v → is_digit c ≡ false)
+says_so c v true e h =
+    let p = both_true (is_digit c) (get_or lower_digits v 0 == c) h in
+    let small = ltb-true v 16 e in
+    (λ lt. (p.0, eqb-true (get_or lower_digits v 0) c p.1), λ past. absurd (omega (arith, past, small)))
+says_so c v false e h = (λ lt. let yes = lt-ltb v 16 lt in absurd cc, λ past. not_true (is_digit c) h)
+
+-- what a table of all bytes says of one of them
+pub value_said : (table : List ℕ) (c : ℕ) → below (λ (b : ℕ). says b (get_or table b 0)) 256 ≡ true → c < 256
+    → (get_or table c 0 < 16 → (is_digit c ≡ true) × (get_or lower_digits (get_or table c 0) 0 ≡ c)) × (16 ≤ get_or table c 0 → is_digit c ≡ false)
+value_said table c h lt = says_so c (get_or table c 0) (ltb (get_or table c 0) 16) refl (below-at (λ (b : ℕ). says b (get_or table b 0)) 256 c h lt)
+
 pub digit_within : (cs : List ℕ) (i : ℕ) → all_digits cs ≡ true → i < length cs → is_digit (get_or cs i 0) ≡ true
 digit_within [] i e lt = absurd (omega arith)
 digit_within (c ∷ cs) zero e lt = (both_true (is_digit c) (all_digits cs) e).0
@@ -159,6 +180,24 @@ pair_at (suc k) (suc i) xs d lt =
     let two : 2 + 2 * i ≡ 2 * suc i = omega arith in
     pair_at k i (drop 2 xs) d (omega arith) ∙ ap (take 2) (drop-drop (2 * i) 2 xs ∙ ap (λ (n : ℕ). drop n xs) two)
 
+-- the two digits of a pair among all pairs
+pub pair_bytes : (xs : List ℕ) (ps : List (List ℕ)) (d : List ℕ) (i : ℕ) → ps ≡ first_chunks 2 (length xs / 2) xs → i < length xs / 2
+    → (get_or (get_or ps i d) 0 0 ≡ get_or xs (2 * i) 0) × (get_or (get_or ps i d) 1 0 ≡ get_or xs (2 * i + 1) 0)
+pair_bytes xs ps d i whole lt =
+    let pair : get_or ps i d ≡ take 2 (drop (2 * i) xs) = ap (λ (p : List (List ℕ)). get_or p i d) whole ∙ pair_at (length xs / 2) i xs d lt in
+    let here : 2 * i + 0 ≡ 2 * i = omega arith in (
+      ap (λ (p : List ℕ). get_or p 0 0) pair ∙ get_or-take 2 (drop (2 * i) xs) 0 0 (omega arith) ∙ get_or-drop (2 * i) xs 0 0 ∙ ap (λ (k : ℕ). get_or xs k 0) here,
+      ap (λ (p : List ℕ). get_or p 1 0) pair ∙ get_or-take 2 (drop (2 * i) xs) 1 0 (omega arith) ∙ get_or-drop (2 * i) xs 1 0,
+    )
+
+-- one byte that is no digit is enough
+pub other_digits : (cs : List ℕ) (i : ℕ) → i < length cs → is_digit (get_or cs i 0) ≡ false → false ≡ all_digits cs
+other_digits cs i lt other = go (all_digits cs) refl
+  where
+    go : (all : Bool) → all_digits cs ≡ all → false ≡ all
+    go false e = refl
+    go true e = let yes = digit_within cs i e lt in absurd cc
+
 -- the number that a pair is read as
 pub pair_number : (xs : List ℕ) (i : ℕ) → 2 * i + 1 < length xs
     → from_le_bytes w16 (take 2 (drop (2 * i) xs)) ≡ get_or xs (2 * i) 0 + 256 * get_or xs (2 * i + 1) 0
@@ -196,6 +235,15 @@ decode_step digits out i b fits first second inv =
 -- every pair is decoded
 pub decode_done : (digits out : List ℕ) (i : ℕ) → length digits ≤ 2 * i → encode_lower out ≡ take (2 * i) digits → encode_lower out ≡ digits
 decode_done digits out i h inv = inv ∙ take_all (2 * i) digits h
+
+-- two digits more are read
+pub digits_step : (digits : List ℕ) (i : ℕ) → 2 * i + 1 < length digits → is_digit (get_or digits (2 * i) 0) ≡ true → is_digit (get_or digits (2 * i + 1) 0) ≡ true
+    → all_digits (take (2 * i) digits) ≡ true → all_digits (take (2 * (i + 1)) digits) ≡ true
+digits_step digits i fits first second front =
+    let two : 2 * (i + 1) ≡ 2 * i + 1 + 1 = omega arith in
+    let one = all_digits_more digits (2 * i) (omega arith) in
+    let other = all_digits_more digits (2 * i + 1) (omega arith) in
+    ap (λ (k : ℕ). all_digits (take k digits)) two ∙ other ∙ rw (second, one, first, front) refl
 
 -- the digits of one byte more are written
 pub encode_step : (front after bs : List ℕ) (i x y : ℕ) → i < length bs

@@ -8,6 +8,7 @@ ghost use Rattle.lapin_scalars.specs.Reading.{GivesValue, scalar_of};
 use crate::fault::ReadError;
 use crate::hexadecimal::{are_digits, decode, decode_few};
 use crate::marks::behind;
+use arrayvec::ArrayVec;
 use lapin_values::{NoMemory, Payload, ShortString, ShortStringError};
 use std::alloc::Global;
 
@@ -57,10 +58,10 @@ fn few_of(alloc: Global, digits: &[u8]) -> Result<ShortString, ReadError>
     if digits.len() % 2 != 0 {
         return Err(ReadError::Bad);
     }
-    if !are_digits(digits) {
+    let mut bytes = ArrayVec::new();
+    if !decode_few(digits, &mut bytes) {
         return Err(ReadError::Bad);
     }
-    let bytes = decode_few(digits);
     text_of(alloc, bytes.as_slice())
 }
 

@@ -1,6 +1,6 @@
 //! Hexadecimal digits in lower case, two a byte, in loops that the compiler makes work on many bytes at once.
 
-ghost use Rattle.std.specs.Prelude.{◌≡◌, ◌++◌, ◌+◌, ◌*◌, ◌/◌, ◌%◌, ◌<◌, ◌≤◌, true, length, slice_index, IfOk};
+ghost use Rattle.std.specs.Prelude.{◌≡◌, ◌++◌, ◌+◌, ◌*◌, ◌/◌, ◌%◌, ◌<◌, ◌≤◌, [], true, false, length, slice_index, IfOk};
 ghost use Rattle.std.specs.Vec.{vec_len, vec_capacity};
 ghost use Rattle.hex.specs.Hex.{encode_lower, lower_digits};
 ghost use Rattle.lapin_scalars.specs.Digits.{is_digit as is_a_digit, all_digits};
@@ -54,20 +54,49 @@ pub fn decode(alloc: Global, digits: &[u8]) -> Result<Vec<u8>, AllocError>
     Ok(bytes)
 }
 
-/// The bytes that few pairs of digits say, in place.
+// The value of each byte as a digit: 0 to 15, and 16 where it is none.
+static VALUES: [u8; 256] = [
+    16, 16, 16, 16, 16, 16, 16, 16, 16, 16, 16, 16, 16, 16, 16, 16, 16, 16, 16, 16, 16, 16, 16, 16,
+    16, 16, 16, 16, 16, 16, 16, 16, 16, 16, 16, 16, 16, 16, 16, 16, 16, 16, 16, 16, 16, 16, 16, 16,
+    0, 1, 2, 3, 4, 5, 6, 7, 8, 9, 16, 16, 16, 16, 16, 16, 16, 16, 16, 16, 16, 16, 16, 16, 16, 16,
+    16, 16, 16, 16, 16, 16, 16, 16, 16, 16, 16, 16, 16, 16, 16, 16, 16, 16, 16, 16, 16, 16, 16, 10,
+    11, 12, 13, 14, 15, 16, 16, 16, 16, 16, 16, 16, 16, 16, 16, 16, 16, 16, 16, 16, 16, 16, 16, 16,
+    16, 16, 16, 16, 16, 16, 16, 16, 16, 16, 16, 16, 16, 16, 16, 16, 16, 16, 16, 16, 16, 16, 16, 16,
+    16, 16, 16, 16, 16, 16, 16, 16, 16, 16, 16, 16, 16, 16, 16, 16, 16, 16, 16, 16, 16, 16, 16, 16,
+    16, 16, 16, 16, 16, 16, 16, 16, 16, 16, 16, 16, 16, 16, 16, 16, 16, 16, 16, 16, 16, 16, 16, 16,
+    16, 16, 16, 16, 16, 16, 16, 16, 16, 16, 16, 16, 16, 16, 16, 16, 16, 16, 16, 16, 16, 16, 16, 16,
+    16, 16, 16, 16, 16, 16, 16, 16, 16, 16, 16, 16, 16, 16, 16, 16, 16, 16, 16, 16, 16, 16, 16, 16,
+    16, 16, 16, 16, 16, 16, 16, 16, 16, 16, 16, 16, 16, 16,
+];
+
+// The value of a byte as a digit, or 16.
 #[inline(always)]
-pub fn decode_few(digits: &[u8]) -> ArrayVec<u8, 32>
+fn value_of(byte: u8) -> u8
+    ensures digit { result < 16 → (is_a_digit byte ≡ true) × (slice_index lower_digits result ≡ byte) }
+    ensures other { 16 ≤ result → is_a_digit byte ≡ false }
+{
+    VALUES[byte as usize]
+}
+
+/// Reads few pairs, in place. Whether all are digits: then these are the bytes that they say. So few are looked up one by one.
+#[inline(always)]
+pub fn decode_few(digits: &[u8], bytes: &mut ArrayVec<u8, 32>) -> bool
     requires pairs { length digits.now % 2 ≡ 0 }
     requires few { length digits.now ≤ 64 }
-    requires digits { all_digits digits.now ≡ true }
-    ensures { encode_lower result.items ≡ digits.now }
+    requires empty { bytes.old.items ≡ [] }
+    ensures digits { result ≡ all_digits digits.now }
+    ensures bytes { result ≡ true → encode_lower bytes.new.items ≡ digits.now }
 {
-    let mut bytes = ArrayVec::new();
     let (pairs, _) = digits.as_chunks::<2>();
     for pair in pairs {
-        bytes.push(byte_of(u16::from_le_bytes(*pair)));
+        let high = value_of(pair[0]);
+        let low = value_of(pair[1]);
+        if high > 15 || low > 15 {
+            return false;
+        }
+        bytes.push(16 * high + low);
     }
-    bytes
+    true
 }
 
 // The digit that says a value. Between the last number and the first letter stand 39 other bytes.

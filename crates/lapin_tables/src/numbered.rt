@@ -4,7 +4,7 @@
 //! stands beside its number in a list of its own. So memory is held by what is outstanding, whichever values stay. No other
 //! file knows what was let go or passed over: contracts see every number that was given.
 
-ghost use Rattle.std.specs.Prelude.{◌≡◌, ◌≢◌, ℕ, ◌+◌, ◌^◌, ◌≤◌, ◌<◌, ◌∷◌, ◌++◌, [], length, OnOk, IsOk, IsSome, MatchOption, None, Some, replicate, false, ◌-◌};
+ghost use Rattle.std.specs.Prelude.{◌≡◌, ◌≢◌, ℕ, ◌+◌, ◌^◌, ◌≤◌, ◌<◌, ◌∷◌, ◌++◌, [], length, OnOk, IsOk, IsSome, MatchOption, None, Some, replicate, true, false, ◌-◌};
 ghost use Rattle.std.specs.VecDeque.{deque_len, deque_capacity};
 ghost use Rattle.std.specs.Option.{option_copied, option_copied_mut};
 ghost use Rattle.std.specs.Borrow.{sem};
@@ -19,7 +19,7 @@ use std::collections::VecDeque;
 use std::marker::Model;
 
 /// How far behind the first slot a value is taken before the first is passed over.
-const FAR: usize = 64;
+const FAR: usize = 128;
 
 /// Values that are numbered from 1. Contracts see one slot per number that was given, `None` where its value was taken.
 #[derive(Drop)]
@@ -85,7 +85,7 @@ impl<T> Numbered<T> {
         ensures fits { length self.now.slots < 2 ^ 64 }
     {
         let Some(place) = place_of(self.let_go, number) else {
-            if self.behind.is_empty() {
+            if is_above(&self.behind, number) {
                 return None;
             }
             return value_behind(&self.behind, number);
@@ -128,7 +128,22 @@ impl<T> Numbered<T> {
     }
 
     /// Makes room for so many further `push_reserved`. The values stay, also where there is no memory.
+    #[inline(always)]
     pub fn reserve(&mut self, additional: usize) -> Result<(), AllocError>
+        ensures room { OnOk result (additional ≤ self.new.spare) }
+        ensures same { self.new.slots ≡ self.old.slots }
+        ensures kept { self.old.spare ≤ self.new.spare }
+        ensures succeeds { additional ≤ self.old.spare → IsOk result }
+    {
+        if additional <= self.slots.capacity() - self.slots.len() {
+            return Ok(());
+        }
+        self.make_room(additional)
+    }
+
+    // Makes the room that is not there yet, which is seldom.
+    #[inline(never)]
+    fn make_room(&mut self, additional: usize) -> Result<(), AllocError>
         ensures room { OnOk result (additional ≤ self.new.spare) }
         ensures same { self.new.slots ≡ self.old.slots }
         ensures kept { self.old.spare ≤ self.new.spare }
@@ -262,6 +277,18 @@ fn stand<T: Drop>(behind: &mut VecDeque<(u64, T)>, number: u64, slot: Option<T>)
     if let Some(value) = slot {
         behind.push_back_reserved((number, value));
     }
+}
+
+// Whether a number is above all that were passed over, as most are.
+fn is_above<T>(behind: &VecDeque<(u64, T)>, number: u64) -> bool
+    requires { Rises 0 behind.now.items }
+    ensures { result ≡ true → at_channel number behind.now.items ≡ None }
+{
+    let count = behind.len();
+    if count == 0 {
+        return true;
+    }
+    behind[count - 1].0 < number
 }
 
 // The value that was passed over with this number.

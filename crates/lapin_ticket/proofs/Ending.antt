@@ -5,7 +5,7 @@ use Rattle.lapin_types.specs.declared.Error.{Error}
 use Rattle.lapin_types.specs.declared.answer.Answer.{Answer}
 use Rattle.lapin_tables.specs.Numbered.{under, with_under}
 use Rattle.lapin_tables.proofs.SlotLaws.{under-other}
-use Rattle.lapin_rules.specs.TicketReadings.{TicketMark, given, channel_of, leaving_of, life, begins, answer_of, first_answer, is_publish, is_spared, is_awaited as is_unanswered}
+use Rattle.lapin_rules.specs.TicketReadings.{TicketMark, given, channel_of, leaving_of, life, answer_of, first_answer, is_spared, is_awaited as is_unanswered}
 use Rattle.lapin_rules.specs.TicketReadings as mark
 use Rattle.lapin_rules.proofs.TicketLaws.{answer-push, nth-push, life-push}
 use Rattle.lapin_ticket.specs.declared.Slot.{Slot}

@@ -11,7 +11,7 @@ use Rattle.lapin_tables.specs.Numbered.{under, with_under}
 use Rattle.lapin_tables.proofs.Lists.{get-set_same, get-set_other}
 use Rattle.lapin_tables.proofs.SlotLaws.{length-with}
 use Rattle.lapin_rules.specs.declared.marks.AtLeaving.{AtLeaving}
-use Rattle.lapin_rules.specs.TicketReadings.{TicketMark, gives, given, channel_of, leaving_of, channel_in, leaving_in, life, begins, is_publish, is_spared, answer_at, answer_by, first_answer, closes}
+use Rattle.lapin_rules.specs.TicketReadings.{TicketMark, gives, given, channel_of, leaving_of, life, begins, is_publish, is_spared, answer_at, answer_by, first_answer, closes}
 use Rattle.lapin_rules.specs.TicketReadings as mark
 use Rattle.lapin_rules.proofs.ListLaws.{any-push}
 use Rattle.lapin_rules.proofs.TicketLaws.{given-push, answer-push, nth-push, life-push, nth_new, life_new}

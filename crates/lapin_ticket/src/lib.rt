@@ -13,12 +13,12 @@ mod slots;
 
 ghost use Rattle.std.specs.Prelude.{◌≡◌, ℕ, ◌+◌, ◌^◌, ◌<◌, ◌++◌, ◌∷◌, true, false, List, [], length, map, not, is_ok, OnOk, MatchOption, Option, Some, None, Err, if◌then◌else◌};
 ghost use Rattle.lapin_tables.specs.Numbered.{under};
-ghost use Rattle.lapin_rules.specs.TicketReadings.{TicketMark, answer_at, channel_of, answer_of, is_spared, is_awaited as is_unanswered};
+ghost use Rattle.lapin_rules.specs.TicketReadings.{TicketMark, channel_of, answer_of, is_spared, is_awaited as is_unanswered};
 ghost use Rattle.lapin_rules.specs.TicketReadings as mark;
 ghost use Rattle.lapin_types.specs.declared.Error.{Error as AnError};
 ghost use Rattle.lapin_ticket.specs.declared.Slot.{Slot as ASlot};
 ghost use Rattle.lapin_ticket.specs.declared.Slot.TheVariants as slot;
-ghost use Rattle.lapin_ticket.specs.Slots.{after_mark, polled, polled_slot, after_poll, laid, laid_slot, rejects, held_or, is_awaited, is_open_on, failed, failed_slot, closed_slot};
+ghost use Rattle.lapin_ticket.specs.Slots.{after_mark, polled, polled_slot, after_poll, laid, laid_slot, rejects, is_awaited, is_open_on, failed, closed_slot};
 ghost use Rattle.lapin_ticket.specs.Follows.{Follows, WasGiven};
 
 use crate::ends::let_go;

@@ -1,7 +1,5 @@
 //! A publisher that keeps each message until its outcome is known, and has at most so many of them outstanding.
-ghost use Rattle.std.specs.Prelude.{◌≡◌, ◌≤◌, ◌↔◌, ◌++◌, ◌∷◌, [], length, IfOk, OnErr, IfSome, IfNone, IsTrue};
-ghost use Rattle.lapin_machine.specs.World.{told_by, next};
-ghost use Rattle.lapin_types.specs.declared.event.Event.TheVariants.{PollConfirm};
+ghost use Rattle.std.specs.Prelude.{◌≡◌, ◌≤◌, ◌↔◌, [], length, IfOk, OnErr, IfSome, IfNone, IsTrue};
 ghost use Rattle.lapin_uses.specs.Publishing.{publishing, IsSent, IsAccepted, IsSettled, IsPending};
 
 use crate::outcomes::{Advice, advice_on};

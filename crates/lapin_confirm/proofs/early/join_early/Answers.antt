@@ -1,4 +1,4 @@
-use Rattle.std.proofs.Common.{◌≡◌, arith, refl}
+use Rattle.std.proofs.Common.{arith, refl}
 use Rattle.lapin_tables.specs.ByChannel.{at_channel}
 use Rattle.lapin_confirm.specs.WithRoom.{spare_in}
 use Rattle.lapin_confirm.proofs.Roomy.{given-count}

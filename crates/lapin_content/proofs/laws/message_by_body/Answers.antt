@@ -1,4 +1,4 @@
-use Rattle.std.proofs.Common.{◌≡◌, ap, sym, ◌∙◌}
+use Rattle.std.proofs.Common.{ap, sym, ◌∙◌}
 use Rattle.lapin_content.specs.Contents.{heard_body}
 use Rattle.lapin_content.specs.Readings.{contents}
 use Rattle.lapin_content.proofs.Fitting.{contents-fit}

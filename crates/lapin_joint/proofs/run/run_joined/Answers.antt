@@ -1,8 +1,8 @@
-use Rattle.std.proofs.Common.{◌≡◌, ◌∙◌, sym, subst, List, ◌++◌}
+use Rattle.std.proofs.Common.{◌≡◌, subst, List, ◌++◌}
 use Rattle.std.specs.Result.{OnOk, OnErr}
 use Rattle.std.specs.Prelude.{Result, Ok, Err}
 use Rattle.lapin_joint.specs.declared.step.Reported.{Reported}
-use Rattle.lapin_joint.specs.Joint.{Joint, reports}
+use Rattle.lapin_joint.specs.Joint.{reports}
 use Rattle.lapin_machine.specs.Way.{by_machine}
 use Rattle.lapin_joint.specs.JoinedRun.{JoinedRun}
 use Rattle.lapin_machine.specs.Growing.{IsStarted}

@@ -1,6 +1,5 @@
-use Rattle.std.proofs.Common.{◌≡◌, ◌∙◌, ap, Some}
+use Rattle.std.proofs.Common.{◌∙◌, ap, Some}
 use Rattle.lapin_text.specs.LineReading.{line_at, whole, event_of_word}
-use Rattle.lapin_text.specs.declared.words.Word.{Word}
 use Rattle.lapin_text.specs.declared.words.Word.TheVariants as word
 use Rattle.lapin_lines.proofs.Taking.{line_begins, taken_by}
 use Rattle.lapin_lines.proofs.line.take_line.Goals as goal

@@ -1,4 +1,4 @@
-use Rattle.std.proofs.Common.{◌≡◌, ℕ, suc, true, false, Bool, List, [], ◌∷◌, Some}
+use Rattle.std.proofs.Common.{◌≡◌, ℕ, suc, true, false, List, [], ◌∷◌, Some}
 use Rattle.lapin_machine.specs.World.{World}
 use Rattle.lapin_joint.specs.Joint.{Joint}
 use Rattle.lapin_inputs.specs.Printing.{Adds}

@@ -1,4 +1,4 @@
-use Rattle.std.proofs.Common.{None, ℕ, List, cond, ap, ◌∙◌}
+use Rattle.std.proofs.Common.{None, cond, ap, ◌∙◌}
 use Rattle.std.specs.Prelude.{bytes_eq}
 use Rattle.std.specs.Map.{lookup}
 use Rattle.lapin_consumer.specs.Indexed.{Line}

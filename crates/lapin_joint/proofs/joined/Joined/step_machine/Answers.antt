@@ -1,4 +1,4 @@
-use Rattle.std.proofs.Common.{◌≡◌, ◌+◌, ◌<◌, ◌^◌, refl, ap, arith}
+use Rattle.std.proofs.Common.{◌+◌, ◌<◌, ◌^◌, refl, ap, arith}
 use Rattle.lapin_joint.specs.JoinedRun.{JoinedRun}
 use Rattle.lapin_joint.proofs.Steps.{goes_on}
 use Rattle.lapin_joint.proofs.joined.Joined.step_machine.Goals as goal

@@ -1,17 +1,14 @@
 use Rattle.std.proofs.Common.{◌≡◌, ◌∙◌, ◌≤◌, ◌<◌, sym, refl, arith, length, true, false, None, inl, inr}
 use Rattle.std.proofs.lemmas.Bool.{cases_lt}
-use Rattle.std.proofs.lemmas.Bool.Decides.{nat_tests}
 use Rattle.std.proofs.lemmas.List.{get_or_past}
-use Rattle.lapin_tables.proofs.Slots.{under_kept, under_passed, under-read, under-let_go}
+use Rattle.lapin_tables.proofs.Slots.{under_kept, under_passed, under-read}
 use Rattle.lapin_tables.proofs.numbered.Numbered.get.Goals as goal
 
 pub returns-in_default-clause-value : goal.returns-in_default-clause-value
 returns-in_default-clause-value g c = rw (← c.self.view_is) (c.value_behind.ensures ∙ sym (under_passed _ _ _ _ c.in_default.ensures c.self.invariant.2))
 
-pub returns-then-is_empty-clause-value : goal.returns-then-is_empty-clause-value
-returns-then-is_empty-clause-value g c =
-    let none : length c.self.inside.behind.items ≡ 0 = grind (arith, nat_tests, c.if-is_empty.ensures) in
-    rw (← c.self.view_is) (sym (under-let_go _ _ c.self.inside.behind.items _ c.in_default.ensures c.self.invariant.2 none))
+pub returns-then-is_above-clause-value : goal.returns-then-is_above-clause-value
+returns-then-is_above-clause-value g c = rw (← c.self.view_is) (sym (under_passed _ _ _ _ c.in_default.ensures c.self.invariant.2 ∙ c.is_above.ensures c.if-is_above.true))
 
 pub returns-in_err-slot-clause-value : goal.returns-in_err-slot-clause-value
 returns-in_err-slot-clause-value g c =
