@@ -4,7 +4,7 @@
 //! while the outbox or its channel is poisoned. The session calls the outbox, and no other part does. Why a frame is given back,
 //! and why something is poisoned, is not known here.
 
-ghost use Rattle.std.specs.Prelude.{◌≡◌, ℕ, true, false, ◌+◌, ◌<◌, ◌≤◌, [], Some, None, IsOk, IfOk, OnOk, OnErr, slice_get, is_some, if◌then◌else◌};
+ghost use Rattle.std.specs.Prelude.{◌≡◌, ℕ, true, false, ◌+◌, ◌<◌, ◌≤◌, [], Some, None, IsOk, IsSome, IfOk, OnOk, OnErr, slice_get, is_some, if◌then◌else◌};
 ghost use Rattle.lapin_rules.specs.Words.{with_channel};
 ghost use Rattle.lapin_rules.specs.Drops.{is_rest_of, frame_channel as frame_channel_lem};
 ghost use Rattle.lapin_rules.specs.Flow.{unless_full};
@@ -96,9 +96,35 @@ impl Outbox {
 
     // ---- pushes
 
-    /// Queues a method of a channel behind all methods, with the ticket of its call, if it has one, in the room that was made: it
-    /// takes no memory. Where the channel or the outbox is poisoned nothing is queued, and the answer is the channel's error, else
-    /// the outbox's.
+    /// Queues a method of a channel behind all methods, with the ticket of its call, if it has one. Where the channel or the
+    /// outbox is poisoned nothing is queued, and the answer is the channel's error, else the outbox's. Where there is no memory
+    /// nothing is queued either.
+    pub fn push_method(
+        &mut self,
+        _alloc: Global,
+        channel: u16,
+        method: Method,
+        ticket: Option<u64>,
+    ) -> Result<Pushed, NoMemory>
+        ensures told { IfOk result (λ pushed. pushed ≡ push_told (poison_on channel self.old.what)) }
+        ensures ok { OnOk result (self.new.what ≡ method_pushed (record { channel = channel; method = method; ticket = ticket }) self.old.what) }
+        ensures err { OnErr result (self.new.what ≡ self.old.what) }
+        ensures poisoned { IsSome (poison_on channel self.old.what) → IsOk result }
+
+        // In the room that `reserve` made it does not fail, and it uses up no more than one place.
+        ensures room { 0 < self.old.spare → IsOk result }
+        ensures used { self.old.spare ≤ self.new.spare + 1 }
+    {
+        if let Some(error) = self.poisoned(channel) {
+            drop(method);
+            return Ok(Pushed::Poisoned(error));
+        }
+        self.queues.reserve()?;
+        self.queues.push_method_reserved(channel, method, ticket);
+        Ok(Pushed::Queued)
+    }
+
+    /// Does what `push_method` does, in the room that was made. It takes no memory.
     pub fn push_method_reserved(
         &mut self,
         channel: u16,
@@ -118,8 +144,28 @@ impl Outbox {
         Pushed::Queued
     }
 
-    /// Queues a publish behind all publishes, in the room that was made: it takes no memory. Where its channel or the outbox is
-    /// poisoned nothing is queued, and the answer is the channel's error, else the outbox's.
+    /// Queues a publish behind all publishes. Where its channel or the outbox is poisoned nothing is queued, and the answer is
+    /// the channel's error, else the outbox's. Where there is no memory nothing is queued either.
+    pub fn push_publish(&mut self, _alloc: Global, publish: Publish) -> Result<Pushed, NoMemory>
+        ensures told { IfOk result (λ pushed. pushed ≡ push_told (poison_on publish.channel self.old.what)) }
+        ensures ok { OnOk result (self.new.what ≡ publish_pushed publish self.old.what) }
+        ensures err { OnErr result (self.new.what ≡ self.old.what) }
+        ensures poisoned { IsSome (poison_on publish.channel self.old.what) → IsOk result }
+
+        // In the room that `reserve` made it does not fail, and it uses up no more than one place.
+        ensures room { 0 < self.old.spare → IsOk result }
+        ensures used { self.old.spare ≤ self.new.spare + 1 }
+    {
+        if let Some(error) = self.poisoned(publish.channel) {
+            drop(publish);
+            return Ok(Pushed::Poisoned(error));
+        }
+        self.queues.reserve()?;
+        self.queues.push_publish_reserved(publish);
+        Ok(Pushed::Queued)
+    }
+
+    /// Does what `push_publish` does, in the room that was made. It takes no memory.
     pub fn push_publish_reserved(&mut self, publish: Publish) -> Pushed
         requires { 0 < self.old.spare }
         ensures told { result ≡ push_told (poison_on publish.channel self.old.what) }

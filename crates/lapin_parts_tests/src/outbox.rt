@@ -41,8 +41,7 @@ impl Letterbox {
 
     fn method(&mut self, alloc: Global, channel: u16, ticket: Option<u64>) -> Result<String, Fail> {
         let method = Method::Tx(TxMethod::Select);
-        self.outbox.reserve(alloc)?;
-        let pushed = self.outbox.push_method_reserved(channel, method, ticket);
+        let pushed = self.outbox.push_method(alloc, channel, method, ticket)?;
         pushed_text(alloc, pushed)
     }
 
@@ -51,8 +50,7 @@ impl Letterbox {
         let confirm = number(call.second)?;
         let length = number(call.third)?;
         let publish = made(alloc, channel, confirm, length)?;
-        self.outbox.reserve(alloc)?;
-        let pushed = self.outbox.push_publish_reserved(publish);
+        let pushed = self.outbox.push_publish(alloc, publish)?;
         pushed_text(alloc, pushed)
     }
 
