@@ -26,7 +26,7 @@ forget-tied n es cells over tied = by (under n cells) refl over
     by (Some (cell.Resolved x)) is h = λ d. tied_at-other d n (cell.Resolved x) None (at_channel d es) cells is refl refl (tied d)
 
 -- so all that is kept agrees still, whatever became of its message
-pub forget-kept : {early : ℕ} (n : ℕ) (rooms : List (ℕ × Bool)) (es : List (ℕ × ConfirmMode)) (old-returned_by_channel returned_by_channel : List (ℕ × ReturnedMessages)) (old-cells cells : Slots Cell) (old-origins origins : Slots Origin) → is_resolved (under n old-cells.slots) ≡ true → cells.slots ≡ with_under n None old-cells.slots → old-cells.spare ≤ cells.spare → origins.slots ≡ with_under n None old-origins.slots → old-origins.spare ≤ origins.spare → (MessagesFit rooms old-returned_by_channel → MessagesFit rooms returned_by_channel) → AllKept rooms es old-returned_by_channel early old-cells old-origins → AllKept rooms es returned_by_channel early cells origins
+pub forget-kept : {early : ℕ} {full : List ℕ} (n : ℕ) (rooms : List (ℕ × Bool)) (es : List (ℕ × ConfirmMode)) (old-returned_by_channel returned_by_channel : List (ℕ × ReturnedMessages)) (old-cells cells : Slots Cell) (old-origins origins : Slots Origin) → is_resolved (under n old-cells.slots) ≡ true → cells.slots ≡ with_under n None old-cells.slots → old-cells.spare ≤ cells.spare → origins.slots ≡ with_under n None old-origins.slots → old-origins.spare ≤ origins.spare → (MessagesFit rooms old-returned_by_channel → MessagesFit rooms returned_by_channel) → AllKept rooms es old-returned_by_channel early old-cells old-origins full → AllKept rooms es returned_by_channel early cells origins full
 forget-kept n rooms es old-returned_by_channel returned_by_channel old-cells cells old-origins origins over cell more origin places fit kept =
     let room : promised rooms ≤ cells.spare = omega (arith, kept.room.cells, more) in
     record {
@@ -37,6 +37,7 @@ forget-kept n rooms es old-returned_by_channel returned_by_channel old-cells cel
         room = omega (arith, kept.origins.room, places);
       };
       early = kept.early;
+      full = kept.full;
     }
 
 pub length-marked : (n : ℕ) (o : Option Origin) (hs : List (Option Origin)) → length (marked n o hs) ≡ length hs

@@ -27,3 +27,4 @@ pub mod EarlyMessages
 pub mod Reading
 pub mod Polling
 pub mod Asking
+pub mod ShownFull

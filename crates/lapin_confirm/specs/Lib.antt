@@ -8,6 +8,7 @@ pub mod Machine
 pub mod Sweeps
 pub mod Turns
 pub mod WithRoom
+pub mod FullSet
 pub mod Ties
 pub mod Follows
 pub mod Polled

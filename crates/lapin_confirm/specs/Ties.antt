@@ -12,6 +12,7 @@ use Rattle.lapin_confirm.specs.declared.confirm_mode.ConfirmMode.{ConfirmMode}
 use Rattle.lapin_rules.specs.ReturnLists.{ReturnLists}
 use Rattle.lapin_confirm.specs.ReturnedMessages.{ReturnedMessages, HasPlace}
 use Rattle.lapin_confirm.specs.WithRoom.{spare_in}
+use Rattle.lapin_confirm.specs.FullSet.{ShowsFull}
 use Rattle.lapin_confirm.specs.PublishStates.{ConfirmModeState, next_confirm_mode, is_queued_on, is_pending_on}
 
 -- what a caller sees of a confirm mode
@@ -114,9 +115,10 @@ pub record OriginsKept (rooms : List (ℕ × Bool)) (cells : List (Option Cell))
   pub count : length origins.slots ≡ length cells
   pub room : promised rooms ≤ origins.spare
 
--- confirm modes and cells agree, and what is promised has room, also for so many more early messages
-pub record AllKept (rooms : List (ℕ × Bool)) (es : List (ℕ × ConfirmMode)) (ts : List (ℕ × ReturnedMessages)) (more : ℕ) (cells : Slots Cell) (places : Slots Origin) : Type 0 where
+-- confirm modes and cells agree, what is promised has room, also for so many more early messages, and the set has the full channels
+pub record AllKept (rooms : List (ℕ × Bool)) (es : List (ℕ × ConfirmMode)) (ts : List (ℕ × ReturnedMessages)) (more : ℕ) (cells : Slots Cell) (places : Slots Origin) (shown : List ℕ) : Type 0 where
   pub tied : AllTied es cells.slots
   pub room : HaveRoom rooms es ts cells.spare
   pub origins : OriginsKept rooms cells.slots places
   pub early : promised rooms ≤ more
+  pub full : ShowsFull shown es

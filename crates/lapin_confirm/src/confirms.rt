@@ -18,11 +18,13 @@ use crate::attaching::{attach_on, attach_one};
 use crate::cell::Cell;
 use crate::confirm_mode::ConfirmMode;
 use crate::early::join_early;
+use crate::full_set::{show, show_limited};
 use crate::openings::{make_place, put_confirm_mode, renew_returned_messages};
 use crate::origin::Origin;
 use crate::returned::Returned;
 use crate::rooms::{give_up, is_promised, make_room, promise, use_room};
 use crate::settling::{end_opening, enqueue, leave, reject, settle_tag, settle_through};
+use lapin_full::ChannelSet;
 use lapin_rules::SettleKind;
 use lapin_tables::{ByChannel, Numbered};
 use lapin_types::{BasicReturnMessage, Confirmation, Error, NoMemory, Outcome};
@@ -33,6 +35,8 @@ use std::marker::Model;
 /// The outcome of every confirm number, and the confirm mode and the returned messages of every channel. Contracts see a `ConfirmState`, and the room beside it.
 pub struct Confirms {
     pub(crate) confirm_modes: ByChannel<ConfirmMode>,
+    // The channels that are full, by their confirm modes.
+    pub(crate) full: ChannelSet,
     pub(crate) cells: Numbered<Cell>,
     pub(crate) origins: Numbered<Origin>,
     pub(crate) returned_by_channel: ByChannel<Returned>,
@@ -44,6 +48,7 @@ impl Drop for Confirms {
     fn drop(self) {
         let Confirms {
             confirm_modes: _,
+            full: _,
             cells: _,
             origins: _,
             returned_by_channel: _,
@@ -69,7 +74,7 @@ impl Model for Confirms {
       spare = a.rooms.entries;
     } };
 
-    ghost invariant = { λ a. AllKept a.rooms.entries a.confirm_modes.entries a.returned_by_channel.entries (deque_spare a.early) a.cells a.origins };
+    ghost invariant = { λ a. AllKept a.rooms.entries a.confirm_modes.entries a.returned_by_channel.entries (deque_spare a.early) a.cells a.origins a.full };
 }
 
 impl Confirms {
@@ -80,6 +85,7 @@ impl Confirms {
     {
         Ok(Confirms {
             confirm_modes: ByChannel::new(alloc),
+            full: ChannelSet::new(alloc),
             cells: Numbered::new(alloc),
             origins: Numbered::new(alloc),
             returned_by_channel: ByChannel::new(alloc),
@@ -126,7 +132,7 @@ impl Confirms {
     {
         let promised = is_promised(&self.rooms, channel);
         let mode = ConfirmMode::with_room(alloc, promised)?;
-        make_place(&mut self.confirm_modes, channel)?;
+        make_place(&mut self.confirm_modes, &mut self.full, channel)?;
         renew_returned_messages(
             &mut self.returned_by_channel,
             &mut self.cells,
@@ -137,6 +143,7 @@ impl Confirms {
             promised,
         )?;
         put_confirm_mode(&mut self.confirm_modes, channel, mode);
+        self.full.remove(channel);
         Ok(())
     }
 
@@ -186,6 +193,7 @@ impl Confirms {
             return;
         };
         mode.selected = true;
+        show(&mut self.full, channel, mode);
     }
 
     /// A `confirm.select` call is accepted on a channel with a live opening.
@@ -208,6 +216,7 @@ impl Confirms {
             return;
         };
         mode.limit = limit;
+        show(&mut self.full, channel, mode);
     }
 
     /// The method frame of a publish leaves. Answers the tag that it takes: none where the opening isn't selected, and it is
@@ -222,7 +231,9 @@ impl Confirms {
         let Some(mode) = self.confirm_modes.get_mut(channel) else {
             unreachable!()
         };
-        leave(channel, mode, &mut self.cells, number)
+        let tag = leave(channel, mode, &mut self.cells, number);
+        show_limited(&mut self.full, channel, mode);
+        tag
     }
 
     /// The broker settles one tag of a channel (AMQP 0-9-1, basic.ack; RabbitMQ, basic.nack). Its confirm takes the oldest returned
@@ -243,6 +254,7 @@ impl Confirms {
         if !settle_tag(channel, mode, &mut self.cells, tag, outcome_of(kind)) {
             return Err(Error::PreconditionFailed { tag, current });
         }
+        show_limited(&mut self.full, channel, mode);
         Ok(())
     }
 
@@ -259,6 +271,7 @@ impl Confirms {
         let limit = lesser(tag, mode.tags.count());
         attach_on(&mut self.returned_by_channel, channel, &mode.tags, limit);
         settle_through(channel, mode, &mut self.cells, limit, outcome_of(kind));
+        show_limited(&mut self.full, channel, mode);
     }
 
     /// The broker settles every pending tag of a channel, in rising order: a multiple settlement with tag 0. Messages are
@@ -273,6 +286,7 @@ impl Confirms {
         let last = mode.tags.count();
         attach_on(&mut self.returned_by_channel, channel, &mode.tags, last);
         settle_through(channel, mode, &mut self.cells, last, outcome_of(kind));
+        show_limited(&mut self.full, channel, mode);
     }
 
     /// A publish whose method frame has not left is resolved with an error.
@@ -300,6 +314,7 @@ impl Confirms {
             return;
         };
         end_opening(channel, mode, &mut self.cells, error);
+        show(&mut self.full, channel, mode);
     }
 
     /// The last tag that was taken on a channel, 0 where none was.
@@ -383,8 +398,7 @@ impl Confirms {
     pub fn full(&self, channel: u16) -> bool
         ensures { result ≡ full_on channel self.now.what.publish_states }
     {
-        let limit = self.limit(channel);
-        self.selected(channel) && 0 < limit && limit <= self.pending(channel) as u64
+        self.full.contains(channel)
     }
 
     /// The last tag taken of a channel less its least pending one, plus 1; 0 exactly where no tag is pending.

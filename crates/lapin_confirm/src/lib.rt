@@ -14,6 +14,7 @@ mod confirm_mode;
 mod confirms;
 mod draining;
 mod early;
+mod full_set;
 mod laws;
 mod limits;
 mod lists;

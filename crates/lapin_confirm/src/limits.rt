@@ -1,13 +1,13 @@
 //! The limit of outstanding confirms: which channels are full, and which are at their limit.
 //!
-//! Both are asked of what `confirms` keeps, and nothing is kept here. What a full channel holds back is the outbox's, and what is
-//! refused at the limit the session's.
+//! Both are asked of what `confirms` keeps, and nothing is kept here; how the set of full channels is kept is `full_set`. What a full
+//! channel holds back is the outbox's, and what is refused at the limit the session's.
 
 ghost use Rattle.std.specs.Prelude.{◌≡◌, ◌+◌, nat_le};
 ghost use Rattle.lapin_confirm.specs.PublishStates.{at_limit_on};
 
 use crate::confirms::Confirms;
-use lapin_rules::FullChannels;
+use lapin_full::{ChannelSet, FullChannels};
 
 impl Confirms {
     /// Whether a channel is at its limit: as many of its publishes are queued or pending as the limit allows, which is above 0.
@@ -31,6 +31,10 @@ impl FullChannels for Confirms {
 
     fn is_full(&self, channel: u16) -> bool {
         self.full(channel)
+    }
+
+    fn first_open(&self, channels: &ChannelSet, from: usize) -> Option<u16> {
+        channels.first_without(&self.full, from)
     }
 }
 

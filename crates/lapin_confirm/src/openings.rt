@@ -1,13 +1,15 @@
 //! A new opening of a channel: its confirm mode and its returned messages, which stay for the openings after it.
 
-ghost use Rattle.std.specs.Prelude.{◌≡◌, ◌≤◌, length, ℕ, List, None, OnOk, OnErr, IsOk, IsSome, Bool, if◌then◌else◌};
+ghost use Rattle.std.specs.Prelude.{◌≡◌, ◌≤◌, ◌<◌, length, ℕ, List, None, OnOk, OnErr, IsOk, IsSome, Bool, if◌then◌else◌};
 ghost use Rattle.lapin_tables.specs.ByChannel.{at_channel, HasRoom};
+ghost use Rattle.lapin_full.specs.ChannelSet.{reach};
 ghost use Rattle.lapin_rules.specs.Words.{is_some, with_channel};
 ghost use Rattle.lapin_rules.specs.ReturnLists.{renewed};
 ghost use Rattle.lapin_confirm.specs.WithRoom.{spare_in};
 ghost use Rattle.lapin_confirm.specs.ConfirmState.{return_lists_in, messages_off};
 ghost use Rattle.lapin_confirm.specs.declared.confirm_mode.ConfirmMode.{ConfirmMode as AConfirmMode};
 ghost use Rattle.lapin_confirm.specs.Drain.{remaining, less_all};
+ghost use Rattle.lapin_confirm.specs.FullSet.{ShowsFull};
 ghost use Rattle.lapin_confirm.specs.Ties.{returned_by_channel_of, MessagesFit, AllTied, deque_spare};
 
 use crate::cell::Cell;
@@ -15,23 +17,29 @@ use crate::confirm_mode::ConfirmMode;
 use crate::early::{let_go_all, take_early};
 use crate::origin::Origin;
 use crate::returned::Returned;
+use lapin_full::ChannelSet;
 use lapin_tables::{ByChannel, Numbered};
 use lapin_types::BasicReturnMessage;
 use std::alloc::{AllocError, Global};
 use std::collections::VecDeque;
 
-/// Makes the place where the confirm mode of a channel will stand, if there is none yet.
+/// Makes the place where the confirm mode of a channel will stand, if there is none yet, and the one where it is shown as full.
 pub fn make_place(
     confirm_modes: &mut ByChannel<ConfirmMode>,
+    full: &mut ChannelSet,
     channel: u16,
 ) -> Result<(), AllocError>
+    requires { ShowsFull full.old confirm_modes.old.entries }
     ensures same { confirm_modes.new.entries ≡ confirm_modes.old.entries }
     ensures place { OnOk result (at_channel channel confirm_modes.new.entries ≡ None → HasRoom channel confirm_modes.new) }
+    ensures full { ShowsFull full.new confirm_modes.old.entries }
+    ensures reached { OnOk result (channel < reach full.new) }
     ensures succeeds { IsSome (at_channel channel confirm_modes.old.entries) → IsOk result }
 {
     if confirm_modes.get(channel).is_some() {
         return Ok(());
     }
+    full.reserve(channel)?;
     confirm_modes.reserve(channel)?;
     Ok(())
 }

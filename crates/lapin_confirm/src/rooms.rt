@@ -6,6 +6,7 @@ ghost use Rattle.std.specs.Prelude.{◌≡◌, ◌≢◌, ℕ, ◌+◌, ◌<◌,
 ghost use Rattle.lapin_tables.specs.ByChannel.{at_channel, on_channel};
 ghost use Rattle.lapin_confirm.specs.declared.cell.Cell.{Cell as ACell};
 ghost use Rattle.lapin_confirm.specs.WithRoom.{spare_in};
+ghost use Rattle.lapin_confirm.specs.FullSet.{ShowsFull};
 ghost use Rattle.lapin_confirm.specs.Ties.{confirm_mode_states, returned_by_channel_of, promised, AllTied, TagFits, TagsFit, MessageFits, MessagesFit, HaveRoom, HasMore, deque_spare};
 
 use crate::cell::Cell;
@@ -72,6 +73,7 @@ pub fn make_room(
     ensures early { early.new.items ≡ early.old.items }
     ensures early_kept { promised rooms.new.entries ≤ deque_spare early.new }
     ensures early_more { OnOk result (promised rooms.new.entries < deque_spare early.new) }
+    ensures full { (full : List ℕ) → ShowsFull full confirm_modes.old.entries → ShowsFull full confirm_modes.new.entries }
 {
     note(channel, rooms)?;
     cells.reserve(rooms.entries().len() + 1)?;
@@ -104,6 +106,7 @@ fn make_room_for_tag(
     ensures confirm_modes { confirm_mode_states confirm_modes.new.entries ≡ confirm_mode_states confirm_modes.old.entries }
     ensures tied { (cells : List (Option ACell)) → AllTied confirm_modes.old.entries cells → AllTied confirm_modes.new.entries cells }
     ensures tags { (rooms : List (ℕ × Bool)) → TagsFit rooms confirm_modes.old.entries → TagsFit rooms confirm_modes.new.entries }
+    ensures full { (full : List ℕ) → ShowsFull full confirm_modes.old.entries → ShowsFull full confirm_modes.new.entries }
     ensures more { OnOk result (TagFits 1 (at_channel channel confirm_modes.new.entries)) }
 {
     let Some(mode) = confirm_modes.get_mut(channel) else {

@@ -3,7 +3,7 @@
 //! Each function keeps the confirm mode and the cells tied. A settlement looks up one place, or walks from the least pending tag:
 //! what is settled already costs nothing. An end walks the pending tags too, and the numbers only while a publish is queued.
 
-ghost use Rattle.std.specs.Prelude.{◌≡◌, ◌≢◌, ℕ, ◌+◌, ◌<◌, ◌≤◌, ◌^◌, ◌==◌, nat_le, true, ◌∷◌, ◌++◌, [], Some, length, map, is_some, if◌then◌else◌};
+ghost use Rattle.std.specs.Prelude.{◌≡◌, ◌≢◌, ℕ, ◌+◌, ◌<◌, ◌≤◌, ◌^◌, ◌==◌, nat_le, true, false, ◌∷◌, ◌++◌, [], Some, length, map, is_some, if◌then◌else◌};
 ghost use Rattle.std.specs.Option.{option_map};
 ghost use Rattle.std.specs.Bool.{Decides};
 ghost use Rattle.lapin_tables.specs.Numbered.{under, with_under};
@@ -26,6 +26,7 @@ pub fn enqueue(channel: u16, mode: &mut ConfirmMode, cells: &mut Numbered<Cell>)
     ensures spare { cells.old.spare ≡ cells.new.spare + 1 }
     ensures tied { Tied channel mode.new cells.new.slots }
     ensures mode { confirm_mode_state mode.new ≡ confirm_mode_state mode.old }
+    ensures pending { mode.new.pending ≡ mode.old.pending }
 {
     mode.queued += 1;
     cells.push_reserved(Cell::Queued(channel))
@@ -97,6 +98,7 @@ pub fn settle_tag(
     ensures tied { Tied channel mode.new cells.new.slots }
     ensures mode { confirm_mode_state mode.new ≡ confirm_mode_state mode.old }
     ensures pending { result ≡ true → mode.new.pending + 1 ≡ mode.old.pending }
+    ensures as_many { result ≡ false → mode.new.pending ≡ mode.old.pending }
     ensures spare { cells.old.spare ≤ cells.new.spare }
     ensures room { KeepsTags mode.old mode.new }
 {
@@ -144,6 +146,7 @@ pub fn reject(
     ensures cells { cells.new.slots ≡ with_under number (Some (Cell.Resolved (Outcome.Failed error))) cells.old.slots }
     ensures tied { Tied channel mode.new cells.new.slots }
     ensures mode { confirm_mode_state mode.new ≡ confirm_mode_state mode.old }
+    ensures pending { mode.new.pending ≡ mode.old.pending }
     ensures spare { cells.old.spare ≤ cells.new.spare }
     ensures room { KeepsTags mode.old mode.new }
 {

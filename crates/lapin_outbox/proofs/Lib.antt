@@ -5,6 +5,7 @@ pub mod Rooms
 pub mod Chains
 pub mod ChannelQueues
 pub mod PassedOver
+pub mod Unnamed
 pub mod Beginning
 pub mod Dropping
 pub mod DropTickets

@@ -1,18 +1,18 @@
 -- The first number of a key that passes, and what is kept of the numbers that were passed over.
-use Rattle.std.proofs.Common.{◌≡◌, ◌≢◌, ℕ, zero, suc, ◌+◌, ◌-◌, ◌<◌, ◌≤◌, ◌==◌, nat_le, nat_lt, Bool, true, false, cond, List, [], ◌∷◌, ◌++◌, length, get_or, Contains, MatchOption, Option, Some, None, is_some, refl, sym, ◌∙◌, ap, subst, arith, length-append, ◌⊎◌, inl, inr}
+use Rattle.std.proofs.Common.{◌≡◌, ◌≢◌, ℕ, zero, suc, ◌+◌, ◌-◌, ◌<◌, ◌≤◌, ◌==◌, nat_lt, Bool, true, false, List, [], ◌∷◌, ◌++◌, length, MatchOption, not, Option, Some, None, is_some, refl, sym, ◌∙◌, ap, subst, arith, length-append, ◌⊎◌, inl, inr}
 use Rattle.std.specs.Bool.{if◌then◌else◌}
-use Rattle.std.specs.Prelude.{◌||◌}
-use Rattle.std.specs.List.{filter, find}
+use Rattle.std.specs.List.{find}
 use Rattle.std.specs.Option.{option_map, IsSome}
-use Rattle.std.proofs.lemmas.Bool.{true≢false, leb-true, leb-false, ltb-true, ltb-false}
+use Rattle.std.proofs.lemmas.Bool.{true≢false, ltb-true, ltb-false}
 use Rattle.std.proofs.lemmas.Bool.Decides.{eqb_tells}
-use Rattle.std.proofs.lemmas.List.Elements.{Contains-push, Contains-append_left}
 use Rattle.lapin_tables.specs.Numbered.{under, with_under, first_kept}
 use Rattle.lapin_tables.proofs.SlotLaws.{given, first-there, first-least, first-none, under-pushed, under-map, length-with}
 use Rattle.lapin_rules.specs.Words.{without_first}
 use Rattle.lapin_outbox.specs.Order.{first_on, without_number}
 use Rattle.lapin_outbox.specs.ChannelQueue.{kept, keys_by}
-use Rattle.lapin_outbox.specs.Passing.{of_key, waits_where, first_where, AreHeld, NonePasses, is_up_to, bound, IsClear, IsOpen}
+use Rattle.lapin_full.specs.ChannelSet.{is_in}
+use Rattle.lapin_full.specs.FullChannels.{AllFull, IsFirstOpen}
+use Rattle.lapin_outbox.specs.Passing.{not_full, of_key, waits_where, first_where, AreHeld, NonePasses, bound, IsFree, IsClear, IsOpen}
 use Rattle.lapin_outbox.proofs.Chains.{under-behind, with-behind, same-test}
 use Rattle.lapin_outbox.proofs.ChannelQueues.{next-number, no-number}
 
@@ -166,24 +166,6 @@ first-of-its-key t n c os h at =
       | inr other ↦ other.0
     ])
 
--- a number of a key that waits tells where its first is
-pub waits-up-to : (passed n c : ℕ) (os : List (Option ℕ)) → n ≤ passed → under n os ≡ Some c → is_up_to passed (first_on c os) ≡ true
-waits-up-to passed n c os le at = found (first_on c os) refl
-  where
-    found : (r : Option ℕ) → first_on c os ≡ r → is_up_to passed r ≡ true
-    found None h = absurd (on-none c n os h at)
-    found (Some m) h = elim (decide (nat_le m passed)) [
-      | inl does ↦ does
-      | inr not ↦ let far : passed < m = leb-false m passed not in let lt : n < m = omega arith in absurd (on-least c n m os h lt at)
-    ]
-
-pub up-to-waits : (passed c : ℕ) (os : List (Option ℕ)) → is_up_to passed (first_on c os) ≡ true → (n : ℕ) × (n ≤ passed) × (under n os ≡ Some c)
-up-to-waits passed c os h = found (first_on c os) refl h
-  where
-    found : (r : Option ℕ) → first_on c os ≡ r → is_up_to passed r ≡ true → (n : ℕ) × (n ≤ passed) × (under n os ≡ Some c)
-    found None is does = cc
-    found (Some m) is does = let le : m ≤ passed = leb-true m passed does in (m, le, on-there c m os is)
-
 -- ---- what was passed over, as numbers join and are taken
 
 pub held-pushed : (passed c : ℕ) (held : List ℕ) (keys : List (Option ℕ)) → AreHeld passed held keys → AreHeld passed held (keys ++ Some c ∷ [])
@@ -226,59 +208,13 @@ held-skipped passed first held keys h lt is = record {
   each = λ n c le at. let least : first ≤ n = first-least n first c keys is at in absurd (omega arith);
 }
 
-contains-tail : (x c : ℕ) (xs : List ℕ) → Contains (x ∷ xs) c → (x ≡ c) ⊎ Contains xs c
-contains-tail x c xs h = found h.0 h.1 h.2
-  where
-    found : (k : ℕ) → k < length (x ∷ xs) → get_or (x ∷ xs) k c ≡ c → (x ≡ c) ⊎ Contains xs c
-    found zero lt is = inl is
-    found (suc k) lt is = inr (k, omega arith, is)
-
-contains-behind : (x c : ℕ) (xs : List ℕ) → Contains xs c → Contains (x ∷ xs) c
-contains-behind x c xs h = let lt : h.0 < length xs = h.1 in (suc h.0, omega arith, h.2)
-
-contains-filtered : (test : ℕ → Bool) (c : ℕ) (xs : List ℕ) → Contains xs c → test c ≡ true → Contains (filter test xs) c
-contains-filtered test c [] h passes = let lt : h.0 < 0 = h.1 in absurd (omega arith)
-contains-filtered test c (x ∷ xs) h passes = elim (contains-tail x c xs h) [
-  | inl same ↦
-      let here : test x ≡ true = ap test same ∙ passes in
-      let P : Bool → Type 0 = λ b. Contains (cond b (x ∷ filter test xs) (filter test xs)) c in
-      subst P (sym here) (0, omega arith, same)
-  | inr rest ↦
-      let there : Contains (filter test xs) c = contains-filtered test c xs rest passes in
-      elim (decide (test x)) [
-        | inl does ↦ let P : Bool → Type 0 = λ b. Contains (cond b (x ∷ filter test xs) (filter test xs)) c in subst P (sym does) (contains-behind x c (filter test xs) there)
-        | inr not ↦ let P : Bool → Type 0 = λ b. Contains (cond b (x ∷ filter test xs) (filter test xs)) c in subst P (sym not) there
-      ]
-]
-
-abbrev pub still_waits : ℕ → List (Option ℕ) → ℕ → Bool
-still_waits passed keys c = is_up_to passed (first_on c keys)
-
--- what is filtered by a test that each key passes of which a number waits
-pub held-filtered : (test : ℕ → Bool) (passed : ℕ) (held new : List ℕ) (keys : List (Option ℕ)) → ((c : ℕ) → still_waits passed keys c ≡ true → test c ≡ true) → AreHeld passed held keys → new ≡ filter test held → AreHeld passed new keys
-held-filtered test passed held new keys waits h is = record {
-  within = h.within;
-  each = λ n c le at. subst (λ (xs : List ℕ). Contains xs c) (sym is) (contains-filtered test c held (h.each n c le at) (waits c (waits-up-to passed n c keys le at)));
-}
-
--- a full key is kept too
-abbrev pub full_or_waits : (ℕ → Bool) → ℕ → List (Option ℕ) → ℕ → Bool
-full_or_waits full passed keys c = full c || still_waits passed keys c
-
-pub waits-kept : (full : ℕ → Bool) (passed : ℕ) (keys : List (Option ℕ)) (c : ℕ) → still_waits passed keys c ≡ true → full_or_waits full passed keys c ≡ true
-waits-kept full passed keys c waits = or-right (full c) (still_waits passed keys c) waits
-  where
-    or-right : (a b : Bool) → b ≡ true → (a || b) ≡ true
-    or-right true b e = refl
-    or-right false b e = e
-
 up-to-next : (n passed number : ℕ) → number ≡ passed + 1 → n ≤ number → (n ≡ number) ⊎ (n ≤ passed)
 up-to-next n passed number next le = elim (eqb_tells n number) [
   | inl same ↦ inl same.1
   | inr other ↦ let apart : n ≢ number = other.1 in inr (omega arith)
 ]
 
-pub held-next : (passed number : ℕ) (held new : List ℕ) (keys : List (Option ℕ)) → AreHeld passed held keys → number ≡ passed + 1 → passed < length keys → ((c : ℕ) → Contains held c → Contains new c) → ((c : ℕ) → under number keys ≡ Some c → Contains new c) → AreHeld number new keys
+pub held-next : (passed number : ℕ) (held new : List ℕ) (keys : List (Option ℕ)) → AreHeld passed held keys → number ≡ passed + 1 → passed < length keys → ((c : ℕ) → is_in c held ≡ true → is_in c new ≡ true) → ((c : ℕ) → under number keys ≡ Some c → is_in c new ≡ true) → AreHeld number new keys
 held-next passed number held new keys h next lt more here = record {
   within = omega arith;
   each = λ n c le at. elim (up-to-next n passed number next le) [
@@ -287,31 +223,45 @@ held-next passed number held new keys h next lt more here = record {
   ];
 }
 
--- none is there, or its key is held already, or is held now
+-- none waits there
 pub held-none : (passed number : ℕ) (held : List ℕ) (keys : List (Option ℕ)) → AreHeld passed held keys → number ≡ passed + 1 → passed < length keys → under number keys ≡ None → AreHeld number held keys
 held-none passed number held keys h next lt none = held-next passed number held held keys h next lt (λ c x. x) (λ c at. let no : ◌≡◌ {A = Option ℕ} (Some c) None = sym at ∙ none in cc)
 
--- a key that is held already stays so
-pub held-standing : (passed number key : ℕ) (held : List ℕ) (keys : List (Option ℕ)) → AreHeld passed held keys → number ≡ passed + 1 → passed < length keys → under number keys ≡ Some key → Contains held key → AreHeld number held keys
-held-standing passed number key held keys h next lt is stands =
-    held-next passed number held held keys h next lt (λ c x. x) (λ c at.
-    let some : Some key ≡ Some c = sym is ∙ at in
-    let same : key ≡ c = cc in
-    subst (λ (d : ℕ). Contains held d) same stands)
+-- the same keys are held
+pub held-same : (passed : ℕ) (held new : List ℕ) (keys : List (Option ℕ)) → AreHeld passed held keys → ((c : ℕ) → is_in c new ≡ is_in c held) → AreHeld passed new keys
+held-same passed held new keys h same = record { within = h.within; each = λ n c le at. same c ∙ h.each n c le at }
 
-pub held-already : (passed number key : ℕ) (held : List ℕ) (keys : List (Option ℕ)) → AreHeld passed held keys → number ≡ passed + 1 → passed < length keys → under number keys ≡ Some key → is_up_to passed (first_on key keys) ≡ true → AreHeld number held keys
-held-already passed number key held keys h next lt is waits =
-    let old = up-to-waits passed key keys waits in
-    held-standing passed number key held keys h next lt is (h.each old.0 key old.1 old.2)
-
-pub held-now : (passed number key : ℕ) (held new : List ℕ) (keys : List (Option ℕ)) → AreHeld passed held keys → number ≡ passed + 1 → passed < length keys → under number keys ≡ Some key → new ≡ held ++ key ∷ [] → AreHeld number new keys
-held-now passed number key held new keys h next lt is pushed =
-    held-next passed number held new keys h next lt
-    (λ c x. subst (λ (xs : List ℕ). Contains xs c) (sym pushed) (Contains-append_left held (key ∷ []) c x))
+-- a key is put in
+pub held-now : (passed number key : ℕ) (held new : List ℕ) (keys : List (Option ℕ)) → AreHeld passed held keys → number ≡ passed + 1 → passed < length keys → under number keys ≡ Some key → is_in key new ≡ true → ((c : ℕ) → c ≢ key → is_in c new ≡ is_in c held) → AreHeld number new keys
+held-now passed number key held new keys h next lt is put others =
+    held-next passed number held new keys h next lt more
     (λ c at.
     let some : Some key ≡ Some c = sym is ∙ at in
     let same : key ≡ c = cc in
-    subst (λ (d : ℕ). Contains new d) same (subst (λ (xs : List ℕ). Contains xs key) (sym pushed) (Contains-push held key)))
+    subst (λ (d : ℕ). is_in d new ≡ true) same put)
+  where
+    more : (c : ℕ) → is_in c held ≡ true → is_in c new ≡ true
+    more c was = elim (eqb_tells c key) [
+      | inl same ↦ ap (λ (d : ℕ). is_in d new) same.1 ∙ put
+      | inr other ↦ others c other.1 ∙ was
+    ]
+
+-- a key is let go of which no number that was passed over waits
+pub held-less : (passed key : ℕ) (held new : List ℕ) (keys : List (Option ℕ)) → AreHeld passed held keys → IsFree keys key (suc passed) → ((c : ℕ) → c ≢ key → is_in c new ≡ is_in c held) → AreHeld passed new keys
+held-less passed key held new keys h free others = record {
+  within = h.within;
+  each = λ n c le at. elim (eqb_tells c key) [
+    | inl same ↦ absurd (free n (omega arith) (subst (λ (d : ℕ). under n keys ≡ Some d) same.1 at))
+    | inr other ↦ others c other.1 ∙ h.each n c le at
+  ];
+}
+
+-- none joins as one is let go
+pub fewer-held : (key : ℕ) (held new : List ℕ) → is_in key new ≡ false → ((c : ℕ) → c ≢ key → is_in c new ≡ is_in c held) → (c : ℕ) → is_in c new ≡ true → is_in c held ≡ true
+fewer-held key held new gone others c is = elim (eqb_tells c key) [
+  | inl same ↦ absurd (true≢false (sym is ∙ ap (λ (d : ℕ). is_in d new) same.1 ∙ gone))
+  | inr other ↦ sym (others c other.1) ∙ is
+]
 
 pub none-next : (t : ℕ → Bool) (passed number : ℕ) (keys : List (Option ℕ)) → NonePasses t passed keys → number ≡ passed + 1 → waits_where t (under number keys) ≡ false → NonePasses t number keys
 none-next t passed number keys none next not = λ n c le at.
@@ -338,47 +288,75 @@ where-empty t keys none = sym (is-none t keys (λ m d at. absurd (first-none m d
 
 -- ---- the search among the keys that are held
 
--- a key that is full is clear of numbers that pass
-pub clear-full : (t : ℕ → Bool) (keys : List (Option ℕ)) (c b : ℕ) → t c ≡ false → IsClear t keys c b
-clear-full t keys c b full = λ n lt at. full
+-- a key without a number is free everywhere
+pub free-none : (keys : List (Option ℕ)) (c b : ℕ) → first_on c keys ≡ None → IsFree keys c b
+free-none keys c b none = λ n lt at. on-none c n keys none at
 
-pub clear-none : (t : ℕ → Bool) (keys : List (Option ℕ)) (c b : ℕ) → first_on c keys ≡ None → IsClear t keys c b
-clear-none t keys c b none = λ n lt at. absurd (on-none c n keys none at)
+-- a key is free up to its first number
+pub free-first : (keys : List (Option ℕ)) (c b m : ℕ) → first_on c keys ≡ Some m → b ≤ m → IsFree keys c b
+free-first keys c b m is le = λ n lt at. let below : n < m = omega arith in on-least c n m keys is below at
 
-pub clear-first : (t : ℕ → Bool) (keys : List (Option ℕ)) (c b m : ℕ) → first_on c keys ≡ Some m → b ≤ m → IsClear t keys c b
-clear-first t keys c b m is le = λ n lt at. let below : n < m = omega arith in absurd (on-least c n m keys is below at)
+-- a key whose first number isn't in front of the best is free up to the best
+pub free-later : (keys : List (Option ℕ)) (c m b : ℕ) → first_on c keys ≡ Some m → nat_lt m b ≡ false → IsFree keys c b
+free-later keys c m b is not = free-first keys c b m is (ltb-false m b not)
 
-pub open-first : (t : ℕ → Bool) (keys : List (Option ℕ)) (c m : ℕ) → first_on c keys ≡ Some m → t c ≡ true → waits_where t (under m keys) ≡ true
-open-first t keys c m is passes = ap (waits_where t) (on-there c m keys is) ∙ passes
-
+-- the search never goes beyond what was passed over
 pub bound-within : (t : ℕ → Bool) (keys : List (Option ℕ)) (passed : ℕ) (best : Option ℕ) → IsOpen t keys passed best → bound passed best ≤ suc passed
 bound-within t keys passed None open_ = omega arith
 bound-within t keys passed (Some b) open_ = let le : b ≤ passed = open_.0 in omega arith
 
-pub record SearchDone (t : ℕ → Bool) (passed : ℕ) (held : List ℕ) (keys : List (Option ℕ)) (best : Option ℕ) (i : ℕ) : Type 0 where
-  pub clear : (k d : ℕ) → k < i → IsClear t keys (get_or held k d) (bound passed best)
+-- where the first number of all wasn't passed over, none waits that was
+pub none-skipped : (t : ℕ → Bool) (first : ℕ) (keys : List (Option ℕ)) → first_kept keys ≡ Some first → NonePasses t (first - 1) keys
+none-skipped t first keys is = λ n c le at.
+    let least : first ≤ n = first-least n first c keys is at in
+    let some : 0 < n = under-positive n c keys at in
+    absurd (omega arith)
+
+-- up to which key the search is done: no held key below it has a number in front of the best that passes
+pub record SearchDone (t : ℕ → Bool) (passed : ℕ) (held : List ℕ) (keys : List (Option ℕ)) (best : Option ℕ) (from : ℕ) : Type 0 where
+  pub clear : (c : ℕ) → c < from → is_in c held ≡ true → IsClear t keys c (bound passed best)
   pub is_open : IsOpen t keys passed best
 
-pub search-found : (t : ℕ → Bool) (passed : ℕ) (held : List ℕ) (keys : List (Option ℕ)) (best : Option ℕ) → AreHeld passed held keys → SearchDone t passed held keys best (length held) → MatchOption best (NonePasses t passed keys) (λ n. first_where t keys ≡ Some n)
-search-found t passed held keys None h done = λ n c le at.
-    let there = h.each n c le at in
-    subst (λ (d : ℕ). IsClear t keys d (suc passed)) there.2 (done.clear there.0 c there.1) n (omega arith) at
-search-found t passed held keys (Some b) h done =
-    let here = waiting t (under b keys) done.is_open.1 in
-    let le : b ≤ passed = done.is_open.0 in
-    is-where t b here.0 keys here.1 here.2 (λ n c lt at.
-    let there = h.each n c (omega arith) at in
-    subst (λ (d : ℕ). IsClear t keys d b) there.2 (done.clear there.0 c there.1) n lt at)
+-- no key is looked at yet
+pub search-begun : (t : ℕ → Bool) (passed : ℕ) (held : List ℕ) (keys : List (Option ℕ)) → SearchDone t passed held keys None 0
+search-begun t passed held keys = record { clear = λ c lt is. absurd (omega arith); is_open = tt }
 
--- the first number of a key is below the bound, or it isn't
-pub sooner-open : (t : ℕ → Bool) (keys : List (Option ℕ)) (c m passed : ℕ) (best : Option ℕ) → first_on c keys ≡ Some m → t c ≡ true → nat_lt m (bound passed best) ≡ true → IsOpen t keys passed best → (m ≤ passed) × (waits_where t (under m keys) ≡ true)
-sooner-open t keys c m passed best is passes below open_ =
-    let lt : m < bound passed best = ltb-true m (bound passed best) below in
-    let within : bound passed best ≤ suc passed = bound-within t keys passed best open_ in
-    (omega arith, open-first t keys c m is passes)
+-- one more key is looked at, and those in front of it are full
+pub search-on : (full : ℕ → Bool) (passed from key : ℕ) (held new : List ℕ) (keys : List (Option ℕ)) (best sooner : Option ℕ) → SearchDone (not_full full) passed held keys best from → IsFirstOpen full held from key → IsFree keys key (bound passed sooner) → bound passed sooner ≤ bound passed best → ((t : ℕ → Bool) → t key ≡ true → IsOpen t keys passed best → IsOpen t keys passed sooner) → ((c : ℕ) → is_in c new ≡ true → is_in c held ≡ true) → SearchDone (not_full full) passed new keys sooner (key + 1)
+search-on full passed from key held new keys best sooner done first free less opens fewer = record {
+  clear = λ c lt is. elim (eqb_tells c key) [
+    | inl same ↦ λ n below at. absurd (free n below (subst (λ (d : ℕ). under n keys ≡ Some d) same.1 at))
+    | inr other ↦ elim (decide (nat_lt c from)) [
+      | inl before ↦ λ n below at. done.clear c (ltb-true c from before) (fewer c is) n (omega arith) at
+      | inr later ↦
+          let apart : c ≢ key = other.1 in
+          let on : from ≤ c = ltb-false c from later in
+          λ n below at. ap not (first.first c on (omega arith) (fewer c is))
+    ]
+  ];
+  is_open = opens (not_full full) (ap not first.open_) done.is_open;
+}
 
-pub clear-later : (t : ℕ → Bool) (keys : List (Option ℕ)) (c m b : ℕ) → first_on c keys ≡ Some m → nat_lt m b ≡ false → IsClear t keys c b
-clear-later t keys c m b is not = clear-first t keys c b m is (ltb-false m b not)
+-- the keys that are left are full
+pub search-found : (full : ℕ → Bool) (passed from : ℕ) (held : List ℕ) (keys : List (Option ℕ)) (best : Option ℕ) → AreHeld passed held keys → SearchDone (not_full full) passed held keys best from → AllFull full held from → MatchOption best (NonePasses (not_full full) passed keys) (λ n. first_where (not_full full) keys ≡ Some n)
+search-found full passed from held keys best h done all = found best done
+  where
+    clear : (b : Option ℕ) → SearchDone (not_full full) passed held keys b from → (n c : ℕ) → n ≤ passed → n < bound passed b → under n keys ≡ Some c → not_full full c ≡ false
+    clear b d n c le lt at = elim (decide (nat_lt c from)) [
+      | inl before ↦ d.clear c (ltb-true c from before) (h.each n c le at) n lt at
+      | inr later ↦ ap not (all c (ltb-false c from later) (h.each n c le at))
+    ]
+
+    found : (b : Option ℕ) → SearchDone (not_full full) passed held keys b from → MatchOption b (NonePasses (not_full full) passed keys) (λ n. first_where (not_full full) keys ≡ Some n)
+    found None d = λ n c le at. clear None d n c le (omega arith) at
+    found (Some b) d =
+        let here = waiting (not_full full) (under b keys) d.is_open.1 in
+        let le : b ≤ passed = d.is_open.0 in
+        is-where (not_full full) b here.0 keys here.1 here.2 (λ n c lt at. clear (Some b) d n c (omega arith) lt at)
+
+-- a number that was passed over is the first of a key that passes
+pub sooner-open : (t : ℕ → Bool) (keys : List (Option ℕ)) (c m passed : ℕ) → first_on c keys ≡ Some m → m ≤ passed → t c ≡ true → IsOpen t keys passed (Some m)
+sooner-open t keys c m passed is le passes = (le, ap (waits_where t) (on-there c m keys is) ∙ passes)
 
 -- ---- the entries under the numbers
 

@@ -1,8 +1,9 @@
 -- Which numbers of an order may be taken where some keys are full, and how the numbers that a request passed over are kept. No
 -- public clause cites this module.
-use Rattle.std.specs.Prelude.{◌≡◌, ℕ, suc, ◌<◌, ◌≤◌, nat_le, Bool, true, false, not, if◌then◌else◌, List, [], ◌∷◌, Option, Some, None, length, Contains}
+use Rattle.std.specs.Prelude.{◌≡◌, ℕ, suc, ◌<◌, ◌≤◌, Bool, true, false, not, if◌then◌else◌, List, [], ◌∷◌, Option, Some, None, length}
 use Rattle.std.specs.Option.{option_map}
 use Rattle.lapin_tables.specs.Numbered.{under}
+use Rattle.lapin_full.specs.ChannelSet.{is_in}
 
 -- whether a key isn't full
 abbrev pub not_full : (ℕ → Bool) → ℕ → Bool
@@ -27,16 +28,11 @@ of_key f t x = t (f x)
 -- each number up to passed that waits is of a key that is held
 pub record AreHeld (passed : ℕ) (held : List ℕ) (keys : List (Option ℕ)) : Type 0 where
   pub within : passed ≤ length keys
-  pub each : (n c : ℕ) → n ≤ passed → under n keys ≡ Some c → Contains held c
+  pub each : (n c : ℕ) → n ≤ passed → under n keys ≡ Some c → is_in c held ≡ true
 
 -- no number up to passed waits on a key that passes
 abbrev pub NonePasses : (ℕ → Bool) → ℕ → List (Option ℕ) → Type 0
 NonePasses t passed keys = (n c : ℕ) → n ≤ passed → under n keys ≡ Some c → t c ≡ false
-
--- whether a number is there and at most this one
-abbrev pub is_up_to : ℕ → Option ℕ → Bool
-is_up_to passed None = false
-is_up_to passed (Some n) = nat_le n passed
 
 -- ---- the search among the keys that are held
 
@@ -48,6 +44,10 @@ bound passed (Some n) = n
 -- no number of this key below b waits, unless the key doesn't pass
 abbrev pub IsClear : (ℕ → Bool) → List (Option ℕ) → ℕ → ℕ → Type 0
 IsClear t keys c b = (n : ℕ) → n < b → under n keys ≡ Some c → t c ≡ false
+
+-- no number of this key below b waits
+abbrev pub IsFree : List (Option ℕ) → ℕ → ℕ → Type 0
+IsFree keys c b = (n : ℕ) → n < b → under n keys ≡ Some c → ⊥
 
 -- the best so far is a number that was passed over and waits on a key that passes
 abbrev pub IsOpen : (ℕ → Bool) → List (Option ℕ) → ℕ → Option ℕ → Type 0

@@ -11,7 +11,7 @@ ghost use Rattle.lapin_rules.specs.Drops.{is_on};
 ghost use Rattle.lapin_outbox.specs.Passing.{not_full, of_key};
 
 use crate::passing::Passing;
-use lapin_rules::FullChannels;
+use lapin_full::FullChannels;
 use lapin_tables::Numbered;
 use lapin_types::NoMemory;
 use std::alloc::Global;

@@ -1,12 +1,15 @@
 //! The first number and the last of each key of which any number waits.
 //!
-//! Mostly all that waits is of one key. So one key stands apart, and nothing is hashed for it: the one to which a number came while
-//! none waited. The others stand in a table. What the numbers are is `order`, which alone calls this file.
+//! Mostly all that waits is of one key. So one key stands apart, and nothing is hashed for it: the last to which a number came while
+//! none of it waited. What stood apart until then goes into a table, where the others stand. So a key that joins and leaves again and
+//! again takes no place in the table, however many keys wait. What the numbers are is `order`, which alone calls this file.
 
 ghost use Rattle.std.specs.Prelude.{◌≡◌, ℕ, ◌+◌, ◌<◌, ◌≤◌, None, Some, IsOk, IsSome, OnOk, cond, nat_eq};
 ghost use Rattle.std.specs.HashMap.{get, spare};
 ghost use Rattle.std.specs.Option.{option_map};
+ghost use Rattle.std.specs.Map.{lookup};
 ghost use Rattle.lapin_outbox.specs.Ends.{at, last_of, with_last};
+ghost use Rattle.lapin_outbox.specs.Near.{in_front, IsApart};
 
 use lapin_types::NoMemory;
 use std::alloc::Global;
@@ -97,16 +100,30 @@ impl EndsByKey {
                 self.near = Some(Near { key, ends });
                 Some(last)
             }
-            None if self.others.is_empty() => {
-                let ends = Ends {
-                    first: number,
-                    last: number,
-                };
-                self.near = Some(Near { key, ends });
+            _ => {
+                if let Some(last) = join_others(&mut self.others, key, number) {
+                    return Some(last);
+                }
+                self.come_near(key, number);
                 None
             }
-            _ => join_others(&mut self.others, key, number),
         }
+    }
+
+    // A key that has none takes the place apart, with a number as its first and its last. What stood there goes into the table, in the
+    // room that was made.
+    fn come_near(&mut self, key: u16, number: u64)
+        requires new { at key self.old ≡ None }
+        requires room { 0 < self.old.spare }
+        ensures ends { (c : ℕ) → at c self.new ≡ cond (nat_eq key c) (Some (with_last number None)) (at c self.old) }
+        ensures used { self.old.spare ≤ self.new.spare + 1 }
+    {
+        put_away(&mut self.others, self.near);
+        let ends = Ends {
+            first: number,
+            last: number,
+        };
+        self.near = Some(Near { key, ends });
     }
 
     /// Another number is the first of a key that has any.
@@ -135,28 +152,34 @@ impl EndsByKey {
     }
 }
 
-// A number becomes the last of a key that doesn't stand apart, in the room that was made, and the first where the key has none. Tells
-// the last so far.
+// A number becomes the last of a key that doesn't stand apart, where the key has any. Tells the last so far.
 fn join_others(others: &mut HashMap<u16, Ends>, key: u16, number: u64) -> Option<u64>
-    requires { 0 < spare others.old }
     ensures told { result ≡ option_map last_of (get nat_eq others.old key) }
-    ensures ends { (c : ℕ) → get nat_eq others.new c ≡ cond (nat_eq key c) (Some (with_last number (get nat_eq others.old key))) (get nat_eq others.old c) }
-    ensures used { spare others.old ≤ spare others.new + 1 }
+    ensures ends { (c : ℕ) → get nat_eq others.new c ≡ cond (nat_eq key c) (option_map (λ e. with_last number (Some e)) (get nat_eq others.old key)) (get nat_eq others.old c) }
+    ensures kept { spare others.old ≤ spare others.new }
 {
-    let Some(ends) = others.get_mut(&key) else {
-        let only = Ends {
-            first: number,
-            last: number,
-        };
-        let _ = others.insert(key, only);
+    if others.is_empty() {
         return None;
-    };
+    }
+    let ends = others.get_mut(&key)?;
     let Ends { first, last } = *ends;
     *ends = Ends {
         first,
         last: number,
     };
     Some(last)
+}
+
+// What stood apart goes into the table, in the room that was made.
+fn put_away(others: &mut HashMap<u16, Ends>, near: Option<Near>)
+    requires apart { IsApart near others.old.entries }
+    requires room { 0 < spare others.old }
+    ensures ends { (c : ℕ) → get nat_eq others.new c ≡ lookup (nat_eq c) (in_front near others.old.entries) }
+    ensures used { spare others.old ≤ spare others.new + 1 }
+{
+    if let Some(near) = near {
+        let _ = others.insert(near.key, near.ends);
+    }
 }
 
 // Puts other ends in the place of those of a key that doesn't stand apart.

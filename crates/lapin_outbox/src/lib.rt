@@ -12,6 +12,7 @@ mod channel_queue;
 mod dropped;
 mod ends;
 pub mod laws;
+mod named;
 mod order;
 pub mod outbox;
 mod passing;

@@ -15,8 +15,9 @@ ghost use Rattle.lapin_outbox.specs.Returned.{with_returned, is_retried, is_pend
 ghost use Rattle.lapin_outbox.specs.Drops.{AreOn, unbegun_of};
 
 use crate::dropped::Dropped;
+use crate::named::Named;
 use crate::queues::Queues;
-use lapin_rules::FullChannels;
+use lapin_full::FullChannels;
 use lapin_tables::ByChannel;
 use lapin_types::{Error, Frame, Left, Method, NoMemory, Publish};
 use std::alloc::Global;
@@ -401,20 +402,6 @@ impl Outbox {
         ensures { (c : ℕ) → is_rest_of c self.now.what.lists.rest ≡ true → AreOn c self.now.what.lists.rest }
     {
         self.queues.begun_publish_is_on_one_channel();
-    }
-}
-
-// Full channels that are named one by one.
-#[derive(Clone, Copy)]
-struct Named<'a> {
-    channels: &'a [u16],
-}
-
-impl<'a> FullChannels for Named<'a> {
-    ghost full = { λ n c. is_named n.channels.now c };
-
-    fn is_full(&self, channel: u16) -> bool {
-        self.channels.contains(&channel)
     }
 }
 

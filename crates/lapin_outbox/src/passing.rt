@@ -1,17 +1,18 @@
 //! The first number of a key that isn't full, where each number is passed over once.
 //!
-//! Where the key of the first number is full, a request asks the held keys: those of the numbers that earlier requests passed over
-//! and that still wait. Only where each of these is full too it passes over further numbers, and no later request passes over them
-//! again. So it costs a step for each held key, however many numbers wait. What waits under a number is the line's, which alone
-//! calls this file; which keys are full is told by the caller.
+//! Where the key of the first number is full, a request asks which of the held keys isn't: those of the numbers that earlier requests
+//! passed over and that still wait. They are a set, which is compared with the full keys 64 at a time. Only where each of them is full
+//! too it passes over further numbers, and no later request passes over them again. So it costs a step for each 64 keys, however many
+//! numbers wait. What waits under a number is the line's, which alone calls this file; which keys are full is told by the caller.
 
-ghost use Rattle.std.specs.Prelude.{◌≡◌, ◌+◌, ◌<◌, ◌≤◌, ◌++◌, ◌∷◌, [], Some, ◌^◌, length, IsOk, IfOk, OnOk, OnErr, MatchOption, nat_lt};
+ghost use Rattle.std.specs.Prelude.{◌≡◌, ℕ, Bool, true, false, ◌+◌, ◌<◌, ◌≤◌, ◌++◌, ◌∷◌, [], Some, ◌^◌, length, IsOk, IfOk, OnOk, MatchOption, nat_lt};
 ghost use Rattle.lapin_tables.specs.Numbered.{under, first_kept};
 ghost use Rattle.lapin_outbox.specs.Order.{first_on, without_number};
-ghost use Rattle.lapin_outbox.specs.Passing.{not_full, waits_where, first_where, AreHeld, NonePasses, is_up_to, bound, IsClear, IsOpen};
+ghost use Rattle.lapin_full.specs.ChannelSet.{is_in};
+ghost use Rattle.lapin_outbox.specs.Passing.{not_full, waits_where, first_where, AreHeld, NonePasses, bound, IsFree, IsOpen};
 
 use crate::order::Order;
-use lapin_rules::FullChannels;
+use lapin_full::{ChannelSet, FullChannels};
 use lapin_types::NoMemory;
 use std::alloc::Global;
 use std::marker::Model;
@@ -23,7 +24,7 @@ pub(crate) struct Passing {
     // Up to this number each that waits was passed over.
     passed: u64,
     // The keys of those, and maybe keys of which none waits any more.
-    held: Vec<u16>,
+    held: ChannelSet,
 }
 
 impl Model for Passing {
@@ -34,15 +35,7 @@ impl Model for Passing {
 
     ghost view = { λ p. p.order };
 
-    ghost invariant = { λ p. AreHeld p.passed p.held.items p.order.keys };
-}
-
-// What a look at the held keys found: the soonest number that was passed over and whose key isn't full any more, and whether a key
-// is held that isn't full and of which no such number waits.
-#[derive(Clone, Copy)]
-struct Search {
-    best: Option<u64>,
-    in_vain: bool,
+    ghost invariant = { λ p. AreHeld p.passed p.held p.order.keys };
 }
 
 impl Passing {
@@ -53,7 +46,7 @@ impl Passing {
         Passing {
             order: Order::new(alloc),
             passed: 0,
-            held: Vec::new(alloc),
+            held: ChannelSet::new(alloc),
         }
     }
 
@@ -107,15 +100,12 @@ impl Passing {
         let Some(first) = self.order.first_number() else {
             return Ok(None);
         };
-        if passes(&self.order, first, full) {
-            return Ok(Some(first));
+        if self.passed < first {
+            if passes(&self.order, first, full) {
+                return Ok(Some(first));
+            }
         }
-        skip_taken(&self.order, &mut self.passed, &self.held, first);
-        let search = first_held(&self.order, self.passed, &self.held, full);
-        if search.in_vain {
-            let_go(&self.order, self.passed, &mut self.held, full);
-        }
-        match search.best {
+        match first_passed_over(&self.order, &mut self.passed, &mut self.held, first, full) {
             Some(number) => Ok(Some(number)),
             None => pass_over(&self.order, &mut self.passed, &mut self.held, full),
         }
@@ -132,76 +122,81 @@ fn passes<F: FullChannels>(order: &Order, number: u64, full: &F) -> bool
     }
 }
 
-// What was taken in front of the first number is passed over at once.
-fn skip_taken(order: &Order, passed: &mut u64, held: &[u16], first: u64)
+// The first number that was passed over and whose key isn't full any more. Where the first number of all wasn't passed over, none is
+// there that was, and what was taken in front of it is passed over at once.
+fn first_passed_over<F: FullChannels>(
+    order: &Order,
+    passed: &mut u64,
+    held: &mut ChannelSet,
+    first: u64,
+    full: &F,
+) -> Option<u64>
     requires first { first_kept order.now.keys ≡ Some first }
-    requires held { AreHeld passed.old held.now order.now.keys }
-    ensures { AreHeld passed.new held.now order.now.keys }
+    requires held { AreHeld passed.old held.old order.now.keys }
+    ensures number { MatchOption result (NonePasses (not_full (F.full full.now)) passed.new order.now.keys) (λ n. first_where (not_full (F.full full.now)) order.now.keys ≡ Some n) }
+    ensures held { AreHeld passed.new held.new order.now.keys }
 {
     if *passed < first {
         *passed = first - 1;
+        return None;
     }
+    first_held(order, *passed, held, full)
 }
 
-// Lets go of the held keys that aren't full and of which no number that was passed over waits. A full key needs no look-up: it is kept.
-fn let_go<F: FullChannels>(order: &Order, passed: u64, held: &mut Vec<u16>, full: &F)
-    requires { AreHeld passed held.old.items order.now.keys }
-    ensures { AreHeld passed held.new.items order.now.keys }
+// The first number that was passed over and whose key isn't full any more. A held key that isn't full and of which no such number waits is
+// let go.
+#[inline(never)]
+fn first_held<F: FullChannels>(
+    order: &Order,
+    passed: u64,
+    held: &mut ChannelSet,
+    full: &F,
+) -> Option<u64>
+    requires { AreHeld passed held.old order.now.keys }
+    ensures number { MatchOption result (NonePasses (not_full (F.full full.now)) passed order.now.keys) (λ n. first_where (not_full (F.full full.now)) order.now.keys ≡ Some n) }
+    ensures held { AreHeld passed held.new order.now.keys }
 {
-    held.retain(|key| full.is_full(*key) || waits_up_to(order, *key, passed));
-}
-
-// Whether a number of a key waits that was passed over.
-fn waits_up_to(order: &Order, key: u16, passed: u64) -> bool
-    ensures { result ≡ is_up_to passed (first_on key order.now.keys) }
-{
-    match order.first(key) {
-        Some(number) => number <= passed,
-        None => false,
+    let mut best = None;
+    let mut from = 0;
+    while let Some(key) = full.first_open(held, from) {
+        best = sooner(order, passed, best, key, held);
+        from = usize::from(key) + 1;
     }
+    best
 }
 
-// The first number that was passed over and whose key isn't full any more.
-fn first_held<F: FullChannels>(order: &Order, passed: u64, held: &[u16], full: &F) -> Search
-    requires { AreHeld passed held.now order.now.keys }
-    ensures { MatchOption result.best (NonePasses (not_full (F.full full.now)) passed order.now.keys) (λ n. first_where (not_full (F.full full.now)) order.now.keys ≡ Some n) }
+// The sooner of the best number so far and the first of a key that was passed over. Where none was, the key is let go.
+fn sooner(
+    order: &Order,
+    passed: u64,
+    best: Option<u64>,
+    key: u16,
+    held: &mut ChannelSet,
+) -> Option<u64>
+    requires held { AreHeld passed held.old order.now.keys }
+    requires within { bound passed best ≤ passed + 1 }
+    ensures free { IsFree order.now.keys key (bound passed result) }
+    ensures sooner { bound passed result ≤ bound passed best }
+    ensures open { (t : ℕ → Bool) → t key ≡ true → IsOpen t order.now.keys passed best → IsOpen t order.now.keys passed result }
+    ensures held { AreHeld passed held.new order.now.keys }
+    ensures fewer { (c : ℕ) → is_in c held.new ≡ true → is_in c held.old ≡ true }
 {
-    let mut search = Search {
-        best: None,
-        in_vain: false,
+    let Some(number) = order.first(key) else {
+        held.remove(key);
+        return best;
     };
-    for key in held {
-        search = sooner(order, passed, search, *key, full);
+    if passed < number {
+        held.remove(key);
+        return best;
     }
-    search
-}
-
-// The sooner of the best number so far and the first of a key, where the key isn't full and it was passed over.
-fn sooner<F: FullChannels>(order: &Order, passed: u64, search: Search, key: u16, full: &F) -> Search
-    ensures clear { IsClear (not_full (F.full full.now)) order.now.keys key (bound passed result.best) }
-    ensures sooner { bound passed result.best ≤ bound passed search.best }
-    ensures open { IsOpen (not_full (F.full full.now)) order.now.keys passed search.best → IsOpen (not_full (F.full full.now)) order.now.keys passed result.best }
-{
-    if full.is_full(key) {
-        return search;
-    }
-    let Search { best, in_vain } = search;
-    match order.first(key) {
-        Some(number) if is_below(number, passed, best) => Search {
-            best: Some(number),
-            in_vain,
-        },
-        Some(number) => Search {
-            best,
-            in_vain: in_vain || passed < number,
-        },
-        None => Search {
-            best,
-            in_vain: true,
-        },
+    if is_below(number, passed, best) {
+        Some(number)
+    } else {
+        best
     }
 }
 
+// Whether a number is in front of the best so far; where there is none, whether it was passed over.
 fn is_below(number: u64, passed: u64, best: Option<u64>) -> bool
     ensures { result ≡ nat_lt number (bound passed best) }
 {
@@ -215,44 +210,48 @@ fn is_below(number: u64, passed: u64, best: Option<u64>) -> bool
 fn pass_over<F: FullChannels>(
     order: &Order,
     passed: &mut u64,
-    held: &mut Vec<u16>,
+    held: &mut ChannelSet,
     full: &F,
 ) -> Result<Option<u64>, NoMemory>
-    requires held { AreHeld passed.old held.old.items order.now.keys }
+    requires held { AreHeld passed.old held.old order.now.keys }
     requires none { NonePasses (not_full (F.full full.now)) passed.old order.now.keys }
     ensures number { IfOk result (λ number. number ≡ first_where (not_full (F.full full.now)) order.now.keys) }
-    ensures held { AreHeld passed.new held.new.items order.now.keys }
+    ensures held { AreHeld passed.new held.new order.now.keys }
 {
     let count = order.count();
     while *passed < count {
         let number = *passed + 1;
-        if passes(order, number, full) {
+        let does = next_passes(order, *passed, number, held, full)?;
+        if does {
             return Ok(Some(number));
         }
-        hold(order, *passed, number, held)?;
         *passed = number;
     }
     Ok(None)
 }
 
-// The key of the next number is held, where one waits there. It is held already where a number of it waits that was passed over, and maybe
-// where none does and it is full; none is held twice.
-fn hold(order: &Order, passed: u64, number: u64, held: &mut Vec<u16>) -> Result<(), NoMemory>
+// Whether the next number waits on a key that isn't full. Where it waits on one that is, the key is held; room for it is made first.
+fn next_passes<F: FullChannels>(
+    order: &Order,
+    passed: u64,
+    number: u64,
+    held: &mut ChannelSet,
+    full: &F,
+) -> Result<bool, NoMemory>
     requires next { number ≡ passed + 1 }
     requires within { passed < length order.now.keys }
-    requires held { AreHeld passed held.old.items order.now.keys }
-    ensures ok { OnOk result (AreHeld number held.new.items order.now.keys) }
-    ensures err { OnErr result (held.new.items ≡ held.old.items) }
+    requires held { AreHeld passed held.old order.now.keys }
+    ensures told { IfOk result (λ does. does ≡ waits_where (not_full (F.full full.now)) (under number order.now.keys)) }
+    ensures held { AreHeld passed held.new order.now.keys }
+    ensures over { IfOk result (λ does. does ≡ false → AreHeld number held.new order.now.keys) }
 {
     let Some(key) = order.key(number) else {
-        return Ok(());
+        return Ok(false);
     };
-    if waits_up_to(order, key, passed) {
-        return Ok(());
+    if !full.is_full(key) {
+        return Ok(true);
     }
-    if held.contains(&key) {
-        return Ok(());
-    }
-    held.push(key)?;
-    Ok(())
+    held.reserve(key)?;
+    held.insert_reserved(key);
+    Ok(false)
 }

@@ -21,7 +21,7 @@ ghost use Rattle.lapin_outbox.specs.Drops.{AreOn, told_rest, told_rest_of, told_
 use crate::begun::Begun;
 use crate::channel_queue::{ChannelQueue, Keyed};
 use crate::dropped::Dropped;
-use lapin_rules::FullChannels;
+use lapin_full::FullChannels;
 use lapin_types::{Frame, Left, Method, NoMemory, Publish};
 use std::alloc::Global;
 use std::marker::Model;

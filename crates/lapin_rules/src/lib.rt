@@ -8,7 +8,6 @@
 pub mod broker_frames;
 pub mod calls;
 pub mod closes;
-pub mod flow;
 pub mod laws;
 pub mod marks;
 pub mod phases;
@@ -21,6 +20,5 @@ pub use calls::{Answered, Asked, Row, acker_row, is_allowed, is_select, is_try, 
 pub use closes::{
     close_ok_end, consumers_end, failed_at_close, has_sent_close, session_close, unexpected_close,
 };
-pub use flow::FullChannels;
 pub use marks::{AtLeaving, SettleKind, Settlement};
 pub use phases::{ChannelMove, ChannelPhase, CloseStage, Closer, ConnectionMove, ConnectionPhase};

@@ -125,8 +125,3 @@ module _ {T : Type 0} where
   pub first-front : (g : ℕ) (e : ℕ × T) (es : List (ℕ × T)) (xs : List (Option T)) → 0 < length es → e ≡ get_or es 0 e → Rises 0 es → EndsBy g es → first_kept (spread 0 g es ++ xs) ≡ Some e.0
   first-front g e [] xs more read r ends = absurd (omega arith)
   first-front g e (f ∷ es) xs more read r ends = first-passed g f es xs r ends ∙ ap (λ (d : ℕ × T). Some d.0) (sym read)
-
-  -- where none was passed over
-  pub under-let_go : (g n : ℕ) (es : List (ℕ × T)) (xs : List (Option T)) → n ≤ g → Rises 0 es → length es ≡ 0 → under n (spread 0 g es ++ xs) ≡ None
-  under-let_go g n [] xs h r none = under_passed g n [] xs h r
-  under-let_go g n (e ∷ es) xs h r none = absurd (omega arith)

@@ -1,4 +1,4 @@
-use Rattle.std.proofs.Common.{◌≡◌, ◌+◌, ◌-◌, ◌^◌, ◌≤◌, length, vec_len}
+use Rattle.std.proofs.Common.{◌≡◌, ◌+◌, ◌-◌, ◌≤◌, length, vec_len}
 use Rattle.std.specs.Io.KnownBytes.{Consumes}
 use Rattle.lapin_io.specs.Numbers.{RoseBy}
 use Rattle.lapin_inputs.specs.Reading.{longest_input}
@@ -10,7 +10,7 @@ invariant-loop-bytes g l = record {
   taken : Consumes (g.S.Source.left l.initial.source) (g.S.Source.left l.source) l.bytes.items;
   counted : RoseBy (length l.bytes.items) (g.S.Source.given l.initial.source) (g.S.Source.given l.source);
   faults : g.S.Source.faults l.initial.source ≤ g.S.Source.faults l.source;
-  chunk : vec_len l.chunk ≡ 2 ^ 16;
+  chunk : vec_len l.chunk ≡ 4032;
   within : vec_len l.bytes ≤ longest_input + 1;
 }
 

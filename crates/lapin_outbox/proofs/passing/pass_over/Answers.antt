@@ -2,8 +2,8 @@ use Rattle.std.proofs.Common.{sym, refl, ◌∙◌, arith, length, ◌≤◌}
 use Rattle.lapin_outbox.proofs.PassedOver.{where-next, is-none-all}
 use Rattle.lapin_outbox.proofs.passing.pass_over.Goals as goal
 
-pub returns-then-passes-clause-number : goal.returns-then-passes-clause-number
-returns-then-passes-clause-number g c = where-next _ _ _ _ c.loop-passed.invariant.none refl (sym c.passes.ensures ∙ c.if-passes.true)
+pub returns-then-does-clause-number : goal.returns-then-does-clause-number
+returns-then-does-clause-number g c = where-next _ _ _ _ c.loop-passed.invariant.none refl (sym c.in_ok-does.ensures.told ∙ c.if-does.true)
 
 pub returns-clause-number : goal.returns-clause-number
 returns-clause-number g c =

@@ -4,7 +4,7 @@ use Rattle.lapin_outbox.proofs.passing.pass_over.Given as goal
 
 abbrev pub invariant-loop-passed : goal.invariant-loop-passed
 invariant-loop-passed g l = record {
-  held : AreHeld l.passed l.held.items l.order.keys;
+  held : AreHeld l.passed l.held l.order.keys;
   none : NonePasses (not_full (g.F.FullChannels.full l.full)) l.passed l.order.keys;
 }
 

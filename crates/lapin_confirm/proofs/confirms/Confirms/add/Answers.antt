@@ -6,10 +6,12 @@ use Rattle.lapin_confirm.specs.declared.cell.Cell.TheVariants as cell
 use Rattle.lapin_confirm.specs.declared.origin.Origin.{Origin}
 use Rattle.lapin_confirm.specs.ConfirmState.{new_origin}
 use Rattle.lapin_confirm.specs.WithRoom.{spare_in}
+use Rattle.lapin_confirm.specs.FullSet.{is_full_mode}
 use Rattle.lapin_confirm.specs.Ties.{TagFits}
 use Rattle.lapin_confirm.proofs.ConfirmModes.{no-mode, confirm_modes-same, same-mode, same-publish_states, same-confirm_state}
 use Rattle.lapin_confirm.proofs.Whole.{tied-of, all-on, tied-roomier, tied_at-joined}
 use Rattle.lapin_confirm.proofs.Roomy.{room-used}
+use Rattle.lapin_confirm.proofs.ShownFull.{same-full, shows-same}
 use Rattle.lapin_confirm.proofs.confirms.Confirms.add.Goals as goal
 
 pushed : {X Y : Type 0} (xs : List X) (ys : List Y) (x : X) (y : Y) (us : List X) (vs : List Y) → length xs ≡ length ys → us ≡ xs ++ x ∷ [] → vs ≡ ys ++ y ∷ [] → length us ≡ length vs
@@ -33,6 +35,7 @@ invariant_of-self c =
       room = room-used c.args.channel c.in-Some.mode.now c.use_room.new.mode c.self.inside.rooms.entries c.use_room.new.rooms.entries c.self.inside.confirm_modes.entries c.self.inside.returned_by_channel.entries c.self.inside.cells.spare _ is c.self.invariant.room c.use_room.ensures.others c.use_room.ensures.used c.use_room.ensures.fits.0 c.use_room.ensures.kept;
       origins = record { count = ap length c.use_room.ensures.origins ∙ c.self.invariant.origins.count ∙ sym (ap length c.use_room.ensures.cells); room = c.use_room.ensures.fits.1 };
       early = omega (arith, c.self.invariant.early, c.use_room.ensures.less);
+      full = shows-same c.args.channel c.in-Some.mode.now c.use_room.new.mode c.self.inside.full c.self.inside.confirm_modes.entries is (ap is_full_mode c.use_room.ensures.rest) c.self.invariant.full;
     }
 
 pub invariant_of-self-2 : goal.invariant_of-self-2
@@ -46,6 +49,7 @@ invariant_of-self-2 c =
       room = room-used c.args.channel c.in-Some.mode.now c.enqueue.new.mode c.self.inside.rooms.entries c.use_room.new.rooms.entries c.self.inside.confirm_modes.entries c.self.inside.returned_by_channel.entries c.self.inside.cells.spare _ is c.self.invariant.room c.use_room.ensures.others c.use_room.ensures.used (omega (arith, c.in_default-use_room.ensures.spare, c.enqueue.ensures.spare)) c.enqueue.ensures.tied.room;
       origins = record { count = pushed c.use_room.new.origins.slots c.use_room.new.cells.slots _ _ c.push_reserved.new.self.slots c.enqueue.new.cells.slots (ap length c.use_room.ensures.origins ∙ c.self.invariant.origins.count ∙ sym (ap length c.use_room.ensures.cells)) c.push_reserved.ensures.slots c.enqueue.ensures.cells; room = omega (arith, c.in_default-use_room.ensures.origin, c.push_reserved.ensures.spare) };
       early = omega (arith, c.self.invariant.early, c.use_room.ensures.less);
+      full = shows-same c.args.channel c.in-Some.mode.now c.enqueue.new.mode c.self.inside.full c.self.inside.confirm_modes.entries is (same-full c.use_room.new.mode c.enqueue.new.mode c.enqueue.ensures.mode c.enqueue.ensures.pending ∙ ap is_full_mode c.use_room.ensures.rest) c.self.invariant.full;
     }
 
 pub returns-in-Err-clause-err : goal.returns-in-Err-clause-err

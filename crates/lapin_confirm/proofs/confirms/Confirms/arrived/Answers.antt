@@ -24,6 +24,7 @@ invariant_of-self-in_default c =
       room = rw used (room-less rooms (on_channel c.args.channel (λ _. false) rooms) c.self.inside.confirm_modes.entries c.self.inside.returned_by_channel.entries c.self.inside.cells.spare c.self.inside.cells.spare c.self.invariant.room (λ d. given-less c.args.channel d rooms) (given-fits c.args.channel rooms c.self.inside.cells.spare c.self.invariant.room.cells));
       origins = record { count = c.self.invariant.origins.count; room = rw used (given-fits c.args.channel rooms c.self.inside.origins.spare c.self.invariant.origins.room) };
       early = c.join_early.ensures.room;
+      full = c.self.invariant.full;
     }
 
 pub returns-in_default-clause-spare : goal.returns-in_default-clause-spare
@@ -40,6 +41,7 @@ invariant_of-self-in-Err c =
       };
       origins = c.self.invariant.origins;
       early = c.self.invariant.early;
+      full = c.self.invariant.full;
     }
 
 pub returns-in-Err-clause-err : goal.returns-in-Err-clause-err
@@ -52,6 +54,7 @@ invariant_of-self-2 c =
       room = rw c.give_up.ensures (room-received c.args.channel c.in-Some.returned_messages.now c.receive.new.self c.self.inside.rooms.entries c.self.inside.confirm_modes.entries c.self.inside.returned_by_channel.entries c.self.inside.cells.spare (sym c.in-Some.ensures.value) c.self.invariant.room);
       origins = record { count = c.self.invariant.origins.count; room = rw c.give_up.ensures (given-fits c.args.channel c.self.inside.rooms.entries c.self.inside.origins.spare c.self.invariant.origins.room) };
       early = rw c.give_up.ensures (given-fits c.args.channel c.self.inside.rooms.entries (deque_spare c.self.inside.early) c.self.invariant.early);
+      full = c.self.invariant.full;
     }
 
 pub returns-clause-ok : goal.returns-clause-ok

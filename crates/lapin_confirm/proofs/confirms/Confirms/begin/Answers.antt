@@ -12,6 +12,7 @@ use Rattle.lapin_confirm.proofs.ConfirmModes.{has-mode, confirm_modes-begun, fre
 use Rattle.lapin_confirm.proofs.ReturnedByChannel.{early-renewed, early-aside}
 use Rattle.lapin_confirm.proofs.Whole.{tied-fresh}
 use Rattle.lapin_confirm.proofs.Roomy.{all-begun, room-begun}
+use Rattle.lapin_confirm.proofs.ShownFull.{not-limited, shows-begun}
 use Rattle.lapin_confirm.proofs.confirms.Confirms.begin.Goals as goal
 
 pub invariant_of-self-2 : goal.invariant_of-self-2
@@ -35,6 +36,7 @@ invariant_of-self-2 c =
         room = omega (arith, c.self.invariant.origins.room, c.renew_returned_messages.ensures.kept.1);
       };
       early = omega (arith, c.self.invariant.early, c.renew_returned_messages.ensures.early_room);
+      full = shows-begun c.args.channel c.in_ok-mode.mode c.make_place.new.full c.remove.new.self c.self.inside.confirm_modes.entries c.make_place.ensures.full c.in_ok-make_place.ensures.reached (not-limited c.in_ok-mode.mode fresh.0.limit) c.remove.ensures.here c.remove.ensures.others c.remove.ensures.reach;
     })
 
 pub returns-clause-ok : goal.returns-clause-ok
@@ -65,6 +67,7 @@ invariant_of-self-in_err-renew_returned_messages c =
         room = omega (arith, c.self.invariant.origins.room, c.renew_returned_messages.ensures.kept.1);
       };
       early = omega (arith, c.self.invariant.early, c.renew_returned_messages.ensures.early_room);
+      full = c.make_place.ensures.full;
     })
 
 pub returns-in_err-renew_returned_messages-clause-err : goal.returns-in_err-renew_returned_messages-clause-err

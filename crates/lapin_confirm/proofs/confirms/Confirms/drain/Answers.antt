@@ -28,6 +28,7 @@ invariant_of-self-in-Err c = record {
   };
   origins = c.self.invariant.origins;
   early = c.self.invariant.early;
+  full = c.self.invariant.full;
 }
 
 pub invariant_of-self-in-Ok : goal.invariant_of-self-in-Ok
@@ -45,6 +46,7 @@ invariant_of-self-in-Ok c =
         room = omega (arith, c.self.invariant.origins.room, c.leave_all.ensures.spare.1);
       };
       early = c.self.invariant.early;
+      full = c.self.invariant.full;
     }
 
 pub returns-in-Err-clause-err : goal.returns-in-Err-clause-err

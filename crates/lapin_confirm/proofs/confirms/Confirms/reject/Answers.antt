@@ -7,6 +7,7 @@ use Rattle.lapin_confirm.proofs.ConfirmModes.{confirm_modes-same, same-publish_s
 use Rattle.lapin_confirm.proofs.Tying.{tied_at-other}
 use Rattle.lapin_confirm.proofs.Roomy.{same-origins, room-kept}
 use Rattle.lapin_confirm.proofs.Whole.{none-queued, all-on}
+use Rattle.lapin_confirm.proofs.ShownFull.{same-full, shows-same}
 use Rattle.lapin_confirm.proofs.confirms.Confirms.reject.Goals as goal
 
 pub invariant_of-self : goal.invariant_of-self
@@ -21,6 +22,7 @@ invariant_of-self c =
       room = room-kept c.queued_channel-channel.result c.in-Some.mode.now c.reject.new.mode c.self.inside.rooms.entries c.self.inside.confirm_modes.entries c.self.inside.returned_by_channel.entries c.self.inside.cells.spare _ (sym c.in-Some.ensures.value) c.self.invariant.room c.reject.ensures.room c.reject.ensures.spare;
       origins = same-origins _ _ c.reject.new.cells.slots _ c.self.invariant.origins (ap length c.reject.ensures.cells ∙ length-with c.args.number _ c.self.inside.cells.slots);
       early = c.self.invariant.early;
+      full = shows-same c.queued_channel-channel.result c.in-Some.mode.now c.reject.new.mode c.self.inside.full c.self.inside.confirm_modes.entries (sym c.in-Some.ensures.value) (same-full c.in-Some.mode.now c.reject.new.mode c.reject.ensures.mode c.reject.ensures.pending) c.self.invariant.full;
     }
 
 pub returns-clause-what : goal.returns-clause-what

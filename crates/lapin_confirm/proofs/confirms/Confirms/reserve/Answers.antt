@@ -5,6 +5,16 @@ use Rattle.lapin_confirm.proofs.ConfirmModes.{same-publish_states, all-same}
 use Rattle.lapin_confirm.proofs.Roomy.{promise-fits, room-more, promise-one, promise-keeps}
 use Rattle.lapin_confirm.proofs.confirms.Confirms.reserve.Goals as goal
 
+pub invariant_of-self : goal.invariant_of-self
+invariant_of-self c =
+    record {
+      tied = c.make_room.ensures.tied;
+      room = c.make_room.ensures.room;
+      origins = record { count = ap length c.make_room.ensures.origins ∙ c.self.invariant.origins.count ∙ sym (ap length c.make_room.ensures.cells); room = c.make_room.ensures.kept };
+      early = c.make_room.ensures.early_kept;
+      full = c.make_room.ensures.full c.self.inside.full c.self.invariant.full;
+    }
+
 pub invariant_of-self-2 : goal.invariant_of-self-2
 invariant_of-self-2 c =
     record {
@@ -12,6 +22,7 @@ invariant_of-self-2 c =
       room = rw c.promise.ensures (room-more c.args.channel c.make_room.new.rooms.entries c.make_room.new.confirm_modes.entries c.make_room.new.returned_by_channel.entries c.make_room.new.cells.spare c.make_room.ensures.room c.in_default.ensures.more);
       origins = record { count = ap length c.make_room.ensures.origins ∙ c.self.invariant.origins.count ∙ sym (ap length c.make_room.ensures.cells); room = rw c.promise.ensures (promise-fits c.args.channel c.make_room.new.rooms.entries c.make_room.new.origins.spare c.in_default.ensures.more.known c.in_default.ensures.origin) };
       early = rw c.promise.ensures (promise-fits c.args.channel c.make_room.new.rooms.entries (deque_spare c.make_room.new.early) c.in_default.ensures.more.known c.in_default.ensures.early_more);
+      full = c.make_room.ensures.full c.self.inside.full c.self.invariant.full;
     }
 
 pub returns-clause-room : goal.returns-clause-room

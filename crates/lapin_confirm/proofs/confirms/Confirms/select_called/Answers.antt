@@ -3,6 +3,7 @@ use Rattle.lapin_confirm.specs.PublishStates.{asked_confirm_mode}
 use Rattle.lapin_confirm.proofs.ConfirmModes.{confirm_modes-absent, confirm_modes-on, same-publish_states, same-confirm_state}
 use Rattle.lapin_confirm.proofs.Roomy.{room-kept, keeps-same}
 use Rattle.lapin_confirm.proofs.Whole.{tied-of, all-on, tied-room}
+use Rattle.lapin_confirm.proofs.ShownFull.{shows-same}
 use Rattle.lapin_confirm.proofs.confirms.Confirms.select_called.Goals as goal
 
 pub returns-in_default-clause-what : goal.returns-in_default-clause-what
@@ -19,6 +20,7 @@ invariant_of-self-2 c =
       room = room-kept c.args.channel c.in-Some.mode.now (record c.in-Some.mode.now { asked = true }) c.self.inside.rooms.entries c.self.inside.confirm_modes.entries c.self.inside.returned_by_channel.entries c.self.inside.cells.spare _ (sym c.in-Some.ensures.value) c.self.invariant.room (keeps-same c.in-Some.mode.now (record c.in-Some.mode.now { asked = true }) refl refl) (omega arith);
       origins = c.self.invariant.origins;
       early = c.self.invariant.early;
+      full = shows-same c.args.channel c.in-Some.mode.now (record c.in-Some.mode.now { asked = true }) c.self.inside.full c.self.inside.confirm_modes.entries (sym c.in-Some.ensures.value) refl c.self.invariant.full;
     }
 
 pub returns-clause-what : goal.returns-clause-what

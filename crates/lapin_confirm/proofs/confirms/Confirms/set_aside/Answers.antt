@@ -8,6 +8,7 @@ invariant_of-self c = record {
   room = record { cells = c.self.invariant.room.cells; tags = c.self.invariant.room.tags; messages = c.put_by.ensures.room c.self.inside.rooms.entries c.self.invariant.room.messages };
   origins = c.self.invariant.origins;
   early = c.self.invariant.early;
+  full = c.self.invariant.full;
 }
 
 pub invariant_of-self-then-resolved : goal.invariant_of-self-then-resolved
@@ -23,4 +24,5 @@ invariant_of-self-2 c = record {
     room = omega (arith, c.self.invariant.origins.room, c.mark_aside.ensures.spare);
   };
   early = c.self.invariant.early;
+  full = c.self.invariant.full;
 }

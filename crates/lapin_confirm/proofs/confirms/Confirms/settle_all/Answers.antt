@@ -17,6 +17,7 @@ use Rattle.lapin_confirm.proofs.ConfirmModes.{mode-at, confirm_modes-same, same-
 use Rattle.lapin_confirm.proofs.Roomy.{same-origins, room-kept}
 use Rattle.lapin_confirm.proofs.Whole.{tied-of, untouched-of, all-settled}
 use Rattle.lapin_confirm.proofs.Settled.{settled-same, settled-untouched}
+use Rattle.lapin_confirm.proofs.ShownFull.{has-place, shows-on, unlimited, same-limit}
 use Rattle.lapin_confirm.proofs.confirms.Confirms.settle_all.Goals as goal
 
 pub invariant_of-self-2 : goal.invariant_of-self-2
@@ -28,6 +29,7 @@ invariant_of-self-2 c =
       room = record { cells = room.cells; tags = room.tags; messages = c.attach_on.ensures.room c.self.inside.rooms.entries c.self.invariant.room.messages };
       origins = same-origins _ _ c.settle_through.new.cells.slots _ c.self.invariant.origins (ap length c.settle_through.ensures.cells ∙ length-map c.self.inside.cells.slots _);
       early = c.self.invariant.early;
+      full = shows-on c.args.channel c.in-Some.mode.now c.settle_through.new.mode c.self.inside.full c.show_limited.new.full c.self.inside.confirm_modes.entries (sym c.in-Some.ensures.value) c.self.invariant.full c.show_limited.ensures;
     }
 
 pub returns-in_default-clause-what : goal.returns-in_default-clause-what
@@ -56,3 +58,9 @@ returns-clause-what c =
     ∙ ap (λ (n : ℕ). taking (covers (multiple_of c.args.kind 0)) (λ t. number_from c.args.channel t 1 c.self.inside.cells.slots) (range_with_len 1 n))
     (c.count-last.ensures ∙ ap last_in (sym (mode-at c.args.channel c.self.inside.confirm_modes.entries (Some c.in-Some.mode.now) is)))))
     refl)
+
+pub show_limited-requires-clause-placed : goal.show_limited-requires-clause-placed
+show_limited-requires-clause-placed c = has-place c.args.channel c.in-Some.mode.now c.self.inside.full c.self.inside.confirm_modes.entries (sym c.in-Some.ensures.value) c.self.invariant.full
+
+pub show_limited-requires-clause-unlimited : goal.show_limited-requires-clause-unlimited
+show_limited-requires-clause-unlimited c = unlimited c.args.channel c.in-Some.mode.now c.settle_through.new.mode c.self.inside.full c.self.inside.confirm_modes.entries (sym c.in-Some.ensures.value) c.self.invariant.full (same-limit c.in-Some.mode.now c.settle_through.new.mode c.settle_through.ensures.mode)

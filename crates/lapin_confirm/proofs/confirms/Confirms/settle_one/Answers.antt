@@ -13,6 +13,7 @@ use Rattle.lapin_confirm.proofs.ConfirmModes.{mode-at, confirm_modes-same, same-
 use Rattle.lapin_confirm.proofs.Roomy.{same-origins, room-kept, with-messages}
 use Rattle.lapin_confirm.proofs.Whole.{tied-of, untouched-of, all-settled}
 use Rattle.lapin_confirm.proofs.Settled.{settled-none, pending-tells, pending-untouched}
+use Rattle.lapin_confirm.proofs.ShownFull.{same-full, shows-same, has-place, shows-on, unlimited, same-limit}
 use Rattle.lapin_confirm.proofs.confirms.Confirms.settle_one.Goals as goal
 
 not_there : {X : Type 0} (o : Option X) → false ≡ is_some o → o ≡ None
@@ -33,6 +34,7 @@ invariant_of-self-then-not-settle_tag c =
       room = with-messages _ _ _ c.attach_one.new.returned_by_channel.entries _ (room-kept c.args.channel c.in-Some.mode.now c.settle_tag.new.mode c.self.inside.rooms.entries c.self.inside.confirm_modes.entries c.self.inside.returned_by_channel.entries c.self.inside.cells.spare _ (sym c.in-Some.ensures.value) c.self.invariant.room c.settle_tag.ensures.room c.settle_tag.ensures.spare) (c.attach_one.ensures.room c.self.inside.rooms.entries c.self.invariant.room.messages);
       origins = same-origins _ _ c.settle_tag.new.cells.slots _ c.self.invariant.origins (ap length c.settle_tag.ensures.cells ∙ length-map c.self.inside.cells.slots _);
       early = c.self.invariant.early;
+      full = shows-same c.args.channel c.in-Some.mode.now c.settle_tag.new.mode c.self.inside.full c.self.inside.confirm_modes.entries (sym c.in-Some.ensures.value) (same-full c.in-Some.mode.now c.settle_tag.new.mode c.settle_tag.ensures.mode (c.if-not-settle_tag.ensures.as_many refl)) c.self.invariant.full;
     }
 
 pub returns-then-not-settle_tag-clause-answer : goal.returns-then-not-settle_tag-clause-answer
@@ -60,6 +62,7 @@ invariant_of-self-2 c =
       room = with-messages _ _ _ c.attach_one.new.returned_by_channel.entries _ (room-kept c.args.channel c.in-Some.mode.now c.settle_tag.new.mode c.self.inside.rooms.entries c.self.inside.confirm_modes.entries c.self.inside.returned_by_channel.entries c.self.inside.cells.spare _ (sym c.in-Some.ensures.value) c.self.invariant.room c.settle_tag.ensures.room c.settle_tag.ensures.spare) (c.attach_one.ensures.room c.self.inside.rooms.entries c.self.invariant.room.messages);
       origins = same-origins _ _ c.settle_tag.new.cells.slots _ c.self.invariant.origins (ap length c.settle_tag.ensures.cells ∙ length-map c.self.inside.cells.slots _);
       early = c.self.invariant.early;
+      full = shows-on c.args.channel c.in-Some.mode.now c.settle_tag.new.mode c.self.inside.full c.show_limited.new.full c.self.inside.confirm_modes.entries (sym c.in-Some.ensures.value) c.self.invariant.full c.show_limited.ensures;
     }
 
 pub returns-clause-answer : goal.returns-clause-answer
@@ -79,3 +82,9 @@ returns-clause-ok c =
     (c.settle_tag.ensures.cells ∙ rw c.outcome_of.ensures refl))
     (c.attach_one.ensures.return_lists ∙ ap (λ (ns : List ℕ). on_channel c.args.channel (attached_to_all ns) (returned_by_channel_of c.self.inside.returned_by_channel.entries)) (covered-one c.args.channel c.args.kind c.args.tag c.in-Some.mode.now c.self.inside.cells.slots tied))
     refl)
+
+pub show_limited-requires-clause-placed : goal.show_limited-requires-clause-placed
+show_limited-requires-clause-placed c = has-place c.args.channel c.in-Some.mode.now c.self.inside.full c.self.inside.confirm_modes.entries (sym c.in-Some.ensures.value) c.self.invariant.full
+
+pub show_limited-requires-clause-unlimited : goal.show_limited-requires-clause-unlimited
+show_limited-requires-clause-unlimited c = unlimited c.args.channel c.in-Some.mode.now c.settle_tag.new.mode c.self.inside.full c.self.inside.confirm_modes.entries (sym c.in-Some.ensures.value) c.self.invariant.full (same-limit c.in-Some.mode.now c.settle_tag.new.mode c.settle_tag.ensures.mode)

@@ -14,6 +14,7 @@ use Rattle.lapin_confirm.proofs.ConfirmModes.{mode-at, confirm_modes-same, same-
 use Rattle.lapin_confirm.proofs.Roomy.{same-origins, room-kept, with-messages}
 use Rattle.lapin_confirm.proofs.Whole.{tied-of, untouched-of, all-settled}
 use Rattle.lapin_confirm.proofs.Settled.{settled-same, settled-untouched}
+use Rattle.lapin_confirm.proofs.ShownFull.{has-place, shows-on, unlimited, same-limit}
 use Rattle.lapin_confirm.proofs.confirms.Confirms.settle_up_to.Goals as goal
 
 pub invariant_of-self-2 : goal.invariant_of-self-2
@@ -24,6 +25,7 @@ invariant_of-self-2 c =
       room = with-messages _ _ _ c.attach_on.new.returned_by_channel.entries _ (room-kept c.args.channel c.in-Some.mode.now c.settle_through.new.mode c.self.inside.rooms.entries c.self.inside.confirm_modes.entries c.self.inside.returned_by_channel.entries c.self.inside.cells.spare _ (sym c.in-Some.ensures.value) c.self.invariant.room c.settle_through.ensures.room c.settle_through.ensures.spare) (c.attach_on.ensures.room c.self.inside.rooms.entries c.self.invariant.room.messages);
       origins = same-origins _ _ c.settle_through.new.cells.slots _ c.self.invariant.origins (ap length c.settle_through.ensures.cells ∙ length-map c.self.inside.cells.slots _);
       early = c.self.invariant.early;
+      full = shows-on c.args.channel c.in-Some.mode.now c.settle_through.new.mode c.self.inside.full c.show_limited.new.full c.self.inside.confirm_modes.entries (sym c.in-Some.ensures.value) c.self.invariant.full c.show_limited.ensures;
     }
 
 pub returns-in_default-clause-what : goal.returns-in_default-clause-what
@@ -51,3 +53,9 @@ returns-clause-what c =
     (covered-up_to c.args.channel c.args.kind c.args.tag c.lesser-limit.result c.in-Some.mode.now c.self.inside.cells.slots tied c.requires c.lesser-limit.ensures.most.0
     (omega (arith, c.lesser-limit.ensures.most.1, c.count.ensures)) (λ less. c.lesser-limit.ensures.tag (omega (arith, c.count.ensures)))))
     refl)
+
+pub show_limited-requires-clause-placed : goal.show_limited-requires-clause-placed
+show_limited-requires-clause-placed c = has-place c.args.channel c.in-Some.mode.now c.self.inside.full c.self.inside.confirm_modes.entries (sym c.in-Some.ensures.value) c.self.invariant.full
+
+pub show_limited-requires-clause-unlimited : goal.show_limited-requires-clause-unlimited
+show_limited-requires-clause-unlimited c = unlimited c.args.channel c.in-Some.mode.now c.settle_through.new.mode c.self.inside.full c.self.inside.confirm_modes.entries (sym c.in-Some.ensures.value) c.self.invariant.full (same-limit c.in-Some.mode.now c.settle_through.new.mode c.settle_through.ensures.mode)

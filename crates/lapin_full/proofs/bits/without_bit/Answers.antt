@@ -1,0 +1,13 @@
+use Rattle.std.proofs.Common.{w64}
+use Rattle.std.proofs.lemmas.Nat.{and_le_l}
+use Rattle.std.proofs.lemmas.Nat.Bits.{bit_at_clear_same, bit_at_clear_other}
+use Rattle.lapin_full.proofs.bits.without_bit.Goals as goal
+
+pub returns-clause-clear : goal.returns-clause-clear
+returns-clause-clear c = bit_at_clear_same w64 _ _ c.requires
+
+pub returns-clause-fewer : goal.returns-clause-fewer
+returns-clause-fewer c = and_le_l _ _
+
+pub returns-clause-others : goal.returns-clause-others
+returns-clause-others c = bit_at_clear_other w64 _ _ c.requires

@@ -1,0 +1,3 @@
+pub mod ChannelSet
+pub mod FullChannels
+pub mod Words
