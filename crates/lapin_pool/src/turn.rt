@@ -15,7 +15,7 @@ use crate::card::{Card, Sent};
 use crate::duty::{Duty, last_verdict};
 use crate::seat::Seat;
 use lapin_acker::Verdict;
-use lapin_shared::{Caller, Crew, Gate, StepError, Told};
+use lapin_shared::{Caller, Crew, Gate, Logged, StepError};
 use lapin_types::{Delivery, Event, JobKind, Record};
 use lapin_work::{delivery_of, take_job};
 use std::alloc::Global;
@@ -111,10 +111,10 @@ fn fetched<L: Crew, R: Wait>(rt: &R, alloc: Global, place: u64, caller: &mut Cal
 }
 
 // What a job step that was read came to.
-fn step_of(told: &Told, place: u64) -> Step
-    ensures { result ≡ step_in told.now.answer place }
+fn step_of(step: &Logged, place: u64) -> Step
+    ensures { result ≡ step_in step.now.answer place }
 {
-    if matches!(&told.answer, Some(Record::Job(_))) {
+    if matches!(step.answer(), Some(Record::Job(_))) {
         Step::Taken(place)
     } else {
         Step::NoJob
@@ -157,10 +157,10 @@ fn judged<D: Duty>(duty: &D, delivery: &Delivery) -> Verdict
 }
 
 // The delivery of an entry whose record is a job, if that is one.
-fn delivery_in(told: &Told) -> Option<&Delivery>
-    ensures { option_copied result ≡ delivery_in_lem told.now.answer }
+fn delivery_in(step: &Logged) -> Option<&Delivery>
+    ensures { option_copied result ≡ delivery_in_lem step.now.answer }
 {
-    match &told.answer {
+    match step.answer() {
         Some(answer) => delivery_told(answer),
         None => None,
     }

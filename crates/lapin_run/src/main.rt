@@ -10,9 +10,13 @@ use lapin_pool_commands::run_pool_program;
 use lapin_reasons::{Heard, why};
 use lapin_shared::OpenGate;
 use lapin_shared_commands::run_shared;
+use std::alloc::Global;
 use std::env;
 use std::io::{ErrorKind, Write};
+use std::mem::forget;
 use std::process::ExitCode;
+use std::sync::Wait;
+use std::thread::Threads;
 
 // The words behind the program's name. Where one is not UTF-8, they are no command.
 fn given_words(rt: &HostRuntime) -> Result<Vec<String>, Status> {
@@ -42,32 +46,37 @@ fn tell(rt: &HostRuntime, words: &[String], status: Status, input: &[u8]) {
     }
 }
 
+// Does what the words say. What a run kept ends with the process, and is not let go entry by entry.
+fn run<R: Threads + Wait + Sync>(
+    rt: &R,
+    alloc: Global,
+    words: &[String],
+    source: &mut Heard<StdSource>,
+    sink: &mut StdSink,
+) -> Status {
+    match first_word(words) {
+        "shared" => {
+            let mut kept = None;
+            let status = run_shared(rt, alloc, words, &OpenGate, source, sink, &mut kept);
+            forget(kept);
+            status
+        }
+        "pool" => {
+            let mut kept = None;
+            let status = run_pool_program(rt, alloc, words, &OpenGate, source, sink, &mut kept);
+            forget(kept);
+            status
+        }
+        _ => run_program(alloc, words, source, sink),
+    }
+}
+
 fn main(rt: HostRuntime) -> ExitCode {
     let status = match given_words(&rt) {
         Ok(words) => {
             let mut source = Heard::new(rt.alloc(), StdSource::new(rt.stdin()));
             let mut sink = StdSink::new(rt.stdout());
-            let status = match first_word(&words) {
-                "shared" => run_shared(
-                    &rt,
-                    rt.alloc(),
-                    &words,
-                    &OpenGate,
-                    &mut source,
-                    &mut sink,
-                    &mut None,
-                ),
-                "pool" => run_pool_program(
-                    &rt,
-                    rt.alloc(),
-                    &words,
-                    &OpenGate,
-                    &mut source,
-                    &mut sink,
-                    &mut None,
-                ),
-                _ => run_program(rt.alloc(), &words, &mut source, &mut sink),
-            };
+            let status = run(&rt, rt.alloc(), &words, &mut source, &mut sink);
             tell(&rt, &words, status, source.bytes());
             status
         }

@@ -73,14 +73,29 @@ delivery_field_send = search (properties_send, text_send, payload.the_send, cros
 pub delivery_send : IsSend delivery_.the_row
 delivery_send = recorded_send (delivery_.the_field).row _ _ (delivery_.the_type).to_one delivery_field_send
 
+pub delivery_field_sync : IsSync (delivery_.the_field).row
+delivery_field_sync = search (properties_sync, text_sync, payload.the_sync, crosses, sendable) depth 400 fits 200000
+
+pub delivery_sync : IsSync delivery_.the_row
+delivery_sync = recorded_sync (delivery_.the_field).row _ _ (delivery_.the_type).to_one delivery_field_sync
+
 pub returned_field_send : IsSend (returned_.the_field).row
 returned_field_send = search (delivery_field_send, text_send, crosses, sendable) depth 400 fits 200000
 
 pub returned_send : IsSend returned_.the_row
 returned_send = recorded_send (returned_.the_field).row _ _ (returned_.the_type).to_one returned_field_send
 
+pub returned_field_sync : IsSync (returned_.the_field).row
+returned_field_sync = search (delivery_field_sync, text_sync, crosses, sendable) depth 400 fits 200000
+
+pub returned_sync : IsSync returned_.the_row
+returned_sync = recorded_sync (returned_.the_field).row _ _ (returned_.the_type).to_one returned_field_sync
+
 pub list_send : IsSend list_.the_row
 list_send = search (returned_send, crosses, sendable) depth 400 fits 200000
+
+pub list_sync : IsSync list_.the_row
+list_sync = search (returned_sync, crosses, sendable) depth 400 fits 200000
 
 pub got_field_send : IsSend (got_.the_field).row
 got_field_send = search (delivery_field_send, crosses, sendable) depth 400 fits 200000
@@ -88,11 +103,23 @@ got_field_send = search (delivery_field_send, crosses, sendable) depth 400 fits 
 pub got_send : IsSend got_.the_row
 got_send = recorded_send (got_.the_field).row _ _ (got_.the_type).to_one got_field_send
 
+pub got_field_sync : IsSync (got_.the_field).row
+got_field_sync = search (delivery_field_sync, crosses, sendable) depth 400 fits 200000
+
+pub got_sync : IsSync got_.the_row
+got_sync = recorded_sync (got_.the_field).row _ _ (got_.the_type).to_one got_field_sync
+
 pub confirmation_field_send : IsSend (confirmation_.the_field).row
 confirmation_field_send = search (returned_send, crosses, sendable) depth 400 fits 200000
 
 pub confirmation_send : IsSend confirmation_.the_row
 confirmation_send = recorded_send (confirmation_.the_field).row _ _ (confirmation_.the_type).to_one confirmation_field_send
+
+pub confirmation_field_sync : IsSync (confirmation_.the_field).row
+confirmation_field_sync = search (returned_sync, crosses, sendable) depth 400 fits 200000
+
+pub confirmation_sync : IsSync confirmation_.the_row
+confirmation_sync = recorded_sync (confirmation_.the_field).row _ _ (confirmation_.the_type).to_one confirmation_field_sync
 
 pub answer_field_send : IsSend (answer_.the_field).row
 answer_field_send = search (got_send, text_send, crosses, sendable) depth 400 fits 200000
@@ -100,11 +127,23 @@ answer_field_send = search (got_send, text_send, crosses, sendable) depth 400 fi
 pub answer_send : IsSend answer_.the_row
 answer_send = recorded_send (answer_.the_field).row _ _ (answer_.the_type).to_one answer_field_send
 
+pub answer_field_sync : IsSync (answer_.the_field).row
+answer_field_sync = search (got_sync, text_sync, crosses, sendable) depth 400 fits 200000
+
+pub answer_sync : IsSync answer_.the_row
+answer_sync = recorded_sync (answer_.the_field).row _ _ (answer_.the_type).to_one answer_field_sync
+
 pub kind_field_send : IsSend (kind_.the_field).row
 kind_field_send = search (delivery_send, crosses, sendable) depth 400 fits 200000
 
+pub kind_field_sync : IsSync (kind_.the_field).row
+kind_field_sync = search (delivery_sync, crosses, sendable) depth 400 fits 200000
+
 pub job_field_send : IsSend (job_.the_field).row
 job_field_send = search (kind_field_send, crosses, sendable) depth 400 fits 200000
+
+pub job_field_sync : IsSync (job_.the_field).row
+job_field_sync = search (kind_field_sync, crosses, sendable) depth 400 fits 200000
 
 pub job_send : IsSend job_.the_row
 job_send = recorded_send (job_.the_field).row _ _ (job_.the_type).to_one job_field_send
@@ -126,6 +165,9 @@ record_field_send = search (frame_field_send, answer_send, confirmation_send, de
 
 pub record_send : IsSend record_.the_row
 record_send = recorded_send (record_.the_field).row _ _ (record_.the_type).to_one record_field_send
+
+pub record_field_sync : IsSync (record_.the_field).row
+record_field_sync = search (frame_field_sync, answer_sync, confirmation_sync, delivery_sync, job_field_sync, list_sync, crosses, sendable) depth 400 fits 200000
 
 pub left_field_send : IsSend (left_.the_field).row
 left_field_send = search (frame_field_send, crosses, sendable) depth 400 fits 200000

@@ -2,20 +2,24 @@
 //!
 //! What a step does to the history stands in `locked`, what it does to the log in `hand`. The calls by name stand in `calls`.
 
-ghost use Rattle.std.specs.Prelude.{◌≡◌, ℕ, ◌+◌, ◌<◌, ◌≤◌, [], ◌∷◌, ◌++◌, length, IfOk, OnOk, OnErr, IfErr, Some, None, false, slice_get, ◌-◌};
+ghost use Rattle.std.specs.Prelude.{◌≡◌, ◌≢◌, ℕ, List, ◌<◌, ◌≤◌, [], ◌∷◌, ◌++◌, length, IfOk, IfErr, IfSome, Some, None, false, slice_get, ◌-◌};
 ghost use Rattle.std.specs.Sync.Mutex.{mutex_guard_value};
+ghost use Rattle.lapin_types.specs.declared.event.Event.{Event as AnEvent};
 ghost use Rattle.lapin_types.specs.declared.event.Event.TheVariants as event_;
+ghost use Rattle.lapin_types.specs.declared.record.Record.{Record};
 ghost use Rattle.lapin_machine.specs.World.{World, told_by};
 ghost use Rattle.lapin_machine.specs.Told.{is_pending_record};
 ghost use Rattle.lapin_shared.specs.Grown.{Grew, told, last_of, IsOver, Rise};
-ghost use Rattle.lapin_shared.specs.Read.{HasPlace, IsReadAt};
+ghost use Rattle.lapin_shared.specs.declared.entry.Told.{Told as AnEntry};
+ghost use Rattle.lapin_shared.specs.Read.{HasPlace, IsReadAt, IsShown};
 ghost use Rattle.lapin_shared.specs.Failed.{IfFailed, IsStep, IsWait};
 
 use crate::entry::Told;
 use crate::hand::Hand;
 use crate::locked::{Crew, Locked};
+use crate::stored::Logged;
 use lapin_acker::Verdict;
-use lapin_types::{Event, NoMemory, Record};
+use lapin_types::{Event, NoMemory};
 use std::alloc::Global;
 use std::marker::Model;
 use std::sync::ledger::Share;
@@ -93,15 +97,31 @@ pub fn lock_ready<'a, L: Crew, R: Wait>(
     unreachable!()
 }
 
-/// One thread's end of a client. Contracts see its number and its log.
+// The entry that is shown.
+fn shown(place: &Option<Told>) -> &Told
+    requires { place.now ≢ None }
+    ensures { IfSome place.now (λ t. result.now ≡ t) }
+{
+    match place {
+        Some(told) => told,
+        None => unreachable!(),
+    }
+}
+
+/// One thread's end of a client. Contracts see its number and its log. Beside them stands a copy of the entry that was answered last.
 pub struct Caller<L: Crew> {
     shared: Arc<Shared<L>, Global>,
     hand: Hand<L>,
+    told: Option<Told>,
 }
 
 impl<L: Crew> Drop for Caller<L> {
     fn drop(self) {
-        let Caller { shared: _, hand: _ } = self;
+        let Caller {
+            shared: _,
+            hand: _,
+            told: _,
+        } = self;
     }
 }
 
@@ -130,6 +150,7 @@ impl<L: Crew> Caller<L> {
         Caller {
             shared,
             hand: Hand::new(alloc, number, share),
+            told: None,
         }
     }
 
@@ -141,7 +162,7 @@ impl<L: Crew> Caller<L> {
     }
 
     /// The caller's steps, oldest first. Their places rise.
-    pub fn log(&self) -> &[Told]
+    pub fn log(&self) -> &[Logged]
         ensures value { result.now ≡ self.now.log }
         ensures rise { Rise 0 self.now.log }
     {
@@ -162,7 +183,11 @@ impl<L: Crew> Caller<L> {
         ensures parts { result.parts ≡ 1 }
         ensures amount { result.amount ≡ length self.log }
     {
-        let Caller { shared: _, hand } = self;
+        let Caller {
+            shared: _,
+            hand,
+            told: _,
+        } = self;
         hand.into_share()
     }
 
@@ -176,7 +201,7 @@ impl<L: Crew> Caller<L> {
     {
         let least = self.hand.last();
         let mut guard = lock_past(rt, &self.shared, least);
-        let done = self.hand.make(alloc, &mut guard, event);
+        let done = self.hand.make(rt, alloc, &mut guard, event);
         drop(guard);
         self.shared.moved.notify_all();
         done
@@ -189,7 +214,9 @@ impl<L: Crew> Caller<L> {
     {
         let least = self.hand.last();
         let mut guard = lock_ready(rt, &self.shared, least, ticket);
-        let done = self.hand.make(alloc, &mut guard, Event::PollTicket(ticket));
+        let done = self
+            .hand
+            .make(rt, alloc, &mut guard, Event::PollTicket(ticket));
         drop(guard);
         self.shared.moved.notify_all();
         done
@@ -211,7 +238,7 @@ impl<L: Crew> Caller<L> {
         ensures* after { sem 𝓛 (follows_so (the_row L.row L.Ledger) (the_row L.row L.Ledger) self.entry.ghost_name none (λ _ _. ⊤) (λ new. IsStep result (λ t. t.now) self.old event new)) }
     {
         match self.make(rt, alloc, event) {
-            Ok(_) => Ok(self.newest()),
+            Ok(place) => self.show_newest(alloc, place),
             Err(e) => Err(e),
         }
     }
@@ -225,13 +252,28 @@ impl<L: Crew> Caller<L> {
         ensures* after { sem 𝓛 (follows_so (the_row L.row L.Ledger) (the_row L.row L.Ledger) self.entry.ghost_name none (λ _ _. ⊤) (λ new. IsWait result (λ t. t.now) self.old ticket new)) }
     {
         match self.make_wait(rt, alloc, ticket) {
-            Ok(_) => Ok(self.newest()),
+            Ok(place) => self.show_newest(alloc, place),
+            Err(e) => Err(e),
+        }
+    }
+
+    // Shows a copy of the newest entry, whose place this is.
+    fn show_newest(&mut self, alloc: Global, place: u64) -> Result<&Told, StepError>
+        requires { 0 < length self.old.log }
+        ensures* after { sem 𝓛 (follows_so (the_row L.row L.Ledger) (the_row L.row L.Ledger) self.entry.ghost_name none (λ _ _. ⊤)
+            (λ new. (front : List AnEntry) (e : AnEvent) (r : Record) → self.old.log ≡ front ++ told place e (Some r) ∷ [] → IsShown result (λ t. t.now) self.old.number front place e r new)) }
+    {
+        match self.hand.tell_newest(alloc, place) {
+            Ok(told) => {
+                self.told = Some(told);
+                Ok(shown(&self.told))
+            }
             Err(e) => Err(e),
         }
     }
 
     /// The newest entry of the log, which has one.
-    pub fn newest(&self) -> &Told
+    pub fn newest(&self) -> &Logged
         requires { 0 < length self.now.log }
         ensures { slice_get self.now.log (length self.now.log - 1) ≡ Some result.now }
     {
@@ -248,28 +290,13 @@ impl<L: Crew> Caller<L> {
         ensures* after { sem 𝓛 (follows_so (the_row L.row L.Ledger) (the_row L.row L.Ledger) self.entry.ghost_name none (λ _ _. ⊤)
             (λ new. MatchResult result (λ t. (k : ℕ) × IsReadAt self.old k place new × (slice_get new.log k ≡ Some t.now)) (λ _. new ≡ self.old))) }
     {
-        match self.fetch_at(rt, alloc, place) {
-            Ok(k) => Ok(self.entry_at(k)),
+        let _ = rt;
+        match self.hand.fetch(alloc, place) {
+            Ok(told) => {
+                self.told = Some(told);
+                Ok(shown(&self.told))
+            }
             Err(e) => Err(e),
         }
-    }
-
-    // An entry of the log.
-    fn entry_at(&self, k: usize) -> &Told
-        requires { k < length self.now.log }
-        ensures { slice_get self.now.log k ≡ Some result.now }
-    {
-        &self.hand.log()[k]
-    }
-
-    // Copies the record of an entry, and answers the entry's index.
-    fn fetch_at<R: Wait>(&mut self, rt: &R, alloc: Global, place: u64) -> Result<usize, NoMemory>
-        requires { HasPlace place self.old.log }
-        ensures read { IfOk result (λ k. IsReadAt self.old k place self.new) }
-        ensures err { OnErr result (self.new ≡ self.old) }
-    {
-        let least = self.hand.last();
-        let guard = lock_past(rt, &self.shared, least);
-        self.hand.fetch(alloc, &guard, place)
     }
 }

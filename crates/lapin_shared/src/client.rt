@@ -13,9 +13,9 @@ ghost use Rattle.lapin_shared.specs.Grown.{AreFresh, Rise};
 ghost use Rattle.lapin_shared.specs.Finished.{IsOut};
 
 use crate::caller::{Caller, Shared};
-use crate::entry::Entry;
 use crate::history::{History, are_at, stored};
 use crate::locked::{Crew, Locked};
+use crate::stored::Stored;
 use lapin_session::Session;
 use lapin_types::NoMemory;
 use std::alloc::Global;
@@ -193,7 +193,7 @@ fn all_at<L: Crew>(locked: &Locked<L>, callers: &[Caller<L>]) -> bool
 }
 
 /// Whether the log of a caller stands in the history.
-fn is_back<L: Crew>(entries: &[Entry], caller: &Caller<L>) -> bool
+fn is_back<L: Crew>(entries: &[Stored], caller: &Caller<L>) -> bool
     ensures stand { result ≡ true → AllAt entries.now caller.now }
     ensures rise { Rise 0 caller.now.log }
 {

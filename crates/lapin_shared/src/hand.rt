@@ -2,28 +2,36 @@
 //!
 //! The calls here are given the lock's value. Who takes the lock stands in `caller`.
 
-ghost use Rattle.std.specs.Prelude.{◌≡◌, ℕ, ◌+◌, ◌<◌, ◌≤◌, ◌^◌, [], ◌∷◌, ◌++◌, length, IfOk, OnOk, OnErr, IfErr, IfSome, Some, None, slice_get, ◌-◌};
+ghost use Rattle.std.specs.Prelude.{◌≡◌, ℕ, List, ◌+◌, ◌<◌, ◌≤◌, [], ◌∷◌, ◌++◌, length, IfOk, OnOk, OnErr, IfErr, Some, slice_get, ◌-◌};
+ghost use Rattle.lapin_types.specs.declared.event.Event.{Event as AnEvent};
+ghost use Rattle.lapin_types.specs.declared.record.Record.{Record as ARecord};
 ghost use Rattle.lapin_machine.specs.World.{told_by};
 ghost use Rattle.lapin_rules.specs.History.{rec};
 ghost use Rattle.lapin_shared.specs.Lawful.{history_of};
 ghost use Rattle.lapin_shared.specs.UnderLock.{entry};
 ghost use Rattle.lapin_shared.specs.Grown.{Grew, told, last_of, Rise};
-ghost use Rattle.lapin_shared.specs.Read.{HasPlace, IsPlaceAt, IsReadAt, answered};
+ghost use Rattle.lapin_shared.specs.declared.entry.Told.{Told as AnEntry};
+ghost use Rattle.lapin_shared.specs.Read.{HasPlace, IsPlaceAt, IsReadAt, IsShown, answered, unread};
 ghost use Rattle.lapin_shared.specs.Failed.{IfFailed, IsStored};
 
 use crate::caller::StepError;
 use crate::entry::Told;
 use crate::locked::{Crew, Locked};
-use lapin_types::{Event, NoMemory, Record};
+use crate::stored::Logged;
+use lapin_types::{Event, NoMemory};
 use std::alloc::Global;
 use std::marker::Model;
+use std::sync::Wait;
 use std::sync::ledger::Share;
+
+// No history has more steps.
+pub(crate) const MOST_STEPS: u64 = u64::MAX / 2;
 
 /// What a caller holds: its number, its log, and a share of one part whose amount is the log's length.
 pub struct Hand<L: Crew> {
     number: u64,
     last: u64,
-    log: Vec<Told>,
+    log: Vec<Logged>,
     share: Share<L>,
 }
 
@@ -75,7 +83,7 @@ impl<L: Crew> Hand<L> {
     }
 
     /// The log, whose places rise.
-    pub fn log(&self) -> &[Told]
+    pub fn log(&self) -> &[Logged]
         ensures value { result.now ≡ self.now.log }
         ensures rise { Rise 0 self.now.log }
     {
@@ -114,13 +122,13 @@ impl<L: Crew> Hand<L> {
         Ok(())
     }
 
-    /// Makes one step on the lock's value, and answers its place.
+    /// Makes one step on the lock's value, and answers its place. The log holds the entry that the history holds.
     ///
     /// # Errors
-    /// `NoMemory`: no step was made, and nothing changed. `Unread`: the step was made, and there was no memory for the copy of its
-    /// record.
-    pub fn make(
+    /// `NoMemory`: no step was made, and nothing changed.
+    pub fn make<R: Wait>(
         &mut self,
+        rt: &R,
         alloc: Global,
         locked: &mut Locked<L>,
         event: Event,
@@ -131,75 +139,83 @@ impl<L: Crew> Hand<L> {
         ensures failed { IfErr result (λ e. IfFailed self.old event e self.new) }
         ensures stored { IsStored result locked.old (entry self.old.number event (rec locked.old.frame_max (history_of locked.old.entries) event)) locked.new }
     {
+        // (no memory holds so many entries)
+        if locked.len() >= MOST_STEPS {
+            drop(event);
+            return Err(StepError::NoMemory);
+        }
         if self.log.reserve(1).is_err() {
             drop(event);
             return Err(StepError::NoMemory);
         }
-        let Ok(kept) = event.try_clone(alloc) else {
-            drop(event);
-            return Err(StepError::NoMemory);
-        };
         let Ok(place) = locked.step(alloc, self.number, &mut self.share, event) else {
-            drop(kept);
             return Err(StepError::NoMemory);
         };
         self.last = place;
-        let answer = locked.copy_at(alloc, place).ok();
-        let read = answer.is_some();
-        self.log.push_reserved(Told {
-            place,
-            event: kept,
-            answer,
-        });
-        if read {
-            Ok(place)
-        } else {
-            Err(StepError::Unread { place })
+        let stored = locked.stored_at(rt, place);
+        self.log.push_reserved(Logged::new(place, stored));
+        Ok(place)
+    }
+
+    /// A copy of the newest entry, whose place this is.
+    ///
+    /// # Errors
+    /// `Unread`: there was no memory for it, and the log has the entry without its record.
+    pub fn tell_newest(&mut self, alloc: Global, place: u64) -> Result<Told, StepError>
+        requires { 0 < length self.old.log }
+        ensures { (front : List AnEntry) (e : AnEvent) (r : ARecord) → self.old.log ≡ front ++ told place e (Some r) ∷ [] → IsShown result (λ t. t) self.old.number front place e r self.new }
+    {
+        let k = self.log.len() - 1;
+        match tell_at(alloc, &mut self.log, k) {
+            Ok(told) => Ok(told),
+            Err(NoMemory) => {
+                forget_at(&mut self.log, k);
+                Err(StepError::Unread { place })
+            }
         }
     }
 
-    /// Copies the record of an entry out of the history, and answers the entry's index.
+    /// A copy of the entry at that place, and its index. From then on the log has its record.
     ///
     /// # Errors
     /// `NoMemory`. Nothing changes then.
-    pub fn fetch(
-        &mut self,
-        alloc: Global,
-        locked: &Locked<L>,
-        place: u64,
-    ) -> Result<usize, NoMemory>
-        requires place { HasPlace place self.old.log }
-        requires stored { last_of 0 self.old.log ≤ length locked.now.entries }
-        ensures read { IfOk result (λ k. IsReadAt self.old k place self.new) }
+    pub fn fetch(&mut self, alloc: Global, place: u64) -> Result<Told, NoMemory>
+        requires { HasPlace place self.old.log }
+        ensures read { IfOk result (λ t. (k : ℕ) × IsReadAt self.old k place self.new × (slice_get self.new.log k ≡ Some t)) }
         ensures err { OnErr result (self.new ≡ self.old) }
     {
         let k = index_of(&self.log, place);
-        match locked.copy_at(alloc, place) {
-            Ok(answer) => {
-                set_answer(&mut self.log, k, answer);
-                Ok(k)
-            }
-            Err(e) => Err(e),
-        }
+        tell_at(alloc, &mut self.log, k)
     }
 }
 
-// The log with this record at entry k.
-fn set_answer(log: &mut Vec<Told>, k: usize, answer: Record)
+// A copy of entry k, whose record the log then has.
+fn tell_at(alloc: Global, log: &mut Vec<Logged>, k: usize) -> Result<Told, NoMemory>
     requires { k < length log.old.items }
-    ensures { log.new.items ≡ answered log.old.items k answer }
+    ensures told { IfOk result (λ t. (r : ARecord) × (log.new.items ≡ answered log.old.items k r) × (slice_get log.new.items k ≡ Some t)) }
+    ensures same { (t : AnEntry) (r : ARecord) → slice_get log.old.items k ≡ Some t → t.answer ≡ Some r → log.new.items ≡ log.old.items }
+    ensures err { OnErr result (log.new.items ≡ log.old.items) }
 {
-    let told = &mut log[k];
-    told.answer = Some(answer);
+    let logged = &mut log[k];
+    logged.tell(alloc)
+}
+
+// The log without the record of entry k.
+fn forget_at(log: &mut Vec<Logged>, k: usize)
+    requires { k < length log.old.items }
+    ensures { log.new.items ≡ unread log.old.items k }
+{
+    let logged = &mut log[k];
+    logged.forget();
 }
 
 // The index of the entry with that place.
-fn index_of(log: &[Told], place: u64) -> usize
+fn index_of(log: &[Logged], place: u64) -> usize
     requires { HasPlace place log.now }
     ensures { IsPlaceAt log.now result place }
 {
     for k in 0..log.len() {
-        if log[k].place == place {
+        if log[k].place() == place {
             return k;
         }
     }

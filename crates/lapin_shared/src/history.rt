@@ -3,12 +3,13 @@
 ghost use Rattle.std.specs.Prelude.{◌≡◌, ℕ, ◌-◌, ◌<◌, ◌≤◌, length, true, All, take, slice_get, IfSome, MatchOption, Some, None, ◌⊎◌};
 ghost use Rattle.lapin_shared.specs.Checked.{IsAt};
 
-use crate::entry::{Entry, Told};
+use crate::entry::Entry;
+use crate::stored::{Logged, Stored};
 use std::marker::Model;
 
 /// A history that was stored under the lock of a client. `Client::finish` alone makes one.
 pub struct History {
-    entries: Vec<Entry>,
+    entries: Vec<Stored>,
 }
 
 impl Drop for History {
@@ -46,37 +47,41 @@ impl History {
         if place == 0 {
             return None;
         }
-        self.entries.get((place - 1) as usize)
+        match self.entries.get((place - 1) as usize) {
+            Some(stored) => Some(stored.entry()),
+            None => None,
+        }
     }
 }
 
 /// The entries as a history.
-pub fn stored(entries: Vec<Entry>) -> History
+pub fn stored(entries: Vec<Stored>) -> History
     ensures { result ≡ entries.items }
 {
     History { entries }
 }
 
 // Whether an entry of a log stands in the history at its place.
-fn is_at(entries: &[Entry], number: u64, told: &Told) -> bool
-    ensures { result ≡ true → IsAt entries.now number told.now }
+fn is_at(entries: &[Stored], number: u64, logged: &Logged) -> bool
+    ensures { result ≡ true → IsAt entries.now number logged.now }
 {
-    if told.place == 0 || told.place > entries.len() as u64 {
+    let place = logged.place();
+    if place == 0 || place > entries.len() as u64 {
         return false;
     }
-    let entry = &entries[(told.place - 1) as usize];
-    if entry.caller != number || !entry.event.same(&told.event) {
+    let entry = entries[(place - 1) as usize].entry();
+    if entry.caller != number || !entry.event.same(logged.event()) {
         return false;
     }
-    match &told.answer {
+    match logged.answer() {
         Some(answer) => entry.answer.same(answer),
         None => true,
     }
 }
 
 /// Whether each entry of a log stands in the history at its place.
-pub fn are_at(entries: &[Entry], number: u64, log: &[Told]) -> bool
+pub fn are_at(entries: &[Stored], number: u64, log: &[Logged]) -> bool
     ensures { result ≡ true → All (λ t. IsAt entries.now number t) log.now }
 {
-    log.iter().all(|told| is_at(entries, number, told))
+    log.iter().all(|logged| is_at(entries, number, logged))
 }

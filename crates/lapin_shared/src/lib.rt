@@ -8,6 +8,7 @@
 //! stand above.
 #![tactic(auto)]
 
+mod answering;
 mod caller;
 mod calls;
 mod client;
@@ -17,6 +18,7 @@ mod hand;
 mod history;
 mod laws;
 mod locked;
+mod stored;
 
 pub use caller::{Caller, StepError};
 pub use client::{Client, FinishError};
@@ -25,3 +27,4 @@ pub use gate::{Gate, OpenGate};
 pub use history::History;
 pub use laws::{ackers_are_used_once, interleaves};
 pub use locked::{Crew, Locked};
+pub use stored::{Logged, Stored};

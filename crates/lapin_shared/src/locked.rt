@@ -2,7 +2,7 @@
 //!
 //! No lock is taken here. `Hand` calls it for a caller.
 
-ghost use Rattle.std.specs.Prelude.{◌≡◌, ℕ, None, ◌+◌, ◌<◌, [], ◌∷◌, ◌++◌, length, ◌-◌, ◌≤◌, IsOk, IfOk, IfSome, OnOk, OnErr, not, slice_get};
+ghost use Rattle.std.specs.Prelude.{◌≡◌, ℕ, Some, None, ◌+◌, ◌<◌, [], ◌∷◌, ◌++◌, length, ◌-◌, ◌≤◌, IsOk, IfOk, OnOk, OnErr, not, slice_get};
 ghost use Rattle.lapin_types.specs.declared.event.Event.TheVariants as event;
 ghost use Rattle.lapin_rules.specs.History.{History, rec};
 ghost use Rattle.lapin_machine.specs.World.{new_world, told_by};
@@ -12,12 +12,13 @@ ghost use Rattle.lapin_machine.specs.Stands.{Stands};
 ghost use Rattle.lapin_shared.specs.Lawful.{history_of, IsLawful};
 ghost use Rattle.lapin_shared.specs.UnderLock.{entry};
 
-use crate::entry::Entry;
+use crate::stored::Stored;
 use lapin_session::Session;
-use lapin_types::{Error, Event, NoMemory, Record};
+use lapin_types::{Event, NoMemory};
 use std::alloc::Global;
 use std::marker::{Brand, Model};
 use std::mem::replace;
+use std::sync::Wait;
 use std::sync::ledger::{Book, Ledger, Share};
 
 /// One ledger, with as many parts as there are callers: what ties callers to their client.
@@ -30,7 +31,7 @@ impl Crew for Brand {}
 pub struct Locked<L: Crew> {
     session: Session,
     frame_max: u32,
-    history: Vec<Entry>,
+    history: Vec<Stored>,
     book: Book<L>,
 }
 
@@ -103,19 +104,10 @@ impl<L: Crew> Locked<L> {
             drop(event);
             return Err(NoMemory);
         };
-        let Ok(kept) = event.try_clone(alloc) else {
-            drop(event);
+        let Ok(stored) = step_session(alloc, &mut self.session, caller, event) else {
             return Err(NoMemory);
         };
-        let Ok(answer) = step_session(alloc, &mut self.session, event) else {
-            drop(kept);
-            return Err(NoMemory);
-        };
-        self.history.push_reserved(Entry {
-            caller,
-            event: kept,
-            answer,
-        });
+        self.history.push_reserved(stored);
         self.book.add(share, 1);
         Ok(self.history.len() as u64)
     }
@@ -144,7 +136,7 @@ impl<L: Crew> Locked<L> {
     }
 
     /// The stored history, which is lawful.
-    pub fn entries(&self) -> &[Entry]
+    pub fn entries(&self) -> &[Stored]
         ensures value { result.now ≡ self.now.entries }
         ensures lawful { IsLawful self.now.frame_max self.now.entries }
     {
@@ -152,7 +144,7 @@ impl<L: Crew> Locked<L> {
     }
 
     // Gives the history, whose length is the amount of a share with every part. The new session stays behind, with an empty history.
-    pub(crate) fn taken(&mut self, alloc: Global, all: Share<L>, session: Session) -> Vec<Entry>
+    pub(crate) fn taken(&mut self, alloc: Global, all: Share<L>, session: Session) -> Vec<Stored>
         requires every { all.parts ≡ L.parts }
         requires session { session ≡ new_world self.old.frame_max }
         requires stands { Stands self.old.frame_max [] session }
@@ -175,29 +167,36 @@ impl<L: Crew> Locked<L> {
         self.session.ticket_ready(ticket)
     }
 
-    // A copy of the record at a place.
-    pub(crate) fn copy_at(&self, alloc: Global, place: u64) -> Result<Record, NoMemory>
+    // The entry at a place, for a log to hold too.
+    pub(crate) fn stored_at<R: Wait>(&self, rt: &R, place: u64) -> Stored
         requires { (0 < place) × (place ≤ length self.now.entries) }
-        ensures { IfOk result (λ r. IfSome (slice_get self.now.entries (place - 1)) (λ x. r ≡ x.answer)) }
+        ensures { slice_get self.now.entries (place - 1) ≡ Some result }
     {
-        self.history[(place - 1) as usize].answer.try_clone(alloc)
+        self.history[(place - 1) as usize].again(rt)
     }
 }
 
-// A step of a session that has numbers left and no frame given back.
-#[tactic(auto, using(lapin_machine::proofs::Back::given_none, lapin_machine::proofs::Back::still_none))]
-fn step_session(alloc: Global, session: &mut Session, event: Event) -> Result<Record, NoMemory>
+// Makes a step on a session that has numbers left and no frame given back, and answers its entry.
+fn step_session(
+    alloc: Global,
+    session: &mut Session,
+    caller: u64,
+    event: Event,
+) -> Result<Stored, NoMemory>
     requires numbers { HasNumbersFor 1 session.old }
     requires steady { session.old.returned ≡ None }
-    ensures told { IfOk result (λ r. r ≡ told_by session.old event) }
-    ensures stands { IfOk result (λ r. (frame_max : ℕ) (h : History) → Stands frame_max h session.old →
-        (r ≡ rec frame_max h event) × Stands frame_max (h ++ (event, r) ∷ []) session.new) }
+    ensures told { IfOk result (λ x. x ≡ entry caller event (told_by session.old event)) }
+    ensures stands { OnOk result ((frame_max : ℕ) (h : History) → Stands frame_max h session.old →
+        (told_by session.old event ≡ rec frame_max h event) × Stands frame_max (h ++ (event, told_by session.old event) ∷ []) session.new) }
     ensures steady { OnOk result (session.new.returned ≡ None) }
     ensures err { OnErr result (session.new ≡ session.old) }
 {
-    match session.step(alloc, event) {
-        Ok(answer) => Ok(answer),
-        Err(Error::NoMemory) => Err(NoMemory),
-        Err(_) => unreachable!(),
-    }
+    let Ok(mut stored) = Stored::unanswered(alloc, caller, event) else {
+        return Err(NoMemory);
+    };
+    let Ok(()) = stored.meet(alloc, session) else {
+        drop(stored);
+        return Err(NoMemory);
+    };
+    Ok(stored)
 }

@@ -24,26 +24,27 @@ pub fn answer<G: Gate, K: Sink, R: Threads + Wait + Sync>(
     alloc: Global,
     callers: usize,
     gate: &G,
-    input: &[u8],
+    input: Vec<u8>,
     sink: &mut K,
     kept: &mut Option<History>,
 ) -> Status
     requires some { 1 ≤ callers }
     requires none { kept.old ≡ None }
     ensures statuses { IsAnswer result }
-    ensures fine { result ≡ Status.Fine → WroteAll callers kept.new (K.written sink.old) (K.written sink.new) input.now }
-    ensures bad_line { result ≡ Status.BadLine → WroteToBadLine callers kept.new (K.written sink.old) (K.written sink.new) input.now }
+    ensures fine { result ≡ Status.Fine → WroteAll callers kept.new (K.written sink.old) (K.written sink.new) input.items }
+    ensures bad_line { result ≡ Status.BadLine → WroteToBadLine callers kept.new (K.written sink.old) (K.written sink.new) input.items }
     ensures faultless { IsWhole result → Stayed (K.faults sink.old) (K.faults sink.new) }
-    ensures complete { SaysEvents input.now → (Rose (K.faults sink.old) (K.faults sink.new) → ⊥) → IsComplete result }
+    ensures complete { SaysEvents input.items → (Rose (K.faults sink.old) (K.faults sink.new) → ⊥) → IsComplete result }
     ensures fault { result ≡ Status.WriteFault → Rose (K.faults sink.old) (K.faults sink.new) }
-    ensures cut_short { result ≡ Status.WriteFault → WroteSome callers kept.new (K.written sink.old) (K.written sink.new) input.now }
+    ensures cut_short { result ≡ Status.WriteFault → WroteSome callers kept.new (K.written sink.old) (K.written sink.new) input.items }
     ensures no_memory { result ≡ Status.NoMemory → ((sink.new ≡ sink.old) × (kept.new ≡ None))
-        ⊎ WroteSome callers kept.new (K.written sink.old) (K.written sink.new) input.now }
+        ⊎ WroteSome callers kept.new (K.written sink.old) (K.written sink.new) input.items }
 {
+    let long = input.len();
     let Ok((history, bad)) = run_input(rt, alloc, callers, gate, input) else {
         return Status::NoMemory;
     };
-    let Ok(text) = print_run(alloc, &history, bad) else {
+    let Ok(text) = print_run(alloc, long, &history, bad) else {
         return Status::NoMemory;
     };
     *kept = history;
@@ -55,22 +56,25 @@ pub fn answer<G: Gate, K: Sink, R: Threads + Wait + Sync>(
     }
 }
 
-/// The history of the input's events up to the first bad line, and that line's number. There is none where the first line is bad.
+/// The history of the input's events up to the first bad line, and that line's number. There is none where the first line is bad. The
+/// input is let go once it was parsed.
 fn run_input<G: Gate, R: Threads + Wait + Sync>(
     rt: &R,
     alloc: Global,
     callers: usize,
     gate: &G,
-    input: &[u8],
+    input: Vec<u8>,
 ) -> Result<(Option<History>, Option<u64>), NoMemory>
     requires { 1 ≤ callers }
-    ensures { IfOk result (λ run. IsRun callers input.now run.0 run.1) }
+    ensures { IfOk result (λ run. IsRun callers input.items run.0 run.1) }
 {
+    let parsed = parse_events(alloc, &input);
+    let_go(input);
     let Parsed {
         frame_max,
         events,
         bad,
-    } = parse_events(alloc, input)?;
+    } = parsed?;
     let Some(frame_max) = frame_max else {
         drop(events);
         return Ok((None, bad));
@@ -80,4 +84,11 @@ fn run_input<G: Gate, R: Threads + Wait + Sync>(
         rt, alloc, gate, frame_max, callers, events, blank,
     )?;
     Ok((Some(history), bad))
+}
+
+/// Lets go of an input, its room first: an allocator that gets one great block back may keep the next ones of that size.
+fn let_go(input: Vec<u8>) {
+    let mut input = input;
+    input.truncate(1);
+    input.shrink_to_fit();
 }

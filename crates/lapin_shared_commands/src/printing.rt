@@ -9,15 +9,18 @@ use lapin_text::put_record;
 use lapin_types::NoMemory;
 use std::alloc::Global;
 
-/// What is printed: the history, where there is one, and then the line that names the first bad line of the input.
+/// What is printed: the history, where there is one, and then the line that names the first bad line of the input. Room for so many bytes
+/// is made at first, where there is memory for it.
 pub fn print_run(
     alloc: Global,
+    room: usize,
     history: &Option<History>,
     bad: Option<u64>,
 ) -> Result<Vec<u8>, NoMemory>
     ensures { IfOk result (λ text. text.items ≡ run_text history.now bad) }
 {
     let mut text = Vec::new(alloc);
+    let _ = text.reserve(room);
     if let Some(history) = history {
         put_history(alloc, &mut text, history)?;
     }

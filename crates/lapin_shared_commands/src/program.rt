@@ -80,7 +80,7 @@ pub fn run_shared<G: Gate, S: Source, K: Sink, R: Threads + Wait + Sync>(
         return Status::BadWords;
     };
     match read_all(alloc, source) {
-        Ok(input) => answer(rt, alloc, callers, gate, &input, sink, kept),
+        Ok(input) => answer(rt, alloc, callers, gate, input, sink, kept),
         Err(InputError::Fault) => Status::ReadFault,
         Err(InputError::TooLong) => Status::InputTooLong,
         Err(InputError::NoMemory) => Status::NoMemory,

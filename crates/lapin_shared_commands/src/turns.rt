@@ -1,5 +1,5 @@
 //! One caller's turns: it makes the events that fell to it, in their order.
-ghost use Rattle.std.specs.Prelude.{◌≡◌, ◌++◌, ◌∷◌, [], map, reverse, true};
+ghost use Rattle.std.specs.Prelude.{◌≡◌, ◌++◌, ◌∷◌, [], map, reverse, true, vec_len};
 ghost use Rattle.lapin_shared.specs.Own.{event_of};
 ghost use Rattle.lapin_shared_commands.specs.Dealt.{MadeOwn};
 
@@ -47,8 +47,19 @@ fn make_own<L: Crew, G: Gate, R: Wait>(
             return false;
         }
         place = place.saturating_add(callers);
+        give_back(events);
     }
     true
+}
+
+/// Gives back the room of events that were made, once less than half of it holds events.
+fn give_back(events: &mut Vec<Event>)
+    ensures items { events.new.items ≡ events.old.items }
+    ensures len { vec_len events.new ≡ vec_len events.old }
+{
+    if events.len() < events.capacity() / 2 {
+        events.shrink_to_fit();
+    }
 }
 
 /// Makes one event, whose number among all is `place`, between the calls of the gate.

@@ -75,8 +75,8 @@ fn waiting<L: Crew + Send + Sync, R: Threads + Wait + Abort + Sync>(
     let begun = AtomicU64::new(0);
     let job = |caller: &mut Caller<L>| wait_or_receive(rt, alloc, &begun, caller);
     assert!(rt; each_mut(rt, &job, callers.as_mut_slice()));
-    let told = callers[0].log().last().ok_or("an entry")?;
-    assert!(rt; matches!(&told.answer, Some(Record::Answer(Ok(Answer::Channel(1))))));
+    let step = callers[0].log().last().ok_or("an entry")?;
+    assert!(rt; matches!(step.answer(), Some(Record::Answer(Ok(Answer::Channel(1))))));
     let history = finished(client.finish(rt, alloc, &mut callers))?;
     assert_eq!(rt; history.len(), 4);
     let third = history.at(3).ok_or("an entry")?;

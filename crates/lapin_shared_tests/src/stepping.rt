@@ -1,6 +1,6 @@
 //! Steps of a caller as text: events that it makes, and the entries that its log then has. The other modules call it.
 
-use lapin_shared::{Caller, Crew, FinishError, History, StepError, Told};
+use lapin_shared::{Caller, Crew, FinishError, History, Logged, StepError};
 use lapin_text::{parse_events, read_event, write_record};
 use lapin_types::{Event, Record};
 use std::alloc::Global;
@@ -51,24 +51,24 @@ pub fn make_lines<L: Crew, R: Wait + Abort>(
 pub fn are_steps<R: Abort>(
     rt: &R,
     alloc: Global,
-    log: &[Told],
+    log: &[Logged],
     made: usize,
     lines: &str,
 ) -> Result<(), Fail> {
     let mut k = made;
     for line in lines.lines() {
-        let told = log.get(k).ok_or("an entry")?;
-        assert!(rt; is_step(alloc, told, line), "at {line}");
+        let step = log.get(k).ok_or("an entry")?;
+        assert!(rt; is_step(alloc, step, line), "at {line}");
         k = k.saturating_add(1);
     }
     assert_eq!(rt; log.len(), k, "at {lines}");
     Ok(())
 }
 
-fn is_step(alloc: Global, told: &Told, line: &str) -> bool {
-    match (line.split_once(" -> "), &told.answer) {
+fn is_step(alloc: Global, step: &Logged, line: &str) -> bool {
+    match (line.split_once(" -> "), step.answer()) {
         (Some((event, record)), Some(answer)) => {
-            is_event(alloc, &told.event, event) && is_record(alloc, answer, record)
+            is_event(alloc, step.event(), event) && is_record(alloc, answer, record)
         }
         _ => false,
     }

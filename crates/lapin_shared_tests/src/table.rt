@@ -342,10 +342,10 @@ fn make_all<L: Crew, R: Wait>(rt: &R, alloc: Global, caller: &mut Caller<L>) -> 
 
 /// Whether the record of the log's first entry can be read once more.
 fn is_fetched<L: Crew, R: Wait>(rt: &R, alloc: Global, caller: &mut Caller<L>) -> bool {
-    let Some(told) = caller.log().first() else {
+    let Some(step) = caller.log().first() else {
         return false;
     };
-    let place = told.place;
+    let place = step.place();
     match caller.fetch(rt, alloc, place) {
         Ok(told) => told.place == place,
         Err(_) => false,
@@ -384,7 +384,7 @@ fn is_bare_request(entry: &Entry) -> bool {
 
 fn holds_one_entry<L: Crew>(locked: &Locked<L>) -> bool {
     match locked.entries() {
-        [entry] => locked.len() == 1 && locked.frame_max() == 8192 && is_bare_request(entry),
+        [only] => locked.len() == 1 && locked.frame_max() == 8192 && is_bare_request(only.entry()),
         _ => false,
     }
 }

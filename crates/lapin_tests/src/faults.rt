@@ -166,19 +166,24 @@ fn an_input_of_exactly_the_limit_is_run(rt: HostRuntime) -> Result<(), Fail> {
     Ok(())
 }
 
-// What comes behind the first byte past the limit is not asked for: 257 reads of 65,536 bytes give it, and the call that would
-// fail is not made. Without that byte the lines are looked at.
+// What comes behind the first byte past the limit is not asked for: 4,162 reads of at most 4,032 bytes give it, and the call that would
+// fail is not made. Without that byte one more finds the end, and the lines are looked at.
 #[test]
 fn an_input_past_the_limit_is_not_run(rt: HostRuntime) -> Result<(), Fail> {
     let alloc = rt.alloc();
     let words = words_of(alloc, &["session"])?;
-    for (length, wanted, output) in [
-        (16_777_216, Status::BadLine, b"badline 1\n".as_slice()),
-        (16_777_217, Status::InputTooLong, b"".as_slice()),
-        (16_777_300, Status::InputTooLong, b"".as_slice()),
+    for (length, failing, wanted, output) in [
+        (
+            16_777_216,
+            4_164,
+            Status::BadLine,
+            b"badline 1\n".as_slice(),
+        ),
+        (16_777_217, 4_163, Status::InputTooLong, b"".as_slice()),
+        (16_777_300, 4_163, Status::InputTooLong, b"".as_slice()),
     ] {
         let input = input_of(alloc, length)?;
-        let mut source = MemorySource::new(input, 1 << 20, vec![in alloc; 258]?);
+        let mut source = MemorySource::new(input, 1 << 20, vec![in alloc; failing]?);
         let mut sink = SureSink::new(alloc);
         let status = run_program(alloc, &words, &mut source, &mut sink);
         assert_eq!(rt; status, wanted, "at {length}");

@@ -10,7 +10,7 @@ ghost use Rattle.lapin_shared.specs.Grown.{Grew, told};
 ghost use Rattle.lapin_shared.specs.Failed.{IfFailed};
 ghost use Rattle.lapin_uses.specs.Sending.{OneSent, AllSent, IsWritten, frame_in};
 
-use lapin_shared::{Caller, Crew, StepError, Told};
+use lapin_shared::{Caller, Crew, Logged, StepError};
 use lapin_types::{Event, Frame, Record};
 use std::alloc::Global;
 use std::sync::Wait;
@@ -80,10 +80,10 @@ fn send_one<L: Crew, S: Socket, R: Wait>(
 }
 
 // Writes the frame that an entry tells.
-fn write<S: Socket>(told: &Told, socket: &mut S) -> Sent
-    ensures { IsWritten S.takes (frame_in told.now.answer) result socket.old socket.new }
+fn write<S: Socket>(step: &Logged, socket: &mut S) -> Sent
+    ensures { IsWritten S.takes (frame_in step.now.answer) result socket.old socket.new }
 {
-    match &told.answer {
+    match step.answer() {
         Some(Record::Frame(frame)) => {
             if socket.write(frame) {
                 Sent::Taken

@@ -14,7 +14,7 @@ ghost use Rattle.lapin_work.specs.Worked.{Worked, IsCarriedOut, IsSettled};
 use crate::decision::{Decision, decide};
 use crate::work::Work;
 use lapin_acker::{ConsumerDelegate, Delegates, Verdict};
-use lapin_shared::{Caller, Crew, Gate, StepError, Told};
+use lapin_shared::{Caller, Crew, Gate, Logged, StepError};
 use lapin_types::{Event, Job, Record};
 use std::alloc::Global;
 use std::sync::Wait;
@@ -64,21 +64,21 @@ pub fn take_job<L: Crew, R: Wait>(
 }
 
 /// The job that an entry's record tells.
-pub fn job_of(told: &Told) -> Option<&Job>
-    ensures { option_copied result ≡ job_in told.now.answer }
+pub fn job_of(step: &Logged) -> Option<&Job>
+    ensures { option_copied result ≡ job_in step.now.answer }
 {
-    match &told.answer {
+    match step.answer() {
         Some(Record::Job(job)) => Some(job),
         _ => None,
     }
 }
 
 /// Asks the delegate of the job's consumer.
-fn ask(delegates: &Delegates, told: &Told) -> (u64, Decision)
-    requires { job_in told.now.answer ≢ None }
-    ensures { IfSome (job_in told.now.answer) (λ j. (result.0 ≡ j.consumer) × IsDecided (λ n. tree.get nat_cmp delegates.now.by_consumer n ≡ None) (λ n y v. IfSome (tree.get nat_cmp delegates.now.by_consumer n) (λ b. may (b.vtable, b.value) y v)) j result.1) }
+fn ask(delegates: &Delegates, step: &Logged) -> (u64, Decision)
+    requires { job_in step.now.answer ≢ None }
+    ensures { IfSome (job_in step.now.answer) (λ j. (result.0 ≡ j.consumer) × IsDecided (λ n. tree.get nat_cmp delegates.now.by_consumer n ≡ None) (λ n y v. IfSome (tree.get nat_cmp delegates.now.by_consumer n) (λ b. may (b.vtable, b.value) y v)) j result.1) }
 {
-    let Some(job) = job_of(told) else {
+    let Some(job) = job_of(step) else {
         unreachable!()
     };
     (job.consumer, decide(delegates, job))
