@@ -7,6 +7,7 @@ use Rattle.lapin_acker.specs.Switches.{used, map_numbered, after_mark}
 use Rattle.lapin_acker.specs.Store.{end_of, seen, shown, spelled}
 use Rattle.lapin_acker.specs.Marks as mark
 use Rattle.lapin_acker.proofs.Store.{let-go, spent-cell, spent-gone, set-same, is-over}
+use Rattle.std.proofs.lemmas.Grind.{replicate_next}
 
 abbrev pub AreUsed : List Switch → Type 0
 AreUsed us = (p : ℕ) (s : Switch) → slice_get us p ≡ Some s → used s ≡ s
@@ -30,12 +31,8 @@ all-used rs k c = used-append (spelled rs) (replicate k (switch.Used c)) (used-s
 
 -- ---- one more
 
-replicate-more : {X : Type 0} (k : ℕ) (x : X) → replicate (k + 1) x ≡ replicate k x ++ x ∷ []
-replicate-more zero x = refl
-replicate-more (suc k) x = let next : suc k + 1 ≡ suc (k + 1) = omega arith in ap (λ n. replicate n x) next ∙ ap (λ xs. x ∷ xs) (replicate-more k x)
-
 pub one-more : (us : List Switch) (k c : ℕ) → us ++ replicate (k + 1) (switch.Used c) ≡ (us ++ replicate k (switch.Used c)) ++ switch.Used c ∷ []
-one-more us k c = ap (λ vs. us ++ vs) (replicate-more k (switch.Used c)) ∙ sym (append_assoc us (replicate k (switch.Used c)) (switch.Used c ∷ []))
+one-more us k c = ap (λ vs. us ++ vs) (replicate_next k (switch.Used c)) ∙ sym (append_assoc us (replicate k (switch.Used c)) (switch.Used c ∷ []))
 
 append-none : {X : Type 0} (xs : List X) → xs ++ [] ≡ xs
 append-none [] = refl

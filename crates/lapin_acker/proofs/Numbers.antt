@@ -6,6 +6,7 @@ use Rattle.lapin_acker.specs.declared.switch.Switch.TheVariants as switch
 use Rattle.lapin_acker.specs.Switches.{Board, used, over_on, map_numbered, moved, names, after_mark, voided}
 use Rattle.lapin_acker.specs.Marks as mark
 use Rattle.std.proofs.lemmas.List.Edits.{map_over_more}
+use Rattle.std.proofs.lemmas.List.{get_or_default}
 
 -- a mark that moves none of these numbers
 pub kept : (f : ℕ → Switch → Switch) (i : ℕ) (ss : List Switch) → ((k : ℕ) (s : Switch) → i < k → f k s ≡ s) → map_numbered i f ss ≡ ss
@@ -80,13 +81,8 @@ pub ended-is : (i c : ℕ) (ss : List Switch) → map (over_on c) ss ≡ map_num
 ended-is i c [] = refl
 ended-is i c (s ∷ ss) = ap (λ ts. over_on c s ∷ ts) (ended-is (suc i) c ss)
 
-get-any : {X : Type 0} (xs : List X) (i : ℕ) (d e : X) → i < length xs → get_or xs i d ≡ get_or xs i e
-get-any [] i d e lt = absurd (omega arith)
-get-any (x ∷ xs) zero d e lt = refl
-get-any (x ∷ xs) (suc i) d e lt = get-any xs i d e (omega arith)
-
 pub over-step : {X : Type 0} (f : X → X) (xs ys : List X) (i : ℕ) (d t : X) → i < length xs → length ys ≡ length xs → ys ≡ map f (take i xs) ++ drop i xs → t ≡ f (get_or ys i d) → slice_set ys i t ≡ map f (take (i + 1) xs) ++ drop (i + 1) xs
-over-step f xs ys i d t lt len done is = ap (slice_set ys i) is ∙ map_over_more f xs ys i (get_or ys i d) lt done (get-any ys i d (get_or ys i d) (omega arith))
+over-step f xs ys i d t lt len done is = ap (slice_set ys i) is ∙ map_over_more f xs ys i (get_or ys i d) lt done (get_or_default ys i d (get_or ys i d) (omega arith))
 
 -- ---- in the code's words
 

@@ -14,7 +14,7 @@ use Rattle.lapin_acker.proofs.Numbers.{spent-at, spent-past}
 
 -- ---- words on lists
 
-length-numbered : (f : ℕ → Switch → Switch) (i : ℕ) (cs : List Switch) → length (map_numbered i f cs) ≡ length cs
+pub length-numbered : (f : ℕ → Switch → Switch) (i : ℕ) (cs : List Switch) → length (map_numbered i f cs) ≡ length cs
 length-numbered f i [] = refl
 length-numbered f i (s ∷ cs) = ap suc (length-numbered f (suc i) cs)
 

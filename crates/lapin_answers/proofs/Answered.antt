@@ -1,5 +1,5 @@
 -- A reply that comes is to the request that is open longest on its channel; open-ok comes where nothing was asked yet.
-use Rattle.std.proofs.Common.{◌≡◌, ◌∙◌, ℕ, suc, ◌+◌, ◌==◌, Bool, true, false, cond, ◌||◌, List, [], ◌∷◌, ◌++◌, length, drop, Option, Some, inl, inr, refl, sym, ap, subst, append-nil, append_assoc, length-append, arith}
+use Rattle.std.proofs.Common.{◌≡◌, ◌∙◌, ℕ, suc, ◌+◌, ◌==◌, Bool, true, false, cond, List, [], ◌∷◌, ◌++◌, length, drop, Option, Some, inl, inr, refl, sym, ap, subst, append-nil, append_assoc, length-append, arith}
 use Rattle.std.specs.List.{filter, fold, list_any}
 use Rattle.std.proofs.lemmas.Bool.Decides.{eqb_tells}
 use Rattle.std.proofs.lemmas.List.Sums.{fold-append}
@@ -27,6 +27,7 @@ use Rattle.lapin_answers.proofs.Rows.{IsReplyOf}
 use Rattle.lapin_answers.proofs.Lists.{is_ask_on, open_asks, waiting_asks, kind_same}
 use Rattle.lapin_answers.proofs.Standing.{next_ask, handed_asks, reply_count, IsAsk, AreAsks, Going}
 use Rattle.lapin_answers.proofs.Lets.{next_more}
+use Rattle.std.proofs.lemmas.Bool.{or_parts}
 
 -- ---- requests that were read, and those that are on the way
 
@@ -63,12 +64,8 @@ read_asks c ds = folds c [] ds
 way_asks : (c : ℕ) (ls : List Left) (xs : List Left) → list_any (is_open_on c) ls ≡ false → fold (next_ask c) xs ls ≡ xs ++ filter (is_ask_on c) ls
 way_asks c [] xs h = sym (append-nil xs)
 way_asks c (l ∷ ls) xs h =
-    let p = neither (is_open_on c l) (list_any (is_open_on c) ls) h in
+    let p = or_parts (is_open_on c l) (list_any (is_open_on c) ls) h in
     ap (λ v. fold (next_ask c) v ls) (next_more c xs l p.0) ∙ (way_asks c ls (xs ++ cond (is_ask_on c l) (l ∷ []) []) p.1 ∙ (append_assoc xs (cond (is_ask_on c l) (l ∷ []) []) (filter (is_ask_on c) ls) ∙ ap (λ v. xs ++ v) (elim (is_ask_on c l) as (λ v. cond v (l ∷ []) [] ++ filter (is_ask_on c) ls ≡ cond v (l ∷ filter (is_ask_on c) ls) (filter (is_ask_on c) ls)) [ true ↦ refl | false ↦ refl ])))
-  where
-    neither : (a b : Bool) → (a || b) ≡ false → (a ≡ false) × (b ≡ false)
-    neither true b h = absurd cc
-    neither false b h = (refl, h)
 
 pub all_asks : (c : ℕ) (ds : List Deed) (up : List Left) → list_any (is_open_on c) up ≡ false → handed_asks c (lefts ds ++ up) ≡ requests_in (last_opening c ds) ++ filter (is_ask_on c) up
 all_asks c ds up h = fold-append (next_ask c) [] (lefts ds) up ∙ (ap (λ v. fold (next_ask c) v up) (read_asks c ds) ∙ way_asks c up (requests_in (last_opening c ds)) h)

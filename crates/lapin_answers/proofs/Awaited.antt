@@ -56,10 +56,12 @@ use Rattle.lapin_answers.specs.Closes.{is_open_cancel}
 use Rattle.lapin_answers.specs.Truth.{AwaitedAreDelivered}
 use Rattle.lapin_answers.proofs.Cancels.{on_is, on_gives, all_not}
 use Rattle.lapin_answers.proofs.Closed.{either, no_gives}
-use Rattle.lapin_answers.proofs.Lists.{and_none}
 use Rattle.lapin_answers.proofs.Ticketed.{one_at}
 use Rattle.lapin_answers.proofs.Tickets.{Answers, one-append, answers-append}
-use Rattle.lapin_answers.proofs.Turns.{plain_record}
+use Rattle.lapin_rules.proofs.ListLaws.{many-none}
+use Rattle.lapin_tables.proofs.Bools.{and_false}
+use Rattle.lapin_verdicts.proofs.Saying.{plain_record}
+use Rattle.std.proofs.lemmas.Option.{same_Some}
 
 -- ---- lists
 
@@ -67,12 +69,8 @@ many-append : {X : Type 0} (p : X → Bool) (xs ys : List X) → many p xs ≤ m
 many-append p [] ys = omega arith
 many-append p (x ∷ xs) ys = let i = many-append p xs ys in elim (p x) as (λ v. cond v (many p xs + 1) (many p xs) ≤ cond v (many p (xs ++ ys) + 1) (many p (xs ++ ys))) [ true ↦ omega (arith, i) | false ↦ i ]
 
-none_pass : {X : Type 0} (p : X → Bool) (ys : List X) → list_any p ys ≡ false → many p ys ≡ 0
-none_pass p [] h = refl
-none_pass p (y ∷ ys) h = elim (p y) as (λ v. (v || list_any p ys) ≡ false → cond v (many p ys + 1) (many p ys) ≡ 0) [ true ↦ λ e. absurd cc | false ↦ λ e. none_pass p ys e ] h
-
 many_none : {X : Type 0} (p : X → Bool) (xs ys : List X) → list_any p ys ≡ false → many p (xs ++ ys) ≡ many p xs
-many_none p [] ys h = none_pass p ys h
+many_none p [] ys h = many-none p ys h
 many_none p (x ∷ xs) ys h = ap (λ m. cond (p x) (m + 1) m) (many_none p xs ys h)
 
 many_at : {X : Type 0} (p : X → Bool) (before behind : List X) (x : X) → p x ≡ true → many p before < many p (before ++ x ∷ behind)
@@ -206,12 +204,9 @@ called ms c a b count w =
 
 asked_new : (ms : List TicketMark) (c : ℕ) (a : Asked) (b : Wire) (k : ℕ) → b.tickets ≡ many gives ms → awaits_reply a ≡ true → ticket_in (call_record c a b) ≡ Some k → New (ms ++ asking_tickets c a b) k
 asked_new ms c a b k count w g = elim (is_allowed a (state_of c b)) as (λ v. ticket_in (cond v (accepted_record a b) (record_.Refused (error.InvalidChannelState (state_of c b)))) ≡ Some k → New (ms ++ cond v (call_tickets c a b) []) k) [
-  | true ↦ λ i. subst (λ v. New (ms ++ call_tickets c a b) v) (same (b.tickets + 1) k (sym (accepted_ticket a b) ∙ i)) (called ms c a b count w)
+  | true ↦ λ i. subst (λ v. New (ms ++ call_tickets c a b) v) (same_Some (b.tickets + 1) k (sym (accepted_ticket a b) ∙ i)) (called ms c a b count w)
   | false ↦ λ i. absurd cc
 ] g
-  where
-    same : (x y : ℕ) → Some x ≡ Some y → x ≡ y
-    same x y h = cc
 
 call_new : (ms : List TicketMark) (c : ℕ) (q : Call) (b : Wire) (readings : Readings) (k : ℕ) → b.tickets ≡ many gives ms → awaits_reply (asked q) ≡ true → ticket_in (call_told c q b readings) ≡ Some k → New (ms ++ asking_tickets c (asked_by q (call_told c q b readings)) b) k
 call_new ms c q b readings k count w g =
@@ -221,7 +216,7 @@ call_new ms c q b readings k count w g =
       | true ↦ λ i. absurd cc
       | false ↦ λ i. (
           let plain : is_outstanding yes ≡ false = plain_record (is_allowed (asked q) (state_of c b)) (asked q) b (error.InvalidChannelState (state_of c b)) refl in
-          let same : asked_by q yes ≡ asked q = ap (λ v. cond (is_try q && v) ask.Nothing (asked q)) plain ∙ ap (λ v. cond v ask.Nothing (asked q)) (and_none (is_try q)) in
+          let same : asked_by q yes ≡ asked q = ap (λ v. cond (is_try q && v) ask.Nothing (asked q)) plain ∙ ap (λ v. cond v ask.Nothing (asked q)) (and_false (is_try q)) in
           subst (λ v. New (ms ++ asking_tickets c v b) k) (sym same) (asked_new ms c (asked q) b k count w i))
     ]) g
 

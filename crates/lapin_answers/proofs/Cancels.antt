@@ -46,6 +46,7 @@ use Rattle.lapin_answers.proofs.Running.{stands_in}
 use Rattle.lapin_answers.proofs.Standing.{AreAsks}
 use Rattle.lapin_answers.proofs.Tickets.{Answers, none_answers, resolved_is}
 use Rattle.lapin_answers.proofs.Turns.{Turn, Stays, Grows, Shrinks, Begins, Ends, Sinks}
+use Rattle.lapin_tables.proofs.Bools.{or_true}
 
 -- ---- an open cancel is of a call
 
@@ -55,10 +56,6 @@ cancel_asks n (r ∷ rs) h = by (cancel_asks n rs) (is_kind reply_kind.BasicCanc
   where
     or_more : (v : Bool) (xs : List Request) → list_any (λ (r : Request). is_ticket n r.ticket) (filter asks rs) ≡ true → list_any (λ (r : Request). is_ticket n r.ticket) (cond v (r ∷ filter asks rs) (filter asks rs)) ≡ true
     or_more true xs i = ap (λ v. is_ticket n r.ticket || v) i ∙ or_true (is_ticket n r.ticket)
-      where
-        or_true : (v : Bool) → (v || true) ≡ true
-        or_true true = refl
-        or_true false = refl
     or_more false xs i = i
 
     by : (list_any (λ (r : Request). is_ticket n r.ticket) (filter (is_kind reply_kind.BasicCancelOk) rs) ≡ true → list_any (λ (r : Request). is_ticket n r.ticket) (filter asks rs) ≡ true) → (v : Bool) → is_kind reply_kind.BasicCancelOk r ≡ v → list_any (λ (r : Request). is_ticket n r.ticket) (cond (asks r) (r ∷ filter asks rs) (filter asks rs)) ≡ true
@@ -204,10 +201,6 @@ on_is n (c ∷ cs) all a s = elim (either n (cancels_at c all) (cancels_on cs al
   | inl t ↦ (c, ap (λ v. v || list_any (λ d. d == c) cs) (eq-eqb c c refl), done_is n (filter (is_kind reply_kind.BasicCancelOk) (requests_in (at_channel c all))) (Ok a) t, done_answer n (filter (is_kind reply_kind.BasicCancelOk) (requests_in (at_channel c all))) a t)
   | inr t ↦ (let r = on_is n cs all a t in (r.0, ap (λ v. (c == r.0) || v) r.1 ∙ or_true (c == r.0), r.2, r.3))
 ]
-  where
-    or_true : (v : Bool) → (v || true) ≡ true
-    or_true true = refl
-    or_true false = refl
 
 pub on_gives : (cs : List ℕ) (all : List (ℕ × List Request)) → list_any gives (cancels_on cs all) ≡ false
 on_gives [] all = refl

@@ -1,9 +1,8 @@
 -- What an event does to the contents that a channel expects, where no frame of a content comes on it: they stay, or are dropped.
-use Rattle.std.proofs.Common.{◌≡◌, ◌∙◌, ℕ, ◌==◌, Bool, true, false, cond, not, ◌&&◌, List, [], ◌∷◌, ◌++◌, Option, Some, None, ◌⊎◌, inl, inr, refl, sym, ap, subst, eq-eqb}
-use Rattle.std.specs.Option.{option_or}
+use Rattle.std.proofs.Common.{◌≡◌, ℕ, ◌==◌, Bool, true, false, cond, not, ◌&&◌, [], Option, Some, None, ◌⊎◌, inl, inr, refl, sym, subst}
 use Rattle.std.proofs.lemmas.Bool.Decides.{eqb_tells}
-use Rattle.lapin_tables.specs.ByChannel.{at_channel, on_channel}
-use Rattle.lapin_tables.proofs.Channels.{at-push, at-on_other}
+use Rattle.lapin_tables.specs.ByChannel.{on_channel}
+use Rattle.lapin_tables.proofs.Channels.{or-none}
 use Rattle.lapin_types.specs.declared.acker_call.AckerCall.{AckerCall}
 use Rattle.lapin_types.specs.declared.event.Event.{Event}
 use Rattle.lapin_types.specs.declared.event.Event.TheVariants as event
@@ -14,8 +13,7 @@ use Rattle.lapin_types.specs.Types.error
 use Rattle.lapin_types.specs.Types.method
 use Rattle.lapin_types.specs.Types.basic
 use Rattle.lapin_types.specs.Types.channel
-use Rattle.lapin_content.specs.Contents.{Expected}
-use Rattle.lapin_content.specs.Channels.{Channels, expected_on, listed, joined, joined_at}
+use Rattle.lapin_content.specs.Channels.{expected_on}
 use Rattle.lapin_rules.specs.declared.broker_frames.ContentPart.{ContentPart}
 use Rattle.lapin_rules.specs.declared.broker_frames.ContentPart.TheVariants as part
 use Rattle.lapin_rules.specs.declared.broker_frames.ConsumerPart.{ConsumerPart}
@@ -51,6 +49,7 @@ use Rattle.lapin_consumer.specs.Subscriptions.{Consumer, consumer_at}
 use Rattle.lapin_effects.specs.Effects.{is_next}
 use Rattle.lapin_concord.proofs.Views.{contents_on_here, contents_on_away}
 use Rattle.lapin_answers.proofs.Happens.{income_in}
+use Rattle.lapin_concord.proofs.Coming.{joined_away}
 
 -- the event brings a frame of a content on the channel
 abbrev pub is_content_on : ℕ → Incoming → Bool
@@ -64,22 +63,6 @@ brings_content c (Some i) = is_content_on c i
 -- they are as they were, or there are none
 abbrev pub Kept : ℕ → Wire → Wire → Type 0
 Kept c b b' = (expected_on c b'.contents ≡ expected_on c b.contents) ⊎ (expected_on c b'.contents ≡ [])
-
--- ---- one more content on another channel
-
-or_none : {X : Type 0} (o : Option X) → option_or o None ≡ o
-or_none None = refl
-or_none (Some x) = refl
-
-pub joined_away : (d c : ℕ) (e : Expected) (all : Channels) → (d == c) ≡ false → expected_on c (joined d e all) ≡ expected_on c all
-joined_away d c e all n = by (at_channel d all)
-  where
-    apart : d ≡ c → ⊥
-    apart h = let w : true ≡ false = sym (eq-eqb d c h) ∙ n in cc
-
-    by : (o : Option (List Expected)) → expected_on c (joined_at o d e all) ≡ expected_on c all
-    by None = ap listed (at-push d c (e ∷ []) all ∙ (ap (λ v. option_or (at_channel c all) (cond v (Some (e ∷ [])) None)) n ∙ or_none (at_channel c all)))
-    by (Some es) = ap listed (at-on_other d c (λ es. es ++ e ∷ []) all apart)
 
 -- ---- calls
 

@@ -53,6 +53,7 @@ use Rattle.lapin_answers.proofs.Received.{unrefused, tickets_after}
 use Rattle.lapin_answers.proofs.Shuts.{close_requests, waiting_closes, first_in, shut_found}
 use Rattle.lapin_answers.proofs.Shutting.{handed_closes, Held, HeldAt, Owed, AreShut}
 use Rattle.lapin_answers.proofs.Tickets.{Answers, answers-append, new_answer, none_answers, resolved_is, resolved_gives}
+use Rattle.lapin_tables.proofs.Bools.{or_true}
 
 -- ---- the close whose ticket is open
 
@@ -183,10 +184,6 @@ done_is n (r ∷ rs) y a = elim (either n (resolved_with (Ok answer.Done) r.tick
   | inl s ↦ (let t : is_ticket n r.ticket ≡ true = ap (is_ticket n) (resolved_is n r.ticket (Ok answer.Done) y s).0 ∙ eq-eqb n n refl in ap (λ v. v || list_any (λ (r : Request). is_ticket n r.ticket) rs) t)
   | inr s ↦ (let t = done_is n rs y s in ap (λ v. is_ticket n r.ticket || v) t ∙ or_true (is_ticket n r.ticket))
 ]
-  where
-    or_true : (v : Bool) → (v || true) ≡ true
-    or_true true = refl
-    or_true false = refl
 
 failed_not : {P : Type 0} (n c : ℕ) (e : Error) (a : Answer) → Answers n (ticket.OpeningFailed c None e ∷ []) (Ok a) → P
 failed_not n c e a s = absurd (by (c == s.channel) s.is)

@@ -50,9 +50,10 @@ use Rattle.lapin_answers.proofs.Happens.{income_in}
 use Rattle.lapin_answers.proofs.Moving.{is_close_ok_in, place_down}
 use Rattle.lapin_answers.proofs.Moved.{event_move}
 use Rattle.lapin_answers.proofs.Okays.{okay_in}
-use Rattle.lapin_answers.proofs.Running.{lost_down}
 use Rattle.lapin_answers.proofs.Shuts.{close_requests, waiting_closes}
 use Rattle.lapin_answers.proofs.Shutting.{handed_closes, Held, Shutting, count_after, move_held, next_shutting}
+use Rattle.lapin_tables.proofs.Bools.{and_true, and_false}
+use Rattle.lapin_verdicts.proofs.Together.{lost_down}
 
 -- ---- a close-ok, as the session sorts it
 
@@ -60,19 +61,11 @@ abbrev is_ok_down : ℕ → DownOn DownF → Bool
 is_ok_down c (ToD d BCloseOk) = d == c
 is_ok_down c _ = false
 
-and_all : (v : Bool) → (v && true) ≡ v
-and_all true = refl
-and_all false = refl
-
-and_none : (v : Bool) → (v && false) ≡ false
-and_none true = refl
-and_none false = refl
-
 ok_kind : (c d : ℕ) (x : BrokerFrame) → is_ok_down c (down_kind d x) ≡ ((d == c) && is_close_ok_as x)
-ok_kind c d broker.CloseOk = sym (and_all (d == c))
-ok_kind c d broker.ConnectionClose = sym (and_none (d == c))
-ok_kind c d broker.ConnectionCloseOk = sym (and_none (d == c))
-ok_kind c d _ = sym (and_none (d == c))
+ok_kind c d broker.CloseOk = sym (and_true (d == c))
+ok_kind c d broker.ConnectionClose = sym (and_false (d == c))
+ok_kind c d broker.ConnectionCloseOk = sym (and_false (d == c))
+ok_kind c d _ = sym (and_false (d == c))
 
 ok_income : (c : ℕ) (i : Incoming) → is_ok_down c (income_as i) ≡ is_close_ok_in c (Some i)
 ok_income c (incoming.Reply d reply_kind.ChannelOpenOk a) = refl

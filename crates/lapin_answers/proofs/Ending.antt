@@ -38,8 +38,8 @@ use Rattle.lapin_rules.specs.Incoming.{incoming_of, frame_class, frame_method}
 use Rattle.lapin_rules.specs.Events.{record_of, after_event}
 use Rattle.lapin_consumer.specs.Subscriptions.{consumer_at, Consumer, is_idle}
 use Rattle.lapin_effects.specs.Effects.{is_next}
-use Rattle.lapin_answers.proofs.Lists.{lefts_of, and_none}
-use Rattle.lapin_answers.proofs.Turns.{At, entry, wanted, allowed_up, plain_record}
+use Rattle.lapin_answers.proofs.Lists.{lefts_of}
+use Rattle.lapin_answers.proofs.Turns.{At, entry, wanted}
 use Rattle.lapin_types.specs.declared.acker_call.AckerCall.{AckerCall}
 use Rattle.lapin_types.specs.declared.call.Call.{Call}
 use Rattle.lapin_types.specs.declared.leaving.Left.{Left}
@@ -81,6 +81,9 @@ use Rattle.std.proofs.lemmas.List.Elements.{filter-append}
 use Rattle.lapin_rules.specs.Unexpected.{unexpected_close}
 use Rattle.lapin_answers.specs.Closes.{is_end, is_end_left, IsEnd}
 use Rattle.lapin_answers.proofs.Moving.{IsInner, inner}
+use Rattle.lapin_tables.proofs.Bools.{and_false}
+use Rattle.lapin_rules.proofs.PhaseLaws.{kept_none, up_open, allowed_up}
+use Rattle.lapin_verdicts.proofs.Saying.{plain_record}
 
 -- ---- what is looked at
 
@@ -174,9 +177,6 @@ fewer_on d f all z h e = elim (eqb_tells d 0) [
   | inr n ↦ ap (filter ends_it) (requests_on_away d 0 f all n.0) ∙ e
 ]
 
-kept_empty : (p : ChannelPhase) → kept_at p [] ≡ []
-kept_empty p = elim (has_sent_close p) as (λ v. cond v (close_alone []) (no_requests []) ≡ []) [ true ↦ refl | false ↦ refl ]
-
 alone_fewer : (rs : List Request) → filter ends_it rs ≡ [] → filter ends_it (close_alone rs) ≡ []
 alone_fewer [] e = refl
 alone_fewer (r ∷ rs) e = by (alone_fewer rs) (ends_it r) refl (is_kind reply_kind.ChannelCloseOk r)
@@ -240,7 +240,7 @@ call_ending d k b readings =
           subst (E no) (sym none) (Same refl refl refl)
       | false ↦ λ h.
           let plain : is_outstanding yes ≡ false = plain_record (is_allowed (asked k) (state_of d b)) (asked k) b (error.InvalidChannelState (state_of d b)) refl in
-          let same : asked_by k yes ≡ asked k = ap (λ v. cond (is_try k && v) ask.Nothing (asked k)) plain ∙ ap (λ v. cond v ask.Nothing (asked k)) (and_none (is_try k)) in
+          let same : asked_by k yes ≡ asked k = ap (λ v. cond (is_try k && v) ask.Nothing (asked k)) plain ∙ ap (λ v. cond v ask.Nothing (asked k)) (and_false (is_try k)) in
           subst (E yes) (sym same) (asked_ending d k b (error.InvalidChannelState (state_of d b)))
     ] refl
 
@@ -319,7 +319,7 @@ module _ (e : Event) (x : Record) (class number : ℕ) where
 
   close_ending : (d : ℕ) (p : ChannelPhase) (b : Wire) → b.link ≡ link.Open → Ending e x b (after_channel_close d p b)
   close_ending d p b up = Calm up up (λ i. record {
-    requests = fewer_on d (kept_at p) b.requests (kept_empty p) (kept_fewer p) i.requests;
+    requests = fewer_on d (kept_at p) b.requests (kept_none p) (kept_fewer p) i.requests;
     waits = no_more_methods (filter (is_off method_channel d) b.methods) (note d (method.Channel channel.CloseOk)) refl (fewer_methods d b.methods i.waits);
   })
 
@@ -378,12 +378,6 @@ module _ (e : Event) (x : Record) (class number : ℕ) where
   down_receives (link.Closing s) b (incoming.ChannelClose d code) q z = Same refl refl refl
   down_receives (link.Closing s) b (incoming.ChannelCloseOk d) q z = Same refl refl refl
   down_receives (link.Closing s) b incoming.Other q z = Same refl refl refl
-
-  up_open : (l : ConnectionPhase) → is_up l ≡ true → l ≡ link.Open
-  up_open link.Open h = refl
-  up_open (link.Closing s) h = cc
-  up_open link.Closed h = cc
-  up_open link.Lost h = cc
 
   incoming_ending : (l : ConnectionPhase) (b : Wire) (readings : Readings) (i : Incoming) → b.link ≡ l → Ending e x b (incoming_wire i (incoming_record b readings no i) b)
   incoming_ending l b readings i q = subst (Hears e x b i) (sym is) (elim (is_up l) as (λ t. is_up l ≡ t → Hears e x b i (cond t (incoming_up b readings no i) (cond (receives_down l i) record_.Received record_.Passed))) [

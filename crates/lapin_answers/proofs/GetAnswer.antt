@@ -17,7 +17,7 @@ use Rattle.lapin_types.specs.Types.frame
 use Rattle.lapin_content.specs.declared.start.Start.{Start as Beginning}
 use Rattle.lapin_content.specs.declared.start.Start.TheVariants as start
 use Rattle.lapin_content.specs.declared.start.Whole.{Whole as Arrived}
-use Rattle.lapin_content.specs.Contents.{Begun, Expected, front_waits, front_takes, waits_for, takes_body, has_left, is_unbegun, begun_with, grown_by, grown, if_whole, is_zero, lacked, whole_with, heard_header, heard_body, refused_header, refused_body}
+use Rattle.lapin_content.specs.Contents.{Begun, Expected, front_waits, front_takes, waits_for, takes_body, has_place_for, is_unbegun, begun_with, grown_by, grown, if_whole, is_zero, lacked, whole_with, heard_header, heard_body, refused_header, refused_body}
 use Rattle.lapin_content.specs.Channels.{expected_on}
 use Rattle.lapin_rules.specs.declared.broker_frames.ContentPart.{ContentPart}
 use Rattle.lapin_rules.specs.declared.broker_frames.ContentPart.TheVariants as part
@@ -163,11 +163,11 @@ module _ (n : ℕ) (big : 4096 ≤ n) (k : ℕ) (ss : List Step) (message : Basi
     body_case d bytes is = part_comes d (part.Body bytes) (ap incoming_of is) (λ r may. by r (expected_on d b.contents) refl (and_parts (receives_on (state_of d b)) (front_takes bytes (expected_on d b.contents)) may).1)
       where
         begun : x ≡ record_.Received → (e : Expected) (es : List Expected) → expected_on d b.contents ≡ e ∷ es → takes_body bytes e ≡ true → (g : Option Begun) → e.begun ≡ g → Got n k ss message
-        begun r e es q w None z = let u : false ≡ true = ap (has_left bytes) (sym z) ∙ w in absurd cc
+        begun r e es q w None z = let u : false ≡ true = ap (has_place_for bytes) (sym z) ∙ w in absurd cc
         begun r e es q w (Some g) z =
             whole_by_part d (part.Body bytes) e es g.properties (g.bytes ++ bytes) ((g.left - length bytes) == 0) (ap incoming_of is) r (ap channel_of is) q
             (ap (λ v. whole_tickets d (next_acker b.deliveries) (whole_in (heard_body bytes v))) q ∙ ap (whole_tickets d (next_acker b.deliveries)) (body_makes bytes e es g z w))
-            (λ o s. ap (sent_after (on_way s e.begun)) is ∙ (ap (λ v. sent_after (on_way s v) (frame.Body d bytes)) z ∙ body_whole s d g bytes (ap (has_left bytes) (sym z) ∙ w) o))
+            (λ o s. ap (sent_after (on_way s e.begun)) is ∙ (ap (λ v. sent_after (on_way s v) (frame.Body d bytes)) z ∙ body_whole s d g bytes (ap (has_place_for bytes) (sym z) ∙ w) o))
 
         by : x ≡ record_.Received → (es : List Expected) → expected_on d b.contents ≡ es → front_takes bytes es ≡ true → Got n k ss message
         by r [] q w = absurd cc

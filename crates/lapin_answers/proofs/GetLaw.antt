@@ -22,12 +22,10 @@ use Rattle.lapin_rules.specs.declared.broker_frames.ContentPart.{ContentPart}
 use Rattle.lapin_rules.specs.declared.broker_frames.ContentPart.TheVariants as part
 use Rattle.lapin_rules.specs.declared.broker_frames.Incoming.{Incoming}
 use Rattle.lapin_rules.specs.declared.broker_frames.Incoming.TheVariants as incoming
-use Rattle.lapin_rules.specs.declared.phases.ConnectionPhase.{ConnectionPhase}
-use Rattle.lapin_rules.specs.declared.phases.ConnectionPhase.TheVariants as link
 use Rattle.lapin_consumer.specs.Subscriptions.{found}
 use Rattle.lapin_rules.specs.Content.{get_ticket, receives_part, after_part}
 use Rattle.lapin_rules.specs.Events.{after_event}
-use Rattle.lapin_rules.specs.Handing.{handed_out, began_on, after_handing, sent}
+use Rattle.lapin_rules.specs.Handing.{handed_out, began_on, after_handing}
 use Rattle.lapin_rules.specs.History.{History, Past, past, rec, readings_of}
 use Rattle.lapin_rules.specs.Incoming.{incoming_of, frame_class, frame_method}
 use Rattle.lapin_rules.specs.Leaving.{left_lists}
@@ -59,19 +57,23 @@ use Rattle.lapin_verdicts.proofs.TagCounts.{last-push, last-sent}
 use Rattle.lapin_verdicts.proofs.Leaving.{still_hears}
 use Rattle.lapin_verdicts.proofs.Numbering.{hears_live}
 use Rattle.lapin_verdicts.proofs.Runs.{past-push, joined-push, deeds-push}
-use Rattle.lapin_verdicts.proofs.Together.{in_step}
+use Rattle.lapin_verdicts.proofs.Together.{in_step, lost_down}
 use Rattle.lapin_answers.proofs.Turns as turn
 use Rattle.lapin_answers.proofs.Turns.{Turns, hears_down}
 use Rattle.lapin_answers.proofs.Happens.{income_in, event_turn}
 use Rattle.lapin_answers.proofs.Carried.{is_content_on, brings_content, event_kept}
 use Rattle.lapin_answers.proofs.Getting.{on_way}
 use Rattle.lapin_answers.proofs.Gets.{Kind, AsHeader, AsBody, AsGetOk, AsDeliver, AsReturn, AsOther, sort_kind, Getting, Gets, gets_none, getting_comes}
-use Rattle.lapin_answers.proofs.GetRun.{Steps, content_down, Carrying, gets_on, quiet_carried, carried_read, carried_send, carried_away, further, header_steps, body_steps, one_new, joined_here, PartComes, part_heard, front_is}
+use Rattle.lapin_answers.proofs.GetRun.{Steps, content_down, Carrying, gets_on, quiet_carried, carried_read, carried_send, carried_away, further, header_steps, body_steps, PartComes, part_heard, front_is}
 use Rattle.lapin_answers.proofs.Lets.{handing_still}
-use Rattle.lapin_answers.proofs.Running.{lost_down}
 use Rattle.lapin_answers.proofs.Received.{unrefused, wire_after}
 use Rattle.lapin_answers.proofs.Replying.{IsReply, Replied, met}
 use Rattle.lapin_answers.proofs.Standing.{call_more}
+use Rattle.lapin_rules.proofs.PhaseLaws.{up_open}
+use Rattle.lapin_tables.proofs.Bools.{not_both}
+use Rattle.lapin_messages.proofs.Requests.{sent_contents}
+use Rattle.lapin_messages.proofs.Comings.{alone}
+use Rattle.lapin_concord.proofs.Coming.{joined_here}
 
 -- ---- one content at a time
 
@@ -81,21 +83,11 @@ held_in n r ss =
     let s = sound_run ss (new_joint (new_world n) n) (new_sound n r) in
     subst Held a.session.wire s.held
 
-up_open : (l : ConnectionPhase) → is_up l ≡ true → l ≡ link.Open
-up_open link.Open h = refl
-up_open (link.Closing s) h = absurd cc
-up_open link.Closed h = absurd cc
-up_open link.Lost h = absurd cc
-
 one_content : (c : ℕ) (b : Wire) → Held b → is_up b.link ≡ true → IsOneContent (expected_on c b.contents)
 one_content c b k u = ((k.up (up_open b.link u)).each c).contents
 
 hears_up : (c : ℕ) (b : Wire) → hears c b ≡ true → is_up b.link ≡ true
 hears_up c b h = (and_parts (is_up b.link) (is_live (phase_of c b)) (hears_live c b h)).0
-
-not_both : (v : Bool) → v ≡ true → v ≡ false → ⊥
-not_both true t f = cc
-not_both false t f = cc
 
 -- ---- a channel that was heard, and is no more
 
@@ -207,7 +199,7 @@ module _ (n c : ℕ) (big : 4096 ≤ n) where
         let held : Held b' = subst Held (wire_after n ss f fs down) (held_in n big (ss ++ step.Deliver ∷ [])) in
         let link_is : b'.link ≡ b.link = ap (λ v. (incoming_wire v x b).link) is ∙ (ap (λ v. (incoming_wire (incoming.Content c p) v b).link) r ∙ same) in
         let left : expected_on c b'.contents ≡ expected_on c b.contents ++ e ∷ [] = ap (λ v. expected_on c (incoming_wire v x b).contents) is ∙ (ap (λ v. expected_on c (incoming_wire (incoming.Content c p) v b).contents) r ∙ (ap (expected_on c) joins ∙ joined_here c e b.contents)) in
-        one_new (expected_on c b.contents) e (subst IsOneContent left (one_content c b' held (ap is_up link_is ∙ hears_up c b u)))
+        alone (expected_on c b.contents) e (subst IsOneContent left (one_content c b' held (ap is_up link_is ∙ hears_up c b u)))
 
     -- the content of a get begins with the answer to that very get
     get_begins : (d tag : ℕ) (redelivered : Bool) (exchange key : List ℕ) (count : ℕ) → f ≡ frame.Method d (method.Basic (basic.GetOk tag redelivered exchange key count)) → d ≡ c → hears c b ≡ true → (k : ℕ) → get_ticket c b ≡ Some k → Getting c k h' (Get tag redelivered exchange key count) None fs opened
@@ -288,10 +280,6 @@ module _ (n c : ℕ) (big : 4096 ≤ n) where
 
   calm : (h : History) (e : Event) (down : List Frame) (opened : List Deed) → is_next e ≡ false → income_in e ≡ None → Carrying c h (past n h).wire down opened → Carrying c (on_event h e) (past n (on_event h e)).wire down opened
   calm h e down opened apart none s = to_event h e down opened (quiet_carried c h e (rec n h e) (past n h).wire (after_event (past n h).wire e (rec n h e)) down opened (event_turn c (past n h).wire (see h) e apart) (event_kept c (past n h).wire e (rec n h e) apart (ap (brings_content c) none)) s)
-
-  sent_contents : (o : Option Left) (b : Wire) → (sent o b).contents ≡ b.contents
-  sent_contents None b = refl
-  sent_contents (Some l) b = refl
 
   next_carried : (h : History) (flow : Bool) (down : List Frame) (opened : List Deed) → Carrying c h (past n h).wire down opened → Carrying c (on_event h (event.Next flow)) (past n (on_event h (event.Next flow))).wire down opened
   next_carried h flow down opened s =

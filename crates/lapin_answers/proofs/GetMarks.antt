@@ -41,6 +41,7 @@ use Rattle.lapin_concord.specs.Refusals.{is_refusal}
 use Rattle.lapin_verdicts.proofs.Turns.{any-less}
 use Rattle.lapin_answers.proofs.Gets.{IsQuiet, brings_message}
 use Rattle.lapin_answers.proofs.Tickets.{Answers, none_answers, resolved_is}
+use Rattle.lapin_tables.proofs.Bools.{or_true}
 
 -- ---- marks that bring a message
 
@@ -76,10 +77,6 @@ message_among : (n c : ℕ) (l : AtLeaving) (b : Bool) (xs : List TicketMark) (m
 message_among n c l b [] message h = absurd cc
 message_among n c l b (m ∷ xs) message h = by (message_among n c l (b || begins n m) xs message) (answer_by n c l b m) refl h
   where
-    or_true : (v : Bool) → (v || true) ≡ true
-    or_true true = refl
-    or_true false = refl
-
     by : (first_answer n c l (b || begins n m) xs ≡ Some (Ok (answer.Got (Some message))) → list_any tells xs ≡ true) → (o : Option (Result Answer Error)) → answer_by n c l b m ≡ o → option_or o (first_answer n c l (b || begins n m) xs) ≡ Some (Ok (answer.Got (Some message))) → list_any tells (m ∷ xs) ≡ true
     by i None e k = ap (λ v. tells m || v) (i k) ∙ or_true (tells m)
     by i (Some y) e k = ap (λ v. v || list_any tells xs) (message_mark n c l b m message (e ∙ k))

@@ -1,10 +1,8 @@
 -- So it is in every joined run; and the message of a get's ticket is the content that was sent after its answer.
-use Rattle.std.proofs.Common.{◌≡◌, ◌∙◌, ℕ, ◌==◌, Bool, true, false, cond, nat_le, ◌-◌, List, [], ◌∷◌, ◌++◌, length, Option, Some, None, ◌⊎◌, inl, inr, refl, sym, ap, subst, eq-eqb}
+use Rattle.std.proofs.Common.{◌≡◌, ◌∙◌, ℕ, ◌==◌, Bool, true, false, cond, nat_le, ◌-◌, List, [], ◌∷◌, ◌++◌, length, Option, Some, None, ◌⊎◌, inl, inr, refl, sym, ap, subst}
 use Rattle.std.specs.List.{filter}
 use Rattle.std.proofs.lemmas.Bool.{and_parts}
-use Rattle.lapin_tables.specs.ByChannel.{at_channel}
-use Rattle.lapin_tables.proofs.Channels.{at-push, at-on_same}
-use Rattle.std.specs.Option.{option_map, option_or}
+use Rattle.std.specs.Option.{option_map}
 use Rattle.lapin_types.specs.declared.event.Event.{Event}
 use Rattle.lapin_methods.specs.declared.frame.ContentHeader.{ContentHeader}
 use Rattle.lapin_types.specs.declared.leaving.Left.{Left}
@@ -12,10 +10,9 @@ use Rattle.lapin_types.specs.declared.record.Record.{Record}
 use Rattle.lapin_types.specs.declared.record.Record.TheVariants as record_
 use Rattle.lapin_types.specs.Types.{Frame}
 use Rattle.lapin_types.specs.Types.frame
-use Rattle.lapin_content.specs.Contents.{Begun, Expected, front_waits, front_takes, has_left, is_unbegun, begun_with, grown_by, grown, unless_whole, after_header, after_body, is_whole, is_zero, lacked}
-use Rattle.lapin_content.specs.Channels.{Channels, expected_on, listed, joined, joined_at}
+use Rattle.lapin_content.specs.Contents.{Begun, Expected, front_waits, front_takes, has_place_for, is_unbegun, begun_with, grown_by, grown, unless_whole, after_header, after_body, is_whole, is_zero, lacked}
+use Rattle.lapin_content.specs.Channels.{expected_on}
 use Rattle.lapin_rules.specs.declared.broker_frames.ContentPart.{ContentPart}
-use Rattle.lapin_rules.specs.declared.broker_frames.ContentPart.TheVariants as part
 use Rattle.lapin_rules.specs.declared.broker_frames.Incoming.{Incoming}
 use Rattle.lapin_rules.specs.declared.broker_frames.Incoming.TheVariants as incoming
 use Rattle.lapin_rules.specs.declared.phases.ConnectionPhase.{ConnectionPhase}
@@ -27,7 +24,7 @@ use Rattle.lapin_rules.specs.Phases.{is_up}
 use Rattle.lapin_rules.specs.Readings.{Readings}
 use Rattle.lapin_rules.specs.Receiving.{incoming_record, when}
 use Rattle.lapin_rules.specs.Unexpected.{refused}
-use Rattle.lapin_rules.specs.Wire.{Wire, state_of, receives_on}
+use Rattle.lapin_rules.specs.Wire.{Wire}
 use Rattle.lapin_broker.specs.Frames.{channel_of}
 use Rattle.lapin_effects.specs.Effects.{hears}
 use Rattle.lapin_concord.specs.Refusals.{is_refusal}
@@ -41,16 +38,15 @@ use Rattle.lapin_answers.proofs.Carried.{Kept}
 use Rattle.lapin_answers.proofs.Getting.{on_way, header_on, body_on}
 use Rattle.lapin_answers.proofs.Gets.{Gets, gets_none, getting_on, getting_read, getting_send, getting_away, getting_comes}
 use Rattle.lapin_concord.specs.Held.{IsOneContent}
+use Rattle.lapin_tables.proofs.Bools.{not_both}
+use Rattle.lapin_messages.proofs.Comings.{alone}
+use Rattle.lapin_messages.proofs.Hearing.{part_on}
 
 -- ---- what is kept
 
 pub record Carrying (c : ℕ) (h : History) (b : Wire) (down : List Frame) (opened : List Deed) : Type 0 where
   pub silent : hears c b ≡ false → expected_on c b.contents ≡ []
   pub gets : Gets c h (expected_on c b.contents) down opened
-
-not_both : (v : Bool) → v ≡ true → v ≡ false → ⊥
-not_both true t f = cc
-not_both false t f = cc
 
 -- where the session hears the channel no more nothing is expected there
 pub silent_kept : (c : ℕ) (e : Event) (x : Record) (i : Option Incoming) (b b' : Wire) → Turns c e x i b b' → Kept c b b' → (hears c b ≡ false → expected_on c b.contents ≡ []) → hears c b' ≡ false → expected_on c b'.contents ≡ []
@@ -130,11 +126,11 @@ body_steps d bytes (e ∷ y ∷ es) w o e' more is = absurd o
 body_steps d bytes (e ∷ []) w o e' more is = begun e.begun refl
   where
     begun : (g : Option Begun) → e.begun ≡ g → (x : Expected) × (rest : List Expected) × ((e ∷ []) ≡ x ∷ rest) × (e'.start ≡ x.start) × ((s : Start) → sent_after (on_way s x.begun) (frame.Body d bytes) ≡ on_way s e'.begun)
-    begun None q = let z : false ≡ true = ap (has_left bytes) (sym q) ∙ w in absurd cc
+    begun None q = let z : false ≡ true = ap (has_place_for bytes) (sym q) ∙ w in absurd cc
     begun (Some g) q = by ((g.left - length bytes) == 0) refl
       where
         fits : nat_le (length bytes) g.left ≡ true
-        fits = ap (has_left bytes) (sym q) ∙ w
+        fits = ap (has_place_for bytes) (sym q) ∙ w
 
         whole : is_whole (grown_by bytes e) ≡ ((g.left - length bytes) == 0)
         whole = ap (λ v. is_zero (lacked (option_map (grown bytes) v))) q
@@ -149,33 +145,12 @@ body_steps d bytes (e ∷ []) w o e' more is = begun e.begun refl
             let now : e'.begun ≡ Some (grown bytes g) = ap (λ (v : Expected). v.begun) same ∙ ap (option_map (grown bytes)) q in
             (e, [], refl, ap (λ (v : Expected). v.start) same, λ s. ap (λ v. sent_after (on_way s v) (frame.Body d bytes)) q ∙ (body_on s d g bytes fits z ∙ ap (on_way s) (sym now)))
 
--- ---- a content begins
-
-pub one_new : (es : List Expected) (e : Expected) → IsOneContent (es ++ e ∷ []) → es ≡ []
-one_new [] e o = refl
-one_new (x ∷ []) e o = absurd o
-one_new (x ∷ y ∷ es) e o = absurd o
-
-pub joined_here : (c : ℕ) (e : Expected) (all : Channels) → expected_on c (joined c e all) ≡ expected_on c all ++ e ∷ []
-joined_here c e all = by (at_channel c all) refl
-  where
-    by : (o : Option (List Expected)) → at_channel c all ≡ o → expected_on c (joined_at o c e all) ≡ expected_on c all ++ e ∷ []
-    by None h = ap listed (at-push c c (e ∷ []) all ∙ (ap (λ v. option_or v (cond (c == c) (Some (e ∷ [])) None)) h ∙ ap (λ v. option_or None (cond v (Some (e ∷ [])) None)) (eq-eqb c c refl))) ∙ ap (λ v. listed v ++ e ∷ []) (sym h)
-    by (Some es) h = ap listed (at-on_same c (λ es. es ++ e ∷ []) all ∙ ap (option_map (λ es. es ++ e ∷ [])) h) ∙ ap (λ v. listed v ++ e ∷ []) (sym h)
-
 -- ---- a part that isn't refused is received on a channel that is heard, or passed over once the connection isn't open
 
 pub record PartHeard (c : ℕ) (p : ContentPart) (b : Wire) (x : Record) : Type 0 where
   pub received : x ≡ record_.Received
   pub hears : hears c b ≡ true
   pub may : receives_part c p b ≡ true
-
-part_hears : (c : ℕ) (p : ContentPart) (b : Wire) → receives_part c p b ≡ true → hears c b ≡ true
-part_hears c (part.GetOk s) b h = (and_parts (receives_on (state_of c b)) _ h).0
-part_hears c (part.Return s) b h = h
-part_hears c (part.Deliver tag s) b h = h
-part_hears c (part.Header x) b h = (and_parts (receives_on (state_of c b)) _ h).0
-part_hears c (part.Body bytes) b h = (and_parts (receives_on (state_of c b)) _ h).0
 
 pub content_down : (c : ℕ) (p : ContentPart) (l : ConnectionPhase) → receives_down l (incoming.Content c p) ≡ false
 content_down c p link.Open = refl
@@ -188,7 +163,7 @@ abbrev pub PartComes : ℕ → ContentPart → Wire → Record → Type 0
 PartComes c p b x = PartHeard c p b x ⊎ ((x ≡ record_.Passed) × (is_up b.link ≡ false))
 
 part_when : (c : ℕ) (p : ContentPart) (b : Wire) (r : Record) (v : Bool) → is_refusal r ≡ true → receives_part c p b ≡ v → is_refusal (when v r) ≡ false → PartComes c p b (when v r)
-part_when c p b r true q e f = inl (record { received = refl; hears = part_hears c p b e; may = e })
+part_when c p b r true q e f = inl (record { received = refl; hears = part_on c p b e; may = e })
 part_when c p b r false q e f = let w : true ≡ false = sym q ∙ f in absurd cc
 
 pub part_heard : (c : ℕ) (p : ContentPart) (class number : ℕ) (b : Wire) (readings : Readings) → is_refusal (incoming_record b readings (refused class number) (incoming.Content c p)) ≡ false → PartComes c p b (incoming_record b readings (refused class number) (incoming.Content c p))

@@ -60,6 +60,8 @@ use Rattle.lapin_verdicts.specs.Answers.{awaits_as}
 use Rattle.lapin_answers.proofs.Rows.{is_reply_down, asked_comes}
 use Rattle.lapin_answers.proofs.Lists.{asks, open_asks, is_ask_on, lefts_of, waiting_asks, without_other, without_away, without_here, on_other, ended_here, ended_none, quiet_ask, waits_same, waits_gone, waits_away}
 use Rattle.lapin_answers.proofs.Turns.{Stays, Shrinks, Begins, Ends, Sinks, Turns, At, entry, hears_at, hears_down, hear_away, hear_here, moved_turn}
+use Rattle.lapin_rules.proofs.PhaseLaws.{up_open, opens_only, lost_down, open_hears_no_ok}
+use Rattle.lapin_answers.proofs.Phases.{closed_hears_no_ok, opening_hears_no_ok}
 
 -- ---- what is queued by no call
 
@@ -68,12 +70,6 @@ note d m = entry d m None
 
 abbrev Hears : ℕ → Event → Record → Wire → Incoming → Record → Type 0
 Hears c e x b i r = Turns c e x (Some i) b (incoming_wire i r b)
-
-up_open : (l : ConnectionPhase) → is_up l ≡ true → l ≡ link.Open
-up_open link.Open h = refl
-up_open (link.Closing s) h = cc
-up_open link.Closed h = cc
-up_open link.Lost h = cc
 
 noted_same : (c d : ℕ) (m : Method) (b : Wire) → awaits_as (client_frame (frame.Method d m)) ≡ false → waiting_asks c (noted d m b) ≡ waiting_asks c b
 noted_same c d m b h = waits_same c b.methods (note d m) (quiet_ask c (note d m) h)
@@ -147,17 +143,13 @@ module _ (c : ℕ) (e : Event) (x : Record) (class number : ℕ) where
       here : cond (opens k) (is_opening (state_of d b)) (receives_on (state_of d b)) ≡ true
       here = (and_parts (receives k (state_of d b)) (is_some (first_request k (requests_of d b))) h).0
 
-      kind_opens : (k : ReplyKind) → opens k ≡ true → k ≡ reply_kind.ChannelOpenOk
-      kind_opens reply_kind.ChannelOpenOk o = refl
-      kind_opens _ o = absurd cc
-
       by : (v w : Bool) → is_asked k ≡ v → opens k ≡ w → Hears c e x b (incoming.Reply d k a) record_.Received
       by true w q o =
           let p = asked_phases d k b.phases q in
           let on : hears d b ≡ true = ap (λ v. cond v (is_opening (state_of d b)) (receives_on (state_of d b))) (sym p.1) ∙ here in
           taken d k (incoming.Reply d k a) b (after_reply d k b) refl p.0 refl refl q (λ z. (false, asked_comes d k a q)) on
       by false true q o =
-          let is = kind_opens k o in
+          let is = opens_only k o in
           let on : is_opening (At (d == 0) (phase_of d b)) ≡ true = ap is_opening (sym (state_up d b up)) ∙ (ap (λ v. cond v (is_opening (state_of d b)) (receives_on (state_of d b))) (sym o) ∙ here) in
           subst (λ v. Hears c e x b (incoming.Reply d v a) record_.Received) (sym is) (opened d a b up on)
       by false false q o = closed_reply d k a b o q
@@ -248,21 +240,9 @@ module _ (c : ℕ) (e : Event) (x : Record) (class number : ℕ) where
         Stays refl (now ∙ sym deaf) (on_other c d reply_kind.ChannelCloseOk b.requests refl) refl
     | inr n ↦ Stays refl (hear_away c d phase.Closed b (after_close_ok d phase.Crossed b) refl refl n.0) (on_other c d reply_kind.ChannelCloseOk b.requests refl) refl
   ]
-  answered d phase.Closed b q a up = absurd (never (d == 0) a)
-    where
-      never : (z : Bool) → receives_close_ok (At z phase.Closed) ≡ true → ⊥
-      never true h = cc
-      never false h = cc
-  answered d phase.Opening b q a up = absurd (never (d == 0) a)
-    where
-      never : (z : Bool) → receives_close_ok (At z phase.Opening) ≡ true → ⊥
-      never true h = cc
-      never false h = cc
-  answered d (phase.Open paused) b q a up = absurd (never (d == 0) a)
-    where
-      never : (z : Bool) → receives_close_ok (cond z state.Base state.Open) ≡ true → ⊥
-      never true h = cc
-      never false h = cc
+  answered d phase.Closed b q a up = absurd (closed_hears_no_ok (d == 0) a)
+  answered d phase.Opening b q a up = absurd (opening_hears_no_ok (d == 0) a)
+  answered d (phase.Open paused) b q a up = absurd (open_hears_no_ok (d == 0) a)
 
   -- ---- contents and consumers
 
@@ -342,9 +322,3 @@ lost_turn c e x b = elim (is_lost b.link) as (λ t. is_lost b.link ≡ t → Tur
   | true ↦ λ h. Sinks (hears_down c b (lost_down b.link h)) (hears_down c b (lost_down b.link h)) (λ v. v) (λ v. v)
   | false ↦ λ h. Ends refl refl refl refl
 ] refl
-  where
-    lost_down : (l : ConnectionPhase) → is_lost l ≡ true → is_up l ≡ false
-    lost_down link.Open h = cc
-    lost_down (link.Closing s) h = refl
-    lost_down link.Closed h = refl
-    lost_down link.Lost h = refl

@@ -28,9 +28,10 @@ use Rattle.lapin_verdicts.specs.Deeds.{is_open}
 use Rattle.lapin_verdicts.specs.InStep.{is_open_on}
 use Rattle.lapin_verdicts.proofs.Leaving.{Alike, alike_same, alike_closed, Still, still_live, still_hears}
 use Rattle.lapin_verdicts.proofs.Numbering.{AreRest, is_content}
-use Rattle.lapin_verdicts.proofs.Opens.{many-none, unsent, content_open, sent_methods, sent_up, next_waits}
+use Rattle.lapin_verdicts.proofs.Opens.{unsent, content_open, sent_methods, sent_up, next_waits}
 use Rattle.lapin_answers.proofs.Lists.{asks, open_asks, is_ask_on, lefts_of, waiting_asks}
 use Rattle.lapin_answers.proofs.Standing.{next_ask, handed_asks, AreAsks, asks_more, Standing}
+use Rattle.lapin_rules.proofs.ListLaws.{many-none}
 
 -- ---- frames
 
@@ -114,9 +115,6 @@ none_in : {X : Type 0} (p : X → Bool) (xs : List X) → many p xs ≡ 0 → li
 none_in p [] h = refl
 none_in p (x ∷ xs) h = elim (p x) as (λ v. cond v (many p xs + 1) (many p xs) ≡ 0 → (v || list_any p xs) ≡ false) [ true ↦ λ e. (let z : ⊥ = omega (arith, e) in absurd z) | false ↦ λ e. none_in p xs e ] h
 
-some_in : {X : Type 0} (p : X → Bool) (xs : List X) → list_any p xs ≡ false → many p xs ≡ 0
-some_in p xs h = many-none p xs h
-
 phases_alike : (c : ℕ) (f : Frame) (all : List (ℕ × ChannelPhase)) → Alike c all (phases_sent f all)
 phases_alike c (frame.Method d (method.Channel (channel.Close code text class number))) all = alike_closed c d all
 phases_alike c _ all = alike_same c all
@@ -167,7 +165,7 @@ next_kept c d t h e x b ls down k rest shut s =
         let f' : hears c b ≡ false = sym (still_hears c b b' still) ∙ f in
         let l' : live c b ≡ true = sym (still_live c b b' still) ∙ l in
         let gone = (next_waits c d t b rest).1 in
-        let none = some_in (is_open_on c) (left_alone o) n in
+        let none = many-none (is_open_on c) (left_alone o) n in
         let z' : unsent c b ≡ 0 = omega (arith, gone, none, z) in
         let q = s.quiet f' in
         let was : handed_asks c ls ≡ [] = s.begun l' f' z' in

@@ -37,3 +37,4 @@ pub mod Causes
 pub mod Awaited
 pub mod OneCause
 pub mod Whole
+pub mod Phases

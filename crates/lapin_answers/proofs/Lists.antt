@@ -22,6 +22,8 @@ use Rattle.lapin_concord.specs.Wires.{reply_number, is_asked}
 use Rattle.lapin_concord.proofs.Incomes.{kinds_tell}
 use Rattle.lapin_concord.proofs.Views.{requests_at, requests_with_here, requests_away, requests_on_here, requests_on_away}
 use Rattle.lapin_verdicts.specs.Answers.{awaits_as, awaits}
+use Rattle.lapin_tables.proofs.Bools.{and_false}
+use Rattle.lapin_concord.proofs.Ending.{first_is}
 
 -- ---- what asks
 
@@ -103,13 +105,6 @@ asks-first k (r ∷ rs) a = by (asks-first k rs a) (is_kind k r) (asks r) refl r
     by i false true e f = rw (e, f, e) i
     by i false false e f = rw (e, f) i
 
-first_is : (k : ReplyKind) (rs : List Request) (r : Request) → first_request k rs ≡ Some r → is_kind k r ≡ true
-first_is k [] r h = absurd cc
-first_is k (x ∷ xs) r h = (elim (is_kind k x) as (λ b. is_kind k x ≡ b → cond b (Some x) (first_request k xs) ≡ Some r → is_kind k r ≡ true) [
-  | true ↦ λ e h. let y : x ≡ r = cc in ap (is_kind k) (sym y) ∙ e
-  | false ↦ λ e h. first_is k xs r h
-]) refl h
-
 -- where closes crossed no request stays open that asks
 pub kept_none : (p : ChannelPhase) (rs : List Request) → filter asks (kept_at p rs) ≡ []
 kept_none p rs = elim (has_sent_close p) as (λ b. filter asks (cond b (close_alone rs) (no_requests rs)) ≡ []) [
@@ -165,12 +160,8 @@ ended_none c all = ap (filter asks) (requests_on_here c no_requests all refl)
 
 -- ---- methods
 
-pub and_none : (v : Bool) → (v && false) ≡ false
-and_none true = refl
-and_none false = refl
-
 pub quiet_ask : (c : ℕ) (m : MethodEntry) → awaits_as (client_frame (frame.Method m.channel m.method)) ≡ false → is_ask_on c (left_method m) ≡ false
-quiet_ask c m h = ap (λ v. (m.channel == c) && v) h ∙ and_none (m.channel == c)
+quiet_ask c m h = ap (λ v. (m.channel == c) && v) h ∙ and_false (m.channel == c)
 
 pub away_ask : (c : ℕ) (m : MethodEntry) → (m.channel == c) ≡ false → is_ask_on c (left_method m) ≡ false
 away_ask c m h = ap (λ v. v && awaits (left_method m)) h

@@ -16,7 +16,6 @@ use Rattle.lapin_types.specs.Types.basic
 use Rattle.lapin_types.specs.Types.channel
 use Rattle.lapin_types.specs.Types.connection
 use Rattle.lapin_types.specs.Types.error
-use Rattle.lapin_types.specs.Types.channel_state as state
 use Rattle.lapin_rules.specs.declared.marks.Settlement.{Settlement}
 use Rattle.lapin_rules.specs.declared.broker_frames.ConsumerPart.{ConsumerPart}
 use Rattle.lapin_rules.specs.declared.broker_frames.ConsumerPart.TheVariants as consumer
@@ -69,6 +68,8 @@ use Rattle.lapin_answers.proofs.Lists.{lefts_of}
 use Rattle.lapin_answers.proofs.Shuts.{close_requests, waiting_closes, shuts, asked_apart, shut_without, shut_taken_here, shut_on_away, shut_kept, shut_none, closes_same, closes_grow, no_close, close_off, close_on, closes_gone, closes_away}
 use Rattle.lapin_answers.proofs.Moving.{Moves, Stays, Passes, Breaks, Ends, Closes, Uncrosses, Falls, is_crossed_at, place_of, place_in, is_close_ok_in, place_up, place_down, place_here, place_away, open_is, call_move, acker_move, let_go_move}
 use Rattle.lapin_answers.proofs.Turns.{At, entry}
+use Rattle.lapin_rules.proofs.PhaseLaws.{up_open, opens_only, lost_down, open_hears_no_ok}
+use Rattle.lapin_answers.proofs.Phases.{closed_hears_no_ok, opening_hears_no_ok}
 
 -- no frame is sorted as a reply that is a close-ok, of a channel or of the connection
 abbrev pub is_plain : Incoming → Bool
@@ -81,12 +82,6 @@ note d m = entry d m None
 
 abbrev Hears : ℕ → Event → Record → Wire → Incoming → Record → Type 0
 Hears c e x b i r = Moves c e x (Some i) b (incoming_wire i r b)
-
-up_open : (l : ConnectionPhase) → is_up l ≡ true → l ≡ link.Open
-up_open link.Open h = refl
-up_open (link.Closing s) h = cc
-up_open link.Closed h = cc
-up_open link.Lost h = cc
 
 noted_same : (c d : ℕ) (m : Method) (b : Wire) → is_close m ≡ false → waiting_closes c (noted d m b) ≡ waiting_closes c b
 noted_same c d m b h = closes_same c b.methods (note d m) (no_close c (note d m) h)
@@ -146,14 +141,10 @@ module _ (c : ℕ) (e : Event) (x : Record) (class number : ℕ) where
       here : cond (opens k) (is_opening (state_of d b)) (receives_on (state_of d b)) ≡ true
       here = (and_parts (receives k (state_of d b)) (is_some (first_request k (requests_of d b))) h).0
 
-      kind_opens : (k : ReplyKind) → opens k ≡ true → k ≡ reply_kind.ChannelOpenOk
-      kind_opens reply_kind.ChannelOpenOk o = refl
-      kind_opens _ o = absurd cc
-
       by : (v w : Bool) → is_asked k ≡ v → opens k ≡ w → Hears c e x b (incoming.Reply d k a) record_.Received
       by true w q o = taken d k (incoming.Reply d k a) b (after_reply d k b) refl refl (asked_phases d k b.phases q) refl refl (asked_apart k q)
       by false true q o =
-          let is = kind_opens k o in
+          let is = opens_only k o in
           let on : is_opening (At (d == 0) (phase_of d b)) ≡ true = ap is_opening (sym (state_up d b up)) ∙ (ap (λ v. cond v (is_opening (state_of d b)) (receives_on (state_of d b))) (sym o) ∙ here) in
           subst (λ v. Hears c e x b (incoming.Reply d v a) record_.Received) (sym is) (opened d a b up on)
       by false false q o = closed_reply d k a b plain o q
@@ -247,21 +238,9 @@ module _ (c : ℕ) (e : Event) (x : Record) (class number : ℕ) where
         refl)
     | inr n ↦ Stays n.0 (place_away c d phase.Closed b (after_close_ok d phase.Crossed b) refl refl n.0) (shut_on_away c d (without_kind reply_kind.ChannelCloseOk) b.requests n.0) refl
   ]
-  answered d phase.Closed b q a up = absurd (never (d == 0) a)
-    where
-      never : (z : Bool) → receives_close_ok (At z phase.Closed) ≡ true → ⊥
-      never true h = cc
-      never false h = cc
-  answered d phase.Opening b q a up = absurd (never (d == 0) a)
-    where
-      never : (z : Bool) → receives_close_ok (At z phase.Opening) ≡ true → ⊥
-      never true h = cc
-      never false h = cc
-  answered d (phase.Open paused) b q a up = absurd (never (d == 0) a)
-    where
-      never : (z : Bool) → receives_close_ok (cond z state.Base state.Open) ≡ true → ⊥
-      never true h = cc
-      never false h = cc
+  answered d phase.Closed b q a up = absurd (closed_hears_no_ok (d == 0) a)
+  answered d phase.Opening b q a up = absurd (opening_hears_no_ok (d == 0) a)
+  answered d (phase.Open paused) b q a up = absurd (open_hears_no_ok (d == 0) a)
 
   -- ---- contents and consumers
 
@@ -332,12 +311,6 @@ lost_move c e x b = elim (is_lost b.link) as (λ t. is_lost b.link ≡ t → Mov
   | true ↦ λ h. Falls (place_down c b (lost_down b.link h))
   | false ↦ λ h. Falls refl
 ] refl
-  where
-    lost_down : (l : ConnectionPhase) → is_lost l ≡ true → is_up l ≡ false
-    lost_down link.Open h = cc
-    lost_down (link.Closing s) h = refl
-    lost_down link.Closed h = refl
-    lost_down link.Lost h = refl
 
 -- ---- how frames are sorted
 

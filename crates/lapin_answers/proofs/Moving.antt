@@ -49,10 +49,12 @@ use Rattle.lapin_concord.proofs.Views.{phase_at, phase_with, phase_away}
 use Rattle.lapin_concord.specs.Wires.{is_asked}
 use Rattle.lapin_concord.proofs.Incomes.{kinds_tell}
 use Rattle.lapin_answers.specs.Closes.{is_close, is_end, IsClose}
-use Rattle.lapin_answers.proofs.Lists.{and_none}
 use Rattle.lapin_answers.proofs.Rows.{Row, RowOf, row_of}
 use Rattle.lapin_answers.proofs.Shuts.{asked_apart, close_requests, waiting_closes, first_of, rest_of, shuts, shut_with_here, shut_with_away, shut_with_other, closes_same, closes_grow, no_close, close_off, close_on}
-use Rattle.lapin_answers.proofs.Turns.{At, entry, wanted, allowed_up, plain_record}
+use Rattle.lapin_answers.proofs.Turns.{At, entry, wanted}
+use Rattle.lapin_tables.proofs.Bools.{and_false}
+use Rattle.lapin_verdicts.proofs.Saying.{plain_record}
+use Rattle.lapin_rules.proofs.PhaseLaws.{allowed_up}
 
 -- ---- where a channel stands while the connection is open
 
@@ -228,7 +230,7 @@ call_move c d k b readings =
           subst (E no) (sym none) (Stays refl refl refl refl)
       | false ↦ λ h.
           let plain : is_outstanding yes ≡ false = plain_record (is_allowed (asked k) (state_of d b)) (asked k) b (error.InvalidChannelState (state_of d b)) refl in
-          let same : asked_by k yes ≡ asked k = ap (λ v. cond (is_try k && v) ask.Nothing (asked k)) plain ∙ ap (λ v. cond v ask.Nothing (asked k)) (and_none (is_try k)) in
+          let same : asked_by k yes ≡ asked k = ap (λ v. cond (is_try k && v) ask.Nothing (asked k)) plain ∙ ap (λ v. cond v ask.Nothing (asked k)) (and_false (is_try k)) in
           subst (E yes) (sym same) (asked_move c d k b (error.InvalidChannelState (state_of d b)))
     ] refl
 

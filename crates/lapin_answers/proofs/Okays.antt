@@ -43,10 +43,13 @@ use Rattle.lapin_joint.specs.Order.{front, along}
 use Rattle.lapin_verdicts.specs.Deeds.{Deed, Read, Sent, lefts, sents, reads_of, deed_in, deeds}
 use Rattle.lapin_verdicts.proofs.Sending.{own_down}
 use Rattle.lapin_verdicts.proofs.TagCounts.{sents-append, lost_down}
-use Rattle.lapin_verdicts.proofs.Reading.{at_with, at_other, of_if, not_both, closed_down, answered_down}
+use Rattle.lapin_verdicts.proofs.Reading.{of_if, closed_down, answered_down}
 use Rattle.lapin_verdicts.proofs.First.{piece_peer}
 use Rattle.lapin_verdicts.proofs.Owing.{lefts-append}
 use Rattle.lapin_answers.specs.Closes.{closes, is_close_on, is_close_ok_as, is_close_ok_on, closes_in, close_oks_in}
+use Rattle.lapin_tables.proofs.Bools.{not_both}
+use Rattle.lapin_broker.proofs.SoundLaw.{at_with}
+use Rattle.lapin_concord.proofs.Sides.{at_away}
 
 -- ---- a close, as the broker takes it
 
@@ -202,7 +205,7 @@ up_grows c l b None up =
           subst K (sym z.1) here
       | inr z ↦
           let x' : Channel = read_in (channel_at b d).peer l.frame (channel_at b d) u in
-          λ _. (up, (let w : owes (channel_in (at_channel c (with_channel d x' b.channels))).peer ≡ owes (channel_at b c).peer = ap (λ v. owes (channel_in v).peer) (at_other d c x' b.channels z.0) in omega (arith, w)))
+          λ _. (up, (let w : owes (channel_in (at_channel c (with_channel d x' b.channels))).peer ≡ owes (channel_at b c).peer = ap (λ v. owes (channel_in v).peer) (at_away d c x' b.channels z.0) in omega (arith, w)))
     ])
 
 read_grows : (c : ℕ) (l : Left) (b : Broker) → Grows c b (read b l.frame) (one_if (is_close_on c l))

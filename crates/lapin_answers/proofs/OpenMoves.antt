@@ -72,12 +72,18 @@ use Rattle.lapin_effects.proofs.Happens.{live_at, IsLine, call_line, acker_line}
 use Rattle.lapin_verdicts.specs.Deeds.{is_open as opens_frame}
 use Rattle.lapin_verdicts.specs.InStep.{is_open_on}
 use Rattle.lapin_answers.specs.Opens.{IsOpening}
-use Rattle.lapin_answers.proofs.Lists.{lefts_of, and_none, number_same}
+use Rattle.lapin_answers.proofs.Lists.{lefts_of, number_same}
 use Rattle.lapin_answers.proofs.Moving.{closed_is, open_is}
 use Rattle.lapin_answers.proofs.OneKind.{kind_requests, kind_at, kind_with_away, kind_with_here, kind_with_other, kind_without, kind_without_away, kind_taken, kind_on_away, kind_on_other, kind_none, kind_lone, lefts_same, lefts_grow}
 use Rattle.lapin_answers.proofs.Rows.{Row, RowOf, row_of}
 use Rattle.lapin_answers.proofs.Shuts.{rest_of}
-use Rattle.lapin_answers.proofs.Turns.{At, entry, wanted, allowed_up, plain_record}
+use Rattle.lapin_answers.proofs.Turns.{At, entry, wanted}
+use Rattle.lapin_tables.proofs.Bools.{and_false}
+use Rattle.lapin_rules.proofs.PhaseLaws.{up_open, opens_only, allowed_up}
+use Rattle.lapin_verdicts.proofs.Keeping.{no_live}
+use Rattle.lapin_verdicts.proofs.Opens.{plain_open}
+use Rattle.lapin_verdicts.proofs.Saying.{plain_record}
+use Rattle.lapin_answers.proofs.Phases.{closed_hears_no_ok, opening_hears_no_ok}
 
 -- ---- what is looked at
 
@@ -124,17 +130,10 @@ alive_moved c d p b b' l ps al lives = elim (eqb_tells d c) [
   | inr n ↦ alive_away c d p b b' l ps n.0
 ]
 
-dead : (c : ℕ) (b : Wire) → is_up b.link ≡ false → live c b ≡ false
-dead c b h = ap (λ v. v && is_live (phase_of c b)) h
-
 -- ---- methods that wait
 
-plain_open : (d : ℕ) (m : Method) → is_special m ≡ false → opens_frame (frame.Method d m) ≡ false
-plain_open d (method.Channel channel.Open) h = absurd cc
-plain_open d _ h = refl
-
 not_open : (c : ℕ) (m : MethodEntry) → opens_frame (frame.Method m.channel m.method) ≡ false → is_open_on c (left_method m) ≡ false
-not_open c m h = ap (λ v. (m.channel == c) && v) h ∙ and_none (m.channel == c)
+not_open c m h = ap (λ v. (m.channel == c) && v) h ∙ and_false (m.channel == c)
 
 off_open : (c : ℕ) (m : MethodEntry) → (m.channel == c) ≡ false → is_open_on c (left_method m) ≡ false
 off_open c m h = ap (λ v. v && opens_frame (frame.Method m.channel m.method)) h
@@ -195,7 +194,7 @@ open_move c d k b is up al =
       | inl y ↦
           let P : ℕ → Type 0 = λ v. Moves c (event.Call v k) (record_.Ticket (b.tickets + 1)) b (after_open_call v b) in
           let al' : is_closed (At (c == 0) (phase_of c b)) ≡ true = subst (λ v. is_closed (At (v == 0) (phase_of v b)) ≡ true) y.1 al in
-          let was : live c b ≡ false = ap (λ v. is_up b.link && is_live v) (closed_is (c == 0) (phase_of c b) al') ∙ and_none (is_up b.link) in
+          let was : live c b ≡ false = ap (λ v. is_up b.link && is_live v) (closed_is (c == 0) (phase_of c b) al') ∙ and_false (is_up b.link) in
           let now : live c (after_open_call c b) ≡ true = live_at c phase.Opening b (after_open_call c b) refl refl ∙ ap (λ v. is_up v && true) up in
           let on : is_open_on c (left_method (m c)) ≡ true = ap (λ v. v && true) (eq-eqb c c refl) in
           subst P (sym y.1) (Begins was now (left_method (m c)) r (kind_with_here reply_kind.ChannelOpenOk c r b.requests refl) (lefts_grow (is_open_on c) b.methods (m c) on) (record {
@@ -239,7 +238,7 @@ call_move c d k b readings =
           subst (E no) (sym none) (Stays refl refl refl)
       | false ↦ λ h.
           let plain : is_outstanding yes ≡ false = plain_record (is_allowed (asked k) (state_of d b)) (asked k) b (error.InvalidChannelState (state_of d b)) refl in
-          let same : asked_by k yes ≡ asked k = ap (λ v. cond (is_try k && v) ask.Nothing (asked k)) plain ∙ ap (λ v. cond v ask.Nothing (asked k)) (and_none (is_try k)) in
+          let same : asked_by k yes ≡ asked k = ap (λ v. cond (is_try k && v) ask.Nothing (asked k)) plain ∙ ap (λ v. cond v ask.Nothing (asked k)) (and_false (is_try k)) in
           subst (E yes) (sym same) (asked_move c d k b (error.InvalidChannelState (state_of d b)))
     ] refl
 
@@ -261,16 +260,6 @@ let_go_move c e x (Some y) b = elim (lets_go_of y b) as (λ v. Moves c e x b (co
 
 abbrev Hears : ℕ → Event → Record → Wire → Incoming → Record → Type 0
 Hears c e x b i r = Moves c e x b (incoming_wire i r b)
-
-up_open : (l : ConnectionPhase) → is_up l ≡ true → l ≡ link.Open
-up_open link.Open h = refl
-up_open (link.Closing s) h = cc
-up_open link.Closed h = cc
-up_open link.Lost h = cc
-
-kind_opens : (k : ReplyKind) → opens k ≡ true → k ≡ reply_kind.ChannelOpenOk
-kind_opens reply_kind.ChannelOpenOk o = refl
-kind_opens _ o = absurd cc
 
 other_number : (k : ReplyKind) → opens k ≡ false → (reply_number k == 20) ≡ false
 other_number reply_kind.ChannelOpenOk o = absurd cc
@@ -303,7 +292,7 @@ module _ (c : ℕ) (e : Event) (x : Record) (class number : ℕ) where
   reply_moves d k b = by (opens k) refl
     where
       by : (v : Bool) → opens k ≡ v → Moves c e x b (after_reply d k b)
-      by true o = subst (λ v. Moves c e x b (after_reply d v b)) (sym (kind_opens k o)) (opened d b)
+      by true o = subst (λ v. Moves c e x b (after_reply d v b)) (sym (opens_only k o)) (opened d b)
       by false o = Stays (alive_kept c b (after_reply d k b) refl (ap (λ v. cond v (with_channel d (phase.Open false) b.phases) b.phases) o)) (kind_without reply_kind.ChannelOpenOk c d k b.requests (other_number k o)) refl
 
   -- ---- settlements and flow
@@ -350,19 +339,11 @@ module _ (c : ℕ) (e : Event) (x : Record) (class number : ℕ) where
     | inr n ↦ Stays (alive_away c d phase.Closed b (after_close_ok d (phase.Closing who sent) b) refl refl n.0) (kind_on_away reply_kind.ChannelOpenOk c d no_requests b.requests n.0) (waits_away d c b.methods n.0)
   ]
   answered d phase.Crossed b q a = elim (eqb_tells d c) [
-    | inl y ↦ Idles (subst (λ v. live v b ≡ false) y.1 (ap (λ v. is_up b.link && is_live v) q ∙ and_none (is_up b.link))) (kind_on_other reply_kind.ChannelOpenOk c d reply_kind.ChannelCloseOk b.requests refl)
+    | inl y ↦ Idles (subst (λ v. live v b ≡ false) y.1 (ap (λ v. is_up b.link && is_live v) q ∙ and_false (is_up b.link))) (kind_on_other reply_kind.ChannelOpenOk c d reply_kind.ChannelCloseOk b.requests refl)
     | inr n ↦ Stays (alive_away c d phase.Closed b (after_close_ok d phase.Crossed b) refl refl n.0) (kind_on_other reply_kind.ChannelOpenOk c d reply_kind.ChannelCloseOk b.requests refl) refl
   ]
-  answered d phase.Closed b q a = absurd (never (d == 0) a)
-    where
-      never : (z : Bool) → receives_close_ok (At z phase.Closed) ≡ true → ⊥
-      never true h = cc
-      never false h = cc
-  answered d phase.Opening b q a = absurd (never (d == 0) a)
-    where
-      never : (z : Bool) → receives_close_ok (At z phase.Opening) ≡ true → ⊥
-      never true h = cc
-      never false h = cc
+  answered d phase.Closed b q a = absurd (closed_hears_no_ok (d == 0) a)
+  answered d phase.Opening b q a = absurd (opening_hears_no_ok (d == 0) a)
   answered d (phase.Open paused) b q a = absurd (never (d == 0) a)
     where
       never : (z : Bool) → receives_close_ok (At z (phase.Open paused)) ≡ true → ⊥
@@ -412,9 +393,9 @@ module _ (c : ℕ) (e : Event) (x : Record) (class number : ℕ) where
   down_receives link.Open b i q d = absurd cc
   down_receives link.Closed b i q d = passed b
   down_receives link.Lost b i q d = passed b
-  down_receives (link.Closing s) b incoming.ConnectionCloseOk q d = Idles (dead c b (ap is_up q)) (kind_on_other reply_kind.ChannelOpenOk c 0 reply_kind.ConnectionCloseOk b.requests refl)
+  down_receives (link.Closing s) b incoming.ConnectionCloseOk q d = Idles (no_live c b (ap is_up q)) (kind_on_other reply_kind.ChannelOpenOk c 0 reply_kind.ConnectionCloseOk b.requests refl)
   down_receives (link.Closing stage.Crossed) b (incoming.ConnectionClose code) q d = passed b
-  down_receives (link.Closing stage.Sent) b (incoming.ConnectionClose code) q d = subst (λ l. Moves c e x b (after_connection_close l b)) (sym q) (Idles (dead c b (ap is_up q)) refl)
+  down_receives (link.Closing stage.Sent) b (incoming.ConnectionClose code) q d = subst (λ l. Moves c e x b (after_connection_close l b)) (sym q) (Idles (no_live c b (ap is_up q)) refl)
   down_receives (link.Closing stage.Queued) b (incoming.ConnectionClose code) q d = subst (λ l. Moves c e x b (after_connection_close l b)) (sym q) (fell b)
   down_receives (link.Closing s) b (incoming.Reply d k a) q z = passed b
   down_receives (link.Closing s) b (incoming.Settlement d k) q z = passed b

@@ -2,7 +2,7 @@
 -- began.
 use Rattle.std.proofs.Common.{◌≡◌, ◌∙◌, ℕ, ◌≤◌, ◌==◌, Bool, true, false, cond, ◌&&◌, ◌||◌, List, [], ◌∷◌, ◌++◌, map, Option, Some, None, Ok, ◌⊎◌, inl, inr, refl, sym, ap, subst, append-nil, append_assoc, eq-eqb}
 use Rattle.std.specs.List.{filter, fold, list_any}
-use Rattle.std.proofs.lemmas.Bool.{and_parts}
+use Rattle.std.proofs.lemmas.Bool.{and_parts, or_parts}
 use Rattle.std.proofs.lemmas.List.Elements.{filter-append}
 use Rattle.lapin_types.specs.declared.answer.Answer.{Answer}
 use Rattle.lapin_types.specs.declared.answer.Answer.TheVariants as answer
@@ -131,10 +131,6 @@ waiting_none : (c : ℕ) (ms : List MethodEntry) → list_any (is_open_waiting c
 waiting_none c [] h = refl
 waiting_none c (m ∷ ms) h = elim (is_open_waiting c m) as (λ v. (v || list_any (is_open_waiting c) ms) ≡ false → cond v (left_method m ∷ filter (is_open_on c) (lefts_of ms)) (filter (is_open_on c) (lefts_of ms)) ≡ []) [ true ↦ λ e. absurd cc | false ↦ λ e. waiting_none c ms e ] h
 
-none_of : (a b : Bool) → (a || b) ≡ false → (a ≡ false) × (b ≡ false)
-none_of true b h = absurd cc
-none_of false b h = (refl, h)
-
 -- ---- an open-ok, as the session sorts it
 
 ok_sorts : (f : Frame) → is_open_ok f ≡ true → incoming_of f ≡ incoming.Reply (channel_of f) reply_kind.ChannelOpenOk (answer.Channel (channel_of f))
@@ -201,7 +197,7 @@ module _ (n : ℕ) (big : 4096 ≤ n) (k : ℕ) (ss : List Step) (f : Frame) (fs
 
   its_open : is_up b.link ≡ true → (c == 0) ≡ false → (r : Request) → r.ticket ≡ Some k → IsLast (joined_to n ss).session c r (all_opens c b (lefts (deeds n ss) ++ up)) → Found n k ss f
   its_open u z r t last =
-      let none = none_of (list_any (is_open_on c) up) (list_any (is_open_waiting c) b.methods) (unread_none u z) in
+      let none = or_parts (list_any (is_open_on c) up) (list_any (is_open_waiting c) b.methods) (unread_none u z) in
       let up_none : filter (is_open_on c) up ≡ [] = filter_none (is_open_on c) up none.0 in
       let waits_none : waiting_opens c b ≡ [] = waiting_none c b.methods none.1 in
       let read : List Left = filter (is_open_on c) (lefts (deeds n ss)) in

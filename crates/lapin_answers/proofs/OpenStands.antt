@@ -43,11 +43,12 @@ use Rattle.lapin_verdicts.proofs.Runs.{past-push, joined-push, deeds-push}
 use Rattle.lapin_verdicts.proofs.Leaving.{still_live}
 use Rattle.lapin_answers.specs.Opens.{IsOpeningOf}
 use Rattle.lapin_answers.proofs.Lets.{handing_still, sent_requests}
-use Rattle.lapin_answers.proofs.Lists.{lefts_of, and_none}
+use Rattle.lapin_answers.proofs.Lists.{lefts_of}
 use Rattle.lapin_answers.proofs.OneKind.{kind_at}
 use Rattle.lapin_answers.proofs.OpenMoves.{Move, Stays, Begins, Takes, Ends, Idles, open_requests, waiting_opens, event_move}
-use Rattle.lapin_answers.proofs.Running.{lost_down}
 use Rattle.lapin_answers.proofs.Shuts.{rest_of}
+use Rattle.lapin_tables.proofs.Bools.{and_false}
+use Rattle.lapin_verdicts.proofs.Together.{lost_down}
 
 -- ---- what stands
 
@@ -117,7 +118,7 @@ other_left : (c : ℕ) (ls : List Left) (l : Left) → is_open_on c l ≡ false 
 other_left c ls l h = one_left c ls l ∙ (ap (λ v. filter (is_open_on c) ls ++ cond v (l ∷ []) []) h ∙ append-nil (filter (is_open_on c) ls))
 
 content_calm : (c : ℕ) (l : Left) → is_content l.frame ≡ true → is_open_on c l ≡ false
-content_calm c l h = ap (λ v. is_frame_on c l.frame && v) (content_open l.frame h) ∙ and_none (is_frame_on c l.frame)
+content_calm c l h = ap (λ v. is_frame_on c l.frame && v) (content_open l.frame h) ∙ and_false (is_frame_on c l.frame)
 
 -- what leaves goes from those that wait to those that were handed out
 left_opens : (c n : ℕ) (t : ℕ → Bool) (ls : List Left) (rs : List RestEntry) (es : List MethodEntry) (ps : List Publish) (d : ℕ) → AreRest d rs → filter (is_open_on c) (ls ++ left_alone (handed_of t rs es ps)) ++ filter (is_open_on c) (lefts_of (left_of n t rs es ps).methods) ≡ filter (is_open_on c) ls ++ filter (is_open_on c) (lefts_of es)
@@ -131,7 +132,7 @@ left_opens c n t ls [] [] ps d a = by (find (may_begin t) ps)
   where
     by : (q : Option Publish) → filter (is_open_on c) (ls ++ left_alone (option_map left_publish q)) ++ [] ≡ filter (is_open_on c) ls ++ []
     by None = ap (λ v. filter (is_open_on c) v ++ []) (append-nil ls)
-    by (Some q) = ap (λ v. v ++ []) (other_left c ls (left_publish q) (and_none (q.channel == c)))
+    by (Some q) = ap (λ v. v ++ []) (other_left c ls (left_publish q) (and_false (q.channel == c)))
 
 next_stands : (c d : ℕ) (t : ℕ → Bool) (h : History) (e : Event) (x : Record) (b : Wire) (ls : List Left) → AreRest d b.rest → Opening c h b ls → Opening c (h ++ (e, x) ∷ []) (after_handing t b) (ls ++ left_alone (handed_out t b))
 next_stands c d t h e x b ls rest s =

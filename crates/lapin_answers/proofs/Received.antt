@@ -9,16 +9,13 @@ use Rattle.lapin_rules.specs.History.{History, Past, past, rec}
 use Rattle.lapin_joint.specs.declared.step.Step.{Step}
 use Rattle.lapin_joint.specs.declared.step.Step.TheVariants as step
 use Rattle.lapin_joint.specs.declared.step.Reported.TheVariants as reported
-use Rattle.lapin_joint.specs.Joint.{Joint, new_joint, after, deliver_first, run, deliver_report, report, reports, joined_to}
-use Rattle.lapin_machine.specs.Way.{Way, by_history}
+use Rattle.lapin_joint.specs.Joint.{Joint, new_joint, deliver_first, deliver_report, report, reports, joined_to}
+use Rattle.lapin_machine.specs.Way.{by_history}
 use Rattle.lapin_concord.specs.Refusals.{is_refusal, reports_refusal}
 use Rattle.lapin_concord.proofs.Laws.{none_refused}
 use Rattle.lapin_verdicts.specs.Session.{past_of}
 use Rattle.lapin_verdicts.proofs.Runs.{past-push, joined-push}
-
-reports-push : {S : Type 0} (m : Way S) (ss : List Step) (s : Step) (j : Joint S) → reports m (ss ++ s ∷ []) j ≡ reports m ss j ++ report m s (run m ss j) ∷ []
-reports-push m [] s j = refl
-reports-push m (t ∷ ss) s j = ap (λ v. report m t j ∷ v) (reports-push m ss s (after m t j))
+use Rattle.lapin_joint.proofs.Steps.{reports-push}
 
 last_of : (a b : Bool) → (a || (b || false)) ≡ false → b ≡ false
 last_of true b h = absurd cc

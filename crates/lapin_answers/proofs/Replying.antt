@@ -11,7 +11,6 @@ use Rattle.lapin_types.specs.declared.record.Record.TheVariants as record_
 use Rattle.lapin_types.specs.declared.request.ReplyKind.{ReplyKind}
 use Rattle.lapin_types.specs.declared.request.ReplyKind.TheVariants as reply_kind
 use Rattle.lapin_types.specs.Types.{Frame, Method, Error}
-use Rattle.lapin_rules.specs.declared.broker_frames.ContentPart.{ContentPart}
 use Rattle.lapin_rules.specs.declared.broker_frames.ContentPart.TheVariants as part
 use Rattle.lapin_rules.specs.declared.broker_frames.ConsumerPart.{ConsumerPart}
 use Rattle.lapin_rules.specs.declared.broker_frames.ConsumerPart.TheVariants as consumer
@@ -23,7 +22,6 @@ use Rattle.lapin_rules.specs.ConnectionClose.{receives_down}
 use Rattle.lapin_rules.specs.Consumers.{next_consumer}
 use Rattle.lapin_rules.specs.History.{rec, readings_of}
 use Rattle.lapin_rules.specs.Incoming.{incoming_of, frame_class, frame_method}
-use Rattle.lapin_rules.specs.Opening.{opens}
 use Rattle.lapin_rules.specs.Phases.{is_up}
 use Rattle.lapin_rules.specs.Readings.{Readings}
 use Rattle.lapin_rules.specs.Receiving.{when, incoming_up, incoming_record, received_tickets, incoming_tickets}
@@ -55,6 +53,8 @@ use Rattle.lapin_answers.proofs.Answered.{Meets}
 use Rattle.lapin_answers.proofs.Running.{reply_meets}
 use Rattle.lapin_answers.proofs.Received.{unrefused, tickets_after}
 use Rattle.lapin_answers.proofs.Tickets.{Answers, new_answer, none_answers, resolved_is, resolved_gives}
+use Rattle.lapin_answers.proofs.GetRun.{content_down}
+use Rattle.lapin_concord.proofs.Hearing.{not_opens}
 
 -- ---- a reply, as the session sorts it
 
@@ -77,12 +77,6 @@ reply_down c k a link.Open = refl
 reply_down c k a (link.Closing s) = refl
 reply_down c k a link.Closed = refl
 reply_down c k a link.Lost = refl
-
-content_down : (c : ℕ) (p : ContentPart) (l : ConnectionPhase) → receives_down l (incoming.Content c p) ≡ false
-content_down c p link.Open = refl
-content_down c p (link.Closing s) = refl
-content_down c p link.Closed = refl
-content_down c p link.Lost = refl
 
 consumer_down : (c : ℕ) (p : ConsumerPart) (l : ConnectionPhase) → receives_down l (incoming.Consumer c p) ≡ false
 consumer_down c p link.Open = refl
@@ -161,17 +155,13 @@ pub record Heard (c : ℕ) (b : Wire) (i : Incoming) (x : Record) : Type 0 where
   pub hears : hears c b ≡ true
   pub received : x ≡ record_.Received
 
-asked_closed : (k : ReplyKind) → is_asked k ≡ true → opens k ≡ false
-asked_closed reply_kind.ChannelOpenOk h = absurd cc
-asked_closed _ h = refl
-
 -- heard, or it says nothing to tickets
 abbrev pub ReplyComes : ℕ → Wire → Incoming → Record → Type 0
 ReplyComes c b i x = Heard c b i x ⊎ (incoming_tickets i x b ≡ [])
 
 reply_when : (c : ℕ) (b : Wire) (i : Incoming) (k : IsReply c i) (r : Record) (v : Bool) → is_refusal r ≡ true → receives_reply c k.kind b ≡ v → is_refusal (when v r) ≡ false → ReplyComes c b i (when v r)
 reply_when c b i k r true q e f = inl (record {
-  hears = ap (λ w. cond w (is_opening (state_of c b)) (receives_on (state_of c b))) (sym (asked_closed k.kind k.asked)) ∙ (and_parts (receives k.kind (state_of c b)) (is_some (first_request k.kind (requests_of c b))) e).0;
+  hears = ap (λ w. cond w (is_opening (state_of c b)) (receives_on (state_of c b))) (sym (not_opens k.kind k.asked)) ∙ (and_parts (receives k.kind (state_of c b)) (is_some (first_request k.kind (requests_of c b))) e).0;
   received = refl;
 })
 reply_when c b i k r false q e f = let w : true ≡ false = sym q ∙ f in absurd cc

@@ -39,6 +39,7 @@ use Rattle.lapin_concord.specs.Wires.{reply_number, is_asked}
 use Rattle.lapin_concord.specs.Incomes.{income_as}
 use Rattle.lapin_concord.proofs.Incomes.{sorted}
 use Rattle.lapin_verdicts.specs.Answers.{awaits_as, kind_asked, kind_answered, replies_as, replies}
+use Rattle.lapin_tables.proofs.Bools.{and_true, and_false}
 
 -- ---- calls
 
@@ -122,22 +123,14 @@ abbrev pub is_reply_down : ℕ → DownOn DownF → Bool
 is_reply_down c (ToD d (BReply n content)) = d == c
 is_reply_down c _ = false
 
-and_none : (v : Bool) → (v && false) ≡ false
-and_none true = refl
-and_none false = refl
-
-and_all : (v : Bool) → (v && true) ≡ v
-and_all true = refl
-and_all false = refl
-
 reply_kind_down : (c d : ℕ) (x : BrokerFrame) → is_reply_down c (down_kind d x) ≡ ((d == c) && replies_as x)
-reply_kind_down c d broker.ConnectionClose = sym (and_none (d == c))
-reply_kind_down c d broker.ConnectionCloseOk = sym (and_none (d == c))
-reply_kind_down c d (broker.Reply k) = sym (and_all (d == c))
-reply_kind_down c d broker.ConsumeOk = sym (and_all (d == c))
-reply_kind_down c d broker.CancelOk = sym (and_all (d == c))
-reply_kind_down c d broker.GetOk = sym (and_all (d == c))
-reply_kind_down c d _ = sym (and_none (d == c))
+reply_kind_down c d broker.ConnectionClose = sym (and_false (d == c))
+reply_kind_down c d broker.ConnectionCloseOk = sym (and_false (d == c))
+reply_kind_down c d (broker.Reply k) = sym (and_true (d == c))
+reply_kind_down c d broker.ConsumeOk = sym (and_true (d == c))
+reply_kind_down c d broker.CancelOk = sym (and_true (d == c))
+reply_kind_down c d broker.GetOk = sym (and_true (d == c))
+reply_kind_down c d _ = sym (and_false (d == c))
 
 -- a frame is a reply on the channel as the session sorts it
 pub reply_comes : (c : ℕ) (f : Frame) → ((channel_of f == c) && replies f) ≡ is_reply_down c (income_as (incoming_of f))

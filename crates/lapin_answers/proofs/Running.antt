@@ -20,16 +20,13 @@ use Rattle.lapin_types.specs.Types.basic
 use Rattle.lapin_types.specs.Types.confirm
 use Rattle.lapin_types.specs.Types.tx
 use Rattle.lapin_types.specs.Types.channel_state as state
-use Rattle.lapin_rules.specs.declared.phases.ConnectionPhase.{ConnectionPhase}
-use Rattle.lapin_rules.specs.declared.phases.ConnectionPhase.TheVariants as link
-use Rattle.lapin_rules.specs.Ends.{down as fallen}
 use Rattle.lapin_rules.specs.ConfirmReadings.{is_full}
 use Rattle.lapin_rules.specs.Events.{after_event}
 use Rattle.lapin_rules.specs.Flow.{begins_on}
 use Rattle.lapin_rules.specs.Handing.{handed, handed_out, began_on, after_handing}
 use Rattle.lapin_rules.specs.History.{History, Past, past, rec, readings_of}
 use Rattle.lapin_rules.specs.Incoming.{incoming_of}
-use Rattle.lapin_rules.specs.Phases.{is_up, is_live, is_lost, channel_state}
+use Rattle.lapin_rules.specs.Phases.{is_up, is_live, channel_state}
 use Rattle.lapin_rules.specs.Readings.{Readings}
 use Rattle.lapin_rules.specs.Requests.{without_kind}
 use Rattle.lapin_rules.specs.Wire.{Wire, phase_of, receives_on}
@@ -60,10 +57,10 @@ use Rattle.lapin_verdicts.proofs.TagCounts.{sents-append, last-push, last-sent}
 use Rattle.lapin_verdicts.proofs.First.{first_in}
 use Rattle.lapin_verdicts.proofs.Keeping.{no_live}
 use Rattle.lapin_verdicts.proofs.Numbering.{AreRest, hears_live}
-use Rattle.lapin_verdicts.proofs.Opens.{unsent, many-none}
+use Rattle.lapin_verdicts.proofs.Opens.{unsent}
 use Rattle.lapin_verdicts.proofs.Owing.{lefts-append, replies-append}
 use Rattle.lapin_verdicts.proofs.Runs.{past-push, joined-push, deeds-push, Split, split_at}
-use Rattle.lapin_verdicts.proofs.Together.{in_step, way_down}
+use Rattle.lapin_verdicts.proofs.Together.{in_step, way_down, lost_down}
 use Rattle.lapin_verdicts.proofs.Unread.{is_unread, unread_at, pairs}
 use Rattle.lapin_answers.proofs.Rows.{is_reply_down, reply_comes, IsReplyOf, reply_is}
 use Rattle.lapin_answers.proofs.Lists.{open_asks, waiting_asks}
@@ -73,6 +70,8 @@ use Rattle.lapin_answers.proofs.Happens.{income_in, event_turn}
 use Rattle.lapin_answers.proofs.Standing.{handed_asks, reply_count, AreAsks, asks_more, Going, Standing, turn_kept, begun_kept}
 use Rattle.lapin_answers.proofs.Lets.{next_kept}
 use Rattle.lapin_answers.proofs.Answered.{Meets, meets}
+use Rattle.lapin_rules.proofs.ListLaws.{many-none}
+use Rattle.lapin_tables.proofs.Bools.{or_true}
 
 -- ---- frames on the way down
 
@@ -150,18 +149,6 @@ ok_kind c d _ h = absurd cc
 
 pub ok_comes : (c : ℕ) (f : Frame) → income_as (incoming_of f) ≡ ToD c BOpenOk → (channel_of f ≡ c) × (broker_frame f ≡ broker.OpenOk) × (is_open_ok f ≡ true)
 ok_comes c f h = let k = ok_kind c (channel_of f) (broker_frame f) (sorted f ∙ h) in (k.0, k.1, ok_frame f (ap is_ok k.1))
-
--- a loss leaves no open connection
-pub lost_down : (b : Wire) (r : Record) → is_up (after_event b event.Lost r).link ≡ false
-lost_down b r = by (is_lost b.link) refl
-  where
-    shut : (l : ConnectionPhase) → is_lost l ≡ true → is_up l ≡ false
-    shut link.Lost h = refl
-    shut _ h = absurd cc
-
-    by : (v : Bool) → is_lost b.link ≡ v → is_up (cond v b (fallen link.Lost b)).link ≡ false
-    by true e = shut b.link e
-    by false e = refl
 
 -- ---- an event, which moves neither link nor deeds
 
@@ -337,10 +324,6 @@ module _ (n c : ℕ) where
 
       none_more : (k : ℕ) → 0 + k ≡ k
       none_more k = omega arith
-
-      or_true : (v : Bool) → (v || true) ≡ true
-      or_true true = refl
-      or_true false = refl
 
       unread_none : is_up (before j).link ≡ true → income_as (incoming_of f) ≡ ToD c BOpenOk → unsent c (before j) ≡ 0
       unread_none up on = elim (list_any (is_open_waiting c) (before j).methods) as (λ v. list_any (is_open_waiting c) (before j).methods ≡ v → unsent c (before j) ≡ 0) [

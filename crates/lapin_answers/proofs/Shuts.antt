@@ -20,7 +20,9 @@ use Rattle.lapin_concord.specs.Wires.{reply_number, is_asked}
 use Rattle.lapin_concord.proofs.Incomes.{kinds_tell}
 use Rattle.lapin_concord.proofs.Views.{requests_at, requests_with_here, requests_away, requests_on_here, requests_on_away}
 use Rattle.lapin_answers.specs.Closes.{is_close, is_close_on}
-use Rattle.lapin_answers.proofs.Lists.{lefts_of, and_none, number_same}
+use Rattle.lapin_answers.proofs.Lists.{lefts_of, number_same}
+use Rattle.lapin_tables.proofs.Bools.{and_false}
+use Rattle.lapin_rules.proofs.PhaseLaws.{kept_none}
 
 -- ---- what is looked at
 
@@ -122,10 +124,7 @@ shut_on_away c d f all n = ap (filter shuts) (requests_on_away d c f all n)
 
 -- an end of an opening leaves that of a close that has left
 pub shut_kept : (c : ℕ) (p : ChannelPhase) (all : List (ℕ × List Request)) → filter shuts (requests_at c (on_channel c (kept_at p) all)) ≡ cond (has_sent_close p) (first_of (filter shuts (requests_at c all))) []
-shut_kept c p all = ap (filter shuts) (requests_on_here c (kept_at p) all (empty p)) ∙ elim (has_sent_close p) as (λ v. filter shuts (cond v (close_alone (requests_at c all)) (no_requests (requests_at c all))) ≡ cond v (first_of (filter shuts (requests_at c all))) []) [ true ↦ shut-first (requests_at c all) | false ↦ refl ]
-  where
-    empty : (p : ChannelPhase) → kept_at p [] ≡ []
-    empty p = elim (has_sent_close p) as (λ v. cond v (close_alone []) (no_requests []) ≡ []) [ true ↦ refl | false ↦ refl ]
+shut_kept c p all = ap (filter shuts) (requests_on_here c (kept_at p) all (kept_none p)) ∙ elim (has_sent_close p) as (λ v. filter shuts (cond v (close_alone (requests_at c all)) (no_requests (requests_at c all))) ≡ cond v (first_of (filter shuts (requests_at c all))) []) [ true ↦ shut-first (requests_at c all) | false ↦ refl ]
 
 pub shut_none : (c : ℕ) (all : List (ℕ × List Request)) → filter shuts (requests_at c (on_channel c no_requests all)) ≡ []
 shut_none c all = ap (filter shuts) (requests_on_here c no_requests all refl)
@@ -142,7 +141,7 @@ pub closes_grow : (c : ℕ) (ms : List MethodEntry) (m : MethodEntry) → is_clo
 closes_grow c ms m h = closes_more c ms m ∙ ap (λ v. filter (is_close_on c) (lefts_of ms) ++ cond v (left_method m ∷ []) []) h
 
 pub no_close : (c : ℕ) (m : MethodEntry) → is_close m.method ≡ false → is_close_on c (left_method m) ≡ false
-no_close c m h = ap (λ v. (m.channel == c) && v) h ∙ and_none (m.channel == c)
+no_close c m h = ap (λ v. (m.channel == c) && v) h ∙ and_false (m.channel == c)
 
 pub close_off : (c : ℕ) (m : MethodEntry) → (m.channel == c) ≡ false → is_close_on c (left_method m) ≡ false
 close_off c m h = ap (λ v. v && is_close m.method) h

@@ -1,6 +1,6 @@
 -- What holds of a channel's requests: those that were handed out since its open, and those that wait, are the answered ones and then the
 -- open ones, each with the ticket of its call.
-use Rattle.std.proofs.Common.{◌≡◌, ◌∙◌, ℕ, ◌+◌, ◌==◌, Bool, true, false, cond, ◌&&◌, List, [], ◌∷◌, ◌++◌, length, Option, Some, inl, inr, refl, sym, ap, subst, append_assoc, arith, eq-eqb}
+use Rattle.std.proofs.Common.{◌≡◌, ◌∙◌, ℕ, ◌+◌, ◌==◌, true, false, cond, ◌&&◌, List, [], ◌∷◌, ◌++◌, length, Option, Some, inl, inr, refl, sym, ap, subst, append_assoc, arith, eq-eqb}
 use Rattle.std.specs.List.{filter, fold}
 use Rattle.std.proofs.lemmas.Bool.Decides.{eqb_tells}
 use Rattle.lapin_types.specs.declared.event.Event.{Event}
@@ -36,6 +36,7 @@ use Rattle.lapin_answers.specs.Calls.{IsCall, IsCallOf}
 use Rattle.lapin_answers.proofs.Lists.{open_asks, waiting_asks}
 use Rattle.lapin_answers.proofs.Turns as turn
 use Rattle.lapin_answers.proofs.Turns.{Calm, Comes, IsFresh, Turns}
+use Rattle.lapin_tables.proofs.Bools.{not_both}
 
 -- ---- what is handed out
 
@@ -126,10 +127,6 @@ module _ (c : ℕ) (h : History) (e : Event) (x : Record) (i : Option Incoming) 
     are = subst (AreAsks h' c (g.rest ++ l ∷ [])) (sym o) (asks-push h' c g.rest (open_asks c b) l r (asks_more h c g.rest (open_asks c b) e x g.are) (fresh_ask h c l r e x f));
     count = ap (λ v. length g.done + v) n ∙ g.count;
   }
-
-  not_both : (v : Bool) → v ≡ true → v ≡ false → ⊥
-  not_both true t f = cc
-  not_both false t f = cc
 
   -- what stands after the event, where it is known what a reply and what open-ok do
   pub turn_kept : Turns c e x i b b' → (live c b' ≡ true → hears c b' ≡ false → unsent c b' ≡ 0 → handed_asks c ls ≡ []) → (Calm c i → reply_count c down' ≡ reply_count c down) → ((k : ReplyKind) → Comes c k i → is_asked k ≡ true → hears c b ≡ true → open_asks c b' ≡ without_kind k (open_asks c b) → waiting_asks c b' ≡ waiting_asks c b → Going c h' b' ls down' sent) → (turn.Opens c i → live c b ≡ true → hears c b ≡ false → open_asks c b' ≡ open_asks c b → waiting_asks c b' ≡ waiting_asks c b → Going c h' b' ls down' sent) → Standing c h b ls down sent → Standing c h' b' ls down' sent

@@ -53,8 +53,9 @@ use Rattle.lapin_broker.specs.Sends.{may}
 use Rattle.lapin_types.specs.Types.{Frame}
 use Rattle.lapin_verdicts.proofs.Runs.{past-push, joined-push}
 use Rattle.lapin_answers.specs.Calls.{ticket_in}
-use Rattle.lapin_answers.proofs.Lists.{and_none}
-use Rattle.lapin_answers.proofs.Turns.{plain_record}
+use Rattle.lapin_tables.proofs.Bools.{and_false}
+use Rattle.lapin_verdicts.proofs.Saying.{plain_record}
+use Rattle.std.proofs.lemmas.Option.{same_Some}
 
 -- ---- an event gives the next ticket, or none
 
@@ -94,7 +95,7 @@ call_counts c k b readings =
           subst (E no) (sym none) (Same refl refl)
       | false ↦ λ h.
           let plain : is_outstanding yes ≡ false = plain_record (is_allowed (asked k) (state_of c b)) (asked k) b (error.InvalidChannelState (state_of c b)) refl in
-          let same : asked_by k yes ≡ asked k = ap (λ v. cond (is_try k && v) ask.Nothing (asked k)) plain ∙ ap (λ v. cond v ask.Nothing (asked k)) (and_none (is_try k)) in
+          let same : asked_by k yes ≡ asked k = ap (λ v. cond (is_try k && v) ask.Nothing (asked k)) plain ∙ ap (λ v. cond v ask.Nothing (asked k)) (and_false (is_try k)) in
           subst (E yes) (sym same) (asked_counts c (asked k) b)
     ] refl
 
@@ -232,10 +233,7 @@ one_call h a before behind left right x y k e f g i =
     let one : one_after ticketed (many ticketed before) h ≡ Some x = ap (one_after ticketed (many ticketed before)) e ∙ one_at ticketed before behind x (ap is_some g) in
     let two : one_after ticketed (many ticketed left) h ≡ Some y = ap (one_after ticketed (many ticketed left)) f ∙ one_at ticketed left right y (ap is_some i) in
     let both : Some x ≡ Some y = sym one ∙ (ap (λ m. one_after ticketed m h) same ∙ two) in
-    some_same x y both
-  where
-    some_same : (x y : Event × Record) → Some x ≡ Some y → x ≡ y
-    some_same x y h = cc
+    same_Some x y both
 
 -- ---- a run
 

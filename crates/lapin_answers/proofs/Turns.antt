@@ -28,7 +28,6 @@ use Rattle.lapin_rules.specs.declared.calls.Asked.{Asked}
 use Rattle.lapin_rules.specs.declared.calls.Asked.TheVariants as ask
 use Rattle.lapin_rules.specs.declared.phases.ChannelPhase.{ChannelPhase}
 use Rattle.lapin_rules.specs.declared.phases.ChannelPhase.TheVariants as phase
-use Rattle.lapin_rules.specs.declared.phases.ConnectionPhase.{ConnectionPhase}
 use Rattle.lapin_rules.specs.declared.phases.ConnectionPhase.TheVariants as link
 use Rattle.lapin_rules.specs.declared.phases.Closer.TheVariants as closer
 use Rattle.lapin_rules.specs.Words.{with_channel}
@@ -62,7 +61,10 @@ use Rattle.lapin_effects.specs.Effects.{live, hears}
 use Rattle.lapin_verdicts.specs.Answers.{awaits_as, kind_asked}
 use Rattle.lapin_answers.specs.Calls.{IsCall}
 use Rattle.lapin_answers.proofs.Rows.{Row, RowOf, row_of, acker_row, IsAskFor, asked_awaits, is_reply_down}
-use Rattle.lapin_answers.proofs.Lists.{asks, open_asks, is_ask_on, waiting_asks, with_other, with_away, with_here, quiet_ask, away_ask, waits_same, waits_grow, and_none}
+use Rattle.lapin_answers.proofs.Lists.{asks, open_asks, is_ask_on, waiting_asks, with_other, with_away, with_here, quiet_ask, away_ask, waits_same, waits_grow}
+use Rattle.lapin_tables.proofs.Bools.{and_false}
+use Rattle.lapin_rules.proofs.PhaseLaws.{allowed_up}
+use Rattle.lapin_verdicts.proofs.Saying.{plain_record}
 
 -- ---- the kinds
 
@@ -217,38 +219,11 @@ accepted_turn c d k (ask.Limit limit) b is up al f = Stays tt refl refl refl
 accepted_turn c d k ask.Nothing b is up al f = absurd cc
 accepted_turn c d k (ask.Method row) b is up al f = row_turn c d k row.method row.answered b is up al f
 
-shut_refuses : (a : Asked) → is_allowed a state.Down ≡ false
-shut_refuses ask.Open = refl
-shut_refuses (ask.CloseChannel code text) = refl
-shut_refuses (ask.CloseConnection code text) = refl
-shut_refuses (ask.Publish exchange key o payload properties) = refl
-shut_refuses (ask.Method row) = refl
-shut_refuses (ask.Consume m tag queue o) = refl
-shut_refuses (ask.Limit limit) = refl
-shut_refuses ask.Nothing = refl
-
-pub allowed_up : (l : ConnectionPhase) (a : Asked) (s : ChannelState) → is_allowed a (cond (is_up l) s state.Down) ≡ true → l ≡ link.Open
-allowed_up link.Open a s h = refl
-allowed_up (link.Closing x) a s h = let x = shut_refuses a in cc
-allowed_up link.Closed a s h = let x = shut_refuses a in cc
-allowed_up link.Lost a s h = let x = shut_refuses a in cc
-
 asked_turn : (c d : ℕ) (k : Call) (b : Wire) (x : Error) → Turns c (event.Call d k) (cond (is_allowed (asked k) (state_of d b)) (accepted_record (asked k) b) (record_.Refused x)) None b (asked_wire d (asked k) b)
 asked_turn c d k b x = elim (is_allowed (asked k) (state_of d b)) as (λ t. is_allowed (asked k) (state_of d b) ≡ t → Turns c (event.Call d k) (cond t (accepted_record (asked k) b) (record_.Refused x)) None b (cond t (after_call d (asked k) b) b)) [
   | true ↦ λ a. let e = allowed_up b.link (asked k) (At (d == 0) (phase_of d b)) a in accepted_turn c d k (asked k) b refl e (rw e at a) (row_of d k)
   | false ↦ λ a. Stays tt refl refl refl
 ] refl
-
-pub plain_record : (t : Bool) (a : Asked) (b : Wire) (e : Error) → is_outstanding (record_.Refused e) ≡ false → is_outstanding (cond t (accepted_record a b) (record_.Refused e)) ≡ false
-plain_record true ask.Open b e h = refl
-plain_record true (ask.CloseChannel code text) b e h = refl
-plain_record true (ask.CloseConnection code text) b e h = refl
-plain_record true (ask.Publish exchange key o payload properties) b e h = refl
-plain_record true (ask.Method row) b e h = refl
-plain_record true (ask.Consume m tag queue o) b e h = refl
-plain_record true (ask.Limit limit) b e h = refl
-plain_record true ask.Nothing b e h = refl
-plain_record false a b e h = h
 
 pub call_turn : (c d : ℕ) (k : Call) (b : Wire) (readings : Readings) → Turns c (event.Call d k) (call_told d k b readings) None b (asked_wire d (asked_by k (call_told d k b readings)) b)
 call_turn c d k b readings =
@@ -262,7 +237,7 @@ call_turn c d k b readings =
           subst (E no) (sym none) (Stays tt refl refl refl)
       | false ↦ λ h.
           let plain : is_outstanding yes ≡ false = plain_record (is_allowed (asked k) (state_of d b)) (asked k) b (error.InvalidChannelState (state_of d b)) refl in
-          let same : asked_by k yes ≡ asked k = ap (λ v. cond (is_try k && v) ask.Nothing (asked k)) plain ∙ ap (λ v. cond v ask.Nothing (asked k)) (and_none (is_try k)) in
+          let same : asked_by k yes ≡ asked k = ap (λ v. cond (is_try k && v) ask.Nothing (asked k)) plain ∙ ap (λ v. cond v ask.Nothing (asked k)) (and_false (is_try k)) in
           subst (E yes) (sym same) (asked_turn c d k b (error.InvalidChannelState (state_of d b)))
     ] refl
 

@@ -3,7 +3,7 @@ use Rattle.std.proofs.Common.{◌≡◌, ℕ, ◌==◌, Bool, true, false, ◌&&
 use Rattle.std.specs.Prelude.{IfSome, is_some}
 use Rattle.std.specs.List.{list_any}
 use Rattle.std.specs.Option.{option_map, IsSome}
-use Rattle.std.proofs.lemmas.Bool.{and_from, and_parts}
+use Rattle.std.proofs.lemmas.Bool.{and_from, and_parts, or_parts, not-true, not-false, or_right}
 use Rattle.std.proofs.lemmas.Cmp.{nat_list_eq_equiv}
 use Rattle.lapin_types.specs.Types.{Method}
 use Rattle.lapin_types.specs.Types.frame
@@ -39,24 +39,8 @@ of_map : {A B : Type 0} (P : B → Type 0) (f : A → B) (o : Option A) → ((a 
 of_map P f None each = tt
 of_map P f (Some a) each = each a refl
 
-not_true : (b : Bool) → not b ≡ true → b ≡ false
-not_true true h = cc
-not_true false h = refl
-
-not_false : (b : Bool) → not b ≡ false → b ≡ true
-not_false true h = refl
-not_false false h = cc
-
-or_right : (a b : Bool) → b ≡ true → (a || b) ≡ true
-or_right true b h = refl
-or_right false b h = h
-
 pub apart_of : (b : Bool) → b ≡ true → b ≡ false → ⊥
 apart_of b holds fails = cc
-
-neither : (a b : Bool) → (a || b) ≡ false → (a ≡ false) × (b ≡ false)
-neither true b h = cc
-neither false b h = (refl, h)
 
 -- ---- A channel that is Open or Leaving. A frame may go there, and is none that closes or answers a close.
 record Goes (x : Channel) (t : List ℕ) (d : BrokerFrame) : Type 0 where
@@ -177,9 +161,9 @@ channel_goes peer.Stopping c x m idle given = cc
 idle_at : (c : ℕ) (es : List (ℕ × Channel)) → list_any is_sending_on es ≡ false → is_idle (channel_in (at_channel c es)).sending ≡ true
 idle_at c [] none = refl
 idle_at c (e ∷ es) none =
-    let parts = neither (is_sending_on e) (list_any is_sending_on es) none in
+    let parts = or_parts (is_sending_on e) (list_any is_sending_on es) none in
     of_if (λ o. is_idle (channel_in o).sending ≡ true) (e.0 == c) (Some e.1) (at_channel c es)
-    (λ _. not_false (is_idle e.1.sending) parts.0)
+    (λ _. not-false (is_idle e.1.sending) parts.0)
     (λ _. idle_at c es parts.1)
 
 -- ---- The whole.
@@ -201,5 +185,5 @@ plain_goes b =
     of_if (λ o. IfSome o (λ f. may b f ≡ true)) (owes_connection b.connection) _ _
     (λ owes. owes)
     (λ _. of_if (λ o. IfSome o (λ f. may b f ≡ true)) (is_up b.connection && not (list_any is_sending_on b.channels)) _ _
-    (λ free. let parts = and_parts (is_up b.connection) (not (list_any is_sending_on b.channels)) free in at_goes b (lowest_from None b.channels) parts.0 (not_true _ parts.1))
+    (λ free. let parts = and_parts (is_up b.connection) (not (list_any is_sending_on b.channels)) free in at_goes b (lowest_from None b.channels) parts.0 (not-true _ parts.1))
     (λ _. tt))

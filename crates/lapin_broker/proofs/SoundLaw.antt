@@ -23,20 +23,18 @@ use Rattle.lapin_broker.specs.Reads.{read, read_up, read_in, breaks_in, begins_i
 use Rattle.lapin_broker.specs.Sends.{may, may_sorted, may_in, send, send_sorted, send_on, after_send, after_own_close_ok, is_close, is_read_on, is_connection_close, is_connection_close_ok}
 use Rattle.lapin_broker.specs.Sound.{IsReadOpen, IsSound}
 use Rattle.lapin_broker.proofs.PlainMay.{of_if, apart_of}
+use Rattle.lapin_tables.proofs.Bools.{same_number}
 
 -- ---- Reads.
 
-same_of : (a b : ℕ) → (a == b) ≡ true → a ≡ b
-same_of a b h = elim (eqb_tells a b) [ inl y ↦ y.1 | inr n ↦ absurd (apart_of (a == b) h n.0) ]
-
-same_pair : (c : ℕ) (y : Channel) (es : List (ℕ × Channel)) (o : Option Channel) → at_channel c es ≡ o → at_channel c (cond (is_some o) (on_channel c (λ _. y) es) (es ++ (c, y) ∷ [])) ≡ Some y
+pub same_pair : (c : ℕ) (y : Channel) (es : List (ℕ × Channel)) (o : Option Channel) → at_channel c es ≡ o → at_channel c (cond (is_some o) (on_channel c (λ _. y) es) (es ++ (c, y) ∷ [])) ≡ Some y
 same_pair c y es None h =
     let here : (c == c) ≡ true = eq-eqb c c refl in
     let last : option_or (at_channel c es) (cond (c == c) (Some y) None) ≡ Some y = rw (h, here) refl in
     at-push c c y es ∙ last
 same_pair c y es (Some x) h = at-on_same c (λ _. y) es ∙ ap (option_map (λ _. y)) h
 
-at_with : (c : ℕ) (y : Channel) (es : List (ℕ × Channel)) → at_channel c (with_channel c y es) ≡ Some y
+pub at_with : (c : ℕ) (y : Channel) (es : List (ℕ × Channel)) → at_channel c (with_channel c y es) ≡ Some y
 at_with c y es = same_pair c y es (at_channel c es) refl
 
 -- what begins a content leaves its channel open
@@ -49,7 +47,7 @@ read_sound b c f u (Some r) e s =
     let before : IsReadOpen b.channels b.reading = subst (IsReadOpen b.channels) (sym e) s in
     of_if IsSound (r.0 == c) _ _
     (λ same. of_if IsSound (admits b.frame_max r.1 u) _ _
-    (λ _. of_if IsSound (is_idle (content_after r.1 u)) _ _ (λ _. tt) (λ _. subst (λ d. (channel_at b d).peer ≡ peer.Open) (same_of r.0 c same) s))
+    (λ _. of_if IsSound (is_idle (content_after r.1 u)) _ _ (λ _. tt) (λ _. subst (λ d. (channel_at b d).peer ≡ peer.Open) (same_number r.0 c same) s))
     (λ _. before))
     (λ _. before)
 read_sound b c f u None e s =

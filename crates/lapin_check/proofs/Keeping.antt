@@ -20,6 +20,7 @@ use Rattle.lapin_check.specs.Pointing.{IsUnsettled, Points, Stands, IsKept, plac
 use Rattle.lapin_check.proofs.Counts.{more_if, counted_if}
 use Rattle.lapin_check.proofs.Pointing.{get_either, mapped, mark_channel, mark_opening, points_joined, points_aside, points_other, points_none}
 use Rattle.lapin_check.proofs.Numbering.{rests, Moves, read_other, read_moves, Sent, send_other, send_moves, settler_busy}
+use Rattle.lapin_tables.proofs.Bools.{and_false}
 
 -- nothing is kept at first
 pub kept-new : (m : ℕ) → IsKept 0 (new_watch m) []
@@ -33,10 +34,6 @@ kept-new m = record {
     nowhere : (i : ℕ) (k : Counted) → slice_get [] i ≡ Some k → ⊥
     nowhere zero k h = cc
     nowhere (suc i) k h = cc
-
-and_false : (b : Bool) → b && false ≡ false
-and_false true = refl
-and_false false = refl
 
 not_less : (m n : ℕ) → n ≡ m → nat_lt m n ≡ false
 not_less m n same = grind (arith, nat_tests)

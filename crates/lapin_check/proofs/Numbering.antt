@@ -1,5 +1,5 @@
 -- What a channel of a broker is after a frame: free, or with the numbers that it had, or with one more.
-use Rattle.std.proofs.Common.{◌≡◌, ◌≢◌, ◌⊎◌, ℕ, zero, suc, ◌==◌, Bool, true, false, true≢false, ◌&&◌, cond, List, [], ◌∷◌, ◌++◌, length, Option, Some, None, refl, sym, ap, subst, ◌∙◌, inl, inr, ne_eqb, eq-eqb}
+use Rattle.std.proofs.Common.{◌≡◌, ◌≢◌, ◌⊎◌, ℕ, zero, suc, ◌==◌, Bool, true, false, true≢false, ◌&&◌, cond, List, [], ◌∷◌, ◌++◌, length, Option, Some, None, refl, sym, ap, subst, ◌∙◌, inl, inr, ne_eqb}
 use Rattle.std.specs.Prelude.{is_some}
 use Rattle.std.specs.Option.{option_map, option_or}
 use Rattle.lapin_types.specs.Types.{Frame}
@@ -27,18 +27,13 @@ use Rattle.lapin_broker.specs.Sends.{may, may_in, send, after_send}
 use Rattle.lapin_check.specs.declared.seen.Settlement.{Settlement}
 use Rattle.lapin_check.specs.Openings.{is_free, opens}
 use Rattle.lapin_check.specs.Settlements.{settlement_in}
+use Rattle.lapin_broker.proofs.SoundLaw.{same_pair}
 
 -- the channel is free
 abbrev pub rests : Channel → Bool
 rests x = is_free (state_of_peer x.peer)
 
 -- ---- A channel among the others.
-
-with-same : (c : ℕ) (y : Channel) (es : List (ℕ × Channel)) (o : Option Channel) → at_channel c es ≡ o → at_channel c (cond (is_some o) (on_channel c (λ _. y) es) (es ++ (c, y) ∷ [])) ≡ Some y
-with-same c y es None is =
-    let last : option_or (at_channel c es) (cond (c == c) (Some y) None) ≡ Some y = rw (is, eq-eqb c c refl) refl in
-    at-push c c y es ∙ last
-with-same c y es (Some x) is = at-on_same c (λ _. y) es ∙ ap (option_map (λ _. y)) is
 
 with-other : (c d : ℕ) (y : Channel) (es : List (ℕ × Channel)) (b : Bool) → c ≢ d → at_channel d (cond b (on_channel c (λ _. y) es) (es ++ (c, y) ∷ [])) ≡ at_channel d es
 with-other c d y es true apart = at-on_other c d (λ _. y) es apart
@@ -192,7 +187,7 @@ module _ (f : Frame) (b : Broker) where
         read_each (λ es. Moves (channel_in (at_channel c es)))
         stays
         (subst (λ (o : Option Channel). Moves (channel_in o)) (sym (at-on_same c with_next_number b.channels)) (number_at (at_channel c b.channels) refl))
-        (λ up. subst (λ (o : Option Channel). Moves (channel_in o)) (sym (with-same c (read_in x.peer f x u) b.channels (at_channel c b.channels) refl)) (in_moves up x.peer refl))
+        (λ up. subst (λ (o : Option Channel). Moves (channel_in o)) (sym (same_pair c (read_in x.peer f x u) b.channels (at_channel c b.channels) refl)) (in_moves up x.peer refl))
 
 -- ---- Sends.
 

@@ -2,7 +2,7 @@
 use Rattle.std.proofs.Common.{◌≡◌, ◌≢◌, ◌⊎◌, ℕ, zero, suc, ◌+◌, ◌<◌, ◌≤◌, ◌==◌, nat_le, Bool, true, false, true≢false, ◌&&◌, ◌||◌, not, cond, List, [], ◌∷◌, ◌++◌, length, map, slice_get, slice_set, Option, Some, None, refl, sym, ap, subst, ◌∙◌, arith, inl, inr, eq-eqb}
 use Rattle.std.specs.Option.{is_some, option_map}
 use Rattle.std.proofs.lemmas.Bool.Decides.{eqb_tells, nat_tests}
-use Rattle.std.proofs.lemmas.Option.{slice_get-map, slice_get_within}
+use Rattle.std.proofs.lemmas.Option.{slice_get-map, slice_get_within, same_Some}
 use Rattle.lapin_tables.specs.Numbered.{under, with_under, first_kept}
 use Rattle.lapin_tables.proofs.Lists.{get-set_same, get-set_other}
 use Rattle.lapin_tables.proofs.SlotLaws.{under-same, under-other, under-push, under-last, under-pushed, first-least, first-none}
@@ -13,6 +13,7 @@ use Rattle.lapin_check.specs.Settlements.{reaches, covers}
 use Rattle.lapin_check.specs.Account.{told_of}
 use Rattle.lapin_check.specs.Marks.{mark}
 use Rattle.lapin_check.specs.Pointing.{IsUnsettled, Points}
+use Rattle.lapin_tables.proofs.Bools.{and_first, and_second}
 
 -- ---- lists
 
@@ -57,31 +58,23 @@ module _ (p o : ℕ) (s : Settlement) where
   abbrev Stays : Counted → Type 0
   Stays k = mark p o s k ≡ k
 
-  first_true : (a b : Bool) → a && b ≡ true → a ≡ true
-  first_true true b h = refl
-  first_true false b h = absurd (true≢false (sym h))
-
-  second_true : (a b : Bool) → a && b ≡ true → b ≡ true
-  second_true true b h = h
-  second_true false b h = absurd (true≢false (sym h))
-
   -- a covered publish is of that channel and opening, and is reached
   covered_channel : (k : Counted) → covers s o k ≡ true → s.channel ≡ k.channel
   covered_channel k h =
       elim (eqb_tells s.channel k.channel) [
         | inl same ↦ same.1
-        | inr other ↦ absurd (true≢false (sym (first_true (s.channel == k.channel) (o == k.opening) (first_true (s.channel == k.channel && o == k.opening) (reaches s k.number) h)) ∙ other.0))
+        | inr other ↦ absurd (true≢false (sym (and_first (s.channel == k.channel) (o == k.opening) (and_first (s.channel == k.channel && o == k.opening) (reaches s k.number) h)) ∙ other.0))
       ]
 
   covered_opening : (k : Counted) → covers s o k ≡ true → o ≡ k.opening
   covered_opening k h =
       elim (eqb_tells o k.opening) [
         | inl same ↦ same.1
-        | inr other ↦ absurd (true≢false (sym (second_true (s.channel == k.channel) (o == k.opening) (first_true (s.channel == k.channel && o == k.opening) (reaches s k.number) h)) ∙ other.0))
+        | inr other ↦ absurd (true≢false (sym (and_second (s.channel == k.channel) (o == k.opening) (and_first (s.channel == k.channel && o == k.opening) (reaches s k.number) h)) ∙ other.0))
       ]
 
   covered_number : (k : Counted) → covers s o k ≡ true → reaches s k.number ≡ true
-  covered_number k h = second_true (s.channel == k.channel && o == k.opening) (reaches s k.number) h
+  covered_number k h = and_second (s.channel == k.channel && o == k.opening) (reaches s k.number) h
 
   -- a publish is covered or it stays
   mark_cases : (k : Counted) → ((k.settled ≡ None) × (covers s o k ≡ true)) ⊎ Stays k
@@ -161,7 +154,7 @@ module _ (c o : ℕ) (places : List (Option ℕ)) (account : List Counted) (h : 
           | inl same ↦
               let mine : slice_get (slice_set account i t) j ≡ Some t = subst (λ (z : ℕ). slice_get (slice_set account i t) z ≡ Some t) same.1 (get-set_same account i t (slice_get_within account i k is)) in
               let one : Some t ≡ Some e = sym mine ∙ here in
-              let no : Some x ≡ None = sym settled ∙ ap (λ (z : Counted). z.settled) (inside t e one) ∙ waits.settled in
+              let no : Some x ≡ None = sym settled ∙ ap (λ (z : Counted). z.settled) (same_Some t e one) ∙ waits.settled in
               absurd (cc)
           | inr other ↦
               let old : slice_get account j ≡ Some e = sym (get-set_other account i j t other.1) ∙ here in
@@ -171,20 +164,14 @@ module _ (c o : ℕ) (places : List (Option ℕ)) (account : List Counted) (h : 
         ];
   }
     where
-      inside : (a b : Counted) → Some a ≡ Some b → a ≡ b
-      inside a b e = cc
-
-      inside_place : (a b : ℕ) → Some a ≡ Some b → a ≡ b
-      inside_place a b e = cc
-
       same_number : (m j : ℕ) (e : Counted) → IsUnsettled c o m e → slice_get account j ≡ Some e → i ≡ j → m ≡ n
       same_number m j e waits here same =
           let mine = h.there n i at in
           let one : Some mine.0 ≡ Some e = sym mine.1 ∙ subst (λ (z : ℕ). slice_get account z ≡ Some e) (sym same) here in
-          sym waits.number ∙ sym (ap (λ (z : Counted). z.number) (inside mine.0 e one)) ∙ mine.2.number
+          sym waits.number ∙ sym (ap (λ (z : Counted). z.number) (same_Some mine.0 e one)) ∙ mine.2.number
 
       place_same : (m j : ℕ) → under m places ≡ Some j → m ≡ n → i ≡ j
-      place_same m j found same = inside_place i j (sym at ∙ subst (λ (z : ℕ). under z places ≡ Some j) same found)
+      place_same m j found same = same_Some i j (sym at ∙ subst (λ (z : ℕ). under z places ≡ Some j) same found)
 
   -- a publish of this channel and opening takes the next number
   pub points_joined : (k : Counted) → IsUnsettled c o (length places + 1) k → Points c o (places ++ Some (length account) ∷ []) (account ++ k ∷ [])
@@ -193,7 +180,7 @@ module _ (c o : ℕ) (places : List (Option ℕ)) (account : List Counted) (h : 
         elim (under-pushed n (Some (length account)) i places found) [
           | inl old ↦ let entry = h.there n i old in (entry.0, get_front account k entry.0 i entry.1, entry.2)
           | inr new ↦
-              let last : length account ≡ i = inside (length account) i new.1 in
+              let last : length account ≡ i = same_Some (length account) i new.1 in
               (k, subst (λ (z : ℕ). slice_get (account ++ k ∷ []) z ≡ Some k) last (get_last account k), subst (λ (z : ℕ). IsUnsettled c o z k) (sym new.0) waits)
         ];
     all = λ i n e here unsettled.
@@ -204,9 +191,6 @@ module _ (c o : ℕ) (places : List (Option ℕ)) (account : List Counted) (h : 
               under-last n (Some (length account)) places last ∙ ap (λ (z : ℕ). Some z) (sym new.0)
         ];
   }
-    where
-      inside : (a b : ℕ) → Some a ≡ Some b → a ≡ b
-      inside a b e = cc
 
   -- a publish of another channel
   pub points_aside : (k : Counted) → k.channel ≢ c → Points c o places (account ++ k ∷ [])
@@ -268,12 +252,9 @@ points_none c o account before = record {
 pub one_points : (p o : ℕ) (s : Settlement) (n i : ℕ) (k t : Counted) (places : List (Option ℕ)) (account : List Counted) → Points s.channel o places account → reaches s n ≡ true → under n places ≡ Some i → slice_get account i ≡ Some k → t ≡ mark p o s k → Points s.channel o (with_under n None places) (slice_set account i t)
 one_points p o s n i k t places account h reached at is marked =
     let entry = h.there n i at in
-    let same : k ≡ entry.0 = inside k entry.0 (sym is ∙ entry.1) in
+    let same : k ≡ entry.0 = same_Some k entry.0 (sym is ∙ entry.1) in
     let waits : IsUnsettled s.channel o n k = subst (λ (z : Counted). IsUnsettled s.channel o n z) (sym same) entry.2 in
     points_settled s.channel o places account h n i k t (told_of p s) at is (ap (λ (z : Counted). z.settled) marked ∙ mark_some p o s n k waits reached)
-  where
-    inside : (a b : Counted) → Some a ≡ Some b → a ≡ b
-    inside a b e = cc
 
 pub one_same : (p o : ℕ) (s : Settlement) (i : ℕ) (k t : Counted) (account : List Counted) → slice_get account i ≡ Some k → t ≡ mark p o s k → map (mark p o s) (slice_set account i t) ≡ map (mark p o s) account
 one_same p o s i k t account is marked = map_set (mark p o s) account i k t is (ap (mark p o s) marked ∙ mark_again p o s k)

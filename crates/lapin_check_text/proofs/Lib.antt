@@ -1,3 +1,2 @@
 pub mod SeenLaws
-pub mod InputLaws
 pub mod FindingLaws

@@ -1,12 +1,12 @@
 //! Whole inputs of a check: the greatest frame size of the first line, and what is seen by the other lines up to the first bad one.
 
 ghost use Rattle.std.specs.Prelude.{IfOk};
-ghost use Rattle.lapin_text.specs.Input.{lines_of};
-ghost use Rattle.lapin_check_text.specs.Input.{AreSeen, AreParsed};
+ghost use Rattle.lapin_text.specs.Input.{lines_of, LinesSay};
+ghost use Rattle.lapin_check_text.specs.Seen.{seen_line, HasLine};
 
 use crate::seen::read_seen;
 use lapin_check::Seen;
-use lapin_text::{Lines, read_max};
+use lapin_text::{ReadLine, parse_lines};
 use lapin_types::NoMemory;
 use std::alloc::Global;
 
@@ -21,20 +21,21 @@ pub struct ParsedSeen {
     pub bad: Option<u64>,
 }
 
-fn read_all_seen(alloc: Global, lines: &mut Lines) -> Result<(Vec<Seen>, Option<u64>), NoMemory>
-    ensures { IfOk result (λ p. AreSeen 2 lines.old p.0.items p.1) }
-{
-    let mut transcript = Vec::new(alloc);
-    while let Some(line) = lines.next() {
-        match read_seen(alloc, line)? {
-            Some(seen) => transcript.push(seen)?,
-            None => {
-                let bad = transcript.len() as u64 + 2;
-                return Ok((transcript, Some(bad)));
-            }
-        }
+/// Lines by which something is seen.
+enum SeenLines {}
+
+impl ReadLine for SeenLines {
+    type Step = Seen;
+
+    const SHORTEST: usize = 3;
+
+    ghost line_of = { seen_line };
+
+    ghost has_line = { HasLine };
+
+    fn read(alloc: Global, line: &[u8]) -> Result<Option<Seen>, NoMemory> {
+        read_seen(alloc, line)
     }
-    Ok((transcript, None))
 }
 
 /// Reads an input: the first line, and what is seen up to the first line that isn't in the grammar.
@@ -42,26 +43,12 @@ fn read_all_seen(alloc: Global, lines: &mut Lines) -> Result<(Vec<Seen>, Option<
 /// # Errors
 /// `NoMemory`.
 pub fn parse_seen(alloc: Global, bytes: &[u8]) -> Result<ParsedSeen, NoMemory>
-    ensures { IfOk result (λ p. AreParsed (lines_of bytes.now) p.frame_max p.transcript.items p.bad) }
+    ensures { IfOk result (λ p. LinesSay seen_line HasLine (lines_of bytes.now) p.frame_max p.transcript.items p.bad) }
 {
-    let mut lines = Lines::new(bytes);
-    let max = match lines.next() {
-        Some(line) => read_max(line),
-        None => None,
-    };
-    match max {
-        Some(max) => {
-            let (transcript, bad) = read_all_seen(alloc, &mut lines)?;
-            Ok(ParsedSeen {
-                frame_max: Some(max),
-                transcript,
-                bad,
-            })
-        }
-        None => Ok(ParsedSeen {
-            frame_max: None,
-            transcript: Vec::new(alloc),
-            bad: Some(1),
-        }),
-    }
+    let (frame_max, transcript, bad) = parse_lines::<SeenLines>(alloc, bytes)?;
+    Ok(ParsedSeen {
+        frame_max,
+        transcript,
+        bad,
+    })
 }

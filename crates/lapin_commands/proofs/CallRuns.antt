@@ -3,7 +3,7 @@ use Rattle.std.proofs.Common.{◌≡◌, ◌∙◌, ℕ, ◌+◌, ◌≤◌, ◌
 use Rattle.std.specs.Prelude.{Result, Ok, Err, IfOk}
 use Rattle.lapin_machine.specs.World.{new_world}
 use Rattle.lapin_machine.specs.Way.{by_machine}
-use Rattle.lapin_text.specs.Input.{lines_of, max_line, IsMax}
+use Rattle.lapin_text.specs.Input.{lines_of, max_line, IsMax, AreSteps, LinesSay}
 use Rattle.lapin_text.specs.Records.{line_onto}
 use Rattle.lapin_call.specs.declared.step.CallStep.{CallStep}
 use Rattle.lapin_call.specs.Calls.{new_requester, after, report, reports}
@@ -11,7 +11,6 @@ use Rattle.lapin_call.specs.CallRun.{CallRun}
 use Rattle.lapin_call.proofs.Alike.{reports_calls}
 use Rattle.lapin_call_text.specs.Steps.{step_line, HasLine, NoLine}
 use Rattle.lapin_call_text.specs.Reports.{report_tokens, report_line, reports_text}
-use Rattle.lapin_inputs.specs.Lines.{AreSteps, AreParsed}
 use Rattle.lapin_inputs.specs.Printing.{Adds, bad_line_text}
 use Rattle.lapin_inputs.proofs.Streaming.{adds_by, prints_by}
 use Rattle.lapin_commands.specs.Call.{calls_text, PrintsCalls, CallsGoOn}
@@ -35,8 +34,8 @@ new_calls m queue = record { requester = new_requester by_machine (new_world m) 
 
 calls_whole : (m : ℕ) (queue : List ℕ) (k : CallRun) (input : List ℕ) (lines : List (List ℕ)) (bad : Option ℕ) (text : List ℕ) → k ≡ new_calls m queue → IsMax m → lines_of input ≡ max_line m ∷ lines → CallsGoOn k 2 lines bad text → PrintsCalls queue input bad (text ++ bad_line_text bad)
 calls_whole m queue k input lines bad text new ok is p =
-    prints_by (AreParsed step_line HasLine) (AreSteps step_line HasLine) (calls_text queue) (λ ss. reports_text (reports by_machine ss k.requester)) m input lines bad text
-    (λ ss are. subst (λ (ls : List (List ℕ)). AreParsed step_line HasLine ls (Some m) ss bad) (sym is) (ok, refl, are))
+    prints_by (LinesSay step_line HasLine) (AreSteps step_line HasLine) (calls_text queue) (λ ss. reports_text (reports by_machine ss k.requester)) m input lines bad text
+    (λ ss are. subst (λ (ls : List (List ℕ)). LinesSay step_line HasLine ls (Some m) ss bad) (sym is) (ok, refl, are))
     (λ ss. ap reports_text (ap (λ (x : CallRun). reports by_machine ss x.requester) new ∙ reports_calls m queue ss))
     p
 

@@ -2,7 +2,6 @@
 use Rattle.std.proofs.Common.{◌≡◌, ℕ, ◌≤◌, List, [], ◌++◌, length, Option, Some, None, refl, sym, ap, ◌∙◌, subst, append-nil}
 use Rattle.lapin_text.specs.Input.{lines_of}
 use Rattle.lapin_inputs.specs.Reading.{longest_input}
-use Rattle.lapin_inputs.specs.Lines.{AreParsed}
 use Rattle.lapin_inputs.specs.Printing.{PrintsBy, text_behind, bad_line_text}
 use Rattle.lapin_inputs.specs.Outcome.{HasRead, WroteToBadLine}
 use Rattle.lapin_inputs.specs.Format.{Tells, SaysEvents}

@@ -10,7 +10,7 @@ use Rattle.lapin_machine.specs.World.{World, new_world, next, told_by}
 use Rattle.lapin_machine.specs.Way.{by_machine}
 use Rattle.lapin_machine.specs.declared.channel.Heard.{Heard}
 use Rattle.lapin_text.specs.Events.{line_of}
-use Rattle.lapin_text.specs.Input.{lines_of, max_line, IsMax}
+use Rattle.lapin_text.specs.Input.{lines_of, max_line, IsMax, AreSteps, LinesSay}
 use Rattle.lapin_text.specs.LineReading.{line_at}
 use Rattle.lapin_text.specs.Records.{line_onto, record_tokens}
 use Rattle.lapin_text.proofs.LineLaws.{line_found, refused}
@@ -25,7 +25,6 @@ use Rattle.lapin_joint.proofs.Steps.{can_take_rest, can_take_fewer}
 use Rattle.lapin_joint_text.specs.Steps.{step_line, HasLine, IsLineOf, NoLine}
 use Rattle.lapin_joint_text.specs.Reports.{report_tokens, report_line, reports_text}
 use Rattle.lapin_joint_text.proofs.StepLaws.{client_found, client_none}
-use Rattle.lapin_inputs.specs.Lines.{AreSteps, AreParsed}
 use Rattle.lapin_inputs.specs.Printing.{Adds, bad_line_text}
 use Rattle.lapin_inputs.proofs.Streaming.{adds_by, prints_by}
 use Rattle.lapin_commands.specs.Joined.{joined_text, PrintsJoined, JoinedGoesOn, IsMade, IsStepMade}
@@ -132,8 +131,8 @@ made_same j k line old new false made is = made.2
 
 joined_whole : (m : ℕ) (j : Joint World) (input : List ℕ) (lines : List (List ℕ)) (bad : Option ℕ) (text : List ℕ) → j ≡ new_joint (new_world m) m → IsMax m → lines_of input ≡ max_line m ∷ lines → JoinedGoesOn j 2 lines bad text → PrintsJoined input bad (text ++ bad_line_text bad)
 joined_whole m j input lines bad text new ok is p =
-    prints_by (AreParsed step_line HasLine) (AreSteps step_line HasLine) joined_text (λ ss. reports_text (reports by_machine ss j)) m input lines bad text
-    (λ ss are. subst (λ (ls : List (List ℕ)). AreParsed step_line HasLine ls (Some m) ss bad) (sym is) (ok, refl, are))
+    prints_by (LinesSay step_line HasLine) (AreSteps step_line HasLine) joined_text (λ ss. reports_text (reports by_machine ss j)) m input lines bad text
+    (λ ss are. subst (λ (ls : List (List ℕ)). LinesSay step_line HasLine ls (Some m) ss bad) (sym is) (ok, refl, are))
     (λ ss. ap reports_text (ap (λ (x : Joint World). reports by_machine ss x) new ∙ reports_joined m ss))
     p
 

@@ -1,30 +1,22 @@
 -- What a publisher that sends again owes as a run that an input drives.
 use Rattle.std.proofs.Common.{◌≡◌, ◌∙◌, ℕ, ◌+◌, ◌≤◌, ◌^◌, List, [], ◌∷◌, ◌++◌, Option, Some, refl, sym, ap, subst, arith}
 use Rattle.std.specs.Prelude.{Result, Ok, Err, IfOk}
-use Rattle.lapin_text.specs.Input.{lines_of, max_line, IsMax}
+use Rattle.lapin_text.specs.Input.{lines_of, max_line, IsMax, AreSteps, LinesSay}
 use Rattle.lapin_text.specs.Records.{line_onto}
 use Rattle.lapin_resend.specs.declared.step.ResendStep.{ResendStep}
 use Rattle.lapin_resend.specs.declared.step.ResendReport.{ResendReport}
 use Rattle.lapin_resend.specs.Publisher.{Publisher}
-use Rattle.lapin_resend.specs.Resend.{report_of, after_step, new_publisher, publisher_from, publisher_after, reports_from, resend}
+use Rattle.lapin_resend.specs.Resend.{report_of, after_step, new_publisher, publisher_after, reports_from, resend}
 use Rattle.lapin_resend.specs.Sending.{Sending, StandsForSteps, most_steps}
 use Rattle.lapin_resend_text.specs.Steps.{step_line, HasLine, NoLine}
 use Rattle.lapin_resend_text.specs.Reports.{resend_tokens, resend_line}
-use Rattle.lapin_inputs.specs.Lines.{AreSteps, AreParsed}
 use Rattle.lapin_inputs.specs.Printing.{Adds, bad_line_text}
 use Rattle.lapin_commands.specs.Resend.{PrintsResend, ResendGoesOn, resend_text, text_after}
 use Rattle.lapin_commands.proofs.Runs.{line_grown}
 use Rattle.lapin_inputs.proofs.Streaming.{adds_by, prints_by}
+use Rattle.lapin_resend.proofs.Sending.{from-push, reports-push}
 
 -- ---- one step more
-
-from-push : (n : ℕ) (ss : List ResendStep) (s : ResendStep) (p : Publisher) → publisher_from n (ss ++ s ∷ []) p ≡ after_step n s (publisher_from n ss p)
-from-push n [] s p = refl
-from-push n (t ∷ ss) s p = from-push n ss s (after_step n t p)
-
-reports-push : (n : ℕ) (ss : List ResendStep) (s : ResendStep) (p : Publisher) → reports_from n (ss ++ s ∷ []) p ≡ reports_from n ss p ++ report_of n s (publisher_from n ss p) ∷ []
-reports-push n [] s p = refl
-reports-push n (t ∷ ss) s p = ap (λ (rs : List ResendReport). report_of n t p ∷ rs) (reports-push n ss s (after_step n t p))
 
 last_same : (rs : List ResendReport) (a b : ResendReport) → rs ++ a ∷ [] ≡ rs ++ b ∷ [] → a ≡ b
 last_same [] a b e = cc
@@ -59,8 +51,8 @@ resend_begins (Ok k) m stands = ((m, []), stands, whole)
   where
     whole : Begins m (m, [])
     whole input lines bad text ok is p =
-        prints_by (AreParsed step_line HasLine) (AreSteps step_line HasLine) resend_text (text_after m []) m input lines bad text
-        (λ ss are. subst (λ (ls : List (List ℕ)). AreParsed step_line HasLine ls (Some m) ss bad) (sym is) (ok, refl, are))
+        prints_by (LinesSay step_line HasLine) (AreSteps step_line HasLine) resend_text (text_after m []) m input lines bad text
+        (λ ss are. subst (λ (ls : List (List ℕ)). LinesSay step_line HasLine ls (Some m) ss bad) (sym is) (ok, refl, are))
         (λ ss. refl)
         p
 resend_begins (Err e) m stands = tt

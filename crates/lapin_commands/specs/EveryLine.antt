@@ -1,13 +1,13 @@
 -- Whatever a line is, it is the line of an event or it is none's, and the same of a step of a joined run: so every input prints
 -- something.
-use Rattle.std.proofs.Common.{◌≡◌, ◌≢◌, ◌⊎◌, inl, inr, ℕ, ◌+◌, List, [], ◌∷◌, ◌++◌, Option, Some, None, refl}
+use Rattle.std.proofs.Common.{◌≡◌, ◌≢◌, ◌⊎◌, inl, inr, ℕ, List, ◌++◌, Option, Some, None, refl}
 use Rattle.std.specs.Prelude.{codes}
 use Rattle.lapin_types.specs.declared.event.Event.{Event}
 use Rattle.lapin_types.specs.Types.{Frame}
 use Rattle.lapin_machine.specs.World.{World, outputs}
 use Rattle.lapin_machine.specs.Way.{by_machine}
 use Rattle.lapin_text.specs.LineReading.{line_at, frame_text_at}
-use Rattle.lapin_text.specs.Input.{AreEvents}
+use Rattle.lapin_text.specs.Events as events
 use Rattle.lapin_text.specs.Records.{records_text}
 use Rattle.lapin_text.proofs.LineLaws.{line_found, refused, text_found, text_refused}
 use Rattle.lapin_joint.specs.declared.step.Step.TheVariants as step
@@ -21,21 +21,18 @@ use Rattle.lapin_commands.specs.Joined.{JoinedGoesOn}
 
 -- ---- events
 
--- lines, whatever they are, say some events up to a first bad line, if they have one
-some_events : (n : ℕ) (lines : List (List ℕ)) → (events : List Event) × (bad : Option ℕ) × AreEvents n lines events bad
-some_events n [] = ([], None, refl)
-some_events n (line ∷ lines) = with_line (line_at line) refl (some_events (n + 1) lines)
+-- a line is the line of an event or none's
+an_event : (line : List ℕ) → Step? events.line_of events.HasLine line
+an_event line = with_event (line_at line) refl
   where
-    with_line : (read : Option Event) → line_at line ≡ read → ((events : List Event) × (bad : Option ℕ) × AreEvents (n + 1) lines events bad) → (events : List Event) × (bad : Option ℕ) × AreEvents n (line ∷ lines) events bad
-    with_line None e rest = ([], Some n, (refl, λ event fit is. refused line event fit is e))
-    with_line (Some event) e rest =
-        let found = line_found line event e in
-        (event ∷ rest.0, rest.1, (found.1, found.0, rest.2))
+    with_event : (read : Option Event) → line_at line ≡ read → Step? events.line_of events.HasLine line
+    with_event None e = inr (λ event fit is. refused line event fit is e)
+    with_event (Some event) e = inl (event, line_found line event e)
 
 -- for lines, whatever they are, a session that goes on prints some text
 pub session_goes : (w : World) (n : ℕ) (lines : List (List ℕ)) → (bad : Option ℕ) × (text : List ℕ) × SessionGoesOn w n lines bad text
 session_goes w n lines =
-    let some = some_events n lines in
+    let some = some_steps events.line_of events.HasLine an_event n lines in
     (some.1, records_text (outputs w some.0), record { steps = some.0; are = some.2; printed = refl })
 
 -- ---- steps

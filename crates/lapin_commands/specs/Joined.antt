@@ -2,12 +2,12 @@
 use Rattle.std.specs.Prelude.{◌≡◌, ℕ, List, [], ◌∷◌, ◌++◌, Option, Bool, true, false}
 use Rattle.lapin_machine.specs.Way.{by_machine}
 use Rattle.lapin_machine.specs.World.{World}
+use Rattle.lapin_text.specs.Input.{AreSteps, LinesSay}
 use Rattle.lapin_text.specs.Records.{line_onto}
 use Rattle.lapin_joint.specs.declared.step.Step.{Step}
 use Rattle.lapin_joint.specs.Joint.{Joint, after, report, reports, joined}
 use Rattle.lapin_joint_text.specs.Steps.{step_line, HasLine, IsLineOf, NoLine}
 use Rattle.lapin_joint_text.specs.Reports.{report_tokens, reports_text}
-use Rattle.lapin_inputs.specs.Lines.{AreSteps, AreParsed}
 use Rattle.lapin_inputs.specs.Printing.{PrintsBy, GoesOnBy}
 
 -- the reports of a new session and a new broker that make these steps
@@ -16,7 +16,7 @@ joined_text frame_max steps = reports_text (joined frame_max steps)
 
 -- the lines are steps, and the text is the reports of a joined run that begins new and makes them
 abbrev pub PrintsJoined : List ℕ → Option ℕ → List ℕ → Type 0
-PrintsJoined input bad text = PrintsBy Step (AreParsed step_line HasLine) joined_text input bad text
+PrintsJoined input bad text = PrintsBy Step (LinesSay step_line HasLine) joined_text input bad text
 
 -- the same of a joined run that goes on
 abbrev pub JoinedGoesOn : Joint World → ℕ → List (List ℕ) → Option ℕ → List ℕ → Type 0

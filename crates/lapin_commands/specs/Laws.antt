@@ -1,7 +1,8 @@
 -- The laws of the commands that go line by line, which they owe as runs.
-use Rattle.std.specs.Prelude.{ℕ, List, [], ◌∷◌, Some, None, refl}
+use Rattle.std.specs.Prelude.{ℕ, List, [], Some, None, refl}
 use Rattle.lapin_machine.specs.World.{World}
-use Rattle.lapin_text.specs.Input.{lines_of, AreParsed}
+use Rattle.lapin_text.specs.Events as events
+use Rattle.lapin_text.specs.Input.{lines_of}
 use Rattle.lapin_joint.specs.Joint.{Joint}
 use Rattle.lapin_joint_text.specs.Steps as joint_text
 use Rattle.lapin_resend.specs.declared.step.ResendStep.{ResendStep}
@@ -35,14 +36,9 @@ calls_end k n = record { steps = []; are = refl; printed = refl }
 
 -- ---- without a first line nothing is run
 
--- where the first line is missing, or says no frame size, the lines say no event, and line 1 is the bad one
-events_first : (lines : List (List ℕ)) → NoFirst lines → AreParsed lines None [] (Some 1)
-events_first [] none = (refl, refl, refl)
-events_first (line ∷ lines) none = (none, refl, refl)
-
--- for such an input `session` prints that line 1 is bad, and nothing else
+-- where the first line is missing, or says no frame size, `session` prints that line 1 is bad, and nothing else
 pub session_first : (input : List ℕ) → NoFirst (lines_of input) → PrintsSession input (Some 1) (bad_line_text (Some 1))
-session_first input none = record { frame_max = None; steps = []; parsed = events_first (lines_of input) none; printed = refl }
+session_first input none = record { frame_max = None; steps = []; parsed = none_first events.line_of events.HasLine (lines_of input) none; printed = refl }
 
 -- so does `joined`
 pub joined_first : (input : List ℕ) → NoFirst (lines_of input) → PrintsJoined input (Some 1) (bad_line_text (Some 1))

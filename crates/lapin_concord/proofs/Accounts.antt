@@ -34,13 +34,13 @@ use Rattle.lapin_concord.specs.Refusals.{is_refusal, IsSettled}
 use Rattle.lapin_concord.proofs.Views.{Told, Untold, AreOwn, AreTold}
 use Rattle.lapin_concord.proofs.Lifting.{bare}
 use Rattle.lapin_concord.proofs.Calling.{told_of}
-use Rattle.lapin_concord.proofs.Leaving.{up_open}
 use Rattle.lapin_concord.proofs.Events.{asked_queues}
 use Rattle.lapin_concord.proofs.Tallies.{J3, tagged_run}
 use Rattle.lapin_concord.proofs.Settling.{settled_fine}
 use Rattle.lapin_concord.proofs.Noting.{AreNoted}
 use Rattle.lapin_concord.proofs.Marking.{Marked, AreBeside, beside, untold_run, conn_of, call_noted}
 use Rattle.lapin_concord.proofs.Receiving.{notes}
+use Rattle.lapin_rules.proofs.PhaseLaws.{up_open}
 
 -- ---- events of the client but for a frame request
 

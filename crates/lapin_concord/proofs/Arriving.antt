@@ -17,6 +17,7 @@ use Rattle.lapin_pairs.proofs.Every.{of_on, of_on_other, left_same, left_other}
 use Rattle.lapin_concord.specs.Held.{way}
 use Rattle.lapin_concord.proofs.Noting.{is_select, has_select, NotedAt, IsNotedIn, AreNoted, and_parts, and_all, noted_beside, noted_select, noted_left}
 use Rattle.lapin_concord.proofs.Stepping.{Noted, same_select, more_select, noted_put}
+use Rattle.std.proofs.lemmas.Bool.{not-true, not_from_false}
 
 -- ---- a frame comes to a channel
 
@@ -29,13 +30,6 @@ fewer rs (BSettle s) n h = left_none (list_any (covers n) rs) _ (sym (list_any-a
     left_none false b h = refl
 fewer rs _ n h = h
 
-of_not : (b : Bool) → not b ≡ true → b ≡ false
-of_not true h = cc
-of_not false h = refl
-
-not_of : (b : Bool) → b ≡ false → not b ≡ true
-not_of b h = ap not h
-
 -- the channel stays live
 grown : (s : S3) (c : ℕ) (ms : List ConfirmMark) (us ws : List U2) (x : DownF) → NotedAt s c ms us → NotedAt (take3 s ws x) c ms (us ++ [])
 grown s c ms us ws x h = record {
@@ -44,7 +38,7 @@ grown s c ms us ws x h = record {
   count = h.count;
   pending = λ n p.
       let q = and_parts (nat_lt 0 n) (nat_le n (length s.tagged)) (not (list_any (covers n) (with_settle s.received x))) p in
-      h.pending n (and_all (nat_lt 0 n) (nat_le n (length s.tagged)) (not (list_any (covers n) s.received)) q.0 q.1 (not_of (list_any (covers n) s.received) (fewer s.received x n (of_not (list_any (covers n) (with_settle s.received x)) q.2))));
+      h.pending n (and_all (nat_lt 0 n) (nat_le n (length s.tagged)) (not (list_any (covers n) s.received)) q.0 q.1 (not_from_false (list_any (covers n) s.received) (fewer s.received x n (not-true (list_any (covers n) (with_settle s.received x)) q.2))));
 }
 
 -- a closing channel whose close has left has nothing that waits

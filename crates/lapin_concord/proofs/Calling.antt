@@ -9,7 +9,7 @@ use Rattle.lapin_types.specs.declared.request.Request.{Request}
 use Rattle.lapin_types.specs.declared.request.Reply.{Reply}
 use Rattle.lapin_types.specs.declared.request.Reply.TheVariants as reply
 use Rattle.lapin_types.specs.declared.request.ReplyKind.TheVariants as reply_kind
-use Rattle.lapin_types.specs.Types.{Frame, Method, ChannelState}
+use Rattle.lapin_types.specs.Types.{Frame, Method}
 use Rattle.lapin_types.specs.Types.channel_state as state
 use Rattle.lapin_types.specs.Types.frame
 use Rattle.lapin_types.specs.Types.method
@@ -22,13 +22,12 @@ use Rattle.lapin_rules.specs.declared.phases.Closer.{Closer}
 use Rattle.lapin_rules.specs.declared.phases.Closer.TheVariants as closer
 use Rattle.lapin_rules.specs.declared.phases.ChannelPhase.{ChannelPhase}
 use Rattle.lapin_rules.specs.declared.phases.ChannelPhase.TheVariants as phase
-use Rattle.lapin_rules.specs.declared.phases.ConnectionPhase.{ConnectionPhase}
 use Rattle.lapin_rules.specs.declared.phases.ConnectionPhase.TheVariants as link
 use Rattle.lapin_rules.specs.Words.{is_some, with_channel}
 use Rattle.lapin_rules.specs.Phases.{is_up, channel_state}
 use Rattle.lapin_rules.specs.Requests.{first_request, is_kind}
 use Rattle.lapin_rules.specs.Drops.{is_off, publish_channel}
-use Rattle.lapin_rules.specs.Wire.{queued, Wire, phase_of, requests_of, state_of, is_open, is_closed, is_base, with_deliveries}
+use Rattle.lapin_rules.specs.Wire.{queued, Wire, phase_of, requests_of, state_of, is_open, is_closed, with_deliveries}
 use Rattle.lapin_rules.specs.Calls.{awaited_by}
 use Rattle.lapin_rules.specs.Opening.{after_open_call}
 use Rattle.lapin_rules.specs.ChannelClose.{own_close}
@@ -47,6 +46,7 @@ use Rattle.lapin_concord.specs.Held.{ends_close, way, IsMarked, IsLinked, is_ope
 use Rattle.lapin_concord.proofs.Views.{Told, Untold, Opens, Resets, told_call, Follows, stays, one_step, phase_at, phase_with, phase_away, requests_with_here, requests_away, Same, HeldOn, held_moved, chans_moved}
 use Rattle.lapin_concord.proofs.Queues.{asked-push, asked-push_other, IsAsking, Queues, QueuesOf}
 use Rattle.lapin_concord.proofs.Queueing.{open_is, way-append, methods-push, waits_more, moved_pair, Queued, queued_held, queued_follows}
+use Rattle.lapin_rules.proofs.PhaseLaws.{base_here, allowed_up}
 
 -- ---- consumers and ackers are no part of the pair
 
@@ -54,22 +54,6 @@ pub held_deliveries : (ms : List DeliveryMark) (b : Wire) → Held b → Held (w
 held_deliveries ms b h = record { up = λ e. let u = h.up e in record { zero = u.zero; each = u.each; publishes = u.publishes; rest = u.rest }; shut = h.shut; linked = h.linked; rest = h.rest; methods = h.methods }
 
 -- ---- states
-
-pub shut_refuses : (k : Asked) → is_allowed k state.Down ≡ false
-shut_refuses ask.Open = refl
-shut_refuses (ask.CloseChannel code text) = refl
-shut_refuses (ask.CloseConnection code text) = refl
-shut_refuses (ask.Publish exchange key o payload properties) = refl
-shut_refuses (ask.Consume m tag queue o) = refl
-shut_refuses (ask.Limit limit) = refl
-shut_refuses (ask.Method row) = refl
-shut_refuses ask.Nothing = refl
-
-pub allowed_up : (l : ConnectionPhase) (k : Asked) (s : ChannelState) → is_allowed k (cond (is_up l) s state.Down) ≡ true → l ≡ link.Open
-allowed_up link.Open k s h = refl
-allowed_up (link.Closing x) k s h = let x = shut_refuses k in cc
-allowed_up link.Closed k s h = let x = shut_refuses k in cc
-allowed_up link.Lost k s h = let x = shut_refuses k in cc
 
 pub opened_here : (t : Bool) (p : ChannelPhase) → is_open (cond t state.Base (channel_state p)) ≡ true → (t ≡ false) × (is_open_phase p ≡ true)
 opened_here true p h = absurd cc
@@ -86,14 +70,6 @@ closed_here false phase.Opening h = absurd cc
 closed_here false (phase.Open paused) h = absurd cc
 closed_here false (phase.Closing who sent) h = absurd cc
 closed_here false phase.Crossed h = absurd cc
-
-pub base_here : (t : Bool) (p : ChannelPhase) → is_base (cond t state.Base (channel_state p)) ≡ true → t ≡ true
-base_here true p h = refl
-base_here false phase.Closed h = cc
-base_here false phase.Opening h = cc
-base_here false (phase.Open paused) h = cc
-base_here false (phase.Closing who sent) h = cc
-base_here false phase.Crossed h = cc
 
 pub above : (c : ℕ) → (c == 0) ≡ false → (c ≡ 0 → ⊥)
 above c z e = let y : true ≡ false = sym (eq-eqb c 0 e) ∙ z in cc

@@ -3,7 +3,7 @@ use Rattle.std.proofs.Common.{◌≡◌, ◌≢◌, ℕ, Bool, true, false, cond
 use Rattle.std.proofs.lemmas.Bool.Decides.{eqb_tells}
 use Rattle.std.specs.Option.{option_or}
 use Rattle.lapin_tables.specs.ByChannel.{at_channel}
-use Rattle.lapin_tables.proofs.Channels.{at-push, at-on_same, at-on_other}
+use Rattle.lapin_tables.proofs.Channels.{at-push, at-on_same, at-on_other, or-none}
 use Rattle.lapin_types.specs.declared.leaving.Left.{Left}
 use Rattle.lapin_types.specs.Types.{Frame}
 use Rattle.lapin_content.specs.Contents.{Begun, Expected}
@@ -163,10 +163,6 @@ joined_here c e all = by_entry (at_channel c all) refl
     by_entry None h = ap listed (at-push c c (e ∷ []) all) ∙ rw (h, eq-eqb c c refl) refl
     by_entry (Some es) h = ap listed (at-on_same c (λ es. es ++ e ∷ []) all) ∙ rw h refl
 
-or_none : {X : Type 0} (o : Option X) → option_or o None ≡ o
-or_none None = refl
-or_none (Some x) = refl
-
 pub joined_away : (c y : ℕ) (e : Expected) (all : Channels) → (c == y) ≡ false → expected_on y (joined c e all) ≡ expected_on y all
 joined_away c y e all n = by_entry (at_channel c all)
   where
@@ -174,5 +170,5 @@ joined_away c y e all n = by_entry (at_channel c all)
     apart h = let z : true ≡ false = sym (eq-eqb c y h) ∙ n in cc
 
     by_entry : (o : Option (List Expected)) → expected_on y (joined_at o c e all) ≡ expected_on y all
-    by_entry None = ap listed (at-push c y (e ∷ []) all ∙ (ap (λ t. option_or (at_channel y all) (cond t (Some (e ∷ [])) None)) n ∙ or_none (at_channel y all)))
+    by_entry None = ap listed (at-push c y (e ∷ []) all ∙ (ap (λ t. option_or (at_channel y all) (cond t (Some (e ∷ [])) None)) n ∙ or-none (at_channel y all)))
     by_entry (Some es) = ap listed (at-on_other c y (λ es. es ++ e ∷ []) all apart)

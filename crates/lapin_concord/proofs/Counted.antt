@@ -30,9 +30,10 @@ use Rattle.lapin_concord.specs.Peers.{content_as, side_as, sides_as, IsPart, IsR
 use Rattle.lapin_concord.specs.Numbering.{IsCount, IsCountIn, AreCounts}
 use Rattle.lapin_concord.proofs.Sides.{chan_with, chan_away, chan_on, chan_on_away, reading_here}
 use Rattle.lapin_concord.proofs.Reading.{small, as_side, one_else, is_piece, piece, numbered_peer}
-use Rattle.lapin_concord.proofs.Sending.{low, right_of}
+use Rattle.lapin_concord.proofs.Sending.{low}
 use Rattle.lapin_concord.proofs.Numbering.{settles_as, settled_counts}
 use Rattle.lapin_concord.proofs.Counting.{count_as, read_counts, piece_counts}
+use Rattle.lapin_tables.proofs.Bools.{and_second}
 
 -- one channel changes
 at_one : (c : ℕ) (g h : ℕ → Channel) (s : B3) (t : ℕ → B3) → IsCountIn (h c).peer (h c) s.tag_count → ((e : ℕ) → (c == e) ≡ false → h e ≡ g e) → ((e : ℕ) → IsCountIn (g e).peer (g e) (t e).tag_count) → (e : ℕ) → IsCountIn (h e).peer (h e) (put c s t e).tag_count
@@ -124,8 +125,8 @@ gave_counts x t d k h n m = not_free x.peer (after_send t d x) k n (count_as x (
 
 -- a settlement that may be sent is one of a number that may be settled
 settles_in : (p : Peer) (x : Channel) (t : List ℕ) (n : ℕ) (m : Bool) → may_in p x t (broker.Settle n m) ≡ true → may_settle n m x.numbers ≡ true
-settles_in peer.Open x t n m h = right_of (is_idle x.sending) _ h
-settles_in peer.Leaving x t n m h = right_of (is_idle x.sending) _ h
+settles_in peer.Open x t n m h = and_second (is_idle x.sending) _ h
+settles_in peer.Leaving x t n m h = and_second (is_idle x.sending) _ h
 settles_in _ x t n m h = cc
 
 -- nothing is sent on a free channel

@@ -68,8 +68,9 @@ use Rattle.lapin_concord.proofs.Incomes.{sorted}
 use Rattle.lapin_concord.proofs.Coming.{Let, let_of, Others, others_only, above_zero, state_here, Comes, deliver_to, Receives, received}
 use Rattle.lapin_concord.proofs.Hearing.{replies, reply_comes, start_comes, get_comes, header_comes, body_comes, open_only, open_comes}
 use Rattle.lapin_concord.proofs.Ending.{close_comes, ok_comes}
-use Rattle.lapin_concord.proofs.Leaving.{up_open}
 use Rattle.lapin_concord.proofs.Down.{open_dead, close_up, crosses, ended_by, passed, gone_dead, cross_dead}
+use Rattle.lapin_rules.proofs.PhaseLaws.{up_open}
+use Rattle.lapin_tables.proofs.Bools.{and_first}
 
 -- ---- what the delivery leaves and tells
 
@@ -199,13 +200,9 @@ module _ (b : Wire) (see : Readings) (r : Record) (f : Frame) (br : Broker) (us 
       let o = others_at c kept.BTell refl (let_at c kept.BTell n) in
       heard (incoming.Consumer c (consumer.Cancel tag nowait)) (receives_on (state_of c b)) refl (on_here c o) (answers o (is_open (state_of c b) && not nowait) refl)
     where
-      left : (x y : Bool) → (x && y) ≡ true → x ≡ true
-      left true y h = refl
-      left false y h = cc
-
       answers : Others (phase_of c b) (way (of_u c (waits_as b))) → (t : Bool) → (is_open (state_of c b) && not nowait) ≡ t → To (after_cancel c tag nowait b)
       answers o true k =
-          let p : is_open_phase (phase_of c b) ≡ true = sym (ap is_open (state_here c b e (zero_not c o)) ∙ open_state (phase_of c b)) ∙ left (is_open (state_of c b)) (not nowait) k in
+          let p : is_open_phase (phase_of c b) ≡ true = sym (ap is_open (state_here c b e (zero_not c o)) ∙ open_state (phase_of c b)) ∙ and_first (is_open (state_of c b)) (not nowait) k in
           subst To (sym (ap (λ q. cond q (noted c (method.Basic (basic.CancelOk tag)) b) b) k)) (answered_by c (method.Basic (basic.CancelOk tag)) b (tells c (method.Basic (basic.CancelOk tag)) refl (λ most. tt)) refl e p (told_alone c kept.BTell n refl o refl))
       answers o false k = subst To (sym (ap (λ q. cond q (noted c (method.Basic (basic.CancelOk tag)) b) b) k)) (told_alone c kept.BTell n refl o refl)
 

@@ -40,11 +40,12 @@ use Rattle.lapin_concord.specs.Held.{is_behind, IsWhole, Held}
 use Rattle.lapin_concord.proofs.Views.{AreOwn, Departs, told_by_step, AreTold}
 use Rattle.lapin_concord.proofs.Lifting.{bare, tagged_step}
 use Rattle.lapin_concord.proofs.Queueing.{open_is}
-use Rattle.lapin_concord.proofs.Leaving.{up_open, open_found, told_begin, told_next}
+use Rattle.lapin_concord.proofs.Leaving.{open_found, told_begin, told_next}
 use Rattle.lapin_concord.proofs.Tallies.{tagged_run}
 use Rattle.lapin_concord.proofs.Noting.{is_select, has_select, IsNotedIn, AreNoted}
 use Rattle.lapin_concord.proofs.Arriving.{next_other, next_select, begin_noted, shut_noted}
 use Rattle.lapin_concord.proofs.Marking.{beside, untold_run, conn_of, unsent_of, sess_of, shut_of}
+use Rattle.lapin_rules.proofs.PhaseLaws.{up_open}
 
 -- ---- which frames are selects
 

@@ -1,6 +1,5 @@
 -- The broker's close of a channel, and its answer to a close of this side.
-use Rattle.std.proofs.Common.{◌≡◌, ℕ, Bool, true, false, cond, not, ◌==◌, List, [], ◌∷◌, ◌++◌, map, refl, sym, ◌∙◌, ap, ap₂, subst, subst₂, append-nil, Option, Some, None, inl, inr, eq-eqb, ne_eqb}
-use Rattle.std.proofs.lemmas.Bool.Decides.{eqb_tells}
+use Rattle.std.proofs.Common.{◌≡◌, ℕ, Bool, true, false, cond, not, ◌==◌, List, [], ◌∷◌, ◌++◌, map, refl, sym, ◌∙◌, ap, ap₂, subst, subst₂, append-nil, Option, Some, None, eq-eqb, ne_eqb}
 use Rattle.std.specs.List.{filter}
 use Rattle.lapin_types.specs.declared.leaving.Left.{Left}
 use Rattle.lapin_types.specs.declared.request.Request.{Request}
@@ -46,6 +45,8 @@ use Rattle.lapin_concord.proofs.Queueing.{methods-push, waits_more}
 use Rattle.lapin_concord.proofs.Calling.{above, open_off, open_closed}
 use Rattle.lapin_concord.proofs.Incomes.{asked-without}
 use Rattle.lapin_concord.proofs.Coming.{above_zero, state_here, Comes, deliver_to}
+use Rattle.lapin_rules.proofs.PhaseLaws.{kept_none}
+use Rattle.lapin_tables.proofs.Bools.{same_number}
 
 -- ---- the channel of a frame that waits
 
@@ -123,18 +124,12 @@ off_kind : (c d : ℕ) (u : ClientFrame) (ks : List (UpOn U2)) → (is_of_connec
 off_kind c d client.ConnectionClose ks h z = own (d == c) refl
   where
     own : (t : Bool) → (d == c) ≡ t → CloseU ∷ off_u c ks ≡ cond (not (d == c)) (CloseU ∷ off_u c ks) (off_u c ks)
-    own true e = let y : true ≡ false = sym (eq-eqb c 0 (sym (same d c e) ∙ same d 0 (h refl))) ∙ z in absurd cc
-      where
-        same : (m n : ℕ) → (m == n) ≡ true → m ≡ n
-        same m n k = elim (eqb_tells m n) [ inl y ↦ y.1 | inr y ↦ let j : true ≡ false = sym k ∙ y.0 in absurd cc ]
+    own true e = let y : true ≡ false = sym (eq-eqb c 0 (sym (same_number d c e) ∙ same_number d 0 (h refl))) ∙ z in absurd cc
     own false e = rw e refl
 off_kind c d client.ConnectionCloseOk ks h z = own (d == c) refl
   where
     own : (t : Bool) → (d == c) ≡ t → CloseOkU ∷ off_u c ks ≡ cond (not (d == c)) (CloseOkU ∷ off_u c ks) (off_u c ks)
-    own true e = let y : true ≡ false = sym (eq-eqb c 0 (sym (same d c e) ∙ same d 0 (h refl))) ∙ z in absurd cc
-      where
-        same : (m n : ℕ) → (m == n) ≡ true → m ≡ n
-        same m n k = elim (eqb_tells m n) [ inl y ↦ y.1 | inr y ↦ let j : true ≡ false = sym k ∙ y.0 in absurd cc ]
+    own true e = let y : true ≡ false = sym (eq-eqb c 0 (sym (same_number d c e) ∙ same_number d 0 (h refl))) ∙ z in absurd cc
     own false e = rw e refl
 off_kind c d (client.Select true) ks h z = elim (d == c) as (λ t. cond t (off_u c ks) (up_kind d (client.Select true) ∷ off_u c ks) ≡ cond (not t) (up_kind d (client.Select true) ∷ off_u c ks) (off_u c ks)) [ true ↦ refl | false ↦ refl ]
 off_kind c d (client.Select false) ks h z = elim (d == c) as (λ t. cond t (off_u c ks) (up_kind d (client.Select false) ∷ off_u c ks) ≡ cond (not t) (up_kind d (client.Select false) ∷ off_u c ks) (off_u c ks)) [ true ↦ refl | false ↦ refl ]
@@ -198,7 +193,7 @@ close_kind : (a : ReplyKind) → same_kind a reply_kind.ChannelCloseOk ≡ true 
 close_kind reply_kind.ChannelCloseOk h = refl
 close_kind _ h = cc
 
-first_is : (k : ReplyKind) (rs : List Request) (r : Request) → first_request k rs ≡ Some r → is_kind k r ≡ true
+pub first_is : (k : ReplyKind) (rs : List Request) (r : Request) → first_request k rs ≡ Some r → is_kind k r ≡ true
 first_is k [] r h = cc
 first_is k (x ∷ xs) r h = (elim (is_kind k x) as (λ b. is_kind k x ≡ b → cond b (Some x) (first_request k xs) ≡ Some r → is_kind k r ≡ true) [
   | true ↦ λ e h. let y : x ≡ r = cc in ap (is_kind k) (sym y) ∙ e
@@ -214,9 +209,6 @@ kept_asks p rs = elim (has_sent_close p) as (λ b. asked_in (cond b (close_alone
   | true ↦ alone_asks (first_request reply_kind.ChannelCloseOk rs) (λ r e. close_kind (kind_of r.reply) (first_is reply_kind.ChannelCloseOk rs r e))
   | false ↦ refl
 ]
-
-kept_none : (p : ChannelPhase) → kept_at p [] ≡ []
-kept_none p = elim (has_sent_close p) as (λ b. cond b (close_alone []) (no_requests []) ≡ []) [ true ↦ refl | false ↦ refl ]
 
 -- ---- the broker's close
 
@@ -243,7 +235,7 @@ after_marked (phase.Closing who true) us h = h
 after_marked (phase.Closing who false) us h = h
 after_marked phase.Crossed us h = h
 
-ends_has : (us : List Up) → ends_close us ≡ true → has_close us ≡ true
+pub ends_has : (us : List Up) → ends_close us ≡ true → has_close us ≡ true
 ends_has [] h = cc
 ends_has (UClose ∷ us) h = refl
 ends_has (UOpen ∷ us) h = ends_has us h

@@ -45,6 +45,7 @@ use Rattle.lapin_concord.proofs.Views.{Untold, requests_with_here, requests_away
 use Rattle.lapin_concord.proofs.Queues.{tells, asks, asked-push, Queues, QueuesOf, queues}
 use Rattle.lapin_concord.proofs.Queueing.{Queued, queued_held, queued_follows}
 use Rattle.lapin_concord.proofs.Calling.{told_of, opened_here, Goes, goes_none, goes_deliveries, asked_goes, call_goes}
+use Rattle.lapin_tables.proofs.Bools.{and_second}
 
 -- ---- calls
 
@@ -79,10 +80,6 @@ acker_event n k b h = goes_deliveries Untold (acker_deliveries n k b) b (acked_w
 
 -- ---- a consumer is let go
 
-right : (x y : Bool) → (x && y) ≡ true → y ≡ true
-right true y h = h
-right false y h = cc
-
 up_of : (l : ConnectionPhase) (s : _) → is_open (cond (is_up l) s state.Down) ≡ true → l ≡ link.Open
 up_of link.Open s h = refl
 up_of (link.Closing x) s h = cc
@@ -116,7 +113,7 @@ let_go_goes None b h = goes_none b h
 let_go_goes (Some x) b h = by_state (lets_go_of x b) refl
   where
     by_state : (t : Bool) → lets_go_of x b ≡ t → Goes Untold b (cond (lets_go_of x b) (cancel_noted x b) b)
-    by_state true e = subst (λ d. Goes Untold b d) (sym (ap (λ t. cond t (cancel_noted x b) b) e)) (cancel_goes x b (right (is_idle x) (is_open (state_of x.channel b)) e) h)
+    by_state true e = subst (λ d. Goes Untold b d) (sym (ap (λ t. cond t (cancel_noted x b) b) e)) (cancel_goes x b (and_second (is_idle x) (is_open (state_of x.channel b)) e) h)
     by_state false e = subst (λ d. Goes Untold b d) (sym (ap (λ t. cond t (cancel_noted x b) b) e)) (goes_none b h)
 
 pub drop_event : (n : ℕ) (b : Wire) → Held b → Goes Untold b (with_deliveries (drop_deliveries n b) (after_drop n b))

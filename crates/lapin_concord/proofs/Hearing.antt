@@ -35,6 +35,7 @@ use Rattle.lapin_concord.proofs.Reading.{less_is}
 use Rattle.lapin_concord.proofs.Incomes.{takes_first, asked-without}
 use Rattle.lapin_concord.proofs.Calling.{above, open_closed}
 use Rattle.lapin_concord.proofs.Coming.{Others, above_zero, state_here, Comes, deliver_to, Receives, received, begun_only, joined_here, joined_away}
+use Rattle.lapin_tables.proofs.Bools.{and_second}
 
 -- what was asked for, without the oldest of its kind
 abbrev pub answered : ℕ → ReplyKind → Wire → List Request
@@ -46,7 +47,7 @@ answered c k b = without_first (is_kind k) (requests_of c b)
 pub receives_as : (k : ReplyKind) (p : ChannelPhase) → opens k ≡ false → receives_on (channel_state p) ≡ true → receives k (channel_state p) ≡ true
 receives_as k p o h = rw o h
 
-not_opens : (k : ReplyKind) → is_asked k ≡ true → opens k ≡ false
+pub not_opens : (k : ReplyKind) → is_asked k ≡ true → opens k ≡ false
 not_opens reply_kind.ChannelOpenOk h = cc
 not_opens reply_kind.ChannelCloseOk h = cc
 not_opens reply_kind.ConnectionCloseOk h = cc
@@ -205,17 +206,13 @@ bodies bytes xs [] i t = cc
 bodies bytes xs (e ∷ f ∷ es) i t = absurd i
 bodies bytes xs (e ∷ []) i t = by_begun e.begun refl
   where
-    right : (a b : Bool) → (a && b) ≡ true → b ≡ true
-    right true b h = h
-    right false b h = cc
-
     whole_or : (b : Begun) (s : Bool) → e.begun ≡ Some b → (nat_lt 0 (length bytes) && nat_le (length bytes) b.left) ≡ true → (length bytes == b.left) ≡ s → Bodies bytes xs (e ∷ [])
     whole_or b true n y s =
-        let le = right (nat_lt 0 (length bytes)) (nat_le (length bytes) b.left) y in
+        let le = and_second (nat_lt 0 (length bytes)) (nat_le (length bytes) b.left) y in
         let z : (b.left - length bytes == 0) ≡ true = less_is (length bytes) b.left le ∙ s in
         record { takes_it = rw (n, le) refl; one = rw (n, le, z) tt; same = rw (n, y, s, le, z) refl }
     whole_or b false n y s =
-        let le = right (nat_lt 0 (length bytes)) (nat_le (length bytes) b.left) y in
+        let le = and_second (nat_lt 0 (length bytes)) (nat_le (length bytes) b.left) y in
         let z : (b.left - length bytes == 0) ≡ false = less_is (length bytes) b.left le ∙ s in
         record { takes_it = rw (n, le) refl; one = rw (n, le, z) i; same = rw (n, y, s, le, z) refl }
 

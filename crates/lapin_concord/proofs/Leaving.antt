@@ -44,6 +44,7 @@ use Rattle.lapin_concord.proofs.Queues.{opened}
 use Rattle.lapin_concord.proofs.Queueing.{open_is}
 use Rattle.lapin_concord.proofs.Frames.{closes_u, closes_on, closes_all, Leaves, Closing, Hanging, Going, leaves}
 use Rattle.lapin_concord.proofs.Bodies.{sizes_of, rest_frames, whole_rest, rest_fits}
+use Rattle.lapin_rules.proofs.PhaseLaws.{up_open}
 
 -- ---- where the connection and the channels stand
 
@@ -206,12 +207,6 @@ linked_gone f link.Closed fs (Hanging u p k) h = subst (λ q. IsLinked q fs) (sy
 linked_gone f link.Closed fs (Going u v p k) h = subst (λ q. IsLinked q fs) (sym (k link.Closed)) tt
 linked_gone f link.Lost fs l h = cc
 
-pub up_open : (l : ConnectionPhase) → is_up l ≡ true → l ≡ link.Open
-up_open link.Open h = refl
-up_open (link.Closing s) h = cc
-up_open link.Closed h = cc
-up_open link.Lost h = cc
-
 -- the wire after a frame request, with what left
 pub record Hands (k : Told) (b d : Wire) (us : List Left) : Type 0 where
   pub held : Held d
@@ -333,7 +328,7 @@ whole_tail f (g ∷ fs) h = on_own h.2.0 h.2
 same_lists : (b : Wire) (ps : List Publish) → b.rest ≡ [] → b.methods ≡ [] → b.publishes ≡ ps → record b { rest = []; methods = []; publishes = ps } ≡ b
 same_lists b ps r m q = λ i. record b { rest = sym r i; methods = sym m i; publishes = sym q i }
 
-none_stays : (q : Publish → Bool) (ps : List Publish) → find q ps ≡ None → without_first q ps ≡ ps
+pub none_stays : (q : Publish → Bool) (ps : List Publish) → find q ps ≡ None → without_first q ps ≡ ps
 none_stays q [] h = refl
 none_stays q (p ∷ ps) h = elim (q p) as (λ t. cond t (Some p) (find q ps) ≡ None → cond t ps (p ∷ without_first q ps) ≡ p ∷ ps) [ true ↦ λ h. cc | false ↦ λ h. ap (λ xs. p ∷ xs) (none_stays q ps h) ] h
 

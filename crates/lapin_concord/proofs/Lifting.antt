@@ -4,11 +4,13 @@ use Rattle.std.proofs.Common.{◌≡◌, ℕ, Bool, true, false, cond, ◌==◌,
 use mathlib.Core.Path.{fun_ext}
 use Rattle.lapin_pairs.specs.Machine as pair
 use Rattle.lapin_pairs.specs.Machine.{Sess, Closed, Opening, Opened, Closing, Crossed, Refused}
-use Rattle.lapin_pairs.specs.Channel.{UpF, DownF, kind_down, may_data}
+use Rattle.lapin_pairs.specs.Channel.{DownF, kind_down, may_data}
 use Rattle.lapin_pairs.specs.Every.{has_any, UpOn, OnU, CloseU, CloseOkU, DownOn, ToD, CloseD, CloseOkD, conn_u, conn_d, of_u, on_all, left_all, All, StepA, CallA, SendA, HangUpA, NextA, ReadA, DeliverA, LoseA, called_a, calls_a, hangs_a, hands_a, sides_after, reads_a, received_a, delivers_a, may_a, sides_sent, sends_a, happens_a, put}
-use Rattle.lapin_pairs.specs.Asking.{U2, flat, S2, K2, call2, needs2, left2, read_flat, asking}
+use Rattle.lapin_pairs.specs.Asking.{U2, flat, S2, K2, call2, needs2, left2, asking}
 use Rattle.lapin_pairs.specs.Tags.{may_settle}
-use Rattle.lapin_pairs.specs.Tagging.{S3, B3, on_base, marked, take3, read_one3, read_flat3, reads3b, gives3, tagging}
+use Rattle.lapin_pairs.specs.Tagging.{S3, B3, on_base, marked, take3, reads3b, gives3, tagging}
+use Rattle.lapin_tables.proofs.Bools.{and_true}
+use Rattle.lapin_pairs.proofs.Tagging.{base-read}
 
 -- the pair without its tags and counts
 abbrev pub bare : All tagging → All asking
@@ -64,12 +66,8 @@ hands_bare t (f ∷ fs) = refl
 
 -- ---- the broker
 
-read_base : (b : B3) (fs : List UpF) → (read_flat3 b fs).base ≡ read_flat b.base fs
-read_base b [] = refl
-read_base b (f ∷ fs) = read_base (read_one3 b f) fs
-
 sides_bare : (p : pair.Peer) (ss : ℕ → B3) (f : UpOn U2) → (λ e. (sides_after tagging p ss f e).base) ≡ sides_after asking p (λ e. (ss e).base) f
-sides_bare pair.Open ss (OnU c u) = put_side c (reads3b (ss c) u) ss ∙ ap (λ x. put c x (λ e. (ss e).base)) (read_base (ss c) (flat u))
+sides_bare pair.Open ss (OnU c u) = put_side c (reads3b (ss c) u) ss ∙ ap (λ x. put c x (λ e. (ss e).base)) (base-read (ss c) (flat u))
 sides_bare pair.Open ss CloseU = refl
 sides_bare pair.Open ss CloseOkU = refl
 sides_bare pair.Free ss f = refl
@@ -87,10 +85,6 @@ reads_bare t (f ∷ fs) = ap (λ ss. record (bare t) { up = fs; broker = pair.re
 pub may_bare : (p : pair.Peer) (ss : ℕ → B3) (f : DownOn DownF) → ((c : ℕ) (d : DownF) → f ≡ ToD c d → may_settle (ss c).tag_count d ≡ true) → may_a tagging p ss f ≡ may_a asking p (λ e. (ss e).base) f
 may_bare pair.Open ss (ToD c d) h = by_count (may_settle (ss c).tag_count d) (h c d refl)
   where
-    and_true : (a : Bool) → (a && true) ≡ a
-    and_true true = refl
-    and_true false = refl
-
     by_count : (q : Bool) → q ≡ true → ((pair.may_send (ss c).base.peer (kind_down d) && may_data (ss c).base.peer (ss c).base.kept d) && q) ≡ (pair.may_send (ss c).base.peer (kind_down d) && may_data (ss c).base.peer (ss c).base.kept d)
     by_count q e = rw e (and_true (pair.may_send (ss c).base.peer (kind_down d) && may_data (ss c).base.peer (ss c).base.kept d))
 may_bare pair.Open ss CloseD h = refl

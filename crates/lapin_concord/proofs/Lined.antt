@@ -15,6 +15,8 @@ use Rattle.lapin_pairs.proofs.Every.{of-append}
 use Rattle.lapin_pairs.proofs.Asking.{Calm, calm_whole, calm_read, calm_give, flats-append}
 use Rattle.lapin_concord.proofs.Views.{J, j_keeps}
 use Rattle.lapin_concord.proofs.Lines.{is_more, together_from, together, begins, together_append, tail_together, together_off, first_of}
+use Rattle.lapin_pairs.proofs.Others.{serving_back}
+use Rattle.std.proofs.lemmas.Option.{same_Some}
 
 -- ---- the broker's side has read all contents whole once it has read these
 
@@ -88,9 +90,6 @@ shut_lined w n f = record { open_ = λ e. absurd (n e); shut = λ _. f }
 pub open_lined : (w : All asking) → w.conn ≡ Opened → together (w.up ++ w.unsent) ≡ true → Lined w
 open_lined w e h = record { open_ = λ _. h; shut = λ n. absurd (n e) }
 
-some_same : {X : Type 0} (x y : X) → Some x ≡ Some y → x ≡ y
-some_same x y h = cc
-
 -- ---- calls
 
 record Queue (c : ℕ) (us : List U2) : Type 0 where
@@ -105,13 +104,13 @@ publish_queue : (c i : ℕ) (ns : List ℕ) → Queue c (plains (publish_frames 
 publish_queue c i ns = record { lined = rw (eq-eqb c c refl) (bodies_lined c (Plain (kept.FHeader (sum_suc ns))) ns); starts = refl }
 
 call_queue : (c : ℕ) (k : K2) (s : S2) (q : Sess) (x : S2 × List U2) → call_at k s q ≡ Some x → Queue c x.1
-call_queue c KOpen s Closed x e = subst (λ (y : S2 × List U2). Queue c y.1) (some_same _ x e) (record { lined = refl; starts = refl })
-call_queue c KClose s Opened x e = subst (λ (y : S2 × List U2). Queue c y.1) (some_same _ x e) (record { lined = refl; starts = refl })
-call_queue c KTell s Opened x e = subst (λ (y : S2 × List U2). Queue c y.1) (some_same _ x e) (record { lined = refl; starts = refl })
-call_queue c (KAsk k) s Opened x e = subst (λ (y : S2 × List U2). Queue c y.1) (some_same _ x e) (record { lined = refl; starts = refl })
-call_queue c (KSelect false) s Opened x e = subst (λ (y : S2 × List U2). Queue c y.1) (some_same _ x e) (record { lined = refl; starts = refl })
-call_queue c (KSelect true) s Opened x e = subst (λ (y : S2 × List U2). Queue c y.1) (some_same _ x e) (record { lined = refl; starts = refl })
-call_queue c (KBegin i ns) s Opened x e = subst (λ (y : S2 × List U2). Queue c y.1) (some_same _ x e) (publish_queue c i ns)
+call_queue c KOpen s Closed x e = subst (λ (y : S2 × List U2). Queue c y.1) (same_Some _ x e) (record { lined = refl; starts = refl })
+call_queue c KClose s Opened x e = subst (λ (y : S2 × List U2). Queue c y.1) (same_Some _ x e) (record { lined = refl; starts = refl })
+call_queue c KTell s Opened x e = subst (λ (y : S2 × List U2). Queue c y.1) (same_Some _ x e) (record { lined = refl; starts = refl })
+call_queue c (KAsk k) s Opened x e = subst (λ (y : S2 × List U2). Queue c y.1) (same_Some _ x e) (record { lined = refl; starts = refl })
+call_queue c (KSelect false) s Opened x e = subst (λ (y : S2 × List U2). Queue c y.1) (same_Some _ x e) (record { lined = refl; starts = refl })
+call_queue c (KSelect true) s Opened x e = subst (λ (y : S2 × List U2). Queue c y.1) (same_Some _ x e) (record { lined = refl; starts = refl })
+call_queue c (KBegin i ns) s Opened x e = subst (λ (y : S2 × List U2). Queue c y.1) (same_Some _ x e) (publish_queue c i ns)
 call_queue c KOpen s Opening x e = cc
 call_queue c KOpen s Opened x e = cc
 call_queue c KOpen s Closing x e = cc
@@ -204,26 +203,6 @@ hands_lined w (f ∷ fs) e g l = record {
 
 -- ---- the broker reads
 
-read_open : (p : pair.Peer) (k : Up) → pair.read p k ≡ pair.Open → (p ≡ pair.Open) × (k ≡ pair.UOther)
-read_open pair.Open pair.UOther h = (refl, refl)
-read_open pair.Open pair.UOpen h = absurd cc
-read_open pair.Open pair.UClose h = absurd cc
-read_open pair.Open pair.UCloseOk h = absurd cc
-read_open pair.Free pair.UOpen h = absurd cc
-read_open pair.Free pair.UClose h = absurd cc
-read_open pair.Free pair.UCloseOk h = absurd cc
-read_open pair.Free pair.UOther h = absurd cc
-read_open pair.Stopping pair.UOpen h = absurd cc
-read_open pair.Stopping pair.UClose h = absurd cc
-read_open pair.Stopping pair.UCloseOk h = absurd cc
-read_open pair.Stopping pair.UOther h = absurd cc
-read_open pair.StoppingOwes pair.UOpen h = absurd cc
-read_open pair.StoppingOwes pair.UClose h = absurd cc
-read_open pair.StoppingOwes pair.UCloseOk h = absurd cc
-read_open pair.StoppingOwes pair.UOther h = absurd cc
-read_open pair.StoppingAnswered k h = absurd cc
-read_open _ _ h = absurd cc
-
 sides_read : (p : pair.Peer) (ss : ℕ → B2) (f : UpOn U2) (gs : List (UpOn U2)) → p ≡ pair.Open → conn_u f ≡ pair.UOther → ((c : ℕ) → Ends (ss c) (of_u c (f ∷ gs))) → (c : ℕ) → Ends (sides_after asking p ss f c) (of_u c gs)
 sides_read p ss CloseU gs o k h c = absurd cc
 sides_read p ss CloseOkU gs o k h c = absurd cc
@@ -256,7 +235,7 @@ reads_lined w (f ∷ fs) e l = record {
           closes = ap are_closes (sym b) ∙ z.closes;
           lined = tail_together x (on ++ z.dropped) (ap (λ i. together (i ++ z.dropped)) (sym a) ∙ z.lined);
           ends = λ o.
-              let q = read_open w.broker (conn_u f) o in
+              let q = serving_back w.broker (conn_u f) o in
               sides_read w.broker w.sides f (on ++ z.dropped) q.0 q.1 (λ c. subst (λ i. Ends (w.sides c) (of_u c i)) (ap (λ i. i ++ z.dropped) a ∙ ap (λ i. i ∷ (on ++ z.dropped)) (sym head)) (z.ends q.0 c));
         }
     reads z [] [] a b = let same : f ∷ fs ≡ [] = sym e ∙ (z.up_is ∙ ap₂ (λ i j. i ++ j) a b) in absurd cc
@@ -272,7 +251,7 @@ reads_lined w (f ∷ fs) e l = record {
           up_is = rest;
           closes = drop_close x tail cs;
           lined = ap (λ i. together (i ++ z.dropped)) (sym a) ∙ z.lined;
-          ends = λ o. let q = read_open w.broker (conn_u f) o in absurd (close_not x tail cs (ap conn_u (sym head) ∙ q.1));
+          ends = λ o. let q = serving_back w.broker (conn_u f) o in absurd (close_not x tail cs (ap conn_u (sym head) ∙ q.1));
         }
       where
         drop_close : (x : UpOn U2) (tail : List (UpOn U2)) → are_closes (x ∷ tail) ≡ true → are_closes tail ≡ true

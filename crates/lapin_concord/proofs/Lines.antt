@@ -4,6 +4,8 @@ use Rattle.std.proofs.lemmas.Bool.Decides.{eqb_tells}
 use Rattle.lapin_pairs.specs.Channel as kept
 use Rattle.lapin_pairs.specs.Every.{UpOn, OnU, CloseU, CloseOkU, of_u, off_u}
 use Rattle.lapin_pairs.specs.Asking.{U2, Plain}
+use Rattle.lapin_tables.proofs.Bools.{and_first, and_second}
+use Rattle.std.proofs.lemmas.Bool.{and_from}
 
 -- ---- a header or a body stands right behind a frame of its channel
 
@@ -33,22 +35,9 @@ abbrev pub together : List (UpOn U2) → Bool
 together [] = true
 together (f ∷ fs) = together_from f fs
 
-both : (x y : Bool) → x ≡ true → y ≡ true → (x && y) ≡ true
-both true true h k = refl
-both true false h k = cc
-both false y h k = cc
-
-fst : (x y : Bool) → (x && y) ≡ true → x ≡ true
-fst true y h = refl
-fst false y h = cc
-
-snd : (x y : Bool) → (x && y) ≡ true → y ≡ true
-snd true y h = h
-snd false y h = cc
-
 pub tail_together : (f : UpOn U2) (fs : List (UpOn U2)) → together (f ∷ fs) ≡ true → together fs ≡ true
 tail_together f [] h = refl
-tail_together f (g ∷ gs) h = snd (joins f g) (together_from g gs) h
+tail_together f (g ∷ gs) h = and_second (joins f g) (together_from g gs) h
 
 -- a first frame that goes on with nothing may follow anything
 abbrev pub begins : List (UpOn U2) → Bool
@@ -63,8 +52,8 @@ joins_first f CloseOkU gs h = refl
 
 from_append : (f : UpOn U2) (fs gs : List (UpOn U2)) → together_from f fs ≡ true → together gs ≡ true → begins gs ≡ true → together_from f (fs ++ gs) ≡ true
 from_append f [] [] h k b = refl
-from_append f [] (g ∷ gs) h k b = both (joins f g) (together_from g gs) (joins_first f g gs b) k
-from_append f (x ∷ xs) gs h k b = both (joins f x) (together_from x (xs ++ gs)) (fst (joins f x) (together_from x xs) h) (from_append x xs gs (snd (joins f x) (together_from x xs) h) k b)
+from_append f [] (g ∷ gs) h k b = and_from (joins f g) (together_from g gs) (joins_first f g gs b) k
+from_append f (x ∷ xs) gs h k b = and_from (joins f x) (together_from x (xs ++ gs)) (and_first (joins f x) (together_from x xs) h) (from_append x xs gs (and_second (joins f x) (together_from x xs) h) k b)
 
 pub together_append : (fs gs : List (UpOn U2)) → together fs ≡ true → together gs ≡ true → begins gs ≡ true → together (fs ++ gs) ≡ true
 together_append [] gs h k b = k
@@ -73,7 +62,7 @@ together_append (f ∷ fs) gs h k b = from_append f fs gs h k b
 -- the front of a list
 from_front : (f : UpOn U2) (fs gs : List (UpOn U2)) → together_from f (fs ++ gs) ≡ true → together_from f fs ≡ true
 from_front f [] gs h = refl
-from_front f (x ∷ xs) gs h = both (joins f x) (together_from x xs) (fst (joins f x) (together_from x (xs ++ gs)) h) (from_front x xs gs (snd (joins f x) (together_from x (xs ++ gs)) h))
+from_front f (x ∷ xs) gs h = and_from (joins f x) (together_from x xs) (and_first (joins f x) (together_from x (xs ++ gs)) h) (from_front x xs gs (and_second (joins f x) (together_from x (xs ++ gs)) h))
 
 pub together_front : (fs gs : List (UpOn U2)) → together (fs ++ gs) ≡ true → together fs ≡ true
 together_front [] gs h = refl
@@ -97,13 +86,13 @@ joins_off p q c d u n (inr o) h = elim (is_more u) as (λ t. (not t || is_on d p
 
 off_one : (q : UpOn U2) (c d : ℕ) (u : U2) (fs : List (UpOn U2)) (t : Bool) → (d == c) ≡ t → (t ≡ true → together_from q (off_u c fs) ≡ true) → (t ≡ false → joins q (OnU d u) ≡ true) → (t ≡ false → together_from (OnU d u) (off_u c fs) ≡ true) → together_from q (cond (d == c) (off_u c fs) (OnU d u ∷ off_u c fs)) ≡ true
 off_one q c d u fs true e x y z = rw e (x refl)
-off_one q c d u fs false e x y z = rw e (both (joins q (OnU d u)) (together_from (OnU d u) (off_u c fs)) (y refl) (z refl))
+off_one q c d u fs false e x y z = rw e (and_from (joins q (OnU d u)) (together_from (OnU d u) (off_u c fs)) (y refl) (z refl))
 
 from_off : (p q : UpOn U2) (c : ℕ) (fs : List (UpOn U2)) → ((p ≡ q) ⊎ (is_on c p ≡ true)) → together_from p fs ≡ true → together_from q (off_u c fs) ≡ true
 from_off p q c [] o h = refl
 from_off p q c (OnU d u ∷ fs) o h =
-    let j = fst (joins p (OnU d u)) (together_from (OnU d u) fs) h in
-    let r = snd (joins p (OnU d u)) (together_from (OnU d u) fs) h in
+    let j = and_first (joins p (OnU d u)) (together_from (OnU d u) fs) h in
+    let r = and_second (joins p (OnU d u)) (together_from (OnU d u) fs) h in
     off_one q c d u fs (d == c) refl
     (λ e. from_off (OnU d u) q c fs (inr e) r)
     (λ e. joins_off p q c d u e o j)
@@ -113,7 +102,7 @@ from_off p q c (CloseOkU ∷ fs) o h = from_off CloseOkU CloseOkU c fs (inl refl
 
 off_behind : (f : UpOn U2) (c : ℕ) (fs gs : List (UpOn U2)) → together_from f (fs ++ gs) ≡ true → together_from f (fs ++ off_u c gs) ≡ true
 off_behind f c [] gs h = from_off f f c gs (inl refl) h
-off_behind f c (x ∷ xs) gs h = both (joins f x) (together_from x (xs ++ off_u c gs)) (fst (joins f x) (together_from x (xs ++ gs)) h) (off_behind x c xs gs (snd (joins f x) (together_from x (xs ++ gs)) h))
+off_behind f c (x ∷ xs) gs h = and_from (joins f x) (together_from x (xs ++ off_u c gs)) (and_first (joins f x) (together_from x (xs ++ gs)) h) (off_behind x c xs gs (and_second (joins f x) (together_from x (xs ++ gs)) h))
 
 first_off : (c : ℕ) (gs : List (UpOn U2)) → together gs ≡ true → together (off_u c gs) ≡ true
 first_off c [] h = refl
@@ -121,7 +110,7 @@ first_off c (OnU d u ∷ gs) h = by_channel (d == c) refl
   where
     on_it : (xs : List (UpOn U2)) → together_from (OnU d u) xs ≡ true → together xs ≡ true
     on_it [] k = refl
-    on_it (x ∷ xs) k = snd (joins (OnU d u) x) (together_from x xs) k
+    on_it (x ∷ xs) k = and_second (joins (OnU d u) x) (together_from x xs) k
 
     by_channel : (t : Bool) → (d == c) ≡ t → together (cond (d == c) (off_u c gs) (OnU d u ∷ off_u c gs)) ≡ true
     by_channel true e = rw e (on_it (off_u c gs) (from_off (OnU d u) (OnU d u) c gs (inl refl) h))
@@ -142,10 +131,10 @@ away_from c f (OnU d u ∷ gs) v vs n h o m = elim (eqb_tells d c) [
   | inl y ↦
       let k : u ∷ of_u c gs ≡ v ∷ vs = sym (rw y.0 refl) ∙ o in
       let w : u ≡ v = cc in
-      let j : (not (is_more u) || is_on d f) ≡ true = fst (joins f (OnU d u)) (together_from (OnU d u) gs) h in
+      let j : (not (is_more u) || is_on d f) ≡ true = and_first (joins f (OnU d u)) (together_from (OnU d u) gs) h in
       let i : is_on d f ≡ true = or_right (is_more u) (is_on d f) (ap is_more w ∙ m) j in
       let z : true ≡ false = sym (subst (λ e. is_on e f ≡ true) y.1 i) ∙ n in cc
-  | inr y ↦ away_from c (OnU d u) gs v vs y.0 (snd (joins f (OnU d u)) (together_from (OnU d u) gs) h) (sym (rw y.0 refl) ∙ o) m
+  | inr y ↦ away_from c (OnU d u) gs v vs y.0 (and_second (joins f (OnU d u)) (together_from (OnU d u) gs) h) (sym (rw y.0 refl) ∙ o) m
 ]
   where
     or_right : (a b : Bool) → a ≡ true → (not a || b) ≡ true → b ≡ true

@@ -33,11 +33,12 @@ use Rattle.lapin_concord.specs.Held.{Held}
 use Rattle.lapin_concord.proofs.Views.{is_own, AreOwn, Untold, Opens, told_call, told_by_step, AreUntold, AreTold}
 use Rattle.lapin_concord.proofs.Lifting.{bare, tagged_step}
 use Rattle.lapin_concord.proofs.Queues.{opened, Queues, QueuesOf}
-use Rattle.lapin_concord.proofs.Calling.{allowed_up, closed_here, told_asked}
+use Rattle.lapin_concord.proofs.Calling.{closed_here, told_asked}
 use Rattle.lapin_concord.proofs.Tallies.{tagged_run}
 use Rattle.lapin_concord.proofs.Noting.{has_select, AreNoted, concerns, noted_beside}
 use Rattle.lapin_concord.proofs.Stepping.{is_calm, calls_noted, open_noted}
 use Rattle.lapin_concord.proofs.Arriving.{shut_noted}
+use Rattle.lapin_rules.proofs.PhaseLaws.{allowed_up}
 
 -- ---- a history that the session stands for, whose marks note the tags
 

@@ -9,7 +9,7 @@ use Rattle.lapin_rules.specs.ConfirmMarks.{ConfirmMark}
 use Rattle.lapin_rules.specs.ConfirmMarks as mark
 use Rattle.lapin_rules.specs.ConfirmReadings.{begins, selects, leaves, leaves_on, is_begun, is_selected, place, has_left, channel_of, tag_of, outcome_at, outcome_after, first_rejected, life, covers}
 use Rattle.lapin_rules.specs.Words.{after}
-use Rattle.lapin_rules.proofs.ListLaws.{after-push, since-push}
+use Rattle.lapin_rules.proofs.ListLaws.{after-push, since-push, or_false}
 use Rattle.lapin_confirm.specs.Follows.{WasAdded, MayCome, Resolves}
 use Rattle.lapin_confirm.proofs.Facts.{added_still}
 use Rattle.lapin_confirm.proofs.ConfirmModeFollowing.{selected-push}
@@ -23,6 +23,7 @@ use Rattle.lapin_pairs.specs.Tags.{covers as pair_covers}
 use Rattle.lapin_pairs.specs.Tagging.{S3, tagging}
 use Rattle.lapin_concord.proofs.Tags.{channel_stays}
 use Rattle.lapin_concord.proofs.Settling.{pends}
+use Rattle.lapin_tables.proofs.Bools.{or_true, and_false}
 
 -- a frame of `confirm.select`
 abbrev pub is_select : U2 → Bool
@@ -64,18 +65,6 @@ AreNoted t ms = (c : ℕ) → IsNotedIn (t.chans c).base.sess (t.chans c) c ms (
 
 -- ---- one more mark
 
-pub or_none : (b : Bool) → (b || false) ≡ b
-or_none true = refl
-or_none false = refl
-
-pub or_one : (b : Bool) → (b || true) ≡ true
-or_one true = refl
-or_one false = refl
-
-and_none : (b : Bool) → (b && false) ≡ false
-and_none true = refl
-and_none false = refl
-
 none_else : (o : Option Outcome) → ((x : Outcome) → o ≡ Some x → ⊥) → o ≡ None
 none_else None h = refl
 none_else (Some x) h = absurd (h x refl)
@@ -97,8 +86,8 @@ pends-push c n ms m r p = record {
 noted_by : (s : S3) (c : ℕ) (ms : List ConfirmMark) (us : List U2) (m : ConfirmMark) → begins c m ≡ false → selects c m ≡ false → leaves_on c m ≡ false → ((n : ℕ) (o : Outcome) → pends s n ≡ true → Resolves c n o m → ⊥) → NotedAt s c ms us → NotedAt s c (ms ++ m ∷ []) us
 noted_by s c ms us m b k l r h = record {
   begun = begun-push c ms m h.begun;
-  chosen = h.chosen ∙ ap (λ x. x || has_select us) (sym (selected-push c ms m b h.begun ∙ (ap (λ x. is_selected c ms || x) k ∙ or_none (is_selected c ms))));
-  count = h.count ∙ sym (place-still c ms m b (ap (λ x. is_selected c ms && x) l ∙ and_none (is_selected c ms)));
+  chosen = h.chosen ∙ ap (λ x. x || has_select us) (sym (selected-push c ms m b h.begun ∙ (ap (λ x. is_selected c ms || x) k ∙ or_false (is_selected c ms))));
+  count = h.count ∙ sym (place-still c ms m b (ap (λ x. is_selected c ms && x) l ∙ and_false (is_selected c ms)));
   pending = λ n p. pends-push c n ms m (λ o. r n o p) (h.pending n p);
 }
 
@@ -151,8 +140,8 @@ noted_select Crossed s c ms us vs k h = let y : true ≡ false = sym k ∙ h in 
 noted_select Refused s c ms us vs k h = tt
 noted_select _ s c ms us vs k h = record {
   begun = begun-push c ms (mark.SelectLeft c) h.begun;
-  chosen = h.chosen ∙ (ap (λ b. is_selected c ms || b) k ∙ (or_one (is_selected c ms) ∙ ap (λ b. b || has_select vs) (sym (selected-push c ms (mark.SelectLeft c) refl h.begun ∙ (ap (λ b. is_selected c ms || b) (eq-eqb c c refl) ∙ or_one (is_selected c ms))))));
-  count = h.count ∙ sym (place-still c ms (mark.SelectLeft c) refl (and_none (is_selected c ms)));
+  chosen = h.chosen ∙ (ap (λ b. is_selected c ms || b) k ∙ (or_true (is_selected c ms) ∙ ap (λ b. b || has_select vs) (sym (selected-push c ms (mark.SelectLeft c) refl h.begun ∙ (ap (λ b. is_selected c ms || b) (eq-eqb c c refl) ∙ or_true (is_selected c ms))))));
+  count = h.count ∙ sym (place-still c ms (mark.SelectLeft c) refl (and_false (is_selected c ms)));
   pending = λ n p. pends-push c n ms (mark.SelectLeft c) (λ o r. r) (h.pending n p);
 }
 
@@ -177,7 +166,7 @@ none_pends s n e p =
 
 pub noted_begun : (s : S3) (c : ℕ) (ms : List ConfirmMark) (us : List U2) → s.selected ≡ false → s.tagged ≡ [] → has_select us ≡ false → NotedAt s c (ms ++ mark.Begun c ∷ []) us
 noted_begun s c ms us a b k = record {
-  begun = list_any-append (begins c) ms (mark.Begun c ∷ []) ∙ (ap (λ x. list_any (begins c) ms || (x || false)) (eq-eqb c c refl) ∙ or_one (list_any (begins c) ms));
+  begun = list_any-append (begins c) ms (mark.Begun c ∷ []) ∙ (ap (λ x. list_any (begins c) ms || (x || false)) (eq-eqb c c refl) ∙ or_true (list_any (begins c) ms));
   chosen = a ∙ sym (rw (since-push (begins c) ms (mark.Begun c), eq-eqb c c refl) k);
   count = ap length b ∙ sym (place-first c ms);
   pending = λ n p. absurd (none_pends s n b p);
@@ -193,7 +182,7 @@ newly_pends : (c k : ℕ) (ms : List ConfirmMark) → MayCome ms (mark.Left c k)
 newly_pends c k ms may e =
     let m : ConfirmMark = mark.Left c k in
     let q = queued_facts c k ms may.1 in
-    let left_ : has_left k (ms ++ m ∷ []) ≡ true = left-push k ms m ∙ (ap (λ b. has_left k ms || b) (eq-eqb k k refl) ∙ or_one (has_left k ms)) in
+    let left_ : has_left k (ms ++ m ∷ []) ≡ true = left-push k ms m ∙ (ap (λ b. has_left k ms || b) (eq-eqb k k refl) ∙ or_true (has_left k ms)) in
     let tag_ : tag_of k (ms ++ m ∷ []) ≡ Some (place c ms + 1) = tag-taken c k ms may e in
     record {
       publish = k;
@@ -212,10 +201,10 @@ noted_left s v c k ms us vs may a r g x y h = by_selected (is_selected c ms) ref
     m = mark.Left c k
 
     chosen_ : s.selected ≡ is_selected c ms
-    chosen_ = h.chosen ∙ (ap (λ b. is_selected c ms || b) x ∙ or_none (is_selected c ms))
+    chosen_ = h.chosen ∙ (ap (λ b. is_selected c ms || b) x ∙ or_false (is_selected c ms))
 
     here : v.selected ≡ (is_selected c (ms ++ mark.Left c k ∷ []) || has_select vs)
-    here = a ∙ (chosen_ ∙ (sym (selected-push c ms (mark.Left c k) refl h.begun ∙ or_none (is_selected c ms)) ∙ sym (ap (λ b. is_selected c (ms ++ mark.Left c k ∷ []) || b) y ∙ or_none (is_selected c (ms ++ mark.Left c k ∷ [])))))
+    here = a ∙ (chosen_ ∙ (sym (selected-push c ms (mark.Left c k) refl h.begun ∙ or_false (is_selected c ms)) ∙ sym (ap (λ b. is_selected c (ms ++ mark.Left c k ∷ []) || b) y ∙ or_false (is_selected c (ms ++ mark.Left c k ∷ [])))))
 
     -- what was pending with a tag that was there before
     older : (n : ℕ) → n ≤ length s.tagged → pends v n ≡ true → Pends c n (ms ++ mark.Left c k ∷ [])

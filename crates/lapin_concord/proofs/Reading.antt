@@ -28,6 +28,7 @@ use Rattle.lapin_pairs.proofs.Erase.{map-append}
 use Rattle.lapin_concord.specs.Frames.{number, up_kind, up_frame, IsSent}
 use Rattle.lapin_concord.specs.Peers.{connection_as, peer_as, content_as, request_as, kept_as, reading_as, side_as, sides_as, IsBareIn, IsPart, IsReady}
 use Rattle.lapin_concord.proofs.Sides.{chan, chan_with, chan_away, chan_on, chan_on_away, put_is, reading_here, reading_away}
+use Rattle.lapin_tables.proofs.Bools.{and_second}
 
 -- ---- contents
 
@@ -157,16 +158,12 @@ piece most x (content.Left m) (client.Body n) e p s i r = part (nat_lt 0 n && na
   where
     part : (t : Bool) → (nat_lt 0 n && nat_le n m) ≡ t → Piece most x (content.Left m) (client.Body n)
     part true t =
-        let le : nat_le n m ≡ true = right (nat_lt 0 n) (nat_le n m) t in
+        let le : nat_le n m ≡ true = and_second (nat_lt 0 n) (nat_le n m) t in
         let fits : nat_le n (most - 8) ≡ true = grind (arith, nat_tests) in
         record {
           taken = rw (t, fits) refl;
           same = rw (e, t) (ap (λ c. record { peer = pair.Open; kept = kept_as x; reading = Some c }) (bytes_as n m le));
         }
-      where
-        right : (a b : Bool) → (a && b) ≡ true → b ≡ true
-        right true b h = h
-        right false b h = cc
     part false t = absurd (let j : true ≡ false = rw (e, t) at r in cc)
 piece most x content.Idle u e p s i r = absurd cc
 piece most x content.Begun _ e p s i r = cc

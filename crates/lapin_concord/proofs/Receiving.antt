@@ -38,7 +38,7 @@ use Rattle.lapin_broker.specs.declared.frames.BrokerFrame.{BrokerFrame}
 use Rattle.lapin_broker.specs.declared.frames.BrokerFrame.TheVariants as broker
 use Rattle.lapin_broker.specs.States.{Broker}
 use Rattle.lapin_broker.specs.Frames.{channel_of, broker_frame}
-use Rattle.lapin_pairs.specs.Machine.{Up, UOpen, UClose, UCloseOk, UOther, DClose, DCloseOk, DOther, Sess, Closed, Opening, Opened, Closing, Crossed, Refused, has_close, state_after, is_refused}
+use Rattle.lapin_pairs.specs.Machine.{Up, DClose, DCloseOk, DOther, Sess, Closed, Opening, Opened, Closing, Crossed, Refused, has_close, state_after, is_refused}
 use Rattle.lapin_pairs.specs.Channel.{Settle, DownF, BClose, BCloseOk, BSettle, kind_down}
 use Rattle.lapin_pairs.specs.Every.{UpOn, OnU, CloseU, CloseOkU, DownOn, ToD, CloseD, CloseOkD, of_u, conn_left, conn_u, All, StepA, CallA, SendA, HangUpA, NextA, ReadA, DeliverA, LoseA, received_a, delivers_a, happens_a}
 use Rattle.lapin_pairs.specs.Asking.{U2, KOpen, KClose, KTell, KAsk, KSelect, KBegin, asking}
@@ -48,18 +48,20 @@ use Rattle.lapin_pairs.proofs.Every.{joint_keeps}
 use Rattle.lapin_pairs.proofs.Tagging.{Tagged, Calm3, tags_fact, tags_sess}
 use Rattle.lapin_concord.specs.Frames.{down_kind, down_frame, IsGiven}
 use Rattle.lapin_concord.specs.Wires.{phase_as, link_as, waits_as, pair_as}
-use Rattle.lapin_concord.specs.Held.{ends_close, way, IsMarked, Held}
+use Rattle.lapin_concord.specs.Held.{way, IsMarked, Held}
 use Rattle.lapin_concord.specs.Incomes.{part_as, income_as}
 use Rattle.lapin_concord.specs.Refusals.{is_refusal}
 use Rattle.lapin_concord.proofs.Views.{AreOwn, Delivers, told_by_step, AreTold}
 use Rattle.lapin_concord.proofs.Lifting.{bare, tagged_step}
-use Rattle.lapin_concord.proofs.Leaving.{up_open}
 use Rattle.lapin_concord.proofs.Tallies.{J3, tagged_run}
 use Rattle.lapin_concord.proofs.Settling.{pends, IsNoted}
-use Rattle.lapin_concord.proofs.Noting.{or_one, has_select, Pends, NotedAt, IsNotedIn, AreNoted, and_parts, noted_beside, noted_settled}
+use Rattle.lapin_concord.proofs.Noting.{has_select, Pends, NotedAt, IsNotedIn, AreNoted, and_parts, noted_beside, noted_settled}
 use Rattle.lapin_concord.proofs.Stepping.{Noted, at_put}
 use Rattle.lapin_concord.proofs.Arriving.{IsClosingDone, channel_noted, shut_noted}
 use Rattle.lapin_concord.proofs.Marking.{AreBeside, beside, untold_run, conn_of, unsent_of, sess_of, shut_of}
+use Rattle.lapin_tables.proofs.Bools.{or_true}
+use Rattle.lapin_rules.proofs.PhaseLaws.{up_open}
+use Rattle.lapin_concord.proofs.Ending.{ends_has}
 
 -- ---- channels that aren't live
 
@@ -116,13 +118,6 @@ last_not false true h = cc
 last_not false false h = refl
 
 -- ---- a closing channel
-
-ends_has : (us : List Up) → ends_close us ≡ true → has_close us ≡ true
-ends_has [] h = cc
-ends_has (UClose ∷ us) h = refl
-ends_has (UOpen ∷ us) h = ends_has us h
-ends_has (UCloseOk ∷ us) h = ends_has us h
-ends_has (UOther ∷ us) h = ends_has us h
 
 done_of : (p : ChannelPhase) (us : List U2) → IsMarked p us → IsClosingDone (phase_as p) us
 done_of (phase.Closing who true) us m = λ n. ap has_select m
@@ -266,7 +261,7 @@ any_range : (p : ℕ → Bool) (a m k : ℕ) → a ≤ k → k < a + m → p k �
 any_range p a zero k low high h = absurd (omega (arith, low, high))
 any_range p a (suc m) k low high h = elim (eqb_tells a k) [
   | inl y ↦ ap (λ i. p i || list_any p (range_with_len (a + 1) m)) y.1 ∙ ap (λ b. b || list_any p (range_with_len (a + 1) m)) h
-  | inr n ↦ ap (λ b. p a || b) (any_range p (a + 1) m k (let apart : a ≢ k = n.1 in omega (arith, low, apart)) (omega (arith, high)) h) ∙ or_one (p a)
+  | inr n ↦ ap (λ b. p a || b) (any_range p (a + 1) m k (let apart : a ≢ k = n.1 in omega (arith, low, apart)) (omega (arith, high)) h) ∙ or_true (p a)
 ]
 
 is_pending_there : (c n : ℕ) (ms : List ConfirmMark) → Pends c n ms → read.is_pending c n ms ≡ true

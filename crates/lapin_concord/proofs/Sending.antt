@@ -30,6 +30,7 @@ use Rattle.lapin_concord.specs.Peers.{connection_as, peer_as, content_as, reques
 use Rattle.lapin_concord.proofs.Sides.{chan, chan_on, chan_on_away, put_is}
 use Rattle.lapin_concord.proofs.Numbering.{above}
 use Rattle.lapin_concord.proofs.Reading.{bytes_as}
+use Rattle.lapin_tables.proofs.Bools.{and_first, and_second}
 
 -- ---- kinds of requests
 
@@ -72,14 +73,6 @@ idle_too : (x : Content) → is_idle x ≡ true → kept.is_idle (content_as x) 
 idle_too content.Idle h = refl
 idle_too content.Begun h = cc
 idle_too (content.Left n) h = cc
-
-pub left_of : (a b : Bool) → (a && b) ≡ true → a ≡ true
-left_of true b h = refl
-left_of false b h = cc
-
-pub right_of : (a b : Bool) → (a && b) ≡ true → b ≡ true
-right_of true b h = h
-right_of false b h = cc
 
 -- ---- one channel
 
@@ -131,12 +124,12 @@ leaving_serves : Serves peer.Leaving
 leaving_serves = record { sends = refl; stays = refl; free = λ x. tt }
 
 idle_of : (x : Channel) (t : Bool) → (is_idle x.sending && t) ≡ true → kept.is_idle (content_as x.sending) ≡ true
-idle_of x t h = idle_too x.sending (left_of (is_idle x.sending) t h)
+idle_of x t h = idle_too x.sending (and_first (is_idle x.sending) t h)
 
 body_left : (n : ℕ) (z : Content) → takes_body n z ≡ true → (kept.may_body n (content_as z) ≡ true) × (kept.after_body n (content_as z) ≡ content_as (without_bytes n z))
 body_left n content.Idle h = cc
 body_left n content.Begun h = cc
-body_left n (content.Left m) h = (h, sym (bytes_as n m (right_of (nat_lt 0 n) (nat_le n m) h)))
+body_left n (content.Left m) h = (h, sym (bytes_as n m (and_second (nat_lt 0 n) (nat_le n m) h)))
 
 header_left : (class size : ℕ) (z : Content) → takes_header class z ≡ true → (class ≡ 60) × (kept.may_header (content_as z) ≡ true)
 header_left class size content.Idle h = cc
@@ -149,7 +142,7 @@ size_left n = elim (n == 0) as (λ b. cond b kept.Idle (kept.Left n) ≡ content
 serve : (p : Peer) (t : List ℕ) (x : Channel) (d : BrokerFrame) → x.peer ≡ p → Serves p → may_open x t d ≡ true → Gives x (after_send t d x) d
 serve p t x (broker.Reply k) e s m =
     let i = idle_of x _ m in
-    let f = first_as k x.waiting (right_of (is_idle x.sending) _ m) in
+    let f = first_as k x.waiting (and_second (is_idle x.sending) _ m) in
     record {
       may = λ r. rw (e, s.sends, i, f) refl;
       kept = λ r. rw (e, s.stays) (ap (λ ws. State (peer_as p) ws (content_as x.sending) r) (sym (tail_as x.waiting)));
@@ -159,7 +152,7 @@ serve p t x (broker.Reply k) e s m =
     }
 serve p t x broker.ConsumeOk e s m =
     let i = idle_of x _ m in
-    let f = first_as kind.Consume x.waiting (left_of (first_is kind.Consume x.waiting) _ (right_of (is_idle x.sending) _ m)) in
+    let f = first_as kind.Consume x.waiting (and_first (first_is kind.Consume x.waiting) _ (and_second (is_idle x.sending) _ m)) in
     record {
       may = λ r. rw (e, s.sends, i, f) refl;
       kept = λ r. rw (e, s.stays) (ap (λ ws. State (peer_as p) ws (content_as x.sending) r) (sym (tail_as x.waiting)));
@@ -169,7 +162,7 @@ serve p t x broker.ConsumeOk e s m =
     }
 serve p t x broker.CancelOk e s m =
     let i = idle_of x _ m in
-    let f = first_as kind.Cancel x.waiting (left_of (first_is kind.Cancel x.waiting) _ (right_of (is_idle x.sending) _ m)) in
+    let f = first_as kind.Cancel x.waiting (and_first (first_is kind.Cancel x.waiting) _ (and_second (is_idle x.sending) _ m)) in
     record {
       may = λ r. rw (e, s.sends, i, f) refl;
       kept = λ r. rw (e, s.stays) (ap (λ ws. State (peer_as p) ws (content_as x.sending) r) (sym (tail_as x.waiting)));
@@ -179,7 +172,7 @@ serve p t x broker.CancelOk e s m =
     }
 serve p t x broker.GetOk e s m =
     let i = idle_of x _ m in
-    let f = first_as kind.Get x.waiting (right_of (is_idle x.sending) _ m) in
+    let f = first_as kind.Get x.waiting (and_second (is_idle x.sending) _ m) in
     record {
       may = λ r. rw (e, s.sends, i, f) refl;
       kept = λ r. rw (e, s.stays) (ap (λ ws. State (peer_as p) ws kept.Begun r) (sym (tail_as x.waiting)));
@@ -187,7 +180,7 @@ serve p t x broker.GetOk e s m =
       given = tt;
       named = λ c. refl;
     }
-serve p t x (broker.Settle n multiple) e s m = let i = idle_of x _ m in record { may = λ r. rw (e, s.sends, i) refl; kept = λ r. rw (e, s.stays) refl; bare = bare_by p _ e (s.free _); given = above n multiple x.numbers (right_of (is_idle x.sending) _ m); named = λ c. refl }
+serve p t x (broker.Settle n multiple) e s m = let i = idle_of x _ m in record { may = λ r. rw (e, s.sends, i) refl; kept = λ r. rw (e, s.stays) refl; bare = bare_by p _ e (s.free _); given = above n multiple x.numbers (and_second (is_idle x.sending) _ m); named = λ c. refl }
 serve p t x broker.Deliver e s m = let i = idle_of x _ m in record { may = λ r. rw (e, s.sends, i) refl; kept = λ r. rw (e, s.stays) refl; bare = bare_by p _ e (s.free _); given = tt; named = λ c. refl }
 serve p t x broker.Return e s m = let i = idle_of x _ m in record { may = λ r. rw (e, s.sends, i) refl; kept = λ r. rw (e, s.stays) refl; bare = bare_by p _ e (s.free _); given = tt; named = λ c. refl }
 serve p t x broker.Cancel e s m = let i = idle_of x _ m in record { may = λ r. rw (e, s.sends, i) refl; kept = λ r. rw (e, s.stays) refl; bare = bare_by p _ e (s.free _); given = tt; named = λ c. refl }
@@ -198,12 +191,12 @@ serve p t x (broker.Header class size) e s m =
 serve p t x (broker.Body n) e s m =
     let h = body_left n x.sending m in
     record { may = λ r. rw (e, s.sends, h.0) refl; kept = λ r. rw (e, s.stays) (ap (λ z. State (peer_as p) (map request_as x.waiting) z r) h.1); bare = bare_by p _ e (s.free _); given = tt; named = λ c. refl }
-serve p t x broker.ConnectionClose e s m = let j = right_of (is_idle x.sending) false m in absurd cc
-serve p t x broker.ConnectionCloseOk e s m = let j = right_of (is_idle x.sending) false m in absurd cc
-serve p t x broker.OpenOk e s m = let j = right_of (is_idle x.sending) false m in absurd cc
-serve p t x broker.Close e s m = let j = right_of (is_idle x.sending) false m in absurd cc
-serve p t x broker.CloseOk e s m = let j = right_of (is_idle x.sending) false m in absurd cc
-serve p t x broker.Other e s m = let j = right_of (is_idle x.sending) false m in absurd cc
+serve p t x broker.ConnectionClose e s m = let j = and_second (is_idle x.sending) false m in absurd cc
+serve p t x broker.ConnectionCloseOk e s m = let j = and_second (is_idle x.sending) false m in absurd cc
+serve p t x broker.OpenOk e s m = let j = and_second (is_idle x.sending) false m in absurd cc
+serve p t x broker.Close e s m = let j = and_second (is_idle x.sending) false m in absurd cc
+serve p t x broker.CloseOk e s m = let j = and_second (is_idle x.sending) false m in absurd cc
+serve p t x broker.Other e s m = let j = and_second (is_idle x.sending) false m in absurd cc
 
 -- ---- in each state
 
@@ -225,16 +218,16 @@ gives_in peer.Asked x t broker.OpenOk e h m = record { may = λ r. rw e refl; ke
 gives_in peer.Asked x t broker.Close e h m = gives_close x t (rw e refl) (rw e refl)
 gives_in peer.Asked x t _ e h m = cc
 gives_in peer.Open x t broker.Close e h m = gives_close x t (rw e refl) (rw e refl)
-gives_in peer.Open x t broker.OpenOk e h m = let j = right_of (is_idle x.sending) false m in absurd cc
-gives_in peer.Open x t broker.CloseOk e h m = let j = right_of (is_idle x.sending) false m in absurd cc
-gives_in peer.Open x t broker.ConnectionClose e h m = let j = right_of (is_idle x.sending) false m in absurd cc
-gives_in peer.Open x t broker.ConnectionCloseOk e h m = let j = right_of (is_idle x.sending) false m in absurd cc
+gives_in peer.Open x t broker.OpenOk e h m = let j = and_second (is_idle x.sending) false m in absurd cc
+gives_in peer.Open x t broker.CloseOk e h m = let j = and_second (is_idle x.sending) false m in absurd cc
+gives_in peer.Open x t broker.ConnectionClose e h m = let j = and_second (is_idle x.sending) false m in absurd cc
+gives_in peer.Open x t broker.ConnectionCloseOk e h m = let j = and_second (is_idle x.sending) false m in absurd cc
 gives_in peer.Open x t d e h m = serve peer.Open t x d e open_serves m
 gives_in peer.Leaving x t broker.CloseOk e h m =
-    let i = idle_too x.sending (left_of (is_idle x.sending) _ m) in
-    let w = none_as x.waiting (right_of (is_idle x.sending) _ m) in
+    let i = idle_too x.sending (and_first (is_idle x.sending) _ m) in
+    let w = none_as x.waiting (and_second (is_idle x.sending) _ m) in
     record { may = λ r. rw (e, i, w) refl; kept = λ r. rw e refl; bare = rw e (record { waiting = refl; sending = refl }); given = tt; named = λ c. refl }
-gives_in peer.Leaving x t broker.Close e h m = let j = right_of (is_idle x.sending) false m in absurd cc
+gives_in peer.Leaving x t broker.Close e h m = let j = and_second (is_idle x.sending) false m in absurd cc
 gives_in peer.Leaving x t d e h m = serve peer.Leaving t x d e leaving_serves m
 gives_in peer.StoppingOwes x t broker.CloseOk e h m = record { may = λ r. rw e refl; kept = λ r. rw (e, h.waiting, h.sending) refl; bare = rw e (record { waiting = h.waiting; sending = h.sending }); given = tt; named = λ c. refl }
 gives_in peer.StoppingOwes x t _ e h m = cc
@@ -301,8 +294,8 @@ up_is connection.Broken h = cc
 sends_on : (f : Frame) (c : ℕ) (t : List ℕ) (d : BrokerFrame) (b : Broker) → channel_of f ≡ c → broker_frame f ≡ d → (is_up b.connection && may_in (channel_at b c).peer (channel_at b c) t d) ≡ true → IsReady b → SendsAs b f (record (send_on c t d b) { reading = reading_sent c d b.reading })
 sends_on f c t d b ec ed m h =
     let x : Channel = channel_at b c in
-    let u : b.connection ≡ connection.Up = up_is b.connection (left_of (is_up b.connection) _ m) in
-    let may : may_in x.peer x t d ≡ true = right_of (is_up b.connection) _ m in
+    let u : b.connection ≡ connection.Up = up_is b.connection (and_first (is_up b.connection) _ m) in
+    let may : may_in x.peer x t d ≡ true = and_second (is_up b.connection) _ m in
     let g = gives_in x.peer x t d refl (h.bare c) may in
     let named : down_frame f ≡ ToD c (low d) = ap₂ down_kind ec ed ∙ g.named c in
     let e : Broker = record (send_on c t d b) { reading = reading_sent c d b.reading } in

@@ -5,33 +5,22 @@ use Rattle.std.specs.Option.{option_map, option_or}
 use Rattle.std.proofs.lemmas.Bool.Decides.{eqb_tells}
 use mathlib.Core.Path.{fun_ext}
 use Rattle.lapin_tables.specs.ByChannel.{at_channel, on_channel}
-use Rattle.lapin_tables.proofs.Channels.{at-push, at-on_same, at-on_other}
+use Rattle.lapin_tables.proofs.Channels.{at-push, at-on_same, at-on_other, or-none}
 use Rattle.lapin_broker.specs.declared.content.Content.{Content}
 use Rattle.lapin_broker.specs.States.{Channel, free_channel, channel_in, with_channel}
 use Rattle.lapin_pairs.specs.Channel as kept
 use Rattle.lapin_pairs.specs.Every.{put}
 use Rattle.lapin_pairs.specs.Asking.{B2}
 use Rattle.lapin_concord.specs.Peers.{content_as, reading_as}
+use Rattle.lapin_broker.proofs.SoundLaw.{at_with}
 
 abbrev pub chan : ℕ → List (ℕ × Channel) → Channel
 chan c es = channel_in (at_channel c es)
 
-or_none : {X : Type 0} (o : Option X) → option_or o None ≡ o
-or_none None = refl
-or_none (Some x) = refl
-
--- a value at one channel
-pub at_with : (c : ℕ) (x : Channel) (es : List (ℕ × Channel)) → at_channel c (with_channel c x es) ≡ Some x
-at_with c x es = here (at_channel c es) refl
-  where
-    here : (o : Option Channel) → at_channel c es ≡ o → at_channel c (cond (is_some o) (on_channel c (λ _. x) es) (es ++ (c, x) ∷ [])) ≡ Some x
-    here None h = at-push c c x es ∙ (ap (λ q. option_or q (cond (c == c) (Some x) None)) h ∙ rw (eq-eqb c c refl) refl)
-    here (Some y) h = at-on_same c (λ _. x) es ∙ ap (option_map (λ _. x)) h
-
 pub at_away : (c e : ℕ) (x : Channel) (es : List (ℕ × Channel)) → (c == e) ≡ false → at_channel e (with_channel c x es) ≡ at_channel e es
 at_away c e x es n = elim (is_some (at_channel c es)) as (λ b. at_channel e (cond b (on_channel c (λ _. x) es) (es ++ (c, x) ∷ [])) ≡ at_channel e es) [
   | true ↦ at-on_other c e (λ _. x) es apart
-  | false ↦ at-push c e x es ∙ (ap (λ b. option_or (at_channel e es) (cond b (Some x) None)) n ∙ or_none (at_channel e es))
+  | false ↦ at-push c e x es ∙ (ap (λ b. option_or (at_channel e es) (cond b (Some x) None)) n ∙ or-none (at_channel e es))
 ]
   where
     apart : c ≢ e

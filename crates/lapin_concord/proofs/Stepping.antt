@@ -13,7 +13,9 @@ use Rattle.lapin_pairs.specs.Asking.{U2, Plain, SelectAsk, K2, KOpen, KClose, KT
 use Rattle.lapin_pairs.specs.Tags.{covers}
 use Rattle.lapin_pairs.specs.Tagging.{S3, on_base, marked, tagging}
 use Rattle.lapin_pairs.proofs.Every.{of_more, of_away}
-use Rattle.lapin_concord.proofs.Noting.{or_none, or_one, is_select, has_select, NotedAt, IsNotedIn, AreNoted, noted_beside, noted_begun}
+use Rattle.lapin_concord.proofs.Noting.{is_select, has_select, NotedAt, IsNotedIn, AreNoted, noted_beside, noted_begun}
+use Rattle.lapin_tables.proofs.Bools.{or_true}
+use Rattle.lapin_rules.proofs.ListLaws.{or_false}
 
 -- one channel with these marks
 abbrev pub Noted : S3 → ℕ → List ConfirmMark → List U2 → Type 0
@@ -28,7 +30,7 @@ same_select Refused s c ms us vs e h = tt
 same_select _ s c ms us vs e h = record { begun = h.begun; chosen = h.chosen ∙ ap (λ b. is_selected c ms || b) (sym e); count = h.count; pending = h.pending }
 
 pub more_select : (us vs : List U2) → has_select vs ≡ false → has_select (us ++ vs) ≡ has_select us
-more_select us vs h = list_any-append is_select us vs ∙ (ap (λ b. has_select us || b) h ∙ or_none (has_select us))
+more_select us vs h = list_any-append is_select us vs ∙ (ap (λ b. has_select us || b) h ∙ or_false (has_select us))
 
 -- ---- one channel changes, and no other
 
@@ -71,7 +73,7 @@ plainly t c s u ms n a b r h = record {
 selects_at : (t : All tagging) (c : ℕ) (s : S3) (u : U2) (ms : List ConfirmMark) → is_select u ≡ true → s.selected ≡ true → s.tagged ≡ (t.chans c).tagged → s.received ≡ (t.chans c).received → NotedAt (t.chans c) c ms (of_u c t.unsent) → NotedAt s c ms (of_u c t.unsent ++ u ∷ [])
 selects_at t c s u ms n a b r h = record {
   begun = h.begun;
-  chosen = a ∙ sym (ap (λ x. is_selected c ms || x) (list_any-append is_select (of_u c t.unsent) (u ∷ []) ∙ (ap (λ x. has_select (of_u c t.unsent) || (x || false)) n ∙ or_one (has_select (of_u c t.unsent)))) ∙ or_one (is_selected c ms));
+  chosen = a ∙ sym (ap (λ x. is_selected c ms || x) (list_any-append is_select (of_u c t.unsent) (u ∷ []) ∙ (ap (λ x. has_select (of_u c t.unsent) || (x || false)) n ∙ or_true (has_select (of_u c t.unsent)))) ∙ or_true (is_selected c ms));
   count = ap length b ∙ h.count;
   pending = λ i p. h.pending i (sym (ap₂ (λ xs ys. nat_lt 0 i && nat_le i (length xs) && not (list_any (covers i) ys)) b r) ∙ p);
 }

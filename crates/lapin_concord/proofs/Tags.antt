@@ -1,5 +1,5 @@
 -- Two publishes of one opening that have tags have different tags: the later of them counts the earlier.
-use Rattle.std.proofs.Common.{◌≡◌, ℕ, zero, suc, ◌+◌, ◌<◌, ◌≤◌, Bool, true, false, cond, ◌==◌, ◌||◌, List, [], ◌∷◌, ◌++◌, refl, sym, ◌∙◌, ap, subst, append_assoc, append-nil, Option, Some, None, inl, inr, eq-eqb, arith}
+use Rattle.std.proofs.Common.{◌≡◌, ℕ, zero, suc, ◌+◌, ◌<◌, ◌≤◌, Bool, true, false, cond, ◌||◌, List, [], ◌∷◌, ◌++◌, refl, sym, ◌∙◌, ap, subst, append_assoc, append-nil, Option, Some, None, inl, inr, eq-eqb, arith}
 use Rattle.std.specs.List.{list_any, count_by}
 use Rattle.std.proofs.lemmas.Bool.Decides.{eqb_tells}
 use Rattle.std.proofs.lemmas.List.Folds.{list_any-append}
@@ -15,6 +15,7 @@ use Rattle.lapin_rules.proofs.ListLaws.{since_none}
 use Rattle.lapin_confirm.specs.Follows.{pending_cell, left_cell, queued_cell, open_cell, cell_in, WasAdded, MayCome, CameAfter}
 use Rattle.lapin_confirm.specs.declared.cell.Cell.TheVariants as cell
 use Rattle.lapin_concord.specs.Openings.{opening_of}
+use Rattle.lapin_tables.proofs.Bools.{same_number, only_first}
 
 -- ---- lists
 
@@ -78,12 +79,8 @@ module _ {X : Type 0} where
       rw (any, e) (r refl)
   since_at p x xs ys false n e r h =
       let any : list_any p (xs ++ ys) ≡ false = list_any-append p xs ys ∙ (ap (λ b. b || list_any p ys) e ∙ n) in
-      let here : p x ≡ true = first (p x) h in
+      let here : p x ≡ true = only_first (p x) h in
       rw (any, e, here) refl
-    where
-      first : (b : Bool) → (b || false) ≡ true → b ≡ true
-      first true h = refl
-      first false h = h
 
   since-append : (p : X → Bool) (xs ys : List X) → list_any p ys ≡ false → list_any p xs ≡ true → since p (xs ++ ys) ≡ since p xs ++ ys
   since-append p [] ys n h = cc
@@ -166,10 +163,11 @@ queued_channel n d ms h = by_gone (is_gone n ms) refl
     by_gone true e = let k : None ≡ Some (cell.Queued d) = sym (ap (λ b. cond b None (Some (open_cell n ms))) e) ∙ h in absurd cc
     by_gone false e = let k : Some (open_cell n ms) ≡ Some (cell.Queued d) = sym (ap (λ b. cond b None (Some (open_cell n ms))) e) ∙ h in by_left (has_left n ms) refl cc
 
--- it was accepted on that channel for good
-added-append : (ms ks : List ConfirmMark) → added ms ≤ added (ms ++ ks)
+-- further marks take back no publish
+pub added-append : (ms ks : List ConfirmMark) → added ms ≤ added (ms ++ ks)
 added-append ms ks = let h : added (ms ++ ks) ≡ added ms + many adds ks = many-append adds ms ks in omega (arith, h)
 
+-- it was accepted on that channel for good
 channel_kept : (n : ℕ) (ms ks : List ConfirmMark) → n < added ms → channel_of (suc n) (ms ++ ks) ≡ channel_of (suc n) ms
 channel_kept n ms [] lt = ap (channel_of (suc n)) (append-nil ms)
 channel_kept n ms (k ∷ ks) lt =
@@ -182,14 +180,11 @@ channel_stays (suc n) ms ks w = let h : suc n ≤ added ms = w.1 in channel_kept
 
 leaves_there : (n : ℕ) (us : List ConfirmMark) (y : ConfirmMark) (ws : List ConfirmMark) → leaves n y ≡ true → MayCome us y → leaves_on (channel_of n (us ++ ws)) y ≡ true
 leaves_there n us (mark.Left d j) ws l m =
-    let e : j ≡ n = same j n l in
+    let e : j ≡ n = same_number j n l in
     let w : WasAdded n us = subst (λ k. WasAdded k us) e m.0 in
     let q : cell_in n us ≡ Some (cell.Queued d) = ap (λ k. cell_in k us) (sym e) ∙ m.1 in
     let c : channel_of n (us ++ ws) ≡ d = channel_stays n us ws w ∙ queued_channel n d us q in
     eq-eqb d (channel_of n (us ++ ws)) (sym c)
-  where
-    same : (a b : ℕ) → (a == b) ≡ true → a ≡ b
-    same a b h = elim (eqb_tells a b) [ inl y ↦ y.1 | inr y ↦ let k : true ≡ false = sym h ∙ y.0 in absurd cc ]
 leaves_there n us _ ws l m = cc
 
 -- ---- two publishes

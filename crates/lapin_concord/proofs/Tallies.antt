@@ -26,9 +26,10 @@ use Rattle.lapin_concord.specs.Peers.{connection_as, sides_as, IsReady}
 use Rattle.lapin_concord.specs.Numbering.{IsCountIn, AreCounts}
 use Rattle.lapin_concord.proofs.Views.{Told, is_own, AreOwn, Follows}
 use Rattle.lapin_concord.proofs.Reading.{small, up_small, IsPlaced, is_piece, MayRead}
-use Rattle.lapin_concord.proofs.Sending.{low, gives_in, right_of}
+use Rattle.lapin_concord.proofs.Sending.{low, gives_in}
 use Rattle.lapin_concord.proofs.Lifting.{bare, tagged_step, IsAllowed, bare_step, may_bare, allowed_at}
 use Rattle.lapin_concord.proofs.Counted.{none_counts, some_counts, allowed_send, sent_counts}
+use Rattle.lapin_tables.proofs.Bools.{and_second}
 
 -- the fact of the pair with tags and counts, over all channels
 abbrev pub J3 : All tagging → Type 0
@@ -166,10 +167,10 @@ tallied_read w v b f us p g y h ends t =
 -- ---- the broker sends
 
 named_low : (b : Broker) (c : ℕ) (t : List ℕ) (d : BrokerFrame) → (is_up b.connection && may_in (channel_at b c).peer (channel_at b c) t d) ≡ true → IsReady b → down_kind c d ≡ ToD c (low d)
-named_low b c t d m h = (gives_in (channel_at b c).peer (channel_at b c) t d refl (h.bare c) (right_of (is_up b.connection) _ m)).named c
+named_low b c t d m h = (gives_in (channel_at b c).peer (channel_at b c) t d refl (h.bare c) (and_second (is_up b.connection) _ m)).named c
 
 on_tag_counts : (b : Broker) (c : ℕ) (t : List ℕ) (d : BrokerFrame) (r : Option (ℕ × Content)) (s : ℕ → B3) → (is_up b.connection && may_in (channel_at b c).peer (channel_at b c) t d) ≡ true → IsReady b → AreCounts b (tag_counts s) → AreCounts (record (send_on c t d b) { reading = r }) (tag_counts (sides_sent tagging s (down_kind c d)))
-on_tag_counts b c t d r s m h counts = subst (λ x. AreCounts (record (send_on c t d b) { reading = r }) (tag_counts (sides_sent tagging s x))) (sym (named_low b c t d m h)) (sent_counts b c t d r s (right_of (is_up b.connection) _ m) counts)
+on_tag_counts b c t d r s m h counts = subst (λ x. AreCounts (record (send_on c t d b) { reading = r }) (tag_counts (sides_sent tagging s x))) (sym (named_low b c t d m h)) (sent_counts b c t d r s (and_second (is_up b.connection) _ m) counts)
 
 sorted_sent : (b : Broker) (c : ℕ) (t : List ℕ) (d : BrokerFrame) (s : ℕ → B3) → may_sorted c t d b ≡ true → IsReady b → AreCounts b (tag_counts s) → AreCounts (send_sorted c t d b) (tag_counts (sides_sent tagging s (down_kind c d)))
 sorted_sent b c t broker.ConnectionClose s m h counts = counts
@@ -179,7 +180,7 @@ sorted_sent b c t d s m h counts = on_tag_counts b c t d b.reading s m h counts
 sorted_allowed : (x : All tagging) (b : Broker) (c : ℕ) (t : List ℕ) (d : BrokerFrame) → may_sorted c t d b ≡ true → IsReady b → AreCounts b (tag_counts x.sides) → IsAllowed x (SendA (down_kind c d))
 sorted_allowed x b c t broker.ConnectionClose m h counts = tt
 sorted_allowed x b c t broker.ConnectionCloseOk m h counts = tt
-sorted_allowed x b c t d m h counts = subst (λ q. IsAllowed x (SendA q)) (sym (named_low b c t d m h)) (allowed_send b c t d (tag_counts x.sides) (right_of (is_up b.connection) _ m) counts)
+sorted_allowed x b c t d m h counts = subst (λ q. IsAllowed x (SendA q)) (sym (named_low b c t d m h)) (allowed_send b c t d (tag_counts x.sides) (and_second (is_up b.connection) _ m) counts)
 
 pub tallied_send : (w v : All asking) (b : Broker) (f : Frame) → w.broker ≡ connection_as b.connection → w.sides ≡ sides_as b → may b f ≡ true → IsReady b → may_a asking (connection_as b.connection) (sides_as b) (down_frame f) ≡ true → happens_a asking w (SendA (down_frame f)) ≡ v → (t : Tallied w b) → (y : Tallied v (send b f)) × (y.pair ≡ happens_a tagging t.pair (SendA (down_frame f)))
 tallied_send w v b f p g m h a ends t =

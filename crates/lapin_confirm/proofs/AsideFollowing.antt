@@ -10,6 +10,7 @@ use Rattle.lapin_rules.specs.ConfirmReadings.{channel_of, is_selected}
 use Rattle.lapin_rules.specs.ReturnLists.{ReturnLists, arrived_in, given_first, attached_to, attached_to_all, return_of, taken_out, kept_of, set_by, drained_return_lists, renewed}
 use Rattle.lapin_rules.specs.ReturnReadings.{is_done, covered, return_lists_step, return_lists_of}
 use Rattle.lapin_rules.proofs.ReturnLaws.{return_lists-push}
+use Rattle.lapin_tables.proofs.Bools.{and_false}
 
 -- confirm n is one of these
 abbrev pub stands : ℕ → List ℕ → Bool
@@ -65,14 +66,10 @@ stands-filter q n (x ∷ ns) =
         | inr other ↦ rw other.0 (stands-filter q n ns)
       ]
       | false ↦ λ fails. elim (eqb_tells x n) [
-        | inl same ↦ let here : q n ≡ false = ap q (sym same.1) ∙ fails in stands-filter q n ns ∙ rw (same.0, here) (never (stands n ns))
+        | inl same ↦ let here : q n ≡ false = ap q (sym same.1) ∙ fails in stands-filter q n ns ∙ rw (same.0, here) (and_false (stands n ns))
         | inr other ↦ rw other.0 (stands-filter q n ns)
       ]
     ] refl
-  where
-    never : (b : Bool) → (b && false) ≡ false
-    never true = refl
-    never false = refl
 
 -- two tests that agree on those that stand there leave the same
 pub filter-same : (p q : ℕ → Bool) (ns : List ℕ) → ((n : ℕ) → stands n ns ≡ true → p n ≡ q n) → filter p ns ≡ filter q ns

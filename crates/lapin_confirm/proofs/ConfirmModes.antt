@@ -1,6 +1,5 @@
 -- What callers see of the confirm modes.
 use Rattle.std.proofs.Common.{subst, cond, ◌≡◌, ℕ, true, false, List, [], ◌∷◌, ◌++◌, Option, Some, None, refl, sym, ◌∙◌, ap}
-use Rattle.std.specs.Prelude.{Result, Ok, Err, OnErr}
 use Rattle.std.specs.Option.{option_map, IsSome}
 use Rattle.std.proofs.lemmas.List.{map_push}
 use Rattle.lapin_rules.specs.Words.{is_some, with_channel}
@@ -15,6 +14,7 @@ use Rattle.lapin_confirm.specs.ConfirmState.{ConfirmState}
 use Rattle.lapin_confirm.specs.Ties.{IsFresh, confirm_mode_state, confirm_mode_after, confirm_mode_states}
 use Rattle.lapin_tables.specs.Numbered.{with_under}
 use Rattle.lapin_confirm.specs.declared.cell.Cell.{Cell}
+use Rattle.lapin_tables.proofs.Bools.{on_err}
 
 pub mode-at : (c : ℕ) (es : List (ℕ × ConfirmMode)) (o : Option ConfirmMode) → at_channel c es ≡ o → at_channel c (confirm_mode_states es) ≡ option_map confirm_mode_state o
 mode-at c es o is = at-values confirm_mode_state c es ∙ ap (option_map confirm_mode_state) is
@@ -82,10 +82,6 @@ all-same b d ts us ms ns hs ks same returned_by_channel early origins = rw (same
 -- where the early messages stay
 pub same-confirm_state : {ms : List (ℕ × BasicReturnMessage)} (b d : PublishStates) (ts us : List (ℕ × ReturnLists)) (hs ks : List (Option Origin)) → b ≡ d → ts ≡ us → hs ≡ ks → confirm_state b ts ms hs ≡ confirm_state d us ms ks
 same-confirm_state {ms = ms} b d ts us hs ks same returned_by_channel origins = all-same b d ts us ms ms hs ks same returned_by_channel refl origins
-
-pub on-err : {T E : Type 0} (r : Result T E) (P : Type 0) → P → OnErr r P
-on-err (Ok x) P p = tt
-on-err (Err e) P p = p
 
 pub fresh-mode : (l : ConfirmMode) → IsFresh l → confirm_mode_state l ≡ fresh_confirm_mode
 fresh-mode l fresh = rw (fresh.selected, fresh.tags, fresh.asked, fresh.limit) refl

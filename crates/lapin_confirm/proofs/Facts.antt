@@ -1,7 +1,6 @@
 -- What holds of a history whose marks came as they may: who is gone, and who stands aside.
-use Rattle.std.proofs.Common.{◌≡◌, ℕ, zero, suc, ◌+◌, ◌<◌, ◌≤◌, ◌==◌, nat_lt, Bool, true, false, not, cond, ◌&&◌, ◌||◌, List, [], ◌∷◌, ◌++◌, Some, refl, sym, ◌∙◌, ap, subst, arith, ◌⊎◌, inl, inr, eq-eqb, ne_eqb, eqb-true, ltb-true, ltb-false, append-nil, append_assoc}
+use Rattle.std.proofs.Common.{◌≡◌, ℕ, zero, suc, ◌+◌, ◌<◌, ◌≤◌, ◌==◌, nat_lt, Bool, true, false, not, cond, ◌&&◌, ◌||◌, List, [], ◌∷◌, ◌++◌, Some, refl, sym, ◌∙◌, ap, subst, arith, inl, inr, eq-eqb, ne_eqb, eqb-true, ltb-true, ltb-false, append-nil, append_assoc}
 use Rattle.std.specs.List.{filter}
-use Rattle.std.proofs.Math.Bool.{or-true}
 use Rattle.std.proofs.lemmas.Bool.Decides.{eqb_tells}
 use Rattle.lapin_rules.specs.ConfirmMarks.{ConfirmMark}
 use Rattle.lapin_rules.specs.ConfirmMarks as mark
@@ -16,6 +15,7 @@ use Rattle.lapin_confirm.proofs.CellFollowing.{left-push, taken-push, IsQueued, 
 use Rattle.lapin_confirm.proofs.CellFollowing as cells
 use Rattle.lapin_confirm.proofs.Outcomes.{outcome-push}
 use Rattle.lapin_confirm.proofs.AsideFollowing.{stands, aside_after, aside-push, stands-filter}
+use Rattle.std.proofs.lemmas.Bool.{not-true, or_right, or_cases, and_parts, or_left, false_from_ne_true}
 
 -- confirm n was set aside on channel c, and is not gone
 abbrev pub rests : ℕ → ℕ → List ConfirmMark → Bool
@@ -33,29 +33,6 @@ pub record Facts (ms : List ConfirmMark) : Type 0 where
   pub begun : (k : ℕ) → k < added ms → is_begun (channel_of (suc k) ms) ms ≡ true
   -- who stands aside
   pub aside : (c n : ℕ) → stands n (return_lists_of c ms).aside ≡ rests c n ms
-
-or_split : (a b : Bool) → (a || b) ≡ true → (a ≡ true) ⊎ (b ≡ true)
-or_split true b h = inl refl
-or_split false b h = inr h
-
-pub and_split : (a b : Bool) → (a && b) ≡ true → (a ≡ true) × (b ≡ true)
-and_split true true h = (refl, refl)
-and_split true false h = cc
-and_split false b h = cc
-
-or_first : (a b : Bool) → a ≡ true → (a || b) ≡ true
-or_first a b h = rw h refl
-
-or_second : (a b : Bool) → b ≡ true → (a || b) ≡ true
-or_second a b h = rw h (or-true a)
-
-pub untrue : (b : Bool) → (b ≡ true → ⊥) → b ≡ false
-untrue true never = absurd (never refl)
-untrue false never = refl
-
-not_open : (b : Bool) → not b ≡ true → b ≡ false
-not_open true h = cc
-not_open false h = refl
 
 -- a mark adds at most one publish
 pub added_grows : (ms : List ConfirmMark) (m : ConfirmMark) → added ms ≤ added (ms ++ m ∷ [])
@@ -99,7 +76,7 @@ finishes-known n ms _ may h = cc
 known-push : (ms : List ConfirmMark) (m : ConfirmMark) → Facts ms → MayCome ms m → (n : ℕ) → is_finished n (ms ++ m ∷ []) ≡ true → WasAdded n (ms ++ m ∷ [])
 known-push ms m f may n h =
     added_still n ms m
-    (elim (or_split (is_finished n ms) (takes n m || lays n m) (sym (finished-push n ms m) ∙ h)) [
+    (elim (or_cases (is_finished n ms) (takes n m || lays n m) (sym (finished-push n ms m) ∙ h)) [
       | inl was ↦ f.known n was
       | inr now ↦ finishes-known n ms m may now
     ])
@@ -108,12 +85,12 @@ known-push ms m f may n h =
 
 laid_before : (n : ℕ) (ms : List ConfirmMark) (x d : Bool) → (x && (is_aside n ms && d)) ≡ true → (is_finished n ms || false) ≡ true
 laid_before n ms x d h =
-    let both = and_split (is_aside n ms) d (and_split x (is_aside n ms && d) h).1 in
-    or_first (is_finished n ms) false (or_second (is_taken n ms) (is_aside n ms) both.0)
+    let both = and_parts (is_aside n ms) d (and_parts x (is_aside n ms && d) h).1 in
+    or_left (is_finished n ms) false (or_right (is_taken n ms) (is_aside n ms) both.0)
 
 goes-finished : (n : ℕ) (ms : List ConfirmMark) (m : ConfirmMark) → goes n ms m ≡ true → (is_finished n ms || (takes n m || lays n m)) ≡ true
-goes-finished n ms (mark.Taken j) h = or_second (is_finished n ms) ((j == n) || false) (or_first (j == n) false h)
-goes-finished n ms (mark.SetAside j) h = or_second (is_finished n ms) (j == n) (and_split (j == n) (is_done ms n) h).0
+goes-finished n ms (mark.Taken j) h = or_right (is_finished n ms) ((j == n) || false) (or_left (j == n) false h)
+goes-finished n ms (mark.SetAside j) h = or_right (is_finished n ms) (j == n) (and_parts (j == n) (is_done ms n) h).0
 goes-finished n ms (mark.Drained c) h = laid_before n ms (channel_of n ms == c) (is_done ms n) h
 goes-finished n ms (mark.Begun c) h = laid_before n ms (channel_of n ms == c) (is_done ms n) h
 goes-finished n ms _ h = cc
@@ -121,25 +98,25 @@ goes-finished n ms _ h = cc
 gone-finished : (ms : List ConfirmMark) (m : ConfirmMark) → Facts ms → (n : ℕ) → is_gone n (ms ++ m ∷ []) ≡ true → is_finished n (ms ++ m ∷ []) ≡ true
 gone-finished ms m f n h =
     finished-push n ms m
-    ∙ elim (or_split (is_gone n ms) (goes n ms m) (sym (gone-push n ms m) ∙ h)) [
-      | inl was ↦ or_first (is_finished n ms) (takes n m || lays n m) (f.gone n was)
+    ∙ elim (or_cases (is_gone n ms) (goes n ms m) (sym (gone-push n ms m) ∙ h)) [
+      | inl was ↦ or_left (is_finished n ms) (takes n m || lays n m) (f.gone n was)
       | inr now ↦ goes-finished n ms m now
     ]
 
 resting_done : (n : ℕ) (ms : List ConfirmMark) (x a : Bool) → (x && (a && is_done ms n)) ≡ true → is_open_outcome (outcome_at n ms) ≡ false
-resting_done n ms x a h = not_open (is_open_outcome (outcome_at n ms)) (and_split a (is_done ms n) (and_split x (a && is_done ms n) h).1).1
+resting_done n ms x a h = not-true (is_open_outcome (outcome_at n ms)) (and_parts a (is_done ms n) (and_parts x (a && is_done ms n) h).1).1
 
 -- of a publish of which nothing is kept from this mark on the outcome is there
 pub goes-done : (n : ℕ) (ms : List ConfirmMark) (m : ConfirmMark) → MayCome ms m → goes n ms m ≡ true → is_open_outcome (outcome_at n ms) ≡ false
 goes-done n ms (mark.Taken j) may h = let P : ℕ → Type 0 = λ i. is_open_outcome (outcome_at i ms) ≡ false in subst P (eqb-true j n h) may.2
-goes-done n ms (mark.SetAside j) may h = not_open (is_open_outcome (outcome_at n ms)) (and_split (j == n) (is_done ms n) h).1
+goes-done n ms (mark.SetAside j) may h = not-true (is_open_outcome (outcome_at n ms)) (and_parts (j == n) (is_done ms n) h).1
 goes-done n ms (mark.Drained c) may h = resting_done n ms (channel_of n ms == c) (is_aside n ms) h
 goes-done n ms (mark.Begun c) may h = resting_done n ms (channel_of n ms == c) (is_aside n ms) h
 goes-done n ms _ may h = cc
 
 goes-known : (ms : List ConfirmMark) (m : ConfirmMark) → Facts ms → MayCome ms m → (n : ℕ) → goes n ms m ≡ true → WasAdded n ms
 goes-known ms m f may n h =
-    elim (or_split (is_finished n ms) (takes n m || lays n m) (goes-finished n ms m h)) [
+    elim (or_cases (is_finished n ms) (takes n m || lays n m) (goes-finished n ms m h)) [
       | inl was ↦ f.known n was
       | inr now ↦ finishes-known n ms m may now
     ]
@@ -150,7 +127,7 @@ outcome_still (suc k) ms m known may h = let last : suc k ≤ added ms = known.1
 
 done-push : (ms : List ConfirmMark) (m : ConfirmMark) → Facts ms → MayCome ms m → (n : ℕ) → is_gone n (ms ++ m ∷ []) ≡ true → is_open_outcome (outcome_at n (ms ++ m ∷ [])) ≡ false
 done-push ms m f may n h =
-    elim (or_split (is_gone n ms) (goes n ms m) (sym (gone-push n ms m) ∙ h)) [
+    elim (or_cases (is_gone n ms) (goes n ms m) (sym (gone-push n ms m) ∙ h)) [
       | inl was ↦ outcome_still n ms m (f.known n (f.gone n was)) may (f.done n was)
       | inr now ↦ outcome_still n ms m (goes-known ms m f may n now) may (goes-done n ms m may now)
     ]
@@ -162,15 +139,15 @@ taken-goes n ms _ h = cc
 given-push : (ms : List ConfirmMark) (m : ConfirmMark) → Facts ms → (n : ℕ) → is_taken n (ms ++ m ∷ []) ≡ true → is_gone n (ms ++ m ∷ []) ≡ true
 given-push ms m f n h =
     gone-push n ms m
-    ∙ elim (or_split (is_taken n ms) (takes n m) (sym (taken-push n ms m) ∙ h)) [
-      | inl was ↦ or_first (is_gone n ms) (goes n ms m) (f.given n was)
-      | inr now ↦ or_second (is_gone n ms) (goes n ms m) (taken-goes n ms m now)
+    ∙ elim (or_cases (is_taken n ms) (takes n m) (sym (taken-push n ms m) ∙ h)) [
+      | inl was ↦ or_left (is_gone n ms) (goes n ms m) (f.given n was)
+      | inr now ↦ or_right (is_gone n ms) (goes n ms m) (taken-goes n ms m now)
     ]
 
 -- ---- where publishes belong
 
 begun_new : (ms : List ConfirmMark) (m : ConfirmMark) (k : ℕ) → MayCome ms m → adds m ≡ true → k ≡ added ms → is_begun (channel_of (suc k) (ms ++ m ∷ [])) (ms ++ m ∷ []) ≡ true
-begun_new ms (mark.Added c) k may now last = rw (accepted_new k c ms last) (any-push (begins c) ms (mark.Added c) ∙ or_first (is_begun c ms) false may)
+begun_new ms (mark.Added c) k may now last = rw (accepted_new k c ms last) (any-push (begins c) ms (mark.Added c) ∙ or_left (is_begun c ms) false may)
 begun_new ms _ k may now last = cc
 
 begun-push : (ms : List ConfirmMark) (m : ConfirmMark) → Facts ms → MayCome ms m → (k : ℕ) → k < added (ms ++ m ∷ []) → is_begun (channel_of (suc k) (ms ++ m ∷ [])) (ms ++ m ∷ []) ≡ true
@@ -178,7 +155,7 @@ begun-push ms m f may k lt =
     elim (nat_lt k (added ms)) as (λ b. nat_lt k (added ms) ≡ b → is_begun (channel_of (suc k) (ms ++ m ∷ [])) (ms ++ m ∷ []) ≡ true) [
       | true ↦ λ h.
           let old : k < added ms = ltb-true k (added ms) h in
-          rw (accepted-push k ms m old) (any-push (begins (channel_of (suc k) ms)) ms m ∙ or_first (is_begun (channel_of (suc k) ms) ms) (begins (channel_of (suc k) ms) m) (f.begun k old))
+          rw (accepted-push k ms m old) (any-push (begins (channel_of (suc k) ms)) ms m ∙ or_left (is_begun (channel_of (suc k) ms) ms) (begins (channel_of (suc k) ms) m) (f.begun k old))
       | false ↦ λ h.
           let past : added ms ≤ k = ltb-false k (added ms) h in
           elim (adds m) as (λ b. adds m ≡ b → k < cond b (added ms + 1) (added ms) → is_begun (channel_of (suc k) (ms ++ m ∷ [])) (ms ++ m ∷ []) ≡ true) [
@@ -238,8 +215,8 @@ stays_out c n ms _ ns away out = out
 
 aside-unknown : (ms : List ConfirmMark) (m : ConfirmMark) → Facts ms → MayCome ms m → (c n : ℕ) → (WasAdded n ms → ⊥) → stands n (return_lists_of c (ms ++ m ∷ [])).aside ≡ rests c n (ms ++ m ∷ [])
 aside-unknown ms m f may c n unknown =
-    let unlaid : is_aside n ms ≡ false = untrue (is_aside n ms) (λ h. unknown (f.known n (or_second (is_taken n ms) (is_aside n ms) h))) in
-    let away : lays n m ≡ false = untrue (lays n m) (λ h. unknown (finishes-known n ms m may (or_second (takes n m) (lays n m) h))) in
+    let unlaid : is_aside n ms ≡ false = false_from_ne_true (is_aside n ms) (λ h. unknown (f.known n (or_right (is_taken n ms) (is_aside n ms) h))) in
+    let away : lays n m ≡ false = false_from_ne_true (lays n m) (λ h. unknown (finishes-known n ms m may (or_right (takes n m) (lays n m) h))) in
     let out : stands n (return_lists_of c ms).aside ≡ false = f.aside c n ∙ rw unlaid (never_both (channel_of n ms == c) (not (is_gone n ms))) in
     let still : is_aside n (ms ++ m ∷ []) ≡ false = cells.aside-push n ms m ∙ rw (unlaid, away) refl in
     ap (stands n) (aside-push c ms m) ∙ stays_out c n ms m (return_lists_of c ms).aside away out ∙ rw still (sym (never_both (channel_of n (ms ++ m ∷ []) == c) (not (is_gone n (ms ++ m ∷ [])))))
@@ -249,10 +226,10 @@ abbrev moved : ℕ → ℕ → List ConfirmMark → ConfirmMark → Bool
 moved c n ms m = channel_of n ms == c && ((is_aside n ms || lays n m) && not (is_gone n ms || goes n ms m))
 
 pub unfinished : (n : ℕ) (ms : List ConfirmMark) → is_finished n ms ≡ false → is_aside n ms ≡ false
-unfinished n ms open_ = untrue (is_aside n ms) (λ h. let yes : is_finished n ms ≡ true = or_second (is_taken n ms) (is_aside n ms) h in cc)
+unfinished n ms open_ = false_from_ne_true (is_aside n ms) (λ h. let yes : is_finished n ms ≡ true = or_right (is_taken n ms) (is_aside n ms) h in cc)
 
 pub unfinished-kept : (n : ℕ) (ms : List ConfirmMark) → Facts ms → is_finished n ms ≡ false → is_gone n ms ≡ false
-unfinished-kept n ms f open_ = untrue (is_gone n ms) (λ h. let yes : is_finished n ms ≡ true = f.gone n h in cc)
+unfinished-kept n ms f open_ = false_from_ne_true (is_gone n ms) (λ h. let yes : is_finished n ms ≡ true = f.gone n h in cc)
 
 aside-moved : (ms : List ConfirmMark) (m : ConfirmMark) → Facts ms → MayCome ms m → (c n : ℕ) → WasAdded n ms → stands n (aside_after c ms m (return_lists_of c ms).aside) ≡ moved c n ms m
 aside-moved ms (mark.Begun d) f may c n known =
@@ -371,7 +348,7 @@ queued-open c n ms is =
 
 -- so it goes by no mark that may come, and waits on
 queued-kept : (c n : ℕ) (ms : List ConfirmMark) (m : ConfirmMark) → MayCome ms m → cell_in n ms ≡ Some (cell.Queued c) → goes n ms m ≡ false
-queued-kept c n ms m may is = untrue (goes n ms m) (λ h. let open_ = queued-open c n ms is in let shut = goes-done n ms m may h in cc)
+queued-kept c n ms m may is = false_from_ne_true (goes n ms m) (λ h. let open_ = queued-open c n ms is in let shut = goes-done n ms m may h in cc)
 
 pub leaving-stays : (c n : ℕ) (ms : List ConfirmMark) (m : ConfirmMark) → MayCome ms m → MayCome ms (mark.Left c n) → leaves n m ≡ false → cells.stood m (Some (cell.Queued c)) ≡ Some (cell.Queued c) → MayCome (ms ++ m ∷ []) (mark.Left c n)
 leaving-stays c zero ms m may waits away same = let none : 1 ≤ 0 = waits.0.0 in absurd (omega arith)

@@ -26,11 +26,12 @@ use Rattle.lapin_confirm.specs.Follows.{Follows, MayCome, cell_in, origin_in, op
 use Rattle.lapin_confirm.proofs.ConfirmModeFollowing.{mode-follows}
 use Rattle.lapin_confirm.proofs.CellFollowing.{stood, cell-step, origin-step, open-step, cell-left, cell-added, origin-added, aside-push}
 use Rattle.lapin_confirm.proofs.AsideFollowing.{stands, stands-filter}
-use Rattle.lapin_confirm.proofs.Facts.{facts, came-push, untrue, unfinished, unfinished-kept}
+use Rattle.lapin_confirm.proofs.Facts.{facts, came-push, unfinished, unfinished-kept}
 use Rattle.lapin_confirm.proofs.Asides.{length-marked}
 use Rattle.lapin_confirm.proofs.Remaining.{under-written, under-old, leaves_off, cells-less, origins-less, count-less, places-less}
 use Rattle.lapin_confirm.proofs.ReturnFollowing.{returned_by_channel-push, return_lists-after}
 use Rattle.lapin_confirm.proofs.Reading.{resolved_open, origin-there, done-read}
+use Rattle.std.proofs.lemmas.Bool.{false_from_ne_true}
 
 -- ---- a mark that changes nothing of a publish
 
@@ -135,7 +136,7 @@ over-off c n p = ap (λ (b : Bool). b && is_over p.publish_states.cells n) (stan
 
 -- a publish that is not accepted yet is not gone, and was not set aside
 new-unfinished : (k : ℕ) (ms : List ConfirmMark) (p : ConfirmState) → Follows ms p → k ≡ added ms → is_finished (suc k) ms ≡ false
-new-unfinished k ms p f last = untrue (is_finished (suc k) ms) (λ h. let known = (facts ms f.came).known (suc k) h in let within : suc k ≤ added ms = known.1 in absurd (omega arith))
+new-unfinished k ms p f last = false_from_ne_true (is_finished (suc k) ms) (λ h. let known = (facts ms f.came).known (suc k) h in let within : suc k ≤ added ms = known.1 in absurd (omega arith))
 
 new-kept : (k : ℕ) (ms : List ConfirmMark) (p : ConfirmState) → Follows ms p → k ≡ added ms → is_gone (suc k) ms ≡ false
 new-kept k ms p f last = unfinished-kept (suc k) ms (facts ms f.came) (new-unfinished k ms p f last)

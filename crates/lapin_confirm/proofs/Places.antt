@@ -4,6 +4,7 @@ use Rattle.std.specs.List.{remove}
 use Rattle.lapin_types.specs.declared.message.BasicReturnMessage.{BasicReturnMessage}
 use Rattle.lapin_rules.specs.ReturnLists.{message_at, without}
 use Rattle.lapin_confirm.specs.ReturnedMessages.{place_in, is_of}
+use Rattle.lapin_tables.proofs.Channels.{nowhere-later}
 
 pub found : (n p : ℕ) (xs : List (ℕ × BasicReturnMessage)) → ((k : ℕ) → k < p → is_of n (slice_get xs k) ≡ false) → is_of n (slice_get xs p) ≡ true → place_in n xs ≡ Some p
 found n p [] before here = cc
@@ -25,10 +26,6 @@ place-none n (x ∷ xs) h =
       | true ↦ λ h. cc
       | false ↦ λ h. let rest = place-none n xs (nowhere-later (place_in n xs) h) in (rest.0, ap (λ ys. x ∷ ys) rest.1)
     ] h
-  where
-    nowhere-later : (o : Option ℕ) → option_map suc o ≡ None → o ≡ None
-    nowhere-later None h = refl
-    nowhere-later (Some q) h = cc
 
 -- there is a place exactly where there is a message
 pub place-held : (n : ℕ) (xs : List (ℕ × BasicReturnMessage)) → is_some (place_in n xs) ≡ is_some (message_at n xs)

@@ -2,7 +2,7 @@
 use Rattle.std.proofs.Common.{◌≡◌, ℕ, zero, suc, ◌<◌, ◌≤◌, ◌==◌, nat_lt, Bool, true, false, not, cond, ◌&&◌, List, Option, Some, None, is_some, length, refl, sym, ◌∙◌, ap, arith, eq-eqb, ne_eqb, lt-ltb, ltb-true, ltb-false}
 use Rattle.std.specs.Prelude.{Result, Ok, Err}
 use Rattle.std.proofs.Math.Bool.{or-true}
-use Rattle.std.proofs.lemmas.Bool.{le-leb, lt-leb}
+use Rattle.std.proofs.lemmas.Bool.{le-leb, lt-leb, false_from_ne_true}
 use Rattle.lapin_types.specs.declared.Error.{Error}
 use Rattle.lapin_types.specs.declared.Error.TheVariants as error
 use Rattle.lapin_types.specs.declared.confirmation.Confirmation.{Confirmation}
@@ -26,9 +26,10 @@ use Rattle.lapin_confirm.specs.Answers.{result_of, answer_in, answer_at, answer_
 use Rattle.lapin_confirm.specs.Aside.{is_aside_in, is_set_aside, is_giving, is_waiting, taken_answer}
 use Rattle.lapin_confirm.specs.Follows.{Follows, WasAdded, open_cell, left_cell, pending_cell, queued_cell}
 use Rattle.lapin_confirm.specs.Polled.{shown_with, polled, gives_result, is_none_yet}
-use Rattle.lapin_confirm.proofs.Facts.{facts, untrue}
+use Rattle.lapin_confirm.proofs.Facts.{facts}
 use Rattle.lapin_confirm.proofs.Remaining.{under-beyond}
 use Rattle.lapin_confirm.proofs.Reading.{cell-there, origin-there}
+use Rattle.lapin_tables.proofs.Bools.{and_false}
 
 -- ---- what the cell of a confirm answers, of which something is kept
 
@@ -62,7 +63,7 @@ number-unknown k p = rw (above k) refl
 known-number : (k : ℕ) (ms : List ConfirmMark) (p : ConfirmState) → Follows ms p → k < added ms → is_unknown (suc k) p.publish_states ≡ false
 known-number k ms p f lt =
     let count : length p.publish_states.cells ≡ added ms = f.count in
-    number-unknown k p ∙ untrue (nat_lt (length p.publish_states.cells) (suc k)) (λ h. let past : length p.publish_states.cells < suc k = ltb-true (length p.publish_states.cells) (suc k) h in absurd (omega arith))
+    number-unknown k p ∙ false_from_ne_true (nat_lt (length p.publish_states.cells) (suc k)) (λ h. let past : length p.publish_states.cells < suc k = ltb-true (length p.publish_states.cells) (suc k) h in absurd (omega arith))
 
 -- of one that is gone nothing is answered any more
 gone-answer : (k : ℕ) (ms : List ConfirmMark) (p : ConfirmState) → Follows ms p → k < added ms → is_gone (suc k) ms ≡ true → taken_answer (suc k) p ≡ Err error.AlreadyTaken
@@ -79,7 +80,7 @@ kept-answer : (k : ℕ) (ms : List ConfirmMark) (p : ConfirmState) → Follows m
 kept-answer k ms p f lt kept =
     let known : WasAdded (suc k) ms = (omega arith, omega arith) in
     let aside : is_set_aside (suc k) p ≡ is_aside (suc k) ms = ap is_aside_in (origin-there (suc k) ms p f known kept) in
-    let untaken : is_taken (suc k) ms ≡ false = untrue (is_taken (suc k) ms) (λ h. let gone : is_gone (suc k) ms ≡ true = (facts ms f.came).given (suc k) h in cc) in
+    let untaken : is_taken (suc k) ms ≡ false = false_from_ne_true (is_taken (suc k) ms) (λ h. let gone : is_gone (suc k) ms ≡ true = (facts ms f.came).given (suc k) h in cc) in
     rw (aside, untaken, known-number k ms p f lt, cell-there (suc k) ms p f known kept, message-read (suc k) ms p f known kept)
     (ap (cond (is_aside (suc k) ms) (Err error.AlreadyTaken)) (answer_open (read.message_of (suc k) ms) (suc k) ms))
 
@@ -150,11 +151,7 @@ waiting-told n p = tells is_unresolved is_none_yet n p waits-in (λ e. refl) ref
 
 -- of a number that was never given nothing
 never-given : (n : ℕ) (p : ConfirmState) → is_unknown n p.publish_states ≡ true → p ≡ cond (is_giving n p) (given n p) p
-never-given n p unknown = sym (ap (λ (b : Bool). cond b (given n p) p) (ap (λ o. not (is_set_aside n p) && is_resolved o) (unknown-cell n p unknown) ∙ nobody (not (is_set_aside n p))))
-  where
-    nobody : (b : Bool) → (b && false) ≡ false
-    nobody true = refl
-    nobody false = refl
+never-given n p unknown = sym (ap (λ (b : Bool). cond b (given n p) p) (ap (λ o. not (is_set_aside n p) && is_resolved o) (unknown-cell n p unknown) ∙ and_false (not (is_set_aside n p))))
 
 pub zero-stays : (n : ℕ) (p : ConfirmState) → n ≡ 0 → p ≡ cond (is_giving n p) (given n p) p
 zero-stays n p none = never-given n p (rw (eq-eqb n 0 none) refl)
@@ -167,7 +164,7 @@ pub bare-answer : (n : ℕ) (o : Outcome) (p : ConfirmState) → is_set_aside n 
 bare-answer n o p free bare is = rw (free, known, is, nothing (message_of n p) bare) (alone o)
   where
     known : is_unknown n p.publish_states ≡ false
-    known = untrue (is_unknown n p.publish_states) (λ h. let no : None ≡ Some (cell.Resolved o) = sym (unknown-cell n p h) ∙ is in cc)
+    known = false_from_ne_true (is_unknown n p.publish_states) (λ h. let no : None ≡ Some (cell.Resolved o) = sym (unknown-cell n p h) ∙ is in cc)
 
     nothing : (m : Option BasicReturnMessage) → is_some m ≡ false → m ≡ None
     nothing None h = refl

@@ -23,6 +23,7 @@ use Rattle.lapin_confirm.specs.Follows.{Follows, WasAdded, NoneWaitsAside, cell_
 use Rattle.lapin_confirm.proofs.Covered.{taking-same}
 use Rattle.lapin_confirm.proofs.AsideFollowing.{stands}
 use Rattle.lapin_confirm.proofs.Facts.{facts}
+use Rattle.std.proofs.lemmas.Option.{slice_get_within}
 
 -- ---- one list by its places, and the numbers of the places
 
@@ -177,11 +178,6 @@ never-named true true false = refl
 never-named true false d = refl
 never-named false b d = refl
 
-get-within : {X : Type 0} (xs : List X) (k : ℕ) (x : X) → slice_get xs k ≡ Some x → k < length xs
-get-within [] k x h = cc
-get-within (y ∷ ys) zero x h = omega arith
-get-within (y ∷ ys) (suc k) x h = let rest : k < length ys = get-within ys k x h in omega arith
-
 at_place : (xs : List (Option Cell)) (j : ℕ) (x : Option Cell) → slice_get xs j ≡ Some x → under (suc j) xs ≡ x
 at_place [] j x h = cc
 at_place (y ∷ ys) zero x h = cc
@@ -191,7 +187,7 @@ at_place (y ∷ ys) (suc j) x h = at_place ys j x h
 cell-reads : (r : Option Cell → Bool) (q : ℕ → Bool) (ms : List ConfirmMark) (p : ConfirmState) → Follows ms p → r None ≡ false → ((n : ℕ) → Reads r q n ms) → ((n : ℕ) → is_open_outcome (outcome_at n ms) ≡ false → q n ≡ false) → (k : ℕ) (x : Option Cell) → slice_get p.publish_states.cells k ≡ Some x → r x ≡ q (1 + k)
 cell-reads r q ms p f none open_ over k x there =
     let count : length p.publish_states.cells ≡ added ms = f.count in
-    let within : k < length p.publish_states.cells = get-within p.publish_states.cells k x there in
+    let within : k < length p.publish_states.cells = slice_get_within p.publish_states.cells k x there in
     let lt : k < added ms = omega arith in
     let same : x ≡ cell_in (suc k) ms = sym (at_place p.publish_states.cells k x there) ∙ f.cells k lt in
     let number : suc k ≡ 1 + k = omega arith in

@@ -16,7 +16,7 @@ use Rattle.lapin_confirm.proofs.ConfirmModeFollowing.{place-push, tag-push}
 use Rattle.lapin_confirm.proofs.CellFollowing.{left-push, IsQueued, queued_facts}
 
 -- an opening that is selected has begun
-selected-begun : (c : ℕ) (ms : List ConfirmMark) → is_selected c ms ≡ true → is_begun c ms ≡ true
+pub selected-begun : (c : ℕ) (ms : List ConfirmMark) → is_selected c ms ≡ true → is_begun c ms ≡ true
 selected-begun c ms h =
     elim (is_begun c ms) as (λ b. is_begun c ms ≡ b → b ≡ true) [
       | true ↦ λ _. refl

@@ -8,7 +8,7 @@ use Rattle.lapin_types.specs.declared.Error.{Error}
 use Rattle.lapin_types.specs.declared.outcome.Outcome.{Outcome}
 use Rattle.lapin_tables.specs.ByChannel.{at_channel, on_channel}
 use Rattle.lapin_tables.specs.Numbered.{under}
-use Rattle.lapin_tables.proofs.Channels.{at-push, at-on_same, at-on_other}
+use Rattle.lapin_tables.proofs.Channels.{at-push, at-on_same, at-on_other, or-none}
 use Rattle.lapin_tables.proofs.Counts.{count-push, count-none, count-map}
 use Rattle.lapin_tables.proofs.SlotLaws.{counted, under-push, under-pushed, under-map}
 use Rattle.lapin_confirm.specs.declared.cell.Cell.{Cell}
@@ -44,10 +44,6 @@ all-on c l k es cells after is all tied others d =
           subst Q (sym (at-on_other c d (λ _. k) es other.1)) (others d (at_channel d es) other.1 (all d))
     ]
 
-or_none : (o : Option ConfirmMode) → option_or o None ≡ o
-or_none None = refl
-or_none (Some l) = refl
-
 -- a new channel
 pub all-push : (c : ℕ) (k : ConfirmMode) (es : List (ℕ × ConfirmMode)) (cells : List (Option Cell)) → at_channel c es ≡ None → AllTied es cells → Tied c k cells → AllTied (es ++ (c, k) ∷ []) cells
 all-push c k es cells none all tied d =
@@ -67,7 +63,7 @@ all-push c k es cells none all tied d =
     added = rw (none, eq-eqb c c refl) refl
 
     apart : (d : ℕ) → (c == d) ≡ false → option_or (at_channel d es) (cond (c == d) (Some k) None) ≡ at_channel d es
-    apart d other = rw other (or_none (at_channel d es))
+    apart d other = rw other (or-none (at_channel d es))
 
 -- ---- the confirm mode alone changes
 

@@ -1,10 +1,10 @@
 -- Room for the ends of a channel's consumers, and of all.
-use Rattle.std.proofs.Common.{◌≡◌, ◌≢◌, ℕ, zero, suc, ◌+◌, ◌*◌, ◌<◌, ◌≤◌, ◌==◌, ◌&&◌, Bool, true, false, cond, List, [], ◌∷◌, length, map, Option, Some, None, refl, sym, ◌∙◌, ap, subst, arith, slice_get, slice_set, get_or, inl, inr}
+use Rattle.std.proofs.Common.{◌≡◌, ◌≢◌, ℕ, zero, suc, ◌+◌, ◌*◌, ◌<◌, ◌≤◌, ◌==◌, Bool, true, false, cond, List, [], ◌∷◌, length, map, Option, Some, None, refl, sym, ◌∙◌, ap, subst, arith, slice_get, slice_set, get_or, inl, inr}
 use Rattle.std.specs.Option.{option_map}
 use Rattle.std.specs.List.{count_by}
 use Rattle.std.proofs.lemmas.Bool.Decides.{eqb_tells}
 use Rattle.std.proofs.lemmas.List.{length-map}
-use Rattle.std.proofs.lemmas.Option.{slice_get_read, slice_get_within}
+use Rattle.std.proofs.lemmas.Option.{slice_get_read, slice_get_within, same_Some}
 use Rattle.lapin_types.specs.declared.job.Job.{Job}
 use Rattle.lapin_types.specs.Types.{Error}
 use Rattle.lapin_tables.proofs.Counts.{count-cons}
@@ -16,6 +16,7 @@ use Rattle.lapin_consumer.specs.WithRoom.{WithRoom, Reserved, HasEnds, is_regist
 use Rattle.lapin_consumer.specs.Subscriptions.{Consumer, is_on, moved}
 use Rattle.lapin_consumer.proofs.Places.{tested, get-map}
 use Rattle.lapin_consumer.proofs.Ending.{consumers_of, ended, seat_consumer, mapped}
+use Rattle.lapin_tables.proofs.Bools.{and_first}
 
 -- ---- seats that have room
 
@@ -55,16 +56,13 @@ fit_kept q p s t seats within is same more fit k u at on =
       | inl here ↦
           let P : ℕ → Type 0 = λ i. slice_get (slice_set seats p t) i ≡ Some u in
           let back : slice_get (slice_set seats p t) p ≡ Some u = subst P (sym here.1) at in
-          let e : t ≡ u = the_same t u (sym (get-set_same seats p t within) ∙ back) in
+          let e : t ≡ u = same_Some t u (sym (get-set_same seats p t within) ∙ back) in
           let passes : q s.consumer ≡ true = ap q (sym same ∙ ap (λ (v : Seated). v.consumer) e) ∙ on in
           let room : 3 ≤ s.spare = fit p s (slice_get_read seats (length seats) p s refl within is) passes in
           let now : 3 ≤ t.spare = omega arith in
           subst (λ (v : Seated). 3 ≤ v.spare) e now
       | inr other ↦ fit k u (sym (get-set_other seats p k t other.1) ∙ at) on
     ]
-  where
-    the_same : (x y : Seated) → Some x ≡ Some y → x ≡ y
-    the_same x y h = cc
 
 -- a seat whose consumer does not pass
 pub fit_without : (q : Consumer → Bool) (p : ℕ) (t : Seated) (seats : List Seated) → p < length seats → q t.consumer ≡ false → FitWhere q seats → FitWhere q (slice_set seats p t)
@@ -73,24 +71,17 @@ fit_without q p t seats within off fit k u at on =
       | inl here ↦
           let P : ℕ → Type 0 = λ i. slice_get (slice_set seats p t) i ≡ Some u in
           let back : slice_get (slice_set seats p t) p ≡ Some u = subst P (sym here.1) at in
-          let e : t ≡ u = the_same t u (sym (get-set_same seats p t within) ∙ back) in
+          let e : t ≡ u = same_Some t u (sym (get-set_same seats p t within) ∙ back) in
           let no_more : false ≡ true = sym off ∙ ap (λ (v : Seated). q v.consumer) e ∙ on in
           absurd (never no_more)
       | inr other ↦ fit k u (sym (get-set_other seats p k t other.1) ∙ at) on
     ]
   where
-    the_same : (x y : Seated) → Some x ≡ Some y → x ≡ y
-    the_same x y h = cc
-
     never : false ≡ true → ⊥
     never h = cc
 
 pub fit_on : (c : ℕ) (seats : List Seated) → FitWhere is_registered_one seats → FitWhere (is_on c) seats
-fit_on c seats fit p s at on = fit p s at (both s.consumer.registered (s.consumer.channel == c) on)
-  where
-    both : (a b : Bool) → a && b ≡ true → a ≡ true
-    both true b h = refl
-    both false b h = h
+fit_on c seats fit p s at on = fit p s at (and_first s.consumer.registered (s.consumer.channel == c) on)
 
 -- who was ended is registered no more
 pub count_ended : (c : ℕ) (e : Option Error) (xs : List Consumer) → count_by is_registered_one (map_at (moved (mark.Ended c e)) xs) + length (places_at (λ _ x. is_on c x) xs) ≡ count_by is_registered_one xs
@@ -101,7 +92,7 @@ count_ended c e (x ∷ xs) =
     let old : count_by is_registered_one (x ∷ xs) ≡ cond x.registered 1 0 + count_by is_registered_one xs = count-cons is_registered_one x xs in
     tested (is_on c x)
     (λ on.
-    let was : ◌≡◌ {A = ℕ} (cond x.registered 1 0) 1 = ap (λ b. cond b 1 0) (both x.registered (x.channel == c) on) in
+    let was : ◌≡◌ {A = ℕ} (cond x.registered 1 0) 1 = ap (λ b. cond b 1 0) (and_first x.registered (x.channel == c) on) in
     let new : count_by is_registered_one (ended e x ∷ map_at (moved (mark.Ended c e)) xs) ≡ 0 + count_by is_registered_one (map_at (moved (mark.Ended c e)) xs) = count-cons is_registered_one (ended e x) (map_at (moved (mark.Ended c e)) xs) in
     let sum : count_by is_registered_one (ended e x ∷ map_at (moved (mark.Ended c e)) xs) + suc (length (map suc (places_at (λ _ x. is_on c x) xs))) ≡ count_by is_registered_one (x ∷ xs) = omega arith in
     ap (λ b. count_by is_registered_one (cond b (ended e x) x ∷ map_at (moved (mark.Ended c e)) xs) + length (cond b (0 ∷ map suc (places_at (λ _ x. is_on c x) xs)) (map suc (places_at (λ _ x. is_on c x) xs)))) on ∙ sum)
@@ -110,10 +101,6 @@ count_ended c e (x ∷ xs) =
     let sum : count_by is_registered_one (x ∷ map_at (moved (mark.Ended c e)) xs) + length (map suc (places_at (λ _ x. is_on c x) xs)) ≡ count_by is_registered_one (x ∷ xs) = omega arith in
     ap (λ b. count_by is_registered_one (cond b (ended e x) x ∷ map_at (moved (mark.Ended c e)) xs) + length (cond b (0 ∷ map suc (places_at (λ _ x. is_on c x) xs)) (map suc (places_at (λ _ x. is_on c x) xs)))) off ∙ sum)
   where
-    both : (a b : Bool) → a && b ≡ true → a ≡ true
-    both true b h = refl
-    both false b h = h
-
     mapped_length : (ps : List ℕ) → length (map suc ps) ≡ length ps
     mapped_length [] = refl
     mapped_length (p ∷ ps) = ap suc (mapped_length ps)
@@ -180,16 +167,13 @@ below_next i s t seats within same room fit p u low at on =
       | inl here ↦
           let P : ℕ → Type 0 = λ k. slice_get (slice_set seats i t) k ≡ Some u in
           let back : slice_get (slice_set seats i t) i ≡ Some u = subst P (sym here.1) at in
-          let e : t ≡ u = the_same t u (sym (get-set_same seats i t within) ∙ back) in
+          let e : t ≡ u = same_Some t u (sym (get-set_same seats i t within) ∙ back) in
           let was : s.consumer.registered ≡ true = ap (λ (x : Consumer). x.registered) (sym same) ∙ ap (λ (v : Seated). v.consumer.registered) e ∙ on in
           subst (λ (v : Seated). 3 ≤ v.spare) e (room was)
       | inr other ↦
           let apart : i ≢ p = other.1 in
           fit p u (omega arith) (sym (get-set_other seats i p t other.1) ∙ at) on
     ]
-  where
-    the_same : (x y : Seated) → Some x ≡ Some y → x ≡ y
-    the_same x y h = cc
 
 pub below_all : (i : ℕ) (seats : List Seated) → length seats ≤ i → FitBelow i seats → FitWhere is_registered_one seats
 below_all i seats past fit p s at on = fit p s (below (slice_get_within seats p s at)) at on

@@ -6,7 +6,7 @@ use Rattle.std.specs.Option.{option_map}
 use Rattle.std.specs.List.{list_any}
 use Rattle.std.proofs.lemmas.Bool.Decides.{eqb_tells}
 use Rattle.std.proofs.lemmas.List.{length-map}
-use Rattle.std.proofs.lemmas.Option.{slice_get_read}
+use Rattle.std.proofs.lemmas.Option.{slice_get_read, same_Some, slice_get_within}
 use Rattle.lapin_types.specs.declared.job.Job.{Job}
 use Rattle.lapin_types.specs.Types.{Error}
 use Rattle.lapin_tables.proofs.Lists.{get-set_same, get-set_other}
@@ -17,7 +17,7 @@ use Rattle.lapin_consumer.specs.WithRoom.{WithRoom, Reserved}
 use Rattle.lapin_tables.specs.ByChannel.{at_channel}
 use Rattle.lapin_consumer.specs.Subscriptions.{Handed, Consumer, is_on, is_marked, handed, offered, canceled, last_words, first_place, moved, owed, is_under, place_under, Subscriptions, after_mark}
 use Rattle.lapin_consumer.proofs.Places.{tested, at_where, given_where, map_at-none, gather-none, get-map, map-set, places-map_at, get-map_at}
-use Rattle.lapin_consumer.proofs.Found.{Placed, first_placed, unplaced, get-within, after-suc, first-map}
+use Rattle.lapin_consumer.proofs.Found.{Placed, first_placed, unplaced, after-suc, first-map}
 use Rattle.lapin_consumer.proofs.Leaving.{places-off, elsewhere, under_on}
 use Rattle.lapin_consumer.proofs.Lines.{each}
 use Rattle.lapin_consumer.proofs.Rising.{those_all, exact_lists, lists_moved}
@@ -85,11 +85,8 @@ next c p rest s seats left within is =
     let first : first_place (places_at (λ _ x. is_on c x) (consumers_of seats)) ≡ Some p = ap first_place left in
     let at : Placed (λ _ x. is_on c x) p (consumers_of seats) = first_placed (λ _ x. is_on c x) p (consumers_of seats) first in
     let there : slice_get (consumers_of seats) p ≡ Some s.consumer = get-map (λ (u : Seated). u.consumer) p seats ∙ ap (option_map (λ (u : Seated). u.consumer)) (slice_get_read seats (length seats) p s refl within is) in
-    let same : at.element ≡ s.consumer = the_same at.element s.consumer (sym at.there ∙ there) in
+    let same : at.element ≡ s.consumer = same_Some at.element s.consumer (sym at.there ∙ there) in
     record { there = there; on = ap (is_on c) (sym same) ∙ at.passes; first = first }
-  where
-    the_same : (x y : Consumer) → Some x ≡ Some y → x ≡ y
-    the_same x y h = cc
 
 pub step_left : (c p : ℕ) (rest : List ℕ) (e : Option Error) (s t : Seated) (seats : List Seated) → Next c p rest s seats → places_at (λ _ x. is_on c x) (consumers_of seats) ≡ p ∷ rest → p < length seats → s ≡ get_or seats p s → t.consumer ≡ ended e s.consumer → places_at (λ _ x. is_on c x) (consumers_of (slice_set seats p t)) ≡ rest
 step_left c p rest e s t seats n left within is became =
@@ -118,15 +115,12 @@ step_room c p e s t seats within became fit k u at on =
       | inl here ↦
           let P : ℕ → Type 0 = λ i. slice_get (slice_set seats p t) i ≡ Some u in
           let back : slice_get (slice_set seats p t) p ≡ Some u = subst P (sym here.1) at in
-          let same : t ≡ u = the_same t u (sym (get-set_same seats p t within) ∙ back) in
+          let same : t ≡ u = same_Some t u (sym (get-set_same seats p t within) ∙ back) in
           let no : is_on c (ended e s.consumer) ≡ true = ap (is_on c) (sym became ∙ ap (λ (v : Seated). v.consumer) same) ∙ on in
           absurd (off no)
       | inr other ↦ fit k u (sym (get-set_other seats p k t other.1) ∙ at) on
     ]
   where
-    the_same : (x y : Seated) → Some x ≡ Some y → x ≡ y
-    the_same x y h = cc
-
     off : false ≡ true → ⊥
     off h = cc
 
@@ -149,7 +143,7 @@ left_now c i places xs lt left = left ∙ split i places lt
 pub next_within : (c p : ℕ) (rest : List ℕ) (seats : List Seated) → places_at (λ _ x. is_on c x) (consumers_of seats) ≡ p ∷ rest → p < length seats
 next_within c p rest seats left =
     let at : Placed (λ _ x. is_on c x) p (consumers_of seats) = first_placed (λ _ x. is_on c x) p (consumers_of seats) (ap first_place left) in
-    rw length-map at (get-within (consumers_of seats) p at.element at.there)
+    rw length-map at (slice_get_within (consumers_of seats) p at.element at.there)
 
 pub left_none : (c i : ℕ) (places : List ℕ) (xs : List Consumer) → length places ≤ i → places_at (λ _ x. is_on c x) xs ≡ drop i places → places_at (λ _ x. is_on c x) xs ≡ []
 left_none c i places xs past left = left ∙ none i places past
@@ -181,7 +175,7 @@ fitted_next c p later rest s t seats split within is same room fit k u at on =
       | inl here ↦
           let P : ℕ → Type 0 = λ i. slice_get (slice_set seats p t) i ≡ Some u in
           let back : slice_get (slice_set seats p t) p ≡ Some u = subst P (sym here.1) at in
-          let e : t ≡ u = the_same t u (sym (get-set_same seats p t within) ∙ back) in
+          let e : t ≡ u = same_Some t u (sym (get-set_same seats p t within) ∙ back) in
           inl (subst (λ (v : Seated). 3 ≤ v.spare) e room)
       | inr other ↦ elim (fit k u (sym (get-set_other seats p k t other.1) ∙ at) on) [
         | inl done ↦ inl done
@@ -189,9 +183,6 @@ fitted_next c p later rest s t seats split within is same room fit k u at on =
       ]
     ]
   where
-    the_same : (x y : Seated) → Some x ≡ Some y → x ≡ y
-    the_same x y h = cc
-
     shorter : list_any (λ j. j == k) (p ∷ rest) ≡ true → (p == k) ≡ false → list_any (λ j. j == k) rest ≡ true
     shorter h off = let e : list_any (λ j. j == k) (p ∷ rest) ≡ list_any (λ j. j == k) rest = rw off refl in sym e ∙ h
 

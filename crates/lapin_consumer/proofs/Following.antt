@@ -109,7 +109,7 @@ pub stories-push : (ss : List Story) (ms : List ConsumerMark) (m : ConsumerMark)
 stories-push ss [] m = refl
 stories-push ss (l ∷ ms) m = stories-push (next_stories l ss) ms m
 
-jobs-push : (ss : List Story) (ms : List ConsumerMark) (m : ConsumerMark) → jobs_from ss (ms ++ m ∷ []) ≡ jobs_from ss ms ++ jobs_by m (stories_from ss ms)
+pub jobs-push : (ss : List Story) (ms : List ConsumerMark) (m : ConsumerMark) → jobs_from ss (ms ++ m ∷ []) ≡ jobs_from ss ms ++ jobs_by m (stories_from ss ms)
 jobs-push ss [] m = append-nil (jobs_by m ss)
 jobs-push ss (l ∷ ms) m = ap (λ js. jobs_by l ss ++ js) (jobs-push (next_stories l ss) ms m) ∙ sym (append_assoc (jobs_by l ss) (jobs_from (next_stories l ss) ms) (jobs_by m (stories_from (next_stories l ss) ms)))
 

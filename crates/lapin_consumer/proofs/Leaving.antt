@@ -1,5 +1,5 @@
 -- A consumer leaves the index, or joins it.
-use Rattle.std.proofs.Common.{◌≡◌, ◌≢◌, ℕ, zero, suc, ◌<◌, ◌==◌, ◌&&◌, Bool, true, false, cond, List, [], ◌∷◌, ◌++◌, length, map, Some, refl, sym, ◌∙◌, ap, arith, slice_get, slice_set, inl, inr, ne_eqb, eq-eqb}
+use Rattle.std.proofs.Common.{◌≡◌, ◌≢◌, ℕ, zero, suc, ◌<◌, ◌==◌, Bool, true, false, cond, List, [], ◌∷◌, ◌++◌, length, map, Some, refl, sym, ◌∙◌, ap, arith, slice_get, slice_set, inl, inr, ne_eqb, eq-eqb}
 use Rattle.std.specs.Prelude.{nat_eq}
 use Rattle.std.specs.Cmp.Lexicographic.{pointwise, same_text}
 use Rattle.std.proofs.lemmas.Bool.{eqb-true}
@@ -8,6 +8,7 @@ use Rattle.lapin_consumer.specs.Words.{without_first}
 use Rattle.lapin_consumer.specs.Words.{places_at, on_place}
 use Rattle.lapin_consumer.specs.Subscriptions.{Consumer, is_on, is_under, newcomer}
 use Rattle.lapin_consumer.proofs.Places.{tested}
+use Rattle.lapin_tables.proofs.Bools.{and_first, and_second}
 
 pub suc_eqb : (j p : ℕ) → (suc j == suc p) ≡ (j == p)
 suc_eqb j p = elim (eqb_tells j p) [ inl same ↦ eq-eqb (suc j) (suc p) (ap suc same.1) ∙ sym same.0 | inr other ↦ ne_eqb (suc j) (suc p) (λ e. other.1 (omega arith)) ∙ sym other.0 ]
@@ -83,25 +84,13 @@ pub unlisted : (c : ℕ) (x : Consumer) → x.registered ≡ false → is_on c x
 unlisted c x off = rw off refl
 
 pub under_on : (c : ℕ) (t : List ℕ) (x : Consumer) → is_under c t x ≡ true → is_on c x ≡ true
-under_on c t x h = first (is_on c x) (pointwise nat_eq x.tag t) h
-  where
-    first : (a b : Bool) → a && b ≡ true → a ≡ true
-    first true b h = refl
-    first false b h = cc
+under_on c t x h = and_first (is_on c x) (pointwise nat_eq x.tag t) h
 
 under_off : (c : ℕ) (t : List ℕ) (x : Consumer) → x.registered ≡ false → is_under c t x ≡ true → ⊥
 under_off c t x off h = let no : is_on c x ≡ false = unlisted c x off in let yes : is_on c x ≡ true = under_on c t x h in cc
 
 pub on_channel : (c : ℕ) (x : Consumer) → is_on c x ≡ true → (x.registered ≡ true) × (x.channel ≡ c)
-on_channel c x h = (first x.registered (x.channel == c) h, eqb-true x.channel c (second x.registered (x.channel == c) h))
-  where
-    first : (a b : Bool) → a && b ≡ true → a ≡ true
-    first true b h = refl
-    first false b h = cc
-
-    second : (a b : Bool) → a && b ≡ true → b ≡ true
-    second true b h = h
-    second false b h = cc
+on_channel c x h = (and_first x.registered (x.channel == c) h, eqb-true x.channel c (and_second x.registered (x.channel == c) h))
 
 pub alone_left : (f : Consumer → Consumer) (p : ℕ) (xs : List Consumer) → Ends f → Alone xs → Alone (on_place f p xs)
 alone_left f p xs ends alone c t i j x y at_i at_j ux uy =
@@ -140,15 +129,11 @@ alone_joined c t q xs alone nobody d u i j x y at_i at_j ux uy =
       ]
     ]
   where
-    second : (a b : Bool) → a && b ≡ true → b ≡ true
-    second true b h = h
-    second false b h = cc
-
     clash : (z : Consumer) (k : ℕ) (w : Consumer) → newcomer c t q ≡ z → slice_get xs k ≡ Some w → is_under d u z ≡ true → is_under d u w ≡ true → ⊥
     clash z k w e at uz uw =
         let new : is_under d u (newcomer c t q) ≡ true = ap (is_under d u) e ∙ uz in
         let channel : c ≡ d = (on_channel d (newcomer c t q) (under_on d u (newcomer c t q) new)).1 in
-        let tag : t ≡ u = same_text t u (sym (second (is_on d (newcomer c t q)) (pointwise nat_eq t u) new)) in
+        let tag : t ≡ u = same_text t u (sym (and_second (is_on d (newcomer c t q)) (pointwise nat_eq t u) new)) in
         nobody k w at (rw (channel, tag) uw)
 
 -- who is registered on one channel is on no other

@@ -1,5 +1,5 @@
 -- The places of a channel rise, and those of its registered consumers are among them.
-use Rattle.std.proofs.Common.{◌≡◌, ℕ, zero, suc, ◌<◌, ◌≤◌, ◌==◌, ◌&&◌, ◌||◌, Bool, true, false, nat_lt, cond, List, [], ◌∷◌, ◌++◌, length, map, Option, Some, None, refl, sym, ◌∙◌, ap, subst, arith, slice_get, inl, inr, ne_eqb, eq-eqb}
+use Rattle.std.proofs.Common.{◌≡◌, ℕ, zero, suc, ◌<◌, ◌≤◌, ◌==◌, ◌&&◌, Bool, true, false, nat_lt, cond, List, [], ◌∷◌, ◌++◌, length, map, Option, Some, None, refl, sym, ◌∙◌, ap, subst, arith, slice_get, inl, inr, ne_eqb, eq-eqb}
 use Rattle.std.specs.Option.{option_map}
 use Rattle.std.specs.List.{filter, list_any}
 use Rattle.std.proofs.lemmas.Bool.{eqb-true, ltb-true, ltb-false}
@@ -12,6 +12,7 @@ use Rattle.lapin_consumer.specs.Indexed.{Lists, RiseBetween, is_among, stays_on}
 use Rattle.lapin_consumer.specs.Subscriptions.{Consumer, is_on, newcomer}
 use Rattle.lapin_consumer.proofs.Places.{tested, length-map_at, get-map_at}
 use Rattle.lapin_consumer.proofs.Leaving.{Ends, stood, suc_eqb, length-on, get-pushed, get-last, unlisted}
+use Rattle.lapin_tables.proofs.Bools.{or_true}
 
 -- ---- places that rise
 
@@ -173,10 +174,6 @@ module _ (c d : ℕ) (t q : List ℕ) (ys : List Consumer) (ps : List ℕ) (list
           | inr other ↦ rw (lists.all p x (get-pushed ys (newcomer c t q) p x there other.1) on) refl
         ];
   }
-    where
-      or_true : (b : Bool) → b || true ≡ true
-      or_true true = refl
-      or_true false = refl
 
   pub lists_beside : (c == d) ≡ false → Lists d (ys ++ newcomer c t q ∷ []) ps
   lists_beside apart = record {

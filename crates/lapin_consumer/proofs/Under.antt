@@ -10,6 +10,7 @@ use Rattle.lapin_consumer.specs.Indexed.{Line, tagged_in}
 use Rattle.lapin_consumer.specs.Subscriptions.{Consumer, is_on, is_under, first_place, place_under, newcomer}
 use Rattle.lapin_consumer.proofs.Places.{tested, places-push}
 use Rattle.lapin_consumer.proofs.Leaving.{Alone, Ends, places-kept, unlisted, under_on, on_channel, nobody_left}
+use Rattle.lapin_tables.proofs.Bools.{and_second}
 
 -- nobody passes
 pub none-placed : {X : Type 0} (q : X → Bool) (xs : List X) → ((i : ℕ) (y : X) → slice_get xs i ≡ Some y → q y ≡ true → ⊥) → places_at (λ _ x. q x) xs ≡ []
@@ -22,12 +23,8 @@ none-placed q (x ∷ xs) none =
 one_tag : (c d : ℕ) (t u : List ℕ) (x : Consumer) → is_under c t x ≡ true → is_under d u x ≡ true → (c ≡ d) × (t ≡ u)
 one_tag c d t u x here also = (sym (on_channel c x (under_on c t x here)).1 ∙ (on_channel d x (under_on d u x also)).1, sym (tag c t here) ∙ tag d u also)
   where
-    second : (a b : Bool) → a && b ≡ true → b ≡ true
-    second true b h = h
-    second false b h = cc
-
     tag : (k : ℕ) (v : List ℕ) → is_under k v x ≡ true → x.tag ≡ v
-    tag k v h = same_text x.tag v (sym (second (is_on k x) (pointwise nat_eq x.tag v) h))
+    tag k v h = same_text x.tag v (sym (and_second (is_on k x) (pointwise nat_eq x.tag v) h))
 
 elsewhere_under : (c d : ℕ) (t u : List ℕ) (x : Consumer) → is_under c t x ≡ true → (c ≡ d → t ≡ u → ⊥) → is_under d u x ≡ false
 elsewhere_under c d t u x here other = tested (is_under d u x) (λ yes. let both = one_tag c d t u x here yes in absurd (other both.0 both.1)) (λ no. no)

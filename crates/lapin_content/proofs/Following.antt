@@ -2,13 +2,13 @@
 use Rattle.std.proofs.Common.{◌≡◌, ℕ, ◌+◌, ◌-◌, ◌<◌, ◌≤◌, ◌==◌, Bool, true, false, cond, List, [], ◌∷◌, ◌++◌, map, drop, length, Option, Some, None, refl, sym, ◌∙◌, ap, arith, inl, inr}
 use Rattle.std.specs.Prelude.{nat_le}
 use Rattle.std.specs.List.{concat}
-use Rattle.std.specs.Option.{option_map, option_or}
+use Rattle.std.specs.Option.{option_map}
 use Rattle.std.proofs.lemmas.Bool.{leb-true, le-leb, lt-leb}
 use Rattle.std.proofs.lemmas.Bool.Decides.{eqb_tells, leb_tells}
 use Rattle.lapin_values.specs.Properties.{Properties}
 use Rattle.lapin_methods.specs.declared.frame.ContentHeader.{ContentHeader}
 use Rattle.lapin_tables.specs.ByChannel.{at_channel, on_channel}
-use Rattle.lapin_tables.proofs.Channels.{at-on_same, at-on_other, at-push}
+use Rattle.lapin_tables.proofs.Channels.{at-on_same, at-on_other, at-push, or-none}
 use Rattle.lapin_content.specs.declared.start.Start.{Start}
 use Rattle.lapin_content.specs.Contents.{Expected, expected, waits_for, takes_body, begun_with, grown_by, unless_whole, after_header, after_body}
 use Rattle.lapin_content.specs.Channels.{Channels, listed, expected_on, joined_at, after_mark}
@@ -143,10 +143,6 @@ join d c e all None at =
           rw (same.0, at-push d c (e ∷ []) all, same.0, none) refl
       | inr other ↦ rw (other.0, at-push d c (e ∷ []) all, other.0) (ap listed (or-none (at_channel c all)))
     ]
-  where
-    or-none : (o : Option (List Expected)) → option_or o None ≡ o
-    or-none None = refl
-    or-none (Some es) = refl
 join d c e all (Some es) at =
     elim (eqb_tells d c) [
       | inl same ↦

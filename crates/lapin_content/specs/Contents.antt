@@ -57,13 +57,13 @@ abbrev pub left_of : Expected → Option ℕ
 left_of e = lacked e.begun
 
 -- the header came, and at least as many bytes as these are lacking
-abbrev pub has_left : List ℕ → Option Begun → Bool
-has_left bytes None = false
-has_left bytes (Some b) = nat_le (length bytes) b.left
+abbrev pub has_place_for : List ℕ → Option Begun → Bool
+has_place_for bytes None = false
+has_place_for bytes (Some b) = nat_le (length bytes) b.left
 
 -- it has had its header and lacks at least as many bytes
 abbrev pub takes_body : List ℕ → Expected → Bool
-takes_body bytes e = has_left bytes e.begun
+takes_body bytes e = has_place_for bytes e.begun
 
 -- ---- what a header or a body makes of it
 

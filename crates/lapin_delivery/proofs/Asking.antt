@@ -1,21 +1,14 @@
 -- Where there is no job, one who asks for a job changes nothing.
-use Rattle.std.proofs.Common.{◌≡◌, false, List, [], ◌∷◌, ◌++◌, drop, Option, Some, None, refl, sym, ◌∙◌, ap, slice_get}
+use Rattle.std.proofs.Common.{◌≡◌, List, [], ◌∷◌, ◌++◌, drop, Option, Some, None, refl, sym, ◌∙◌, ap, slice_get}
 use Rattle.std.specs.Prelude.{IfNone}
 use Rattle.lapin_types.specs.declared.job.Job.{Job}
 use Rattle.lapin_acker.specs.declared.switch.Switch.{Switch}
 use Rattle.lapin_consumer.specs.Words.{map_at, gather_at}
 use Rattle.lapin_consumer.specs.Marks as mark
-use Rattle.lapin_consumer.specs.Subscriptions.{Consumer, Subscriptions, moved, owed, after_mark}
-use Rattle.lapin_consumer.proofs.Places.{map_at-none, gather-none}
-use Rattle.lapin_consumer.proofs.Single.{same_subscriptions}
+use Rattle.lapin_consumer.specs.Subscriptions.{Subscriptions, moved, owed, after_mark}
+use Rattle.lapin_consumer.proofs.Single.{same_subscriptions, gather-never, map-never}
 use Rattle.lapin_registry.specs.Topologies.{Topologies}
 use Rattle.lapin_delivery.specs.Deliveries.{Deliveries}
-
-gather-never : (xs : List Consumer) → gather_at (owed mark.JobAsked) xs ≡ []
-gather-never xs = gather-none {Y = Job} (λ i x. false) (λ i x. []) xs (λ i x is h. cc)
-
-map-never : (xs : List Consumer) → map_at (moved mark.JobAsked) xs ≡ xs
-map-never xs = map_at-none (λ i x. false) (λ x. x) xs (λ i x is h. cc)
 
 none-is : (js : List Job) → slice_get js 0 ≡ None → js ≡ []
 none-is [] none = refl

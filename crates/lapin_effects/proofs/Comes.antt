@@ -49,6 +49,8 @@ use Rattle.lapin_rules.specs.Loss.{after_lost}
 use Rattle.lapin_rules.specs.Receiving.{when, incoming_up, incoming_record, incoming_wire, incoming_deliveries, after_incoming, incoming_marks}
 use Rattle.lapin_effects.specs.Effects.{live, IsFit, IsQuiet, AreQuiet, moves, grows, Same, Effect, Stays, Closes, Ends, Falls, Sinks}
 use Rattle.lapin_effects.proofs.Happens.{phases_kept, but, moved, inboxed, nothing, live_at}
+use Rattle.lapin_tables.proofs.Bools.{and_false}
+use Rattle.lapin_rules.proofs.PhaseLaws.{up_open, lost_down, broker_over, open_hears_no_ok}
 
 abbrev At : Bool → ChannelPhase → ChannelState
 At z p = cond z state.Base (channel_state p)
@@ -56,17 +58,11 @@ At z p = cond z state.Base (channel_state p)
 abbrev Hears : Wire → Incoming → Record → Type 0
 Hears b i r = Effect b (incoming_wire i r b) (incoming_marks i r b) []
 
-up_open : (l : ConnectionPhase) → is_up l ≡ true → l ≡ link.Open
-up_open link.Open h = refl
-up_open (link.Closing s) h = cc
-up_open link.Closed h = cc
-up_open link.Lost h = cc
-
 state_up : (c : ℕ) (b : Wire) → b.link ≡ link.Open → state_of c b ≡ At (c == 0) (phase_of c b)
 state_up c b e = rw e refl
 
 -- ends grow nothing
-ends_grow : (e : Error) (cs : List ℕ) → list_any grows (ends e cs) ≡ false
+pub ends_grow : (e : Error) (cs : List ℕ) → list_any grows (ends e cs) ≡ false
 ends_grow e [] = refl
 ends_grow e (c ∷ cs) = ends_grow e cs
 
@@ -78,7 +74,7 @@ start_still c (start_.Return code text exchange key) w = refl
 start_still c (start_.Get ticket tag exchange key redelivered count) w = refl
 start_still c (start_.Deliver consumer tag exchange key redelivered) w = refl
 
-whole_still : (c : ℕ) (w : Option Whole) → list_any moves (whole_marks c w) ≡ false
+pub whole_still : (c : ℕ) (w : Option Whole) → list_any moves (whole_marks c w) ≡ false
 whole_still c None = refl
 whole_still c (Some w) = start_still c w.start w
 
@@ -128,20 +124,8 @@ module _ (class number : ℕ) where
   flow_receives : (c : ℕ) (active : Bool) (b : Wire) → b.link ≡ link.Open → Hears b (incoming.Flow c active) (when (receives_on (state_of c b)) no)
   flow_receives c active b e = received_if (receives_on (state_of c b)) b (incoming.Flow c active) (λ _. flow_moves c active b e)
 
-  broker_over : (p : ChannelPhase) → is_live (after_broker_close p) ≡ false
-  broker_over phase.Closed = refl
-  broker_over phase.Opening = refl
-  broker_over (phase.Open paused) = refl
-  broker_over (phase.Closing who true) = refl
-  broker_over (phase.Closing who false) = refl
-  broker_over phase.Crossed = refl
-
   over_live : (c : ℕ) (p : ChannelPhase) (b b' : Wire) → b'.link ≡ b.link → b'.phases ≡ with_channel c p b.phases → is_live p ≡ false → live c b' ≡ false
   over_live c p b b' l e over = live_at c p b b' l e ∙ (rw over (and_false (is_up b.link)))
-    where
-      and_false : (v : Bool) → (v && false) ≡ false
-      and_false true = refl
-      and_false false = refl
 
   close_receives : (c code : ℕ) (b : Wire) → b.link ≡ link.Open → Hears b (incoming.ChannelClose c code) (when (receives_close (state_of c b)) no)
   close_receives c code b e = received_if (receives_close (state_of c b)) b (incoming.ChannelClose c code) (λ _. Ends c (error.ProtocolError code) (but c (after_broker_close (phase_of c b)) b _ refl refl refl refl) (over_live c (after_broker_close (phase_of c b)) b (after_channel_close c (phase_of c b) b) refl refl (broker_over (phase_of c b))) refl refl _ refl (record { plain = refl; select = refl }, tt) refl refl)
@@ -159,11 +143,7 @@ module _ (class number : ℕ) where
       never : (z : Bool) → receives_close_ok (At z phase.Opening) ≡ true → ⊥
       never true h = cc
       never false h = cc
-  answered c (phase.Open paused) b q a e = absurd (never (c == 0) a)
-    where
-      never : (z : Bool) → receives_close_ok (cond z state.Base state.Open) ≡ true → ⊥
-      never true h = cc
-      never false h = cc
+  answered c (phase.Open paused) b q a e = absurd (open_hears_no_ok (c == 0) a)
 
   close_ok_receives : (c : ℕ) (b : Wire) → b.link ≡ link.Open → Hears b (incoming.ChannelCloseOk c) (when (receives_close_ok (state_of c b)) no)
   close_ok_receives c b e = received_if (receives_close_ok (state_of c b)) b (incoming.ChannelCloseOk c) (λ a. answered c (phase_of c b) b refl (rw (state_up c b e) at a) e)
@@ -267,9 +247,3 @@ lost_happens b = elim (is_lost b.link) as (λ t. is_lost b.link ≡ t → Effect
   | true ↦ λ h. Sinks refl refl (lost_down b.link h) (lost_down b.link h) (λ x. x) (λ x. x) (λ x. x) (all_grow error.ConnectionLost b) refl
   | false ↦ λ h. Falls error.ConnectionLost refl refl refl refl refl tt refl refl
 ] refl
-  where
-    lost_down : (l : ConnectionPhase) → is_lost l ≡ true → is_up l ≡ false
-    lost_down link.Open h = cc
-    lost_down (link.Closing s) h = refl
-    lost_down link.Closed h = refl
-    lost_down link.Lost h = refl

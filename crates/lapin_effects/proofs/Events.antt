@@ -60,7 +60,7 @@ let_go_event (Some x) b = elim (lets_go_of x b) as (λ v. lets_go_of x b ≡ v �
   | false ↦ λ a. nothing b [] refl
 ] refl
 
-still_if : (t : Bool) (m : ConfirmMark) → moves m ≡ false → list_any moves (cond t (m ∷ []) []) ≡ false
+pub still_if : (t : Bool) (m : ConfirmMark) → moves m ≡ false → list_any moves (cond t (m ∷ []) []) ≡ false
 still_if true m h = rw h refl
 still_if false m h = refl
 

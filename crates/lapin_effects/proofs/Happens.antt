@@ -12,7 +12,6 @@ use Rattle.lapin_rules.specs.declared.calls.Asked.{Asked}
 use Rattle.lapin_rules.specs.declared.calls.Asked.TheVariants as ask
 use Rattle.lapin_rules.specs.declared.phases.ChannelPhase.{ChannelPhase}
 use Rattle.lapin_rules.specs.declared.phases.ChannelPhase.TheVariants as phase
-use Rattle.lapin_rules.specs.declared.phases.ConnectionPhase.{ConnectionPhase}
 use Rattle.lapin_rules.specs.declared.phases.ConnectionPhase.TheVariants as link
 use Rattle.lapin_rules.specs.declared.phases.Closer.TheVariants as closer
 use Rattle.lapin_rules.specs.ConfirmMarks.{ConfirmMark}
@@ -32,6 +31,7 @@ use Rattle.lapin_delivery.specs.Marks.{DeliveryMark}
 use Rattle.lapin_types.specs.declared.leaving.Publish.{Publish}
 use Rattle.lapin_effects.specs.Effects.{publish_asked, publish_asking, live, hears, is_special, IsFit, moves, Same, SameBut, Effect, Stays, Closes, Opens, Adds, Ends, Falls, Sinks}
 use Rattle.lapin_effects.proofs.Phases.{at-same, at-other}
+use Rattle.lapin_rules.proofs.PhaseLaws.{allowed_up}
 
 -- ---- what stays of the channels
 
@@ -137,7 +137,7 @@ open_hears c b e h = let o = open_phase (c == 0) (phase_of c b) h in rw (e, o.0)
 pub queue_fit : (c : ℕ) (m : MethodEntry) (b : Wire) → m.channel ≡ c → is_special m.method ≡ false → live c b ≡ true → IsFit b m
 queue_fit c m b on plain lives = record { plain = plain; select = λ s. ap (λ d. live d b) on ∙ lives }
 
-quiet_select : (t : Bool) (c : ℕ) → list_any moves (cond t (mark.SelectCalled c ∷ []) []) ≡ false
+pub quiet_select : (t : Bool) (c : ℕ) → list_any moves (cond t (mark.SelectCalled c ∷ []) []) ≡ false
 quiet_select true c = refl
 quiet_select false c = refl
 
@@ -152,22 +152,6 @@ call_happens c (ask.Consume m tag queue o) b e a line = Stays (phases_kept b _ r
 call_happens c (ask.Limit limit) b e a line = Stays (phases_kept b _ refl refl refl refl refl) refl [] (sym (append-nil b.methods)) tt refl refl
 call_happens c ask.Nothing b e a line = absurd cc
 call_happens c (ask.Method row) b e a line = Stays (phases_kept b _ refl refl refl refl refl) refl _ refl (queue_fit c _ b refl line (open_lives c b e a), tt) (quiet_select (is_select row.method) c) refl
-
-shut_refuses : (k : Asked) → is_allowed k state.Down ≡ false
-shut_refuses ask.Open = refl
-shut_refuses (ask.CloseChannel code text) = refl
-shut_refuses (ask.CloseConnection code text) = refl
-shut_refuses (ask.Publish exchange key o payload properties) = refl
-shut_refuses (ask.Method row) = refl
-shut_refuses (ask.Consume m tag queue o) = refl
-shut_refuses (ask.Limit limit) = refl
-shut_refuses ask.Nothing = refl
-
-allowed_up : (l : ConnectionPhase) (k : Asked) (s : ChannelState) → is_allowed k (cond (is_up l) s state.Down) ≡ true → l ≡ link.Open
-allowed_up link.Open k s h = refl
-allowed_up (link.Closing x) k s h = let x = shut_refuses k in cc
-allowed_up link.Closed k s h = let x = shut_refuses k in cc
-allowed_up link.Lost k s h = let x = shut_refuses k in cc
 
 pub asked_happens : (c : ℕ) (k : Asked) (b : Wire) → IsLine k → Effect b (asked_wire c k b) (asking_marks c k b) (publish_asking c k b)
 asked_happens c k b line = elim (is_allowed k (state_of c b)) as (λ t. is_allowed k (state_of c b) ≡ t → Effect b (cond t (after_call c k b) b) (cond t (call_marks c k b) []) (cond t (publish_asked c k b) [])) [

@@ -1,6 +1,5 @@
 pub mod Format
 pub mod LineLaws
-pub mod Lines
 pub mod Outcome
 pub mod Printing
 pub mod Reading

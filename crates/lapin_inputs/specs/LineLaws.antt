@@ -4,7 +4,7 @@ use Rattle.std.specs.Str.{bytes_eq}
 use Rattle.std.proofs.lemmas.Slice.Eq.{bytes_eq-Decides}
 use Rattle.std.proofs.lemmas.List.{take-append-drop}
 use Rattle.std.proofs.Math.Seq.{take-append_seam}
-use Rattle.lapin_inputs.specs.Lines.{IsStep, NoStep, AreSteps, AreParsed}
+use Rattle.lapin_text.specs.Input.{IsStep, NoStep, AreSteps, LinesSay}
 use Rattle.lapin_inputs.specs.Printing.{NoFirst}
 
 -- ---- one reading
@@ -22,7 +22,7 @@ steps_or_not line_of HasLine n (l ∷ ls) (s ∷ ss) [] k all bad = bad.1 s all.
 steps_or_not line_of HasLine n (l ∷ ls) (s ∷ ss) (t ∷ ts) k all bad = steps_or_not line_of HasLine (n + 1) ls ss ts k all.2 bad.2
 
 -- nor has an input
-pub parsed_or_not : {E : Type 0} (line_of : E → List ℕ) (HasLine : E → Type 0) (ls : List (List ℕ)) (max other_max : Option ℕ) (ss ts : List E) (k : ℕ) → AreParsed line_of HasLine ls max ss None → AreParsed line_of HasLine ls other_max ts (Some k) → ⊥
+pub parsed_or_not : {E : Type 0} (line_of : E → List ℕ) (HasLine : E → Type 0) (ls : List (List ℕ)) (max other_max : Option ℕ) (ss ts : List E) (k : ℕ) → LinesSay line_of HasLine ls max ss None → LinesSay line_of HasLine ls other_max ts (Some k) → ⊥
 parsed_or_not line_of HasLine [] max other_max ss ts k all bad = no_number 1 None refl all.2
 parsed_or_not line_of HasLine (l ∷ ls) None other_max ss ts k all bad = no_number 1 None refl all.2
 parsed_or_not line_of HasLine (l ∷ ls) (Some m) None ss ts k all bad = bad.0 m all.0 all.1
@@ -44,7 +44,7 @@ some_steps {E} line_of HasLine step_of n (line ∷ lines) = with_line (step_of l
     with_line (inr none) rest = ([], Some n, (refl, none))
 
 -- where the first line is missing, or says no frame size, the lines say no step, and line 1 is the bad one
-pub none_first : {E : Type 0} (line_of : E → List ℕ) (HasLine : E → Type 0) (lines : List (List ℕ)) → NoFirst lines → AreParsed line_of HasLine lines None [] (Some 1)
+pub none_first : {E : Type 0} (line_of : E → List ℕ) (HasLine : E → Type 0) (lines : List (List ℕ)) → NoFirst lines → LinesSay line_of HasLine lines None [] (Some 1)
 none_first line_of HasLine [] none = (refl, refl, refl)
 none_first line_of HasLine (line ∷ lines) none = (none, refl, refl)
 

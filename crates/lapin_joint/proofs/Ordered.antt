@@ -1,5 +1,5 @@
 -- What left a side is what came to the other, followed by what is on the way.
-use Rattle.std.proofs.Common.{◌≡◌, ◌∙◌, ℕ, Bool, true, false, ◌&&◌, cond, List, [], ◌∷◌, ◌++◌, refl, sym, ap, append_assoc, append-nil}
+use Rattle.std.proofs.Common.{◌≡◌, ◌∙◌, ℕ, Bool, true, false, cond, List, [], ◌∷◌, ◌++◌, refl, sym, ap, append_assoc, append-nil}
 use Rattle.lapin_types.specs.declared.leaving.Left.{Left}
 use Rattle.lapin_types.specs.Types.{Frame}
 use Rattle.lapin_broker.specs.Sends.{may}
@@ -8,15 +8,12 @@ use Rattle.lapin_joint.specs.declared.step.Step.TheVariants as step
 use Rattle.lapin_joint.specs.Joint.{Joint, new_joint, client, send_down, is_lawful, handed_by, read_first, deliver_first, after, run, joined_to}
 use Rattle.lapin_machine.specs.Way.{Way, by_history}
 use Rattle.lapin_joint.specs.Order.{is_no_loss, nothing_lost, front, handed_in, read_in, sent_in, delivered_in, along, along_joined}
+use Rattle.std.proofs.lemmas.Bool.{and_parts}
 
 -- of what was on the way and what joins it, the first come and the rest is then on the way: so it is with all steps
 moved : {A : Type 0} (way joins comes then more behind last : List A) → way ++ joins ≡ comes ++ then → then ++ more ≡ behind ++ last → way ++ (joins ++ more) ≡ (comes ++ behind) ++ last
 moved way joins comes then more behind last one rest =
     sym (append_assoc way joins more) ∙ ap (λ xs. xs ++ more) one ∙ append_assoc comes then more ∙ ap (λ xs. comes ++ xs) rest ∙ sym (append_assoc comes behind last)
-
-both_true : (a b : Bool) → a && b ≡ true → (a ≡ true) × (b ≡ true)
-both_true true b e = (refl, e)
-both_true false b e = absurd cc
 
 -- ---- up
 
@@ -46,7 +43,7 @@ up_step m step.Lose j h = absurd cc
 up_all : {S : Type 0} (m : Way S) (ss : List Step) (j : Joint S) → nothing_lost ss ≡ true → j.up ++ along m (handed_in m) ss j ≡ along m read_in ss j ++ (run m ss j).up
 up_all m [] j h = append-nil j.up
 up_all m (s ∷ ss) j h =
-    let both = both_true (is_no_loss s) (nothing_lost ss) h in
+    let both = and_parts (is_no_loss s) (nothing_lost ss) h in
     moved j.up (handed_in m s j) (read_in s j) (after m s j).up _ _ _ (up_step m s j both.0) (up_all m ss (after m s j) both.1)
 
 pub up_ordered : (n : ℕ) (steps : List Step) → nothing_lost steps ≡ true → along_joined n (handed_in (by_history n)) steps ≡ along_joined n read_in steps ++ (joined_to n steps).up
@@ -80,7 +77,7 @@ down_step m step.Lose j h = absurd cc
 down_all : {S : Type 0} (m : Way S) (ss : List Step) (j : Joint S) → nothing_lost ss ≡ true → j.down ++ along m sent_in ss j ≡ along m delivered_in ss j ++ (run m ss j).down
 down_all m [] j h = append-nil j.down
 down_all m (s ∷ ss) j h =
-    let both = both_true (is_no_loss s) (nothing_lost ss) h in
+    let both = and_parts (is_no_loss s) (nothing_lost ss) h in
     moved j.down (sent_in s j) (delivered_in s j) (after m s j).down _ _ _ (down_step m s j both.0) (down_all m ss (after m s j) both.1)
 
 pub down_ordered : (n : ℕ) (steps : List Step) → nothing_lost steps ≡ true → along_joined n sent_in steps ≡ along_joined n delivered_in steps ++ (joined_to n steps).down

@@ -1,5 +1,5 @@
 -- The lines of steps: no two steps have one, and which step a line is of is told by the word in front.
-use Rattle.std.proofs.Common.{◌≡◌, ◌≢◌, ℕ, ◌<◌, ◌+◌, List, [], ◌∷◌, ◌++◌, length, get_or, Option, Some, None, refl, sym, ap, subst, ◌∙◌, arith, eqb, false}
+use Rattle.std.proofs.Common.{◌≡◌, ◌≢◌, ℕ, ◌<◌, ◌+◌, List, [], ◌∷◌, ◌++◌, length, Option, Some, None, refl, sym, ap, subst, ◌∙◌, arith}
 use Rattle.std.specs.Prelude.{Result, Ok, Err, IfOk, IfSome, IfNone, codes}
 use Rattle.std.specs.List.{join_with_byte}
 use Rattle.lapin_types.specs.Types.{Frame}
@@ -9,6 +9,7 @@ use Rattle.lapin_tokens.proofs.Plain.{no_feed}
 use Rattle.lapin_text.specs.Events as events
 use Rattle.lapin_text.specs.Events.{line_of, event_tokens}
 use Rattle.lapin_text.specs.Frames.{frame_text, frame_tokens, FrameFits}
+use Rattle.lapin_text.proofs.InputLaws.{HasNoFeed}
 use Rattle.lapin_text.proofs.LineLaws.{some_tokens, some_frame_tokens, plain_event, same_line, same_text}
 use Rattle.lapin_joint.specs.declared.step.Step.{Step}
 use Rattle.lapin_joint.specs.declared.step.Step.TheVariants as step
@@ -113,9 +114,6 @@ same_step step.Lose step.Lose fa fb is = refl
 behind_space : (word : List ℕ) (ts : List (List ℕ)) → 0 < length ts → join_with_byte 32 (word ∷ ts) ≡ word ++ 32 ∷ join_with_byte 32 ts
 behind_space word [] some = absurd (omega arith)
 behind_space word (t ∷ ts) some = refl
-
-abbrev HasNoFeed : List ℕ → Type 0
-HasNoFeed line = (i d : ℕ) → i < length line → eqb (get_or line i d) 10 ≡ false
 
 pub step_plain : (s : Step) → HasLine s → HasNoFeed (step_line s)
 step_plain (step.Client e) h = subst HasNoFeed (behind_space (codes "client") (event_tokens e) (some_tokens e)) (no_feed (codes "client" ∷ event_tokens e) (refl, plain_event e h))

@@ -1,12 +1,12 @@
 //! Whole inputs of joined runs: the greatest frame size of the first line, and the steps of the other lines up to the first bad line.
 
 ghost use Rattle.std.specs.Prelude.{IfOk};
-ghost use Rattle.lapin_text.specs.Input.{lines_of};
-ghost use Rattle.lapin_joint_text.specs.Input.{AreSteps, AreParsed};
+ghost use Rattle.lapin_text.specs.Input.{lines_of, LinesSay};
+ghost use Rattle.lapin_joint_text.specs.Steps.{step_line, HasLine};
 
 use crate::steps::read_step;
 use lapin_joint::Step;
-use lapin_text::{Lines, read_max};
+use lapin_text::{ReadLine, parse_lines};
 use lapin_types::NoMemory;
 use std::alloc::Global;
 
@@ -21,37 +21,21 @@ pub struct ParsedSteps {
     pub bad: Option<u64>,
 }
 
-/// No step's line is shorter.
-const SHORTEST_LINE: usize = 4;
+/// Lines of steps.
+enum StepLines {}
 
-/// How many lines come before the first that is too short to be a step's: so many steps there may be. Room is made for them at once,
-/// since a step is large and a list that grows by doubling would hold up to twice as much.
-fn steps_at_most(lines: &Lines) -> usize {
-    let mut ahead = lines.again();
-    let mut count: usize = 0;
-    while let Some(line) = ahead.next() {
-        if line.len() < SHORTEST_LINE {
-            break;
-        }
-        count = count.saturating_add(1);
-    }
-    count
-}
+impl ReadLine for StepLines {
+    type Step = Step;
 
-fn read_steps(alloc: Global, lines: &mut Lines) -> Result<(Vec<Step>, Option<u64>), NoMemory>
-    ensures { IfOk result (λ p. AreSteps 2 lines.old p.0.items p.1) }
-{
-    let mut steps = Vec::with_capacity(alloc, steps_at_most(lines))?;
-    while let Some(line) = lines.next() {
-        match read_step(alloc, line)? {
-            Some(step) => steps.push(step)?,
-            None => {
-                let bad = steps.len() as u64 + 2;
-                return Ok((steps, Some(bad)));
-            }
-        }
+    const SHORTEST: usize = 4;
+
+    ghost line_of = { step_line };
+
+    ghost has_line = { HasLine };
+
+    fn read(alloc: Global, line: &[u8]) -> Result<Option<Step>, NoMemory> {
+        read_step(alloc, line)
     }
-    Ok((steps, None))
 }
 
 /// Reads an input: the first line, and the steps up to the first line that isn't in the grammar.
@@ -59,26 +43,12 @@ fn read_steps(alloc: Global, lines: &mut Lines) -> Result<(Vec<Step>, Option<u64
 /// # Errors
 /// `NoMemory`.
 pub fn parse_steps(alloc: Global, bytes: &[u8]) -> Result<ParsedSteps, NoMemory>
-    ensures { IfOk result (λ p. AreParsed (lines_of bytes.now) p.frame_max p.steps.items p.bad) }
+    ensures { IfOk result (λ p. LinesSay step_line HasLine (lines_of bytes.now) p.frame_max p.steps.items p.bad) }
 {
-    let mut lines = Lines::new(bytes);
-    let max = match lines.next() {
-        Some(line) => read_max(line),
-        None => None,
-    };
-    match max {
-        Some(max) => {
-            let (steps, bad) = read_steps(alloc, &mut lines)?;
-            Ok(ParsedSteps {
-                frame_max: Some(max),
-                steps,
-                bad,
-            })
-        }
-        None => Ok(ParsedSteps {
-            frame_max: None,
-            steps: Vec::new(alloc),
-            bad: Some(1),
-        }),
-    }
+    let (frame_max, steps, bad) = parse_lines::<StepLines>(alloc, bytes)?;
+    Ok(ParsedSteps {
+        frame_max,
+        steps,
+        bad,
+    })
 }

@@ -29,7 +29,7 @@ Grows l ps m qs = (c : ℕ) → Alive l ps c → Alive m qs c
 pub live-with : (c d : ℕ) (p : ChannelPhase) (ps : List (ℕ × ChannelPhase)) → live_at d (with_channel c p ps) ≡ cond (c == d) (is_live p) (live_at d ps)
 live-with c d p ps = ap (λ o. is_live (phase_in o)) (at-with c d p ps) ∙ elim (c == d) as (λ b. is_live (phase_in (cond b (Some p) (at_channel d ps))) ≡ cond b (is_live p) (live_at d ps)) [ true ↦ refl | false ↦ refl ]
 
-live-close_sent : (p : ChannelPhase) → is_live (close_sent p) ≡ is_live p
+pub live-close_sent : (p : ChannelPhase) → is_live (close_sent p) ≡ is_live p
 live-close_sent phase.Closed = refl
 live-close_sent phase.Opening = refl
 live-close_sent (phase.Open paused) = refl

@@ -14,9 +14,10 @@ use Rattle.lapin_rules.specs.Requests.{requests_in, is_kind, resolved_with}
 use Rattle.lapin_rules.specs.Ends.{done_with, cancels_at, cancels_on}
 use Rattle.lapin_ticket.specs.declared.Slot.{Slot}
 use Rattle.lapin_ticket.specs.Slots.{after_mark}
-use Rattle.lapin_machine.proofs.Counts.{resolved-count, failed-count}
+use Rattle.lapin_machine.proofs.Counts.{failed-count}
 use Rattle.lapin_laws.proofs.Opens.{open_resolved}
 use Rattle.lapin_laws.proofs.Owing.{Table, Fewer}
+use Rattle.lapin_machine.proofs.Cancelled.{done-count}
 
 pub resolved_fewer : (slots : List (Option Slot)) (a : Result Answer Error) (o : Option ℕ) → Fewer slots (fold after_mark slots (resolved_with a o))
 resolved_fewer slots a o n c l g x = (g, (open_resolved c l g n slots a o x).1)
@@ -35,12 +36,6 @@ pub cancels_fewer : (c : ℕ) (all : Table) (slots : List (Option Slot)) → Few
 cancels_fewer c all slots = done_fewer (filter (is_kind reply_kind.BasicCancelOk) (requests_in (at_channel c all))) slots
 
 -- ---- how many tickets were given
-
-done-count : (rs : List Request) (slots : List (Option Slot)) → length (fold after_mark slots (done_with rs)) ≡ length slots
-done-count [] slots = refl
-done-count (r ∷ rs) slots =
-    let first : List TicketMark = resolved_with (Ok answer.Done) r.ticket in
-    ap length (fold-append after_mark slots first (done_with rs)) ∙ (done-count rs (fold after_mark slots first) ∙ resolved-count (Ok answer.Done) r.ticket slots)
 
 on-count : (cs : List ℕ) (all : Table) (slots : List (Option Slot)) → length (fold after_mark slots (cancels_on cs all)) ≡ length slots
 on-count [] all slots = refl

@@ -67,7 +67,7 @@ use Rattle.lapin_rules.specs.Consumers.{receives_consumer, lets_go_of, cancel_no
 use Rattle.lapin_machine.specs.Stands.{IsShut}
 use Rattle.lapin_machine.specs.Tied.{is_live_on}
 use Rattle.lapin_machine.proofs.Openings.{heard_opening, reply_opening, crossed_over}
-use Rattle.lapin_machine.proofs.Shut.{shut-next}
+use Rattle.lapin_machine.proofs.Shut.{shut-next, frame_left}
 use Rattle.lapin_machine.proofs.Standing.{past-push}
 use Rattle.lapin_laws.specs.Contents.{heard_contents, content_marks, contents_on, content_history}
 use Rattle.lapin_laws.specs.Outgoing.{ended_in, is_channel}
@@ -75,11 +75,13 @@ use Rattle.lapin_laws.specs.Runs.{world_after}
 use Rattle.lapin_laws.proofs.Alive.{live_at, live-with}
 use Rattle.lapin_laws.proofs.Cuts.{ended-ends, live-in}
 use Rattle.lapin_laws.proofs.Expecting.{expected-here, expected-away, joined-away}
-use Rattle.lapin_laws.proofs.Going.{up_sent, live_sent, left_quiet}
-use Rattle.lapin_laws.proofs.Moving.{allowed_up, lost_not_up, queued_quiet}
-use Rattle.lapin_laws.proofs.FrameMoves.{both, up_open, no_ends, whole_quiet, incoming_is}
+use Rattle.lapin_laws.proofs.Going.{live_sent, left_quiet}
+use Rattle.lapin_laws.proofs.Moving.{queued_quiet}
+use Rattle.lapin_laws.proofs.FrameMoves.{no_ends, whole_quiet, incoming_is}
 use Rattle.lapin_laws.proofs.EventMoves.{taken_quiet, drained_quiet, laid_quiet}
 use Rattle.lapin_laws.proofs.Traces.{stands_after}
+use Rattle.lapin_tables.proofs.Bools.{and_false, and_first}
+use Rattle.lapin_rules.proofs.PhaseLaws.{up_open, lost_down, allowed_up}
 
 -- ---- on a channel without a live opening nothing is expected
 
@@ -192,10 +194,6 @@ falls x b b' gone ms e =
       follows = subst R (sym gone) (subst Q (sym (ended-ends x cs)) (subst P (sym (append-nil (map content.Dropped cs))) new));
       quiet = subst S (sym gone) (λ c dead. refl);
     }
-  where
-    and_false : (t : Bool) → (t && false) ≡ false
-    and_false true = refl
-    and_false false = refl
 
 -- ---- calls
 
@@ -237,7 +235,7 @@ dropped_moved (Some x) b = choose_moved (lets_go_of x b) b (cancel_noted x b) re
 sent_moved : (o : Option Left) (b : Wire) → Moved b (sent o b) [] []
 sent_moved None b = stays b b refl (λ q. q)
 sent_moved (Some x) b = stays b _ refl (λ q c dead.
-    let same : is_live_on (link_sent x.frame b.link) (at_channel c (phases_sent x.frame b.phases)) ≡ is_live_on b.link (at_channel c b.phases) = ap (λ t. t && live_at c (phases_sent x.frame b.phases)) (up_sent x.frame b.link) ∙ ap (λ t. is_up b.link && t) (live_sent x.frame b.phases c) in
+    let same : is_live_on (link_sent x.frame b.link) (at_channel c (phases_sent x.frame b.phases)) ≡ is_live_on b.link (at_channel c b.phases) = ap (λ t. t && live_at c (phases_sent x.frame b.phases)) (frame_left x.frame b.link) ∙ ap (λ t. is_up b.link && t) (live_sent x.frame b.phases c) in
     q c (sym same ∙ dead))
 
 -- ---- frames of the broker
@@ -248,7 +246,7 @@ Hears b i r = Moved b (incoming_wire i r b) (ended_in (incoming_marks i r b)) (h
 part_moved : (c : ℕ) (p : ContentPart) (b : Wire) → receives_part c p b ≡ true → Hears b (incoming.Content c p) record_.Received
 part_moved c (part.GetOk s) b h =
     let e : Expected = expected content_class (for_ticket (get_ticket c b) s) in
-    let here = reply_opening b.link c reply_kind.BasicGetOk b.phases (both (receives reply_kind.BasicGetOk (state_of c b)) _ h) in
+    let here = reply_opening b.link c reply_kind.BasicGetOk b.phases (and_first (receives reply_kind.BasicGetOk (state_of c b)) _ h) in
     one b _ (content.Awaited c content_class (for_ticket (get_ticket c b) s)) refl (λ q. quiet_here c b.link b.phases b.contents _ here.live (λ d n. joined-away c d e b.contents (at_channel c b.contents) n) q)
 part_moved c (part.Return s) b h =
     let here = heard_opening b.link c b.phases h in
@@ -258,11 +256,11 @@ part_moved c (part.Deliver tag s) b h =
     let t : Start = for_consumer (found c tag b.deliveries.subscriptions) s in
     one b _ (content.Awaited c content_class t) refl (λ q. quiet_here c b.link b.phases b.contents _ here.live (λ d n. joined-away c d (expected content_class t) b.contents (at_channel c b.contents) n) q)
 part_moved c (part.Header x) b h =
-    let here = heard_opening b.link c b.phases (both (receives_on (state_of c b)) _ h) in
+    let here = heard_opening b.link c b.phases (and_first (receives_on (state_of c b)) _ h) in
     subst (λ cs. Moved b (after_part c (part.Header x) b) cs (content.Header c x ∷ [])) (sym (whole_quiet c (whole_on c (part.Header x) b)))
     (one b _ (content.Header c x) refl (λ q. quiet_here c b.link b.phases b.contents _ here.live (λ d n. expected-away c d (after_header x) b.contents n) q))
 part_moved c (part.Body bytes) b h =
-    let here = heard_opening b.link c b.phases (both (receives_on (state_of c b)) _ h) in
+    let here = heard_opening b.link c b.phases (and_first (receives_on (state_of c b)) _ h) in
     subst (λ cs. Moved b (after_part c (part.Body bytes) b) cs (content.Body c bytes ∷ [])) (sym (whole_quiet c (whole_on c (part.Body bytes) b)))
     (one b _ (content.Body c bytes) refl (λ q. quiet_here c b.link b.phases b.contents _ here.live (λ d n. expected-away c d (after_body bytes) b.contents n) q))
 
@@ -372,7 +370,7 @@ module _ (class number : ℕ) where
 
 lost_moved : (b : Wire) → IsShut b → Moved b (after_lost b) (ended_in (ends_all error.ConnectionLost b)) []
 lost_moved b shut = elim (is_lost b.link) as (λ t. is_lost b.link ≡ t → Moved b (cond t b (down link.Lost b)) (ended_in (ends_all error.ConnectionLost b)) []) [
-  | true ↦ λ h. subst (λ cs. Moved b b cs []) (no_ends error.ConnectionLost b (shut (lost_not_up b.link h))) (stays b b refl (λ q. q))
+  | true ↦ λ h. subst (λ cs. Moved b b cs []) (no_ends error.ConnectionLost b (shut (lost_down b.link h))) (stays b b refl (λ q. q))
   | false ↦ λ h. falls error.ConnectionLost b _ refl
 ] refl
 

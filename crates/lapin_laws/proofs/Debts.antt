@@ -83,9 +83,9 @@ use Rattle.lapin_laws.proofs.Traces.{stands_new, stands_next}
 use Rattle.lapin_laws.proofs.Opens.{IsOpen, open_begun, open_left, open_closed, open_gone}
 use Rattle.lapin_laws.proofs.Expecting.{header_keeps, body_keeps, names_its_get, is_get}
 use Rattle.lapin_laws.proofs.Owing.{Table, Owed, in_alone, Fewer, same, asks, gives, makes, answers, answers_on, ends_one, falls, begins, expects, hears, notes}
-use Rattle.lapin_laws.proofs.FrameMoves.{right}
 use Rattle.lapin_laws.proofs.Rows.{IsLine, is_sure, told_line, acker_line}
 use Rattle.lapin_laws.proofs.Cancels.{resolved_fewer, cancels_fewer, failing-count}
+use Rattle.lapin_tables.proofs.Bools.{and_second}
 
 abbrev Owes : Wire → List (Option Slot) → Type 0
 Owes b slots = Owed b.requests b.contents slots
@@ -264,8 +264,8 @@ module _ (b : Wire) (slots : List (Option Slot)) (h : Owes b slots) where
   part_owes c (part.GetOk s) heard made = begins c content_class (is_kind reply_kind.BasicGetOk) (for_ticket (get_ticket c b) s) b.requests b.contents slots (names_its_get s (get_ticket c b) made) h
   part_owes c (part.Return s) heard made = expects c (expected content_class s) b.requests b.contents slots h
   part_owes c (part.Deliver tag s) heard made = expects c (expected content_class (for_consumer (found c tag b.deliveries.subscriptions) s)) b.requests b.contents slots h
-  part_owes c (part.Header x) heard made = hears c (next_acker b.deliveries) (after_header x) (whole_on c (part.Header x) b) b.requests b.contents slots refl (λ n i. header_keeps n x (expected_on c b.contents) (right (receives_on (state_of c b)) _ heard) i) h
-  part_owes c (part.Body bytes) heard made = hears c (next_acker b.deliveries) (after_body bytes) (whole_on c (part.Body bytes) b) b.requests b.contents slots refl (λ n i. body_keeps n bytes (expected_on c b.contents) (right (receives_on (state_of c b)) _ heard) i) h
+  part_owes c (part.Header x) heard made = hears c (next_acker b.deliveries) (after_header x) (whole_on c (part.Header x) b) b.requests b.contents slots refl (λ n i. header_keeps n x (expected_on c b.contents) (and_second (receives_on (state_of c b)) _ heard) i) h
+  part_owes c (part.Body bytes) heard made = hears c (next_acker b.deliveries) (after_body bytes) (whole_on c (part.Body bytes) b) b.requests b.contents slots refl (λ n i. body_keeps n bytes (expected_on c b.contents) (and_second (receives_on (state_of c b)) _ heard) i) h
 
   consumer_owes : (c : ℕ) (p : ConsumerPart) → Owes (after_consumer c p b) (fold after_mark slots (consumer_tickets c p b))
   consumer_owes c (consumer.ConsumeOk tag) = answers c (is_kind reply_kind.BasicConsumeOk) (Ok (answer.Consumer (next_consumer b.deliveries))) b.requests b.contents slots h

@@ -1,5 +1,5 @@
 -- Consumers and ackers move by the marks of an event alone, and a job is asked for only where the event asks for one.
-use Rattle.std.proofs.Common.{◌≡◌, ℕ, Bool, true, false, cond, not, ◌&&◌, ◌==◌, List, [], ◌∷◌, Option, Some, None, refl, ap, ◌++◌, sym, ◌∙◌, append-nil, append_assoc}
+use Rattle.std.proofs.Common.{◌≡◌, ℕ, Bool, true, false, cond, ◌&&◌, ◌==◌, List, [], ◌∷◌, Option, Some, None, refl, ap, ◌++◌, sym, ◌∙◌, append-nil, append_assoc}
 use Rattle.std.specs.List.{fold, list_any}
 use Rattle.lapin_types.specs.declared.acker_call.AckerCall.{AckerCall}
 use Rattle.lapin_types.specs.declared.answer.Answer.{Answer}
@@ -11,7 +11,6 @@ use Rattle.lapin_types.specs.declared.leaving.Left.{Left}
 use Rattle.lapin_types.specs.declared.request.Request.{Request}
 use Rattle.lapin_types.specs.Types.{Method, BasicMethod, Error}
 use Rattle.lapin_types.specs.Types.basic
-use Rattle.lapin_types.specs.Types.channel
 use Rattle.lapin_types.specs.Types.error
 use Rattle.lapin_types.specs.Types.method
 use Rattle.lapin_content.specs.declared.start.Start.{Start}
@@ -28,92 +27,31 @@ use Rattle.lapin_rules.specs.declared.calls.Answered.{Answered}
 use Rattle.lapin_rules.specs.declared.calls.Answered.TheVariants as answered
 use Rattle.lapin_rules.specs.declared.phases.ChannelPhase.{ChannelPhase}
 use Rattle.lapin_rules.specs.declared.phases.ChannelPhase.TheVariants as phase
-use Rattle.lapin_rules.specs.declared.phases.Closer.TheVariants as closer
-use Rattle.lapin_rules.specs.declared.phases.ConnectionPhase.{ConnectionPhase}
 use Rattle.lapin_rules.specs.declared.phases.ConnectionPhase.TheVariants as link
-use Rattle.lapin_rules.specs.declared.phases.CloseStage.TheVariants as stage
 use Rattle.lapin_rules.specs.declared.broker_frames.ConsumerPart.{ConsumerPart}
 use Rattle.lapin_rules.specs.declared.broker_frames.ConsumerPart.TheVariants as consumer
-use Rattle.lapin_rules.specs.declared.broker_frames.ContentPart.{ContentPart}
-use Rattle.lapin_rules.specs.declared.broker_frames.ContentPart.TheVariants as part
 use Rattle.lapin_rules.specs.declared.broker_frames.Incoming.{Incoming}
 use Rattle.lapin_rules.specs.declared.broker_frames.Incoming.TheVariants as incoming
-use Rattle.lapin_rules.specs.Words.{with_channel}
-use Rattle.lapin_rules.specs.Phases.{is_lost}
 use Rattle.lapin_rules.specs.Ends.{down, live_channels, deliveries_ends}
-use Rattle.lapin_rules.specs.Wire.{Wire, state_of, phase_of, requests_of, is_open, noted}
+use Rattle.lapin_rules.specs.Wire.{Wire, state_of, phase_of, requests_of}
 use Rattle.lapin_rules.specs.Incoming.{incoming_of}
-use Rattle.lapin_rules.specs.ChannelClose.{closing, after_close_ok, close_ok_deliveries_in}
-use Rattle.lapin_rules.specs.ConnectionClose.{after_connection_close}
-use Rattle.lapin_rules.specs.Settlement.{session_close}
-use Rattle.lapin_rules.specs.Content.{after_part, start_deliveries, whole_deliveries, whole_on}
-use Rattle.lapin_rules.specs.Consumers.{after_consumer, consumer_deliveries, all_deliveries, cancel_deliveries, called_deliveries, lets_go_of, cancel_noted, after_let_go, let_go_marks, delegate_marks}
+use Rattle.lapin_rules.specs.ChannelClose.{close_ok_deliveries_in}
+use Rattle.lapin_rules.specs.Content.{start_deliveries, whole_deliveries, whole_on}
+use Rattle.lapin_rules.specs.Consumers.{consumer_deliveries, all_deliveries, cancel_deliveries, called_deliveries, lets_go_of, let_go_marks, delegate_marks}
 use Rattle.lapin_rules.specs.Registry.{line_deliveries, at_once_deliveries, request_deliveries}
 use Rattle.lapin_rules.specs.Requests.{first_request}
-use Rattle.lapin_rules.specs.Asking.{is_allowed, asked_by, after_call, asked_wire, call_deliveries, asking_deliveries}
-use Rattle.lapin_rules.specs.Ackers.{acker_asked, usable_at, acked_wire, acked_deliveries, acker_deliveries}
-use Rattle.lapin_rules.specs.Handing.{handed_as, sent}
-use Rattle.lapin_rules.specs.Receiving.{after_received, after_failed, after_refused, incoming_wire, received_deliveries, refused_deliveries, incoming_deliveries}
-use Rattle.lapin_rules.specs.Loss.{after_lost, lost_deliveries}
-use Rattle.lapin_rules.specs.Events.{after_event, delivery_marks}
+use Rattle.lapin_rules.specs.Asking.{is_allowed, asked_by, call_deliveries, asking_deliveries}
+use Rattle.lapin_rules.specs.Ackers.{acker_asked, usable_at, acked_deliveries}
+use Rattle.lapin_rules.specs.Handing.{sent}
+use Rattle.lapin_rules.specs.Receiving.{received_deliveries, refused_deliveries, incoming_deliveries}
+use Rattle.lapin_rules.specs.Events.{delivery_marks}
+use Rattle.lapin_machine.proofs.Deliveries.{call_box, asked_box, close_ok_box, connection_close_box, part_box, consumer_box, received_box, failed_box, refused_box, incoming_box, acked_box, let_go_box}
 
 -- ---- what an event does beside its marks moves no consumer and no acker
 
 either : (t : Bool) (x b : Wire) → x.deliveries ≡ b.deliveries → (cond t x b).deliveries ≡ b.deliveries
 either true x b e = e
 either false x b e = refl
-
-called : (c : ℕ) (k : Asked) (b : Wire) → (after_call c k b).deliveries ≡ b.deliveries
-called c ask.Open b = refl
-called c _ b = refl
-
-asked_still : (c : ℕ) (k : Asked) (b : Wire) → (asked_wire c k b).deliveries ≡ b.deliveries
-asked_still c k b = either (is_allowed k (state_of c b)) (after_call c k b) b (called c k b)
-
-close_answered : (c : ℕ) (p : ChannelPhase) (b : Wire) → (after_close_ok c p b).deliveries ≡ b.deliveries
-close_answered c (phase.Closing who s) b = refl
-close_answered c _ b = refl
-
-connection_closed : (l : ConnectionPhase) (b : Wire) → (after_connection_close l b).deliveries ≡ b.deliveries
-connection_closed (link.Closing stage.Queued) b = refl
-connection_closed _ b = refl
-
-part_still : (c : ℕ) (p : ContentPart) (b : Wire) → (after_part c p b).deliveries ≡ b.deliveries
-part_still c (part.GetOk s) b = refl
-part_still c _ b = refl
-
-consumer_still : (c : ℕ) (p : ConsumerPart) (b : Wire) → (after_consumer c p b).deliveries ≡ b.deliveries
-consumer_still c (consumer.Cancel tag nowait) b = either (is_open (state_of c b) && not nowait) (noted c (method.Basic (basic.CancelOk tag)) b) b refl
-consumer_still c _ b = refl
-
-received_still : (i : Incoming) (b : Wire) → (after_received i b).deliveries ≡ b.deliveries
-received_still (incoming.Content c p) b = part_still c p b
-received_still (incoming.Consumer c p) b = consumer_still c p b
-received_still (incoming.Flow c active) b = either (is_open (state_of c b)) (noted c (method.Channel (channel.FlowOk active)) (record b { phases = with_channel c (phase.Open (not active)) b.phases })) b refl
-received_still (incoming.ChannelCloseOk c) b = close_answered c (phase_of c b) b
-received_still (incoming.ConnectionClose code) b = connection_closed b.link b
-received_still _ b = refl
-
-failed_still : (i : Incoming) (b : Wire) → (after_failed i b).deliveries ≡ b.deliveries
-failed_still (incoming.Settlement c z) b = either (is_open (state_of c b)) (noted c (session_close z.kind) (closing c closer.Session b)) b refl
-failed_still _ b = refl
-
-refused_still : (i : Incoming) (x : Error) (b : Wire) → (after_refused i x b).deliveries ≡ b.deliveries
-refused_still i (error.PreconditionFailed tag current) b = failed_still i b
-refused_still i _ b = refl
-
-incoming_still : (i : Incoming) (r : Record) (b : Wire) → (incoming_wire i r b).deliveries ≡ b.deliveries
-incoming_still i (record_.Refused x) b = refused_still i x b
-incoming_still i record_.Received b = received_still i b
-incoming_still i _ b = refl
-
-acked_still : (o : Option (ℕ × ℕ)) (k : AckerCall) (b : Wire) → (acked_wire o k b).deliveries ≡ b.deliveries
-acked_still None k b = refl
-acked_still (Some x) k b = asked_still x.0 (acker_asked k x.1) b
-
-dropped_still : (o : Option Consumer) (b : Wire) → (after_let_go o b).deliveries ≡ b.deliveries
-dropped_still None b = refl
-dropped_still (Some x) b = either (lets_go_of x b) (cancel_noted x b) b refl
 
 lost_still : (t : Bool) (b : Wire) → (cond t b (down link.Lost b)).deliveries ≡ b.deliveries
 lost_still true b = refl
@@ -125,15 +63,6 @@ sent_still (Some l) b = refl
 
 by_marks : (ms : List DeliveryMark) (b' b : Wire) → b'.deliveries ≡ b.deliveries → fold after_mark b'.deliveries ms ≡ fold after_mark b.deliveries ms
 by_marks ms b' b e = ap (λ i. fold after_mark i ms) e
-
-pub deliveries-next : (b : Wire) (e : Event) (r : Record) → (after_event b e r).deliveries ≡ fold after_mark b.deliveries (delivery_marks b e r)
-deliveries-next b (event.Call c k) r = let a : Asked = asked_by k r in by_marks (asking_deliveries c a b) (asked_wire c a b) b (asked_still c a b)
-deliveries-next b (event.Next flow) r = sent_still (handed_as r b) _
-deliveries-next b (event.Receive f) r = by_marks (incoming_deliveries (incoming_of f) r b) (incoming_wire (incoming_of f) r b) b (incoming_still (incoming_of f) r b)
-deliveries-next b (event.Acker n k) r = by_marks (acker_deliveries n k b) (acked_wire (usable_at n b) k b) b (acked_still (usable_at n b) k b)
-deliveries-next b (event.DropConsumer n) r = by_marks (let_go_marks n (consumer_at n b.deliveries.subscriptions) b) (after_let_go (consumer_at n b.deliveries.subscriptions) b) b (dropped_still (consumer_at n b.deliveries.subscriptions) b)
-deliveries-next b event.Lost r = by_marks (lost_deliveries b) (after_lost b) b (lost_still (is_lost b.link) b)
-deliveries-next b _ r = refl
 
 -- ---- none of these marks asks for a job
 

@@ -28,12 +28,14 @@ use Rattle.lapin_machine.specs.Stands.{IsShut}
 use Rattle.lapin_laws.specs.Outgoing.{published_by, called_by, ended_in}
 use Rattle.lapin_laws.proofs.Closes.{marks_noted}
 use Rattle.lapin_laws.proofs.Rows.{IsLine, call_line, told_as, acker_line}
-use Rattle.lapin_laws.proofs.Moving.{plain-push, Sound, Moves, inboxed, same, keeps, same_grows, falls, open_up, queued_up, asked_moves, lost_not_up}
-use Rattle.lapin_laws.proofs.FrameMoves.{no_ends, incoming_moves, right}
+use Rattle.lapin_laws.proofs.Moving.{plain-push, Sound, Moves, inboxed, same, keeps, same_grows, falls, open_up, queued_up, asked_moves}
+use Rattle.lapin_laws.proofs.FrameMoves.{no_ends, incoming_moves}
+use Rattle.lapin_rules.proofs.PhaseLaws.{lost_down}
+use Rattle.lapin_tables.proofs.Bools.{and_second}
 
 lost_moves : (n : ℕ) (b : Wire) → IsShut b → Sound n b → Moves n b (after_lost b) (ended_in (ends_all error.ConnectionLost b)) []
 lost_moves n b shut s = elim (is_lost b.link) as (λ t. is_lost b.link ≡ t → Moves n b (cond t b (down link.Lost b)) (ended_in (ends_all error.ConnectionLost b)) []) [
-  | true ↦ λ h. subst (λ cs. Moves n b b cs []) (no_ends error.ConnectionLost b (shut (lost_not_up b.link h))) (same n b s)
+  | true ↦ λ h. subst (λ cs. Moves n b b cs []) (no_ends error.ConnectionLost b (shut (lost_down b.link h))) (same n b s)
   | false ↦ λ h. falls n error.ConnectionLost b _ refl refl refl refl refl tt (λ x. refl) s
 ] refl
 
@@ -60,7 +62,7 @@ acked_moves n (Some x) k b s = elim (is_open (state_of x.0 b)) as (λ t. is_open
 -- a consumer that is let go queues its cancel
 let_go_moves : (n : ℕ) (x : Consumer) (b : Wire) → Sound n b → Moves n b (cond (lets_go_of x b) (cancel_noted x b) b) [] []
 let_go_moves n x b s = elim (lets_go_of x b) as (λ t. lets_go_of x b ≡ t → Moves n b (cond t (cancel_noted x b) b) [] []) [
-  | true ↦ λ a. keeps n b _ (open_up b.link _ (right (is_idle x) _ a)) refl refl refl refl (plain-push b.methods _ refl) (same_grows b.link b.phases) (marks_noted b.phases b.methods (record { channel = x.channel; method = let_go_cancel x; ticket = None }) refl) s
+  | true ↦ λ a. keeps n b _ (open_up b.link _ (and_second (is_idle x) _ a)) refl refl refl refl (plain-push b.methods _ refl) (same_grows b.link b.phases) (marks_noted b.phases b.methods (record { channel = x.channel; method = let_go_cancel x; ticket = None }) refl) s
   | false ↦ λ a. same n b s
 ] refl
 

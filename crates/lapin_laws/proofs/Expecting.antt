@@ -1,14 +1,14 @@
 -- Which gets have a content that is expected: after one more begins, after a header or a body, and as an opening ends.
 use Rattle.std.proofs.Common.{◌≡◌, ◌≢◌, ℕ, ◌==◌, true, false, cond, List, [], ◌∷◌, ◌++◌, Option, Some, None, refl, sym, ◌∙◌, ap, subst, ◌⊎◌, inl, inr, eq-eqb, ne_eqb, Bool}
-use Rattle.std.specs.Option.{option_map, option_or}
+use Rattle.std.specs.Option.{option_map}
 use Rattle.std.proofs.lemmas.Bool.Decides.{eqb_tells}
 use Rattle.lapin_methods.specs.declared.frame.ContentHeader.{ContentHeader}
 use Rattle.lapin_tables.specs.ByChannel.{at_channel, on_channel}
-use Rattle.lapin_tables.proofs.Channels.{at-push}
+use Rattle.lapin_tables.proofs.Channels.{at-push, or-none}
 use Rattle.lapin_content.specs.declared.start.Start.{Start}
 use Rattle.lapin_content.specs.declared.start.Start.TheVariants as start
 use Rattle.lapin_content.specs.declared.start.Whole.{Whole}
-use Rattle.lapin_content.specs.Contents.{Expected, Begun, grown, has_left, waits_for, takes_body, front_waits, front_takes, if_whole, unless_whole, after_header, after_body, for_ticket}
+use Rattle.lapin_content.specs.Contents.{Expected, Begun, grown, has_place_for, waits_for, takes_body, front_waits, front_takes, if_whole, unless_whole, after_header, after_body, for_ticket}
 use Rattle.lapin_content.specs.Channels.{Channels, listed, expected_on, joined, joined_at}
 use Rattle.lapin_rules.specs.declared.broker_frames.ContentPart.TheVariants as part
 use Rattle.lapin_rules.specs.Content.{whole_by}
@@ -31,16 +31,12 @@ expected-here c g cs none = ap listed (at-on c c g cs) ∙ (let here : (c == c) 
 pub expected-away : (c d : ℕ) (g : List Expected → List Expected) (cs : Channels) → c ≢ d → expected_on d (on_channel c g cs) ≡ expected_on d cs
 expected-away c d g cs apart = ap listed (at-on c d g cs) ∙ (let off : (c == d) ≡ false = ne_eqb c d apart in rw off refl)
 
-or_none : (o : Option (List Expected)) → option_or o None ≡ o
-or_none None = refl
-or_none (Some es) = refl
-
 joined-here : (c : ℕ) (e : Expected) (cs : Channels) (o : Option (List Expected)) → at_channel c cs ≡ o → expected_on c (joined_at o c e cs) ≡ expected_on c cs ++ e ∷ []
 joined-here c e cs None is = let here : (c == c) ≡ true = eq-eqb c c refl in rw (at-push c c (e ∷ []) cs, here, is) refl
 joined-here c e cs (Some es) is = let here : (c == c) ≡ true = eq-eqb c c refl in ap listed (at-on c c (λ xs. xs ++ e ∷ []) cs) ∙ rw (here, is) refl
 
 pub joined-away : (c d : ℕ) (e : Expected) (cs : Channels) (o : Option (List Expected)) → c ≢ d → expected_on d (joined_at o c e cs) ≡ expected_on d cs
-joined-away c d e cs None apart = let off : (c == d) ≡ false = ne_eqb c d apart in rw (at-push c d (e ∷ []) cs, off) (ap listed (or_none (at_channel d cs)))
+joined-away c d e cs None apart = let off : (c == d) ≡ false = ne_eqb c d apart in rw (at-push c d (e ∷ []) cs, off) (ap listed (or-none (at_channel d cs)))
 joined-away c d e cs (Some es) apart = expected-away c d (λ xs. xs ++ e ∷ []) cs apart
 
 -- ---- one more content
@@ -99,7 +95,7 @@ module _ (n : ℕ) (bytes : List ℕ) (k : ℕ) (s : Start) (es : List Expected)
   abbrev grown_to : Option Begun → Expected
   grown_to o = record { class_id = k; start = s; begun = option_map (grown bytes) o }
 
-  grows : (o : Option Begun) → has_left bytes o ≡ true → (Some n ≡ start_ticket s) ⊎ IsIn (Some n) (content_tickets es) → (Some n ≡ whole_ticket (if_whole (grown_to o))) ⊎ IsIn (Some n) (content_tickets (unless_whole (grown_to o) es))
+  grows : (o : Option Begun) → has_place_for bytes o ≡ true → (Some n ≡ start_ticket s) ⊎ IsIn (Some n) (content_tickets es) → (Some n ≡ whole_ticket (if_whole (grown_to o))) ⊎ IsIn (Some n) (content_tickets (unless_whole (grown_to o) es))
   grows None h i = cc
   grows (Some x) h i = or_whole n k s (grown bytes x) es i
 

@@ -50,26 +50,14 @@ use Rattle.lapin_laws.specs.Outgoing.{ended_in}
 use Rattle.lapin_laws.proofs.Alive.{Grows, grows-with, grows-dead}
 use Rattle.lapin_laws.proofs.Closes.{AreMarked, marks_noted, marks_moved, marks_ended, broker_unsent, open_unsent, opening_unsent}
 use Rattle.lapin_rules.specs.Receiving.{incoming_deliveries}
-use Rattle.lapin_laws.proofs.Moving.{ArePlain, plain-push, plain-filter, broker_over, Sound, Moves, inboxed, same, keeps, same_grows, closes, ends_one, falls, sinks, state_up}
+use Rattle.lapin_laws.proofs.Moving.{ArePlain, plain-push, plain-filter, Sound, Moves, inboxed, same, keeps, same_grows, closes, ends_one, falls, sinks, state_up}
+use Rattle.lapin_rules.proofs.PhaseLaws.{up_open, broker_over, open_hears_no_ok}
+use Rattle.lapin_tables.proofs.Bools.{and_first, and_second}
 
 -- ---- frames of the broker
 
 abbrev Hears : ℕ → Wire → Incoming → Record → Type 0
 Hears n b i r = Moves n b (incoming_wire i r b) (ended_in (incoming_marks i r b)) []
-
-pub both : (x y : Bool) → (x && y) ≡ true → x ≡ true
-both true y h = refl
-both false y h = cc
-
-pub right : (x y : Bool) → (x && y) ≡ true → y ≡ true
-right true y h = h
-right false y h = cc
-
-pub up_open : (l : ConnectionPhase) → is_up l ≡ true → l ≡ link.Open
-up_open link.Open h = refl
-up_open (link.Closing s) h = cc
-up_open link.Closed h = cc
-up_open link.Lost h = cc
 
 -- where no channel stands open, no opening ends
 pub no_ends : (x : Error) (b : Wire) → b.phases ≡ [] → [] ≡ ended_in (ends_all x b)
@@ -101,7 +89,7 @@ module _ (class number : ℕ) where
   marks_opened c false b a h = h
 
   replied : (n c : ℕ) (k : ReplyKind) (b : Wire) → b.link ≡ link.Open → receives_reply c k b ≡ true → Sound n b → Moves n b (after_reply c k b) [] []
-  replied n c k b e h s = keeps n b _ e refl refl refl refl (λ x. x) (grows_opened c (opens k) b.link b.phases) (marks_opened c (opens k) b (rw (state_up c b e) at (both (receives k (state_of c b)) (is_some (first_request k (requests_of c b))) h))) s
+  replied n c k b e h s = keeps n b _ e refl refl refl refl (λ x. x) (grows_opened c (opens k) b.link b.phases) (marks_opened c (opens k) b (rw (state_up c b e) at (and_first (receives k (state_of c b)) (is_some (first_request k (requests_of c b))) h))) s
 
   received_if : (n : ℕ) (t : Bool) (b : Wire) (i : Incoming) → (t ≡ true → Hears n b i record_.Received) → Sound n b → Hears n b i (when t no)
   received_if n true b i h s = h refl
@@ -138,11 +126,7 @@ module _ (class number : ℕ) where
       not_incoming : (t : Bool) → receives_close_ok (cond t state.Base state.Opening) ≡ true → ⊥
       not_incoming true h = cc
       not_incoming false h = cc
-  answered n c (phase.Open paused) b q a e s = absurd (not_incoming (c == 0) a)
-    where
-      not_incoming : (t : Bool) → receives_close_ok (cond t state.Base state.Open) ≡ true → ⊥
-      not_incoming true h = cc
-      not_incoming false h = cc
+  answered n c (phase.Open paused) b q a e s = absurd (open_hears_no_ok (c == 0) a)
   answered n c (phase.Closing who sent) b q a e s = ends_one n c phase.Closed b _ e refl refl refl refl refl (plain-filter (is_off method_channel c) b.methods) (marks_ended c phase.Closed b.phases b.methods refl) refl s
   answered n c phase.Crossed b q a e s = keeps n b _ e refl refl refl refl (λ h. h) (grows-dead c phase.Closed b.link b.phases (ap is_live q)) (marks_moved c phase.Closed b.phases b.methods (ap is_unsent q) refl) s
 

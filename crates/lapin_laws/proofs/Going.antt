@@ -11,7 +11,6 @@ use Rattle.lapin_types.specs.declared.leaving.Left.{Left}
 use Rattle.lapin_types.specs.Types.{Frame}
 use Rattle.lapin_types.specs.Types.frame
 use Rattle.lapin_types.specs.Types.method
-use Rattle.lapin_types.specs.Types.connection
 use Rattle.lapin_types.specs.Types.channel
 use Rattle.lapin_rules.specs.ConfirmMarks as mark
 use Rattle.lapin_rules.specs.declared.phases.ChannelPhase.{ChannelPhase}
@@ -44,6 +43,8 @@ use Rattle.lapin_laws.proofs.Places.{Begun, begun_of, alive_begun}
 use Rattle.lapin_laws.proofs.Cuts.{frames_of, cut_at, parses-ends, parses-calls}
 use Rattle.lapin_laws.proofs.Moving.{ArePlain, Sound, Moves}
 use Rattle.lapin_laws.proofs.EventMoves.{call_event, incoming_event, lost_event, ticket_event, aside_event, confirm_event, state_event, wait_event, laid_event, poll_event, acker_event, delegate_event, drop_event, job_event}
+use Rattle.lapin_rules.proofs.PhaseLaws.{link_moves, close_leaves_up}
+use Rattle.lapin_machine.proofs.Shut.{frame_left}
 
 -- ---- a frame that leaves
 
@@ -68,38 +69,18 @@ quiet_phases (frame.Method c m) ps h = cc
 quiet_phases (frame.Header c h) ps e = refl
 quiet_phases (frame.Body c bytes) ps e = refl
 
-link_move : (f : Frame) (l : ConnectionPhase) → (link_sent f l ≡ l) ⊎ (link_sent f l ≡ link_close_sent l)
-link_move (frame.Method c (method.Connection (connection.Close code text class number))) l = inr refl
-link_move (frame.Method c (method.Connection connection.CloseOk)) l = inl refl
-link_move (frame.Method c (method.Channel m)) l = inl refl
-link_move (frame.Method c (method.Basic m)) l = inl refl
-link_move (frame.Method c (method.Confirm m)) l = inl refl
-link_move (frame.Method c (method.Access m)) l = inl refl
-link_move (frame.Method c (method.Exchange m)) l = inl refl
-link_move (frame.Method c (method.Queue m)) l = inl refl
-link_move (frame.Method c (method.Tx m)) l = inl refl
-link_move (frame.Header c h) l = inl refl
-link_move (frame.Body c bytes) l = inl refl
-
-up_close : (l : ConnectionPhase) → is_up (link_close_sent l) ≡ is_up l
-up_close (link.Closing stage.Queued) = refl
-up_close _ = refl
-
 lost_close : (l : ConnectionPhase) → is_lost (link_close_sent l) ≡ is_lost l
 lost_close (link.Closing stage.Queued) = refl
 lost_close _ = refl
 
-pub up_sent : (f : Frame) (l : ConnectionPhase) → is_up (link_sent f l) ≡ is_up l
-up_sent f l = elim (link_move f l) [ inl e ↦ ap is_up e | inr e ↦ ap is_up e ∙ up_close l ]
-
 pub lost_sent : (f : Frame) (l : ConnectionPhase) → is_lost (link_sent f l) ≡ is_lost l
-lost_sent f l = elim (link_move f l) [ inl e ↦ ap is_lost e | inr e ↦ ap is_lost e ∙ lost_close l ]
+lost_sent f l = elim (link_moves f l) [ inl e ↦ ap is_lost e | inr e ↦ ap is_lost e ∙ lost_close l ]
 
 pub live_sent : (f : Frame) (ps : List (ℕ × ChannelPhase)) (c : ℕ) → live_at c (phases_sent f ps) ≡ live_at c ps
 live_sent f ps c = elim (phases_move f ps) [ inl e ↦ ap (live_at c) e | inr e ↦ ap (live_at c) e.1 ∙ live-sent e.0 c ps ]
 
 grows_sent : (f : Frame) (l : ConnectionPhase) (ps : List (ℕ × ChannelPhase)) → Grows l ps (link_sent f l) (phases_sent f ps)
-grows_sent f l ps c a = (up_sent f l ∙ a.0, live_sent f ps c ∙ a.1)
+grows_sent f l ps c a = (frame_left f l ∙ a.0, live_sent f ps c ∙ a.1)
 
 -- ---- what a publish's frames are
 
@@ -141,8 +122,8 @@ sent_sound n b f rest methods plain alive lost marks s = record {
   publishes = alive-grows b.link _ b.phases _ b.publishes (grows_sent f b.link b.phases) s.publishes;
   rest = rest-grows b.link _ b.phases _ rest (grows_sent f b.link b.phases) alive;
   lost = λ h. lost (sym (lost_sent f b.link) ∙ h);
-  closes = λ u. marks (sym (up_sent f b.link) ∙ u);
-  contents = λ d. s.contents (sym (up_sent f b.link) ∙ d);
+  closes = λ u. marks (sym (frame_left f b.link) ∙ u);
+  contents = λ d. s.contents (sym (frame_left f b.link) ∙ d);
 }
 
 abbrev NextGoes : ℕ → (ℕ → Bool) → Wire → Type 0
@@ -167,7 +148,7 @@ next_publish t b p r m q = next_begun t b r m ∙ ap (begun_next t b) q
 same_lists : (b : Wire) (ps : List Publish) → b.rest ≡ [] → b.methods ≡ [] → b.publishes ≡ ps → record b { rest = []; methods = []; publishes = ps } ≡ b
 same_lists b ps r m q = λ i. record b { rest = sym r i; methods = sym m i; publishes = sym q i }
 
-next_none : (t : ℕ → Bool) (b : Wire) → b.rest ≡ [] → b.methods ≡ [] → find (may_begin t) b.publishes ≡ None → after_handing t b ≡ b
+pub next_none : (t : ℕ → Bool) (b : Wire) → b.rest ≡ [] → b.methods ≡ [] → find (may_begin t) b.publishes ≡ None → after_handing t b ≡ b
 next_none t b r m q = next_begun t b r m ∙ ap (begun_next t b) q ∙ same_lists b (without_first (may_begin t) b.publishes) r m (sym (none_begins (may_begin t) b.publishes q))
 
 -- a request that gives this is parsed with these frames and publishes before and behind it
@@ -206,7 +187,7 @@ module _ (n : ℕ) (t : ℕ → Bool) (b : Wire) (s : Sound n b) where
       record {
         sound = subst (Sound n) (sym is) (sent_sound n b f.frame fs b.methods s.plain (rest-tail b.link b.phases f fs alive) s.lost (λ u. subst (λ ps. AreMarked ps b.methods) (sym (quiet_phases f.frame b.phases alive.1)) (s.closes u)) s);
         parses = λ big. parsed n t b _ (f ∷ fs) (Some (left_rest f)) r (handed_rest t b f fs r) is (λ more calls p k. (refl, k calls p));
-        down = λ d. ap (λ x. is_up x.link) is ∙ up_sent f.frame b.link ∙ d;
+        down = λ d. ap (λ x. is_up x.link) is ∙ frame_left f.frame b.link ∙ d;
         dead = λ d x a. let z : false ≡ true = x in cc;
       }
 
@@ -218,7 +199,7 @@ module _ (n : ℕ) (t : ℕ → Bool) (b : Wire) (s : Sound n b) where
       record {
         sound = subst (Sound n) (sym is) (sent_sound n b f [] ms plain.1 tt (λ h. let x : m ∷ ms ≡ [] = sym e ∙ s.lost h in absurd cc) (λ u. marks_sent m ms b.phases (subst (AreMarked b.phases) e (s.closes u))) s);
         parses = λ big. parsed n t b _ [] (Some (left_method m)) r (handed_method t b m ms r e) is (λ more calls p k. inl (refl, plain.0, k calls p));
-        down = λ d. ap (λ x. is_up x.link) is ∙ up_sent f b.link ∙ d;
+        down = λ d. ap (λ x. is_up x.link) is ∙ frame_left f b.link ∙ d;
         dead = λ d x a. let z : false ≡ true = x in cc;
       }
 

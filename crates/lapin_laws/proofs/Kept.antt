@@ -40,8 +40,9 @@ use Rattle.lapin_laws.specs.Runs.{world_after}
 use Rattle.lapin_laws.specs.Down.{first_method}
 use Rattle.lapin_laws.specs.Outgoing.{ended_in, is_channel}
 use Rattle.lapin_laws.proofs.Alive.{live_at, Alive, AreAlive, IsRestAlive, none_alive, none_begun}
-use Rattle.lapin_laws.proofs.Moving.{Sound, start_sound, lost_not_up, shut_refuses}
+use Rattle.lapin_laws.proofs.Moving.{Sound, start_sound}
 use Rattle.lapin_laws.proofs.Going.{goes, lost_sent}
+use Rattle.lapin_rules.proofs.PhaseLaws.{lost_down, shut_refuses}
 
 -- no frame is given back in a run
 unreturned_from : (w : World) (es : List Event) → w.returned ≡ None → (fold next w es).returned ≡ None
@@ -153,13 +154,13 @@ module _ (n : ℕ) (w : World) (s : Sound n w.wire) where
   no_publishes d = none_alive w.wire.link w.wire.phases w.wire.publishes d s.publishes
 
   pub nothing : is_lost w.wire.link ≡ true → lists_of w.wire ≡ no_lists
-  nothing h = let d : is_up w.wire.link ≡ false = lost_not_up w.wire.link h in rw (no_rest d, s.lost h, no_publishes d) refl
+  nothing h = let d : is_up w.wire.link ≡ false = lost_down w.wire.link h in rw (no_rest d, s.lost h, no_publishes d) refl
 
   pub gives : w.returned ≡ None → (flow : Bool) → is_up w.wire.link ≡ false → told_by w (event.Next flow) ≡ first_method w.wire.methods
   gives none flow d = told_none w (event.Next flow) none ∙ given_by (begins_on flow (full_in w.confirm_state) w.wire) w.wire.rest w.wire.methods w.wire.publishes (no_rest d) (no_publishes d)
 
   pub gives_none : w.returned ≡ None → (flow : Bool) → is_lost w.wire.link ≡ true → told_by w (event.Next flow) ≡ record_.NoFrame
-  gives_none none flow h = gives none flow (lost_not_up w.wire.link h) ∙ ap first_method (s.lost h)
+  gives_none none flow h = gives none flow (lost_down w.wire.link h) ∙ ap first_method (s.lost h)
 
   pub leaves : w.returned ≡ None → (flow : Bool) → is_up w.wire.link ≡ false → (next w (event.Next flow)).wire.methods ≡ drop 1 w.wire.methods
   leaves none flow d =

@@ -2,7 +2,7 @@
 use Rattle.std.proofs.Common.{◌≡◌, ◌≢◌, ℕ, zero, suc, ◌<◌, ◌≤◌, ◌==◌, nat_lt, Bool, true, false, not, cond, ◌&&◌, ◌||◌, List, [], ◌∷◌, ◌++◌, length, map, Option, Some, None, Ok, Err, refl, sym, ◌∙◌, ap, arith, slice_set, slice_index_or, inl, inr}
 use Rattle.std.specs.List.{filter, range_with_len}
 use Rattle.std.specs.Option.{option_map}
-use Rattle.std.proofs.lemmas.Bool.{eq-eqb, ltb-true}
+use Rattle.std.proofs.lemmas.Bool.{eq-eqb, ltb-true, or_parts, false_from_ne_true, or_from}
 use Rattle.std.proofs.lemmas.Bool.Decides.{eqb_tells}
 use Rattle.lapin_types.specs.declared.Error.{Error}
 use Rattle.lapin_types.specs.declared.Error.TheVariants as error
@@ -29,7 +29,7 @@ use Rattle.lapin_confirm.specs.Aside.{taken_answer, is_set_aside, is_aside_in, k
 use Rattle.lapin_confirm.specs.Follows.{Follows, open_cell, queued_cell, left_cell}
 use Rattle.lapin_confirm.proofs.AsideFollowing.{stands, stands-filter}
 use Rattle.lapin_confirm.proofs.CellFollowing.{left-push}
-use Rattle.lapin_confirm.proofs.Facts.{facts, untrue, added_still, finished-push}
+use Rattle.lapin_confirm.proofs.Facts.{facts, added_still, finished-push}
 use Rattle.lapin_laws.specs.Rejections.{IsUnasked, IsOther}
 
 -- the cell of a publish that was rejected
@@ -120,23 +120,19 @@ less-other k n e r apart =
     by true = ap (λ cs. record { cells = cs; origins = with_under k None r.origins }) (with-comm k n None (failed e) r.cells apart)
     by false = refl
 
-or_none : (a b : Bool) → (a || b) ≡ false → (a ≡ false) × (b ≡ false)
-or_none true b h = cc
-or_none false b h = (refl, h)
-
 apart-of : (k n : ℕ) → (k == n) ≡ false → k ≢ n
 apart-of k n off e = let on : (k == n) ≡ true = eq-eqb k n e in let no : true ≡ false = sym on ∙ off in cc
 
 all-other : (ks : List ℕ) (n : ℕ) (e : Error) (r : Remains) → stands n ks ≡ false → less_all ks (wrote n e r) ≡ wrote n e (less_all ks r)
 all-other [] n e r none = refl
 all-other (k ∷ ks) n e r none =
-    let parts = or_none (k == n) (stands n ks) none in
+    let parts = or_parts (k == n) (stands n ks) none in
     ap (less_all ks) (less-other k n e r (apart-of k n parts.0)) ∙ all-other ks n e (less_one k r) parts.1
 
 filter-same : (n : ℕ) (f g : ℕ → Bool) (ks : List ℕ) → ((k : ℕ) → k ≢ n → f k ≡ g k) → stands n ks ≡ false → filter f ks ≡ filter g ks
 filter-same n f g [] same none = refl
 filter-same n f g (k ∷ ks) same none =
-    let parts = or_none (k == n) (stands n ks) none in
+    let parts = or_parts (k == n) (stands n ks) none in
     let rest : filter f ks ≡ filter g ks = filter-same n f g ks same parts.1 in
     ap (λ js. cond (f k) (k ∷ js) js) rest ∙ ap (λ b. cond b (k ∷ filter g ks) (filter g ks)) (same k (apart-of k n parts.0))
 
@@ -214,7 +210,7 @@ next-known n e p (mark.Drained c) k o =
 -- ---- what a history says of it
 
 not-gone : (n : ℕ) (ms : List ConfirmMark) (p : ConfirmState) → Follows ms p → IsUnasked n ms → is_gone n ms ≡ false
-not-gone n ms p f u = untrue (is_gone n ms) (λ h. let yes : is_finished n ms ≡ true = (facts ms f.came).gone n h in let no : true ≡ false = sym yes ∙ u.unfinished in cc)
+not-gone n ms p f u = false_from_ne_true (is_gone n ms) (λ h. let yes : is_finished n ms ≡ true = (facts ms f.came).gone n h in let no : true ≡ false = sym yes ∙ u.unfinished in cc)
 
 queued-there : (k : ℕ) (ms : List ConfirmMark) (p : ConfirmState) → Follows ms p → IsUnasked (suc k) ms → under (suc k) p.publish_states.cells ≡ Some (queued_cell (channel_of (suc k) ms) (first_rejected (channel_of (suc k) ms) (life (suc k) ms)))
 queued-there k ms p f u =
@@ -238,7 +234,7 @@ known-of (suc k) ms p f u =
     record {
       within = omega arith;
       unpending = λ c t. ap (is_pending_as c t) (queued-there k ms p f u) ∙ queued-unpending (channel_of (suc k) ms) (first_rejected (channel_of (suc k) ms) (life (suc k) ms)) c t;
-      unlaid = λ c. ap (λ (l : ReturnLists). stands (suc k) l.aside) (f.return_lists c) ∙ (facts ms f.came).aside c (suc k) ∙ never (channel_of (suc k) ms == c) (is_aside (suc k) ms) (not (is_gone (suc k) ms)) (or_none (is_taken (suc k) ms) (is_aside (suc k) ms) u.unfinished).1;
+      unlaid = λ c. ap (λ (l : ReturnLists). stands (suc k) l.aside) (f.return_lists c) ∙ (facts ms f.came).aside c (suc k) ∙ never (channel_of (suc k) ms == c) (is_aside (suc k) ms) (not (is_gone (suc k) ms)) (or_parts (is_taken (suc k) ms) (is_aside (suc k) ms) u.unfinished).1;
     }
   where
     never : (a b c : Bool) → b ≡ false → (a && (b && c)) ≡ false
@@ -273,14 +269,11 @@ asks-other n (mark.Taken k) o = rw (ne-eqb k n o) refl
 asks-other n (mark.SetAside k) o = rw (ne-eqb k n o) refl
 asks-other n _ o = refl
 
-neither : (a b : Bool) → a ≡ false → b ≡ false → (a || b) ≡ false
-neither a b h k = rw (h, k) refl
-
 pub unasked-push : (ms : List ConfirmMark) (m : ConfirmMark) (n : ℕ) → IsUnasked n ms → IsOther n m → IsUnasked n (ms ++ m ∷ [])
 unasked-push ms m n u o = record {
   added = added_still n ms m u.added;
-  unleft = left-push n ms m ∙ neither (has_left n ms) (leaves n m) u.unleft (leaves-other n m o);
-  unfinished = finished-push n ms m ∙ neither (is_finished n ms) (takes n m || lays n m) u.unfinished (asks-other n m o);
+  unleft = left-push n ms m ∙ or_from (has_left n ms) (leaves n m) u.unleft (leaves-other n m o);
+  unfinished = finished-push n ms m ∙ or_from (is_finished n ms) (takes n m || lays n m) u.unfinished (asks-other n m o);
 }
 
 -- ---- what a poll gives
@@ -291,11 +284,11 @@ rejected-told ms p (suc k) e f u =
     let last : suc k ≤ added ms = u.added.1 in
     let count : length (with_under (suc k) (failed e) p.publish_states.cells) ≡ length p.publish_states.cells = length-with (suc k) (failed e) p.publish_states.cells in
     let all : length p.publish_states.cells ≡ added ms = f.count in
-    let free : is_set_aside (suc k) p ≡ false = ap is_aside_in (f.origins k (omega arith)) ∙ ap (λ b. is_aside_in (cond b None (Some (record { channel = channel_of (suc k) ms; aside = is_aside (suc k) ms })))) (not-gone (suc k) ms p f u) ∙ (or_none (is_taken (suc k) ms) (is_aside (suc k) ms) u.unfinished).1 in
+    let free : is_set_aside (suc k) p ≡ false = ap is_aside_in (f.origins k (omega arith)) ∙ ap (λ b. is_aside_in (cond b None (Some (record { channel = channel_of (suc k) ms; aside = is_aside (suc k) ms })))) (not-gone (suc k) ms p f u) ∙ (or_parts (is_taken (suc k) ms) (is_aside (suc k) ms) u.unfinished).1 in
     let known : is_unknown (suc k) (rejected (suc k) e p).publish_states ≡ false = number-known k (length (with_under (suc k) (failed e) p.publish_states.cells)) (omega arith) in
     ap (λ b. cond b (Err error.AlreadyTaken) (answer_with (message_of (suc k) p) (answer_at (suc k) (rejected (suc k) e p).publish_states))) free
     ∙ ap (λ b. answer_with (message_of (suc k) p) (cond b (Err error.UnknownTicket) (answer_in (under (suc k) (with_under (suc k) (failed e) p.publish_states.cells))))) known
     ∙ ap (λ o. answer_with (message_of (suc k) p) (answer_in o)) (rejected-there k ms p e f u)
   where
     number-known : (i m : ℕ) → suc i ≤ m → (suc i == 0 || nat_lt m (suc i)) ≡ false
-    number-known i m le = neither (suc i == 0) (nat_lt m (suc i)) (ne-eqb (suc i) 0 (λ e. absurd (omega arith))) (untrue (nat_lt m (suc i)) (λ h. let lt : m < suc i = ltb-true m (suc i) h in absurd (omega arith)))
+    number-known i m le = or_from (suc i == 0) (nat_lt m (suc i)) (ne-eqb (suc i) 0 (λ e. absurd (omega arith))) (false_from_ne_true (nat_lt m (suc i)) (λ h. let lt : m < suc i = ltb-true m (suc i) h in absurd (omega arith)))

@@ -57,9 +57,10 @@ use Rattle.lapin_ticket.specs.Slots.{answered_slot, after_mark, is_awaited}
 use Rattle.lapin_machine.specs.World.{World, new_world, next, readings_of, next_anew, told_anew}
 use Rattle.lapin_machine.proofs.Back.{next_none, still_none}
 use Rattle.lapin_laws.specs.Runs.{world_after}
-use Rattle.lapin_laws.proofs.Moving.{Sound, allowed_up, start_sound, lost_not_up}
+use Rattle.lapin_laws.proofs.Moving.{Sound, start_sound}
 use Rattle.lapin_laws.proofs.Going.{lost_sent}
 use Rattle.lapin_laws.proofs.Kept.{Kept, kept-next, no_rest, no_publishes, is_link_lost, dropped_link}
+use Rattle.lapin_rules.proofs.PhaseLaws.{lost_down, allowed_up}
 
 abbrev NoneOpen : List (Option Slot) → Type 0
 NoneOpen slots = (t : ℕ) → is_awaited (under t slots) ≡ false
@@ -198,7 +199,7 @@ lost_answered b slots h = elim (is_lost b.link) as (λ t. is_lost b.link ≡ t �
 
 handed_none : (n : ℕ) (t : ℕ → Bool) (w : World) → Sound n w.wire → is_lost w.wire.link ≡ true → handed_out t w.wire ≡ None
 handed_none n t w s l =
-    let d = lost_not_up w.wire.link l in
+    let d = lost_down w.wire.link l in
     let rest : w.wire.rest ≡ [] = no_rest n w s d in
     let methods : w.wire.methods ≡ [] = s.lost l in
     let publishes : w.wire.publishes ≡ [] = no_publishes n w s d in

@@ -24,7 +24,6 @@ use Rattle.lapin_rules.specs.Frames.{MethodEntry, RestEntry}
 use Rattle.lapin_rules.specs.Drops.{is_off, is_rest_of, publish_channel}
 use Rattle.lapin_rules.specs.Ends.{live_channels, ends_all}
 use Rattle.lapin_rules.specs.Wire.{Wire, start, queued, state_of, phase_of, is_open, with_deliveries}
-use Rattle.lapin_rules.specs.ChannelClose.{after_broker_close}
 use Rattle.lapin_rules.specs.Calls.{awaited_by}
 use Rattle.lapin_rules.specs.Select.{is_select}
 use Rattle.lapin_rules.specs.Asking.{is_allowed, accepted_record, call_record, after_call, asked_wire, call_marks, asking_marks}
@@ -37,6 +36,7 @@ use Rattle.lapin_laws.proofs.Closes.{AreMarked, marks_noted, marks_moved, marks_
 use Rattle.lapin_laws.proofs.Parts.{IsPart, part-filter, part-push, part-same}
 use Rattle.lapin_laws.proofs.Cuts.{frames_of, cut_at, cut-rest, cut-nil, cut-all, ended-ends, live-in}
 use Rattle.lapin_laws.proofs.Rows.{IsPlain, IsLine}
+use Rattle.lapin_rules.proofs.PhaseLaws.{lost_down, allowed_up}
 
 -- ---- what is kept
 
@@ -61,30 +61,6 @@ pub record Sound (n : ℕ) (b : Wire) : Type 0 where
   pub lost : is_lost b.link ≡ true → b.methods ≡ []
   pub closes : is_up b.link ≡ true → AreMarked b.phases b.methods
   pub contents : is_up b.link ≡ false → b.contents ≡ []
-
-pub shut_refuses : (k : Asked) → is_allowed k state.Down ≡ false
-shut_refuses ask.Open = refl
-shut_refuses (ask.CloseChannel code text) = refl
-shut_refuses (ask.CloseConnection code text) = refl
-shut_refuses (ask.Publish exchange key o payload properties) = refl
-shut_refuses (ask.Method row) = refl
-shut_refuses (ask.Consume m tag queue o) = refl
-shut_refuses (ask.Limit limit) = refl
-shut_refuses ask.Nothing = refl
-
-pub lost_not_up : (l : ConnectionPhase) → is_lost l ≡ true → is_up l ≡ false
-lost_not_up link.Open h = cc
-lost_not_up (link.Closing s) h = refl
-lost_not_up link.Closed h = refl
-lost_not_up link.Lost h = refl
-
-pub broker_over : (p : ChannelPhase) → is_live (after_broker_close p) ≡ false
-broker_over phase.Closed = refl
-broker_over phase.Opening = refl
-broker_over (phase.Open paused) = refl
-broker_over (phase.Closing who true) = refl
-broker_over (phase.Closing who false) = refl
-broker_over phase.Crossed = refl
 
 over_at : (c d : ℕ) (p : ChannelPhase) (ps : List (ℕ × ChannelPhase)) → is_live p ≡ false → ((c == d) || false) ≡ true → live_at d (with_channel c p ps) ≡ true → ⊥
 over_at c d p ps over h live = elim (eqb_tells c d) [
@@ -232,12 +208,6 @@ open_here false phase.Opening h = absurd cc
 open_here false (phase.Open paused) h = refl
 open_here false (phase.Closing who sent) h = absurd cc
 open_here false phase.Crossed h = absurd cc
-
-pub allowed_up : (l : ConnectionPhase) (k : Asked) (s : ChannelState) → is_allowed k (cond (is_up l) s state.Down) ≡ true → l ≡ link.Open
-allowed_up link.Open k s h = refl
-allowed_up (link.Closing x) k s h = let x = shut_refuses k in cc
-allowed_up link.Closed k s h = let x = shut_refuses k in cc
-allowed_up link.Lost k s h = let x = shut_refuses k in cc
 
 pub open_up : (l : ConnectionPhase) (s : ChannelState) → is_open (cond (is_up l) s state.Down) ≡ true → l ≡ link.Open
 open_up link.Open s h = refl

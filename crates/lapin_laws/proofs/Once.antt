@@ -28,7 +28,7 @@ use Rattle.lapin_rules.specs.History.{History, Past, past, rec, run_from, run, r
 use Rattle.lapin_rules.specs.Readings.{Readings}
 use Rattle.lapin_machine.proofs.Standing.{past-push}
 use Rattle.lapin_laws.specs.Consumers.{is_no, uses_acker}
-use Rattle.lapin_laws.proofs.DeliveriesMoves.{deliveries-next}
+use Rattle.lapin_machine.proofs.Deliveries.{deliveries-next}
 
 -- ---- an acker that is not usable stays so
 

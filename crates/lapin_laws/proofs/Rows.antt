@@ -24,6 +24,7 @@ use Rattle.lapin_rules.specs.Ackers.{acker_asked}
 use Rattle.lapin_machine.proofs.Limited.{asked_plain}
 use Rattle.lapin_laws.specs.Closes.{is_channel_close}
 use Rattle.lapin_laws.specs.Unbroken.{is_publish}
+use Rattle.lapin_tables.proofs.Bools.{and_first}
 
 -- no publish, and no close of a channel
 abbrev pub IsPlain : ℕ → Method → Type 0
@@ -45,16 +46,12 @@ call_line c k = search rules
 
 -- ---- what a call with a record asks for
 
-first_true : (x y : Bool) → (x && y) ≡ true → x ≡ true
-first_true true y h = refl
-first_true false y h = cc
-
 -- nothing, where it is refused by its channel's limit; else its line
 pub told_as : (c : ℕ) (k : Call) (b : Wire) (readings : Readings) (D : Asked → Record → Type 0) → D ask.Nothing (record_.Refused (error.ConfirmsOutstanding (readings.limit c))) → D (asked k) (call_record c (asked k) b) → D (asked_by k (call_told c k b readings)) (call_told c k b readings)
 told_as c k b readings D held free =
     let no : Record = record_.Refused (error.ConfirmsOutstanding (readings.limit c)) in
     elim (is_held c k b readings) as (λ t. is_held c k b readings ≡ t → D (asked_by k (cond t no (call_record c (asked k) b))) (cond t no (call_record c (asked k) b))) [
-      | true ↦ λ h. let P : Bool → Type 0 = λ t. D (cond (t && true) ask.Nothing (asked k)) no in subst P (sym (first_true (is_try k) (is_open (state_of c b) && readings.at_limit c) h)) held
+      | true ↦ λ h. let P : Bool → Type 0 = λ t. D (cond (t && true) ask.Nothing (asked k)) no in subst P (sym (and_first (is_try k) (is_open (state_of c b) && readings.at_limit c) h)) held
       | false ↦ λ h. let P : Asked → Type 0 = λ a. D a (call_record c (asked k) b) in subst P (sym (asked_plain c k b)) free
     ] refl
 

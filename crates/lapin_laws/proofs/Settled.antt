@@ -39,7 +39,7 @@ use Rattle.lapin_rules.specs.Phases.{is_up, is_lost, is_live, channel_state}
 use Rattle.lapin_rules.specs.Requests.{requests_in, is_kind, first_request, without_kind, no_requests, close_alone, request_alone, without_request}
 use Rattle.lapin_rules.specs.Readings.{Readings}
 use Rattle.lapin_rules.specs.Ends.{down}
-use Rattle.lapin_rules.specs.Wire.{Wire, requests_of, state_of, phase_of, is_open, is_opening, is_base, requests_with, noted, receives_on}
+use Rattle.lapin_rules.specs.Wire.{Wire, requests_of, state_of, phase_of, is_open, is_opening, requests_with, noted, receives_on}
 use Rattle.lapin_rules.specs.Opening.{opens}
 use Rattle.lapin_rules.specs.declared.broker_frames.ContentPart.{ContentPart}
 use Rattle.lapin_rules.specs.declared.broker_frames.ContentPart.TheVariants as part
@@ -64,9 +64,12 @@ use Rattle.lapin_machine.specs.World.{World, new_world, next, readings_of}
 use Rattle.lapin_machine.proofs.Back.{next_keeps}
 use Rattle.lapin_laws.specs.Runs.{world_after}
 use Rattle.lapin_laws.proofs.Alive.{live_at, live-with}
-use Rattle.lapin_laws.proofs.Moving.{allowed_up, open_up, state_up, open_here}
-use Rattle.lapin_laws.proofs.FrameMoves.{both, up_open, incoming_is, right}
-use Rattle.lapin_laws.proofs.Going.{up_sent, live_sent}
+use Rattle.lapin_laws.proofs.Moving.{open_up, state_up, open_here}
+use Rattle.lapin_laws.proofs.FrameMoves.{incoming_is}
+use Rattle.lapin_laws.proofs.Going.{live_sent}
+use Rattle.lapin_rules.proofs.PhaseLaws.{kept_none, up_open, base_here, allowed_up}
+use Rattle.lapin_tables.proofs.Bools.{and_first, and_second}
+use Rattle.lapin_machine.proofs.Shut.{frame_left}
 
 -- ---- the requests of each channel after a write
 
@@ -135,14 +138,6 @@ receives_live false (phase.Open paused) h = refl
 receives_live false (phase.Closing who sent) h = refl
 receives_live false phase.Crossed h = absurd cc
 
-base_here : (t : Bool) (p : ChannelPhase) → is_base (cond t state.Base (channel_state p)) ≡ true → t ≡ true
-base_here true p h = refl
-base_here false phase.Closed h = cc
-base_here false phase.Opening h = cc
-base_here false (phase.Open paused) h = cc
-base_here false (phase.Closing who sent) h = cc
-base_here false phase.Crossed h = cc
-
 -- ---- calls
 
 awaits_away : (c k : ℕ) (o : Option Reply) (rs : List (ℕ × List Request)) → Others c rs (requests_with c k o rs)
@@ -176,7 +171,7 @@ acked_settled (Some x) k b h = call_settled x.0 (acker_asked k x.1) b h
 
 let_go_settled : (x : Consumer) (b : Wire) → Settled b → Settled (cond (lets_go_of x b) (cancel_noted x b) b)
 let_go_settled x b h = elim (lets_go_of x b) as (λ t. lets_go_of x b ≡ t → Settled (cond t (cancel_noted x b) b)) [
-  | true ↦ λ a. let free = right (is_idle x) _ a in let e = open_up b.link _ free in of_live x.channel b.link b.phases b.requests _ e (open_here (x.channel == 0) (phase_of x.channel b) (rw (state_up x.channel b e) at free)) (λ d n. requests-away x.channel d _ b.requests n) h
+  | true ↦ λ a. let free = and_second (is_idle x) _ a in let e = open_up b.link _ free in of_live x.channel b.link b.phases b.requests _ e (open_here (x.channel == 0) (phase_of x.channel b) (rw (state_up x.channel b e) at free)) (λ d n. requests-away x.channel d _ b.requests n) h
   | false ↦ λ a. h
 ] refl
 
@@ -189,7 +184,7 @@ dropped_settled (Some x) b h = let_go_settled x b h
 sent_settled : (o : Option Left) (b : Wire) → Settled b → Settled (sent o b)
 sent_settled None b h = h
 sent_settled (Some x) b h = λ c z dead.
-    let same : is_live_on (link_sent x.frame b.link) (at_channel c (phases_sent x.frame b.phases)) ≡ is_live_on b.link (at_channel c b.phases) = ap (λ t. t && live_at c (phases_sent x.frame b.phases)) (up_sent x.frame b.link) ∙ ap (λ t. is_up b.link && t) (live_sent x.frame b.phases c) in
+    let same : is_live_on (link_sent x.frame b.link) (at_channel c (phases_sent x.frame b.phases)) ≡ is_live_on b.link (at_channel c b.phases) = ap (λ t. t && live_at c (phases_sent x.frame b.phases)) (frame_left x.frame b.link) ∙ ap (λ t. is_up b.link && t) (live_sent x.frame b.phases c) in
     h c z (sym same ∙ dead)
 
 -- ---- frames of the broker
@@ -207,9 +202,6 @@ find_kind f (r ∷ rs) = elim (f r) as (λ t. f r ≡ t → without_first f (req
 kept_at_left : (p : ChannelPhase) (rs : List Request) → without_kind reply_kind.ChannelCloseOk (kept_at p rs) ≡ []
 kept_at_left p rs = elim (has_sent_close p) as (λ t. without_kind reply_kind.ChannelCloseOk (cond t (close_alone rs) (no_requests rs)) ≡ []) [ true ↦ find_kind (is_kind reply_kind.ChannelCloseOk) rs | false ↦ refl ]
 
-kept_at_none : (p : ChannelPhase) → kept_at p [] ≡ []
-kept_at_none p = elim (has_sent_close p) as (λ t. cond t (close_alone []) (no_requests []) ≡ []) [ true ↦ refl | false ↦ refl ]
-
 reply_taken : (t : Bool) (c : ℕ) (k : ReplyKind) (b : Wire) → b.link ≡ link.Open → cond t (is_opening (cond (c == 0) state.Base (channel_state (phase_of c b)))) (receives_on (cond (c == 0) state.Base (channel_state (phase_of c b)))) ≡ true → Settled b → SettledBy b.link (cond t (with_channel c (phase.Open false) b.phases) b.phases) (without_request c k b.requests)
 reply_taken true c k b e a h = to_live c (phase.Open false) b.link b.phases b.requests _ e refl (λ d n. requests-away c d _ b.requests n) h
 reply_taken false c k b e a h = of_live c b.link b.phases b.requests _ e (receives_live (c == 0) (phase_of c b) a) (λ d n. requests-away c d _ b.requests n) h
@@ -223,7 +215,7 @@ flow_receives c active b e h =
     ]
 
 close_receives : (c code : ℕ) (b : Wire) → Hears b (incoming.ChannelClose c code) record_.Received
-close_receives c code b h = to_dead c _ b.link b.phases b.requests _ (λ z. ap (without_kind reply_kind.ChannelCloseOk) (on-here c (kept_at (phase_of c b)) b.requests (kept_at_none (phase_of c b))) ∙ kept_at_left (phase_of c b) (requests_of c b)) (λ d n. on-away c d (kept_at (phase_of c b)) b.requests n) h
+close_receives c code b h = to_dead c _ b.link b.phases b.requests _ (λ z. ap (without_kind reply_kind.ChannelCloseOk) (on-here c (kept_at (phase_of c b)) b.requests (kept_none (phase_of c b))) ∙ kept_at_left (phase_of c b) (requests_of c b)) (λ d n. on-away c d (kept_at (phase_of c b)) b.requests n) h
 
 crossed_answered : (c : ℕ) (b : Wire) → live_at c b.phases ≡ false → Settled b → SettledBy b.link (with_channel c phase.Closed b.phases) (on_channel c (without_kind reply_kind.ChannelCloseOk) b.requests)
 crossed_answered c b dead h = to_dead c phase.Closed b.link b.phases b.requests _ (λ z.
@@ -287,7 +279,7 @@ module _ (class number : ℕ) where
   when_receives false b i h = unreceived class number b i
 
   replied : (c : ℕ) (k : ReplyKind) (b : Wire) → b.link ≡ link.Open → receives_reply c k b ≡ true → Settled b → Settled (after_reply c k b)
-  replied c k b e h = reply_taken (opens k) c k b e (rw (state_up c b e) at (both (receives k (state_of c b)) (is_some (first_request k (requests_of c b))) h))
+  replied c k b e h = reply_taken (opens k) c k b e (rw (state_up c b e) at (and_first (receives k (state_of c b)) (is_some (first_request k (requests_of c b))) h))
 
   part_receives : (c : ℕ) (p : ContentPart) (b : Wire) → b.link ≡ link.Open → receives_part c p b ≡ true → Hears b (incoming.Content c p) record_.Received
   part_receives c (part.GetOk x) b e h = replied c reply_kind.BasicGetOk b e h

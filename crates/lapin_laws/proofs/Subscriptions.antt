@@ -1,5 +1,5 @@
 -- The consumers, the jobs and the ackers after every list of events are what happened to them.
-use Rattle.std.proofs.Common.{◌≡◌, ℕ, zero, suc, ◌<◌, Bool, true, false, ◌||◌, List, [], ◌∷◌, ◌++◌, length, drop, zip, Option, Some, None, refl, sym, ◌∙◌, ap, subst, arith, append-nil, append_assoc}
+use Rattle.std.proofs.Common.{◌≡◌, ℕ, zero, suc, ◌<◌, false, List, [], ◌∷◌, ◌++◌, length, drop, zip, Option, Some, None, refl, sym, ◌∙◌, ap, subst, arith, append-nil, append_assoc}
 use Rattle.std.specs.Prelude.{slice_get}
 use Rattle.std.specs.List.{fold, list_any, cons_option}
 use Rattle.std.proofs.lemmas.List.Sums.{fold-append}
@@ -16,10 +16,10 @@ use Rattle.lapin_acker.proofs.Following.{follows-push as acker-push}
 use Rattle.lapin_consumer.specs.Follows.{Follows, MayCome}
 use Rattle.lapin_consumer.specs.Marks.{ConsumerMark}
 use Rattle.lapin_consumer.specs.Marks as mark
-use Rattle.lapin_consumer.specs.Readings.{asks, jobs_made, jobs_taken, Story, next_stories, stories_from, jobs_by, jobs_from}
+use Rattle.lapin_consumer.specs.Readings.{asks, jobs_made, jobs_taken}
 use Rattle.lapin_consumer.specs.Subscriptions.{Subscriptions, after_mark as after_consumer_mark, job_taken, owed}
 use Rattle.lapin_consumer.specs.Words.{gather_at}
-use Rattle.lapin_consumer.proofs.Following.{follows-push, nothing}
+use Rattle.lapin_consumer.proofs.Following.{follows-push, nothing, jobs-push}
 use Rattle.lapin_delivery.specs.Deliveries.{Deliveries, empty_deliveries, after_mark, all_consumer_marks, all_acker_marks}
 use Rattle.lapin_delivery.specs.Marks.{DeliveryMark}
 use Rattle.lapin_delivery.proofs.Histories.{consumers-follow, ackers-follow}
@@ -33,16 +33,13 @@ use Rattle.lapin_rules.specs.Handing.{handed, frame_record}
 use Rattle.lapin_machine.proofs.Standing.{past-push}
 use Rattle.lapin_laws.specs.Consumers.{deliveries_on, deliveries_history, consumer_history, acker_history, job_in, jobs_in}
 use Rattle.lapin_laws.specs.Runs.{world_after}
-use Rattle.lapin_laws.proofs.DeliveriesMoves.{deliveries-next, marks_steady, joined}
+use Rattle.lapin_laws.proofs.DeliveriesMoves.{marks_steady, joined}
 use Rattle.lapin_laws.proofs.Traces.{stands_after}
 use Rattle.lapin_laws.proofs.Records.{other_job}
+use Rattle.std.proofs.lemmas.Bool.{or_parts}
+use Rattle.lapin_machine.proofs.Deliveries.{deliveries-next}
 
 -- ---- jobs
-
--- the jobs that are made join those that were
-jobs-push : (ss : List Story) (ms : List ConsumerMark) (m : ConsumerMark) → jobs_from ss (ms ++ m ∷ []) ≡ jobs_from ss ms ++ jobs_by m (stories_from ss ms)
-jobs-push ss [] m = append-nil (jobs_by m ss)
-jobs-push ss (x ∷ xs) m = ap (λ js. jobs_by x ss ++ js) (jobs-push (next_stories x ss) xs m) ∙ sym (append_assoc (jobs_by x ss) (jobs_from (next_stories x ss) xs) (jobs_by m (stories_from (next_stories x ss) xs)))
 
 -- these jobs were given, and with those that wait they are all that were made
 record Holds (given : List Job) (ms : List ConsumerMark) (r : Subscriptions) : Type 0 where
@@ -94,15 +91,11 @@ module _ (given : List Job) (ms : List ConsumerMark) (r : Subscriptions) (h : Ho
 
 -- ---- several marks
 
-none_asks : (x y : Bool) → (x || y) ≡ false → (x ≡ false) × (y ≡ false)
-none_asks true y h = absurd cc
-none_asks false y h = (refl, h)
-
 -- that ask for no job
 holds_all : (given : List Job) (ms : List ConsumerMark) (r : Subscriptions) (new : List ConsumerMark) → list_any asks new ≡ false → Holds given ms r → Holds given (ms ++ new) (fold after_consumer_mark r new)
 holds_all given ms r [] q h = let P : List ConsumerMark → Type 0 = λ xs. Holds given xs r in subst P (sym (append-nil ms)) h
 holds_all given ms r (m ∷ new) q h =
-    let both = none_asks (asks m) (list_any asks new) q in
+    let both = or_parts (asks m) (list_any asks new) q in
     let next : Subscriptions = after_consumer_mark r m in
     let P : List ConsumerMark → Type 0 = λ xs. Holds given xs (fold after_consumer_mark next new) in
     subst P (append_assoc ms (m ∷ []) new) (holds_all given (ms ++ m ∷ []) next new both.1 (holds-push given ms r h m both.0))

@@ -4,7 +4,7 @@ use Rattle.std.specs.List.{fold, list_any}
 use Rattle.std.specs.Option.{option_map, option_or}
 use Rattle.std.proofs.lemmas.Bool.Decides.{eqb_tells}
 use Rattle.lapin_tables.specs.ByChannel.{at_channel}
-use Rattle.lapin_tables.proofs.Channels.{at-push, at-on_same, at-on_other}
+use Rattle.lapin_tables.proofs.Channels.{at-push, at-on_same, at-on_other, or-none}
 use Rattle.lapin_types.specs.declared.answer.Answer.{Answer}
 use Rattle.lapin_types.specs.declared.event.Event.{Event}
 use Rattle.lapin_types.specs.declared.request.Reply.{Reply}
@@ -25,10 +25,6 @@ use Rattle.lapin_laws.specs.Runs.{world_after}
 use Rattle.lapin_laws.proofs.Subscriptions.{deliveries_after}
 
 -- ---- an opening begins
-
-or-none : {X : Type 0} (o : Option X) → option_or o None ≡ o
-or-none None = refl
-or-none (Some x) = refl
 
 begun-same : (c : ℕ) (t : Topologies) → at_channel c (begun_on c t) ≡ Some empty_definition
 begun-same c t = elim (at_channel c t) as (λ o. at_channel c t ≡ o → at_channel c (begun_at o c t) ≡ Some empty_definition) [

@@ -73,10 +73,11 @@ use Rattle.lapin_laws.specs.Queue.{queued_in, waiting}
 use Rattle.lapin_laws.proofs.Alive.{AreAlive, none_alive}
 use Rattle.lapin_laws.proofs.Cuts.{live-in}
 use Rattle.lapin_laws.proofs.Places.{Place, place_of, waiting-both}
-use Rattle.lapin_laws.proofs.Moving.{lost_not_up, start_sound}
+use Rattle.lapin_laws.proofs.Moving.{start_sound}
 use Rattle.lapin_laws.proofs.Queue.{still, gone_queue, less_queue, out, joined, settled_queue, closed_queue, ended_queue, AreOn, ends_queue}
 use Rattle.lapin_laws.proofs.Traces.{stands_new, stands_next}
 use Rattle.lapin_laws.proofs.Kept.{Kept, kept-next}
+use Rattle.lapin_rules.proofs.PhaseLaws.{lost_down}
 
 -- these confirms are queued for these publishes
 abbrev Waits : List Publish → ConfirmState → Type 0
@@ -210,7 +211,7 @@ module _ (b : Wire) (k : ConfirmState) (alive : AreAlive b.link b.phases b.publi
 
   lost_waits : Waits (after_lost b).publishes (fold after_mark k (lost_marks b))
   lost_waits = elim (is_lost b.link) as (λ t. is_lost b.link ≡ t → Waits (cond t b (down link.Lost b)).publishes (fold after_mark k (lost_marks b))) [
-    | true ↦ λ e. still_none _ (lost_not_up b.link e)
+    | true ↦ λ e. still_none _ (lost_down b.link e)
     | false ↦ λ e. falls _
   ] refl
 

@@ -14,7 +14,7 @@ use Rattle.lapin_types.specs.declared.leaving.Publish.{Publish}
 use Rattle.lapin_types.specs.Types.{Frame}
 use Rattle.lapin_types.specs.Types.frame
 use Rattle.lapin_rules.specs.ConfirmMarks.{ConfirmMark}
-use Rattle.lapin_rules.specs.ConfirmReadings.{begins, selects, is_begun, is_selected, limit_of, is_full}
+use Rattle.lapin_rules.specs.ConfirmReadings.{limit_of, is_full}
 use Rattle.lapin_rules.specs.ConfirmReadings as read
 use Rattle.lapin_rules.specs.Words.{without_first}
 use Rattle.lapin_rules.specs.Frames.{MethodEntry, RestEntry, left_publish, publish_method}
@@ -23,7 +23,6 @@ use Rattle.lapin_rules.specs.Flow.{is_paused_on, is_flowing, unless_full, begins
 use Rattle.lapin_rules.specs.Wire.{Wire}
 use Rattle.lapin_rules.specs.Handing.{frame_record, handed_out, left_marks}
 use Rattle.lapin_rules.specs.History.{History, Past, longer, past}
-use Rattle.lapin_rules.proofs.ListLaws.{since_none}
 use Rattle.lapin_confirm.specs.declared.cell.Cell.{Cell}
 use Rattle.lapin_confirm.specs.PublishStates.{PublishStates, ConfirmModeState, next_confirm_mode, tag_for, confirm_modes_with, cell_with, is_pending_on, selected_in, selected_on, limit_in, limit_on, full_on, pending_count, left}
 use Rattle.lapin_confirm.specs.ConfirmState.{ConfirmState}
@@ -44,13 +43,10 @@ use Rattle.lapin_laws.proofs.Kept.{run_sound, unreturned_after}
 use Rattle.lapin_laws.proofs.Moving.{ArePlain, Sound}
 use Rattle.lapin_laws.proofs.Places.{place_of}
 use Rattle.lapin_laws.proofs.Traces.{stands_told, stands_next, stands_after}
+use Rattle.std.proofs.lemmas.Bool.{and_parts}
+use Rattle.lapin_confirm.proofs.Tags.{selected-begun}
 
 -- ---- which publish begins
-
-both_true : (x y : Bool) → (x && y) ≡ true → (x ≡ true) × (y ≡ true)
-both_true true true h = (refl, refl)
-both_true true false h = cc
-both_true false y h = cc
 
 publish_leads : (f : Frame) → is_publish f ≡ true → is_method f ≡ true
 publish_leads (frame.Method c m) h = refl
@@ -70,11 +66,11 @@ module _ (n : ℕ) (t : ℕ → Bool) (c : ℕ) (b : Wire) (s : Sound n b) where
   leads_by : (rest : List RestEntry) (methods : List MethodEntry) → b.rest ≡ rest → b.methods ≡ methods → is_publish_on c (frame_record (handed_of t rest methods b.publishes)) ≡ true → Leads t c b
   leads_by (f ∷ fs) methods r m h =
       let alive : IsRestAlive b.link b.phases (f ∷ fs) = subst (IsRestAlive b.link b.phases) r s.rest in
-      let no : true ≡ false = sym (publish_leads f.frame (both_true (is_publish f.frame) _ h).0) ∙ alive.1 in
+      let no : true ≡ false = sym (publish_leads f.frame (and_parts (is_publish f.frame) _ h).0) ∙ alive.1 in
       absurd cc
   leads_by [] (x ∷ xs) r m h =
       let plain : ArePlain (x ∷ xs) = subst ArePlain m s.plain in
-      let no : true ≡ false = sym (both_true (is_publish (frame.Method x.channel x.method)) (x.channel == c) h).0 ∙ plain.0 in
+      let no : true ≡ false = sym (and_parts (is_publish (frame.Method x.channel x.method)) (x.channel == c) h).0 ∙ plain.0 in
       absurd cc
   leads_by [] [] r m h = by (find (may_begin t) b.publishes) refl h
     where
@@ -175,15 +171,9 @@ full_begins_none n es flow c full = ap (is_publish_on c) (told_none (world_after
 
 -- ---- the same of the history
 
-selected_begun : (c : ℕ) (ms : List ConfirmMark) → is_selected c ms ≡ true → is_begun c ms ≡ true
-selected_begun c ms on = elim (is_begun c ms) as (λ t. is_begun c ms ≡ t → t ≡ true) [
-  | true ↦ λ h. refl
-  | false ↦ λ none. let no : true ≡ false = sym on ∙ ap (list_any (selects c)) (since_none (begins c) ms none) in absurd cc
-] refl
-
 shown_within : (c : ℕ) (ms : List ConfirmMark) (p : ConfirmState) → Follows ms p → IsWithinLimit c p.publish_states → AreWithinLimit c ms
 shown_within c ms p f within on above =
-    let limit : limit_on c p.publish_states ≡ limit_of c ms = limit-read c ms p f (selected_begun c ms on) in
+    let limit : limit_on c p.publish_states ≡ limit_of c ms = limit-read c ms p f (selected-begun c ms on) in
     let before : 0 < limit_on c p.publish_states = subst (λ l. 0 < l) (sym limit) above in
     let most : pending_count c p.publish_states ≤ limit_on c p.publish_states = within (selected-read c ms p f ∙ on) before in
     let count : pending_count c p.publish_states ≡ read.pending_count c ms = pending-reads c ms p f in

@@ -37,11 +37,9 @@ last_said g None x is = absurd cc
 last_said g (Some (a, [])) x is = cc
 last_said g (Some (a, p ∷ ps)) x is = absurd cc
 
--- a line whose first word is known says what stands behind that word
-pub line_begins : (line : List ℕ) (pieces : List (List ℕ)) (first : Option Word) (w : Word) (rest : List (List ℕ)) → pieces ≡ slice_split (λ b. b == 32) line → first ≡ Some w → event_at pieces ≡ (first >>= λ v. event_of_word v rest) → line_at line ≡ whole (event_of_word w rest)
+-- what becomes of a line whose first word is known is what becomes of what stands behind that word
+pub by_word : {E : Type 0} (line : List ℕ) (pieces : List (List ℕ)) (first : Option Word) (w : Word) (rest : List (List ℕ)) (r : Result Bool E) (a b : World) (t u : List ℕ) → pieces ≡ slice_split (λ b. b == 32) line → event_at pieces ≡ (first >>= λ v. event_of_word v rest) → first ≡ Some w
+    → IfOk r (IsTaken (whole (event_of_word w rest)) a b t u) → IfOk r (IsTaken (line_at line) a b t u)
 unfolding line_at
-line_begins line pieces first w rest cut known reads = ap whole (sym (ap event_at cut) ∙ reads ∙ ap (λ (o : Option Word). o >>= λ v. event_of_word v rest) known)
-
--- the same of what becomes of the line
-pub taken_by : {E : Type 0} (r : Result Bool E) (o p : Option Event) (w v : World) (t u : List ℕ) → o ≡ p → IfOk r (IsTaken p w v t u) → IfOk r (IsTaken o w v t u)
-taken_by r o p w v t u same h = subst (λ (x : Option Event). IfOk r (IsTaken x w v t u)) (sym same) h
+by_word line pieces first w rest r a b t u cut reads known h =
+    subst (λ (x : Option Event). IfOk r (IsTaken x a b t u)) (sym (ap whole (sym (ap event_at cut) ∙ reads ∙ ap (λ (o : Option Word). o >>= λ v. event_of_word v rest) known))) h

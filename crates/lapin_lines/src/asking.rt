@@ -1,10 +1,12 @@
 //! Calls of the application and of ackers: `call C NAME ARGS` and `acker N CALL`.
-ghost use Rattle.std.specs.Prelude.{◌≡◌, ◌++◌, ◌∷◌, [], false, Some, Err, IfOk, IsOk, OnOk};
-ghost use Rattle.lapin_types.specs.declared.call.Call.TheVariants.{BasicPublish, OpenChannel, ChannelClose};
+ghost use Rattle.std.specs.Prelude.{◌≡◌, ◌++◌, ◌∷◌, [], false, Some, Err, IfOk, IsOk, OnOk, OnErr};
+ghost use Rattle.lapin_types.specs.declared.call.Call.TheVariants.{BasicPublish};
 ghost use Rattle.lapin_types.specs.declared.event.Event.TheVariants as event;
 ghost use Rattle.lapin_scalars.specs.declared.fault.ReadError.TheVariants.{Bad};
 ghost use Rattle.lapin_rules.specs.Calls.{asked, publishes};
-ghost use Rattle.lapin_machine.specs.Numbers.{HasNumbersFor};
+ghost use Rattle.lapin_machine.specs.Numbers.{HasNumbersFor, CallCause};
+ghost use Rattle.lapin_machine.specs.Told.{TicketTold};
+ghost use Rattle.lapin_machine.specs.World.{next, told_by};
 ghost use Rattle.lapin_tokens.specs.Reading.{fields_at};
 ghost use Rattle.lapin_text.specs.CallText.{publish_fields, publish_of, call_at};
 ghost use Rattle.lapin_text.specs.LineReading.{whole, event_of_word};
@@ -12,7 +14,7 @@ ghost use Rattle.lapin_text.specs.declared.words.Word.TheVariants as word;
 ghost use Rattle.lapin_lines.specs.Lines.{IsMet, IsTaken, call_event};
 
 use crate::steps::{last, print_step, put_refusal};
-use lapin_machine::Session;
+use lapin_machine::{Session, Ticket};
 use lapin_text::{put_published, put_ticket, read_acker_call, read_call};
 use lapin_tokens::{
     ReadError, Tokens, flag, payload, properties, text as short_text, u16_at, u64_at,
@@ -147,11 +149,6 @@ fn print_call(
     ensures { OnOk result (IsMet (event.Call channel call) session.old session.new text.old.items text.new.items) }
 {
     match call {
-        Call::OpenChannel => print_opening(alloc, session, channel, text),
-        Call::ChannelClose {
-            reply_code,
-            reply_text,
-        } => print_close(alloc, session, channel, reply_code, reply_text, text),
         publish @ (Call::BasicPublish { .. } | Call::TryBasicPublish { .. }) => {
             print_step(alloc, session, Event::Call(channel, publish), text)
         }
@@ -160,7 +157,6 @@ fn print_call(
 }
 
 // Makes a call that publishes nothing, and appends the line of the ticket, or of the refusal.
-#[inline(never)]
 fn print_ticket(
     alloc: Global,
     session: &mut Session,
@@ -172,7 +168,7 @@ fn print_ticket(
     requires plain { publishes (asked call) ≡ false }
     ensures { OnOk result (IsMet (event.Call channel call) session.old session.new text.old.items text.new.items) }
 {
-    match session.call(alloc, channel, call) {
+    match make_call(alloc, session, channel, call) {
         Ok(ticket) => {
             put_ticket(text, ticket.number)?;
             text.push(b'\n')?;
@@ -183,49 +179,27 @@ fn print_ticket(
     }
 }
 
-// Opens a channel, and appends the line of the ticket, or of the refusal.
-#[inline(never)]
-fn print_opening(
+// Makes a call that publishes nothing. An opening and a close of a channel, which come often, are not looked up among all calls.
+#[inline(always)]
+fn make_call(
     alloc: Global,
     session: &mut Session,
     channel: u16,
-    text: &mut Vec<u8>,
-) -> Result<(), NoMemory>
-    requires { HasNumbersFor 1 session.old }
-    ensures { OnOk result (IsMet (event.Call channel OpenChannel) session.old session.new text.old.items text.new.items) }
+    call: Call,
+) -> Result<Ticket, Error>
+    requires { publishes (asked call) ≡ false }
+    ensures told { TicketTold result (told_by session.old (event.Call channel call)) }
+    ensures ok { OnOk result (session.new ≡ next session.old (event.Call channel call)) }
+    ensures err { OnErr result (session.new ≡ session.old) }
+    ensures cause { CallCause result channel call session.old.wire }
 {
-    match session.open_channel(alloc, channel) {
-        Ok(ticket) => {
-            put_ticket(text, ticket.number)?;
-            text.push(b'\n')?;
-            Ok(())
-        }
-        Err(Error::NumbersUsedUp) => unreachable!(),
-        Err(error) => put_refusal(alloc, text, error),
-    }
-}
-
-// Closes a channel, and appends the line of the ticket, or of the refusal.
-#[inline(never)]
-fn print_close(
-    alloc: Global,
-    session: &mut Session,
-    channel: u16,
-    reply_code: u16,
-    reply_text: ShortString,
-    text: &mut Vec<u8>,
-) -> Result<(), NoMemory>
-    requires { HasNumbersFor 1 session.old }
-    ensures { OnOk result (IsMet (event.Call channel (ChannelClose reply_code reply_text)) session.old session.new text.old.items text.new.items) }
-{
-    match session.channel_close(alloc, channel, reply_code, reply_text) {
-        Ok(ticket) => {
-            put_ticket(text, ticket.number)?;
-            text.push(b'\n')?;
-            Ok(())
-        }
-        Err(Error::NumbersUsedUp) => unreachable!(),
-        Err(error) => put_refusal(alloc, text, error),
+    match call {
+        Call::OpenChannel => session.open_channel(alloc, channel),
+        Call::ChannelClose {
+            reply_code,
+            reply_text,
+        } => session.channel_close(alloc, channel, reply_code, reply_text),
+        other => session.call(alloc, channel, other),
     }
 }
 

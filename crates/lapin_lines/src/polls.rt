@@ -5,17 +5,17 @@ ghost use Rattle.lapin_types.specs.declared.record.Record.TheVariants as told;
 ghost use Rattle.lapin_types.specs.declared.outcome.Outcome.TheVariants as outcome;
 ghost use Rattle.lapin_confirm.specs.Answers.{result_of};
 ghost use Rattle.lapin_machine.specs.Numbers.{HasNumbersFor};
-ghost use Rattle.lapin_machine.specs.Told.{ticket_record, confirm_record, next_record};
+ghost use Rattle.lapin_machine.specs.Told.{ticket_record, next_record};
 ghost use Rattle.lapin_text.specs.LineReading.{whole, event_of_word};
 ghost use Rattle.lapin_text.specs.Records.{record_tokens, line_onto};
 ghost use Rattle.lapin_text.specs.declared.words.Word.TheVariants as word;
 ghost use Rattle.lapin_lines.specs.Lines.{IsMet, IsTaken};
 
-use crate::steps::{last, put_refusal};
+use crate::steps::{last, print_step, put_refusal};
 use lapin_machine::Session;
-use lapin_text::{put_answered, put_confirmed, put_item, put_refused};
+use lapin_text::{put_answered, put_confirmed, put_item};
 use lapin_tokens::{Tokens, put_word, u64_at};
-use lapin_types::{Answer, Confirmation, DeliveryResult, Error, NoMemory, Outcome, Poll};
+use lapin_types::{Answer, DeliveryResult, Error, Event, NoMemory, Outcome, Poll};
 use std::alloc::Global;
 
 // Takes a line that began with `confirm`.
@@ -88,6 +88,7 @@ fn print_confirm(
     number: u64,
     text: &mut Vec<u8>,
 ) -> Result<(), NoMemory>
+    requires { HasNumbersFor 1 session.old }
     ensures { OnOk result (IsMet (event.PollConfirm number) session.old session.new text.old.items text.new.items) }
 {
     match session.poll_bare_confirm(number) {
@@ -103,28 +104,13 @@ fn print_waiting(
     number: u64,
     text: &mut Vec<u8>,
 ) -> Result<(), NoMemory>
+    requires { HasNumbersFor 1 session.old }
     ensures { OnOk result (IsMet (event.PollConfirm number) session.old session.new text.old.items text.new.items) }
 {
     if session.confirm_ready(number) {
-        return print_whole(alloc, session, number, text);
+        return print_step(alloc, session, Event::PollConfirm(number), text);
     }
     put_pending(text)
-}
-
-// The same where there is an answer, whatever it is.
-#[inline(never)]
-fn print_whole(
-    alloc: Global,
-    session: &mut Session,
-    number: u64,
-    text: &mut Vec<u8>,
-) -> Result<(), NoMemory>
-    ensures { OnOk result (IsMet (event.PollConfirm number) session.old session.new text.old.items text.new.items) }
-{
-    let polled = session.poll_confirm(number);
-    let put = put_confirm(alloc, text, &polled);
-    drop(polled);
-    put
 }
 
 // Polls a ticket, and appends the line of its answer.
@@ -200,24 +186,6 @@ fn put_failed(alloc: Global, text: &mut Vec<u8>, error: Error) -> Result<(), NoM
     put_confirmed(alloc, text, &Err(error))?;
     text.push(b'\n')?;
     Ok(())
-}
-
-fn put_confirm(
-    alloc: Global,
-    text: &mut Vec<u8>,
-    polled: &Result<Poll<Result<Confirmation, Error>>, Error>,
-) -> Result<(), NoMemory>
-    ensures { OnOk result (text.new.items ≡ line_onto text.old.items (record_tokens (confirm_record polled.now)) ++ 10 ∷ []) }
-{
-    match polled {
-        Ok(Poll::Ready(outcome)) => {
-            put_confirmed(alloc, text, outcome)?;
-            text.push(b'\n')?;
-            Ok(())
-        }
-        Ok(Poll::Pending) => put_pending(text),
-        Err(error) => put_refusal(alloc, text, *error),
-    }
 }
 
 fn put_ticket_poll(

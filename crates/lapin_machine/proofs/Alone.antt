@@ -10,7 +10,7 @@ use Rattle.lapin_types.specs.declared.record.Record.TheVariants as record_
 use Rattle.lapin_types.specs.declared.acker_call.AckerCall.{AckerCall}
 use Rattle.lapin_types.specs.declared.leaving.Left.{Left}
 use Rattle.lapin_types.specs.declared.leaving.Publish.{Publish}
-use Rattle.lapin_types.specs.Types.{Error, Frame, Method}
+use Rattle.lapin_types.specs.Types.{Error, Method}
 use Rattle.lapin_types.specs.Types.error
 use Rattle.lapin_types.specs.Types.frame
 use Rattle.lapin_types.specs.Types.method
@@ -48,6 +48,7 @@ use Rattle.lapin_rules.specs.Consumers.{after_consumer, lets_go_of, cancel_noted
 use Rattle.lapin_rules.specs.Ackers.{acker_asked, acked_wire, usable_at}
 use Rattle.lapin_machine.proofs.Back.{next_keeps}
 use Rattle.lapin_machine.specs.Alone.{is_connection_close, IsOneClose, IsCloseAlone, WaitsAlone, without_own_close}
+use Rattle.lapin_rules.proofs.PhaseLaws.{link_moves}
 
 abbrev Alone : Wire → Type 0
 Alone b = WaitsAlone b.link (lists_of b)
@@ -106,20 +107,6 @@ call_alone c k b h = elim (down_refuses b.link c k b refl) [
 ]
 
 -- ---- frames that leave
-
--- a connection's close that leaves, and any other frame
-link_moves : (f : Frame) (l : ConnectionPhase) → (link_sent f l ≡ l) ⊎ (link_sent f l ≡ link_close_sent l)
-link_moves (frame.Method c (method.Connection (connection.Close code text class number))) l = inr refl
-link_moves (frame.Method c (method.Connection connection.CloseOk)) l = inl refl
-link_moves (frame.Method c (method.Channel m)) l = inl refl
-link_moves (frame.Method c (method.Access m)) l = inl refl
-link_moves (frame.Method c (method.Exchange m)) l = inl refl
-link_moves (frame.Method c (method.Queue m)) l = inl refl
-link_moves (frame.Method c (method.Basic m)) l = inl refl
-link_moves (frame.Method c (method.Confirm m)) l = inl refl
-link_moves (frame.Method c (method.Tx m)) l = inl refl
-link_moves (frame.Header c h) l = inl refl
-link_moves (frame.Body c bytes) l = inl refl
 
 -- whatever leaves, a link that shows nothing goes on so
 sent_quiet : (o : Option Left) (l : ConnectionPhase) (b : Wire) → b.link ≡ l → ((ls : Lists) → WaitsAlone l ls) → ((ls : Lists) → WaitsAlone (link_close_sent l) ls) → Alone (sent o b)

@@ -14,7 +14,7 @@ use Rattle.lapin_ticket.specs.declared.Slot.{Slot}
 use Rattle.lapin_ticket.specs.Slots.{after_mark}
 use Rattle.lapin_machine.proofs.Counts.{resolved-count, marks-join, failed-count, opening-count}
 
-done-count : (rs : List Request) (slots : List (Option Slot)) → length (fold after_mark slots (done_with rs)) ≡ length slots
+pub done-count : (rs : List Request) (slots : List (Option Slot)) → length (fold after_mark slots (done_with rs)) ≡ length slots
 done-count [] slots = refl
 done-count (r ∷ rs) slots =
     let first : List TicketMark = resolved_with (Ok answer.Done) r.ticket in

@@ -1,5 +1,5 @@
 -- What an event does to consumers and ackers is what its marks say, and it gives one number of each at most.
-use Rattle.std.proofs.Common.{◌≡◌, ℕ, suc, ◌+◌, ◌==◌, ◌≤◌, Bool, true, false, cond, not, ◌&&◌, List, [], ◌∷◌, ◌++◌, length, Option, Some, None, refl, sym, ◌∙◌, ap, subst, arith, length-append}
+use Rattle.std.proofs.Common.{◌≡◌, ℕ, ◌+◌, ◌==◌, ◌≤◌, Bool, true, false, cond, not, ◌&&◌, List, [], ◌∷◌, ◌++◌, length, Option, Some, None, refl, sym, ◌∙◌, ap, subst, arith, length-append}
 use Rattle.std.specs.List.{fold}
 use Rattle.lapin_types.specs.declared.acker_call.AckerCall.{AckerCall}
 use Rattle.lapin_types.specs.declared.answer.Answer.{Answer}
@@ -63,6 +63,7 @@ use Rattle.lapin_rules.specs.Receiving.{after_received, after_failed, after_refu
 use Rattle.lapin_rules.specs.Unexpected.{failed_at_unexpected}
 use Rattle.lapin_rules.specs.Loss.{after_lost}
 use Rattle.lapin_rules.specs.Events.{after_event, delivery_marks}
+use Rattle.lapin_acker.proofs.Store.{length-numbered}
 
 -- ---- the rules of the other parts leave consumers and ackers as they are
 
@@ -70,14 +71,14 @@ choose_box : (t : Bool) (x y b : Wire) → x.deliveries ≡ b.deliveries → y.d
 choose_box true x y b h k = h
 choose_box false x y b h k = k
 
-call_box : (c : ℕ) (k : Asked) (b : Wire) → (after_call c k b).deliveries ≡ b.deliveries
+pub call_box : (c : ℕ) (k : Asked) (b : Wire) → (after_call c k b).deliveries ≡ b.deliveries
 call_box c ask.Open b = refl
 call_box c _ b = refl
 
-asked_box : (c : ℕ) (k : Asked) (b : Wire) → (asked_wire c k b).deliveries ≡ b.deliveries
+pub asked_box : (c : ℕ) (k : Asked) (b : Wire) → (asked_wire c k b).deliveries ≡ b.deliveries
 asked_box c k b = choose_box (is_allowed k (state_of c b)) (after_call c k b) b b (call_box c k b) refl
 
-acked_box : (o : Option (ℕ × ℕ)) (k : AckerCall) (b : Wire) → (acked_wire o k b).deliveries ≡ b.deliveries
+pub acked_box : (o : Option (ℕ × ℕ)) (k : AckerCall) (b : Wire) → (acked_wire o k b).deliveries ≡ b.deliveries
 acked_box None k b = refl
 acked_box (Some x) k b = asked_box x.0 (acker_asked k x.1) b
 
@@ -88,23 +89,23 @@ next_box r b = at (handed_as r b)
     at None = refl
     at (Some l) = refl
 
-close_ok_box : (c : ℕ) (p : ChannelPhase) (b : Wire) → (after_close_ok c p b).deliveries ≡ b.deliveries
+pub close_ok_box : (c : ℕ) (p : ChannelPhase) (b : Wire) → (after_close_ok c p b).deliveries ≡ b.deliveries
 close_ok_box c (phase.Closing who sent) b = refl
 close_ok_box c _ b = refl
 
-connection_close_box : (l : ConnectionPhase) (b : Wire) → (after_connection_close l b).deliveries ≡ b.deliveries
+pub connection_close_box : (l : ConnectionPhase) (b : Wire) → (after_connection_close l b).deliveries ≡ b.deliveries
 connection_close_box (link.Closing stage.Queued) b = refl
 connection_close_box _ b = refl
 
-part_box : (c : ℕ) (p : ContentPart) (b : Wire) → (after_part c p b).deliveries ≡ b.deliveries
+pub part_box : (c : ℕ) (p : ContentPart) (b : Wire) → (after_part c p b).deliveries ≡ b.deliveries
 part_box c (part.GetOk s) b = refl
 part_box c _ b = refl
 
-consumer_box : (c : ℕ) (p : ConsumerPart) (b : Wire) → (after_consumer c p b).deliveries ≡ b.deliveries
+pub consumer_box : (c : ℕ) (p : ConsumerPart) (b : Wire) → (after_consumer c p b).deliveries ≡ b.deliveries
 consumer_box c (consumer.Cancel tag nowait) b = choose_box (is_open (state_of c b) && not nowait) _ b b refl refl
 consumer_box c _ b = refl
 
-received_box : (i : Incoming) (b : Wire) → (after_received i b).deliveries ≡ b.deliveries
+pub received_box : (i : Incoming) (b : Wire) → (after_received i b).deliveries ≡ b.deliveries
 received_box (incoming.Content c p) b = part_box c p b
 received_box (incoming.Consumer c p) b = consumer_box c p b
 received_box (incoming.ChannelCloseOk c) b = close_ok_box c (phase_of c b) b
@@ -112,20 +113,20 @@ received_box (incoming.ConnectionClose code) b = connection_close_box b.link b
 received_box (incoming.Flow c active) b = choose_box (is_open (state_of c b)) _ b b refl refl
 received_box _ b = refl
 
-failed_box : (i : Incoming) (b : Wire) → (after_failed i b).deliveries ≡ b.deliveries
+pub failed_box : (i : Incoming) (b : Wire) → (after_failed i b).deliveries ≡ b.deliveries
 failed_box (incoming.Settlement c s) b = choose_box (is_open (state_of c b)) _ b b refl refl
 failed_box _ b = refl
 
-refused_box : (i : Incoming) (e : Error) (b : Wire) → (after_refused i e b).deliveries ≡ b.deliveries
+pub refused_box : (i : Incoming) (e : Error) (b : Wire) → (after_refused i e b).deliveries ≡ b.deliveries
 refused_box i (error.PreconditionFailed tag current) b = failed_box i b
 refused_box i _ b = refl
 
-incoming_box : (i : Incoming) (r : Record) (b : Wire) → (incoming_wire i r b).deliveries ≡ b.deliveries
+pub incoming_box : (i : Incoming) (r : Record) (b : Wire) → (incoming_wire i r b).deliveries ≡ b.deliveries
 incoming_box i (record_.Refused e) b = refused_box i e b
 incoming_box i record_.Received b = received_box i b
 incoming_box i _ b = refl
 
-let_go_box : (o : Option Consumer) (b : Wire) → (after_let_go o b).deliveries ≡ b.deliveries
+pub let_go_box : (o : Option Consumer) (b : Wire) → (after_let_go o b).deliveries ≡ b.deliveries
 let_go_box None b = refl
 let_go_box (Some x) b = choose_box (lets_go_of x b) (cancel_noted x b) b b refl refl
 
@@ -153,10 +154,6 @@ numbers (deliveries.Consumed c t q) = true
 numbers (deliveries.Delivered k d) = true
 numbers (deliveries.Got c t) = true
 numbers _ = false
-
-length-numbered : (f : ℕ → Switch → Switch) (i : ℕ) (ss : List Switch) → length (map_numbered i f ss) ≡ length ss
-length-numbered f i [] = refl
-length-numbered f i (s ∷ ss) = ap suc (length-numbered f (suc i) ss)
 
 quiet_switches : (m : DeliveryMark) (i : Deliveries) → numbers m ≡ false → length (after_mark i m).switches ≡ length i.switches
 quiet_switches (deliveries.Consumed c t q) i h = cc

@@ -59,6 +59,7 @@ use Rattle.lapin_machine.specs.Returned as back
 use Rattle.lapin_machine.specs.Stands.{IsShut}
 use Rattle.lapin_machine.specs.World.{World, next, next_anew, next_or, told_by, told_anew, readings_of}
 use Rattle.lapin_machine.proofs.Back.{told_step, next_step}
+use Rattle.lapin_rules.proofs.PhaseLaws.{lost_down}
 
 -- a connection that stays where it is drops nothing
 stays : (l : ConnectionPhase) → is_emptied l l ≡ false
@@ -278,12 +279,6 @@ goes_with_ends w e step shut =
     subst P (sym (next_step w e step)) (subst Q (sym (told_step w e step)) (goes_anew w e step shut))
 
 -- ---- after a loss
-
-lost_down : (l : ConnectionPhase) → is_lost l ≡ true → is_up l ≡ false
-lost_down link.Open h = cc
-lost_down (link.Closing _) h = cc
-lost_down link.Closed h = cc
-lost_down link.Lost h = refl
 
 lost_empties : (old new : ConnectionPhase) (ms : List ConfirmMark) (r : Option Left) → (is_lost old ≡ true → r ≡ None) → is_lost new ≡ true → after_ends old new ms r ≡ None
 lost_empties link.Open new ms r silent h = rw (lost_down new h) refl

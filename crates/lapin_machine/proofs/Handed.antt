@@ -21,7 +21,7 @@ use Rattle.lapin_machine.proofs.Brought.{none_begins, never_begins}
 
 -- ---- the publish that begins
 
-may_begin_found : (t : ℕ → Bool) (ps : List Publish) (q : Publish) → find (may_begin t) ps ≡ Some q → t q.channel ≡ true
+pub may_begin_found : (t : ℕ → Bool) (ps : List Publish) (q : Publish) → find (may_begin t) ps ≡ Some q → t q.channel ≡ true
 may_begin_found t [] q e = cc
 may_begin_found t (p ∷ ps) q e = elim (t p.channel) as (λ b. t p.channel ≡ b → cond b (Some p) (find (may_begin t) ps) ≡ Some q → t q.channel ≡ true) [
   | true ↦ λ on here. let same : p ≡ q = cc in let P : Publish → Type 0 = λ r. t r.channel ≡ true in subst P same on

@@ -22,7 +22,6 @@ use Rattle.lapin_rules.specs.declared.phases.ChannelPhase.{ChannelPhase}
 use Rattle.lapin_rules.specs.declared.phases.ChannelPhase.TheVariants as phase
 use Rattle.lapin_rules.specs.declared.phases.ConnectionPhase.{ConnectionPhase}
 use Rattle.lapin_rules.specs.declared.phases.ConnectionPhase.TheVariants as link
-use Rattle.lapin_rules.specs.declared.phases.CloseStage.TheVariants as stage
 use Rattle.lapin_rules.specs.Words.{is_some, with_channel}
 use Rattle.lapin_rules.specs.Phases.{is_live, is_up, phase_in}
 use Rattle.lapin_rules.specs.ChannelClose.{close_sent}
@@ -58,17 +57,16 @@ use Rattle.lapin_outbox.specs.Outgoing.{OutboxState}
 use Rattle.lapin_outbox.specs.Poison.{poison_on}
 use Rattle.lapin_machine.proofs.Brought.{none_begins, tied_brought}
 use Rattle.lapin_machine.specs.Tied.{IsTied, NotPoisoned, IsKept, is_live_on, CanRegister}
+use Rattle.std.proofs.lemmas.Bool.{or_parts}
+use Rattle.lapin_tables.proofs.Bools.{and_false, and_second}
+use Rattle.lapin_rules.proofs.PhaseLaws.{close_leaves_up}
 
 -- ---- nothing opens on a channel that has no live opening
 
-both_false : (a b : Bool) → (a || b) ≡ false → (a ≡ false) × (b ≡ false)
-both_false true b h = cc
-both_false false b h = (refl, h)
-
 any-written : {X : Type 0} (p : X → Bool) (xs : List X) (k : ℕ) (y : X) → list_any p xs ≡ false → p y ≡ false → list_any p (slice_set xs k y) ≡ false
 any-written p [] k y h e = refl
-any-written p (x ∷ xs) zero y h e = let parts = both_false (p x) (list_any p xs) h in rw e parts.1
-any-written p (x ∷ xs) (suc k) y h e = let parts = both_false (p x) (list_any p xs) h in rw parts.0 (any-written p xs k y parts.1 e)
+any-written p (x ∷ xs) zero y h e = let parts = or_parts (p x) (list_any p xs) h in rw e parts.1
+any-written p (x ∷ xs) (suc k) y h e = let parts = or_parts (p x) (list_any p xs) h in rw parts.0 (any-written p xs k y parts.1 e)
 
 any-under : (c n : ℕ) (o : Option Cell) (cells : List (Option Cell)) → list_any (is_open_on c) cells ≡ false → is_open_on c o ≡ false → list_any (is_open_on c) (with_under n o cells) ≡ false
 any-under c zero o cells h e = h
@@ -76,8 +74,8 @@ any-under c (suc k) o cells h e = any-written (is_open_on c) cells k o h e
 
 any-get : {X : Type 0} (p : Option X → Bool) (xs : List (Option X)) (k : ℕ) → p None ≡ false → list_any p xs ≡ false → p (get_or xs k None) ≡ false
 any-get p [] k none h = none
-any-get p (x ∷ xs) zero none h = (both_false (p x) (list_any p xs) h).0
-any-get p (x ∷ xs) (suc k) none h = any-get p xs k none (both_false (p x) (list_any p xs) h).1
+any-get p (x ∷ xs) zero none h = (or_parts (p x) (list_any p xs) h).0
+any-get p (x ∷ xs) (suc k) none h = any-get p xs k none (or_parts (p x) (list_any p xs) h).1
 
 closed-under : (c n : ℕ) (cells : List (Option Cell)) → list_any (is_open_on c) cells ≡ false → is_open_on c (under n cells) ≡ false
 closed-under c zero cells h = refl
@@ -246,10 +244,6 @@ tied_down l m e phases ps p t =
       | false ↦ λ over. ends_none c e (live_channels phases) p (t.done c (ap (λ v. is_up l && v) over ∙ and_false (is_up l)))
     ] refl in
     record { queued = queue-none (fold after_mark p (ends e (live_channels phases))).publish_states.cells done; confirm_modes = λ c h. cc; done = λ c h. done c; down = λ h. refl }
-  where
-    and_false : (x : Bool) → (x && false) ≡ false
-    and_false true = refl
-    and_false false = refl
 
 -- once the connection is not open it may close further
 pub tied_further : (l m : ConnectionPhase) (phases : List (ℕ × ChannelPhase)) (ps : List Publish) (b : PublishStates) → is_up l ≡ false → IsTied l phases ps b → IsTied m phases ps b
@@ -319,7 +313,7 @@ some-mapped : {X : Type 0} (f : X → X) (o : Option X) → is_some (option_map 
 some-mapped f None = refl
 some-mapped f (Some x) = refl
 
-live-mapped : (o : Option ChannelPhase) → is_live (phase_in (option_map close_sent o)) ≡ is_live (phase_in o)
+pub live-mapped : (o : Option ChannelPhase) → is_live (phase_in (option_map close_sent o)) ≡ is_live (phase_in o)
 live-mapped None = refl
 live-mapped (Some phase.Closed) = refl
 live-mapped (Some phase.Opening) = refl
@@ -344,12 +338,8 @@ tied_close_left l c phases ps b t =
       down = λ h. ap (on_channel c close_sent) (t.down h);
     }
 
-up_sent : (l : ConnectionPhase) → is_up (link_close_sent l) ≡ is_up l
-up_sent (link.Closing stage.Queued) = refl
-up_sent _ = refl
-
 tied_link_left : (l : ConnectionPhase) (phases : List (ℕ × ChannelPhase)) (ps : List Publish) (b : PublishStates) → IsTied l phases ps b → IsTied (link_close_sent l) phases ps b
-tied_link_left l phases ps b t = record { queued = t.queued; confirm_modes = t.confirm_modes; done = λ c h. t.done c (ap (λ x. x && is_live (phase_in (at_channel c phases))) (sym (up_sent l)) ∙ h); down = λ h. t.down (sym (up_sent l) ∙ h) }
+tied_link_left l phases ps b t = record { queued = t.queued; confirm_modes = t.confirm_modes; done = λ c h. t.done c (ap (λ x. x && is_live (phase_in (at_channel c phases))) (sym (close_leaves_up l)) ∙ h); down = λ h. t.down (sym (close_leaves_up l) ∙ h) }
 
 pub tied_sent : (f : Frame) (l : ConnectionPhase) (phases : List (ℕ × ChannelPhase)) (ps : List Publish) (b : PublishStates) → IsTied l phases ps b → IsTied (link_sent f l) (phases_sent f phases) ps b
 tied_sent (frame.Method c (method.Connection (connection.Close code text class number))) l phases ps b t = tied_link_left l phases ps b t
@@ -411,15 +401,11 @@ tied_taken n l phases ps b h t = record {
 
 -- ---- confirms of which nothing is kept any more
 
-and_right : (x y : Bool) → (x && y) ≡ true → y ≡ true
-and_right true y h = h
-and_right false y h = cc
-
 -- a poll gives the result only where it is there
 pub tied_given : (n : ℕ) (l : ConnectionPhase) (phases : List (ℕ × ChannelPhase)) (ps : List Publish) (p : ConfirmState) → IsTied l phases ps p.publish_states → IsTied l phases ps (cond (is_giving n p) (after_mark p (mark.Taken n)) p).publish_states
 tied_given n l phases ps p t =
     elim (is_giving n p) as (λ g. is_giving n p ≡ g → IsTied l phases ps (cond g (after_mark p (mark.Taken n)) p).publish_states)
-    [ true ↦ λ h. tied_taken n l phases ps p.publish_states (and_right (not (is_set_aside n p)) (is_resolved (under n p.publish_states.cells)) h) t | false ↦ λ h. t ] refl
+    [ true ↦ λ h. tied_taken n l phases ps p.publish_states (and_second (not (is_set_aside n p)) (is_resolved (under n p.publish_states.cells)) h) t | false ↦ λ h. t ] refl
 
 -- so does one that gives an outcome without a message
 pub tied_bare : (n : ℕ) (r : Option Outcome) (l : ConnectionPhase) (phases : List (ℕ × ChannelPhase)) (ps : List Publish) (p q : ConfirmState) → IfSome r (λ o. taken_answer n p ≡ Ok (Some (result_of o))) → IfSome r (λ _. q ≡ after_mark p (mark.Taken n)) → IfNone r (q ≡ p) → IsTied l phases ps p.publish_states → IsTied l phases ps q.publish_states
@@ -427,7 +413,7 @@ tied_bare n None l phases ps p q told gave same t = let P : ConfirmState → Typ
 tied_bare n (Some o) l phases ps p q told gave same t =
     let P : ConfirmState → Type 0 = λ x. IsTied l phases ps x.publish_states in
     let giving : is_giving n p ≡ true = giving-told n p ∙ ap gives_result told in
-    subst P (sym gave) (tied_taken n l phases ps p.publish_states (and_right (not (is_set_aside n p)) (is_resolved (under n p.publish_states.cells)) giving) t)
+    subst P (sym gave) (tied_taken n l phases ps p.publish_states (and_second (not (is_set_aside n p)) (is_resolved (under n p.publish_states.cells)) giving) t)
 
 pub tied_aside : (n : ℕ) (l : ConnectionPhase) (phases : List (ℕ × ChannelPhase)) (ps : List Publish) (p : ConfirmState) → IsTied l phases ps p.publish_states → IsTied l phases ps (after_mark p (mark.SetAside n)).publish_states
 tied_aside n l phases ps p t =

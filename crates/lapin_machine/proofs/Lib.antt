@@ -25,7 +25,6 @@ pub mod Shut
 pub mod Deliveries
 pub mod Causes
 pub mod Refusals
-pub mod Wholes
 pub mod Parts
 pub mod Asides
 pub mod Beginnings

@@ -27,6 +27,7 @@ use Rattle.lapin_outbox.specs.Outgoing.{OutboxState}
 use Rattle.lapin_outstanding.specs.Ended.{emptied_outbox}
 use Rattle.lapin_machine.specs.Tied.{IsTied, NotPoisoned, is_live_on}
 use Rattle.lapin_machine.proofs.Keeping.{tied_live, tied_further, tied_dropped}
+use Rattle.lapin_tables.proofs.Bools.{and_first}
 
 -- the state of a channel, by the connection and by where the channel stands
 abbrev state_at : ConnectionPhase → ℕ → Option ChannelPhase → ChannelState
@@ -88,11 +89,7 @@ reply_opening l c k phases h = elim (opens k) as (λ o. cond o (is_opening (stat
 
 -- where a request of its kind is open too
 pub replied_opening : (l : ConnectionPhase) (c : ℕ) (k : ReplyKind) (phases : List (ℕ × ChannelPhase)) (some : Bool) → (receives k (state_at l c (at_channel c phases)) && some) ≡ true → HasOpening l c phases
-replied_opening l c k phases some h = reply_opening l c k phases (first (receives k (state_at l c (at_channel c phases))) some h)
-  where
-    first : (a b : Bool) → (a && b) ≡ true → a ≡ true
-    first true b h = refl
-    first false b h = cc
+replied_opening l c k phases some h = reply_opening l c k phases (and_first (receives k (state_at l c (at_channel c phases))) some h)
 
 pub tied_replied : (l : ConnectionPhase) (c : ℕ) (k : ReplyKind) (phases : List (ℕ × ChannelPhase)) (ps : List Publish) (b : PublishStates) → HasOpening l c phases → IsTied l phases ps b → IsTied l (phases_with c k phases) ps b
 tied_replied l c k phases ps b h t = elim (opens k) as (λ o. IsTied l (cond o (with_channel c (phase.Open false) phases) phases) ps b) [

@@ -103,20 +103,19 @@ module _ (l : ConnectionPhase) (p : List (ℕ × ChannelPhase)) (o : OutboxState
   -- a header or a body, and the content that it makes whole, if it does
   pub part_seen : (c : ℕ) (q : ContentPart) (w : Option Whole) (O : OutboxState) (R : List (ℕ × List Request)) (C : Channels) (J : Deliveries) (S : List (Option Slot)) (B : ConfirmState)
       → whole_on c q old.wire ≡ w
-      → after_part c q old.wire ≡ record old.wire { contents = (after_part c q old.wire).contents }
+      → after_part c q old.wire ≡ record old.wire { contents = C }
       → O ≡ o
       → R ≡ rs
-      → C ≡ (after_part c q old.wire).contents
       → J ≡ fold deliveries.after_mark i (whole_deliveries c i w)
       → S ≡ fold after_mark s (whole_tickets c (next_acker i) w)
       → B ≡ fold confirm_state.after_mark b (whole_marks c w)
       → seen l p O R C J S B ≡ receiving (incoming.Content c q) record_.Received old
-  part_seen c q w O R C J S B whole after eO eR eC eI eS eB =
+  part_seen c q w O R C J S B whole after eO eR eI eS eB =
       world_is _ _
-      (base_is _ (with_deliveries (part_deliveries c q old.wire) (record old.wire { contents = (after_part c q old.wire).contents }))
+      (base_is _ (with_deliveries (part_deliveries c q old.wire) (record old.wire { contents = C }))
       (ap (λ (y : OutboxState). y.frame_max) eO) refl refl
       (ap (λ (y : OutboxState). y.lists.rest) eO) (ap (λ (y : OutboxState). y.lists.methods) eO) (ap (λ (y : OutboxState). y.lists.publishes) eO)
-      eR eC
+      eR refl
       (ap length eS ∙ whole-count c (next_acker i) w s)
       (ap (λ (y : PublishStates). length y.cells) (whole_publish_states c w b B eB))
       (eI ∙ ap (λ x. fold deliveries.after_mark i (whole_deliveries c i x)) (sym whole))

@@ -24,7 +24,7 @@ use Rattle.lapin_rules.specs.declared.phases.ConnectionPhase.TheVariants as link
 use Rattle.lapin_rules.specs.declared.phases.CloseStage.TheVariants as stage
 use Rattle.lapin_rules.specs.Incoming.{incoming_of, frame_class, frame_method}
 use Rattle.lapin_rules.specs.Phases.{is_up, is_lost}
-use Rattle.lapin_rules.specs.ConnectionClose.{link_close_sent, link_sent, after_connection_close}
+use Rattle.lapin_rules.specs.ConnectionClose.{link_sent, after_connection_close}
 use Rattle.lapin_rules.specs.Readings.{Readings}
 use Rattle.lapin_rules.specs.Unexpected.{refused}
 use Rattle.lapin_rules.specs.declared.marks.Settlement.{Settlement}
@@ -51,6 +51,7 @@ use Rattle.lapin_rules.specs.Consumers.{receives_consumer, after_consumer, lets_
 use Rattle.lapin_rules.specs.Ackers.{acker_asked, acked_wire, usable_at}
 use Rattle.lapin_machine.specs.Stands.{IsShut}
 use Rattle.lapin_machine.proofs.Alone.{down_refuses}
+use Rattle.lapin_rules.proofs.PhaseLaws.{close_leaves_up}
 
 -- the connection is open, or no channel stands open
 up_shut : (d : Wire) → d.link ≡ link.Open → IsShut d
@@ -80,12 +81,8 @@ call_shut c k b h = elim (down_refuses b.link c k b refl) [
 
 -- ---- frames that leave
 
-close_left : (l : ConnectionPhase) → is_up (link_close_sent l) ≡ is_up l
-close_left (link.Closing stage.Queued) = refl
-close_left _ = refl
-
-frame_left : (f : Frame) (l : ConnectionPhase) → is_up (link_sent f l) ≡ is_up l
-frame_left (frame.Method c (method.Connection (connection.Close code text class number))) l = close_left l
+pub frame_left : (f : Frame) (l : ConnectionPhase) → is_up (link_sent f l) ≡ is_up l
+frame_left (frame.Method c (method.Connection (connection.Close code text class number))) l = close_leaves_up l
 frame_left _ l = refl
 
 none_left : (f : Frame) → phases_sent f [] ≡ []

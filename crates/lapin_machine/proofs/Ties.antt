@@ -31,7 +31,7 @@ use Rattle.lapin_rules.specs.declared.phases.ChannelPhase.TheVariants as phase
 use Rattle.lapin_rules.specs.Words.{is_some, with_channel}
 use Rattle.lapin_rules.specs.Readings.{Readings}
 use Rattle.lapin_rules.specs.Incoming.{incoming_of, frame_class, frame_method}
-use Rattle.lapin_rules.specs.Phases.{is_up, has_left}
+use Rattle.lapin_rules.specs.Phases.{is_up, close_has_left}
 use Rattle.lapin_rules.specs.Polls.{is_confirmed, is_returned, is_aside}
 use Rattle.lapin_rules.specs.Leaving.{left_lists}
 use Rattle.lapin_rules.specs.Drops.{is_off, publish_channel}
@@ -65,12 +65,14 @@ use Rattle.lapin_confirm.specs.Aside.{is_set_aside, taken_answer}
 use Rattle.lapin_confirm.specs.PublishStates.{closed_here, ended, is_resolved}
 use Rattle.lapin_confirm.specs.ConfirmState.{ConfirmState, message_of}
 use Rattle.lapin_confirm.specs.Machine.{after_mark}
-use Rattle.lapin_outstanding.proofs.Waiting.{queue-closed, queue-ended, end-closed}
+use Rattle.lapin_outstanding.proofs.Waiting.{queue-closed, queue-ended}
 use Rattle.lapin_machine.specs.Tied.{IsTied}
 use Rattle.lapin_machine.specs.World.{World, next, next_anew, readings_of, outcome_record, told_anew}
 use Rattle.lapin_machine.proofs.Back.{next_keeps}
 use Rattle.lapin_machine.proofs.Keeping.{tied_opened, tied_closing, tied_ended, tied_closed, tied_down, tied_further, tied_dropped, tied_publish, tied_called, tied_leaves, tied_sent, tied_settled, tied_limited, tied_taken, tied_drained, tied_aside}
 use Rattle.lapin_machine.proofs.Openings.{open_opening, receives_opening, reply_opening, tied_replied, tied_paused, close_ok_some, closed_over, crossed_over}
+use Rattle.lapin_tables.proofs.Bools.{and_first}
+use Rattle.lapin_confirm.proofs.Closing.{all-end}
 
 abbrev T : Wire → ConfirmState → Type 0
 T b k = IsTied b.link b.phases b.publishes k.publish_states
@@ -120,15 +122,11 @@ sent_tied (Some l) b k t = tied_sent l.frame b.link b.phases b.publishes k.publi
 unheard_tied : (b : Wire) (k : ConfirmState) → T b k → IsTied (link.Closing stage.Queued) [] [] (fold after_mark k (ends failed_at_unexpected (live_channels b.phases))).publish_states
 unheard_tied b k t = tied_down b.link (link.Closing stage.Queued) failed_at_unexpected b.phases b.publishes k t
 
-and_left : (x y : Bool) → (x && y) ≡ true → x ≡ true
-and_left true y h = refl
-and_left false y h = cc
-
 -- the opening of a channel ends
 ended_tied : (c : ℕ) (p : ChannelPhase) (e : Error) (b : Wire) (k : ConfirmState) → is_up b.link ≡ true → is_some (at_channel c b.phases) ≡ true → T b k → IsTied b.link (with_channel c p b.phases) (filter (is_off publish_channel c) b.publishes) (ended c e k.publish_states)
 ended_tied c p e b k up some t =
     let stay : List Publish = filter (is_off publish_channel c) b.publishes in
-    let queued = queue-ended c e b.publishes stay (after_mark k (mark.ClosedHere c e)) (after_mark k (mark.Ended c e)) refl (sym (end-closed c e k)) (queue-closed c e k.publish_states.cells b.publishes t.queued) in
+    let queued = queue-ended c e b.publishes stay (after_mark k (mark.ClosedHere c e)) (after_mark k (mark.Ended c e)) refl (sym (all-end c e k)) (queue-closed c e k.publish_states.cells b.publishes t.queued) in
     tied_ended b.link c p e b.phases b.publishes stay k.publish_states up some queued t
 
 -- or a crossed close ended it before
@@ -166,7 +164,7 @@ whole_tied c None b k t = t
 whole_tied c (Some w) b k t = start_tied c w.start w b k t
 
 part_tied : (c : ℕ) (p : ContentPart) (b : Wire) (k : ConfirmState) → receives_part c p b ≡ true → T b k → T (after_part c p b) (fold after_mark k (part_marks c p b))
-part_tied c (part.GetOk s) b k h t = tied_replied b.link c reply_kind.BasicGetOk b.phases b.publishes k.publish_states (reply_opening b.link c reply_kind.BasicGetOk b.phases (and_left (receives reply_kind.BasicGetOk (state_of c b)) _ h)) t
+part_tied c (part.GetOk s) b k h t = tied_replied b.link c reply_kind.BasicGetOk b.phases b.publishes k.publish_states (reply_opening b.link c reply_kind.BasicGetOk b.phases (and_first (receives reply_kind.BasicGetOk (state_of c b)) _ h)) t
 part_tied c (part.Return s) b k h t = t
 part_tied c (part.Deliver tag s) b k h t = t
 part_tied c (part.Header x) b k h t = whole_tied c (whole_on c (part.Header x) b) b k t
@@ -183,7 +181,7 @@ consumer_tied c (consumer.Cancel tag nowait) b k t = choose_base (is_open (state
 open_tied : (readings : Readings) (class number : ℕ) (i : Incoming) (b : Wire) (k : ConfirmState) → b.link ≡ link.Open → T b k → H i (incoming_up b readings (refused class number) i) b k
 open_tied readings class number (incoming.Reply c r a) b k e t =
     choose_incoming (receives_reply c r b) (incoming.Reply c r a) record_.Received (refused class number) b k
-    (λ h. tied_replied b.link c r b.phases b.publishes k.publish_states (reply_opening b.link c r b.phases (and_left (receives r (state_of c b)) _ h)) t)
+    (λ h. tied_replied b.link c r b.phases b.publishes k.publish_states (reply_opening b.link c r b.phases (and_first (receives r (state_of c b)) _ h)) t)
     (unheard_tied b k t)
 open_tied readings class number (incoming.Settlement c s) b k e t = choose_incoming (receives_on (state_of c b)) (incoming.Settlement c s) (settlement_record readings c s) (refused class number) b k (λ _. settlement_tied readings c s b k t) (unheard_tied b k t)
 open_tied readings class number (incoming.Content c p) b k e t = choose_incoming (receives_part c p b) (incoming.Content c p) record_.Received (refused class number) b k (λ h. part_tied c p b k h t) (unheard_tied b k t)
@@ -216,7 +214,7 @@ unsent_tied true l m b k down t = tied_further l m b.phases b.publishes k.publis
 unsent_tied false l m b k down t = tied_dropped l m b.phases b.publishes k.publish_states down t
 
 closing_incoming : (s : CloseStage) (readings : Readings) (r : Record) (i : Incoming) (b : Wire) (k : ConfirmState) → b.link ≡ link.Closing s → T b k → H i (incoming_record b readings r i) b k
-closing_incoming s readings r incoming.ConnectionCloseOk b k e t = let down : is_up b.link ≡ false = ap is_up e in rw e (unsent_tied (has_left s) b.link link.Closed b k down t)
+closing_incoming s readings r incoming.ConnectionCloseOk b k e t = let down : is_up b.link ≡ false = ap is_up e in rw e (unsent_tied (close_has_left s) b.link link.Closed b k down t)
 closing_incoming stage.Crossed readings r (incoming.ConnectionClose code) b k e t = rw e (at_link (link.Closing stage.Crossed) b k e t)
 closing_incoming stage.Sent readings r (incoming.ConnectionClose code) b k e t =
     let down : is_up b.link ≡ false = ap is_up e in

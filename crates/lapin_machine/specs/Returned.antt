@@ -19,7 +19,7 @@ use Rattle.lapin_rules.specs.declared.phases.CloseStage.TheVariants as stage
 use Rattle.lapin_rules.specs.Incoming.{incoming_of}
 use Rattle.lapin_rules.specs.ConfirmMarks.{ConfirmMark}
 use Rattle.lapin_rules.specs.ConfirmMarks as mark
-use Rattle.lapin_rules.specs.Phases.{is_up, is_lost, has_left}
+use Rattle.lapin_rules.specs.Phases.{is_up, is_lost, close_has_left}
 use Rattle.lapin_rules.specs.Wire.{Wire, state_of, phase_of}
 use Rattle.lapin_rules.specs.Asking.{is_allowed, asked_by}
 use Rattle.lapin_rules.specs.ChannelClose.{close_ok_end}
@@ -86,7 +86,7 @@ after_event b _ told r = r
 -- side has not left
 abbrev pub is_emptied : ConnectionPhase → ConnectionPhase → Bool
 is_emptied link.Open l = not (is_up l)
-is_emptied (link.Closing s) l = is_lost l || (not (has_left s) && is_shut l)
+is_emptied (link.Closing s) l = is_lost l || (not (close_has_left s) && is_shut l)
 is_emptied link.Closed l = is_lost l
 is_emptied link.Lost l = false
 

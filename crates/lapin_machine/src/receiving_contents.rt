@@ -3,17 +3,15 @@
 //! The session comes here once it knows that the frame is received. How headers and bodies become a whole content stands in
 //! `lapin_content`, what a whole one does in `whole`.
 
-ghost use Rattle.std.specs.Prelude.{◌≡◌, ◌≢◌, ◌<◌, true, Some, length};
-ghost use Rattle.std.specs.Bool.{Decides};
+ghost use Rattle.std.specs.Prelude.{◌≡◌, true, IfOk, OnOk, OnErr};
 ghost use Rattle.lapin_types.specs.declared.record.Record.TheVariants.{Received};
 ghost use Rattle.lapin_types.specs.declared.request.ReplyKind.TheVariants.{BasicGetOk};
 ghost use Rattle.lapin_rules.specs.declared.broker_frames.Incoming.TheVariants.{Content};
-ghost use Rattle.lapin_rules.specs.declared.broker_frames.ContentPart.TheVariants.{GetOk, Return, Deliver, Header, Body};
+ghost use Rattle.lapin_rules.specs.declared.broker_frames.ContentPart.TheVariants.{GetOk, Return, Deliver};
 ghost use Rattle.lapin_rules.specs.Words.{is_some};
 ghost use Rattle.lapin_rules.specs.Requests.{first_request};
-ghost use Rattle.lapin_rules.specs.Wire.{requests_of};
-ghost use Rattle.lapin_rules.specs.Content.{receives_part as receives_part_lem, get_ticket as get_ticket_lem};
-ghost use Rattle.lapin_content.specs.Contents.{awaited};
+ghost use Rattle.lapin_rules.specs.Wire.{Wire as AWire, requests_of};
+ghost use Rattle.lapin_rules.specs.Content.{receives_part as receives_part_lem, get_ticket as get_ticket_lem, whole_by, after_part};
 ghost use Rattle.lapin_content.specs.Channels.{expected_on};
 ghost use Rattle.lapin_rules.specs.Phases.{is_up};
 ghost use Rattle.lapin_rules.specs.Unexpected.{refused};
@@ -21,13 +19,14 @@ ghost use Rattle.lapin_rules.specs.Receiving.{incoming_up};
 ghost use Rattle.lapin_machine.specs.World.{receiving, readings_of};
 ghost use Rattle.lapin_machine.specs.Told.{HeardTold, WasHeard};
 ghost use Rattle.lapin_machine.specs.Numbers.{HasNumbers, ReceiveCause};
+ghost use Rattle.lapin_machine.specs.Whole.{is_awaited};
 
 use crate::channel::Heard;
 use crate::session::Session;
 use crate::whole::{complete, make_room};
-use lapin_content::Start;
+use lapin_content::{Contents, Start, Whole};
 use lapin_rules::{ContentPart, receives_on};
-use lapin_types::{ContentHeader, Error, Payload, ReplyKind, ShortString};
+use lapin_types::{Error, ReplyKind, ShortString};
 use std::alloc::Global;
 
 /// The class of every message (AMQP 0-9-1, class basic).
@@ -120,8 +119,9 @@ impl Session {
             ContentPart::GetOk(start) => self.receive_get_ok(alloc, channel, start),
             ContentPart::Return(start) => self.receive_return(alloc, channel, start),
             ContentPart::Deliver(tag, start) => self.receive_deliver(alloc, channel, tag, start),
-            ContentPart::Header(header) => self.receive_header(alloc, channel, header),
-            ContentPart::Body(payload) => self.receive_body(alloc, channel, payload),
+            part @ (ContentPart::Header(_) | ContentPart::Body(_)) => {
+                self.receive_bytes(alloc, channel, part)
+            }
         }
     }
 
@@ -171,47 +171,20 @@ impl Session {
         Ok(Heard::Received)
     }
 
-    // A header: the content at the front has its properties, and is whole where it has no byte.
-    #[tactic(auto, using(crate::proofs::Causes::numbers_so))]
-    fn receive_header(
+    // A header or a body goes to the content at the front. Where the content is whole with it, the room for what it then does is made
+    // first.
+    #[inline(never)]
+    fn receive_bytes(
         &mut self,
         alloc: Global,
         channel: u16,
-        header: ContentHeader,
+        part: ContentPart,
     ) -> Result<Heard, Error>
-        requires { receives_part_lem channel (Header header) self.old.wire ≡ true }
+        requires received { receives_part_lem channel part self.old.wire ≡ true }
+        requires front { is_awaited part (expected_on channel self.old.wire.contents) ≡ true }
         ensures told { HeardTold result Received }
-        ensures ok { WasHeard result (self.new ≡ receiving (Content channel (Header header)) Received self.old) (self.new ≡ self.old) }
-        ensures cause { ReceiveCause result (Content channel (Header header)) self.old.wire }
-    {
-        if header.body_size > 0 {
-            self.begin_bytes(alloc, channel, header);
-            return Ok(Heard::Received);
-        }
-        self.receive_empty(alloc, channel, header)
-    }
-
-    // The header of a content that has bytes.
-    fn begin_bytes(&mut self, alloc: Global, channel: u16, header: ContentHeader)
-        requires { 0 < header.body_size }
-        ensures { self.new ≡ receiving (Content channel (Header header)) Received self.old }
-    {
-        let heard = self.contents.header(alloc, channel, header);
-        drop(heard);
-    }
-
-    // The header of a content that has no byte: the content is whole.
-    fn receive_empty(
-        &mut self,
-        alloc: Global,
-        channel: u16,
-        header: ContentHeader,
-    ) -> Result<Heard, Error>
-        requires received { receives_part_lem channel (Header header) self.old.wire ≡ true }
-        requires empty { header.body_size ≡ 0 }
-        ensures told { HeardTold result Received }
-        ensures ok { WasHeard result (self.new ≡ receiving (Content channel (Header header)) Received self.old) (self.new ≡ self.old) }
-        ensures cause { ReceiveCause result (Content channel (Header header)) self.old.wire }
+        ensures ok { WasHeard result (self.new ≡ receiving (Content channel part) Received self.old) (self.new ≡ self.old) }
+        ensures cause { ReceiveCause result (Content channel part) self.old.wire }
     {
         let made = make_room(
             alloc,
@@ -219,15 +192,16 @@ impl Session {
             &mut self.confirms,
             &mut self.deliveries,
             channel,
+            &part,
         );
         let place = match made {
             Ok(place) => place,
             Err(error) => {
-                drop(header);
+                drop(part);
                 return Err(error);
             }
         };
-        match self.contents.header(alloc, channel, header) {
+        match take_part(alloc, &mut self.contents, channel, part) {
             Ok(Some(whole)) => {
                 complete(
                     alloc,
@@ -240,109 +214,36 @@ impl Session {
                 );
                 Ok(Heard::Received)
             }
-            Ok(None) => unreachable!(),
-            Err(_) => unreachable!(),
-        }
-    }
-
-    // A body: its bytes join those of the content at the front, which is whole once it lacks none.
-    #[tactic(auto, using(crate::proofs::Causes::numbers_so))]
-    fn receive_body(
-        &mut self,
-        alloc: Global,
-        channel: u16,
-        payload: Payload,
-    ) -> Result<Heard, Error>
-        requires { receives_part_lem channel (Body payload) self.old.wire ≡ true }
-        ensures told { HeardTold result Received }
-        ensures ok { WasHeard result (self.new ≡ receiving (Content channel (Body payload)) Received self.old) (self.new ≡ self.old) }
-        ensures cause { ReceiveCause result (Content channel (Body payload)) self.old.wire }
-    {
-        if self.is_last(channel, &payload) {
-            self.receive_last(alloc, channel, payload)
-        } else {
-            self.receive_more(alloc, channel, payload)
-        }
-    }
-
-    // Whether a body is all that the content at the front lacks.
-    fn is_last(&self, channel: u16, payload: &Payload) -> bool
-        ensures { Decides result (awaited (expected_on channel self.now.wire.contents) ≡ Some (length payload.now)) }
-    {
-        match self.contents.awaits(channel) {
-            Some(left) => left == payload.as_bytes().len() as u64,
-            None => false,
-        }
-    }
-
-    // A body after which the content lacks bytes still.
-    fn receive_more(
-        &mut self,
-        alloc: Global,
-        channel: u16,
-        payload: Payload,
-    ) -> Result<Heard, Error>
-        requires received { receives_part_lem channel (Body payload) self.old.wire ≡ true }
-        requires more { awaited (expected_on channel self.old.wire.contents) ≢ Some (length payload) }
-        ensures told { HeardTold result Received }
-        ensures ok { WasHeard result (self.new ≡ receiving (Content channel (Body payload)) Received self.old) (self.new ≡ self.old) }
-        ensures numbers { HasNumbers result }
-    {
-        match self.contents.body(alloc, channel, payload) {
-            Ok(None) => Ok(Heard::Received),
-            Ok(Some(whole)) => {
-                drop(whole);
-                unreachable!()
-            }
-            Err(_) => Err(Error::NoMemory),
-        }
-    }
-
-    // The last body of a content: the content is whole.
-    fn receive_last(
-        &mut self,
-        alloc: Global,
-        channel: u16,
-        payload: Payload,
-    ) -> Result<Heard, Error>
-        requires received { receives_part_lem channel (Body payload) self.old.wire ≡ true }
-        requires last { awaited (expected_on channel self.old.wire.contents) ≡ Some (length payload) }
-        ensures told { HeardTold result Received }
-        ensures ok { WasHeard result (self.new ≡ receiving (Content channel (Body payload)) Received self.old) (self.new ≡ self.old) }
-        ensures cause { ReceiveCause result (Content channel (Body payload)) self.old.wire }
-    {
-        let made = make_room(
-            alloc,
-            &self.contents,
-            &mut self.confirms,
-            &mut self.deliveries,
-            channel,
-        );
-        let place = match made {
-            Ok(place) => place,
-            Err(error) => {
-                drop(payload);
-                return Err(error);
-            }
-        };
-        match self.contents.body(alloc, channel, payload) {
-            Ok(Some(whole)) => {
-                complete(
-                    alloc,
-                    &mut self.outstanding,
-                    &mut self.confirms,
-                    &mut self.deliveries,
-                    channel,
-                    whole,
-                    place,
-                );
+            Ok(None) => {
+                drop(place);
                 Ok(Heard::Received)
             }
-            Ok(None) => unreachable!(),
             Err(_) => {
                 drop(place);
                 Err(Error::NoMemory)
             }
+        }
+    }
+}
+
+// The content at the front takes a header or a body that it waits for. The answer is the content, if it is whole now.
+fn take_part(
+    alloc: Global,
+    contents: &mut Contents,
+    channel: u16,
+    part: ContentPart,
+) -> Result<Option<Whole>, Error>
+    requires { is_awaited part (expected_on channel contents.old) ≡ true }
+    ensures told { IfOk result (λ whole. whole ≡ whole_by part (expected_on channel contents.old)) }
+    ensures after { OnOk result ((b : AWire) → b.contents ≡ contents.old → after_part channel part b ≡ record b { contents = contents.new }) }
+    ensures err { OnErr result (contents.new ≡ contents.old) }
+{
+    match part {
+        ContentPart::Header(header) => contents.header(alloc, channel, header),
+        ContentPart::Body(payload) => contents.body(alloc, channel, payload),
+        other => {
+            drop(other);
+            unreachable!()
         }
     }
 }

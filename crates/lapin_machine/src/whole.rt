@@ -3,23 +3,23 @@
 //! Which frame makes a content whole stands in `receiving_contents`, what becomes of a returned message in `lapin_confirm`, of a
 //! delivery in `lapin_consumer`.
 
-ghost use Rattle.std.specs.Prelude.{◌≡◌, Some, IfOk, OnOk};
+ghost use Rattle.std.specs.Prelude.{◌≡◌, true, Some, IfOk, OnOk, is_some};
 ghost use Rattle.std.specs.List.{fold};
-ghost use Rattle.lapin_rules.specs.Content.{next_acker, start_deliveries, whole_deliveries, whole_marks, whole_tickets, delivered_message, returned_message};
+ghost use Rattle.lapin_rules.specs.Content.{whole_by, next_acker, start_deliveries, whole_deliveries, whole_marks, whole_tickets, delivered_message, returned_message};
 ghost use Rattle.lapin_content.specs.declared.start.Start.TheVariants.{Deliver as DeliverStart};
 ghost use Rattle.lapin_delivery.specs.WithRoom.{what};
 ghost use Rattle.lapin_delivery.specs.Deliveries.{after_mark as after_deliveries_mark};
 ghost use Rattle.lapin_content.specs.declared.start.Start.{Start as AStart};
-ghost use Rattle.lapin_content.specs.Contents.{front_start};
 ghost use Rattle.lapin_content.specs.Channels.{expected_on};
 ghost use Rattle.lapin_confirm.specs.Machine as confirm_state;
 ghost use Rattle.lapin_ticket.specs.Slots as answers;
-ghost use Rattle.lapin_machine.specs.Whole.{Fits, FitsAt, FitsFront, MakesRoom, MakesRoomAt};
+ghost use Rattle.lapin_machine.specs.Whole.{is_awaited, ended_by, Fits, FitsAt, FitsFront, MakesRoom, MakesRoomAt};
 
 use lapin_confirm::Confirms;
 use lapin_content::{Contents, Start, Whole};
 use lapin_delivery::Deliveries;
 use lapin_outstanding::Outstanding;
+use lapin_rules::ContentPart;
 use lapin_ticket::Place;
 use lapin_types::{
     Acker, Answer, BasicGetMessage, BasicProperties, BasicReturnMessage, Delivery, Error, Payload,
@@ -27,21 +27,41 @@ use lapin_types::{
 };
 use std::alloc::Global;
 
-// Makes room for what the content at the front of a channel does once it is whole.
+// Makes room for what a content does that is whole with this header or body, if one is.
 pub(crate) fn make_room(
     alloc: Global,
     contents: &Contents,
     confirms: &mut Confirms,
     deliveries: &mut Deliveries,
     channel: u16,
+    part: &ContentPart,
 ) -> Result<Option<Place>, Error>
+    requires { is_awaited part.now (expected_on channel contents.now) ≡ true }
     ensures same { (confirms.new.what ≡ confirms.old.what) × (what deliveries.new ≡ what deliveries.old) }
-    ensures room { IfOk result (λ place. FitsFront (front_start (expected_on channel contents.now)) channel deliveries.new confirms.new place) }
-    ensures cause { MakesRoom result (front_start (expected_on channel contents.now)) (what deliveries.old) }
+    ensures room { IfOk result (λ place. FitsFront (ended_by part.now (expected_on channel contents.now)) channel deliveries.new confirms.new place) }
+    ensures cause { MakesRoom result (ended_by part.now (expected_on channel contents.now)) (what deliveries.old) }
 {
+    if !is_last(contents, channel, part) {
+        return Ok(None);
+    }
     match contents.front(channel) {
         Some(start) => make_room_for(alloc, start, confirms, deliveries, channel),
         None => Ok(None),
+    }
+}
+
+// Whether the content at the front is whole with a header or a body: the header tells of no byte, or the body is all that it lacks.
+fn is_last(contents: &Contents, channel: u16, part: &ContentPart) -> bool
+    requires { is_awaited part.now (expected_on channel contents.now) ≡ true }
+    ensures { result ≡ is_some (whole_by part.now (expected_on channel contents.now)) }
+{
+    match part {
+        ContentPart::Header(header) => header.body_size == 0,
+        ContentPart::Body(payload) => match contents.awaits(channel) {
+            Some(left) => left == payload.as_bytes().len() as u64,
+            None => false,
+        },
+        _ => false,
     }
 }
 

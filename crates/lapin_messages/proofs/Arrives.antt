@@ -1,7 +1,7 @@
 -- A frame of the broker arrives: what goes with a run goes on, with one more that came on its channel.
 use Rattle.std.proofs.Common.{◌≡◌, ◌∙◌, ℕ, ◌==◌, Bool, true, false, cond, ◌&&◌, ◌||◌, List, [], ◌∷◌, ◌++◌, ◌⊎◌, inl, inr, refl, sym, ap, subst, append-nil, append_assoc, arith, eq-eqb}
 use Rattle.std.specs.List.{filter, fold, list_any}
-use Rattle.std.proofs.lemmas.Bool.{and_parts}
+use Rattle.std.proofs.lemmas.Bool.{and_parts, or_parts, both_ways}
 use Rattle.std.proofs.lemmas.Bool.Decides.{eqb_tells}
 use Rattle.std.proofs.lemmas.List.Folds.{list_any-append}
 use Rattle.std.proofs.lemmas.List.Sums.{fold-append}
@@ -42,7 +42,6 @@ use Rattle.lapin_types.specs.declared.leaving.Publish.{Publish}
 use Rattle.lapin_verdicts.specs.Session.{frames_of}
 use Rattle.lapin_effects.specs.Effects.{live, hears, Effect}
 use Rattle.lapin_verdicts.proofs.TagCounts.{reads-append, reads-sent, sents-append}
-use Rattle.lapin_verdicts.proofs.Opens.{many-none}
 use Rattle.lapin_verdicts.proofs.Runs.{cancel, Split, split_at}
 use Rattle.lapin_verdicts.proofs.Unread.{is_unread}
 use Rattle.lapin_verdicts.proofs.Whole.{opening_last}
@@ -50,7 +49,7 @@ use Rattle.lapin_messages.specs.Openings.{begins}
 use Rattle.lapin_messages.proofs.Bringing.{Brings}
 use Rattle.lapin_messages.proofs.Channel.{IsKnown, Channel, channel_frame}
 use Rattle.lapin_messages.proofs.Comings.{receives_content, still_sends, content_comes, content_channel, content_away}
-use Rattle.lapin_messages.proofs.Deals.{Deals, ends_on, no}
+use Rattle.lapin_messages.proofs.Deals.{Deals, ends_on}
 use Rattle.lapin_messages.proofs.Dealing.{is_content, event_deals, content_still}
 use Rattle.lapin_messages.proofs.Effect.{died, lived, still_ends}
 use Rattle.lapin_messages.proofs.Hearing.{no_registration}
@@ -61,6 +60,7 @@ use Rattle.lapin_messages.proofs.Sendings.{coming}
 use Rattle.lapin_messages.proofs.State.{next_asked, asked_on, Ways, Channels, hears_live, same_unread, none_event, ways_event}
 use Rattle.lapin_messages.proofs.Tags.{consumes, answers_consume, delivers_to, is_consume_ok, told, AreTold, told-before}
 use Rattle.lapin_messages.proofs.Turn.{live_up}
+use Rattle.lapin_rules.proofs.ListLaws.{many-none}
 
 -- ---- consume-ok
 
@@ -75,7 +75,7 @@ module _ (t : List ℕ) (c : ℕ) where
   Ok m = answers_consume t (frame.Method c m) ≡ true → IsConsumeOk t (frame.Method c m)
 
   never : (m : Method) → is_consume_ok (broker_method c m) ≡ false → Ok m
-  never m off h = absurd (no _ off (and_parts (is_consume_ok (broker_method c m)) (same_text (tag_of (frame.Method c m)) t) h).0)
+  never m off h = absurd (both_ways _ off (and_parts (is_consume_ok (broker_method c m)) (same_text (tag_of (frame.Method c m)) t) h).0)
 
   chosen : (v : Bool) (x y : BrokerFrame) → is_consume_ok x ≡ false → is_consume_ok y ≡ false → is_consume_ok (cond v x y) ≡ false
   chosen true x y h k = h
@@ -124,7 +124,7 @@ is_ok t (frame.Body c bytes) h = absurd cc
 
 -- a part of a content is none
 pub no_ok : (t : List ℕ) (f : Frame) → is_content (incoming_of f) ≡ true → answers_consume t f ≡ true → ⊥
-no_ok t f h a = let k = is_ok t f a in no _ (ap is_content k.is) h
+no_ok t f h a = let k = is_ok t f a in both_ways _ (ap is_content k.is) h
 
 -- ---- one more came
 
@@ -225,15 +225,11 @@ module _ (b : Wire) (cs : List ConfirmMark) (ms : List DeliveryMark) (up : List 
   place : Split (last_opening a ds) was.0 f
   place = split_at (last_opening a ds) was.0 f (filter (is_frame_on a) way) all
 
-  none_open : (u v : Bool) → (u || v) ≡ false → (u ≡ false) × (v ≡ false)
-  none_open true v e = absurd cc
-  none_open false v e = (refl, e)
-
   -- what is delivered to a tag was told before, so its consumer was registered
   known : (t : List ℕ) → delivers_to t f ≡ true → IsKnown a ms t
   known t d = elim (told_known t place.before (told-before [] place.before place.behind f t (subst (AreTold []) place.all tags) d)) [
     | inl y ↦
-        let unread = none_open (list_any (is_open_on a) up) (list_any (is_open_waiting a) b.methods) (read a heard) in
+        let unread = or_parts (list_any (is_open_on a) up) (list_any (is_open_waiting a) b.methods) (read a heard) in
         let more : reads (last_opening a ds) ≡ reads place.before ++ reads (Sent f ∷ place.behind) = ap reads place.all ∙ reads-append place.before (Sent f ∷ place.behind) in
         let there : list_any (consumes t) (reads (last_opening a ds)) ≡ true = ap (list_any (consumes t)) more ∙ (list_any-append (consumes t) (reads place.before) (reads (Sent f ∷ place.behind)) ∙ rw y refl) in
         w.asked a t heard_live.0 (many-none (is_open_waiting a) b.methods unread.1) (read_asked a t ds up unread.0 there)
@@ -267,7 +263,7 @@ module _ (b : Wire) (cs : List ConfirmMark) (ms : List DeliveryMark) (up : List 
 
   -- its channel lives on
   lives_on : live a b' ≡ true
-  lives_on = elim (live a b') as (λ v. live a b' ≡ v → v ≡ true) [ true ↦ λ e. refl | false ↦ λ e. absurd (no _ (unended a) (died E a heard_live.0 e)) ] refl
+  lives_on = elim (live a b') as (λ v. live a b' ≡ v → v ≡ true) [ true ↦ λ e. refl | false ↦ λ e. absurd (both_ways _ (unended a) (died E a heard_live.0 e)) ] refl
 
   no_consumer : (c : ℕ) (t q : List ℕ) → X ≡ deliveries.Consumed c t q ∷ [] → hears c b ≡ true
   no_consumer c t q e = absurd (no_registration (incoming_of f) b content c t q e)
@@ -275,10 +271,10 @@ module _ (b : Wire) (cs : List ConfirmMark) (ms : List DeliveryMark) (up : List 
   pub content_ways : Ways b' (cs ++ xs) (ms ++ X) (reads ds ++ frames_of up)
   content_ways = ways_event (is_content (incoming_of f)) b b' xs cs X ms new E deals (reads ds ++ frames_of up) no_consumer back_up
       (λ c u dead empty. elim (eqb_tells a c) [
-        | inl y ↦ absurd (no _ (subst (λ v. live v b' ≡ false) (sym y.1) dead) lives_on)
+        | inl y ↦ absurd (both_ways _ (subst (λ v. live v b' ≡ false) (sym y.1) dead) lives_on)
         | inr n ↦ away c n.0 ∙ empty
       ])
-      (λ c u e. absurd (no _ (unended c) e))
+      (λ c u e. absurd (both_ways _ (unended c) e))
       w
 
   was_live : (c : ℕ) → live c b' ≡ true → live c b ≡ true
@@ -289,7 +285,7 @@ module _ (b : Wire) (cs : List ConfirmMark) (ms : List DeliveryMark) (up : List 
     fresh = λ c z l' u.
         let l0 = was_live c l' in
         let unread : is_unread c b up ≡ true = sym (same_unread (is_content (incoming_of f)) b b' xs cs X ms new E deals c up l0 l') ∙ u in
-        let off : (a == c) ≡ false = elim (eqb_tells a c) [ inl y ↦ absurd (no _ (subst (λ v. is_unread v b up ≡ false) y.1 (read a heard)) unread) | inr n ↦ n.0 ] in
+        let off : (a == c) ≡ false = elim (eqb_tells a c) [ inl y ↦ absurd (both_ways _ (subst (λ v. is_unread v b up ≡ false) y.1 (read a heard)) unread) | inr n ↦ n.0 ] in
         let k = h.fresh c z l0 unread in
         record { expected = away c off ∙ k.expected; none = none_event (is_content (incoming_of f)) b b' xs cs X ms new E deals c (λ d t q e. absurd (no_registration (incoming_of f) b content d t q e)) k.none };
     channel = λ c z l' u came e.

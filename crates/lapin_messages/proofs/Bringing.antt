@@ -20,7 +20,6 @@ use Rattle.lapin_verdicts.specs.Deeds.{Deed, opening, sents}
 use Rattle.lapin_verdicts.specs.Messages.{sent_after, sendings, is_to, messages, AreThese, ArePrefix}
 use Rattle.lapin_messages.specs.Openings.{begins, registers_as, in_opening, registrations}
 use Rattle.lapin_messages.proofs.Channel.{many_known, IsKnown, Channel, channel_mark}
-use Rattle.lapin_messages.proofs.Deals.{no}
 use Rattle.lapin_messages.proofs.Lists.{Longer, last_part, between_last}
 use Rattle.lapin_messages.proofs.Logs.{At, Logs, its_opening, logs-push}
 use Rattle.lapin_messages.proofs.Parts.{none_whole, whose, to_nobody, old_exact, to_its_consumer}
@@ -28,6 +27,7 @@ use Rattle.lapin_messages.proofs.Subscriptions.{Shows, registered-is}
 use Rattle.lapin_messages.proofs.Sendings.{coming, consumer_of, Goes, sendings_grow}
 use Rattle.lapin_messages.proofs.Stories.{Becomes, brought_by}
 use Rattle.lapin_messages.proofs.Tags.{answers_consume, delivers_to}
+use Rattle.std.proofs.lemmas.Bool.{both_ways}
 
 -- what a whole content leaves of logs and channels
 pub record Brings (c : ℕ) (ms X : List DeliveryMark) (ds : List Deed) (es' : List Expected) (came' : List Frame) : Type 0 where
@@ -76,14 +76,14 @@ module _ (c : ℕ) (ms : List DeliveryMark) (ds : List Deed) (i : Deliveries) (e
       its_channel : (p : ℕ) (s : Story) → At ms p s → (suc p == k) ≡ true → s.channel ≡ c
       its_channel p s at q =
           let x = whose c ms es es' came f o h g known answers w is k (ap consumer_of start) in
-          let z : suc p ≡ k = elim (eqb_tells (suc p) k) [ inl y ↦ y.1 | inr m ↦ absurd (no _ m.0 q) ] in
+          let z : suc p ≡ k = elim (eqb_tells (suc p) k) [ inl y ↦ y.1 | inr m ↦ absurd (both_ways _ m.0 q) ] in
           let place : p ≡ x.0 = some_place (ap Some (z ∙ x.2)) in
           let one : s ≡ x.1 = (let v : Some s ≡ Some x.1 = sym at ∙ (ap (slice_get _) place ∙ x.3) in cc) in
           ap (λ (y : Story). y.channel) one ∙ x.4
 
       none_else : (a : ℕ) → (c == a) ≡ false → (p : ℕ) (s : Story) → At ms p s → s.channel ≡ a → brought_by (consumer_marks mark) p s ≡ []
       none_else a off p s at on = elim (suc p == k) as (λ v. (suc p == k) ≡ v → cond (v && s.registered) (message ∷ []) [] ≡ []) [
-        | true ↦ λ q. absurd (no (c == a) off (eq-eqb c a (sym (its_channel p s at q) ∙ on)))
+        | true ↦ λ q. absurd (both_ways (c == a) off (eq-eqb c a (sym (its_channel p s at q) ∙ on)))
         | false ↦ λ q. refl
       ] refl
 
@@ -126,7 +126,7 @@ module _ (c : ℕ) (ms : List DeliveryMark) (ds : List Deed) (i : Deliveries) (e
       | false ↦ λ r. nothing (nobody (λ p s at reg q.
           let z : Some k ≡ Some (suc p) = sym (ap consumer_of e) ∙ q in
           let n : k ≡ suc p = cc in
-          no _ (sym (registered-is ms ds i.subscriptions l shows p s at) ∙ (ap (λ v. is_registered v i.subscriptions) (sym n) ∙ r)) reg))
+          both_ways _ (sym (registered-is ms ds i.subscriptions l shows p s at) ∙ (ap (λ v. is_registered v i.subscriptions) (sym n) ∙ r)) reg))
     ] refl
     by_start (begin.Deliver None tag exchange key redelivered) e = nothing (nobody (λ p s at reg q. (let z : None ≡ Some (suc p) = sym (ap consumer_of e) ∙ q in cc)))
     by_start (begin.Get ticket tag exchange key redelivered count) e = taken tag (nobody (λ p s at reg q. (let z : None ≡ Some (suc p) = sym (ap consumer_of e) ∙ q in cc)))

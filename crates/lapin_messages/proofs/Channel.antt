@@ -7,7 +7,6 @@ use Rattle.lapin_types.specs.Types.{Frame}
 use Rattle.lapin_types.specs.declared.message.Delivery.{Delivery}
 use Rattle.lapin_content.specs.Contents.{Expected}
 use Rattle.lapin_consumer.specs.Readings.{Story, newcomer_story}
-use Rattle.lapin_consumer.proofs.Found.{get-within}
 use Rattle.lapin_rules.specs.Words.{many}
 use Rattle.lapin_delivery.specs.Deliveries.{consumer_marks}
 use Rattle.lapin_delivery.specs.Marks.{DeliveryMark}
@@ -20,6 +19,8 @@ use Rattle.lapin_messages.proofs.Logs.{At, text-same}
 use Rattle.lapin_messages.proofs.Sendings.{coming, coming-push, is_sending_to, AreTo, none_to, Matches, front_consumer}
 use Rattle.lapin_messages.proofs.Stories.{Becomes, stories_of, From, Old, Fresh, from, length-stories, brought_by}
 use Rattle.lapin_messages.proofs.Tags.{answers_consume}
+use Rattle.lapin_tables.proofs.Bools.{only_first}
+use Rattle.std.proofs.lemmas.Option.{slice_get_within}
 
 -- ---- which tags were registered in the last opening
 
@@ -39,7 +40,7 @@ known-push c t ms x e =
 -- the consumer at a place is there after the mark too
 pub onward : (ms : List DeliveryMark) (x : DeliveryMark) (p : ℕ) (s : Story) → At ms p s → (s' : Story) × At (ms ++ x ∷ []) p s' × Becomes x p s s'
 onward ms x p s at =
-    let within : p < length (stories_of (ms ++ x ∷ [])) = (let w = get-within (stories_of ms) p s at in let n = length-stories ms x in more (registers x) (length (stories_of ms)) (length (stories_of (ms ++ x ∷ []))) p w n) in
+    let within : p < length (stories_of (ms ++ x ∷ [])) = (let w = slice_get_within (stories_of ms) p s at in let n = length-stories ms x in more (registers x) (length (stories_of ms)) (length (stories_of (ms ++ x ∷ []))) p w n) in
     let g = there (stories_of (ms ++ x ∷ [])) p within in
     (g.0, g.1, same g.0 (from ms x p g.0 g.1))
   where
@@ -59,7 +60,7 @@ onward ms x p s at =
 
     same : (s' : Story) → From ms x p s' → Becomes x p s s'
     same s' (Old u at' b) = (let e : u ≡ s = (let z : Some u ≡ Some s = sym at' ∙ at in cc) in subst (λ v. Becomes x p v s') e b)
-    same s' (Fresh c t q is last it) = absurd (let w = get-within (stories_of ms) p s at in let v : ⊥ = omega (arith, w, last) in v)
+    same s' (Fresh c t q is last it) = absurd (let w = slice_get_within (stories_of ms) p s at in let v : ⊥ = omega (arith, w, last) in v)
 
 -- ---- messages and contents, one for one
 
@@ -153,15 +154,11 @@ module _ (c : ℕ) (ms : List DeliveryMark) (x : DeliveryMark) (off : begins c x
 
 -- ---- a frame that is no part of a content
 
-last_true : (b : Bool) → (b || false) ≡ true → b ≡ true
-last_true true h = refl
-last_true false h = absurd cc
-
 -- consume-ok came before, or comes now
 pub answered_more : (c : ℕ) (ms : List DeliveryMark) (came : List Frame) (f : Frame) → ((t : List ℕ) → list_any (answers_consume t) came ≡ true → IsKnown c ms t) → ((t : List ℕ) → answers_consume t f ≡ true → IsKnown c ms t) → (t : List ℕ) → list_any (answers_consume t) (came ++ f ∷ []) ≡ true → IsKnown c ms t
 answered_more c ms came f was known t a = elim (list_any (answers_consume t) came) as (λ v. list_any (answers_consume t) came ≡ v → (v || (answers_consume t f || false)) ≡ true → IsKnown c ms t) [
   | true ↦ λ e _. was t e
-  | false ↦ λ _ g. known t (last_true (answers_consume t f) g)
+  | false ↦ λ _ g. known t (only_first (answers_consume t f) g)
 ] refl (sym (list_any-append (answers_consume t) came (f ∷ [])) ∙ a)
 
 pub channel_frame : (c : ℕ) (ms : List DeliveryMark) (es : List Expected) (came : List Frame) (f : Frame) → sent_after (coming came) f ≡ coming came → ((t : List ℕ) → answers_consume t f ≡ true → IsKnown c ms t) → Channel c ms es came → Channel c ms es (came ++ f ∷ [])

@@ -1,6 +1,6 @@
 -- A part of a content comes on a channel that is heard, by the frame that it is.
 use Rattle.std.proofs.Common.{◌≡◌, ◌∙◌, ℕ, ◌==◌, Bool, true, false, cond, List, [], ◌∷◌, ◌++◌, Option, Some, None, refl, sym, ap, subst, append-nil}
-use Rattle.std.proofs.lemmas.Bool.{and_parts}
+use Rattle.std.proofs.lemmas.Bool.{and_parts, both_ways}
 use Rattle.lapin_types.specs.Types.{Frame, Method, ConnectionMethod, ChannelMethod, AccessMethod, ExchangeMethod, QueueMethod, ConfirmMethod, TxMethod}
 use Rattle.lapin_types.specs.Types.frame
 use Rattle.lapin_types.specs.Types.method
@@ -36,8 +36,6 @@ use Rattle.lapin_messages.proofs.Bringing.{Brings, piece_brings}
 use Rattle.lapin_messages.proofs.Channel.{IsKnown, Channel}
 use Rattle.lapin_laws.proofs.Expecting.{expected-here}
 use Rattle.lapin_concord.proofs.Coming.{joined_here, joined_away}
-use Rattle.lapin_messages.proofs.Contents.{expected-away}
-use Rattle.lapin_messages.proofs.Deals.{no}
 use Rattle.lapin_messages.proofs.Dealing.{is_content}
 use Rattle.lapin_messages.proofs.Lists.{Longer}
 use Rattle.lapin_messages.proofs.Logs.{Logs, text-is, text-same}
@@ -45,6 +43,7 @@ use Rattle.lapin_messages.proofs.Parts.{begin_channel}
 use Rattle.lapin_messages.proofs.Subscriptions.{Shows, who, is_found}
 use Rattle.lapin_messages.proofs.Sendings.{coming, StartIs, consumer_of, header_goes, body_goes}
 use Rattle.lapin_messages.proofs.Tags.{answers_consume, delivers_to}
+use Rattle.lapin_concord.proofs.Views.{contents_on_away}
 
 -- ---- frames that are no part of a content
 
@@ -96,7 +95,7 @@ still_sends (frame.Method c m) y n = refl
 
 -- ---- a content is alone
 
-alone : (es : List Expected) (e : Expected) → IsOneContent (es ++ e ∷ []) → es ≡ []
+pub alone : (es : List Expected) (e : Expected) → IsOneContent (es ++ e ∷ []) → es ≡ []
 alone [] e h = refl
 alone (x ∷ []) e h = absurd h
 alone (x ∷ y ∷ ys) e h = absurd h
@@ -121,7 +120,7 @@ module _ (b : Wire) (ms : List DeliveryMark) (ds : List Deed) (came : List Frame
   other c f st bg next is off none nobody unanswered es es' e one h =
       let empty : es ≡ [] = alone es (expected 60 bg) (subst IsOneContent e one) in
       let to : es' ≡ expected 60 bg ∷ [] = e ∙ ap (λ v. v ++ expected 60 bg ∷ []) empty in
-      begun c f es' (subst (λ v. Channel c ms v (came ++ f ∷ [])) (sym to) (begin_channel c ms came f st bg next is (λ t d. absurd (no _ (nobody t) d)) (λ t d. absurd (no _ (unanswered t) d)) (λ t p s d. absurd (no _ (off t) d)) (λ k d. absurd (let z : None ≡ Some k = sym none ∙ d in cc)) (subst (λ v. Channel c ms v came) empty h)))
+      begun c f es' (subst (λ v. Channel c ms v (came ++ f ∷ [])) (sym to) (begin_channel c ms came f st bg next is (λ t d. absurd (both_ways _ (nobody t) d)) (λ t d. absurd (both_ways _ (unanswered t) d)) (λ t p s d. absurd (both_ways _ (off t) d)) (λ k d. absurd (let z : None ≡ Some k = sym none ∙ d in cc)) (subst (λ v. Channel c ms v came) empty h)))
 
   pub content_comes : (f : Frame) → receives_content (incoming_of f) b ≡ true → IsOneContent (expected_on (channel_of f) (after_received (incoming_of f) b).contents) → ((t : List ℕ) → delivers_to t f ≡ true → IsKnown (channel_of f) ms t) → ((t : List ℕ) → answers_consume t f ≡ true → IsKnown (channel_of f) ms t) → Longer (came ++ f ∷ []) (sents (opening (channel_of f) (many (begins (channel_of f)) ms) ds)) → Channel (channel_of f) ms (expected_on (channel_of f) b.contents) came → Comes f
   content_comes (frame.Header c x) r one known answers sent h =
@@ -165,8 +164,8 @@ part_away : (a c : ℕ) (p : ContentPart) (b : Wire) → (c == a) ≡ false → 
 part_away a c (part.GetOk s) b off = joined_away c a (expected 60 (for_ticket (get_ticket c b) s)) b.contents off
 part_away a c (part.Return s) b off = joined_away c a (expected 60 s) b.contents off
 part_away a c (part.Deliver tag s) b off = joined_away c a (expected 60 (for_consumer (found c tag b.deliveries.subscriptions) s)) b.contents off
-part_away a c (part.Header h) b off = expected-away c a (after_header h) b.contents off
-part_away a c (part.Body bytes) b off = expected-away c a (after_body bytes) b.contents off
+part_away a c (part.Header h) b off = contents_on_away c a (after_header h) b.contents off
+part_away a c (part.Body bytes) b off = contents_on_away c a (after_body bytes) b.contents off
 
 -- a part is of the frame's channel
 pub content_channel : (f : Frame) (c : ℕ) (p : ContentPart) → incoming_of f ≡ incoming.Content c p → channel_of f ≡ c

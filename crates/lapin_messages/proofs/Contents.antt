@@ -1,5 +1,5 @@
 -- What every event but a frame request leaves of the contents that are expected, where it brings no part of one.
-use Rattle.std.proofs.Common.{◌≡◌, ◌∙◌, ℕ, ◌==◌, Bool, true, false, cond, not, ◌&&◌, ◌||◌, List, [], ◌∷◌, Option, Some, None, inl, inr, refl, sym, ap, subst, eq-eqb}
+use Rattle.std.proofs.Common.{◌≡◌, ◌∙◌, ℕ, ◌==◌, true, false, cond, not, ◌&&◌, ◌||◌, List, [], ◌∷◌, Option, Some, None, inl, inr, refl, sym, ap, subst}
 use Rattle.std.specs.List.{list_any}
 use Rattle.std.proofs.lemmas.Bool.Decides.{eqb_tells}
 use Rattle.lapin_types.specs.declared.acker_call.AckerCall.{AckerCall}
@@ -48,13 +48,16 @@ use Rattle.lapin_effects.specs.Effects.{is_next}
 use Rattle.lapin_effects.specs.Effects.{moves}
 use Rattle.lapin_verdicts.proofs.Turns.{any-less}
 use Rattle.lapin_laws.proofs.Expecting.{expected-here}
-use Rattle.lapin_messages.proofs.Deals.{no, ends_on, moves_end}
-use Rattle.lapin_content.specs.Channels.{Channels, listed, expected_on, after_mark}
-use Rattle.lapin_content.specs.Contents.{Expected}
+use Rattle.lapin_messages.proofs.Deals.{ends_on, moves_end}
+use Rattle.lapin_content.specs.Channels.{expected_on, after_mark}
 use Rattle.lapin_content.specs.Marks as content
-use Rattle.lapin_messages.proofs.Dealing.{brings, is_content, still_if}
+use Rattle.lapin_messages.proofs.Dealing.{brings, is_content}
 use Rattle.lapin_tables.specs.ByChannel.{on_channel}
-use Rattle.lapin_tables.proofs.Channels.{at-on_other}
+use Rattle.lapin_rules.proofs.PhaseLaws.{lost_down}
+use Rattle.lapin_concord.proofs.Views.{contents_on_away}
+use Rattle.lapin_effects.proofs.Events.{still_if}
+use Rattle.lapin_effects.proofs.Happens.{quiet_select}
+use Rattle.std.proofs.lemmas.Bool.{both_ways}
 
 pub data Leaves (b b' : Wire) (xs : List ConfirmMark) : Type 0 where
   -- what is expected stays, and no opening ends
@@ -74,16 +77,12 @@ inboxed ns (Falls d) = Falls d
 
 -- ---- calls
 
-select_still : (v : Bool) (c : ℕ) → list_any moves (cond v (mark.SelectCalled c ∷ []) []) ≡ false
-select_still true c = refl
-select_still false c = refl
-
 call_leaves : (c : ℕ) (k : Asked) (b : Wire) → Leaves b (after_call c k b) (call_marks c k b)
 call_leaves c ask.Open b = Stays refl (λ d. refl)
 call_leaves c (ask.CloseChannel code text) b = Stays refl (λ d. refl)
 call_leaves c (ask.CloseConnection code text) b = Falls refl
 call_leaves c (ask.Publish exchange key o payload properties) b = Stays refl (λ d. refl)
-call_leaves c (ask.Method row) b = Still refl (select_still (is_select row.method) c)
+call_leaves c (ask.Method row) b = Still refl (quiet_select (is_select row.method) c)
 call_leaves c (ask.Consume m tag queue o) b = Still refl refl
 call_leaves c (ask.Limit limit) b = Still refl refl
 call_leaves c ask.Nothing b = Still refl refl
@@ -140,13 +139,9 @@ incoming_leaves i r b h = Still refl refl
 
 lost_leaves : (b : Wire) (xs : List ConfirmMark) → Leaves b (after_lost b) xs
 lost_leaves b xs = elim (is_lost b.link) as (λ v. is_lost b.link ≡ v → Leaves b (cond v b (down link.Lost b)) xs) [
-  | true ↦ λ h. Falls (shut b.link h)
+  | true ↦ λ h. Falls (lost_down b.link h)
   | false ↦ λ h. Falls refl
 ] refl
-  where
-    shut : (l : ConnectionPhase) → is_lost l ≡ true → is_up l ≡ false
-    shut link.Lost h = refl
-    shut _ h = absurd cc
 
 event_leaves : (b : Wire) (e : Event) (r : Record) → is_next e ≡ false → brings e ≡ false → Leaves b (after_event b e r) (confirm_marks b e r)
 event_leaves b (event.Call c k) r h n = inboxed (asking_deliveries c (asked_by k r) b) (asking_leaves c (asked_by k r) b)
@@ -167,10 +162,6 @@ event_leaves b event.Lost r h n = inboxed (deliveries_ends_all error.ConnectionL
 
 -- ---- one channel
 
--- what is expected on a channel after a write
-pub expected-away : (c d : ℕ) (g : List Expected → List Expected) (cs : Channels) → (c == d) ≡ false → expected_on d (on_channel c g cs) ≡ expected_on d cs
-expected-away c d g cs off = ap listed (at-on_other c d g cs (λ e. no (c == d) off (eq-eqb c d e)))
-
 -- it stays where its opening doesn't end, and where that ends nothing is expected
 pub contents_same : (c : ℕ) (b : Wire) (e : Event) (r : Record) → is_next e ≡ false → brings e ≡ false → is_up (after_event b e r).link ≡ true → list_any (ends_on c) (confirm_marks b e r) ≡ false → expected_on c (after_event b e r).contents ≡ expected_on c b.contents
 contents_same c b e r h n u none = by (event_leaves b e r h n)
@@ -179,19 +170,19 @@ contents_same c b e r h n u none = by (event_leaves b e r h n)
     by (Still s k) = ap (expected_on c) s
     by (Stays s k) = ap (expected_on c) s
     by (Drops d x s i) = elim (eqb_tells d c) [
-      | inl y ↦ absurd (no _ (sym (ap (list_any (ends_on c)) i) ∙ none) (rw (y.0) refl))
-      | inr m ↦ ap (expected_on c) s ∙ expected-away d c (λ _. []) b.contents m.0
+      | inl y ↦ absurd (both_ways _ (sym (ap (list_any (ends_on c)) i) ∙ none) (rw (y.0) refl))
+      | inr m ↦ ap (expected_on c) s ∙ contents_on_away d c (λ _. []) b.contents m.0
     ]
-    by (Falls dn) = absurd (no _ dn u)
+    by (Falls dn) = absurd (both_ways _ dn u)
 
 pub contents_gone : (c : ℕ) (b : Wire) (e : Event) (r : Record) → is_next e ≡ false → brings e ≡ false → is_up (after_event b e r).link ≡ true → list_any (ends_on c) (confirm_marks b e r) ≡ true → expected_on c (after_event b e r).contents ≡ []
 contents_gone c b e r h n u ends = by (event_leaves b e r h n)
   where
     by : Leaves b (after_event b e r) (confirm_marks b e r) → expected_on c (after_event b e r).contents ≡ []
-    by (Still s k) = absurd (no _ (any-less moves (ends_on c) (moves_end c) (confirm_marks b e r) k) ends)
-    by (Stays s k) = absurd (no _ (k c) ends)
+    by (Still s k) = absurd (both_ways _ (any-less moves (ends_on c) (moves_end c) (confirm_marks b e r) k) ends)
+    by (Stays s k) = absurd (both_ways _ (k c) ends)
     by (Drops d x s i) = elim (eqb_tells d c) [
       | inl y ↦ ap (expected_on c) s ∙ subst (λ v. expected_on c (on_channel v (λ _. []) b.contents) ≡ []) (sym y.1) (expected-here c (λ _. []) b.contents refl)
-      | inr m ↦ absurd (no ((d == c) || false) (ap (λ v. v || false) m.0) (sym (ap (list_any (ends_on c)) i) ∙ ends))
+      | inr m ↦ absurd (both_ways ((d == c) || false) (ap (λ v. v || false) m.0) (sym (ap (list_any (ends_on c)) i) ∙ ends))
     ]
-    by (Falls dn) = absurd (no _ dn u)
+    by (Falls dn) = absurd (both_ways _ dn u)

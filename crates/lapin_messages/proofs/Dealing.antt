@@ -43,7 +43,7 @@ use Rattle.lapin_rules.specs.ConfirmMarks as mark
 use Rattle.lapin_rules.specs.Words.{with_channel}
 use Rattle.lapin_rules.specs.Frames.{MethodEntry}
 use Rattle.lapin_rules.specs.Ends.{down, ends_all, deliveries_ends_all, end_with}
-use Rattle.lapin_rules.specs.Phases.{is_up, is_lost}
+use Rattle.lapin_rules.specs.Phases.{is_lost}
 use Rattle.lapin_rules.specs.Polls.{is_confirmed, is_returned, is_aside}
 use Rattle.lapin_rules.specs.Requests.{first_request}
 use Rattle.lapin_rules.specs.Wire.{Wire, state_of, phase_of, requests_of, is_open, with_deliveries, noted, queued, lists_of}
@@ -53,7 +53,7 @@ use Rattle.lapin_rules.specs.Ackers.{acker_asked, acker_method, usable_at, acked
 use Rattle.lapin_rules.specs.ChannelClose.{closing, after_close_ok, close_ok_deliveries_in, close_ok_end, close_marks}
 use Rattle.lapin_rules.specs.ConnectionClose.{after_connection_close, unless_sent, has_sent}
 use Rattle.lapin_rules.specs.Consumers.{queue_asked, consumer_deliveries, after_consumer, lets_go_of, cancel_noted, after_let_go, let_go_marks, delegate_marks, job_marks}
-use Rattle.lapin_rules.specs.Content.{after_part, next_acker, delivered_message, start_deliveries, whole_deliveries, whole_on, start_marks, whole_marks}
+use Rattle.lapin_rules.specs.Content.{after_part, next_acker, delivered_message, start_deliveries, whole_deliveries, whole_on, whole_marks}
 use Rattle.lapin_rules.specs.Events.{after_event, delivery_marks, confirm_marks}
 use Rattle.lapin_rules.specs.Incoming.{incoming_of}
 use Rattle.lapin_rules.specs.Loss.{after_lost}
@@ -64,7 +64,11 @@ use Rattle.lapin_rules.specs.Unexpected.{unexpected_close}
 use Rattle.lapin_effects.specs.Effects.{is_next}
 use Rattle.lapin_effects.specs.Effects.{moves}
 use Rattle.lapin_messages.proofs.Tags.{names_consume}
-use Rattle.lapin_messages.proofs.Deals.{Deals, ArePlain, Plain, Registers, Delivers, quiet, lone, falls, one_end, asking_deals, plain_push, same_waits, alone_waits, called_plain, no, IsLine, Waits, entry, waits_on}
+use Rattle.lapin_messages.proofs.Deals.{Deals, ArePlain, Plain, Registers, Delivers, quiet, lone, falls, one_end, asking_deals, plain_push, same_waits, alone_waits, called_plain, IsLine, Waits, entry, waits_on}
+use Rattle.lapin_rules.proofs.PhaseLaws.{lost_down}
+use Rattle.lapin_effects.proofs.Comes.{whole_still}
+use Rattle.lapin_effects.proofs.Events.{still_if}
+use Rattle.std.proofs.lemmas.Bool.{both_ways}
 
 -- ---- ackers, and consumers that are let go
 
@@ -112,15 +116,6 @@ let_go_deals n (Some x) b = elim (lets_go_of x b) as (λ v. Deals false b (cond 
 ]
 
 -- ---- frames of the broker
-
-whole_still : (c : ℕ) (w : Option Whole) → list_any moves (whole_marks c w) ≡ false
-whole_still c None = refl
-whole_still c (Some w) = by w.start
-  where
-    by : (s : Start) → list_any moves (start_marks c s w) ≡ false
-    by (start.Return code text exchange key) = refl
-    by (start.Get ticket tag exchange key redelivered count) = refl
-    by (start.Deliver consumer tag exchange key redelivered) = refl
 
 start_deals : (c : ℕ) (b b' : Wire) (xs : List ConfirmMark) (s : Start) (w : Whole) → b'.methods ≡ b.methods → list_any moves xs ≡ false → Deals true b b' xs (start_deliveries c b.deliveries s w)
 start_deals c b b' xs (start.Deliver (Some k) tag exchange key redelivered) w e still = elim (is_registered k b.deliveries.subscriptions) as (λ v. Deals true b b' xs (cond v (deliveries.Delivered k (delivered_message c (next_acker b.deliveries) tag exchange key redelivered w) ∷ []) [])) [
@@ -173,7 +168,7 @@ connection_deals link.Closed code b = falls b _ _ refl (alone_waits answer_entry
 connection_deals link.Lost code b = falls b _ _ refl (alone_waits answer_entry refl (λ t. refl))
 
 none_waits : {b b' : Wire} {X : List DeliveryMark} → b'.methods ≡ [] → Waits b b' X
-none_waits e = record { of = λ c t h. absurd (no (waits_on c t []) refl (ap (waits_on c t) (sym e) ∙ h)) }
+none_waits e = record { of = λ c t h. absurd (both_ways (waits_on c t []) refl (ap (waits_on c t) (sym e) ∙ h)) }
 
 unsent_waits : (v : Bool) (b b' : Wire) → b'.methods ≡ (unless_sent v (lists_of b)).methods → Waits b b' []
 unsent_waits true b b' e = same_waits e
@@ -243,17 +238,9 @@ call_line k = search rules
 
 lost_deals : (b : Wire) → Deals false b (after_lost b) (ends_all error.ConnectionLost b) (deliveries_ends_all error.ConnectionLost b)
 lost_deals b = elim (is_lost b.link) as (λ v. is_lost b.link ≡ v → Deals false b (cond v b (down link.Lost b)) (ends_all error.ConnectionLost b) (deliveries_ends_all error.ConnectionLost b)) [
-  | true ↦ λ h. falls b b error.ConnectionLost (shut b.link h) (same_waits refl)
+  | true ↦ λ h. falls b b error.ConnectionLost (lost_down b.link h) (same_waits refl)
   | false ↦ λ h. falls b _ error.ConnectionLost refl (none_waits refl)
 ] refl
-  where
-    shut : (l : ConnectionPhase) → is_lost l ≡ true → is_up l ≡ false
-    shut link.Lost h = refl
-    shut _ h = absurd cc
-
-pub still_if : (v : Bool) (m : ConfirmMark) → moves m ≡ false → list_any moves (cond v (m ∷ []) []) ≡ false
-still_if true m h = rw h refl
-still_if false m h = refl
 
 pub delegate_plain : (n : ℕ) (o : Option Consumer) → ArePlain (delegate_marks n o)
 delegate_plain n None = tt

@@ -1,7 +1,7 @@
 -- What every event but a frame request does to consumers, beside what it does to openings, and which consumes wait then.
 use Rattle.std.proofs.Common.{◌≡◌, ◌∙◌, ℕ, ◌+◌, ◌==◌, Bool, true, false, cond, not, ◌&&◌, ◌||◌, List, [], ◌∷◌, ◌++◌, Option, Some, ◌⊎◌, inl, inr, refl, sym, ap, subst}
 use Rattle.std.specs.List.{filter, list_any}
-use Rattle.std.proofs.lemmas.Bool.{and_parts}
+use Rattle.std.proofs.lemmas.Bool.{and_parts, both_ways}
 use Rattle.std.proofs.lemmas.Bool.Decides.{eqb_tells}
 use Rattle.std.proofs.lemmas.List.Folds.{list_any-append}
 use Rattle.lapin_types.specs.declared.message.Delivery.{Delivery}
@@ -31,10 +31,12 @@ use Rattle.lapin_rules.specs.Asking.{is_allowed, after_call, asked_wire, call_de
 use Rattle.lapin_rules.specs.Consumers.{called_deliveries}
 use Rattle.lapin_rules.specs.Registry.{line_deliveries, at_once_deliveries}
 use Rattle.lapin_effects.specs.Effects.{moves}
-use Rattle.lapin_verdicts.proofs.Opens.{many-none}
 use Rattle.lapin_verdicts.proofs.Turns.{any-less}
 use Rattle.lapin_messages.specs.Openings.{begins, registers_as}
 use Rattle.lapin_messages.proofs.Tags.{names_consume}
+use Rattle.lapin_rules.proofs.ListLaws.{many-none}
+use Rattle.lapin_effects.proofs.Happens.{quiet_select}
+use Rattle.lapin_verdicts.proofs.Opens.{moves_begin}
 
 -- ---- marks
 
@@ -91,10 +93,6 @@ pub moves_end : (c : ℕ) (m : ConfirmMark) → moves m ≡ false → ends_on c 
 moves_end c (mark.Ended d e) h = absurd cc
 moves_end c _ h = refl
 
-pub moves_begin : (c : ℕ) (m : ConfirmMark) → moves m ≡ false → confirms.begins c m ≡ false
-moves_begin c (mark.Begun d) h = absurd cc
-moves_begin c _ h = refl
-
 plain_begins : (c : ℕ) (X : List DeliveryMark) → ArePlain X → many (begins c) X ≡ 0
 plain_begins c [] p = refl
 plain_begins c (m ∷ ms) p = rw (unbegun m p.0) (plain_begins c ms p.1)
@@ -103,16 +101,13 @@ plain_begins c (m ∷ ms) p = rw (unbegun m p.0) (plain_begins c ms p.1)
     unbegun (deliveries.Opened d) h = absurd cc
     unbegun m h = refl
 
-pub no : (v : Bool) → v ≡ false → v ≡ true → ⊥
-no v f t = let z : false ≡ true = sym f ∙ t in cc
-
 pub quiet : {v : Bool} {b b' : Wire} {xs : List ConfirmMark} {X : List DeliveryMark} → list_any moves xs ≡ false → ArePlain X → Waits b b' X → Deals v b b' xs X
 quiet {xs = xs} {X = X} still plain waits = record {
   shape = Plain plain;
   begun = λ c. plain_begins c X plain ∙ sym (many-none (confirms.begins c) xs (any-less moves (confirms.begins c) (moves_begin c) xs still));
-  ended = λ c h. absurd (no _ (any-less moves (ends_on c) (moves_end c) xs still) h);
+  ended = λ c h. absurd (both_ways _ (any-less moves (ends_on c) (moves_end c) xs still) h);
   waits = waits;
-  dropped = λ c t h. absurd (no _ (any-less moves (ends_on c) (moves_end c) xs still) h);
+  dropped = λ c t h. absurd (both_ways _ (any-less moves (ends_on c) (moves_end c) xs still) h);
 }
 
 -- one consumer is registered, or one message is handed
@@ -120,9 +115,9 @@ pub lone : {v : Bool} {b b' : Wire} {xs : List ConfirmMark} {X : List DeliveryMa
 lone {xs = xs} still shape none waits = record {
   shape = shape;
   begun = λ c. none c ∙ sym (many-none (confirms.begins c) xs (any-less moves (confirms.begins c) (moves_begin c) xs still));
-  ended = λ c h. absurd (no _ (any-less moves (ends_on c) (moves_end c) xs still) h);
+  ended = λ c h. absurd (both_ways _ (any-less moves (ends_on c) (moves_end c) xs still) h);
   waits = waits;
-  dropped = λ c t h. absurd (no _ (any-less moves (ends_on c) (moves_end c) xs still) h);
+  dropped = λ c t h. absurd (both_ways _ (any-less moves (ends_on c) (moves_end c) xs still) h);
 }
 
 -- ---- methods
@@ -140,7 +135,7 @@ push_waits : {b b' : Wire} {X : List DeliveryMark} (m : MethodEntry) → b'.meth
 push_waits {b = b} m e k = record { of = λ c t h. elim (or_second (waits_on c t b.methods) (is_waiting c t m) (sym (list_any-append (is_waiting c t) b.methods (m ∷ [])) ∙ (ap (waits_on c t) (sym e) ∙ h))) [ inl y ↦ inl y | inr y ↦ inr (k c t y) ] }
 
 unnamed : (c : ℕ) (t : List ℕ) (m : MethodEntry) → names_consume t m.method ≡ false → is_waiting c t m ≡ true → ⊥
-unnamed c t m n h = no _ n (and_parts (m.channel == c) (names_consume t m.method) h).1
+unnamed c t m n h = both_ways _ n (and_parts (m.channel == c) (names_consume t m.method) h).1
 
 pub plain_push : {b b' : Wire} {X : List DeliveryMark} (m : MethodEntry) → b'.methods ≡ b.methods ++ m ∷ [] → ((t : List ℕ) → names_consume t m.method ≡ false) → Waits b b' X
 plain_push m e n = push_waits m e (λ c t h. absurd (unnamed c t m (n t) h))
@@ -158,7 +153,7 @@ pub all_plain : (e : Error) (cs : List ℕ) → ArePlain (deliveries_ends e cs)
 all_plain e [] = tt
 all_plain e (c ∷ cs) = (refl, all_plain e cs)
 
-all_begun : (e : Error) (cs : List ℕ) (c : ℕ) → many (confirms.begins c) (ends e cs) ≡ 0
+pub all_begun : (e : Error) (cs : List ℕ) (c : ℕ) → many (confirms.begins c) (ends e cs) ≡ 0
 all_begun e [] c = refl
 all_begun e (d ∷ cs) c = all_begun e cs c
 
@@ -168,7 +163,7 @@ falls b b' e dn waits = record {
   begun = λ c. plain_begins c _ (all_plain e (live_channels b.phases)) ∙ sym (all_begun e (live_channels b.phases) c);
   ended = λ c h. sym (all_ended e (live_channels b.phases) c) ∙ h;
   waits = waits;
-  dropped = λ c t h u. absurd (no _ dn u);
+  dropped = λ c t h u. absurd (both_ways _ dn u);
 }
 
 -- ---- one opening ends
@@ -195,14 +190,14 @@ one_end b b' d e x es m none = record {
   ended = λ c h. h;
   waits = record { of = λ c t h. inl (off_fewer c d t b.methods (kept c t h)) };
   dropped = λ c t h u w. elim (eqb_tells d c) [
-    | inl y ↦ no _ (subst (λ v. waits_on v t (filter (is_off method_channel d) b.methods) ≡ false) y.1 (off_none d t b.methods)) (kept c t w)
-    | inr n ↦ no ((d == c) || false) (ap (λ v. v || false) n.0) h
+    | inl y ↦ both_ways _ (subst (λ v. waits_on v t (filter (is_off method_channel d) b.methods) ≡ false) y.1 (off_none d t b.methods)) (kept c t w)
+    | inr n ↦ both_ways ((d == c) || false) (ap (λ v. v || false) n.0) h
   ];
 }
   where
     or_no : (u v : Bool) → v ≡ false → (u || v) ≡ true → u ≡ true
     or_no true v f h = refl
-    or_no false v f h = absurd (no v f h)
+    or_no false v f h = absurd (both_ways v f h)
 
     kept : (c : ℕ) (t : List ℕ) → waits_on c t b'.methods ≡ true → waits_on c t (filter (is_off method_channel d) b.methods) ≡ true
     kept c t h = or_no _ _ (none c t) (sym (list_any-append (is_waiting c t) (filter (is_off method_channel d) b.methods) es) ∙ (ap (waits_on c t) (sym m) ∙ h))
@@ -229,10 +224,6 @@ once_plain c _ = tt
 pub line_plain : (c : ℕ) (m : Method) (a : Answered) → ArePlain (line_deliveries c m a)
 line_plain c (method.Basic m) a = called_plain c m
 line_plain c _ a = once_plain c a
-
-quiet_select : (v : Bool) (c : ℕ) → list_any moves (cond v (mark.SelectCalled c ∷ []) []) ≡ false
-quiet_select true c = refl
-quiet_select false c = refl
 
 -- the entry of a call's method
 abbrev pub entry : ℕ → Method → Wire → MethodEntry

@@ -10,8 +10,6 @@ use Rattle.lapin_types.specs.Types.{Frame}
 use Rattle.lapin_content.specs.Channels.{expected_on}
 use Rattle.lapin_consumer.specs.Follows.{Follows}
 use Rattle.lapin_broker.specs.Sends.{may}
-use Rattle.lapin_rules.specs.declared.phases.ConnectionPhase.{ConnectionPhase}
-use Rattle.lapin_rules.specs.declared.phases.ConnectionPhase.TheVariants as link
 use Rattle.lapin_rules.specs.Events.{delivery_marks}
 use Rattle.lapin_rules.specs.History.{History, Past, longer, past_on, past, rec, run_from, run}
 use Rattle.lapin_rules.specs.Phases.{is_up}
@@ -36,6 +34,7 @@ use Rattle.lapin_verdicts.proofs.Together.{in_step}
 use Rattle.lapin_verdicts.proofs.Unread.{is_unread}
 use Rattle.lapin_messages.specs.Deliveries.{marks_of}
 use Rattle.lapin_messages.proofs.Subscriptions.{Shows}
+use Rattle.lapin_rules.proofs.PhaseLaws.{up_open}
 
 -- ---- a joined run's session is a run of its events
 
@@ -113,8 +112,4 @@ held_at n ss r =
     subst Held a.session.wire s.held
 
 pub one_content : (n : ℕ) → 4096 ≤ n → (ss : List Step) (c : ℕ) → is_up (past_of n ss).wire.link ≡ true → IsOneContent (expected_on c (past_of n ss).wire.contents)
-one_content n most ss c u = let h = (held_at n ss most).up (open_up (past_of n ss).wire.link u) in let e = h.each c in e.contents
-  where
-    open_up : (l : ConnectionPhase) → is_up l ≡ true → l ≡ link.Open
-    open_up link.Open h = refl
-    open_up _ h = absurd cc
+one_content n most ss c u = let h = (held_at n ss most).up (up_open (past_of n ss).wire.link u) in let e = h.each c in e.contents

@@ -1,6 +1,6 @@
 -- A consumer is registered on a channel that is heard; and a content comes on such a channel.
 use Rattle.std.proofs.Common.{◌≡◌, ◌∙◌, ℕ, Bool, true, false, cond, List, [], ◌∷◌, Option, Some, None, refl, sym, ap, subst, slice_get}
-use Rattle.std.proofs.lemmas.Bool.{and_parts}
+use Rattle.std.proofs.lemmas.Bool.{and_parts, both_ways}
 use Rattle.lapin_types.specs.declared.event.Event.{Event}
 use Rattle.lapin_types.specs.declared.event.Event.TheVariants as event
 use Rattle.lapin_types.specs.declared.record.Record.{Record}
@@ -52,12 +52,12 @@ use Rattle.lapin_rules.specs.Unexpected.{refused}
 use Rattle.lapin_joint.specs.Joint.{is_lawful}
 use Rattle.lapin_concord.specs.Refusals.{is_refusal}
 use Rattle.lapin_effects.specs.Effects.{hears}
-use Rattle.lapin_messages.proofs.Deals.{ArePlain, is_plain, all_plain, line_plain, no}
+use Rattle.lapin_messages.proofs.Deals.{ArePlain, is_plain, all_plain, line_plain}
 use Rattle.lapin_messages.proofs.Dealing.{is_content, acked_plain, delegate_plain, job_plain, let_go_plain, request_plain}
 
 plain_not : (X : List DeliveryMark) → ArePlain X → (c : ℕ) (t q : List ℕ) → X ≡ deliveries.Consumed c t q ∷ [] → ⊥
 plain_not [] p c t q h = cc
-plain_not (x ∷ X) p c t q h = let e : x ≡ deliveries.Consumed c t q = cc in no _ (ap is_plain e) p.0
+plain_not (x ∷ X) p c t q h = let e : x ≡ deliveries.Consumed c t q = cc in both_ways _ (ap is_plain e) p.0
 
 -- ---- calls
 
@@ -185,7 +185,7 @@ receive_hearing b readings f c t q h =
 
 -- ---- a part of a content is received where it isn't refused
 
-part_on : (c : ℕ) (p : ContentPart) (b : Wire) → receives_part c p b ≡ true → hears c b ≡ true
+pub part_on : (c : ℕ) (p : ContentPart) (b : Wire) → receives_part c p b ≡ true → hears c b ≡ true
 part_on c (part.GetOk s) b h = (and_parts (receives_on (state_of c b)) _ h).0
 part_on c (part.Return s) b h = h
 part_on c (part.Deliver tag s) b h = h
@@ -198,7 +198,7 @@ part_received b readings f c p e u n =
     let is : record_of b readings (event.Receive f) ≡ when (receives_part c p b) no_ = ap (λ i. incoming_record b readings no_ i) e ∙ ap (λ v. cond v (when (receives_part c p b) no_) (cond (receives_down b.link (incoming.Content c p)) record_.Received record_.Passed)) u in
     elim (receives_part c p b) as (λ v. receives_part c p b ≡ v → (record_of b readings (event.Receive f) ≡ record_.Received) × (receives_part c p b ≡ true) × (hears c b ≡ true)) [
       | true ↦ λ h. (is ∙ ap (λ v. when v no_) h, h, part_on c p b h)
-      | false ↦ λ h. absurd (no _ n (ap is_refusal (is ∙ ap (λ v. when v no_) h)))
+      | false ↦ λ h. absurd (both_ways _ n (ap is_refusal (is ∙ ap (λ v. when v no_) h)))
     ] refl
 
 -- consume-ok is received where it isn't refused, and registers the consumer
@@ -209,7 +209,7 @@ ok_received b readings f c t e u n =
     let is : record_of b readings (event.Receive f) ≡ when (receives_consumer c (consumer.ConsumeOk t) b) no_ = ap (λ x. incoming_record b readings no_ x) e ∙ ap (λ v. cond v (when (receives_consumer c (consumer.ConsumeOk t) b) no_) (cond (receives_down b.link i) record_.Received record_.Passed)) u in
     let got : record_of b readings (event.Receive f) ≡ record_.Received = is ∙ elim (receives_consumer c (consumer.ConsumeOk t) b) as (λ v. receives_consumer c (consumer.ConsumeOk t) b ≡ v → when v no_ ≡ record_.Received) [
       | true ↦ λ h. refl
-      | false ↦ λ h. absurd (no _ n (ap is_refusal (is ∙ ap (λ v. when v no_) h)))
+      | false ↦ λ h. absurd (both_ways _ n (ap is_refusal (is ∙ ap (λ v. when v no_) h)))
     ] refl in
     ap (λ x. incoming_deliveries x (record_of b readings (event.Receive f)) b) e ∙ ap (λ r. incoming_deliveries i r b) got
 

@@ -1,5 +1,5 @@
 -- What is known of the log of each consumer, and that a mark of the history keeps it.
-use Rattle.std.proofs.Common.{◌≡◌, ◌∙◌, ℕ, suc, ◌+◌, ◌≤◌, ◌<◌, ◌==◌, Bool, true, false, cond, ◌||◌, List, [], ◌∷◌, ◌++◌, length, Some, inl, inr, refl, sym, ap, subst, append-nil, append_assoc, arith, slice_get, eq-eqb}
+use Rattle.std.proofs.Common.{◌≡◌, ◌∙◌, ℕ, suc, ◌+◌, ◌≤◌, ◌<◌, ◌==◌, true, false, cond, List, [], ◌∷◌, ◌++◌, length, Some, inl, inr, refl, sym, ap, subst, append-nil, append_assoc, arith, slice_get, eq-eqb}
 use Rattle.std.specs.List.{filter, list_any}
 use Rattle.std.proofs.lemmas.Bool.{and_parts}
 use Rattle.std.proofs.lemmas.Bool.Decides.{eqb_tells}
@@ -9,7 +9,6 @@ use Rattle.std.specs.Cmp.Lexicographic.{same_text as same_is}
 use Rattle.lapin_types.specs.declared.message.Delivery.{Delivery}
 use Rattle.lapin_broker.specs.Tags.{same_text}
 use Rattle.lapin_consumer.specs.Readings.{Entry, Waiting, Given, MadeJob, Void, Story, arrivals, newcomer_story}
-use Rattle.lapin_consumer.proofs.Found.{get-within}
 use Rattle.lapin_rules.specs.Words.{many, after_nth}
 use Rattle.lapin_delivery.specs.Deliveries.{consumer_marks}
 use Rattle.lapin_delivery.specs.Marks.{DeliveryMark}
@@ -23,6 +22,8 @@ use Rattle.lapin_messages.specs.Openings.{begins, registers, registers_as, disca
 use Rattle.lapin_messages.proofs.Lists.{Longer, between_longer, between_last, last_part, last-push, before_more, before_next, many_longer, any_longer}
 use Rattle.lapin_messages.proofs.Sendings.{sendings_grow}
 use Rattle.lapin_messages.proofs.Stories.{Becomes, stories_of, From, Old, Fresh, from, length-stories, brought_by, leaves_by, voids_by}
+use Rattle.lapin_tables.proofs.Bools.{or_true}
+use Rattle.std.proofs.lemmas.Option.{slice_get_within}
 
 -- ---- texts
 
@@ -129,14 +130,10 @@ module _ (ms : List DeliveryMark) (ds : List Deed) (x : DeliveryMark) (l : Logs 
           let some : list_any (discards s.channel) (last_part (begins s.channel) ms ++ x ∷ []) ≡ true = list_any-append (discards s.channel) (last_part (begins s.channel) ms) (x ∷ []) ∙ rw v.1 (or_true (list_any (discards s.channel) (last_part (begins s.channel) ms))) in
           (let z : true ≡ false = sym some ∙ (sym (ap (list_any (discards s.channel)) part) ∙ now) in cc)
     ]
-      where
-        or_true : (v : Bool) → (v || true) ≡ true
-        or_true true = refl
-        or_true false = refl
 
     is_old : (p : ℕ) (s s' : Story) → At ms p s → Becomes x p s s' → LogOf (ms ++ x ∷ []) ds p s'
     is_old p s s' at b =
-        let within : p < many registers ms = (let w = get-within (stories_of ms) p s at in let e = l.count in omega (arith, w, e)) in
+        let within : p < many registers ms = (let w = slice_get_within (stories_of ms) p s at in let e = l.count in omega (arith, w, e)) in
         let c : ℕ = s.channel in
         let k : ℕ = its_opening p s ms in
         let here : its_opening p s' (ms ++ x ∷ []) ≡ k = ap (λ d. registered_in d (suc p) (ms ++ x ∷ [])) b.channel ∙ opening_same c p ms x within in

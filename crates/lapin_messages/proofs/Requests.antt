@@ -2,7 +2,7 @@
 use Rattle.std.proofs.Common.{◌≡◌, ◌∙◌, ℕ, ◌+◌, ◌<◌, ◌==◌, Bool, true, false, cond, ◌&&◌, ◌||◌, List, [], ◌∷◌, ◌++◌, Option, Some, None, inl, inr, refl, sym, ap, subst, append-nil, arith, eq-eqb}
 use Rattle.std.specs.List.{find, list_any}
 use Rattle.std.specs.Option.{option_map}
-use Rattle.std.proofs.lemmas.Bool.{and_parts}
+use Rattle.std.proofs.lemmas.Bool.{and_parts, both_ways}
 use Rattle.std.proofs.lemmas.Bool.Decides.{eqb_tells}
 use Rattle.std.proofs.lemmas.List.Folds.{list_any-append}
 use Rattle.std.proofs.lemmas.List.Sums.{fold-append}
@@ -25,7 +25,6 @@ use Rattle.lapin_rules.specs.Phases.{is_up, is_live, phase_in}
 use Rattle.lapin_rules.specs.Words.{many}
 use Rattle.lapin_rules.specs.Wire.{Wire, phase_of, lists_of, with_lists}
 use Rattle.lapin_rules.specs.declared.phases.ChannelPhase.{ChannelPhase}
-use Rattle.lapin_rules.specs.declared.phases.ChannelPhase.TheVariants as phase
 use Rattle.lapin_delivery.specs.Marks.{DeliveryMark}
 use Rattle.lapin_broker.specs.Frames.{channel_of}
 use Rattle.lapin_joint.specs.Joint.{left_alone}
@@ -35,31 +34,24 @@ use Rattle.lapin_verdicts.specs.Session.{frames_of}
 use Rattle.lapin_effects.specs.Effects.{live}
 use Rattle.lapin_verdicts.proofs.Marks.{many-append}
 use Rattle.lapin_verdicts.proofs.Numbering.{is_content, AreRest}
-use Rattle.lapin_verdicts.proofs.Opens.{many-none, unsent, next_waits, left_begins, sent_methods}
+use Rattle.lapin_verdicts.proofs.Opens.{unsent, next_waits, left_begins, sent_methods}
 use Rattle.lapin_verdicts.proofs.Unread.{is_unread}
 use Rattle.lapin_messages.proofs.Channel.{IsKnown, Channel}
-use Rattle.lapin_messages.proofs.Deals.{is_waiting, waits_on, no}
+use Rattle.lapin_messages.proofs.Deals.{is_waiting, waits_on}
 use Rattle.lapin_messages.proofs.State.{next_asked, asked_on, Ways, Channels, any_many}
 use Rattle.lapin_messages.proofs.Tags.{consumes, names_consume}
+use Rattle.lapin_rules.proofs.ListLaws.{many-none}
+use Rattle.lapin_tables.proofs.Bools.{only_first}
+use Rattle.lapin_laws.proofs.Alive.{live-close_sent}
+use Rattle.lapin_machine.proofs.Keeping.{live-mapped}
 
 -- ---- the states
 
-sent_live : (p : ChannelPhase) → is_live (close_sent p) ≡ is_live p
-sent_live phase.Closed = refl
-sent_live phase.Opening = refl
-sent_live (phase.Open paused) = refl
-sent_live (phase.Closing who s) = refl
-sent_live phase.Crossed = refl
-
 closed_live : (c d : ℕ) (ps : List (ℕ × ChannelPhase)) → is_live (phase_in (at_channel d (on_channel c close_sent ps))) ≡ is_live (phase_in (at_channel d ps))
 closed_live c d ps = elim (eqb_tells c d) [
-  | inl y ↦ subst (λ k. is_live (phase_in (at_channel k (on_channel c close_sent ps))) ≡ is_live (phase_in (at_channel k ps))) y.1 (ap (λ o. is_live (phase_in o)) (at-on_same c close_sent ps) ∙ by (at_channel c ps))
-  | inr n ↦ ap (λ o. is_live (phase_in o)) (at-on_other c d close_sent ps (λ e. no (c == d) n.0 (eq-eqb c d e)))
+  | inl y ↦ subst (λ k. is_live (phase_in (at_channel k (on_channel c close_sent ps))) ≡ is_live (phase_in (at_channel k ps))) y.1 (ap (λ o. is_live (phase_in o)) (at-on_same c close_sent ps) ∙ live-mapped (at_channel c ps))
+  | inr n ↦ ap (λ o. is_live (phase_in o)) (at-on_other c d close_sent ps (λ e. both_ways (c == d) n.0 (eq-eqb c d e)))
 ]
-  where
-    by : (o : Option ChannelPhase) → is_live (phase_in (option_map close_sent o)) ≡ is_live (phase_in o)
-    by None = refl
-    by (Some p) = sent_live p
 
 frame_live : (f : Frame) (d : ℕ) (ps : List (ℕ × ChannelPhase)) → is_live (phase_in (at_channel d (phases_sent f ps))) ≡ is_live (phase_in (at_channel d ps))
 frame_live (frame.Method c (method.Channel (channel.Close code text class number))) d ps = closed_live c d ps
@@ -69,7 +61,7 @@ sent_phases : (o : Option Left) (b : Wire) (d : ℕ) → is_live (phase_of d (se
 sent_phases None b d = refl
 sent_phases (Some l) b d = frame_live l.frame d b.phases
 
-sent_contents : (o : Option Left) (b : Wire) → (sent o b).contents ≡ b.contents
+pub sent_contents : (o : Option Left) (b : Wire) → (sent o b).contents ≡ b.contents
 sent_contents None b = refl
 sent_contents (Some l) b = refl
 
@@ -88,7 +80,7 @@ left_fewer c m d u t [] [] ps h = h
 
 -- a consume that leaves waited
 left_waited : (c d : ℕ) (u : List ℕ) (t : ℕ → Bool) (rs : List RestEntry) (es : List MethodEntry) (ps : List Publish) (l : Left) → AreRest d rs → handed_of t rs es ps ≡ Some l → (channel_of l.frame == c) ≡ true → consumes u l.frame ≡ true → waits_on c u es ≡ true
-left_waited c d u t (f ∷ rs) es ps l a e on h = absurd (no _ (let same : f.frame ≡ l.frame = cc in ap (consumes u) (sym same) ∙ content_none u f.frame a.1) h)
+left_waited c d u t (f ∷ rs) es ps l a e on h = absurd (both_ways _ (let same : f.frame ≡ l.frame = cc in ap (consumes u) (sym same) ∙ content_none u f.frame a.1) h)
 left_waited c d u t [] (x ∷ es) ps l a e on h =
     let same : frame.Method x.channel x.method ≡ l.frame = cc in
     let here : (x.channel == c) ≡ true = ap (λ v. channel_of v == c) same ∙ on in
@@ -98,7 +90,7 @@ left_waited c d u t [] [] ps l a e on h = by (find (may_begin t) ps) e
   where
     by : (o : Option Publish) → option_map left_publish o ≡ Some l → waits_on c u [] ≡ true
     by None g = absurd cc
-    by (Some q) g = absurd (no _ (let same : (left_publish q).frame ≡ l.frame = cc in ap (consumes u) (sym same)) h)
+    by (Some q) g = absurd (both_ways _ (let same : (left_publish q).frame ≡ l.frame = cc in ap (consumes u) (sym same)) h)
 
 -- ---- counts of both places of an open
 
@@ -123,8 +115,8 @@ same_count c b b' up up' e = by (is_unread c b' up') (is_unread c b up) refl ref
     by : (u v : Bool) → is_unread c b' up' ≡ u → is_unread c b up ≡ v → u ≡ v
     by true true h k = refl
     by false false h k = refl
-    by true false h k = absurd (no _ k (count_unread c b up (let z = unread_count c b' up' h in omega (arith, z, e))))
-    by false true h k = absurd (no _ h (count_unread c b' up' (let z = unread_count c b up k in omega (arith, z, e))))
+    by true false h k = absurd (both_ways _ k (count_unread c b up (let z = unread_count c b' up' h in omega (arith, z, e))))
+    by false true h k = absurd (both_ways _ h (count_unread c b' up' (let z = unread_count c b up k in omega (arith, z, e))))
 
 -- ---- what goes with a run
 
@@ -157,10 +149,6 @@ module _ (t : ℕ → Bool) (b : Wire) (d : ℕ) (a : AreRest d b.rest) where
     asked = λ c u l z h. by c u (sym (same_live c) ∙ l) z leaves refl h;
   }
     where
-      last_true : (x : Bool) → (x || false) ≡ true → x ≡ true
-      last_true true h = refl
-      last_true false h = absurd cc
-
       by : (c : ℕ) (u : List ℕ) → live c b ≡ true → unsent c after ≡ 0 → (o : Option Left) → leaves ≡ o → list_any (consumes u) (asked_on c (handed ++ frames_of (left_alone o))) ≡ true → IsKnown c ms u
       by c u l z None e h =
           let n = (next_waits c d t b a).1 in
@@ -179,13 +167,13 @@ module _ (t : ℕ → Bool) (b : Wire) (d : ℕ) (a : AreRest d b.rest) where
 
           on : (v q : Bool) → (channel_of x.frame == c) ≡ v → is_open x.frame ≡ q → IsKnown c ms u
           on false q f g = before (rw f refl) (ap (λ v. list_any (consumes u) (cond v (cond (is_open x.frame) [] (asked_on c handed ++ x.frame ∷ [])) (asked_on c handed))) (sym f) ∙ now)
-          on true true f g = absurd (let none : list_any (consumes u) (cond (channel_of x.frame == c) (cond (is_open x.frame) [] (asked_on c handed ++ x.frame ∷ [])) (asked_on c handed)) ≡ false = rw (f, g) refl in no _ none now)
+          on true true f g = absurd (let none : list_any (consumes u) (cond (channel_of x.frame == c) (cond (is_open x.frame) [] (asked_on c handed ++ x.frame ∷ [])) (asked_on c handed)) ≡ false = rw (f, g) refl in both_ways _ none now)
           on true false f g = both (list_any (consumes u) (asked_on c handed)) refl
               (sym (list_any-append (consumes u) (asked_on c handed) (x.frame ∷ [])) ∙ (ap (λ v. list_any (consumes u) (cond v (asked_on c handed ++ x.frame ∷ []) (asked_on c handed))) (sym f) ∙ (ap (λ q. list_any (consumes u) (cond (channel_of x.frame == c) (cond q [] (asked_on c handed ++ x.frame ∷ [])) (asked_on c handed))) (sym g) ∙ now)))
             where
               both : (q : Bool) → list_any (consumes u) (asked_on c handed) ≡ q → (list_any (consumes u) (asked_on c handed) || (consumes u x.frame || false)) ≡ true → IsKnown c ms u
               both true k m = before (rw (f, g) refl) k
-              both false k m = (w.waits c u (and_parts (is_up b.link) (is_live (phase_of c b)) l).0 (left_waited c d u t b.rest b.methods b.publishes x a e f (last_true (consumes u x.frame) (rw k at m)))).1
+              both false k m = (w.waits c u (and_parts (is_up b.link) (is_live (phase_of c b)) l).0 (left_waited c d u t b.rest b.methods b.publishes x a e f (only_first (consumes u x.frame) (rw k at m)))).1
 
   pub channels_request : (ms : List DeliveryMark) (up : List Left) (down : List Frame) (ds : List Deed) → Channels b ms up down ds → Channels after ms (up ++ left_alone leaves) down ds
   channels_request ms up down ds h = record {

@@ -26,7 +26,7 @@ use Rattle.lapin_rules.specs.declared.phases.ConnectionPhase.TheVariants as link
 use Rattle.lapin_concord.specs.Held.{IsOneContent}
 use Rattle.lapin_verdicts.proofs.Owing.{next_opening}
 use Rattle.lapin_messages.proofs.Dealing.{event_deals}
-use Rattle.std.proofs.lemmas.Bool.{and_parts}
+use Rattle.std.proofs.lemmas.Bool.{and_parts, both_ways}
 use Rattle.lapin_rules.specs.Receiving.{after_received}
 use Rattle.lapin_rules.specs.Words.{many}
 use Rattle.lapin_rules.specs.Wire.{Wire}
@@ -49,7 +49,6 @@ use Rattle.lapin_verdicts.proofs.Assembly.{in_run}
 use Rattle.lapin_verdicts.proofs.TagCounts.{reads-append, reads-sent, sents-append, last-push, lost_down}
 use Rattle.lapin_effects.specs.Effects.{live, hears, Effect}
 use Rattle.lapin_verdicts.proofs.Opens.{stays_down}
-use Rattle.lapin_verdicts.proofs.Reading.{not_both}
 use Rattle.lapin_verdicts.proofs.Runs.{cancel, past-push, joined-push, deeds-push}
 use Rattle.lapin_verdicts.proofs.Together.{in_step, way_down}
 use Rattle.lapin_verdicts.proofs.Unread.{is_unread}
@@ -58,7 +57,6 @@ use Rattle.lapin_messages.proofs.Arrives.{is_ok, channels_drop, content_logs, co
 use Rattle.lapin_messages.proofs.Backward.{known-append}
 use Rattle.lapin_messages.proofs.Channel.{IsKnown, Channel, fresh_channel}
 use Rattle.lapin_messages.proofs.Comings.{receives_content, content_channel}
-use Rattle.lapin_messages.proofs.Deals.{no}
 use Rattle.lapin_messages.proofs.Dealing.{is_content, brings}
 use Rattle.lapin_messages.proofs.Facts.{shows_at, unrefused, read_open, one_content}
 use Rattle.lapin_messages.proofs.Hearing.{lost_hearing, receive_hearing, part_received, ok_received, passed_content}
@@ -67,6 +65,8 @@ use Rattle.lapin_messages.proofs.State.{Ways, Channels, ways_event}
 use Rattle.lapin_messages.proofs.Tags.{Kept, kept_read, kept_send, answers_consume}
 use Rattle.lapin_messages.proofs.Turn.{live_up}
 use Rattle.lapin_messages.proofs.Running.{wire, marks, Good, Then, turned, effect, plain_turn, client_good}
+use Rattle.lapin_tables.proofs.Bools.{not_both}
+use Rattle.lapin_verdicts.proofs.Verdict.{no_start}
 
 -- ---- lists of deeds
 
@@ -154,7 +154,7 @@ module _ (n : ℕ) (most : 4096 ≤ n) (ss : List Step) where
     shut_arrives content shut =
         let E = effect n j e refl in
         let none : delivery_marks b e r ≡ [] = passed_content b (readings_of (past n j.session).confirms (past n j.session).tickets) f content shut in
-        let never = λ (u : is_up (after_event b e r).link ≡ true). no (is_up b.link) shut (stays_down E u) in (
+        let never = λ (u : is_up (after_event b e r).link ≡ true). both_ways (is_up b.link) shut (stays_down E u) in (
           subst (λ X. Logs (marks n j ++ X) ds) (sym none) (subst (λ m. Logs m ds) (sym (append-nil (marks n j))) l),
           ways_event (brings e) b (after_event b e r) (confirm_marks b e r) (past n j.session).confirms (delivery_marks b e r) (marks n j) (publish_by b e r) E (event_deals b e r refl) (reads ds ++ frames_of j.up) hearing (λ u. stays_down E u) (λ c u. absurd (never u)) (λ c u. absurd (never u)) w,
           record { fresh = λ c z lives. absurd (never (live_up c (after_event b e r) lives)); channel = λ c z lives. absurd (never (live_up c (after_event b e r) lives)) },
@@ -226,7 +226,7 @@ module _ (n : ℕ) (most : 4096 ≤ n) (ss : List Step) where
   lose_good g =
       let b' : Wire = after_event (wire n j) event.Lost (rec n j.session event.Lost) in
       let t = plain_turn n j event.Lost j.down ds refl refl (lost_hearing (wire n j) (rec n j.session event.Lost)) opened g.logs g.ways g.channels in
-      let never : (c : ℕ) → live c b' ≡ true → ⊥ = λ c lives. no _ lost_shut (live_up c b' lives) in
+      let never : (c : ℕ) → live c b' ≡ true → ⊥ = λ c lives. both_ways _ lost_shut (live_up c b' lives) in
       turned n j event.Lost (after_loss j.broker) [] [] ds (
         t.0,
         record { counts = t.1.counts; positive = t.1.positive; lives = t.1.lives; empty = t.1.empty; waits = t.1.waits; asked = λ c u lives. absurd (never c lives) },
@@ -259,17 +259,13 @@ module _ (n : ℕ) (most : 4096 ≤ n) (ss : List Step) where
               let both = and_parts (channel_of x.frame == c) (is_open x.frame) h in
               ap sents (last-push c ds (Read x) ∙ (ap (λ v. cond v (joined_opening (last_opening c ds) (Read x)) (last_opening c ds)) both.0 ∙ ap (λ v. cond v [] (last_opening c ds ++ Read x ∷ [])) both.1))
 
-          no_came : (came more : List Frame) → [] ≡ came ++ more → came ≡ []
-          no_came [] more e = refl
-          no_came (y ∷ ys) more e = absurd cc
-
           channels_read : (x' : Left) (ls : List Left) → Channels (wire n j) (marks n j) (x ∷ ls) j.down ds → Channels (wire n j) (marks n j) ls j.down (ds ++ Read x ∷ [])
           channels_read x' ls h = record {
             fresh = λ c z l u. h.fresh c z l (elim (is_open_on c x) as (λ v. ((v || list_any (is_open_on c) ls) || list_any (is_open_waiting c) (wire n j).methods) ≡ true) [ true ↦ refl | false ↦ u ]);
             channel = λ c z l u came way. elim (is_open_on c x) as (λ v. is_open_on c x ≡ v → Channel c (marks n j) (expected_on c (wire n j).contents) came) [
               | true ↦ λ o.
                   let k = h.fresh c z l (rw o refl) in
-                  let none : came ≡ [] = no_came came (filter (is_frame_on c) j.down) (sym (none_sent c o) ∙ way) in
+                  let none : came ≡ [] = no_start came (filter (is_frame_on c) j.down) (sym (none_sent c o) ∙ way) in
                   subst (Channel c (marks n j) (expected_on c (wire n j).contents)) (sym none) (subst (λ es. Channel c (marks n j) es []) (sym k.expected) (fresh_channel c (marks n j) k.none))
               | false ↦ λ o. h.channel c z l (rw o u) came (sym (same_sents c (channel_of x.frame == c) (is_open x.frame) refl refl o) ∙ way)
             ] refl;

@@ -13,12 +13,13 @@ use Rattle.lapin_methods.specs.declared.frame.ContentHeader.{ContentHeader}
 use Rattle.lapin_content.specs.declared.start.Start.{Start as Begin}
 use Rattle.lapin_content.specs.declared.start.Start.TheVariants as begin
 use Rattle.lapin_content.specs.declared.start.Whole.{Whole as Message}
-use Rattle.lapin_content.specs.Contents.{Begun, Expected, is_unbegun, has_left, front_waits, front_takes, grown, after_header, after_body, whole_with}
+use Rattle.lapin_content.specs.Contents.{Begun, Expected, is_unbegun, has_place_for, front_waits, front_takes, grown, after_header, after_body, whole_with}
 use Rattle.lapin_rules.specs.declared.broker_frames.ContentPart.TheVariants as part
 use Rattle.lapin_rules.specs.Content.{whole_by}
 use Rattle.lapin_verdicts.specs.Messages.{Start, Deliver, Whole, Sending, Nothing, Started, Headed, Sent_, start_in, with_bytes, with_header, with_body, with_start, sent_after, sendings, is_to_start, is_to}
 use Rattle.lapin_messages.proofs.Lists.{Longer, same_longer}
 use Rattle.lapin_messages.proofs.Tags.{delivers_to}
+use Rattle.lapin_tables.proofs.Bools.{only_first}
 
 abbrev pub no_sending : Sent_
 no_sending = record { wholes = []; sending = Nothing }
@@ -87,13 +88,9 @@ module _ (P : List ℕ → Type 0) where
     | false ↦ record { wholes = a.wholes; sending = k }
   ]
     where
-      last : (b : Bool) → (b || false) ≡ true → b ≡ true
-      last true h = refl
-      last false h = absurd cc
-
       by : (t : List ℕ) (v : Bool) → list_any (is_to t) y.wholes ≡ v → (list_any (is_to t) y.wholes || (is_to t w || false)) ≡ true → P t
       by t true e h = a.wholes t e
-      by t false e h = k t (last (is_to t w) (rw e at h))
+      by t false e h = k t (only_first (is_to t w) (rw e at h))
 
   method_to : (c : ℕ) (m : Method) (y : Sent_) → AreTo P y → ((t : List ℕ) → delivers_to t (frame.Method c m) ≡ true → P t) → AreTo P (with_start (start_in (frame.Method c m)) y)
   method_to c (method.Basic (basic.Deliver tag number redelivered exchange key)) y a k = record { wholes = a.wholes; sending = k }
@@ -209,7 +206,7 @@ header_goes h y es m f = by y.sending refl es m f
 pub body_goes : (bytes : List ℕ) (y : Sent_) (es : List Expected) → Matches y.sending es → front_takes bytes es ≡ true → Goes (whole_by (part.Body bytes) es) y (with_body bytes y.sending y) es (after_body bytes es)
 body_goes bytes y es m f = by y.sending refl es m f
   where
-    begun : (size : ℕ) (w : Whole) (k : ℕ) (s : Begin) (o : Option Begun) → y.sending ≡ Headed size w → Comes size w o → StartIs w.start s → has_left bytes o ≡ true → Goes (whole_by (part.Body bytes) (record { class_id = k; start = s; begun = o } ∷ [])) y (with_bytes size (record w { payload = w.payload ++ bytes }) y) (record { class_id = k; start = s; begun = o } ∷ []) (after_body bytes (record { class_id = k; start = s; begun = o } ∷ []))
+    begun : (size : ℕ) (w : Whole) (k : ℕ) (s : Begin) (o : Option Begun) → y.sending ≡ Headed size w → Comes size w o → StartIs w.start s → has_place_for bytes o ≡ true → Goes (whole_by (part.Body bytes) (record { class_id = k; start = s; begun = o } ∷ [])) y (with_bytes size (record w { payload = w.payload ++ bytes }) y) (record { class_id = k; start = s; begun = o } ∷ []) (after_body bytes (record { class_id = k; start = s; begun = o } ∷ []))
     begun size w k s None q c st f = absurd (let z : None ≡ Some c.begun = c.is in cc)
     begun size w k s (Some b) q c st f =
         let same : b ≡ c.begun = (let z : Some b ≡ Some c.begun = c.is in cc) in
@@ -226,7 +223,7 @@ body_goes bytes y es m f = by y.sending refl es m f
     by Nothing q (e ∷ es) m f = absurd m
     by (Started s) q [] m f = absurd m
     by (Started s) q (e ∷ d ∷ es) m f = absurd m
-    by (Started s) q (e ∷ []) m f = let z : false ≡ true = sym (ap (has_left bytes) m.0) ∙ f in absurd cc
+    by (Started s) q (e ∷ []) m f = let z : false ≡ true = sym (ap (has_place_for bytes) m.0) ∙ f in absurd cc
     by (Headed size w) q [] m f = absurd m
     by (Headed size w) q (e ∷ d ∷ es) m f = absurd m
     by (Headed size w) q (e ∷ []) m f = begun size w e.class_id e.start e.begun q m.0 m.1 f

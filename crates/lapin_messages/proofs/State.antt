@@ -1,7 +1,7 @@
 -- What goes with a joined run beside its logs, and that an event which brings no part of a content keeps it.
 use Rattle.std.proofs.Common.{◌≡◌, ◌∙◌, ℕ, ◌+◌, ◌<◌, ◌==◌, Bool, true, false, cond, ◌&&◌, ◌||◌, List, [], ◌∷◌, ◌++◌, inl, inr, refl, sym, ap, subst, arith}
 use Rattle.std.specs.List.{filter, fold, list_any}
-use Rattle.std.proofs.lemmas.Bool.{and_parts}
+use Rattle.std.proofs.lemmas.Bool.{and_parts, both_ways}
 use Rattle.std.proofs.lemmas.Bool.Decides.{eqb_tells}
 use Rattle.lapin_types.specs.declared.leaving.Left.{Left}
 use Rattle.lapin_types.specs.Types.{Frame}
@@ -28,10 +28,12 @@ use Rattle.lapin_verdicts.proofs.Unread.{is_unread}
 use Rattle.lapin_messages.specs.Openings.{begins, registers_as}
 use Rattle.lapin_messages.proofs.Backward.{known-append, known-more, Back, Before, Now, back}
 use Rattle.lapin_messages.proofs.Channel.{IsKnown, Channel}
-use Rattle.lapin_messages.proofs.Deals.{Deals, ArePlain, is_plain, Shape, Plain, Registers, Delivers, Opens, ends_on, is_end, waits_on, no}
+use Rattle.lapin_messages.proofs.Deals.{Deals, ArePlain, is_plain, Shape, Plain, Registers, Delivers, Opens, ends_on, is_end, waits_on}
 use Rattle.lapin_messages.proofs.Effect.{died, ended_dead, lived, began, still_waits}
 use Rattle.lapin_messages.proofs.Logs.{At}
 use Rattle.lapin_messages.proofs.Tags.{consumes}
+use Rattle.lapin_rules.proofs.ListLaws.{many-none}
+use Rattle.lapin_tables.proofs.Bools.{or_true}
 
 -- ---- what goes with a run
 
@@ -94,12 +96,8 @@ same_any p xs ys e = by (list_any p xs) (list_any p ys) refl refl
     by : (u v : Bool) → list_any p xs ≡ u → list_any p ys ≡ v → u ≡ v
     by true true h k = refl
     by false false h k = refl
-    by true false h k = absurd (no _ k (many_any p ys (let z = any_many p xs h in omega (arith, z, e))))
-    by false true h k = absurd (no _ h (many_any p xs (let z = any_many p ys k in omega (arith, z, e))))
-
-zero_none : {X : Type 0} (p : X → Bool) (xs : List X) → list_any p xs ≡ false → many p xs ≡ 0
-zero_none p [] h = refl
-zero_none p (x ∷ xs) h = elim (p x) as (λ b. (b || list_any p xs) ≡ false → cond b (many p xs + 1) (many p xs) ≡ 0) [ true ↦ λ e. absurd cc | false ↦ λ e. zero_none p xs e ] h
+    by true false h k = absurd (both_ways _ k (many_any p ys (let z = any_many p xs h in omega (arith, z, e))))
+    by false true h k = absurd (both_ways _ h (many_any p xs (let z = any_many p ys k in omega (arith, z, e))))
 
 plain_registers : (c : ℕ) (t : List ℕ) (X : List DeliveryMark) → ArePlain X → list_any (registers_as c t) X ≡ false
 plain_registers c t [] p = refl
@@ -115,8 +113,8 @@ module _ (v : Bool) (b b' : Wire) (xs cs : List ConfirmMark) (X ms : List Delive
   -- no opening of a channel that lived and lives begins
   pub unbegun : (c : ℕ) → live c b ≡ true → many (begins c) X ≡ 0
   unbegun c l = elim (list_any (begins c) X) as (λ w. list_any (begins c) X ≡ w → many (begins c) X ≡ 0) [
-    | true ↦ λ h. absurd (no _ (began E c (let z = any_many (begins c) X h in let e = D.begun c in omega (arith, z, e))) l)
-    | false ↦ λ h. zero_none (begins c) X h
+    | true ↦ λ h. absurd (both_ways _ (began E c (let z = any_many (begins c) X h in let e = D.begun c in omega (arith, z, e))) l)
+    | false ↦ λ h. many-none (begins c) X h
   ] refl
 
   -- one that lives now and lived, or began
@@ -130,7 +128,7 @@ module _ (v : Bool) (b b' : Wire) (xs cs : List ConfirmMark) (X ms : List Delive
   module _ (hearing : (c : ℕ) (t q : List ℕ) → X ≡ deliveries.Consumed c t q ∷ [] → hears c b ≡ true) where
     -- the consumer that is registered now is of a channel that lives on
     new_lives : (c : ℕ) (t q : List ℕ) → X ≡ deliveries.Consumed c t q ∷ [] → live c b' ≡ true
-    new_lives c t q e = live_on c (hears_live c b (hearing c t q e)).0 (λ h. no (list_any (is_end c) (deliveries.Consumed c t q ∷ [])) refl (subst (λ Y. list_any (is_end c) Y ≡ true) e h))
+    new_lives c t q e = live_on c (hears_live c b (hearing c t q e)).0 (λ h. both_ways (list_any (is_end c) (deliveries.Consumed c t q ∷ [])) refl (subst (λ Y. list_any (is_end c) Y ≡ true) e h))
 
     pub lives_event : ((p : ℕ) (s : Story) → At ms p s → s.registered ≡ true → live s.channel b ≡ true) → (p : ℕ) (s' : Story) → At (ms ++ X) p s' → s'.registered ≡ true → live s'.channel b' ≡ true
     lives_event lives p s' at r = by (back v X D.shape ms p s' at)
@@ -157,11 +155,11 @@ module _ (v : Bool) (b b' : Wire) (xs cs : List ConfirmMark) (X ms : List Delive
               let e = known-append c t ms X (unbegun c was) in
               let one = any_many (registers_as c t) X y in
               (new_lives c u q same, omega (arith, e, one))
-          | inr z ↦ absurd (no (list_any (registers_as c t) (deliveries.Consumed d u q ∷ [])) (rw (z.0) refl) (subst (λ Y. list_any (registers_as c t) Y ≡ true) is y))
+          | inr z ↦ absurd (both_ways (list_any (registers_as c t) (deliveries.Consumed d u q ∷ [])) (rw (z.0) refl) (subst (λ Y. list_any (registers_as c t) Y ≡ true) is y))
         ]
-        newly (Plain pl) y = absurd (no _ (plain_registers c t X pl) y)
-        newly (Delivers k d is by) y = absurd (no (list_any (registers_as c t) (deliveries.Delivered k d ∷ [])) refl (subst (λ Y. list_any (registers_as c t) Y ≡ true) is y))
-        newly (Opens d is) y = absurd (no (list_any (registers_as c t) (deliveries.Opened d ∷ [])) refl (subst (λ Y. list_any (registers_as c t) Y ≡ true) is y))
+        newly (Plain pl) y = absurd (both_ways _ (plain_registers c t X pl) y)
+        newly (Delivers k d is by) y = absurd (both_ways (list_any (registers_as c t) (deliveries.Delivered k d ∷ [])) refl (subst (λ Y. list_any (registers_as c t) Y ≡ true) is y))
+        newly (Opens d is) y = absurd (both_ways (list_any (registers_as c t) (deliveries.Opened d ∷ [])) refl (subst (λ Y. list_any (registers_as c t) Y ≡ true) is y))
 
   -- so is what is known of openings and consumes
   pub ways_event : (handed : List Frame) → ((c : ℕ) (t q : List ℕ) → X ≡ deliveries.Consumed c t q ∷ [] → hears c b ≡ true) → (is_up b'.link ≡ true → is_up b.link ≡ true) → ((c : ℕ) → is_up b'.link ≡ true → live c b' ≡ false → expected_on c b.contents ≡ [] → expected_on c b'.contents ≡ []) → ((c : ℕ) → is_up b'.link ≡ true → list_any (ends_on c) xs ≡ true → expected_on c b'.contents ≡ []) → Ways b cs ms handed → Ways b' (cs ++ xs) (ms ++ X) handed
@@ -197,16 +195,12 @@ module _ (v : Bool) (b b' : Wire) (xs cs : List ConfirmMark) (X ms : List Delive
   -- an opening that begins is unread, and its channel is fresh
   pub begun_fresh : (c : ℕ) (up : List Left) → live c b ≡ false → live c b' ≡ true → is_unread c b' up ≡ true
   begun_fresh c up l l' = elim (lived E c l') as (λ _. is_unread c b' up ≡ true) [
-    | inl y ↦ absurd (no _ l y)
+    | inl y ↦ absurd (both_ways _ l y)
     | inr y ↦
         let more = still_waits E c l' (and_parts (is_up b'.link) (is_live (phase_of c b')) l').0 in
         let some : list_any (is_open_waiting c) b'.methods ≡ true = many_any (is_open_waiting c) b'.methods (omega (arith, more, y)) in
         ap (λ w. list_any (is_open_on c) up || w) some ∙ or_true (list_any (is_open_on c) up)
   ]
-    where
-      or_true : (w : Bool) → (w || true) ≡ true
-      or_true true = refl
-      or_true false = refl
 
   -- nobody is registered on a channel that nobody hears
   pub none_event : (c : ℕ) → ((d : ℕ) (t q : List ℕ) → X ≡ deliveries.Consumed d t q ∷ [] → d ≡ c → ⊥) → ((p : ℕ) (s : Story) → At ms p s → s.registered ≡ true → s.channel ≡ c → ⊥) → (p : ℕ) (s' : Story) → At (ms ++ X) p s' → s'.registered ≡ true → s'.channel ≡ c → ⊥

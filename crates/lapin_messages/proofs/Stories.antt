@@ -1,7 +1,7 @@
 -- The consumers of a history with one mark more: each is what it was with what the mark did to it, or was just registered.
 use Rattle.std.proofs.Common.{◌≡◌, ◌∙◌, ℕ, suc, ◌==◌, Bool, true, false, cond, ◌&&◌, ◌||◌, List, [], ◌∷◌, ◌++◌, length, map, Option, Some, None, Ok, ◌⊎◌, inl, inr, refl, sym, ap, subst, append-nil, length-append, ◌+◌, arith, slice_get}
 use Rattle.std.specs.Prelude.{filter_map}
-use Rattle.std.specs.List.{list_any, cons_option}
+use Rattle.std.specs.List.{list_any}
 use Rattle.std.specs.Option.{option_map}
 use Rattle.std.proofs.lemmas.Bool.Decides.{eqb_tells}
 use Rattle.std.proofs.lemmas.List.Folds.{list_any-append}
@@ -24,6 +24,8 @@ use Rattle.lapin_laws.proofs.DeliveriesMoves.{joined}
 use Rattle.lapin_verdicts.specs.Messages.{message_of, messages}
 use Rattle.lapin_messages.specs.Carried.{is_void}
 use Rattle.lapin_messages.specs.Openings.{registers}
+use Rattle.lapin_rules.proofs.ListLaws.{or_false}
+use Rattle.std.proofs.lemmas.List.Elements.{filter_map-append}
 
 -- ---- what a mark does to a consumer, whose number is one more than its place
 
@@ -72,12 +74,8 @@ void_new : (x : ConsumerState) (ys : List Handed) → list_any is_void (map (arr
 void_new x [] = refl
 void_new x (y ∷ ys) = elim (is_marked x) as (λ b. list_any is_void (cond b (MadeJob y) (Waiting y) ∷ map (arrived_one x) ys) ≡ false) [ true ↦ void_new x ys | false ↦ void_new x ys ]
 
-or_none : (b : Bool) → (b || false) ≡ b
-or_none true = refl
-or_none false = refl
-
 void_arrived : (x : ConsumerState) (ys : List Handed) (es : List Entry) → list_any is_void (arrived x ys es) ≡ list_any is_void es
-void_arrived x ys es = list_any-append is_void es (map (arrived_one x) ys) ∙ (ap (λ b. list_any is_void es || b) (void_new x ys) ∙ or_none (list_any is_void es))
+void_arrived x ys es = list_any-append is_void es (map (arrived_one x) ys) ∙ (ap (λ b. list_any is_void es || b) (void_new x ys) ∙ or_false (list_any is_void es))
 
 -- ---- all but the messages
 
@@ -117,14 +115,6 @@ alike m p s = elim (concerns m (suc p) (seen s)) as (λ b. concerns m (suc p) (s
 
 -- ---- the messages
 
-some-append : {X Y : Type 0} (f : X → Option Y) (xs ys : List X) → filter_map f (xs ++ ys) ≡ filter_map f xs ++ filter_map f ys
-some-append f [] ys = refl
-some-append f (x ∷ xs) ys = ap (cons_option (f x)) (some-append f xs ys) ∙ by (f x)
-  where
-    by : (o : Option _) → cons_option o (filter_map f xs ++ filter_map f ys) ≡ cons_option o (filter_map f xs) ++ filter_map f ys
-    by None = refl
-    by (Some y) = refl
-
 -- the ends and errors are no messages
 last_none : (e : Option Error) → filter_map message_of (last_words e) ≡ []
 last_none None = refl
@@ -161,7 +151,7 @@ was ms m p s' now h =
       tag = a.tag;
       registered = a.registered;
       left = a.left;
-      messages = ap (filter_map message_of) came ∙ (some-append message_of (arrivals s.log) (cond (concerns m (suc p) (seen s)) (words m) []) ∙ ap (λ v. messages s.log ++ v) (words_brought m p s));
+      messages = ap (filter_map message_of) came ∙ (filter_map-append message_of (arrivals s.log) (cond (concerns m (suc p) (seen s)) (words m) []) ∙ ap (λ v. messages s.log ++ v) (words_brought m p s));
       void = a.void;
     })
 

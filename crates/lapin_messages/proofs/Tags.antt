@@ -40,10 +40,13 @@ use Rattle.lapin_broker.specs.Sends.{may, may_in, send, send_on, after_send, aft
 use Rattle.lapin_broker.specs.Sends as sends
 use Rattle.lapin_verdicts.specs.Deeds.{Deed, Read, Sent, is_open, joined_opening}
 use Rattle.lapin_verdicts.specs.Publishes.{no_tally}
-use Rattle.lapin_verdicts.proofs.Owing.{next_opening}
-use Rattle.lapin_verdicts.proofs.Reading.{at_with, at_other, of_if, not_both, closed_down, answered_down}
+use Rattle.lapin_verdicts.proofs.Owing.{next_opening, open_shut}
+use Rattle.lapin_verdicts.proofs.Reading.{of_if, closed_down, answered_down}
 use Rattle.lapin_verdicts.proofs.Sending.{own_down}
 use Rattle.lapin_verdicts.proofs.Sorting.{Sorts, sorted}
+use Rattle.lapin_tables.proofs.Bools.{or_true, not_both}
+use Rattle.lapin_broker.proofs.SoundLaw.{at_with}
+use Rattle.lapin_concord.proofs.Sides.{at_away}
 
 -- ---- frames that name a tag
 
@@ -82,10 +85,6 @@ told_more t o d h = list_any-append (tells t) o (d ∷ []) ∙ rw h refl
 
 told_now : (t : List ℕ) (o : List Deed) (d : Deed) → tells t d ≡ true → told t (o ++ d ∷ []) ≡ true
 told_now t o d h = list_any-append (tells t) o (d ∷ []) ∙ (rw h (or_true (told t o)))
-  where
-    or_true : (b : Bool) → (b || true) ≡ true
-    or_true true = refl
-    or_true false = refl
 
 -- ---- the tags of a channel
 
@@ -191,16 +190,6 @@ consume_is (frame.Method c (method.Tx m)) = never (frame.Method c (method.Tx m))
 
 sorts_as : (f : Frame) (u : ClientFrame) → client_frame f ≡ u → Sorts u f no_tally
 sorts_as f u e = subst (λ v. Sorts v f no_tally) e (sorted f no_tally)
-
-open_shut : (f : Frame) (u : ClientFrame) → Sorts u f no_tally → breaks_open u ≡ false → is_open f ≡ false
-open_shut f (client.Ask k) s h = s.0
-open_shut f (client.Select waits) s h = s.0
-open_shut f client.Publish s h = s.0
-open_shut f client.Consume s h = s.0
-open_shut f client.Cancel s h = s.0
-open_shut f client.Tell s h = s.0
-open_shut f client.Close s h = s.0
-open_shut f _ s h = absurd cc
 
 -- its tags stay, or fewer are left
 fewer : (x x' : Channel) (o : List Deed) (d : Deed) → ((t : List ℕ) → has_tag t x'.tags ≡ true → has_tag t x.tags ≡ true) → ((t : List ℕ) → has_tag t x.tags ≡ true → told t o ≡ true) → (t : List ℕ) → has_tag t x'.tags ≡ true → told t (o ++ d ∷ []) ≡ true
@@ -320,7 +309,7 @@ up_tells c l b o None up k =
           rw z.0 (subst K (sym z.1) here)
       | inr z ↦
           let x' : Channel = read_in (channel_at b d).peer l.frame (channel_at b d) u in
-          rw z.0 (λ _. subst (λ v. Told (channel_in v) o) (sym (at_other d c x' b.channels z.0)) (k up))
+          rw z.0 (λ _. subst (λ v. Told (channel_in v) o) (sym (at_away d c x' b.channels z.0)) (k up))
     ])
 
 pub read_tells : (c : ℕ) (l : Left) (b : Broker) (o : List Deed) → Tells c b o → Tells c (read b l.frame) (next_opening c o l)

@@ -1,7 +1,7 @@
 -- An event that brings no part of a content keeps all that goes with a run; and so does one that brings a part.
 use Rattle.std.proofs.Common.{◌≡◌, ◌∙◌, ℕ, ◌<◌, true, false, List, [], ◌∷◌, ◌++◌, refl, sym, ap, subst, arith}
 use Rattle.std.specs.List.{list_any}
-use Rattle.std.proofs.lemmas.Bool.{and_parts}
+use Rattle.std.proofs.lemmas.Bool.{and_parts, both_ways}
 use Rattle.lapin_types.specs.declared.event.Event.{Event}
 use Rattle.lapin_types.specs.declared.leaving.Left.{Left}
 use Rattle.lapin_types.specs.declared.record.Record.{Record}
@@ -24,7 +24,7 @@ use Rattle.lapin_messages.specs.Openings.{begins}
 use Rattle.lapin_messages.proofs.Backward.{Back, Before, Now, back, logs_event, channel_event}
 use Rattle.lapin_messages.proofs.Channel.{Channel}
 use Rattle.lapin_messages.proofs.Contents.{contents_same, contents_gone}
-use Rattle.lapin_messages.proofs.Deals.{Deals, ends_on, no}
+use Rattle.lapin_messages.proofs.Deals.{Deals, ends_on}
 use Rattle.lapin_messages.proofs.Dealing.{brings, event_deals}
 use Rattle.lapin_messages.proofs.Effect.{began}
 use Rattle.lapin_messages.proofs.Logs.{At, Logs}
@@ -48,18 +48,18 @@ module _ (b : Wire) (cs : List ConfirmMark) (ms : List DeliveryMark) (up : List 
 
   -- nobody is registered on a channel whose opening is unread
   deaf : (c : ℕ) → is_unread c b up ≡ true → (d : ℕ) (t q : List ℕ) → X ≡ deliveries.Consumed d t q ∷ [] → d ≡ c → ⊥
-  deaf c u d t q e on = no _ (subst (λ v. is_unread v b up ≡ false) on (read d (hearing d t q e))) u
+  deaf c u d t q e on = both_ways _ (subst (λ v. is_unread v b up ≡ false) on (read d (hearing d t q e))) u
 
   -- nobody is registered as an opening begins
   begun_none : (c : ℕ) → live c b ≡ false → Ways b cs ms handed → (p : ℕ) (s' : Story) → At (ms ++ X) p s' → s'.registered ≡ true → s'.channel ≡ c → ⊥
   begun_none c dead w p s' at r on = by (back (brings e) X deals.shape ms p s' at)
     where
       by : Back ms X p s' → ⊥
-      by (Before k) = no _ dead (subst (λ v. live v b ≡ true) (sym k.channel ∙ on) (w.lives p k.story k.there (k.registered r)))
-      by (Now d t q is it) = no _ dead (subst (λ v. live v b ≡ true) (ap (λ (y : Story). y.channel) (sym it) ∙ on) (hears_live d b (hearing d t q is)).0)
+      by (Before k) = both_ways _ dead (subst (λ v. live v b ≡ true) (sym k.channel ∙ on) (w.lives p k.story k.there (k.registered r)))
+      by (Now d t q is it) = both_ways _ dead (subst (λ v. live v b ≡ true) (ap (λ (y : Story). y.channel) (sym it) ∙ on) (hears_live d b (hearing d t q is)).0)
 
   pub opens_quietly : Ways b cs ms handed → (c p : ℕ) (s : Story) → 0 < many (begins c) X → At ms p s → s.registered ≡ true → s.channel ≡ c → ⊥
-  opens_quietly w c p s z at r on = no _ (began E c (let d = deals.begun c in omega (arith, z, d))) (subst (λ v. live v b ≡ true) on (w.lives p s at r))
+  opens_quietly w c p s z at r on = both_ways _ (began E c (let d = deals.begun c in omega (arith, z, d))) (subst (λ v. live v b ≡ true) on (w.lives p s at r))
 
   pub registers_in : Ways b cs ms handed → (c : ℕ) (t q : List ℕ) → X ≡ deliveries.Consumed c t q ∷ [] → 0 < many (begins c) ms
   registers_in w c t q e = w.positive c (hears_live c b (hearing c t q e)).0
@@ -95,6 +95,6 @@ module _ (b : Wire) (cs : List ConfirmMark) (ms : List DeliveryMark) (up : List 
         | true ↦ λ was.
             let unread : is_unread c b up ≡ false = sym (same_unread (brings e) b b' xs cs X ms new E deals c up was l) ∙ u in
             subst (λ es. Channel c (ms ++ X) es came) (sym (same c l)) (channel_event c (brings e) X deals.shape plain (unbegun (brings e) b b' xs cs X ms new E deals c was) ms (expected_on c b.contents) came (h.channel c z was unread came way))
-        | false ↦ λ was. absurd (no _ u (begun_fresh (brings e) b b' xs cs X ms new E deals c up was l))
+        | false ↦ λ was. absurd (both_ways _ u (begun_fresh (brings e) b b' xs cs X ms new E deals c up was l))
       ] refl;
     }

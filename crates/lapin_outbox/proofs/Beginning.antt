@@ -1,7 +1,7 @@
 -- Which publish begins, where some channels may not.
 use Rattle.std.proofs.Common.{◌≡◌, ℕ, Bool, true, false, List, [], ◌∷◌, ◌++◌, Some, None, All, refl, sym, ◌∙◌, ap, subst, inl, inr}
 use Rattle.std.specs.List.{find}
-use Rattle.std.proofs.lemmas.Bool.{true≢false, eq-eqb}
+use Rattle.std.proofs.lemmas.Bool.{true≢false, eq-eqb, cases_Bool}
 use Rattle.std.proofs.lemmas.Bool.Decides.{eqb_tells}
 use Rattle.std.proofs.lemmas.List.Elements.{All-nil, All-cons}
 use Rattle.lapin_rules.specs.Words.{without_first}
@@ -10,7 +10,6 @@ use Rattle.lapin_rules.specs.Drops.{is_on, publish_channel}
 use Rattle.lapin_rules.specs.Flow.{unless_full}
 use Rattle.lapin_rules.specs.Leaving.{may_begin}
 use Rattle.lapin_outbox.specs.Passing.{of_key}
-use Rattle.lapin_outbox.proofs.PassedOver.{decide}
 
 module _ {X : Type 0} (f : X → ℕ) where
   -- none may
@@ -27,7 +26,7 @@ module _ {X : Type 0} (f : X → ℕ) where
 
     pub may-begin : (x : X) (xs : List X) → find (of_key f t) xs ≡ Some x → t (f x) ≡ true
     may-begin x [] h = cc
-    may-begin x (y ∷ xs) h = elim (decide (t (f y))) [
+    may-begin x (y ∷ xs) h = elim (cases_Bool (t (f y))) [
       | inl may ↦ subst (λ (z : X). t (f z) ≡ true) (taken-here x y xs may h) may
       | inr not ↦ may-begin x xs (taken-later x y xs not h)
     ]
@@ -35,7 +34,7 @@ module _ {X : Type 0} (f : X → ℕ) where
     -- it is the first of its channel
     pub first-of-channel : (x : X) (xs : List X) → find (of_key f t) xs ≡ Some x → find (is_on f (f x)) xs ≡ Some x
     first-of-channel x [] h = cc
-    first-of-channel x (y ∷ xs) h = elim (decide (t (f y))) [
+    first-of-channel x (y ∷ xs) h = elim (cases_Bool (t (f y))) [
       | inl may ↦
           let same : y ≡ x = taken-here x y xs may h in
           let on : is_on f (f x) y ≡ true = eq-eqb (f y) (f x) (ap f same) in
@@ -52,7 +51,7 @@ module _ {X : Type 0} (f : X → ℕ) where
     -- what stands in front of it and behind it
     pub front-of : (x : X) (xs : List X) → find (of_key f t) xs ≡ Some x → (front : List X) × (behind : List X) × (xs ≡ front ++ x ∷ behind) × All (λ y. t (f y) ≡ false) front × (without_first (of_key f t) xs ≡ front ++ behind)
     front-of x [] h = cc
-    front-of x (y ∷ xs) h = elim (decide (t (f y))) [
+    front-of x (y ∷ xs) h = elim (cases_Bool (t (f y))) [
       | inl may ↦
           let left : without_first (of_key f t) (y ∷ xs) ≡ xs = rw may refl in
           ([], xs, ap (λ z. z ∷ xs) (taken-here x y xs may h), All-nil (λ y. t (f y) ≡ false), left)

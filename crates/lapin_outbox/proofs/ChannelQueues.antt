@@ -12,14 +12,11 @@ use Rattle.lapin_rules.specs.Drops.{is_on}
 use Rattle.lapin_outbox.specs.Order.{first_on, without_number}
 use Rattle.lapin_outbox.specs.ChannelQueue.{kept, keys_by}
 use Rattle.lapin_outbox.proofs.Chains.{under-behind, with-behind, map-with}
+use Rattle.lapin_tables.proofs.Channels.{nowhere-later}
 
 pub next-number : (n : ℕ) (o : Option ℕ) → option_map suc o ≡ Some n → (q : ℕ) × (o ≡ Some q) × (suc q ≡ n)
 next-number n None h = cc
 next-number n (Some q) h = (q, refl, cc)
-
-pub no-number : (o : Option ℕ) → option_map suc o ≡ None → o ≡ None
-no-number None h = refl
-no-number (Some q) h = cc
 
 pub not-other : (a b : Bool) → a ≡ not b → b ≡ not a
 not-other a true h = sym (ap not h)
@@ -71,7 +68,7 @@ module _ {X : Type 0} where
 
   pub kept-none : (os : List (Option X)) → first_kept os ≡ None → kept os ≡ []
   kept-none [] h = refl
-  kept-none (None ∷ os) h = kept-none os (no-number (first_kept os) h)
+  kept-none (None ∷ os) h = kept-none os (nowhere-later (first_kept os) h)
   kept-none (Some x ∷ os) h = cc
 
   pub none-kept : (os : List (Option X)) → not (is_some (first_kept os)) ≡ is_empty (kept os)
@@ -127,12 +124,12 @@ module _ {X : Type 0} (f : X → ℕ) where
 
   pub none-of : (c : ℕ) (os : List (Option X)) → first_on c (keys_by f os) ≡ None → (find (is_on f c) (kept os) ≡ None) × (without_first (is_on f c) (kept os) ≡ kept os)
   none-of c [] h = (refl, refl)
-  none-of c (None ∷ os) h = none-of c os (no-number (first_on c (keys_by f os)) h)
+  none-of c (None ∷ os) h = none-of c os (nowhere-later (first_on c (keys_by f os)) h)
   none-of c (Some x ∷ os) h = elim (eqb_tells (f x) c) [
     | inl same ↦ let no : ◌≡◌ {A = Option ℕ} (Some 1) None = rw same.0 at h in cc
     | inr other ↦
         let later : option_map suc (first_on c (keys_by f os)) ≡ None = rw other.0 at h in
-        let rest = none-of c os (no-number (first_on c (keys_by f os)) later) in
+        let rest = none-of c os (nowhere-later (first_on c (keys_by f os)) later) in
         (rw other.0 rest.0, rw other.0 (ap (λ xs. x ∷ xs) rest.1))
   ]
 

@@ -3,7 +3,7 @@ use Rattle.std.proofs.Common.{◌≡◌, ◌≢◌, ℕ, zero, suc, ◌+◌, ◌
 use Rattle.std.specs.Bool.{if◌then◌else◌}
 use Rattle.std.specs.List.{find}
 use Rattle.std.specs.Option.{option_map, IsSome}
-use Rattle.std.proofs.lemmas.Bool.{true≢false, ltb-true, ltb-false}
+use Rattle.std.proofs.lemmas.Bool.{true≢false, ltb-true, ltb-false, cases_Bool}
 use Rattle.std.proofs.lemmas.Bool.Decides.{eqb_tells}
 use Rattle.lapin_tables.specs.Numbered.{under, with_under, first_kept}
 use Rattle.lapin_tables.proofs.SlotLaws.{given, first-there, first-least, first-none, under-pushed, under-map, length-with}
@@ -14,13 +14,10 @@ use Rattle.lapin_full.specs.ChannelSet.{is_in}
 use Rattle.lapin_full.specs.FullChannels.{AllFull, IsFirstOpen}
 use Rattle.lapin_outbox.specs.Passing.{not_full, of_key, waits_where, first_where, AreHeld, NonePasses, bound, IsFree, IsClear, IsOpen}
 use Rattle.lapin_outbox.proofs.Chains.{under-behind, with-behind, same-test}
-use Rattle.lapin_outbox.proofs.ChannelQueues.{next-number, no-number}
+use Rattle.lapin_outbox.proofs.ChannelQueues.{next-number}
+use Rattle.lapin_tables.proofs.Channels.{nowhere-later}
 
 -- ---- the first number of a key that passes
-
-pub decide : (b : Bool) → (b ≡ true) ⊎ (b ≡ false)
-decide true = inl refl
-decide false = inr refl
 
 -- where a number waits on a key that passes
 record Here (t : ℕ → Bool) (o : Option ℕ) : Type 0 where
@@ -31,7 +28,7 @@ record Here (t : ℕ → Bool) (o : Option ℕ) : Type 0 where
 
 here-or-not : (t : ℕ → Bool) (o : Option ℕ) → Here t o ⊎ (waits_where t o ≡ false)
 here-or-not t None = inr refl
-here-or-not t (Some c) = elim (decide (t c)) [
+here-or-not t (Some c) = elim (cases_Bool (t c)) [
   | inl passes ↦ inl (record { key = c; is = refl; passes = passes; waits = passes })
   | inr other ↦ inr other
 ]
@@ -105,7 +102,7 @@ where-none t (suc zero) c (o ∷ os) h at = elim (here-or-not t o) [
 ]
 where-none t (suc (suc j)) c (o ∷ os) h at = elim (here-or-not t o) [
   | inl here ↦ let no : ◌≡◌ {A = Option ℕ} (Some 1) None = sym (starts t o os here.waits) ∙ h in cc
-  | inr not ↦ where-none t (suc j) c os (no-number (first_where t os) (sym (goes-on t o os not) ∙ h)) at
+  | inr not ↦ where-none t (suc j) c os (nowhere-later (first_where t os) (sym (goes-on t o os not) ∙ h)) at
 ]
 
 pub is-where : (t : ℕ → Bool) (n c : ℕ) (os : List (Option ℕ)) → under n os ≡ Some c → t c ≡ true → ((m d : ℕ) → m < n → under m os ≡ Some d → t d ≡ false) → first_where t os ≡ Some n
@@ -326,7 +323,7 @@ pub search-on : (full : ℕ → Bool) (passed from key : ℕ) (held new : List �
 search-on full passed from key held new keys best sooner done first free less opens fewer = record {
   clear = λ c lt is. elim (eqb_tells c key) [
     | inl same ↦ λ n below at. absurd (free n below (subst (λ (d : ℕ). under n keys ≡ Some d) same.1 at))
-    | inr other ↦ elim (decide (nat_lt c from)) [
+    | inr other ↦ elim (cases_Bool (nat_lt c from)) [
       | inl before ↦ λ n below at. done.clear c (ltb-true c from before) (fewer c is) n (omega arith) at
       | inr later ↦
           let apart : c ≢ key = other.1 in
@@ -342,7 +339,7 @@ pub search-found : (full : ℕ → Bool) (passed from : ℕ) (held : List ℕ) (
 search-found full passed from held keys best h done all = found best done
   where
     clear : (b : Option ℕ) → SearchDone (not_full full) passed held keys b from → (n c : ℕ) → n ≤ passed → n < bound passed b → under n keys ≡ Some c → not_full full c ≡ false
-    clear b d n c le lt at = elim (decide (nat_lt c from)) [
+    clear b d n c le lt at = elim (cases_Bool (nat_lt c from)) [
       | inl before ↦ d.clear c (ltb-true c from before) (h.each n c le at) n lt at
       | inr later ↦ ap not (all c (ltb-false c from later) (h.each n c le at))
     ]
@@ -371,7 +368,7 @@ module _ {X : Type 0} (f : X → ℕ) (t : ℕ → Bool) where
       let next = next-number n (first_where t (keys_by f os)) h in
       let P : ℕ → Type 0 = λ m. under m (None ∷ os) ≡ find (of_key f t) (kept os) in
       subst P next.2 (under-behind next.0 None os (where-positive t next.0 (keys_by f os) next.1) ∙ found-where next.0 os next.1)
-  found-where n (Some x ∷ os) h = elim (decide (t (f x))) [
+  found-where n (Some x ∷ os) h = elim (cases_Bool (t (f x))) [
     | inl passes ↦
         let one : Some 1 ≡ Some n = sym (starts t (Some (f x)) (keys_by f os) passes) ∙ h in
         let is : 1 ≡ n = cc in
@@ -390,7 +387,7 @@ module _ {X : Type 0} (f : X → ℕ) (t : ℕ → Bool) where
       let next = next-number n (first_where t (keys_by f os)) h in
       let P : ℕ → Type 0 = λ m. kept (with_under m None (None ∷ os)) ≡ without_first (of_key f t) (kept os) in
       subst P next.2 (ap kept (with-behind next.0 None None os (where-positive t next.0 (keys_by f os) next.1)) ∙ left-where next.0 os next.1)
-  left-where n (Some x ∷ os) h = elim (decide (t (f x))) [
+  left-where n (Some x ∷ os) h = elim (cases_Bool (t (f x))) [
     | inl passes ↦
         let one : Some 1 ≡ Some n = sym (starts t (Some (f x)) (keys_by f os) passes) ∙ h in
         let is : 1 ≡ n = cc in
@@ -405,11 +402,11 @@ module _ {X : Type 0} (f : X → ℕ) (t : ℕ → Bool) where
 
   pub none-found : (os : List (Option X)) → first_where t (keys_by f os) ≡ None → (find (of_key f t) (kept os) ≡ None) × (without_first (of_key f t) (kept os) ≡ kept os)
   none-found [] h = (refl, refl)
-  none-found (None ∷ os) h = none-found os (no-number (first_where t (keys_by f os)) h)
-  none-found (Some x ∷ os) h = elim (decide (t (f x))) [
+  none-found (None ∷ os) h = none-found os (nowhere-later (first_where t (keys_by f os)) h)
+  none-found (Some x ∷ os) h = elim (cases_Bool (t (f x))) [
     | inl passes ↦ let no : ◌≡◌ {A = Option ℕ} (Some 1) None = sym (starts t (Some (f x)) (keys_by f os) passes) ∙ h in cc
     | inr other ↦
-        let rest = none-found os (no-number (first_where t (keys_by f os)) (sym (goes-on t (Some (f x)) (keys_by f os) other) ∙ h)) in
+        let rest = none-found os (nowhere-later (first_where t (keys_by f os)) (sym (goes-on t (Some (f x)) (keys_by f os) other) ∙ h)) in
         (rw other rest.0, rw other (ap (λ xs. x ∷ xs) rest.1))
   ]
 
@@ -417,7 +414,7 @@ module _ {X : Type 0} (f : X → ℕ) (t : ℕ → Bool) where
   pub any_where : (os : List (Option X)) → is_some (first_where t (keys_by f os)) ≡ is_some (find (of_key f t) (kept os))
   any_where [] = refl
   any_where (None ∷ os) = next_is_some (first_where t (keys_by f os)) ∙ any_where os
-  any_where (Some x ∷ os) = elim (decide (t (f x))) [
+  any_where (Some x ∷ os) = elim (cases_Bool (t (f x))) [
     | inl passes ↦ rw passes refl
     | inr other ↦ rw other (next_is_some (first_where t (keys_by f os)) ∙ any_where os)
   ]

@@ -6,7 +6,7 @@ use Rattle.std.specs.Map.{lookup}
 use Rattle.std.proofs.lemmas.Bool.{eq-eqb, true≢false}
 use Rattle.std.proofs.lemmas.Bool.Decides.{eqb_tells}
 use Rattle.lapin_tables.specs.ByChannel.{Table, at_channel, on_channel}
-use Rattle.lapin_tables.proofs.Channels.{at-values, at-on_same, at-on_other, at-push}
+use Rattle.lapin_tables.proofs.Channels.{at-values, at-on_same, at-on_other, at-push, or-none}
 use Rattle.lapin_outbox.specs.Open.{OpenOnChannel, OpenRequests, rooms_in, room_of, spare_on, seen, KeepsRoom, KeepsOtherRoom, IsAside, AreAside}
 
 abbrev room : OpenOnChannel → ℕ
@@ -50,10 +50,6 @@ spare-seen es aside d =
 is-none : {X : Type 0} (o : Option X) → false ≡ is_some o → o ≡ None
 is-none None h = refl
 is-none (Some x) h = absurd (true≢false (sym h))
-
-or-none : {X : Type 0} (o : Option X) → option_or o None ≡ o
-or-none None = refl
-or-none (Some x) = refl
 
 module _ (es aside : List (ℕ × OpenOnChannel)) (now : OpenRequests) (view : seen es aside ≡ now) where
   pub spare-is : (d : ℕ) → spare_on d now ≡ room-between (at_channel d es) (lookup (nat_eq d) aside)

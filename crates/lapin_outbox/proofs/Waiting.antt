@@ -1,5 +1,5 @@
 -- The table of requests, as a contract sees it.
-use Rattle.std.proofs.Common.{◌≡◌, ℕ, List, [], ◌∷◌, ◌++◌, Option, Some, None, Result, Ok, Err, OnOk, OnSome, IfNone, sym, ◌∙◌, ap, refl}
+use Rattle.std.proofs.Common.{◌≡◌, ℕ, List, [], ◌∷◌, ◌++◌, Option, Some, None, OnSome, IfNone, sym, ◌∙◌, ap, refl}
 use Rattle.std.specs.Option.{option_map}
 use Rattle.std.proofs.lemmas.List.{map_push}
 use Rattle.lapin_tables.specs.ByChannel.{at_channel, on_channel}
@@ -8,6 +8,7 @@ use Rattle.lapin_types.specs.declared.request.Request.{Request}
 use Rattle.lapin_rules.specs.Words.{with_channel}
 use Rattle.lapin_rules.specs.Requests.{requests_in}
 use Rattle.lapin_outbox.specs.Open.{OpenOnChannel, OpenRequests, waiting_in, seen, requests_at}
+use Rattle.std.proofs.lemmas.Result.{on_ok_weaker}
 
 -- what a contract sees of the table's entries
 pub waiting-is : (es aside : List (ℕ × OpenOnChannel)) (now : OpenRequests) → seen es aside ≡ now → waiting_in es ≡ now.what
@@ -55,7 +56,3 @@ on-some (Some x) p = p
 pub if-none : {T P Q : Type 0} (o : Option T) → (P → Q) → IfNone o P → IfNone o Q
 if-none None f p = f p
 if-none (Some x) f p = tt
-
-pub on-ok : {T E P Q : Type 0} (r : Result T E) → (P → Q) → OnOk r P → OnOk r Q
-on-ok (Ok x) f p = f p
-on-ok (Err e) f p = tt

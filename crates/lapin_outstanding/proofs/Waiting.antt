@@ -21,16 +21,10 @@ use Rattle.lapin_confirm.specs.PublishStates.{PublishStates, is_queued_on, is_op
 use Rattle.lapin_confirm.specs.Machine.{after_mark, rejected, with_publish_states}
 use Rattle.lapin_confirm.specs.ConfirmState.{ConfirmState}
 use Rattle.lapin_confirm.proofs.ConfirmModes.{same-publish_states}
-use Rattle.lapin_confirm.proofs.Closing.{close-next, end-close}
+use Rattle.lapin_confirm.proofs.Closing.{close-next, all-end}
 use Rattle.lapin_outstanding.specs.Queued.{EachQueued, AllWait, AreQueued, is_publish_of, rejected_told}
 use Rattle.lapin_outstanding.proofs.Queueing.{under-last, under-map, queued-kept, queued-push, queued-written, resolved_apart, still-queued, queued-ended, closed-queued, first-of}
-
-is_eq : (k d : ℕ) → (k == d) ≡ true → k ≡ d
-is_eq k d h = elim (eqb_tells k d) [ inl same ↦ same.1 | inr other ↦ cc ]
-
-and_false : (b : Bool) → (b && false) ≡ false
-and_false true = refl
-and_false false = refl
+use Rattle.lapin_tables.proofs.Bools.{or_true, and_false, same_number}
 
 -- ---- whether a list has an element that passes
 
@@ -91,10 +85,6 @@ passes-other P n m o cells none fails h =
 waits-push : (c : ℕ) (cells : List (Option Cell)) (ps : List Publish) (p : Publish) → p.confirm ≡ length cells + 1 → p.channel ≡ c → AllWait cells ps → AllWait (cells ++ Some (cell.Queued c) ∷ []) (ps ++ p ∷ [])
 waits-push c cells ps p at on all = λ d n h. any-push (is_publish_of d n) ps p ∙ joined d n h
   where
-    or_true : (b : Bool) → (b || true) ≡ true
-    or_true true = refl
-    or_true false = refl
-
     joined : (d n : ℕ) → is_queued_on d (under n (cells ++ Some (cell.Queued c) ∷ [])) ≡ true → (list_any (is_publish_of d n) ps || is_publish_of d n p) ≡ true
     joined d n h =
         elim (eqb_tells n (length cells + 1)) [
@@ -187,7 +177,7 @@ queue-closed c e cells ps q = record {
       | inl here ↦ let none : is_queued_on d (option_map (closed_cell c e) (Some (cell.Queued k))) ≡ false = rw here.0 refl in cc
       | inr away ↦
           let same : (k == d) ≡ true = rw away.0 at h in
-          ((λ x. away.1 (is_eq k d same ∙ sym x)), same)
+          ((λ x. away.1 (same_number k d same ∙ sym x)), same)
     ]
     still (Some (cell.Pending k t)) d h = cc
     still (Some (cell.Resolved x)) d h = cc
@@ -278,7 +268,3 @@ close-over c e ps stay p left all =
         ]
     stays k (cell.Pending d t) there = refl
     stays k (cell.Resolved o) there = refl
-
--- an end after a close of this side is the end alone
-pub end-closed : (c : ℕ) (e : Error) (p : ConfirmState) → after_mark (after_mark p (mark.ClosedHere c e)) (mark.Ended c e) ≡ after_mark p (mark.Ended c e)
-end-closed c e p = ap (λ (x : PublishStates). with_publish_states x p) (end-close c e p.publish_states)

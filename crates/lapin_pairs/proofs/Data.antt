@@ -1,10 +1,11 @@
 -- Requests and contents: what the session keeps, once it has received the whole way down, is what the broker keeps once it has read the whole way up.
-use Rattle.std.proofs.Common.{◌≡◌, ℕ, Bool, true, false, cond, ◌&&◌, ◌==◌, List, [], ◌∷◌, ◌++◌, map, refl, sym, ◌∙◌, subst, subst₂, Option, Some, None, arith, ◌⊎◌, inl, inr, ◌+◌, ◌-◌, nat_lt, nat_le}
+use Rattle.std.proofs.Common.{◌≡◌, ℕ, Bool, true, false, cond, ◌==◌, List, [], ◌∷◌, ◌++◌, map, refl, sym, ◌∙◌, subst, subst₂, Option, Some, None, arith, ◌⊎◌, inl, inr, ◌+◌, ◌-◌, nat_lt, nat_le}
 use Rattle.std.proofs.lemmas.Bool.Decides.{nat_tests}
 use Rattle.lapin_pairs.specs.Machine.{Up, UOpen, UCloseOk, UOther, Down, DOther, Sess, Opening, Opened, Closing, Peer, Free, Asked, Open, Leaving, Stopping, StoppingOwes, Broken, has_close, is_broken}
 use Rattle.lapin_pairs.specs.Channel.{Content, Idle, Begun, Left, UpF, FOpen, FClose, FCloseOk, FAsk, FBody, DownF, BOpenOk, BClose, BCloseOk, BTell, BStart, BReply, BHeader, BBody, BSettle, kind_up, kind_down, with_header, with_body, with_content, begun, replied, put_back, take_kind, is_idle, starts_with, tail, may_header, may_body, after_header, after_body, Data, takes, takes_in, asked, asks, reading_in, reading_next, sum_suc, may_data, gave, left_after, bodies_of, publish_frames, reading_after, is_none}
 use Rattle.lapin_pairs.proofs.Pairs.{tight, reads, reads-append, shape_of, accepts, may_star, sent_star, Plain, ToClose, next, not_dead, from_stop, from_owes, from_free, commute, unbroken, clean, Owed, broken-stays}
 use Rattle.lapin_pairs.proofs.Erase.{map-append, and_left, and_right}
+use Rattle.std.proofs.lemmas.Bool.{and_from}
 
 abbrev pub takes_all : Option Data → List DownF → Option Data
 takes_all o [] = o
@@ -72,17 +73,13 @@ may_still p x BOpenOk m h = cc
 may_still p x BClose m h = refl
 may_still p x _ m h = h
 
-and_true : (a b : Bool) → a ≡ true → b ≡ true → (a && b) ≡ true
-and_true true b h k = k
-and_true false b h k = h
-
 asked_more : (p : Peer) (x : Data) (d : DownF) (j : ℕ) → may_star Open (kind_down d) ≡ true → may_data Open x d ≡ true → (asked (sent_star Open (kind_down d)) (gave x d) (FAsk j) ≡ gave (asked Open x (FAsk j)) d) × (may_data Open (asked Open x (FAsk j)) d ≡ true)
 asked_more p x BCloseOk j m h = absurd cc
 asked_more p x BOpenOk j m h = absurd cc
 asked_more p x BClose j m h = (refl, refl)
 asked_more p x (BReply k b) j m h =
     let t = tail-push k j x.asked_for (and_right (is_idle x.content) (starts_with k x.asked_for) h) in
-    (rw t.0 refl, and_true _ _ (and_left (is_idle x.content) (starts_with k x.asked_for) h) t.1)
+    (rw t.0 refl, and_from _ _ (and_left (is_idle x.content) (starts_with k x.asked_for) h) t.1)
 asked_more p x _ j m h = (refl, h)
 
 kept_commute : (p : Peer) (x : Data) (d : DownF) (u : UpF) → may_star p (kind_down d) ≡ true → may_data p x d ≡ true → is_broken (tight p (kind_up u)) ≡ false → (asked (sent_star p (kind_down d)) (gave x d) u ≡ gave (asked p x u) d) × (may_data (tight p (kind_up u)) (asked p x u) d ≡ true)

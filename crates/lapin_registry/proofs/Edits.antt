@@ -5,7 +5,8 @@ use Rattle.std.specs.declared.cmp.Ordering.{Ordering}
 use Rattle.std.specs.declared.cmp.Ordering.TheVariants.{Less, Equal, Greater}
 use Rattle.std.specs.FinMap.Entries as entries
 use Rattle.lapin_registry.specs.ByName.{name_cmp, is_named, amended, changed, without, all_above, rises, IsAt, IsGapFor}
-use Rattle.lapin_registry.proofs.Names.{taken, left, both_true, turned, tied, above_at, has_name, has_lower, has_higher}
+use Rattle.lapin_registry.proofs.Names.{turned, tied, above_at, has_name, has_lower, has_higher}
+use Rattle.std.proofs.lemmas.Bool.{and_parts, cond-true, cond-false}
 
 module _ {X : Type 0} (name_of : X → List ℕ) (n : List ℕ) where
   later : (x : X) (xs : List X) (i : ℕ) → IsAt name_of n (x ∷ xs) (suc i) → IsAt name_of n xs i
@@ -14,7 +15,7 @@ module _ {X : Type 0} (name_of : X → List ℕ) (n : List ℕ) where
   -- a name before the place is below
   before : (x : X) (xs : List X) (i : ℕ) → rises name_of (x ∷ xs) ≡ true → IsAt name_of n (x ∷ xs) (suc i) → name_cmp n (name_of x) ≡ Greater
   before x xs i h at =
-      let less : name_cmp (name_of x) (name_of (get_or xs i x)) ≡ Less = above_at name_of (name_of x) xs i x (both_true _ _ h).0 (omega (arith, at.in_range)) in
+      let less : name_cmp (name_of x) (name_of (get_or xs i x)) ≡ Less = above_at name_of (name_of x) xs i x (and_parts _ _ h).0 (omega (arith, at.in_range)) in
       turned n (name_of x) Less (subst (λ m. name_cmp (name_of x) m ≡ Less) (at.has_name x) less)
 
   after_gap : (x : X) (xs : List X) (i : ℕ) → IsGapFor name_of n (x ∷ xs) (suc i) → IsGapFor name_of n xs i
@@ -48,7 +49,7 @@ module _ {X : Type 0} (name_of : X → List ℕ) (n : List ℕ) where
         let here : y ≡ f z = e ∙ ap f is in
         ap (λ w. w ∷ xs) here ∙ sym (at_order _ _ _ _ (tied n (name_of z) (sym (at.has_name z))))
     amended_at (z ∷ xs) (suc i) x y h at is e =
-        ap (λ ws. z ∷ ws) (amended_at xs i x y (both_true _ _ h).1 (later z xs i at) is e)
+        ap (λ ws. z ∷ ws) (amended_at xs i x y (and_parts _ _ h).1 (later z xs i at) is e)
         ∙ sym (past_order _ _ _ _ (before z xs i h at))
 
     pub amended_gap : (xs : List X) (i : ℕ) (y : X) → IsGapFor name_of n xs i → y ≡ f fresh → insert xs i y ≡ amended name_of n fresh f xs
@@ -82,33 +83,33 @@ module _ {X : Type 0} (name_of : X → List ℕ) (n : List ℕ) where
     pub changed_none : (xs : List X) → NoneNamed xs → xs ≡ changed name_of n f xs
     changed_none [] none = refl
     changed_none (x ∷ xs) none =
-        ap (λ w. w ∷ xs) (sym (left (is_named name_of n x) (f x) x (none 0 x (omega arith))))
+        ap (λ w. w ∷ xs) (sym (cond-false (is_named name_of n x) (f x) x (none 0 x (omega arith))))
         ∙ ap (λ ws. cond (is_named name_of n x) (f x) x ∷ ws) (changed_none xs (none_tail x xs none))
 
     pub changed_at : (xs : List X) (i : ℕ) (x y : X) → rises name_of xs ≡ true → IsAt name_of n xs i → x ≡ get_or xs i x → y ≡ f x → set xs i y ≡ changed name_of n f xs
     changed_at [] i x y h at is e = absurd (omega (arith, at.in_range))
     changed_at (z ∷ xs) zero x y h at is e =
         let here : y ≡ f z = e ∙ ap f is in
-        ap (λ w. w ∷ xs) (here ∙ sym (taken (is_named name_of n z) (f z) z (has_name name_of n z (at.has_name z))))
-        ∙ ap (λ ws. cond (is_named name_of n z) (f z) z ∷ ws) (changed_none xs (none_above (name_of z) xs (at.has_name z) (both_true _ _ h).0))
+        ap (λ w. w ∷ xs) (here ∙ sym (cond-true (is_named name_of n z) (f z) z (has_name name_of n z (at.has_name z))))
+        ∙ ap (λ ws. cond (is_named name_of n z) (f z) z ∷ ws) (changed_none xs (none_above (name_of z) xs (at.has_name z) (and_parts _ _ h).0))
     changed_at (z ∷ xs) (suc i) x y h at is e =
-        ap (λ w. w ∷ set xs i y) (sym (left (is_named name_of n z) (f z) z (has_lower name_of n z (before z xs i h at))))
-        ∙ ap (λ ws. cond (is_named name_of n z) (f z) z ∷ ws) (changed_at xs i x y (both_true _ _ h).1 (later z xs i at) is e)
+        ap (λ w. w ∷ set xs i y) (sym (cond-false (is_named name_of n z) (f z) z (has_lower name_of n z (before z xs i h at))))
+        ∙ ap (λ ws. cond (is_named name_of n z) (f z) z ∷ ws) (changed_at xs i x y (and_parts _ _ h).1 (later z xs i at) is e)
 
   pub without_none : (xs : List X) → NoneNamed xs → xs ≡ without name_of n xs
   without_none [] none = refl
   without_none (x ∷ xs) none =
       ap (λ ws. x ∷ ws) (without_none xs (none_tail x xs none))
-      ∙ sym (left (is_named name_of n x) (without name_of n xs) (x ∷ without name_of n xs) (none 0 x (omega arith)))
+      ∙ sym (cond-false (is_named name_of n x) (without name_of n xs) (x ∷ without name_of n xs) (none 0 x (omega arith)))
 
   pub without_at : (xs : List X) (i : ℕ) → rises name_of xs ≡ true → IsAt name_of n xs i → remove xs i ≡ without name_of n xs
   without_at [] i h at = absurd (omega (arith, at.in_range))
   without_at (z ∷ xs) zero h at =
-      without_none xs (none_above (name_of z) xs (at.has_name z) (both_true _ _ h).0)
-      ∙ sym (taken (is_named name_of n z) (without name_of n xs) (z ∷ without name_of n xs) (has_name name_of n z (at.has_name z)))
+      without_none xs (none_above (name_of z) xs (at.has_name z) (and_parts _ _ h).0)
+      ∙ sym (cond-true (is_named name_of n z) (without name_of n xs) (z ∷ without name_of n xs) (has_name name_of n z (at.has_name z)))
   without_at (z ∷ xs) (suc i) h at =
-      ap (λ ws. z ∷ ws) (without_at xs i (both_true _ _ h).1 (later z xs i at))
-      ∙ sym (left (is_named name_of n z) (without name_of n xs) (z ∷ without name_of n xs) (has_lower name_of n z (before z xs i h at)))
+      ap (λ ws. z ∷ ws) (without_at xs i (and_parts _ _ h).1 (later z xs i at))
+      ∙ sym (cond-false (is_named name_of n z) (without name_of n xs) (z ∷ without name_of n xs) (has_lower name_of n z (before z xs i h at)))
 
   -- ---- in the code's words: the list and the name as the search saw them
 
@@ -123,9 +124,10 @@ module _ {X : Type 0} (name_of : X → List ℕ) (n : List ℕ) where
   amended_there fresh f m us xs zs i x y h e d v at is became =
       amended_at fresh f xs i x y h (at_seen m us xs i e d at) is became ∙ ap (amended name_of n fresh f) v
 
-  pub amended_beside : (fresh : X) (f : X → X) (m : List ℕ) (us xs zs : List X) (i : ℕ) (y : X) → m ≡ n → us ≡ xs → xs ≡ zs → IsGapFor name_of m us i → y ≡ f fresh → insert xs i y ≡ amended name_of n fresh f zs
-  amended_beside fresh f m us xs zs i y e d v gap became =
-      amended_gap fresh f xs i y (gap_seen m us xs i e d gap) became ∙ ap (amended name_of n fresh f) v
+  pub amended_beside : (fresh : X) (f : X → X) (m : List ℕ) (us xs zs ys : List X) (i : ℕ) (y z : X) → m ≡ n → us ≡ xs → xs ≡ zs → IsGapFor name_of m us i → z ≡ fresh → y ≡ f z → ys ≡ insert xs i y
+      → ys ≡ amended name_of n fresh f zs
+  amended_beside fresh f m us xs zs ys i y z e d v gap made became placed =
+      placed ∙ amended_gap fresh f xs i y (gap_seen m us xs i e d gap) (became ∙ ap f made) ∙ ap (amended name_of n fresh f) v
 
   pub changed_there : (f : X → X) (us xs zs : List X) (i : ℕ) (x y : X) → rises name_of xs ≡ true → us ≡ xs → xs ≡ zs → IsAt name_of n us i → x ≡ get_or xs i x → y ≡ f x → set xs i y ≡ changed name_of n f zs
   changed_there f us xs zs i x y h d v at is became =

@@ -1,9 +1,7 @@
 -- What stands under other names stays, whatever is done under one.
 use Rattle.std.proofs.Common.{◌≡◌, ℕ, true, false, cond, List, [], ◌∷◌, Some, refl, sym, ap, ◌∙◌}
 use Rattle.std.specs.Prelude.{nat_eq}
-use Rattle.std.specs.Ordering.{is_eq}
 use Rattle.std.specs.Cmp.Lexicographic.{pointwise, texts_ties}
-use Rattle.std.specs.declared.cmp.Ordering.{Ordering}
 use Rattle.std.specs.declared.cmp.Ordering.TheVariants.{Less, Equal, Greater}
 use Rattle.std.specs.FinMap.Entries as entries
 use Rattle.std.proofs.lemmas.Map.Lookups.{exact_bytes}
@@ -12,15 +10,11 @@ use Rattle.lapin_registry.specs.declared.queues.QueueDefinition.{QueueDefinition
 use Rattle.lapin_registry.specs.ByName.{name_cmp, is_named, named, amended, changed, without}
 use Rattle.lapin_registry.specs.Marks.{RegistryMark, name_in}
 use Rattle.lapin_registry.specs.Marks as mark
-use Rattle.lapin_registry.proofs.Names.{left}
 use Rattle.lapin_registry.specs.Topology.{exchange_name, undeclared_exchange, declared_exchange, bound_exchange, unbound_exchange, queue_name, undeclared_queue, declared_queue, bound_queue, unbound_queue, binding, exchanges_after, queues_after}
+use Rattle.std.proofs.lemmas.Bool.{cond-false}
+use Rattle.lapin_registry.proofs.Names.{is_equal}
 
 module _ {X : Type 0} (name_of : X → List ℕ) (n m : List ℕ) (differs : pointwise nat_eq n m ≡ false) where
-  is_equal : (o : Ordering) → is_eq o ≡ true → o ≡ Equal
-  is_equal Less e = cc
-  is_equal Equal e = refl
-  is_equal Greater e = cc
-
   -- one that has the name hasn't the other
   hasnt : (x : X) → name_of x ≡ n → is_named name_of m x ≡ false
   hasnt x e = ap (λ l. pointwise nat_eq l m) e ∙ differs
@@ -30,7 +24,7 @@ module _ {X : Type 0} (name_of : X → List ℕ) (n m : List ℕ) (differs : poi
 
   -- one more or less of another name at the front
   passed : (x : X) (xs : List X) → is_named name_of m x ≡ false → named name_of m (x ∷ xs) ≡ named name_of m xs
-  passed x xs e = left (is_named name_of m x) (Some x) (named name_of m xs) e
+  passed x xs e = cond-false (is_named name_of m x) (Some x) (named name_of m xs) e
 
   behind : (x : X) (xs ys : List X) → named name_of m xs ≡ named name_of m ys → named name_of m (x ∷ xs) ≡ named name_of m (x ∷ ys)
   behind x xs ys e = ap (λ o. cond (is_named name_of m x) (Some x) o) e

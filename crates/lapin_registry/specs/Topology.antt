@@ -9,7 +9,11 @@ use Rattle.lapin_methods.specs.declared.options.QueueDeclareOptions.{QueueDeclar
 use Rattle.lapin_types.specs.declared.exchange_kind.ExchangeKind.{ExchangeKind}
 use Rattle.lapin_registry.specs.declared.bindings.BindingDefinition.{BindingDefinition}
 use Rattle.lapin_registry.specs.declared.exchanges.ExchangeDefinition.{ExchangeDefinition}
+use Rattle.lapin_registry.specs.declared.exchanges.ExchangeEdit.{ExchangeEdit}
+use Rattle.lapin_registry.specs.declared.exchanges.ExchangeEdit.TheVariants as exchange_edit
 use Rattle.lapin_registry.specs.declared.queues.QueueDefinition.{QueueDefinition}
+use Rattle.lapin_registry.specs.declared.queues.QueueEdit.{QueueEdit}
+use Rattle.lapin_registry.specs.declared.queues.QueueEdit.TheVariants as queue_edit
 use Rattle.lapin_registry.specs.declared.registry.ChannelDefinition.{ChannelDefinition}
 use Rattle.lapin_registry.specs.ByName.{named, amended, changed, without}
 use Rattle.lapin_registry.specs.Marks.{Arguments, RegistryMark}
@@ -55,6 +59,11 @@ bound_exchange b x = record x { bindings = x.bindings ++ b ∷ [] }
 abbrev pub unbound_exchange : List ℕ → List ℕ → Arguments → ExchangeDefinition → ExchangeDefinition
 unbound_exchange source key arguments x = record x { bindings = without_binding source key arguments x.bindings }
 
+-- what an edit makes of an exchange
+abbrev pub edited_exchange : ExchangeEdit → ExchangeDefinition → ExchangeDefinition
+edited_exchange (exchange_edit.Declare kind options arguments) = declared_exchange kind options arguments
+edited_exchange (exchange_edit.Bind binding) = bound_exchange binding
+
 -- ---- queues
 
 -- the name under which a queue is recorded
@@ -76,6 +85,11 @@ bound_queue b q = record q { bindings = q.bindings ++ b ∷ [] }
 -- a queue without any binding of this source, key and arguments
 abbrev pub unbound_queue : List ℕ → List ℕ → Arguments → QueueDefinition → QueueDefinition
 unbound_queue source key arguments q = record q { bindings = without_binding source key arguments q.bindings }
+
+-- what an edit makes of a queue
+abbrev pub edited_queue : QueueEdit → QueueDefinition → QueueDefinition
+edited_queue (queue_edit.Declare options arguments) = declared_queue options arguments
+edited_queue (queue_edit.Bind binding) = bound_queue binding
 
 -- ---- a channel
 

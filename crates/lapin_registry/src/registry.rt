@@ -5,8 +5,8 @@ ghost use Rattle.lapin_registry.specs.Topology.{empty_definition, after_mark};
 ghost use Rattle.lapin_registry.specs.Marks as mark;
 
 use crate::bindings::BindingDefinition;
-use crate::exchanges::Exchanges;
-use crate::queues::Queues;
+use crate::exchanges::{ExchangeEdit, Exchanges};
+use crate::queues::{QueueEdit, Queues};
 use lapin_types::{
     ExchangeDeclareOptions, ExchangeKind, FieldTable, NoMemory, QueueDeclareOptions, ShortString,
 };
@@ -90,9 +90,8 @@ impl Registry {
         ensures ok { OnOk result (self.new ≡ after_mark self.old (mark.ExchangeDeclared name kind options arguments)) }
         ensures err { OnErr result (self.new ≡ self.old) }
     {
-        self.definition
-            .exchanges
-            .declare(alloc, name, kind, options, arguments)
+        let edit = ExchangeEdit::Declare(kind, options, arguments);
+        self.definition.exchanges.amend(alloc, name, edit)
     }
 
     /// A declare of a queue is completed, passive or not: it is recorded under its name, and keeps the bindings recorded there.
@@ -110,9 +109,8 @@ impl Registry {
         ensures ok { OnOk result (self.new ≡ after_mark self.old (mark.QueueDeclared name options arguments)) }
         ensures err { OnErr result (self.new ≡ self.old) }
     {
-        self.definition
-            .queues
-            .declare(alloc, name, options, arguments)
+        let edit = QueueEdit::Declare(options, arguments);
+        self.definition.queues.amend(alloc, name, edit)
     }
 
     /// A delete of an exchange is completed: the name is gone with its bindings. Nothing changes where it is absent.
@@ -151,7 +149,8 @@ impl Registry {
             routing_key,
             arguments,
         };
-        self.definition.exchanges.bind(alloc, destination, binding)
+        let edit = ExchangeEdit::Bind(binding);
+        self.definition.exchanges.amend(alloc, destination, edit)
     }
 
     /// A bind of a queue to a source is completed: the binding joins the others of the queue, which is made undeclared where it is
@@ -176,7 +175,8 @@ impl Registry {
             routing_key,
             arguments,
         };
-        self.definition.queues.bind(alloc, destination, binding)
+        let edit = QueueEdit::Bind(binding);
+        self.definition.queues.amend(alloc, destination, edit)
     }
 
     /// An unbind of an exchange is completed: every binding of the destination that has this source, key and arguments is gone.

@@ -11,6 +11,7 @@ use Rattle.lapin_resend.specs.Resend.{after_loss, message_at, whether_stored, st
 use Rattle.lapin_resend.specs.Follows.{standing, place, entry_of, is_kept}
 use Rattle.lapin_resend.specs.Keeping.{kept_from, but, IsSettled, AreSettled, known_report, noted}
 use Rattle.lapin_rules.specs.Wire.{is_closed, is_open}
+use Rattle.lapin_rules.proofs.ReturnLaws.{one-by-one}
 
 -- the message of an entry
 abbrev pub second : List (ℕ × Standing) → List Standing
@@ -209,31 +210,23 @@ noted_from (true ∷ known) done (s ∷ ss) settled long =
     let is : s.stored ≡ true = (settled.0 refl).stored in
     let more : length (done ++ true ∷ []) ≡ suc (length done) = one_more done true in
     let rest = noted_from known (done ++ true ∷ []) ss settled.1 (omega arith) in
-    ap (noted (kept_from (suc (length done)) known ss)) (sym (append_one done true known))
+    ap (noted (kept_from (suc (length done)) known ss)) (sym (one-by-one done true known))
     ∙ ap (λ (k : ℕ). noted (kept_from k known ss) ((done ++ true ∷ []) ++ known)) (sym more)
     ∙ rest
-    ∙ append_one done true (map (λ (t : Standing). t.stored) ss)
+    ∙ one-by-one done true (map (λ (t : Standing). t.stored) ss)
     ∙ ap (λ (b : Bool). done ++ b ∷ map (λ (t : Standing). t.stored) ss) (sym is)
   where
-    append_one : {X : Type 0} (xs : List X) (x : X) (ys : List X) → (xs ++ x ∷ []) ++ ys ≡ xs ++ x ∷ ys
-    append_one [] x ys = refl
-    append_one (z ∷ zs) x ys = ap (λ vs. z ∷ vs) (append_one zs x ys)
-
     one_more : (xs : List Bool) (x : Bool) → length (xs ++ x ∷ []) ≡ suc (length xs)
     one_more [] x = refl
     one_more (z ∷ zs) x = ap suc (one_more zs x)
 noted_from (false ∷ known) done (s ∷ ss) settled long =
     let more : length (done ++ s.stored ∷ []) ≡ suc (length done) = one_more done s.stored in
     let rest = noted_from known (done ++ s.stored ∷ []) ss settled.1 (omega arith) in
-    ap (noted (kept_from (suc (length done)) known ss)) (set_here done false s.stored known ∙ sym (append_one done s.stored known))
+    ap (noted (kept_from (suc (length done)) known ss)) (set_here done false s.stored known ∙ sym (one-by-one done s.stored known))
     ∙ ap (λ (k : ℕ). noted (kept_from k known ss) ((done ++ s.stored ∷ []) ++ known)) (sym more)
     ∙ rest
-    ∙ append_one done s.stored (map (λ (t : Standing). t.stored) ss)
+    ∙ one-by-one done s.stored (map (λ (t : Standing). t.stored) ss)
   where
-    append_one : {X : Type 0} (xs : List X) (x : X) (ys : List X) → (xs ++ x ∷ []) ++ ys ≡ xs ++ x ∷ ys
-    append_one [] x ys = refl
-    append_one (z ∷ zs) x ys = ap (λ vs. z ∷ vs) (append_one zs x ys)
-
     one_more : (xs : List Bool) (x : Bool) → length (xs ++ x ∷ []) ≡ suc (length xs)
     one_more [] x = refl
     one_more (z ∷ zs) x = ap suc (one_more zs x)

@@ -1,6 +1,5 @@
 -- The loop over the steps of a run: the reports so far are those of the steps made.
 use Rattle.std.proofs.Common.{◌≡◌, ◌∙◌, ℕ, ◌+◌, ◌<◌, List, [], ◌∷◌, ◌++◌, length, refl, sym, ap, append_assoc, append-nil, arith, length-append}
-use Rattle.std.specs.Prelude.{Result, Ok, Err, OnErr}
 use Rattle.lapin_resend.specs.declared.step.ResendStep.{ResendStep}
 use Rattle.lapin_resend.specs.declared.step.ResendReport.{ResendReport}
 use Rattle.lapin_resend.specs.Publisher.{Publisher}
@@ -56,7 +55,3 @@ at_stop n all start now new here run h same = (
     new_is = same ∙ h.new_is;
   },
 )
-
-pub on_err : {T E : Type 0} (r : Result T E) (P : Type 0) → P → OnErr r P
-on_err (Ok x) P p = tt
-on_err (Err e) P p = p

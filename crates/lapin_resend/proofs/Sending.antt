@@ -17,11 +17,11 @@ use Rattle.lapin_resend.specs.Sending.{Sending, StandsForSteps}
 use Rattle.lapin_resend.proofs.Quiet.{AreQuiet, all_quiet, quiet_settled}
 use Rattle.lapin_resend.proofs.Keeping.{keeps_tending, kept_known, noted_all, not_stored, kept_after, entries_kept, entries_are, entry_parts}
 
-from-push : (n : ℕ) (ss : List ResendStep) (s : ResendStep) (p : Publisher) → publisher_from n (ss ++ s ∷ []) p ≡ after_step n s (publisher_from n ss p)
+pub from-push : (n : ℕ) (ss : List ResendStep) (s : ResendStep) (p : Publisher) → publisher_from n (ss ++ s ∷ []) p ≡ after_step n s (publisher_from n ss p)
 from-push n [] s p = refl
 from-push n (t ∷ ss) s p = from-push n ss s (after_step n t p)
 
-reports-push : (n : ℕ) (ss : List ResendStep) (s : ResendStep) (p : Publisher) → reports_from n (ss ++ s ∷ []) p ≡ reports_from n ss p ++ report_of n s (publisher_from n ss p) ∷ []
+pub reports-push : (n : ℕ) (ss : List ResendStep) (s : ResendStep) (p : Publisher) → reports_from n (ss ++ s ∷ []) p ≡ reports_from n ss p ++ report_of n s (publisher_from n ss p) ∷ []
 reports-push n [] s p = refl
 reports-push n (t ∷ ss) s p = ap (λ (rs : List ResendReport). report_of n t p ∷ rs) (reports-push n ss s (after_step n t p))
 

@@ -13,22 +13,9 @@ use Rattle.lapin_rules.specs.ConfirmMarks.{ConfirmMark}
 use Rattle.lapin_rules.specs.ConfirmMarks as mark
 use Rattle.lapin_rules.specs.ConfirmReadings.{begins, adds, selects, leaves, is_begun, is_selected, place, channel_in, channel_of, added, was_added, has_left, tag_of, tag_on, covers, kind_outcome, outcome_of, first_settled, first_rejected, outcome_at, outcome_after, life}
 use Rattle.lapin_rules.specs.Words.{since, through, after, many, one_after}
-use Rattle.lapin_rules.proofs.ListLaws.{since-push, since_none}
+use Rattle.lapin_rules.proofs.ListLaws.{since-push, since_none, any-push}
 use Rattle.lapin_effects.specs.Effects.{grows}
-
--- ---- a list with one more
-
-any-push : {X : Type 0} (p : X → Bool) (xs : List X) (y : X) → list_any p (xs ++ y ∷ []) ≡ (list_any p xs || p y)
-any-push p [] y = or_false (p y)
-  where
-    or_false : (b : Bool) → (b || false) ≡ b
-    or_false true = refl
-    or_false false = refl
-any-push p (x ∷ xs) y = at (p x) (any-push p xs y)
-  where
-    at : (b : Bool) → list_any p (xs ++ y ∷ []) ≡ (list_any p xs || p y) → (b || list_any p (xs ++ y ∷ [])) ≡ ((b || list_any p xs) || p y)
-    at true rest = refl
-    at false rest = rest
+use Rattle.std.proofs.lemmas.Bool.{or_parts}
 
 -- ---- selected
 
@@ -103,10 +90,6 @@ pub record Still (ms more : List ConfirmMark) : Type 0 where
   pub begun : is_begun 1 ms ≡ true → is_begun 1 (ms ++ more) ≡ true
   pub selected : is_selected 1 ms ≡ true → is_selected 1 (ms ++ more) ≡ true
 
-neither : (a b : Bool) → (a || b) ≡ false → (a ≡ false) × (b ≡ false)
-neither true b h = absurd (true≢false h)
-neither false b h = (refl, h)
-
 pub quiet_still : (more ms : List ConfirmMark) → list_any grows more ≡ false → Still ms more
 quiet_still [] ms h = record {
   requested = λ r. subst Requested (sym (append-nil ms)) r;
@@ -114,7 +97,7 @@ quiet_still [] ms h = record {
   selected = λ s. ap (is_selected 1) (append-nil ms) ∙ s;
 }
 quiet_still (m ∷ more) ms h =
-    let both = neither (grows m) (list_any grows more) h in
+    let both = or_parts (grows m) (list_any grows more) h in
     let rest = quiet_still more (ms ++ m ∷ []) both.1 in
     let same : (ms ++ m ∷ []) ++ more ≡ ms ++ m ∷ more = append_assoc ms (m ∷ []) more in
     record {

@@ -23,11 +23,11 @@ use Rattle.lapin_rules.specs.ConfirmMarks.{ConfirmMark}
 use Rattle.lapin_rules.specs.ConfirmMarks as mark
 use Rattle.lapin_rules.specs.ConfirmReadings.{begins, is_begun, is_selected}
 use Rattle.lapin_rules.specs.Drops.{is_off, publish_channel, method_channel}
-use Rattle.lapin_rules.specs.Ends.{ends, ends_all, live_channels, end_with}
+use Rattle.lapin_rules.specs.Ends.{live_channels, end_with}
 use Rattle.lapin_rules.specs.Events.{record_of, after_event, confirm_marks}
 use Rattle.lapin_rules.specs.Frames.{MethodEntry, RestEntry, left_rest, left_method, left_publish, publish_method, rest_of}
 use Rattle.lapin_rules.specs.Handing.{handed_out, began_on, after_handing, left_marks, sent}
-use Rattle.lapin_rules.specs.Leaving.{may_begin, begun_rest}
+use Rattle.lapin_rules.specs.Leaving.{may_begin}
 use Rattle.lapin_rules.specs.Words.{without_first}
 use Rattle.lapin_rules.specs.Phases.{is_up, is_live, channel_state, phase_in}
 use Rattle.lapin_rules.specs.ChannelClose.{phases_sent}
@@ -40,14 +40,17 @@ use Rattle.lapin_content.specs.declared.start.Start.{Start}
 use Rattle.lapin_content.specs.declared.start.Start.TheVariants as start
 use Rattle.lapin_content.specs.declared.Whole.{Whole}
 use Rattle.lapin_rules.specs.Select.{is_select, method_marks}
-use Rattle.lapin_rules.specs.Wire.{Wire, state_of, phase_of, is_closed, is_open, with_lists}
+use Rattle.lapin_rules.specs.Wire.{Wire, state_of, phase_of, is_closed, is_open}
 use Rattle.lapin_effects.specs.Effects.{Effect, Stays, Closes, Opens, Adds, Ends, Falls, Sinks, live, grows, is_next}
 use Rattle.lapin_effects.proofs.Events.{has_effect}
-use Rattle.lapin_machine.proofs.Brought.{none_begins}
-use Rattle.lapin_laws.proofs.Going.{up_sent, live_sent, handed_begun, next_publish}
+use Rattle.lapin_laws.proofs.Going.{live_sent, handed_begun, next_publish, next_none}
 use Rattle.lapin_resend.specs.Messages.{Standing}
 use Rattle.lapin_resend.specs.Publisher.{publishing}
 use Rattle.lapin_resend_laws.proofs.Marks.{one_still, Requested, requested-push, Still, quiet_still, begun-push, selected-push}
+use Rattle.lapin_tables.proofs.Bools.{or_true, and_first}
+use Rattle.std.proofs.lemmas.Bool.{or_right}
+use Rattle.lapin_effects.proofs.Comes.{ends_grow, all_grow}
+use Rattle.lapin_machine.proofs.Shut.{frame_left}
 
 -- ---- what is kept
 
@@ -93,10 +96,6 @@ select_kept : (d : ℕ) (xs : List MethodEntry) → (d == 1) ≡ false → has_s
 select_kept d [] apart h = absurd (true≢false (sym h))
 select_kept d (x ∷ xs) apart h = at (is_select_of x) (is_off method_channel d x) refl refl (select_kept d xs apart)
   where
-    both : (a b : Bool) → a && b ≡ true → a ≡ true
-    both true b e = refl
-    both false b e = absurd (true≢false (sym e))
-
     off_false : (c : ℕ) → (c == 1) ≡ true → not (c == d) ≡ false → ⊥
     off_false c one out =
         elim (eqb_tells c 1) [
@@ -112,7 +111,7 @@ select_kept d (x ∷ xs) apart h = at (is_select_of x) (is_off method_channel d 
 
     at : (s o : Bool) → is_select_of x ≡ s → is_off method_channel d x ≡ o → (has_select xs ≡ true → has_select (filter (is_off method_channel d) xs) ≡ true) → has_select (filter (is_off method_channel d) (x ∷ xs)) ≡ true
     at true true s_is o_is rest = rw (o_is, s_is) refl
-    at true false s_is o_is rest = absurd (off_false x.channel (both (x.channel == 1) (is_select x.method) s_is) o_is)
+    at true false s_is o_is rest = absurd (off_false x.channel (and_first (x.channel == 1) (is_select x.method) s_is) o_is)
     at false true s_is o_is rest = let later : has_select xs ≡ true = rw s_is at h in rw (o_is, s_is) (rest later)
     at false false s_is o_is rest = let later : has_select xs ≡ true = rw s_is at h in rw o_is (rest later)
 
@@ -250,10 +249,6 @@ quiet_event b ms readings e asked plain quiet r = quiet_effect b _ ms _ _ asked 
 
 -- ---- a frame of the broker, a poll and a loss are such events
 
-ends_quiet : (e : Error) (cs : List ℕ) → list_any grows (ends e cs) ≡ false
-ends_quiet e [] = refl
-ends_quiet e (c ∷ cs) = ends_quiet e cs
-
 whole_quiet : (c : ℕ) (o : Option Whole) → list_any grows (whole_marks c o) ≡ false
 whole_quiet c None = refl
 whole_quiet c (Some w) = at w.start
@@ -275,7 +270,7 @@ failed_quiet (incoming.Settlement c s) b = closed_quiet (is_open (state_of c b))
 failed_quiet _ b = refl
 
 refused_quiet : (i : Incoming) (e : Error) (b : Wire) → list_any grows (refused_marks i e b) ≡ false
-refused_quiet i (error.UnexpectedFrame class number) b = ends_quiet _ (live_channels b.phases)
+refused_quiet i (error.UnexpectedFrame class number) b = ends_grow _ (live_channels b.phases)
 refused_quiet i (error.PreconditionFailed tag current) b = failed_quiet i b
 refused_quiet i _ b = refl
 
@@ -284,7 +279,7 @@ received_quiet (incoming.Settlement c s) b = refl
 received_quiet (incoming.Content c p) b = whole_quiet c (whole_on c p b)
 received_quiet (incoming.ChannelClose c code) b = refl
 received_quiet (incoming.ChannelCloseOk c) b = end_quiet c _
-received_quiet (incoming.ConnectionClose code) b = ends_quiet _ (live_channels b.phases)
+received_quiet (incoming.ConnectionClose code) b = ends_grow _ (live_channels b.phases)
 received_quiet _ b = refl
 
 pub incoming_quiet : (i : Incoming) (r : Record) (b : Wire) → list_any grows (incoming_marks i r b) ≡ false
@@ -292,18 +287,11 @@ incoming_quiet i (record_.Refused e) b = refused_quiet i e b
 incoming_quiet i record_.Received b = received_quiet i b
 incoming_quiet i _ b = refl
 
-pub lost_quiet : (e : Error) (b : Wire) → list_any grows (ends_all e b) ≡ false
-lost_quiet e b = ends_quiet e (live_channels b.phases)
-
 pub taken_quiet : (t : Bool) (n : ℕ) → list_any grows (cond t (mark.Taken n ∷ []) []) ≡ false
 taken_quiet true n = refl
 taken_quiet false n = refl
 
 -- ---- calls of the publisher
-
-either : (a b : Bool) → b ≡ true → (a || b) ≡ true
-either true b h = refl
-either false b h = h
 
 -- where a channel is closed it has no live opening; where it is open it has one
 closed_over : (b : Wire) → is_closed (state_of 1 b) ≡ true → live 1 b ≡ false
@@ -343,7 +331,7 @@ open_call b ms readings asked closed r =
   where
     last_begun : (xs : List ConfirmMark) → is_begun 1 (xs ++ mark.Begun 1 ∷ []) ≡ true
     last_begun [] = refl
-    last_begun (x ∷ xs) = either (begins 1 x) (is_begun 1 (xs ++ mark.Begun 1 ∷ [])) (last_begun xs)
+    last_begun (x ∷ xs) = or_right (begins 1 x) (is_begun 1 (xs ++ mark.Begun 1 ∷ [])) (last_begun xs)
 
 -- `confirm.select` on the open channel: it waits
 pub select_call : (b : Wire) (ms : List ConfirmMark) (readings : Readings) (asked : Bool) → is_open (state_of 1 b) ≡ true → Ready b ms asked → ReadyAfter b ms readings (event.Call 1 (call.ConfirmSelect (record { nowait = true }))) true
@@ -364,7 +352,7 @@ select_call b ms readings asked opened r =
 
     last : (xs : List MethodEntry) → has_select (xs ++ entry ∷ []) ≡ true
     last [] = refl
-    last (x ∷ xs) = either (is_select_of x) (has_select (xs ++ entry ∷ [])) (last xs)
+    last (x ∷ xs) = or_right (is_select_of x) (has_select (xs ++ entry ∷ [])) (last xs)
 
 -- a publish on the open channel, in an opening whose select was called
 pub publish_call : (b : Wire) (ms : List ConfirmMark) (readings : Readings) (s : Standing) → is_open (state_of 1 b) ≡ true → Ready b ms true → ReadyAfter b ms readings (publishing s) true
@@ -391,7 +379,7 @@ publish_call b ms readings s opened r =
 -- a leaving frame moves no opening
 live_sent_by : (f : Frame) (b : Wire) → live 1 (record b { link = link_sent f b.link; phases = phases_sent f b.phases }) ≡ live 1 b
 live_sent_by f b =
-    ap (λ (t : Bool). t && is_live (phase_in (at_channel 1 (phases_sent f b.phases)))) (up_sent f b.link)
+    ap (λ (t : Bool). t && is_live (phase_in (at_channel 1 (phases_sent f b.phases)))) (frame_left f b.link)
     ∙ ap (λ (t : Bool). is_up b.link && t) (live_sent f b.phases 1)
 
 one_first : (f : Publish → Bool) (ps : List Publish) → AllByRecursion IsPublishOfOne ps → AllByRecursion IsPublishOfOne (without_first f ps)
@@ -434,10 +422,6 @@ method_still ms m = at (is_select m.method)
 method_armed : (ms : List ConfirmMark) (m : MethodEntry) (hs : List MethodEntry) → has_select (m ∷ hs) ≡ true → is_begun 1 ms ≡ true → (is_selected 1 (ms ++ method_marks m.channel m.method) ≡ true) ⊎ ((has_select hs ≡ true) × (is_begun 1 (ms ++ method_marks m.channel m.method) ≡ true))
 method_armed ms m hs has begun = at (is_select m.method) (m.channel == 1) refl refl
   where
-    or_true : (a : Bool) → (a || true) ≡ true
-    or_true true = refl
-    or_true false = refl
-
     at : (s c : Bool) → is_select m.method ≡ s → (m.channel == 1) ≡ c → (is_selected 1 (ms ++ method_marks m.channel m.method) ≡ true) ⊎ ((has_select hs ≡ true) × (is_begun 1 (ms ++ method_marks m.channel m.method) ≡ true))
     at true true s_is c_is =
         let selected : is_selected 1 (ms ++ mark.SelectLeft m.channel ∷ []) ≡ true = selected-push ms (mark.SelectLeft m.channel) refl begun ∙ ap (λ (t : Bool). is_selected 1 ms || t) c_is ∙ or_true (is_selected 1 ms) in
@@ -452,19 +436,6 @@ begun_selected : (b : Wire) (ms : List ConfirmMark) (t : ℕ → Bool) (p : Publ
 begun_selected b ms t p none here (inl empty) = let no : None ≡ Some p = ap (find (may_begin t)) (sym empty) ∙ here in absurd (cc)
 begun_selected b ms t p none here (inr (inl selected)) = selected
 begun_selected b ms t p none here (inr (inr both)) = let no : false ≡ true = ap has_select (sym none) ∙ both.0 in absurd (true≢false (sym no))
-
--- where no publish may begin, a frame request leaves all as it is
-none_left : (t : ℕ → Bool) (b : Wire) → b.rest ≡ [] → b.methods ≡ [] → find (may_begin t) b.publishes ≡ None → after_handing t b ≡ b
-none_left t b r m q = begun ∙ ap next q ∙ same (without_first (may_begin t) b.publishes) (sym (none_begins (may_begin t) b.publishes q))
-  where
-    next : Option Publish → Wire
-    next o = sent (option_map left_publish o) (with_lists (record { rest = begun_rest b.frame_max o; methods = []; publishes = without_first (may_begin t) b.publishes }) b)
-
-    begun : after_handing t b ≡ next (find (may_begin t) b.publishes)
-    begun = rw (r, m) refl
-
-    same : (ps : List Publish) → b.publishes ≡ ps → record b { rest = []; methods = []; publishes = ps } ≡ b
-    same ps e = λ i. record b { rest = sym r i; methods = sym m i; publishes = sym e i }
 
 -- a frame request leaves it ready, whichever publish it lets begin
 pub handing_ready : (t : ℕ → Bool) (b : Wire) (ms : List ConfirmMark) (asked : Bool) → Ready b ms asked → Ready (after_handing t b) (ms ++ left_marks (handed_out t b)) asked
@@ -493,7 +464,7 @@ handing_ready t b ms asked r = by b.rest b.methods (find (may_begin t) b.publish
         (handed_begun t b rest_is methods_is ∙ ap (option_map left_publish) found) (next_publish t b p rest_is methods_is found)
         (left_ready b ms (mark.Left p.channel p.confirm ∷ []) asked (frame.Method p.channel (publish_method p)) r still (rest_of b.frame_max p) [] (without_first (may_begin t) b.publishes) (one_first (may_begin t) b.publishes r.one) (λ e. ap (without_first (may_begin t)) e) (λ _. inl (still.selected selected)))
     by [] [] None rest_is methods_is found =
-        told None b (handed_begun t b rest_is methods_is ∙ ap (option_map left_publish) found) (none_left t b rest_is methods_is found)
+        told None b (handed_begun t b rest_is methods_is ∙ ap (option_map left_publish) found) (next_none t b rest_is methods_is found)
         (subst (λ (xs : List ConfirmMark). Ready b xs asked) (sym (append-nil ms)) r)
 
 pub next_event : (b : Wire) (ms : List ConfirmMark) (readings : Readings) (flow asked : Bool) → Ready b ms asked → ReadyAfter b ms readings (event.Next flow) asked

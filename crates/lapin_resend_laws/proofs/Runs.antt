@@ -24,7 +24,9 @@ use Rattle.lapin_resend.specs.Resend.{begun, after_step, no_publisher, new_publi
 use Rattle.lapin_resend.proofs.Out.{still_open}
 use Rattle.lapin_resend_laws.specs.Confirms.{confirms_in, NoneIsNotRequested}
 use Rattle.lapin_resend_laws.proofs.Marks.{none_not_requested}
-use Rattle.lapin_resend_laws.proofs.Ready.{Ready, quiet_event, incoming_quiet, lost_quiet, taken_quiet, open_call, select_call, publish_call, next_event}
+use Rattle.lapin_resend_laws.proofs.Ready.{Ready, quiet_event, incoming_quiet, taken_quiet, open_call, select_call, publish_call, next_event}
+use Rattle.lapin_tables.proofs.Bools.{and_second}
+use Rattle.lapin_effects.proofs.Comes.{all_grow}
 
 -- ---- a history with one event more
 
@@ -55,7 +57,7 @@ lost_ready : (n : ℕ) (h : History) (asked : Bool) → IsReady n h asked → Is
 lost_ready n h asked r =
     let p : Past = past n h in
     subst (λ (x : Past). ReadyPast x asked) (sym (past-push (record { wire = start n; confirms = []; tickets = [] }) h event.Lost (rec n h event.Lost)))
-    (quiet_event p.wire p.confirms (readings_of p.confirms p.tickets) event.Lost asked refl (lost_quiet _ p.wire) r)
+    (quiet_event p.wire p.confirms (readings_of p.confirms p.tickets) event.Lost asked refl (all_grow _ p.wire) r)
 
 pub next_ready : (n : ℕ) (h : History) (asked : Bool) → IsReady n h asked → IsReady n (h ++ (event.Next true, rec n h (event.Next true)) ∷ []) asked
 next_ready n h asked r =
@@ -108,11 +110,7 @@ selecting_ready n p true called r =
     let q : Past = past n h in
     run_ready n p.present (joined.Client (event.Call 1 (call.ConfirmSelect (record { nowait = true })))) true
     (subst (λ (x : Past). ReadyPast x true) (sym (past-push (record { wire = start n; confirms = []; tickets = [] }) h (event.Call 1 (call.ConfirmSelect (record { nowait = true }))) (rec n h (event.Call 1 (call.ConfirmSelect (record { nowait = true }))))))
-    (select_call q.wire q.confirms (readings_of q.confirms q.tickets) p.selects (second (not p.selects) (is_open (state_in n p.present)) called) r))
-  where
-    second : (a b : Bool) → a && b ≡ true → b ≡ true
-    second true b e = e
-    second false b e = absurd (true≢false (sym e))
+    (select_call q.wire q.confirms (readings_of q.confirms q.tickets) p.selects (and_second (not p.selects) (is_open (state_in n p.present)) called) r))
 selecting_ready n p false called r = r
 
 -- where the channel is open after that, its select was called

@@ -46,6 +46,8 @@ use Rattle.lapin_resend.specs.Publisher.{Publisher, Steps, Met, told, state_in, 
 use Rattle.lapin_resend_laws.specs.Stored.{published, IsAcked, IsAckedIn, AnyOf}
 use Rattle.lapin_resend_laws.proofs.Runs.{IsRunReady, poll_runs, publish_ready, opening_ready, selecting_ready, selected_then}
 use Rattle.lapin_resend_laws.proofs.Marks.{on_channel}
+use Rattle.lapin_verdicts.proofs.Numbering.{place-more}
+use Rattle.std.proofs.lemmas.Option.{same_Some}
 
 -- ---- a poll that tells of an ack
 
@@ -96,12 +98,6 @@ messages-push : (h : History) (x : Event × Record) → messages_in (h ++ x ∷ 
 messages-push [] x = append-nil (message_by x.0 x.1)
 messages-push (y ∷ h) x = ap (λ (ms : List publishes.Message). message_by y.0 y.1 ++ ms) (messages-push h x) ∙ sym (append_assoc (message_by y.0 y.1) (messages_in h) (message_by x.0 x.1))
 
-place_stays : {X : Type 0} (k : ℕ) (xs ys : List X) (x : X) → at_place k xs ≡ Some x → at_place k (xs ++ ys) ≡ Some x
-place_stays k [] ys x h = absurd (cc)
-place_stays zero (z ∷ zs) ys x h = absurd (cc)
-place_stays (suc zero) (z ∷ zs) ys x h = h
-place_stays (suc (suc k)) (z ∷ zs) ys x h = place_stays (suc k) zs ys x h
-
 place_last : {X : Type 0} (k : ℕ) (xs : List X) (x : X) → k ≡ suc (length xs) → at_place k (xs ++ x ∷ []) ≡ Some x
 place_last zero xs x h = absurd (omega arith)
 place_last (suc zero) [] x h = refl
@@ -129,7 +125,7 @@ abbrev IsMore : ℕ → Steps → Steps → Type 0
 IsMore n made later = (new : List publishes.Message) × (messages_in (joined_to n later).session ≡ messages_in (joined_to n made).session ++ new)
 
 good_on : (n : ℕ) (earlier : List Steps) (made : Steps) (x : joined_step.Step) (s : Standing) → IsMore n made (made ++ x ∷ []) → IsGood n earlier made s → IsGood n earlier (made ++ x ∷ []) s
-good_on n earlier made x s more g = record { stored = λ is. on (g.stored is); out = λ k is. subst (λ (ms : List publishes.Message). at_place k ms ≡ Some (published s.message)) (sym more.1) (place_stays k (messages_in (joined_to n made).session) more.0 (published s.message) (g.out k is)) }
+good_on n earlier made x s more g = record { stored = λ is. on (g.stored is); out = λ k is. subst (λ (ms : List publishes.Message). at_place k ms ≡ Some (published s.message)) (sym more.1) (place-more k (messages_in (joined_to n made).session) more.0 (published s.message) (g.out k is)) }
   where
     on : AnyOf (IsAckedIn n s.message) earlier ⊎ IsAckedIn n s.message made → AnyOf (IsAckedIn n s.message) earlier ⊎ IsAckedIn n s.message (made ++ x ∷ [])
     on (inl before) = inl before
@@ -242,11 +238,8 @@ module _ (n : ℕ) (law : IsLaw n) (earlier : List Steps) where
       let tag = acked_tag p.confirms k says.1 in
       let judged = law 1 k tag.0 settle.Ack made (on_channel k p.confirms ready.requested.on says.0) tag.1 says.1 in
       let same : Some judged.0 ≡ Some (published s.message) = sym judged.1 ∙ g.out k is in
-      let message : judged.0 ≡ published s.message = inside judged.0 (published s.message) same in
+      let message : judged.0 ≡ published s.message = same_Some judged.0 (published s.message) same in
       record { opened = opening_of k p.confirms; number = tag.0; verdict = subst (λ (m : publishes.Message). IsVerdict tag.0 settle.Ack m (opening 1 (opening_of k p.confirms) (deeds n made))) message judged.2 }
-    where
-      inside : (a b : publishes.Message) → Some a ≡ Some b → a ≡ b
-      inside a b e = cc
 
   polled_good : (made : Steps) (s : Standing) (k : ℕ) (asked : Bool) (r : Record) → IsRunReady n made asked → IsGood n earlier made s → s.outstanding ≡ Some k → told n made (event.PollConfirm k) ≡ r → IsGood n earlier (with_event (event.PollConfirm k) made) (polled r s)
   polled_good made s k asked (record_.Confirmed (Ok (confirmation.Ack c))) ready g is told_is = record {
@@ -270,13 +263,10 @@ module _ (n : ℕ) (law : IsLaw n) (earlier : List Steps) where
         stored = (good_on n earlier made (joined.Client (publishing s)) s (run_more n made _) g).stored;
         out = λ k is.
             let number : Some ((past n h).wire.published + 1) ≡ Some k = sym one.1 ∙ is in
-            let same : (past n h).wire.published + 1 ≡ k = inside ((past n h).wire.published + 1) k number in
+            let same : (past n h).wire.published + 1 ≡ k = same_Some ((past n h).wire.published + 1) k number in
             let place : k ≡ suc (length (messages_in h)) = sym same ∙ add-one ((past n h).wire.published) ∙ ap suc (sym count) in
             ap (at_place k) grown ∙ place_last k (messages_in h) (published s.message) place;
       }
-    where
-      inside : (a b : ℕ) → Some a ≡ Some b → a ≡ b
-      inside a b e = cc
 
   -- ---- each message, one after the other
 

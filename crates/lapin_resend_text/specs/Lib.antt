@@ -1,4 +1,3 @@
-pub mod Input
 pub mod Messages
 pub mod Reports
 pub mod Steps

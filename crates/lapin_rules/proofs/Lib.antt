@@ -5,3 +5,4 @@ pub mod Runs
 pub mod ChannelLaws
 pub mod ReturnLaws
 pub mod EndLaws
+pub mod PhaseLaws

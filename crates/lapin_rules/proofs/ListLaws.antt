@@ -1,9 +1,8 @@
 -- Laws of the words on lists: what one more element at the end does to them.
 use Rattle.std.proofs.Common.{◌≡◌, ℕ, zero, suc, ◌+◌, ◌<◌, Bool, true, false, cond, ◌||◌, List, [], ◌∷◌, ◌++◌, Some, None, refl, ◌∙◌, ap, arith}
-use Rattle.std.specs.List.{list_any, find, count_by, sum_by}
+use Rattle.std.specs.List.{list_any, find, count_by}
 use Rattle.std.proofs.lemmas.List.Folds.{list_any-append}
-use Rattle.std.proofs.lemmas.List.Sums.{sum_by-append}
-use Rattle.std.proofs.lemmas.Grind.{common_steps}
+use Rattle.std.proofs.lemmas.List.Sums.{sum_by_push}
 use Rattle.std.proofs.Math.Bool.{or-true}
 use Rattle.lapin_rules.specs.Words.{after, through, since, many, one_after, rest_after}
 
@@ -59,11 +58,8 @@ one_more : (b : Bool) (n : ℕ) → n + cond b 1 0 ≡ cond b (n + 1) n
 one_more true n = refl
 one_more false n = omega arith
 
-sum-push : {X : Type 0} (f : X → ℕ) (xs : List X) (y : X) → sum_by f (xs ++ y ∷ []) ≡ sum_by f xs + f y
-sum-push f xs y = grind (arith, common_steps, sum_by-append)
-
 pub count-push : {X : Type 0} (p : X → Bool) (xs : List X) (y : X) → count_by p (xs ++ y ∷ []) ≡ cond (p y) (count_by p xs + 1) (count_by p xs)
-count-push p xs y = rw (sum-push (λ x. cond (p x) 1 0) xs y) (one_more (p y) (count_by p xs))
+count-push p xs y = rw (sum_by_push (λ x. cond (p x) 1 0) xs y) (one_more (p y) (count_by p xs))
 
 pub since_none : {X : Type 0} (p : X → Bool) (xs : List X) → list_any p xs ≡ false → since p xs ≡ []
 since_none p [] h = refl
@@ -130,3 +126,7 @@ rest_new p zero (x ∷ xs) y new e =
 rest_new p (suc k) (x ∷ xs) y new e =
     elim (p x) as (λ a. suc k ≡ cond a (many p xs + 1) (many p xs) → cond a (rest_after p k (xs ++ y ∷ [])) (rest_after p (suc k) (xs ++ y ∷ [])) ≡ [])
     [ true ↦ λ e. rest_new p k xs y new (omega arith) | false ↦ λ e. rest_new p (suc k) xs y new e ] e
+
+pub many-none : {X : Type 0} (p : X → Bool) (ys : List X) → list_any p ys ≡ false → many p ys ≡ 0
+many-none p [] h = refl
+many-none p (y ∷ ys) h = elim (p y) as (λ v. (v || list_any p ys) ≡ false → cond v (many p ys + 1) (many p ys) ≡ 0) [ true ↦ λ e. absurd cc | false ↦ λ e. many-none p ys e ] h

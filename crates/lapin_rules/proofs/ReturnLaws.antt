@@ -9,7 +9,7 @@ nothing-more : {X : Type 0} (xs : List X) → xs ++ [] ≡ xs
 nothing-more [] = refl
 nothing-more (x ∷ xs) = ap (λ ys. x ∷ ys) (nothing-more xs)
 
-one-by-one : {X : Type 0} (xs : List X) (y : X) (zs : List X) → (xs ++ y ∷ []) ++ zs ≡ xs ++ y ∷ zs
+pub one-by-one : {X : Type 0} (xs : List X) (y : X) (zs : List X) → (xs ++ y ∷ []) ++ zs ≡ xs ++ y ∷ zs
 one-by-one [] y zs = refl
 one-by-one (x ∷ xs) y zs = ap (λ ys. x ∷ ys) (one-by-one xs y zs)
 

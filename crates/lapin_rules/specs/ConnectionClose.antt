@@ -21,7 +21,7 @@ use Rattle.lapin_rules.specs.ConfirmMarks.{ConfirmMark}
 use Rattle.lapin_rules.specs.TicketReadings.{TicketMark}
 use Rattle.lapin_rules.specs.Leaving.{Lists}
 use Rattle.lapin_rules.specs.Moves.{link_after}
-use Rattle.lapin_rules.specs.Phases.{has_left, is_crossed}
+use Rattle.lapin_rules.specs.Phases.{close_has_left, is_crossed}
 use Rattle.lapin_rules.specs.Drops.{no_lists}
 use Rattle.lapin_rules.specs.Requests.{first_request, without_kind, ticket_of, resolved_with}
 use Rattle.lapin_rules.specs.Wire.{Wire, lists_of, with_lists, requests_of, queued, noted}
@@ -104,7 +104,7 @@ unless_sent sent l = if sent then l else no_lists
 
 -- no close of this side waits to leave: it has left, or none is under way
 abbrev pub has_sent : ConnectionPhase → Bool
-has_sent (link.Closing s) = has_left s
+has_sent (link.Closing s) = close_has_left s
 has_sent _ = true
 
 -- the connection is closed, and the request of this side's close is gone; a close that has not left is dropped

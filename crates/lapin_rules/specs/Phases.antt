@@ -43,9 +43,9 @@ is_up link.Open = true
 is_up _ = false
 
 -- this side's `connection.close` has left
-abbrev pub has_left : CloseStage → Bool
-has_left stage.Queued = false
-has_left _ = true
+abbrev pub close_has_left : CloseStage → Bool
+close_has_left stage.Queued = false
+close_has_left _ = true
 
 -- this side's `connection.close` has left, and the broker's first came since
 abbrev pub is_crossed : CloseStage → Bool

@@ -27,11 +27,7 @@ use Rattle.lapin_consumer.specs.contracts.consumers.Consumers as consumers_
 use Rattle.lapin_registry.specs.contracts.bindings.BindingDefinition as binding_
 use Rattle.lapin_registry.specs.contracts.bindings.Bindings as bindings_
 use Rattle.lapin_registry.specs.contracts.exchanges.ExchangeDefinition as exchange_
-use Rattle.lapin_registry.specs.contracts.exchanges.PlacedExchange as placed_exchange_
-use Rattle.lapin_registry.specs.contracts.exchanges.Exchanges as exchanges_
 use Rattle.lapin_registry.specs.contracts.queues.QueueDefinition as queue_
-use Rattle.lapin_registry.specs.contracts.queues.PlacedQueue as placed_queue_
-use Rattle.lapin_registry.specs.contracts.queues.Queues as declared_queues_
 use Rattle.lapin_registry.specs.contracts.registry.ChannelDefinition as definition_
 use Rattle.lapin_registry.specs.contracts.registry.Registry as registry_
 use Rattle.lapin_registry.specs.contracts.topologies.Topologies as topologies_
@@ -115,26 +111,14 @@ exchange_field_send = search (bindings_send, table_send, text_send, crosses, sen
 pub exchange_send : IsSend exchange_.the_row
 exchange_send = recorded_send (exchange_.the_field).row _ _ (exchange_.the_type).to_one exchange_field_send
 
-pub placed_exchange_send : IsSend placed_exchange_.the_row
-placed_exchange_send = search (exchange_send, crosses, sendable) depth 400 fits 200000
-
-pub exchanges_send : IsSend exchanges_.the_row
-exchanges_send = search (placed_exchange_send, crosses, sendable) depth 400 fits 200000
-
 pub queue_field_send : IsSend (queue_.the_field).row
 queue_field_send = search (bindings_send, table_send, text_send, crosses, sendable) depth 400 fits 200000
 
 pub queue_send : IsSend queue_.the_row
 queue_send = recorded_send (queue_.the_field).row _ _ (queue_.the_type).to_one queue_field_send
 
-pub placed_queue_send : IsSend placed_queue_.the_row
-placed_queue_send = search (queue_send, crosses, sendable) depth 400 fits 200000
-
-pub declared_queues_send : IsSend declared_queues_.the_row
-declared_queues_send = search (placed_queue_send, crosses, sendable) depth 400 fits 200000
-
 pub definition_field_send : IsSend (definition_.the_field).row
-definition_field_send = search (exchanges_send, declared_queues_send, crosses, sendable) depth 400 fits 200000
+definition_field_send = search (exchange_send, queue_send, crosses, sendable) depth 400 fits 200000
 
 pub registry_send : IsSend registry_.the_row
 registry_send = search (definition_field_send, crosses, sendable) depth 400 fits 200000

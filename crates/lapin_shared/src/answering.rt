@@ -4,15 +4,15 @@
 //! that come seldom are copied whole, and go by the session's step.
 
 ghost use Rattle.std.specs.Prelude.{◌≡◌, OnOk, OnErr};
-ghost use Rattle.lapin_types.specs.Types.basic;
 ghost use Rattle.lapin_types.specs.Types.error as error_;
-ghost use Rattle.lapin_types.specs.Types.frame as frame_;
-ghost use Rattle.lapin_types.specs.Types.method as method_;
 ghost use Rattle.lapin_types.specs.declared.call.Call.TheVariants as call_;
 ghost use Rattle.lapin_types.specs.declared.event.Event.TheVariants as event_;
 ghost use Rattle.lapin_types.specs.declared.record.Record.TheVariants as record_;
 ghost use Rattle.lapin_confirm.specs.Answers.{result_of as result_of_lem};
-ghost use Rattle.lapin_machine.specs.Numbers.{HasNumbersFor};
+ghost use Rattle.lapin_rules.specs.Incoming.{incoming_of};
+ghost use Rattle.lapin_machine.specs.Numbers.{HasNumbersFor, ReceiveCause};
+ghost use Rattle.lapin_machine.specs.Told.{HeardTold, WasHeard};
+ghost use Rattle.lapin_machine.specs.World.{next, told_by};
 ghost use Rattle.lapin_shared.specs.Answered.{IsAnswered};
 
 use lapin_session::{Heard, Session};
@@ -87,51 +87,7 @@ fn answer_frame(
     ensures ok { OnOk result (IsAnswered (event_.Receive frame.now) session.old session.new answer.new) }
     ensures err { OnErr result (session.new ≡ session.old) }
 {
-    match frame {
-        Frame::Method(channel, Method::Basic(method)) => {
-            answer_basic(alloc, session, *channel, method, frame, answer)
-        }
-        _ => answer_copy(alloc, session, frame, answer),
-    }
-}
-
-// Takes a method of the class basic, which stands in this frame: a confirmation goes without the frame.
-fn answer_basic(
-    alloc: Global,
-    session: &mut Session,
-    channel: u16,
-    method: &BasicMethod,
-    frame: &Frame,
-    answer: &mut Record,
-) -> Result<(), NoMemory>
-    requires numbers { HasNumbersFor 1 session.old }
-    requires frame { frame.now ≡ frame_.Method channel (method_.Basic method.now) }
-    ensures ok { OnOk result (IsAnswered (event_.Receive frame.now) session.old session.new answer.new) }
-    ensures err { OnErr result (session.new ≡ session.old) }
-{
-    match method {
-        BasicMethod::Ack {
-            delivery_tag,
-            multiple,
-        } => answer_ack(alloc, session, channel, *delivery_tag, *multiple, answer),
-        _ => answer_copy(alloc, session, frame, answer),
-    }
-}
-
-// Takes a confirmation.
-fn answer_ack(
-    alloc: Global,
-    session: &mut Session,
-    channel: u16,
-    delivery_tag: u64,
-    multiple: bool,
-    answer: &mut Record,
-) -> Result<(), NoMemory>
-    requires { HasNumbersFor 1 session.old }
-    ensures ok { OnOk result (IsAnswered (event_.Receive (frame_.Method channel (method_.Basic (basic.Ack delivery_tag multiple)))) session.old session.new answer.new) }
-    ensures err { OnErr result (session.new ≡ session.old) }
-{
-    match session.receive_ack(alloc, channel, delivery_tag, multiple) {
+    match hear(alloc, session, frame) {
         Ok(Heard::Received) => {
             *answer = Record::Received;
             Ok(())
@@ -145,33 +101,36 @@ fn answer_ack(
     }
 }
 
-// Takes a copy of any other frame.
+// The session takes a frame: a confirmation without it, of any other a copy.
+fn hear(alloc: Global, session: &mut Session, frame: &Frame) -> Result<Heard, Error>
+    ensures told { HeardTold result (told_by session.old (event_.Receive frame.now)) }
+    ensures ok { WasHeard result (session.new ≡ next session.old (event_.Receive frame.now)) (session.new ≡ session.old) }
+    ensures cause { ReceiveCause result (incoming_of frame.now) session.old.wire }
+{
+    match frame {
+        Frame::Method(
+            channel,
+            Method::Basic(
+                BasicMethod::Ack {
+                    delivery_tag,
+                    multiple,
+                },
+            ),
+        ) => session.receive_ack(alloc, *channel, *delivery_tag, *multiple),
+        _ => hear_copy(alloc, session, frame),
+    }
+}
+
 #[inline(never)]
-fn answer_copy(
-    alloc: Global,
-    session: &mut Session,
-    frame: &Frame,
-    answer: &mut Record,
-) -> Result<(), NoMemory>
-    requires { HasNumbersFor 1 session.old }
-    ensures ok { OnOk result (IsAnswered (event_.Receive frame.now) session.old session.new answer.new) }
-    ensures err { OnErr result (session.new ≡ session.old) }
+fn hear_copy(alloc: Global, session: &mut Session, frame: &Frame) -> Result<Heard, Error>
+    ensures told { HeardTold result (told_by session.old (event_.Receive frame.now)) }
+    ensures ok { WasHeard result (session.new ≡ next session.old (event_.Receive frame.now)) (session.new ≡ session.old) }
+    ensures cause { ReceiveCause result (incoming_of frame.now) session.old.wire }
 {
     let Ok(copy) = frame.try_clone(alloc) else {
-        return Err(NoMemory);
+        return Err(Error::NoMemory);
     };
-    match session.receive(alloc, copy) {
-        Ok(Heard::Received) => {
-            *answer = Record::Received;
-            Ok(())
-        }
-        Ok(Heard::Passed) => {
-            *answer = Record::Passed;
-            Ok(())
-        }
-        Err(Error::NumbersUsedUp) => unreachable!(),
-        Err(error) => refuse(error, answer),
-    }
+    session.receive(alloc, copy)
 }
 
 // Puts the refusal of a step in its record's place. Want of memory is none.

@@ -5,3 +5,4 @@ pub mod Passed
 pub mod Slots
 pub mod Counts
 pub mod SlotLaws
+pub mod Bools

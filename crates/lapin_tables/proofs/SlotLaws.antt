@@ -4,14 +4,11 @@ use Rattle.std.specs.Prelude.{count_by}
 use Rattle.std.specs.Option.{option_map, IsSome}
 use Rattle.lapin_tables.proofs.Counts.{count-cons, count-here, count-head, count-tail}
 use Rattle.lapin_tables.specs.Numbered.{under, with_under, first_kept}
+use Rattle.lapin_tables.proofs.Channels.{nowhere-later}
 
 predecessor : (n : ℕ) (o : Option ℕ) → option_map suc o ≡ Some n → (q : ℕ) × (o ≡ Some q) × (n ≡ suc q)
 predecessor n None h = cc
 predecessor n (Some q) h = (q, refl, cc)
-
-no_predecessor : (o : Option ℕ) → option_map suc o ≡ None → o ≡ None
-no_predecessor None h = refl
-no_predecessor (Some q) h = cc
 
 module _ {T : Type 0} where
   -- what is found has a number that was given
@@ -122,7 +119,7 @@ module _ {T : Type 0} where
   first-none (suc k) x [] h there = cc
   first-none (suc k) x (Some y ∷ xs) h there = cc
   first-none (suc zero) x (None ∷ xs) h there = cc
-  first-none (suc (suc k)) x (None ∷ xs) h there = first-none (suc k) x xs (no_predecessor (first_kept xs) h) there
+  first-none (suc (suc k)) x (None ∷ xs) h there = first-none (suc k) x xs (nowhere-later (first_kept xs) h) there
 
 -- ---- slots through a function
 

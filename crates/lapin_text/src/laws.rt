@@ -20,7 +20,7 @@ pub fn one_line()
 
 /// Parsing the text of a frame size and of events that have lines gives that frame size and those events.
 pub fn parsed_as_printed()
-    ensures { (m : ℕ) (es : List AnEvent) (max : Option ℕ) (got : List AnEvent) (bad : Option ℕ) → IsMax m → AllByRecursion HasLine es → AreParsed (lines_of (input_of m es)) max got bad → (max ≡ Some m) × (got ≡ es) × (bad ≡ None) }
+    ensures { (m : ℕ) (es : List AnEvent) (max : Option ℕ) (got : List AnEvent) (bad : Option ℕ) → IsMax m → AllByRecursion HasLine es → AreParsed (lines_of (input_of line_of m es)) max got bad → (max ≡ Some m) × (got ≡ es) × (bad ≡ None) }
 {}
 
 /// What an input says is one thing: the same lines give the same frame size, events and bad line.

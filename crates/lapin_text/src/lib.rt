@@ -25,7 +25,7 @@ pub use frames::{Acked, read_acked, read_body_frame, read_header_frame, read_met
 pub use lapin_tokens::{read_bytes, read_num, read_short};
 pub use laws::{one_line, one_reading, one_text, parsed_as_printed};
 pub use lines::Lines;
-pub use parsing::{Parsed, parse_events, read_max};
+pub use parsing::{Parsed, ReadLine, parse_events, parse_lines, read_max};
 pub use printing::{print_records, write_frame, write_record};
 pub use reading::{read_event, read_frame};
 pub use records::{

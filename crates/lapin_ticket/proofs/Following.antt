@@ -13,7 +13,7 @@ use Rattle.lapin_tables.proofs.SlotLaws.{length-with}
 use Rattle.lapin_rules.specs.declared.marks.AtLeaving.{AtLeaving}
 use Rattle.lapin_rules.specs.TicketReadings.{TicketMark, gives, given, channel_of, leaving_of, life, begins, is_publish, is_spared, answer_at, answer_by, first_answer, closes}
 use Rattle.lapin_rules.specs.TicketReadings as mark
-use Rattle.lapin_rules.proofs.ListLaws.{any-push}
+use Rattle.lapin_rules.proofs.ListLaws.{any-push, or_false}
 use Rattle.lapin_rules.proofs.TicketLaws.{given-push, answer-push, nth-push, life-push, nth_new, life_new}
 use Rattle.lapin_ticket.specs.declared.Slot.{Slot}
 use Rattle.lapin_ticket.specs.declared.Slot.TheVariants as slot
@@ -83,15 +83,11 @@ open_moves n c l false (mark.Given d k) = refl
 open_moves n c l true (mark.Begun j) = elim (j == n) as (λ x. Some (slot.Open c l true) ≡ cond x (Some (slot.Open c l true)) (Some (slot.Open c l true))) [ true ↦ refl | false ↦ refl ]
 open_moves n c l false (mark.Begun j) = elim (j == n) as (λ x. Some (slot.Open c l x) ≡ cond x (Some (slot.Open c l true)) (Some (slot.Open c l false))) [ true ↦ refl | false ↦ refl ]
 open_moves n c l b (mark.LastLeft j) =
-    rw (same_flag b)
+    rw (or_false b)
     (elim (j == n) as (λ x. Some (held c l b (cond x (option_map Ok (answer_at l)) None)) ≡ cond x (Some (held_or (slot.Open c l b) (answer_at l))) (Some (slot.Open c l b))) [
       | true ↦ elim (answer_at l) as (λ o. Some (held c l b (option_map Ok o)) ≡ Some (held_or (slot.Open c l b) o)) [ None ↦ refl | Some a ↦ refl ]
       | false ↦ refl
     ])
-  where
-    same_flag : (b : Bool) → (b || false) ≡ b
-    same_flag true = refl
-    same_flag false = refl
 open_moves n c l true (mark.Answered j a) = elim (j == n) as (λ x. Some (held c l true (cond x (Some a) None)) ≡ cond x (Some (slot.Held a)) (Some (slot.Open c l true))) [ true ↦ refl | false ↦ refl ]
 open_moves n c l false (mark.Answered j a) = elim (j == n) as (λ x. Some (held c l false (cond x (Some a) None)) ≡ cond x (Some (slot.Held a)) (Some (slot.Open c l false))) [ true ↦ refl | false ↦ refl ]
 open_moves n c l true (mark.ClosedHere d e) = elim (d == c && (is_publish l && false)) as (λ x. Some (held c l true (cond x (Some (Err e)) None)) ≡ cond x (Some (slot.Held (Err e))) (Some (slot.Open c l true))) [ true ↦ refl | false ↦ refl ]

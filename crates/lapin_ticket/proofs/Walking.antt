@@ -8,6 +8,7 @@ use Rattle.lapin_tables.proofs.SlotLaws.{under-other}
 use Rattle.lapin_ticket.specs.declared.Slot.{Slot}
 use Rattle.lapin_ticket.specs.declared.Slot.TheVariants as slot
 use Rattle.lapin_ticket.specs.Slots.{answered_slot, rejects, is_open_on}
+use Rattle.std.proofs.lemmas.Bool.{false_from_ne_true, true_from_ne_false}
 
 pub rejected_some : (c : ℕ) (o : Option Slot) → rejects c o ≡ true → (s : Slot) × (o ≡ Some s)
 rejected_some c None h = cc
@@ -52,11 +53,3 @@ still-on c n m e xs h = still-passes (is_open_on c) (Err e) gone n m xs h
     gone None = refl
     gone (Some (slot.Open d l b)) = refl
     gone (Some (slot.Held a)) = refl
-
-pub none-passes : (b : Bool) → (b ≡ true → ⊥) → b ≡ false
-none-passes true h = absurd (h refl)
-none-passes false h = refl
-
-pub all-pass : (b : Bool) → (b ≡ false → ⊥) → b ≡ true
-all-pass true h = refl
-all-pass false h = absurd (h refl)

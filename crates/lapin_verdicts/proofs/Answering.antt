@@ -34,10 +34,10 @@ use Rattle.lapin_verdicts.specs.Verdicts.{at_place}
 use Rattle.lapin_verdicts.specs.Answers.{replies_as, replies, requests_in, replies_in, kind_asked, kind_answered, are_same, IsAnswer}
 use Rattle.lapin_verdicts.proofs.Sending.{own_down}
 use Rattle.lapin_verdicts.proofs.TagCounts.{last-push, last-sent, lost_down}
-use Rattle.lapin_verdicts.proofs.Reading.{not_both}
 use Rattle.lapin_verdicts.proofs.Runs.{split_at}
 use Rattle.lapin_verdicts.proofs.Owing.{AreOf, Waiting, Owes, Goes, Owing, goes_at, same_waiting, requests-append, replies-append, read_owes}
 use Rattle.lapin_verdicts.proofs.Together.{in_step}
+use Rattle.lapin_tables.proofs.Bools.{not_both}
 
 -- ---- one channel sends
 

@@ -9,7 +9,6 @@ use Rattle.lapin_types.specs.declared.record.Record.{Record}
 use Rattle.lapin_types.specs.declared.leaving.Left.{Left}
 use Rattle.lapin_types.specs.declared.leaving.Publish.{Publish}
 use Rattle.lapin_types.specs.Types.{Frame}
-use Rattle.lapin_rules.specs.declared.phases.ConnectionPhase.{ConnectionPhase}
 use Rattle.lapin_rules.specs.declared.phases.ConnectionPhase.TheVariants as link
 use Rattle.lapin_rules.specs.Phases.{is_up, is_lost, is_live, phase_in}
 use Rattle.lapin_rules.specs.Ends.{down}
@@ -41,22 +40,17 @@ use Rattle.lapin_verdicts.proofs.Whole.{messages-append}
 use Rattle.lapin_verdicts.proofs.Numbering.{Inv}
 use Rattle.lapin_verdicts.proofs.Keeping.{kept}
 use Rattle.lapin_verdicts.proofs.Begins.{left_frames, next_kept}
+use Rattle.lapin_rules.proofs.PhaseLaws.{lost_down}
+use Rattle.lapin_machine.proofs.Handed.{may_begin_found}
 
 -- ---- a frame request: the record tells what left
-
-may_of : (t : ℕ → Bool) (ps : List Publish) (q : Publish) → find (may_begin t) ps ≡ Some q → t q.channel ≡ true
-may_of t [] q h = absurd cc
-may_of t (x ∷ ps) q h = elim (t x.channel) as (λ v. t x.channel ≡ v → cond v (Some x) (find (may_begin t) ps) ≡ Some q → t q.channel ≡ true) [
-  | true ↦ λ f e. (let same : x ≡ q = cc in ap (λ (v : Publish). t v.channel) (sym same) ∙ f)
-  | false ↦ λ f e. may_of t ps q e
-] refl h
 
 find_same : (t : ℕ → Bool) (ps : List Publish) (q : Publish) → find (may_begin t) ps ≡ Some q → find (may_begin (λ c. c == q.channel)) ps ≡ Some q
 find_same t [] q h = absurd cc
 find_same t (x ∷ ps) q h = elim (t x.channel) as (λ v. t x.channel ≡ v → cond v (Some x) (find (may_begin t) ps) ≡ Some q → cond (x.channel == q.channel) (Some x) (find (may_begin (λ c. c == q.channel)) ps) ≡ Some q) [
   | true ↦ λ _ e. (let same : x ≡ q = cc in rw (eq-eqb x.channel q.channel (ap (λ (v : Publish). v.channel) same)) e)
   | false ↦ λ f e. (let off : (x.channel == q.channel) ≡ false = elim (eqb_tells x.channel q.channel) as (λ _. (x.channel == q.channel) ≡ false) [
-    | inl z ↦ (let no : true ≡ false = sym (may_of t ps q e) ∙ (ap t (sym z.1) ∙ f) in absurd cc)
+    | inl z ↦ (let no : true ≡ false = sym (may_begin_found t ps q e) ∙ (ap t (sym z.1) ∙ f) in absurd cc)
     | inr z ↦ z.0
   ] in rw off (find_same t ps q e))
 ] refl h
@@ -172,12 +166,8 @@ module _ (n c : ℕ) where
       let there : (past n (on_event h event.Lost)).wire ≡ after_event b event.Lost (rec n h event.Lost) = ap (λ (p : Past). p.wire) (past-push n h event.Lost (rec n h event.Lost)) in
       ap (live c) there ∙ by (is_lost b.link) refl
     where
-      shut : (l : ConnectionPhase) → is_lost l ≡ true → is_up l ≡ false
-      shut link.Lost h = refl
-      shut _ h = absurd cc
-
       by : (v : Bool) → is_lost (past n h).wire.link ≡ v → (is_up (cond v (past n h).wire (down link.Lost (past n h).wire)).link && is_live (phase_in (at_channel c (cond v (past n h).wire (down link.Lost (past n h).wire)).phases))) ≡ false
-      by true e = rw (shut (past n h).wire.link e) refl
+      by true e = rw (lost_down (past n h).wire.link e) refl
       by false e = refl
 
   same_run : (j : Joint History) (ds : List Deed) → InRun j ds → InRun j (ds ++ [])

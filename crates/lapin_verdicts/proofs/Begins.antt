@@ -28,6 +28,11 @@ use Rattle.lapin_verdicts.proofs.Turns.{turns_on, turn_selected, turn_place, wai
 use Rattle.lapin_verdicts.proofs.Numbering.{Queue, AreRest, Going, Inv, not_hears, place-more}
 use Rattle.lapin_verdicts.proofs.Keeping.{place-last}
 use Rattle.lapin_verdicts.proofs.Leaving.{Lay, still_by, moved_inv, rest_kept, method_kept}
+use Rattle.std.proofs.lemmas.Bool.{or_parts}
+use Rattle.lapin_tables.proofs.Bools.{or_true}
+use Rattle.lapin_concord.proofs.Leaving.{none_stays}
+use Rattle.lapin_rules.proofs.ListLaws.{or_false}
+use Rattle.std.proofs.lemmas.Option.{same_Some}
 
 -- ---- the publish that begins, among those that wait
 
@@ -41,22 +46,15 @@ pub record Taken (msgs : List Message) (ms : List ConfirmMark) (low : ℕ) (q : 
 abbrev Mark : Publish → List ConfirmMark
 Mark q = mark.Left q.channel q.confirm ∷ []
 
-some_is : (x q : Publish) → Some x ≡ Some q → x ≡ q
-some_is x q h = cc
-
 pub find_taken : (p : Publish → Bool) (msgs : List Message) (ms : List ConfirmMark) (low : ℕ) (qs : List Publish) (q : Publish) → find p qs ≡ Some q → Queue msgs ms low qs → Taken msgs ms low q
 find_taken p msgs ms low [] q f h = absurd cc
 find_taken p msgs ms low (x ∷ qs) q f h = elim (p x) as (λ b. cond b (Some x) (find p qs) ≡ Some q → Taken msgs ms low q) [
-  | true ↦ λ e. subst (Taken msgs ms low) (some_is x q e) (record { above = h.0; accepted = h.1; unleft = h.2; on = h.3; at = h.4 })
+  | true ↦ λ e. subst (Taken msgs ms low) (same_Some x q e) (record { above = h.0; accepted = h.1; unleft = h.2; on = h.3; at = h.4 })
   | false ↦ λ e. (let r = find_taken p msgs ms x.confirm qs q e h.5 in let lt = h.0 in let up = r.above in record { above = omega (arith, lt, up); accepted = r.accepted; unleft = r.unleft; on = r.on; at = r.at })
 ] f
 
 left_other : (k : ℕ) (q : Publish) (ms : List ConfirmMark) → (q.confirm == k) ≡ false → has_left k (ms ++ Mark q) ≡ has_left k ms
 left_other k q ms h = list_any-append (leaves k) ms (Mark q) ∙ (rw h (or_false (has_left k ms)))
-  where
-    or_false : (v : Bool) → (v || false) ≡ v
-    or_false true = refl
-    or_false false = refl
 
 added_mark : (ms : List ConfirmMark) (q : Publish) → added (ms ++ Mark q) ≡ added ms
 added_mark ms q = let e = many-append adds ms (Mark q) in omega (arith, e)
@@ -77,7 +75,7 @@ queue_above msgs ms q low (x ∷ qs) le h =
 pub queue_left : (p : Publish → Bool) (msgs : List Message) (ms : List ConfirmMark) (low : ℕ) (qs : List Publish) (q : Publish) → find p qs ≡ Some q → Queue msgs ms low qs → Queue msgs (ms ++ Mark q) low (without_first p qs)
 queue_left p msgs ms low [] q f h = absurd cc
 queue_left p msgs ms low (x ∷ qs) q f h = elim (p x) as (λ b. cond b (Some x) (find p qs) ≡ Some q → Queue msgs (ms ++ Mark q) low (cond b qs (x ∷ without_first p qs))) [
-  | true ↦ λ e. (let same : x ≡ q = some_is x q e in let le : q.confirm ≤ x.confirm = subst (λ (v : Publish). v.confirm ≤ x.confirm) same (omega arith) in let lt = h.0 in weaken low x.confirm qs (omega (arith, lt)) (queue_above msgs ms q x.confirm qs le h.5))
+  | true ↦ λ e. (let same : x ≡ q = same_Some x q e in let le : q.confirm ≤ x.confirm = subst (λ (v : Publish). v.confirm ≤ x.confirm) same (omega arith) in let lt = h.0 in weaken low x.confirm qs (omega (arith, lt)) (queue_above msgs ms q x.confirm qs le h.5))
   | false ↦ λ e.
       (let r = find_taken p msgs ms x.confirm qs q e h.5 in
       let up = r.above in let lt = h.0 in
@@ -93,28 +91,16 @@ queue_left p msgs ms low (x ∷ qs) q f h = elim (p x) as (λ b. cond b (Some x)
 pub find_on : (p : Publish → Bool) (c : ℕ) (qs : List Publish) (q : Publish) → find p qs ≡ Some q → q.channel ≡ c → list_any (is_on publish_channel c) qs ≡ true
 find_on p c [] q f e = absurd cc
 find_on p c (x ∷ qs) q f e = elim (p x) as (λ b. cond b (Some x) (find p qs) ≡ Some q → ((x.channel == c) || list_any (is_on publish_channel c) qs) ≡ true) [
-  | true ↦ λ g. (let on : (x.channel == c) ≡ true = eq-eqb x.channel c (ap (λ (v : Publish). v.channel) (some_is x q g) ∙ e) in rw on refl)
-  | false ↦ λ g. rw (find_on p c qs q g e) (any_true (x.channel == c))
+  | true ↦ λ g. (let on : (x.channel == c) ≡ true = eq-eqb x.channel c (ap (λ (v : Publish). v.channel) (same_Some x q g) ∙ e) in rw on refl)
+  | false ↦ λ g. rw (find_on p c qs q g e) (or_true (x.channel == c))
 ] f
-  where
-    any_true : (v : Bool) → (v || true) ≡ true
-    any_true true = refl
-    any_true false = refl
 
 without_on : (q p : Publish → Bool) (qs : List Publish) → list_any q qs ≡ false → list_any q (without_first p qs) ≡ false
 without_on q p [] h = refl
 without_on q p (x ∷ qs) h = elim (p x) as (λ b. list_any q (cond b qs (x ∷ without_first p qs)) ≡ false) [
-  | true ↦ (neither (q x) (list_any q qs) h).1
-  | false ↦ (let parts = neither (q x) (list_any q qs) h in rw parts.0 (without_on q p qs parts.1))
+  | true ↦ (or_parts (q x) (list_any q qs) h).1
+  | false ↦ (let parts = or_parts (q x) (list_any q qs) h in rw parts.0 (without_on q p qs parts.1))
 ]
-  where
-    neither : (a b : Bool) → (a || b) ≡ false → (a ≡ false) × (b ≡ false)
-    neither true b h = absurd cc
-    neither false b h = (refl, h)
-
-pub without_none : (p : Publish → Bool) (qs : List Publish) → find p qs ≡ None → without_first p qs ≡ qs
-without_none p [] h = refl
-without_none p (x ∷ qs) h = elim (p x) as (λ b. cond b (Some x) (find p qs) ≡ None → cond b qs (x ∷ without_first p qs) ≡ x ∷ qs) [ true ↦ λ e. absurd cc | false ↦ λ e. ap (λ v. x ∷ v) (without_none p qs e) ] h
 
 -- ---- its frames
 
@@ -133,10 +119,6 @@ through-new p (y ∷ xs) x h = elim (p y) as (λ b. (b || list_any p xs) ≡ fal
 
 left_selected : (c d k : ℕ) (ms : List ConfirmMark) → list_any (begins c) ms ≡ true → is_selected c (ms ++ mark.Left d k ∷ []) ≡ is_selected c ms
 left_selected c d k ms b = ap (list_any (selects c)) (opening-longer c ms (mark.Left d k ∷ []) refl b) ∙ (list_any-append (selects c) (opening c ms) (mark.Left d k ∷ []) ∙ or_false (list_any (selects c) (opening c ms)))
-  where
-    or_false : (v : Bool) → (v || false) ≡ v
-    or_false true = refl
-    or_false false = refl
 
 left_place : (c k : ℕ) (ms : List ConfirmMark) → list_any (begins c) ms ≡ true → place c (ms ++ mark.Left c k ∷ []) ≡ cond (is_selected c ms) (place c ms + 1) (place c ms)
 left_place c k ms b =
@@ -296,7 +278,7 @@ IsKept n c t msgs b ms fs = Inv n c msgs (after_handing t b) (ms ++ left_marks (
 publish_by : (n c : ℕ) (t : ℕ → Bool) (msgs : List Message) (ps : List Publish) (b : Wire) (ms : List ConfirmMark) (fs : List Frame) → 8 < n → Inv n c msgs (Lay [] [] ps b) ms fs → (o : Option Publish) → find (may_begin t) ps ≡ o → Inv n c msgs (sent (option_map left_publish o) (with_lists (record { rest = begun_rest b.frame_max o; methods = []; publishes = without_first (may_begin t) ps }) (Lay [] [] ps b))) (ms ++ left_marks (option_map left_publish o)) (fs ++ left_frames (option_map left_publish o))
 publish_by n c t msgs ps b ms fs big i None e =
     let I : List Publish → List ConfirmMark → List Frame → Type 0 = λ qs xs gs. Inv n c msgs (Lay [] [] qs b) xs gs in
-    subst (λ v. I (without_first (may_begin t) ps) (ms ++ []) v) (sym (append-nil fs)) (subst (λ v. I (without_first (may_begin t) ps) v fs) (sym (append-nil ms)) (subst (λ v. I v ms fs) (sym (without_none (may_begin t) ps e)) i))
+    subst (λ v. I (without_first (may_begin t) ps) (ms ++ []) v) (sym (append-nil fs)) (subst (λ v. I (without_first (may_begin t) ps) v fs) (sym (append-nil ms)) (subst (λ v. I v ms fs) (sym (none_stays (may_begin t) ps e)) i))
 publish_by n c t msgs ps b ms fs big i (Some q) e = begun_kept n c t msgs ps b ms fs q big e i
 
 next_by : (n c : ℕ) (t : ℕ → Bool) (msgs : List Message) (rs : List RestEntry) (es : List MethodEntry) (ps : List Publish) (b : Wire) (ms : List ConfirmMark) (fs : List Frame) → 8 < n → Inv n c msgs (Lay rs es ps b) ms fs → IsKept n c t msgs (Lay rs es ps b) ms fs

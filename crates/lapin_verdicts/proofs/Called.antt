@@ -36,10 +36,12 @@ use Rattle.lapin_verdicts.proofs.Keeping.{added-one, added_channel}
 use Rattle.lapin_verdicts.proofs.Marks.{many-append, channel-append}
 use Rattle.lapin_verdicts.proofs.Numbered.{effect_unleft, effect_begins, begun_in}
 use Rattle.lapin_verdicts.proofs.Numbering.{Inv, hears_live}
-use Rattle.lapin_verdicts.proofs.Opens.{many-none, left_begins}
+use Rattle.lapin_verdicts.proofs.Opens.{left_begins}
 use Rattle.lapin_verdicts.proofs.Runs.{past-push, joined-push}
 use Rattle.lapin_verdicts.proofs.Turns.{is_left, left-same}
 use Rattle.lapin_verdicts.proofs.Whole.{opening-more}
+use Rattle.lapin_rules.proofs.ListLaws.{many-none}
+use Rattle.lapin_concord.proofs.Tags.{added-append}
 
 -- ---- lists
 
@@ -129,9 +131,6 @@ left_kept ms xs none le was k l =
     by true h = refl
     by false h = let w : true ≡ false = sym h ∙ none k in absurd cc
 
-added_le : (ms xs : List ConfirmMark) → added ms ≤ added (ms ++ xs)
-added_le ms xs = let e = many-append adds ms xs in omega (arith, e)
-
 -- the publish that is added is called in the opening that is there
 new_here : (ms : List ConfirmMark) (q : Publish) → q.confirm ≡ added ms + 1 → AreHere (ms ++ mark.Added q.channel ∷ []) (q ∷ [])
 new_here ms q e =
@@ -142,13 +141,13 @@ no_left : (k : ℕ) (xs : List ConfirmMark) → list_any is_left xs ≡ false �
 no_left k xs h = left-same k [] xs h
 
 event_called : (b b' : Wire) (ms xs : List ConfirmMark) (new : List Publish) → Effect b b' xs new → added ms ≡ b.published → (is_up b.link ≡ false → b.publishes ≡ []) → ((c : ℕ) → hears c b ≡ false → list_any (is_on publish_channel c) b.publishes ≡ false) → Called b ms → Called b' (ms ++ xs)
-event_called b b' ms xs new e counted shut heard k = record { here = by e; left = left_kept ms xs (λ j. no_left j xs (effect_unleft b b' xs new e)) (added_le ms xs) k.left }
+event_called b b' ms xs new e counted shut heard k = record { here = by e; left = left_kept ms xs (λ j. no_left j xs (effect_unleft b b' xs new e)) (added-append ms xs) k.left }
   where
     still : AreStill xs b.publishes
     still = still_heard b xs b.publishes (λ c u. many-none (begins c) xs (effect_begins c b b' xs new (hears_live c b u) e)) heard
 
     more : AreHere (ms ++ xs) b.publishes
-    more = here-more ms xs b.publishes still (added_le ms xs) k.here
+    more = here-more ms xs b.publishes still (added-append ms xs) k.here
 
     by : Effect b b' xs new → AreHere (ms ++ xs) b'.publishes
     by (Stays s p es m f i j) = subst (AreHere (ms ++ xs)) (sym p) more
@@ -193,7 +192,7 @@ begins_here msgs ms q t h =
 
 next_called : (n c : ℕ) (t : ℕ → Bool) (msgs : List Message) (b : Wire) (ms : List ConfirmMark) (fs : List Frame) → Inv n c msgs b ms fs → Called b ms → Called (after_handing t b) (ms ++ left_marks (handed_out t b))
 next_called n c t msgs b ms fs i k = record {
-  here = subst (AreHere (ms ++ left_marks (handed_out t b))) (sym (sent_publishes (handed_out t b) (with_lists (left_lists b.frame_max t (lists_of b)) b))) (left_here (ms ++ left_marks (handed_out t b)) b.frame_max t b.rest b.methods b.publishes (here-more ms (left_marks (handed_out t b)) b.publishes (still_none (left_marks (handed_out t b)) b.publishes (λ d. left_begins d (handed_out t b))) (added_le ms (left_marks (handed_out t b))) k.here));
+  here = subst (AreHere (ms ++ left_marks (handed_out t b))) (sym (sent_publishes (handed_out t b) (with_lists (left_lists b.frame_max t (lists_of b)) b))) (left_here (ms ++ left_marks (handed_out t b)) b.frame_max t b.rest b.methods b.publishes (here-more ms (left_marks (handed_out t b)) b.publishes (still_none (left_marks (handed_out t b)) b.publishes (λ d. left_begins d (handed_out t b))) (added-append ms (left_marks (handed_out t b))) k.here));
   left = λ j l. by j (has_left j ms) refl l;
 }
   where
@@ -201,13 +200,13 @@ next_called n c t msgs b ms fs i k = record {
     by j true was l =
         let w = k.left j was in
         let a = w.1 in
-        let le = added_le ms (left_marks (handed_out t b)) in
+        let le = added-append ms (left_marks (handed_out t b)) in
         (w.0, omega (arith, a, le), opening-more j ms (left_marks (handed_out t b)) w.0 w.1 was ∙ (w.2 ∙ sym (called-more j ms (left_marks (handed_out t b)) w.0 w.1)))
     by j false was l =
         let new : has_left j (left_marks (handed_out t b)) ≡ true = ap (λ v. v || has_left j (left_marks (handed_out t b))) (sym was) ∙ (sym (list_any-append (leaves j) ms (left_marks (handed_out t b))) ∙ l) in
         let g = begun_in j t b.rest b.methods b.publishes b new in
         let q = find_taken (may_begin t) msgs ms 0 b.publishes g.publish g.found i.queue in
-        let le = added_le ms (left_marks (handed_out t b)) in
+        let le = added-append ms (left_marks (handed_out t b)) in
         let a = q.accepted in
         let is : opening_of g.publish.confirm (ms ++ left_marks (handed_out t b)) ≡ called_in g.publish.confirm (ms ++ left_marks (handed_out t b)) = subst (λ v. opening_of g.publish.confirm (ms ++ v) ≡ called_in g.publish.confirm (ms ++ v)) (sym g.marks) (begins_here msgs ms g.publish q (found_here (may_begin t) ms b.publishes g.publish g.found k.here)) in
         subst (λ v. (0 < v) × (v ≤ added (ms ++ left_marks (handed_out t b))) × (opening_of v (ms ++ left_marks (handed_out t b)) ≡ called_in v (ms ++ left_marks (handed_out t b)))) g.number (q.above, omega (arith, a, le), is)

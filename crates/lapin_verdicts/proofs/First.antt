@@ -38,12 +38,15 @@ use Rattle.lapin_verdicts.specs.Answers.{is_open_ok}
 use Rattle.lapin_verdicts.proofs.Sending.{own_down}
 use Rattle.lapin_verdicts.proofs.Sorting.{Sorts, sorted}
 use Rattle.lapin_verdicts.proofs.TagCounts.{last-push, last-sent, sents-append, lost_down}
-use Rattle.lapin_verdicts.proofs.Reading.{at_with, at_other, of_if, not_both, closed_down, answered_down}
+use Rattle.lapin_verdicts.proofs.Reading.{of_if, closed_down, answered_down}
 use Rattle.lapin_verdicts.specs.InStep.{is_frame_on}
 use Rattle.lapin_verdicts.specs.Session.{past_of}
 use Rattle.lapin_verdicts.proofs.Runs.{split_at}
 use Rattle.lapin_verdicts.proofs.Together.{way_down}
 use Rattle.lapin_verdicts.proofs.Owing.{next_opening}
+use Rattle.lapin_tables.proofs.Bools.{not_both}
+use Rattle.lapin_broker.proofs.SoundLaw.{at_with}
+use Rattle.lapin_concord.proofs.Sides.{at_away}
 
 -- ---- one channel
 
@@ -152,7 +155,7 @@ up_news c l b o None up k =
           rw z.0 (subst K (sym z.1) here)
       | inr z ↦
           let x' : Channel = read_in (channel_at b d).peer l.frame (channel_at b d) u in
-          rw z.0 (λ _. subst (λ v. IsNew (channel_in v).peer o) (sym (at_other d c x' b.channels z.0)) (k up))
+          rw z.0 (λ _. subst (λ v. IsNew (channel_in v).peer o) (sym (at_away d c x' b.channels z.0)) (k up))
     ])
 
 read_news : (c : ℕ) (l : Left) (b : Broker) (o : List Deed) → News c b o → News c (read b l.frame) (next_opening c o l)

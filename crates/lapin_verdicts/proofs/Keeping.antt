@@ -1,5 +1,5 @@
 -- Every event but a frame request keeps what a session keeps of a channel.
-use Rattle.std.proofs.Common.{◌≡◌, ◌∙◌, ℕ, zero, suc, ◌+◌, ◌≤◌, ◌<◌, ◌==◌, Bool, true, false, cond, not, List, [], ◌∷◌, ◌++◌, map, length, Some, None, inl, inr, refl, sym, ap, subst, append-nil, arith, eq-eqb, length-append}
+use Rattle.std.proofs.Common.{◌≡◌, ◌∙◌, ℕ, zero, suc, ◌+◌, ◌≤◌, ◌<◌, ◌==◌, true, false, cond, not, List, [], ◌∷◌, ◌++◌, map, length, Some, None, inl, inr, refl, sym, ap, subst, append-nil, arith, eq-eqb, length-append}
 use Rattle.std.specs.List.{list_any, filter}
 use Rattle.std.proofs.lemmas.Bool.{and_parts}
 use Rattle.std.proofs.lemmas.Bool.Decides.{eqb_tells}
@@ -11,7 +11,6 @@ use Rattle.lapin_rules.specs.ConfirmMarks.{ConfirmMark}
 use Rattle.lapin_rules.specs.ConfirmMarks as mark
 use Rattle.lapin_rules.specs.ConfirmReadings.{adds, begins, added, channel_of, channel_in, has_left, outcome_at}
 use Rattle.lapin_rules.specs.Phases.{is_up, is_live}
-use Rattle.lapin_rules.specs.Words.{many, one_after}
 use Rattle.lapin_rules.specs.Frames.{MethodEntry, RestEntry}
 use Rattle.lapin_rules.specs.Drops.{is_off, is_on, is_rest_of, publish_channel, method_channel, frame_channel}
 use Rattle.lapin_rules.specs.Wire.{Wire, phase_of}
@@ -24,14 +23,9 @@ use Rattle.lapin_effects.specs.Effects.{live, hears, AreQuiet, grows, SameBut, E
 use Rattle.lapin_verdicts.proofs.Turns.{ends_on, still_grow, grow_unleft, grow_added, left-same, waits_back, live_ends}
 use Rattle.lapin_effects.proofs.Comes.{all_grow}
 use Rattle.lapin_verdicts.proofs.Numbering.{ArePlain, is_own, own, Queue, AreRest, Inv, stands_more, same_kept, opens_kept, queue-more, queue-filter, quiet-append, quiet-filter, plain-append, plain-filter, quiet_plain, quiet_fit, fit_shut, any-filter, hears_live, hears_back, place-more}
+use Rattle.lapin_rules.proofs.ListLaws.{one_new}
 
 -- ---- a publish is accepted
-
-one-last : {X : Type 0} (p : X → Bool) (n : ℕ) (xs : List X) (x : X) → p x ≡ true → n ≡ many p xs → one_after p n (xs ++ x ∷ []) ≡ Some x
-one-last p zero [] x h e = rw h refl
-one-last p (suc n) [] x h e = let z : ⊥ = omega (arith, e) in absurd z
-one-last p zero (y ∷ xs) x h e = elim (p y) as (λ b. zero ≡ cond b (many p xs + 1) (many p xs) → cond b (Some y) (one_after p zero (xs ++ x ∷ [])) ≡ Some x) [ true ↦ λ g. (let z : ⊥ = omega (arith, g) in absurd z) | false ↦ λ g. one-last p zero xs x h g ] e
-one-last p (suc n) (y ∷ xs) x h e = elim (p y) as (λ b. suc n ≡ cond b (many p xs + 1) (many p xs) → cond b (one_after p n (xs ++ x ∷ [])) (one_after p (suc n) (xs ++ x ∷ [])) ≡ Some x) [ true ↦ λ g. one-last p n xs x h (omega (arith, g)) | false ↦ λ g. one-last p (suc n) xs x h g ] e
 
 pub added-one : (ms : List ConfirmMark) (d : ℕ) → added (ms ++ mark.Added d ∷ []) ≡ added ms + 1
 added-one ms d = let e = many-append adds ms (mark.Added d ∷ []) in omega (arith, e)
@@ -39,7 +33,7 @@ added-one ms d = let e = many-append adds ms (mark.Added d ∷ []) in omega (ari
 -- the next publish is of the channel of its mark
 pub added_channel : (ms : List ConfirmMark) (d k : ℕ) → k ≡ added ms + 1 → channel_of k (ms ++ mark.Added d ∷ []) ≡ d
 added_channel ms d zero e = let z : ⊥ = omega (arith, e) in absurd z
-added_channel ms d (suc k) e = ap channel_in (one-last adds k ms (mark.Added d) refl (omega (arith, e)))
+added_channel ms d (suc k) e = ap channel_in (one_new adds k ms (mark.Added d) refl (omega (arith, e)))
 
 pub place-last : {X : Type 0} (k : ℕ) (xs : List X) (x : X) → k ≡ length xs + 1 → at_place k (xs ++ x ∷ []) ≡ Some x
 place-last zero xs x e = let z : ⊥ = omega (arith, e) in absurd z

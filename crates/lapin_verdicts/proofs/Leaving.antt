@@ -1,5 +1,5 @@
 -- A frame request keeps what a session keeps of a channel: what leaves is numbered as its tag is.
-use Rattle.std.proofs.Common.{◌≡◌, ◌∙◌, ℕ, ◌≤◌, ◌<◌, ◌==◌, Bool, true, false, cond, ◌&&◌, ◌||◌, List, [], ◌∷◌, ◌++◌, map, length, Option, Some, None, ◌⊎◌, inl, inr, refl, sym, ap, subst, append-nil, arith, eq-eqb}
+use Rattle.std.proofs.Common.{◌≡◌, ◌∙◌, ℕ, ◌≤◌, ◌<◌, ◌==◌, Bool, true, false, cond, ◌&&◌, List, [], ◌∷◌, ◌++◌, map, length, Option, Some, None, ◌⊎◌, inl, inr, refl, sym, ap, subst, append-nil, arith, eq-eqb}
 use Rattle.std.specs.List.{list_any, fold, filter, count_by}
 use Rattle.std.specs.Option.{option_map}
 use Rattle.std.proofs.lemmas.Bool.Decides.{eqb_tells}
@@ -17,8 +17,6 @@ use Rattle.lapin_types.specs.Types.channel_state as state
 use Rattle.lapin_rules.specs.declared.phases.ChannelPhase.{ChannelPhase}
 use Rattle.lapin_rules.specs.declared.phases.ChannelPhase.TheVariants as phase
 use Rattle.lapin_rules.specs.declared.phases.ConnectionPhase.{ConnectionPhase}
-use Rattle.lapin_rules.specs.declared.phases.ConnectionPhase.TheVariants as link
-use Rattle.lapin_rules.specs.declared.phases.CloseStage.TheVariants as stage
 use Rattle.lapin_rules.specs.ConfirmMarks.{ConfirmMark}
 use Rattle.lapin_rules.specs.ConfirmMarks as mark
 use Rattle.lapin_rules.specs.Select.{is_select}
@@ -28,7 +26,7 @@ use Rattle.lapin_rules.specs.Phases.{is_up, is_live, channel_state, phase_in}
 use Rattle.lapin_rules.specs.Frames.{MethodEntry, RestEntry}
 use Rattle.lapin_rules.specs.Handing.{after_handing, sent}
 use Rattle.lapin_rules.specs.ChannelClose.{close_sent, phases_sent}
-use Rattle.lapin_rules.specs.ConnectionClose.{link_sent, link_close_sent}
+use Rattle.lapin_rules.specs.ConnectionClose.{link_sent}
 use Rattle.lapin_rules.specs.Drops.{is_on, is_rest_of, publish_channel, frame_channel}
 use Rattle.lapin_rules.specs.Wire.{Wire, phase_of, receives_on}
 use Rattle.lapin_tables.specs.ByChannel.{at_channel, on_channel}
@@ -42,6 +40,10 @@ use Rattle.lapin_verdicts.proofs.Marks.{pending_back, channel-append, many-appen
 use Rattle.lapin_effects.specs.Effects.{live, hears, AreQuiet, open_entry}
 use Rattle.lapin_verdicts.proofs.Turns.{is_left, turns_on, left-same, waits_back, opening-longer, count-append}
 use Rattle.lapin_verdicts.proofs.Numbering.{ArePlain, is_own, own, is_opener, is_publish, is_content, Queue, AreRest, Unsent, Going, Inv, stands_more, queue-more}
+use Rattle.std.proofs.lemmas.Bool.{or_parts}
+use Rattle.lapin_tables.proofs.Bools.{or_true}
+use Rattle.lapin_rules.proofs.PhaseLaws.{close_leaves_up}
+use Rattle.lapin_verdicts.proofs.Opens.{content_open}
 
 -- ---- what leaves moves no channel's liveness
 
@@ -79,12 +81,8 @@ sent_alike : (c d : ℕ) (m : Method) (all : List (ℕ × ChannelPhase)) → Ali
 sent_alike c d (method.Channel (channel.Close code text class number)) all = alike_closed c d all
 sent_alike c d _ all = alike_same c all
 
-link_alike : (l : ConnectionPhase) → is_up (link_close_sent l) ≡ is_up l
-link_alike (link.Closing stage.Queued) = refl
-link_alike _ = refl
-
 link_up : (d : ℕ) (m : Method) (l : ConnectionPhase) → is_up (link_sent (frame.Method d m) l) ≡ is_up l
-link_up d (method.Connection (connection.Close code text class number)) l = link_alike l
+link_up d (method.Connection (connection.Close code text class number)) l = close_leaves_up l
 link_up d _ l = refl
 
 -- what stays where neither the connection's nor a channel's liveness moves
@@ -145,11 +143,6 @@ Lay rs es ps b = record b { rest = rs; methods = es; publishes = ps }
 
 -- ---- a frame of the begun publish leaves
 
-content_shut : (g : Frame) → is_content g ≡ true → is_open g ≡ false
-content_shut (frame.Method c m) h = absurd cc
-content_shut (frame.Header c x) h = refl
-content_shut (frame.Body c bytes) h = refl
-
 same_channel : (g : Frame) → broker_channel g ≡ frame_channel g
 same_channel (frame.Method c m) = refl
 same_channel (frame.Header c x) = refl
@@ -172,7 +165,7 @@ tally_rest c d f rs fs h =
     ap (λ v. fold tally_after v (rest_on c rs)) one ∙ elim (eqb_tells d c) [
       | inl z ↦
           let here : (broker_channel f.frame == c) ≡ true = ap (λ v. v == c) on ∙ z.0 in
-          let step : next_on c y f.frame ≡ tally_after y f.frame = rw (here, content_shut f.frame h.1) refl in
+          let step : next_on c y f.frame ≡ tally_after y f.frame = rw (here, content_open f.frame h.1) refl in
           ap (λ v. fold tally_after v (rest_on c rs)) step ∙ (ap (fold tally_after (tally_after y f.frame)) (rest_tail c d rs h.2 z.0) ∙ ap (fold tally_after y) (sym (rest_tail c d (f ∷ rs) h z.0)))
       | inr z ↦
           let there : (broker_channel f.frame == c) ≡ false = ap (λ v. v == c) on ∙ z.0 in
@@ -251,11 +244,7 @@ with_method_is _ y h = refl
 
 -- a select that leaves selects the opening, and takes no place
 select_selected : (c : ℕ) (ms : List ConfirmMark) → list_any (begins c) ms ≡ true → is_selected c (ms ++ mark.SelectLeft c ∷ []) ≡ true
-select_selected c ms b = ap (list_any (selects c)) (opening-longer c ms (mark.SelectLeft c ∷ []) refl b) ∙ (list_any-append (selects c) (opening c ms) (mark.SelectLeft c ∷ []) ∙ rw (eq-eqb c c refl) (any_true (list_any (selects c) (opening c ms))))
-  where
-    any_true : (v : Bool) → (v || true) ≡ true
-    any_true true = refl
-    any_true false = refl
+select_selected c ms b = ap (list_any (selects c)) (opening-longer c ms (mark.SelectLeft c ∷ []) refl b) ∙ (list_any-append (selects c) (opening c ms) (mark.SelectLeft c ∷ []) ∙ rw (eq-eqb c c refl) (or_true (list_any (selects c) (opening c ms))))
 
 after-select : (c : ℕ) (o : List ConfirmMark) → count_by (leaves_on c) (after (selects c) (o ++ mark.SelectLeft c ∷ [])) ≡ count_by (leaves_on c) (after (selects c) o)
 after-select c [] = rw (eq-eqb c c refl) refl
@@ -371,7 +360,7 @@ module _ (n c : ℕ) (t : ℕ → Bool) (msgs : List Message) (m : MethodEntry) 
   going_here i on l w =
       let own_is : m ∷ filter (is_own c) es ≡ own c B = sym (ap (λ v. cond v (m ∷ filter (is_own c) es) (filter (is_own c) es)) on) in
       let shut : list_any is_opener (m ∷ filter (is_own c) es) ≡ false = ap (list_any is_opener) own_is ∙ w.shut in
-      let parts = neither (is_open g) (list_any is_opener (filter (is_own c) es)) shut in
+      let parts = or_parts (is_open g) (list_any is_opener (filter (is_own c) es)) shut in
       let step : next_on c y g ≡ cond (is_select m.method) (record y { selected = true }) y = told_on (broker_channel g == c) (is_open g) on parts.0 ∙ with_method_is m.method y i.plain.0 in
       let same : whole_tally c B2 (fs ++ g ∷ []) ≡ cond (is_select m.method) (record y { selected = true }) y = one ∙ step in
       inr (record {
@@ -382,10 +371,6 @@ module _ (n c : ℕ) (t : ℕ → Bool) (msgs : List Message) (m : MethodEntry) 
         taken = λ k u p. (let was = w.taken k u (pending_then c k u ms xs (marks_unleft m.channel (is_select m.method)) i.accepted p) in (was.0, ap (λ (z : Tally). at_place u z.numbered) same ∙ (place_at u (is_select m.method) ∙ was.1), was.2));
       })
     where
-      neither : (a b : Bool) → (a || b) ≡ false → (a ≡ false) × (b ≡ false)
-      neither true b h = absurd cc
-      neither false b h = (refl, h)
-
       told_on : (v o : Bool) → v ≡ true → o ≡ false → cond v (cond o no_tally (with_method m.method y)) y ≡ with_method m.method y
       told_on v o a e = rw (a, e) refl
 

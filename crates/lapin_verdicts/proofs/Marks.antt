@@ -14,6 +14,7 @@ use Rattle.lapin_rules.specs.ConfirmMarks as mark
 use Rattle.lapin_rules.specs.Words.{after, through, many, one_after}
 use Rattle.lapin_verdicts.specs.Session.{IsPending}
 use Rattle.lapin_rules.specs.ConfirmReadings.{adds, leaves, added, channel_of, has_left, tag_of, outcome_at, outcome_after, first_settled, settlement_on, outcome_of, kind_outcome, covers, channel_in, first_rejected, life}
+use Rattle.std.proofs.lemmas.Option.{same_Some}
 
 module _ {X : Type 0} (p : X → Bool) where
   pub after-append : (xs ys : List X) → list_any p xs ≡ true → after p (xs ++ ys) ≡ after p xs ++ ys
@@ -111,12 +112,9 @@ same_kind settle.Nack settle.Nack h = refl
 same_kind settle.Ack settle.Nack h = absurd cc
 same_kind settle.Nack settle.Ack h = absurd cc
 
-some_same : {X : Type 0} (a b : X) → Some a ≡ Some b → a ≡ b
-some_same a b h = cc
-
 -- one settlement that resolves it so is on its channel, covers its tag and is of that kind
 pub settled_so : (c t d : ℕ) (kind : SettleKind) (s : Settlement) → first_settled c t (mark.Settled d s ∷ []) ≡ Some (kind_outcome kind) → ((c == d) ≡ true) × (covers s t ≡ true) × (s.kind ≡ kind)
 settled_so c t d kind s = elim (c == d) as (λ b. option_or (cond (b && covers s t) (Some (outcome_of s)) None) None ≡ Some (kind_outcome kind) → (b ≡ true) × (covers s t ≡ true) × (s.kind ≡ kind)) [
-  | true ↦ elim (covers s t) as (λ b. option_or (cond b (Some (outcome_of s)) None) None ≡ Some (kind_outcome kind) → (true ≡ true) × (b ≡ true) × (s.kind ≡ kind)) [ true ↦ λ h. (refl, refl, same_kind s.kind kind (some_same _ _ h)) | false ↦ λ h. absurd cc ]
+  | true ↦ elim (covers s t) as (λ b. option_or (cond b (Some (outcome_of s)) None) None ≡ Some (kind_outcome kind) → (true ≡ true) × (b ≡ true) × (s.kind ≡ kind)) [ true ↦ λ h. (refl, refl, same_kind s.kind kind (same_Some _ _ h)) | false ↦ λ h. absurd cc ]
   | false ↦ λ h. absurd cc
 ]

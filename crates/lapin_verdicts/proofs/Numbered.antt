@@ -35,32 +35,27 @@ use Rattle.lapin_verdicts.specs.Session.{IsPending, Numbers, AreNumbered, IsOldO
 use Rattle.lapin_verdicts.proofs.Marks.{pending_back, channel-append, through-append, many-append}
 use Rattle.lapin_effects.specs.Effects.{is_next, publish_by, live, hears, open_entry, Effect, Stays, Closes, Opens, Adds, Ends, Falls, Sinks}
 use Rattle.lapin_effects.proofs.Comes.{all_grow}
-use Rattle.lapin_verdicts.proofs.Turns.{is_left, still_grow, grow_unleft, grow_turns, turn_parts, left-same, after-never, many-none}
+use Rattle.lapin_verdicts.proofs.Turns.{is_left, still_grow, grow_unleft, grow_turns, turn_parts, left-same, after-never}
 use Rattle.lapin_verdicts.proofs.Runs.{joined-push, past_at, delivered_marks, marks_in, marks_after}
 use Rattle.lapin_verdicts.proofs.Numbering.{Inv, is_own, is_opener, hears_live}
 use Rattle.lapin_verdicts.proofs.Begins.{find_taken, find_on, next_tag, through-new}
 use Rattle.lapin_effects.proofs.Events.{has_effect}
 use Rattle.lapin_verdicts.proofs.Assembly.{in_run}
+use Rattle.std.proofs.lemmas.Bool.{or_parts}
+use Rattle.lapin_rules.proofs.ListLaws.{many-none}
+use Rattle.lapin_tables.proofs.Bools.{or_true}
 
 -- ---- what waits and opens
 
 waiting_own : (c : ℕ) (ms : List MethodEntry) → list_any (is_open_waiting c) ms ≡ false → list_any is_opener (filter (is_own c) ms) ≡ false
 waiting_own c [] h = refl
 waiting_own c (m ∷ ms) h = elim (m.channel == c) as (λ v. ((v && is_opener m) || list_any (is_open_waiting c) ms) ≡ false → list_any is_opener (cond v (m ∷ filter (is_own c) ms) (filter (is_own c) ms)) ≡ false) [
-  | true ↦ λ e. (let parts = neither (is_opener m) (list_any (is_open_waiting c) ms) e in rw parts.0 (waiting_own c ms parts.1))
+  | true ↦ λ e. (let parts = or_parts (is_opener m) (list_any (is_open_waiting c) ms) e in rw parts.0 (waiting_own c ms parts.1))
   | false ↦ λ e. waiting_own c ms e
 ] h
-  where
-    neither : (a b : Bool) → (a || b) ≡ false → (a ≡ false) × (b ≡ false)
-    neither true b h = absurd cc
-    neither false b h = (refl, h)
-
-any_true : (v : Bool) → (v || true) ≡ true
-any_true true = refl
-any_true false = refl
 
 opener_in : (c t : ℕ) (xs ys : List MethodEntry) → list_any is_opener (xs ++ open_entry c t ∷ ys) ≡ true
-opener_in c t xs ys = list_any-append is_opener xs (open_entry c t ∷ ys) ∙ any_true (list_any is_opener xs)
+opener_in c t xs ys = list_any-append is_opener xs (open_entry c t ∷ ys) ∙ or_true (list_any is_opener xs)
 
 -- ---- what marks an event brings
 
@@ -117,7 +112,7 @@ range_any : (p : ℕ → Bool) (k a m : ℕ) → a ≤ k → k < a + m → p k �
 range_any p k a zero le lt h = let z : ⊥ = omega (arith, le, lt) in absurd z
 range_any p k a (suc m) le lt h = elim (eqb_tells a k) [
   | inl z ↦ rw (ap p z.1 ∙ h) refl
-  | inr z ↦ ap (λ v. p a || v) (range_any p k (a + 1) m (let d = z.1 in omega (arith, le, d)) (omega (arith, lt)) h) ∙ any_true (p a)
+  | inr z ↦ ap (λ v. p a || v) (range_any p k (a + 1) m (let d = z.1 in omega (arith, le, d)) (omega (arith, lt)) h) ∙ or_true (p a)
 ]
 
 all_true : (x y z w : Bool) → x ≡ true → y ≡ true → z ≡ true → w ≡ true → (x && (y && (z && w))) ≡ true

@@ -1,7 +1,7 @@
 -- What a session keeps, whatever its broker does: the publishes that left a channel's opening are numbered as their tags are.
-use Rattle.std.proofs.Common.{◌≡◌, ◌∙◌, ℕ, zero, suc, ◌≤◌, ◌<◌, ◌==◌, Bool, true, false, cond, ◌&&◌, ◌||◌, List, [], ◌∷◌, ◌++◌, length, Some, None, ◌⊎◌, inl, inr, refl, sym, ap, subst, append-nil, append_assoc, arith}
+use Rattle.std.proofs.Common.{◌≡◌, ◌∙◌, ℕ, zero, suc, ◌≤◌, ◌<◌, ◌==◌, Bool, true, false, cond, ◌&&◌, List, [], ◌∷◌, ◌++◌, length, Some, None, ◌⊎◌, inl, inr, refl, sym, ap, subst, append-nil, append_assoc, arith}
 use Rattle.std.specs.List.{list_any, fold, filter}
-use Rattle.std.proofs.lemmas.Bool.{and_parts}
+use Rattle.std.proofs.lemmas.Bool.{and_parts, or_parts}
 use Rattle.std.proofs.lemmas.Bool.Decides.{eqb_tells}
 use Rattle.std.proofs.lemmas.List.Folds.{list_any-append}
 use Rattle.std.proofs.lemmas.List.Elements.{filter-append}
@@ -30,6 +30,7 @@ use Rattle.lapin_verdicts.proofs.Cutting.{message_in}
 use Rattle.lapin_verdicts.proofs.Marks.{pending_back, channel-append, many-append}
 use Rattle.lapin_effects.specs.Effects.{live, hears, is_special, AreFit, AreQuiet, grows, Same, SameBut, open_entry}
 use Rattle.lapin_verdicts.proofs.Turns.{is_left, turns_on, grow_unleft, grow_turns, grow_added, left-same, turn_selected, turn_place, waits_back}
+use Rattle.lapin_tables.proofs.Bools.{or_true}
 
 -- ---- what is kept
 
@@ -297,22 +298,14 @@ same_kept n c msgs b b' ms xs fs es s methods fit grow queue pubs nil i =
 pub any-filter : {X : Type 0} (q p : X → Bool) (xs : List X) → list_any q xs ≡ false → list_any q (filter p xs) ≡ false
 any-filter q p [] h = refl
 any-filter q p (x ∷ xs) h = elim (p x) as (λ b. list_any q (cond b (x ∷ filter p xs) (filter p xs)) ≡ false) [
-  | true ↦ (let parts = neither (q x) (list_any q xs) h in rw parts.0 (any-filter q p xs parts.1))
-  | false ↦ any-filter q p xs (neither (q x) (list_any q xs) h).1
+  | true ↦ (let parts = or_parts (q x) (list_any q xs) h in rw parts.0 (any-filter q p xs parts.1))
+  | false ↦ any-filter q p xs (or_parts (q x) (list_any q xs) h).1
 ]
-  where
-    neither : (a b : Bool) → (a || b) ≡ false → (a ≡ false) × (b ≡ false)
-    neither true b h = absurd cc
-    neither false b h = (refl, h)
-
-any_true : (v : Bool) → (v || true) ≡ true
-any_true true = refl
-any_true false = refl
 
 begun_empty : (ms : List ConfirmMark) (d c : ℕ) → (d == c) ≡ true → opening c (ms ++ mark.Begun d ∷ []) ≡ []
 begun_empty [] d c h = rw h refl
 begun_empty (m ∷ ms) d c h =
-    let any : list_any (begins c) (ms ++ mark.Begun d ∷ []) ≡ true = list_any-append (begins c) ms (mark.Begun d ∷ []) ∙ rw h (any_true (list_any (begins c) ms)) in
+    let any : list_any (begins c) (ms ++ mark.Begun d ∷ []) ≡ true = list_any-append (begins c) ms (mark.Begun d ∷ []) ∙ rw h (or_true (list_any (begins c) ms)) in
     ap (λ v. cond v (opening c (ms ++ mark.Begun d ∷ [])) (cond (begins c m) (ms ++ mark.Begun d ∷ []) [])) any ∙ begun_empty ms d c h
 
 -- ---- an opening begins
@@ -391,7 +384,3 @@ opens_kept n c msgs b b' ms fs d t s was now rest publishes methods i =
   where
     added-begun : (ms : List ConfirmMark) (d : ℕ) → added (ms ++ mark.Begun d ∷ []) ≡ added ms
     added-begun ms d = (let e = many-append adds ms (mark.Begun d ∷ []) in omega (arith, e))
-
-    or_true : (v : Bool) → (v || true) ≡ true
-    or_true true = refl
-    or_true false = refl

@@ -1,5 +1,5 @@
 -- How many opens of a channel wait after each event, by how many openings of it begin.
-use Rattle.std.proofs.Common.{◌≡◌, ◌∙◌, ℕ, ◌+◌, ◌==◌, Bool, true, false, cond, ◌&&◌, ◌||◌, List, [], ◌∷◌, ◌++◌, Option, Some, None, inl, inr, refl, sym, ap, arith}
+use Rattle.std.proofs.Common.{◌≡◌, ◌∙◌, ℕ, ◌+◌, ◌==◌, Bool, true, false, cond, ◌&&◌, List, [], ◌∷◌, ◌++◌, Option, Some, None, inl, inr, refl, sym, ap, arith}
 use Rattle.std.specs.List.{list_any, filter, find}
 use Rattle.std.specs.Option.{option_map}
 use Rattle.std.proofs.lemmas.Bool.Decides.{eqb_tells}
@@ -13,7 +13,6 @@ use Rattle.lapin_types.specs.Types.{Frame, Method, Error}
 use Rattle.lapin_types.specs.Types.frame
 use Rattle.lapin_types.specs.Types.method
 use Rattle.lapin_types.specs.Types.channel
-use Rattle.lapin_types.specs.Types.connection
 use Rattle.lapin_types.specs.Types.error
 use Rattle.lapin_content.specs.declared.start.Start.{Start}
 use Rattle.lapin_content.specs.declared.start.Start.TheVariants as start_
@@ -35,7 +34,7 @@ use Rattle.lapin_rules.specs.Drops.{is_off, method_channel}
 use Rattle.lapin_rules.specs.Select.{is_select}
 use Rattle.lapin_rules.specs.Leaving.{handed_of, left_of, left_lists, may_begin}
 use Rattle.lapin_rules.specs.Handing.{after_handing, handed_out, left_marks, entry_marks, frame_marks, sent}
-use Rattle.lapin_rules.specs.ConnectionClose.{link_sent, after_connection_close}
+use Rattle.lapin_rules.specs.ConnectionClose.{after_connection_close}
 use Rattle.lapin_rules.specs.ChannelClose.{close_ok_end}
 use Rattle.lapin_rules.specs.Ends.{end_with}
 use Rattle.lapin_rules.specs.Content.{start_marks, whole_marks, whole_on}
@@ -51,12 +50,11 @@ use Rattle.lapin_verdicts.proofs.Marks.{many-append}
 use Rattle.lapin_effects.specs.Effects.{is_next, is_special, AreFit, AreQuiet, moves, open_entry, Effect, Stays, Closes, Opens, Adds, Ends, Falls, Sinks}
 use Rattle.lapin_verdicts.proofs.Turns.{any-less}
 use Rattle.lapin_verdicts.proofs.Numbering.{is_content, AreRest}
+use Rattle.lapin_rules.proofs.ListLaws.{many-none}
+use Rattle.lapin_tables.proofs.Bools.{and_false}
+use Rattle.lapin_machine.proofs.Shut.{frame_left}
 
 -- ---- counts
-
-pub many-none : {X : Type 0} (p : X → Bool) (xs : List X) → list_any p xs ≡ false → many p xs ≡ 0
-many-none p [] h = refl
-many-none p (x ∷ xs) h = elim (p x) as (λ b. (b || list_any p xs) ≡ false → cond b (many p xs + 1) (many p xs) ≡ 0) [ true ↦ λ e. absurd cc | false ↦ λ e. many-none p xs e ] h
 
 many_kept : {X : Type 0} (p q : X → Bool) (xs : List X) → many p xs ≡ 0 → many p (filter q xs) ≡ 0
 many_kept p q [] h = refl
@@ -65,22 +63,18 @@ many_kept p q (x ∷ xs) h = elim (p x) as (λ b. p x ≡ b → cond b (many p x
   | false ↦ λ f e. elim (q x) as (λ v. many p (cond v (x ∷ filter q xs) (filter q xs)) ≡ 0) [ true ↦ rw f (many_kept p q xs e) | false ↦ many_kept p q xs e ]
 ] refl h
 
-and_none : (b : Bool) → (b && false) ≡ false
-and_none true = refl
-and_none false = refl
-
 -- how many opens of the channel wait
 abbrev pub unsent : ℕ → Wire → ℕ
 unsent c b = many (is_open_waiting c) b.methods
 
 -- ---- methods
 
-plain_open : (d : ℕ) (m : Method) → is_special m ≡ false → is_open (frame.Method d m) ≡ false
+pub plain_open : (d : ℕ) (m : Method) → is_special m ≡ false → is_open (frame.Method d m) ≡ false
 plain_open d (method.Channel channel.Open) h = absurd cc
 plain_open d _ h = refl
 
 unwaiting : (c : ℕ) (m : MethodEntry) → is_special m.method ≡ false → is_open_waiting c m ≡ false
-unwaiting c m h = ap (λ v. (m.channel == c) && v) (plain_open m.channel m.method h) ∙ and_none (m.channel == c)
+unwaiting c m h = ap (λ v. (m.channel == c) && v) (plain_open m.channel m.method h) ∙ and_false (m.channel == c)
 
 fit_none : (c : ℕ) (b : Wire) (es : List MethodEntry) → AreFit b es → many (is_open_waiting c) es ≡ 0
 fit_none c b [] h = refl
@@ -99,11 +93,11 @@ off_same c d (m ∷ ms) h = elim (eqb_tells m.channel d) [
   | inr n ↦ rw n.0 (ap (λ k. cond (is_open_waiting c m) (k + 1) k) (off_same c d ms h))
 ]
 
-moves_begin : (c : ℕ) (m : ConfirmMark) → moves m ≡ false → begins c m ≡ false
+pub moves_begin : (c : ℕ) (m : ConfirmMark) → moves m ≡ false → begins c m ≡ false
 moves_begin c (mark.Begun d) h = absurd cc
 moves_begin c _ h = refl
 
-still_none : (c : ℕ) (xs : List ConfirmMark) → list_any moves xs ≡ false → many (begins c) xs ≡ 0
+pub still_none : (c : ℕ) (xs : List ConfirmMark) → list_any moves xs ≡ false → many (begins c) xs ≡ 0
 still_none c xs h = many-none (begins c) xs (any-less moves (begins c) (moves_begin c) xs h)
 
 -- ---- the kinds of events
@@ -245,7 +239,7 @@ content_open (frame.Header c h) e = refl
 content_open (frame.Body c bytes) e = refl
 
 off_open : (c : ℕ) (f : Frame) → is_open f ≡ false → (is_frame_on c f && is_open f) ≡ false
-off_open c f h = ap (λ v. is_frame_on c f && v) h ∙ and_none (is_frame_on c f)
+off_open c f h = ap (λ v. is_frame_on c f && v) h ∙ and_false (is_frame_on c f)
 
 left_waits : (c m : ℕ) (t : ℕ → Bool) (rs : List RestEntry) (es : List MethodEntry) (ps : List Publish) (d : ℕ) → AreRest d rs → many (is_open_waiting c) (left_of m t rs es ps).methods + many (is_open_on c) (left_alone (handed_of t rs es ps)) ≡ many (is_open_waiting c) es
 left_waits c m t (f ∷ rs) es ps d a = rw (off_open c f.frame (content_open f.frame a.1)) (omega arith)
@@ -260,17 +254,9 @@ pub sent_methods : (o : Option Left) (b : Wire) → (sent o b).methods ≡ b.met
 sent_methods None b = refl
 sent_methods (Some l) b = refl
 
-link_up : (f : Frame) (l : ConnectionPhase) → is_up (link_sent f l) ≡ is_up l
-link_up (frame.Method c (method.Connection (connection.Close code text class number))) (link.Closing stage.Queued) = refl
-link_up (frame.Method c (method.Connection (connection.Close code text class number))) (link.Closing s) = refl
-link_up (frame.Method c (method.Connection (connection.Close code text class number))) link.Open = refl
-link_up (frame.Method c (method.Connection (connection.Close code text class number))) link.Closed = refl
-link_up (frame.Method c (method.Connection (connection.Close code text class number))) link.Lost = refl
-link_up _ l = refl
-
 pub sent_up : (o : Option Left) (b : Wire) → is_up (sent o b).link ≡ is_up b.link
 sent_up None b = refl
-sent_up (Some l) b = link_up l.frame b.link
+sent_up (Some l) b = frame_left l.frame b.link
 
 -- what leaves waits no more
 pub next_waits : (c d : ℕ) (t : ℕ → Bool) (b : Wire) → AreRest d b.rest → (is_up (after_handing t b).link ≡ is_up b.link) × (unsent c (after_handing t b) + many (is_open_on c) (left_alone (handed_out t b)) ≡ unsent c b)

@@ -27,7 +27,10 @@ use Rattle.lapin_verdicts.specs.Publishes.{no_tally}
 use Rattle.lapin_verdicts.specs.Answers.{awaits_as, awaits, replies, requests_in, replies_in, kind_asked}
 use Rattle.lapin_verdicts.proofs.Sorting.{Sorts, sorted}
 use Rattle.lapin_verdicts.proofs.TagCounts.{sents-append}
-use Rattle.lapin_verdicts.proofs.Reading.{at_with, at_other, of_if, not_both, closed_down, answered_down}
+use Rattle.lapin_verdicts.proofs.Reading.{of_if, closed_down, answered_down}
+use Rattle.lapin_tables.proofs.Bools.{not_both}
+use Rattle.lapin_broker.proofs.SoundLaw.{at_with}
+use Rattle.lapin_concord.proofs.Sides.{at_away}
 
 -- ---- what waits
 
@@ -116,7 +119,7 @@ open_owes l client.Close x rs n e p w h = still x (read_open l.frame x client.Cl
 open_owes l _ x rs n e p w h = absurd cc
 
 -- a frame that doesn't break an open channel opens none
-open_shut : (f : Frame) (u : ClientFrame) → Sorts u f no_tally → breaks_open u ≡ false → is_open f ≡ false
+pub open_shut : (f : Frame) (u : ClientFrame) → Sorts u f no_tally → breaks_open u ≡ false → is_open f ≡ false
 open_shut f (client.Ask k) s h = s.0
 open_shut f (client.Select waits) s h = s.0
 open_shut f client.Publish s h = s.0
@@ -230,7 +233,7 @@ up_owes c l b o None up k =
           rw z.0 (subst K (sym z.1) here)
       | inr z ↦
           let x' : Channel = read_in (channel_at b d).peer l.frame (channel_at b d) u in
-          let same : at_channel c (with_channel d x' b.channels) ≡ at_channel c b.channels = at_other d c x' b.channels z.0 in
+          let same : at_channel c (with_channel d x' b.channels) ≡ at_channel c b.channels = at_away d c x' b.channels z.0 in
           rw z.0 (λ _. subst (λ v. Goes (channel_in v) (requests_in o) (length (replies_in o))) (sym same) (k up))
     ])
 

@@ -1,10 +1,10 @@
 -- A frame that the broker reads: what it keeps of the channel is still what the tally says.
 use Rattle.std.proofs.Common.{◌≡◌, ◌∙◌, ℕ, ◌==◌, Bool, true, false, cond, List, [], ◌∷◌, ◌++◌, length, Option, Some, None, inl, inr, refl, sym, ap, subst, eq-eqb}
-use Rattle.std.specs.Option.{is_some, option_map, option_or}
+use Rattle.std.specs.Option.{option_map, option_or}
 use Rattle.std.proofs.lemmas.Bool.Decides.{eqb_tells}
 use Rattle.lapin_types.specs.Types.{Frame}
 use Rattle.lapin_tables.specs.ByChannel.{at_channel, on_channel as on_table}
-use Rattle.lapin_tables.proofs.Channels.{at-push, at-on_same, at-on_other}
+use Rattle.lapin_tables.proofs.Channels.{at-push, at-on_same, at-on_other, or-none}
 use Rattle.lapin_broker.specs.declared.content.Content.{Content}
 use Rattle.lapin_broker.specs.declared.content.Content.TheVariants as content
 use Rattle.lapin_broker.specs.declared.frames.ClientFrame.{ClientFrame}
@@ -22,6 +22,9 @@ use Rattle.lapin_verdicts.specs.Publishes.{Coming, Idle, Tally, tally_after}
 use Rattle.lapin_verdicts.specs.Session.{told, next_tally}
 use Rattle.lapin_verdicts.proofs.Sorting.{Sorts, sorted}
 use Rattle.lapin_verdicts.proofs.Counting.{AlongAt, IsAlong, IsPart, Counts, Fits, PieceFits, piece}
+use Rattle.lapin_tables.proofs.Bools.{not_both}
+use Rattle.lapin_broker.proofs.SoundLaw.{same_pair, at_with}
+use Rattle.lapin_concord.proofs.Sides.{at_away}
 
 -- ---- one channel on which nothing is being read
 
@@ -71,34 +74,13 @@ here_goes peer.StoppingAnswered c f u x y e t h s = rw e refl
 abbrev pub Keeps : ℕ → Broker → Tally → Type 0
 Keeps c b y = is_up b.connection ≡ true → Fits (channel_at b c).peer c b.reading (channel_at b c) y
 
--- a channel of the table after a change of it, or of another
-at_same : (c : ℕ) (x : Channel) (es : List (ℕ × Channel)) (o : Option Channel) → at_channel c es ≡ o → at_channel c (cond (is_some o) (on_table c (λ _. x) es) (es ++ (c, x) ∷ [])) ≡ Some x
-at_same c x es None h =
-    let here : (c == c) ≡ true = eq-eqb c c refl in
-    let last : option_or (at_channel c es) (cond (c == c) (Some x) None) ≡ Some x = rw (h, here) refl in
-    at-push c c x es ∙ last
-at_same c x es (Some z) h = at-on_same c (λ _. x) es ∙ ap (option_map (λ _. x)) h
-
-pub at_with : (c : ℕ) (x : Channel) (es : List (ℕ × Channel)) → at_channel c (with_channel c x es) ≡ Some x
-at_with c x es = at_same c x es (at_channel c es) refl
-
 at_apart : (c d : ℕ) (x : Channel) (es : List (ℕ × Channel)) (b : Bool) → (c == d) ≡ false → at_channel d (cond b (on_table c (λ _. x) es) (es ++ (c, x) ∷ [])) ≡ at_channel d es
 at_apart c d x es true h = at-on_other c d (λ _. x) es (λ e. let z : (c == d) ≡ true = eq-eqb c d e in let w : true ≡ false = sym z ∙ h in cc)
-at_apart c d x es false h = at-push c d x es ∙ (let same : option_or (at_channel d es) (cond (c == d) (Some x) None) ≡ at_channel d es = rw h (or_none (at_channel d es)) in same)
-  where
-    or_none : (o : Option Channel) → option_or o None ≡ o
-    or_none None = refl
-    or_none (Some z) = refl
-
-pub at_other : (c d : ℕ) (x : Channel) (es : List (ℕ × Channel)) → (c == d) ≡ false → at_channel d (with_channel c x es) ≡ at_channel d es
-at_other c d x es h = at_apart c d x es (is_some (at_channel c es)) h
+at_apart c d x es false h = at-push c d x es ∙ (let same : option_or (at_channel d es) (cond (c == d) (Some x) None) ≡ at_channel d es = rw h (or-none (at_channel d es)) in same)
 
 pub of_if : {A : Type 0} (P : A → Type 0) (b : Bool) (x y : A) → (b ≡ true → P x) → (b ≡ false → P y) → P (cond b x y)
 of_if P true x y holds fails = holds refl
 of_if P false x y holds fails = fails refl
-
-pub not_both : (b : Bool) → b ≡ true → b ≡ false → ⊥
-not_both b t f = let z : true ≡ false = sym t ∙ f in cc
 
 -- what is read elsewhere is nothing here
 along_idle : (c : ℕ) (r : Option (ℕ × Content)) (co : Coming) → is_read_on c r ≡ false → IsAlong c r co → co ≡ Idle
@@ -204,7 +186,7 @@ up_keeps c d f u b y None e up k s =
           rw z.0 (subst K (sym z.1) here)
       | inr z ↦
           let x' : Channel = read_in (channel_at b d).peer f (channel_at b d) u in
-          let same : at_channel c (with_channel d x' b.channels) ≡ at_channel c b.channels = at_other d c x' b.channels z.0 in
+          let same : at_channel c (with_channel d x' b.channels) ≡ at_channel c b.channels = at_away d c x' b.channels z.0 in
           let off : (v : Bool) → is_read_on c (cond v (Some (d, content.Begun)) None) ≡ false = λ v. elim v as (λ v. is_read_on c (cond v (Some (d, content.Begun)) None) ≡ false) [ true ↦ z.0 | false ↦ refl ] in
           rw z.0 (λ _. rw e (subst (λ v. Fits (channel_in v).peer c (cond (begins_in (channel_at b d).peer u) (Some (d, content.Begun)) None) (channel_in v) y) (sym same) (elsewhere _ c None _ _ y refl (off (begins_in (channel_at b d).peer u)) t)))
     ])

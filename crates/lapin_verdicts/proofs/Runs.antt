@@ -32,12 +32,10 @@ use Rattle.lapin_verdicts.specs.InStep.{is_open_on, is_frame_on}
 use Rattle.lapin_verdicts.specs.Session.{told, next_tally, next_on, frames_of}
 use Rattle.lapin_verdicts.proofs.Sending.{InRange, RangeBy}
 use Rattle.lapin_verdicts.proofs.TagCounts.{tally_on, tally-grown, reads-sent, AreDue}
+use Rattle.std.proofs.lemmas.Bool.{or_parts}
+use Rattle.lapin_joint.proofs.Steps.{run-push}
 
 -- ---- one step more
-
-pub run-push : {S : Type 0} (m : Way S) (ss : List Step) (s : Step) (j : Joint S) → run m (ss ++ s ∷ []) j ≡ after m s (run m ss j)
-run-push m [] s j = refl
-run-push m (t ∷ ss) s j = run-push m ss s (after m t j)
 
 pub along-push : {S A : Type 0} (m : Way S) (part : Step → Joint S → List A) (ss : List Step) (s : Step) (j : Joint S) → along m part (ss ++ s ∷ []) j ≡ along m part ss j ++ part s (run m ss j)
 along-push m part [] s j = append-nil (part s j)
@@ -180,12 +178,8 @@ next_grows c f y = elim (channel_of f == c) as (λ b. (b && is_open f) ≡ false
 pub way_grows : (c : ℕ) (ls : List Left) (y : Tally) → list_any (is_open_on c) ls ≡ false → Grows y (fold (next_on c) y (frames_of ls))
 way_grows c [] y h = grows_same _ _ refl
 way_grows c (l ∷ ls) y h =
-    let parts : (is_open_on c l ≡ false) × (list_any (is_open_on c) ls ≡ false) = neither (is_open_on c l) (list_any (is_open_on c) ls) h in
+    let parts : (is_open_on c l ≡ false) × (list_any (is_open_on c) ls ≡ false) = or_parts (is_open_on c l) (list_any (is_open_on c) ls) h in
     grows_then _ _ _ (next_grows c l.frame y parts.0) (way_grows c ls (next_tally c l.frame y) parts.1)
-  where
-    neither : (a b : Bool) → (a || b) ≡ false → (a ≡ false) × (b ≡ false)
-    neither true b h = absurd cc
-    neither false b h = (refl, h)
 
 joined_tally : (o : List Deed) (l : Left) → tally (reads (joined_opening o (Read l))) ≡ told l.frame (tally (reads o))
 joined_tally o l = elim (is_open l.frame) as (λ b. tally (reads (cond b [] (o ++ Read l ∷ []))) ≡ cond b no_tally (tally_after (tally (reads o)) l.frame)) [ true ↦ refl | false ↦ tally-grown o l ]

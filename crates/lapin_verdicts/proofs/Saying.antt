@@ -18,6 +18,7 @@ use Rattle.lapin_rules.specs.Wire.{Wire, state_of}
 use Rattle.lapin_effects.specs.Effects.{publish_asked, publish_asking, publish_by}
 use Rattle.lapin_verdicts.specs.Verdicts.{message_asked, message_by}
 use Rattle.lapin_verdicts.proofs.Cutting.{message_in}
+use Rattle.lapin_tables.proofs.Bools.{and_false}
 
 refused_none : (k : Asked) (x : Error) → message_asked k (record_.Refused x) ≡ []
 refused_none ask.Open x = refl
@@ -43,7 +44,7 @@ allowed_says : (c : ℕ) (t : Bool) (k : Asked) (b : Wire) (x : Error) → messa
 allowed_says c true k b x = accepted_says c k b
 allowed_says c false k b x = refused_none k x
 
-plain_record : (t : Bool) (k : Asked) (b : Wire) (e : Error) → is_outstanding (record_.Refused e) ≡ false → is_outstanding (cond t (accepted_record k b) (record_.Refused e)) ≡ false
+pub plain_record : (t : Bool) (k : Asked) (b : Wire) (e : Error) → is_outstanding (record_.Refused e) ≡ false → is_outstanding (cond t (accepted_record k b) (record_.Refused e)) ≡ false
 plain_record true ask.Open b e h = refl
 plain_record true (ask.CloseChannel code text) b e h = refl
 plain_record true (ask.CloseConnection code text) b e h = refl
@@ -53,10 +54,6 @@ plain_record true (ask.Consume m tag queue o) b e h = refl
 plain_record true (ask.Limit limit) b e h = refl
 plain_record true ask.Nothing b e h = refl
 plain_record false k b e h = h
-
-and_none : (v : Bool) → (v && false) ≡ false
-and_none true = refl
-and_none false = refl
 
 call_says : (c : ℕ) (k : Call) (b : Wire) (readings : Readings) → message_by (event.Call c k) (record_of b readings (event.Call c k)) ≡ map message_in (publish_by b (event.Call c k) (record_of b readings (event.Call c k)))
 call_says c k b readings =
@@ -70,7 +67,7 @@ call_says c k b readings =
           subst (E no) (sym none) (refused_none (asked k) (error.ConfirmsOutstanding (readings.limit c)))
       | false ↦ λ h.
           let plain : is_outstanding yes ≡ false = plain_record (is_allowed (asked k) (state_of c b)) (asked k) b (error.InvalidChannelState (state_of c b)) refl in
-          let same : asked_by k yes ≡ asked k = ap (λ v. cond (is_try k && v) ask.Nothing (asked k)) plain ∙ ap (λ v. cond v ask.Nothing (asked k)) (and_none (is_try k)) in
+          let same : asked_by k yes ≡ asked k = ap (λ v. cond (is_try k && v) ask.Nothing (asked k)) plain ∙ ap (λ v. cond v ask.Nothing (asked k)) (and_false (is_try k)) in
           subst (E yes) (sym same) (allowed_says c (is_allowed (asked k) (state_of c b)) (asked k) b (error.InvalidChannelState (state_of c b)))
     ] refl
 

@@ -28,7 +28,8 @@ use Rattle.lapin_broker.specs.Sends.{may, may_sorted, may_in, send, send_sorted,
 use Rattle.lapin_verdicts.specs.Publishes.{Tally, no_tally}
 use Rattle.lapin_verdicts.specs.Verdicts.{settlement_in}
 use Rattle.lapin_verdicts.proofs.Counting.{IsAlong, Counts, Fits}
-use Rattle.lapin_verdicts.proofs.Reading.{Keeps, not_both, elsewhere}
+use Rattle.lapin_verdicts.proofs.Reading.{Keeps, elsewhere}
+use Rattle.lapin_tables.proofs.Bools.{not_both}
 
 -- ---- one channel
 

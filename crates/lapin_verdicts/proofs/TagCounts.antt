@@ -21,8 +21,9 @@ use Rattle.lapin_verdicts.specs.Deeds.{Deed, Read, Sent, is_open, is_on, on_chan
 use Rattle.lapin_verdicts.specs.Publishes.{Tally, no_tally, tally_after, tally}
 use Rattle.lapin_verdicts.specs.Verdicts.{settlement_in}
 use Rattle.lapin_verdicts.specs.Session.{told, next_tally}
-use Rattle.lapin_verdicts.proofs.Reading.{Keeps, read_keeps, not_both}
+use Rattle.lapin_verdicts.proofs.Reading.{Keeps, read_keeps}
 use Rattle.lapin_verdicts.proofs.Sending.{RangeBy, send_keeps, settlement_range}
+use Rattle.lapin_tables.proofs.Bools.{not_both}
 
 -- ---- lists of deeds, one longer
 

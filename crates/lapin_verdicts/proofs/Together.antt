@@ -1,5 +1,5 @@
 -- Of every joined run: both sides are in one opening of each channel that the session hears.
-use Rattle.std.proofs.Common.{◌≡◌, ◌∙◌, ℕ, ◌+◌, ◌≤◌, ◌==◌, Bool, true, false, cond, ◌&&◌, ◌||◌, List, [], ◌∷◌, ◌++◌, map, Option, refl, sym, ap, subst, append-nil, append_assoc, arith, eq-eqb}
+use Rattle.std.proofs.Common.{◌≡◌, ◌∙◌, ℕ, ◌+◌, ◌≤◌, ◌==◌, Bool, true, false, cond, ◌&&◌, List, [], ◌∷◌, ◌++◌, map, Option, refl, sym, ap, subst, append-nil, append_assoc, arith, eq-eqb}
 use Rattle.std.specs.List.{list_any, filter}
 use Rattle.std.proofs.lemmas.List.Elements.{filter-append}
 use Rattle.lapin_types.specs.declared.event.Event.{Event}
@@ -51,7 +51,10 @@ use Rattle.lapin_effects.specs.Effects.{is_next}
 use Rattle.lapin_effects.proofs.Events.{has_effect}
 use Rattle.lapin_verdicts.proofs.Assembly.{as_handed, in_run}
 use Rattle.lapin_verdicts.proofs.Unread.{is_unread, unread_at, AllGo, goes-push, sent_goes, none_on, pairs}
-use Rattle.lapin_verdicts.proofs.Opens.{many-none, unsent, IsEnd, stays_down, effect_waits, client_ended, received_ended, next_waits, left_begins}
+use Rattle.lapin_verdicts.proofs.Opens.{unsent, IsEnd, stays_down, effect_waits, client_ended, received_ended, next_waits, left_begins}
+use Rattle.std.proofs.lemmas.Bool.{or_parts}
+use Rattle.lapin_rules.proofs.ListLaws.{many-none}
+use Rattle.lapin_tables.proofs.Bools.{or_true}
 
 -- ---- what goes with a run
 
@@ -164,10 +167,6 @@ none_waits c p up f fs q u i = elim (list_any (is_open_waiting c) p.wire.methods
   | true ↦ λ h. absurd (end_comes c (incoming_of f) (map down_frame fs) i (ap (λ d. of_d c (d ∷ map down_frame fs)) (sym (sorted f)) ∙ q u (rw h (or_true (list_any (is_open_on c) up)))))
   | false ↦ λ h. many-none (is_open_waiting c) p.wire.methods h
 ] refl
-  where
-    or_true : (v : Bool) → (v || true) ≡ true
-    or_true true = refl
-    or_true false = refl
 
 receive_tied : (c : ℕ) (p : Past) (up : List Left) (f : Frame) (fs : List Frame) (ds : List Deed) → IsQuiet c p up (f ∷ fs) → Tied c p up (f ∷ fs) ds → Tied c (longer p (event.Receive f) (record_after p (event.Receive f))) up fs ds
 receive_tied c p up f fs ds q t = drop_tied c _ up f fs ds (event_tied c p (event.Receive f) up (f ∷ fs) ds refl (λ x h u. elim (is_up p.wire.link) as (λ v. is_up p.wire.link ≡ v → unsent c p.wire ≡ 0) [
@@ -180,7 +179,7 @@ receive_tied c p up f fs ds q t = drop_tied c _ up f fs ds (event_tied c p (even
 
 -- ---- a loss
 
-lost_down : (b : Wire) (r : Record) → is_up (after_event b event.Lost r).link ≡ false
+pub lost_down : (b : Wire) (r : Record) → is_up (after_event b event.Lost r).link ≡ false
 lost_down b r = by (is_lost b.link) refl
   where
     shut : (l : ConnectionPhase) → is_lost l ≡ true → is_up l ≡ false
@@ -286,10 +285,6 @@ hears_up : (u : Bool) (s : ChannelState) → receives_on (cond u s state.Down) �
 hears_up true s h = (refl, h)
 hears_up false s h = absurd cc
 
-none_of : (a b : Bool) → (a || b) ≡ false → (a ≡ false) × (b ≡ false)
-none_of true b h = absurd cc
-none_of false b h = (refl, h)
-
 pub in_step : (n : ℕ) → 4096 ≤ n → InStep n
 in_step n r ss c on =
     let b : Wire = (past_of n ss).wire in
@@ -301,7 +296,7 @@ in_step n r ss c on =
       | true ↦ λ e. absurd (h.1 (unread_at c b j.broker j.up j.down (pairs n ss r) o.0 h.0 e).0)
       | false ↦ λ e. refl
     ] refl in
-    let none = none_of (list_any (is_open_on c) j.up) (list_any (is_open_waiting c) b.methods) read in
+    let none = or_parts (list_any (is_open_on c) j.up) (list_any (is_open_waiting c) b.methods) read in
     let came = t.came o.0 in
     record {
       left = none.1;

@@ -1,9 +1,8 @@
 -- Marks that begin, end or move an opening, and what they leave of selections, places and outcomes.
-use Rattle.std.proofs.Common.{◌≡◌, ◌∙◌, ℕ, zero, suc, ◌+◌, ◌≤◌, ◌<◌, ◌==◌, max, Bool, true, false, cond, ◌||◌, List, [], ◌∷◌, ◌++◌, Option, Some, None, inl, inr, refl, sym, ap, arith, ne_eqb}
-use Rattle.std.proofs.Math.Nat.{le-max_left, le-max_right}
+use Rattle.std.proofs.Common.{◌≡◌, ◌∙◌, ℕ, zero, suc, ◌+◌, ◌≤◌, ◌<◌, ◌==◌, Bool, true, false, cond, ◌||◌, List, [], ◌∷◌, ◌++◌, Option, Some, None, inl, inr, refl, sym, ap, arith}
 use Rattle.std.specs.List.{list_any, count_by, fold}
 use Rattle.std.specs.Option.{option_or}
-use Rattle.std.proofs.lemmas.Bool.{cases_lt}
+use Rattle.std.proofs.lemmas.Bool.{cases_lt, or_parts}
 use Rattle.std.proofs.lemmas.Bool.Decides.{eqb_tells}
 use Rattle.std.proofs.lemmas.List.Folds.{list_any-append}
 use Rattle.std.proofs.lemmas.List.Sums.{fold-append}
@@ -21,6 +20,8 @@ use Rattle.lapin_rules.specs.Wire.{Wire, phase_of}
 use Rattle.lapin_tables.specs.ByChannel.{at_channel}
 use Rattle.lapin_verdicts.proofs.Marks.{after-append, channel-append, tag-append, settled-append, many-append, or-assoc}
 use Rattle.lapin_effects.specs.Effects.{moves, grows}
+use Rattle.lapin_rules.proofs.ListLaws.{many-none, or_false}
+use Rattle.lapin_rules.proofs.EndLaws.{beyond-none}
 
 -- the mark says that a frame of a publish left
 abbrev pub is_left : ConfirmMark → Bool
@@ -87,19 +88,11 @@ grow_unleft xs h = any-less grows is_left grows_left xs h
 pub grow_turns : (c : ℕ) (xs : List ConfirmMark) → list_any grows xs ≡ false → list_any (turns_on c) xs ≡ false
 grow_turns c xs h = any-less grows (turns_on c) (grows_turns c) xs h
 
-pub many-none : {X : Type 0} (p : X → Bool) (xs : List X) → list_any p xs ≡ false → many p xs ≡ 0
-many-none p [] h = refl
-many-none p (x ∷ xs) h = elim (p x) as (λ b. (b || list_any p xs) ≡ false → cond b (many p xs + 1) (many p xs) ≡ 0) [ true ↦ λ e. absurd cc | false ↦ λ e. many-none p xs e ] h
-
 pub grow_added : (ms xs : List ConfirmMark) → list_any grows xs ≡ false → added (ms ++ xs) ≡ added ms
 grow_added ms xs h = let e = many-append adds ms xs in let z = many-none adds xs (any-less grows adds grows_adds xs h) in omega (arith, e, z)
 
 pub left-same : (k : ℕ) (ms xs : List ConfirmMark) → list_any is_left xs ≡ false → has_left k (ms ++ xs) ≡ has_left k ms
 left-same k ms xs h = list_any-append (leaves k) ms xs ∙ (ap (λ v. has_left k ms || v) (any-less is_left (leaves k) (left_leaves k) xs h) ∙ or_false (has_left k ms))
-  where
-    or_false : (v : Bool) → (v || false) ≡ v
-    or_false true = refl
-    or_false false = refl
 
 -- ---- selections and places
 
@@ -118,10 +111,6 @@ module _ {X : Type 0} (p : X → Bool) where
       ap (λ v. cond v (since p (xs ++ ys)) (cond (p x) (xs ++ ys) [])) any
       ∙ (ap (λ v. cond (list_any p xs) v (cond (p x) (xs ++ ys) [])) (since-append xs ys h) ∙ by (list_any p xs) (p x))
     where
-      or_false : (v : Bool) → (v || false) ≡ v
-      or_false true = refl
-      or_false false = refl
-
       by : (v u : Bool) → cond v (cond v (since p xs ++ ys) []) (cond u (xs ++ ys) []) ≡ cond (u || v) (cond v (since p xs) (cond u xs []) ++ ys) []
       by true true = refl
       by true false = refl
@@ -147,10 +136,6 @@ count-append {X = X} p xs ys h = fold-append (λ a x. a + cond (p x) 1 0) 0 xs y
     none n [] e = refl
     none n (y ∷ ys) e = elim (p y) as (λ b. (b || list_any p ys) ≡ false → fold (λ a x. a + cond (p x) 1 0) (n + cond b 1 0) ys ≡ n) [ true ↦ λ g. absurd cc | false ↦ λ g. (let z : n + 0 ≡ n = omega arith in ap (λ v. fold (λ a x. a + cond (p x) 1 0) v ys) z ∙ none n ys g) ] e
 
-or_parts : (a b : Bool) → (a || b) ≡ false → (a ≡ false) × (b ≡ false)
-or_parts true b h = absurd cc
-or_parts false b h = (refl, h)
-
 pub turn_parts : (c : ℕ) (xs : List ConfirmMark) → list_any (turns_on c) xs ≡ false → (list_any (begins c) xs ≡ false) × (list_any (selects c) xs ≡ false) × (list_any (leaves_on c) xs ≡ false)
 turn_parts c xs h = (
   any-less (turns_on c) (begins c) (λ m e. (or_parts (begins c m) (selects c m || leaves_on c m) e).0) xs h,
@@ -166,10 +151,6 @@ pub turn_selected : (c : ℕ) (ms xs : List ConfirmMark) → list_any (turns_on 
 turn_selected c ms xs h b =
     let q = turn_parts c xs h in
     ap (list_any (selects c)) (opening-longer c ms xs q.0 b) ∙ (list_any-append (selects c) (opening c ms) xs ∙ (ap (λ v. list_any (selects c) (opening c ms) || v) q.1 ∙ or_false (list_any (selects c) (opening c ms))))
-  where
-    or_false : (v : Bool) → (v || false) ≡ v
-    or_false true = refl
-    or_false false = refl
 
 pub turn_place : (c : ℕ) (ms xs : List ConfirmMark) → list_any (turns_on c) xs ≡ false → list_any (begins c) ms ≡ true → place c (ms ++ xs) ≡ place c ms
 turn_place c ms xs h b =
@@ -270,14 +251,6 @@ waits_back k ms xs z le u h = waits_one k ms xs z le (left-same k ms xs u) h
 
 -- ---- every live opening ends, where the connection does
 
-beyond_none : (n : ℕ) (all : List (ℕ × ChannelPhase)) → beyond all ≤ n → at_channel n all ≡ None
-beyond_none n [] h = refl
-beyond_none n (x ∷ xs) h =
-    let here : suc x.0 ≤ max (suc x.0) (beyond xs) = le-max_left (suc x.0) (beyond xs) in
-    let rest : beyond xs ≤ max (suc x.0) (beyond xs) = le-max_right (suc x.0) (beyond xs) in
-    let other : (x.0 == n) ≡ false = ne_eqb x.0 n (λ e. let le : suc x.0 ≤ n = omega (arith, here, h) in absurd (omega (arith, le, e))) in
-    rw other (beyond_none n xs (omega (arith, rest, h)))
-
 ends-append : (e : Error) (cs ds : List ℕ) → ends e (cs ++ ds) ≡ ends e cs ++ ends e ds
 ends-append e [] ds = refl
 ends-append e (c ∷ cs) ds = ap (λ v. mark.Ended c e ∷ v) (ends-append e cs ds)
@@ -301,6 +274,6 @@ pub live_ends : (e : Error) (c : ℕ) (b : Wire) → is_live (phase_of c b) ≡ 
 live_ends e c b h = elim (cases_lt c (beyond b.phases)) [
   | inl less ↦ below_ends e (beyond b.phases) c b.phases less h
   | inr more ↦
-      let none : at_channel c b.phases ≡ None = beyond_none c b.phases more in
+      let none : at_channel c b.phases ≡ None = beyond-none c b.phases more in
       let z : true ≡ false = sym h ∙ ap (λ o. is_live (phase_in o)) none in absurd cc
 ]

@@ -51,6 +51,7 @@ use Rattle.lapin_concord.proofs.Laws.{alike_run}
 use Rattle.lapin_verdicts.specs.Deeds.{is_open}
 use Rattle.lapin_verdicts.specs.InStep.{is_frame_on, is_open_on, is_open_waiting}
 use Rattle.lapin_verdicts.specs.Session.{past_of}
+use Rattle.lapin_tables.proofs.Bools.{or_true}
 
 -- ---- one channel
 
@@ -118,10 +119,6 @@ pair_unread w c g o h =
     (k.0, none_of (of_d c w.down) k.1)
 
 -- ---- frames of the client
-
-or_true : (v : Bool) → (v || true) ≡ true
-or_true true = refl
-or_true false = refl
 
 and_no : (b : Bool) → (b && false) ≡ true → ⊥
 and_no true h = cc

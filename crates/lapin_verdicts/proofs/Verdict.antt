@@ -51,6 +51,7 @@ use Rattle.lapin_verdicts.proofs.Settles.{client_quiet, all_quiet, frame_settles
 use Rattle.lapin_verdicts.proofs.Sending.{RangeBy}
 use Rattle.lapin_verdicts.proofs.TagCounts.{tally_on, AreDue, tag_count_of, last-push, last-sent, sents-append, reads-append}
 use Rattle.lapin_verdicts.proofs.Runs.{joined-push, deeds-push, past-push, past_at, delivered_marks, marks_in, marks_after, cancel, any-first, at-first, Grows, grows_then, fold_grows, way_grows, grown_length, tally_folds, none_covers, split_at, due_at, covered_counted}
+use Rattle.std.proofs.lemmas.Bool.{cond-true}
 
 -- ---- no earlier settlement
 
@@ -58,7 +59,7 @@ use Rattle.lapin_verdicts.proofs.Runs.{joined-push, deeds-push, past-push, past_
 abbrev pub Fresh : ℕ → List ConfirmMark → List Deed → List Frame → Type 0
 Fresh c ms ds way = (k t : ℕ) (came : List Frame) → IsPending c k t ms → sents (last_opening c ds) ≡ came ++ filter (is_frame_on c) way → list_any (settles t) came ≡ false
 
-no_start : (xs ys : List Frame) → [] ≡ xs ++ ys → xs ≡ []
+pub no_start : (xs ys : List Frame) → [] ≡ xs ++ ys → xs ≡ []
 no_start [] ys e = refl
 no_start (x ∷ xs) ys e = absurd cc
 
@@ -95,17 +96,13 @@ came_sents c sent came f fs before e g = elim (eqb_tells (channel_of f) c) [
 
 -- ---- a settlement that covers a pending tag is received
 
-chosen : {X : Type 0} (v : Bool) (x y : X) → v ≡ true → cond v x y ≡ x
-chosen true x y h = refl
-chosen false x y h = absurd cc
-
 heard_up : (b : Wire) (readings : Readings) (c : ℕ) (s : Settlement) (r : Record) → is_up b.link ≡ true → receives_on (state_of c b) ≡ true → readings.selected c ≡ true → (s.multiple || readings.pending c s.tag) ≡ true → incoming_record b readings r (incoming.Settlement c s) ≡ record_.Received
 heard_up b readings c s r up on sel known =
     let no : Record = record_.Refused (error.PreconditionFailed s.tag (readings.last c)) in
-    chosen (is_up b.link) (incoming_up b readings r (incoming.Settlement c s)) (cond (receives_down b.link (incoming.Settlement c s)) record_.Received record_.Passed) up
-    ∙ (chosen (receives_on (state_of c b)) (settlement_record readings c s) r on
-    ∙ (chosen (readings.selected c) (cond (s.multiple || readings.pending c s.tag) record_.Received no) record_.Passed sel
-    ∙ chosen (s.multiple || readings.pending c s.tag) record_.Received no known))
+    cond-true (is_up b.link) (incoming_up b readings r (incoming.Settlement c s)) (cond (receives_down b.link (incoming.Settlement c s)) record_.Received record_.Passed) up
+    ∙ (cond-true (receives_on (state_of c b)) (settlement_record readings c s) r on
+    ∙ (cond-true (readings.selected c) (cond (s.multiple || readings.pending c s.tag) record_.Received no) record_.Passed sel
+    ∙ cond-true (s.multiple || readings.pending c s.tag) record_.Received no known))
 
 up_at : (v : Bool) (s : ChannelState) → receives_on (cond v s state.Down) ≡ true → v ≡ true
 up_at true s h = refl

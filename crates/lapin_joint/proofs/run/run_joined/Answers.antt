@@ -1,6 +1,5 @@
 use Rattle.std.proofs.Common.{◌≡◌, subst, List, ◌++◌}
 use Rattle.std.specs.Result.{OnOk, OnErr}
-use Rattle.std.specs.Prelude.{Result, Ok, Err}
 use Rattle.lapin_joint.specs.declared.step.Reported.{Reported}
 use Rattle.lapin_joint.specs.Joint.{reports}
 use Rattle.lapin_machine.specs.Way.{by_machine}
@@ -9,10 +8,7 @@ use Rattle.lapin_machine.specs.Growing.{IsStarted}
 use Rattle.lapin_machine.proofs.Growing.{not_started}
 use Rattle.lapin_joint.proofs.Alike.{reports_joined}
 use Rattle.lapin_joint.proofs.run.run_joined.Goals as goal
-
-on_err : {T E : Type 0} (r : Result T E) (P : Type 0) → P → OnErr r P
-on_err (Ok x) P p = tt
-on_err (Err e) P p = p
+use Rattle.lapin_tables.proofs.Bools.{on_err}
 
 pub returns-in_err-reserve_exact-clause-err : goal.returns-in_err-reserve_exact-clause-err
 returns-in_err-reserve_exact-clause-err c = on_err c.from_residual.result _ (not_started _ _ _ c.reserve_exact.ensures.items)

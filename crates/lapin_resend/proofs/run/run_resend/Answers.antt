@@ -2,8 +2,9 @@ use Rattle.std.proofs.Common.{◌≡◌, ◌∷◌, arith, refl}
 use Rattle.std.proofs.lemmas.Grind.{common_steps}
 use Rattle.lapin_machine.proofs.Growing.{not_started}
 use Rattle.lapin_resend.specs.Resend.{resend}
-use Rattle.lapin_resend.proofs.Running.{at_next, at_stop, on_err}
+use Rattle.lapin_resend.proofs.Running.{at_next, at_stop}
 use Rattle.lapin_resend.proofs.run.run_resend.Goals as goal
+use Rattle.lapin_tables.proofs.Bools.{on_err}
 
 pub loop-step-preserved : goal.loop-step-preserved
 loop-step-preserved c =

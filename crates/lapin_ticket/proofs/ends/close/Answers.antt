@@ -3,9 +3,9 @@ use Rattle.std.proofs.lemmas.Bool.Decides.{eqb_tells}
 use Rattle.lapin_tables.specs.Numbered.{under}
 use Rattle.lapin_ticket.specs.Given.{numbers_on}
 use Rattle.lapin_ticket.proofs.Ending.{close-done}
-use Rattle.lapin_ticket.proofs.Walking.{none-passes}
 use Rattle.lapin_ticket.proofs.Listing.{rejects-open, get-within}
 use Rattle.lapin_ticket.proofs.ends.close.Goals as goal
+use Rattle.std.proofs.lemmas.Bool.{false_from_ne_true}
 
 pub loop-place-init : goal.loop-place-init
 loop-place-init c = record {
@@ -32,7 +32,7 @@ loop-place-preserved c = record {
 
 pub returns-clause-slots : goal.returns-clause-slots
 returns-clause-slots c =
-    sym (close-done c.args.channel c.args.error c.loop-place.slots.slots (λ n. none-passes _ (λ h.
+    sym (close-done c.args.channel c.args.error c.loop-place.slots.slots (λ n. false_from_ne_true _ (λ h.
     let there = c.loop-place.invariant.left n h in
     let within : there.0 < length (numbers_on c.args.channel c.args.given.now.channels) = get-within (numbers_on c.args.channel c.args.given.now.channels) there.0 n there.2 in
     omega (arith, there.1, c.count-count.ensures))))

@@ -2,9 +2,9 @@ use Rattle.std.proofs.Common.{◌≡◌, ◌≢◌, ℕ, ◌<◌, length, Some, 
 use Rattle.std.proofs.lemmas.Bool.Decides.{eqb_tells}
 use Rattle.lapin_ticket.specs.Given.{numbers_on}
 use Rattle.lapin_ticket.proofs.Ending.{end-done}
-use Rattle.lapin_ticket.proofs.Walking.{all-pass}
 use Rattle.lapin_ticket.proofs.Listing.{get-within}
 use Rattle.lapin_ticket.proofs.ends.end.Goals as goal
+use Rattle.std.proofs.lemmas.Bool.{true_from_ne_false}
 
 pub loop-place-init : goal.loop-place-init
 loop-place-init c = record {
@@ -31,7 +31,7 @@ loop-place-preserved c = record {
 
 pub returns-clause-slots : goal.returns-clause-slots
 returns-clause-slots c =
-    sym (end-done c.args.channel c.args.spared c.args.error c.loop-place.slots.slots (λ n h. all-pass _ (λ other.
+    sym (end-done c.args.channel c.args.spared c.args.error c.loop-place.slots.slots (λ n h. true_from_ne_false _ (λ other.
     let there = c.loop-place.invariant.left n h other in
     let within : there.0 < length (numbers_on c.args.channel c.args.given.now.channels) = get-within (numbers_on c.args.channel c.args.given.now.channels) there.0 n there.2 in
     omega (arith, there.1, c.count-count.ensures))))

@@ -8,12 +8,13 @@ use Rattle.lapin_confirm.specs.ConfirmState.{return_lists_in, messages_on}
 use Rattle.lapin_confirm.specs.Drain.{Remains, remaining, less_all}
 use Rattle.lapin_confirm.specs.Ties.{returned_by_channel_of, promised}
 use Rattle.lapin_confirm.proofs.Asides.{none-open}
-use Rattle.lapin_confirm.proofs.ConfirmModes.{has-mode, confirm_modes-begun, fresh-mode, same-publish_states, all-same, on-err}
+use Rattle.lapin_confirm.proofs.ConfirmModes.{has-mode, confirm_modes-begun, fresh-mode, same-publish_states, all-same}
 use Rattle.lapin_confirm.proofs.ReturnedByChannel.{early-renewed, early-aside}
 use Rattle.lapin_confirm.proofs.Whole.{tied-fresh}
 use Rattle.lapin_confirm.proofs.Roomy.{all-begun, room-begun}
 use Rattle.lapin_confirm.proofs.ShownFull.{not-limited, shows-begun}
 use Rattle.lapin_confirm.proofs.confirms.Confirms.begin.Goals as goal
+use Rattle.lapin_tables.proofs.Bools.{on_err}
 
 pub invariant_of-self-2 : goal.invariant_of-self-2
 invariant_of-self-2 c =
@@ -73,7 +74,7 @@ invariant_of-self-in_err-renew_returned_messages c =
 pub returns-in_err-renew_returned_messages-clause-err : goal.returns-in_err-renew_returned_messages-clause-err
 returns-in_err-renew_returned_messages-clause-err c =
     rw (← c.self.view_is, c.make_place.ensures.same)
-    (on-err _ _ (all-same _ _ _ _ _ _ _ _ (same-publish_states _ _ _ _ refl (ap (λ (r : Remains). r.cells) c.in_err-renew_returned_messages.ensures.same)) (ap returned_by_channel_of c.in_err-renew_returned_messages.ensures.err) c.in_err-renew_returned_messages.ensures.early_same (ap (λ (r : Remains). r.origins) c.in_err-renew_returned_messages.ensures.same)))
+    (on_err _ _ (all-same _ _ _ _ _ _ _ _ (same-publish_states _ _ _ _ refl (ap (λ (r : Remains). r.cells) c.in_err-renew_returned_messages.ensures.same)) (ap returned_by_channel_of c.in_err-renew_returned_messages.ensures.err) c.in_err-renew_returned_messages.ensures.early_same (ap (λ (r : Remains). r.origins) c.in_err-renew_returned_messages.ensures.same)))
 
 pub returns-in_err-make_place-clause-succeeds : goal.returns-in_err-make_place-clause-succeeds
 returns-in_err-make_place-clause-succeeds c = λ lined returned_messages none.

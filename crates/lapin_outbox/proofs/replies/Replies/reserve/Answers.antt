@@ -1,13 +1,14 @@
 use Rattle.std.proofs.Common.{refl, sym, ◌∙◌, ap}
 use Rattle.std.specs.Option.{option_copied_mut}
-use Rattle.lapin_outbox.proofs.Waiting.{waiting-is, kept, there, on-ok}
+use Rattle.lapin_outbox.proofs.Waiting.{waiting-is, kept, there}
 use Rattle.lapin_outbox.proofs.Rooms.{had-room, has-room, room-kept}
 use Rattle.lapin_outbox.proofs.replies.Replies.reserve.Goals as goal
+use Rattle.std.proofs.lemmas.Result.{on_ok_weaker}
 
 pub returns-in-Some-clause-room : goal.returns-in-Some-clause-room
 returns-in-Some-clause-room c =
     let at = sym c.get_mut.ensures.value ∙ ap option_copied_mut c.in-Some.is in
-    on-ok _ (has-room _ _ c.reserve.new.self _ _ _ c.self.view_is at) c.reserve.ensures.room
+    on_ok_weaker _ (has-room _ _ c.reserve.new.self _ _ _ c.self.view_is at) c.reserve.ensures.room
 
 pub returns-in-Some-clause-same : goal.returns-in-Some-clause-same
 returns-in-Some-clause-same c =
