@@ -1,7 +1,7 @@
 #!/usr/bin/env python3
 """Refuses each growth of a session in turn, one number per run, and looks whether anything changed by it.
 
-The test `script_all` of `lapin_script_tests` makes a script of each kind of event. Where a step finds no memory it compares what is
+The test `script_all` of `lapin_channel_tests` makes a script of each kind of event. Where a step finds no memory it compares what is
 seen of the session (states, what is ready, what waits, the last tag) with what was seen before, makes the step again, and goes on by
 the script's records. This script builds it without proofs, as `bench/unproved.py` builds the program, and runs it once for each
 call of `malloc` and `realloc`, which is refused. It says how many runs there were and how many failed, and ends with 1 where one did.
@@ -16,7 +16,7 @@ import tempfile
 
 import unproved
 
-CRATE, TEST = "lapin_script_tests", "script_all::script_all"
+CRATE, TEST = "lapin_channel_tests", "script::script_all::script_all"
 
 # What stands before the C library's own calls: the call of the wanted number finds no memory.
 REFUSING = r"""

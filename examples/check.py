@@ -1,7 +1,7 @@
 #!/usr/bin/env python3
 """See that the files of this folder are the runs of the tests, and that the built program prints their answers.
 
-The runs stand in files of crates of tests, one crate for each command, with a line an event or a step and, behind an arrow, its
+The runs stand in files of crates of tests, a file for each command, with a line an event or a step and, behind an arrow, its
 record or report; of `check`, whose answers come once all was read, with the lines and then the answers, an arrow before each; of a pool the records are
 the first caller's, and lines without an event say what is printed behind them. The gate runs them there; this script, which stands outside
 it, compares the files beside it with them. Where the program is built (`./lapin` builds it), it is run on each file too.
@@ -16,11 +16,11 @@ HERE = os.path.dirname(os.path.abspath(__file__))
 TOP = os.path.dirname(HERE)
 TABLES = {
     "session": ["lapin_tests/src/examples.rt", "lapin_tests/src/tutorials.rt"],
-    "joined": ["lapin_command_tests/src/joined/examples.rt"],
-    "check": ["lapin_command_tests/src/check/examples.rt"],
-    "resend": ["lapin_command_tests/src/resend/examples.rt"],
-    "call replies": ["lapin_command_tests/src/calls/examples.rt"],
-    "pool 1": ["lapin_pool_tests/src/examples.rt"],
+    "joined": ["lapin_tests/src/command/joined/examples.rt"],
+    "check": ["lapin_tests/src/command/check/examples.rt"],
+    "resend": ["lapin_tests/src/command/resend/examples.rt"],
+    "call replies": ["lapin_tests/src/command/calls/examples.rt"],
+    "pool 1": ["lapin_shared_tests/src/pool/examples.rt"],
 }
 PROGRAM = os.path.join(TOP, "crates", "lapin_run", "out", "lapin_run")
 NAME = "# examples/"

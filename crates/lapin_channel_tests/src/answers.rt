@@ -5,13 +5,14 @@ use lapin_loop::{
     Typed, answer_of, free_channel, has_frames, poll_channel, poll_consumer, poll_count, poll_done,
     poll_flow, poll_got, poll_queue,
 };
-use lapin_session::{Channel, Consumer, Session};
+use lapin_session::{Channel, Consumer, Session, Ticket};
 use lapin_types::{
     Answer, BasicConsumeOptions, BasicGetMessage, BasicGetOptions, ChannelFlowOptions,
     ConfirmSelectOptions, Error, FieldTable, Queue, QueueDeclareOptions, QueuePurgeOptions,
     ShortString,
 };
 use std::alloc::Global;
+use std::process::Abort;
 use std::test::Fail;
 
 // What a ticket tells, in a word.
@@ -98,51 +99,118 @@ fn opened(alloc: Global, session: &mut Session) -> Result<Channel, Error> {
     }
 }
 
-#[test]
-fn each_answer_by_its_kind(rt: HostRuntime) -> Result<(), Fail> {
-    let alloc = rt.alloc();
-    let mut session = Session::new(alloc, 4096)?;
-    let session = &mut session;
-    let channel = opened(alloc, session)?;
-    let select = channel.confirm_select(alloc, session, ConfirmSelectOptions::default())?;
+// The tickets of calls, each of which has an answer of its own kind.
+#[derive(Clone, Copy)]
+struct Asked {
+    select: u64,
+    declare: u64,
+    purge: u64,
+    flow: u64,
+    get: u64,
+    consume: u64,
+}
+
+fn declared(alloc: Global, session: &mut Session, channel: &Channel) -> Result<u64, Error> {
     let name = ShortString::literal(alloc, "q")?;
     let options = QueueDeclareOptions::default();
-    let declare = channel.queue_declare(alloc, session, name, options, FieldTable::new(alloc))?;
+    let ticket = channel.queue_declare(alloc, session, name, options, FieldTable::new(alloc))?;
+    Ok(ticket.number)
+}
+
+fn purged(alloc: Global, session: &mut Session, channel: &Channel) -> Result<u64, Error> {
     let name = ShortString::literal(alloc, "q")?;
-    let purge = channel.queue_purge(alloc, session, name, QueuePurgeOptions::default())?;
-    let flow = channel.channel_flow(alloc, session, ChannelFlowOptions { active: true })?;
+    let ticket = channel.queue_purge(alloc, session, name, QueuePurgeOptions::default())?;
+    Ok(ticket.number)
+}
+
+fn got(alloc: Global, session: &mut Session, channel: &Channel) -> Result<u64, Error> {
     let name = ShortString::literal(alloc, "q")?;
-    let get = channel.basic_get(alloc, session, name, BasicGetOptions::default())?;
+    let ticket = channel.basic_get(alloc, session, name, BasicGetOptions::default())?;
+    Ok(ticket.number)
+}
+
+fn consumed(alloc: Global, session: &mut Session, channel: &Channel) -> Result<u64, Error> {
     let name = ShortString::literal(alloc, "q")?;
     let tag = ShortString::empty(alloc)?;
     let options = BasicConsumeOptions::default();
-    let consume = channel.basic_consume(
-        alloc,
-        session,
-        name,
-        tag,
-        options,
-        FieldTable::new(alloc),
-    )?;
-    assert_eq!(rt; word(poll_done(&select, session)?), "pending");
+    let arguments = FieldTable::new(alloc);
+    let ticket = channel.basic_consume(alloc, session, name, tag, options, arguments)?;
+    Ok(ticket.number)
+}
+
+fn ask_all(alloc: Global, session: &mut Session, channel: &Channel) -> Result<Asked, Error> {
+    let select = channel
+        .confirm_select(alloc, session, ConfirmSelectOptions::default())?
+        .number;
+    let declare = declared(alloc, session, channel)?;
+    let purge = purged(alloc, session, channel)?;
+    let flow = channel
+        .channel_flow(alloc, session, ChannelFlowOptions { active: true })?
+        .number;
+    let get = got(alloc, session, channel)?;
+    let consume = consumed(alloc, session, channel)?;
+    Ok(Asked {
+        select,
+        declare,
+        purge,
+        flow,
+        get,
+        consume,
+    })
+}
+
+// The answers of the broker.
+fn answered(alloc: Global, session: &mut Session) -> Result<(), Error> {
     sent(alloc, session)?;
     heard(alloc, session, "method 1 confirm.select-ok")?;
     heard(alloc, session, "method 1 queue.declare-ok x71 5 2")?;
     heard(alloc, session, "method 1 queue.purge-ok 3")?;
     heard(alloc, session, "method 1 channel.flow-ok 1")?;
     heard(alloc, session, "method 1 basic.get-empty")?;
-    heard(alloc, session, "method 1 basic.consume-ok x74")?;
-    assert_eq!(rt; word(poll_done(&select, session)?), "ready");
-    assert_eq!(rt; messages(poll_queue(&declare, session)?), Some(5));
-    assert_eq!(rt; number(poll_count(&purge, session)?), Some(3));
-    assert_eq!(rt; mark(poll_flow(&flow, session)?), Some(true));
+    heard(alloc, session, "method 1 basic.consume-ok x74")
+}
+
+// What the ticket of a call without a value tells, in a word.
+fn done(session: &mut Session, number: u64) -> Result<&'static str, Error> {
+    Ok(word(poll_done(&Ticket { number }, session)?))
+}
+
+fn tell_their_kind<R: Abort>(rt: &R, session: &mut Session, asked: &Asked) -> Result<(), Error> {
+    assert!(rt; done(session, asked.select)? == "ready");
+    let declare = Ticket {
+        number: asked.declare,
+    };
+    assert!(rt; messages(poll_queue(&declare, session)?) == Some(5));
+    let purge = Ticket {
+        number: asked.purge,
+    };
+    assert!(rt; number(poll_count(&purge, session)?) == Some(3));
+    let flow = Ticket { number: asked.flow };
+    assert!(rt; mark(poll_flow(&flow, session)?) == Some(true));
+    let get = Ticket { number: asked.get };
     assert!(rt; is_empty(poll_got(&get, session)?));
-    assert_eq!(rt; consumer(poll_consumer(&consume, session)?), Some(1));
-    assert_eq!(rt;
-        refusal(answer_of(&consume, session)),
-        Some(Error::AlreadyTaken)
-    );
+    let consume = Ticket {
+        number: asked.consume,
+    };
+    assert!(rt; consumer(poll_consumer(&consume, session)?) == Some(1));
+    assert!(rt; refusal(answer_of(&consume, session)) == Some(Error::AlreadyTaken));
     Ok(())
+}
+
+fn answers_by_kind<R: Abort>(rt: &R, alloc: Global, session: &mut Session) -> Result<(), Error> {
+    let channel = opened(alloc, session)?;
+    let asked = ask_all(alloc, session, &channel)?;
+    assert!(rt; done(session, asked.select)? == "pending");
+    answered(alloc, session)?;
+    tell_their_kind(rt, session, &asked)
+}
+
+#[test]
+fn each_answer_by_its_kind(rt: HostRuntime) -> Result<(), Fail> {
+    let mut session = Session::new(rt.alloc(), 4096)?;
+    let done = answers_by_kind(&rt, rt.alloc(), &mut session);
+    drop(session);
+    Ok(done?)
 }
 
 // An answer of another kind is given all the same.

@@ -5,6 +5,7 @@ use lapin_session::Session;
 use lapin_text::{read_frame, write_frame};
 use lapin_types::{ChannelState, Error, Frame};
 use std::alloc::Global;
+use std::process::Abort;
 use std::test::Fail;
 
 /// A wire in memory: the text of the frames that it took, a line each, and the frames that are to come, last first. It takes only so many.
@@ -60,93 +61,131 @@ fn make_script(alloc: Global, room: u64, coming: &[&str]) -> Result<Script, Erro
     })
 }
 
+// How a loop of turns ends, in words.
+fn rested(
+    alloc: Global,
+    session: &mut Session,
+    wire: &mut Script,
+    turns: u64,
+) -> Result<&'static str, Error> {
+    let rest = drive(alloc, session, wire, turns)?;
+    Ok(match rest {
+        Some(Rest::Quiet) => "quiet",
+        Some(Rest::Broken) => "broken",
+        Some(
+            Rest::Refused(
+                Error::UnexpectedFrame {
+                    class: 20,
+                    method: 11,
+                },
+            ),
+        ) => "unexpected open-ok",
+        Some(Rest::Refused(_)) => "refused",
+        None => "turns are over",
+    })
+}
+
+fn is_sent(wire: &Script, text: &str) -> bool {
+    wire.sent.as_slice() == text.as_bytes()
+}
+
+fn is_in(session: &Session, channel: u16, state: ChannelState) -> bool {
+    session.channel_state(channel) == state
+}
+
 #[test]
 fn all_is_sent_and_all_is_heard(rt: HostRuntime) -> Result<(), Fail> {
-    let alloc = rt.alloc();
-    let mut session = Session::new(alloc, 4096)?;
-    let mut wire = make_script(
-        alloc,
-        9,
-        &["method 2 channel.open-ok", "method 1 channel.open-ok"],
-    )?;
+    let mut session = Session::new(rt.alloc(), 4096)?;
+    let coming = ["method 2 channel.open-ok", "method 1 channel.open-ok"];
+    let mut wire = make_script(rt.alloc(), 9, &coming)?;
+    both_are_opened(&rt, rt.alloc(), &mut session, &mut wire)?;
+    Ok(())
+}
+
+fn both_are_opened<R: Abort>(
+    rt: &R,
+    alloc: Global,
+    session: &mut Session,
+    wire: &mut Script,
+) -> Result<(), Error> {
     session.open_channel(alloc, 1)?;
     session.open_channel(alloc, 2)?;
-    assert!(rt;
-        matches!(
-            drive(alloc, &mut session, &mut wire, 100)?,
-            Some(Rest::Quiet)
-        )
-    );
-    assert_eq!(rt;
-        wire.sent.as_slice(),
-        b"method 1 channel.open\nmethod 2 channel.open\n".as_slice()
-    );
-    assert_eq!(rt; session.channel_state(1), ChannelState::Open);
-    assert_eq!(rt; session.channel_state(2), ChannelState::Open);
+    assert!(rt; rested(alloc, session, wire, 100)? == "quiet");
+    assert!(rt; is_sent(wire, "method 1 channel.open\nmethod 2 channel.open\n"));
+    assert!(rt; is_in(session, 1, ChannelState::Open));
+    assert!(rt; is_in(session, 2, ChannelState::Open));
     Ok(())
 }
 
 // No more turns are made than were allowed; the next loop goes on.
 #[test]
 fn a_loop_has_so_many_turns(rt: HostRuntime) -> Result<(), Fail> {
-    let alloc = rt.alloc();
-    let mut session = Session::new(alloc, 4096)?;
-    let mut wire = make_script(alloc, 9, &["method 1 channel.open-ok"])?;
+    let mut session = Session::new(rt.alloc(), 4096)?;
+    let mut wire = make_script(rt.alloc(), 9, &["method 1 channel.open-ok"])?;
+    turns_are_counted(&rt, rt.alloc(), &mut session, &mut wire)?;
+    Ok(())
+}
+
+fn turns_are_counted<R: Abort>(
+    rt: &R,
+    alloc: Global,
+    session: &mut Session,
+    wire: &mut Script,
+) -> Result<(), Error> {
     session.open_channel(alloc, 1)?;
-    assert!(rt; drive(alloc, &mut session, &mut wire, 0)?.is_none());
+    assert!(rt; rested(alloc, session, wire, 0)? == "turns are over");
     assert!(rt; wire.sent.is_empty());
-    assert!(rt; drive(alloc, &mut session, &mut wire, 1)?.is_none());
-    assert_eq!(rt; wire.sent.as_slice(), b"method 1 channel.open\n".as_slice());
-    assert_eq!(rt; session.channel_state(1), ChannelState::Opening);
-    assert!(rt; drive(alloc, &mut session, &mut wire, 1)?.is_none());
-    assert_eq!(rt; session.channel_state(1), ChannelState::Open);
-    assert!(rt; matches!(drive(alloc, &mut session, &mut wire, 1)?, Some(Rest::Quiet)));
+    assert!(rt; rested(alloc, session, wire, 1)? == "turns are over");
+    assert!(rt; is_sent(wire, "method 1 channel.open\n"));
+    assert!(rt; is_in(session, 1, ChannelState::Opening));
+    assert!(rt; rested(alloc, session, wire, 1)? == "turns are over");
+    assert!(rt; is_in(session, 1, ChannelState::Open));
+    assert!(rt; rested(alloc, session, wire, 1)? == "quiet");
     Ok(())
 }
 
 // A frame that the wire didn't take is sent by the next loop.
 #[test]
 fn a_frame_that_was_not_taken_comes_again(rt: HostRuntime) -> Result<(), Fail> {
-    let alloc = rt.alloc();
-    let mut session = Session::new(alloc, 4096)?;
-    let mut wire = make_script(alloc, 0, &[])?;
+    let mut session = Session::new(rt.alloc(), 4096)?;
+    let mut wire = make_script(rt.alloc(), 0, &[])?;
+    is_sent_again(&rt, rt.alloc(), &mut session, &mut wire)?;
+    Ok(())
+}
+
+fn is_sent_again<R: Abort>(
+    rt: &R,
+    alloc: Global,
+    session: &mut Session,
+    wire: &mut Script,
+) -> Result<(), Error> {
     session.open_channel(alloc, 1)?;
-    assert!(rt;
-        matches!(
-            drive(alloc, &mut session, &mut wire, 100)?,
-            Some(Rest::Broken)
-        )
-    );
+    assert!(rt; rested(alloc, session, wire, 100)? == "broken");
     assert!(rt; wire.sent.is_empty());
     wire.room = 1;
-    assert!(rt;
-        matches!(
-            drive(alloc, &mut session, &mut wire, 100)?,
-            Some(Rest::Quiet)
-        )
-    );
-    assert_eq!(rt; wire.sent.as_slice(), b"method 1 channel.open\n".as_slice());
+    assert!(rt; rested(alloc, session, wire, 100)? == "quiet");
+    assert!(rt; is_sent(wire, "method 1 channel.open\n"));
     Ok(())
 }
 
 // A frame that is refused ends the loop, and the next one sends the close that it asks for.
 #[test]
 fn the_close_of_a_refused_frame_leaves(rt: HostRuntime) -> Result<(), Fail> {
-    let alloc = rt.alloc();
-    let mut session = Session::new(alloc, 4096)?;
-    let mut wire = make_script(alloc, 9, &["method 1 channel.open-ok"])?;
-    let rest = drive(alloc, &mut session, &mut wire, 100)?;
-    assert!(rt;
-        matches!(
-            rest,
-            Some(Rest::Refused(Error::UnexpectedFrame {
-                class: 20,
-                method: 11
-            }))
-        )
-    );
+    let mut session = Session::new(rt.alloc(), 4096)?;
+    let mut wire = make_script(rt.alloc(), 9, &["method 1 channel.open-ok"])?;
+    close_leaves(&rt, rt.alloc(), &mut session, &mut wire)?;
+    Ok(())
+}
+
+fn close_leaves<R: Abort>(
+    rt: &R,
+    alloc: Global,
+    session: &mut Session,
+    wire: &mut Script,
+) -> Result<(), Error> {
+    assert!(rt; rested(alloc, session, wire, 100)? == "unexpected open-ok");
     assert!(rt; wire.sent.is_empty());
-    drop(drive(alloc, &mut session, &mut wire, 100)?);
+    let _rest = rested(alloc, session, wire, 100)?;
     assert!(rt; wire.sent.starts_with(b"method 0 connection.close 505 "));
     Ok(())
 }

@@ -1,5 +1,6 @@
 //! The tests of the surface for callers: every method of a channel by its frame, its refusal and its answer; the public calls of a
-//! session in the place of its one door; whole runs by `run_session`; and what a caller's loop is made of.
+//! session in the place of its one door; whole runs by `run_session`; what a caller's loop is made of; and a script in which any growth
+//! may find no memory.
 //!
 //! A table is a text: its histories stand a blank line apart, each with a line an event and, behind an arrow, the record that the rules
 //! give it. Expected values come from the rules, never from a run.
@@ -17,6 +18,8 @@ mod driving;
 mod methods;
 #[cfg(test)]
 mod parts;
+#[cfg(test)]
+mod script;
 #[cfg(test)]
 mod surface;
 #[cfg(test)]

@@ -96,6 +96,45 @@ fn is_text(text: Option<&ShortString>, wanted: &str) -> bool {
     }
 }
 
+fn awaits(session: &Session, kind: ReplyKind) -> bool {
+    session.replies().first(1, kind).is_some()
+}
+
+fn counts_are_left(session: &Session) -> bool {
+    session.outbox().has_pending()
+        && session.confirms().current(1) == 1
+        && session.confirms().pending(1) == 1
+}
+
+fn contents_are_left(session: &Session) -> bool {
+    session.contents().awaits(1) == Some(3)
+        && session.contents().front(1).is_some()
+        && session.contents().front(2).is_none()
+}
+
+fn a_consumer_is_left(session: &Session) -> bool {
+    session.consumers().find(1, "t") == Some(1)
+        && session.consumers().registered(1)
+        && session.consumers().channel(1) == Some(1)
+        && is_text(session.consumers().tag(1), "t")
+        && is_text(session.consumers().queue(1), "q")
+}
+
+fn an_acker_is_left(session: &Session) -> bool {
+    session.switches().usable(1)
+        && !session.switches().ended(1)
+        && session.switches().peek(1) == Some((1, 7))
+        && !session.switches().usable(2)
+}
+
+fn nothing_is_left(session: &Session) -> bool {
+    !session.outbox().has_pending()
+        && session.contents().front(1).is_none()
+        && !session.consumers().registered(1)
+        && session.switches().ended(1)
+        && !session.switches().usable(1)
+}
+
 // A publish has begun, a request waits, a delivery is queued, and of a second one three bytes are still to come.
 #[test]
 fn the_parts_hold_what_the_history_left(rt: HostRuntime) -> Result<(), Fail> {
@@ -103,42 +142,14 @@ fn the_parts_hold_what_the_history_left(rt: HostRuntime) -> Result<(), Fail> {
     let mut session = Session::new(alloc, 4096)?;
     let found = failure_in(alloc, &mut session, BEGUN)?;
     assert_eq!(rt; found, None);
-    assert!(rt; session.outbox().has_pending());
-    assert_eq!(rt; session.confirms().current(1), 1);
-    assert_eq!(rt; session.confirms().pending(1), 1);
-    assert!(rt;
-        session
-            .replies()
-            .first(1, ReplyKind::QueueDeclareOk)
-            .is_some()
-    );
-    assert!(rt;
-        session
-            .replies()
-            .first(1, ReplyKind::BasicConsumeOk)
-            .is_none()
-    );
-    assert_eq!(rt; session.contents().awaits(1), Some(3));
-    assert!(rt; session.contents().front(1).is_some());
-    assert!(rt; session.contents().front(2).is_none());
-    assert_eq!(rt; session.consumers().find(1, "t"), Some(1));
-    assert!(rt; session.consumers().registered(1));
-    assert_eq!(rt; session.consumers().channel(1), Some(1));
-    assert!(rt; is_text(session.consumers().tag(1), "t"));
-    assert!(rt; is_text(session.consumers().queue(1), "q"));
-    assert!(rt; session.switches().usable(1) && !session.switches().ended(1));
-    assert_eq!(rt; session.switches().peek(1), Some((1, 7)));
-    assert!(rt; !session.switches().usable(2));
+    assert!(rt; counts_are_left(&session));
+    assert!(rt; awaits(&session, ReplyKind::QueueDeclareOk));
+    assert!(rt; !awaits(&session, ReplyKind::BasicConsumeOk));
+    assert!(rt; contents_are_left(&session));
+    assert!(rt; a_consumer_is_left(&session));
+    assert!(rt; an_acker_is_left(&session));
     session.lost(alloc)?;
-    assert!(rt; !session.outbox().has_pending());
-    assert!(rt;
-        session
-            .replies()
-            .first(1, ReplyKind::QueueDeclareOk)
-            .is_none()
-    );
-    assert!(rt; session.contents().front(1).is_none());
-    assert!(rt; !session.consumers().registered(1));
-    assert!(rt; session.switches().ended(1) && !session.switches().usable(1));
+    assert!(rt; !awaits(&session, ReplyKind::QueueDeclareOk));
+    assert!(rt; nothing_is_left(&session));
     Ok(())
 }

@@ -1,10 +1,11 @@
 -- Whatever a line is, it is the line of a step of a publisher that sends again or none's: so every input prints something.
 use Rattle.std.proofs.Common.{◌≡◌, ◌≢◌, ◌⊎◌, inl, inr, ℕ, ◌<◌, ◌^◌, List, ◌++◌, true, Option, Some, None, refl, ap, ◌∙◌, lt-ltb, ltb-true}
 use Rattle.std.specs.Prelude.{codes, nat_lt}
+use Rattle.std.proofs.lemmas.Bool.{and_parts, and_from}
 use Rattle.lapin_types.specs.Types.{Frame}
 use Rattle.lapin_tokens.specs.Fields.{fits, wide_number}
 use Rattle.lapin_tokens.specs.Reading.{value_of}
-use Rattle.lapin_tokens.proofs.FieldLaws.{both_true, true_both, value_again, value_found}
+use Rattle.lapin_tokens.proofs.FieldLaws.{value_again, value_found}
 use Rattle.lapin_text.specs.LineReading.{frame_text_at}
 use Rattle.lapin_text.proofs.LineLaws.{text_found, text_refused}
 use Rattle.lapin_resend.specs.declared.message.Message.{Message}
@@ -39,10 +40,10 @@ a_send line rest is = with_frame (frame_text_at rest) refl
 
 -- a number of 64 bits has a token
 fits_wide : (n : ℕ) → n < 2 ^ 64 → fits wide_number n ≡ true
-fits_wide n lt = true_both (nat_lt n (2 ^ 64)) (nat_lt n (2 ^ 64)) (lt-ltb n (2 ^ 64) lt) (lt-ltb n (2 ^ 64) lt)
+fits_wide n lt = and_from (nat_lt n (2 ^ 64)) (nat_lt n (2 ^ 64)) (lt-ltb n (2 ^ 64) lt) (lt-ltb n (2 ^ 64) lt)
 
 wide_fits : (n : ℕ) → fits wide_number n ≡ true → n < 2 ^ 64
-wide_fits n h = ltb-true n (2 ^ 64) (both_true (nat_lt n (2 ^ 64)) (nat_lt n (2 ^ 64)) h).0
+wide_fits n h = ltb-true n (2 ^ 64) (and_parts (nat_lt n (2 ^ 64)) (nat_lt n (2 ^ 64)) h).0
 
 -- a line that begins with `status ` is the line of a step or none's
 a_status : (line rest : List ℕ) → line ≡ codes "status " ++ rest → ResendStep? line

@@ -3,7 +3,6 @@ use Rattle.std.proofs.Common.{◌≡◌, ℕ, Bool, true, false, cond, ◌||◌,
 use Rattle.std.specs.List.{list_any}
 use Rattle.lapin_rules.specs.ConfirmMarks.{ConfirmMark}
 use Rattle.lapin_rules.specs.ConfirmMarks as mark
-use Rattle.lapin_rules.specs.Words.{since}
 use Rattle.lapin_rules.specs.ConfirmReadings.{begins, turns, asks, present, is_begun, is_selected, place, is_asked, limit_of}
 use Rattle.lapin_rules.proofs.ListLaws.{any-push, since-push}
 use Rattle.lapin_confirm.specs.PublishStates.{asked_in, asked_on}

@@ -14,7 +14,6 @@ use Rattle.lapin_confirm.specs.ConfirmState.{ConfirmState}
 use Rattle.lapin_confirm.specs.Ties.{IsFresh, confirm_mode_state, confirm_mode_after, confirm_mode_states}
 use Rattle.lapin_tables.specs.Numbered.{with_under}
 use Rattle.lapin_confirm.specs.declared.cell.Cell.{Cell}
-use Rattle.lapin_tables.proofs.Bools.{on_err}
 
 pub mode-at : (c : ℕ) (es : List (ℕ × ConfirmMode)) (o : Option ConfirmMode) → at_channel c es ≡ o → at_channel c (confirm_mode_states es) ≡ option_map confirm_mode_state o
 mode-at c es o is = at-values confirm_mode_state c es ∙ ap (option_map confirm_mode_state) is

@@ -1,5 +1,5 @@
 -- What was written is read: the fields that hold no other.
-use Rattle.std.proofs.Common.{◌≡◌, ℕ, ◌<◌, ◌^◌, Bool, true, false, List, [], ◌∷◌, ◌++◌, length, Option, Some, refl, ap, ◌∙◌, arith, append_assoc}
+use Rattle.std.proofs.Common.{◌≡◌, ℕ, ◌<◌, ◌^◌, List, [], ◌∷◌, ◌++◌, length, Option, Some, refl, ap, ◌∙◌, arith, append_assoc}
 use Rattle.std.proofs.lemmas.Nat.{from_be_bytes-to_be_bytes_2, from_be_bytes-to_be_bytes_4, from_be_bytes-to_be_bytes_8}
 use Rattle.std.proofs.lemmas.Bool.{le-ltb}
 use Rattle.std.proofs.lemmas.List.{length-append}
@@ -8,10 +8,6 @@ use Rattle.lapin_fields.specs.Around.{around, around_at, ended}
 use Rattle.lapin_fields.specs.Fields.{octet, short, long, wide, text, counted}
 use Rattle.lapin_fields.specs.Fits.{TextFits, StringFits}
 use Rattle.lapin_fields.specs.Reading.{◌>>=◌, octet_at, short_at, long_at, wide_at, piece_at, counted_at, string_at, text_at}
-
-pub no_true : (b : Bool) → (b ≡ true → ⊥) → b ≡ false
-no_true true f = absurd (f refl)
-no_true false f = refl
 
 -- a step that reads what was written goes on with it
 pub then_on : {A B : Type 0} (m : Option A) (x : A) (k : A → Option B) (y : Option B) → m ≡ Some x → k x ≡ y → (m >>= k) ≡ y

@@ -10,6 +10,7 @@ use Rattle.lapin_fields.proofs.PartLaws.{around_more}
 use Rattle.lapin_frames.specs.FrameReading.{frame_in, heartbeat_in, read_in, read_at, used}
 use Rattle.lapin_frames.specs.declared.frames.Read.{Read}
 use Rattle.lapin_frames.specs.declared.frames.Read.TheVariants as read
+use Rattle.std.proofs.lemmas.Option.{none-some}
 
 bind_some : {A B : Type 0} (m : Option A) (k : A → Option B) (y : B) → (m >>= k) ≡ Some y → (x : A) × (m ≡ Some x) × (k x ≡ Some y)
 bind_some None k y e = absurd cc
@@ -28,9 +29,6 @@ mark_there found (y ∷ d) x e =
       | false ↦ λ f. absurd cc
     ] e
 
-none_some : {A : Type 0} (x : A) → None ≡ Some x → ⊥
-none_some x e = cc
-
 -- a piece, by the test whether there are too few octets
 abbrev piece_by : Bool → ℕ → List ℕ → Option (List ℕ × List ℕ)
 piece_by few n rest = cond few None (Some (take n rest, drop n rest))
@@ -38,7 +36,7 @@ piece_by few n rest = cond few None (Some (take n rest, drop n rest))
 piece_there : (kind channel n : ℕ) (rest : List ℕ) (x : Around × List ℕ) → (piece_at n rest >>= λ p. octet_at p.1 >>= λ mark. ended {A = Around} mark.0 (kind, channel, p.0) mark.1) ≡ Some x → length x.0.2 + 1 ≤ length rest
 piece_there kind channel n rest x e =
     elim (nat_lt (length rest) n) as (λ b. (piece_by b n rest >>= λ p. octet_at p.1 >>= λ mark. ended {A = Around} mark.0 (kind, channel, p.0) mark.1) ≡ Some x → length x.0.2 + 1 ≤ length rest) [
-      | true ↦ λ f. absurd (none_some x f)
+      | true ↦ λ f. absurd (none-some x f)
       | false ↦ λ f.
           let h = mark_there (kind, channel, take n rest) (drop n rest) x f in
           let s : length (take n rest) ≡ length x.0.2 = ap (λ (a : Around). length a.2) h.1 in

@@ -1,4 +1,5 @@
-//! The tests of the parts that a session works with, and of its types: scripts of calls with their answers, a file a part.
+//! The tests of the parts that a session works with, of its types, and of the free broker: scripts of calls with their answers, a file a
+//! part.
 //!
 //! A script is a text: a line is a call, an arrow, and what the rules say that the call answers. Whole histories stand in the tests
 //! of the program; here a part stands alone. Nothing here is called by the program.
@@ -8,6 +9,8 @@
 mod ackers;
 #[cfg(test)]
 mod alike;
+#[cfg(test)]
+mod broker;
 #[cfg(test)]
 mod confirm_scripts;
 #[cfg(test)]

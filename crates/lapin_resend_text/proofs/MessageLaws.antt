@@ -1,21 +1,16 @@
 -- The text of a message: what was read is spelled so, and what is spelled so is read.
-use Rattle.std.proofs.Common.{◌≡◌, ℕ, List, [], ◌∷◌, ◌++◌, Option, Some, None, refl, sym, ap, subst, ◌∙◌, eqb, arith}
+use Rattle.std.proofs.Common.{◌≡◌, ℕ, List, [], ◌++◌, Some, None, refl, sym, ap, subst, ◌∙◌, eqb, arith}
 use Rattle.std.specs.List.{join_with_byte, slice_split}
 use Rattle.std.proofs.lemmas.List.{append-nil}
 use Rattle.std.proofs.lemmas.List.Splits.{join_with_byte-slice_split}
 use Rattle.lapin_tokens.specs.Fields.{tokens}
 use Rattle.lapin_tokens.specs.Reading.{fields_at}
-use Rattle.lapin_tokens.proofs.FieldLaws.{some_is, fields_again, fields_found}
+use Rattle.lapin_tokens.proofs.FieldLaws.{fields_again, fields_found}
 use Rattle.lapin_tokens.proofs.Plain.{split_join}
 use Rattle.lapin_tokens.proofs.PlainFields.{plain_tokens}
-use Rattle.lapin_text.specs.LineReading.{whole}
 use Rattle.lapin_resend.specs.declared.message.Message.{Message}
 use Rattle.lapin_resend_text.specs.Messages.{message_fields, message_values, message_text, MessageFits, message_made, message_at}
-
-whole_found : {A : Type 0} (r : Option (A × List (List ℕ))) (e : A) → whole r ≡ Some e → r ≡ Some (e, [])
-whole_found None e h = absurd cc
-whole_found {A = A} (Some (x, [])) e h = ap (λ (y : A). Some (y, [])) (some_is x e h)
-whole_found (Some (x, t ∷ ts)) e h = absurd cc
+use Rattle.lapin_text.proofs.LineLaws.{whole_found}
 
 message_again : (m : Message) → MessageFits m → message_at (message_text m) ≡ Some m
 unfolding message_at

@@ -1,9 +1,9 @@
 -- Bytes as pairs of hexadecimal digits, and short texts.
-use Rattle.std.proofs.Common.{◌≡◌, ℕ, suc, Bool, cond, ◌++◌, ◌+◌, ◌-◌, ◌*◌, ◌/◌, ◌%◌, ◌<◌, ◌≤◌, ◌≢◌, zero, false, arith, take, drop, List, [], ◌∷◌, length, get_or, Option, Some, None, refl, sym, ap, subst, ◌∙◌, true, ltb, leb, ◌⊎◌, inl, inr}
-use Rattle.std.specs.Prelude.{◌&&◌, ◌||◌, ◌==◌, not}
+use Rattle.std.proofs.Common.{◌≡◌, ℕ, suc, Bool, cond, ◌++◌, ◌+◌, ◌-◌, ◌*◌, ◌/◌, ◌%◌, ◌<◌, ◌≤◌, ◌≢◌, zero, false, arith, take, drop, List, [], ◌∷◌, length, get_or, Option, Some, None, refl, sym, ap, subst, ◌∙◌, true, ltb, leb, inl, inr}
+use Rattle.std.specs.Prelude.{◌&&◌, ◌==◌, not}
 use Rattle.std.specs.Int.{from_le_bytes, w16}
 use Rattle.std.specs.Simd.{first_chunks}
-use Rattle.std.proofs.lemmas.Bool.{cases_lt, eqb-true}
+use Rattle.std.proofs.lemmas.Bool.{cases_lt, eqb-true, and_parts, and_from, or_cases, not-true}
 use Rattle.std.proofs.lemmas.List.{append_assoc, append-nil, get_or_past, get_or-drop, get_or-take, drop-drop, take_all, take_more}
 use Rattle.std.specs.Str.{is_utf8, IsUtf8}
 use Rattle.std.proofs.lemmas.Str.{IsUtf8-nil, IsUtf8-from_is_utf8, is_utf8-from_IsUtf8}
@@ -16,11 +16,11 @@ use Rattle.lapin_scalars.specs.Scalars.{scalar_fits, are_bytes}
 use Rattle.lapin_scalars.specs.Scalars.Scalar.{text, bytes, pairs}
 use Rattle.lapin_scalars.specs.Reading.{Fails, scalar_of}
 use Rattle.lapin_scalars.specs.Digits.{is_digit, all_digits}
-use Rattle.lapin_scalars.proofs.ScalarLaws.{both_true, true_both, bytes_fit, scalar_again, scalar_found, is_scalar}
+use Rattle.lapin_scalars.proofs.ScalarLaws.{bytes_fit, scalar_again, scalar_found, is_scalar}
 
 pub fit_bytes : (s : List ℕ) → ((i : ℕ) → get_or s i 0 < 256) → are_bytes s ≡ true
 fit_bytes [] h = refl
-fit_bytes (b ∷ bs) h = true_both (ltb b 256) (are_bytes bs) (lt-ltb _ _ (h 0)) (fit_bytes bs (λ i. h (suc i)))
+fit_bytes (b ∷ bs) h = and_from (ltb b 256) (are_bytes bs) (lt-ltb _ _ (h 0)) (fit_bytes bs (λ i. h (suc i)))
 
 -- ---- the digits of the table
 
@@ -31,7 +31,7 @@ below test (suc n) = test n && below test n
 below-at : (test : ℕ → Bool) (n k : ℕ) → below test n ≡ true → k < n → test k ≡ true
 below-at test zero k h lt = absurd (omega arith)
 below-at test (suc n) k h lt =
-    let parts = both_true (test n) (below test n) h in
+    let parts = and_parts (test n) (below test n) h in
     elim (cases_lt k n) [
       | inl under ↦ below-at test n k parts.1 under
       | inr top ↦
@@ -48,21 +48,17 @@ letter_text d low high =
     sym (ap (λ (k : ℕ). get_or lower_digits k 0) e)
     ∙ eqb-true (get_or lower_digits (10 + (d - 10)) 0) (97 + (d - 10)) (below-at (λ (n : ℕ). get_or lower_digits (10 + n) 0 == 97 + n) 6 (d - 10) refl (omega arith))
 
-either_true : (a b : Bool) → (a || b) ≡ true → (a ≡ true) ⊎ (b ≡ true)
-either_true true b e = inl refl
-either_true false b e = inr e
-
 -- what a digit says, by its bits
 pub value_text : (c v : ℕ) → is_digit c ≡ true → v ≡ c % 16 + 9 * (c / 64) → (v < 16) × (get_or lower_digits v 0 ≡ c)
-value_text c v h e = elim (either_true (leb 48 c && leb c 57) (leb 97 c && leb c 102) h) [
+value_text c v h e = elim (or_cases (leb 48 c && leb c 57) (leb 97 c && leb c 102) h) [
   | inl number ↦
-      let p = both_true (leb 48 c) (leb c 57) number in
+      let p = and_parts (leb 48 c) (leb c 57) number in
       let low : 48 ≤ c = leb-true _ _ p.0 in
       let high : c ≤ 57 = leb-true _ _ p.1 in
       let d : v ≡ c - 48 = omega (arith, e, low, high) in
       (omega (arith, d, low, high), number_text v (omega (arith, d, low, high)) ∙ omega (arith, d, low, high))
   | inr letter ↦
-      let p = both_true (leb 97 c) (leb c 102) letter in
+      let p = and_parts (leb 97 c) (leb c 102) letter in
       let low : 97 ≤ c = leb-true _ _ p.0 in
       let high : c ≤ 102 = leb-true _ _ p.1 in
       let d : v ≡ c - 87 = omega (arith, e, low, high) in
@@ -89,17 +85,13 @@ pair_text n v first second e =
 abbrev says : ℕ → ℕ → Bool
 says c v = cond (ltb v 16) (is_digit c && (get_or lower_digits v 0 == c)) (not (is_digit c))
 
-not_true : (b : Bool) → not b ≡ true → b ≡ false
-not_true true e = absurd cc
-not_true false e = refl
-
 says_so : (c v : ℕ) (low : Bool) → ltb v 16 ≡ low → cond low (is_digit c && (get_or lower_digits v 0 == c)) (not (is_digit c)) ≡ true
     → (v < 16 → (is_digit c ≡ true) × (get_or lower_digits v 0 ≡ c)) × (16 ≤ v → is_digit c ≡ false)
 says_so c v true e h =
-    let p = both_true (is_digit c) (get_or lower_digits v 0 == c) h in
+    let p = and_parts (is_digit c) (get_or lower_digits v 0 == c) h in
     let small = ltb-true v 16 e in
     (λ lt. (p.0, eqb-true (get_or lower_digits v 0) c p.1), λ past. absurd (omega (arith, past, small)))
-says_so c v false e h = (λ lt. let yes = lt-ltb v 16 lt in absurd cc, λ past. not_true (is_digit c) h)
+says_so c v false e h = (λ lt. let yes = lt-ltb v 16 lt in absurd cc, λ past. not-true (is_digit c) h)
 
 -- what a table of all bytes says of one of them
 pub value_said : (table : List ℕ) (c : ℕ) → below (λ (b : ℕ). says b (get_or table b 0)) 256 ≡ true → c < 256
@@ -108,8 +100,8 @@ value_said table c h lt = says_so c (get_or table c 0) (ltb (get_or table c 0) 1
 
 pub digit_within : (cs : List ℕ) (i : ℕ) → all_digits cs ≡ true → i < length cs → is_digit (get_or cs i 0) ≡ true
 digit_within [] i e lt = absurd (omega arith)
-digit_within (c ∷ cs) zero e lt = (both_true (is_digit c) (all_digits cs) e).0
-digit_within (c ∷ cs) (suc i) e lt = digit_within cs i (both_true (is_digit c) (all_digits cs) e).1 (omega arith)
+digit_within (c ∷ cs) zero e lt = (and_parts (is_digit c) (all_digits cs) e).0
+digit_within (c ∷ cs) (suc i) e lt = digit_within cs i (and_parts (is_digit c) (all_digits cs) e).1 (omega arith)
 
 -- ---- what digits are the text of
 
@@ -126,10 +118,10 @@ are_bytes_behind : (bs : List ℕ) → all_digits (encode_lower bs) ≡ true →
 unfolding encode_with
 are_bytes_behind [] h = refl
 are_bytes_behind (b ∷ bs) h =
-    let p = both_true (is_digit (get_or lower_digits (b / 16) 0)) (is_digit (get_or lower_digits (b % 16) 0) && all_digits (encode_lower bs)) h in
-    let q = both_true (is_digit (get_or lower_digits (b % 16) 0)) (all_digits (encode_lower bs)) p.1 in
+    let p = and_parts (is_digit (get_or lower_digits (b / 16) 0)) (is_digit (get_or lower_digits (b % 16) 0) && all_digits (encode_lower bs)) h in
+    let q = and_parts (is_digit (get_or lower_digits (b % 16) 0)) (all_digits (encode_lower bs)) p.1 in
     let small = within_table (b / 16) p.0 in
-    true_both (ltb b 256) (are_bytes bs) (lt-ltb _ _ (omega (arith, small))) (are_bytes_behind bs q.1)
+    and_from (ltb b 256) (are_bytes bs) (lt-ltb _ _ (omega (arith, small))) (are_bytes_behind bs q.1)
 
 pub pairs_some : (digits bs : List ℕ) → all_digits digits ≡ true → encode_lower bs ≡ digits → scalar_of pairs digits ≡ Some bs
 pairs_some digits bs all same = ap (scalar_of pairs) (sym same) ∙ scalar_again pairs bs (are_bytes_behind bs (ap all_digits same ∙ all))
@@ -141,8 +133,8 @@ all_digits_text (b ∷ bs) h =
     let fits : b < 256 = h 0 in
     let high = digit_within lower_digits (b / 16) refl (omega arith) in
     let low = digit_within lower_digits (b % 16) refl (omega arith) in
-    true_both (is_digit (get_or lower_digits (b / 16) 0)) (is_digit (get_or lower_digits (b % 16) 0) && all_digits (encode_lower bs)) high
-    (true_both (is_digit (get_or lower_digits (b % 16) 0)) (all_digits (encode_lower bs)) low (all_digits_text bs (λ i. h (suc i))))
+    and_from (is_digit (get_or lower_digits (b / 16) 0)) (is_digit (get_or lower_digits (b % 16) 0) && all_digits (encode_lower bs)) high
+    (and_from (is_digit (get_or lower_digits (b % 16) 0)) (all_digits (encode_lower bs)) low (all_digits_text bs (λ i. h (suc i))))
 
 pub pairs_odd : (digits : List ℕ) → length digits % 2 ≢ 0 → scalar_of pairs digits ≡ None
 pairs_odd digits odd = sym (is_scalar pairs digits None (λ v fit t. let two = length-encode_with lower_digits v in let e = ap length t in odd (omega (arith, two, e))))
@@ -285,14 +277,14 @@ bytes_no_x piece h = sym (is_scalar bytes piece None (λ v fit t. h (encode_lowe
 -- the parts of what fits
 shorts : (v : List ℕ) → scalar_fits text v ≡ true → (length v ≤ 255) × IsUtf8 v × (are_bytes v ≡ true)
 shorts v fit =
-    let p = both_true (leb (length v) 255 && is_utf8 v) (are_bytes v) fit in
-    let q = both_true (leb (length v) 255) (is_utf8 v) p.0 in
+    let p = and_parts (leb (length v) 255 && is_utf8 v) (are_bytes v) fit in
+    let q = and_parts (leb (length v) 255) (is_utf8 v) p.0 in
     (leb-true _ _ q.0, IsUtf8-from_is_utf8 v q.1, p.1)
 
 pub text_some : (piece v : List ℕ) → scalar_of bytes piece ≡ Some v → length v ≤ 255 → IsUtf8 v → scalar_of text piece ≡ Some v
 text_some piece v e short utf8 =
     let k = scalar_found bytes piece v e in
-    ap (scalar_of text) k.is ∙ scalar_again text v (true_both (leb (length v) 255 && is_utf8 v) (are_bytes v) (true_both (leb (length v) 255) (is_utf8 v) (le-leb _ _ short) (is_utf8-from_IsUtf8 v utf8)) k.fits)
+    ap (scalar_of text) k.is ∙ scalar_again text v (and_from (leb (length v) 255 && is_utf8 v) (are_bytes v) (and_from (leb (length v) 255) (is_utf8 v) (le-leb _ _ short) (is_utf8-from_IsUtf8 v utf8)) k.fits)
 
 -- an x alone is the empty text
 pub text_empty : (digits : List ℕ) → length digits ≡ 0 → scalar_of text (120 ∷ digits) ≡ Some []

@@ -10,11 +10,11 @@ use Rattle.std.proofs.lemmas.Str.{digit_value_digit}
 use Rattle.std.proofs.lemmas.Fmt.{decimal_nonempty, first_decimal, decimal_digit, decimal_is_IsNumeral, decimal-digits_value}
 use Rattle.std.proofs.Common.{Some, None, ltb}
 use Rattle.std.specs.Prelude.{◌&&◌}
-use Rattle.std.proofs.lemmas.Bool.{ltb-true, lt-ltb}
+use Rattle.std.proofs.lemmas.Bool.{ltb-true, lt-ltb, and_parts, and_from}
 use Rattle.std.proofs.lemmas.Fmt.{decimal_injective}
 use Rattle.lapin_scalars.specs.Scalars.Scalar.{number}
 use Rattle.lapin_scalars.specs.Reading.{scalar_of}
-use Rattle.lapin_scalars.proofs.ScalarLaws.{both_true, true_both, scalar_again, is_scalar}
+use Rattle.lapin_scalars.proofs.ScalarLaws.{scalar_again, is_scalar}
 use Rattle.lapin_scalars.specs.Numerals.{StartsPlainly}
 
 own : IsNumeralModel (AllDigits 10) (digits_value 10)
@@ -58,11 +58,11 @@ num_none bs i v lt value past n small is =
 
 pub wide_some : (bs : List ℕ) (n limit : ℕ) → bs ≡ decimal n → n < limit → limit ≤ 2 ^ 64 → scalar_of (number limit) bs ≡ Some n
 wide_some bs n limit is lt le =
-    let fits : (ltb n limit && ltb n (2 ^ 64)) ≡ true = true_both (ltb n limit) (ltb n (2 ^ 64)) (lt-ltb _ _ lt) (lt-ltb _ _ (omega arith)) in
+    let fits : (ltb n limit && ltb n (2 ^ 64)) ≡ true = and_from (ltb n limit) (ltb n (2 ^ 64)) (lt-ltb _ _ lt) (lt-ltb _ _ (omega arith)) in
     ap (scalar_of (number limit)) is ∙ scalar_again (number limit) n fits
 
 pub wide_none : (bs : List ℕ) (limit : ℕ) → ((n : ℕ) → n < limit → n < 2 ^ 64 → bs ≡ decimal n → ⊥) → scalar_of (number limit) bs ≡ None
-wide_none bs limit h = sym (is_scalar (number limit) bs None (λ n fits is. let p = both_true (ltb n limit) (ltb n (2 ^ 64)) fits in h n (ltb-true _ _ p.0) (ltb-true _ _ p.1) is))
+wide_none bs limit h = sym (is_scalar (number limit) bs None (λ n fits is. let p = and_parts (ltb n limit) (ltb n (2 ^ 64)) fits in h n (ltb-true _ _ p.0) (ltb-true _ _ p.1) is))
 
 -- a number past the limit
 pub wide_past : (bs : List ℕ) (n limit : ℕ) → bs ≡ decimal n → n < 2 ^ 64 → limit ≤ n → scalar_of (number limit) bs ≡ None

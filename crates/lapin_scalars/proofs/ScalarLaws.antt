@@ -1,10 +1,10 @@
 -- The text of a value gives back the value, and nothing else has that text.
-use Rattle.std.proofs.Common.{◌≡◌, ◌≢◌, ℕ, zero, suc, ◌<◌, ◌^◌, List, [], ◌∷◌, length, get_or, Option, Some, None, refl, sym, ap, subst, ◌∙◌, arith, Bool, true, false, cond, ltb, leb, ℤ, pos, negsuc, neg_ℤ}
+use Rattle.std.proofs.Common.{◌≡◌, ◌≢◌, ℕ, zero, suc, ◌<◌, ◌^◌, List, [], ◌∷◌, length, get_or, Option, Some, None, refl, sym, ap, subst, ◌∙◌, arith, true, false, ltb, leb, ℤ, pos, negsuc, neg_ℤ}
 use Rattle.std.specs.Prelude.{decimal, ◌&&◌}
 use Rattle.std.specs.Fmt.{signed_decimal}
 use Rattle.std.specs.Str.{bytes_eq, is_utf8}
 use Rattle.std.specs.Str.Parse.{digits_value}
-use Rattle.std.proofs.lemmas.Bool.{ltb-true, ne_eqb}
+use Rattle.std.proofs.lemmas.Bool.{ltb-true, ne_eqb, and_parts}
 use Rattle.std.proofs.lemmas.Slice.Eq.{bytes_eq-Decides}
 use Rattle.std.proofs.lemmas.Fmt.{decimal_is_IsNumeral, first_decimal, decimal_digit}
 use Rattle.hex.specs.Hex.{IsBytes}
@@ -12,19 +12,12 @@ use Rattle.hex.proofs.HexLemmas.{decode_of-encode_lower}
 use Rattle.lapin_scalars.specs.Scalars.{Scalar, ScalarValue, scalar_text, scalar_fits, are_bytes, in_range}
 use Rattle.lapin_scalars.specs.Scalars.Scalar.{text, bytes, pairs, flag, number, signed}
 use Rattle.lapin_scalars.specs.Reading.{guess, scalar_of, signed_value}
-
-pub both_true : (a b : Bool) → (a && b) ≡ true → (a ≡ true) × (b ≡ true)
-both_true true b e = (refl, e)
-both_true false b e = absurd cc
-
-pub true_both : (a b : Bool) → a ≡ true → b ≡ true → (a && b) ≡ true
-true_both true b e f = f
-true_both false b e f = absurd cc
+use Rattle.std.proofs.lemmas.Option.{cond_some}
 
 pub bytes_fit : (s : List ℕ) → are_bytes s ≡ true → IsBytes s
 bytes_fit [] e i = omega arith
-bytes_fit (b ∷ bs) e zero = let p = both_true (ltb b 256) (are_bytes bs) e in ltb-true _ _ p.0
-bytes_fit (b ∷ bs) e (suc i) = let p = both_true (ltb b 256) (are_bytes bs) e in bytes_fit bs p.1 i
+bytes_fit (b ∷ bs) e zero = let p = and_parts (ltb b 256) (are_bytes bs) e in ltb-true _ _ p.0
+bytes_fit (b ∷ bs) e (suc i) = let p = and_parts (ltb b 256) (are_bytes bs) e in bytes_fit bs p.1 i
 
 -- no decimal begins with a minus
 pub no_minus : (n : ℕ) → n < 2 ^ 64 → get_or (decimal n) 0 0 ≢ 45
@@ -36,7 +29,7 @@ plain_value [] h = refl
 plain_value (c ∷ cs) h = rw (ne_eqb c 45 h) refl
 
 pub small : (limit n : ℕ) → (ltb n limit && ltb n (2 ^ 63)) ≡ true → (n < limit) × (n < 2 ^ 63)
-small limit n e = let p = both_true (ltb n limit) (ltb n (2 ^ 63)) e in (ltb-true _ _ p.0, ltb-true _ _ p.1)
+small limit n e = let p = and_parts (ltb n limit) (ltb n (2 ^ 63)) e in (ltb-true _ _ p.0, ltb-true _ _ p.1)
 
 signed_again : (limit : ℕ) (z : ℤ) → in_range limit z ≡ true → signed_value (signed_decimal z) ≡ z
 signed_again limit (pos n) e =
@@ -49,12 +42,12 @@ signed_again limit (negsuc n) e =
     ap (λ (m : ℕ). neg_ℤ (pos m)) (decimal_is_IsNumeral (suc n) lt).1
 
 again_guessed : (k : Scalar) (v : ScalarValue k) → scalar_fits k v ≡ true → guess k (scalar_text k v) ≡ v
-again_guessed text s e = let p = both_true (leb (length s) 255 && is_utf8 s) (are_bytes s) e in rw (decode_of-encode_lower s (bytes_fit s p.1)) refl
+again_guessed text s e = let p = and_parts (leb (length s) 255 && is_utf8 s) (are_bytes s) e in rw (decode_of-encode_lower s (bytes_fit s p.1)) refl
 again_guessed bytes s e = rw (decode_of-encode_lower s (bytes_fit s e)) refl
 again_guessed pairs s e = rw (decode_of-encode_lower s (bytes_fit s e)) refl
 again_guessed flag true e = refl
 again_guessed flag false e = refl
-again_guessed (number limit) n e = let p = both_true (ltb n limit) (ltb n (2 ^ 64)) e in (decimal_is_IsNumeral n (ltb-true _ _ p.1)).1
+again_guessed (number limit) n e = let p = and_parts (ltb n limit) (ltb n (2 ^ 64)) e in (decimal_is_IsNumeral n (ltb-true _ _ p.1)).1
 again_guessed (signed limit) z e = signed_again limit z e
 
 pub scalar_again : (k : Scalar) (v : ScalarValue k) → scalar_fits k v ≡ true → scalar_of k (scalar_text k v) ≡ Some v
@@ -64,10 +57,6 @@ scalar_again k v e =
     let same : bytes_eq (scalar_text k v) (scalar_text k v) ≡ true = (bytes_eq-Decides (scalar_text k v) (scalar_text k v)).1 refl in
     rw (g, same, e) refl
 
-guarded : {A : Type 0} (b : Bool) (x y : A) → cond b (Some x) None ≡ Some y → (b ≡ true) × (x ≡ y)
-guarded true x y e = (refl, cc)
-guarded false x y e = absurd cc
-
 pub record IsTextOf (k : Scalar) (v : ScalarValue k) (piece : List ℕ) : Type 0 where
   pub is : piece ≡ scalar_text k v
   pub fits : scalar_fits k v ≡ true
@@ -75,8 +64,8 @@ pub record IsTextOf (k : Scalar) (v : ScalarValue k) (piece : List ℕ) : Type 0
 pub scalar_found : (k : Scalar) (piece : List ℕ) (v : ScalarValue k) → scalar_of k piece ≡ Some v → IsTextOf k v piece
 unfolding scalar_of
 scalar_found k piece v e =
-    let g = guarded (bytes_eq (scalar_text k (guess k piece)) piece && scalar_fits k (guess k piece)) (guess k piece) v e in
-    let p = both_true (bytes_eq (scalar_text k (guess k piece)) piece) (scalar_fits k (guess k piece)) g.0 in
+    let g = cond_some (bytes_eq (scalar_text k (guess k piece)) piece && scalar_fits k (guess k piece)) (guess k piece) v e in
+    let p = and_parts (bytes_eq (scalar_text k (guess k piece)) piece) (scalar_fits k (guess k piece)) g.0 in
     subst (λ (x : ScalarValue k). IsTextOf k x piece) g.1 (record { is = sym ((bytes_eq-Decides (scalar_text k (guess k piece)) piece).0 p.0); fits = p.1 })
 
 -- a reader of bytes that is exact both ways gives scalar_of

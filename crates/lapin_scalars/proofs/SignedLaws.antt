@@ -2,7 +2,7 @@
 use Rattle.std.proofs.Common.{◌≡◌, ℕ, suc, ◌<◌, ◌≤◌, ◌^◌, List, ◌∷◌, get_or, Some, None, refl, sym, ap, ◌∙◌, arith, true, ltb, ℤ, pos, negsuc}
 use Rattle.std.specs.Prelude.{decimal}
 use Rattle.std.specs.Fmt.{signed_decimal}
-use Rattle.std.proofs.lemmas.Bool.{lt-ltb}
+use Rattle.std.proofs.lemmas.Bool.{lt-ltb, and_from}
 use Rattle.std.proofs.lemmas.Fmt.{decimal_injective}
 use Rattle.std.proofs.lemmas.Int.{to_z-of_z}
 use mir.Syntax.{Width, w64}
@@ -10,13 +10,13 @@ use mir.Val.{SFits, to_z, of_z, hbits}
 use Rattle.lapin_scalars.specs.Scalars.{in_range}
 use Rattle.lapin_scalars.specs.Scalars.Scalar.{signed}
 use Rattle.lapin_scalars.specs.Reading.{scalar_of}
-use Rattle.lapin_scalars.proofs.ScalarLaws.{true_both, scalar_again, is_scalar, small, no_minus}
+use Rattle.lapin_scalars.proofs.ScalarLaws.{scalar_again, is_scalar, small, no_minus}
 
 pub within : (limit n : ℕ) → n < limit → limit ≤ 2 ^ 63 → in_range limit (pos n) ≡ true
-within limit n lt le = true_both (ltb n limit) (ltb n (2 ^ 63)) (lt-ltb _ _ lt) (lt-ltb _ _ (omega arith))
+within limit n lt le = and_from (ltb n limit) (ltb n (2 ^ 63)) (lt-ltb _ _ lt) (lt-ltb _ _ (omega arith))
 
 pub below_zero : (limit n : ℕ) → n < limit → limit ≤ 2 ^ 63 → in_range limit (negsuc n) ≡ true
-below_zero limit n lt le = true_both (ltb n limit) (ltb n (2 ^ 63)) (lt-ltb _ _ lt) (lt-ltb _ _ (omega arith))
+below_zero limit n lt le = and_from (ltb n limit) (ltb n (2 ^ 63)) (lt-ltb _ _ lt) (lt-ltb _ _ (omega arith))
 
 pub signed_some : (limit : ℕ) (piece : List ℕ) (z : ℤ) → piece ≡ signed_decimal z → in_range limit z ≡ true → scalar_of (signed limit) piece ≡ Some z
 signed_some limit piece z is fit = ap (scalar_of (signed limit)) is ∙ scalar_again (signed limit) z fit

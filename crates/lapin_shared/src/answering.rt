@@ -121,6 +121,7 @@ fn hear(alloc: Global, session: &mut Session, frame: &Frame) -> Result<Heard, Er
     }
 }
 
+// The session takes a copy of a frame.
 #[inline(never)]
 fn hear_copy(alloc: Global, session: &mut Session, frame: &Frame) -> Result<Heard, Error>
     ensures told { HeardTold result (told_by session.old (event_.Receive frame.now)) }

@@ -1,9 +1,13 @@
 //! What the command prints, and what it keeps, with a gate that does nothing.
 
 use crate::driver::shared;
-use lapin_commands::Status;
+use lapin_inputs::Status;
 use lapin_shared::OpenGate;
+use std::alloc::Global;
+use std::process::Abort;
+use std::sync::Wait;
 use std::test::Fail;
+use std::thread::Threads;
 
 /// A publish, its ack and its polls, on a channel that asked for confirms.
 const PUBLISH: &str = "frame_max 4096\n\
@@ -23,7 +27,7 @@ fn one_caller_makes_the_whole_history(rt: HostRuntime) -> Result<(), Fail> {
         &rt,
         rt.alloc(),
         &OpenGate,
-        &["shared", "1"],
+        "shared 1",
         PUBLISH,
         Status::Fine,
         PUBLISHED,
@@ -35,29 +39,31 @@ fn one_caller_makes_the_whole_history(rt: HostRuntime) -> Result<(), Fail> {
     Ok(())
 }
 
+/// Words that are no command, a line each. The last line has none.
+const BAD_WORDS: &str = "shared 0
+shared 65
+shared
+shared 1 2
+shared x
+shared 01
+session
+";
+
+fn are_bad<R: Threads + Wait + Abort + Sync>(
+    rt: &R,
+    alloc: Global,
+    line: &str,
+) -> Result<(), Fail> {
+    let input = "frame_max 4096\nlost\n";
+    let kept = shared(rt, alloc, &OpenGate, line, input, Status::BadWords, "")?;
+    assert!(rt; kept.is_none());
+    Ok(())
+}
+
 #[test]
 fn other_words_are_bad(rt: HostRuntime) -> Result<(), Fail> {
-    let bad: [&[&str]; 8] = [
-        &["shared", "0"],
-        &["shared", "65"],
-        &["shared"],
-        &["shared", "1", "2"],
-        &["shared", "x"],
-        &["shared", "01"],
-        &["session"],
-        &[],
-    ];
-    for words in bad {
-        let kept = shared(
-            &rt,
-            rt.alloc(),
-            &OpenGate,
-            words,
-            "frame_max 4096\nlost\n",
-            Status::BadWords,
-            "",
-        )?;
-        assert!(&rt; kept.is_none());
+    for line in BAD_WORDS.split('\n') {
+        are_bad(&rt, rt.alloc(), line)?;
     }
     Ok(())
 }
@@ -75,7 +81,7 @@ fn a_bad_line_ends_the_run(rt: HostRuntime) -> Result<(), Fail> {
             &rt,
             rt.alloc(),
             &OpenGate,
-            &["shared", "64"],
+            "shared 64",
             input,
             Status::BadLine,
             want,

@@ -1,7 +1,7 @@
 //! The command over a source or a sink that fails at one of its calls.
 
 use crate::driver::words_of;
-use lapin_commands::Status;
+use lapin_inputs::Status;
 use lapin_io::{MemorySink, MemorySource};
 use lapin_shared::{History, OpenGate};
 use lapin_shared_commands::run_shared;
@@ -26,7 +26,7 @@ fn failing<R: Threads + Wait + Abort + Sync>(
     status: Status,
     want: &str,
 ) -> Result<Option<History>, Fail> {
-    let words = words_of(alloc, &["shared", "1"])?;
+    let words = words_of(alloc, "shared 1")?;
     let mut source = MemorySource::new(INPUT.to_vec(alloc)?, 8, vec![in alloc; read]?);
     let mut sink = MemorySink::new(alloc, 8, vec![in alloc; write]?);
     let mut kept = None;

@@ -1,13 +1,11 @@
 //! Two callers meet at a gate: each has a thread of its own.
 
 use crate::driver::shared;
-use lapin_commands::Status;
+use crate::gates::TURNS;
+use lapin_inputs::Status;
 use lapin_shared::Gate;
 use std::sync::atomic::{AtomicU64, Ordering};
 use std::test::Fail;
-
-/// The most looks of a wait.
-const TURNS: u64 = 1_000_000_000;
 
 /// Keeps one event before its turn until another one was made.
 #[derive(Drop)]
@@ -56,7 +54,7 @@ fn two_callers_make_their_events_in_either_order(rt: HostRuntime) -> Result<(), 
             &rt,
             rt.alloc(),
             &gate,
-            &["shared", "2"],
+            "shared 2",
             "frame_max 4096\nstate 1\nstate 1\n",
             Status::Fine,
             want,

@@ -1,6 +1,9 @@
 //! Steps of a caller as text: events that it makes, and the entries that its log then has. The other modules call it.
 
+ghost use Rattle.std.specs.Prelude.{◌≡◌};
+
 use lapin_shared::{Caller, Crew, FinishError, History, Logged, StepError};
+use lapin_shared_commands::is_made;
 use lapin_text::{parse_events, read_event, write_record};
 use lapin_types::{Event, Record};
 use std::alloc::Global;
@@ -30,6 +33,25 @@ pub fn finished(end: Result<History, FinishError>) -> Result<History, Fail> {
     }
 }
 
+/// Makes the events of an input. The caller keeps its number.
+pub fn make_events<L: Crew, R: Wait + Abort>(
+    rt: &R,
+    alloc: Global,
+    caller: &mut Caller<L>,
+    input: &str,
+) -> Result<(), Fail>
+    ensures { caller.new.number ≡ caller.old.number }
+{
+    let parsed = parse_events(alloc, input.as_bytes())?;
+    assert_eq!(rt; parsed.bad, None);
+    for event in parsed.events {
+        if !is_made(rt, alloc, event, caller) {
+            return Err(Fail::from("memory"));
+        }
+    }
+    Ok(())
+}
+
 /// Makes the events of that beginning and those of these lines.
 pub fn make_lines<L: Crew, R: Wait + Abort>(
     rt: &R,
@@ -39,12 +61,7 @@ pub fn make_lines<L: Crew, R: Wait + Abort>(
 ) -> Result<(), Fail> {
     let mut text = String::from_str(alloc, CONSUMING)?;
     text.push_str(lines)?;
-    let parsed = parse_events(alloc, text.as_bytes())?;
-    assert_eq!(rt; parsed.bad, None);
-    for event in parsed.events {
-        let _place = answer_of(caller.make(rt, alloc, event))?;
-    }
-    Ok(())
+    make_events(rt, alloc, caller, text.as_str())
 }
 
 /// Compares the entries of a log behind the first `made` with lines, each an event and its record with an arrow between them.

@@ -2,6 +2,7 @@
 
 ghost use Rattle.std.specs.Prelude.{◌≡◌};
 
+use crate::gates::{Meeting, TURNS};
 use crate::stepping::{are_steps, finished, make_lines};
 use lapin_acker::{BoxedDelegate, ConsumerDelegate, Delegates, Verdict};
 use lapin_shared::{Client, Crew, Gate, OpenGate};
@@ -16,40 +17,9 @@ use std::sync::{Arc, Wait};
 use std::test::Fail;
 use std::thread::Threads;
 
-/// The most looks of a wait.
-const TURNS: u64 = 1_000_000_000;
-
 /// A delivery to each consumer.
 const DELIVERED: &str = "recv method 1 basic.deliver x74 8 0 x x71\nrecv header 1 60 0 []\n\
 recv method 1 basic.deliver x75 9 0 x x71\nrecv header 1 60 0 []\n";
-
-/// Keeps the first job before its delegate is called until the other was done.
-#[derive(Drop)]
-struct Meeting {
-    came: AtomicU64,
-    left: AtomicU64,
-    met: AtomicU64,
-}
-
-impl Gate for Meeting {
-    fn before(&self, caller: u64, place: u64) {
-        let _ = (caller, place);
-        if self.came.fetch_add(1, Ordering::SeqCst) != 0 {
-            return;
-        }
-        for _ in 0..TURNS {
-            if self.left.load(Ordering::SeqCst) > 0 {
-                self.met.store(1, Ordering::SeqCst);
-                return;
-            }
-        }
-    }
-
-    fn after(&self, caller: u64, place: u64) {
-        let _ = (caller, place);
-        self.left.fetch_add(1, Ordering::SeqCst);
-    }
-}
 
 /// How often delegates were called, and how many of the calls saw the other one while they waited. Where one call comes after the
 /// other, only the second can have seen it.
@@ -140,11 +110,7 @@ fn meet<G: Gate, L: Crew + Send + Sync, R: Threads + Wait + Abort + Sync>(
 
 #[test]
 fn two_workers_meet_at_the_gate(rt: HostRuntime) -> Result<(), Fail> {
-    let gate = Meeting {
-        came: AtomicU64::new(0),
-        left: AtomicU64::new(0),
-        met: AtomicU64::new(0),
-    };
+    let gate = Meeting::new();
     meet::<Meeting, Brand, _>(&rt, rt.alloc(), &gate, 0, 0, Blank::new(2))?;
     assert_eq!(&rt; gate.met.load(Ordering::SeqCst), 1);
     Ok(())

@@ -165,7 +165,7 @@ fn any_frame(rt: HostRuntime) -> Result<(), Fail> {
                 let begun = STATES.get(place).copied().unwrap_or("");
                 let channel = channel_at(place);
                 let history = history_of(alloc, begun, channel, frame, mark, numbers)?;
-                shows(&rt, history.as_str())?;
+                shows(&rt, "session", history.as_str())?;
             }
         }
     }

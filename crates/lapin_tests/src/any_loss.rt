@@ -69,7 +69,7 @@ fn history_of(alloc: Global, frames: usize) -> Result<String, AllocError> {
 fn any_loss(rt: HostRuntime) -> Result<(), Fail> {
     for frames in 0..5 {
         let history = history_of(rt.alloc(), frames)?;
-        shows(&rt, history.as_str())?;
+        shows(&rt, "session", history.as_str())?;
     }
     Ok(())
 }

@@ -1,5 +1,5 @@
 //! How a payload is cut: a frame holds `frame_max` bytes, 8 of which are not of the body.
-use crate::driver::session;
+use crate::driver::ends_as;
 use lapin_commands::Status;
 use std::alloc::AllocError;
 use std::test::Fail;
@@ -60,9 +60,13 @@ fn bodies_are_cut_to_the_frame_size(rt: HostRuntime) -> Result<(), Fail> {
         put_publish(&mut events, length)?;
         let mut records = String::from_str(alloc, OPENED)?;
         put_frames(&mut records, header, first, second)?;
-        let (status, sink) = session(alloc, events.as_str())?;
-        assert_eq!(rt; status, Status::Fine, "at {length}");
-        assert_eq!(rt; sink.bytes(), records.as_bytes(), "at {length}");
+        ends_as(
+            &rt,
+            "session",
+            events.as_str(),
+            Status::Fine,
+            records.as_str(),
+        )?;
     }
     Ok(())
 }

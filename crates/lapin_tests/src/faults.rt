@@ -1,5 +1,5 @@
 //! The program over sources and sinks that give and take in pieces, and fail, at each call; its limit; the standard streams.
-use crate::driver::words_of;
+use crate::driver::{is_as, words_of};
 use lapin_commands::{Status, run_in_memory, run_program};
 use lapin_io::{MemorySink, MemorySource, Sink, Source, StdSink, StdSource, SureSink, SureSource};
 use std::alloc::{AllocError, Global};
@@ -46,7 +46,7 @@ fn input_of(alloc: Global, length: usize) -> Result<Vec<u8>, AllocError> {
 #[test]
 fn faults_table_of_failing_reads(rt: HostRuntime) -> Result<(), Fail> {
     let alloc = rt.alloc();
-    let words = words_of(alloc, &["session"])?;
+    let words = words_of(alloc, "session")?;
     for done in 0..36 {
         let call = done + 1;
         let mut source = MemorySource::new(INPUT.to_vec(alloc)?, 8, vec![in alloc; call]?);
@@ -57,8 +57,10 @@ fn faults_table_of_failing_reads(rt: HostRuntime) -> Result<(), Fail> {
         } else {
             (Status::Fine, OUTPUT)
         };
-        assert_eq!(rt; status, wanted, "at call {call}");
-        assert_eq!(rt; sink.bytes(), output, "at call {call}");
+        assert!(rt;
+            is_as(status, wanted, sink.bytes(), output),
+            "at call {call}"
+        );
     }
     Ok(())
 }
@@ -67,7 +69,7 @@ fn faults_table_of_failing_reads(rt: HostRuntime) -> Result<(), Fail> {
 #[test]
 fn faults_table_of_failing_writes(rt: HostRuntime) -> Result<(), Fail> {
     let alloc = rt.alloc();
-    let words = words_of(alloc, &["session"])?;
+    let words = words_of(alloc, "session")?;
     for done in 0..34 {
         let call = done + 1;
         let mut source = SureSource::new(INPUT.to_vec(alloc)?);
@@ -80,8 +82,10 @@ fn faults_table_of_failing_writes(rt: HostRuntime) -> Result<(), Fail> {
         };
         let taken = done * 8;
         let output = OUTPUT.get(..taken as usize).unwrap_or(OUTPUT);
-        assert_eq!(rt; status, wanted, "at call {call}");
-        assert_eq!(rt; sink.bytes(), output, "at call {call}");
+        assert!(rt;
+            is_as(status, wanted, sink.bytes(), output),
+            "at call {call}"
+        );
     }
     Ok(())
 }
@@ -90,7 +94,7 @@ fn faults_table_of_failing_writes(rt: HostRuntime) -> Result<(), Fail> {
 #[test]
 fn faults_table_of_a_bad_line(rt: HostRuntime) -> Result<(), Fail> {
     let alloc = rt.alloc();
-    let words = words_of(alloc, &["session"])?;
+    let words = words_of(alloc, "session")?;
     let text = b"state open closed\nbadline 3\n".as_slice();
     for done in 0..5 {
         let call = done + 1;
@@ -103,10 +107,9 @@ fn faults_table_of_a_bad_line(rt: HostRuntime) -> Result<(), Fail> {
             Status::BadLine
         };
         let taken = done * 8;
-        assert_eq!(rt; status, wanted, "at call {call}");
-        assert_eq!(rt;
-            sink.bytes(),
-            text.get(..taken as usize).unwrap_or(text),
+        let output = text.get(..taken as usize).unwrap_or(text);
+        assert!(rt;
+            is_as(status, wanted, sink.bytes(), output),
             "at call {call}"
         );
     }
@@ -117,7 +120,7 @@ fn faults_table_of_a_bad_line(rt: HostRuntime) -> Result<(), Fail> {
 #[test]
 fn faults_table_of_pieces(rt: HostRuntime) -> Result<(), Fail> {
     let alloc = rt.alloc();
-    let words = words_of(alloc, &["session"])?;
+    let words = words_of(alloc, "session")?;
     for (input, most, room, wanted, output) in [
         (INPUT, 1, 1, Status::Fine, OUTPUT),
         (INPUT, 2, 64, Status::Fine, OUTPUT),
@@ -134,8 +137,10 @@ fn faults_table_of_pieces(rt: HostRuntime) -> Result<(), Fail> {
         let mut source = MemorySource::new(input.to_vec(alloc)?, most, Vec::new(alloc));
         let mut sink = MemorySink::new(alloc, room, Vec::new(alloc));
         let status = run_program(alloc, &words, &mut source, &mut sink);
-        assert_eq!(rt; status, wanted, "at {most}, {room}");
-        assert_eq!(rt; sink.bytes(), output, "at {most}, {room}");
+        assert!(rt;
+            is_as(status, wanted, sink.bytes(), output),
+            "at {most}, {room}"
+        );
     }
     Ok(())
 }
@@ -145,7 +150,7 @@ fn faults_table_of_pieces(rt: HostRuntime) -> Result<(), Fail> {
 #[test]
 fn an_input_of_exactly_the_limit_is_run(rt: HostRuntime) -> Result<(), Fail> {
     let alloc = rt.alloc();
-    let words = words_of(alloc, &["session"])?;
+    let words = words_of(alloc, "session")?;
     for (payload, whole, wanted, output) in [
         (
             8_388_584,
@@ -160,8 +165,7 @@ fn an_input_of_exactly_the_limit_is_run(rt: HostRuntime) -> Result<(), Fail> {
         input.extend_from_slice(b" []")?;
         assert_eq!(rt; input.len(), whole);
         let (status, sink) = run_in_memory(alloc, &words, input);
-        assert_eq!(rt; status, wanted);
-        assert_eq!(rt; sink.bytes(), output);
+        assert!(rt; is_as(status, wanted, sink.bytes(), output));
     }
     Ok(())
 }
@@ -171,7 +175,7 @@ fn an_input_of_exactly_the_limit_is_run(rt: HostRuntime) -> Result<(), Fail> {
 #[test]
 fn an_input_past_the_limit_is_not_run(rt: HostRuntime) -> Result<(), Fail> {
     let alloc = rt.alloc();
-    let words = words_of(alloc, &["session"])?;
+    let words = words_of(alloc, "session")?;
     for (length, failing, wanted, output) in [
         (
             16_777_216,
@@ -186,8 +190,7 @@ fn an_input_past_the_limit_is_not_run(rt: HostRuntime) -> Result<(), Fail> {
         let mut source = MemorySource::new(input, 1 << 20, vec![in alloc; failing]?);
         let mut sink = SureSink::new(alloc);
         let status = run_program(alloc, &words, &mut source, &mut sink);
-        assert_eq!(rt; status, wanted, "at {length}");
-        assert_eq!(rt; sink.bytes(), output, "at {length}");
+        assert!(rt; is_as(status, wanted, sink.bytes(), output), "at {length}");
     }
     Ok(())
 }

@@ -43,7 +43,7 @@ fn histories_have_their_records(rt: HostRuntime) -> Result<(), Fail> {
         consumer_ends::HISTORIES,
         open_cancels::HISTORIES,
     ] {
-        shows_all(&rt, table)?;
+        shows_all(&rt, "session", table)?;
     }
     Ok(())
 }
@@ -77,7 +77,7 @@ fn a_frame_that_no_rule_hears_is_named_in_the_close(rt: HostRuntime) -> Result<(
     ] {
         for line in frames.split('\n') {
             let history = refused(rt.alloc(), begun, line)?;
-            shows(&rt, history.as_str())?;
+            shows(&rt, "session", history.as_str())?;
         }
     }
     Ok(())

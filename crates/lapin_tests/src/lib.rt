@@ -1,4 +1,4 @@
-//! The tests: histories as tables of texts, which one driver a kind runs over the program's top call.
+//! The tests of the program: histories and runs as tables of texts, which one driver a kind runs over the program's top call.
 //!
 //! A table is a text: its histories stand a blank line apart, each with a line an event and, behind an arrow, the record
 //! that the rules give it. Expected values come from the rules, never from a run. Each kind of test is one loop over its
@@ -23,6 +23,8 @@ mod broker_close;
 mod calls;
 #[cfg(test)]
 mod channel_close;
+#[cfg(test)]
+mod command;
 #[cfg(test)]
 mod confirms;
 #[cfg(test)]
@@ -69,6 +71,8 @@ mod loss;
 mod methods_table;
 #[cfg(test)]
 mod open_cancels;
+#[cfg(test)]
+mod reasons;
 #[cfg(test)]
 mod returned;
 #[cfg(test)]

@@ -1,38 +1,39 @@
 //! The words of the command line, and the exit statuses.
-use crate::driver::words_of;
+use crate::driver::end_as_told;
 use lapin_commands::{Status, run_in_memory};
+use std::alloc::AllocError;
+use std::process::Abort;
 use std::test::Fail;
 
-// Nothing is written where the words are no command.
+// Nothing is written where the words are no command. The words of the second row are one, which is empty.
+const WORDS: &str = r"
+session now | frame_max 4096\nnext 1\n | bad words
+ | frame_max 4096\nnext 1\n | bad words
+sessions | frame_max 4096\nnext 1\n | bad words
+Session | frame_max 4096\nnext 1\n | bad words
+--help | frame_max 4096\nnext 1\n | bad words
+check now | frame_max 4096\nnext 1\n | bad words
+resend  | frame_max 4096\nnext 1\n | bad words
+call | frame_max 4096\nnext 1\n | bad words
+call replies now | frame_max 4096\nnext 1\n | bad words
+check | frame_max 4096\nnext 1\n | bad line | fine\nbadline 2\n
+resend | frame_max 4096\nnext 1\n | bad line | badline 2\n
+call replies | frame_max 4096\nnext 1\n | fine | frame method 1 channel.open\n
+session | frame_max 4096\nnext 1\n | fine | noframe\n
+";
+
 #[test]
 fn other_words_are_no_command(rt: HostRuntime) -> Result<(), Fail> {
-    let alloc = rt.alloc();
-    for (words, wanted, output) in [
-        ([].as_slice(), Status::BadWords, ""),
-        (["session", "now"].as_slice(), Status::BadWords, ""),
-        (["sessions"].as_slice(), Status::BadWords, ""),
-        ([""].as_slice(), Status::BadWords, ""),
-        (["Session"].as_slice(), Status::BadWords, ""),
-        (["--help"].as_slice(), Status::BadWords, ""),
-        (["check", "now"].as_slice(), Status::BadWords, ""),
-        (["resend", ""].as_slice(), Status::BadWords, ""),
-        (["call"].as_slice(), Status::BadWords, ""),
-        (["call", "replies", "now"].as_slice(), Status::BadWords, ""),
-        (["check"].as_slice(), Status::BadLine, "fine\nbadline 2\n"),
-        (["resend"].as_slice(), Status::BadLine, "badline 2\n"),
-        (
-            ["call", "replies"].as_slice(),
-            Status::Fine,
-            "frame method 1 channel.open\n",
-        ),
-        (["session"].as_slice(), Status::Fine, "noframe\n"),
-    ] {
-        let words = words_of(alloc, words)?;
-        let input = b"frame_max 4096\nnext 1\n".to_vec(alloc)?;
-        let (status, sink) = run_in_memory(alloc, &words, input);
-        assert_eq!(rt; status, wanted);
-        assert_eq!(rt; sink.bytes(), output.as_bytes());
-    }
+    end_as_told(&rt, WORDS)?;
+    no_words_are_no_command(&rt)?;
+    Ok(())
+}
+
+fn no_words_are_no_command(rt: &(impl Abort + AllocGlobal)) -> Result<(), AllocError> {
+    let input = b"frame_max 4096\nnext 1\n".to_vec(rt.alloc())?;
+    let (status, sink) = run_in_memory(rt.alloc(), &[], input);
+    assert_eq!(rt; status, Status::BadWords);
+    assert!(rt; sink.bytes().is_empty());
     Ok(())
 }
 

@@ -3,13 +3,12 @@ use Rattle.std.proofs.Common.{◌≡◌, ℕ, ◌<◌, ◌≤◌, ◌+◌, ◌^�
 use Rattle.std.specs.Prelude.{position, codes, decimal, ◌&&◌}
 use Rattle.std.specs.List.{slice_split, position_or_len, flat_map, AllByRecursion}
 use Rattle.std.proofs.lemmas.Fmt.{decimal_injective}
-use Rattle.std.proofs.lemmas.Bool.{ltb-true, ltb-false, lt-ltb, ne_eqb}
+use Rattle.std.proofs.lemmas.Bool.{ltb-true, ltb-false, lt-ltb, ne_eqb, and_from}
 use Rattle.std.proofs.lemmas.List.{nil_from_length}
 use Rattle.std.proofs.lemmas.List.Concat.{flat_map-cons}
 use Rattle.std.proofs.lemmas.List.Splits.{slice_split_none, slice_split_first, slice_split_at, length-slice_split}
 use Rattle.std.proofs.lemmas.List.Sums.{fails_before_first}
 use Rattle.lapin_types.specs.declared.event.Event.{Event}
-use Rattle.lapin_scalars.proofs.ScalarLaws.{true_both}
 use Rattle.lapin_tokens.specs.Fields.{long_number}
 use Rattle.lapin_tokens.proofs.Plain.{no_feed}
 use Rattle.lapin_tokens.proofs.PlainFields.{plain_token}
@@ -78,7 +77,7 @@ line_first line rest free =
 
 max_plain : (m : ℕ) → IsMax m → HasNoFeed (max_line m)
 max_plain m ok =
-    let fit : (ltb m (2 ^ 32) && ltb m (2 ^ 64)) ≡ true = true_both (ltb m (2 ^ 32)) (ltb m (2 ^ 64)) (lt-ltb _ _ ok.1) (lt-ltb _ _ (omega (arith, ok.1))) in
+    let fit : (ltb m (2 ^ 32) && ltb m (2 ^ 64)) ≡ true = and_from (ltb m (2 ^ 32)) (ltb m (2 ^ 64)) (lt-ltb _ _ ok.1) (lt-ltb _ _ (omega (arith, ok.1))) in
     no_feed (codes "frame_max" ∷ decimal m ∷ []) (refl, (plain_token long_number m fit, tt))
 
 module _ {E : Type 0} (line_of : E → List ℕ) (HasLine : E → Type 0) where

@@ -1,7 +1,7 @@
 -- Frames, events and lines: what was written is read, and what was read is spelled so.
 use Rattle.std.proofs.Common.{◌≡◌, ℕ, ◌<◌, ◌^◌, List, [], ◌∷◌, ◌++◌, length, Option, Some, None, Bool, true, refl, sym, ap, subst, ◌∙◌, eqb, ltb, arith}
 use Rattle.std.specs.Prelude.{codes, decimal, ◌&&◌}
-use Rattle.std.proofs.lemmas.Bool.{lt-ltb}
+use Rattle.std.proofs.lemmas.Bool.{lt-ltb, and_from}
 use Rattle.std.specs.Str.{bytes_eq}
 use Rattle.std.specs.List.{join_with_byte, slice_split}
 use Rattle.std.proofs.lemmas.List.{append-nil}
@@ -21,7 +21,7 @@ use Rattle.lapin_text.specs.declared.words.Word.TheVariants as word
 use Rattle.lapin_tokens.specs.Fields.{Field, Value, Values, token, fits, short_number, wide_number}
 use Rattle.lapin_tokens.specs.Fields.Field.{flag}
 use Rattle.lapin_tokens.specs.Reading.{◌>>=◌, field_at, fields_at}
-use Rattle.lapin_tokens.proofs.FieldLaws.{true_both, bind_some, some_is, field_again, field_found, fields_again, fields_found, find_found}
+use Rattle.lapin_tokens.proofs.FieldLaws.{bind_some, some_is, field_again, field_found, fields_again, fields_found, find_found}
 use Rattle.lapin_tokens.proofs.Plain.{AllPlain, split_join}
 use Rattle.lapin_tokens.proofs.PlainFields.{plain_token, plain_tokens}
 use Rattle.lapin_method_text.specs.Methods.{method_tokens}
@@ -70,8 +70,8 @@ frame_again (frame.Body c bytes) rest h = rw (word_again word.Body) (fields_agai
 -- pieces that acknowledge a tag are the frame of that
 pub acked_said : (channel tag : ℕ) (multiple : Bool) (pieces more after rest : List (List ℕ)) → pieces ≡ decimal channel ∷ more → more ≡ codes "basic.ack" ∷ decimal tag ∷ after → after ≡ token flag multiple ∷ rest → channel < 2 ^ 16 → tag < 2 ^ 64 → frame_of_word word.Method pieces ≡ Some (frame.Method channel (method.Basic (basic.Ack tag multiple)), rest)
 acked_said channel tag multiple pieces more after rest one two three short wide =
-    let fit_channel : (ltb channel (2 ^ 16) && ltb channel (2 ^ 64)) ≡ true = true_both (ltb channel (2 ^ 16)) (ltb channel (2 ^ 64)) (lt-ltb _ _ short) (lt-ltb _ _ (omega arith)) in
-    let fit_tag : (ltb tag (2 ^ 64) && ltb tag (2 ^ 64)) ≡ true = true_both (ltb tag (2 ^ 64)) (ltb tag (2 ^ 64)) (lt-ltb _ _ wide) (lt-ltb _ _ wide) in
+    let fit_channel : (ltb channel (2 ^ 16) && ltb channel (2 ^ 64)) ≡ true = and_from (ltb channel (2 ^ 16)) (ltb channel (2 ^ 64)) (lt-ltb _ _ short) (lt-ltb _ _ (omega arith)) in
+    let fit_tag : (ltb tag (2 ^ 64) && ltb tag (2 ^ 64)) ≡ true = and_from (ltb tag (2 ^ 64)) (ltb tag (2 ^ 64)) (lt-ltb _ _ wide) (lt-ltb _ _ wide) in
     let is : pieces ≡ token short_number channel ∷ (method_tokens (method.Basic (basic.Ack tag multiple)) ++ rest) = one ∙ ap (λ (ps : List (List ℕ)). decimal channel ∷ ps) (two ∙ ap (λ (ps : List (List ℕ)). codes "basic.ack" ∷ decimal tag ∷ ps) three) in
     rw (is, field_again short_number channel (method_tokens (method.Basic (basic.Ack tag multiple)) ++ rest) fit_channel, method_again (method.Basic (basic.Ack tag multiple)) rest (fit_tag, (refl, tt))) refl
 
@@ -254,7 +254,7 @@ some_tokens _ = omega arith
 
 -- ---- whole texts
 
-whole_found : {A : Type 0} (r : Option (A × List (List ℕ))) (e : A) → whole r ≡ Some e → r ≡ Some (e, [])
+pub whole_found : {A : Type 0} (r : Option (A × List (List ℕ))) (e : A) → whole r ≡ Some e → r ≡ Some (e, [])
 whole_found None e h = absurd cc
 whole_found {A = A} (Some (x, [])) e h = ap (λ (y : A). Some (y, [])) (some_is x e h)
 whole_found (Some (x, t ∷ ts)) e h = absurd cc

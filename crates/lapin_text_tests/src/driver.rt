@@ -8,6 +8,7 @@ use lapin_scalars::{
 };
 use lapin_text::{read_event, read_frame, write_frame};
 use lapin_tokens::{Token, Tokens, properties_of, put_tokens, table_of};
+use lapin_types::{BasicProperties, FieldTable, Frame, Method};
 use std::alloc::Global;
 use std::fmt;
 use std::test::Fail;
@@ -99,7 +100,8 @@ fn kept(alloc: Global, piece: &[u8], written: Option<Vec<u8>>) -> Result<String,
 }
 
 fn word_of(text: &[u8], piece: &[u8]) -> &'static str {
-    if text == piece || text.get(1..) == Some(piece) {
+    let behind = text.get(1..).unwrap_or(text);
+    if text == piece || behind == piece {
         "kept"
     } else {
         "changed"
@@ -108,59 +110,79 @@ fn word_of(text: &[u8], piece: &[u8]) -> &'static str {
 
 // Whether both `{}` and `{:?}` show a value as the piece that it was read of.
 fn shown<T: fmt::Display + fmt::Debug>(alloc: Global, value: &T, piece: &[u8]) -> Result<(), Fail> {
-    let plain = format!(in alloc; "{value}")?;
-    let debug = format!(in alloc; "{value:?}")?;
-    if plain.as_bytes() == piece && debug.as_bytes() == piece {
+    if is_plain(alloc, value, piece)? && is_debug(alloc, value, piece)? {
         Ok(())
     } else {
         Err(Fail::from("a value is shown otherwise than it is read"))
     }
 }
 
+fn is_plain<T: fmt::Display>(alloc: Global, value: &T, piece: &[u8]) -> Result<bool, Fail> {
+    let text = format!(in alloc; "{value}")?;
+    Ok(text.as_bytes() == piece)
+}
+
+fn is_debug<T: fmt::Debug>(alloc: Global, value: &T, piece: &[u8]) -> Result<bool, Fail> {
+    let text = format!(in alloc; "{value:?}")?;
+    Ok(text.as_bytes() == piece)
+}
+
 fn table(alloc: Global, piece: &[u8]) -> Result<Option<Vec<u8>>, Fail> {
-    let mut text = Vec::new(alloc);
     match table_of(alloc, piece) {
-        Ok(table) => {
-            put_tokens(alloc, &mut text, &[Token::Table(&table)])?;
-            shown(alloc, &table, piece)?;
-        }
-        Err(_) => return Ok(None),
+        Ok(table) => Ok(Some(table_text(alloc, &table, piece)?)),
+        Err(_) => Ok(None),
     }
-    Ok(Some(text))
+}
+
+fn table_text(alloc: Global, table: &FieldTable, piece: &[u8]) -> Result<Vec<u8>, Fail> {
+    let mut text = Vec::new(alloc);
+    put_tokens(alloc, &mut text, &[Token::Table(table)])?;
+    shown(alloc, table, piece)?;
+    Ok(text)
 }
 
 fn properties(alloc: Global, piece: &[u8]) -> Result<Option<Vec<u8>>, Fail> {
-    let mut text = Vec::new(alloc);
     match properties_of(alloc, piece) {
-        Ok(properties) => {
-            put_tokens(alloc, &mut text, &[Token::Properties(&properties)])?;
-            shown(alloc, &properties, piece)?;
-        }
-        Err(_) => return Ok(None),
+        Ok(properties) => Ok(Some(properties_text(alloc, &properties, piece)?)),
+        Err(_) => Ok(None),
     }
-    Ok(Some(text))
+}
+
+fn properties_text(
+    alloc: Global,
+    properties: &BasicProperties,
+    piece: &[u8],
+) -> Result<Vec<u8>, Fail> {
+    let mut text = Vec::new(alloc);
+    put_tokens(alloc, &mut text, &[Token::Properties(properties)])?;
+    shown(alloc, properties, piece)?;
+    Ok(text)
 }
 
 fn method(alloc: Global, piece: &[u8]) -> Result<Option<Vec<u8>>, Fail> {
-    let mut text = Vec::new(alloc);
     match read_method(alloc, &mut Tokens::new(piece)) {
-        Ok(method) => {
-            put_method(alloc, &mut text, &method)?;
-            shown(alloc, &method, piece)?;
-        }
-        Err(_) => return Ok(None),
+        Ok(method) => Ok(Some(method_text(alloc, &method, piece)?)),
+        Err(_) => Ok(None),
     }
-    Ok(Some(text))
+}
+
+fn method_text(alloc: Global, method: &Method, piece: &[u8]) -> Result<Vec<u8>, Fail> {
+    let mut text = Vec::new(alloc);
+    put_method(alloc, &mut text, method)?;
+    shown(alloc, method, piece)?;
+    Ok(text)
 }
 
 fn frame(alloc: Global, piece: &[u8]) -> Result<Option<Vec<u8>>, Fail> {
-    let mut text = Vec::new(alloc);
     match read_frame(alloc, piece)? {
-        Some(frame) => {
-            write_frame(alloc, &mut text, &frame)?;
-            shown(alloc, &frame, piece)?;
-        }
-        None => return Ok(None),
+        Some(frame) => Ok(Some(frame_text(alloc, &frame, piece)?)),
+        None => Ok(None),
     }
-    Ok(Some(text))
+}
+
+fn frame_text(alloc: Global, frame: &Frame, piece: &[u8]) -> Result<Vec<u8>, Fail> {
+    let mut text = Vec::new(alloc);
+    write_frame(alloc, &mut text, frame)?;
+    shown(alloc, frame, piece)?;
+    Ok(text)
 }

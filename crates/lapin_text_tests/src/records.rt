@@ -1,6 +1,7 @@
 //! Lists of records and of events: what is printed, and where parsing stops.
 use lapin_text::{parse_events, print_records};
-use lapin_types::{ChannelState, ConnectionState, Error, Record};
+use lapin_types::{ChannelState, ConnectionState, Error, NoMemory, Record};
+use std::alloc::Global;
 use std::test::Fail;
 
 // Each state of the connection and of a channel has its word.
@@ -42,10 +43,21 @@ fn parsing_tells_the_first_bad_line(rt: HostRuntime) -> Result<(), Fail> {
         ("frame_max 4096\nnext  1\n", Some(4096), 0, Some(2)),
         ("frame_max 4096\nticket 01\n", Some(4096), 0, Some(2)),
     ] {
-        let parsed = parse_events(rt.alloc(), input.as_bytes())?;
-        assert_eq!(rt; parsed.frame_max, frame_max, "at {input:?}");
-        assert_eq!(rt; parsed.events.len(), events, "at {input:?}");
-        assert_eq!(rt; parsed.bad, bad, "at {input:?}");
+        assert!(rt;
+            is_parsed(rt.alloc(), input, frame_max, events, bad)?,
+            "at {input:?}"
+        );
     }
     Ok(())
+}
+
+fn is_parsed(
+    alloc: Global,
+    input: &str,
+    frame_max: Option<u32>,
+    events: usize,
+    bad: Option<u64>,
+) -> Result<bool, NoMemory> {
+    let parsed = parse_events(alloc, input.as_bytes())?;
+    Ok(parsed.frame_max == frame_max && parsed.events.len() == events && parsed.bad == bad)
 }

@@ -12,7 +12,6 @@ use Rattle.lapin_tokens.specs.Reading.{value_of, field_at, fields_at}
 use Rattle.lapin_scalars.proofs.ScalarLaws.{scalar_again, scalar_found}
 use Rattle.lapin_tokens.proofs.NestedLaws.{table_again, table_found}
 use Rattle.lapin_tokens.proofs.PropertyLaws.{properties_again, properties_found}
-pub use Rattle.lapin_scalars.proofs.ScalarLaws.{both_true, true_both}
 pub use Rattle.lapin_tokens.proofs.MemberLaws.{bind_some, some_is}
 pub use Rattle.lapin_tokens.proofs.ValueLaws.{find_found}
 

@@ -1,11 +1,12 @@
 -- Members between commas: what was written is read, and what was read is spelled so.
-use Rattle.std.proofs.Common.{◌≡◌, ◌≢◌, ℕ, zero, suc, ◌<◌, ◌≤◌, List, [], ◌∷◌, ◌++◌, length, Option, Some, None, refl, sym, ap, subst, ◌∙◌, arith, Bool, true, false, cond, eqb, append_assoc}
+use Rattle.std.proofs.Common.{◌≡◌, ◌≢◌, ℕ, zero, suc, ◌<◌, ◌≤◌, List, [], ◌∷◌, ◌++◌, length, Option, Some, None, refl, sym, ap, subst, ◌∙◌, arith, true, eqb, append_assoc}
 use Rattle.std.specs.List.{join_with_byte}
 use Rattle.std.specs.Cmp.{unsigned_Decides}
 use Rattle.std.proofs.lemmas.Bool.{ne_eqb}
 use Rattle.std.proofs.lemmas.List.{length-append}
 use Rattle.lapin_tokens.specs.Cursor.{◌>>=◌, after_mark, is_separator}
 use Rattle.lapin_tokens.specs.ValueReading.{ending, members_at}
+use Rattle.std.proofs.lemmas.Option.{cond_some}
 
 pub bind_some : {A B : Type 0} (r : Option A) (f : A → Option B) (y : B) → (r >>= f) ≡ Some y → (x : A) × (r ≡ Some x) × (f x ≡ Some y)
 bind_some (Some x) f y e = (x, refl, e)
@@ -16,10 +17,6 @@ done x = Some x
 
 pub some_is : {A : Type 0} (x y : A) → done x ≡ done y → x ≡ y
 some_is x y e = cc
-
-guarded : {A : Type 0} (b : Bool) (x y : A) → cond b (Some x) None ≡ Some y → (b ≡ true) × (x ≡ y)
-guarded true x y e = (refl, cc)
-guarded false x y e = absurd cc
 
 -- ---- marks
 
@@ -32,7 +29,7 @@ other_mark m b rest other = rw (ne_eqb b m other) refl
 pub mark_found : (m : ℕ) (bs rest : List ℕ) → after_mark m bs ≡ Some rest → bs ≡ m ∷ rest
 mark_found m [] rest e = absurd cc
 mark_found m (b ∷ bs) rest e =
-    let g = guarded (eqb b m) bs rest e in
+    let g = cond_some (eqb b m) bs rest e in
     subst (λ (r : List ℕ). b ∷ bs ≡ m ∷ r) g.1 (ap (λ (c : ℕ). c ∷ bs) ((unsigned_Decides b m).0 g.0))
 
 -- ---- what was written is read

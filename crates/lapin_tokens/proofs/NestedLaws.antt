@@ -1,5 +1,5 @@
 -- Arrays and tables: what was written is read, and what was read is spelled so.
-use Rattle.std.proofs.Common.{◌≡◌, ℕ, zero, suc, List, [], ◌∷◌, ◌++◌, Some, None, refl, sym, ap, subst, ◌∙◌, arith, Bool, true, false, cond, append_assoc}
+use Rattle.std.proofs.Common.{◌≡◌, ℕ, zero, suc, List, [], ◌∷◌, ◌++◌, Some, None, refl, sym, ap, subst, ◌∙◌, arith, true, append_assoc}
 use Rattle.std.specs.Prelude.{◌&&◌}
 use Rattle.std.specs.List.{join_with_byte}
 use Rattle.std.specs.FinMap.Entries.{is_sorted}
@@ -10,7 +10,7 @@ use Rattle.lapin_values.specs.ValueOf.{items_list, pairs_list, pairs_list-pairs_
 use Rattle.lapin_scalars.specs.Scalars.{scalar_text, scalar_fits}
 use Rattle.lapin_scalars.specs.Scalars.Scalar.{text as a_text}
 use Rattle.lapin_scalars.specs.Reading.{scalar_of}
-use Rattle.lapin_scalars.proofs.ScalarLaws.{both_true, true_both, scalar_again, scalar_found}
+use Rattle.lapin_scalars.proofs.ScalarLaws.{scalar_again, scalar_found}
 use Rattle.lapin_scalars.proofs.PlainLaws.{plain_scalar}
 use Rattle.lapin_tokens.specs.declared.letters.Letter.{Letter}
 use Rattle.lapin_tokens.specs.declared.letters.Letter.TheVariants as letter
@@ -24,6 +24,8 @@ use Rattle.lapin_tokens.proofs.Turns.{pair_read}
 use Rattle.lapin_tokens.proofs.ByLetter.{by_the_letter, value_letter, array_up, table_up, array_none, table_none}
 use Rattle.lapin_tokens.proofs.MemberLaws.{bind_some, some_is, mark_found, Leads, Runs, inside_again, inside_found}
 use Rattle.lapin_tokens.proofs.ValueLaws.{items_back, pairs_back, next_again, next_found, letter_of, behind_letter, leaf_read, leaf_spelled, leaf_found}
+use Rattle.std.proofs.lemmas.Bool.{and_parts, and_from}
+use Rattle.std.proofs.lemmas.Option.{cond_some}
 
 -- ---- texts
 
@@ -76,7 +78,7 @@ module _ (l : ℕ) (again : Again l) where
   unfolding value_text item_texts pair_texts value_fits items_fit pairs_fit
   leads_items no_items found fit = sym (append-nil found)
   leads_items (item v is) found fit =
-      let p = both_true (value_fits l v) (items_fit l is) fit in (
+      let p = and_parts (value_fits l v) (items_fit l is) fit in (
         found ++ v ∷ [],
         (λ d rest sep. rw (again v d rest p.0 sep) refl),
         (λ rest. value_is_no_end v rest),
@@ -94,8 +96,8 @@ module _ (l : ℕ) (again : Again l) where
   unfolding value_text item_texts pair_texts value_fits items_fit pairs_fit
   leads_pairs no_pairs found fit rising = sym (append-nil found)
   leads_pairs (pair k v ps) found fit rising =
-      let p = both_true (scalar_fits a_text k && value_fits l v) (pairs_fit l ps) fit in
-      let q = both_true (scalar_fits a_text k) (value_fits l v) p.0 in
+      let p = and_parts (scalar_fits a_text k && value_fits l v) (pairs_fit l ps) fit in
+      let q = and_parts (scalar_fits a_text k) (value_fits l v) p.0 in
       let more = append_assoc found ((k, v) ∷ []) (pairs_list ps) in
       let on : is_sorted key_cmp ((found ++ (k, v) ∷ []) ++ pairs_list ps) ≡ true = subst (λ (e : List (List ℕ × Data)). is_sorted key_cmp e ≡ true) (sym more) rising in
       let here = rising_front (found ++ (k, v) ∷ []) (pairs_list ps) on in (
@@ -151,14 +153,14 @@ value_again (suc l) (array is) d rest fit sep =
     ∙ value_letter (suc l) _ (bracketed 91 93 (item_texts is) ++ d ∷ rest) letter.FieldArray (next_again letter.FieldArray _)
     ∙ rw (array_again l (value_again l) is (d ∷ rest) (sym (fits_array l is) ∙ fit), items_back is) refl
 value_again (suc l) (table ps) d rest fit sep =
-    let p = both_true (pairs_fit l ps) (is_sorted key_cmp (pairs_list ps)) (sym (fits_table l ps) ∙ fit) in
+    let p = and_parts (pairs_fit l ps) (is_sorted key_cmp (pairs_list ps)) (sym (fits_table l ps) ∙ fit) in
     ap (value_at (suc l)) (table_on ps (d ∷ rest))
     ∙ value_letter (suc l) _ (bracketed 123 125 (pair_texts ps) ++ d ∷ rest) letter.FieldTable (next_again letter.FieldTable _)
     ∙ rw (table_again_up l (value_again l) ps (d ∷ rest) p.0 p.1, pairs_back ps) refl
 
 pub table_again : (l : ℕ) (ps : List (List ℕ × Data)) (rest : List ℕ) → table_fits (suc l) ps ≡ true → table_at (suc l) (table_text ps ++ rest) ≡ Some (ps, rest)
 table_again l ps rest fit =
-    let p = both_true (pairs_fit l (pairs_of ps)) (is_sorted key_cmp (pairs_list (pairs_of ps))) (sym (fits_table l (pairs_of ps)) ∙ fit) in
+    let p = and_parts (pairs_fit l (pairs_of ps)) (is_sorted key_cmp (pairs_list (pairs_of ps))) (sym (fits_table l (pairs_of ps)) ∙ fit) in
     table_again_up l (value_again l) (pairs_of ps) rest p.0 p.1 ∙ ap (λ (qs : List (List ℕ × Data)). Some (qs, rest)) (pairs_list-pairs_of ps)
 
 -- ---- what was read is spelled so
@@ -173,10 +175,6 @@ key_found text x e =
     let f = scalar_found a_text (word_of text) a.0 a.1 in
     subst (λ (y : List ℕ × List ℕ). (text ≡ scalar_text a_text y.0 ++ 61 ∷ y.1) × (scalar_fits a_text y.0 ≡ true)) (some_is (a.0, b.0) x b.2)
     (sym (word_rest text) ∙ ap (λ (t : List ℕ). t ++ after_word text) f.is ∙ ap (λ (t : List ℕ). scalar_text a_text a.0 ++ t) (mark_found 61 (after_word text) b.0 b.1), f.fits)
-
-rising_guard : {A : Type 0} (b : Bool) (x y : A) → cond b (Some x) None ≡ Some y → (b ≡ true) × (x ≡ y)
-rising_guard true x y e = (refl, cc)
-rising_guard false x y e = absurd cc
 
 module _ (l : ℕ) (found : Found l) where
   abbrev ItemStep : List Data → List ℕ → List Data → Type 0
@@ -196,7 +194,7 @@ module _ (l : ℕ) (found : Found l) where
       let more = items_run ts r.0 e r.2 in (
         item v more.0,
         ap (λ (y : List ℕ). y ∷ ts) r.1.1 ∙ ap (λ (y : List (List ℕ)). value_text v ∷ y) more.1,
-        true_both (value_fits l v) (items_fit l more.0) r.1.2 more.2,
+        and_from (value_fits l v) (items_fit l more.0) r.1.2 more.2,
         more.3 ∙ ap (λ (y : List Data). y ++ items_list more.0) r.1.3 ∙ append_assoc s (v ∷ []) (items_list more.0),
       )
 
@@ -222,11 +220,11 @@ module _ (l : ℕ) (found : Found l) where
       let key = key_found text a.0 a.1 in
       let value = found a.0.1 b.0 b.1 in
       let m = bind_some (added k v s) _ x b.2 in
-      let g = rising_guard (is_sorted key_cmp (s ++ (k, v) ∷ [])) (s ++ (k, v) ∷ []) m.0 m.1 in
+      let g = cond_some (is_sorted key_cmp (s ++ (k, v) ∷ [])) (s ++ (k, v) ∷ []) m.0 m.1 in
       subst (λ (z : List (List ℕ × Data) × List ℕ). (t : List ℕ) × (text ≡ t ++ z.1) × PairStep s t z.0) (ap (λ (ps : List (List ℕ × Data)). (ps, b.0.1)) g.1 ∙ some_is (m.0, b.0.1) x m.2) (
         scalar_text a_text k ++ 61 ∷ value_text v,
         key.0 ∙ ap (λ (t : List ℕ). scalar_text a_text k ++ 61 ∷ t) value.0 ∙ sym (append_assoc (scalar_text a_text k) (61 ∷ value_text v) b.0.1),
-        ((k, v), refl, true_both (scalar_fits a_text k) (value_fits l v) key.1 value.1, refl, g.0),
+        ((k, v), refl, and_from (scalar_fits a_text k) (value_fits l v) key.1 value.1, refl, g.0),
       )
 
   pairs_run : (ts : List (List ℕ)) (s e : List (List ℕ × Data)) → is_sorted key_cmp s ≡ true → Runs PairStep s ts e → (ps : Pairs) × (ts ≡ pair_texts ps) × (pairs_fit l ps ≡ true) × (e ≡ s ++ pairs_list ps) × (is_sorted key_cmp e ≡ true)
@@ -237,7 +235,7 @@ module _ (l : ℕ) (found : Found l) where
       let more = pairs_run ts r.0 e r.1.4 r.2 in (
         pair p.0 p.1 more.0,
         ap (λ (y : List ℕ). y ∷ ts) r.1.1 ∙ ap (λ (y : List (List ℕ)). (scalar_text a_text p.0 ++ 61 ∷ value_text p.1) ∷ y) more.1,
-        true_both (scalar_fits a_text p.0 && value_fits l p.1) (pairs_fit l more.0) r.1.2 more.2,
+        and_from (scalar_fits a_text p.0 && value_fits l p.1) (pairs_fit l more.0) r.1.2 more.2,
         more.3 ∙ ap (λ (y : List (List ℕ × Data)). y ++ pairs_list more.0) r.1.3 ∙ append_assoc s (p ∷ []) (pairs_list more.0),
         more.4,
       )
@@ -249,7 +247,7 @@ module _ (l : ℕ) (found : Found l) where
       let run = pairs_run f.0 [] x.0 refl f.2 in
       let same : pairs_of x.0 ≡ run.0 = ap pairs_of run.3 ∙ pairs_back run.0 in (
         mark_found 123 text a.0 a.1 ∙ ap (λ (t : List ℕ). 123 ∷ t) (f.1 ∙ ap (λ (ts : List (List ℕ)). join_with_byte 44 ts ++ 125 ∷ x.1) (run.1 ∙ ap pair_texts (sym same))) ∙ sym (bracketed_on 123 125 (pair_texts (pairs_of x.0)) x.1),
-        fits_table l (pairs_of x.0) ∙ true_both (pairs_fit l (pairs_of x.0)) (is_sorted key_cmp (pairs_list (pairs_of x.0))) (ap (pairs_fit l) same ∙ run.2) (ap (is_sorted key_cmp) (pairs_list-pairs_of x.0) ∙ run.4),
+        fits_table l (pairs_of x.0) ∙ and_from (pairs_fit l (pairs_of x.0)) (is_sorted key_cmp (pairs_list (pairs_of x.0))) (ap (pairs_fit l) same ∙ run.2) (ap (is_sorted key_cmp) (pairs_list-pairs_of x.0) ∙ run.4),
       )
 
 leaf_case : (l : ℕ) (k : Letter) (rest : List ℕ) (x : Data × List ℕ) → leaf_at k rest ≡ Some x → (letter_byte k ∷ rest ≡ value_text x.0 ++ x.1) × (value_fits l x.0 ≡ true)

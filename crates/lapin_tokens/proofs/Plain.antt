@@ -3,9 +3,8 @@ use Rattle.std.proofs.Common.{◌≡◌, ℕ, zero, suc, ◌<◌, ◌≤◌, ◌
 use Rattle.std.specs.Prelude.{nat_lt, ◌&&◌}
 use Rattle.std.specs.List.{slice_split, join_with_byte}
 use Rattle.std.proofs.lemmas.List.Splits.{slice_split_none, slice_split_at}
-use Rattle.std.proofs.lemmas.Bool.{ne_eqb, ltb-true, cases_lt}
+use Rattle.std.proofs.lemmas.Bool.{ne_eqb, ltb-true, cases_lt, and_parts, and_from}
 use Rattle.std.proofs.lemmas.List.{length-append, get_or_append_left, get_or-append_right}
-use Rattle.lapin_scalars.proofs.ScalarLaws.{both_true, true_both}
 
 abbrev pub no_space : List ℕ → Bool
 no_space [] = true
@@ -17,7 +16,7 @@ AllPlain (t ∷ ts) = (no_space t ≡ true) × AllPlain ts
 
 pub no_space_append : (xs ys : List ℕ) → no_space xs ≡ true → no_space ys ≡ true → no_space (xs ++ ys) ≡ true
 no_space_append [] ys e f = f
-no_space_append (b ∷ bs) ys e f = let p = both_true (ltb 32 b) (no_space bs) e in true_both (ltb 32 b) (no_space (bs ++ ys)) p.0 (no_space_append bs ys p.1 f)
+no_space_append (b ∷ bs) ys e f = let p = and_parts (ltb 32 b) (no_space bs) e in and_from (ltb 32 b) (no_space (bs ++ ys)) p.0 (no_space_append bs ys p.1 f)
 
 above : (b c : ℕ) → ltb 32 b ≡ true → c ≤ 32 → eqb b c ≡ false
 above b c e le = let h = ltb-true _ _ e in ne_eqb b c (λ z. omega (arith, h, z))
@@ -25,8 +24,8 @@ above b c e le = let h = ltb-true _ _ e in ne_eqb b c (λ z. omega (arith, h, z)
 -- at each place
 pub plain_at : (c : ℕ) → c ≤ 32 → (xs : List ℕ) → no_space xs ≡ true → (i d : ℕ) → i < length xs → eqb (get_or xs i d) c ≡ false
 plain_at c le [] e i d lt = absurd (omega arith)
-plain_at c le (b ∷ bs) e zero d lt = above b c (both_true (ltb 32 b) (no_space bs) e).0 le
-plain_at c le (b ∷ bs) e (suc i) d lt = plain_at c le bs (both_true (ltb 32 b) (no_space bs) e).1 i d (omega arith)
+plain_at c le (b ∷ bs) e zero d lt = above b c (and_parts (ltb 32 b) (no_space bs) e).0 le
+plain_at c le (b ∷ bs) e (suc i) d lt = plain_at c le bs (and_parts (ltb 32 b) (no_space bs) e).1 i d (omega arith)
 
 -- ---- a line as its pieces
 

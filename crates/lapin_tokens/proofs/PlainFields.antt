@@ -3,14 +3,13 @@ use Rattle.std.proofs.Common.{◌≡◌, ℕ, zero, suc, ◌^◌, List, [], ◌�
 use Rattle.std.specs.Prelude.{◌&&◌}
 use Rattle.std.specs.List.{join_with_byte}
 use Rattle.std.specs.FinMap.Entries.{is_sorted}
-use Rattle.std.proofs.lemmas.Bool.{ltb-true, lt-ltb}
+use Rattle.std.proofs.lemmas.Bool.{ltb-true, lt-ltb, and_parts, and_from, or_cases}
 use Rattle.lapin_values.specs.Data.{Leaf, boolean, short_short_int, short_short_uint, short_int, short_uint, long_int, long_uint, long_long_int, timestamp, long_string, byte_array, void, Data, leaf, array, table, Items, no_items, item, Pairs, no_pairs, pair, pairs_of}
 use Rattle.lapin_values.specs.Properties.{Properties}
 use Rattle.lapin_values.specs.Table.{key_cmp}
 use Rattle.lapin_values.specs.ValueOf.{pairs_list}
 use Rattle.lapin_scalars.specs.Scalars.{Scalar, ScalarValue, scalar_text, scalar_fits, is_plain, all_plain}
 use Rattle.lapin_scalars.specs.Scalars.Scalar.{text as a_text, bytes as some_bytes, pairs as some_pairs, flag as a_flag, number as a_number, signed as a_signed}
-use Rattle.lapin_scalars.proofs.ScalarLaws.{both_true, true_both}
 use Rattle.lapin_scalars.proofs.PlainLaws.{plain_scalar}
 use Rattle.lapin_tokens.specs.declared.names.Property.{Property}
 use Rattle.lapin_tokens.specs.declared.names.Property.TheVariants as property
@@ -19,24 +18,23 @@ use Rattle.lapin_tokens.specs.Values.{bracketed, leaf_text, leaf_fits, value_tex
 use Rattle.lapin_tokens.specs.Properties.{Kind, KindValue, short, headers, octet, moment, kind_text, kind_fits, name, kind, given, with_part, part_texts, part_fits, parts_fit}
 use Rattle.lapin_tokens.specs.Fields.{Field, Value, Values, token, tokens, fits, AllFit}
 use Rattle.lapin_tokens.specs.Fields.Field.{text, bytes, table, props, flag, number}
-use Rattle.lapin_tokens.proofs.Words.{or_cases}
 use Rattle.lapin_tokens.proofs.Plain.{no_space, AllPlain, no_space_append}
 
 plain_above : (b : ℕ) → is_plain b ≡ true → ltb 32 b ≡ true
 plain_above b e = elim (or_cases (ltb 44 b && ltb b 61) (ltb 96 b && ltb b 123) e) [
-  | inl low ↦ let lo = ltb-true _ _ (both_true (ltb 44 b) (ltb b 61) low).0 in lt-ltb _ _ (omega (arith, lo))
-  | inr high ↦ let lo = ltb-true _ _ (both_true (ltb 96 b) (ltb b 123) high).0 in lt-ltb _ _ (omega (arith, lo))
+  | inl low ↦ let lo = ltb-true _ _ (and_parts (ltb 44 b) (ltb b 61) low).0 in lt-ltb _ _ (omega (arith, lo))
+  | inr high ↦ let lo = ltb-true _ _ (and_parts (ltb 96 b) (ltb b 123) high).0 in lt-ltb _ _ (omega (arith, lo))
 ]
 
 plain_no_space : (bs : List ℕ) → all_plain bs ≡ true → no_space bs ≡ true
 plain_no_space [] e = refl
-plain_no_space (b ∷ bs) e = let p = both_true (is_plain b) (all_plain bs) e in true_both (ltb 32 b) (no_space bs) (plain_above b p.0) (plain_no_space bs p.1)
+plain_no_space (b ∷ bs) e = let p = and_parts (is_plain b) (all_plain bs) e in and_from (ltb 32 b) (no_space bs) (plain_above b p.0) (plain_no_space bs p.1)
 
 scalar_no_space : (k : Scalar) (v : ScalarValue k) → scalar_fits k v ≡ true → no_space (scalar_text k v) ≡ true
 scalar_no_space k v fit = plain_no_space (scalar_text k v) (plain_scalar k v fit)
 
 behind : (b : ℕ) (bs : List ℕ) → ltb 32 b ≡ true → no_space bs ≡ true → no_space (b ∷ bs) ≡ true
-behind b bs e f = true_both (ltb 32 b) (no_space bs) e f
+behind b bs e f = and_from (ltb 32 b) (no_space bs) e f
 
 join_no_space : (ts : List (List ℕ)) → AllPlain ts → no_space (join_with_byte 44 ts) ≡ true
 join_no_space [] h = refl
@@ -72,22 +70,22 @@ mutual
   value_no_space zero (array is) e = absurd cc
   value_no_space (suc l) (array is) e = behind 65 (bracketed 91 93 (item_texts is)) refl (bracketed_no_space 91 93 (item_texts is) refl refl (items_plain l is e))
   value_no_space zero (table ps) e = absurd cc
-  value_no_space (suc l) (table ps) e = behind 70 (bracketed 123 125 (pair_texts ps)) refl (bracketed_no_space 123 125 (pair_texts ps) refl refl (pairs_plain l ps (both_true (pairs_fit l ps) (is_sorted key_cmp (pairs_list ps)) e).0))
+  value_no_space (suc l) (table ps) e = behind 70 (bracketed 123 125 (pair_texts ps)) refl (bracketed_no_space 123 125 (pair_texts ps) refl refl (pairs_plain l ps (and_parts (pairs_fit l ps) (is_sorted key_cmp (pairs_list ps)) e).0))
 
   items_plain : (l : ℕ) (is : Items) → items_fit l is ≡ true → AllPlain (item_texts is)
   items_plain l no_items e = tt
-  items_plain l (item v is) e = let p = both_true (value_fits l v) (items_fit l is) e in (value_no_space l v p.0, items_plain l is p.1)
+  items_plain l (item v is) e = let p = and_parts (value_fits l v) (items_fit l is) e in (value_no_space l v p.0, items_plain l is p.1)
 
   pairs_plain : (l : ℕ) (ps : Pairs) → pairs_fit l ps ≡ true → AllPlain (pair_texts ps)
   pairs_plain l no_pairs e = tt
   pairs_plain l (pair k v ps) e =
-      let p = both_true (scalar_fits a_text k && value_fits l v) (pairs_fit l ps) e in
-      let q = both_true (scalar_fits a_text k) (value_fits l v) p.0 in
+      let p = and_parts (scalar_fits a_text k && value_fits l v) (pairs_fit l ps) e in
+      let q = and_parts (scalar_fits a_text k) (value_fits l v) p.0 in
       (no_space_append (scalar_text a_text k) (61 ∷ value_text v) (scalar_no_space a_text k q.0) (behind 61 (value_text v) refl (value_no_space l v q.1)), pairs_plain l ps p.1)
 
 table_no_space : (ps : List (List ℕ × Data)) → value_fits 8 (table (pairs_of ps)) ≡ true → no_space (bracketed 123 125 (pair_texts (pairs_of ps))) ≡ true
 unfolding value_text item_texts pair_texts value_fits items_fit pairs_fit
-table_no_space ps e = bracketed_no_space 123 125 (pair_texts (pairs_of ps)) refl refl (pairs_plain 7 (pairs_of ps) (both_true (pairs_fit 7 (pairs_of ps)) (is_sorted key_cmp (pairs_list (pairs_of ps))) e).0)
+table_no_space ps e = bracketed_no_space 123 125 (pair_texts (pairs_of ps)) refl refl (pairs_plain 7 (pairs_of ps) (and_parts (pairs_fit 7 (pairs_of ps)) (is_sorted key_cmp (pairs_list (pairs_of ps))) e).0)
 
 -- ---- properties
 
@@ -119,7 +117,7 @@ part_plain p (Some x) ts e h = (no_space_append (name p) (61 ∷ kind_text (kind
 
 parts_plain : (ps : List Property) (v : Properties) → parts_fit ps v ≡ true → AllPlain (part_texts ps v)
 parts_plain [] v e = tt
-parts_plain (p ∷ ps) v e = let b = both_true (part_fits p (given p v)) (parts_fit ps v) e in part_plain p (given p v) (part_texts ps v) b.0 (parts_plain ps v b.1)
+parts_plain (p ∷ ps) v e = let b = and_parts (part_fits p (given p v)) (parts_fit ps v) e in part_plain p (given p v) (part_texts ps v) b.0 (parts_plain ps v b.1)
 
 -- ---- fields
 

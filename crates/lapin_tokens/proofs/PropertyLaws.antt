@@ -5,7 +5,7 @@ use Rattle.std.specs.List.{join_with_byte}
 use Rattle.lapin_values.specs.Properties.{Properties, no_properties}
 use Rattle.lapin_scalars.specs.Scalars.Scalar.{text as a_text, number as a_number}
 use Rattle.lapin_scalars.specs.Reading.{scalar_of}
-use Rattle.lapin_scalars.proofs.ScalarLaws.{both_true, true_both, scalar_found}
+use Rattle.lapin_scalars.proofs.ScalarLaws.{scalar_found}
 use Rattle.lapin_tokens.specs.declared.names.Property.{Property}
 use Rattle.lapin_tokens.specs.declared.names.Property.TheVariants as property
 use Rattle.lapin_tokens.specs.declared.names.TheConstants.{PROPERTIES}
@@ -18,6 +18,7 @@ use Rattle.lapin_tokens.proofs.MemberLaws.{bind_some, some_is, same_mark, mark_f
 use Rattle.lapin_tokens.proofs.ValueLaws.{word_again, rest_again}
 use Rattle.lapin_tokens.proofs.NestedLaws.{table_again, table_found}
 use Rattle.lapin_tokens.proofs.Prefixes.{text_again, text_found}
+use Rattle.std.proofs.lemmas.Bool.{and_parts, and_from}
 
 -- ---- one value
 
@@ -247,7 +248,7 @@ not_then p q (Some x) first more e h =
 not_given : (p : Property) (ps : List Property) (xs : PartValues ps) (first : Bool) (rest : List ℕ) → apart_from p ps ≡ true → after_text (mark first ∷ head p) (tail_text ps xs first rest) ≡ None
 not_given p [] xs first rest e = not_at_end p first rest
 not_given p (q ∷ qs) xs first rest e =
-    let b = both_true (apart (head p) (head q)) (apart_from p qs) e in
+    let b = and_parts (apart (head p) (head q)) (apart_from p qs) e in
     not_then p q xs.0 first (λ f. tail_text qs xs.1 f rest) b.0 (not_given p qs xs.1 first rest b.1)
 
 -- ---- what was written is read
@@ -281,8 +282,8 @@ parts_again : (ps : List Property) (xs : PartValues ps) (v : Properties) (first 
     → parts_at ps v first (tail_text ps xs first rest) ≡ Some (put_all ps xs v, last_first ps xs first, ended (last_first ps xs first) rest)
 parts_again [] xs v first rest a fit = refl
 parts_again (p ∷ ps) xs v first rest a fit =
-    let aparts = both_true (apart_from p ps) (all_apart ps) a in
-    let fits = both_true (part_fits p xs.0) (all_fit ps xs.1) fit in
+    let aparts = and_parts (apart_from p ps) (all_apart ps) a in
+    let fits = and_parts (part_fits p xs.0) (all_fit ps xs.1) fit in
     rw (part_again p xs.0 v first (λ f. tail_text ps xs.1 f rest) fits.0 (not_given p ps xs.1 first rest aparts.0) (tail_begins ps xs.1 rest))
     (parts_again ps xs.1 (put_maybe p xs.0 v) (stays xs.0 first) rest aparts.1 fits.1)
 
@@ -338,7 +339,7 @@ parts_found (p ∷ ps) v first text y rest e close =
     let more = parts_found ps a.0.0 a.0.1 a.0.2 y rest a.2 close in (
       (f.0, more.0),
       more.1 ∙ ap (put_all ps more.0) f.1,
-      true_both (part_fits p f.0) (all_fit ps more.0) f.2 more.2,
+      and_from (part_fits p f.0) (all_fit ps more.0) f.2 more.2,
       f.4 ∙ then_same p f.0 first a.0.1 a.0.2 (λ g. tail_text ps more.0 g rest) f.3 more.3,
     )
 

@@ -3,11 +3,10 @@ use Rattle.std.proofs.Common.{◌≡◌, ◌≢◌, ◌∙◌, ℕ, zero, suc, �
 use Rattle.std.specs.Prelude.{decimal, ◌&&◌, position}
 use Rattle.std.specs.List.{slice_split}
 use Rattle.std.specs.Str.Parse.{digits_value, AllDigits}
-use Rattle.std.proofs.lemmas.Bool.{lt-ltb}
+use Rattle.std.proofs.lemmas.Bool.{lt-ltb, and_parts, and_from, not-true}
 use Rattle.std.proofs.lemmas.List.{get_or-take, take_all}
 use Rattle.std.proofs.Math.Nat.{pow-le-pow_right, pow-suc}
 use Rattle.lapin_scalars.proofs.NumberLaws.{num_found, wide_past}
-use Rattle.lapin_scalars.proofs.ScalarLaws.{both_true, true_both}
 use Rattle.lapin_tokens.specs.Fields.{token}
 use Rattle.lapin_tokens.specs.Fields.Field.{flag, number}
 use Rattle.lapin_tokens.specs.Reading.{field_at, value_of, has_no_space}
@@ -22,7 +21,7 @@ flag_said b rest = field_again flag b rest refl
 
 pub number_said : (limit n : ℕ) (rest : List (List ℕ)) → n < limit → n < 2 ^ 64 → field_at (number limit) (decimal n ∷ rest) ≡ Some (n, rest)
 number_said limit n rest below small =
-    let fit : (ltb n limit && ltb n (2 ^ 64)) ≡ true = true_both (ltb n limit) (ltb n (2 ^ 64)) (lt-ltb _ _ below) (lt-ltb _ _ small) in
+    let fit : (ltb n limit && ltb n (2 ^ 64)) ≡ true = and_from (ltb n limit) (ltb n (2 ^ 64)) (lt-ltb _ _ below) (lt-ltb _ _ small) in
     field_again (number limit) n rest fit
 
 pub number_past : (limit n : ℕ) (rest : List (List ℕ)) → limit ≤ n → n < 2 ^ 64 → field_at (number limit) (decimal n ∷ rest) ≡ None
@@ -76,12 +75,8 @@ first_piece line place within before space = split_some line place (sym (first_h
 
 no_space_at : (word : List ℕ) (k : ℕ) → has_no_space word ≡ true → k < length word → eqb (get_or word k 0) 32 ≡ false
 no_space_at [] k none lt = absurd (omega arith)
-no_space_at (b ∷ bs) zero none lt = let both = both_true (not (eqb b 32)) (has_no_space bs) none in not_true (eqb b 32) both.0
-  where
-    not_true : (t : Bool) → not t ≡ true → t ≡ false
-    not_true true e = absurd cc
-    not_true false e = refl
-no_space_at (b ∷ bs) (suc k) none lt = let both = both_true (not (eqb b 32)) (has_no_space bs) none in no_space_at bs k both.1 (omega arith)
+no_space_at (b ∷ bs) zero none lt = let both = and_parts (not (eqb b 32)) (has_no_space bs) none in not-true (eqb b 32) both.0
+no_space_at (b ∷ bs) (suc k) none lt = let both = and_parts (not (eqb b 32)) (has_no_space bs) none in no_space_at bs k both.1 (omega arith)
 
 -- a word with a space behind it is the first piece
 pub word_piece : (line word : List ℕ) → length word < length line → take (length word) line ≡ word → get_or line (length word) 0 ≡ 32 → has_no_space word ≡ true → slice_split (λ b. eqb b 32) line ≡ word ∷ slice_split (λ b. eqb b 32) (drop (length word + 1) line)

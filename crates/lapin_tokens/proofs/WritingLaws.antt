@@ -3,7 +3,7 @@ use Rattle.std.proofs.Common.{◌≡◌, ℕ, zero, suc, ◌+◌, ◌≤◌, ◌
 use Rattle.std.specs.Prelude.{slice_get}
 use Rattle.std.specs.List.{join_with_byte}
 use Rattle.std.proofs.Common.{drop, get_or, add-one, drop-cons}
-use Rattle.std.proofs.lemmas.Bool.{ne_eqb}
+use Rattle.std.proofs.lemmas.Bool.{ne_eqb, and_parts}
 use Rattle.std.proofs.lemmas.List.{append-nil, take_all}
 use Rattle.lapin_values.specs.Data.{Leaf, boolean, short_short_int, short_short_uint, short_int, short_uint, long_int, long_uint, long_long_int, timestamp, long_string, byte_array, void, Data, leaf, array, table, items_of, pairs_of}
 use Rattle.lapin_values.specs.Properties.{Properties}
@@ -16,7 +16,6 @@ use Rattle.lapin_tokens.specs.Values.{bracketed, leaf_text, value_text, item_tex
 use Rattle.lapin_tokens.specs.Properties.{KindValue, kind, given, part_text, with_part, part_texts, properties_text}
 use Rattle.lapin_tokens.specs.Writing.{leaf_part, comma, member_text, members_text, pair_text, marked, stays, parts_text, is_missing, all_missing}
 use Rattle.lapin_tokens.proofs.PropertyLaws.{commas, opened, bracketed_is}
-use Rattle.lapin_scalars.proofs.ScalarLaws.{both_true}
 
 -- ---- members
 
@@ -170,7 +169,7 @@ passed_over p (Some y) ts e = absurd cc
 no_parts : (ps : List Property) (v : Properties) → all_missing ps v ≡ true → part_texts ps v ≡ []
 no_parts [] v e = refl
 no_parts (p ∷ ps) v e =
-    let both = both_true (is_missing (given p v)) (all_missing ps v) e in
+    let both = and_parts (is_missing (given p v)) (all_missing ps v) e in
     passed_over p (given p v) (part_texts ps v) both.0 ∙ no_parts ps v both.1
 
 pub bare_text : (v : Properties) → all_missing PROPERTIES v ≡ true → properties_text v ≡ 91 ∷ 93 ∷ []

@@ -1,5 +1,5 @@
 -- A key's place in a table, found by halving, and what stands there.
-use Rattle.std.proofs.Common.{ℕ, zero, suc, ◌<◌, ◌≤◌, ◌≡◌, Bool, true, false, List, [], ◌∷◌, map, length, get_or, refl, sym, ap, subst, ◌∙◌, arith, Some, None, cond}
+use Rattle.std.proofs.Common.{ℕ, zero, suc, ◌<◌, ◌≤◌, ◌≡◌, Bool, true, false, List, [], ◌∷◌, map, length, get_or, refl, sym, ap, subst, ◌∙◌, arith, Some, None}
 use Rattle.std.specs.Prelude.{nat_eq, ◌&&◌}
 use Rattle.std.specs.Cmp.Lexicographic.{pointwise, nat_list_cmp_total}
 use Rattle.std.specs.Ordering.{is_lt, ordering_reverse}
@@ -10,28 +10,20 @@ use Rattle.lapin_values.specs.DataOf.{to_pair}
 use Rattle.lapin_values.specs.declared.value.AMQPValue.{AMQPValue}
 use Rattle.lapin_values.specs.Table.{key_cmp, IsRising, lookup, keys_below}
 use Rattle.lapin_values.proofs.TableLemmas.{key_ties, key_ties_back}
-
-both_true : (p q : Bool) → p && q ≡ true → (p ≡ true) × (q ≡ true)
-both_true true true e = (refl, refl)
-both_true true false e = cc
-both_true false q e = cc
-
-both : (p q : Bool) → p ≡ true → q ≡ true → p && q ≡ true
-both true q e f = f
-both false q e f = e
+use Rattle.std.proofs.lemmas.Bool.{and_parts, and_from, cond-true, cond-false}
 
 missing : (b : Bool) → b ≡ true → b ≡ false → ⊥
 missing b p q = cc
 
-is_less : (o : Ordering) → is_lt o ≡ true → o ≡ Less
+pub is_less : (o : Ordering) → is_lt o ≡ true → o ≡ Less
 is_less Less e = refl
 is_less Equal e = cc
 is_less Greater e = cc
 
 after : {V : Type 0} (k : List ℕ) (es : List (List ℕ × V)) (n : ℕ) (d : List ℕ × V) → entries.below_all key_cmp k es ≡ true → n < length es → key_cmp k (get_or es n d).0 ≡ Less
 after k [] n d h p = absurd (omega arith)
-after k (e ∷ es) zero d h p = is_less _ (both_true _ _ h).0
-after k (e ∷ es) (suc n) d h p = after k es n d (both_true _ _ h).1 (omega arith)
+after k (e ∷ es) zero d h p = is_less _ (and_parts _ _ h).0
+after k (e ∷ es) (suc n) d h p = after k es n d (and_parts _ _ h).1 (omega arith)
 
 turned : (k l : List ℕ) → key_cmp l k ≡ Less → key_cmp k l ≡ Greater
 turned k l e = nat_list_cmp_total.antisymm k l ∙ ap ordering_reverse e
@@ -41,7 +33,7 @@ pub place_after : {V : Type 0} (k : List ℕ) (es : List (List ℕ × V)) (n : �
 place_after k [] n d h p e = absurd (omega arith)
 place_after k (x ∷ es) zero d h p e = subst (λ o. 0 < entries.by_order o 0 0 (suc (keys_below k es))) (sym (turned k x.0 e)) (omega arith)
 place_after k (x ∷ es) (suc n) d h p e =
-    let rest = both_true _ _ h in
+    let rest = and_parts _ _ h in
     let first : key_cmp x.0 k ≡ Less = nat_list_cmp_total.trans x.0 (get_or es n d).0 k (after x.0 es n d rest.0 (omega arith)) e in
     subst (λ o. suc n < entries.by_order o 0 0 (suc (keys_below k es))) (sym (turned k x.0 first)) (omega (arith, place_after k es n d rest.1 (omega arith) e))
 
@@ -79,23 +71,15 @@ differs : (k l : List ℕ) → (key_cmp k l ≡ Equal → ⊥) → pointwise nat
 differs k l h =
     elim (pointwise nat_eq l k) as (λ b. pointwise nat_eq l k ≡ b → b ≡ false) [ true ↦ λ t. absurd (h (key_ties k l t)) | false ↦ λ t. refl ] refl
 
-chosen : {A : Type 0} (b : Bool) (x y : A) → b ≡ true → cond b x y ≡ x
-chosen true x y e = refl
-chosen false x y e = cc
-
-passed : {A : Type 0} (b : Bool) (x y : A) → b ≡ false → cond b x y ≡ y
-passed true x y e = cc
-passed false x y e = refl
-
 at_place : {V : Type 0} (k : List ℕ) (es : List (List ℕ × V)) (d : List ℕ × V) → keys_below k es < length es → true ≡ pointwise nat_eq (get_or es (keys_below k es) d).0 k
     → Some (get_or es (keys_below k es) d).1 ≡ lookup k es
 at_place k [] d p e = absurd (omega arith)
 at_place {V = V} k (x ∷ es) d p e =
     elim (key_cmp k x.0) as (λ o. let n : ℕ = entries.by_order o 0 0 (suc (keys_below k es)) in key_cmp k x.0 ≡ o → n < suc (length es) → true ≡ pointwise nat_eq (get_or (x ∷ es) n d).0 k
     → Some (get_or (x ∷ es) n d).1 ≡ lookup k (x ∷ es)) [
-      | Less ↦ λ g q f. sym (chosen _ _ _ (sym f))
-      | Equal ↦ λ g q f. sym (chosen _ _ _ (sym f))
-      | Greater ↦ λ g q f. at_place k es d (omega arith) f ∙ sym (passed _ _ _ (differs k x.0 (λ h. greater_equal (sym g ∙ h))))
+      | Less ↦ λ g q f. sym (cond-true _ _ _ (sym f))
+      | Equal ↦ λ g q f. sym (cond-true _ _ _ (sym f))
+      | Greater ↦ λ g q f. at_place k es d (omega arith) f ∙ sym (cond-false _ _ _ (differs k x.0 (λ h. greater_equal (sym g ∙ h))))
     ] refl p e
 
 -- the pair at a key's place, where it has that key, is the one that a look-up finds
@@ -105,18 +89,18 @@ lookup_at k es n d at = subst (λ n. n < length es → true ≡ pointwise nat_eq
 none_above : {V : Type 0} (k l : List ℕ) (es : List (List ℕ × V)) → key_cmp k l ≡ Less → entries.below_all key_cmp l es ≡ true → lookup k es ≡ None
 none_above k l [] g h = refl
 none_above k l (e ∷ es) g h =
-    let rest = both_true _ _ h in
+    let rest = and_parts _ _ h in
     let below : key_cmp k e.0 ≡ Less = nat_list_cmp_total.trans k l e.0 g (is_less _ rest.0) in
-    passed _ _ _ (differs k e.0 (λ t. less_equal (sym below ∙ t))) ∙ none_above k l es g rest.1
+    cond-false _ _ _ (differs k e.0 (λ t. less_equal (sym below ∙ t))) ∙ none_above k l es g rest.1
 
 no_place : {V : Type 0} (k : List ℕ) (es : List (List ℕ × V)) → IsRising es → ((d : List ℕ × V) → keys_below k es < length es → false ≡ pointwise nat_eq (get_or es (keys_below k es) d).0 k) → lookup k es ≡ None
 no_place k [] h e = refl
 no_place {V = V} k (x ∷ es) h e =
-    let rest = both_true _ _ h in
+    let rest = and_parts _ _ h in
     elim (key_cmp k x.0) as (λ o. let n : ℕ = entries.by_order o 0 0 (suc (keys_below k es)) in key_cmp k x.0 ≡ o → ((d : List ℕ × V) → n < suc (length es) → false ≡ pointwise nat_eq (get_or (x ∷ es) n d).0 k) → lookup k (x ∷ es) ≡ None) [
-      | Less ↦ λ g f. passed _ _ _ (sym (f x (omega arith))) ∙ none_above k x.0 es g rest.0
+      | Less ↦ λ g f. cond-false _ _ _ (sym (f x (omega arith))) ∙ none_above k x.0 es g rest.0
       | Equal ↦ λ g f. absurd (missing _ (key_ties_back k x.0 g) (sym (f x (omega arith))))
-      | Greater ↦ λ g f. passed _ _ _ (differs k x.0 (λ t. greater_equal (sym g ∙ t))) ∙ no_place k es rest.1 (λ d p. f d (omega arith))
+      | Greater ↦ λ g f. cond-false _ _ _ (differs k x.0 (λ t. greater_equal (sym g ∙ t))) ∙ no_place k es rest.1 (λ d p. f d (omega arith))
     ] refl e
 
 -- where no pair at a key's place has that key, a look-up finds none
@@ -130,4 +114,4 @@ below_mapped k (e ∷ es) = ap (λ b. is_lt (key_cmp k e.0) && b) (below_mapped 
 -- the keys rise alike in the pairs of plain data
 pub rising_mapped : (es : List (List ℕ × AMQPValue)) → IsRising es → IsRising (map to_pair es)
 rising_mapped [] h = refl
-rising_mapped (e ∷ es) h = let rest = both_true _ _ h in both _ _ (below_mapped e.0 es ∙ rest.0) (rising_mapped es rest.1)
+rising_mapped (e ∷ es) h = let rest = and_parts _ _ h in and_from _ _ (below_mapped e.0 es ∙ rest.0) (rising_mapped es rest.1)

@@ -70,7 +70,7 @@ from_T false t = absurd t
 pub put_rising : {V : Type 0} (k : List ℕ) (v : V) (es : List (List ℕ × V)) → IsRising es → IsRising (put k v es)
 put_rising k v es h = from_T _ (entries.is_sorted-put key_cmp nat_list_cmp_total k v es (to_T _ h))
 
-tied : (o : Ordering) → is_eq o ≡ true → o ≡ Equal
+pub tied : (o : Ordering) → is_eq o ≡ true → o ≡ Equal
 tied Less e = cc
 tied Equal e = refl
 tied Greater e = cc

@@ -3,6 +3,7 @@ use Rattle.std.proofs.Common.{ℕ, zero, suc, ◌<◌, arith, ◌≡◌, Bool, t
 use Rattle.std.specs.Prelude.{if◌then◌else◌}
 use Rattle.lapin_values.specs.Data.{Data}
 use Rattle.lapin_values.specs.Texts.{text_of, without, seen}
+use Rattle.lapin_values.specs.Chain.{Chain}
 
 falls : (b : Bool) (x y : Option (List ℕ)) → b ≡ false → (if b then x else y) ≡ y
 falls true x y e = cc
@@ -26,8 +27,8 @@ pub put_over : (k n : ℕ) (v : List ℕ) (ts : List (ℕ × List ℕ)) → text
 put_over k n v ts = chosen (n == k) (Some v) (text_of n (without k ts)) (text_of n ts) (others k n ts)
 
 -- equal properties have equal texts
-module _ (s t : List (ℕ × List ℕ)) (a : Bool) (x : List (List ℕ × Data)) (m p : Option ℕ) (b : Bool) (u : ℕ) (a' : Bool) (x' : List (List ℕ × Data)) (m' p' : Option ℕ) (b' : Bool) (u' : ℕ) (e : seen s a x m p b u ≡ seen t a' x' m' p' b' u') where
-  pub same_slots : (n : ℕ) → n < 10 → text_of n s ≡ text_of n t
+module _ (s t : Chain) (x y : List (List ℕ × Data)) (e : seen s x ≡ seen t y) where
+  pub same_slots : (n : ℕ) → n < 10 → text_of n s.texts ≡ text_of n t.texts
   same_slots zero l = ap (λ q. q.content_type) e
   same_slots (suc zero) l = ap (λ q. q.content_encoding) e
   same_slots (suc (suc zero)) l = ap (λ q. q.correlation_id) e

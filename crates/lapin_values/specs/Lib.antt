@@ -7,5 +7,6 @@ pub mod Falls
 pub mod ValueOf
 pub mod Properties
 pub mod Chain
+pub mod Chained
 pub mod Stored
 pub mod Texts

@@ -1,7 +1,8 @@
 -- The texts of properties, as pairs of a property's number and its text.
-use Rattle.std.specs.Prelude.{Bool, Some, ℕ, ◌==◌, List, [], ◌∷◌, Option, None, if◌then◌else◌}
+use Rattle.std.specs.Prelude.{Some, ℕ, ◌==◌, List, [], ◌∷◌, Option, None, if◌then◌else◌}
 use Rattle.lapin_values.specs.Data.{Data}
 use Rattle.lapin_values.specs.Properties.{Properties}
+use Rattle.lapin_values.specs.Chain.{Chain}
 
 -- the text of property k, where it is set
 abbrev pub text_of : ℕ → List (ℕ × List ℕ) → Option (List ℕ)
@@ -33,6 +34,6 @@ by_slots f headers mode priority time = record {
 }
 
 -- the properties as they are held
-abbrev pub seen : List (ℕ × List ℕ) → Bool → List (List ℕ × Data) → Option ℕ → Option ℕ → Bool → ℕ → Properties
-seen ts headed headers mode priority timed time =
-    by_slots (λ k. text_of k ts) (if headed then Some headers else None) mode priority (if timed then Some time else None)
+abbrev pub seen : Chain → List (List ℕ × Data) → Properties
+seen c headers =
+    by_slots (λ k. text_of k c.texts) (if c.marks.has_headers then Some headers else None) c.marks.delivery_mode c.marks.priority (if c.marks.has_timestamp then Some c.timestamp else None)

@@ -16,15 +16,11 @@ pub(crate) mod texts;
 /// The fourteen properties of a message, each set or not. They are opaque to the protocol: a broker hands
 /// them on as they were published. A contract sees them as the record `Properties`.
 ///
-/// It is handed on by value, so it is kept narrow: the texts that are set stand in a chain, behind one pointer.
+/// It is handed on by value, so it is kept narrow, four words: the texts that are set stand in a chain, behind one pointer, and the others
+/// but for the headers in room that the chain has anyway.
 pub struct BasicProperties {
     texts: Texts,
     headers: FieldTable,
-    timestamp: u64,
-    has_headers: bool,
-    has_timestamp: bool,
-    delivery_mode: Option<u8>,
-    priority: Option<u8>,
 }
 
 impl Drop for BasicProperties {
@@ -32,11 +28,6 @@ impl Drop for BasicProperties {
         let BasicProperties {
             texts: _,
             headers: _,
-            timestamp: _,
-            has_headers: _,
-            has_timestamp: _,
-            delivery_mode: _,
-            priority: _,
         } = self;
     }
 }
@@ -50,7 +41,7 @@ impl Model for BasicProperties {
 
     ghost use Rattle.lapin_values.specs.Texts.{seen};
 
-    ghost view = { λ p. seen p.texts p.has_headers p.headers p.delivery_mode p.priority p.has_timestamp p.timestamp };
+    ghost view = { λ p. seen p.texts p.headers };
 }
 
 impl Default for BasicProperties {
@@ -64,11 +55,6 @@ impl Default for BasicProperties {
         BasicProperties {
             texts: Texts::none(),
             headers: FieldTable::empty(),
-            timestamp: 0,
-            has_headers: false,
-            has_timestamp: false,
-            delivery_mode: None,
-            priority: None,
         }
     }
 }
@@ -94,15 +80,7 @@ impl BasicProperties {
     {
         let texts = self.texts.try_clone(alloc)?;
         let headers = self.headers.try_clone(alloc)?;
-        Ok(BasicProperties {
-            texts,
-            headers,
-            timestamp: self.timestamp,
-            has_headers: self.has_headers,
-            has_timestamp: self.has_timestamp,
-            delivery_mode: self.delivery_mode,
-            priority: self.priority,
-        })
+        Ok(BasicProperties { texts, headers })
     }
 
     /// Whether the same properties are set, to equal values.
@@ -117,8 +95,8 @@ impl BasicProperties {
         ensures { Decides result ((self.now.headers ≡ other.now.headers) × ((self.now.delivery_mode ≡ other.now.delivery_mode) × ((self.now.priority ≡ other.now.priority) × (self.now.timestamp ≡ other.now.timestamp)))) }
     {
         same_headers(self.headers(), other.headers())
-            && self.delivery_mode == other.delivery_mode
-            && self.priority == other.priority
+            && self.delivery_mode() == other.delivery_mode()
+            && self.priority() == other.priority()
             && self.timestamp() == other.timestamp()
     }
 }

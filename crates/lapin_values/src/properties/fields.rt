@@ -42,7 +42,7 @@ impl BasicProperties {
     pub fn headers(&self) -> Option<&FieldTable>
         ensures { option_map (λ value. value.now) result ≡ self.now.headers }
     {
-        if self.has_headers {
+        if self.texts.marks().has_headers {
             Some(&self.headers)
         } else {
             None
@@ -53,8 +53,10 @@ impl BasicProperties {
     pub fn with_headers(mut self, value: FieldTable) -> BasicProperties
         ensures { result ≡ record self { headers = Some value } }
     {
+        let mut marks = self.texts.marks();
+        marks.has_headers = true;
+        self.texts.put_marks(marks);
         self.headers = value;
-        self.has_headers = true;
         self
     }
 
@@ -62,14 +64,16 @@ impl BasicProperties {
     pub fn delivery_mode(&self) -> Option<u8>
         ensures { result ≡ self.now.delivery_mode }
     {
-        self.delivery_mode
+        self.texts.marks().delivery_mode
     }
 
     /// These properties with `delivery_mode` set to the value.
     pub fn with_delivery_mode(mut self, value: u8) -> BasicProperties
         ensures { result ≡ record self { delivery_mode = Some value } }
     {
-        self.delivery_mode = Some(value);
+        let mut marks = self.texts.marks();
+        marks.delivery_mode = Some(value);
+        self.texts.put_marks(marks);
         self
     }
 
@@ -77,14 +81,16 @@ impl BasicProperties {
     pub fn priority(&self) -> Option<u8>
         ensures { result ≡ self.now.priority }
     {
-        self.priority
+        self.texts.marks().priority
     }
 
     /// These properties with `priority` set to the value.
     pub fn with_priority(mut self, value: u8) -> BasicProperties
         ensures { result ≡ record self { priority = Some value } }
     {
-        self.priority = Some(value);
+        let mut marks = self.texts.marks();
+        marks.priority = Some(value);
+        self.texts.put_marks(marks);
         self
     }
 
@@ -152,8 +158,8 @@ impl BasicProperties {
     pub fn timestamp(&self) -> Option<u64>
         ensures { result ≡ self.now.timestamp }
     {
-        if self.has_timestamp {
-            Some(self.timestamp)
+        if self.texts.marks().has_timestamp {
+            Some(self.texts.timestamp())
         } else {
             None
         }
@@ -163,8 +169,10 @@ impl BasicProperties {
     pub fn with_timestamp(mut self, value: u64) -> BasicProperties
         ensures { result ≡ record self { timestamp = Some value } }
     {
-        self.timestamp = value;
-        self.has_timestamp = true;
+        let mut marks = self.texts.marks();
+        marks.has_timestamp = true;
+        self.texts.put_marks(marks);
+        self.texts.put_timestamp(value);
         self
     }
 

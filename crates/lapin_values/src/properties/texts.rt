@@ -1,9 +1,11 @@
 //! The texts among a message's properties: those that are set stand in a chain, each with the number of its property. A short string
-//! lies in a link of its own, so to chain one takes no memory. Of ten, most messages set none or few.
+//! lies in a link of its own, so to chain one takes no memory. Of ten, most messages set none or few. The small properties
+//! stand in room that a chain has anyway, the marks where it begins and the timestamp where it ends. Headers don't stand here.
 
 ghost use Rattle.std.specs.Prelude.{◌≡◌, ℕ, ◌<◌, ◌==◌, [], ◌∷◌, Some, IfOk, option_map, if◌then◌else◌};
 ghost use Rattle.std.specs.Bool.{Decides};
 ghost use Rattle.lapin_values.specs.Texts.{text_of, without};
+ghost use Rattle.lapin_values.specs.Chain.{no_marks, empty_chain};
 
 use crate::kept::Stored;
 use crate::memory::NoMemory;
@@ -50,28 +52,65 @@ pub(crate) struct Place {
     pub(crate) link: Box<Link>,
 }
 
-/// A chain of texts, each with the number of its property. A contract sees it as the list of these pairs.
+/// The properties that are a byte, and which of the others are set that are no texts.
+#[derive(Clone, Copy)]
+pub(crate) struct Marks {
+    pub(crate) has_headers: bool,
+    pub(crate) has_timestamp: bool,
+    pub(crate) delivery_mode: Option<u8>,
+    pub(crate) priority: Option<u8>,
+}
+
+/// What a chain begins with: a text or its end. The marks lie beside the tag, so that a chain is two words wide. Those of the whole are
+/// where it begins; further on they mean nothing.
+#[cycle(texts)]
+#[derive(Drop)]
+enum First {
+    /// The end, where nothing is set.
+    Nothing,
+    End { marks: Marks, timestamp: u64 },
+    Text { marks: Marks, place: Place },
+}
+
+/// A chain of texts, each with the number of its property, with the marks and the timestamp. A contract sees it as the record `Chain`.
 #[cycle(texts)]
 #[derive(Drop)]
 pub(crate) struct Texts {
-    first: Option<Place>,
+    first: First,
 }
 
 impl Model for Texts {
-    ghost use Rattle.std.specs.Prelude.{ℕ, List, length};
+    ghost use Rattle.std.specs.Prelude.{length};
     ghost use Rattle.std.proofs.Common.{arith, length-append};
+    ghost use Rattle.lapin_values.specs.Chain.{Chain, chain_code};
 
-    ghost Value = { List (ℕ × List ℕ) };
+    ghost Value = { Chain };
 
-    ghost use Rattle.lapin_values.specs.Chain.{chained, IsShort};
+    ghost coded = { chain_code };
+
+    ghost use Rattle.lapin_values.specs.Chained.{chained, IsShort};
 
     ghost view = { λ t. chained t.first };
 
     ghost invariant = { λ t. IsShort t.first };
 
-    ghost size = { length };
+    ghost size = { λ t. length t.texts };
 
     ghost size_decreases = { λ a h. Prim.grind (arith, length-append) };
+}
+
+impl Marks {
+    /// None is set.
+    fn none() -> Marks
+        ensures { result ≡ no_marks }
+    {
+        Marks {
+            has_headers: false,
+            has_timestamp: false,
+            delivery_mode: None,
+            priority: None,
+        }
+    }
 }
 
 impl Link {
@@ -88,36 +127,95 @@ impl Link {
 }
 
 impl Texts {
-    /// No text.
+    /// Nothing is set.
     pub(crate) fn none() -> Texts
-        ensures { result ≡ [] }
+        ensures { result ≡ empty_chain }
     {
-        Texts { first: None }
+        Texts {
+            first: First::Nothing,
+        }
     }
 
     /// The text of the property of that number, where it is set. Mostly none is, and then none is looked for.
     #[inline(always)]
     pub(crate) fn get(&self, property: u8) -> Option<&ShortString>
-        ensures { option_map (λ text. text.now) result ≡ text_of property self.now }
+        ensures { option_map (λ text. text.now) result ≡ text_of property self.now.texts }
     {
         match &self.first {
-            None => None,
-            Some(_) => self.find(property),
+            First::Nothing => None,
+            First::End { .. } => None,
+            First::Text { .. } => self.find(property),
         }
     }
 
     fn find(&self, property: u8) -> Option<&ShortString>
-        ensures { option_map (λ text. text.now) result ≡ text_of property self.now }
+        ensures { option_map (λ text. text.now) result ≡ text_of property self.now.texts }
     {
         match &self.first {
-            None => None,
-            Some(place) => {
+            First::Nothing => None,
+            First::End { .. } => None,
+            First::Text { place, .. } => {
                 if property == place.link.property {
                     Some(text::at(place))
                 } else {
                     place.link.next.find(property)
                 }
             }
+        }
+    }
+
+    /// The marks.
+    #[inline(always)]
+    pub(crate) fn marks(&self) -> Marks
+        ensures { result ≡ self.now.marks }
+    {
+        match &self.first {
+            First::Nothing => Marks::none(),
+            First::End { marks, .. } => *marks,
+            First::Text { marks, .. } => *marks,
+        }
+    }
+
+    /// Sets the marks.
+    pub(crate) fn put_marks(&mut self, given: Marks)
+        ensures { self.new ≡ record self.old { marks = given } }
+    {
+        match &mut self.first {
+            First::Nothing => {
+                self.first = First::End {
+                    marks: given,
+                    timestamp: 0,
+                }
+            }
+            First::End { marks, .. } => *marks = given,
+            First::Text { marks, .. } => *marks = given,
+        }
+    }
+
+    /// The timestamp, which means something where the marks say that it is set.
+    pub(crate) fn timestamp(&self) -> u64
+        ensures { result ≡ self.now.timestamp }
+    {
+        match &self.first {
+            First::Nothing => 0,
+            First::End { timestamp, .. } => *timestamp,
+            First::Text { place, .. } => place.link.next.timestamp(),
+        }
+    }
+
+    /// Sets the timestamp, and no mark.
+    pub(crate) fn put_timestamp(&mut self, given: u64)
+        ensures { self.new ≡ record self.old { timestamp = given } }
+    {
+        match &mut self.first {
+            First::Nothing => {
+                self.first = First::End {
+                    marks: Marks::none(),
+                    timestamp: given,
+                }
+            }
+            First::End { timestamp, .. } => *timestamp = given,
+            First::Text { place, .. } => place.link.next.put_timestamp(given),
         }
     }
 
@@ -130,8 +228,14 @@ impl Texts {
         ensures { IfOk result (λ copy. copy ≡ self.now) }
     {
         match &self.first {
-            None => Ok(Texts { first: None }),
-            Some(place) => {
+            First::Nothing => Ok(Texts::none()),
+            First::End { marks, timestamp } => Ok(Texts {
+                first: First::End {
+                    marks: *marks,
+                    timestamp: *timestamp,
+                },
+            }),
+            First::Text { marks, place } => {
                 let next = place.link.next.try_clone(alloc)?;
                 let text = place.link.text.try_clone(alloc)?;
                 let link = Link {
@@ -141,46 +245,60 @@ impl Texts {
                 };
                 let link = Box::new(alloc, link)?;
                 Ok(Texts {
-                    first: Some(Place { link }),
+                    first: First::Text {
+                        marks: *marks,
+                        place: Place { link },
+                    },
                 })
             }
         }
     }
 
-    /// These texts without that of the property of that number.
+    /// These texts without that of the property of that number. The marks are then no matter.
     fn without(self, property: u8) -> Texts
-        ensures { result ≡ without property self }
+        ensures texts { result.texts ≡ without property self.texts }
+        ensures timestamp { result.timestamp ≡ self.timestamp }
     {
         match self.first {
-            None => Texts { first: None },
-            Some(mut place) => {
+            First::Nothing => Texts::none(),
+            First::End { marks, timestamp } => Texts {
+                first: First::End { marks, timestamp },
+            },
+            First::Text { marks, mut place } => {
                 let next = mem::replace(&mut place.link.next, Texts::none()).without(property);
                 if property == place.link.property {
                     return next;
                 }
                 place.link.next = next;
-                Texts { first: Some(place) }
+                Texts {
+                    first: First::Text { marks, place },
+                }
             }
         }
     }
 
-    /// The text before these.
-    fn with(self, property: u8, text: ShortString) -> Texts
-        ensures { result ≡ (property, text) ∷ self }
+    /// The text before these, with these marks.
+    fn with(self, marks: Marks, property: u8, text: ShortString) -> Texts
+        ensures { result ≡ record self { texts = (property, text) ∷ self.texts; marks = marks } }
     {
         let mut place = text.into_place();
         place.link.property = property;
         place.link.next = self;
-        Texts { first: Some(place) }
+        Texts {
+            first: First::Text { marks, place },
+        }
     }
 }
 
 /// Sets the property of that number to the text.
 pub(crate) fn put_text(texts: &mut Texts, property: u8, text: ShortString)
-    ensures { (n : ℕ) → text_of n texts.new ≡ (if n == property then Some text else text_of n texts.old) }
+    ensures text { (n : ℕ) → text_of n texts.new.texts ≡ (if n == property then Some text else text_of n texts.old.texts) }
+    ensures marks { texts.new.marks ≡ texts.old.marks }
+    ensures timestamp { texts.new.timestamp ≡ texts.old.timestamp }
 {
+    let marks = texts.marks();
     let before = mem::replace(texts, Texts::none());
-    *texts = before.without(property).with(property, text);
+    *texts = before.without(property).with(marks, property, text);
 }
 
 fn same_text(a: Option<&ShortString>, b: Option<&ShortString>) -> bool
@@ -195,7 +313,7 @@ fn same_text(a: Option<&ShortString>, b: Option<&ShortString>) -> bool
 
 /// Whether the same properties are set, to equal texts.
 pub(crate) fn same_texts(texts: &Texts, other: &Texts) -> bool
-    ensures { Decides result ((n : ℕ) → n < 10 → text_of n texts.now ≡ text_of n other.now) }
+    ensures { Decides result ((n : ℕ) → n < 10 → text_of n texts.now.texts ≡ text_of n other.now.texts) }
 {
     for property in 0..10 {
         if !same_text(texts.get(property), other.get(property)) {

@@ -1,4 +1,4 @@
-use Rattle.std.proofs.Common.{◌≡◌, ◌<◌, ◌^◌, ◌∙◌, ◌∷◌, refl, ap, arith, List, ℕ}
+use Rattle.std.proofs.Common.{◌<◌, ◌^◌, ◌∙◌, ◌∷◌, refl, ap, arith, List, ℕ}
 use Rattle.std.specs.Prelude.{codes}
 use Rattle.lapin_text.proofs.LineLaws.{acked_said}
 use Rattle.lapin_text.proofs.frames.read_acked.Goals as goal

@@ -1,4 +1,4 @@
-use Rattle.std.proofs.Common.{◌<◌, Some, List, cond, ap, sym, subst, ◌∙◌, ◌∷◌, [], ◌++◌}
+use Rattle.std.proofs.Common.{◌<◌, Some, cond, ap, sym, subst, ◌∙◌, ◌∷◌, [], ◌++◌}
 use Rattle.std.specs.Prelude.{bytes_eq, string_bytes}
 use Rattle.std.specs.Map.{lookup}
 use Rattle.std.specs.HashMap.{spare}

@@ -1,5 +1,4 @@
 use Rattle.std.proofs.Common.{rules, sym, ap, subst, ◌∙◌, slice_get}
-use Rattle.std.specs.List.{filter}
 use Rattle.std.proofs.lemmas.Fn.{filter_same}
 use Rattle.lapin_consumer.specs.Indexed.{Line, Lists, stays_on}
 use Rattle.lapin_consumer.proofs.Rising.{swept}

@@ -7,5 +7,5 @@ pub returns-else-same_texts : goal.returns-else-same_texts
 returns-else-same_texts c =
     let i = c.self.inside in let j = c.other.inside in (
       λ t. absurd (false≢true (sym c.if-same_texts.false ∙ t)),
-      λ e. c.same_texts.ensures.1 (same_slots i.texts j.texts i.has_headers i.headers i.delivery_mode i.priority i.has_timestamp i.timestamp j.has_headers j.headers j.delivery_mode j.priority j.has_timestamp j.timestamp (c.self.view_is ∙ e ∙ sym c.other.view_is)),
+      λ e. c.same_texts.ensures.1 (same_slots i.texts j.texts i.headers j.headers (c.self.view_is ∙ e ∙ sym c.other.view_is)),
     )

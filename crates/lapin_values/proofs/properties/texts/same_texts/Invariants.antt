@@ -3,4 +3,4 @@ use Rattle.lapin_values.specs.Texts.{text_of}
 use Rattle.lapin_values.proofs.properties.texts.same_texts.Given as goal
 
 abbrev pub invariant-loop-property : goal.invariant-loop-property
-invariant-loop-property l = (n : ℕ) → n < l.property → text_of n l.texts ≡ text_of n l.other
+invariant-loop-property l = (n : ℕ) → n < l.property → text_of n l.texts.texts ≡ text_of n l.other.texts

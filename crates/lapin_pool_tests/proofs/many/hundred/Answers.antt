@@ -1,5 +1,0 @@
-use Rattle.lapin_pool_tests.proofs.Callers.{still_apart}
-use Rattle.lapin_pool_tests.proofs.many.hundred.Goals as goal
-
-pub run_pool-requires-clause-own : goal.run_pool-requires-clause-own
-run_pool-requires-clause-own g c = λ κs within. still_apart c.in_ok-client.callers.items c.make_first.new.callers.items c.in_ok-client.ensures.fresh c.make_first.ensures

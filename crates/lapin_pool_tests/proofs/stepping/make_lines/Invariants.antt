@@ -1,6 +1,0 @@
-use Rattle.std.proofs.Common.{◌≡◌}
-use Rattle.lapin_pool_tests.proofs.stepping.make_lines.Given as goal
-
--- the caller keeps its number
-abbrev pub invariant-loop-event : goal.invariant-loop-event
-invariant-loop-event g l = l.caller.number ≡ l.fn.caller.number

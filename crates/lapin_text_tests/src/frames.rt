@@ -1,0 +1,5 @@
+//! The bytes of frames: rows of bytes with what is read of them, most of them as RabbitMQ's own codec writes them, which one driver runs.
+
+mod driver;
+mod limits;
+mod rows;

@@ -1,4 +1,0 @@
-use Rattle.lapin_uses_tests.proofs.sockets.frames_are_written_until_the_socket_takes_no_more.Given as goal
-
-abbrev pub ghosts-alone : goal.ghosts-alone
-ghosts-alone g a = record { name = a.blank.name; parts = a.blank.parts }
