@@ -1,6 +1,5 @@
 pub mod CallRuns
 pub mod Commands
-pub mod Complete
 pub mod JoinedRuns
 pub mod ResendRuns
 pub mod Runs

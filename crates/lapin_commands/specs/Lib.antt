@@ -3,12 +3,10 @@ pub mod Check
 pub mod EveryCallLine
 pub mod EveryLine
 pub mod EveryResendLine
-pub mod Format
 pub mod Generate
 pub mod Joined
 pub mod Laws
 pub mod OneReading
-pub mod Outcome
 pub mod Resend
 pub mod Session
 pub mod Words

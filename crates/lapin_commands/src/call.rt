@@ -19,7 +19,8 @@ use lapin_inputs::Run;
 use lapin_types::{NoMemory, ShortString};
 use std::alloc::Global;
 
-/// The command.
+/// The command `call QUEUE`, as a run that the lines of an input drive: calls over queues, with a step a line. The word behind its own is
+/// the queue that the replies come to, of at most 255 bytes.
 pub enum OfCalls {}
 
 impl Run for OfCalls {

@@ -14,7 +14,7 @@ use lapin_io::{Sink, SinkError};
 use lapin_types::NoMemory;
 use std::alloc::Global;
 
-/// The command.
+/// The command `check`: what is found in the transcript that the lines of an input are. No word stands behind its own.
 pub enum OfCheck {}
 
 impl Answers for OfCheck {

@@ -11,7 +11,8 @@ use lapin_inputs::put_number;
 use lapin_types::NoMemory;
 use std::alloc::Global;
 
-/// What is printed for so many publishes.
+/// What the command `generate` prints for so many publishes, 10,000 at most: a line each with the accepted publishes, the frames that were
+/// handed out, the bytes of the bodies among them, and the acks.
 ///
 /// # Errors
 /// `NoMemory` alone.

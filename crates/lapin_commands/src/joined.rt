@@ -30,7 +30,8 @@ use lapin_text::{put_handed, put_refused};
 use lapin_types::{Error, Frame, NoMemory};
 use std::alloc::Global;
 
-/// The command.
+/// The command `joined`, as a run that the lines of an input drive: a new session that is joined to a free broker, with a step a line. No
+/// word stands behind its own.
 pub enum OfJoined {}
 
 impl Run for OfJoined {

@@ -1,20 +1,21 @@
-//! The top calls of the program as a library: what each command does with its words, a source and a sink.
+//! The commands of the program as a library: their words, and a file a command with what its input is and what is printed for it.
 //!
-//! `run_program` tries the words and hands the input to the command that they are; each command has a file of its own beside it. How an
-//! input is read, driven line by line and written stands in `lapin_inputs`, what touches the process in the program, and what a line or
-//! a step says in the crates below.
+//! The words are tried, and an input handed to the command that they are, in the crate above (`run_program`). How an input is read,
+//! driven line by line and written stands in `lapin_inputs`, and what a line or a step says in the crates below.
 #![tactic(auto)]
 
 mod call;
 mod check;
 mod generate;
-mod in_memory;
 mod joined;
-mod program;
 mod resend;
 mod session;
 mod words;
 
-pub use in_memory::run_in_memory;
-pub use lapin_inputs::Status;
-pub use program::run_program;
+pub use call::OfCalls;
+pub use check::OfCheck;
+pub use generate::print_generated;
+pub use joined::OfJoined;
+pub use resend::OfResend;
+pub use session::OfSession;
+pub use words::{Command, read_words};

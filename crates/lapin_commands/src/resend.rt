@@ -19,7 +19,8 @@ use lapin_resend_text::{put_resend_report, read_resend_step};
 use lapin_types::NoMemory;
 use std::alloc::Global;
 
-/// The command.
+/// The command `resend`, as a run that the lines of an input drive: a publisher that sends again after a loss, with a step a line. No word
+/// stands behind its own.
 pub enum OfResend {}
 
 impl Run for OfResend {

@@ -15,7 +15,8 @@ use lapin_machine::Session;
 use lapin_types::NoMemory;
 use std::alloc::Global;
 
-/// The command.
+/// The command `session`, as a run that the lines of an input drive: a new session, which meets an event a line. No word stands behind
+/// its own.
 pub enum OfSession {}
 
 impl Run for OfSession {

@@ -9,7 +9,7 @@ use Rattle.lapin_fields.specs.Reading.{◌>>=◌, octet_at, piece_at}
 
 -- ---- before the size is known
 
-few_wanted : (bytes : List ℕ) → length bytes < 7 → wanted_behind bytes ≡ 7 - length bytes
+pub few_wanted : (bytes : List ℕ) → length bytes < 7 → wanted_behind bytes ≡ 7 - length bytes
 few_wanted [] lt = refl
 few_wanted (_ ∷ []) lt = refl
 few_wanted (_ ∷ _ ∷ []) lt = refl

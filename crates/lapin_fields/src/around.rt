@@ -62,6 +62,7 @@ pub fn take_around<'a>(octets: &mut Octets<'a>) -> Result<Around<'a>, ReadFault>
 
 /// How many bytes are wanted behind these at least, before a frame stands at their head: those of the seven that tell its size, or those
 /// that are left of it; 0 where it is there.
+#[tactic(auto, using(crate::proofs::PartLaws::few_wanted))]
 pub fn wanted(bytes: &[u8]) -> usize
     ensures { result ≡ wanted_behind bytes.now }
 {

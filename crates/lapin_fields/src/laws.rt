@@ -30,7 +30,6 @@ pub fn written_payload_is_read()
 {}
 
 /// Flags that were packed into an octet, at most eight, are the bits of it.
-#[tactic(auto, using(crate::proofs::FlagLaws::flag_1, crate::proofs::FlagLaws::flag_2, crate::proofs::FlagLaws::flag_4, crate::proofs::FlagLaws::flag_8, crate::proofs::FlagLaws::flag_16, crate::proofs::FlagLaws::flag_32, crate::proofs::FlagLaws::flag_64, crate::proofs::FlagLaws::flag_128))]
 pub fn packed_flags_are_bits()
     ensures first { (a : Bool) (bs : List Bool) → bit_at 1 (bits (a ∷ bs)) ≡ a }
     ensures second { (a b : Bool) (bs : List Bool) → bit_at 2 (bits (a ∷ b ∷ bs)) ≡ b }
@@ -44,7 +43,6 @@ pub fn packed_flags_are_bits()
 
 /// A beginning of a frame stays one until it has at least as many bytes more as are wanted (`part`). Where nothing is wanted, the frame is
 /// there as a whole, and what follows changes neither that (`whole`) nor what is found (`found`).
-#[tactic(auto, using(crate::proofs::PartLaws::part_more, crate::proofs::PartLaws::whole_more, crate::proofs::PartLaws::around_more))]
 pub fn what_is_wanted_is_wanted()
     ensures part { (bytes more : List ℕ) → length more < wanted_behind bytes → 0 < wanted_behind (bytes ++ more) }
     ensures whole { (bytes more : List ℕ) → wanted_behind bytes ≡ 0 → wanted_behind (bytes ++ more) ≡ 0 }

@@ -49,14 +49,14 @@ use Rattle.lapin_confirm.specs.Aside.{is_set_aside, is_giving, taken_answer, kep
 use Rattle.lapin_confirm.specs.Drain.{Remains, remaining, is_over, less_one, less_all, over_aside, renewed_on}
 use Rattle.lapin_confirm.proofs.Ended.{any-ended}
 use Rattle.lapin_confirm.proofs.Polling.{giving-told}
-use Rattle.lapin_outstanding.specs.Queued.{AreQueued}
+use Rattle.lapin_outstanding.specs.Queued.{AreQueued, CanRegister}
 use Rattle.lapin_outstanding.proofs.Ends.{ends-join}
 use Rattle.lapin_outstanding.proofs.Queueing.{taken-out}
 use Rattle.lapin_outstanding.proofs.Waiting.{queue-push, queue-left, queue-settled, queue-taken, queue-none}
 use Rattle.lapin_outbox.specs.Outgoing.{OutboxState}
 use Rattle.lapin_outbox.specs.Poison.{poison_on}
 use Rattle.lapin_machine.proofs.Brought.{none_begins, tied_brought}
-use Rattle.lapin_machine.specs.Tied.{IsTied, NotPoisoned, IsKept, is_live_on, CanRegister}
+use Rattle.lapin_machine.specs.Tied.{IsTied, NotPoisoned, IsKept, is_live_on}
 use Rattle.std.proofs.lemmas.Bool.{or_parts}
 use Rattle.lapin_tables.proofs.Bools.{and_false, and_second}
 use Rattle.lapin_rules.proofs.PhaseLaws.{close_leaves_up}

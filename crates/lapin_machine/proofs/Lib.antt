@@ -8,7 +8,6 @@ pub mod Openings
 pub mod Back
 pub mod Ties
 pub mod Gone
-pub mod Channels
 pub mod Counts
 pub mod Cancelled
 pub mod Ended

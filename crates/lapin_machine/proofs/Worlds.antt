@@ -80,7 +80,7 @@ use Rattle.lapin_machine.specs.World.{World, next, asking, handing, receiving}
 use Rattle.lapin_machine.specs.Returned as back
 use Rattle.lapin_machine.proofs.Counts.{resolved-count, made-count, marks-join, ended-count, ends-count, left_tickets-count, left_marks-count, closed_counted, rejected_counted, called-count}
 use Rattle.lapin_machine.proofs.Cancelled.{opening_counted, all_failed_counted}
-use Rattle.lapin_machine.proofs.Channels.{on_absent, on_same, on_twice}
+use Rattle.lapin_outstanding.proofs.Channels.{on_absent, on_same, on_twice}
 use Rattle.lapin_machine.proofs.Seen.{base_is, world_is, seen}
 
 -- ---- what an event leaves, once it is known how it is taken

@@ -4,7 +4,6 @@ pub mod Way
 pub mod Consumers
 pub mod Told
 pub mod Numbers
-pub mod Places
 pub mod Whole
 pub mod Tied
 pub mod Stands

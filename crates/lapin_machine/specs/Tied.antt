@@ -1,21 +1,15 @@
 -- What a session keeps true of its parts, and the room that a call uses.
-use Rattle.std.specs.Prelude.{◌≡◌, ℕ, ◌&&◌, Bool, true, false, List, [], Option, Some, None, IsSome}
+use Rattle.std.specs.Prelude.{◌≡◌, ℕ, ◌&&◌, Bool, true, false, List, [], Option, None, IsSome}
 use Rattle.std.specs.List.{list_any}
 use Rattle.lapin_types.specs.declared.leaving.Publish.{Publish}
-use Rattle.lapin_types.specs.declared.leaving.Left.{Left}
-use Rattle.lapin_types.specs.Types.{Frame}
 use Rattle.lapin_tables.specs.ByChannel.{at_channel}
-use Rattle.lapin_tables.specs.Numbered.{under}
 use Rattle.lapin_rules.specs.Words.{is_some}
 use Rattle.lapin_rules.specs.declared.phases.ChannelPhase.{ChannelPhase}
 use Rattle.lapin_rules.specs.declared.phases.ConnectionPhase.{ConnectionPhase}
-use Rattle.lapin_rules.specs.Drops.{frame_channel}
 use Rattle.lapin_rules.specs.Phases.{is_live, is_up, phase_in}
 use Rattle.lapin_outbox.specs.Outgoing.{OutboxState}
 use Rattle.lapin_outstanding.specs.Queued.{AreQueued}
 use Rattle.lapin_confirm.specs.PublishStates.{PublishStates, is_open_on}
-use Rattle.lapin_confirm.specs.declared.cell.Cell.{Cell}
-use Rattle.lapin_confirm.specs.declared.cell.Cell.TheVariants as cell
 
 -- whether a channel has a live opening: none has once the connection is not open
 abbrev pub is_live_on : ConnectionPhase → Option ChannelPhase → Bool
@@ -37,12 +31,3 @@ NotPoisoned o = (o.poison ≡ None) × (o.errors ≡ [])
 pub record IsKept (l : ConnectionPhase) (phases : List (ℕ × ChannelPhase)) (o : OutboxState) (b : PublishStates) : Type 0 where
   pub tied : IsTied l phases o.lists.publishes b
   pub unpoisoned : NotPoisoned o
-
--- the publish whose method frame leaves is queued on the frame's channel
-abbrev pub MayRegister : Frame → Option ℕ → Bool → List (Option Cell) → Type 0
-MayRegister f (Some n) true cells = under n cells ≡ Some (cell.Queued (frame_channel f))
-MayRegister f _ _ cells = Unit {0}
-
--- where a frame that leaves is the first of a publish, that publish is queued on the frame's channel
-abbrev pub CanRegister : Left → List (Option Cell) → Type 0
-CanRegister l cells = MayRegister l.frame l.publish l.first cells

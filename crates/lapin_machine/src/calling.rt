@@ -2,19 +2,14 @@
 //!
 //! Each is refused by the channel's state, then for want of numbers; then it is queued whole, or nothing changes.
 
-ghost use Rattle.std.specs.Prelude.{◌≡◌, ◌&&◌, ◌+◌, ◌^◌, ◌<◌, false, Some, None, IfOk, OnOk, OnErr, length};
+ghost use Rattle.std.specs.Prelude.{◌≡◌, ◌&&◌, ◌<◌, false, Some, IfOk, OnOk, OnErr};
 ghost use Rattle.std.specs.List.{fold};
 ghost use Rattle.lapin_types.specs.declared.event.Event.TheVariants.{Call as CallEvent};
 ghost use Rattle.lapin_types.specs.declared.call.Call.TheVariants.{OpenChannel, BasicPublish, TryBasicPublish};
 ghost use Rattle.lapin_rules.specs.declared.calls.Asked.TheVariants as ask;
-ghost use Rattle.lapin_rules.specs.Calls.{asked as asked_lem, publishes, awaited_by, made_by, leaving_by};
-ghost use Rattle.lapin_rules.specs.Asking.{call_record, is_held, made_marks};
-ghost use Rattle.lapin_rules.specs.Wire.{state_of, is_open as is_open_lem, requests_with};
-ghost use Rattle.lapin_rules.specs.TicketReadings as mark;
-ghost use Rattle.lapin_outbox.specs.Outgoing.{with_method, with_lists};
-ghost use Rattle.lapin_outbox.specs.Poison.{poison_on};
-ghost use Rattle.lapin_ticket.specs.Slots as answers;
-ghost use Rattle.lapin_outstanding.specs.Rooms.{HasRoom};
+ghost use Rattle.lapin_rules.specs.Calls.{asked as asked_lem, publishes};
+ghost use Rattle.lapin_rules.specs.Asking.{call_record, is_held};
+ghost use Rattle.lapin_rules.specs.Wire.{state_of, is_open as is_open_lem};
 ghost use Rattle.lapin_confirm.specs.PublishStates.{at_limit_on};
 ghost use Rattle.lapin_rules.specs.Select.{queued_marks};
 ghost use Rattle.lapin_rules.specs.Consumers.{called_deliveries, cancel_deliveries, all_deliveries};
@@ -25,15 +20,13 @@ ghost use Rattle.lapin_confirm.specs.Machine as confirm_state;
 ghost use Rattle.lapin_machine.specs.World.{told_by, next, asking, readings_of};
 ghost use Rattle.lapin_machine.specs.Told.{TicketTold, PublishTold, ticket_told, publish_told};
 ghost use Rattle.lapin_machine.specs.Numbers.{HasCause, CallCause, TryCause, AskCause};
-ghost use Rattle.lapin_machine.specs.Places.{HasPlace};
 
 use crate::channel::{Published, PublisherConfirm, Ticket};
-use crate::session::{Session, is_closed, is_open};
+use crate::session::Session;
 use lapin_confirm::Confirms;
 use lapin_delivery::Deliveries;
-use lapin_outstanding::Outstanding;
+use lapin_outstanding::{is_closed, is_open, place_at_once};
 use lapin_rules::{Answered, Asked, AtLeaving, ChannelMove, Row, is_try, sort_call};
-use lapin_ticket::Place;
 use lapin_types::{
     BasicMethod, BasicProperties, BasicPublishOptions, Call, ChannelMethod, ConfirmMethod, Error,
     Method, NoMemory, Payload, Publish, Record, Reply, ShortString,
@@ -153,7 +146,7 @@ impl Session {
             return Err(Error::NoMemory);
         }
         confirms_called(&mut self.confirms, channel, &row.method);
-        let number = queue_line(&mut self.outstanding, alloc, channel, row, place);
+        let number = self.outstanding.queue_line(alloc, channel, row, place);
         Ok(Ticket { number })
     }
 
@@ -309,45 +302,6 @@ impl Session {
             )),
             asked => ticket_record(self.ask(alloc, channel, asked)),
         }
-    }
-}
-
-// The room for the answer of a line that is answered at once; another needs none.
-fn place_at_once(alloc: Global, answered: &Answered) -> Result<Option<Place>, NoMemory>
-    ensures { IfOk result (λ place. HasPlace answered.now place) }
-{
-    match answered {
-        Answered::AtOnce(_, _) => Ok(Some(Place::new(alloc)?)),
-        _ => Ok(None),
-    }
-}
-
-// A line is queued under the next ticket, in the room that was made: it opens the request of the reply that it awaits, or answers
-// the ticket, or the leaving of its frame does.
-fn queue_line(
-    outstanding: &mut Outstanding,
-    alloc: Global,
-    channel: u16,
-    row: Row,
-    place: Option<Place>,
-) -> u64
-    requires room { HasRoom channel outstanding.old }
-    requires numbers { length outstanding.old.tickets.slots + 1 < 2 ^ 64 }
-    requires unpoisoned { poison_on channel outstanding.old.outbox.what ≡ None }
-    requires place { HasPlace row.answered place }
-    ensures ticket { result ≡ length outstanding.old.tickets.slots + 1 }
-    ensures outbox { outstanding.new.outbox.what ≡ with_lists (with_method (record { channel = channel; method = row.method; ticket = Some (length outstanding.old.tickets.slots + 1) }) outstanding.old.outbox.what.lists) outstanding.old.outbox.what }
-    ensures requests { outstanding.new.replies.what ≡ requests_with channel (length outstanding.old.tickets.slots + 1) (awaited_by row.answered) outstanding.old.replies.what }
-    ensures slots { outstanding.new.tickets.slots ≡ fold answers.after_mark (answers.after_mark outstanding.old.tickets.slots (mark.Given channel (leaving_by row.answered))) (made_marks (length outstanding.old.tickets.slots + 1) (made_by row.answered)) }
-{
-    let Row { method, answered } = row;
-    match answered {
-        Answered::ByReply(reply) => outstanding.queue_awaiting(alloc, channel, method, reply),
-        Answered::AtOnce(reply, answer) => {
-            drop(reply);
-            outstanding.queue_answered(alloc, channel, method, answer, place.unwrap())
-        }
-        Answered::AsItLeaves(at_leaving) => outstanding.queue(alloc, channel, method, at_leaving),
     }
 }
 

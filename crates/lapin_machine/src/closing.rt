@@ -30,12 +30,12 @@ ghost use Rattle.lapin_machine.specs.Told.{TicketTold};
 ghost use Rattle.lapin_machine.specs.Numbers.{HasCause, CallCause};
 
 use crate::channel::Ticket;
-use crate::session::{Session, is_base, is_open};
+use crate::session::Session;
 use lapin_confirm::Confirms;
 use lapin_content::Contents;
 use lapin_delivery::Deliveries;
 use lapin_outbox::Replies;
-use lapin_outstanding::Outstanding;
+use lapin_outstanding::{Outstanding, is_base, is_open};
 use lapin_phases::Phases;
 use lapin_rules::{ChannelMove, Closer, ConnectionMove, ConnectionPhase, failed_at_close};
 use lapin_types::{

@@ -15,7 +15,8 @@ ghost use Rattle.lapin_machine.specs.Told.{TicketTold, DelegateTold, DropTold, n
 ghost use Rattle.lapin_machine.specs.Numbers.{HasCause, HasNumbers, AskCause};
 
 use crate::channel::Ticket;
-use crate::session::{Session, is_open};
+use crate::session::Session;
+use lapin_outstanding::is_open;
 use lapin_types::{
     Answer, BasicConsumeOptions, BasicMethod, DeliveryResult, Error, Job, Method, NoMemory, Poll,
     Record, Reply, ShortString,

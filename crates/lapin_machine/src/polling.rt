@@ -116,10 +116,7 @@ impl Session {
     fn is_waited_on(&self, channel: u16) -> bool
         ensures { result ≡ is_waited_on channel self.now.wire (readings_of self.now.confirm_state self.now.slots) }
     {
-        self.confirms.asked(channel)
-            && (self.confirms.queued(channel) > 0
-                || self.confirms.pending(channel) > 0
-                || self.outstanding.outbox.is_amid(channel))
+        self.outstanding.is_waited_on(&self.confirms, channel)
     }
 
     /// Whether a poll of the ticket would not be pending.

@@ -2,7 +2,6 @@
 //! connection with its class and method.
 
 ghost use Rattle.std.specs.Prelude.{◌≡◌, ℕ, true, IfOk, OnOk, OnErr, if◌then◌else◌};
-ghost use Rattle.lapin_tables.specs.ByChannel.{at_channel};
 ghost use Rattle.lapin_types.specs.declared.event.Event.TheVariants as event;
 ghost use Rattle.lapin_types.specs.Types.basic;
 ghost use Rattle.lapin_types.specs.Types.error;
@@ -12,7 +11,6 @@ ghost use Rattle.lapin_types.specs.declared.record.Record.TheVariants.{Received,
 ghost use Rattle.lapin_confirm.specs.PublishStates.{single_of, multiple_of, selected_on};
 ghost use Rattle.lapin_rules.specs.declared.broker_frames.Incoming.{Incoming as AnIncoming};
 ghost use Rattle.lapin_rules.specs.declared.broker_frames.Incoming.TheVariants.{Reply as ReplyFrame, Settlement as SettlementFrame, Flow as FlowFrame};
-ghost use Rattle.lapin_rules.specs.Words.{is_some};
 ghost use Rattle.lapin_rules.specs.Phases.{is_up};
 ghost use Rattle.lapin_rules.specs.Unexpected.{refused};
 ghost use Rattle.std.specs.List.{fold};
@@ -25,7 +23,6 @@ ghost use Rattle.lapin_outbox.specs.Open.{requests_at};
 ghost use Rattle.lapin_rules.specs.Wire.{state_of, receives_on as receives_on_lem};
 ghost use Rattle.lapin_rules.specs.Reply.{receives_reply};
 ghost use Rattle.lapin_rules.specs.ConnectionClose.{receives_down as receives_down_lem};
-ghost use Rattle.lapin_rules.specs.Opening.{phases_with};
 ghost use Rattle.lapin_machine.specs.World.{told_by, next, receiving, readings_of, settlement_told};
 ghost use Rattle.lapin_machine.specs.Told.{HeardTold, WasHeard};
 ghost use Rattle.lapin_machine.specs.Numbers.{HasCause, HasNumbers, ReceiveCause};
@@ -34,10 +31,10 @@ ghost use Rattle.lapin_rules.specs.Incoming.{incoming_of};
 use crate::channel::Heard;
 use crate::closing::{begin_close, go_down};
 use crate::receiving_consumers::answer_first;
-use crate::session::{Session, is_open, no_replies};
+use crate::session::{Session, no_replies};
 use lapin_delivery::Deliveries;
 use lapin_outbox::Replies;
-use lapin_phases::Phases;
+use lapin_outstanding::{is_open, phase_replied};
 use lapin_rules::{
     ChannelMove, Closer, ConnectionMove, Incoming, SettleKind, Settlement, class_of, method_of,
     opens, receives_close, receives_close_ok, receives_down, receives_on, session_close,
@@ -407,15 +404,5 @@ fn complete_first(
     match replies.first(channel, kind) {
         Some(request) => deliveries.complete(alloc, channel, &request.reply, answer),
         None => Ok(()),
-    }
-}
-
-// `channel.open-ok` opens its channel.
-fn phase_replied(phases: &mut Phases, channel: u16, kind: ReplyKind)
-    requires { is_some (at_channel channel phases.old.entries) ≡ true }
-    ensures { phases.new.entries ≡ phases_with channel kind phases.old.entries }
-{
-    if opens(kind) {
-        phases.go(channel, ChannelMove::OpenOk);
     }
 }

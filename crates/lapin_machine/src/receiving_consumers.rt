@@ -22,8 +22,8 @@ ghost use Rattle.lapin_machine.specs.Told.{HeardTold, WasHeard};
 ghost use Rattle.lapin_machine.specs.Numbers.{HasNumbers, ReceiveCause};
 
 use crate::channel::Heard;
-use crate::session::{Session, is_open};
-use lapin_outstanding::Outstanding;
+use crate::session::Session;
+use lapin_outstanding::{Outstanding, is_open};
 use lapin_rules::{ConsumerPart, receives, receives_on};
 use lapin_ticket::Place;
 use lapin_types::{

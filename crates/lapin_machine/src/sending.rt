@@ -1,36 +1,21 @@
 //! Frames that leave: what a frame request hands out, and what leaving does to confirms, tickets and closes.
 
 ghost use Rattle.std.specs.Prelude.{◌≡◌, ◌&&◌, ℕ, true, false, Option, Some, None, IfOk, OnOk, OnErr, is_some};
-ghost use Rattle.std.specs.List.{fold, list_any};
 ghost use Rattle.lapin_types.specs.declared.event.Event.TheVariants as event;
 ghost use Rattle.lapin_rules.specs.Handing.{handed, handed_out};
 ghost use Rattle.lapin_rules.specs.Flow.{is_flowing, unless_full};
-ghost use Rattle.lapin_rules.specs.ConnectionClose.{link_sent};
-ghost use Rattle.lapin_rules.specs.ChannelClose.{phases_sent};
 ghost use Rattle.lapin_rules.specs.Handing.{frame_record as frame_record_lem};
-ghost use Rattle.lapin_rules.specs.Handing.{left_marks, left_tickets, frame_marks};
 ghost use Rattle.lapin_ticket.specs.Slots as answers;
-ghost use Rattle.lapin_confirm.specs.Machine as confirm_state;
-ghost use Rattle.lapin_tables.specs.ByChannel.{on_channel};
-ghost use Rattle.lapin_rules.specs.ChannelClose.{close_sent as close_sent_lem};
 ghost use Rattle.lapin_rules.specs.Phases.{is_lost};
 ghost use Rattle.lapin_rules.specs.History.{History};
 ghost use Rattle.lapin_outbox.specs.Returned.{is_retried, given};
 ghost use Rattle.lapin_machine.specs.Stands.{Stands};
-ghost use Rattle.lapin_rules.specs.Wire.{is_closing as is_closing_lem};
-ghost use Rattle.lapin_rules.specs.Phases.{channel_state};
 ghost use Rattle.lapin_machine.specs.World.{told_by, next, next_anew, full_in, handing, with_returned};
 ghost use Rattle.lapin_machine.specs.Numbers.{HasCause, OnlyMemory};
-ghost use Rattle.lapin_machine.specs.Tied.{CanRegister};
 
 use crate::session::Session;
-use lapin_confirm::Confirms;
-use lapin_outstanding::Outstanding;
-use lapin_phases::Phases;
-use lapin_rules::{ChannelMove, ChannelPhase, ConnectionMove, ConnectionPhase};
-use lapin_types::{
-    ChannelMethod, ConfirmMethod, ConnectionMethod, Error, Frame, Left, Method, NoMemory, Record,
-};
+use lapin_outstanding::leaves;
+use lapin_types::{Error, Left, NoMemory, Record};
 use std::alloc::Global;
 
 impl Session {
@@ -171,83 +156,4 @@ fn frame_record(left: Option<Left>) -> Record
         Some(left) => Record::Frame(left.frame),
         None => Record::NoFrame,
     }
-}
-
-// A frame leaves.
-#[inline(never)]
-fn leaves(
-    confirms: &mut Confirms,
-    outstanding: &mut Outstanding,
-    link: &mut ConnectionPhase,
-    phases: &mut Phases,
-    left: &Left,
-)
-    requires { CanRegister left.now confirms.old.what.publish_states.cells }
-    ensures confirms { confirms.new.what ≡ fold confirm_state.after_mark confirms.old.what (left_marks (Some left.now)) }
-    ensures slots { outstanding.new.tickets.slots ≡ fold answers.after_mark outstanding.old.tickets.slots (left_tickets (Some left.now)) }
-    ensures outbox { outstanding.new.outbox ≡ outstanding.old.outbox }
-    ensures replies { outstanding.new.replies ≡ outstanding.old.replies }
-    ensures link { link.new ≡ link_sent left.now.frame link.old }
-    ensures phases { phases.new.entries ≡ phases_sent left.now.frame phases.old.entries }
-{
-    confirms_left(confirms, left);
-    outstanding.leave(left);
-    link_left(link, &left.frame);
-    phases_left(phases, &left.frame);
-}
-
-// A frame leaves: the first `confirm.select` selects, the method frame of a publish takes a tag.
-fn confirms_left(confirms: &mut Confirms, left: &Left)
-    requires { CanRegister left.now confirms.old.what.publish_states.cells }
-    ensures { confirms.new.what ≡ fold confirm_state.after_mark confirms.old.what (left_marks (Some left.now)) }
-{
-    match (left.publish, left.first) {
-        (None, _) => select_left(confirms, &left.frame),
-        (Some(number), true) => {
-            let _tag = confirms.register(number);
-        }
-        (Some(_), false) => {}
-    }
-}
-
-fn select_left(confirms: &mut Confirms, frame: &Frame)
-    ensures { confirms.new.what ≡ fold confirm_state.after_mark confirms.old.what (frame_marks frame.now) }
-{
-    if let Frame::Method(channel, Method::Confirm(ConfirmMethod::Select { .. })) = frame {
-        confirms.select_left(*channel);
-    }
-}
-
-// A close of the connection is known to have left.
-fn link_left(link: &mut ConnectionPhase, frame: &Frame)
-    ensures { link.new ≡ link_sent frame.now link.old }
-{
-    if let Frame::Method(_, Method::Connection(ConnectionMethod::Close { .. })) = frame {
-        *link = link.after(ConnectionMove::CloseLeft);
-    }
-}
-
-// A close of a channel is known to have left.
-fn phases_left(phases: &mut Phases, frame: &Frame)
-    ensures { phases.new.entries ≡ phases_sent frame.now phases.old.entries }
-{
-    if let Frame::Method(channel, Method::Channel(ChannelMethod::Close { .. })) = frame {
-        phase_left(phases, *channel);
-    }
-}
-
-fn phase_left(phases: &mut Phases, channel: u16)
-    ensures { phases.new.entries ≡ on_channel channel close_sent_lem phases.old.entries }
-{
-    let phase = phases.get(channel);
-    if is_closing(phase) {
-        phases.go(channel, ChannelMove::CloseLeft);
-    }
-}
-
-// Whether this side is closing the channel.
-fn is_closing(phase: ChannelPhase) -> bool
-    ensures { result ≡ is_closing_lem (channel_state phase) }
-{
-    matches!(phase, ChannelPhase::Closing { .. })
 }

@@ -9,7 +9,7 @@ ghost use Rattle.lapin_tables.specs.ByChannel.{at_channel};
 ghost use Rattle.lapin_types.specs.declared.event.Event.TheVariants as event;
 ghost use Rattle.lapin_types.specs.declared.leaving.Left.{Left as ALeft};
 ghost use Rattle.lapin_types.specs.declared.record.Record.TheVariants as record_;
-ghost use Rattle.lapin_rules.specs.Wire.{lists_of, state_of, phase_of, is_open as is_open_lem, is_closed as is_closed_lem, is_base as is_base_lem};
+ghost use Rattle.lapin_rules.specs.Wire.{lists_of, state_of, phase_of};
 ghost use Rattle.lapin_rules.specs.Phases.{connection_state as connection_state_lem};
 ghost use Rattle.lapin_rules.specs.History.{History, rec};
 ghost use Rattle.lapin_machine.specs.World.{told_by, next, new_world};
@@ -290,22 +290,4 @@ fn no_deliveries(alloc: Global) -> Deliveries
     ensures { what result ≡ empty_deliveries }
 {
     Deliveries::new(alloc).unwrap()
-}
-
-pub(crate) fn is_open(state: ChannelState) -> bool
-    ensures { result ≡ is_open_lem state }
-{
-    matches!(state, ChannelState::Open)
-}
-
-pub(crate) fn is_closed(state: ChannelState) -> bool
-    ensures { result ≡ is_closed_lem state }
-{
-    matches!(state, ChannelState::Closed)
-}
-
-pub(crate) fn is_base(state: ChannelState) -> bool
-    ensures { result ≡ is_base_lem state }
-{
-    matches!(state, ChannelState::Base)
 }

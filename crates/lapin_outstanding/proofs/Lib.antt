@@ -3,3 +3,4 @@ pub mod Waiting
 pub mod Dropped
 pub mod Ends
 pub mod Cancels
+pub mod Channels

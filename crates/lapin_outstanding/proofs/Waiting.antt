@@ -21,7 +21,7 @@ use Rattle.lapin_confirm.specs.PublishStates.{PublishStates, is_queued_on, is_op
 use Rattle.lapin_confirm.specs.Machine.{after_mark, rejected, with_publish_states}
 use Rattle.lapin_confirm.specs.ConfirmState.{ConfirmState}
 use Rattle.lapin_confirm.proofs.ConfirmModes.{same-publish_states}
-use Rattle.lapin_confirm.proofs.Closing.{close-next, all-end}
+use Rattle.lapin_confirm.proofs.Closing.{close-next}
 use Rattle.lapin_outstanding.specs.Queued.{EachQueued, AllWait, AreQueued, is_publish_of, rejected_told}
 use Rattle.lapin_outstanding.proofs.Queueing.{under-last, under-map, queued-kept, queued-push, queued-written, resolved_apart, still-queued, queued-ended, closed-queued, first-of}
 use Rattle.lapin_tables.proofs.Bools.{or_true, and_false, same_number}

@@ -2,8 +2,11 @@
 use Rattle.std.specs.Prelude.{◌≡◌, ◌≢◌, ℕ, ◌==◌, ◌&&◌, Bool, true, List, [], ◌∷◌, Option, Some, None}
 use Rattle.std.specs.List.{AllByRecursion, list_any}
 use Rattle.lapin_types.specs.declared.Error.{Error}
+use Rattle.lapin_types.specs.declared.leaving.Left.{Left}
 use Rattle.lapin_types.specs.declared.leaving.Publish.{Publish}
+use Rattle.lapin_types.specs.Types.{Frame}
 use Rattle.lapin_tables.specs.Numbered.{under}
+use Rattle.lapin_rules.specs.Drops.{frame_channel}
 use Rattle.lapin_confirm.specs.declared.cell.Cell.{Cell}
 use Rattle.lapin_confirm.specs.declared.cell.Cell.TheVariants as cell
 use Rattle.lapin_confirm.specs.PublishStates.{is_queued, is_queued_on}
@@ -39,3 +42,14 @@ MayReject (Some n) cells = is_queued (under n cells) ≡ true
 abbrev pub rejected_told : Error → Option ℕ → ConfirmState → ConfirmState
 rejected_told e None p = p
 rejected_told e (Some n) p = rejected n e p
+
+-- ---- a frame that leaves
+
+-- the publish whose method frame leaves is queued on the frame's channel
+abbrev pub MayRegister : Frame → Option ℕ → Bool → List (Option Cell) → Type 0
+MayRegister f (Some n) true cells = under n cells ≡ Some (cell.Queued (frame_channel f))
+MayRegister f _ _ cells = Unit {0}
+
+-- where a frame that leaves is the first of a publish, that publish is queued on the frame's channel
+abbrev pub CanRegister : Left → List (Option Cell) → Type 0
+CanRegister l cells = MayRegister l.frame l.publish l.first cells

@@ -3,12 +3,15 @@
 //! First all room is made, which may fail and changes nothing that a contract of the session sees; then the call is queued,
 //! which cannot fail.
 
-ghost use Rattle.std.specs.Prelude.{◌≡◌, ◌+◌, ◌^◌, ◌<◌, Some, None, Ok, OnOk, length};
+ghost use Rattle.std.specs.Prelude.{◌≡◌, ◌&&◌, ◌||◌, ◌+◌, ◌^◌, ◌<◌, Some, None, Ok, OnOk, length};
 ghost use Rattle.std.specs.List.{fold};
 ghost use Rattle.lapin_types.specs.declared.answer.Answer.TheVariants as answer;
 ghost use Rattle.lapin_outbox.specs.Outgoing.{with_method, with_lists};
 ghost use Rattle.lapin_outbox.specs.Poison.{poison_on};
 ghost use Rattle.lapin_outbox.specs.Open.{spare_on};
+ghost use Rattle.lapin_confirm.specs.PublishStates.{asked_on};
+ghost use Rattle.lapin_confirm.specs.ConfirmState.{waits_on};
+ghost use Rattle.lapin_rules.specs.Drops.{is_rest_of};
 ghost use Rattle.lapin_rules.specs.Wire.{requests_with};
 ghost use Rattle.lapin_rules.specs.TicketReadings as mark;
 ghost use Rattle.lapin_rules.specs.Asking.{made_marks};
@@ -18,6 +21,7 @@ ghost use Rattle.lapin_rules.specs.Handing.{left_tickets, begun_ticket, last_tic
 ghost use Rattle.lapin_ticket.specs.Slots.{after_mark};
 ghost use Rattle.lapin_outstanding.specs.Rooms.{HasRoom, SameOutstanding};
 
+use lapin_confirm::Confirms;
 use lapin_outbox::{Outbox, Replies};
 use lapin_rules::AtLeaving;
 use lapin_ticket::{Held, Place, Tickets};
@@ -195,6 +199,17 @@ impl Outstanding {
             Some(ticket) => self.tickets.answer(ticket, answer),
             None => drop(answer),
         }
+    }
+
+    /// Whether there is something to wait for on a channel whose confirms are waited for: it asked for confirms, and one of its publishes
+    /// is queued, has begun and not left whole, or is pending.
+    pub fn is_waited_on(&self, confirms: &Confirms, channel: u16) -> bool
+        ensures { result ≡ (waits_on channel confirms.now.what.publish_states || (asked_on channel confirms.now.what.publish_states && is_rest_of channel self.now.outbox.what.lists.rest)) }
+    {
+        confirms.asked(channel)
+            && (confirms.queued(channel) > 0
+                || confirms.pending(channel) > 0
+                || self.outbox.is_amid(channel))
     }
 
     /// A frame leaves: a publish begins with its first, and with the last frame of a call its ticket gets the answer that the

@@ -8,8 +8,8 @@ use Rattle.lapin_types.specs.declared.record.Record.{Record}
 use Rattle.lapin_types.specs.declared.record.Record.TheVariants as record_
 use Rattle.lapin_rules.specs.Consumers.{job_record}
 use Rattle.lapin_rules.specs.History.{History, rec, run_from}
-use Rattle.lapin_shared.specs.declared.entry.Entry.{Entry}
-use Rattle.lapin_shared.specs.Lawful.{event_of, answer_of, IsLawful}
+use Rattle.lapin_locked.specs.declared.entry.Entry.{Entry}
+use Rattle.lapin_locked.specs.Lawful.{event_of, answer_of, IsLawful}
 use Rattle.lapin_pool.specs.Turns.{tells_job}
 use Rattle.lapin_pool.proofs.Workers.{TellsNone}
 

@@ -4,7 +4,7 @@ use Rattle.std.specs.List.{All, AllByRecursion, Contains, IsDistinct}
 use Rattle.std.proofs.lemmas.Bool.Decides.{nat_tests}
 use Rattle.std.proofs.lemmas.List.Elements.{All-nil, All-cons, recursion_from_All, Contains-append_left, Contains-append_right, Contains-append_cases, Contains-push, Contains-push_cases}
 use Rattle.std.proofs.lemmas.Map.Keys.{IsDistinct-cons}
-use Rattle.lapin_shared.specs.declared.entry.Told.{Told}
+use Rattle.lapin_locked.specs.declared.entry.Told.{Told}
 use Rattle.lapin_shared.specs.Grown.{Rise}
 use Rattle.lapin_pool.specs.declared.card.Card.{Card}
 use Rattle.lapin_pool.specs.Pool.{place_of}

@@ -4,7 +4,7 @@ use Rattle.std.specs.Prelude.{zero, suc, slice_get, reverse, option_to_list}
 use Rattle.std.specs.List.Sorted.{IsNonDecreasing, IsNonDecreasingBy}
 use Rattle.std.proofs.lemmas.List.{length-map, get_or-map, reverse-append}
 use Rattle.std.proofs.lemmas.List.Sorted.{IsNonDecreasingBy-from_default}
-use Rattle.lapin_shared.specs.declared.entry.Entry.{Entry}
+use Rattle.lapin_locked.specs.declared.entry.Entry.{Entry}
 use Rattle.lapin_pool.specs.declared.card.Card.{Card}
 use Rattle.lapin_pool.specs.declared.card.Sent.TheVariants as sent
 use Rattle.lapin_pool.specs.Unread.{at_place, card_in, unread_cards}

@@ -5,7 +5,7 @@ use Rattle.lapin_types.specs.declared.job.Job.{Job}
 use Rattle.lapin_types.specs.declared.record.Record.{Record}
 use Rattle.lapin_types.specs.declared.record.Record.TheVariants as record_
 use Rattle.lapin_work.specs.Jobs.{job, no_job}
-use Rattle.lapin_shared.specs.declared.entry.Told.{Told}
+use Rattle.lapin_locked.specs.declared.entry.Told.{Told}
 use Rattle.lapin_shared.specs.Grown.{Seen, Grew, Rise}
 use Rattle.lapin_shared.specs.Read.{HasPlace, IsPlaceAt, IsReadAt, answered}
 use Rattle.lapin_pool.specs.declared.turn.Step.{Step}

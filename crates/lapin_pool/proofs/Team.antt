@@ -12,8 +12,8 @@ use Rattle.std.proofs.lemmas.Map.Keys.{IsDistinct-head, IsDistinct-tail, IsDisti
 use Rattle.lapin_types.specs.declared.message.Delivery.{Delivery}
 use Rattle.lapin_types.specs.declared.record.Record.{Record}
 use Rattle.lapin_acker.specs.declared.verdict.Verdict.{Verdict}
-use Rattle.lapin_shared.specs.declared.entry.Entry.{Entry}
-use Rattle.lapin_shared.specs.declared.entry.Told.{Told}
+use Rattle.lapin_locked.specs.declared.entry.Entry.{Entry}
+use Rattle.lapin_locked.specs.declared.entry.Told.{Told}
 use Rattle.lapin_shared.specs.Grown.{Seen, Rise}
 use Rattle.lapin_shared.specs.Checked.{IsAt, AllAt}
 use Rattle.lapin_pool.specs.declared.card.Card.{Card}

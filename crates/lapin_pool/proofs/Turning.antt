@@ -4,7 +4,7 @@ use Rattle.std.specs.Prelude.{slice_get}
 use Rattle.lapin_types.specs.declared.message.Delivery.{Delivery}
 use Rattle.lapin_types.specs.declared.record.Record.{Record}
 use Rattle.lapin_acker.specs.declared.verdict.Verdict.{Verdict}
-use Rattle.lapin_shared.specs.declared.entry.Told.{Told}
+use Rattle.lapin_locked.specs.declared.entry.Told.{Told}
 use Rattle.lapin_shared.specs.Grown.{Seen, Grew}
 use Rattle.lapin_pool.specs.declared.card.Card.{Card}
 use Rattle.lapin_pool.specs.declared.turn.Step.TheVariants as step

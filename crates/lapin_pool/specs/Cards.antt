@@ -8,7 +8,8 @@ use Rattle.lapin_types.specs.declared.job.JobKind.TheVariants as job_kind
 use Rattle.lapin_types.specs.declared.message.Delivery.{Delivery}
 use Rattle.lapin_types.specs.declared.record.Record.{Record}
 use Rattle.lapin_types.specs.declared.record.Record.TheVariants as record_
-use Rattle.lapin_shared.specs.Grown.{Seen, Grew, told}
+use Rattle.lapin_locked.specs.Known.{told}
+use Rattle.lapin_shared.specs.Grown.{Seen, Grew}
 use Rattle.lapin_work.specs.Jobs.{delivery_in as handed}
 use Rattle.lapin_pool.specs.declared.card.Sent.{Sent}
 use Rattle.lapin_pool.specs.declared.card.Sent.TheVariants as sent

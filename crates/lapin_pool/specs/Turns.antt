@@ -6,8 +6,9 @@ use Rattle.lapin_types.specs.declared.record.Record.{Record}
 use Rattle.lapin_types.specs.declared.record.Record.TheVariants as record_
 use Rattle.lapin_acker.specs.declared.verdict.Verdict.{Verdict}
 use Rattle.lapin_acker.specs.Verdicts.{call_of}
-use Rattle.lapin_shared.specs.declared.entry.Told.{Told}
-use Rattle.lapin_shared.specs.Grown.{Seen, Grew, told}
+use Rattle.lapin_locked.specs.declared.entry.Told.{Told}
+use Rattle.lapin_locked.specs.Known.{told}
+use Rattle.lapin_shared.specs.Grown.{Seen, Grew}
 use Rattle.lapin_pool.specs.declared.card.Card.{Card}
 use Rattle.lapin_pool.specs.declared.turn.Step.{Step}
 use Rattle.lapin_pool.specs.declared.turn.Step.TheVariants as step

@@ -1,7 +1,7 @@
 -- The cards of job steps whose record there was no memory to read: the history says which of them took a delivery.
 use Rattle.std.specs.Prelude.{ℕ, zero, suc, List, [], ◌∷◌, ◌++◌, Option, Some, None, option_to_list, slice_get}
 use Rattle.lapin_types.specs.declared.message.Delivery.{Delivery}
-use Rattle.lapin_shared.specs.declared.entry.Entry.{Entry}
+use Rattle.lapin_locked.specs.declared.entry.Entry.{Entry}
 use Rattle.lapin_pool.specs.declared.card.Card.{Card}
 use Rattle.lapin_pool.specs.declared.card.Sent.TheVariants as sent
 use Rattle.lapin_pool.specs.Cards.{delivery_told}

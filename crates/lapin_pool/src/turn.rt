@@ -6,7 +6,7 @@ ghost use Rattle.lapin_acker.specs.declared.verdict.Verdict.{Verdict};
 ghost use Rattle.lapin_acker.specs.Verdicts.{call_of};
 ghost use Rattle.lapin_shared.specs.Grown.{Seen, Grew};
 ghost use Rattle.lapin_shared.specs.Read.{HasPlace, IsReadAt};
-ghost use Rattle.lapin_shared.specs.declared.entry.Told.{Told};
+ghost use Rattle.lapin_locked.specs.declared.entry.Told.{Told};
 ghost use Rattle.lapin_pool.specs.Turns.{IsTaken, IsTreated, IsTurn, job_step, standing, step_in};
 ghost use Rattle.lapin_pool.specs.Verdicts.{last_verdict as last_verdict_lem};
 ghost use Rattle.lapin_pool.specs.Cards.{IsSent, delivery_in as delivery_in_lem, delivery_told as delivery_told_lem, delivery_handed as delivery_handed_lem};

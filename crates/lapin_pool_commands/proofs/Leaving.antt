@@ -8,8 +8,8 @@ use Rattle.std.proofs.lemmas.List.Sums.{sum_by-cons}
 use Rattle.std.proofs.lemmas.List.Elements.{All-nil, All-cons, All-head, All-tail, recursion_from_All, Contains-append_right}
 use Rattle.std.proofs.lemmas.Map.Keys.{IsDistinct-cons}
 use Rattle.lapin_types.specs.declared.event.Event.{Event}
-use Rattle.lapin_shared.specs.declared.entry.Entry.{Entry}
-use Rattle.lapin_shared.specs.declared.entry.Told.{Told}
+use Rattle.lapin_locked.specs.declared.entry.Entry.{Entry}
+use Rattle.lapin_locked.specs.declared.entry.Told.{Told}
 use Rattle.lapin_shared.specs.Grown.{Seen, Rise, AreFresh}
 use Rattle.lapin_shared.specs.Checked.{AllAt}
 use Rattle.lapin_shared.specs.Own.{own, event_of, AreBack, logged}

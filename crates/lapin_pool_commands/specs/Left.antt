@@ -4,7 +4,7 @@ use Rattle.std.specs.List.{Contains}
 use Rattle.lapin_types.specs.declared.event.Event.{Event}
 use Rattle.lapin_types.specs.declared.message.Delivery.{Delivery}
 use Rattle.lapin_acker.specs.declared.verdict.Verdict.{Verdict}
-use Rattle.lapin_shared.specs.declared.entry.Entry.{Entry}
+use Rattle.lapin_locked.specs.declared.entry.Entry.{Entry}
 use Rattle.lapin_shared.specs.Grown.{Seen, AreFresh}
 use Rattle.lapin_shared.specs.Own.{own, event_of}
 use Rattle.lapin_pool.specs.declared.card.Card.{Card}

@@ -1,15 +1,12 @@
 //! The program: it makes the real source and sink, hands them with its words to a top call, and ends with the status's code. What it
-//! does is stated by `run_shared` of `lapin_shared_commands`, where the first word is `shared`, by `run_pool_program` of
-//! `lapin_pool_commands`, where it is `pool`, else by `run_program` of `lapin_commands`; what it says on standard error is made by
-//! `lapin_reasons`; here stands only what touches the process.
+//! does is stated in `lapin_program`, by `run_shared`, where the first word is `shared`, by `run_pool_program`, where it is `pool`, else
+//! by `run_program`; what it says on standard error is made by `lapin_reasons`; here stands only what touches the process.
 #![tactic(auto)]
 
-use lapin_commands::{Status, run_program};
 use lapin_io::{StdSink, StdSource};
-use lapin_pool_commands::run_pool_program;
+use lapin_program::{Status, run_pool_program, run_program, run_shared};
 use lapin_reasons::{Heard, why};
 use lapin_shared::OpenGate;
-use lapin_shared_commands::run_shared;
 use std::alloc::Global;
 use std::env;
 use std::io::{ErrorKind, Write};

@@ -8,12 +8,12 @@ use Rattle.std.proofs.sync.ledger.Share.TheSendSync as share
 use Rattle.std.proofs.Crossing.{crosses}
 use Rattle.lapin_send.proofs.Types.{event_field_send, event_field_sync, record_field_send, record_field_sync}
 use Rattle.lapin_send.proofs.Parts.{session_send}
-use Rattle.lapin_shared.specs.contracts.entry.Entry as entry_
-use Rattle.lapin_shared.specs.contracts.entry.Told as told_
-use Rattle.lapin_shared.specs.contracts.stored.Stored as stored_
-use Rattle.lapin_shared.specs.contracts.stored.Logged as logged_
-use Rattle.lapin_shared.specs.contracts.locked.Locked as locked_
-use Rattle.lapin_shared.specs.contracts.locked.Locked.TheInside as in_locked
+use Rattle.lapin_locked.specs.contracts.entry.Entry as entry_
+use Rattle.lapin_locked.specs.contracts.entry.Told as told_
+use Rattle.lapin_locked.specs.contracts.stored.Stored as stored_
+use Rattle.lapin_locked.specs.contracts.stored.Logged as logged_
+use Rattle.lapin_locked.specs.contracts.locked.Locked as locked_
+use Rattle.lapin_locked.specs.contracts.locked.Locked.TheInside as in_locked
 use Rattle.lapin_shared.specs.contracts.caller.Shared as shared_
 use Rattle.lapin_shared.specs.contracts.hand.Hand as hand_
 use Rattle.lapin_shared.specs.contracts.hand.Hand.TheInside as in_hand

@@ -4,8 +4,8 @@ use Rattle.lapin_rules.specs.History.{History}
 use Rattle.lapin_rules.specs.Words.{many}
 use Rattle.lapin_laws.specs.Consumers.{uses_acker}
 use Rattle.lapin_laws.proofs.Once.{used_once}
-use Rattle.lapin_shared.specs.declared.entry.Entry.{Entry}
-use Rattle.lapin_shared.specs.Lawful.{history_of, told_in, event_of, answer_of, IsLawful}
+use Rattle.lapin_locked.specs.declared.entry.Entry.{Entry}
+use Rattle.lapin_locked.specs.Lawful.{history_of, told_in, event_of, answer_of, IsLawful}
 use Rattle.lapin_shared.specs.Ackers.{UsesOnce}
 
 -- the events of entries beside their records

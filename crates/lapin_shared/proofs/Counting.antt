@@ -5,8 +5,8 @@ use Rattle.std.proofs.lemmas.List.{length-map}
 use Rattle.std.proofs.lemmas.List.Elements.{All-head, All-tail}
 use Rattle.std.proofs.lemmas.Bool.Decides.{nat_tests}
 use Rattle.lapin_types.specs.declared.event.Event.{Event}
-use Rattle.lapin_shared.specs.declared.entry.Entry.{Entry}
-use Rattle.lapin_shared.specs.declared.entry.Told.{Told}
+use Rattle.lapin_locked.specs.declared.entry.Entry.{Entry}
+use Rattle.lapin_locked.specs.declared.entry.Told.{Told}
 use Rattle.lapin_shared.specs.Grown.{Seen, Rise}
 use Rattle.lapin_shared.specs.Checked.{IsAt, AllAt}
 use Rattle.lapin_shared.specs.Own.{own, event_of, AreBack, logged, AreOwn}

@@ -2,8 +2,9 @@
 use Rattle.std.proofs.Common.{◌≡◌, ℕ, ◌<◌, ◌++◌, List, [], ◌∷◌, length, refl, ◌∙◌, ap, arith, Some, None, get_or}
 use Rattle.std.specs.Prelude.{slice_get, slice_set, zero, suc}
 use Rattle.lapin_types.specs.declared.record.Record.{Record}
-use Rattle.lapin_shared.specs.declared.entry.Told.{Told}
-use Rattle.lapin_shared.specs.Grown.{Seen, told}
+use Rattle.lapin_locked.specs.declared.entry.Told.{Told}
+use Rattle.lapin_locked.specs.Known.{told}
+use Rattle.lapin_shared.specs.Grown.{Seen}
 use Rattle.lapin_shared.specs.Read.{answered, unread}
 
 pub answered_put : (ts : List Told) (k : ℕ) (r : Record) (d : Told) → k < length ts → d ≡ get_or ts k d → slice_set ts k (told d.place d.event (Some r)) ≡ answered ts k r

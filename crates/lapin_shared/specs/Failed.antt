@@ -1,14 +1,15 @@
 -- What a call of a caller leaves: where its step was made, and where memory ran out.
 use Rattle.std.specs.Prelude.{◌≡◌, ℕ, [], ◌∷◌, ◌++◌, Some, None, Result, Ok, Err}
 use Rattle.lapin_types.specs.declared.event.Event.{Event}
-use Rattle.lapin_shared.specs.declared.entry.Entry.{Entry}
+use Rattle.lapin_locked.specs.declared.entry.Entry.{Entry}
 use Rattle.lapin_shared.specs.declared.caller.StepError.{StepError}
 use Rattle.lapin_shared.specs.declared.caller.StepError.TheVariants as failed
 use Rattle.lapin_types.specs.declared.event.Event.TheVariants as event
 use Rattle.lapin_types.specs.declared.record.Record.{Record}
-use Rattle.lapin_shared.specs.declared.entry.Told.{Told}
-use Rattle.lapin_shared.specs.Grown.{Seen, Grew, told, Stepped, IsOver}
-use Rattle.lapin_shared.specs.UnderLock.{UnderLock}
+use Rattle.lapin_locked.specs.declared.entry.Told.{Told}
+use Rattle.lapin_locked.specs.Known.{told}
+use Rattle.lapin_shared.specs.Grown.{Seen, Grew, Stepped, IsOver}
+use Rattle.lapin_locked.specs.UnderLock.{UnderLock}
 
 -- before the step nothing changed; behind it the log got its entry, without an answer; no step is left unsent
 abbrev pub IfFailed : Seen → Event → StepError → Seen → Type 0

@@ -1,10 +1,9 @@
--- What a caller knows, and how its log grows.
-use Rattle.std.specs.Prelude.{◌≡◌, ◌≢◌, ℕ, ◌+◌, ◌<◌, Bool, true, false, List, [], ◌∷◌, ◌++◌, length, Option, Some, None}
+-- What is seen of a caller, and how its log grows.
+use Rattle.std.specs.Prelude.{◌≡◌, ◌≢◌, ℕ, ◌+◌, ◌<◌, false, List, [], ◌∷◌, ◌++◌, length, None}
 use Rattle.lapin_types.specs.declared.event.Event.{Event}
 use Rattle.lapin_types.specs.declared.record.Record.{Record}
 use Rattle.lapin_machine.specs.Told.{is_pending_record}
-use Rattle.lapin_shared.specs.declared.entry.Entry.{Entry}
-use Rattle.lapin_shared.specs.declared.entry.Told.{Told}
+use Rattle.lapin_locked.specs.declared.entry.Told.{Told}
 
 -- what is seen of a caller
 pub record Seen : Type 0 where
@@ -15,19 +14,6 @@ pub record Seen : Type 0 where
 pub record Made : Type 0 where
   pub frame_max : ℕ
   pub made : ℕ
-
--- an entry of a log, with an answer or without
-abbrev pub told : ℕ → Event → Option Record → Told
-told p e r = record { place = p; event = e; answer = r }
-
--- the record, where it was read
-abbrev pub read_of : Bool → Record → Option Record
-read_of true r = Some r
-read_of false r = None
-
--- an entry of the history at that place, as its caller knows it
-abbrev pub known : ℕ → Bool → Entry → Told
-known p read x = told p x.event (read_of read x.answer)
 
 -- the places rise, above m
 abbrev pub Rise : ℕ → List Told → Type 0

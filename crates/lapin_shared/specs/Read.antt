@@ -4,8 +4,9 @@ use Rattle.lapin_types.specs.declared.record.Record.{Record}
 use Rattle.lapin_types.specs.declared.event.Event.{Event}
 use Rattle.lapin_shared.specs.declared.caller.StepError.{StepError}
 use Rattle.lapin_shared.specs.declared.caller.StepError.TheVariants as failed
-use Rattle.lapin_shared.specs.declared.entry.Told.{Told}
-use Rattle.lapin_shared.specs.Grown.{Seen, told}
+use Rattle.lapin_locked.specs.declared.entry.Told.{Told}
+use Rattle.lapin_locked.specs.Known.{told}
+use Rattle.lapin_shared.specs.Grown.{Seen}
 
 -- entry k of the log has that place
 pub record IsPlaceAt (log : List Told) (k place : ℕ) : Type 0 where

@@ -1,6 +1,6 @@
 //! One thread's end of the client: it takes the lock, makes one step, and tells those that wait.
 //!
-//! What a step does to the history stands in `locked`, what it does to the log in `hand`. The calls by name stand in `calls`.
+//! What a step does to the history stands in `lapin_locked`, what it does to the log in `hand`. The calls by name stand in `calls`.
 
 ghost use Rattle.std.specs.Prelude.{◌≡◌, ◌≢◌, ℕ, List, ◌<◌, ◌≤◌, [], ◌∷◌, ◌++◌, length, IfOk, IfErr, IfSome, Some, None, false, slice_get, ◌-◌};
 ghost use Rattle.std.specs.Sync.Mutex.{mutex_guard_value};
@@ -9,16 +9,15 @@ ghost use Rattle.lapin_types.specs.declared.event.Event.TheVariants as event_;
 ghost use Rattle.lapin_types.specs.declared.record.Record.{Record};
 ghost use Rattle.lapin_machine.specs.World.{World, told_by};
 ghost use Rattle.lapin_machine.specs.Told.{is_pending_record};
-ghost use Rattle.lapin_shared.specs.Grown.{Grew, told, last_of, IsOver, Rise};
-ghost use Rattle.lapin_shared.specs.declared.entry.Told.{Told as AnEntry};
+ghost use Rattle.lapin_locked.specs.Known.{told};
+ghost use Rattle.lapin_shared.specs.Grown.{Grew, last_of, IsOver, Rise};
+ghost use Rattle.lapin_locked.specs.declared.entry.Told.{Told as AnEntry};
 ghost use Rattle.lapin_shared.specs.Read.{HasPlace, IsReadAt, IsShown};
 ghost use Rattle.lapin_shared.specs.Failed.{IfFailed, IsStep, IsWait};
 
-use crate::entry::Told;
 use crate::hand::Hand;
-use crate::locked::{Crew, Locked};
-use crate::stored::Logged;
 use lapin_acker::Verdict;
+use lapin_locked::{Crew, Locked, Logged, Told};
 use lapin_types::{Event, NoMemory};
 use std::alloc::Global;
 use std::marker::Model;

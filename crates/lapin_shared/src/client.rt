@@ -1,12 +1,12 @@
 //! The client: it makes the callers over one lock, and takes them back at the end. A caller's steps stand in `caller`, what lies under the
-//! lock in `locked`.
+//! lock in `lapin_locked`.
 
 ghost use Rattle.std.specs.Prelude.{◌≡◌, ℕ, ◌+◌, ◌-◌, ◌<◌, ◌≤◌, [], ◌∷◌, ◌++◌, length, IsOk, IfOk, OnOk, OnErr, IfErr, true, All, ◌↔◌};
 ghost use Rattle.std.specs.List.{sum_by};
 ghost use Rattle.std.specs.Sync.Mutex.{mutex_guard_value};
 ghost use Rattle.lapin_machine.specs.World.{new_world};
 ghost use Rattle.lapin_machine.specs.Stands.{Stands};
-ghost use Rattle.lapin_shared.specs.Lawful.{IsLawful};
+ghost use Rattle.lapin_locked.specs.Lawful.{IsLawful};
 ghost use Rattle.lapin_shared.specs.Checked.{IsAt, AllAt};
 ghost use Rattle.lapin_shared.specs.Ackers.{UsesOnce};
 ghost use Rattle.lapin_shared.specs.Grown.{AreFresh, Rise};
@@ -14,8 +14,7 @@ ghost use Rattle.lapin_shared.specs.Finished.{IsOut};
 
 use crate::caller::{Caller, Shared};
 use crate::history::{History, are_at, stored};
-use crate::locked::{Crew, Locked};
-use crate::stored::Stored;
+use lapin_locked::{Crew, Locked, Stored};
 use lapin_session::Session;
 use lapin_types::NoMemory;
 use std::alloc::Global;

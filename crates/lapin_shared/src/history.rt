@@ -3,8 +3,7 @@
 ghost use Rattle.std.specs.Prelude.{◌≡◌, ℕ, ◌-◌, ◌<◌, ◌≤◌, length, true, All, take, slice_get, IfSome, MatchOption, Some, None, ◌⊎◌};
 ghost use Rattle.lapin_shared.specs.Checked.{IsAt};
 
-use crate::entry::Entry;
-use crate::stored::{Logged, Stored};
+use lapin_locked::{Entry, Logged, Stored};
 use std::marker::Model;
 
 /// A history that was stored under the lock of a client. `Client::finish` alone makes one.
@@ -21,11 +20,11 @@ impl Drop for History {
 
 impl Model for History {
     ghost use Rattle.std.specs.Prelude.{List};
-    ghost use Rattle.lapin_shared.specs.declared.entry.Entry.{Entry};
+    ghost use Rattle.lapin_locked.specs.declared.entry.Entry.{Entry};
 
     ghost Value = { List Entry };
 
-    ghost use Rattle.lapin_shared.specs.Codes.{entries_code};
+    ghost use Rattle.lapin_locked.specs.Codes.{entries_code};
 
     ghost coded = { entries_code };
 

@@ -1,9 +1,9 @@
 //! Laws of histories, each on a function with an empty body.
 
 ghost use Rattle.std.specs.Prelude.{◌≡◌, ℕ, List, length};
-ghost use Rattle.lapin_shared.specs.declared.entry.Entry.{Entry as AnEntry};
+ghost use Rattle.lapin_locked.specs.declared.entry.Entry.{Entry as AnEntry};
 ghost use Rattle.lapin_shared.specs.Grown.{Seen};
-ghost use Rattle.lapin_shared.specs.Lawful.{IsLawful};
+ghost use Rattle.lapin_locked.specs.Lawful.{IsLawful};
 ghost use Rattle.lapin_shared.specs.Own.{AreBack, AreOwn, logged};
 ghost use Rattle.lapin_shared.specs.Ackers.{UsesOnce};
 

@@ -4,27 +4,21 @@
 //! each thread's end, its `Caller`, keeps a log of its own steps. `Client::finish` takes all callers back and gives the history, which
 //! is one that a single session could have told, and an interleaving of the logs.
 //!
-//! What an event does stands in the session below; text, commands and workers, which take jobs of consumers and call their delegates,
-//! stand above.
+//! What lies under the lock, and a step on it, stands in `lapin_locked`, whose names stand here again; what an event does in the session
+//! below. Text, commands and workers, which take jobs of consumers and call their delegates, stand above.
 #![tactic(auto)]
 
-mod answering;
 mod caller;
 mod calls;
 mod client;
-mod entry;
 mod gate;
 mod hand;
 mod history;
 mod laws;
-mod locked;
-mod stored;
 
 pub use caller::{Caller, StepError};
 pub use client::{Client, FinishError};
-pub use entry::{Entry, Told};
 pub use gate::{Gate, OpenGate};
 pub use history::History;
+pub use lapin_locked::{Crew, Entry, Locked, Logged, Stored, Told};
 pub use laws::{ackers_are_used_once, interleaves};
-pub use locked::{Crew, Locked};
-pub use stored::{Logged, Stored};

@@ -2,7 +2,7 @@
 use Rattle.std.proofs.Common.{◌≡◌, ℕ, List, [], Option, Some, None, sym, ◌∙◌}
 use Rattle.lapin_text.specs.Input.{lines_of}
 use Rattle.lapin_text.proofs.InputLaws.{parsed_once}
-use Rattle.lapin_shared.specs.declared.entry.Entry.{Entry}
+use Rattle.lapin_locked.specs.declared.entry.Entry.{Entry}
 use Rattle.lapin_inputs.specs.Format.{SaysEvents}
 use Rattle.lapin_shared_commands.specs.Outcome.{IsRun}
 

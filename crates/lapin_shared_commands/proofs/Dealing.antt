@@ -3,7 +3,7 @@ use Rattle.std.proofs.Common.{◌≡◌, ℕ, ◌+◌, ◌<◌, List, [], ◌∷
 use Rattle.std.specs.Prelude.{◌%◌, reverse, slice_set, zero, suc}
 use Rattle.std.proofs.lemmas.List.{map-append, reverse-append}
 use Rattle.lapin_types.specs.declared.event.Event.{Event}
-use Rattle.lapin_shared.specs.declared.entry.Told.{Told}
+use Rattle.lapin_locked.specs.declared.entry.Told.{Told}
 use Rattle.lapin_shared.specs.Grown.{Seen, Grew, AreFresh}
 use Rattle.lapin_shared.specs.Own.{event_of}
 use Rattle.lapin_shared_commands.specs.declared.shifts.Shift.{Shift}

@@ -6,10 +6,10 @@ use Rattle.std.proofs.lemmas.List.{length-map}
 use Rattle.std.proofs.lemmas.List.Sums.{sum_by-cons}
 use Rattle.std.proofs.lemmas.List.Elements.{All-head, All-tail}
 use Rattle.lapin_types.specs.declared.event.Event.{Event}
-use Rattle.lapin_shared.specs.declared.entry.Entry.{Entry}
+use Rattle.lapin_locked.specs.declared.entry.Entry.{Entry}
 use Rattle.lapin_shared.specs.Grown.{Seen, Rise}
 use Rattle.lapin_shared.specs.Checked.{AllAt}
-use Rattle.lapin_shared.specs.Lawful.{IsLawful}
+use Rattle.lapin_locked.specs.Lawful.{IsLawful}
 use Rattle.lapin_shared.specs.Own.{own, event_of, AreBack, logged, AreOwn}
 use Rattle.lapin_shared.proofs.Counting.{interleaves}
 use Rattle.lapin_threads.specs.Each.{EachLeft}

@@ -3,7 +3,7 @@ use Rattle.std.proofs.Common.{◌≡◌, ℕ, ◌+◌, List, [], ◌∷◌, ◌+
 use Rattle.std.specs.Prelude.{slice_get, zero, suc}
 use Rattle.std.specs.List.{flat_map}
 use Rattle.std.proofs.lemmas.Grind.{flat_map-append}
-use Rattle.lapin_shared.specs.declared.entry.Entry.{Entry}
+use Rattle.lapin_locked.specs.declared.entry.Entry.{Entry}
 use Rattle.lapin_shared_commands.specs.Printed.{entry_line, history_text}
 
 -- the first elements, and the next

@@ -1,9 +1,9 @@
 -- How the events of an input fall to callers, and what a history of them says.
 use Rattle.std.specs.Prelude.{◌≡◌, ℕ, ◌+◌, ◌%◌, ◌==◌, ◌≤◌, Bool, true, List, [], ◌∷◌, ◌++◌, map, length, reverse, if◌then◌else◌}
 use Rattle.lapin_types.specs.declared.event.Event.{Event}
-use Rattle.lapin_shared.specs.declared.entry.Entry.{Entry}
+use Rattle.lapin_locked.specs.declared.entry.Entry.{Entry}
 use Rattle.lapin_shared.specs.Grown.{Seen}
-use Rattle.lapin_shared.specs.Lawful.{IsLawful}
+use Rattle.lapin_locked.specs.Lawful.{IsLawful}
 use Rattle.lapin_shared.specs.Own.{own, event_of}
 use Rattle.lapin_shared_commands.specs.declared.shifts.Shift.{Shift}
 

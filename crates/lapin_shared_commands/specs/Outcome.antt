@@ -3,7 +3,7 @@ use Rattle.std.specs.Prelude.{◌≡◌, ℕ, List, [], Option, Some, None}
 use Rattle.std.specs.Io.KnownBytes.{Appends}
 use Rattle.lapin_types.specs.declared.event.Event.{Event}
 use Rattle.lapin_text.specs.Input.{lines_of, AreParsed}
-use Rattle.lapin_shared.specs.declared.entry.Entry.{Entry}
+use Rattle.lapin_locked.specs.declared.entry.Entry.{Entry}
 use Rattle.lapin_inputs.specs.Writing.{WritesPrefix}
 use Rattle.lapin_shared_commands.specs.Dealt.{IsDealt}
 use Rattle.lapin_shared_commands.specs.Printed.{history_text, run_text}

@@ -2,7 +2,7 @@
 use Rattle.std.specs.Prelude.{ℕ, List, [], ◌∷◌, ◌++◌, decimal, Option, Some, None}
 use Rattle.std.specs.List.{flat_map}
 use Rattle.lapin_text.specs.Records.{record_line}
-use Rattle.lapin_shared.specs.declared.entry.Entry.{Entry}
+use Rattle.lapin_locked.specs.declared.entry.Entry.{Entry}
 use Rattle.lapin_inputs.specs.Printing.{bad_line_text}
 
 -- an entry: its caller's number, a space, the line of its record

@@ -1,20 +1,18 @@
 //! The command `shared N` as a library: N callers of one session make the events of an input, each caller on a thread of its own.
 //!
-//! `run_shared` tries the words, reads, parses, runs and writes. What the callers did is one history, and the text is that history's.
-//! Reading, writing and the status are those of `lapin_inputs`; what a caller's step does stands in `lapin_shared`.
+//! `answer` parses, runs and writes. What the callers did is one history, and the text is that history's. Its words are tried and its
+//! input is read in the crate above (`run_shared`). Writing and the status are those of `lapin_inputs`; what a caller's step does stands
+//! in `lapin_shared`.
 #![tactic(auto)]
 
-mod answer;
-mod in_memory;
+mod answering;
 mod printing;
-mod program;
 mod running;
 mod shifts;
 mod turns;
 mod words;
 
-pub use in_memory::run_shared_in_memory;
+pub use answering::answer;
 pub use printing::put_history;
-pub use program::run_shared;
 pub use turns::is_made;
-pub use words::counted;
+pub use words::{counted, shared_callers};

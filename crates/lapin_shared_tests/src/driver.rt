@@ -2,8 +2,8 @@
 
 use lapin_inputs::Status;
 use lapin_io::{SureSink, SureSource};
+use lapin_program::run_shared;
 use lapin_shared::{Gate, History};
-use lapin_shared_commands::run_shared;
 use std::alloc::{AllocError, Global};
 use std::process::Abort;
 use std::sync::Wait;

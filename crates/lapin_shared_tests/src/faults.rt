@@ -3,8 +3,8 @@
 use crate::driver::words_of;
 use lapin_inputs::Status;
 use lapin_io::{MemorySink, MemorySource};
+use lapin_program::run_shared;
 use lapin_shared::{History, OpenGate};
-use lapin_shared_commands::run_shared;
 use std::alloc::Global;
 use std::process::Abort;
 use std::sync::Wait;

@@ -1,6 +1,6 @@
 //! How a payload is cut: a frame holds `frame_max` bytes, 8 of which are not of the body.
 use crate::driver::ends_as;
-use lapin_commands::Status;
+use lapin_program::Status;
 use std::alloc::AllocError;
 use std::test::Fail;
 

@@ -1,8 +1,8 @@
 //! What runs a table: each history's steps go through a command of the program, and what it prints is compared, to the byte, with the
 //! history's records or reports; or each row has the words, an input, the status and what is written.
 use crate::begun::begun;
-use lapin_commands::{Status, run_in_memory};
 use lapin_io::SureSink;
+use lapin_program::{Status, run_in_memory};
 use std::alloc::{AllocError, Global};
 use std::process::Abort;
 

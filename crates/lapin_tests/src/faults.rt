@@ -1,7 +1,7 @@
 //! The program over sources and sinks that give and take in pieces, and fail, at each call; its limit; the standard streams.
 use crate::driver::{is_as, words_of};
-use lapin_commands::{Status, run_in_memory, run_program};
 use lapin_io::{MemorySink, MemorySource, Sink, Source, StdSink, StdSource, SureSink, SureSource};
+use lapin_program::{Status, run_in_memory, run_program};
 use std::alloc::{AllocError, Global};
 use std::test::Fail;
 

@@ -1,6 +1,6 @@
 //! Inputs by their lines: the first one, the last one, and the number of a bad one.
 use crate::driver::{end_as_told, ends_as};
-use lapin_commands::Status;
+use lapin_program::Status;
 use std::alloc::AllocError;
 use std::process::Abort;
 use std::test::Fail;

@@ -1,6 +1,6 @@
 //! The words of the command line, and the exit statuses.
 use crate::driver::end_as_told;
-use lapin_commands::{Status, run_in_memory};
+use lapin_program::{Status, run_in_memory};
 use std::alloc::AllocError;
 use std::process::Abort;
 use std::test::Fail;

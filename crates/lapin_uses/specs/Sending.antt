@@ -5,7 +5,8 @@ use Rattle.lapin_types.specs.declared.event.Event.TheVariants as event
 use Rattle.lapin_types.specs.declared.record.Record.{Record}
 use Rattle.lapin_types.specs.declared.record.Record.TheVariants as record_
 use Rattle.lapin_shared.specs.declared.caller.StepError.{StepError}
-use Rattle.lapin_shared.specs.Grown.{Seen, Grew, told}
+use Rattle.lapin_locked.specs.Known.{told}
+use Rattle.lapin_shared.specs.Grown.{Seen, Grew}
 use Rattle.lapin_shared.specs.Failed.{IfFailed}
 use Rattle.lapin_uses.specs.declared.socket.Sent.{Sent}
 use Rattle.lapin_uses.specs.declared.socket.Sent.TheVariants as sent

@@ -6,7 +6,8 @@
 ghost use Rattle.std.specs.Prelude.{Some, IfOk, IfErr};
 ghost use Rattle.lapin_types.specs.declared.event.Event.TheVariants as event;
 ghost use Rattle.lapin_machine.specs.World.{World, told_by};
-ghost use Rattle.lapin_shared.specs.Grown.{Grew, told};
+ghost use Rattle.lapin_locked.specs.Known.{told};
+ghost use Rattle.lapin_shared.specs.Grown.{Grew};
 ghost use Rattle.lapin_shared.specs.Failed.{IfFailed};
 ghost use Rattle.lapin_uses.specs.Sending.{OneSent, AllSent, IsWritten, frame_in};
 

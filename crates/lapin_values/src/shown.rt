@@ -7,8 +7,9 @@ use crate::text::{LongString, ShortString};
 use crate::value::{AMQPValue, FieldArray, FieldTable};
 use std::fmt;
 
-// Bytes as pairs of lower-case hexadecimal digits.
-fn show_pairs<W: fmt::Write>(bytes: &[u8], f: &mut fmt::Formatter<W>) -> fmt::Result {
+// A letter, and behind it bytes as pairs of lower-case hexadecimal digits.
+fn show_pairs<W: fmt::Write>(letter: &str, bytes: &[u8], f: &mut fmt::Formatter<W>) -> fmt::Result {
+    f.write_str(letter)?;
     for byte in bytes {
         write!(f, "{byte:02x}")?;
     }
@@ -17,8 +18,7 @@ fn show_pairs<W: fmt::Write>(bytes: &[u8], f: &mut fmt::Formatter<W>) -> fmt::Re
 
 impl fmt::Display for ShortString {
     fn fmt<W: fmt::Write>(&self, f: &mut fmt::Formatter<W>) -> fmt::Result {
-        write!(f, "x")?;
-        show_pairs(self.as_str().as_bytes(), f)
+        show_pairs("x", self.as_str().as_bytes(), f)
     }
 }
 
@@ -31,8 +31,7 @@ impl fmt::Debug for ShortString {
 /// As the value of a field that is one.
 impl fmt::Display for LongString {
     fn fmt<W: fmt::Write>(&self, f: &mut fmt::Formatter<W>) -> fmt::Result {
-        write!(f, "S")?;
-        show_pairs(self.as_bytes(), f)
+        show_pairs("S", self.as_bytes(), f)
     }
 }
 
@@ -44,8 +43,7 @@ impl fmt::Debug for LongString {
 
 impl fmt::Display for Payload {
     fn fmt<W: fmt::Write>(&self, f: &mut fmt::Formatter<W>) -> fmt::Result {
-        write!(f, "x")?;
-        show_pairs(self.as_bytes(), f)
+        show_pairs("x", self.as_bytes(), f)
     }
 }
 
@@ -60,50 +58,56 @@ fn show_comma<W: fmt::Write>(place: usize, f: &mut fmt::Formatter<W>) -> fmt::Re
     if place == 0 {
         return Ok(());
     }
-    write!(f, ",")
+    f.write_str(",")
+}
+
+// A letter, and behind it a number.
+fn show_number<T: fmt::Display + Copy, W: fmt::Write>(
+    letter: &str,
+    number: T,
+    f: &mut fmt::Formatter<W>,
+) -> fmt::Result {
+    write!(f, "{letter}{number}")
 }
 
 #[cycle(shown)]
 fn show_value<W: fmt::Write>(value: &AMQPValue, f: &mut fmt::Formatter<W>) -> fmt::Result {
     match value {
-        AMQPValue::Boolean(flag) => write!(f, "t{}", u8::from(*flag)),
-        AMQPValue::ShortShortInt(number) => write!(f, "b{number}"),
-        AMQPValue::ShortShortUInt(number) => write!(f, "B{number}"),
-        AMQPValue::ShortInt(number) => write!(f, "s{number}"),
-        AMQPValue::ShortUInt(number) => write!(f, "u{number}"),
-        AMQPValue::LongInt(number) => write!(f, "I{number}"),
-        AMQPValue::LongUInt(number) => write!(f, "i{number}"),
-        AMQPValue::LongLongInt(number) => write!(f, "l{number}"),
-        AMQPValue::Timestamp(number) => write!(f, "T{number}"),
+        AMQPValue::Boolean(flag) => show_number("t", u8::from(*flag), f),
+        AMQPValue::ShortShortInt(number) => show_number("b", *number, f),
+        AMQPValue::ShortShortUInt(number) => show_number("B", *number, f),
+        AMQPValue::ShortInt(number) => show_number("s", *number, f),
+        AMQPValue::ShortUInt(number) => show_number("u", *number, f),
+        AMQPValue::LongInt(number) => show_number("I", *number, f),
+        AMQPValue::LongUInt(number) => show_number("i", *number, f),
+        AMQPValue::LongLongInt(number) => show_number("l", *number, f),
+        AMQPValue::Timestamp(number) => show_number("T", *number, f),
         AMQPValue::LongString(text) => fmt::Display::fmt(text, f),
-        AMQPValue::ByteArray(bytes) => {
-            write!(f, "y")?;
-            show_pairs(bytes.as_bytes(), f)
-        }
+        AMQPValue::ByteArray(bytes) => show_pairs("y", bytes.as_bytes(), f),
         AMQPValue::FieldArray(array) => show_array(array, f),
         AMQPValue::FieldTable(table) => {
-            write!(f, "F")?;
+            f.write_str("F")?;
             show_table(table, f)
         }
-        AMQPValue::Void => write!(f, "V"),
+        AMQPValue::Void => f.write_str("V"),
     }
 }
 
 #[cycle(shown)]
 fn show_array<W: fmt::Write>(array: &FieldArray, f: &mut fmt::Formatter<W>) -> fmt::Result {
-    write!(f, "A[")?;
+    f.write_str("A[")?;
     for place in 0..array.len() {
         if let Some(item) = array.at(place) {
             show_comma(place, f)?;
             show_value(item, f)?;
         }
     }
-    write!(f, "]")
+    f.write_str("]")
 }
 
 #[cycle(shown)]
 fn show_table<W: fmt::Write>(table: &FieldTable, f: &mut fmt::Formatter<W>) -> fmt::Result {
-    write!(f, "{{")?;
+    f.write_str("{")?;
     for place in 0..table.len() {
         if let Some((key, value)) = table.at(place) {
             show_comma(place, f)?;
@@ -111,7 +115,7 @@ fn show_table<W: fmt::Write>(table: &FieldTable, f: &mut fmt::Formatter<W>) -> f
             show_value(value, f)?;
         }
     }
-    write!(f, "}}")
+    f.write_str("}")
 }
 
 impl fmt::Display for AMQPValue {
@@ -151,40 +155,66 @@ impl fmt::Debug for FieldTable {
 }
 
 // A property that is set, behind a comma where another came before it. Says whether none came yet.
-fn show_property<T: fmt::Display + Drop, W: fmt::Write>(
+fn show_property<T: fmt::Display + Copy, W: fmt::Write>(
     is_first: bool,
     name: &str,
     value: Option<T>,
     f: &mut fmt::Formatter<W>,
 ) -> Result<bool, fmt::Error> {
-    match value {
-        Some(value) if is_first => write!(f, "{name}={value}")?,
-        Some(value) => write!(f, ",{name}={value}")?,
-        None => return Ok(is_first),
-    }
+    let Some(value) = value else {
+        return Ok(is_first);
+    };
+    let comma = if is_first { "" } else { "," };
+    write!(f, "{comma}{name}={value}")?;
     Ok(false)
+}
+
+// The properties that say what the body is and how it is to be handled. Says whether none is set.
+fn show_of_content<W: fmt::Write>(
+    of: &BasicProperties,
+    f: &mut fmt::Formatter<W>,
+) -> Result<bool, fmt::Error> {
+    let first = show_property(true, "content_type", of.content_type(), f)?;
+    let first = show_property(first, "content_encoding", of.content_encoding(), f)?;
+    let first = show_property(first, "headers", of.headers(), f)?;
+    let first = show_property(first, "delivery_mode", of.delivery_mode(), f)?;
+    show_property(first, "priority", of.priority(), f)
+}
+
+// The properties that say which message it is, behind those of the content. Says whether none came yet.
+fn show_of_message<W: fmt::Write>(
+    first: bool,
+    of: &BasicProperties,
+    f: &mut fmt::Formatter<W>,
+) -> Result<bool, fmt::Error> {
+    let first = show_property(first, "correlation_id", of.correlation_id(), f)?;
+    let first = show_property(first, "reply_to", of.reply_to(), f)?;
+    let first = show_property(first, "expiration", of.expiration(), f)?;
+    let first = show_property(first, "message_id", of.message_id(), f)?;
+    show_property(first, "timestamp", of.timestamp(), f)
+}
+
+// The properties that say whose message it is, behind those of the message. Says whether none is set at all.
+fn show_of_sender<W: fmt::Write>(
+    first: bool,
+    of: &BasicProperties,
+    f: &mut fmt::Formatter<W>,
+) -> Result<bool, fmt::Error> {
+    let first = show_property(first, "kind", of.kind(), f)?;
+    let first = show_property(first, "user_id", of.user_id(), f)?;
+    let first = show_property(first, "app_id", of.app_id(), f)?;
+    show_property(first, "cluster_id", of.cluster_id(), f)
 }
 
 fn show_properties<W: fmt::Write>(
     properties: &BasicProperties,
     f: &mut fmt::Formatter<W>,
 ) -> fmt::Result {
-    write!(f, "[")?;
-    let first = show_property(true, "content_type", properties.content_type(), f)?;
-    let first = show_property(first, "content_encoding", properties.content_encoding(), f)?;
-    let first = show_property(first, "headers", properties.headers(), f)?;
-    let first = show_property(first, "delivery_mode", properties.delivery_mode(), f)?;
-    let first = show_property(first, "priority", properties.priority(), f)?;
-    let first = show_property(first, "correlation_id", properties.correlation_id(), f)?;
-    let first = show_property(first, "reply_to", properties.reply_to(), f)?;
-    let first = show_property(first, "expiration", properties.expiration(), f)?;
-    let first = show_property(first, "message_id", properties.message_id(), f)?;
-    let first = show_property(first, "timestamp", properties.timestamp(), f)?;
-    let first = show_property(first, "kind", properties.kind(), f)?;
-    let first = show_property(first, "user_id", properties.user_id(), f)?;
-    let first = show_property(first, "app_id", properties.app_id(), f)?;
-    show_property(first, "cluster_id", properties.cluster_id(), f)?;
-    write!(f, "]")
+    f.write_str("[")?;
+    let first = show_of_content(properties, f)?;
+    let first = show_of_message(first, properties, f)?;
+    show_of_sender(first, properties, f)?;
+    f.write_str("]")
 }
 
 impl fmt::Display for BasicProperties {

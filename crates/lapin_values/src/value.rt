@@ -36,9 +36,15 @@ pub enum AMQPValue {
 /// A list of field values, in the order in which they were pushed. A contract sees it as the list of their
 /// trees, each a value of `Data`.
 #[cycle(value)]
-#[derive(Drop)]
 pub struct FieldArray {
     items: Vec<AMQPValue>,
+}
+
+impl Drop for FieldArray {
+    #[cycle(let_go)]
+    fn drop(self) {
+        let FieldArray { items: _ } = self;
+    }
 }
 
 impl Model for FieldArray {

@@ -12,7 +12,7 @@ use Rattle.lapin_machine.specs.World.{World, told_by}
 use Rattle.lapin_acker.specs.declared.verdict.Verdict.{Verdict}
 use Rattle.lapin_shared.specs.declared.caller.StepError.{StepError}
 use Rattle.lapin_shared.specs.declared.caller.StepError.TheVariants as failed
-use Rattle.lapin_shared.specs.declared.entry.Told.{Told}
+use Rattle.lapin_locked.specs.declared.entry.Told.{Told}
 use Rattle.lapin_shared.specs.Grown.{Seen, Grew}
 use Rattle.lapin_work.specs.declared.work.Work.{Work}
 use Rattle.lapin_work.specs.declared.work.Work.TheVariants as work

@@ -6,8 +6,8 @@ use Rattle.lapin_types.specs.declared.record.Record.{Record}
 use Rattle.lapin_types.specs.Types.{Error}
 use Rattle.lapin_types.specs.declared.event.Event.TheVariants as event
 use Rattle.lapin_types.specs.declared.record.Record.TheVariants as record_
-use Rattle.lapin_shared.specs.declared.entry.Told.{Told}
-use Rattle.lapin_shared.specs.Grown.{told}
+use Rattle.lapin_locked.specs.declared.entry.Told.{Told}
+use Rattle.lapin_locked.specs.Known.{told}
 
 -- what a delegate is handed: a delivery, the consumer's end, or the error that ended its channel
 abbrev pub Handed : Type 0

@@ -10,7 +10,8 @@ use Rattle.lapin_acker.specs.declared.verdict.Verdict.{Verdict}
 use Rattle.lapin_acker.specs.Verdicts.{call_of}
 use Rattle.lapin_shared.specs.declared.caller.StepError.{StepError}
 use Rattle.lapin_shared.specs.declared.caller.StepError.TheVariants as failed
-use Rattle.lapin_shared.specs.Grown.{Seen, Grew, told}
+use Rattle.lapin_locked.specs.Known.{told}
+use Rattle.lapin_shared.specs.Grown.{Seen, Grew}
 use Rattle.lapin_work.specs.declared.work.Work.{Work}
 use Rattle.lapin_work.specs.declared.work.Work.TheVariants as work
 use Rattle.lapin_work.specs.declared.decision.Decision.{Decision}

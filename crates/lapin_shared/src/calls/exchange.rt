@@ -7,8 +7,7 @@ ghost use Rattle.lapin_types.specs.declared.event.Event.TheVariants as event;
 ghost use Rattle.lapin_shared.specs.Failed.{IsStep};
 
 use crate::caller::{Caller, StepError};
-use crate::entry::Told;
-use crate::locked::Crew;
+use lapin_locked::{Crew, Told};
 use lapin_types::{
     Call, Event, ExchangeBindOptions, ExchangeDeclareOptions, ExchangeDeleteOptions, ExchangeKind,
     ExchangeUnbindOptions, FieldTable, ShortString,

@@ -10,7 +10,7 @@ use lapin_acker::Verdict;
 use lapin_inputs::Status;
 use lapin_io::{SureSink, SureSource};
 use lapin_pool::{Duty, PoolEnd};
-use lapin_pool_commands::run_pool_program;
+use lapin_program::run_pool_program;
 use lapin_shared::{Caller, Crew, Gate};
 use lapin_types::Delivery;
 use std::alloc::Global;

@@ -2,8 +2,8 @@
 
 use crate::driver::{put, unescaped, words_of};
 use crate::reasons::cases::CASES;
-use lapin_commands::run_program;
 use lapin_io::{Source, SureSink, SureSource};
+use lapin_program::run_program;
 use lapin_reasons::{Heard, why};
 use std::alloc::{AllocError, Global};
 use std::process::Abort;

@@ -2,7 +2,7 @@ use Rattle.std.proofs.Common.{◌∙◌, ap}
 use Rattle.lapin_types.specs.declared.request.ReplyKind.TheVariants as reply_kind
 use Rattle.lapin_tables.specs.ByChannel.{on_channel}
 use Rattle.lapin_rules.specs.Requests.{without_kind, no_requests}
-use Rattle.lapin_machine.proofs.Channels.{on_twice}
+use Rattle.lapin_outstanding.proofs.Channels.{on_twice}
 use Rattle.lapin_machine.proofs.receiving_closes.kept_close.Goals as goal
 
 pub returns-clause-emptied : goal.returns-clause-emptied

@@ -1,4 +1,4 @@
-use Rattle.lapin_machine.proofs.Channels.{taken_is}
+use Rattle.lapin_outstanding.proofs.Channels.{taken_is}
 use Rattle.lapin_machine.proofs.receiving_closes.take_request.Goals as goal
 
 pub returns-clause-waiting : goal.returns-clause-waiting

@@ -1,6 +1,6 @@
 //! The words of the command `call`, and a bad line of its input.
 use crate::driver::{end_as_told, program};
-use lapin_commands::Status;
+use lapin_program::Status;
 use std::alloc::AllocError;
 
 const WORDS: &str = r"

@@ -1,7 +1,7 @@
 //! What runs a table: each transcript goes through the command `check`, and what it prints is compared, to the byte, with the lines
 //! behind the arrows.
 use crate::driver::{program, put};
-use lapin_commands::Status;
+use lapin_program::Status;
 use std::alloc::AllocError;
 use std::process::Abort;
 

@@ -1,7 +1,7 @@
 //! Output in pieces: what is held goes out once it has 65,536 bytes, while the run goes on, and the rest at the end.
 use crate::driver::{is_as, words_of};
-use lapin_commands::{Status, run_program};
 use lapin_io::{MemorySink, SureSource};
+use lapin_program::{Status, run_program};
 use std::alloc::{AllocError, Global};
 use std::test::Fail;
 

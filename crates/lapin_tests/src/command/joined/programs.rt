@@ -1,7 +1,7 @@
 //! Whole runs of the program by their words: `joined` with inputs that have a bad line, `generate` with its summary, and words
 //! that are no command.
 use crate::driver::{end_as_told, ends_as};
-use lapin_commands::Status;
+use lapin_program::Status;
 use std::test::Fail;
 
 // The words, an input, how the program ends, and what it writes.

@@ -23,7 +23,7 @@ use Rattle.lapin_confirm.specs.Machine as confirm_state
 use Rattle.lapin_outstanding.specs.Queued.{AreQueued}
 use Rattle.lapin_outstanding.specs.Ended.{ended_outbox}
 use Rattle.lapin_machine.specs.World.{World, receiving}
-use Rattle.lapin_machine.proofs.Channels.{on_twice}
+use Rattle.lapin_outstanding.proofs.Channels.{on_twice}
 use Rattle.lapin_machine.proofs.Keeping.{tied_ended, kept_by}
 use Rattle.lapin_machine.proofs.Openings.{close_ok_some}
 use Rattle.lapin_rules.specs.Ends.{cancels_at}

@@ -1,5 +1,6 @@
 use Rattle.std.proofs.Common.{rules, ◌≡◌, ◌+◌, ◌<◌, ◌++◌, List, [], ◌∷◌, length, arith, ap, length-append, Some}
-use Rattle.lapin_shared.specs.Grown.{told, last_of}
+use Rattle.lapin_locked.specs.Known.{told}
+use Rattle.lapin_shared.specs.Grown.{last_of}
 use Rattle.lapin_shared.proofs.Rising.{hand_step}
 use Rattle.lapin_shared.proofs.hand.Hand.make.Goals as goal
 

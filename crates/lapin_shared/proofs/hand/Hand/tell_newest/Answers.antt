@@ -1,7 +1,7 @@
 use Rattle.std.proofs.Common.{◌≡◌, ◌-◌, ◌++◌, List, ap, sym, refl, arith, subst, length, length-append, ◌∙◌, Some, ◌∷◌, []}
 use Rattle.std.specs.Prelude.{slice_get}
-use Rattle.lapin_shared.specs.declared.entry.Told.{Told}
-use Rattle.lapin_shared.specs.Grown.{told}
+use Rattle.lapin_locked.specs.declared.entry.Told.{Told}
+use Rattle.lapin_locked.specs.Known.{told}
 use Rattle.lapin_shared.specs.Read.{unread}
 use Rattle.lapin_shared.proofs.Rising.{hand_answered, hand_unread}
 use Rattle.lapin_shared.proofs.Placing.{last_got, last_unread, seen_same}

@@ -1,5 +1,0 @@
-use Rattle.lapin_shared.proofs.Marks.{known_read}
-use Rattle.lapin_shared.proofs.stored.Logged.new.Goals as goal
-
-pub returns : goal.returns
-returns c = known_read c.args.place c.args.stored
