@@ -5,6 +5,7 @@
 #ifndef LAPIN_CONNECTION_H
 #define LAPIN_CONNECTION_H
 
+#include <errno.h>
 #include <netdb.h>
 #include <netinet/tcp.h>
 #include <poll.h>
@@ -20,7 +21,7 @@
 
 typedef struct {
     int socket;
-    bool is_lost;
+    bool is_lost, has_come;
     lapin_opening limits;
     lapin_clock clock;
     lapin_handle session;
@@ -53,7 +54,7 @@ static inline bool lapin_fails(lapin_connection *c, const char *words, ...) {
 
 static inline bool lapin_fit(char **room, size_t *length, size_t wanted) {
     if (wanted <= *length) return true;
-    char *more = realloc(*room, 2 * wanted);
+    char *more = (char *)realloc(*room, 2 * wanted);
     if (!more) return false;
     *room = more, *length = 2 * wanted;
     return true;
@@ -69,11 +70,29 @@ static inline bool lapin_lose(lapin_connection *c, const char *why) {
     return lapin_fails(c, "ConnectionLost: %s", why);
 }
 
+/* Sends all of it, and takes what comes meanwhile, so that neither side waits for the other for ever. */
 static inline bool lapin_write(lapin_connection *c, const void *bytes, size_t length) {
-    for (const char *at = bytes; length;) {
-        ssize_t done = send(c->socket, at, length, MSG_NOSIGNAL);
-        if (done <= 0) return false;
-        at += done, length -= (size_t)done;
+    for (const char *at = (const char *)bytes; length;) {
+        ssize_t done = send(c->socket, at, length, MSG_NOSIGNAL | MSG_DONTWAIT);
+        if (done > 0) {
+            at += done, length -= (size_t)done;
+            continue;
+        }
+        if (done < 0 && errno != EAGAIN && errno != EWOULDBLOCK && errno != EINTR) return false;
+        struct pollfd ready = {c->socket, (short)(c->session.is_open ? POLLIN | POLLOUT : POLLOUT), 0};
+        poll(&ready, 1, 1000);
+        if (ready.revents & POLLIN) {
+            char came[4096];
+            ssize_t more = recv(c->socket, came, sizeof came, MSG_DONTWAIT);
+            if (!more || (more < 0 && errno != EAGAIN && errno != EINTR)) return false;
+            if (more < 0) continue;
+            c->clock.heard = lapin_now(), c->has_come = true;
+            uint32_t status = lapin_receive(&c->session, came, (size_t)more);
+            while (status == LAPIN_REFUSED) status = lapin_receive(&c->session, came, 0);
+            if (status != LAPIN_DONE) return false;
+        }
+        uint64_t wait;
+        if (c->session.is_open && lapin_beat(&c->clock, lapin_now(), &wait) == LAPIN_SILENT) return false;
     }
     c->clock.sent = lapin_now();
     return true;
@@ -102,7 +121,10 @@ static inline bool lapin_greet(lapin_connection *c, const char *user, const char
     if (!lapin_write(c, LAPIN_HEADER, 8)) return lapin_fails(c, "the broker hung up");
     while (c->limits.stage != 3) {
         struct pollfd ready = {c->socket, POLLIN, 0};
-        ssize_t more = poll(&ready, 1, 10000) > 0 ? recv(c->socket, came + length, sizeof came - length, 0) : -1;
+        int found;
+        do found = poll(&ready, 1, 10000);
+        while (found < 0 && errno == EINTR);
+        ssize_t more = found > 0 ? recv(c->socket, came + length, sizeof came - length, 0) : -1;
         if (more <= 0) return lapin_fails(c, "the broker hung up within the opening: wrong user, password or virtual host");
         length += (size_t)more;
         while (length && c->limits.stage != 3) {
@@ -142,7 +164,9 @@ static inline bool lapin_flush(lapin_connection *c) {
 
 /* Sends what waits, and takes what comes within the time, in milliseconds; -1 for ever. Heartbeats go out meanwhile. */
 static inline bool lapin_turn(lapin_connection *c, int timeout) {
+    c->has_come = false;
     if (!lapin_flush(c)) return false;
+    if (c->has_come) return true;  /* it came while something left: nothing else need come */
     for (uint64_t until = lapin_now() + (uint64_t)timeout;;) {
         uint64_t beat = 0, left = timeout < 0 ? 1 << 30 : until > lapin_now() ? until - lapin_now() : 0;
         switch (lapin_beat(&c->clock, lapin_now(), &beat)) {
@@ -193,7 +217,7 @@ static inline const char *lapin_ask(lapin_connection *c, const char *call, ...) 
     snprintf(poll, sizeof poll, "ticket %llu", strtoull(told + 7, 0, 10));
     while ((told = lapin_say(c, poll)) && !strcmp(told, "pending\n"))
         if (!lapin_turn(c, -1) && !c->is_lost) return NULL;
-    if (told && !strncmp(told, "error", 5)) return lapin_fails(c, "%s", told), NULL;
+    if (told && !strncmp(told, "error", 5)) return lapin_fails(c, "%s", told), (const char *)NULL;
     return told;
 }
 
@@ -258,6 +282,7 @@ static inline bool lapin_next(lapin_connection *c, uint64_t consumer, lapin_deli
 static inline void lapin_disconnect(lapin_connection *c) {
     if (c->session.is_open && !c->is_lost) lapin_ask(c, "call 0 connection.close 200 x627965");
     if (!c->is_lost && c->socket > 0) close(c->socket);
+    c->is_lost = true, c->socket = -1;
     lapin_close(&c->session);
     free(c->room), free(c->answer);
     c->room = c->answer = NULL, c->room_length = c->answer_length = 0;

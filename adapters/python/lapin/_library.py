@@ -30,7 +30,7 @@ class _Message(ctypes.Structure):
 
 def _load():
     path = os.environ.get("LAPIN_LIBRARY") or os.path.join(os.path.dirname(os.path.abspath(__file__)), "liblapin.so")
-    library = ctypes.CDLL(path)
+    library = ctypes.PyDLL(path)  # the interpreter's lock is kept: two threads are never behind one handle
     handle, size, text, code = ctypes.POINTER(_Handle), ctypes.c_size_t, ctypes.c_char_p, ctypes.c_uint32
     number, flag, short = ctypes.c_uint64, ctypes.c_bool, ctypes.c_uint16
     for name, result, given in (
@@ -128,6 +128,10 @@ class Session:
 
     def close(self) -> None:
         _library.lapin_close(self._by)
+
+    def __del__(self, close=_library.lapin_close) -> None:
+        if hasattr(self, "_by"):
+            close(self._by)
 
     def _check(self, status: int) -> None:
         if status == REFUSED:

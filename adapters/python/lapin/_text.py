@@ -6,7 +6,9 @@ NUMBERS = ("delivery_mode", "priority", "timestamp")
 
 
 def text(value):
-    return "x" + (value.encode() if isinstance(value, str) else bytes(value)).hex()
+    if not isinstance(value, (str, bytes)):
+        raise TypeError(f"a text is wanted, not {type(value).__name__}")
+    return "x" + (value.encode() if isinstance(value, str) else value).hex()
 
 
 # The standard's name of the property `kind` is a word of Python.
@@ -40,6 +42,12 @@ def table(values):
     return "{" + ",".join(f"{text(key)}={value_token(value)}" for key, value in pairs) + "}"
 
 
+def number(name, value):
+    if not isinstance(value, int):
+        raise TypeError(f"{name} is a whole number")
+    return str(int(value))
+
+
 def properties(given):
     if not given:
         return b"[]"
@@ -51,7 +59,7 @@ def properties(given):
     for name in PROPERTIES:
         value = given.get(name)
         if value is not None:
-            token = table(value) if name == "headers" else str(value) if name in NUMBERS else text(value)
+            token = table(value) if name == "headers" else number(name, value) if name in NUMBERS else text(value)
             parts.append(f"{name}={token}")
     return ("[" + ",".join(parts) + "]").encode()
 

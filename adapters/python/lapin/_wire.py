@@ -93,6 +93,8 @@ class Wire:
                         pass
         self.frame_max, self.channel_max, heartbeat = greeter.opening.limits
         self._clock, self._came = Clock(now(), heartbeat), greeter.data
+        # Whether bytes are on their way between the session and the socket: an exception that is no error of the socket left some behind.
+        self.is_between = False
         self.socket.setblocking(False)
 
     def _recv(self) -> bytes:
@@ -107,6 +109,12 @@ class Wire:
         self._clock.heard(now())
         return data
 
+    def _ready(self, events: int, seconds: Optional[float]) -> int:
+        ready = select.poll()
+        ready.register(self.socket, events)
+        found = ready.poll(None if seconds is None else seconds * 1000)
+        return found[0][1] if found else 0
+
     def send(self, data: bytes) -> None:
         """Sends all of it, and takes what comes meanwhile, so that neither side waits for the other for ever."""
         view = memoryview(data)
@@ -118,10 +126,10 @@ class Wire:
                 pass
             except OSError as error:
                 raise ConnectionLost(str(error)) from error
-            readable, writable, _ = select.select([self.socket], [self.socket], [], 5)
-            if readable:
+            ready = self._ready(select.POLLIN | select.POLLOUT, 5)
+            if ready & ~select.POLLOUT:
                 self._came += self._recv()
-            elif not writable and self._clock.due(now())[0] == "silent":
+            elif not ready and self._clock.due(now())[0] == "silent":
                 raise ConnectionLost("the broker was silent for two heartbeats")
         self._clock.sent(now())
 
@@ -143,7 +151,10 @@ class Wire:
             if left is not None and left <= 0:
                 return b""
             wait = left if wait is None else wait if left is None else min(wait, left)
-            if select.select([self.socket], [], [], wait)[0]:
+            self.is_between = False  # while one waits nothing is on its way: Ctrl-C leaves the connection as it was
+            is_ready = self._ready(select.POLLIN, wait)
+            self.is_between = True
+            if is_ready:
                 data = self._recv()
         return data
 

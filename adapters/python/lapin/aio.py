@@ -21,7 +21,7 @@ import ssl
 from typing import Any, AsyncIterator, Awaitable, Callable, Dict, List, Optional, Tuple
 
 from . import _text
-from ._calls import BY_NUMBER, Ask, Calls, Message, Outcome, Returned, answer_of, ask, consume_ask, outcome_beyond, read_returned, target_of
+from ._calls import BY_NUMBER, Ask, Calls, Message, Outcome, Returned, Returns, answer_of, ask, consume_ask, outcome_beyond, read_returned, target_of
 from ._library import Clock, Session
 from ._wire import HEARTBEAT, Greeter, now
 from .errors import CallFailed, ConnectionLost, Error, OpeningFailed, Refused, Timeout
@@ -74,10 +74,12 @@ class Connection:
         self._reader, self._writer, self._session = reader, writer, Session(frame_max)
         self._loop = asyncio.get_running_loop()
         self._clock = Clock(now(), heartbeat)
-        self._waiters: List[Tuple[Callable[[], Any], asyncio.Future]] = []
+        self._waiters: List[asyncio.Future] = []
         self._consumers: Dict[int, Consumer] = {}
+        self._running: set = set()
         self._numbers: List[int] = []
         self._next, self._is_lost, self._is_closed, self._is_flushing = 0, False, False, False
+        self._channels: Dict[int, Channel] = {}
         self._tasks = [self._loop.create_task(self._read(greeter.data)), self._loop.create_task(self._beat())]
 
     async def __aenter__(self) -> Connection:
@@ -95,6 +97,7 @@ class Connection:
                     self._clock.heard(now())
                     while self._session.receive(data) is not None:
                         data = b""
+                    self._sort()
                     self._flush()
                     self._wake()
                 data = await self._reader.read(1 << 18)
@@ -102,7 +105,8 @@ class Connection:
                     break
         except (OSError, ValueError, MemoryError):
             pass
-        self._lose()
+        finally:
+            self._lose()
 
     async def _beat(self) -> None:
         while True:
@@ -115,6 +119,15 @@ class Connection:
                 self._send(HEARTBEAT)
             else:
                 await asyncio.sleep(wait)
+
+    def _sort(self) -> None:
+        for channel in self._channels.values():
+            channel._returns.sort()
+
+    def _ran(self, task: Any) -> None:
+        self._running.discard(task)
+        if not task.cancelled() and task.exception() is not None:
+            self._loop.call_exception_handler({"message": "lapin: a consumer's callback raised", "exception": task.exception(), "task": task})
 
     def _send(self, data: bytes) -> None:
         self._writer.write(data)
@@ -140,40 +153,42 @@ class Connection:
         if not self._is_lost and not self._is_closed:
             self._is_lost = True
             self._session.line("lost")
+            self._sort()
             self._writer.close()
             self._wake()
 
     def _wake(self) -> None:
-        """Answers those whose answer is there, and hands messages to the consumers."""
+        """Wakes those who wait, and hands messages to the consumers."""
         waiters, self._waiters = self._waiters, []
-        for ready, future in waiters:
-            if future.done():
-                continue
-            try:
-                found = ready()
-            except Error as error:
-                future.set_exception(error)
-                continue
-            if found is None:
-                self._waiters.append((ready, future))
-            else:
-                future.set_result(found)
+        for future in waiters:
+            if not future.done():
+                future.set_result(None)
         for consumer in list(self._consumers.values()):
             consumer._take()
 
     async def _until(self, ready: Callable[[], Any], timeout: Optional[float]) -> Any:
-        self._flush()
+        """What is ready is asked for by the one who waits, so that nothing is lost where that one is cancelled."""
         found = ready()
         if found is not None:
             return found
-        if self._is_lost:
-            raise ConnectionLost("the connection was lost before")
-        future = self._loop.create_future()
-        self._waiters.append((ready, future))
-        try:
-            return await asyncio.wait_for(future, timeout)
-        except asyncio.TimeoutError:
-            raise Timeout("nothing came in time") from None
+        self._flush()
+        deadline = None if timeout is None else self._loop.time() + timeout
+        while (found := ready()) is None:
+            if self._is_lost:
+                raise ConnectionLost("the connection was lost before")
+            if self._is_closed:
+                raise ConnectionLost("the connection was closed")
+            if deadline is not None and self._loop.time() >= deadline:
+                raise Timeout("nothing came in time")
+            future = self._loop.create_future()
+            self._waiters.append(future)
+            handle = None if deadline is None else self._loop.call_at(deadline, lambda it=future: it.done() or it.set_result(None))
+            try:
+                await future
+            finally:
+                if handle:
+                    handle.cancel()
+        return found
 
     def _poll(self, line: str) -> Optional[str]:
         record = self._session.line(line)
@@ -200,6 +215,8 @@ class Connection:
 
     async def channel(self, *, confirms: bool = False, prefetch: Optional[int] = None, limit: Optional[int] = None) -> Channel:
         """A channel that is open, as of the blocking connection."""
+        if not self._numbers and self._next >= self._channel_max:  # those that the broker closed are free again
+            self._numbers = [it for it in range(1, self._next + 1) if self._session.line(f"state {it}").split(" ")[2] == "closed"]
         number = self._numbers.pop() if self._numbers else self._next + 1
         if number > self._channel_max:
             raise Refused("NoChannelLeft")
@@ -208,6 +225,7 @@ class Connection:
         await self._ask(ask(number, "channel.open"))
         if confirms:
             await self._ask(ask(number, "confirm.select", "0"))
+            channel._returns.has_confirms = True
         if limit is not None:
             await self._ask(ask(number, "confirm.limit", str(limit)))
         if prefetch is not None:
@@ -219,6 +237,9 @@ class Connection:
         if self._is_closed:
             return
         try:
+            while not self._is_lost and (data := self._session.send(True)):  # what was published leaves first
+                self._send(data)
+                await self._writer.drain()
             if not self._is_lost:
                 await self._ask(ask(0, "connection.close", "200", _text.text("bye")), timeout)
         except Error:
@@ -226,23 +247,25 @@ class Connection:
         self._is_closed = True
         for task in self._tasks:
             task.cancel()
-        for _, future in self._waiters:
+        for future in self._waiters:
             if not future.done():
-                future.set_exception(ConnectionLost("the connection was closed"))
+                future.set_result(None)
         self._writer.close()
-        self._session.close()
 
 
 class Confirm:
     """The outcome of a publish: `await confirm`, or `poll()`."""
-    __slots__ = ("_connection", "_number", "_found")
+    __slots__ = ("_connection", "_number", "_found", "_is_sorted", "_returned")
 
-    def __init__(self, connection: Connection, number: int):
-        self._connection, self._number, self._found = connection, number, None
+    def __init__(self, connection: Connection, number: int, is_sorted: bool = False):
+        self._connection, self._number, self._found, self._is_sorted = connection, number, None, is_sorted
+        self._returned: Optional[Returned] = None
 
     def poll(self) -> Optional[Outcome]:
         """The outcome; None where there is none yet. An error is raised."""
         found = self._found
+        if found is None and self._is_sorted:
+            return None
         if found is None:
             session = self._connection._session
             code = session.outcome(self._number)
@@ -297,9 +320,16 @@ class Consumer:
                 return
             if not message:
                 return
-            given = self.callback(message)
+            connection = self.channel.connection
+            try:
+                given = self.callback(message)
+            except Exception as error:
+                connection._loop.call_exception_handler({"message": "lapin: a consumer's callback raised", "exception": error})
+                continue
             if isinstance(given, Awaitable):
-                asyncio.ensure_future(given)
+                task = asyncio.ensure_future(given)
+                connection._running.add(task)
+                task.add_done_callback(connection._ran)
 
     async def next(self, timeout: Optional[float] = None) -> Optional[Message]:
         """The next message, once it is there; None at the consumer's end."""
@@ -321,6 +351,7 @@ class Channel(Calls):
 
     def __init__(self, connection: Connection, number: int):
         self.connection, self.number, self._session = connection, number, connection._session
+        self._returns, connection._channels[number] = Returns(self._session), self
 
     async def __aenter__(self) -> Channel:
         return self
@@ -340,13 +371,19 @@ class Channel(Calls):
     @property
     def is_open(self) -> bool:
         """Whether calls of it are taken."""
-        return not self.connection._is_closed and self._session.line(f"state {self.number}").split(" ")[2] == "open"
+        it = self.connection
+        return not it._is_closed and it._channels[self.number] is self and self._session.line(f"state {self.number}").split(" ")[2] == "open"
 
     def publish(self, exchange: str, routing_key: str, body: bytes, *, mandatory: bool = False, **properties: Any) -> Confirm:
         """Publishes a message. Its confirm is awaited, or not."""
-        number = self._session.publish(self.number, exchange.encode(), routing_key.encode(), bytes(body), _text.properties(properties), mandatory)
+        body, returns = bytes(memoryview(body)), self._returns
+        identity = returns.identify(self.number, exchange, routing_key, body, properties) if mandatory and returns.has_confirms else None
+        number = self._session.publish(self.number, exchange.encode(), routing_key.encode(), body, _text.properties(properties), mandatory)
         self.connection._soon()
-        return Confirm(self.connection, number)
+        confirm = Confirm(self.connection, number, returns.is_used)
+        if returns.is_used:
+            returns.add(confirm, identity)
+        return confirm
 
     async def consume(self, queue: str, callback: Optional[Callable[[Message], Any]] = None, *, no_ack: bool = False, exclusive: bool = False,
                       tag: str = "", arguments: Optional[Dict[str, Any]] = None) -> Consumer:
@@ -365,5 +402,6 @@ class Channel(Calls):
 
     async def close(self) -> None:
         """Closes the channel, and waits for the broker's answer."""
-        await super().close()
-        self.connection._numbers.append(self.number)
+        if self.is_open:
+            await super().close()
+            self.connection._numbers.append(self.number)

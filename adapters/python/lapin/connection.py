@@ -1,11 +1,12 @@
 """A connection and its channels, blocking: one thread uses a connection."""
 from __future__ import annotations
 
+import threading
 import time
 from typing import Any, Callable, Dict, Iterator, List, Optional
 
 from . import _text
-from ._calls import BY_NUMBER, Ask, Calls, Message, Outcome, Returned, answer_of, ask, consume_ask, outcome_beyond, read_returned, target_of
+from ._calls import BY_NUMBER, Ask, Calls, Message, Outcome, Returned, Returns, answer_of, ask, consume_ask, outcome_beyond, read_returned, target_of
 from ._library import Session
 from ._wire import Wire
 from .errors import CallFailed, ConnectionLost, Error, Refused, Timeout
@@ -28,9 +29,20 @@ class Connection:
         self._numbers: List[int] = []
         self._next, self._waiting, self._is_lost, self._is_closed = 0, 0, False, False
         self._consumers: Dict[int, Consumer] = {}
+        self._channels: Dict[int, Channel] = {}
+        self._thread = threading.get_ident()
+        self._is_stopping = False
 
     def __enter__(self) -> Connection:
         return self
+
+    def _check_thread(self) -> None:
+        if threading.get_ident() != self._thread:
+            raise RuntimeError("a connection is used by the thread that made it; give each thread its own, or call connection.move_here()")
+
+    def move_here(self) -> None:
+        """The thread that calls this uses the connection from now on; the one before doesn't any more."""
+        self._thread = threading.get_ident()
 
     def __exit__(self, *_: Any) -> None:
         self.close()
@@ -39,13 +51,21 @@ class Connection:
 
     def flush(self) -> None:
         """Sends what may leave now."""
+        self._check_thread()
         self._waiting = 0
         try:
+            self._begin()
             while data := self._session.send():
                 self._wire.send(data)
-        except ConnectionLost:
+            self._wire.is_between = False
+        except (ConnectionLost, ValueError, MemoryError) as error:
             self._lose()
-            raise
+            raise ConnectionLost(str(error)) from error
+
+    def _begin(self) -> None:
+        if self._wire.is_between:
+            raise ConnectionLost("an exception fell between the session and the socket")
+        self._wire.is_between = True
 
     def turn(self, timeout: Optional[float] = None) -> bool:
         """Sends what waits, and takes what comes within the time. Whether anything came."""
@@ -53,12 +73,14 @@ class Connection:
             raise ConnectionLost("the connection was lost before")
         self.flush()
         try:
+            self._begin()
             data = self._wire.read(timeout)
             if data:
                 self._take(data)
-        except ConnectionLost:
+            self._wire.is_between = False
+        except (ConnectionLost, ValueError, MemoryError) as error:
             self._lose()
-            raise
+            raise ConnectionLost(str(error)) from error
         self.flush()
         return bool(data)
 
@@ -69,12 +91,17 @@ class Connection:
                 data = b""
         except ValueError as error:
             raise ConnectionLost(str(error)) from error
+        finally:
+            for channel in list(self._channels.values()):
+                channel._returns.sort()
 
     def _lose(self) -> None:
         if not self._is_lost:
             self._is_lost = True
             self._session.line("lost")
             self._wire.close()
+            for channel in list(self._channels.values()):
+                channel._returns.sort()
 
     def _until(self, ready: Callable[[], Any], timeout: Optional[float]) -> Any:
         deadline = None if timeout is None else time.monotonic() + timeout
@@ -97,6 +124,7 @@ class Connection:
 
     def _ask(self, asked: Ask, timeout: Optional[float] = 30) -> Any:
         """Makes a call behind what waits to leave, and waits for its answer."""
+        self._check_thread()
         if self._waiting:
             self.flush()
         ticket = self._session.line(asked.line).split(" ")[1]
@@ -117,6 +145,8 @@ class Connection:
     def channel(self, *, confirms: bool = False, prefetch: Optional[int] = None, limit: Optional[int] = None) -> Channel:
         """A channel that is open: with confirms, with at most `prefetch` unsettled messages for each consumer, and with at most `limit`
         publishes that the broker owes an answer for."""
+        if not self._numbers and self._next >= self._wire.channel_max:  # those that the broker closed are free again
+            self._numbers = [it for it in range(1, self._next + 1) if self._session.line(f"state {it}").split(" ")[2] == "closed"]
         number = self._numbers.pop() if self._numbers else self._next + 1
         if number > self._wire.channel_max:
             raise Refused("NoChannelLeft")
@@ -125,6 +155,7 @@ class Connection:
         self._ask(ask(number, "channel.open"))
         if confirms:
             self._ask(ask(number, "confirm.select", "0"))
+            channel._returns.has_confirms = True
         if limit is not None:
             self._ask(ask(number, "confirm.limit", str(limit)))
         if prefetch is not None:
@@ -132,11 +163,18 @@ class Connection:
         return channel
 
     def run(self, timeout: Optional[float] = None) -> None:
-        """Hands messages to the callbacks of consumers until the time is up."""
+        """Hands messages to the callbacks of consumers until the time is up, `stop` is called, or no consumer with a callback is left."""
         deadline = None if timeout is None else time.monotonic() + timeout
-        while deadline is None or time.monotonic() < deadline:
+        self._is_stopping, had = False, any(consumer.callback for consumer in self._consumers.values())
+        while not self._is_stopping and not self._is_closed and (deadline is None or time.monotonic() < deadline):
             if not self.hand_on():
+                if had and not any(consumer.callback for consumer in self._consumers.values()):
+                    return
                 self.turn(None if deadline is None else max(0, deadline - time.monotonic()))
+
+    def stop(self) -> None:
+        """Ends `run` behind the callback that calls this."""
+        self._is_stopping = True
 
     def hand_on(self) -> bool:
         """Hands what came to the callbacks. Whether there was anything."""
@@ -145,7 +183,7 @@ class Connection:
             if consumer.callback is not None and (message := consumer._next()) is not None:
                 found = True
                 consumer.callback(message)
-        if found:
+        if found and not self._is_closed:
             self.flush()
         return found
 
@@ -161,20 +199,22 @@ class Connection:
             pass
         finally:
             self._wire.close()
-            self._session.close()
 
 
 class Confirm:
     """The outcome of a publish, once the broker has told it. It is about this publish and no other."""
-    __slots__ = ("_connection", "_number", "_found")
+    __slots__ = ("_connection", "_number", "_found", "_is_sorted", "_returned")
 
-    def __init__(self, connection: Connection, number: int):
-        self._connection, self._number, self._found = connection, number, None
+    def __init__(self, connection: Connection, number: int, is_sorted: bool = False):
+        self._connection, self._number, self._found, self._is_sorted = connection, number, None, is_sorted
+        self._returned: Optional[Returned] = None
 
     def poll(self) -> Optional[Outcome]:
         """The outcome; None where there is none yet. An error is raised: nothing is known of the message then, and a consumer has to be
         ready for a second copy of it if it is published again."""
         found = self._found
+        if found is None and self._is_sorted:
+            return None
         if found is None:
             session = self._connection._session
             code = session.outcome(self._number)
@@ -240,6 +280,7 @@ class Channel(Calls):
 
     def __init__(self, connection: Connection, number: int):
         self.connection, self.number, self._session = connection, number, connection._session
+        self._returns, connection._channels[number] = Returns(self._session), self
 
     def __enter__(self) -> Channel:
         return self
@@ -258,13 +299,19 @@ class Channel(Calls):
     @property
     def is_open(self) -> bool:
         """Whether calls of it are taken."""
-        return not self.connection._is_closed and self._session.line(f"state {self.number}").split(" ")[2] == "open"
+        it = self.connection
+        return not it._is_closed and it._channels[self.number] is self and self._session.line(f"state {self.number}").split(" ")[2] == "open"
 
     def publish(self, exchange: str, routing_key: str, body: bytes, *, mandatory: bool = False, **properties: Any) -> Confirm:
         """Publishes a message, with its properties by their names (`delivery_mode=2`, `headers={..}` ..). Nothing is waited for: its
         confirm is. It leaves with the next call that waits, with `connection.flush()`, or once 64 KiB wait."""
         connection = self.connection
-        number = self._session.publish(self.number, exchange.encode(), routing_key.encode(), body if type(body) is bytes else bytes(body),
+        connection._check_thread()
+        if type(body) is not bytes:
+            body = bytes(memoryview(body))
+        returns = self._returns
+        identity = returns.identify(self.number, exchange, routing_key, body, properties) if mandatory and returns.has_confirms else None
+        number = self._session.publish(self.number, exchange.encode(), routing_key.encode(), body,
                                  _text.properties(properties) if properties else b"[]", mandatory)
         connection._waiting += len(body) + 64
         if connection._waiting > ENOUGH:
@@ -272,7 +319,10 @@ class Channel(Calls):
                 connection.flush()
             except ConnectionLost:  # the publish was accepted: its confirm tells it
                 pass
-        return Confirm(connection, number)
+        confirm = Confirm(connection, number, returns.is_used)
+        if returns.is_used:
+            returns.add(confirm, identity)
+        return confirm
 
     def consume(self, queue: str, callback: Optional[Callable[[Message], None]] = None, *, no_ack: bool = False, exclusive: bool = False,
                 tag: str = "", arguments: Optional[Dict[str, Any]] = None) -> Consumer:
@@ -290,5 +340,6 @@ class Channel(Calls):
 
     def close(self) -> None:
         """Closes the channel, and waits for the broker's answer."""
-        super().close()
-        self.connection._numbers.append(self.number)
+        if self.is_open:
+            super().close()
+            self.connection._numbers.append(self.number)
