@@ -53,12 +53,12 @@ run-let_go (suc k) g h c es cs is le =
 
 -- ---- a used acker is used once more
 
-get-left : (us cs : List Switch) (p : ℕ) → p < length us → slice_get (us ++ cs) p ≡ slice_get us p
+pub get-left : (us cs : List Switch) (p : ℕ) → p < length us → slice_get (us ++ cs) p ≡ slice_get us p
 get-left [] cs p h = absurd (omega arith)
 get-left (u ∷ us) cs zero h = refl
 get-left (u ∷ us) cs (suc p) h = get-left us cs p (omega arith)
 
-get-there : (us : List Switch) (p : ℕ) → p < length us → (s : Switch) × (slice_get us p ≡ Some s)
+pub get-there : (us : List Switch) (p : ℕ) → p < length us → (s : Switch) × (slice_get us p ≡ Some s)
 get-there [] p h = absurd (omega arith)
 get-there (u ∷ us) zero h = (u, refl)
 get-there (u ∷ us) (suc p) h = get-there us p (omega arith)

@@ -1,3 +1,4 @@
+pub mod InBlocks
 pub mod Following
 pub mod Numbers
 pub mod Front

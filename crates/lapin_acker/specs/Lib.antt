@@ -2,4 +2,5 @@ pub mod Marks
 pub mod Switches
 pub mod Readings
 pub mod Verdicts
+pub mod Blocks
 pub mod Store

@@ -4,6 +4,8 @@
 //! puts on the wire, stands in the crates above.
 #![tactic(auto)]
 
+mod blocks;
+mod cells;
 mod delegate;
 pub mod laws;
 mod passed;

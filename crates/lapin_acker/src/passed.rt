@@ -113,6 +113,28 @@ impl Passed {
         true
     }
 
+    /// Adds 64 used ackers of a channel behind the others. Answers whether there was memory for them: where there was none, nothing
+    /// changes.
+    pub(crate) fn add_many(&mut self, channel: u16) -> bool
+        requires { self.old.gone + length self.old.used + 64 < 2 ^ 64 }
+        ensures gone { self.new.gone ≡ self.old.gone }
+        ensures used { self.new.used ≡ (if result then self.old.used ++ replicate 64 (switch.Used channel) else self.old.used) }
+    {
+        if self.channel == channel && self.count <= u16::MAX - 64 {
+            self.count += 64;
+            self.up_to += 64;
+            return true;
+        }
+        if self.runs.reserve(1).is_err() {
+            return false;
+        }
+        self.runs.push_back_reserved((self.count, self.channel));
+        self.channel = channel;
+        self.count = 64;
+        self.up_to += 64;
+        true
+    }
+
     /// Lets the first run go, where the opening of each of its ackers ended.
     pub(crate) fn let_go(&mut self, ends: &[u64])
         ensures shown { (cells : List ASwitch) → shown self.new.gone ends.now (self.new.used ++ cells) ≡ shown self.old.gone ends.now (self.old.used ++ cells) }

@@ -5,18 +5,17 @@
 //! further one is added, so that memory is held by what may still be used.
 
 ghost use Rattle.std.specs.Prelude.{◌≡◌, ℕ, ◌+◌, ◌-◌, ◌<◌, ◌≤◌, ◌^◌, ◌↔◌, ◌⊎◌, ◌∷◌, ◌++◌, [], List, Err, Some, None, IsTrue, IsSome, IfSome, if◌then◌else◌, slice_get, MatchOption, OnOk, OnErr, IsOk, IfOk, IfErr, length, map, vec_len};
-ghost use Rattle.std.specs.VecDeque.{deque_len, deque_capacity};
 ghost use Rattle.lapin_acker.specs.Switches.{switch_at, usable_as, is_usable, is_over as is_over_of, after_mark, used as used_of, over_on as over_of};
 ghost use Rattle.lapin_acker.specs.Marks as mark;
 ghost use Rattle.lapin_acker.specs.Store.{end_of as end_of_lem, seen as seen_lem, shown, room_of};
 ghost use Rattle.lapin_acker.specs.declared.switch.Switch.{Switch as ASwitch};
 ghost use Rattle.lapin_acker.specs.declared.switch.Switch.TheVariants as switch;
 
+use crate::cells::Cells;
 use crate::passed::Passed;
 use crate::switch::Switch;
 use lapin_types::{Error, NoMemory};
 use std::alloc::{AllocError, Global};
-use std::collections::VecDeque;
 use std::marker::Model;
 
 /// How many channel numbers there are.
@@ -26,7 +25,7 @@ const CHANNELS: usize = 65536;
 pub struct Switches {
     // Those at the front that have no cell.
     passed: Passed,
-    cells: VecDeque<Switch>,
+    cells: Cells,
     // By channel: an acker of the channel with a number up to this one is over. It is made with the first acker, or room for one.
     ends: Vec<u64>,
 }
@@ -43,7 +42,6 @@ impl Drop for Switches {
 
 impl Model for Switches {
     ghost use Rattle.std.specs.Prelude.{◌≡◌, ℕ, ◌+◌, ◌-◌, ◌<◌, ◌≤◌, ◌^◌, ◌++◌, length, vec_len};
-    ghost use Rattle.std.specs.VecDeque.{deque_len, deque_capacity};
     ghost use Rattle.lapin_acker.specs.Switches.{Board};
     ghost use Rattle.lapin_acker.specs.Store.{end_of, shown, room_of};
 
@@ -51,7 +49,7 @@ impl Model for Switches {
 
     ghost view = { λ a. record {
       switches = shown a.passed.gone a.ends.items (a.passed.used ++ a.cells.items);
-      spare = room_of (vec_len a.ends) (deque_capacity a.cells - deque_len a.cells);
+      spare = room_of (vec_len a.ends) a.cells.spare;
     } };
 
     ghost invariant = { λ a. (a.passed.gone + length (a.passed.used ++ a.cells.items) < 2 ^ 64) × (0 < length (a.passed.used ++ a.cells.items) → vec_len a.ends ≡ 65536) × ((c : ℕ) → end_of c a.ends.items ≤ a.passed.gone + length (a.passed.used ++ a.cells.items)) };
@@ -65,7 +63,7 @@ impl Switches {
     {
         Ok(Switches {
             passed: Passed::new(alloc),
-            cells: VecDeque::new(alloc),
+            cells: Cells::new(alloc),
             ends: Vec::new(alloc),
         })
     }
@@ -160,10 +158,7 @@ impl Switches {
         let Some(place) = place_of(self.passed.up_to(), number) else {
             return;
         };
-        if place >= self.cells.len() {
-            return;
-        }
-        self.cells[place] = used(self.cells[place]);
+        self.cells.void(place);
     }
 
     /// The opening of a channel ended: its ackers are over.
@@ -188,7 +183,7 @@ impl Switches {
     pub fn count(&self) -> u64
         ensures { result ≡ length self.now.switches }
     {
-        self.passed.up_to() + self.cells.len() as u64
+        self.passed.up_to() + self.cells.len()
     }
 
     // Adds an acker, in the room that was made.
@@ -198,8 +193,7 @@ impl Switches {
         ensures added { self.new.switches ≡ self.old.switches ++ switch.Usable channel delivery_tag ∷ [] }
         ensures kept { self.old.spare ≤ self.new.spare + 1 }
     {
-        self.cells
-            .push_back_reserved(Switch::Usable(channel, delivery_tag));
+        self.cells.push_reserved(channel, delivery_tag);
     }
 
     fn get(&self, number: u64) -> Option<Switch>
@@ -210,8 +204,8 @@ impl Switches {
             return seen_passed(&self.passed, &self.ends, number);
         }
         let place = (number - up_to - 1) as usize;
-        match self.cells.get(place) {
-            Some(cell) => Some(seen(&self.ends, number, *cell)),
+        match self.cells.at(place) {
+            Some(cell) => Some(seen(&self.ends, number, cell)),
             None => None,
         }
     }
@@ -230,15 +224,6 @@ fn place_of(let_go: u64, number: u64) -> Option<usize>
 {
     let place = number.checked_sub(let_go)?.checked_sub(1)?;
     Some(place as usize)
-}
-
-fn used(switch: Switch) -> Switch
-    ensures { result ≡ used_of switch }
-{
-    match switch {
-        Switch::Usable(channel, _) => Switch::Used(channel),
-        other => other,
-    }
 }
 
 // The last number that is over on a channel.
@@ -278,35 +263,6 @@ fn seen_passed(passed: &Passed, ends: &[u64], number: u64) -> Option<Switch>
     }
 }
 
-// Takes the first cell away, where it is seen as that of a used acker, in so far as there is memory.
-fn pass_one(passed: &mut Passed, cells: &mut VecDeque<Switch>, ends: &[u64])
-    requires { passed.old.gone + length (passed.old.used ++ cells.old.items) < 2 ^ 64 }
-    ensures shown { shown passed.new.gone ends.now (passed.new.used ++ cells.new.items) ≡ shown passed.old.gone ends.now (passed.old.used ++ cells.old.items) }
-    ensures count { passed.new.gone + length (passed.new.used ++ cells.new.items) ≡ passed.old.gone + length (passed.old.used ++ cells.old.items) }
-    ensures more { length (passed.new.used ++ cells.new.items) ≡ length (passed.old.used ++ cells.old.items) }
-    ensures room { deque_capacity cells.old - deque_len cells.old ≤ deque_capacity cells.new - deque_len cells.new }
-{
-    let Some(channel) = passable(passed.up_to(), cells, ends) else {
-        return;
-    };
-    if passed.add(channel) {
-        let _ = cells.pop_front();
-    }
-}
-
-// The channel of the first cell, where it is seen as that of a used acker with this number less one.
-fn passable(up_to: u64, cells: &VecDeque<Switch>, ends: &[u64]) -> Option<u16>
-    requires { up_to + deque_len cells.now < 2 ^ 64 }
-    ensures seen { IfSome result (λ c. (s : ASwitch) → slice_get cells.now.items 0 ≡ Some s → seen_lem ends.now (up_to + 1) s ≡ seen_lem ends.now (up_to + 1) (switch.Used c)) }
-    ensures some { IsSome result → 0 < deque_len cells.now }
-{
-    match cells.front() {
-        Some(Switch::Used(channel)) => Some(*channel),
-        Some(Switch::Usable(channel, _)) if up_to < end_of(ends, *channel) => Some(*channel),
-        _ => None,
-    }
-}
-
 // Makes the table of ends, where it is not there.
 fn make_table(ends: &mut Vec<u64>) -> Result<(), AllocError>
     ensures made { OnOk result (vec_len ends.new ≡ 65536) }
@@ -321,26 +277,23 @@ fn make_table(ends: &mut Vec<u64>) -> Result<(), AllocError>
 }
 
 // Makes room for one more, and takes two cells away that are not needed.
-fn make_room(
-    passed: &mut Passed,
-    cells: &mut VecDeque<Switch>,
-    ends: &mut Vec<u64>,
-) -> Result<(), AllocError>
+fn make_room(passed: &mut Passed, cells: &mut Cells, ends: &mut Vec<u64>) -> Result<(), AllocError>
     requires fits { passed.old.gone + length (passed.old.used ++ cells.old.items) < 2 ^ 64 }
     requires table { 0 < length (passed.old.used ++ cells.old.items) → vec_len ends.old ≡ 65536 }
     ensures shown { shown passed.new.gone ends.new.items (passed.new.used ++ cells.new.items) ≡ shown passed.old.gone ends.old.items (passed.old.used ++ cells.old.items) }
     ensures count { passed.new.gone + length (passed.new.used ++ cells.new.items) ≡ passed.old.gone + length (passed.old.used ++ cells.old.items) }
     ensures table { 0 < length (passed.new.used ++ cells.new.items) → vec_len ends.new ≡ 65536 }
     ensures bound { (m : ℕ) → ((c : ℕ) → end_of_lem c ends.old.items ≤ m) → (c : ℕ) → end_of_lem c ends.new.items ≤ m }
-    ensures room { OnOk result (0 < room_of (vec_len ends.new) (deque_capacity cells.new - deque_len cells.new)) }
-    ensures succeeds { 0 < room_of (vec_len ends.old) (deque_capacity cells.old - deque_len cells.old) → IsOk result }
-    ensures kept { room_of (vec_len ends.old) (deque_capacity cells.old - deque_len cells.old)
-        ≤ room_of (vec_len ends.new) (deque_capacity cells.new - deque_len cells.new) }
+    ensures room { OnOk result (0 < room_of (vec_len ends.new) cells.new.spare) }
+    ensures succeeds { 0 < room_of (vec_len ends.old) cells.old.spare → IsOk result }
+    ensures kept { room_of (vec_len ends.old) cells.old.spare
+        ≤ room_of (vec_len ends.new) cells.new.spare }
 {
     make_table(ends)?;
-    pass_one(passed, cells, ends);
-    pass_one(passed, cells, ends);
+    cells.pass(passed, ends);
+    cells.pass(passed, ends);
     passed.let_go(ends);
     passed.let_go(ends);
-    cells.reserve(1)
+    cells.pack();
+    cells.reserve()
 }

@@ -1,11 +1,9 @@
-use Rattle.std.proofs.Common.{◌≡◌, ℕ, ◌+◌, ◌-◌, ◌<◌, ◌≤◌, ◌++◌, false, true, length, List, Some, option_map, refl, sym, ap, ◌∙◌, arith, inl, inr}
-use Rattle.std.proofs.lemmas.Bool.{cases_lt}
+use Rattle.std.proofs.Common.{◌≡◌, ℕ, ◌+◌, ◌-◌, ◌++◌, length, List, Some, option_map, sym, ap, ◌∙◌, arith}
 use Rattle.lapin_acker.specs.declared.switch.Switch.{Switch}
 use Rattle.lapin_acker.specs.Store.{seen, shown}
 use Rattle.lapin_acker.specs.Switches.{switch_at}
-use Rattle.lapin_acker.proofs.Numbers.{at-get_or}
 use Rattle.lapin_acker.proofs.Front.{get-right}
-use Rattle.lapin_acker.proofs.Store.{at-cell, get-past}
+use Rattle.lapin_acker.proofs.Store.{at-cell}
 use Rattle.lapin_acker.proofs.switches.Switches.get.Goals as goal
 
 pub returns-in-Some : goal.returns-in-Some
@@ -13,11 +11,10 @@ returns-in-Some c =
     let us : List Switch = c.self.inside.passed.used in
     let p : ℕ = c.args.number - c.up_to-up_to.result - 1 in
     let number : c.args.number ≡ c.self.inside.passed.gone + (length us + p) + 1 = omega (arith, c.up_to-up_to.ensures.count) in
-    let within : p < length c.self.inside.cells.items = omega (arith, c.in-Some.ensures.variant.0 refl) in
-    let told : c.seen.result ≡ seen c.self.inside.ends.items c.args.number c.in-Some.cell.now = c.seen.ensures ∙ ap (λ (es : List ℕ). seen es c.args.number c.in-Some.cell.now) c.deref-in-Some.ensures.value in
+    let told : c.seen.result ≡ seen c.self.inside.ends.items c.args.number c.in-Some.cell = c.seen.ensures ∙ ap (λ (es : List ℕ). seen es c.args.number c.in-Some.cell) c.deref-in-Some.ensures.value in
     rw (← c.self.view_is)
     (ap Some told
-    ∙ ap (option_map (seen c.self.inside.ends.items c.args.number)) (sym (get-right us c.self.inside.cells.items p ∙ at-get_or c.self.inside.cells.items p c.in-Some.cell.now within c.in-Some.ensures.lookup))
+    ∙ ap (option_map (seen c.self.inside.ends.items c.args.number)) (c.in-Some.ensures ∙ sym (get-right us c.self.inside.cells.items p))
     ∙ sym (at-cell c.args.number c.self.inside.passed.gone (length us + p) c.self.inside.ends.items (us ++ c.self.inside.cells.items) number))
 
 pub returns-in-None : goal.returns-in-None
@@ -25,13 +22,8 @@ returns-in-None c =
     let us : List Switch = c.self.inside.passed.used in
     let p : ℕ = c.args.number - c.up_to-up_to.result - 1 in
     let number : c.args.number ≡ c.self.inside.passed.gone + (length us + p) + 1 = omega (arith, c.up_to-up_to.ensures.count) in
-    let past : length c.self.inside.cells.items ≤ p =
-    elim (cases_lt p (length c.self.inside.cells.items)) [
-      | inl below ↦ let no : false ≡ true = c.in-None.ensures.variant.1 (omega arith) in cc
-      | inr past ↦ past
-    ] in
     rw (← c.self.view_is)
-    (ap (option_map (seen c.self.inside.ends.items c.args.number)) (sym (get-right us c.self.inside.cells.items p ∙ get-past c.self.inside.cells.items p past))
+    (ap (option_map (seen c.self.inside.ends.items c.args.number)) (c.in-None.ensures ∙ sym (get-right us c.self.inside.cells.items p))
     ∙ sym (at-cell c.args.number c.self.inside.passed.gone (length us + p) c.self.inside.ends.items (us ++ c.self.inside.cells.items) number))
 
 pub returns-then-number-up_to : goal.returns-then-number-up_to

@@ -1,6 +1,6 @@
 use Rattle.std.proofs.Common.{◌≡◌, ◌+◌, ◌<◌, length, refl, arith}
 use Rattle.lapin_acker.proofs.Front.{passed-cell, first-cell}
-use Rattle.lapin_acker.proofs.switches.pass_one.Goals as goal
+use Rattle.lapin_acker.proofs.cells.pass_one.Goals as goal
 
 pub returns-then-add-clause-shown : goal.returns-then-add-clause-shown
 returns-then-add-clause-shown c =
