@@ -116,7 +116,7 @@ step_goes n step.Collect d h = goes_fewer (suc (suc n)) n _ (gather_goes (suc (s
 step_goes n (step.Take m) d h = goes_fewer (suc (suc n)) n d.session h (omega arith)
 
 -- the next step has its numbers
-pub numbers_left : (steps : ℕ) (w : World) → HasNumbersFor (2 ^ 64 - 2 - 2 * steps) w → steps < 2 ^ 31 → HasNumbersFor 2 w
+pub numbers_left : (steps : ℕ) (w : World) → HasNumbersFor (2 ^ 64 - 2 - 2 * steps) w → steps < 2 ^ 62 → HasNumbersFor 2 w
 numbers_left steps w h lt = fewer (2 ^ 64 - 2 - 2 * steps) 2 w h (omega arith)
 
 -- behind an event there is one fewer
@@ -124,7 +124,7 @@ pub numbers_after : (d : Requester World) (w v : World) (e : Event) → d.sessio
 numbers_after d w v e same stepped h = subst (HasNumbersFor 1) (sym stepped) (numbers-next 1 w e (subst (HasNumbersFor 2) same h))
 
 -- and so has each that may follow it
-pub goes_on : (s : CallStep) (d k : Requester World) (steps more : ℕ) → GoesOn steps d.session → steps < 2 ^ 31 → k ≡ after by_machine s d → more ≡ steps + 1 → GoesOn more k.session
+pub goes_on : (s : CallStep) (d k : Requester World) (steps more : ℕ) → GoesOn steps d.session → steps < 2 ^ 62 → k ≡ after by_machine s d → more ≡ steps + 1 → GoesOn more k.session
 goes_on s d k steps more h lt is one =
     let all : 2 ^ 64 - 2 - 2 * steps ≡ suc (suc (2 ^ 64 - 2 - 2 * more)) = omega arith in
     let first : Goes (suc (suc (2 ^ 64 - 2 - 2 * more))) d.session = (subst (λ (n : ℕ). HasNumbersFor n d.session) all h.numbers, h.unreturned) in

@@ -70,7 +70,7 @@ impl Calls {
     /// `NoMemory` where there is none; the calls are then stopped, and stand for the steps before this one. `Stopped` exactly where an
     /// earlier step found no memory. No step runs out of numbers, since none uses more than two of a counter.
     pub fn step(&mut self, alloc: Global, step: CallStep) -> Result<CallReport, RunError>
-        requires { self.old.steps < 2 ^ 31 }
+        requires { self.old.steps < 2 ^ 62 }
         ensures told { IfOk result (λ r. r ≡ report by_machine step self.old.requester) }
         ensures ok { OnOk result (self.new ≡ record { requester = after by_machine step self.old.requester; steps = self.old.steps + 1; stopped = false }) }
         ensures stopped { (result ≡ Err RunError.Stopped) ↔ (self.old.stopped ≡ true) }
@@ -87,7 +87,7 @@ impl Calls {
     }
 
     fn step_machine(&mut self, alloc: Global, step: CallStep) -> Result<CallReport, RunError>
-        requires { self.old.steps < 2 ^ 31 }
+        requires { self.old.steps < 2 ^ 62 }
         ensures told { IfOk result (λ r. r ≡ report by_machine step self.old.requester) }
         ensures ok { OnOk result (self.new ≡ record { requester = after by_machine step self.old.requester; steps = self.old.steps + 1; stopped = false }) }
         ensures running { OnOk result (self.old.stopped ≡ false) }

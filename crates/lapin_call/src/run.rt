@@ -23,7 +23,7 @@ pub fn run_calls(
     report: &mut Vec<CallReport>,
 ) -> Result<(), NoMemory>
     requires frame_max { 4096 ≤ frame_max }
-    requires few { length steps.items < 2 ^ 31 }
+    requires few { length steps.items < 2 ^ 62 }
     ensures ok { OnOk result (report.new.items ≡ report.old.items ++ calls frame_max queue steps.items) }
     ensures err { OnErr result (IsStarted report.old.items report.new.items (calls frame_max queue steps.items)) }
 {
@@ -39,7 +39,7 @@ fn run_steps(
     steps: Vec<CallStep>,
     report: &mut Vec<CallReport>,
 ) -> Result<(), NoMemory>
-    requires { run.old.steps + length steps.items < 2 ^ 31 }
+    requires { run.old.steps + length steps.items < 2 ^ 62 }
     ensures ok { OnOk result (report.new.items ≡ report.old.items ++ reports by_machine steps.items run.old.requester) }
     ensures err { OnErr result (IsStarted report.old.items report.new.items (reports by_machine steps.items run.old.requester)) }
 {
@@ -56,7 +56,7 @@ fn add(
     step: CallStep,
     report: &mut Vec<CallReport>,
 ) -> Result<(), NoMemory>
-    requires { run.old.steps < 2 ^ 31 }
+    requires { run.old.steps < 2 ^ 62 }
     ensures ok { OnOk result (run.new ≡ record { requester = after by_machine step run.old.requester; steps = run.old.steps + 1; stopped = false }) }
     ensures grown { OnOk result (report.new.items ≡ report.old.items ++ report_lem by_machine step run.old.requester ∷ []) }
     ensures err { OnErr result (report.new.items ≡ report.old.items) }

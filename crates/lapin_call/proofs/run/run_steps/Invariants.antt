@@ -7,5 +7,5 @@ use Rattle.lapin_call.proofs.run.run_steps.Given as goal
 abbrev pub invariant-loop-step : goal.invariant-loop-step
 invariant-loop-step l = record {
   longer : IsLonger l.fn.report.items l.report.items (reports by_machine l.fn.steps.items l.fn.run.requester) (reports by_machine l.step-iterator.rest.items l.run.requester);
-  numbers : l.run.steps + length l.step-iterator.rest.items < 2 ^ 31;
+  numbers : l.run.steps + length l.step-iterator.rest.items < 2 ^ 62;
 }
