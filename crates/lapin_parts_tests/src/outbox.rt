@@ -275,6 +275,24 @@ const RETRIES: &str = "\
     let-go-all -> done
     pending -> no";
 
+// Each of the four frames of a publish of 4089 bytes is given back, and comes once more; the bodies have the payload's bytes all the same.
+const EACH_RETRIED: &str = "\
+    publish 1 1 4089 -> queued
+    pop 1 -> method 1 60.40 11 1 first
+    retry -> done
+    pop 0 -> method 1 60.40 11 1 first again
+    pop 0 -> header 1 4089 11 1 amid
+    retry -> done
+    pop 0 -> header 1 4089 11 1 amid again
+    pop 0 -> body 1 4088 11 1 amid
+    retry -> done
+    pop 0 -> body 1 4088 11 1 amid again
+    pop 0 -> body 1 1 11 1 last
+    retry -> done
+    pop 0 -> body 1 1 11 1 last again
+    pop 1 -> none
+    pending -> no";
+
 // Publishes of full channels wait, and the first of a channel that isn't full goes, however many wait in front of it. One that
 // was passed over goes before all behind it as soon as its channel is full no more.
 const FULL: &str = "\
@@ -410,7 +428,16 @@ const POISON: &str = "\
 
 #[test]
 fn frames_leave_in_order(rt: HostRuntime) -> Result<(), Fail> {
-    for script in [ORDER, CUTS, RETRIES, FULL, FULL_DROPS, DROPS, POISON] {
+    for script in [
+        ORDER,
+        CUTS,
+        RETRIES,
+        EACH_RETRIED,
+        FULL,
+        FULL_DROPS,
+        DROPS,
+        POISON,
+    ] {
         runs(&rt, rt.alloc(), Letterbox::new(rt.alloc())?, script)?;
     }
     Ok(())
