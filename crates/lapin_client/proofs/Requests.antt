@@ -1,18 +1,25 @@
 -- Requests one after the other.
-use Rattle.std.proofs.Common.{◌≡◌, ◌<◌, ◌≤◌, ℕ, suc, List, ◌++◌, Bool, length, sym, ap, ◌∙◌, subst, arith}
+use Rattle.std.proofs.Common.{◌≡◌, ◌<◌, ◌≤◌, ℕ, suc, ◌+◌, Err, inl, inr, List, ◌++◌, Bool, length, sym, ap, ◌∙◌, subst, arith}
 use Rattle.std.proofs.lemmas.List.{append_assoc, append-nil}
 use Rattle.lapin_client.specs.declared.status.Status.{Status}
 use Rattle.lapin_client.specs.declared.status.Status.TheVariants as status
 use Rattle.lapin_types.specs.declared.record.Record.{Record}
 use Rattle.lapin_client.specs.declared.client.Client.{Client}
-use Rattle.lapin_client.specs.Sending.{record_bytes, after_requests, bytes_handed, HandsOut, IsIdle, SameElse, AllWanted, Pulls, Finishes, Sends}
+use Rattle.lapin_client.specs.declared.sending.Step.TheVariants as step
+use Rattle.lapin_fields.specs.declared.fault.WriteFault.{WriteFault}
+use Rattle.lapin_fields.specs.declared.fault.WriteFault.TheVariants as faults
+use Rattle.lapin_frames.specs.FrameFits.{FrameFits, RefusedWithin}
+use Rattle.lapin_frames.specs.Frames.{bytes_of}
+use Rattle.lapin_types.specs.Types.{Frame}
+use Rattle.lapin_types.specs.declared.record.Record.TheVariants as record_
+use Rattle.lapin_client.specs.Sending.{record_bytes, after_requests, bytes_handed, HandsOut, IsIdle, SameElse, AllWanted, Pulls, Finishes, Sends, CantLeave, RecordFits, StepCause, LossCause, loss_of}
 use Rattle.lapin_machine.specs.World.{World, next, told_by}
 use Rattle.lapin_types.specs.declared.event.Event.TheVariants as event
 
 -- one more request, by which a frame left or none
 pub hands_next : (n : ℕ) (flow : Bool) (c b d : Client) → HandsOut n flow c b → b.frame_max ≡ c.frame_max → d.session ≡ next b.session (event.Next flow) →
-    d.leaving.items ≡ b.leaving.items ++ record_bytes (told_by b.session (event.Next flow)) → length (record_bytes (told_by b.session (event.Next flow))) ≤ b.frame_max → HandsOut (suc n) flow c d
-hands_next n flow c b d h same e f small = (
+    d.leaving.items ≡ b.leaving.items ++ record_bytes (told_by b.session (event.Next flow)) → length (record_bytes (told_by b.session (event.Next flow))) ≤ b.frame_max → d.left + 1 ≡ b.left → RecordFits (told_by b.session (event.Next flow)) → HandsOut (suc n) flow c d
+hands_next n flow c b d h same e f small count fits = (
   e ∙ ap (λ w. next w (event.Next flow)) h.0,
   (
     f ∙ ap (λ l. l ++ record_bytes (told_by b.session (event.Next flow))) h.1.0
@@ -23,15 +30,17 @@ hands_next n flow c b d h same e f small = (
       subst (λ (m : ℕ). length (record_bytes (told_by (after_requests n flow c.session) (event.Next flow))) ≤ m) same
           (subst (λ (w : World). length (record_bytes (told_by w (event.Next flow))) ≤ b.frame_max) h.0 small),
     ),
+    omega (h.1.2, count, arith),
+    (h.1.3, subst (λ (w : World). RecordFits (told_by w (event.Next flow))) h.0 fits),
   ),
 )
 
 -- one more request, by which none left
 pub hands_idle : (n : ℕ) (flow : Bool) (c b d : Client) → HandsOut n flow c b → b.frame_max ≡ c.frame_max → d.session ≡ next b.session (event.Next flow) →
-    d.leaving.items ≡ b.leaving.items → IsIdle flow b.session → HandsOut (suc n) flow c d
-hands_idle n flow c b d h same e f idle =
+    d.leaving.items ≡ b.leaving.items → IsIdle flow b.session → d.left + 1 ≡ b.left → HandsOut (suc n) flow c d
+hands_idle n flow c b d h same e f idle count =
     hands_next n flow c b d h same e (f ∙ sym (append-nil b.leaving.items) ∙ ap (λ (r : Record). b.leaving.items ++ record_bytes r) (sym idle))
-    (subst (λ (r : Record). length (record_bytes r) ≤ b.frame_max) (sym idle) (omega arith))
+    (subst (λ (r : Record). length (record_bytes r) ≤ b.frame_max) (sym idle) (omega arith)) count (subst RecordFits (sym idle) tt)
 
 pub same_else : (c b d : Client) → SameElse c b → SameElse b d → SameElse c d
 same_else c b d x y = (y.0 ∙ x.0, y.1 ∙ x.1, y.2 ∙ x.2, y.3 ∙ x.3)
@@ -51,3 +60,22 @@ sends_after status.Malformed flow enough c b d p f = absurd f.0
 sends_after status.Closed flow enough c b d p f = absurd f.0
 sends_after status.Pending flow enough c b d p f = absurd f.0
 sends_after status.Gone flow enough c b d p f = absurd f.0
+
+-- a frame that could not be written
+pub step_cause : (e : WriteFault) (f : Frame) (flow : Bool) (c : Client) → told_by c.session (event.Next flow) ≡ record_.Frame f → RefusedWithin (Err e) (FrameFits f) (c.frame_max < length (bytes_of f)) → StepCause (step.Lost (loss_of e)) flow c
+step_cause faults.NoMemory f flow c told r = tt
+step_cause faults.TooLong f flow c told r = subst (λ (x : Record). CantLeave x c.frame_max) (sym told) (inl r)
+step_cause faults.TooDeep f flow c told r = subst (λ (x : Record). CantLeave x c.frame_max) (sym told) (inl r)
+step_cause faults.AboveLimit f flow c told r = subst (λ (x : Record). CantLeave x c.frame_max) (sym told) (inr r.1)
+
+pub lost_after : (s : Status) (n : ℕ) (flow : Bool) (c b d : Client) → HandsOut n flow c b → b.frame_max ≡ c.frame_max → StepCause (step.Lost s) flow b → LossCause s flow c d
+lost_after status.TooLong n flow c b d h same k = (n, subst (λ (m : ℕ). CantLeave (told_by (after_requests n flow c.session) (event.Next flow)) m) same (subst (λ (w : World). CantLeave (told_by w (event.Next flow)) b.frame_max) h.0 k))
+lost_after status.Ended n flow c b d h same k = absurd k
+lost_after status.Done n flow c b d h same k = tt
+lost_after status.NoMemory n flow c b d h same k = tt
+lost_after status.Refused n flow c b d h same k = tt
+lost_after status.NotInGrammar n flow c b d h same k = tt
+lost_after status.Malformed n flow c b d h same k = tt
+lost_after status.Closed n flow c b d h same k = tt
+lost_after status.Pending n flow c b d h same k = tt
+lost_after status.Gone n flow c b d h same k = tt

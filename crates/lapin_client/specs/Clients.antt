@@ -1,5 +1,5 @@
 -- What holds of a client at all times, and what a line leaves.
-use Rattle.std.specs.Prelude.{◌≡◌, ◌<◌, ◌≤◌, ◌+◌, ◌^◌, ℕ, true, false, List, [], length}
+use Rattle.std.specs.Prelude.{◌≡◌, ◌<◌, ◌≤◌, ◌+◌, ◌-◌, ◌^◌, ℕ, true, false, List, [], length}
 use Rattle.lapin_client.specs.declared.client.Client.{Client}
 use Rattle.lapin_client.specs.declared.status.Status.{Status}
 use Rattle.lapin_client.specs.declared.status.Status.TheVariants as status
@@ -15,9 +15,9 @@ HasRoomFor n w = (w.wire.tickets + n < 2 ^ 64) × ((w.wire.published + n < 2 ^ 6
 abbrev pub IsSound : Client → Type 0
 IsSound c = (0 < c.left → HasRoomFor c.left c.session) × (4096 ≤ c.frame_max)
 
--- a client of a new session, in which nothing came and nothing is to be sent
+-- a client of a new session, in which nothing came and nothing is to be sent, and which takes as many steps as there are
 abbrev pub IsNew : ℕ → Client → Type 0
-IsNew frame_max c = (c.session ≡ new_world frame_max) × (c.frame_max ≡ frame_max) × (c.leaving.items ≡ []) × (c.came ≡ []) × (c.blocked ≡ false)
+IsNew frame_max c = (c.session ≡ new_world frame_max) × (c.frame_max ≡ frame_max) × (c.leaving.items ≡ []) × (c.came ≡ []) × (c.blocked ≡ false) × (c.left ≡ 2 ^ 63 - 1)
 
 -- of two clients all is the same but the session, the answer and the steps that are left
 abbrev pub SameBytes : Client → Client → Type 0

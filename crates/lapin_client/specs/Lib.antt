@@ -1,5 +1,6 @@
 pub mod Calls
 pub mod Clients
+pub mod Counts
 pub mod Receiving
 pub mod Sending
 pub mod Showing

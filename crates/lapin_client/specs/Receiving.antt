@@ -6,8 +6,9 @@ use Rattle.lapin_client.specs.declared.receiving.Head.{Head}
 use Rattle.lapin_client.specs.declared.receiving.Head.TheVariants as head
 use Rattle.lapin_client.specs.declared.status.Status.{Status}
 use Rattle.lapin_client.specs.declared.status.Status.TheVariants as status
+use Rattle.lapin_client.specs.Clients.{SameBytes}
 use Rattle.lapin_client.specs.Showing.{ShowsError}
-use Rattle.lapin_client.specs.Sending.{after_requests, bytes_handed, IsIdle, IsLoss}
+use Rattle.lapin_client.specs.Sending.{AllFit, AllWithin, after_requests, bytes_handed, IsIdle, IsLoss}
 use Rattle.lapin_fields.specs.Around.{wanted_behind}
 use Rattle.lapin_frames.specs.FrameReading.{read_at}
 use Rattle.lapin_frames.specs.declared.frames.Read.TheVariants as read
@@ -15,7 +16,9 @@ use Rattle.lapin_handshake.specs.Saying.{frame_said_at}
 use Rattle.lapin_handshake.specs.declared.said.Said.{Said}
 use Rattle.lapin_handshake.specs.declared.said.Said.TheVariants as said
 use Rattle.lapin_rules.specs.Drops.{frame_channel}
-use Rattle.lapin_rules.specs.Wire.{state_of, is_closed}
+use Rattle.lapin_rules.specs.Wire.{state_of}
+use Rattle.lapin_types.specs.Types.{ChannelState}
+use Rattle.lapin_types.specs.Types.channel_state as state
 use Rattle.lapin_machine.specs.World.{World, next, told_by}
 use Rattle.lapin_types.specs.Types.{Frame, Error}
 use Rattle.lapin_types.specs.Types.frame
@@ -38,13 +41,24 @@ is_of_content (frame.Method channel (method.Basic m)) = begins_content m
 is_of_content (frame.Method channel _) = false
 is_of_content _ = true
 
+-- the connection is open, and the channel hears no contents: it is closed, not open yet, or both sides close it
+abbrev pub is_deaf : ChannelState → Bool
+is_deaf state.Closed = true
+is_deaf state.Opening = true
+is_deaf state.Crossed = true
+is_deaf _ = false
+
 -- a content of an opening that has ended: on its way as the broker closed its channel
 abbrev pub is_stray : Frame → World → Bool
-is_stray f w = is_of_content f && is_closed (state_of (frame_channel f) w.wire)
+is_stray f w = is_of_content f && is_deaf (state_of (frame_channel f) w.wire)
 
 -- what a frame of the broker leaves: a content of an opening that has ended is passed over
 abbrev pub heard : Frame → World → World
 heard f w = if is_stray f w then w else next w (event.Receive f)
+
+-- how many steps it uses up
+abbrev pub uses : Frame → World → ℕ
+uses f w = if is_stray f w then 0 else 1
 
 -- the octets of the frame at the head of octets, told by its size
 abbrev pub length_at : List ℕ → ℕ
@@ -56,17 +70,23 @@ abbrev pub notice : Bool → Said
 notice true = said.Blocked
 notice false = said.Unblocked
 
+-- a frame of n octets stands whole at the head, that is none which the session hears, and it is a notice
+abbrev pub IsNotice : List ℕ → Bool → ℕ → Type 0
+IsNotice bytes is n = (wanted_behind bytes ≡ 0) × (read_at bytes ≡ None) × (frame_said_at bytes ≡ Some (notice is)) × (n ≡ length_at bytes)
+
 -- The frame of n octets at the head is for the session; or it is none that the session hears: a heartbeat, or a notice whether the broker
 -- takes messages, which alone changes whether it was blocked.
 abbrev pub IsHead : List ℕ → Option Frame → ℕ → Bool → Bool → Type 0
 IsHead bytes (Some f) n was is = (read_at bytes ≡ Some (read.Frame f n)) × (is ≡ was)
-IsHead bytes None n was is = ((read_at bytes ≡ Some (read.Heartbeat n)) × (is ≡ was)) ⊎ ((frame_said_at bytes ≡ Some (notice is)) × (n ≡ length_at bytes))
+IsHead bytes None n was is = ((read_at bytes ≡ Some (read.Heartbeat n)) × (is ≡ was)) ⊎ IsNotice bytes is n
 
 -- What a frame leaves: first all leaves that has begun here or is no publish, so that the session is idle, and then the session hears it.
 abbrev pub TurnLeaves : Option Frame → Client → Client → Type 0
-TurnLeaves None b d = (d.session ≡ b.session) × (d.leaving.items ≡ b.leaving.items)
+TurnLeaves None b d = (d.session ≡ b.session) × (d.leaving.items ≡ b.leaving.items) × (d.left ≡ b.left)
 TurnLeaves (Some f) b d = (m : ℕ) × IsIdle false (after_requests m false b.session) × (d.session ≡ heard f (after_requests (suc m) false b.session))
     × (d.leaving.items ≡ b.leaving.items ++ bytes_handed (suc m) false b.session)
+    × (d.left + (suc m + uses f (after_requests (suc m) false b.session)) ≡ b.left)
+    × AllWithin b.frame_max (suc m) false b.session × AllFit (suc m) false b.session
 
 -- of two clients all is the same but the session, the answer and the steps that are left
 abbrev pub SameHeard : Client → Client → Type 0
@@ -85,6 +105,18 @@ abbrev pub Hears : Status → Frame → Client → Client → Type 0
 Hears status.Done f b d = IsHeard f b.session × (d.session ≡ next b.session (event.Receive f)) × SameHeard b d
 Hears status.Refused f b d = Refuses f b.session d × (d.session ≡ next b.session (event.Receive f)) × SameHeard b d
 Hears r f b d = IsLoss r × (d.left ≡ 0)
+
+-- a frame that the session hears uses one step up
+abbrev pub HearCounts : Status → Client → Client → Type 0
+HearCounts status.Done b d = d.left + 1 ≡ b.left
+HearCounts status.Refused b d = d.left + 1 ≡ b.left
+HearCounts r b d = d.left ≡ 0
+
+-- and one that is passed over none
+abbrev pub IdleCounts : Status → Frame → Client → Client → Type 0
+IdleCounts status.Done f b d = d.left + uses f b.session ≡ b.left
+IdleCounts status.Refused f b d = d.left + uses f b.session ≡ b.left
+IdleCounts r f b d = d.left ≡ 0
 
 -- what becomes of a frame where nothing waits here that has begun
 abbrev pub TakesIdle : Status → Frame → Client → Client → Type 0
@@ -114,12 +146,12 @@ HeadIs (head.Frame f n) bytes frame_max = read_at bytes ≡ Some (read.Frame f n
 HeadIs (head.Passed n) bytes frame_max = read_at bytes ≡ Some (read.Heartbeat n)
 HeadIs head.TooLong bytes frame_max = frame_max < length_at bytes
 HeadIs head.Malformed bytes frame_max = (wanted_behind bytes ≡ 0) × (read_at bytes ≡ None)
-HeadIs (head.Blocked b n) bytes frame_max = (frame_said_at bytes ≡ Some (notice b)) × (n ≡ length_at bytes)
+HeadIs (head.Blocked b n) bytes frame_max = IsNotice bytes b n
 HeadIs head.NoMemory bytes frame_max = Unit {0}
 
 -- the frame at the head of what came is taken from it, and what it leaves
 abbrev pub IsTurnOf : Option Frame → Client → Client → Type 0
-IsTurnOf o b d = (n : ℕ) × IsHead b.came o n b.blocked d.blocked × (d.came ≡ drop n b.came) × TurnLeaves o b d
+IsTurnOf o b d = (n : ℕ) × IsHead b.came o n b.blocked d.blocked × (d.came ≡ drop n b.came) × (d.frame_max ≡ b.frame_max) × TurnLeaves o b d
 
 -- it is taken, and not refused
 abbrev pub IsTurn : Client → Client → Type 0
@@ -143,7 +175,7 @@ Comes (suc n) c d = (b : Client) × Comes n c b × IsTurn b d
 
 -- what a client is once more came
 abbrev pub IsLonger : List ℕ → Client → Client → Type 0
-IsLonger bytes c b = (b.came ≡ c.came ++ bytes) × (b.session ≡ c.session) × (b.leaving.items ≡ c.leaving.items) × (b.frame_max ≡ c.frame_max) × (b.blocked ≡ c.blocked)
+IsLonger bytes c b = (b.left ≡ c.left) × (b.came ≡ c.came ++ bytes) × (b.session ≡ c.session) × (b.leaving.items ≡ c.leaving.items) × (b.frame_max ≡ c.frame_max) × (b.blocked ≡ c.blocked)
 
 -- What a run over what came leaves: each frame that was whole was taken, in order, and what is kept is the beginning of one, shorter than a
 -- frame may be; where the status isn't Done the last of them has it.
@@ -152,6 +184,6 @@ Runs status.Done b d = (n : ℕ) × (Comes n b d × (0 < wanted_behind d.came) �
 Runs r b d = (n : ℕ) × ((e : Client) × (Comes n b e × Turns r e d))
 
 -- What octets of the broker leave: they stand behind those that came before, and then each frame that is whole was taken, in order. Where
--- there was no memory for them, nothing came.
+-- there was no memory for them, nothing came, and all is as it was.
 abbrev pub Receives : Status → List ℕ → Client → Client → Type 0
-Receives r bytes c d = ((b : Client) × (IsLonger bytes c b × Runs r b d)) ⊎ ((r ≡ status.NoMemory) × (d.session ≡ c.session) × (d.came ≡ c.came))
+Receives r bytes c d = ((b : Client) × (IsLonger bytes c b × Runs r b d)) ⊎ ((r ≡ status.NoMemory) × (d.session ≡ c.session) × (d.left ≡ c.left) × (d.answer.items ≡ c.answer.items) × SameBytes c d)

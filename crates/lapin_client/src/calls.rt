@@ -3,6 +3,7 @@ ghost use Rattle.std.specs.Prelude.{◌≡◌, ◌<◌, ◌++◌, ◌∷◌, [],
 ghost use Rattle.lapin_tokens.specs.Fields.{token as token_of};
 ghost use Rattle.lapin_tokens.specs.Fields.Field.{props as props_field};
 ghost use Rattle.lapin_client.specs.Calls.{Published, PublishedBy, OutcomeTold, Delivered, Settled, Forgotten, Shown, StaysBut, NoText, OutcomeShown, forget_fault as forget_fault_lem, fate_call, message_bytes, message_of};
+ghost use Rattle.lapin_client.specs.Counts.{ForgetCounts, OneAtMost, PollCounts, PublishCounts, SettleCounts, ShowCounts, Uses};
 ghost use Rattle.lapin_client.specs.Clients.{IsSound, SameBytes};
 ghost use Rattle.lapin_machine.specs.World.{next};
 ghost use Rattle.lapin_types.specs.declared.call.Call.TheVariants as call;
@@ -73,6 +74,7 @@ impl Client {
         requires { IsSound self.old }
         ensures sound { IsSound self.new }
         ensures told { Published result channel exchange.now routing_key.now mandatory payload.now properties.now self.old self.new }
+        ensures count { PublishCounts result self.old self.new }
     {
         if self.left < 2 {
             return Err(Status::Ended);
@@ -120,6 +122,7 @@ impl Client {
         requires enough { 1 < self.old.left }
         ensures sound { IsSound self.new }
         ensures told { PublishedBy result (event.Call channel (call.BasicPublish exchange routing_key options payload properties)) self.old self.new }
+        ensures count { PublishCounts result self.old self.new }
     {
         match self.session.basic_publish(
             alloc,
@@ -145,6 +148,7 @@ impl Client {
         requires some { 0 < self.old.left }
         ensures sound { IsSound self.new }
         ensures session { self.new.session ≡ next self.old.session (event.AsideTicket number) }
+        ensures count { Uses 1 self.old self.new }
         ensures same { SameBytes self.old self.new }
     {
         self.left -= 1;
@@ -157,6 +161,7 @@ impl Client {
         requires { IsSound self.old }
         ensures sound { IsSound self.new }
         ensures told { OutcomeTold result confirm self.old self.new }
+        ensures count { OneAtMost self.old self.new }
     {
         if self.left == 0 {
             return 0;
@@ -196,6 +201,7 @@ impl Client {
         requires { IsSound self.old }
         ensures sound { IsSound self.new }
         ensures told { Delivered result consumer self.old self.new }
+        ensures count { PollCounts result self.old self.new }
     {
         if self.left == 0 {
             return Err(Status::Ended);
@@ -215,6 +221,7 @@ impl Client {
         requires { IsSound self.old }
         ensures sound { IsSound self.new }
         ensures told { Shown result delivery self.old self.new }
+        ensures count { ShowCounts result self.old self.new }
     {
         self.answer.clear();
         let shown = put_delivery(alloc, &mut self.answer, &delivery);
@@ -242,6 +249,7 @@ impl Client {
         requires { IsSound self.old }
         ensures sound { IsSound self.new }
         ensures told { Settled result acker (fate_call fate multiple requeue) self.old self.new }
+        ensures count { SettleCounts result self.old self.new }
     {
         if self.left < 2 {
             return Status::Ended;
@@ -255,6 +263,7 @@ impl Client {
         requires enough { 1 < self.old.left }
         ensures sound { IsSound self.new }
         ensures told { Settled result acker call self.old self.new }
+        ensures count { SettleCounts result self.old self.new }
     {
         match self.session.acker_call(alloc, acker, call) {
             Ok(Some(ticket)) => {
@@ -278,6 +287,7 @@ impl Client {
         requires { IsSound self.old }
         ensures sound { IsSound self.new }
         ensures told { Forgotten result confirm self.old self.new }
+        ensures count { ForgetCounts result self.old self.new }
     {
         if self.left == 0 {
             return Status::Ended;

@@ -4,6 +4,7 @@ ghost use Rattle.lapin_text.specs.Records.{record_tokens, line_onto};
 ghost use Rattle.lapin_types.specs.declared.record.Record.TheVariants as told;
 ghost use Rattle.lapin_client.specs.Calls.{StaysBut};
 ghost use Rattle.lapin_client.specs.Showing.{EndsAt, IsTold, ShowsError};
+ghost use Rattle.lapin_client.specs.Counts.{EndCounts, LineCounts};
 ghost use Rattle.lapin_client.specs.Clients.{IsSound, SameBytes, Answers, IsNew, IsSent};
 
 use crate::inlet::Inlet;
@@ -63,6 +64,7 @@ impl Client {
         requires { IsSound self.old }
         ensures sound { IsSound self.new }
         ensures told { Answers result line.now self.old self.new }
+        ensures count { LineCounts result self.old self.new }
     {
         if self.left == 0 {
             return Status::Ended;
@@ -111,6 +113,7 @@ impl Client {
         ensures sound { IsSound self.new }
         ensures told { IsTold result error self.new }
         ensures ends { EndsAt result self.new }
+        ensures count { EndCounts result self.old self.new }
         ensures session { self.new.session ≡ self.old.session }
         ensures same { SameBytes self.old self.new }
     {

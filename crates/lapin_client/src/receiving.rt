@@ -3,9 +3,8 @@
 ghost use Rattle.std.specs.Prelude.{◌≡◌, ◌≤◌, Some, IfSome};
 ghost use Rattle.lapin_handshake.specs.Saying.{frame_said_at};
 ghost use Rattle.lapin_client.specs.Clients.{IsSound};
-ghost use Rattle.lapin_client.specs.Receiving.{Receives, Runs, Turns, Takes, TakesIdle, Hears, HeadIs, notice, is_of_content as is_of_content_lem, begins_content as begins_content_lem, is_stray as is_stray_lem, length_at};
+ghost use Rattle.lapin_client.specs.Receiving.{Receives, Runs, Turns, Takes, TakesIdle, IdleCounts, Hears, HearCounts, HeadIs, notice, is_of_content as is_of_content_lem, begins_content as begins_content_lem, is_deaf as is_deaf_lem, is_stray as is_stray_lem, length_at};
 ghost use Rattle.lapin_client.specs.Showing.{is_refusal};
-ghost use Rattle.lapin_rules.specs.Wire.{is_closed as is_closed_lem};
 ghost use Rattle.lapin_rules.specs.Drops.{frame_channel};
 
 use crate::client::Client;
@@ -114,6 +113,7 @@ impl Client {
         requires { IsSound self.old }
         ensures sound { IsSound self.new }
         ensures told { TakesIdle result frame self.old self.new }
+        ensures count { IdleCounts result frame self.old self.new }
     {
         if is_stray(&self.session, &frame) {
             drop(frame);
@@ -127,6 +127,7 @@ impl Client {
         requires { IsSound self.old }
         ensures sound { IsSound self.new }
         ensures told { Hears result frame self.old self.new }
+        ensures count { HearCounts result self.old self.new }
     {
         if self.left == 0 {
             drop(frame);
@@ -188,18 +189,22 @@ fn channel_of(frame: &Frame) -> u16
     }
 }
 
-fn is_closed(state: ChannelState) -> bool
-    ensures { result ≡ is_closed_lem state }
+// Whether a channel of an open connection hears no contents: it is closed, not open yet, or both sides close it.
+fn is_deaf(state: ChannelState) -> bool
+    ensures { result ≡ is_deaf_lem state }
 {
-    matches!(state, ChannelState::Closed)
+    matches!(
+        state,
+        ChannelState::Closed | ChannelState::Opening | ChannelState::Crossed
+    )
 }
 
 // Whether a frame belongs to an opening of its channel that has ended: contents that were on their way as the broker closed it.
 fn is_stray(session: &Session, frame: &Frame) -> bool
     ensures { result ≡ is_stray_lem frame.now session.now }
 {
-    let closed = is_closed(session.channel_state(channel_of(frame)));
-    is_of_content(frame) && closed
+    let deaf = is_deaf(session.channel_state(channel_of(frame)));
+    is_of_content(frame) && deaf
 }
 
 // What stands at the head of bytes, where no frame has more than so many.

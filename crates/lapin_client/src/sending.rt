@@ -1,8 +1,9 @@
 //! Frames that leave, as bytes.
-ghost use Rattle.std.specs.Prelude.{◌≡◌, ◌≤◌, ◌++◌, ◌<◌, length, OnOk, OnErr};
+ghost use Rattle.std.specs.Prelude.{◌≡◌, ◌≤◌, ◌++◌, ◌<◌, false, length, OnOk, OnErr};
 ghost use Rattle.lapin_client.specs.Clients.{IsSound};
+ghost use Rattle.lapin_frames.specs.FrameFits.{FrameFits, RefusedWithin};
 ghost use Rattle.lapin_frames.specs.Frames.{bytes_of};
-ghost use Rattle.lapin_client.specs.Sending.{Pulls, Finishes, Sends, Steps, Counts, IsLoss};
+ghost use Rattle.lapin_client.specs.Sending.{Pulls, Finishes, Sends, Steps, Counts, IsLoss, StepCause, StepFits, LossCause, SendCause, loss_of};
 
 use crate::client::Client;
 use crate::status::Status;
@@ -18,6 +19,7 @@ impl Client {
         requires { IsSound self.old }
         ensures sound { IsSound self.new }
         ensures told { Sends result flow enough self.old self.new }
+        ensures cause { SendCause result flow enough self.old self.new }
     {
         match self.pull(alloc, flow, enough) {
             Status::Done => self.finish(alloc),
@@ -30,6 +32,7 @@ impl Client {
         requires { IsSound self.old }
         ensures sound { IsSound self.new }
         ensures told { Finishes result self.old self.new }
+        ensures cause { LossCause result false self.old self.new }
     {
         loop {
             if self.left == 0 {
@@ -48,6 +51,7 @@ impl Client {
         requires { IsSound self.old }
         ensures sound { IsSound self.new }
         ensures told { Pulls result enough flow self.old self.new }
+        ensures cause { LossCause result flow self.old self.new }
     {
         while self.leaving.len() < enough {
             if self.left == 0 {
@@ -69,6 +73,8 @@ impl Client {
         ensures sound { IsSound self.new }
         ensures told { Steps result flow self.old self.new }
         ensures count { Counts result self.old self.new }
+        ensures cause { StepCause result flow self.old }
+        ensures fits { StepFits result flow self.old }
     {
         match self.session.next_frame(alloc, flow) {
             Ok(Some(left)) => {
@@ -120,14 +126,17 @@ fn put_left(
     frame_max: u32,
 ) -> Result<(), WriteFault>
     ensures ok { OnOk result ((out.new.items ≡ out.old.items ++ bytes_of frame.now) × (length (bytes_of frame.now) ≤ frame_max)) }
+    ensures fits { OnOk result (FrameFits frame.now) }
     ensures err { OnErr result (out.new.items ≡ out.old.items) }
+    ensures refused { RefusedWithin result (FrameFits frame.now) (frame_max < length (bytes_of frame.now)) }
 {
     put_frame_within(alloc, out, room, frame, frame_max as usize)
 }
 
 // Why a frame was lost.
 fn lost(fault: WriteFault) -> Status
-    ensures { IsLoss result }
+    ensures loss { IsLoss result }
+    ensures told { result ≡ loss_of fault }
 {
     match fault {
         WriteFault::NoMemory => Status::NoMemory,

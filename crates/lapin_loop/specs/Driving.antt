@@ -7,6 +7,7 @@ use Rattle.lapin_types.specs.declared.leaving.Left.{Left}
 use Rattle.lapin_types.specs.declared.record.Record.TheVariants as record_
 use Rattle.lapin_rules.specs.Phases.{is_lost}
 use Rattle.lapin_outbox.specs.Returned.{is_retried}
+use Rattle.lapin_machine.specs.Numbers.{EventUsedUp}
 use Rattle.lapin_machine.specs.World.{World, told_by, next, with_returned}
 use Rattle.lapin_loop.specs.declared.turns.Turn.{Turn}
 use Rattle.lapin_loop.specs.declared.turns.Turn.TheVariants as turn
@@ -23,14 +24,18 @@ IsSent takes l turn.Sent v w s t = takes s l.frame true t × (w ≡ v)
 IsSent takes l turn.Broken v w s t = takes s l.frame false t × (w ≡ given_back_in l v)
 IsSent takes l _ v w s t = ⊥
 
--- the session refused a frame by this error, and did what its rules say; where a number is used up nothing is done
+-- the session refused a frame by this error, and did what its rules say; where the frame lacks a number nothing is done
 abbrev pub IsRefused : Error → Frame → World → World → Type 0
-IsRefused error.NumbersUsedUp f v w = w ≡ v
+IsRefused error.NumbersUsedUp f v w = EventUsedUp (event.Receive f) v.wire × (w ≡ v)
 IsRefused e f v w = (told_by v (event.Receive f) ≡ record_.Refused e) × (w ≡ next v (event.Receive f))
+
+-- the session takes a frame, or passes over it
+abbrev pub IsReceived : Frame → World → Type 0
+IsReceived f v = (told_by v (event.Receive f) ≡ record_.Received) ⊎ (told_by v (event.Receive f) ≡ record_.Passed)
 
 -- the wire is asked for a frame, and one that it gave is heard: the session takes it, or refuses it as its record says
 abbrev pub IsHeard : {S : Type 0} → (S → Option Frame → S → Type 0) → Turn → World → World → S → S → Type 0
-IsHeard gives turn.Heard v w s t = (f : Frame) × gives s (Some f) t × (w ≡ next v (event.Receive f))
+IsHeard gives turn.Heard v w s t = (f : Frame) × gives s (Some f) t × IsReceived f v × (w ≡ next v (event.Receive f))
 IsHeard gives (turn.Refused e) v w s t = (f : Frame) × gives s (Some f) t × IsRefused e f v w
 IsHeard gives turn.Quiet v w s t = gives s None t × (w ≡ v)
 IsHeard gives _ v w s t = ⊥
