@@ -44,12 +44,15 @@ impl Inlet {
         &self.bytes[self.read..]
     }
 
-    /// More came. The room of what was read is given up.
+    /// More came. The room of what was read is given up, once it is more than what wasn't: so a byte is moved once, however often less is
+    /// read than came.
     pub fn add(&mut self, bytes: &[u8]) -> Result<(), AllocError>
         ensures ok { OnOk result (self.new ≡ self.old ++ bytes.now) }
         ensures err { OnErr result (self.new ≡ self.old) }
     {
-        self.forget();
+        if self.read > self.bytes.len() - self.read {
+            self.forget();
+        }
         self.bytes.extend_from_slice(bytes)
     }
 
