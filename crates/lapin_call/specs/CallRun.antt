@@ -32,7 +32,7 @@ pub record GoesOn (steps : ℕ) (w : World) : Type 0 where
   pub numbers : HasNumbersFor (2 ^ 64 - 2 - 2 * steps) w
   pub unreturned : w.returned ≡ None
 
--- so it is as long as no step found that there is no memory, and no more than 2,147,483,648 were made
+-- so it is as long as no step found that there is no memory, and no more than 2^62 were made
 pub record IsKept (stopped : Bool) (steps : ℕ) (w : World) : Type 0 where
   pub few : steps ≤ 2 ^ 62
   pub goes_on : stopped ≡ false → GoesOn steps w

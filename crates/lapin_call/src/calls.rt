@@ -1,6 +1,6 @@
 //! Calls over queues, step by step: what one answers, what they stand for, and when they stop.
 
-ghost use Rattle.std.specs.Prelude.{◌≡◌, ◌↔◌, ◌≤◌, ◌<◌, ◌+◌, ◌^◌, ◌++◌, ◌∷◌, [], ℕ, List, None, Err, true, false, IfOk, OnOk, OnErr};
+ghost use Rattle.std.specs.Prelude.{◌≡◌, ◌↔◌, ◌≤◌, ◌+◌, ◌++◌, ◌∷◌, [], ℕ, List, None, Err, true, false, IfOk, OnOk, OnErr};
 ghost use Rattle.lapin_machine.specs.Numbers.{HasNumbersFor};
 ghost use Rattle.lapin_machine.specs.World.{new_world};
 ghost use Rattle.lapin_call.specs.declared.step.CallStep.{CallStep as AStep};
@@ -13,6 +13,9 @@ use crate::step::{CallReport, CallStep};
 use lapin_types::{Event, NoMemory, RunError, ShortString};
 use std::alloc::Global;
 use std::marker::Model;
+
+// So many steps can't be made in anybody's time: two numbers of each counter are left for each of them.
+const MOST_STEPS: u64 = 1 << 62;
 
 /// A new session whose channel 1 publishes requests and consumes their replies from a queue. It stands for the list of its steps.
 pub struct Calls {
@@ -67,10 +70,10 @@ impl Calls {
     /// Makes a step, and tells its report.
     ///
     /// # Errors
-    /// `NoMemory` where there is none; the calls are then stopped, and stand for the steps before this one. `Stopped` exactly where an
-    /// earlier step found no memory. No step runs out of numbers, since none uses more than two of a counter.
+    /// `NoMemory` where there is none, and where 2^62 steps were made; the calls are then stopped, and stand for the steps before this
+    /// one. `Stopped` exactly where an earlier step found no memory. No step runs out of numbers, since none uses more than two of a
+    /// counter.
     pub fn step(&mut self, alloc: Global, step: CallStep) -> Result<CallReport, RunError>
-        requires { self.old.steps < 2 ^ 62 }
         ensures told { IfOk result (λ r. r ≡ report by_machine step self.old.requester) }
         ensures ok { OnOk result (self.new ≡ record { requester = after by_machine step self.old.requester; steps = self.old.steps + 1; stopped = false }) }
         ensures stopped { (result ≡ Err RunError.Stopped) ↔ (self.old.stopped ≡ true) }
@@ -87,7 +90,6 @@ impl Calls {
     }
 
     fn step_machine(&mut self, alloc: Global, step: CallStep) -> Result<CallReport, RunError>
-        requires { self.old.steps < 2 ^ 62 }
         ensures told { IfOk result (λ r. r ≡ report by_machine step self.old.requester) }
         ensures ok { OnOk result (self.new ≡ record { requester = after by_machine step self.old.requester; steps = self.old.steps + 1; stopped = false }) }
         ensures running { OnOk result (self.old.stopped ≡ false) }
@@ -98,6 +100,11 @@ impl Calls {
         if self.stopped {
             drop(step);
             return Err(RunError::Stopped);
+        }
+        if self.steps >= MOST_STEPS {
+            self.stopped = true;
+            drop(step);
+            return Err(RunError::NoMemory);
         }
         match make(alloc, &mut self.requester, step) {
             Ok(reported) => {

@@ -1,6 +1,6 @@
 //! A whole run of calls over queues: a new session, and the report of each step.
 
-ghost use Rattle.std.specs.Prelude.{◌≡◌, ◌≤◌, ◌<◌, ◌+◌, ◌^◌, ◌++◌, ◌∷◌, [], false, length, OnOk, OnErr};
+ghost use Rattle.std.specs.Prelude.{◌≡◌, ◌≤◌, ◌+◌, ◌++◌, ◌∷◌, [], false, OnOk, OnErr};
 ghost use Rattle.lapin_machine.specs.Way.{by_machine};
 ghost use Rattle.lapin_call.specs.Calls.{report as report_lem, after, calls, reports};
 ghost use Rattle.lapin_machine.specs.Growing.{IsStarted};
@@ -23,7 +23,6 @@ pub fn run_calls(
     report: &mut Vec<CallReport>,
 ) -> Result<(), NoMemory>
     requires frame_max { 4096 ≤ frame_max }
-    requires few { length steps.items < 2 ^ 62 }
     ensures ok { OnOk result (report.new.items ≡ report.old.items ++ calls frame_max queue steps.items) }
     ensures err { OnErr result (IsStarted report.old.items report.new.items (calls frame_max queue steps.items)) }
 {
@@ -39,7 +38,6 @@ fn run_steps(
     steps: Vec<CallStep>,
     report: &mut Vec<CallReport>,
 ) -> Result<(), NoMemory>
-    requires { run.old.steps + length steps.items < 2 ^ 62 }
     ensures ok { OnOk result (report.new.items ≡ report.old.items ++ reports by_machine steps.items run.old.requester) }
     ensures err { OnErr result (IsStarted report.old.items report.new.items (reports by_machine steps.items run.old.requester)) }
 {
@@ -56,7 +54,6 @@ fn add(
     step: CallStep,
     report: &mut Vec<CallReport>,
 ) -> Result<(), NoMemory>
-    requires { run.old.steps < 2 ^ 62 }
     ensures ok { OnOk result (run.new ≡ record { requester = after by_machine step run.old.requester; steps = run.old.steps + 1; stopped = false }) }
     ensures grown { OnOk result (report.new.items ≡ report.old.items ++ report_lem by_machine step run.old.requester ∷ []) }
     ensures err { OnErr result (report.new.items ≡ report.old.items) }

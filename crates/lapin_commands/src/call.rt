@@ -76,7 +76,6 @@ fn print_step(
     step: CallStep,
     text: &mut Vec<u8>,
 ) -> Result<(), NoMemory>
-    requires { run.old.steps < 2 ^ 31 }
     ensures run { OnOk result (run.new ≡ record { requester = after by_machine step run.old.requester; steps = run.old.steps + 1; stopped = false }) }
     ensures text { OnOk result (text.new.items ≡ line_onto text.old.items (report_tokens (report by_machine step run.old.requester)) ++ 10 ∷ []) }
 {
