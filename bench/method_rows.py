@@ -24,8 +24,9 @@ class Method(NamedTuple):
         return self.of + "." + re.sub(r"(?<!^)(?=[A-Z])", "-", self.variant).lower()
 
     def fields(self):
-        """Each field with its kind, in order."""
-        return self.first + [(flag, "flag") for flag in self.flags] + self.last
+        """Each field with its kind, in order. A reply text is a text, but where it is read from octets."""
+        fields = self.first + [(flag, "flag") for flag in self.flags] + self.last
+        return [(field, "text" if kind == "reply" else kind) for field, kind in fields]
 
     def args(self):
         return [field for field, _ in self.fields()]
@@ -241,7 +242,7 @@ NUMBER = {"short": 2, "long": 4, "wide": 8}
 
 
 def written(field, kind):
-    return f"{'table_bytes' if kind == 'table' else kind} {field}"
+    return f"{ {'table': 'table_bytes', 'reply': 'text'}.get(kind, kind)} {field}"
 
 
 def pieces(m):
@@ -296,7 +297,7 @@ def read_line(m):
 
 
 def fits_line(m):
-    fit = {"text": "TextFits {0}", "table": "TableFits {0}"}
+    fit = {"text": "TextFits {0}", "reply": "TextFits {0}", "table": "TableFits {0}"}
     parts = [fit.get(kind, f"({{0}} < 2 ^ {8 * NUMBER.get(kind, 0)})").format(field) for field, kind in m.first + m.last]
     return f"{m.of.capitalize()}Fits {m.seen(m.of + '_method.')} = {' × '.join(parts) or 'Unit {0}'}"
 

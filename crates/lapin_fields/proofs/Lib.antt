@@ -5,3 +5,4 @@ pub mod RisingLaws
 pub mod Turns
 pub mod ValueLaws
 pub mod WritingLaws
+mod ReadableLaws

@@ -7,7 +7,9 @@ use Rattle.std.proofs.Math.Seq.{take-append_seam, drop-append_seam}
 use Rattle.lapin_fields.specs.Around.{around, around_at, ended}
 use Rattle.lapin_fields.specs.Fields.{octet, short, long, wide, text, counted}
 use Rattle.lapin_fields.specs.Fits.{TextFits, StringFits}
-use Rattle.lapin_fields.specs.Reading.{◌>>=◌, octet_at, short_at, long_at, wide_at, piece_at, counted_at, string_at, text_at}
+use Rattle.lapin_fields.specs.Reading.{◌>>=◌, octet_at, short_at, long_at, wide_at, piece_at, counted_at, string_at, text_at, readable, reply_at}
+use Rattle.lapin_fields.proofs.ReadableLaws.{readable_text}
+use Rattle.std.proofs.lemmas.Str.{IsUtf8-from_is_utf8}
 
 -- a step that reads what was written goes on with it
 pub then_on : {A B : Type 0} (m : Option A) (x : A) (k : A → Option B) (y : Option B) → m ≡ Some x → k x ≡ y → (m >>= k) ≡ y
@@ -34,6 +36,12 @@ string_back t rest = piece_back t rest
 
 pub text_back : (t rest : List ℕ) → TextFits t → text_at (text t ++ rest) ≡ Some (t, rest)
 text_back t rest fits = rw (piece_back t rest, fits.utf8) refl
+
+-- a reply text behind its length
+pub reply_back : (t rest : List ℕ) → TextFits t → reply_at (text t ++ rest) ≡ Some (t, rest)
+reply_back t rest fits =
+    then_on (string_at (text t ++ rest)) (t, rest) (λ s. Some (readable s.0, s.1)) (Some (t, rest)) (string_back t rest)
+    (ap (λ (s : List ℕ). Some (s, rest)) (readable_text t (IsUtf8-from_is_utf8 t fits.utf8)))
 
 -- a long string behind its length
 pub counted_back : (s rest : List ℕ) → StringFits s → counted_at (counted s ++ rest) ≡ Some (s, rest)

@@ -1,7 +1,8 @@
 -- Reading octets from left to right: what stands next, and what is left behind it; nothing where the octets do not begin so.
-use Rattle.std.specs.Prelude.{◌≡◌, ℕ, ◌/◌, ◌%◌, ◌==◌, Bool, true, false, List, [], ◌∷◌, length, take, drop, Option, Some, None, Result, Ok, Err, if◌then◌else◌, nat_lt}
+use Rattle.std.specs.Prelude.{◌≡◌, ℕ, ◌/◌, ◌%◌, ◌==◌, Bool, true, false, List, [], ◌∷◌, length, map, take, drop, ◌++◌, Option, Some, None, Result, Ok, Err, if◌then◌else◌, nat_lt}
 use Rattle.std.specs.Int.{w16, w32, w64, from_be_bytes}
 use Rattle.std.specs.Str.{is_utf8}
+use Rattle.std.specs.Str.Lossy.{utf8_valid_len}
 use Rattle.lapin_fields.specs.declared.fault.ReadFault.{ReadFault}
 use Rattle.lapin_fields.specs.declared.fault.ReadFault.TheVariants as faults
 
@@ -61,6 +62,19 @@ as_text t rest = if is_utf8 t then Some (t, rest) else None
 -- a short text behind its length
 abbrev pub text_at : List ℕ → Option (List ℕ × List ℕ)
 text_at bytes = string_at bytes >>= λ t. as_text t.0 t.1
+
+-- an octet as a letter of its own: as it stands where it is one of ASCII, and else a question mark
+abbrev pub as_letter : ℕ → ℕ
+as_letter b = if nat_lt b 128 then b else 63
+
+-- Octets as a text, whatever they are, in as many octets: the longest front that is UTF-8 as it stands, and behind it each octet as a
+-- letter of its own. So a text is itself, and of one that was cut within its last letter all else is kept.
+abbrev pub readable : List ℕ → List ℕ
+readable s = take (utf8_valid_len s) s ++ map as_letter (drop (utf8_valid_len s) s)
+
+-- a reply text behind its length. What it says is for people, and no octets of it are refused
+abbrev pub reply_at : List ℕ → Option (List ℕ × List ℕ)
+reply_at bytes = string_at bytes >>= λ s. Some (readable s.0, s.1)
 
 -- what is passed over
 abbrev pub passed : {X : Type 0} → Option (X × List ℕ) → Option (Unit {0} × List ℕ)

@@ -1,19 +1,28 @@
 //! Laws of the layout: what is written is read, and what is wanted is wanted.
 
-ghost use Rattle.std.specs.Prelude.{◌≡◌, ◌++◌, ◌∷◌, ◌<◌, ◌^◌, Bool, ℕ, List, length, Some};
+ghost use Rattle.std.specs.Prelude.{◌≡◌, ◌++◌, ◌∷◌, ◌<◌, ◌^◌, Bool, true, ℕ, List, length, Some};
+ghost use Rattle.std.specs.Str.{is_utf8};
 ghost use Rattle.lapin_values.specs.Data.{Data};
 ghost use Rattle.lapin_fields.specs.Around.{around, around_at, and_more, wanted_behind};
 ghost use Rattle.lapin_fields.specs.Fields.{text, counted, bits};
 ghost use Rattle.lapin_fields.specs.Fits.{TextFits, StringFits, TableFits, ValueFits};
-ghost use Rattle.lapin_fields.specs.Reading.{text_at, counted_at, bit_at};
+ghost use Rattle.lapin_fields.specs.Reading.{readable, reply_at, text_at, counted_at, bit_at};
 ghost use Rattle.lapin_fields.specs.ValueReading.{table_at, value_at};
 ghost use Rattle.lapin_fields.specs.Values.{table_bytes, value_bytes};
 
-/// A short text and a long string that have room are read behind what was written of them.
-#[tactic(auto, using(crate::proofs::ReadingLaws::text_back, crate::proofs::ReadingLaws::counted_back))]
+/// A short text and a long string that have room are read behind what was written of them, and the text as a reply text too.
+#[tactic(auto, using(crate::proofs::ReadingLaws::text_back, crate::proofs::ReadingLaws::reply_back, crate::proofs::ReadingLaws::counted_back))]
 pub fn written_texts_are_read()
     ensures text { (t rest : List ℕ) → TextFits t → text_at (text t ++ rest) ≡ Some (t, rest) }
+    ensures reply { (t rest : List ℕ) → TextFits t → reply_at (text t ++ rest) ≡ Some (t, rest) }
     ensures string { (s rest : List ℕ) → StringFits s → counted_at (counted s ++ rest) ≡ Some (s, rest) }
+{}
+
+/// Whatever octets a reply text has, what is read of it is a text of as many.
+#[tactic(auto, using(crate::proofs::ReadableLaws::readable_long, crate::proofs::ReadableLaws::readable_utf8))]
+pub fn reply_texts_are_texts()
+    ensures length { (s : List ℕ) → length (readable s) ≡ length s }
+    ensures utf8 { (s : List ℕ) → is_utf8 (readable s) ≡ true }
 {}
 
 /// A value and a table that have room are read from what was written of them.

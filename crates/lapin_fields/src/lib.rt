@@ -18,10 +18,12 @@ pub use around::{Around, put_around, take_around, wanted};
 pub use fault::{ReadFault, WriteFault};
 pub use flags::{bit, packed, packed_whole, unpacked, unpacked_whole};
 pub use laws::{
-    packed_flags_are_bits, what_is_wanted_is_wanted, written_payload_is_read,
-    written_texts_are_read, written_values_are_read,
+    packed_flags_are_bits, reply_texts_are_texts, what_is_wanted_is_wanted,
+    written_payload_is_read, written_texts_are_read, written_values_are_read,
 };
 pub use octets::{Octets, put_counted, put_long, put_octet, put_short, put_wide};
-pub use texts::{put_text, short_text, skip_text, take_string, take_text};
+pub use texts::{
+    put_text, readable_text, short_text, skip_text, take_reply, take_string, take_text,
+};
 pub use value_reading::{LEVELS, table_of, take_table};
 pub use value_writing::put_table;

@@ -1,7 +1,8 @@
 //! Short texts, behind their length in one octet (AMQP 0-9-1, section 4.2.5.3).
 
-ghost use Rattle.std.specs.Prelude.{◌≡◌, ◌≤◌, ◌++◌, length, OnOk, IfOk};
-ghost use Rattle.lapin_fields.specs.Reading.{text_at, string_at, passed, Gives, GivesAs, GivesText};
+ghost use Rattle.std.specs.Prelude.{◌≡◌, ◌≤◌, ◌++◌, length, map, OnOk, IfOk};
+ghost use Rattle.std.specs.Str.Lossy.{utf8_valid_len};
+ghost use Rattle.lapin_fields.specs.Reading.{as_letter, readable, reply_at, text_at, string_at, passed, Gives, GivesAs, GivesOne, GivesText};
 ghost use Rattle.lapin_fields.specs.Fields.{text as text_bytes};
 ghost use Rattle.lapin_fields.specs.Fits.{TextFits};
 
@@ -43,6 +44,51 @@ pub fn take_text(alloc: Global, octets: &mut Octets) -> Result<ShortString, Read
     let count = octets.octet()?;
     let bytes = octets.piece(count as usize)?;
     short_text(alloc, bytes)
+}
+
+// Adds octets, each as a letter of its own.
+fn put_letters(out: &mut Vec<u8>, octets: &[u8]) -> Result<(), NoMemory>
+    ensures { OnOk result (out.new.items ≡ out.old.items ++ map as_letter octets.now) }
+{
+    for octet in octets {
+        out.push(if *octet < 128 { *octet } else { b'?' })?;
+    }
+    Ok(())
+}
+
+// Octets of which a front is UTF-8, as a text.
+fn mended(alloc: Global, bytes: &[u8], front: usize) -> Result<ShortString, ReadFault>
+    requires front { front ≡ utf8_valid_len bytes.now }
+    requires short { length bytes.now ≤ 255 }
+    ensures { GivesOne (λ t. t) result (readable bytes.now) }
+{
+    let (letters, rest) = bytes.split_at(front);
+    let mut text = Vec::from_slice(alloc, letters)?;
+    put_letters(&mut text, rest)?;
+    Ok(ShortString::literal(alloc, unsafe { std::str::from_utf8_unchecked(&text) })?)
+}
+
+/// A text of the octets, of which there are at most 255, whatever they are: what of them is UTF-8, and in the place of each octet behind
+/// that which is no letter of ASCII a question mark.
+///
+/// # Errors
+/// `NoMemory` alone.
+pub fn readable_text(alloc: Global, bytes: &[u8]) -> Result<ShortString, ReadFault>
+    requires { length bytes.now ≤ 255 }
+    ensures { GivesOne (λ t. t) result (readable bytes.now) }
+{
+    match std::str::from_utf8(bytes) {
+        Ok(text) => Ok(ShortString::literal(alloc, text)?),
+        Err(fault) => mended(alloc, bytes, fault.valid_up_to()),
+    }
+}
+
+/// The reply text that stands next. A broker cuts one at 255 octets, within a letter too, so its octets are taken whatever they are.
+pub fn take_reply(alloc: Global, octets: &mut Octets) -> Result<ShortString, ReadFault>
+    ensures { Gives result octets.new (reply_at octets.old) }
+{
+    let bytes = take_string(octets)?;
+    readable_text(alloc, bytes)
 }
 
 /// Passes a short text that the standard reserves.

@@ -2,7 +2,7 @@
 use Rattle.std.proofs.Common.{◌≡◌, ℕ, List, [], ◌∷◌, ◌++◌, Some, refl, ap, ◌∙◌, arith}
 use Rattle.lapin_fields.specs.Fields.{short, text, counted, flags}
 use Rattle.lapin_fields.proofs.FlagLaws.{flag_1, flag_2, flag_4, flag_8, flag_16}
-use Rattle.lapin_fields.proofs.ReadingLaws.{then_on, text_back, string_back, counted_back}
+use Rattle.lapin_fields.proofs.ReadingLaws.{then_on, text_back, reply_back, string_back, counted_back}
 use Rattle.std.proofs.lemmas.Nat.{from_be_bytes-to_be_bytes_2}
 use Rattle.lapin_methods.specs.declared.connection.ConnectionMethod.{ConnectionMethod}
 use Rattle.lapin_methods.specs.declared.connection.ConnectionMethod.TheVariants as connection_method
@@ -21,7 +21,7 @@ use Rattle.lapin_frames.proofs.Joined.{numbered, joined_2, joined_3, joined_5}
 
 -- a method of the class connection, from its number on
 pub connection_back : (m : ConnectionMethod) (rest : List ℕ) → ConnectionFits m → numbered connection_at (connection_bytes m ++ rest) ≡ Some (m, rest)
-connection_back (connection_method.Close reply_code reply_text class_id method_id) rest fit = ap (numbered connection_at) (joined_5 (short 50) (short reply_code) (text reply_text) (short class_id) (short method_id) rest) ∙ (rw (from_be_bytes-to_be_bytes_2 reply_code fit.0) (then_on _ _ _ _ (text_back reply_text (short class_id ++ (short method_id ++ rest)) fit.1) (rw (from_be_bytes-to_be_bytes_2 class_id fit.2) (rw (from_be_bytes-to_be_bytes_2 method_id fit.3) refl))))
+connection_back (connection_method.Close reply_code reply_text class_id method_id) rest fit = ap (numbered connection_at) (joined_5 (short 50) (short reply_code) (text reply_text) (short class_id) (short method_id) rest) ∙ (rw (from_be_bytes-to_be_bytes_2 reply_code fit.0) (then_on _ _ _ _ (reply_back reply_text (short class_id ++ (short method_id ++ rest)) fit.1) (rw (from_be_bytes-to_be_bytes_2 class_id fit.2) (rw (from_be_bytes-to_be_bytes_2 method_id fit.3) refl))))
 connection_back connection_method.CloseOk rest fit = refl
 
 -- a method of the class channel, from its number on
@@ -30,7 +30,7 @@ channel_back channel_method.Open rest fit = ap (numbered channel_at) (joined_2 (
 channel_back channel_method.OpenOk rest fit = ap (numbered channel_at) (joined_2 (short 11) (counted []) rest) ∙ (then_on _ _ _ _ (counted_back [] rest (omega arith)) refl)
 channel_back (channel_method.Flow active) rest fit = ap (numbered channel_at) (joined_2 (short 20) (flags (active ∷ [])) rest) ∙ (λ i. Some (channel_method.Flow (flag_1 active [] i), rest))
 channel_back (channel_method.FlowOk active) rest fit = ap (numbered channel_at) (joined_2 (short 21) (flags (active ∷ [])) rest) ∙ (λ i. Some (channel_method.FlowOk (flag_1 active [] i), rest))
-channel_back (channel_method.Close reply_code reply_text class_id method_id) rest fit = ap (numbered channel_at) (joined_5 (short 40) (short reply_code) (text reply_text) (short class_id) (short method_id) rest) ∙ (rw (from_be_bytes-to_be_bytes_2 reply_code fit.0) (then_on _ _ _ _ (text_back reply_text (short class_id ++ (short method_id ++ rest)) fit.1) (rw (from_be_bytes-to_be_bytes_2 class_id fit.2) (rw (from_be_bytes-to_be_bytes_2 method_id fit.3) refl))))
+channel_back (channel_method.Close reply_code reply_text class_id method_id) rest fit = ap (numbered channel_at) (joined_5 (short 40) (short reply_code) (text reply_text) (short class_id) (short method_id) rest) ∙ (rw (from_be_bytes-to_be_bytes_2 reply_code fit.0) (then_on _ _ _ _ (reply_back reply_text (short class_id ++ (short method_id ++ rest)) fit.1) (rw (from_be_bytes-to_be_bytes_2 class_id fit.2) (rw (from_be_bytes-to_be_bytes_2 method_id fit.3) refl))))
 channel_back channel_method.CloseOk rest fit = refl
 
 -- a method of the class access, from its number on

@@ -4,7 +4,7 @@ use Rattle.std.specs.Prelude.{ℕ, ◌==◌, List, Option, Some, None, if◌then
 use Rattle.lapin_methods.specs.declared.method.Method.{Method}
 use Rattle.lapin_methods.specs.declared.method.Method.TheVariants as method
 use Rattle.lapin_fields.specs.ValueReading.{table_at}
-use Rattle.lapin_fields.specs.Reading.{◌>>=◌, octet_at, short_at, long_at, wide_at, text_at, counted_at, string_at, bit_at}
+use Rattle.lapin_fields.specs.Reading.{◌>>=◌, octet_at, short_at, long_at, wide_at, text_at, reply_at, counted_at, string_at, bit_at}
 use Rattle.lapin_methods.specs.declared.connection.ConnectionMethod.{ConnectionMethod}
 use Rattle.lapin_methods.specs.declared.connection.ConnectionMethod.TheVariants as connection_method
 use Rattle.lapin_methods.specs.declared.channel.ChannelMethod.{ChannelMethod}
@@ -25,7 +25,7 @@ use Rattle.lapin_methods.specs.declared.basic.BasicMethod.TheVariants as basic_m
 -- a method of the class connection
 abbrev pub connection_at : ℕ → List ℕ → Option (ConnectionMethod × List ℕ)
 connection_at n bytes =
-    if n == 50 then (short_at bytes >>= λ reply_code. text_at reply_code.1 >>= λ reply_text. short_at reply_text.1 >>= λ class_id. short_at class_id.1 >>= λ method_id. Some ((connection_method.Close reply_code.0 reply_text.0 class_id.0 method_id.0), method_id.1)) else
+    if n == 50 then (short_at bytes >>= λ reply_code. reply_at reply_code.1 >>= λ reply_text. short_at reply_text.1 >>= λ class_id. short_at class_id.1 >>= λ method_id. Some ((connection_method.Close reply_code.0 reply_text.0 class_id.0 method_id.0), method_id.1)) else
     if n == 51 then (Some (connection_method.CloseOk, bytes)) else
     None
 
@@ -36,7 +36,7 @@ channel_at n bytes =
     if n == 11 then (counted_at bytes >>= λ r1. Some (channel_method.OpenOk, r1.1)) else
     if n == 20 then (octet_at bytes >>= λ flags. Some ((channel_method.Flow (bit_at 1 flags.0)), flags.1)) else
     if n == 21 then (octet_at bytes >>= λ flags. Some ((channel_method.FlowOk (bit_at 1 flags.0)), flags.1)) else
-    if n == 40 then (short_at bytes >>= λ reply_code. text_at reply_code.1 >>= λ reply_text. short_at reply_text.1 >>= λ class_id. short_at class_id.1 >>= λ method_id. Some ((channel_method.Close reply_code.0 reply_text.0 class_id.0 method_id.0), method_id.1)) else
+    if n == 40 then (short_at bytes >>= λ reply_code. reply_at reply_code.1 >>= λ reply_text. short_at reply_text.1 >>= λ class_id. short_at class_id.1 >>= λ method_id. Some ((channel_method.Close reply_code.0 reply_text.0 class_id.0 method_id.0), method_id.1)) else
     if n == 41 then (Some (channel_method.CloseOk, bytes)) else
     None
 
@@ -103,7 +103,7 @@ basic_at n bytes =
     if n == 30 then (text_at bytes >>= λ consumer_tag. octet_at consumer_tag.1 >>= λ flags. Some ((basic_method.Cancel consumer_tag.0 (bit_at 1 flags.0)), flags.1)) else
     if n == 31 then (text_at bytes >>= λ consumer_tag. Some ((basic_method.CancelOk consumer_tag.0), consumer_tag.1)) else
     if n == 40 then (short_at bytes >>= λ r1. text_at r1.1 >>= λ exchange. text_at exchange.1 >>= λ routing_key. octet_at routing_key.1 >>= λ flags. Some ((basic_method.Publish exchange.0 routing_key.0 (bit_at 1 flags.0) (bit_at 2 flags.0)), flags.1)) else
-    if n == 50 then (short_at bytes >>= λ reply_code. text_at reply_code.1 >>= λ reply_text. text_at reply_text.1 >>= λ exchange. text_at exchange.1 >>= λ routing_key. Some ((basic_method.Return reply_code.0 reply_text.0 exchange.0 routing_key.0), routing_key.1)) else
+    if n == 50 then (short_at bytes >>= λ reply_code. reply_at reply_code.1 >>= λ reply_text. text_at reply_text.1 >>= λ exchange. text_at exchange.1 >>= λ routing_key. Some ((basic_method.Return reply_code.0 reply_text.0 exchange.0 routing_key.0), routing_key.1)) else
     if n == 60 then (text_at bytes >>= λ consumer_tag. wide_at consumer_tag.1 >>= λ delivery_tag. octet_at delivery_tag.1 >>= λ flags. text_at flags.1 >>= λ exchange. text_at exchange.1 >>= λ routing_key. Some ((basic_method.Deliver consumer_tag.0 delivery_tag.0 (bit_at 1 flags.0) exchange.0 routing_key.0), routing_key.1)) else
     if n == 70 then (short_at bytes >>= λ r1. text_at r1.1 >>= λ queue. octet_at queue.1 >>= λ flags. Some ((basic_method.Get queue.0 (bit_at 1 flags.0)), flags.1)) else
     if n == 71 then (wide_at bytes >>= λ delivery_tag. octet_at delivery_tag.1 >>= λ flags. text_at flags.1 >>= λ exchange. text_at exchange.1 >>= λ routing_key. long_at routing_key.1 >>= λ message_count. Some ((basic_method.GetOk delivery_tag.0 (bit_at 1 flags.0) exchange.0 routing_key.0 message_count.0), message_count.1)) else

@@ -12,7 +12,7 @@ use crate::rows::{
 };
 use lapin_fields::{
     Octets, ReadFault, WriteFault, packed, put_long, put_octet, put_short, put_table, put_text,
-    put_wide, skip_text, take_table, take_text, unpacked,
+    put_wide, skip_text, take_reply, take_table, take_text, unpacked,
 };
 use lapin_methods::BasicMethod;
 use std::alloc::Global;
@@ -27,7 +27,7 @@ macro_rules! basic_table {
             Cancel 30 [] { consumer_tag: text } [nowait] {},
             CancelOk 31 [] { consumer_tag: text } [] {},
             Publish 40 [short] { exchange: text, routing_key: text } [mandatory, immediate] {},
-            Return 50 [] { reply_code: short, reply_text: text, exchange: text, routing_key: text } [] {},
+            Return 50 [] { reply_code: short, reply_text: reply, exchange: text, routing_key: text } [] {},
             Deliver 60 [] { consumer_tag: text, delivery_tag: wide } [redelivered] { exchange: text, routing_key: text },
             Get 70 [short] { queue: text } [no_ack] {},
             GetOk 71 [] { delivery_tag: wide } [redelivered] { exchange: text, routing_key: text, message_count: long },

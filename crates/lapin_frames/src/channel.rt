@@ -12,7 +12,7 @@ use crate::rows::{
 };
 use lapin_fields::{
     Octets, ReadFault, WriteFault, packed, put_long, put_octet, put_short, put_text, skip_text,
-    take_text, unpacked,
+    take_reply, unpacked,
 };
 use lapin_methods::ChannelMethod;
 use std::alloc::Global;
@@ -24,7 +24,7 @@ macro_rules! channel_table {
             OpenOk 11 [string] {} [] {},
             Flow 20 [] {} [active] {},
             FlowOk 21 [] {} [active] {},
-            Close 40 [] { reply_code: short, reply_text: text, class_id: short, method_id: short } [] {},
+            Close 40 [] { reply_code: short, reply_text: reply, class_id: short, method_id: short } [] {},
             CloseOk 41 [] {} [] {},
         )
     };

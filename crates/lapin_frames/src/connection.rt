@@ -8,14 +8,14 @@ ghost use Rattle.lapin_frames.specs.MethodReading.{connection_at};
 ghost use Rattle.lapin_fields.specs.Reading.{Gives};
 
 use crate::rows::{put_field, put_flags, put_row, take_field, take_flags, take_row};
-use lapin_fields::{Octets, ReadFault, WriteFault, put_short, put_text, take_text};
+use lapin_fields::{Octets, ReadFault, WriteFault, put_short, put_text, take_reply};
 use lapin_methods::ConnectionMethod;
 use std::alloc::Global;
 
 macro_rules! connection_table {
     ($row:ident, $($given:tt),*) => {
         $row!($($given),*; ConnectionMethod;
-            Close 50 [] { reply_code: short, reply_text: text, class_id: short, method_id: short } [] {},
+            Close 50 [] { reply_code: short, reply_text: reply, class_id: short, method_id: short } [] {},
             CloseOk 51 [] {} [] {},
         )
     };

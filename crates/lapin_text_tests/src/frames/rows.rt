@@ -43,6 +43,14 @@ x03000100000005 -> part 6
 x0300010000000568656c6c6f -> part 1
 x02000100000048003c -> part 71
 
+reply texts: one that is UTF-8; cut within a letter; bare high octets; a letter that is none in the midst, and one behind it
+x0100010000000d00140028019602c3a9003c0050ce == method 1 channel.close 406 xc3a9 60 80
+x01000100000010001400280196056162d09dd0003c0050ce -> method 1 channel.close 406 x6162d09d3f 60 80
+x0100000000000f000a0032014004fffe804100000000ce -> method 0 connection.close 320 x3f3f3f41 0 0
+x0100010000000e003c003201380341c3620165016bce -> method 1 basic.return 312 x413f62 x65 x6b
+x0100010000000f00140028019604c328c3a9003c0050ce -> method 1 channel.close 406 x3f283f3f 60 80
+x0100010000000c003c003201380002c328016bce -> malformed
+
 what is passed over: reserved fields, bits that no flag has, the order of keys and all but the last of two equal keys
 x01000100000007003c00480278f2ce -> method 1 basic.get-empty
 x0100010000000b0014000b00000003616263ce -> method 1 channel.open-ok
