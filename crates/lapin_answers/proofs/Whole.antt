@@ -14,7 +14,7 @@ use Rattle.lapin_concord.proofs.Laws.{whole_broker, none_refused, tags_in}
 use Rattle.lapin_verdicts.specs.Session.{Numbers, past_of}
 use Rattle.lapin_verdicts.proofs.Numbered.{numbers_hold}
 use Rattle.lapin_verdicts.proofs.Together.{in_step}
-use Rattle.lapin_verdicts.proofs.Whole.{whole}
+use Rattle.lapin_verdicts.proofs.Whole.{whole, delivered}
 use Rattle.lapin_verdicts.proofs.Called.{leaves_where_called}
 use Rattle.lapin_messages.proofs.Laws.{logs_sent, logs_carried}
 use Rattle.lapin_answers.specs.Truth.{ConfirmsAreVerdicts, IsTrue}
@@ -74,6 +74,7 @@ all_true n big ss = record {
   unrefused = none_refused n ss big;
   unbroken = whole_broker n ss big;
   verdicts = confirms n big ss;
+  delivered = delivered n (numbers n big) (in_step n big) ss;
   apart = λ k l t. tags_in n ss k l t;
   replies = λ k a f fs down r was now. replied n big k ss f fs (Ok a) down r was now;
   gets = λ k message was now. got_message_is n big k ss message was now;

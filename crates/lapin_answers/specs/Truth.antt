@@ -17,6 +17,7 @@ use Rattle.lapin_verdicts.specs.Answers.{replies, is_open_ok}
 use Rattle.lapin_verdicts.specs.Deeds.{deeds, last_opening, opening, sents}
 use Rattle.lapin_verdicts.specs.InStep.{is_frame_on}
 use Rattle.lapin_verdicts.specs.Publishes.{Message}
+use Rattle.lapin_verdicts.specs.Resolved.{VerdictsAreDelivered}
 use Rattle.lapin_verdicts.specs.Session.{past_of}
 use Rattle.lapin_verdicts.specs.Verdicts.{at_place, messages_in, called_in, IsVerdict}
 use Rattle.lapin_messages.specs.Deliveries.{LogsAreSent, LogsAreCarried}
@@ -99,6 +100,7 @@ pub record IsTrue (frame_max : ℕ) (steps : List Step) : Type 0 where
   pub unrefused : NoneIsRefused frame_max steps
   pub unbroken : IsUnbroken frame_max steps
   pub verdicts : ConfirmsAreVerdicts frame_max steps
+  pub delivered : VerdictsAreDelivered frame_max steps
   pub apart : DifferByTags (past_of frame_max steps).confirms
   pub replies : RepliesAnswerCalls frame_max steps
   pub gets : GetsCarryContents frame_max steps

@@ -323,14 +323,14 @@ module _ (n : ℕ) (S : Numbers n) (I : InStep n) where
   client_none e b r true h = client_quiet b e r h
   client_none e b r false h = refl
 
-  -- A publish that is pending, and that a step resolves as Ack or Nack: the broker judged it.
-  pub verdict : (c k t : ℕ) (kind : SettleKind) (ss : List Step) (s : Step) → IsPending c k t (past_of n ss).confirms → outcome_at k (past_of n (ss ++ s ∷ [])).confirms ≡ Some (kind_outcome kind) → Judged c k t kind ss
+  -- A publish that is pending, and that a step resolves as Ack or Nack: the step is a delivery, and the broker judged the publish.
+  pub verdict : (c k t : ℕ) (kind : SettleKind) (ss : List Step) (s : Step) → IsPending c k t (past_of n ss).confirms → outcome_at k (past_of n (ss ++ s ∷ [])).confirms ≡ Some (kind_outcome kind) → (s ≡ step.Deliver) × Judged c k t kind ss
   verdict c k t kind ss s p h =
       by s (sym (pending_on c k t (past_of n ss).confirms (marks_in n s (joined_to n ss)) p) ∙ (ap (outcome_at k) (sym (confirms-push ss s)) ∙ h))
     where
-      by : (s : Step) → first_settled c t (marks_in n s (joined_to n ss)) ≡ Some (kind_outcome kind) → Judged c k t kind ss
+      by : (s : Step) → first_settled c t (marks_in n s (joined_to n ss)) ≡ Some (kind_outcome kind) → (s ≡ step.Deliver) × Judged c k t kind ss
       by (step.Client e) g = absurd (only_settled c t kind (marks_in n (step.Client e) (joined_to n ss)) (client_none e (past_of n ss).wire (rec n (joined_to n ss).session e) (is_lawful e) refl) g)
       by step.Read g = absurd cc
       by (step.Send f) g = absurd cc
-      by step.Deliver g = delivered_verdict c k t kind ss (joined_to n ss).down refl p g
+      by step.Deliver g = (refl, delivered_verdict c k t kind ss (joined_to n ss).down refl p g)
       by step.Lose g = absurd (only_settled c t kind (marks_in n step.Lose (joined_to n ss)) (all_quiet error.ConnectionLost (past_of n ss).wire) g)

@@ -29,6 +29,7 @@ use Rattle.lapin_verdicts.specs.Publishes.{Message}
 use Rattle.lapin_concord.specs.Openings.{opening_of}
 use Rattle.lapin_verdicts.specs.Verdicts.{at_place, messages_in, message_by, IsVerdict}
 use Rattle.lapin_verdicts.specs.InStep.{InStep}
+use Rattle.lapin_verdicts.specs.Resolved.{VerdictsAreDelivered}
 use Rattle.lapin_verdicts.specs.Session.{IsPending, Numbers, past_of}
 use Rattle.lapin_verdicts.proofs.Marks.{after-append, through-append, channel-append, tag-append, settled-append, only_settled, is_settlement, outcome_left, no_failure}
 use Rattle.lapin_verdicts.proofs.Settles.{frame_settles, all_quiet}
@@ -170,6 +171,12 @@ was_pending c k t kind ms xs added left on tag before h = by (first_settled c t 
         let so : is_so kind (outcome_at k ms) ≡ true = so_is kind (outcome_at k ms) (was ∙ (sym same ∙ h)) in
         let z : true ≡ false = sym so ∙ before in
         absurd cc
+
+-- one that left without a tag has an outcome
+untagged : (k : ℕ) (ms : List ConfirmMark) → has_left k ms ≡ true → tag_of k ms ≡ None → outcome_at k ms ≡ Some outcome.NotRequested
+untagged k ms l none =
+    ap (λ b. cond b (outcome_after (channel_of k ms) (tag_of k ms) (after (leaves k) ms)) (first_rejected (channel_of k ms) (life k ms))) l
+    ∙ ap (λ o. outcome_after (channel_of k ms) o (after (leaves k) ms)) none
 
 module _ (n : ℕ) (S : Numbers n) (I : InStep n) where
   abbrev outcome_in : ℕ → List Step → Option Outcome
@@ -314,5 +321,30 @@ module _ (n : ℕ) (S : Numbers n) (I : InStep n) where
                 let on' : channel_of k ms ≡ c = sym (channel-append k ms long.marks a.0 a.1) ∙ (ap (channel_of k) (sym long.confirms) ∙ on) in
                 let tag' : tag_of k ms ≡ Some t = sym (tag-append k ms long.marks a.0 a.1 l) ∙ (ap (tag_of k) (sym long.confirms) ∙ tag) in
                 let p : IsPending c k t ms = was_pending c k t kind ms xs a l on' tag' f.before now in
-                carried c k t kind f.pre ss long p (verdict n S I c k t kind f.pre f.step p (is_so_so kind (outcome_in k (f.pre ++ f.step ∷ [])) f.then))
+                carried c k t kind f.pre ss long p (verdict n S I c k t kind f.pre f.step p (is_so_so kind (outcome_in k (f.pre ++ f.step ∷ [])) f.then)).1
           ] refl
+
+  -- ---- at the step that resolves it
+
+  abbrev Waits : ℕ → List Step → Type 0
+  Waits k ss = (t : ℕ) × IsPending (channel_of k (past_of n ss).confirms) k t (past_of n ss).confirms
+
+  -- one that a step resolves so was pending with a tag
+  was_waiting : (k : ℕ) (kind : SettleKind) (ss : List Step) (s : Step) → outcome_in k ss ≡ None → outcome_in k (ss ++ s ∷ []) ≡ Some (kind_outcome kind) → Waits k ss
+  was_waiting k kind ss s was now =
+      let ms : List ConfirmMark = (past_of n ss).confirms in
+      let xs : List ConfirmMark = marks_in n s (joined_to n ss) in
+      let then : outcome_at k (ms ++ xs) ≡ Some (kind_outcome kind) = ap (outcome_at k) (sym (confirms-push n S I ss s)) ∙ now in
+      elim (has_left k ms) as (λ v. has_left k ms ≡ v → Waits k ss) [
+        | false ↦ λ l. absurd (newly k kind ms xs l (settled_alone ss s) then)
+        | true ↦ λ l. elim (tag_of k ms) as (λ o. tag_of k ms ≡ o → Waits k ss) [
+          | None ↦ λ tag. (let w : None ≡ Some outcome.NotRequested = sym was ∙ untagged k ms l tag in absurd cc)
+          | Some t ↦ λ tag. (t, record { added = S.accepted ss k l; left = l; on = refl; tag = tag; waits = was })
+        ] refl
+      ] refl
+
+  pub delivered : (ss : List Step) → VerdictsAreDelivered n ss
+  delivered ss k kind s was now =
+      let w = was_waiting k kind ss s was now in
+      let v = verdict n S I (channel_of k (past_of n ss).confirms) k w.0 kind ss s w.1 now in
+      (v.0, record { tag = w.0; taken = w.1.tag; message = v.1.0; called = v.1.1; verdict = v.1.2; way = v.1.3; front = v.1.4 })

@@ -5,3 +5,4 @@ pub mod InStep
 pub mod Session
 pub mod Messages
 pub mod Answers
+pub mod Resolved

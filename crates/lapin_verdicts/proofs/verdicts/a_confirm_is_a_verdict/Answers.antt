@@ -1,7 +1,6 @@
 use Rattle.std.proofs.Common.{ℕ, ◌≤◌, arith}
 use Rattle.lapin_verdicts.specs.Session.{Numbers}
-use Rattle.lapin_verdicts.proofs.Verdict.{verdict}
-use Rattle.lapin_verdicts.proofs.Whole.{whole}
+use Rattle.lapin_verdicts.proofs.Whole.{whole, delivered}
 use Rattle.lapin_verdicts.proofs.Numbered.{numbers_hold}
 use Rattle.lapin_verdicts.proofs.Together.{in_step}
 use Rattle.lapin_verdicts.proofs.verdicts.a_confirm_is_a_verdict.Goals as goal
@@ -13,4 +12,4 @@ pub returns-clause-run : goal.returns-clause-run
 returns-clause-run c = λ n most. whole n (numbers n most) (in_step n most)
 
 pub returns-clause-step : goal.returns-clause-step
-returns-clause-step c = λ n most. verdict n (numbers n most) (in_step n most)
+returns-clause-step c = λ n most. delivered n (numbers n most) (in_step n most)
