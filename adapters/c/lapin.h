@@ -19,14 +19,16 @@ extern "C" {
 enum {
     LAPIN_DONE = 0,           /* it was done */
     LAPIN_REFUSED = 1,        /* the session refused it: the answer is the line of the refusal */
-    LAPIN_NOT_IN_GRAMMAR = 2, /* a line is not in the grammar, or an argument is no short text: nothing was done */
-    LAPIN_NO_MEMORY = 3,      /* there was no memory, or none for the line of a refusal */
+    LAPIN_NOT_IN_GRAMMAR = 2, /* a line is none that is taken, or an argument is no short text: nothing was done */
+    LAPIN_NO_MEMORY = 3,      /* there was no memory: what that leaves stands with each call */
     LAPIN_ENDED = 4,          /* the client takes nothing further */
     LAPIN_MALFORMED = 5,      /* what came is no frame: hang up */
     LAPIN_TOO_LONG = 6,       /* longer than a frame may be */
     LAPIN_CLOSED = 7,         /* there is no client behind the handle */
     LAPIN_PENDING = 8,        /* there is nothing yet */
-    LAPIN_GONE = 9            /* the acker isn't usable, or the consumer is at its end: there will be nothing */
+    LAPIN_GONE = 9,           /* the acker isn't usable, or the consumer is at its end: there will be nothing */
+    LAPIN_KEPT = 10,          /* what came was kept, and there was no memory for the frame at its head: call again, with no bytes */
+    LAPIN_UNTOLD = 11         /* the session refused it, and there was no memory for the line of the refusal */
 };
 
 /* ---- the opening of a connection. Before it the caller sends LAPIN_HEADER */
@@ -84,7 +86,9 @@ uint32_t lapin_open(lapin_handle *handle, uint32_t frame_max);
 /* Ends the client, and closes the handle: every later call answers CLOSED. */
 void lapin_close(lapin_handle *handle);
 
-/* Takes a line of docs/FORMAT.md without its line end, as "call 1 channel.open". DONE: the line of its record is the answer. */
+/* Takes a line of docs/FORMAT.md without its line end, as "call 1 channel.open". DONE: the line of its record is the answer. A line of a frame
+ * ("next", "recv") is NOT_IN_GRAMMAR here: lapin_send and lapin_receive have them. NO_MEMORY: the session may have met the line, and the client
+ * takes nothing further. */
 uint32_t lapin_line(lapin_handle *handle, const char *line, size_t length);
 /* How many bytes the last answer has, and the answer: all of it where there is room, and else nothing. How many bytes were written. */
 size_t lapin_answer_length(lapin_handle *handle);
@@ -116,28 +120,41 @@ typedef struct {
     bool redelivered;
 } lapin_message;
 
-/* What a consumer was handed next. PENDING: nothing yet. GONE: the consumer's end. REFUSED: the error that ended its channel is the answer.
- * NO_MEMORY: there was none for the message or that line, and the client takes nothing further. */
+/* What a consumer was handed next. PENDING: nothing yet. GONE: the consumer's end. REFUSED: the error that ended its channel is the answer;
+ * UNTOLD: there was no memory for its line. NO_MEMORY: there was none for the message, and the client takes nothing further. */
 uint32_t lapin_delivery(lapin_handle *handle, uint64_t consumer, lapin_message *message);
 
 /* Settle a message by its acker, which works once. GONE: it was settled before, or its channel has ended, and nothing is sent. REFUSED: the
- * state of its channel refuses it, and the acker is used up. NO_MEMORY: nothing was done; or there was none for the line of such a refusal,
- * and the client takes nothing further. */
+ * state of its channel refuses it, and the acker is used up; UNTOLD: there was no memory for its line. NO_MEMORY: nothing was done. */
 uint32_t lapin_ack(lapin_handle *handle, uint64_t acker, bool multiple);
 uint32_t lapin_nack(lapin_handle *handle, uint64_t acker, bool multiple, bool requeue);
 uint32_t lapin_reject(lapin_handle *handle, uint64_t acker, bool requeue);
 
 /* Frames that may leave become bytes: all, or until there are so many; and then what is left of a begun publish and the methods that wait.
- * With flow false no publish begins. TOO_LONG, NO_MEMORY: a frame was lost, so the client takes nothing further. */
+ * With flow false no publish begins. NO_MEMORY: some may have, and nothing is lost: call again. TOO_LONG: a frame has more bytes than a frame
+ * may have, and is lost, so the client takes nothing further. */
 uint32_t lapin_send(lapin_handle *handle, bool flow, size_t enough);
 /* How many bytes are to be sent, and these bytes: all of them where there is room, and else none. They are the caller's to send then. */
 size_t lapin_leaving_length(lapin_handle *handle);
 size_t lapin_leaving(lapin_handle *handle, void *out, size_t room);
 
-/* Takes bytes of the broker, in whatever pieces they come. REFUSED: the session refused a frame, as the answer says, and its close leaves by
- * the next lapin_send; what came behind that frame is handed on by the next call, with no bytes too. MALFORMED, TOO_LONG: hang up, and say
- * the line "lost". Bytes may have to leave afterwards. */
+/* Takes bytes of the broker, in whatever pieces they come. REFUSED: the session refused a frame, as the answer says (UNTOLD: there was no
+ * memory for its line), and its close leaves by the next lapin_send; what came behind that frame is handed on by the next call, with no bytes
+ * too. NO_MEMORY: the bytes were not kept, and all is as it was: hand them in again. KEPT: they were, and there was no memory for the frame at
+ * the head of what came: call again, with no bytes. MALFORMED, TOO_LONG: hang up, and say the line "lost". Bytes may have to leave
+ * afterwards. */
 uint32_t lapin_receive(lapin_handle *handle, const void *bytes, size_t length);
+
+/* What the broker said as it last closed a channel, or the connection (channel 0). The text is the answer (lapin_answer). */
+typedef struct {
+    uint16_t code;
+    uint16_t class_id;
+    uint16_t method_id;
+} lapin_close_reason;
+
+/* DONE: *reason is its last close, and the answer is its text; it stays after the channel is opened again. PENDING: it has closed none.
+ * NO_MEMORY: nothing was done. */
+uint32_t lapin_last_close(lapin_handle *handle, uint16_t channel, lapin_close_reason *reason);
 
 /* Whether the broker said last that it takes no messages (connection.blocked). */
 bool lapin_is_blocked(lapin_handle *handle);

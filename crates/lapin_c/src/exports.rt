@@ -4,12 +4,14 @@ ghost use Rattle.std.specs.Prelude.{◌≡◌, false, length, None};
 ghost use Rattle.lapin_client.specs.Calls.{Published, OutcomeTold, Delivered, Settled, Forgotten, fate_call};
 ghost use Rattle.lapin_client.specs.declared.calls.Fate.TheVariants as fates;
 ghost use Rattle.lapin_client.specs.Clients.{Answers};
+ghost use Rattle.lapin_client.specs.Closes.{TellsClose};
+ghost use Rattle.lapin_client.specs.Counts.{ForgetCounts, LineCounts, OutcomeCounts, PollCounts, PublishCounts, SettleCounts};
 ghost use Rattle.lapin_client.specs.Receiving.{Receives};
 ghost use Rattle.lapin_client.specs.Sending.{Sends};
 ghost use Rattle.lapin_c.specs.Behind.{Behind, Coded, Gave, Opened, Read, Taken, blocked_of, octets_of};
 
 use crate::handle::{Handle, put, take};
-use lapin_client::{Client, Fate, Message, Status};
+use lapin_client::{Client, CloseReason, Fate, Message, Status};
 use std::alloc::Global;
 
 /// Puts a client of a new session into a handle. Where there is a client in it already, that one is given up.
@@ -44,7 +46,7 @@ pub extern "C" fn lapin_close(alloc: Global, handle: &mut Handle)
 /// Takes a line, without its line end. The line of its record is the answer.
 #[unsafe(no_mangle)]
 pub extern "C" fn lapin_line(alloc: Global, handle: &mut Handle, line: &[u8]) -> u32
-    ensures { Behind (λ c d. Coded result (λ s. Answers s line.now c d)) (result ≡ 7) handle.old.pointer.held handle.new.pointer.held }
+    ensures { Behind (λ c d. Coded result (λ s. Answers s line.now c d × LineCounts s c d)) (result ≡ 7) handle.old.pointer.held handle.new.pointer.held }
 {
     match take(alloc, handle) {
         Some(mut client) => {
@@ -101,7 +103,7 @@ pub extern "C" fn lapin_publish(
     properties: &[u8],
     confirm: &mut u64,
 ) -> u32
-    ensures { Behind (λ c d. Gave result confirm.old confirm.new (λ r. Published r channel exchange.now routing_key.now mandatory payload.now properties.now c d)) ((result ≡ 7) × (confirm.new ≡ confirm.old)) handle.old.pointer.held handle.new.pointer.held }
+    ensures { Behind (λ c d. Gave result confirm.old confirm.new (λ r. Published r channel exchange.now routing_key.now mandatory payload.now properties.now c d × PublishCounts r c d)) ((result ≡ 7) × (confirm.new ≡ confirm.old)) handle.old.pointer.held handle.new.pointer.held }
 {
     match take(alloc, handle) {
         Some(mut client) => {
@@ -131,7 +133,7 @@ pub extern "C" fn lapin_publish(
 /// for whose line there was no memory; 0 where there is none yet, or where the line of its poll tells more.
 #[unsafe(no_mangle)]
 pub extern "C" fn lapin_outcome(alloc: Global, handle: &mut Handle, confirm: u64) -> u32
-    ensures { Behind (λ c d. OutcomeTold result confirm c d) (result ≡ 0) handle.old.pointer.held handle.new.pointer.held }
+    ensures { Behind (λ c d. OutcomeTold result confirm c d × OutcomeCounts result c d) (result ≡ 0) handle.old.pointer.held handle.new.pointer.held }
 {
     match take(alloc, handle) {
         Some(mut client) => {
@@ -146,7 +148,7 @@ pub extern "C" fn lapin_outcome(alloc: Global, handle: &mut Handle, confirm: u64
 /// The confirm will not be asked for any more.
 #[unsafe(no_mangle)]
 pub extern "C" fn lapin_forget(alloc: Global, handle: &mut Handle, confirm: u64) -> u32
-    ensures { Behind (λ c d. Coded result (λ s. Forgotten s confirm c d)) (result ≡ 7) handle.old.pointer.held handle.new.pointer.held }
+    ensures { Behind (λ c d. Coded result (λ s. Forgotten s confirm c d × ForgetCounts s c d)) (result ≡ 7) handle.old.pointer.held handle.new.pointer.held }
 {
     match take(alloc, handle) {
         Some(mut client) => {
@@ -167,7 +169,7 @@ pub extern "C" fn lapin_delivery(
     consumer: u64,
     message: &mut Message,
 ) -> u32
-    ensures { Behind (λ c d. Gave result message.old message.new (λ r. Delivered r consumer c d)) ((result ≡ 7) × (message.new ≡ message.old)) handle.old.pointer.held handle.new.pointer.held }
+    ensures { Behind (λ c d. Gave result message.old message.new (λ r. Delivered r consumer c d × PollCounts r c d)) ((result ≡ 7) × (message.new ≡ message.old)) handle.old.pointer.held handle.new.pointer.held }
 {
     match take(alloc, handle) {
         Some(mut client) => {
@@ -194,7 +196,7 @@ fn settle(
     multiple: bool,
     requeue: bool,
 ) -> u32
-    ensures { Behind (λ c d. Coded result (λ s. Settled s acker (fate_call fate multiple requeue) c d)) (result ≡ 7) handle.old.pointer.held handle.new.pointer.held }
+    ensures { Behind (λ c d. Coded result (λ s. Settled s acker (fate_call fate multiple requeue) c d × SettleCounts s c d)) (result ≡ 7) handle.old.pointer.held handle.new.pointer.held }
 {
     match take(alloc, handle) {
         Some(mut client) => {
@@ -209,7 +211,7 @@ fn settle(
 /// Acknowledges a message by its acker; with `multiple` all up to it on its channel.
 #[unsafe(no_mangle)]
 pub extern "C" fn lapin_ack(alloc: Global, handle: &mut Handle, acker: u64, multiple: bool) -> u32
-    ensures { Behind (λ c d. Coded result (λ s. Settled s acker (fate_call fates.Ack multiple false) c d)) (result ≡ 7) handle.old.pointer.held handle.new.pointer.held }
+    ensures { Behind (λ c d. Coded result (λ s. Settled s acker (fate_call fates.Ack multiple false) c d × SettleCounts s c d)) (result ≡ 7) handle.old.pointer.held handle.new.pointer.held }
 {
     settle(alloc, handle, acker, Fate::Ack, multiple, false)
 }
@@ -223,7 +225,7 @@ pub extern "C" fn lapin_nack(
     multiple: bool,
     requeue: bool,
 ) -> u32
-    ensures { Behind (λ c d. Coded result (λ s. Settled s acker (fate_call fates.Nack multiple requeue) c d)) (result ≡ 7) handle.old.pointer.held handle.new.pointer.held }
+    ensures { Behind (λ c d. Coded result (λ s. Settled s acker (fate_call fates.Nack multiple requeue) c d × SettleCounts s c d)) (result ≡ 7) handle.old.pointer.held handle.new.pointer.held }
 {
     settle(alloc, handle, acker, Fate::Nack, multiple, requeue)
 }
@@ -231,7 +233,7 @@ pub extern "C" fn lapin_nack(
 /// Gives a message back by its acker; with `requeue` into its queue.
 #[unsafe(no_mangle)]
 pub extern "C" fn lapin_reject(alloc: Global, handle: &mut Handle, acker: u64, requeue: bool) -> u32
-    ensures { Behind (λ c d. Coded result (λ s. Settled s acker (fate_call fates.Reject false requeue) c d)) (result ≡ 7) handle.old.pointer.held handle.new.pointer.held }
+    ensures { Behind (λ c d. Coded result (λ s. Settled s acker (fate_call fates.Reject false requeue) c d × SettleCounts s c d)) (result ≡ 7) handle.old.pointer.held handle.new.pointer.held }
 {
     settle(alloc, handle, acker, Fate::Reject, false, requeue)
 }
@@ -318,6 +320,32 @@ pub extern "C" fn lapin_is_blocked(alloc: Global, handle: &mut Handle) -> bool
             blocked
         }
         None => false,
+    }
+}
+
+/// What the broker said as it last closed a channel, or the connection (channel 0): its numbers are written, and its text is the answer.
+#[unsafe(no_mangle)]
+pub extern "C" fn lapin_last_close(
+    alloc: Global,
+    handle: &mut Handle,
+    channel: u16,
+    reason: &mut CloseReason,
+) -> u32
+    ensures { Behind (λ c d. Gave result reason.old reason.new (λ r. TellsClose r channel c d)) ((result ≡ 7) × (reason.new ≡ reason.old)) handle.old.pointer.held handle.new.pointer.held }
+{
+    match take(alloc, handle) {
+        Some(mut client) => {
+            let told = client.last_close(channel);
+            put(handle, client);
+            match told {
+                Ok(found) => {
+                    *reason = found;
+                    Status::Done.code()
+                }
+                Err(status) => status.code(),
+            }
+        }
+        None => Status::Closed.code(),
     }
 }
 

@@ -1,8 +1,11 @@
+pub mod Closing
 pub mod Heard
 pub mod Idle
+pub mod Own
 pub mod Parts
 pub mod Refused
 pub mod Requests
 pub mod Room
 pub mod Running
+pub mod Taken
 pub mod Taking

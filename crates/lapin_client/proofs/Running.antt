@@ -1,9 +1,9 @@
 -- What a run over what came leaves.
-use Rattle.std.proofs.Common.{◌≡◌, ◌<◌, ℕ, zero, suc, length, sym, refl, subst}
+use Rattle.std.proofs.Common.{◌≡◌, ◌<◌, ℕ, zero, suc, List, length, sym, refl, subst}
 use Rattle.lapin_client.specs.declared.client.Client.{Client}
 use Rattle.lapin_client.specs.declared.status.Status.{Status}
 use Rattle.lapin_client.specs.declared.status.Status.TheVariants as status
-use Rattle.lapin_client.specs.Receiving.{Comes, IsTurn, Turns, Runs}
+use Rattle.lapin_client.specs.Receiving.{Comes, IsLonger, IsTurn, Receives, Turns, Runs}
 use Rattle.lapin_fields.specs.Around.{wanted_behind}
 
 pub comes_none : (c : Client) → Comes zero c c
@@ -30,3 +30,20 @@ runs_to status.TooLong n b l d not comes turns = (n, (l, (comes, turns)))
 runs_to status.Closed n b l d not comes turns = (n, (l, (comes, turns)))
 runs_to status.Pending n b l d not comes turns = (n, (l, (comes, turns)))
 runs_to status.Gone n b l d not comes turns = (n, (l, (comes, turns)))
+runs_to status.Kept n b l d not comes turns = (n, (l, (comes, turns)))
+runs_to status.Untold n b l d not comes turns = (n, (l, (comes, turns)))
+
+-- octets for which there was room
+pub receives_ran : (r : Status) (bytes : List ℕ) (c b d : Client) → IsLonger bytes c b → Runs r b d → Receives r bytes c d
+receives_ran status.NoMemory bytes c b d longer runs = absurd runs.1.1.1
+receives_ran status.Done bytes c b d longer runs = (b, (longer, runs))
+receives_ran status.Refused bytes c b d longer runs = (b, (longer, runs))
+receives_ran status.NotInGrammar bytes c b d longer runs = (b, (longer, runs))
+receives_ran status.Ended bytes c b d longer runs = (b, (longer, runs))
+receives_ran status.Malformed bytes c b d longer runs = (b, (longer, runs))
+receives_ran status.TooLong bytes c b d longer runs = (b, (longer, runs))
+receives_ran status.Closed bytes c b d longer runs = (b, (longer, runs))
+receives_ran status.Pending bytes c b d longer runs = (b, (longer, runs))
+receives_ran status.Gone bytes c b d longer runs = (b, (longer, runs))
+receives_ran status.Kept bytes c b d longer runs = (b, (longer, runs))
+receives_ran status.Untold bytes c b d longer runs = (b, (longer, runs))

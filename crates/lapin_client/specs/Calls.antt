@@ -117,14 +117,15 @@ message_of x = record {
 abbrev pub TellsError : Error → ℕ → World → Type 0
 TellsError e consumer w = (told_by w (event.PollConsumer consumer) ≡ record_.Refused e) ⊎ (told_by w (event.PollConsumer consumer) ≡ record_.Item (Err e))
 
--- What a poll of a consumer gives: a message, whose octets are the answer; nothing yet; its end; or an error, whose line is the answer. Where
--- there was no memory for a message or a line, it is lost, and so is the client.
+-- What a poll of a consumer gives: a message, whose octets are the answer; nothing yet; its end; or an error, whose line is the answer, where
+-- there was memory for it. Where there was none for a message, it is lost, and the client ends.
 abbrev pub Delivered : Result Message Status → ℕ → Client → Client → Type 0
 Delivered (Ok m) consumer c d = ((x : Delivery) × (told_by c.session (event.PollConsumer consumer) ≡ record_.Item (Ok (Some x)))
     × (d.session ≡ next c.session (event.PollConsumer consumer)) × (m ≡ message_of x) × (d.answer.items ≡ message_bytes x)) × SameBytes c d
 Delivered (Err status.Pending) consumer c d = (told_by c.session (event.PollConsumer consumer) ≡ record_.Pending) × (d.session ≡ next c.session (event.PollConsumer consumer)) × SameBytes c d
 Delivered (Err status.Gone) consumer c d = (told_by c.session (event.PollConsumer consumer) ≡ record_.Item (Ok None)) × (d.session ≡ next c.session (event.PollConsumer consumer)) × SameBytes c d
 Delivered (Err status.Refused) consumer c d = ((e : Error) × TellsError e consumer c.session × ShowsError e d) × (d.session ≡ next c.session (event.PollConsumer consumer)) × SameBytes c d
+Delivered (Err status.Untold) consumer c d = ((e : Error) × TellsError e consumer c.session) × (d.session ≡ next c.session (event.PollConsumer consumer)) × SameBytes c d
 Delivered (Err status.NoMemory) consumer c d = (d.left ≡ 0) × (d.session ≡ next c.session (event.PollConsumer consumer)) × SameBytes c d
 Delivered (Err status.Ended) consumer c d = ((c.left ≡ 0) × (d ≡ c)) ⊎ (TellsError error.NumbersUsedUp consumer c.session × (d.session ≡ next c.session (event.PollConsumer consumer)) × SameBytes c d)
 Delivered (Err _) consumer c d = ⊥
@@ -142,12 +143,13 @@ fate_call fate.Nack multiple requeue = acker_call.Nack (record { multiple = mult
 fate_call fate.Reject multiple requeue = acker_call.Reject (record { requeue = requeue })
 
 -- What a call of an acker leaves: it was made, and its ticket set aside; it was not, since the acker isn't usable; or it was refused, which uses
--- the acker up, and the line of the refusal is the answer; a client that had no memory for that line ends. Else nothing was done.
+-- the acker up, and the line of the refusal is the answer, where there was memory for it. Else nothing was done.
 abbrev pub Settled : Status → ℕ → AckerCall → Client → Client → Type 0
 Settled status.Done acker k c d = ((t : ℕ) × (told_by c.session (event.Acker acker k) ≡ record_.Ticket t) × (d.session ≡ next (next c.session (event.Acker acker k)) (event.AsideTicket t))) × SameBytes c d
 Settled status.Gone acker k c d = (told_by c.session (event.Acker acker k) ≡ record_.No) × (d.session ≡ next c.session (event.Acker acker k)) × SameBytes c d
 Settled status.Refused acker k c d = ((e : Error) × (told_by c.session (event.Acker acker k) ≡ record_.Refused e) × ShowsError e d) × (d.session ≡ next c.session (event.Acker acker k)) × SameBytes c d
-Settled status.NoMemory acker k c d = ((d.session ≡ c.session) ⊎ ((d.left ≡ 0) × ((e : Error) × (told_by c.session (event.Acker acker k) ≡ record_.Refused e)) × (d.session ≡ next c.session (event.Acker acker k)))) × SameBytes c d
+Settled status.Untold acker k c d = ((e : Error) × (told_by c.session (event.Acker acker k) ≡ record_.Refused e)) × (d.session ≡ next c.session (event.Acker acker k)) × SameBytes c d
+Settled status.NoMemory acker k c d = (d.session ≡ c.session) × SameBytes c d
 Settled status.Ended acker k c d = ((c.left < 2) ⊎ EventUsedUp (event.Acker acker k) c.session.wire) × (d.session ≡ c.session) × SameBytes c d
 Settled _ acker k c d = ⊥
 

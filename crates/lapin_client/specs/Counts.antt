@@ -24,12 +24,7 @@ PublishCounts (Err s) c d = d.left ≡ c.left
 abbrev pub OneAtMost : Client → Client → Type 0
 OneAtMost c d = (d.left ≡ c.left) ⊎ (d.left + 1 ≡ c.left)
 
--- want of memory is the client's end; else none was used
-abbrev pub EndCounts : Status → Client → Client → Type 0
-EndCounts status.NoMemory c d = d.left ≡ 0
-EndCounts _ c d = d.left ≡ c.left
-
--- a poll uses one; where memory wants the client ends
+-- a poll uses one; where there was no memory for a message the client ends
 abbrev pub PollCounts : Result Message Status → Client → Client → Type 0
 PollCounts (Err status.NoMemory) c d = d.left ≡ 0
 PollCounts (Err status.Ended) c d = OneAtMost c d
@@ -40,11 +35,15 @@ abbrev pub ShowCounts : Result Message Status → Client → Client → Type 0
 ShowCounts (Ok m) c d = d.left ≡ c.left
 ShowCounts (Err s) c d = d.left ≡ 0
 
+-- an outcome that is told uses one; where none is told none is used
+abbrev pub OutcomeCounts : ℕ → Client → Client → Type 0
+OutcomeCounts code c d = ((code ≡ 0) × (d.left ≡ c.left)) ⊎ (d.left + 1 ≡ c.left)
+
 -- what a call of an acker uses
 abbrev pub SettleCounts : Status → Client → Client → Type 0
 SettleCounts status.Done c d = d.left + 2 ≡ c.left
 SettleCounts status.Refused c d = d.left + 1 ≡ c.left
-SettleCounts status.NoMemory c d = (d.left ≡ c.left) ⊎ (d.left ≡ 0)
+SettleCounts status.Untold c d = d.left + 1 ≡ c.left
 SettleCounts _ c d = d.left ≡ c.left
 
 -- a confirm that is set aside uses one

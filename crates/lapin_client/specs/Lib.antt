@@ -1,7 +1,9 @@
 pub mod Calls
 pub mod Clients
+pub mod Closes
 pub mod Counts
 pub mod Receiving
 pub mod Sending
 pub mod Showing
 pub mod Statuses
+pub mod Taken

@@ -30,7 +30,9 @@ IsTold status.NoMemory e d = Unit {0}
 IsTold status.Ended e d = e ≡ error.NumbersUsedUp
 IsTold _ e d = ⊥
 
--- want of memory is the client's end
-abbrev pub EndsAt : Status → Client → Type 0
-EndsAt status.NoMemory d = d.left ≡ 0
-EndsAt _ d = Unit {0}
+-- What an error is told as that the session told as it went on: that there was no memory for the line of a refusal has a status of its own.
+abbrev pub IsToldSo : Status → Error → Client → Type 0
+IsToldSo status.Refused e d = (is_refusal e ≡ true) × ShowsError e d
+IsToldSo status.Untold e d = Unit {0}
+IsToldSo status.Ended e d = e ≡ error.NumbersUsedUp
+IsToldSo _ e d = ⊥

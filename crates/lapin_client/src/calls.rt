@@ -3,7 +3,7 @@ ghost use Rattle.std.specs.Prelude.{◌≡◌, ◌<◌, ◌++◌, ◌∷◌, [],
 ghost use Rattle.lapin_tokens.specs.Fields.{token as token_of};
 ghost use Rattle.lapin_tokens.specs.Fields.Field.{props as props_field};
 ghost use Rattle.lapin_client.specs.Calls.{Published, PublishedBy, OutcomeTold, Delivered, Settled, Forgotten, Shown, StaysBut, NoText, OutcomeShown, forget_fault as forget_fault_lem, fate_call, message_bytes, message_of};
-ghost use Rattle.lapin_client.specs.Counts.{ForgetCounts, OneAtMost, PollCounts, PublishCounts, SettleCounts, ShowCounts, Uses};
+ghost use Rattle.lapin_client.specs.Counts.{ForgetCounts, OutcomeCounts, PollCounts, PublishCounts, SettleCounts, ShowCounts, Uses};
 ghost use Rattle.lapin_client.specs.Clients.{IsSound, SameBytes};
 ghost use Rattle.lapin_machine.specs.World.{next};
 ghost use Rattle.lapin_types.specs.declared.call.Call.TheVariants as call;
@@ -161,7 +161,7 @@ impl Client {
         requires { IsSound self.old }
         ensures sound { IsSound self.new }
         ensures told { OutcomeTold result confirm self.old self.new }
-        ensures count { OneAtMost self.old self.new }
+        ensures count { OutcomeCounts result self.old self.new }
     {
         if self.left == 0 {
             return 0;
@@ -196,7 +196,8 @@ impl Client {
     ///
     /// # Errors
     /// `Pending` where there is nothing yet, `Gone` at the end of the consumer, `Refused` with its line as the answer where an error ended
-    /// its channel or there is no such consumer; `NoMemory`, where the message or that line is lost and the client ends, and `Ended`.
+    /// its channel or there is no such consumer, `Untold` where there was no memory for that line; `NoMemory`, where the message is lost and
+    /// the client ends, and `Ended`.
     pub fn delivery(&mut self, alloc: Global, consumer: u64) -> Result<Message, Status>
         requires { IsSound self.old }
         ensures sound { IsSound self.new }
@@ -211,8 +212,8 @@ impl Client {
             Ok(Poll::Pending) => Err(Status::Pending),
             Ok(Poll::Ready(Ok(None))) => Err(Status::Gone),
             Ok(Poll::Ready(Ok(Some(delivery)))) => self.show(alloc, delivery),
-            Ok(Poll::Ready(Err(error))) => Err(self.refuse_or_end(alloc, error)),
-            Err(error) => Err(self.refuse_or_end(alloc, error)),
+            Ok(Poll::Ready(Err(error))) => Err(self.refuse_so(alloc, error)),
+            Err(error) => Err(self.refuse_so(alloc, error)),
         }
     }
 
@@ -236,8 +237,8 @@ impl Client {
     }
 
     /// Settles a message by its acker. Done: the call is queued, and the acker used up. `Gone`: the acker isn't usable, and nothing is sent.
-    /// `Refused`: its channel's state refuses the call, as the answer says, which uses the acker up. `NoMemory`, `Ended`: nothing was done,
-    /// or, of `NoMemory`, there was none for the line of such a refusal: then the client has ended.
+    /// `Refused`: its channel's state refuses the call, as the answer says, which uses the acker up; `Untold` where there was no memory for
+    /// that line. `NoMemory`, `Ended`: nothing was done.
     pub fn settle(
         &mut self,
         alloc: Global,
@@ -275,7 +276,7 @@ impl Client {
             Err(error) => {
                 if refuses(error) {
                     self.left -= 1;
-                    return self.refuse_or_end(alloc, error);
+                    return self.refuse_so(alloc, error);
                 }
                 self.refuse(alloc, error)
             }

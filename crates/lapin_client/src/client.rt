@@ -1,18 +1,23 @@
-//! The client: a session, the line of the last answer, the bytes that leave and those that came, and how many further steps it takes.
-ghost use Rattle.std.specs.Prelude.{◌≡◌, ◌≤◌, ◌++◌, ◌∷◌, [], IfOk, OnOk};
+//! The client: a session, the line of the last answer, the bytes that leave and those that came, the broker's last closes, and how many
+//! further steps it takes.
+ghost use Rattle.std.specs.Prelude.{◌≡◌, ◌≤◌, ◌++◌, ◌∷◌, [], true, false, IfOk, OnOk};
+ghost use Rattle.lapin_text.specs.LineReading.{line_at};
 ghost use Rattle.lapin_text.specs.Records.{record_tokens, line_onto};
 ghost use Rattle.lapin_types.specs.declared.record.Record.TheVariants as told;
 ghost use Rattle.lapin_client.specs.Calls.{StaysBut};
-ghost use Rattle.lapin_client.specs.Showing.{EndsAt, IsTold, ShowsError};
-ghost use Rattle.lapin_client.specs.Counts.{EndCounts, LineCounts};
-ghost use Rattle.lapin_client.specs.Clients.{IsSound, SameBytes, Answers, IsNew, IsSent};
+ghost use Rattle.lapin_client.specs.Showing.{IsTold, IsToldSo, ShowsError};
+ghost use Rattle.lapin_client.specs.Counts.{LineCounts};
+ghost use Rattle.lapin_client.specs.Clients.{IsSound, Answers, IsNew, IsNone, IsSent, SameBytes, own_first, says_own};
 
+use crate::closes::Close;
 use crate::inlet::Inlet;
 use crate::status::Status;
 use lapin_lines::take_line;
 use lapin_machine::Session;
-use lapin_text::put_refused;
-use lapin_types::{Error, NoMemory};
+use lapin_tables::ByChannel;
+use lapin_text::{Word, first_word, put_refused};
+use lapin_tokens::Tokens;
+use lapin_types::{Error, Left, NoMemory};
 use std::alloc::{AllocError, Global};
 
 /// A session with the bytes of its connection.
@@ -24,6 +29,8 @@ pub struct Client {
     pub answer: Vec<u8>,
     /// The bytes that are to be sent.
     pub leaving: Vec<u8>,
+    /// The frame that is to be sent behind them, where there was no memory for its bytes.
+    pub unsent: Option<Left>,
     /// Room in which a frame is made.
     pub room: Vec<u8>,
     /// The bytes that came and were not read yet.
@@ -34,6 +41,8 @@ pub struct Client {
     pub frame_max: u32,
     /// Whether the broker said that it takes no messages.
     pub blocked: bool,
+    /// The broker's last close of each channel, and of the connection as channel 0.
+    pub closes: ByChannel<Close>,
 }
 
 impl Client {
@@ -51,15 +60,18 @@ impl Client {
             session,
             answer: Vec::new(alloc),
             leaving: Vec::new(alloc),
+            unsent: None,
             room: Vec::new(alloc),
             came: Inlet::new(alloc),
             left: u64::MAX >> 1,
             frame_max,
             blocked: false,
+            closes: ByChannel::new(alloc),
         })
     }
 
-    /// Takes a line, without its line end: where it says an event, the session meets it, and the line of its record is the answer.
+    /// Takes a line, without its line end: where it says an event, the session meets it, and the line of its record is the answer. Frames are
+    /// asked for and handed in by the client alone: a line that says one is none that it takes.
     pub fn take_line(&mut self, alloc: Global, line: &[u8]) -> Status
         requires { IsSound self.old }
         ensures sound { IsSound self.new }
@@ -70,6 +82,9 @@ impl Client {
             return Status::Ended;
         }
         self.answer.clear();
+        if !is_own(line) {
+            return Status::NotInGrammar;
+        }
         match take_line(alloc, &mut self.session, line, &mut self.answer) {
             Ok(true) => {
                 self.left -= 1;
@@ -107,22 +122,22 @@ impl Client {
         }
     }
 
-    // As `refuse`, of an error that the session told as it went on: where there was no memory for its line, the client ends.
-    pub(crate) fn refuse_or_end(&mut self, alloc: Global, error: Error) -> Status
+    // The same of an error that the session told as it went on: that there was no memory for its line has a status of its own.
+    pub(crate) fn refuse_so(&mut self, alloc: Global, error: Error) -> Status
         requires { IsSound self.old }
         ensures sound { IsSound self.new }
-        ensures told { IsTold result error self.new }
-        ensures ends { EndsAt result self.new }
-        ensures count { EndCounts result self.old self.new }
+        ensures told { IsToldSo result error self.new }
         ensures session { self.new.session ≡ self.old.session }
+        ensures count { self.new.left ≡ self.old.left }
         ensures same { SameBytes self.old self.new }
     {
-        match self.refuse(alloc, error) {
-            Status::NoMemory => {
-                self.left = 0;
-                Status::NoMemory
-            }
-            status => status,
+        match error {
+            Error::NoMemory => Status::Untold,
+            Error::NumbersUsedUp => Status::Ended,
+            _ => match self.show_error(alloc, error) {
+                Ok(()) => Status::Refused,
+                Err(_) => Status::Untold,
+            },
         }
     }
 
@@ -149,4 +164,20 @@ fn put_refusal(alloc: Global, out: &mut Vec<u8>, error: Error) -> Result<(), All
     put_refused(alloc, out, error)?;
     out.push(b'\n')?;
     Ok(())
+}
+
+// Whether a line says none of a frame: neither a request for one nor that one came.
+fn is_own(line: &[u8]) -> bool
+    ensures own { result ≡ true → says_own (line_at line.now) ≡ true }
+    ensures none { result ≡ false → IsNone (line_at line.now) }
+{
+    let mut tokens = Tokens::new(line);
+    begins_own(first_word(&mut tokens))
+}
+
+// Whether a word begins none of these.
+fn begins_own(first: Option<Word>) -> bool
+    ensures { result ≡ own_first first }
+{
+    !matches!(first, Some(Word::Next) | Some(Word::Recv))
 }

@@ -1,7 +1,12 @@
 //! What follows from the words of the contracts, as laws on empty bodies.
 
-ghost use Rattle.std.specs.Prelude.{◌≡◌, [], false};
+ghost use Rattle.std.specs.Prelude.{◌≡◌, ℕ, List, [], false};
+ghost use Rattle.lapin_client.specs.declared.client.Client.{Client as AClient};
+ghost use Rattle.lapin_client.specs.Closes.{close_on, last_close};
+ghost use Rattle.lapin_client.specs.Receiving.{Comes};
 ghost use Rattle.lapin_client.specs.Sending.{IsIdle};
+ghost use Rattle.lapin_client.specs.Taken.{Took};
+ghost use Rattle.lapin_types.specs.Types.{Frame as AFrame};
 ghost use Rattle.lapin_machine.specs.World.{World};
 
 /// Where a request with which no publish may begin hands nothing out, no publish has begun and no method waits: so a frame of the
@@ -9,4 +14,11 @@ ghost use Rattle.lapin_machine.specs.World.{World};
 #[tactic(auto, using(crate::proofs::Idle::idle))]
 pub fn nothing_has_begun_in_an_idle_session()
     ensures { (w : World) → IsIdle false w → (w.wire.rest ≡ []) × (w.wire.methods ≡ []) }
+{}
+
+/// The frames that a client took, one after the other, determine what it has as the broker's last close of each channel, and of the
+/// connection as channel 0: the last one among them, and where none of them says one, the one that it had before.
+#[tactic(auto, using(crate::proofs::Taken::last_is_kept))]
+pub fn the_last_close_is_kept()
+    ensures { (n : ℕ) (c d : AClient) → Comes n c d → (fs : List AFrame) × Took n fs c d × ((ch : ℕ) → close_on ch d ≡ last_close ch fs (close_on ch c)) }
 {}

@@ -7,6 +7,7 @@
 
 mod calls;
 mod client;
+mod closes;
 mod inlet;
 mod laws;
 mod receiving;
@@ -15,6 +16,7 @@ mod status;
 
 pub use calls::{Fate, Message};
 pub use client::Client;
+pub use closes::{Close, CloseReason};
 pub use inlet::Inlet;
-pub use laws::nothing_has_begun_in_an_idle_session;
+pub use laws::{nothing_has_begun_in_an_idle_session, the_last_close_is_kept};
 pub use status::Status;

@@ -3,11 +3,14 @@
 ghost use Rattle.std.specs.Prelude.{◌≡◌, ◌≤◌, Some, IfSome};
 ghost use Rattle.lapin_handshake.specs.Saying.{frame_said_at};
 ghost use Rattle.lapin_client.specs.Clients.{IsSound};
-ghost use Rattle.lapin_client.specs.Receiving.{Receives, Runs, Turns, Takes, TakesIdle, IdleCounts, Hears, HearCounts, HeadIs, notice, is_of_content as is_of_content_lem, begins_content as begins_content_lem, is_deaf as is_deaf_lem, is_stray as is_stray_lem, length_at};
+ghost use Rattle.lapin_client.specs.Closes.{close_said};
+ghost use Rattle.lapin_client.specs.Receiving.{Receives, Runs, Turns, TurnsBy, Takes, TakesIdle, IdleCounts, Hears, NotesHeard, HearCounts, HeadIs, notice, is_of_content as is_of_content_lem, begins_content as begins_content_lem, is_deaf as is_deaf_lem, is_stray as is_stray_lem, length_at};
 ghost use Rattle.lapin_client.specs.Showing.{is_refusal};
 ghost use Rattle.lapin_rules.specs.Drops.{frame_channel};
+ghost use Rattle.lapin_tables.specs.ByChannel.{HasRoom};
 
 use crate::client::Client;
+use crate::closes::{Close, close_of, put_close};
 use crate::status::Status;
 use lapin_fields::wanted;
 use lapin_frames::{Read, ReadFault, read_frame};
@@ -38,6 +41,10 @@ enum Head {
 impl Client {
     /// Takes bytes of the broker, and hands each frame that is whole to the session. Where a frame is refused, or its bytes are none, what
     /// came behind it is kept, and handed on by the next call.
+    ///
+    /// `NoMemory`: the bytes were not kept, and all is as it was: hand them in again. `Kept`: they were, and there was no memory for the frame
+    /// at the head of what came, which stays there: call again, with no bytes. `Untold`: the session refused a frame, and there was no memory
+    /// for the line of the refusal.
     pub fn receive(&mut self, alloc: Global, bytes: &[u8]) -> Status
         requires { IsSound self.old }
         ensures sound { IsSound self.new }
@@ -62,8 +69,7 @@ impl Client {
                 status => return status,
             }
         }
-        self.left = 0;
-        Status::Ended
+        Status::Kept
     }
 
     // Takes what stands at the head of the bytes that came. Pending where that is no whole frame yet.
@@ -74,10 +80,7 @@ impl Client {
     {
         match head_of(alloc, self.came.rest(), self.frame_max) {
             Head::Part => Status::Pending,
-            Head::Frame(frame, length) => {
-                self.came.pass(length);
-                self.take(alloc, frame)
-            }
+            Head::Frame(frame, length) => self.turn_by(alloc, frame, length),
             Head::Passed(length) => {
                 self.came.pass(length);
                 Status::Done
@@ -89,7 +92,30 @@ impl Client {
             }
             Head::Malformed => Status::Malformed,
             Head::TooLong => Status::TooLong,
-            Head::NoMemory => Status::NoMemory,
+            Head::NoMemory => Status::Kept,
+        }
+    }
+
+    // Takes the frame at the head of the bytes that came, of so many bytes. They stay where it isn't taken.
+    fn turn_by(&mut self, alloc: Global, frame: Frame, length: usize) -> Status
+        requires { IsSound self.old }
+        ensures sound { IsSound self.new }
+        ensures told { TurnsBy result frame length self.old self.new }
+    {
+        match self.take(alloc, frame) {
+            Status::Done => {
+                self.came.pass(length);
+                Status::Done
+            }
+            Status::Refused => {
+                self.came.pass(length);
+                Status::Refused
+            }
+            Status::Untold => {
+                self.came.pass(length);
+                Status::Untold
+            }
+            status => status,
         }
     }
 
@@ -101,6 +127,10 @@ impl Client {
     {
         match self.finish(alloc) {
             Status::Done => self.take_idle(alloc, frame),
+            Status::NoMemory => {
+                drop(frame);
+                Status::Kept
+            }
             status => {
                 drop(frame);
                 status
@@ -119,7 +149,67 @@ impl Client {
             drop(frame);
             return Status::Done;
         }
-        self.hear(alloc, frame)
+        self.note(alloc, frame)
+    }
+
+    // The session takes a frame, and the close that it says, if it says one, is its channel's last.
+    fn note(&mut self, alloc: Global, frame: Frame) -> Status
+        requires { IsSound self.old }
+        ensures sound { IsSound self.new }
+        ensures told { NotesHeard result frame self.old self.new }
+        ensures count { HearCounts result self.old self.new }
+    {
+        match close_of(alloc, &frame) {
+            Ok(Some((channel, close))) => self.note_close(alloc, frame, channel, close),
+            Ok(None) => self.hear(alloc, frame),
+            Err(_) => {
+                drop(frame);
+                Status::Kept
+            }
+        }
+    }
+
+    // The session takes a frame that says a close.
+    fn note_close(&mut self, alloc: Global, frame: Frame, channel: u16, close: Close) -> Status
+        requires sound { IsSound self.old }
+        requires said { close_said frame ≡ Some (channel, close) }
+        ensures sound { IsSound self.new }
+        ensures told { NotesHeard result frame self.old self.new }
+        ensures count { HearCounts result self.old self.new }
+    {
+        match self.closes.reserve(channel) {
+            Ok(()) => self.note_reserved(alloc, frame, channel, close),
+            Err(_) => {
+                drop(frame);
+                drop(close);
+                Status::Kept
+            }
+        }
+    }
+
+    // The same, where there is room for the close.
+    fn note_reserved(&mut self, alloc: Global, frame: Frame, channel: u16, close: Close) -> Status
+        requires sound { IsSound self.old }
+        requires said { close_said frame ≡ Some (channel, close) }
+        requires room { HasRoom channel self.old.closes }
+        ensures sound { IsSound self.new }
+        ensures told { NotesHeard result frame self.old self.new }
+        ensures count { HearCounts result self.old self.new }
+    {
+        match self.hear(alloc, frame) {
+            Status::Kept => {
+                drop(close);
+                Status::Kept
+            }
+            Status::Ended => {
+                drop(close);
+                Status::Ended
+            }
+            status => {
+                put_close(&mut self.closes, channel, close);
+                status
+            }
+        }
     }
 
     // The session takes a frame.
@@ -142,10 +232,9 @@ impl Client {
             Err(error) => {
                 if refuses(error) {
                     self.left -= 1;
-                    return self.refuse_or_end(alloc, error);
+                    return self.refuse_so(alloc, error);
                 }
-                self.left = 0;
-                Status::NoMemory
+                Status::Kept
             }
         }
     }

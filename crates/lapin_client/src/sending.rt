@@ -1,25 +1,27 @@
 //! Frames that leave, as bytes.
-ghost use Rattle.std.specs.Prelude.{◌≡◌, ◌≤◌, ◌++◌, ◌<◌, false, length, OnOk, OnErr};
+ghost use Rattle.std.specs.Prelude.{◌≡◌, ◌≤◌, ◌++◌, ◌<◌, false, None, Err, length, OnOk, OnErr};
 ghost use Rattle.lapin_client.specs.Clients.{IsSound};
 ghost use Rattle.lapin_frames.specs.FrameFits.{FrameFits, RefusedWithin};
 ghost use Rattle.lapin_frames.specs.Frames.{bytes_of};
-ghost use Rattle.lapin_client.specs.Sending.{Pulls, Finishes, Sends, Steps, Counts, IsLoss, StepCause, StepFits, LossCause, SendCause, loss_of};
+ghost use Rattle.lapin_client.specs.Sending.{Pulls, Finishes, Sends, Steps, Writes, WritesHeld};
 
 use crate::client::Client;
 use crate::status::Status;
 use lapin_frames::{WriteFault, put_frame_within};
-use lapin_types::Frame;
+use lapin_types::{Frame, Left};
 use std::alloc::Global;
 
 impl Client {
     /// The frames that may leave, as bytes behind those that are still to be sent: until there is none, or until there are so many bytes;
     /// and then what is left of a begun publish, and the methods that wait, so that afterwards nothing waits but publishes that have not
     /// begun.
+    ///
+    /// `NoMemory`: what left stands behind what was to be sent, and a frame for whose bytes there was none is held: call again. `TooLong`: a
+    /// frame has more bytes than a frame may have, and is lost; the client ends.
     pub fn send(&mut self, alloc: Global, flow: bool, enough: usize) -> Status
         requires { IsSound self.old }
         ensures sound { IsSound self.new }
         ensures told { Sends result flow enough self.old self.new }
-        ensures cause { SendCause result flow enough self.old self.new }
     {
         match self.pull(alloc, flow, enough) {
             Status::Done => self.finish(alloc),
@@ -32,7 +34,19 @@ impl Client {
         requires { IsSound self.old }
         ensures sound { IsSound self.new }
         ensures told { Finishes result self.old self.new }
-        ensures cause { LossCause result false self.old self.new }
+    {
+        match self.write_held(alloc) {
+            Status::Done => self.finish_on(alloc),
+            status => status,
+        }
+    }
+
+    // The same where no frame is held.
+    fn finish_on(&mut self, alloc: Global) -> Status
+        requires sound { IsSound self.old }
+        requires none { self.old.unsent ≡ None }
+        ensures sound { IsSound self.new }
+        ensures told { Finishes result self.old self.new }
     {
         loop {
             if self.left == 0 {
@@ -51,7 +65,19 @@ impl Client {
         requires { IsSound self.old }
         ensures sound { IsSound self.new }
         ensures told { Pulls result enough flow self.old self.new }
-        ensures cause { LossCause result flow self.old self.new }
+    {
+        match self.write_held(alloc) {
+            Status::Done => self.pull_on(alloc, flow, enough),
+            status => status,
+        }
+    }
+
+    // The same where no frame is held.
+    fn pull_on(&mut self, alloc: Global, flow: bool, enough: usize) -> Status
+        requires sound { IsSound self.old }
+        requires none { self.old.unsent ≡ None }
+        ensures sound { IsSound self.new }
+        ensures told { Pulls result enough flow self.old self.new }
     {
         while self.leaving.len() < enough {
             if self.left == 0 {
@@ -70,38 +96,77 @@ impl Client {
     fn step(&mut self, alloc: Global, flow: bool) -> Step
         requires sound { IsSound self.old }
         requires some { 0 < self.old.left }
+        requires none { self.old.unsent ≡ None }
         ensures sound { IsSound self.new }
         ensures told { Steps result flow self.old self.new }
-        ensures count { Counts result self.old self.new }
-        ensures cause { StepCause result flow self.old }
-        ensures fits { StepFits result flow self.old }
     {
         match self.session.next_frame(alloc, flow) {
             Ok(Some(left)) => {
                 self.left -= 1;
-                let put = put_left(
-                    alloc,
-                    &mut self.leaving,
-                    &mut self.room,
-                    &left.frame,
-                    self.frame_max,
-                );
-                drop(left);
-                match put {
-                    Ok(()) => Step::Left,
-                    Err(fault) => {
-                        self.left = 0;
-                        Step::Lost(lost(fault))
-                    }
+                match self.write(alloc, left) {
+                    Status::Done => Step::Left,
+                    status => Step::Lost(status),
                 }
             }
             Ok(None) => {
                 self.left -= 1;
                 Step::Idle
             }
-            Err(_) => {
+            Err(_) => Step::Lost(Status::NoMemory),
+        }
+    }
+
+    // The frame that is held leaves as bytes, if there is one.
+    fn write_held(&mut self, alloc: Global) -> Status
+        requires { IsSound self.old }
+        ensures sound { IsSound self.new }
+        ensures told { WritesHeld result self.old self.new }
+    {
+        match self.unsent.take() {
+            Some(left) => self.write(alloc, left),
+            None => Status::Done,
+        }
+    }
+
+    // A frame leaves as bytes. Where there is no memory for them it is held; one that has too many is lost, and the client ends.
+    fn write(&mut self, alloc: Global, left: Left) -> Status
+        requires sound { IsSound self.old }
+        requires none { self.old.unsent ≡ None }
+        ensures sound { IsSound self.new }
+        ensures told { Writes result left self.old self.new }
+    {
+        match put_left(
+            alloc,
+            &mut self.leaving,
+            &mut self.room,
+            &left.frame,
+            self.frame_max,
+        ) {
+            Ok(()) => {
+                drop(left);
+                Status::Done
+            }
+            Err(fault) => self.unwritten(left, fault),
+        }
+    }
+
+    // A frame was not written.
+    fn unwritten(&mut self, left: Left, fault: WriteFault) -> Status
+        requires sound { IsSound self.old }
+        requires none { self.old.unsent ≡ None }
+        requires refused { RefusedWithin (Err fault) (FrameFits left.frame) (self.old.frame_max < length (bytes_of left.frame)) }
+        ensures sound { IsSound self.new }
+        ensures told { Writes result left self.old self.new }
+    {
+        match fault {
+            WriteFault::NoMemory => {
+                self.unsent = Some(left);
+                Status::NoMemory
+            }
+            _ => {
+                drop(left);
                 self.left = 0;
-                Step::Lost(Status::NoMemory)
+                Status::TooLong
             }
         }
     }
@@ -113,7 +178,7 @@ enum Step {
     Left,
     // None may leave.
     Idle,
-    // A frame was lost.
+    // There was no memory, or a frame was lost.
     Lost(Status),
 }
 
@@ -131,15 +196,4 @@ fn put_left(
     ensures refused { RefusedWithin result (FrameFits frame.now) (frame_max < length (bytes_of frame.now)) }
 {
     put_frame_within(alloc, out, room, frame, frame_max as usize)
-}
-
-// Why a frame was lost.
-fn lost(fault: WriteFault) -> Status
-    ensures loss { IsLoss result }
-    ensures told { result ≡ loss_of fault }
-{
-    match fault {
-        WriteFault::NoMemory => Status::NoMemory,
-        _ => Status::TooLong,
-    }
 }

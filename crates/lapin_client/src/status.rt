@@ -9,11 +9,11 @@ pub enum Status {
     Done,
     /// The session refused it: the answer is the line of the refusal.
     Refused,
-    /// A line is not in the grammar, or an argument is no short text. Nothing was done.
+    /// A line is none that a client takes, or an argument is no short text. Nothing was done.
     NotInGrammar,
-    /// There was no memory, or none for the line of a refusal.
+    /// There was no memory, and nothing was lost: call again. Of `receive`: the bytes were not kept, and all is as it was.
     NoMemory,
-    /// The client takes nothing further: a counter is at its end, or bytes that had to leave were lost for want of memory.
+    /// The client takes nothing further: its steps are used up.
     Ended,
     /// The bytes that came are no frame.
     Malformed,
@@ -25,6 +25,10 @@ pub enum Status {
     Pending,
     /// The acker isn't usable, or the consumer is at its end: there will be nothing.
     Gone,
+    /// The bytes that came were kept, and there was no memory for the frame at their head, which was not taken: call again, with none.
+    Kept,
+    /// The session refused it, and there was no memory for the line of the refusal.
+    Untold,
 }
 
 impl Status {
@@ -43,6 +47,8 @@ impl Status {
             Status::Closed => 7,
             Status::Pending => 8,
             Status::Gone => 9,
+            Status::Kept => 10,
+            Status::Untold => 11,
         }
     }
 }

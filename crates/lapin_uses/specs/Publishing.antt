@@ -1,8 +1,12 @@
 -- A publish of the window, and how one comes out of it.
-use Rattle.std.specs.Prelude.{◌≡◌, ℕ, List, [], ◌∷◌, ◌++◌, false, Some, Result, Ok, Err}
+use Rattle.std.specs.Prelude.{◌≡◌, ◌≤◌, ◌<◌, ℕ, List, [], ◌∷◌, ◌++◌, length, false, Some, Result, Ok, Err}
 use Rattle.lapin_types.specs.declared.event.Event.{Event}
 use Rattle.lapin_types.specs.declared.record.Record.{Record}
 use Rattle.lapin_types.specs.Types.{Error}
+use Rattle.lapin_types.specs.Types.error
+use Rattle.lapin_types.specs.declared.call.Call.{Call}
+use Rattle.lapin_rules.specs.Wire.{Wire}
+use Rattle.lapin_machine.specs.Numbers.{CallCause}
 use Rattle.lapin_types.specs.declared.event.Event.TheVariants as event
 use Rattle.lapin_types.specs.declared.call.Call.TheVariants as call
 use Rattle.lapin_types.specs.declared.record.Record.TheVariants as record_
@@ -17,9 +21,22 @@ use Rattle.lapin_uses.specs.Outcomes.{advised}
 
 -- the call that publishes a message to a queue: by the default exchange, whose key is the queue's name, persistently and
 -- under its id
+abbrev pub publish_call : List ℕ → Message → Call
+publish_call queue m = call.BasicPublish [] queue (record { mandatory = false; immediate = false }) m.payload
+    (record no_properties { delivery_mode = Some 2; message_id = Some m.id })
+
+-- and the event that it is
 abbrev pub publishing : ℕ → List ℕ → Message → Event
-publishing c queue m = event.Call c (call.BasicPublish [] queue (record { mandatory = false; immediate = false }) m.payload
-    (record no_properties { delivery_mode = Some 2; message_id = Some m.id }))
+publishing c queue m = event.Call c (publish_call queue m)
+
+-- why nothing was published: the window is full, and its limit is told; else it has room, and the session didn't make the call
+abbrev pub PublishCause : Result Unit Error → ℕ → List Waiting → ℕ → Call → Wire → Type 0
+PublishCause (Err (error.ConfirmsOutstanding limit)) most waiting c k b = (most ≤ length waiting) × (limit ≡ most)
+PublishCause r most waiting c k b = (length waiting < most) × CallCause r c k b
+
+-- a window in which no more stand than that stays one
+abbrev pub StaysWithin : ℕ → List Waiting → List Waiting → Type 0
+StaysWithin most old new = length old ≤ most → length new ≤ most
 
 -- the call was accepted and gave this confirm, and its ticket was set aside
 abbrev pub IsSent : Result PublisherConfirm Error → World → World → Event → Type 0

@@ -1,6 +1,8 @@
 -- What is taken back after a loss.
-use Rattle.std.specs.Prelude.{Bool, true, false, if◌then◌else◌, List, [], ◌∷◌, ◌++◌, Err}
+use Rattle.std.specs.Prelude.{◌≡◌, ℕ, Bool, true, false, if◌then◌else◌, List, [], ◌∷◌, ◌++◌, Result, Ok, Err}
 use Rattle.lapin_types.specs.declared.record.Record.{Record}
+use Rattle.lapin_types.specs.Types.{Error}
+use Rattle.lapin_types.specs.Types.error
 use Rattle.lapin_types.specs.declared.event.Event.TheVariants as event
 use Rattle.lapin_types.specs.declared.record.Record.TheVariants as record_
 use Rattle.lapin_machine.specs.World.{World, told_by, next}
@@ -30,3 +32,10 @@ abbrev pub kept_of : World → List Waiting → List Message
 kept_of w [] = []
 kept_of w (x ∷ xs) = kept (advised_by (told_by w (event.PollConfirm x.confirm.number))) x.message
     ++ kept_of (next w (event.PollConfirm x.confirm.number)) xs
+
+-- why no channel is being opened in a new session: memory wanted, or it is channel 0, which is the connection's
+abbrev pub OpenCause : {T : Type 0} → Result T Error → ℕ → Type 0
+OpenCause (Ok x) c = Unit {0}
+OpenCause (Err error.NoMemory) c = Unit {0}
+OpenCause (Err (error.InvalidChannelState s)) c = c ≡ 0
+OpenCause (Err _) c = ⊥

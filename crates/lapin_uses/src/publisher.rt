@@ -1,6 +1,7 @@
 //! A publisher that keeps each message until its outcome is known, and has at most so many of them outstanding.
 ghost use Rattle.std.specs.Prelude.{◌≡◌, ◌≤◌, ◌↔◌, [], length, IfOk, OnErr, IfSome, IfNone, IsTrue};
-ghost use Rattle.lapin_uses.specs.Publishing.{publishing, IsSent, IsAccepted, IsSettled, IsPending};
+ghost use Rattle.lapin_machine.specs.Numbers.{CallCause};
+ghost use Rattle.lapin_uses.specs.Publishing.{publish_call, publishing, IsSent, IsAccepted, PublishCause, StaysWithin, IsSettled, IsPending};
 
 use crate::outcomes::{Advice, advice_on};
 use lapin_session::{Channel, Published, PublisherConfirm, Session};
@@ -64,10 +65,11 @@ impl Publisher {
     }
 
     /// Publishes a message, persistently and under its id, and keeps a copy until its outcome is known. Its frames leave as
-    /// `next_frame` hands them out.
+    /// `next_frame` hands them out. Never more than `most` are outstanding.
     ///
     /// # Errors
-    /// Those of `Channel::basic_publish`. Nothing is published then, and the window stays as it was.
+    /// `ConfirmsOutstanding` with `most` exactly where the window is full; else those of `Channel::basic_publish`. Nothing is
+    /// published then, and the window stays as it was.
     pub fn publish(
         &mut self,
         alloc: Global,
@@ -78,8 +80,16 @@ impl Publisher {
             message.now self.old.waiting.items self.new.waiting.items }
         ensures err { OnErr result (session.new ≡ session.old) }
         ensures window { OnErr result (self.new.waiting.items ≡ self.old.waiting.items) }
+        ensures within { StaysWithin self.old.most self.old.waiting.items self.new.waiting.items }
+        ensures cause { PublishCause result self.old.most self.old.waiting.items self.old.channel.id
+            (publish_call self.old.queue message.now) session.old.wire }
         ensures stays { self.new ≡ record self.old { waiting = self.new.waiting } }
     {
+        if self.is_full() {
+            return Err(Error::ConfirmsOutstanding {
+                limit: self.most as u64,
+            });
+        }
         self.waiting.reserve(1)?;
         let kept = message.try_clone(alloc)?;
         match self.send(alloc, session, message) {
@@ -106,6 +116,7 @@ impl Publisher {
     ) -> Result<PublisherConfirm, Error>
         ensures ok { IsSent result session.old session.new (publishing self.now.channel.id self.now.queue message.now) }
         ensures err { OnErr result (session.new ≡ session.old) }
+        ensures cause { CallCause result self.now.channel.id (publish_call self.now.queue message.now) session.old.wire }
     {
         let exchange = ShortString::empty(alloc)?;
         let queue = self.queue.try_clone(alloc)?;

@@ -6,7 +6,7 @@ ghost use Rattle.lapin_types.specs.declared.call.Call.TheVariants.{OpenChannel};
 ghost use Rattle.lapin_types.specs.declared.record.Record.TheVariants.{Ticket as TicketRecord};
 ghost use Rattle.std.specs.VecDeque.{deque_len, deque_capacity};
 ghost use Rattle.lapin_machine.specs.World.{told_by, next, new_world};
-ghost use Rattle.lapin_uses.specs.Reconnecting.{kept_of, advised_by, is_done as is_done_lem};
+ghost use Rattle.lapin_uses.specs.Reconnecting.{kept_of, advised_by, is_done as is_done_lem, OpenCause};
 
 use crate::outcomes::{Advice, advice_on};
 use crate::publisher::{Message, Publisher, Waiting};
@@ -42,11 +42,12 @@ pub fn after_loss(
 /// asks for confirms, and what is unsent is published again.
 ///
 /// # Errors
-/// Those of `Session::open_channel`.
+/// `InvalidChannelState` for channel 0, which is the connection's, and `NoMemory`.
 pub fn open_again(alloc: Global, frame_max: u32, channel: u16) -> Result<(Session, Ticket), Error>
     requires { 4096 ≤ frame_max }
     ensures told { IfOk result (λ r. told_by (new_world frame_max) (CallEvent channel OpenChannel) ≡ TicketRecord r.1.number) }
     ensures ok { IfOk result (λ r. r.0 ≡ next (new_world frame_max) (CallEvent channel OpenChannel)) }
+    ensures cause { OpenCause result channel }
 {
     let mut session = Session::new(alloc, frame_max)?;
     match session.open_channel(alloc, channel) {

@@ -1,45 +1,8 @@
-use Rattle.std.proofs.Common.{◌<◌, ◌≤◌, suc, length, inl, inr, refl, subst, arith}
-use Rattle.lapin_client.proofs.Requests.{lost_after, hands_next, hands_idle, wanted_next, same_else}
-use Rattle.lapin_client.specs.Sending.{IsIdle}
-use Rattle.lapin_machine.specs.World.{World}
+use Rattle.lapin_client.proofs.Requests.{pulls_held, pulls_join}
 use Rattle.lapin_client.proofs.client.Client.pull.Goals as goal
 
--- one more frame left
-pub loop-alloc-preserved : goal.loop-alloc-preserved
-loop-alloc-preserved c =
-    let i = c.loop-alloc.invariant in let t = c.in-Left.ensures.told in
-    let few : length c.loop-alloc.self.leaving.items < c.args.enough = omega arith in
-    record {
-      sound = c.in-Left.ensures.sound;
-      told = (
-        suc i.told.0,
-        hands_next i.told.0 c.args.flow c.args.self.now c.loop-alloc.self c.step.new.self i.told.1 i.same.2 t.0 t.1 t.2 c.in-Left.ensures.count c.in-Left.ensures.fits,
-        wanted_next c.args.enough i.told.0 c.args.flow c.args.self.now c.loop-alloc.self i.told.1 i.told.2 few,
-      );
-      same = same_else c.args.self.now c.loop-alloc.self c.step.new.self i.same t.3;
-    }
+pub returns-in-Done-clause-told : goal.returns-in-Done-clause-told
+returns-in-Done-clause-told c = pulls_join c.pull_on.result c.args.enough c.args.flow c.args.self.now c.write_held.new.self c.pull_on.new.self c.in-Done.ensures.told c.pull_on.ensures.told
 
--- one more was asked for in vain
-pub returns-in-Idle-clause-told : goal.returns-in-Idle-clause-told
-returns-in-Idle-clause-told c =
-    let i = c.loop-alloc.invariant in let t = c.in-Idle.ensures.told in
-    let few : length c.loop-alloc.self.leaving.items < c.args.enough = omega arith in (
-      (
-        suc i.told.0,
-        hands_idle i.told.0 c.args.flow c.args.self.now c.loop-alloc.self c.step.new.self i.told.1 i.same.2 t.1 t.2 t.0 c.in-Idle.ensures.count,
-        wanted_next c.args.enough i.told.0 c.args.flow c.args.self.now c.loop-alloc.self i.told.1 i.told.2 few,
-        inl (i.told.0, refl, subst (λ (w : World). IsIdle c.args.flow w) i.told.1.0 t.0),
-      ),
-      same_else c.args.self.now c.loop-alloc.self c.step.new.self i.same t.3,
-    )
-
--- there are octets enough
-pub returns-clause-told : goal.returns-clause-told
-returns-clause-told c =
-    let i = c.loop-alloc.invariant in
-    let many : c.args.enough ≤ length c.loop-alloc.self.leaving.items = omega arith in
-    ((i.told.0, i.told.1, i.told.2, inr many), i.same)
-
-pub returns-in-Lost-clause-cause : goal.returns-in-Lost-clause-cause
-returns-in-Lost-clause-cause c =
-    let i = c.loop-alloc.invariant in lost_after c.in-Lost.status i.told.0 c.args.flow c.args.self.now c.loop-alloc.self c.step.new.self i.told.1 i.same.2 c.in-Lost.ensures.cause
+pub returns-in_default-clause-told : goal.returns-in_default-clause-told
+returns-in_default-clause-told c = pulls_held c.write_held.result c.args.enough c.args.flow c.args.self.now c.write_held.new.self c.in_default.not-Done c.write_held.ensures.told
