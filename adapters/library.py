@@ -4,7 +4,9 @@
 The archive is made first, and only where `lapin_c` is proved: by `rt lib`, or, where the gate ran in this checkout and left the libraries that
 it proved, over those.
 """
+import hashlib
 import os
+import re
 import shutil
 import subprocess
 import sys
@@ -66,6 +68,31 @@ def ran(words):
     return (done.stdout or "it said nothing") if done.returncode else ""
 
 
+def text_sum():
+    """The sum of the text that is built or proved: sha-256 of crates.txt and of each file below crates/, with their names, but for what is made."""
+    found = hashlib.sha256()
+    files = [f"{TOP}/crates.txt"]
+    for folder, below, names in os.walk(f"{TOP}/crates"):
+        below[:] = sorted(it for it in below if it not in ("out", "__pycache__"))
+        files += [f"{folder}/{it}" for it in sorted(names) if it != "BUILD.bazel"]
+    for file in files:
+        with open(file, "rb") as source:
+            content = source.read()
+        found.update(f"{os.path.relpath(file, TOP)} {len(content)}\n".encode() + content)
+    return found.hexdigest()
+
+
+def version_object(folder, proof):
+    """What `lapin_version` answers, compiled into a folder. The proof is `proved` or `unproved`."""
+    with open(f"{TOP}/adapters/python/lapin/__init__.py", encoding="utf-8") as file:
+        release = re.search(r'__version__ = "(.*)"', file.read())[1]
+    words = {"RELEASE": release, "PROOF": proof, "TEXT": text_sum()}
+    named = [f'-DLAPIN_{name}="{word}"' for name, word in words.items()]
+    built = f"{folder}/version.o"
+    subprocess.run([os.environ.get("CC", "cc"), "-O2", "-fPIC", *named, "-c", f"{TOP}/adapters/c/version.c", "-o", built], check=True)
+    return built
+
+
 def make(out):
     names = crates()
     libraries = below(names)
@@ -79,8 +106,8 @@ def make(out):
         script = f"{folder}/exports"
         with open(script, "w", encoding="utf-8") as file:
             file.write("{ global: lapin_*; local: *; };\n")
-        subprocess.run([os.environ.get("CC", "cc"), "-shared", "-o", out, "-Wl,--whole-archive", ARCHIVE, "-Wl,--no-whole-archive",
-                        f"{kit()}/c/liblibc_c.a", "-Wl,--gc-sections", f"-Wl,--version-script={script}"], check=True)
+        subprocess.run([os.environ.get("CC", "cc"), "-shared", "-o", out, version_object(folder, "proved"), "-Wl,--whole-archive", ARCHIVE,
+                        "-Wl,--no-whole-archive", f"{kit()}/c/liblibc_c.a", "-Wl,--gc-sections", f"-Wl,--version-script={script}"], check=True)
 
 
 if __name__ == "__main__":

@@ -15,6 +15,10 @@
 extern "C" {
 #endif
 
+/* What this library is, in three words: the release, "proved" or "unproved", and the sha-256 of the text that it was made of (crates.txt and
+ * what lies below crates/). It is good for ever. */
+const char *lapin_version(void);
+
 /* What became of a call. */
 enum {
     LAPIN_DONE = 0,           /* it was done */
