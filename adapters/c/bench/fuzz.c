@@ -18,7 +18,7 @@ static unsigned char *put(unsigned char *at, const void *bytes, size_t length) {
 
 /* A frame of a kind on a channel. */
 static unsigned char *frame(unsigned char *at, int kind, int channel, const void *payload, size_t length) {
-    unsigned char head[7] = {(unsigned char)kind, 0, (unsigned char)channel, length >> 24, length >> 16, length >> 8, length};
+    unsigned char head[7] = {(unsigned char)kind, 0, (unsigned char)channel, 0, 0, (unsigned char)(length >> 8), (unsigned char)length};
     return put(put(put(at, head, 7), payload, length), "\xce", 1);
 }
 

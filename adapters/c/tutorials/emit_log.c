@@ -7,6 +7,6 @@ int main(int count, char **words) {
     snprintf(name, sizeof name, "%s_logs", words[3]);
     need(c, lapin_ask(c, "call 1 confirm.select 0") &&
                 lapin_ask(c, "call 1 exchange.declare %s %s 0 0 0 0 0 {}", lapin_hex(exchange, name), lapin_hex(kind, words[3])));
-    printf(" [x] Sent %s: %s\n", words[4], OUTCOMES[lapin_publish_text(c, 1, name, words[4], words[5], "[]")]);
+    printf(" [x] Sent %s: %s\n", words[4], outcome_name(lapin_publish_text(c, 1, name, words[4], words[5], "[]")));
     lapin_disconnect(c);
 }

@@ -5,6 +5,6 @@ int main(int count, char **words) {
     lapin_connection *c = begin(count, words);
     char queue[512];
     need(c, lapin_ask(c, "call 1 confirm.select 0") && lapin_ask(c, "call 1 queue.declare %s 0 1 0 0 0 {}", lapin_hex(queue, "task_queue")));
-    printf(" [x] Sent %s: %s\n", words[3], OUTCOMES[lapin_publish_text(c, 1, "", "task_queue", words[3], "[delivery_mode=2]")]);
+    printf(" [x] Sent %s: %s\n", words[3], outcome_name(lapin_publish_text(c, 1, "", "task_queue", words[3], "[delivery_mode=2]")));
     lapin_disconnect(c);
 }

@@ -11,7 +11,7 @@ int main(int count, char **words) {
     uint64_t consumer = number(told);
     snprintf(token, sizeof token, "[correlation_id=x31,reply_to=%s]", queue);
     printf(" [x] Requesting fib(%s)\n", words[3]);
-    need(c, !lapin_publish(&c->session, 1, "", 0, "rpc_queue", 9, false, words[3], strlen(words[3]), token, strlen(token), &confirm));
+    need(c, lapin_publish_bytes(c, 1, "", "rpc_queue", false, words[3], strlen(words[3]), token, &confirm));
     lapin_delivered message;
     need(c, lapin_next(c, consumer, &message, 10000));
     printf(" [.] Got %.*s\n", (int)message.numbers.body, message.body);

@@ -32,7 +32,7 @@ int main(int count, char **words) {
         snprintf(token, sizeof token, "[correlation_id=%s]", lapin_hex(hex, correlation));
         snprintf(body, sizeof body, "%llu", (unsigned long long)fib(n));
         printf(" [.] fib(%d)\n", n);
-        need(c, !lapin_publish(&c->session, 1, "", 0, reply_to, strlen(reply_to), false, body, strlen(body), token, strlen(token), &confirm));
+        need(c, lapin_publish_bytes(c, 1, "", reply_to, false, body, strlen(body), token, &confirm));
         lapin_ack(&c->session, message.numbers.acker, false);
         need(c, lapin_flush(c));
     }
