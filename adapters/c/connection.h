@@ -145,6 +145,7 @@ static inline void lapin_move_here(lapin_connection *c) { c->thread = &errno; }
 /* The error of a call on a channel, as a line tells it, with the broker's words. */
 static inline bool lapin_explain(lapin_connection *c, uint16_t channel, const char *line) {
     char words[400], told[200];
+    if (c->is_lost && strstr(line, "ConnectionLost")) return lapin_lose(c, c->lost);
     snprintf(told, sizeof told, "%.*s", (int)strcspn(line, "\n"), line);
     const char *last = lapin_words(c, channel, told, words, sizeof words);
     return lapin_fails(c, "%s%s", strncmp(told, "error ", 6) ? told : told + 6, last);
@@ -159,7 +160,7 @@ static inline bool lapin_in_order(lapin_connection *c, uint64_t until) {
 /* Has the line of a call done, and waits for its answer. */
 static inline const char *lapin_answered(lapin_connection *c, const char *call, uint64_t until) {
     char line[48];
-    if (!lapin_in_order(c, until)) return NULL;
+    if (!lapin_in_order(c, until)) return lapin_fails(c, "%s; the call was not made", c->error), (const char *)NULL;
     uint16_t channel = strncmp(call, "call ", 5) ? 0 : (uint16_t)strtoul(call + 5, NULL, 10);
     const char *told = lapin_say(c, call);
     if (!told) return NULL;
@@ -182,7 +183,7 @@ static inline const char *lapin_answered(lapin_connection *c, const char *call, 
 }
 
 /* Makes a call, and waits for its answer: its record's line, good until the next call; NULL where the call was refused or failed, or where no
- * answer came within the timeout, and then nobody is told it. What was made before leaves before it. */
+ * answer came within the timeout: then nobody is told it, or the call was not made, as lapin_error says. What was made before leaves before. */
 #if defined(__GNUC__)
 __attribute__((format(printf, 2, 3)))
 #endif

@@ -75,10 +75,12 @@ static inline int lapin_left(uint64_t until) {
 __attribute__((format(printf, 2, 3)))
 #endif
 static inline bool lapin_fails(lapin_connection *c, const char *words, ...) {
+    char text[sizeof c->error]; /* the words may have the error that is there */
     va_list given;
     va_start(given, words);
-    vsnprintf(c->error, sizeof c->error, words, given);
+    vsnprintf(text, sizeof text, words, given);
     va_end(given);
+    strcpy(c->error, text);
     for (char *at = c->error; *at; at++)
         if ((unsigned char)*at < ' ' || *at == 127) *at = ' '; /* a broker's text moves no terminal */
     return false;
@@ -110,15 +112,6 @@ static inline char *lapin_told(lapin_connection *c) {
     return c->answer;
 }
 
-/* The record's line of a line; NULL where there is none. */
-static inline char *lapin_say(lapin_connection *c, const char *line) {
-    uint32_t status = lapin_line(&c->session, line, strlen(line));
-    if (status == LAPIN_DONE) return lapin_told(c);
-    if (status == LAPIN_NOT_IN_GRAMMAR) lapin_fails(c, "not in the grammar: %.200s", line);
-    else lapin_fails(c, status == LAPIN_NO_MEMORY ? "no memory" : "ConnectionLost: the session takes nothing further");
-    return NULL;
-}
-
 /* What the broker said as it closed a channel, or by channel 0 the connection, where that is what this line tells; else nothing. */
 static inline const char *lapin_words(lapin_connection *c, uint16_t channel, const char *line, char *room, size_t length) {
     lapin_close_reason reason;
@@ -145,6 +138,15 @@ static inline bool lapin_lose(lapin_connection *c, const char *why) {
         lapin_line(&c->session, "lost", 4);
     }
     return lapin_fails(c, "ConnectionLost: %s", c->lost);
+}
+
+/* The record's line of a line; NULL where there is none. */
+static inline char *lapin_say(lapin_connection *c, const char *line) {
+    uint32_t status = lapin_line(&c->session, line, strlen(line));
+    if (status == LAPIN_DONE) return lapin_told(c);
+    if (status == LAPIN_NOT_IN_GRAMMAR) lapin_fails(c, "not in the grammar: %.200s", line);
+    else lapin_lose(c, status == LAPIN_NO_MEMORY ? "no memory for a line" : "the session takes nothing further");
+    return NULL;
 }
 
 static inline bool lapin_is_alive(lapin_connection *c) {

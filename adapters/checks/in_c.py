@@ -1,15 +1,28 @@
-"""The connection for C, compiled here, against the scripted broker."""
+"""The connection for C, compiled here, against the scripted broker. `in_c_library` has the checks of the library alone."""
+import struct
 import subprocess
+import time
 
 import scripted
-from checks.common import ADAPTERS, address, compiled, confirms, said, test
+from checks import in_c_library  # noqa: F401  (its tests count here)
+from checks.common import ADAPTERS, address, confirms, rabbit, said, test
+from checks.in_c_library import program
 from scripted import Broker, HungUp
+
+
+def tutorial(name):
+    return program(name, f"{ADAPTERS}/c/tutorials/{name}.c")
+
+
+def fails_by(words, status=1):
+    """What a program says that fails."""
+    done = subprocess.run([str(it) for it in words], stdout=subprocess.PIPE, stderr=subprocess.STDOUT, text=True, timeout=120, errors="replace")
+    assert done.returncode == status, f"status {done.returncode}: {done.stdout[-500:]}"
+    return done.stdout
 
 
 @test
 def c_publishes_with_a_confirm():
-    program = compiled("send", f"{ADAPTERS}/c/tutorials/send.c")
-
     def script(peer):
         confirms(peer, frame_max=8192)
         peer.declare(1, "hello")
@@ -17,13 +30,11 @@ def c_publishes_with_a_confirm():
         peer.send(scripted.ack(1, 1), pieces=1)
         peer.close()
     with Broker(script) as url:
-        assert "answers ack" in said(program, *address(url))
+        assert "answers ack" in said(tutorial("send"), *address(url))
 
 
 @test
 def c_consumes_in_pieces():
-    program = compiled("receive", f"{ADAPTERS}/c/tutorials/receive.c")
-
     def script(peer):
         peer.open()
         peer.channel(1)
@@ -34,13 +45,12 @@ def c_consumes_in_pieces():
         peer.expect(1, 60, 80)
         peer.close()
     with Broker(script) as url:
-        told = said(program, *address(url), 2)
+        told = said(tutorial("receive"), *address(url), 2)
         assert "Received first" in told and "Received second" in told
 
 
 @test
 def c_tells_a_cut_connection_and_garbage():
-    program = compiled("send", f"{ADAPTERS}/c/tutorials/send.c")
     for last in (b"", b"\xff" * 32, scripted.channel_close(1, 404)):
         def script(peer, last=last):
             confirms(peer)
@@ -52,5 +62,181 @@ def c_tells_a_cut_connection_and_garbage():
                 except HungUp:
                     pass
         with Broker(script) as url:
-            done = subprocess.run([program, *address(url)], stdout=subprocess.PIPE, stderr=subprocess.PIPE, text=True, timeout=120)
-            assert done.returncode == 1 and ("ProtocolError 404" if last[:1] == b"\x01" else "ConnectionLost") in done.stderr, done.stderr
+            told = fails_by([tutorial("send"), *address(url)])
+            assert ("ProtocolError 404" if last[:1] == b"\x01" else "ConnectionLost") in told, told
+
+
+def no_route(key, body, properties=b"\x00\x80\x011"):
+    """A message that comes back, with the message_id 1."""
+    head = struct.pack(">H", 312) + scripted.short_text("NO_ROUTE") + scripted.short_text("") + scripted.short_text(key)
+    return scripted.method(1, 60, 50, head) + scripted.content(1, body, properties)
+
+
+@test
+def c_gives_what_came_back_to_its_own_publish():
+    def script(peer):
+        """Two publishes of four come back, and one settlement covers all; the other of the two is in front of an equal one that is routed later."""
+        confirms(peer)
+        peer.declare(1, "returned-in-c")
+        for _ in range(2):
+            sent = [peer.expect_publish(1) for _ in range(6)]
+            lost = [(key, body) for key, body in sent if key == "nobody"]
+            assert len(lost) == 3, sent
+            peer.send(b"".join(no_route(*it) for it in lost[:2]), pieces=7)
+            base = int(sent[0][1])
+            peer.send(scripted.ack(1, base + 4, multiple=1) + no_route(*lost[2]) + scripted.ack(1, base + 6) + scripted.ack(1, base + 5))
+        peer.close()
+    for order in (0, 1):
+        with Broker(script) as url:
+            told = said(program("returned"), *address(url), 12, 6, 2, order)
+            assert told.startswith("6 acks, 6 came back, 0 wrong"), told
+
+
+@rabbit
+def c_gives_what_rabbitmq_returns_to_its_own_publish(url):
+    for window, each, order in ((1000, 2, 0), (10000, 10, 0), (1000, 3, 1), (1, 2, 0)):
+        count = 20000 if window > 1 else 500
+        told = said(program("returned"), *address(url), count, window, each, order)
+        assert f" {count // each} came back, 0 wrong" in told, told
+
+
+@test
+def c_loses_nothing_to_signals():
+    def script(peer):
+        peer.open(pieces=1, frame_max=131072)
+        peer.channel(1, confirms=True)
+        time.sleep(1)
+        for number in range(80):
+            assert peer.expect_publish(1) == ("signals", bytes([97 + number % 26]) * 100000), f"publish {number} is another one"
+        peer.send(scripted.ack(1, 80, multiple=1), pieces=1)
+        peer.close()
+    with Broker(script) as url:
+        assert "over a hundred signals" in said(program("signals"), *address(url))
+
+
+@test
+def c_hears_while_it_sends():
+    def script(peer):
+        peer.open(frame_max=131072)
+        peer.channel(1)
+        peer.consume(1, "t")
+        for tag in range(1, 25):
+            peer.send(scripted.deliver(1, "t", tag, b"d" * (1 << 20)))
+        for _ in range(24):
+            assert peer.expect_publish(1)[0] == "q"
+        peer.close()
+    with Broker(script) as url:
+        said(program("crossing"), *address(url))
+
+
+@test
+def c_keeps_its_times_where_the_broker_does_not_read():
+    count = []
+
+    def script(peer):
+        peer.open(frame_max=131072, heartbeat=2)
+        peer.channel(1, confirms=True)
+        for _ in range(10):
+            time.sleep(0.4)
+            peer.send(scripted.frame(8, 0, b""))
+        while True:
+            kind, _, payload = peer.frame()
+            if payload[:4] == b"\x00\x3c\x00\x28":
+                count.append(1)
+                peer.send(scripted.ack(1, len(count)))
+            elif kind == 1 and payload[:4] == b"\x00\x0a\x00\x32":
+                peer.send(scripted.method(0, 10, 51))
+                return
+    with Broker(script) as url:
+        told = said(program("unread"), *address(url), 4000)
+        taken, acks = int(told.split()[0]), int(told.split()[2])
+        assert taken == acks == len(count) and 10 < taken < 4000, (told, len(count))
+
+
+@test
+def c_loses_a_broker_that_is_silent_and_does_not_read():
+    def script(peer):
+        peer.open(frame_max=131072, heartbeat=1)
+        peer.channel(1, confirms=True)
+        time.sleep(6)
+    start = time.monotonic()
+    with Broker(script) as url:
+        told = said(program("unread"), *address(url), 4000)
+        assert "0 acks; ConnectionLost" in told and time.monotonic() - start < 20, told
+
+
+@test
+def c_is_used_by_one_thread_of_one_process():
+    def script(peer):
+        confirms(peer)
+        for number, body in enumerate((b"first", b"moved", b"last"), 1):
+            assert peer.expect_publish(1) == ("q", body)
+            peer.send(scripted.ack(1, number))
+        peer.close()
+    with Broker(script) as url:
+        said(program("elsewhere", more=["-pthread"]), *address(url))
+
+
+@test
+def c_says_that_a_jump_lost_the_connection():
+    def script(peer):
+        peer.open()
+        peer.channel(1)
+        try:
+            peer.frame()
+            raise AssertionError("bytes left after the jump")
+        except HungUp:
+            pass
+    with Broker(script) as url:
+        told = said(program("jump"), *address(url))
+        assert "ConnectionLost" in told and "yes, open" in told, told
+
+
+@test
+def c_shows_the_brokers_last_words():
+    text = b"NOT_FOUND - no queue '" + b"a" * 230 + b"'"
+
+    def closes(code, text, klass, number):
+        return struct.pack(">H", code) + scripted.short_text(text) + struct.pack(">HH", klass, number)
+
+    def script(peer):
+        peer.open(frame_max=8192)
+        peer.channel(1)
+        assert len(peer.expect(1, 50, 20)) > 3000
+        peer.send(scripted.method(1, 50, 21))
+        peer.expect(1, 85, 10)
+        peer.send(scripted.method(1, 85, 11))
+        peer.expect_publish(1)
+        peer.expect(1, 50, 10)
+        peer.send(scripted.method(1, 20, 40, closes(404, text, 50, 10)))
+        peer.expect(1, 20, 41)
+        peer.channel(2)
+        peer.send(scripted.method(0, 10, 50, closes(320, b"CONNECTION_FORCED - bye \x1b[2J", 0, 0)))
+        peer.expect(0, 10, 51)
+    with Broker(script) as url:
+        told = subprocess.run([program("last_words"), *address(url)], stdout=subprocess.PIPE, timeout=120, check=True).stdout
+        lines = dict(line.split(b": ", 1) for line in told.splitlines())
+        for name in (b"call", b"publish", b"refused", b"refused publish"):
+            assert b"404 NOT_FOUND - no queue 'aaa" in lines[name] and b"a' (class 50, method 10)" in lines[name], told
+        for name in (b"connection", b"later"):
+            assert b"320 CONNECTION_FORCED - bye  [2J" in lines[name], told
+
+
+@test
+def c_ends_an_opening_in_its_time():
+    drips = ((b"\1\0\0\xff\xff\xff\xff", b"x", 0.004), (b"\1\0\0\0\1\xff\0", b"x", 0.004), (b"", b"\x08\0\0\0\0\0\0\xce", 0.004),
+             (b"\1\0\0\xff\xff\xff\xff", b"x" * 65536, 0), (b"", b"", 0.1))
+    for head, piece, pause in drips:
+        def script(peer, head=head, piece=piece, pause=pause):
+            until = time.monotonic() + 10
+            try:
+                peer.send(head)
+                while time.monotonic() < until:
+                    peer.send(piece)
+                    time.sleep(pause)
+                    if not piece and not peer.sock.recv(64):
+                        break
+            except OSError:
+                pass
+        with Broker(script) as url:
+            assert said(program("opening"), *address(url)).startswith("not open")
