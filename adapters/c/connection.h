@@ -119,7 +119,7 @@ static inline bool lapin_connect_within(lapin_connection *c, const char *host, c
     clock_gettime(CLOCK_REALTIME, &now);
     c->publications.keys[0] = (uint64_t)now.tv_nsec * 0x9e3779b97f4a7c15u ^ (uint64_t)(uintptr_t)c;
     c->publications.keys[1] = (uint64_t)now.tv_sec << 32 ^ (uint64_t)(uintptr_t)&lapin_version ^ (uint64_t)(uintptr_t)&now;
-    bool is_open = (lapin_fit(&c->room, &c->room_length, 1 << 16) && lapin_fit(&c->answer, &c->answer_length, 1 << 12)) || lapin_fails(c, "no memory");
+    bool is_open = lapin_fit(&c->room, &c->room_length, 1 << 16) || lapin_fails(c, "no memory");
     is_open = is_open && lapin_dial(c, host, port, until) && lapin_greet(c, user, password, vhost, until);
     if (!is_open) {
         c->is_lost = true;
@@ -317,8 +317,8 @@ static inline uint32_t lapin_tells(lapin_connection *c, uint64_t confirm) {
  * leave first, within the timeout. Where it answers false nothing was published. The properties are in the text of lines, "[]" for none. */
 static inline bool lapin_publish_bytes(lapin_connection *c, uint16_t channel, const char *exchange, const char *routing_key, bool mandatory,
                                        const void *body, size_t length, const char *properties, uint64_t *confirm) {
-    static const char *const WHY[] = {"", "", "not in the grammar: a name of more than 255 bytes, or properties", "no memory", "the session takes nothing further",
-                                      "", "its properties are longer than a frame may be", "there is no connection"};
+    static const char *const WHY[] = {"", "", "not in the grammar: a name of more than 255 bytes, or properties", "no memory",
+                                      "the session takes nothing further", "", "its properties are longer than a frame may be", "no connection"};
     int before = errno;
     lapin_publications *p = &c->publications;
     lapin_kept *kept = NULL;

@@ -160,7 +160,8 @@ static inline bool lapin_is_alive(lapin_connection *c) {
 static inline char *lapin_more_leaving(lapin_connection *c, size_t length) {
     if (c->leaving_from) memmove(c->leaving, c->leaving + c->leaving_from, c->leaving_to - c->leaving_from);
     c->leaving_to -= c->leaving_from, c->leaving_from = 0;
-    return lapin_fit(&c->leaving, &c->leaving_length, c->leaving_to + length) ? c->leaving + c->leaving_to : (lapin_fails(c, "no memory"), (char *)NULL);
+    if (lapin_fit(&c->leaving, &c->leaving_length, c->leaving_to + length)) return c->leaving + c->leaving_to;
+    return lapin_fails(c, "no memory"), (char *)NULL;
 }
 
 /* Takes what may leave out of the session, until some 64 KiB wait. */
@@ -168,7 +169,7 @@ static inline bool lapin_collect(lapin_connection *c) {
     while (c->leaving_to - c->leaving_from < LAPIN_ENOUGH) {
         uint32_t status = lapin_send(&c->session, true, LAPIN_ENOUGH);
         if (status == LAPIN_NO_MEMORY) return lapin_fails(c, "no memory");
-        if (status) return lapin_lose(c, status == LAPIN_TOO_LONG ? "a frame was longer than a frame may be" : "the session takes nothing further");
+        if (status) return lapin_lose(c, status == LAPIN_TOO_LONG ? "a frame was too long" : "the session takes nothing further");
         size_t length = lapin_leaving_length(&c->session);
         if (!length) {
             c->waiting = 0;

@@ -1,4 +1,6 @@
 """The connection for C, compiled here, against the scripted broker. `in_c_library` has the checks of the library alone."""
+import os
+import shutil
 import struct
 import subprocess
 import time
@@ -6,7 +8,7 @@ import time
 import scripted
 from checks import in_c_library  # noqa: F401  (its tests count here)
 from checks.common import ADAPTERS, address, confirms, rabbit, said, test
-from checks.in_c_library import program
+from checks.in_c_library import by, c_answers_nothing_and_extremes, program
 from scripted import Broker, HungUp
 
 
@@ -240,3 +242,32 @@ def c_ends_an_opening_in_its_time():
                 pass
         with Broker(script) as url:
             assert said(program("opening"), *address(url)).startswith("not open")
+
+
+# What the instruments look at: all but those that measure time. (A jump leaves what it was about, and is no fault of theirs.)
+WATCHED = [c_publishes_with_a_confirm, c_consumes_in_pieces, c_tells_a_cut_connection_and_garbage, c_gives_what_came_back_to_its_own_publish,
+           c_is_used_by_one_thread_of_one_process, c_shows_the_brokers_last_words, c_answers_nothing_and_extremes]
+
+
+@test
+def c_is_clean_by_address_and_undefined_behaviour():
+    flags = ["-fsanitize=address,undefined", "-fno-sanitize-recover=all"]
+    source = f"{in_c_library.BIN}/clean.c"
+    with open(source, "w", encoding="utf-8") as file:
+        file.write("int main(void) { return 0; }\n")
+    if subprocess.run([os.environ.get("CC", "cc"), *flags, "-o", f"{source}.out", source], stderr=subprocess.DEVNULL, check=False).returncode:
+        print("address and undefined behaviour: not looked at, since the compiler's libraries for it aren't here")
+        return
+    with by(flags):
+        for it in (*WATCHED, c_loses_nothing_to_signals, c_hears_while_it_sends):
+            it()
+
+
+@test
+def c_is_clean_under_valgrind():
+    if not shutil.which("valgrind"):
+        print("valgrind: not looked at, since it isn't here")
+        return
+    with by(before=["valgrind", "-q", "--error-exitcode=9", "--leak-check=full", "--errors-for-leak-kinds=definite", "--show-leak-kinds=definite"]):
+        for it in WATCHED:
+            it()

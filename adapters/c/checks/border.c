@@ -30,7 +30,7 @@ static void nothing(void) {
     lapin_message m;
     lapin_close_reason r;
     char room[64];
-    IS(lapin_open(&h, 0xffffffffu), LAPIN_DONE), IS(lapin_line(&h, "call 1 channel.open", 19), LAPIN_DONE), IS(lapin_send(&h, true, 1 << 16), LAPIN_DONE);
+    IS(lapin_open(&h, UINT32_MAX), LAPIN_DONE), IS(lapin_line(&h, "call 1 channel.open", 19), LAPIN_DONE), IS(lapin_send(&h, true, 9), LAPIN_DONE);
     IS(lapin_leaving(&h, room, lapin_leaving_length(&h) - 1), 0), IS(lapin_leaving(&h, room, sizeof room), 13);
     IS(lapin_receive(&h, "\x01\0\x01\0\0\0\x08\0\x14\0\x0b\0\0\0\0\xce", 16), LAPIN_DONE), IS(lapin_receive(&h, NULL, 0), LAPIN_DONE);
     IS(lapin_line(&h, NULL, 0), LAPIN_NOT_IN_GRAMMAR), IS(lapin_line(&h, "next 1", 6), LAPIN_NOT_IN_GRAMMAR);
@@ -58,6 +58,7 @@ int main(void) {
     IS(tune(&odd, "\x07\xff\0\2\0\0\0\x3c", &code) == LAPIN_DONE, false);
     IS(tune(&all, "\0\0\0\0\0\0\xff\xff", &code), LAPIN_DONE), IS(all.frame_max, 131072), IS(all.channel_max, 2047), IS(all.heartbeat, 60);
     IS(tune(&less, "\0\0\0\0\x0f\xff\xff\xff", &code), LAPIN_REFUSED);
-    IS(lapin_beat(&fell, 0, &wait), LAPIN_WAIT), IS(lapin_beat(&far, UINT64_MAX, &wait), LAPIN_SILENT), IS(lapin_beat(&before, 4000, &wait), LAPIN_WAIT);
+    IS(lapin_beat(&fell, 0, &wait), LAPIN_WAIT), IS(lapin_beat(&far, UINT64_MAX, &wait), LAPIN_SILENT);
+    IS(lapin_beat(&before, 4000, &wait), LAPIN_WAIT);
     return wrong > 0;
 }

@@ -45,10 +45,14 @@ static void turn(const char *way, uint64_t k) {
         METHOD(1, "\0\x3c\0\x3c\1t\0\0\0\0\0\0\0\0\0\0\1q", 6, k), CONTENT();
         good(!lapin_delivery(&h, 1, &m) && m.delivery_tag == k && (*way == 'u' || !lapin_ack(&h, m.acker, false)), "delivery"), leave();
     } else if (!strcmp(way, "get")) {
-        say("call 1 basic.get x71 1", 0), leave(), METHOD(1, "\0\x3c\0\x47\0\0\0\0\0\0\0\0\0\0\1q\0\0\0\0", 4, k), CONTENT(), say("ticket %llu", ++ticket);
+        say("call 1 basic.get x71 1", 0), leave(), METHOD(1, "\0\x3c\0\x47\0\0\0\0\0\0\0\0\0\0\1q\0\0\0\0", 4, k);
+        CONTENT(), say("ticket %llu", ++ticket);
     } else if (!strcmp(way, "call")) CALL(1, "call 1 queue.declare x71 0 0 0 0 0 {}", "\0\x32\0\x0b\1q\0\0\0\0\0\0\0\0");
     else if (!strcmp(way, "channel")) CALL(2, "call 2 channel.open", "\0\x14\0\x0b\0\0\0\0"), CALL(2, "call 2 channel.close 200 x", "\0\x14\0\x29");
-    else CALL(1, "call 1 basic.consume x71 x75 0 0 0 0 {}", "\0\x3c\0\x15\1u"), CALL(1, "call 1 basic.cancel x75 0", "\0\x3c\0\x1f\1u"), say("consumer %llu", k + 1);
+    else {
+        CALL(1, "call 1 basic.consume x71 x75 0 0 0 0 {}", "\0\x3c\0\x15\1u"), CALL(1, "call 1 basic.cancel x75 0", "\0\x3c\0\x1f\1u");
+        say("consumer %llu", k + 1);
+    }
 }
 
 int main(int count, char **words) {
