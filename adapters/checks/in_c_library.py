@@ -107,7 +107,7 @@ def c_withstands_a_minute_of_fuzz():
         return
     corpus = f"{BIN}/corpus"
     shutil.unpack_archive(f"{CHECKS}/corpus.tgz", corpus)
-    told = said(guided, corpus, f"-dict={CHECKS}/amqp.dict", "-max_total_time=60", "-timeout=20", "-rss_limit_mb=2048", "-print_final_stats=1", "-max_len=8192")
+    told = said(guided, corpus, f"-dict={CHECKS}/amqp.dict", "-max_total_time=60", "-timeout=20", "-rss_limit_mb=2048", "-print_final_stats=1", "-max_len=8192", timeout=400)
     print("fuzz: " + ", ".join(line.split("::")[1] for line in told.splitlines() if line.startswith(("stat::number_of", "stat::new", "stat::peak"))))
 
 
