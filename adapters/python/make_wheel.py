@@ -15,7 +15,7 @@ with open(f"{HERE}/lapin/__init__.py", encoding="utf-8") as file:
     VERSION = re.search(r'__version__ = "(.*)"', file.read())[1]
 NAME = f"lapin_channels-{VERSION}"
 PLATFORM = re.sub(r"[-.]", "_", sysconfig.get_platform())
-FILES = ["__init__.py", "_calls.py", "_library.py", "_text.py", "_wire.py", "aio.py", "aio.pyi", "connection.py", "errors.py", "liblapin.so", "py.typed"]
+FILES = ["__init__.py", "_asks.py", "_confirms.py", "_core.py", "_library.py", "_text.py", "_urls.py", "_values.py", "_wire.py", "aio.py", "connection.py", "errors.py", "liblapin.so", "py.typed"]
 
 
 def metadata():

@@ -2,11 +2,12 @@
 from __future__ import annotations
 
 import ctypes
-import functools
 import os
-from typing import Optional, Tuple
+import threading
+import weakref
+from typing import Any, Optional, Tuple, Union
 
-from .errors import Refused
+from .errors import CloseReason, Refused
 
 DONE, REFUSED, NOT_IN_GRAMMAR, NO_MEMORY, ENDED, MALFORMED, TOO_LONG, CLOSED, PENDING, GONE = range(10)
 
@@ -28,12 +29,16 @@ class _Message(ctypes.Structure):
                 ("properties", ctypes.c_size_t), ("body", ctypes.c_size_t), ("redelivered", ctypes.c_bool)]
 
 
-def _load():
+class _Reason(ctypes.Structure):
+    _fields_ = [("code", ctypes.c_uint16), ("class_id", ctypes.c_uint16), ("method_id", ctypes.c_uint16)]
+
+
+def _load() -> Any:
     path = os.environ.get("LAPIN_LIBRARY") or os.path.join(os.path.dirname(os.path.abspath(__file__)), "liblapin.so")
     library = ctypes.PyDLL(path)  # the interpreter's lock is kept: two threads are never behind one handle
     handle, size, text, code = ctypes.POINTER(_Handle), ctypes.c_size_t, ctypes.c_char_p, ctypes.c_uint32
     number, flag, short = ctypes.c_uint64, ctypes.c_bool, ctypes.c_uint16
-    for name, result, given in (
+    calls: Tuple[Tuple[str, Any, Any], ...] = (
         ("open", code, [handle, ctypes.c_uint32]),
         ("close", None, [handle]),
         ("line", code, [handle, text, size]),
@@ -51,17 +56,23 @@ def _load():
         ("leaving", size, [handle, ctypes.c_void_p, size]),
         ("receive", code, [handle, text, size]),
         ("is_blocked", flag, [handle]),
+        ("last_close", code, [handle, short, ctypes.POINTER(_Reason)]),
         ("shake", code, [ctypes.POINTER(_Opening), text, size, text, size, text, size, text, size, ctypes.c_void_p, size, ctypes.POINTER(size),
                          ctypes.POINTER(short)]),
         ("beat", code, [ctypes.POINTER(_Clock), number, ctypes.POINTER(number)]),
-    ):
-        function = getattr(library, f"lapin_{name}")
+    )
+    for name, result, given in calls:
+        if name == "last_close" and not hasattr(library, "lapin_last_close"):  # TODO
+            continue
+        function: Any = getattr(library, f"lapin_{name}")
         function.restype, function.argtypes = result, given
     return library
 
 
 _library = _load()
 _publish = _library.lapin_publish
+_outcome = _library.lapin_outcome
+_here = threading.get_ident
 
 
 class Opening:
@@ -75,11 +86,12 @@ class Opening:
 
     @property
     def is_open(self) -> bool:
-        return self._state.stage == 3
+        return self.stage == 3
 
     @property
     def stage(self) -> int:
-        return self._state.stage
+        stage: int = self._state.stage
+        return stage
 
     @property
     def limits(self) -> Tuple[int, int, int]:
@@ -111,27 +123,54 @@ class Clock:
         return ("wait", "send", "silent", "never")[found], self._wait.value / 1000 if found == 0 else None
 
 
+#: The sessions of this process, which a child that is forked doesn't use.
+_sessions: weakref.WeakSet[Session] = weakref.WeakSet()
+
+
+def _forked() -> None:
+    for session in _sessions:
+        session.is_forked, session._thread = True, 0
+
+
+os.register_at_fork(after_in_child=_forked)
+
+
 class Session:
-    """One connection's session. Used by one thread at a time."""
+    """One connection's session. Used by the thread that made it, and by no other one."""
 
     def __init__(self, frame_max: int):
         self._handle = _Handle(None, False)
         self._by = ctypes.byref(self._handle)
         self._room = ctypes.create_string_buffer(1 << 16)
         self._size = len(self._room)
-        self._confirm, self._message = ctypes.c_uint64(), _Message()
-        self._confirm_at, self._message_at = ctypes.byref(self._confirm), ctypes.byref(self._message)
-        #: By the number of a confirm: 1 an ack, 2 a nack, 3 none was asked for, 4 an error, whose words `refusal` has, 5 one for whose words
-        #: there was no memory; 0 where there is none yet, or where the line of the poll tells more.
-        self.outcome = functools.partial(_library.lapin_outcome, self._by)
+        self._confirm, self._message, self._reason = ctypes.c_uint64(), _Message(), _Reason()
+        self._confirm_at, self._message_at, self._reason_at = (ctypes.byref(it) for it in (self._confirm, self._message, self._reason))
+        self._thread, self.is_forked = _here(), False
+        _sessions.add(self)
         self._check(_library.lapin_open(self._by, frame_max))
 
     def close(self) -> None:
         _library.lapin_close(self._by)
 
-    def __del__(self, close=_library.lapin_close) -> None:
+    def __del__(self, close: Any = _library.lapin_close) -> None:
         if hasattr(self, "_by"):
             close(self._by)
+
+    def elsewhere(self) -> RuntimeError:
+        """What a use from another thread or process is told."""
+        if self.is_forked:
+            return RuntimeError("a connection isn't used by a process that was forked from its own: connect in the child")
+        return RuntimeError("a connection is used by the thread that made it; give each thread its own, or call connection.move_here()")
+
+    def move_here(self) -> None:
+        if self.is_forked:
+            raise self.elsewhere()
+        self._thread = _here()
+
+    def check_thread(self) -> None:
+        """Raises an error where another thread or process is at work."""
+        if _here() != self._thread:
+            raise self.elsewhere()
 
     def _check(self, status: int) -> None:
         if status == REFUSED:
@@ -143,9 +182,9 @@ class Session:
         if status == CLOSED:
             raise Refused("the connection is closed")
         if status != DONE:
-            raise ValueError("a text is longer than 255 bytes, or not in the grammar" if status == NOT_IN_GRAMMAR else f"status {status} of the session")
+            raise ValueError("not in the grammar" if status == NOT_IN_GRAMMAR else f"status {status} of the session")
 
-    def _take(self, length: int, function) -> bytes:
+    def _take(self, length: int, function: Any) -> bytes:
         if length > self._size:
             self._room = ctypes.create_string_buffer(2 * length)
             self._size = len(self._room)
@@ -155,10 +194,12 @@ class Session:
         return self._take(_library.lapin_answer_length(self._by), _library.lapin_answer)
 
     def _line(self) -> str:
-        return self._answer().decode().rstrip("\n")
+        return self._answer().decode(errors="replace").rstrip("\n")
 
     def line(self, line: str) -> str:
         """The record's line of a line of docs/FORMAT.md. A refusal is raised."""
+        if _here() != self._thread:
+            raise self.elsewhere()
         given = line.encode()
         self._check(_library.lapin_line(self._by, given, len(given)))
         answer = self._line()
@@ -168,11 +209,26 @@ class Session:
 
     def publish(self, channel: int, exchange: bytes, routing_key: bytes, body: bytes, properties: bytes = b"[]", mandatory: bool = False) -> int:
         """The number of the confirm of a publish."""
+        if _here() != self._thread:
+            raise self.elsewhere()
         status = _publish(self._by, channel, exchange, len(exchange), routing_key, len(routing_key), mandatory, body, len(body),
-                                        properties, len(properties), self._confirm_at)
+                          properties, len(properties), self._confirm_at)
         if status:
             self._check(status)
         return self._confirm.value
+
+    @property
+    def last_confirm(self) -> int:
+        """The number of the last publish that was accepted."""
+        return self._confirm.value
+
+    def outcome(self, confirm: int) -> int:
+        """Of a confirm, and given once: 1 an ack, 2 a nack, 3 none was asked for, 4 an error, whose words `refusal` has, 5 one for whose words
+        there was no memory; 0 where there is none yet, or where the line of the poll tells more."""
+        if _here() != self._thread:
+            raise self.elsewhere()
+        found: int = _outcome(self._by, confirm)
+        return found
 
     def refusal(self) -> str:
         """The words of the last error or refusal."""
@@ -180,11 +236,14 @@ class Session:
 
     def forget(self, confirm: int) -> None:
         """The confirm will not be asked for any more."""
+        self.check_thread()
         _library.lapin_forget(self._by, confirm)
 
-    def delivery(self, consumer: int):
+    def delivery(self, consumer: int) -> Union[None, str, Tuple[int, int, bool, str, str, bytes, bytes]]:
         """What a consumer was handed next: the numbers, the exchange, the routing key, the text of the properties and the body. None
         where there is nothing yet, and `end` at its end; an error that ended its channel is raised."""
+        if _here() != self._thread:
+            raise self.elsewhere()
         status = _library.lapin_delivery(self._by, consumer, self._message_at)
         if status == PENDING:
             return None
@@ -195,11 +254,13 @@ class Session:
         found, answer = self._message, self._answer()
         key = found.exchange + found.routing_key
         body = key + found.properties
-        return (found.delivery_tag, found.acker, found.redelivered, answer[:found.exchange].decode(), answer[found.exchange:key].decode(),
-                answer[key:body], answer[body:])
+        return (found.delivery_tag, found.acker, found.redelivered, answer[:found.exchange].decode(errors="replace"),
+                answer[found.exchange:key].decode(errors="replace"), answer[key:body], answer[body:])
 
     def settle(self, call: str, acker: int, *marks: bool) -> bool:
         """Calls an acker. Whether the call is sent: not where it was used before, or its channel has ended."""
+        if _here() != self._thread:
+            raise self.elsewhere()
         status = getattr(_library, "lapin_" + call)(self._by, acker, *marks)
         if status == GONE:
             return False
@@ -208,6 +269,8 @@ class Session:
 
     def send(self, flow: bool = True, enough: int = 1 << 17) -> bytes:
         """The bytes of the frames that may leave."""
+        if _here() != self._thread:
+            raise self.elsewhere()
         status = _library.lapin_send(self._by, flow, enough)
         if status:
             self._check(status)
@@ -216,6 +279,8 @@ class Session:
 
     def receive(self, data: bytes) -> Optional[str]:
         """Bytes of the broker. The words of a refusal, None where all was received; bytes that are no frame are a ValueError."""
+        if _here() != self._thread:
+            raise self.elsewhere()
         status = _library.lapin_receive(self._by, data, len(data))
         if status == DONE:
             return None
@@ -228,4 +293,12 @@ class Session:
 
     @property
     def is_blocked(self) -> bool:
-        return _library.lapin_is_blocked(self._by)
+        self.check_thread()
+        return bool(_library.lapin_is_blocked(self._by))
+
+    def last_close(self, channel: int) -> Optional[CloseReason]:
+        """Why the broker closed a channel last, or the connection, which is channel 0."""
+        self.check_thread()
+        if not hasattr(_library, "lapin_last_close") or _library.lapin_last_close(self._by, channel, self._reason_at) != DONE:
+            return None
+        return CloseReason(self._reason.code, self._reason.class_id, self._reason.method_id, self._answer().decode(errors="replace"))

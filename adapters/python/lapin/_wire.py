@@ -1,19 +1,27 @@
-"""The socket: bytes out and in, the opening of a connection, and heartbeats. What is said and when stands in the library."""
+"""The socket: octets out and in, the opening of a connection, and heartbeats. What is said and when stands in the library.
+
+What the session gave away is kept until the kernel took it. No call here waits but `Wire.wait` and the opening, each until its time is up.
+"""
 from __future__ import annotations
 
 import select
 import socket
 import ssl
 import time
-from typing import Optional
+from collections import deque
+from typing import Deque, Optional, Union
 
 from ._library import DONE, PENDING, REFUSED, Clock, Opening
+from ._urls import Target
 from .errors import ConnectionLost, OpeningFailed
 
 HEADER = b"AMQP\x00\x00\x09\x01"
 HEARTBEAT = b"\x08\x00\x00\x00\x00\x00\x00\xce"
 CAUSES = {540: "another version of the protocol", 403: "PLAIN isn't one of its mechanisms", 530: "its frames are too small",
           503: "an unexpected method", 501: "what came is no frame"}
+#: The socket has nothing to read, or no room to write.
+NOT_NOW = (BlockingIOError, ssl.SSLWantReadError, ssl.SSLWantWriteError)
+SILENT = "the broker was silent for two heartbeats"
 
 
 def now() -> int:
@@ -24,9 +32,8 @@ def now() -> int:
 class Greeter:
     """An opening that is fed: `outgoing` is to be sent, and what came behind the opening stays in `data`."""
 
-    def __init__(self, target):
-        self.opening = Opening(target.user.encode(), target.password.encode(), target.vhost.encode(), target.frame_max, target.channel_max,
-                               target.heartbeat)
+    def __init__(self, target: Target):
+        self.opening = Opening(target.user, target.password, target.vhost, target.frame_max, target.channel_max, target.heartbeat)
         self.outgoing, self.data = HEADER, b""
 
     def feed(self, data: bytes) -> bool:
@@ -52,55 +59,144 @@ class Greeter:
         return OpeningFailed(f"the broker hung up: {words}")
 
 
-class Wire:
-    """A socket of a connection that is open."""
+class _Opener:
+    """A socket that is opened within a time."""
 
-    def __init__(self, target, timeout: float):
-        deadline = time.monotonic() + timeout
+    def __init__(self, target: Target, timeout: Optional[float]):
+        self.target, self.until = target, None if timeout is None else time.monotonic() + timeout
+
+    def left(self) -> Optional[float]:
+        """The time that is left; an error where there is none."""
+        if self.until is None:
+            return None
+        left = self.until - time.monotonic()
+        if left <= 0:
+            raise OpeningFailed("the opening took too long")
+        return left
+
+    def connected(self) -> Union[socket.socket, ssl.SSLSocket]:
+        failed: Optional[OSError] = None
+        for family, kind, protocol, _, address in socket.getaddrinfo(self.target.host, self.target.port, type=socket.SOCK_STREAM):
+            sock = socket.socket(family, kind, protocol)
+            try:
+                sock.settimeout(self.left())
+                sock.connect(address)
+                sock.setsockopt(socket.IPPROTO_TCP, socket.TCP_NODELAY, 1)
+                sock.setblocking(False)
+                return sock if self.target.tls is None else self.secured(sock, self.target.tls)
+            except OSError as error:
+                sock.close()
+                failed = error
+            except BaseException:
+                sock.close()
+                raise
+        raise failed or OSError("its host has no address")
+
+    def secured(self, sock: socket.socket, context: ssl.SSLContext) -> ssl.SSLSocket:
+        secure = context.wrap_socket(sock, server_hostname=self.target.host, do_handshake_on_connect=False)
         try:
-            self.socket = socket.create_connection((target.host, target.port), timeout)
-            if target.tls:
-                self.socket = (ssl.create_default_context() if target.tls is True else target.tls).wrap_socket(self.socket, server_hostname=target.host)
-        except OSError as error:
-            raise OpeningFailed(f"no connection: {error}") from error
-        try:
-            self.socket.setsockopt(socket.IPPROTO_TCP, socket.TCP_NODELAY, 1)
-            self._open(Greeter(target), deadline)
+            while True:
+                try:
+                    secure.do_handshake()
+                    return secure
+                except ssl.SSLWantReadError:
+                    self.wait(secure, select.POLLIN)
+                except ssl.SSLWantWriteError:
+                    self.wait(secure, select.POLLOUT)
         except BaseException:
-            self.socket.close()
+            secure.close()
             raise
 
-    def _open(self, greeter: Greeter, deadline: float) -> None:
-        is_open = False
+    def wait(self, sock: socket.socket, events: int) -> None:
+        ready, left = select.poll(), self.left()
+        ready.register(sock, events)
+        ready.poll(None if left is None else left * 1000)
+        self.left()
+
+    def greet(self, sock: socket.socket) -> Greeter:
+        """The opening's frames, until the connection is open."""
+        greeter, is_open = Greeter(self.target), False
         while not is_open:
+            self.send(sock, greeter)
             try:
-                self.socket.sendall(greeter.outgoing)
-                greeter.outgoing = b""
-                self.socket.settimeout(max(0.01, deadline - time.monotonic()))
-                data = self.socket.recv(65536)
-            except OSError as error:
-                raise OpeningFailed(f"the opening broke off: {error}") from error
+                data = sock.recv(65536)
+            except NOT_NOW:
+                self.wait(sock, select.POLLIN)
+                continue
             if not data:
                 raise greeter.gone()
             try:
                 is_open = greeter.feed(data)
-            finally:
-                if greeter.outgoing and not is_open:
-                    try:
-                        self.socket.sendall(greeter.outgoing)
-                        greeter.outgoing = b""
-                    except OSError:
-                        pass
+            except OpeningFailed:  # what is answered to a close
+                self.send(sock, greeter)
+                raise
+            self.left()
+        return greeter
+
+    def send(self, sock: socket.socket, greeter: Greeter) -> None:
+        while greeter.outgoing:
+            try:
+                greeter.outgoing = greeter.outgoing[sock.send(greeter.outgoing):]
+            except NOT_NOW:
+                self.wait(sock, select.POLLOUT | select.POLLIN)
+
+
+class Wire:
+    """A socket of a connection that is open."""
+
+    def __init__(self, target: Target, timeout: Optional[float]):
+        opener = _Opener(target, timeout)
+        try:
+            self.socket = opener.connected()
+        except OSError as error:
+            raise OpeningFailed(f"no connection: {error}") from error
+        try:
+            greeter = opener.greet(self.socket)
+        except OSError as error:
+            self.socket.close()
+            raise OpeningFailed(f"the opening broke off: {error}") from error
+        except BaseException:
+            self.socket.close()
+            raise
         self.frame_max, self.channel_max, heartbeat = greeter.opening.limits
         self._clock, self._came = Clock(now(), heartbeat), greeter.data
-        # Whether bytes are on their way between the session and the socket: an exception that is no error of the socket left some behind.
-        self.is_between = False
-        self.socket.setblocking(False)
+        self._queue: Deque[memoryview] = deque()
+        #: How many octets wait for the kernel.
+        self.size = 0
+        self._poll, self._is_for_writing = select.poll(), False
+        self._poll.register(self.socket, select.POLLIN)
 
-    def _recv(self) -> bytes:
+    def give(self, data: bytes) -> None:
+        """Octets that are to be sent, behind those that wait."""
+        self._queue.append(memoryview(data))
+        self.size += len(data)
+
+    def push(self) -> None:
+        """Hands to the kernel what it takes now."""
+        queue = self._queue
+        while queue:
+            head = queue[0]
+            try:
+                count = self.socket.send(head)
+            except NOT_NOW:
+                return
+            except OSError as error:
+                raise ConnectionLost(str(error)) from error
+            if count == len(head):
+                queue.popleft()
+            else:
+                queue[0] = head[count:]
+            self.size -= count
+            self._clock.sent(now())
+
+    def pull(self) -> bytes:
+        """What came; b'' where nothing did."""
+        if self._came:
+            data, self._came = self._came, b""
+            return data
         try:
             data = self.socket.recv(1 << 16)
-        except (BlockingIOError, ssl.SSLWantReadError, ssl.SSLWantWriteError):
+        except NOT_NOW:
             return b""
         except OSError as error:
             raise ConnectionLost(str(error)) from error
@@ -109,54 +205,26 @@ class Wire:
         self._clock.heard(now())
         return data
 
-    def _ready(self, events: int, seconds: Optional[float]) -> int:
-        ready = select.poll()
-        ready.register(self.socket, events)
-        found = ready.poll(None if seconds is None else seconds * 1000)
-        return found[0][1] if found else 0
-
-    def send(self, data: bytes) -> None:
-        """Sends all of it, and takes what comes meanwhile, so that neither side waits for the other for ever."""
-        view = memoryview(data)
-        while view:
-            try:
-                view = view[self.socket.send(view):]
-                continue
-            except (BlockingIOError, ssl.SSLWantReadError, ssl.SSLWantWriteError):
-                pass
-            except OSError as error:
-                raise ConnectionLost(str(error)) from error
-            ready = self._ready(select.POLLIN | select.POLLOUT, 5)
-            if ready & ~select.POLLOUT:
-                self._came += self._recv()
-            elif not ready and self._clock.due(now())[0] == "silent":
-                raise ConnectionLost("the broker was silent for two heartbeats")
-        self._clock.sent(now())
-
-    def read(self, timeout: Optional[float]) -> bytes:
-        """What came within the time; b'' where nothing did. Heartbeats go out meanwhile."""
-        if self._came:
-            data, self._came = self._came, b""
-            return data
-        data = self._recv()
-        deadline = None if timeout is None else time.monotonic() + timeout
-        while not data:
-            due, wait = self._clock.due(now())
-            if due == "silent":
-                raise ConnectionLost("the broker was silent for two heartbeats")
-            if due == "send":
-                self.send(HEARTBEAT)
-                continue
-            left = None if deadline is None else deadline - time.monotonic()
-            if left is not None and left <= 0:
-                return b""
-            wait = left if wait is None else wait if left is None else min(wait, left)
-            self.is_between = False  # while one waits nothing is on its way: Ctrl-C leaves the connection as it was
-            is_ready = self._ready(select.POLLIN, wait)
-            self.is_between = True
-            if is_ready:
-                data = self._recv()
-        return data
+    def wait(self, until: Optional[float]) -> bool:
+        """Waits until there is something to push or to pull. False where the time is up; heartbeats are given meanwhile."""
+        due, pause = self._clock.due(now())
+        if due == "silent":
+            raise ConnectionLost(SILENT)
+        left = None if until is None else until - time.monotonic()
+        if left is not None and left <= 0:
+            return False
+        if due == "send" and not self._queue:
+            self.give(HEARTBEAT)
+            return True
+        if due == "send":  # what waits is a sign of life too, once the kernel takes it
+            pause = 1.0
+        if self._is_for_writing != bool(self._queue):
+            self._is_for_writing = not self._is_for_writing
+            self._poll.modify(self.socket, select.POLLIN | select.POLLOUT if self._is_for_writing else select.POLLIN)
+        wait = left if pause is None else pause if left is None else min(pause, left)
+        self._poll.poll(None if wait is None else wait * 1000 + 1)
+        return True
 
     def close(self) -> None:
+        self._queue.clear()
         self.socket.close()

@@ -1,0 +1,242 @@
+"""The publishes of a channel that have no outcome yet, and whose a message is that came back.
+
+The session gives a message that came back to the publish that is settled next (docs/RULES.md, "Settlements and returned messages"). RabbitMQ
+settles routed publishes by one ack behind the return of later ones, so that may be another one's. Here it goes to the mandatory publish that it
+equals in exchange, routing key, properties and body: the oldest of those that are open; equal ones are interchangeable. Each settlement that is
+seen in the octets of the broker has the session asked for the outcomes that it covers, and for no other one.
+"""
+from __future__ import annotations
+
+import re
+from hashlib import blake2b
+from itertools import takewhile
+from typing import Any, Dict, Iterable, List, NamedTuple, Optional, Tuple, Union
+
+from ._library import Session, _here, _outcome
+from ._values import BY_KIND, BY_NUMBER, Outcome, Returned, read_returned
+from .errors import CallFailed, Error, Refused
+
+#: A basic.ack or basic.nack within octets: its channel, its tag and its mark. What only looks like one has an outcome asked for too early.
+SETTLEMENT = re.compile(rb"\x01(?=(..)\x00\x00\x00\x0d\x00\x3c\x00[\x50\x78](.{8})(.)\xce)", re.DOTALL)
+#: The octets of such a frame but for one.
+TAIL = 20
+#: So many publishes of which nobody asks the outcome are held at least before they are asked for here.
+LEAST = 1024
+
+Found = Union[None, Outcome, Error]
+#: What a publish is told whose outcome was lost, since an exception fell as it was read.
+UNTOLD = CallFailed("Untold: an exception fell as outcomes were read")
+
+
+class Identity(NamedTuple):
+    """What a message says: exchange, routing key and body; and its properties."""
+    rest: Tuple[str, str, int, bytes]
+    properties: bytes
+
+
+def identity_of(exchange: str, routing_key: str, properties: bytes, body: bytes) -> Identity:
+    """A body above 64 octets stands as its length and its BLAKE2b digest of 32: nobody can make two that are equal there and not in their octets."""
+    return Identity((exchange, routing_key, len(body), body if len(body) <= 64 else blake2b(body, digest_size=32).digest()), properties)
+
+
+class ConfirmCore:
+    """The outcome of a publish, once the broker has told it. It is about this publish and no other."""
+    __slots__ = ("_channel", "_number", "_tag", "_found", "_is_kept", "_identity", "_returned")
+
+    def __init__(self, channel: Any):
+        self._channel, self._number, self._tag = channel, 0, 0
+        self._found: Found = None
+        # Whether its user still asks for it.
+        self._is_kept = True
+        self._identity: Optional[Identity] = None
+        self._returned: Optional[Returned] = None
+
+    def poll(self) -> Optional[Outcome]:
+        """The outcome; None where there is none yet. An error is raised: nothing is known of the message then, and a consumer has to be
+        ready for a second copy of it if it is published again."""
+        found = self._found
+        if found is None:
+            found = self._channel._confirms.look(self)
+        if isinstance(found, Error):
+            raise type(found)(found.words, found.reason)
+        return found
+
+    def forget(self) -> None:
+        """The outcome will not be asked for any more: its memory is let go. Where the message comes back, `wait_for_confirms` gives it."""
+        self._is_kept = False
+        if not self._channel._confirms.is_on:
+            self._channel._session.forget(self._number)
+
+
+class Confirms:
+    """The publishes of one opening of a channel. Where confirms are on, which is before the first of them, tags count them from 1."""
+
+    def __init__(self, session: Session, channel: Any):
+        self._session, self._channel = session, channel
+        self.is_on = False
+        #: Whether a publish was mandatory, so that messages may come back.
+        self.is_used = False
+        # Whether outcomes are being read: an exception that fell then left a message behind that came back.
+        self._is_reading = False
+        # The tag of the last publish, and that at which it is looked what may be let go.
+        self.tag, self._next = 0, LEAST
+        self.open: Dict[int, ConfirmCore] = {}
+        # The mandatory ones that nothing came back for, in their order, by what they say.
+        self._alike: Dict[Any, Dict[bytes, Dict[ConfirmCore, None]]] = {}
+        #: Messages that came back and that no confirm gives.
+        self.strangers: List[Returned] = []
+
+    # ---- publishes come
+
+    def add(self, confirm: ConfirmCore, identity: Optional[Identity]) -> None:
+        """A publish that is about to be made."""
+        confirm._tag = tag = self.tag + 1
+        self.open[tag] = confirm
+        if identity is not None:
+            self.is_used, confirm._identity = True, identity
+            self._alike.setdefault(identity.rest, {}).setdefault(identity.properties, {})[confirm] = None
+        if tag > self._next:
+            self._prune()
+
+    def _prune(self) -> None:
+        """Lets those go that have their outcome, so that none is held of which nobody asks it."""
+        self.open = {tag: confirm for tag, confirm in self.open.items() if confirm._found is None}
+        if len(self.open) > LEAST:
+            self.take(list(self.open))
+        self._next = self.tag + len(self.open) + LEAST
+
+    def drop(self, confirm: ConfirmCore) -> None:
+        """That publish was refused."""
+        del self.open[confirm._tag]
+        self._strike(confirm)
+
+    # ---- outcomes come
+
+    def _ask(self, confirm: ConfirmCore) -> Found:
+        """Takes the outcome of a publish from the session, which gives it once. Until it is stored that publish is told UNTOLD."""
+        number = confirm._number
+        if number == 0:  # an exception fell as it was made
+            return None
+        confirm._found = UNTOLD
+        code = _outcome(self._session._by, number)
+        found: Found = BY_NUMBER.get(code)
+        if found is None:
+            found = self._beyond(code, number)
+        if found is None:
+            confirm._found = None
+        return found
+
+    def _beyond(self, code: int, number: int) -> Found:
+        """What the session's number tells not all of: an error, a message that came back, or nothing yet."""
+        if code:
+            return self.failed(self._session.refusal() if code == 4 else "NoMemory")
+        try:
+            words = self._session.line(f"confirm {number}").split(" ")
+        except Refused as error:  # it was given or forgotten
+            return CallFailed(error.words)
+        if words[0] == "pending":
+            return None
+        if words[0] == "error":
+            return self.failed(" ".join(words[1:]))
+        if len(words) > 2 and words[2] != "-":
+            self._give(read_returned(words[2:]), words[6].encode())
+        return BY_KIND[words[1]]
+
+    def failed(self, words: str) -> CallFailed:
+        failed: CallFailed = self._channel._failed(words)
+        return failed
+
+    def _give(self, returned: Returned, properties: bytes) -> None:
+        """Gives what came back to its own publish: one that it equals; else, of a broker that changes properties, one that it equals but for
+        these; else the oldest mandatory one."""
+        identity = identity_of(returned.exchange, returned.routing_key, properties, returned.body)
+        alike = self._alike.get(identity.rest, {})
+        places: Iterable[Iterable[ConfirmCore]] = (alike.get(identity.properties, ()), *alike.values(), self.open.values())
+        for confirm in (it for place in places for it in place):
+            if confirm._identity is not None:
+                confirm._returned = returned
+                self._strike(confirm)
+                return
+        self.strangers.append(returned)
+
+    def _strike(self, confirm: ConfirmCore) -> None:
+        """No message is given to this publish any more."""
+        identity, confirm._identity = confirm._identity, None
+        if identity is not None:
+            alike = self._alike[identity.rest]
+            waiting = alike[identity.properties]
+            del waiting[confirm]
+            if not waiting:
+                del alike[identity.properties]
+            if not alike:
+                del self._alike[identity.rest]
+
+    def take(self, tags: Iterable[int]) -> List[ConfirmCore]:
+        """Takes the outcomes of these publishes that are there: these publishes."""
+        self._begin()
+        asked = [confirm for tag in tags if (confirm := self.open.get(tag)) is not None]
+        return self._sort([(it, self._ask(it) if it._found is None else it._found) for it in asked])
+
+    def _begin(self) -> None:
+        self._session.check_thread()
+        if self._is_reading:
+            self._give_up()
+        self._is_reading = True
+
+    def _sort(self, found: List[Tuple[ConfirmCore, Found]]) -> List[ConfirmCore]:
+        """Tells publishes their outcomes, each with its own message, now that all that came back were given."""
+        done = [(confirm, it) for confirm, it in found if it is not None]
+        for confirm, it in done:
+            self.open.pop(confirm._tag, None)
+            self._strike(confirm)
+            if confirm._returned is not None and isinstance(it, Outcome) and it.returned is None:
+                it = Outcome(it.kind, confirm._returned)
+                if not confirm._is_kept:
+                    self.strangers.append(confirm._returned)
+            confirm._found = it
+        self._is_reading = False
+        return [confirm for confirm, _ in done]
+
+    def _give_up(self) -> None:
+        """An exception fell as outcomes were read, and a message that came back may be lost: each mandatory publish that it may be is UNTOLD."""
+        for confirm in list(self.open.values()):
+            if confirm._identity is not None:
+                confirm._found = UNTOLD
+                self._strike(confirm)
+
+    def settle(self, tag: int, is_multiple: bool) -> List[ConfirmCore]:
+        """A settlement came: the publishes that it covers and that have their outcome now."""
+        if not is_multiple:
+            return self.take([tag])
+        return self.take(list(self.open) if tag == 0 else list(takewhile(lambda it: it <= tag, self.open)))
+
+    def look(self, confirm: ConfirmCore) -> Found:
+        """The outcome of a publish, if it is there."""
+        session = self._session
+        if _here() != session._thread:
+            raise session.elsewhere()
+        if self.is_used:
+            return self._look_around(confirm)
+        confirm._found = UNTOLD
+        code = _outcome(session._by, confirm._number)
+        found: Found = BY_NUMBER.get(code)
+        if found is None:
+            found = self._beyond(code, confirm._number)
+        confirm._found = found
+        return found
+
+    def _look_around(self, confirm: ConfirmCore) -> Found:
+        """The outcome of a publish of a channel to which messages may come back: where its settlement wasn't seen as it came, all are asked."""
+        self._begin()
+        found = self._ask(confirm) if confirm._found is None else confirm._found
+        if found is None:
+            self._is_reading = False
+        else:
+            others = [it for it in self.open.values() if it is not confirm]
+            self._sort([(confirm, found), *((it, self._ask(it) if it._found is None else it._found) for it in others)])
+        return confirm._found
+
+
+def settlements(data: bytes) -> List[Tuple[int, int, bool]]:
+    """The channel, the tag and the mark of each settlement in octets of the broker, and of what looks like one."""
+    return [(int.from_bytes(it[1], "big"), int.from_bytes(it[2], "big"), it[3] != b"\x00") for it in SETTLEMENT.finditer(data)]

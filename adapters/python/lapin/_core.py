@@ -1,0 +1,343 @@
+"""What both connections share: a session with its channels, consumers and calls, and what comes of the broker's octets. No socket and no waiting
+stand here."""
+from __future__ import annotations
+
+from typing import Any, Dict, List, Optional, Set, Tuple, TypeVar
+
+from . import _asks, _text
+from ._asks import Ask
+from ._confirms import TAIL, ConfirmCore, Confirms, identity_of, settlements
+from ._library import Session
+from ._values import Message, Returned, read_returned
+from .errors import CallFailed, CloseReason, Error, Refused
+
+T = TypeVar("T")
+C = TypeVar("C", bound=ConfirmCore)
+
+
+#: The methods by which a channel or a connection ends: channel.close, channel.close-ok, connection.close, connection.close-ok.
+CLOSES = (b"\x00\x14\x00\x28", b"\x00\x14\x00\x29", b"\x00\x0a\x00\x32", b"\x00\x0a\x00\x33")
+
+
+class Core:
+    """A session with its channels. `_confirms_at_once`: whether each settlement is looked for, and not only those of mandatory publishes."""
+    _confirms_at_once = False
+
+    def __init__(self, frame_max: int, channel_max: int):
+        self._session, self._channel_max = Session(frame_max), channel_max
+        self._channels: Dict[int, ChannelCore] = {}
+        self._consumers: Dict[int, ConsumerCore] = {}
+        self._numbers: List[int] = []
+        self._next, self._made, self._is_lost, self._is_closed = 0, 0, False, False
+        # Whether something is on its way between the session and its user or the socket: an exception that falls then loses the connection.
+        self._is_torn = False
+        # Channels whose opening nobody waits for any more, and calls and consumers that nobody has.
+        self._orphans: Set[int] = set()
+        self._left: List[Tuple[str, Ask[Any]]] = []
+        self._ending: List[ConsumerCore] = []
+        # The last octets, of which a frame's beginning may be one; whether a close was seen in what came last; and why the connection is gone.
+        self._tail, self._has_closed, self._why = b"", False, ""
+
+    # ---- what comes
+
+    def _receive(self, data: bytes) -> List[ConfirmCore]:
+        """Hands octets to the session. What it refuses closes the channel or the connection, as the protocol says. The publishes that were
+        seen to have their outcome now."""
+        given, self._has_closed = data, False
+        while self._session.receive(given) is not None:
+            given, self._has_closed = b"", True
+        done: List[ConfirmCore] = []
+        if self._confirms_at_once or any(channel._confirms.is_used for channel in self._channels.values()):
+            seen = self._tail + data
+            self._has_closed = self._has_closed or any(it in seen for it in CLOSES)
+            for number, tag, is_multiple in settlements(seen):
+                channel = self._channels.get(number)
+                if channel is not None and channel._confirms.is_on:
+                    done += channel._confirms.settle(tag, is_multiple)
+        self._tail = data[-TAIL:] if len(data) >= TAIL else (self._tail + data)[-TAIL:]
+        if self._left or self._ending:
+            self._tidy()
+        return done
+
+    def _tidy(self) -> None:
+        """Undoes what nobody waits for: a message of a get goes back, a consumer is cancelled."""
+        left, self._left = self._left, []
+        for ticket, asked in left:
+            try:
+                record = self._session.line(f"ticket {ticket}")
+            except Refused:  # an exception fell as it was read
+                continue
+            if record == "pending":
+                self._left.append((ticket, asked))
+            elif asked.undo is not None and not record.startswith("error "):
+                try:
+                    asked.undo(asked.read(record.split(" ")[1:]))
+                except Refused:  # its channel has ended, and all went back
+                    pass
+        self._ending = [consumer for consumer in self._ending if not consumer._give_back()]
+
+    def _leave(self, ticket: str, asked: Ask[Any]) -> None:
+        """Nobody waits for the answer of a call any more."""
+        if asked.undo is not None and not self._is_lost:
+            self._left.append((ticket, asked))
+            return
+        try:
+            self._session.line(f"aside-ticket {ticket}")
+        except Refused:  # its answer was read
+            pass
+
+    def _lost(self, why: str) -> None:
+        """The connection is gone: each call and each publish that was open has its end."""
+        self._is_lost, self._why = True, self._why or why
+        self._session.line("lost")
+        for channel in self._channels.values():
+            channel._confirms.take(list(channel._confirms.open))
+
+    def _lost_error(self) -> str:
+        return f"the connection is {'closed' if self._is_closed else 'lost'}: {self._why}" if self._why else "the connection is closed"
+
+    # ---- calls
+
+    def _ticket(self, asked: Ask[Any]) -> str:
+        """Makes a call. What its answer is asked by."""
+        try:
+            return self._session.line(asked.line).split(" ")[1]
+        except Refused as error:
+            raise Refused(error.words, self._reason(asked.channel, error.words)) from None
+
+    def _answer(self, asked: Ask[T], ticket: str) -> Optional[Tuple[T]]:
+        """The value of a call's answer, if it is there."""
+        record = self._session.line(f"ticket {ticket}")
+        if record == "pending":
+            return None
+        if record.startswith("error "):
+            raise self._failed(record[6:], asked.channel)
+        return (asked.read(record.split(" ")[1:]),)
+
+    def _failed(self, words: str, channel: int) -> CallFailed:
+        return CallFailed(words, self._reason(channel, words))
+
+    def _reason(self, channel: int, words: str) -> Optional[CloseReason]:
+        """What the broker gave as it closed, where that is why a call failed with these words."""
+        for number in (channel, 0):
+            reason = self._session.last_close(number)
+            if reason is not None and (words == f"ProtocolError {reason.code}" or words.startswith("InvalidChannelState") and not words.endswith("closing")):
+                return reason
+        return None
+
+    def _abandon(self, consumer: ConsumerCore) -> None:
+        """Cancels a consumer that nobody has; what it was handed goes back."""
+        consumer._is_ending = True
+        self._session.line(f"aside-ticket {self._ticket(_asks.cancel(consumer.channel.number, consumer.tag))}")
+        self._ending.append(consumer)
+
+    # ---- channels
+
+    def _state(self, number: int) -> str:
+        return self._session.line(f"state {number}").split(" ")[2]
+
+    def _number(self) -> int:
+        """The number of a channel that is free."""
+        for number in list(self._orphans):  # opened for nobody: closed, it is free again
+            if self._state(number) == "open":
+                self._session.line(f"aside-ticket {self._ticket(_asks.channel_close(number))}")
+            if self._state(number) == "closed":
+                self._orphans.discard(number)
+                self._numbers.append(number)
+        if not self._numbers and self._next >= self._channel_max:  # those that the broker closed are free again
+            self._numbers = [it for it in range(1, self._next + 1) if it not in self._orphans and self._state(it) == "closed"]
+        number = self._numbers.pop() if self._numbers else self._next + 1
+        if number > self._channel_max:
+            raise Refused("NoChannelLeft")
+        self._next = max(self._next, number)
+        return number
+
+    def _beginning(self, number: int, confirms: bool, prefetch: Optional[int], limit: Optional[int]) -> List[Ask[None]]:
+        """The calls that a channel begins with."""
+        asked = [_asks.channel_open(number)]
+        if _text.flag("confirms", confirms) == "1":
+            asked.append(_asks.confirm_select(number))
+        if limit is not None:
+            asked.append(_asks.confirm_limit(number, limit))
+        if prefetch is not None:
+            asked.append(_asks.qos(number, prefetch))
+        return asked
+
+    # ---- what is offered
+
+    @property
+    def is_open(self) -> bool:
+        """Whether channels can be opened and used."""
+        return not self._is_closed and self._session.line("state 0").split(" ")[1] == "open"
+
+    @property
+    def is_blocked(self) -> bool:
+        """Whether the broker said that it takes no messages just now: confirms stay pending until it does again."""
+        return self._session.is_blocked
+
+
+class ChannelCore:
+    """A channel that is open, or was."""
+    connection: Core
+
+    def __init__(self, connection: Core, number: int):
+        self.connection, self.number, self._session = connection, number, connection._session
+        self._confirms = Confirms(self._session, self)
+        # Those of its consumers whose messages are to be acknowledged, and why it ended, once another one has its number.
+        self._acking: Set[int] = set()
+        self._is_over, self._ended_by = False, None  # type: bool, Optional[CloseReason]
+        before = connection._channels.get(number)
+        if before is not None:
+            before._end()
+        connection._channels[number] = self
+
+    def _end(self) -> None:
+        """Another channel takes its number: nothing that is called here goes there."""
+        self._confirms.take(list(self._confirms.open))
+        for consumer in [it for it in self.connection._consumers.values() if it.channel is self]:
+            del self.connection._consumers[consumer.number]
+        self._ended_by, self._is_over = self._session.last_close(self.number), True
+
+    def _check(self) -> None:
+        if self._is_over:
+            raise Refused("InvalidChannelState closed", self._ended_by)
+
+    def _failed(self, words: str) -> CallFailed:
+        if self._is_over:
+            return CallFailed(words, self._ended_by if self._ended_by and words == f"ProtocolError {self._ended_by.code}" else None)
+        return self.connection._failed(words, self.number)
+
+    @property
+    def is_open(self) -> bool:
+        """Whether calls of it are taken."""
+        return not self.connection._is_closed and not self._is_over and self.connection._state(self.number) == "open"
+
+    def _publish(self, confirm: C, exchange: str, routing_key: str, body: bytes, mandatory: bool, properties: Dict[str, Any]) -> C:
+        """Makes a publish of which this is the confirm. Where an exception falls, it is known which of the two happened."""
+        if self._is_over:
+            self._check()
+        try:
+            to, key = exchange.encode(), routing_key.encode()
+            if len(to) > 255 or len(key) > 255:
+                raise ValueError
+        except (AttributeError, ValueError):
+            to, key = _text.octets_of("exchange", exchange), _text.octets_of("routing_key", routing_key)
+            exchange, routing_key = to.decode(), key.decode()
+        text = _text.properties(properties) if properties else b"[]"
+        session, confirms, identity = self._session, self._confirms, None
+        if mandatory and _text.flag("mandatory", mandatory) == "1" and confirms.is_on:
+            identity = identity_of(exchange, routing_key, text, body)
+        before = session.last_confirm
+        if confirms.is_on:
+            confirms.add(confirm, identity)
+        try:
+            confirm._number = session.publish(self.number, to, key, body, text, mandatory)
+            confirms.tag += 1
+        except BaseException as error:
+            self._unmade(confirm, before, error)
+            raise
+        return confirm
+
+    def _unmade(self, confirm: ConfirmCore, before: int, error: BaseException) -> None:
+        """A publish ended by an exception: it was refused, or accepted where its number was given."""
+        is_refused = isinstance(error, (Error, ValueError, MemoryError, TypeError, RuntimeError))
+        if self._confirms.tag != confirm._tag and self._confirms.is_on:
+            if not is_refused and self._session.last_confirm != before:
+                confirm._number, self._confirms.tag = self._session.last_confirm, confirm._tag
+            else:
+                self._confirms.drop(confirm)
+        if isinstance(error, Refused):
+            raise Refused(error.words, self.connection._reason(self.number, error.words)) from None
+
+    def _settled(self, consumer: Optional[ConsumerCore], call: str, acker: int, *marks: bool) -> bool:
+        """Settles a message of a consumer, or of a get."""
+        if marks[0] and call != "reject" and self._acking - {consumer.number if consumer else 0}:
+            raise Refused("MultipleRefused: it would settle messages of another consumer of the channel that nobody has seen")
+        return self._session.settle(call, acker, *marks)
+
+    def _got(self, words: List[str]) -> Optional[Message]:
+        """The message of a get, of its answer's words: got TAG EXCHANGE KEY REDELIVERED PROPS BYTES ACKER COUNT, or got -."""
+        if words[1] == "-":
+            return None
+        return Message(lambda *call: self._settled(None, *call), int(words[1]), int(words[7]), words[4] == "1", _text.read_text(words[2]),
+                       _text.read_text(words[3]), words[5], _text.read_bytes(words[6]), int(words[8]))
+
+    def _asked_get(self, queue: str, no_ack: bool) -> Ask[Optional[Message]]:
+        asked = _asks.get(self.number, queue, no_ack)
+        undo = None if no_ack else lambda message: message is not None and message.reject()
+        return Ask(self.number, asked.line, lambda words: self._got(asked.read(words)), undo)
+
+    def _consumer(self, number: int, tag: str, no_ack: bool) -> ConsumerCore:
+        """A consumer of this channel, of the number that the session gave it."""
+        raise NotImplementedError
+
+    def _asked_consume(self, queue: str, tag: str, no_ack: bool, exclusive: bool, arguments: Optional[Dict[str, Any]]) -> Tuple[str, Ask[int]]:
+        """The call of a consume and its tag, which is made here where none is given, so that a cancel can name it."""
+        connection = self.connection
+        connection._made += 1
+        tag = tag if tag != "" else f"lapin.{self.number}.{connection._made}"
+        asked = _asks.consume(self.number, queue, tag, no_ack, exclusive, arguments)
+        asked.undo = lambda number: connection._abandon(self._consumer(number, tag, bool(no_ack)))
+        return tag, asked
+
+    def _unconfirmed(self, record: str) -> List[Returned]:
+        """The messages that came back and that no confirm gives."""
+        words = record.split(" ")
+        found, self._confirms.strangers = self._confirms.strangers, []
+        return found + [read_returned(words[at:at + 9]) for at in range(2, len(words), 9)]
+
+
+class ConsumerCore:
+    """A consumer of a channel."""
+
+    def __init__(self, channel: ChannelCore, number: int, tag: str, no_ack: bool):
+        self.channel, self.number, self.tag, self._no_ack = channel, number, tag, no_ack
+        self._held: Optional[Message] = None
+        self._is_done, self._is_ending = False, False
+        self._error: Optional[Error] = None
+        channel.connection._consumers[number] = self
+        if not no_ack:
+            channel._acking.add(number)
+
+    @property
+    def is_active(self) -> bool:
+        """Whether messages may come still."""
+        return not self._is_done
+
+    def _take(self) -> Optional[Message]:
+        """What it was handed next, which is held until somebody has it; None where there is nothing yet, or it has ended."""
+        if self._held is not None or self._is_done:
+            return self._held
+        connection = self.channel.connection
+        connection._session.check_thread()
+        was_torn, connection._is_torn = connection._is_torn, True
+        try:
+            found = connection._session.delivery(self.number)
+        except Refused as error:
+            found = "end"
+            self._error = self.channel._failed(error.words)
+        if isinstance(found, str):
+            self._end()
+        elif found is not None:
+            self._held = Message(self._settled, *found)
+        connection._is_torn = was_torn
+        return self._held
+
+    def _settled(self, call: str, acker: int, *marks: bool) -> bool:
+        return self.channel._settled(self, call, acker, *marks)
+
+    def _end(self) -> None:
+        self._is_done = True
+        self.channel._acking.discard(self.number)
+        self.channel.connection._consumers.pop(self.number, None)
+
+    def _give_back(self) -> bool:
+        """Gives back what it had, in the order in which that came. Whether it has ended."""
+        while (message := self._take()) is not None:
+            if not self._no_ack:
+                try:
+                    message.reject(requeue=True)
+                except Refused:  # its channel closes, and all goes back
+                    pass
+            self._held = None
+        return self._is_done
