@@ -38,6 +38,7 @@ class RabbitMQ:
             "RABBITMQ_LOG_BASE": f"{self.folder}/log", "RABBITMQ_CONFIG_FILE": f"{self.folder}/rabbitmq.conf", "RABBITMQ_DIST_PORT": str(free_port()),
             "RABBITMQ_PID_FILE": f"{self.folder}/pid", "RABBITMQ_ENABLED_PLUGINS_FILE": f"{self.folder}/plugins", "RABBITMQ_FEATURE_FLAGS_FILE": f"{self.folder}/flags",
             "ERL_EPMD_PORT": str(names), "ERL_EPMD_ADDRESS": "127.0.0.1", "RABBITMQ_CONF_ENV_FILE": f"{self.folder}/none", "LANG": "C.UTF-8",
+            "RABBITMQ_SERVER_ADDITIONAL_ERL_ARGS": "-kernel inet_dist_use_interface {127,0,0,1}",
         }
         self._start(["epmd", "-port", str(names), "-address", "127.0.0.1"])
         self._start([SERVER])

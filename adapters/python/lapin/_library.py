@@ -9,7 +9,7 @@ from typing import Any, Optional, Tuple, Union
 
 from .errors import CloseReason, Refused
 
-DONE, REFUSED, NOT_IN_GRAMMAR, NO_MEMORY, ENDED, MALFORMED, TOO_LONG, CLOSED, PENDING, GONE = range(10)
+DONE, REFUSED, NOT_IN_GRAMMAR, NO_MEMORY, ENDED, MALFORMED, TOO_LONG, CLOSED, PENDING, GONE, KEPT, UNTOLD = range(12)
 
 
 class _Handle(ctypes.Structure):
@@ -62,8 +62,6 @@ def _load() -> Any:
         ("beat", code, [ctypes.POINTER(_Clock), number, ctypes.POINTER(number)]),
     )
     for name, result, given in calls:
-        if name == "last_close" and not hasattr(library, "lapin_last_close"):  # TODO
-            continue
         function: Any = getattr(library, f"lapin_{name}")
         function.restype, function.argtypes = result, given
     return library
@@ -175,8 +173,10 @@ class Session:
     def _check(self, status: int) -> None:
         if status == REFUSED:
             raise Refused(self.refusal())
-        if status == NO_MEMORY:
+        if status in (NO_MEMORY, KEPT):
             raise MemoryError
+        if status == UNTOLD:
+            raise Refused("Untold: there was no memory for the words")
         if status == TOO_LONG:
             raise ValueError("longer than a frame may be")
         if status == CLOSED:
@@ -286,6 +286,8 @@ class Session:
             return None
         if status == REFUSED:
             return self.refusal()
+        if status == UNTOLD:
+            return "Untold"
         if status == MALFORMED:
             raise ValueError("what came is no frame")
         self._check(status)
@@ -299,6 +301,6 @@ class Session:
     def last_close(self, channel: int) -> Optional[CloseReason]:
         """Why the broker closed a channel last, or the connection, which is channel 0."""
         self.check_thread()
-        if not hasattr(_library, "lapin_last_close") or _library.lapin_last_close(self._by, channel, self._reason_at) != DONE:
+        if _library.lapin_last_close(self._by, channel, self._reason_at) != DONE:
             return None
         return CloseReason(self._reason.code, self._reason.class_id, self._reason.method_id, self._answer().decode(errors="replace"))
