@@ -1,5 +1,7 @@
 """What the tests share: their list, a script's beginning, and programs that are compiled and run."""
+import contextlib
 import os
+import signal
 import subprocess
 import tempfile
 
@@ -18,6 +20,52 @@ def rabbit(function):
     """A test against a RabbitMQ, by its address."""
     function.needs_rabbitmq = True
     return test(function)
+
+
+def waiting(why):
+    """A test that can't pass before something else is there: it is told, and counted apart."""
+    def marked(function):
+        function.waits_for = why
+        return test(function)
+    return marked
+
+
+class Alarm(Exception):
+    """What an interrupted call is ended by, as by Ctrl-C or a timeout of a framework."""
+
+
+def alarmed(*_):
+    raise Alarm
+
+
+@contextlib.contextmanager
+def alarm(seconds):
+    """Raises Alarm in what stands in it, once so much time has passed; it goes no further."""
+    before = signal.signal(signal.SIGALRM, alarmed)
+    try:
+        try:
+            signal.setitimer(signal.ITIMER_REAL, seconds)
+            yield
+        finally:
+            signal.setitimer(signal.ITIMER_REAL, 0)
+    except Alarm:
+        pass
+    finally:
+        signal.signal(signal.SIGALRM, before)
+
+
+@contextlib.contextmanager
+def within(seconds):
+    """Fails where what stands in it takes longer."""
+    def late(*_):
+        raise AssertionError(f"it took more than {seconds} seconds")
+    before = signal.signal(signal.SIGALRM, late)
+    try:
+        signal.setitimer(signal.ITIMER_REAL, seconds)
+        yield
+    finally:
+        signal.setitimer(signal.ITIMER_REAL, 0)
+        signal.signal(signal.SIGALRM, before)
 
 
 def fails(kind, call, **wanted):

@@ -4,7 +4,7 @@ import struct
 
 import lapin
 import scripted
-from checks.common import test
+from checks.common import fails, rabbit, test, waiting
 from scripted import Broker
 
 
@@ -91,3 +91,128 @@ def a_canceled_consumer_ends():
         peer.close()
     with Broker(script) as url, lapin.connect(url) as connection:
         assert [message.body for message in connection.channel().consume("q")] == [b"last"]
+
+
+@test
+def a_cancelled_consumer_gives_back_what_it_had():
+    def script(peer):
+        peer.open()
+        peer.channel(1)
+        peer.consume(1, "t")
+        peer.send(b"".join(scripted.deliver(1, "t", tag, b"%d" % tag) for tag in range(1, 5)))
+        assert peer.expect(1, 60, 80) == struct.pack(">QB", 1, 0)
+        peer.expect(1, 60, 30)
+        peer.send(scripted.deliver(1, "t", 5, b"5") + scripted.method(1, 60, 31, scripted.short_text("t")))
+        assert [peer.expect(1, 60, 90) for _ in range(4)] == [struct.pack(">QB", tag, 1) for tag in range(2, 6)], "in the order in which they came"
+        peer.close()
+    with Broker(script) as url, lapin.connect(url) as connection:
+        consumer = connection.channel().consume("q")
+        assert consumer.next(5).ack()
+        consumer.cancel()
+        assert not consumer.is_active and consumer.next(1) is None and list(consumer) == []
+        consumer.cancel()
+
+
+@test
+def a_get_that_was_given_up_gives_its_message_back():
+    def script(peer):
+        peer.open()
+        peer.channel(1)
+        peer.expect(1, 60, 70)
+        peer.declare(1, "q")
+        peer.send(scripted.method(1, 60, 71, struct.pack(">QB", 9, 0) + scripted.short_text("") + scripted.short_text("q") + bytes(4)) + scripted.content(1, b"m"))
+        assert peer.expect(1, 60, 90) == struct.pack(">QB", 9, 1)
+        peer.expect(1, 60, 20)
+        peer.declare(1, "q")
+        peer.send(scripted.method(1, 60, 21, scripted.short_text("t")) + scripted.deliver(1, "t", 10, b"m"))
+        peer.expect(1, 60, 30)
+        peer.send(scripted.method(1, 60, 31, scripted.short_text("t")))
+        assert peer.expect(1, 60, 90) == struct.pack(">QB", 10, 1)
+        peer.close()
+    with Broker(script) as url, lapin.connect(url) as connection:
+        channel = connection.channel()
+        for asked in (channel._asked_get("q", False), channel._asked_consume("q", "t", False, False, None)[1]):
+            fails(lapin.Timeout, lambda: connection._ask(asked, 0.0))
+            channel.queue_declare("q")
+            while connection.turn(0.2):
+                pass
+
+
+@test
+def multiple_settles_nothing_that_nobody_has_seen():
+    def script(peer):
+        peer.open()
+        peer.channel(1)
+        peer.consume(1, "a")
+        peer.consume(1, "b")
+        peer.send(b"".join(scripted.deliver(1, "ab"[tag % 2], tag, b"%d" % tag) for tag in range(1, 7)))
+        assert peer.expect(1, 60, 80) == struct.pack(">QB", 2, 0)
+        peer.expect(1, 60, 30)
+        peer.send(scripted.method(1, 60, 31, scripted.short_text("b")))
+        assert [peer.expect(1, 60, 90)[7] for _ in range(3)] == [1, 3, 5]
+        assert peer.expect(1, 60, 80) == struct.pack(">QB", 4, 1)
+        peer.get(1, 7, b"got")
+        peer.close()
+    with Broker(script) as url, lapin.connect(url) as connection:
+        channel = connection.channel()
+        a, b = channel.consume("q", tag="a"), channel.consume("q", tag="b")
+        first, second = a.next(5), a.next(5)
+        fails(lapin.Refused, lambda: second.ack(multiple=True), cause="MultipleRefused")
+        fails(lapin.Refused, lambda: second.nack(multiple=True), cause="MultipleRefused")
+        assert first.ack()
+        b.cancel()
+        assert second.ack(multiple=True)
+        fails(lapin.Refused, lambda: channel.get("q").ack(multiple=True), cause="MultipleRefused")
+
+
+@test
+def a_run_ends_as_its_callbacks_say():
+    def script(peer):
+        peer.open()
+        peer.channel(1)
+        peer.consume(1, "t")
+        peer.send(b"".join(scripted.deliver(1, "t", tag, b"%d" % tag) for tag in range(1, 4)))
+        assert [peer.expect(1, 60, 80)[7] for _ in range(2)] == [1, 3]
+        peer.send(scripted.channel_close(1, 404, "NOT_FOUND - gone", (60, 20)))
+        peer.expect(1, 20, 41)
+        peer.close()
+    with Broker(script) as url, lapin.connect(url) as connection:
+        def work(message):
+            if message.body == b"2":
+                raise KeyError("mine")
+            message.ack()
+            connection.stop()
+        connection.channel().consume("q", work)
+        connection.run(5)
+        fails(KeyError, lambda: connection.run(5))
+        connection.run(5)
+        assert "NOT_FOUND - gone" in str(fails(lapin.CallFailed, lambda: connection.run(5), code=404))
+
+
+@waiting("the border, which has the octets of names")
+def a_message_whose_key_is_no_text_reaches_its_user():
+    def script(peer):
+        peer.open()
+        peer.channel(1)
+        peer.consume(1, "t")
+        peer.send(scripted.deliver(1, "t", 1, b"body", key=b"caf\xe9"))
+        assert peer.expect(1, 60, 80) == struct.pack(">QB", 1, 0)
+        peer.close()
+    with Broker(script) as url, lapin.connect(url) as connection:
+        message = connection.channel().consume("q").next(5)
+        assert message.body == b"body" and message.ack()
+
+
+@rabbit
+def rabbitmq_gives_back_what_a_cancelled_consumer_had(url):
+    with lapin.connect(url) as connection, lapin.connect(url) as other:
+        channel, watcher = connection.channel(confirms=True), other.channel()
+        channel.queue_declare("check.cancel")
+        assert all([it.wait() for it in [channel.publish("", "check.cancel", b"%d" % at) for at in range(20)]])
+        consumer = channel.consume("check.cancel")
+        assert consumer.next(5).ack()
+        connection.turn(0.1)
+        consumer.cancel()
+        channel.queue_declare("check.cancel", passive=True)
+        assert [int(watcher.get("check.cancel", no_ack=True).body) for _ in range(19)] == list(range(1, 20))
+        watcher.queue_delete("check.cancel")

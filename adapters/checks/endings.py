@@ -5,7 +5,7 @@ import time
 
 import lapin
 import scripted
-from checks.common import confirms, fails, test
+from checks.common import confirms, fails, rabbit, test, waiting
 from scripted import Broker, HungUp
 
 
@@ -157,3 +157,137 @@ def channel_numbers_come_again_and_end_at_the_limit():
             connection.channel()
             fails(lapin.Refused, connection.channel)
         assert connection.channel().number == 1
+
+
+@test
+def numbers_that_the_broker_closed_come_back():
+    def script(peer):
+        peer.open(channel_max=2)
+        peer.channel(1)
+        for _ in range(5):
+            peer.channel(2)
+            peer.consume(2, "t")
+            peer.expect(2, 50, 10)
+            peer.send(scripted.channel_close(2, 404) + scripted.deliver(2, "t", 1, bytes(3000)))
+            peer.expect(2, 20, 41)
+            peer.expect(2, 20, 10)
+            peer.send(scripted.deliver(2, "t", 2, bytes(3000)) + scripted.method(2, 20, 11, scripted.long_text(b"")))  # it was on its way
+            peer.expect(2, 20, 40)
+            peer.send(scripted.method(2, 20, 41))
+        peer.close()
+    with Broker(script) as url, lapin.connect(url) as connection:
+        connection.channel()
+        for _ in range(5):
+            channel = connection.channel()
+            channel.consume("q")
+            fails(lapin.CallFailed, lambda: channel.queue_declare("none", passive=True), code=404)
+            connection.channel().close()
+
+
+@test
+def a_closed_channel_leaves_its_numbers_next_holder_alone():
+    def script(peer):
+        peer.open(channel_max=1)
+        for _ in range(2):
+            peer.channel(1, confirms=True)
+            peer.consume(1, "t")
+            peer.send(scripted.deliver(1, "t", 1, b"m"))
+            if not _:
+                peer.expect(1, 20, 40)
+                peer.send(scripted.method(1, 20, 41))
+        assert peer.expect_publish(1)[1] == b"new"
+        peer.send(scripted.ack(1, 1))
+        peer.close()
+    with Broker(script) as url, lapin.connect(url) as connection:
+        old = connection.channel(confirms=True)
+        consumer = old.consume("q")
+        message = consumer.next(5)
+        old.close()
+        new = connection.channel(confirms=True)
+        new.consume("q")
+        assert new.number == old.number and new.is_open and not old.is_open
+        for call in (lambda: old.publish("", "q", b"old"), lambda: old.queue_declare("q"), lambda: old.get("q"), lambda: old.consume("q"),
+                     lambda: old.wait_for_confirms(1)):
+            fails(lapin.Refused, call, cause="InvalidChannelState")
+        assert not message.ack() and consumer.next(1) is None
+        old.close()
+        consumer.cancel()
+        assert new.is_open and new.publish("", "q", b"new").wait(5)
+
+
+@test
+def an_error_of_the_broker_is_told_in_its_words():
+    words = "PRECONDITION_FAILED - inequivalent arg 'durable' for queue 'q'"
+
+    def script(peer):
+        peer.open(channel_max=1)
+        for text in (words, "PRECONDITION_FAILED - another"):
+            peer.channel(1, confirms=True)
+            assert peer.expect_publish(1)[1] == b"x"
+            peer.expect(1, 50, 10)
+            peer.send(scripted.channel_close(1, 406, text, (50, 10)))
+            peer.expect(1, 20, 41)
+        peer.channel(1)
+        peer.expect(1, 50, 10)
+        peer.send(scripted.connection_close(320, "CONNECTION_FORCED - by the operator"))
+        peer.expect(0, 10, 51)
+    with Broker(script) as url, lapin.connect(url) as connection:
+        one = connection.channel(confirms=True)
+        confirm = one.publish("", "q", b"x")
+        error = fails(lapin.CallFailed, lambda: one.queue_declare("q", durable=True), code=406)
+        assert str(error) == f"ProtocolError 406 at queue.declare: {words}" and error.reason == (406, 50, 10, words), str(error)
+        assert words in str(fails(lapin.Refused, lambda: one.publish("", "q", b"x")))
+        two = connection.channel(confirms=True)
+        two.publish("", "q", b"x")
+        assert "another" in str(fails(lapin.CallFailed, lambda: two.queue_declare("q"), code=406))
+        assert words in str(fails(lapin.CallFailed, confirm.poll, code=406)), "the reason of its own opening"
+        three = connection.channel()
+        assert "by the operator" in str(fails(lapin.CallFailed, lambda: three.queue_declare("q"), code=320))
+        assert "by the operator" in str(fails(lapin.Error, connection.channel))
+
+
+@waiting("the reading of reply texts")
+def a_reply_text_that_is_cut_within_a_letter_ends_its_channel_alone():
+    def script(peer):
+        peer.open()
+        peer.channel(1)
+        peer.expect(1, 50, 10)
+        peer.send(scripted.channel_close(1, 404, b"NOT_FOUND - no queue 'caf\xc3", (50, 10)))  # as RabbitMQ does at 255 octets
+        peer.expect(1, 20, 41)
+        peer.channel(2)
+        peer.close()
+    with Broker(script) as url, lapin.connect(url) as connection:
+        assert "no queue 'caf" in str(fails(lapin.CallFailed, lambda: connection.channel().queue_declare("q", passive=True), code=404))
+        assert connection.channel().is_open
+
+
+@test
+def outcomes_are_told_after_a_close():
+    def script(peer):
+        confirms(peer)
+        assert [peer.expect_publish(1)[1] for _ in range(2)] == [b"0", b"1"]
+        peer.send(scripted.ack(1, 1))
+        peer.close()
+    with Broker(script) as url, lapin.connect(url) as connection:
+        channel = connection.channel(confirms=True)
+        given = [channel.publish("", "q", b"%d" % at) for at in range(2)]
+        connection.close()
+        assert given[0].poll() and given[0].wait(1)
+        for call in (given[1].poll, given[1].wait, connection.channel, lambda: channel.publish("", "q", b"x"), lambda: connection.turn(1), connection.flush):
+            fails(lapin.Error, call)
+        assert not channel.is_open and not connection.is_open
+
+
+@rabbit
+def rabbitmq_tells_its_errors_in_its_words(url):
+    with lapin.connect(url) as connection:
+        connection.channel().queue_declare("check.words", auto_delete=True)
+        calls = {"inequivalent arg 'durable'": lambda it: it.queue_declare("check.words", durable=True, auto_delete=True),
+                 "no queue 'none'": lambda it: it.queue_declare("none", passive=True), "reserved prefix": lambda it: it.queue_declare("amq.x"),
+                 "no exchange 'nope'": lambda it: it.publish("nope", "", b"").wait(5),
+                 "user_id": lambda it: it.publish("", "q", b"", user_id="somebody").wait(5)}
+        for words, call in calls.items():
+            error = fails(lapin.CallFailed, lambda: call(connection.channel(confirms=True)))
+            assert words in str(error) and error.reason.code == error.code, str(error)
+        connection.channel().queue_delete("check.words")
+        fails(lapin.CallFailed, lambda: connection.channel().exchange_declare("x", "nosuch"), code=503)

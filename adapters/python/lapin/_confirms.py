@@ -18,7 +18,10 @@ from .errors import CallFailed, Error, Refused
 
 #: A basic.ack or basic.nack within octets: its channel, its tag and its mark. What only looks like one has an outcome asked for too early.
 SETTLEMENT = re.compile(rb"\x01(?=(..)\x00\x00\x00\x0d\x00\x3c\x00[\x50\x78](.{8})(.)\xce)", re.DOTALL)
-#: The octets of such a frame but for one.
+#: The head of a basic.return: its channel.
+RETURN = re.compile(rb"\x01(?=(..).{4}\x00\x3c\x00\x32)", re.DOTALL)
+RETURN_HEAD = 11
+#: The octets of a settlement but for one.
 TAIL = 20
 #: So many publishes of which nobody asks the outcome are held at least before they are asked for here.
 LEAST = 1024
@@ -26,6 +29,8 @@ LEAST = 1024
 Found = Union[None, Outcome, Error]
 #: What a publish is told whose outcome was lost, since an exception fell as it was read.
 UNTOLD = CallFailed("Untold: an exception fell as outcomes were read")
+#: What a mandatory publish is told while a message that came back can't be read.
+UNSORTED = CallFailed("Unsorted: a message came back, and it isn't known whose")
 
 
 class Identity(NamedTuple):
@@ -63,6 +68,7 @@ class ConfirmCore:
 
     def forget(self) -> None:
         """The outcome will not be asked for any more: its memory is let go. Where the message comes back, `wait_for_confirms` gives it."""
+        self._channel._session.check_thread()
         self._is_kept = False
         if not self._channel._confirms.is_on:
             self._channel._session.forget(self._number)
@@ -83,6 +89,9 @@ class Confirms:
         self.open: Dict[int, ConfirmCore] = {}
         # The mandatory ones that nothing came back for, in their order, by what they say.
         self._alike: Dict[Any, Dict[bytes, Dict[ConfirmCore, None]]] = {}
+        #: How many messages came back that the session has given to no publish yet, and mandatory ones that wait for these to be sorted.
+        self.unread = 0
+        self._held: Dict[ConfirmCore, Outcome] = {}
         #: Messages that came back and that no confirm gives.
         self.strangers: List[Returned] = []
 
@@ -149,9 +158,10 @@ class Confirms:
     def _give(self, returned: Returned, properties: bytes) -> None:
         """Gives what came back to its own publish: one that it equals; else, of a broker that changes properties, one that it equals but for
         these; else the oldest mandatory one."""
+        self.unread -= self.unread > 0
         identity = identity_of(returned.exchange, returned.routing_key, properties, returned.body)
         alike = self._alike.get(identity.rest, {})
-        places: Iterable[Iterable[ConfirmCore]] = (alike.get(identity.properties, ()), *alike.values(), self.open.values())
+        places: Iterable[Iterable[ConfirmCore]] = (alike.get(identity.properties, ()), *alike.values(), self._held, self.open.values())
         for confirm in (it for place in places for it in place):
             if confirm._identity is not None:
                 confirm._returned = returned
@@ -188,21 +198,35 @@ class Confirms:
         done = [(confirm, it) for confirm, it in found if it is not None]
         for confirm, it in done:
             self.open.pop(confirm._tag, None)
-            self._strike(confirm)
-            if confirm._returned is not None and isinstance(it, Outcome) and it.returned is None:
-                it = Outcome(it.kind, confirm._returned)
-                if not confirm._is_kept:
-                    self.strangers.append(confirm._returned)
-            confirm._found = it
+            if isinstance(it, Outcome) and confirm._identity is not None and self.unread:
+                self._held[confirm] = it  # its message may be one that the session gives next
+                confirm._found = None
+            else:
+                self._tell(confirm, it)
+        told = [confirm for confirm, _ in done if confirm not in self._held]
+        if self._held and not (self.unread and self.open):
+            held, self._held = self._held, {}
+            for confirm, outcome in held.items():
+                self._tell(confirm, UNSORTED if self.unread and confirm._returned is None else outcome)
+            told += held
         self._is_reading = False
-        return [confirm for confirm, _ in done]
+        return told
+
+    def _tell(self, confirm: ConfirmCore, found: Union[Outcome, Error]) -> None:
+        self._strike(confirm)
+        if confirm._returned is not None and isinstance(found, Outcome) and found.returned is None:
+            found = Outcome(found.kind, confirm._returned)
+            if not confirm._is_kept:
+                self.strangers.append(confirm._returned)
+        confirm._found = found
 
     def _give_up(self) -> None:
         """An exception fell as outcomes were read, and a message that came back may be lost: each mandatory publish that it may be is UNTOLD."""
-        for confirm in list(self.open.values()):
+        for confirm in [*self.open.values(), *self._held]:
             if confirm._identity is not None:
                 confirm._found = UNTOLD
                 self._strike(confirm)
+        self._held = {}
 
     def settle(self, tag: int, is_multiple: bool) -> List[ConfirmCore]:
         """A settlement came: the publishes that it covers and that have their outcome now."""
@@ -228,7 +252,7 @@ class Confirms:
     def _look_around(self, confirm: ConfirmCore) -> Found:
         """The outcome of a publish of a channel to which messages may come back: where its settlement wasn't seen as it came, all are asked."""
         self._begin()
-        found = self._ask(confirm) if confirm._found is None else confirm._found
+        found = self._ask(confirm) if confirm._found is None and confirm not in self._held else confirm._found
         if found is None:
             self._is_reading = False
         else:
@@ -240,3 +264,8 @@ class Confirms:
 def settlements(data: bytes) -> List[Tuple[int, int, bool]]:
     """The channel, the tag and the mark of each settlement in octets of the broker, and of what looks like one."""
     return [(int.from_bytes(it[1], "big"), int.from_bytes(it[2], "big"), it[3] != b"\x00") for it in SETTLEMENT.finditer(data)]
+
+
+def returns(data: bytes, known: int) -> List[int]:
+    """The channel of each message that came back in octets, and of what looks like one, whose head lies not in those that were known before."""
+    return [int.from_bytes(it[1], "big") for it in RETURN.finditer(data) if it.start() + RETURN_HEAD > known]

@@ -6,7 +6,7 @@ from typing import Any, Dict, List, Optional, Set, Tuple, TypeVar
 
 from . import _asks, _text
 from ._asks import Ask
-from ._confirms import TAIL, ConfirmCore, Confirms, identity_of, settlements
+from ._confirms import TAIL, ConfirmCore, Confirms, identity_of, returns, settlements
 from ._library import Session
 from ._values import Message, Returned, read_returned
 from .errors import CallFailed, CloseReason, Error, Refused
@@ -50,6 +50,10 @@ class Core:
         if self._confirms_at_once or any(channel._confirms.is_used for channel in self._channels.values()):
             seen = self._tail + data
             self._has_closed = self._has_closed or any(it in seen for it in CLOSES)
+            for number in returns(seen, len(self._tail)):
+                channel = self._channels.get(number)
+                if channel is not None and channel._confirms.is_used:
+                    channel._confirms.unread += 1
             for number, tag, is_multiple in settlements(seen):
                 channel = self._channels.get(number)
                 if channel is not None and channel._confirms.is_on:
@@ -148,7 +152,7 @@ class Core:
             self._numbers = [it for it in range(1, self._next + 1) if it not in self._orphans and self._state(it) == "closed"]
         number = self._numbers.pop() if self._numbers else self._next + 1
         if number > self._channel_max:
-            raise Refused("NoChannelLeft")
+            raise Refused("NoChannelLeft") if self.is_open else Refused("InvalidChannelState down", self._session.last_close(0))
         self._next = max(self._next, number)
         return number
 

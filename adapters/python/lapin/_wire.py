@@ -163,8 +163,6 @@ class Wire:
         self._queue: Deque[memoryview] = deque()
         #: How many octets wait for the kernel.
         self.size = 0
-        self._poll, self._is_for_writing = select.poll(), False
-        self._poll.register(self.socket, select.POLLIN)
 
     def give(self, data: bytes) -> None:
         """Octets that are to be sent, behind those that wait."""
@@ -218,11 +216,9 @@ class Wire:
             return True
         if due == "send":  # what waits is a sign of life too, once the kernel takes it
             pause = 1.0
-        if self._is_for_writing != bool(self._queue):
-            self._is_for_writing = not self._is_for_writing
-            self._poll.modify(self.socket, select.POLLIN | select.POLLOUT if self._is_for_writing else select.POLLIN)
-        wait = left if pause is None else pause if left is None else min(pause, left)
-        self._poll.poll(None if wait is None else wait * 1000 + 1)
+        wait, ready = left if pause is None else pause if left is None else min(pause, left), select.poll()
+        ready.register(self.socket, select.POLLIN | select.POLLOUT if self._queue else select.POLLIN)
+        ready.poll(None if wait is None else wait * 1000 + 1)
         return True
 
     def close(self) -> None:
