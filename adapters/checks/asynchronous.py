@@ -2,6 +2,7 @@
 import asyncio
 import random
 import struct
+import time
 
 import lapin
 import scripted
@@ -89,6 +90,7 @@ def what_a_cancelled_call_brings_goes_back():
         confirms(peer)
         peer.expect(1, 60, 70)
         peer.expect(1, 60, 20)
+        time.sleep(0.2)
         peer.send(scripted.method(1, 60, 71, struct.pack(">QB", 1, 0) + scripted.short_text("") + scripted.short_text("q") + bytes(4)) + scripted.content(1, b"m"))
         peer.send(scripted.method(1, 60, 21, scripted.short_text("t")) + scripted.deliver(1, "t", 2, b"m"))
         found = sorted(peer.frame()[2] for _ in range(3))

@@ -10,7 +10,7 @@ from __future__ import annotations
 import re
 from hashlib import blake2b
 from itertools import takewhile
-from typing import Any, Dict, Iterable, List, NamedTuple, Optional, Tuple, Union
+from typing import Any, Dict, Iterable, List, NamedTuple, Optional, Set, Tuple, Union
 
 from ._library import Session, _here, _outcome
 from ._values import BY_KIND, BY_NUMBER, Outcome, Returned, read_returned
@@ -46,31 +46,29 @@ def identity_of(exchange: str, routing_key: str, properties: bytes, body: bytes)
 
 class ConfirmCore:
     """The outcome of a publish, once the broker has told it. It is about this publish and no other."""
-    __slots__ = ("_channel", "_number", "_tag", "_found", "_is_kept", "_identity", "_returned")
+    __slots__ = ("_channel", "_number", "_found")
 
     def __init__(self, channel: Any):
-        self._channel, self._number, self._tag = channel, 0, 0
+        self._channel, self._number = channel, 0
         self._found: Found = None
-        # Whether its user still asks for it.
-        self._is_kept = True
-        self._identity: Optional[Identity] = None
-        self._returned: Optional[Returned] = None
 
     def poll(self) -> Optional[Outcome]:
         """The outcome; None where there is none yet. An error is raised: nothing is known of the message then, and a consumer has to be
         ready for a second copy of it if it is published again."""
         found = self._found
         if found is None:
-            found = self._channel._confirms.look(self)
-        if isinstance(found, Error):
-            raise type(found)(found.words, found.reason)
-        return found
+            found = self._channel._look(self)
+        if found is None or type(found) is Outcome:
+            return found
+        assert isinstance(found, Error)
+        raise type(found)(found.words, found.reason)
 
     def forget(self) -> None:
         """The outcome will not be asked for any more: its memory is let go. Where the message comes back, `wait_for_confirms` gives it."""
         self._channel._session.check_thread()
-        self._is_kept = False
-        if not self._channel._confirms.is_on:
+        if self._channel._confirms.is_on:
+            self._channel._confirms.forgotten.add(self)
+        else:
             self._channel._session.forget(self._number)
 
 
@@ -84,11 +82,15 @@ class Confirms:
         self.is_used = False
         # Whether outcomes are being read: an exception that fell then left a message behind that came back.
         self._is_reading = False
-        # The tag of the last publish, and that at which it is looked what may be let go.
-        self.tag, self._next = 0, LEAST
+        #: The tag of the last publish, and that at which it is looked what may be let go.
+        self.tag, self.next = 0, LEAST
+        #: The publishes that may have no outcome yet, by their tags, and those of which nobody asks it.
         self.open: Dict[int, ConfirmCore] = {}
-        # The mandatory ones that nothing came back for, in their order, by what they say.
+        self.forgotten: Set[ConfirmCore] = set()
+        # The mandatory ones that nothing came back for: what each says, and who says it, in their order. And what came back for others.
+        self._says: Dict[ConfirmCore, Identity] = {}
         self._alike: Dict[Any, Dict[bytes, Dict[ConfirmCore, None]]] = {}
+        self._came: Dict[ConfirmCore, Returned] = {}
         #: How many messages came back that the session has given to no publish yet, and mandatory ones that wait for these to be sorted.
         self.unread = 0
         self._held: Dict[ConfirmCore, Outcome] = {}
@@ -97,40 +99,36 @@ class Confirms:
 
     # ---- publishes come
 
-    def add(self, confirm: ConfirmCore, identity: Optional[Identity]) -> None:
-        """A publish that is about to be made."""
-        confirm._tag = tag = self.tag + 1
-        self.open[tag] = confirm
-        if identity is not None:
-            self.is_used, confirm._identity = True, identity
-            self._alike.setdefault(identity.rest, {}).setdefault(identity.properties, {})[confirm] = None
-        if tag > self._next:
-            self._prune()
+    def expect(self, confirm: ConfirmCore, identity: Identity) -> None:
+        """A mandatory publish that is about to be made."""
+        self.is_used, self._says[confirm] = True, identity
+        self._alike.setdefault(identity.rest, {}).setdefault(identity.properties, {})[confirm] = None
 
-    def _prune(self) -> None:
+    def prune(self) -> None:
         """Lets those go that have their outcome, so that none is held of which nobody asks it."""
         self.open = {tag: confirm for tag, confirm in self.open.items() if confirm._found is None}
         if len(self.open) > LEAST:
             self.take(list(self.open))
-        self._next = self.tag + len(self.open) + LEAST
+        self.forgotten.intersection_update(self.open.values())
+        self.next = self.tag + len(self.open) + LEAST
 
     def drop(self, confirm: ConfirmCore) -> None:
-        """That publish was refused."""
-        del self.open[confirm._tag]
+        """A publish that was about to be made was refused."""
+        if self.open.get(self.tag + 1) is confirm:
+            del self.open[self.tag + 1]
         self._strike(confirm)
 
     # ---- outcomes come
 
     def _ask(self, confirm: ConfirmCore) -> Found:
         """Takes the outcome of a publish from the session, which gives it once. Until it is stored that publish is told UNTOLD."""
-        number = confirm._number
-        if number == 0:  # an exception fell as it was made
-            return None
+        if confirm._found is not None or confirm in self._held or confirm._number == 0:
+            return confirm._found
         confirm._found = UNTOLD
-        code = _outcome(self._session._by, number)
+        code = _outcome(self._session._by, confirm._number)
         found: Found = BY_NUMBER.get(code)
         if found is None:
-            found = self._beyond(code, number)
+            found = self._beyond(code, confirm._number)
         if found is None:
             confirm._found = None
         return found
@@ -163,15 +161,15 @@ class Confirms:
         alike = self._alike.get(identity.rest, {})
         places: Iterable[Iterable[ConfirmCore]] = (alike.get(identity.properties, ()), *alike.values(), self._held, self.open.values())
         for confirm in (it for place in places for it in place):
-            if confirm._identity is not None:
-                confirm._returned = returned
+            if confirm in self._says:
+                self._came[confirm] = returned
                 self._strike(confirm)
                 return
         self.strangers.append(returned)
 
     def _strike(self, confirm: ConfirmCore) -> None:
         """No message is given to this publish any more."""
-        identity, confirm._identity = confirm._identity, None
+        identity = self._says.pop(confirm, None)
         if identity is not None:
             alike = self._alike[identity.rest]
             waiting = alike[identity.properties]
@@ -184,8 +182,7 @@ class Confirms:
     def take(self, tags: Iterable[int]) -> List[ConfirmCore]:
         """Takes the outcomes of these publishes that are there: these publishes."""
         self._begin()
-        asked = [confirm for tag in tags if (confirm := self.open.get(tag)) is not None]
-        return self._sort([(it, self._ask(it) if it._found is None else it._found) for it in asked])
+        return self._sort([(tag, it, self._ask(it)) for tag in tags if (it := self.open.get(tag)) is not None])
 
     def _begin(self) -> None:
         self._session.check_thread()
@@ -193,39 +190,42 @@ class Confirms:
             self._give_up()
         self._is_reading = True
 
-    def _sort(self, found: List[Tuple[ConfirmCore, Found]]) -> List[ConfirmCore]:
+    def _sort(self, found: List[Tuple[int, ConfirmCore, Found]]) -> List[ConfirmCore]:
         """Tells publishes their outcomes, each with its own message, now that all that came back were given."""
-        done = [(confirm, it) for confirm, it in found if it is not None]
-        for confirm, it in done:
-            self.open.pop(confirm._tag, None)
-            if isinstance(it, Outcome) and confirm._identity is not None and self.unread:
+        told = []
+        for tag, confirm, it in found:
+            if it is None:
+                continue
+            del self.open[tag]
+            if self.unread and confirm in self._says and isinstance(it, Outcome):
                 self._held[confirm] = it  # its message may be one that the session gives next
                 confirm._found = None
             else:
                 self._tell(confirm, it)
-        told = [confirm for confirm, _ in done if confirm not in self._held]
+                told.append(confirm)
         if self._held and not (self.unread and self.open):
             held, self._held = self._held, {}
             for confirm, outcome in held.items():
-                self._tell(confirm, UNSORTED if self.unread and confirm._returned is None else outcome)
+                self._tell(confirm, UNSORTED if self.unread and confirm not in self._came else outcome)
             told += held
         self._is_reading = False
         return told
 
     def _tell(self, confirm: ConfirmCore, found: Union[Outcome, Error]) -> None:
-        self._strike(confirm)
-        if confirm._returned is not None and isinstance(found, Outcome) and found.returned is None:
-            found = Outcome(found.kind, confirm._returned)
-            if not confirm._is_kept:
-                self.strangers.append(confirm._returned)
+        if self._says:
+            self._strike(confirm)
+        returned = self._came.pop(confirm, None)
+        if returned is not None and isinstance(found, Outcome):
+            found = Outcome(found.kind, returned)
+            if confirm in self.forgotten:
+                self.strangers.append(returned)
         confirm._found = found
 
     def _give_up(self) -> None:
         """An exception fell as outcomes were read, and a message that came back may be lost: each mandatory publish that it may be is UNTOLD."""
-        for confirm in [*self.open.values(), *self._held]:
-            if confirm._identity is not None:
-                confirm._found = UNTOLD
-                self._strike(confirm)
+        for confirm in list(self._says):
+            confirm._found = UNTOLD
+            self._strike(confirm)
         self._held = {}
 
     def settle(self, tag: int, is_multiple: bool) -> List[ConfirmCore]:
@@ -243,21 +243,19 @@ class Confirms:
             return self._look_around(confirm)
         confirm._found = UNTOLD
         code = _outcome(session._by, confirm._number)
-        found: Found = BY_NUMBER.get(code)
-        if found is None:
-            found = self._beyond(code, confirm._number)
-        confirm._found = found
+        confirm._found = found = BY_NUMBER[code] if code in BY_NUMBER else self._beyond(code, confirm._number)
         return found
 
     def _look_around(self, confirm: ConfirmCore) -> Found:
         """The outcome of a publish of a channel to which messages may come back: where its settlement wasn't seen as it came, all are asked."""
         self._begin()
-        found = self._ask(confirm) if confirm._found is None and confirm not in self._held else confirm._found
+        found = self._ask(confirm)
         if found is None:
             self._is_reading = False
         else:
-            others = [it for it in self.open.values() if it is not confirm]
-            self._sort([(confirm, found), *((it, self._ask(it) if it._found is None else it._found) for it in others)])
+            self._sort([(tag, it, found if it is confirm else self._ask(it)) for tag, it in self.open.items()])
+            if confirm._found is UNTOLD and confirm not in self.open.values():  # it was let go of before
+                self._tell(confirm, found)
         return confirm._found
 
 

@@ -2,12 +2,13 @@
 stand here."""
 from __future__ import annotations
 
+import ctypes
 from typing import Any, Dict, List, Optional, Set, Tuple, TypeVar
 
 from . import _asks, _text
 from ._asks import Ask
 from ._confirms import TAIL, ConfirmCore, Confirms, identity_of, returns, settlements
-from ._library import Session
+from ._library import Session, _here, _publish
 from ._values import Message, Returned, read_returned
 from .errors import CallFailed, CloseReason, Error, Refused
 
@@ -31,6 +32,8 @@ class Core:
         self._next, self._made, self._is_lost, self._is_closed = 0, 0, False, False
         # Whether something is on its way between the session and its user or the socket: an exception that falls then loses the connection.
         self._is_torn = False
+        # Whether a channel has mandatory publishes, so that settlements are looked for.
+        self._is_marked = False
         # Channels whose opening nobody waits for any more, and calls and consumers that nobody has.
         self._orphans: Set[int] = set()
         self._left: List[Tuple[str, Ask[Any]]] = []
@@ -47,7 +50,7 @@ class Core:
         while self._session.receive(given) is not None:
             given, self._has_closed = b"", True
         done: List[ConfirmCore] = []
-        if self._confirms_at_once or any(channel._confirms.is_used for channel in self._channels.values()):
+        if self._confirms_at_once or self._is_marked:
             seen = self._tail + data
             self._has_closed = self._has_closed or any(it in seen for it in CLOSES)
             for number in returns(seen, len(self._tail)):
@@ -58,7 +61,7 @@ class Core:
                 channel = self._channels.get(number)
                 if channel is not None and channel._confirms.is_on:
                     done += channel._confirms.settle(tag, is_multiple)
-        self._tail = data[-TAIL:] if len(data) >= TAIL else (self._tail + data)[-TAIL:]
+            self._tail = seen[-TAIL:]
         if self._left or self._ending:
             self._tidy()
         return done
@@ -187,6 +190,7 @@ class ChannelCore:
     def __init__(self, connection: Core, number: int):
         self.connection, self.number, self._session = connection, number, connection._session
         self._confirms = Confirms(self._session, self)
+        self._look = self._confirms.look
         # Those of its consumers whose messages are to be acknowledged, and why it ended, once another one has its number.
         self._acking: Set[int] = set()
         self._is_over, self._ended_by = False, None  # type: bool, Optional[CloseReason]
@@ -220,36 +224,43 @@ class ChannelCore:
         """Makes a publish of which this is the confirm. Where an exception falls, it is known which of the two happened."""
         if self._is_over:
             self._check()
+        session, confirms, text = self._session, self._confirms, _text.properties(properties) if properties else b"[]"
+        if _here() != session._thread:
+            raise session.elsewhere()
         try:
             to, key = exchange.encode(), routing_key.encode()
-            if len(to) > 255 or len(key) > 255:
-                raise ValueError
         except (AttributeError, ValueError):
             to, key = _text.octets_of("exchange", exchange), _text.octets_of("routing_key", routing_key)
-            exchange, routing_key = to.decode(), key.decode()
-        text = _text.properties(properties) if properties else b"[]"
-        session, confirms, identity = self._session, self._confirms, None
-        if mandatory and _text.flag("mandatory", mandatory) == "1" and confirms.is_on:
-            identity = identity_of(exchange, routing_key, text, body)
-        before = session.last_confirm
-        if confirms.is_on:
-            confirms.add(confirm, identity)
         try:
-            confirm._number = session.publish(self.number, to, key, body, text, mandatory)
-            confirms.tag += 1
+            if mandatory and _text.flag("mandatory", mandatory) == "1" and confirms.is_on:
+                confirms.expect(confirm, identity_of(to.decode(), key.decode(), text, body))
+                self.connection._is_marked = True
+            tag = confirms.tag + 1
+            if confirms.is_on:
+                if tag > confirms.next:
+                    confirms.prune()
+                confirms.open[tag] = confirm
+            status = _publish(session._by, self.number, to, len(to), key, len(key), mandatory, body, len(body), text, len(text), session._confirm_at)
+            if status:
+                session.check(status)
+            confirm._number = session.last = session._confirm.value
+            confirms.tag = tag
         except BaseException as error:
-            self._unmade(confirm, before, error)
+            self._unmade(confirm, error)
+            _text.octets_of("exchange", to)
+            _text.octets_of("routing_key", key)
             raise
         return confirm
 
-    def _unmade(self, confirm: ConfirmCore, before: int, error: BaseException) -> None:
+    def _unmade(self, confirm: ConfirmCore, error: BaseException) -> None:
         """A publish ended by an exception: it was refused, or accepted where its number was given."""
-        is_refused = isinstance(error, (Error, ValueError, MemoryError, TypeError, RuntimeError))
-        if self._confirms.tag != confirm._tag and self._confirms.is_on:
-            if not is_refused and self._session.last_confirm != before:
-                confirm._number, self._confirms.tag = self._session.last_confirm, confirm._tag
-            else:
-                self._confirms.drop(confirm)
+        session, confirms = self._session, self._confirms
+        is_refused = isinstance(error, (Error, ValueError, MemoryError, TypeError, RuntimeError, ctypes.ArgumentError))
+        if confirm._number or not is_refused and session.last_confirm != session.last:
+            confirm._number = session.last = session.last_confirm
+            confirms.tag = max(confirms.open, default=confirms.tag)
+        elif confirms.is_on:
+            confirms.drop(confirm)
         if isinstance(error, Refused):
             raise Refused(error.words, self.connection._reason(self.number, error.words)) from None
 

@@ -144,8 +144,10 @@ class Session:
         self._confirm, self._message, self._reason = ctypes.c_uint64(), _Message(), _Reason()
         self._confirm_at, self._message_at, self._reason_at = (ctypes.byref(it) for it in (self._confirm, self._message, self._reason))
         self._thread, self.is_forked = _here(), False
+        #: The number of the last publish that its caller was told, and by `last_confirm` of the last that was accepted.
+        self.last = 0
         _sessions.add(self)
-        self._check(_library.lapin_open(self._by, frame_max))
+        self.check(_library.lapin_open(self._by, frame_max))
 
     def close(self) -> None:
         _library.lapin_close(self._by)
@@ -170,7 +172,8 @@ class Session:
         if _here() != self._thread:
             raise self.elsewhere()
 
-    def _check(self, status: int) -> None:
+    def check(self, status: int) -> None:
+        """Raises the error that a status is."""
         if status == REFUSED:
             raise Refused(self.refusal())
         if status in (NO_MEMORY, KEPT):
@@ -201,7 +204,7 @@ class Session:
         if _here() != self._thread:
             raise self.elsewhere()
         given = line.encode()
-        self._check(_library.lapin_line(self._by, given, len(given)))
+        self.check(_library.lapin_line(self._by, given, len(given)))
         answer = self._line()
         if answer.startswith("refused "):
             raise Refused(answer[8:])
@@ -214,13 +217,14 @@ class Session:
         status = _publish(self._by, channel, exchange, len(exchange), routing_key, len(routing_key), mandatory, body, len(body),
                           properties, len(properties), self._confirm_at)
         if status:
-            self._check(status)
-        return self._confirm.value
+            self.check(status)
+        self.last = self._confirm.value
+        return self.last
 
     @property
     def last_confirm(self) -> int:
-        """The number of the last publish that was accepted."""
-        return self._confirm.value
+        number: int = self._confirm.value
+        return number
 
     def outcome(self, confirm: int) -> int:
         """Of a confirm, and given once: 1 an ack, 2 a nack, 3 none was asked for, 4 an error, whose words `refusal` has, 5 one for whose words
@@ -250,7 +254,7 @@ class Session:
         if status == GONE:
             return "end"
         if status:
-            self._check(status)
+            self.check(status)
         found, answer = self._message, self._answer()
         key = found.exchange + found.routing_key
         body = key + found.properties
@@ -264,7 +268,7 @@ class Session:
         status = getattr(_library, "lapin_" + call)(self._by, acker, *marks)
         if status == GONE:
             return False
-        self._check(status)
+        self.check(status)
         return True
 
     def send(self, flow: bool = True, enough: int = 1 << 17) -> bytes:
@@ -273,7 +277,7 @@ class Session:
             raise self.elsewhere()
         status = _library.lapin_send(self._by, flow, enough)
         if status:
-            self._check(status)
+            self.check(status)
         length = _library.lapin_leaving_length(self._by)
         return self._take(length, _library.lapin_leaving) if length else b""
 
@@ -290,7 +294,7 @@ class Session:
             return "Untold"
         if status == MALFORMED:
             raise ValueError("what came is no frame")
-        self._check(status)
+        self.check(status)
         return None
 
     @property

@@ -9,7 +9,7 @@ import socket
 import ssl
 import time
 from collections import deque
-from typing import Deque, Optional, Union
+from typing import Deque, Optional, Tuple, Union
 
 from ._library import DONE, PENDING, REFUSED, Clock, Opening
 from ._urls import Target
@@ -147,7 +147,7 @@ class Wire:
     def __init__(self, target: Target, timeout: Optional[float]):
         opener = _Opener(target, timeout)
         try:
-            self.socket = opener.connected()
+            self.socket: Union[socket.socket, ssl.SSLSocket] = opener.connected()
         except OSError as error:
             raise OpeningFailed(f"no connection: {error}") from error
         try:
@@ -159,18 +159,31 @@ class Wire:
             self.socket.close()
             raise
         self.frame_max, self.channel_max, heartbeat = greeter.opening.limits
+        # The clock is told when octets were sent and heard last as it is asked; before `_quiet` nothing is due.
         self._clock, self._came = Clock(now(), heartbeat), greeter.data
+        self._sent = self._heard = self._quiet = time.monotonic()
         self._queue: Deque[memoryview] = deque()
         #: How many octets wait for the kernel.
         self.size = 0
+        self._poll: Optional[Tuple[select.poll, int]] = None
 
-    def give(self, data: bytes) -> None:
-        """Octets that are to be sent, behind those that wait."""
-        self._queue.append(memoryview(data))
-        self.size += len(data)
+    def send(self, data: bytes) -> None:
+        """Hands octets to the kernel, behind those that wait; what it doesn't take now waits."""
+        count = 0
+        if not self._queue:
+            try:
+                count = self.socket.send(data)
+                self._sent = time.monotonic()
+            except NOT_NOW:
+                pass
+            except OSError as error:
+                raise ConnectionLost(str(error)) from error
+        if count < len(data):
+            self._queue.append(memoryview(data)[count:])
+            self.size += len(data) - count
 
     def push(self) -> None:
-        """Hands to the kernel what it takes now."""
+        """Hands to the kernel what it takes now of the octets that wait."""
         queue = self._queue
         while queue:
             head = queue[0]
@@ -185,7 +198,7 @@ class Wire:
             else:
                 queue[0] = head[count:]
             self.size -= count
-            self._clock.sent(now())
+            self._sent = time.monotonic()
 
     def pull(self) -> bytes:
         """What came; b'' where nothing did."""
@@ -200,27 +213,55 @@ class Wire:
             raise ConnectionLost(str(error)) from error
         if not data:
             raise ConnectionLost("the broker hung up")
-        self._clock.heard(now())
+        self._heard = time.monotonic()
         return data
 
-    def wait(self, until: Optional[float]) -> bool:
-        """Waits until there is something to push or to pull. False where the time is up; heartbeats are given meanwhile."""
-        due, pause = self._clock.due(now())
-        if due == "silent":
-            raise ConnectionLost(SILENT)
-        left = None if until is None else until - time.monotonic()
-        if left is not None and left <= 0:
-            return False
-        if due == "send" and not self._queue:
-            self.give(HEARTBEAT)
+    def wait(self, until: Optional[float]) -> Optional[bool]:
+        """Waits until there is something to push or to pull, once at least looks for it, and tells whether there is something to pull. None where
+        the time is up; heartbeats are given meanwhile."""
+        if self._came or isinstance(self.socket, ssl.SSLSocket) and self.socket.pending():
             return True
-        if due == "send":  # what waits is a sign of life too, once the kernel takes it
-            pause = 1.0
-        wait, ready = left if pause is None else pause if left is None else min(pause, left), select.poll()
-        ready.register(self.socket, select.POLLIN | select.POLLOUT if self._queue else select.POLLIN)
-        ready.poll(None if wait is None else wait * 1000 + 1)
-        return True
+        moment = time.monotonic()
+        pause = None if until is None else max(until - moment, 0.0)
+        if moment >= self._quiet:
+            rest = self._beat(moment)
+            pause = rest if pause is None or rest < pause else pause
+        elif pause is None or self._quiet - moment < pause:
+            pause = self._quiet - moment
+        found = self._polled(pause)
+        if found:
+            return found & ~select.POLLOUT != 0
+        return None if until is not None and time.monotonic() >= until else False
+
+    def _beat(self, moment: float) -> float:
+        """What is due now: how long nothing is then."""
+        clock = self._clock
+        clock.sent(int(self._sent * 1000))
+        clock.heard(int(self._heard * 1000))
+        due, rest = clock.due(int(moment * 1000))
+        if due == "silent" and not self._polled(0):
+            raise ConnectionLost(SILENT)
+        if due == "send" and not self._queue:
+            self.send(HEARTBEAT)
+        if due != "wait":  # what waits is a sign of life too, once the kernel takes it
+            rest = 3600.0 if due == "never" else 1.0 if self._queue else 0.0
+        self._quiet = moment + (rest or 0.0)
+        return rest or 0.0
+
+    def _polled(self, pause: float) -> int:
+        """What the socket is ready for within the time."""
+        mask = select.POLLIN | select.POLLOUT if self._queue else select.POLLIN
+        held, self._poll = self._poll, None  # (a signal's handler may wait too)
+        if held is None:
+            held = select.poll(), 0
+        poll, known = held
+        if known != mask:
+            poll.register(self.socket, mask)
+        found = poll.poll(pause * 1000 + (pause > 0))
+        self._poll = poll, mask
+        return found[0][1] if found else 0
 
     def close(self) -> None:
         self._queue.clear()
+        self.size = 0
         self.socket.close()

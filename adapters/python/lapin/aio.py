@@ -86,7 +86,7 @@ class Connection(Core):
         self._waiters: List[asyncio.Future[None]] = []
         self._asking: Dict[ConfirmCore, List[asyncio.Future[None]]] = {}
         self._running: Set[asyncio.Future[Any]] = set()
-        self._is_flushing, self._is_feeding, self._is_filling = False, False, False
+        self._is_flushing, self._is_feeding, self._is_filling, self._is_closing = False, False, False, False
         self._tasks = [self._loop.create_task(self._read(greeter.data)), self._loop.create_task(self._beat())]
 
     async def __aenter__(self) -> Connection:
@@ -279,6 +279,7 @@ class Connection(Core):
         self._session.check_thread()
         if self._is_closed:
             return
+        self._is_closing = True
         try:
             if not self._is_lost:
                 self._flush(everything=True)
@@ -333,7 +334,7 @@ class Consumer(ConsumerCore):
                 task = asyncio.ensure_future(given)
                 connection._running.add(task)
                 task.add_done_callback(connection._ran)
-        if self._is_done and not self._is_ending and not connection._is_closed:
+        if self._is_done and not self._is_ending and not connection._is_closing:
             connection._raised(f"the consumer {self.tag} ended", self._error)
 
     async def next(self, timeout: Optional[float] = None) -> Optional[Message]:

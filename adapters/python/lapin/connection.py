@@ -50,6 +50,8 @@ class Connection(Core):
         super().__init__(wire.frame_max, wire.channel_max)
         self._wire, self._waiting = wire, 0
         self._is_inside, self._is_stopping = False, False
+        # Whether so much waits for the socket that a publish has to wait.
+        self._is_full = False
 
     def __enter__(self) -> Connection:
         return self
@@ -70,22 +72,26 @@ class Connection(Core):
         if self._is_lost or self._is_closed:
             raise ConnectionLost(self._lost_error(), self._session.last_close(0))
 
-    def _move(self) -> bool:
-        """Hands to the kernel what may leave, and takes what came: once, and without waiting. Whether anything came. Nothing else moves
-        octets; an exception that falls here loses the connection."""
+    def _move(self, is_ready: bool = True) -> bool:
+        """Hands to the kernel what may leave, and takes what came, if something is ready: once, and without waiting. Whether anything came.
+        Nothing else moves octets; an exception that falls here loses the connection."""
         self._check()
         if self._is_inside:
             raise RuntimeError("a connection isn't used within its own call, as by a signal handler")
-        self._is_inside = True
+        self._is_inside = self._is_torn = True
+        wire = self._wire
         try:
-            self._is_torn, self._waiting = True, 0
-            self._push()
-            data = self._wire.pull()
+            if self._waiting:
+                self._waiting = 0
+                self._push()
+            if wire.size:
+                wire.push()
+            data = wire.pull() if is_ready else b""
             if data:
                 self._receive(data)
                 self._push()
             self._is_torn = False
-            return bool(data)
+            return data != b""
         except (ConnectionLost, ValueError, MemoryError) as error:
             self._is_torn = False
             self._lose(str(error) or "there was no memory")
@@ -97,12 +103,14 @@ class Connection(Core):
             self._is_inside = False
 
     def _push(self) -> None:
-        while data := self._session.send():
-            self._wire.give(data)
-        self._wire.push()
+        enough = 1 << 17
+        while data := self._session.send(True, enough):
+            self._wire.send(data)
+            if len(data) < enough:
+                return
 
-    def _pause(self, until: Optional[float]) -> bool:
-        """Waits until octets can move. False where the time is up."""
+    def _pause(self, until: Optional[float]) -> Optional[bool]:
+        """Waits until octets can move. Whether something came; None where the time is up."""
         try:
             return self._wire.wait(until)
         except ConnectionLost as error:
@@ -115,19 +123,21 @@ class Connection(Core):
             self._wire.close()
 
     def _turn(self, until: Optional[float]) -> bool:
-        while not self._move():
-            if not self._pause(until):
-                return False
-        return True
+        self._move(is_ready=False)
+        while (is_ready := self._pause(until)) is not None:
+            if self._move(is_ready):
+                return True
+        return False
 
     def _make_room(self) -> None:
         """Waits until the broker has read enough of what was published."""
         until = time.monotonic() + PATIENCE
         self._move()
         while self._wire.size > MOST // 2:
-            if not self._pause(until):
+            if self._pause(until) is None:
                 raise Timeout("the broker takes nothing; nothing was published")
             self._move()
+        self._is_full = False
 
     def _until(self, ready: Callable[[], Optional[T]], until: Optional[float]) -> T:
         """What is ready, once it is."""
@@ -150,6 +160,7 @@ class Connection(Core):
         if self._waiting:
             self._move()
         ticket = self._kept(lambda: self._ticket(asked))
+        self._waiting += 1
         try:
             answer = self._until(lambda: self._kept(lambda: self._answer(asked, ticket)), until)
         except CallFailed:
@@ -177,7 +188,7 @@ class Connection(Core):
         until = _end_of(timeout)
         self._move()
         while self._wire.size:
-            if not self._pause(until):
+            if self._pause(until) is None:
                 raise Timeout("the broker takes nothing; what waits leaves later")
             self._move()
 
@@ -363,7 +374,7 @@ class Channel(ChannelCore):
         confirm is. It leaves with the next call that waits, with `connection.flush()`, or once 64 KiB wait. While the broker reads nothing and
         more than 1 MiB waits for the socket, it waits 30 seconds at most, and then raises `Timeout`; nothing was published then."""
         connection = self.connection
-        if connection._wire.size > MOST:
+        if connection._is_full:
             connection._make_room()
         octets = body if type(body) is bytes else _text.body_of(body)
         confirm = self._publish(Confirm(self), exchange, routing_key, octets, mandatory, properties)
@@ -371,6 +382,7 @@ class Channel(ChannelCore):
         if connection._waiting > ENOUGH:
             try:
                 connection._move()
+                connection._is_full = connection._wire.size > MOST
             except ConnectionLost:  # the publish was accepted: its confirm tells it
                 pass
         return confirm
