@@ -2,27 +2,30 @@
 
 The session gives a message that came back to the publish that is settled next (docs/RULES.md, "Settlements and returned messages"). RabbitMQ
 settles routed publishes by one ack behind the return of later ones, so that may be another one's. Here it goes to the mandatory publish that it
-equals in exchange, routing key, properties and body: the oldest of those that are open; equal ones are interchangeable. Each settlement that is
-seen in the octets of the broker has the session asked for the outcomes that it covers, and for no other one.
+equals in exchange, routing key, properties and body: the oldest of those that are open; equal ones are interchangeable. What equals none is
+nobody's. Each settlement that is seen in the octets of the broker has the session asked for the outcomes that it covers, and for no other one.
 """
 from __future__ import annotations
 
-import re
+import struct
 from hashlib import blake2b
 from itertools import takewhile
 from typing import Any, Dict, Iterable, List, NamedTuple, Optional, Set, Tuple, Union
 
 from ._library import Session, _here, _outcome
+from ._text import read_properties
 from ._values import BY_KIND, BY_NUMBER, Outcome, Returned, read_returned
 from .errors import CallFailed, Error, Refused
 
-#: A basic.ack or basic.nack within octets: its channel, its tag and its mark. What only looks like one has an outcome asked for too early.
-SETTLEMENT = re.compile(rb"\x01(?=(..)\x00\x00\x00\x0d\x00\x3c\x00[\x50\x78](.{8})(.)\xce)", re.DOTALL)
-#: The head of a basic.return: its channel.
-RETURN = re.compile(rb"\x01(?=(..).{4}\x00\x3c\x00\x32)", re.DOTALL)
-RETURN_HEAD = 11
-#: The octets of a settlement but for one.
-TAIL = 20
+HEAD = struct.Struct(">BHI")
+#: The methods that are looked for in the octets of the broker.
+ACK, NACK, RETURN = b"\x00\x3c\x00\x50", b"\x00\x3c\x00\x78", b"\x00\x3c\x00\x32"
+CLOSES = frozenset((b"\x00\x14\x00\x28", b"\x00\x14\x00\x29", b"\x00\x0a\x00\x32", b"\x00\x0a\x00\x33"))
+LOOKED_FOR = CLOSES | {ACK, NACK, RETURN}
+#: The octets of a frame within which such a method says all that is looked for.
+TOLD = 21
+#: That it isn't known how many messages came back.
+UNKNOWN = 1 << 60
 #: So many publishes of which nobody asks the outcome are held at least before they are asked for here.
 LEAST = 1024
 
@@ -42,6 +45,11 @@ class Identity(NamedTuple):
 def identity_of(exchange: str, routing_key: str, properties: bytes, body: bytes) -> Identity:
     """A body above 64 octets stands as its length and its BLAKE2b digest of 32: nobody can make two that are equal there and not in their octets."""
     return Identity((exchange, routing_key, len(body), body if len(body) <= 64 else blake2b(body, digest_size=32).digest()), properties)
+
+
+def is_within(sent: Dict[str, Any], came: Dict[str, Any]) -> bool:
+    """Whether what came has all of these properties, and of headers all entries."""
+    return all(came.get(name) == value or name == "headers" and is_within(value, came.get(name, {})) for name, value in sent.items())
 
 
 class ConfirmCore:
@@ -80,8 +88,10 @@ class Confirms:
         self.is_on = False
         #: Whether a publish was mandatory, so that messages may come back.
         self.is_used = False
-        # Whether outcomes are being read: an exception that fell then left a message behind that came back.
+        # Whether an outcome with a message is being read: an exception that fell then may have lost that message.
         self._is_reading = False
+        # The publishes whose outcomes are read just now: UNTOLD ones that aren't among them were left so by an exception.
+        self._now: Set[ConfirmCore] = set()
         #: The tag of the last publish, and that at which it is looked what may be let go.
         self.tag, self.next = 0, LEAST
         #: The publishes that may have no outcome yet, by their tags, and those of which nobody asks it.
@@ -110,6 +120,8 @@ class Confirms:
         if len(self.open) > LEAST:
             self.take(list(self.open))
         self.forgotten.intersection_update(self.open.values())
+        for confirm in [it for it in self._says if it._found is not None]:  # exceptions fell as they were told
+            self._strike(confirm)
         self.next = self.tag + len(self.open) + LEAST
 
     def drop(self, confirm: ConfirmCore) -> None:
@@ -125,9 +137,10 @@ class Confirms:
         if confirm._found is not None or confirm in self._held or confirm._number == 0:
             return confirm._found
         confirm._found = UNTOLD
+        self._now.add(confirm)
         code = _outcome(self._session._by, confirm._number)
         found: Found = BY_NUMBER.get(code)
-        if found is None:
+        if found is None and (code or self.unread):  # without a message that came back there is none yet
             found = self._beyond(code, confirm._number)
         if found is None:
             confirm._found = None
@@ -137,31 +150,32 @@ class Confirms:
         """What the session's number tells not all of: an error, a message that came back, or nothing yet."""
         if code:
             return self.failed(self._session.refusal() if code == 4 else "NoMemory")
+        self._is_reading = True  # an exception that falls now may lose a message that came back
         try:
             words = self._session.line(f"confirm {number}").split(" ")
         except Refused as error:  # it was given or forgotten
-            return CallFailed(error.words)
+            words = ["error", error.words]
+        if len(words) > 2 and words[0] == "confirmed" and words[2] != "-":
+            self._give(read_returned(words[2:]), words[6].encode())
+        self._is_reading = False
         if words[0] == "pending":
             return None
-        if words[0] == "error":
-            return self.failed(" ".join(words[1:]))
-        if len(words) > 2 and words[2] != "-":
-            self._give(read_returned(words[2:]), words[6].encode())
-        return BY_KIND[words[1]]
+        return self.failed(" ".join(words[1:])) if words[0] == "error" else BY_KIND[words[1]]
 
     def failed(self, words: str) -> CallFailed:
         failed: CallFailed = self._channel._failed(words)
         return failed
 
     def _give(self, returned: Returned, properties: bytes) -> None:
-        """Gives what came back to its own publish: one that it equals; else, of a broker that changes properties, one that it equals but for
-        these; else the oldest mandatory one."""
+        """Gives what came back to its own publish: the oldest that it equals, or, of a broker that adds properties, that it equals but for these."""
         self.unread -= self.unread > 0
         identity = identity_of(returned.exchange, returned.routing_key, properties, returned.body)
         alike = self._alike.get(identity.rest, {})
-        places: Iterable[Iterable[ConfirmCore]] = (alike.get(identity.properties, ()), *alike.values(), self._held, self.open.values())
-        for confirm in (it for place in places for it in place):
-            if confirm in self._says:
+        waiting: Iterable[ConfirmCore] = alike.get(identity.properties, ())
+        if not waiting:
+            waiting = next((it for sent, it in alike.items() if is_within(read_properties(sent), returned.properties)), ())
+        for confirm in waiting:
+            if confirm._found is not UNTOLD or confirm in self._now:
                 self._came[confirm] = returned
                 self._strike(confirm)
                 return
@@ -171,13 +185,13 @@ class Confirms:
         """No message is given to this publish any more."""
         identity = self._says.pop(confirm, None)
         if identity is not None:
-            alike = self._alike[identity.rest]
-            waiting = alike[identity.properties]
-            del waiting[confirm]
+            alike = self._alike.get(identity.rest, {})  # (an exception may have fallen as it was added)
+            waiting = alike.get(identity.properties, {})
+            waiting.pop(confirm, None)
             if not waiting:
-                del alike[identity.properties]
+                alike.pop(identity.properties, None)
             if not alike:
-                del self._alike[identity.rest]
+                self._alike.pop(identity.rest, None)
 
     def take(self, tags: Iterable[int]) -> List[ConfirmCore]:
         """Takes the outcomes of these publishes that are there: these publishes."""
@@ -186,9 +200,9 @@ class Confirms:
 
     def _begin(self) -> None:
         self._session.check_thread()
+        self._now = set()
         if self._is_reading:
             self._give_up()
-        self._is_reading = True
 
     def _sort(self, found: List[Tuple[int, ConfirmCore, Found]]) -> List[ConfirmCore]:
         """Tells publishes their outcomes, each with its own message, now that all that came back were given."""
@@ -208,7 +222,6 @@ class Confirms:
             for confirm, outcome in held.items():
                 self._tell(confirm, UNSORTED if self.unread and confirm not in self._came else outcome)
             told += held
-        self._is_reading = False
         return told
 
     def _tell(self, confirm: ConfirmCore, found: Union[Outcome, Error]) -> None:
@@ -226,7 +239,7 @@ class Confirms:
         for confirm in list(self._says):
             confirm._found = UNTOLD
             self._strike(confirm)
-        self._held = {}
+        self._held, self._is_reading = {}, False
 
     def settle(self, tag: int, is_multiple: bool) -> List[ConfirmCore]:
         """A settlement came: the publishes that it covers and that have their outcome now."""
@@ -250,20 +263,35 @@ class Confirms:
         """The outcome of a publish of a channel to which messages may come back: where its settlement wasn't seen as it came, all are asked."""
         self._begin()
         found = self._ask(confirm)
-        if found is None:
-            self._is_reading = False
-        else:
+        if found is not None:
             self._sort([(tag, it, found if it is confirm else self._ask(it)) for tag, it in self.open.items()])
             if confirm._found is UNTOLD and confirm not in self.open.values():  # it was let go of before
                 self._tell(confirm, found)
         return confirm._found
 
 
-def settlements(data: bytes) -> List[Tuple[int, int, bool]]:
-    """The channel, the tag and the mark of each settlement in octets of the broker, and of what looks like one."""
-    return [(int.from_bytes(it[1], "big"), int.from_bytes(it[2], "big"), it[3] != b"\x00") for it in SETTLEMENT.finditer(data)]
+class Seen:
+    """What the octets of the broker say of publishes, frame by frame. The session reads them; here it is looked for whom they are about."""
 
+    def __init__(self) -> None:
+        # How many octets of a frame are to come yet, and the head of one that isn't there whole.
+        self._skip, self._rest = 0, b""
 
-def returns(data: bytes, known: int) -> List[int]:
-    """The channel of each message that came back in octets, and of what looks like one, whose head lies not in those that were known before."""
-    return [int.from_bytes(it[1], "big") for it in RETURN.finditer(data) if it.start() + RETURN_HEAD > known]
+    def look(self, data: bytes) -> List[Tuple[bytes, int, int, bool]]:
+        """The methods that are looked for: class and method, channel, and of a settlement its tag and whether it covers those below."""
+        if self._rest:
+            data, self._rest = self._rest + data, b""
+        at, end, found, unpack = self._skip, len(data), [], HEAD.unpack_from
+        while at + 7 <= end:
+            kind, channel, size = unpack(data, at)
+            if kind == 1:
+                if end - at < TOLD and end - at < size + 8:
+                    break
+                name = data[at + 7:at + 11]
+                if name in LOOKED_FOR:
+                    found.append((name, channel, int.from_bytes(data[at + 11:at + 19], "big"), data[at + 19:at + 20] != b"\x00"))
+            at += size + 8
+        self._skip = max(at - end, 0)
+        if at < end:
+            self._rest = data[at:]
+        return found

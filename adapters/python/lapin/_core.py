@@ -7,17 +7,13 @@ from typing import Any, Dict, List, Optional, Set, Tuple, TypeVar
 
 from . import _asks, _text
 from ._asks import Ask
-from ._confirms import TAIL, ConfirmCore, Confirms, identity_of, returns, settlements
+from ._confirms import CLOSES, RETURN, UNKNOWN, ConfirmCore, Confirms, Seen, identity_of
 from ._library import Session, _here, _publish
 from ._values import Message, Returned, read_returned
 from .errors import CallFailed, CloseReason, Error, Refused
 
 T = TypeVar("T")
 C = TypeVar("C", bound=ConfirmCore)
-
-
-#: The methods by which a channel or a connection ends: channel.close, channel.close-ok, connection.close, connection.close-ok.
-CLOSES = (b"\x00\x14\x00\x28", b"\x00\x14\x00\x29", b"\x00\x0a\x00\x32", b"\x00\x0a\x00\x33")
 
 
 class Core:
@@ -32,36 +28,35 @@ class Core:
         self._next, self._made, self._is_lost, self._is_closed = 0, 0, False, False
         # Whether something is on its way between the session and its user or the socket: an exception that falls then loses the connection.
         self._is_torn = False
-        # Whether a channel has mandatory publishes, so that settlements are looked for.
-        self._is_marked = False
         # Channels whose opening nobody waits for any more, and calls and consumers that nobody has.
         self._orphans: Set[int] = set()
         self._left: List[Tuple[str, Ask[Any]]] = []
         self._ending: List[ConsumerCore] = []
-        # The last octets, of which a frame's beginning may be one; whether a close was seen in what came last; and why the connection is gone.
-        self._tail, self._has_closed, self._why = b"", False, ""
+        # What came says of publishes; whether a close was seen in what came last; and why the connection is gone.
+        self._seen, self._has_closed, self._why = Seen(), False, ""
+        # Whether octets were read of which it isn't known what they said, since an exception fell.
+        self._is_blind = False
 
     # ---- what comes
 
     def _receive(self, data: bytes) -> List[ConfirmCore]:
         """Hands octets to the session. What it refuses closes the channel or the connection, as the protocol says. The publishes that were
         seen to have their outcome now."""
-        given, self._has_closed = data, False
+        given, self._has_closed, self._is_blind = data, False, True
         while self._session.receive(given) is not None:
             given, self._has_closed = b"", True
         done: List[ConfirmCore] = []
-        if self._confirms_at_once or self._is_marked:
-            seen = self._tail + data
-            self._has_closed = self._has_closed or any(it in seen for it in CLOSES)
-            for number in returns(seen, len(self._tail)):
-                channel = self._channels.get(number)
-                if channel is not None and channel._confirms.is_used:
-                    channel._confirms.unread += 1
-            for number, tag, is_multiple in settlements(seen):
-                channel = self._channels.get(number)
-                if channel is not None and channel._confirms.is_on:
-                    done += channel._confirms.settle(tag, is_multiple)
-            self._tail = seen[-TAIL:]
+        for name, number, tag, is_multiple in self._seen.look(data):
+            channel = self._channels.get(number)
+            if name in CLOSES:
+                self._has_closed = True
+            elif channel is None or not (channel._confirms.is_used or self._confirms_at_once and channel._confirms.is_on):
+                continue
+            elif name == RETURN:
+                channel._confirms.unread += channel._confirms.is_used
+            else:
+                done += channel._confirms.settle(tag, is_multiple)
+        self._is_blind = False
         if self._left or self._ending:
             self._tidy()
         return done
@@ -98,6 +93,8 @@ class Core:
         self._is_lost, self._why = True, self._why or why
         self._session.line("lost")
         for channel in self._channels.values():
+            if self._is_blind and channel._confirms.is_used:
+                channel._confirms.unread = UNKNOWN
             channel._confirms.take(list(channel._confirms.open))
 
     def _lost_error(self) -> str:
@@ -234,7 +231,6 @@ class ChannelCore:
         try:
             if mandatory and _text.flag("mandatory", mandatory) == "1" and confirms.is_on:
                 confirms.expect(confirm, identity_of(to.decode(), key.decode(), text, body))
-                self.connection._is_marked = True
             tag = confirms.tag + 1
             if confirms.is_on:
                 if tag > confirms.next:
