@@ -25,7 +25,7 @@ import rabbitmq  # noqa: E402
 from checks.common import BIN, TESTS  # noqa: E402
 
 # They name the package, which loads the shared object.
-PARTS = ("openings", "arguments", "publishes", "returns", "consumers", "endings", "patience", "interrupted", "asynchronous", "in_c", "with_rabbitmq")
+PARTS = ("openings", "arguments", "publishes", "returns", "consumers", "endings", "patience", "interrupted", "asynchronous", "documents", "held", "in_c", "with_rabbitmq")
 
 
 def library_at(out):

@@ -66,31 +66,35 @@ def publish(channel, waiting, numbers):
     waiting[number] = channel.publish("", key, b"%d" % number, mandatory=is_lost_one(number) or number % 2 == 0)
 
 
+def step(connection, channel, waiting, numbers, fate, cut_at):
+    """Publishes up to a window, waits, and notes what was told. Whether the connection is lost."""
+    try:
+        while numbers and len(waiting) < WINDOW:
+            publish(channel, waiting, numbers)
+            if numbers and numbers[-1] == cut_at:
+                connection._wire.socket.shutdown(numbers[-1] % 3)
+        connection.turn(10)
+        for number, confirm in list(waiting.items()):
+            words = "unmade" if confirm is None else told(confirm)
+            if words != "pending":
+                fate[number] = words
+                del waiting[number]
+        return False
+    except lapin.Error:
+        return True
+
+
 def one_connection(url, numbers, fate, alarms, cut_at):
     """Publishes numbers until there are none, the connection is cut, or an exception lost it."""
-    draw, waiting, sent = alarms.draw, {}, 0
-    alarms.off()
-    connection = lapin.connect(url)
+    waiting, is_lost, connection = {}, False, lapin.connect(url)
     channel = connection.channel(confirms=True)
-    while numbers or waiting:
+    while (numbers or waiting) and not is_lost:
         try:
             alarms.on()
-            while numbers and len(waiting) < WINDOW:
-                publish(channel, waiting, numbers)
-                sent += 1
-                if sent == cut_at:
-                    connection._wire.socket.shutdown(draw.choice((0, 1, 2)))
-            connection.turn(10)
-            for number, confirm in list(waiting.items()):
-                words = "unmade" if confirm is None else told(confirm)
-                if words != "pending":
-                    fate[number] = words
-                    del waiting[number]
+            is_lost = step(connection, channel, waiting, numbers, fate, cut_at)
+            alarms.off()
         except Alarm:
             pass
-        except lapin.Error:
-            break
-    alarms.off()
     for number, confirm in waiting.items():
         fate[number] = "unmade" if confirm is None else told(confirm)
     connection.close(1)
@@ -104,8 +108,8 @@ def main(url, publishes=1_000_000, cuts=100):
         channel.queue_declare("alarms")
         channel.queue_purge("alarms")
     while numbers:
-        cut_at = alarms.draw.randrange(1, 2000) if was_cut < cuts else 0
-        was_cut, connections = was_cut + (cut_at > 0), connections + 1
+        cut_at = numbers[-1] + alarms.draw.randrange(1, 2000) if was_cut < cuts else -1
+        was_cut, connections = was_cut + (cut_at >= 0), connections + 1
         one_connection(url, numbers, fate, alarms, cut_at)
     time.sleep(2)
     there = collections.Counter()

@@ -39,6 +39,7 @@ def _load() -> Any:
     handle, size, text, code = ctypes.POINTER(_Handle), ctypes.c_size_t, ctypes.c_char_p, ctypes.c_uint32
     number, flag, short = ctypes.c_uint64, ctypes.c_bool, ctypes.c_uint16
     calls: Tuple[Tuple[str, Any, Any], ...] = (
+        ("version", text, []),
         ("open", code, [handle, ctypes.c_uint32]),
         ("close", None, [handle]),
         ("line", code, [handle, text, size]),
@@ -68,6 +69,14 @@ def _load() -> Any:
 
 
 _library = _load()
+
+
+def library_version() -> str:
+    """What the shared object is: its release, `proved` or `unproved`, and the sha-256 of the text that it was made of."""
+    words: bytes = _library.lapin_version()
+    return words.decode()
+
+
 _publish = _library.lapin_publish
 _outcome = _library.lapin_outcome
 _here = threading.get_ident
