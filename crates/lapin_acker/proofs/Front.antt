@@ -8,6 +8,7 @@ use Rattle.lapin_acker.specs.Store.{end_of, seen, shown, spelled}
 use Rattle.lapin_acker.specs.Marks as mark
 use Rattle.lapin_acker.proofs.Store.{let-go, spent-cell, spent-gone, set-same, is-over}
 use Rattle.std.proofs.lemmas.Grind.{replicate_next}
+use Rattle.std.proofs.lemmas.List.{append-nil}
 
 abbrev pub AreUsed : List Switch → Type 0
 AreUsed us = (p : ℕ) (s : Switch) → slice_get us p ≡ Some s → used s ≡ s
@@ -34,12 +35,8 @@ all-used rs k c = used-append (spelled rs) (replicate k (switch.Used c)) (used-s
 pub one-more : (us : List Switch) (k c : ℕ) → us ++ replicate (k + 1) (switch.Used c) ≡ (us ++ replicate k (switch.Used c)) ++ switch.Used c ∷ []
 one-more us k c = ap (λ vs. us ++ vs) (replicate_next k (switch.Used c)) ∙ sym (append_assoc us (replicate k (switch.Used c)) (switch.Used c ∷ []))
 
-append-none : {X : Type 0} (xs : List X) → xs ++ [] ≡ xs
-append-none [] = refl
-append-none (x ∷ xs) = ap (λ ys. x ∷ ys) (append-none xs)
-
 pub run-closed : (rs : List (ℕ × ℕ)) (k c : ℕ) → spelled (rs ++ (k, c) ∷ []) ≡ spelled rs ++ replicate k (switch.Used c)
-run-closed [] k c = append-none (replicate k (switch.Used c))
+run-closed [] k c = append-nil (replicate k (switch.Used c))
 run-closed (r ∷ rs) k c = ap (λ vs. replicate r.0 (switch.Used r.1) ++ vs) (run-closed rs k c) ∙ sym (append_assoc (replicate r.0 (switch.Used r.1)) (spelled rs) (replicate k (switch.Used c)))
 
 -- ---- a run is let go

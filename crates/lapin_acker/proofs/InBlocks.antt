@@ -1,5 +1,6 @@
 -- Ackers in blocks: which stands at a place, what a use of one changes, and what goes into a block or is passed.
 use Rattle.std.proofs.Common.{◌≡◌, ◌≢◌, ℕ, zero, suc, ◌+◌, ◌*◌, ◌<◌, ◌≤◌, List, [], ◌∷◌, ◌++◌, drop, replicate, length, Some, refl, sym, ◌∙◌, ap, subst, arith, slice_get, slice_set, get_or, append_assoc, length-append}
+use Rattle.std.proofs.lemmas.List.{append-nil, set-append_left}
 use Rattle.lapin_acker.specs.declared.switch.Switch.{Switch}
 use Rattle.lapin_acker.specs.declared.switch.Switch.TheVariants as switch
 use Rattle.lapin_acker.specs.declared.blocks.Block.{Block}
@@ -42,11 +43,6 @@ get-laid (d ∷ bs) (suc q) r b lt at =
 
 -- ---- one is changed
 
-pub set-left : (us cs : List Switch) (p : ℕ) (y : Switch) → p < length us → slice_set (us ++ cs) p y ≡ slice_set us p y ++ cs
-set-left [] cs p y lt = absurd (omega (arith, lt))
-set-left (u ∷ us) cs zero y lt = refl
-set-left (u ∷ us) cs (suc p) y lt = ap (λ xs. u ∷ xs) (set-left us cs p y (omega (arith, lt)))
-
 same-cells : (b d : Block) (i n : ℕ) → ((k : ℕ) → i ≤ k → k < i + n → cell_at d k ≡ cell_at b k) → cells_from d i n ≡ cells_from b i n
 same-cells b d i zero same = refl
 same-cells b d i (suc n) same =
@@ -72,7 +68,7 @@ set-laid (e ∷ bs) zero r b d y lt at here others =
     let from-first : 0 + r ≡ r = omega arith in
     let changed : cells_from d 0 64 ≡ slice_set (cells_from e 0 64) r y = set-cells b d 0 64 r y lt (ap (cell_at d) from-first ∙ here) (λ k low high apart. others k (omega (arith, high)) (λ e. apart (e ∙ sym from-first))) ∙ ap (λ x. slice_set (cells_from x 0 64) r y) (sym same) in
     ap (λ xs. xs ++ laid bs) changed
-    ∙ sym (set-left (cells_from e 0 64) (laid bs) r y (omega (arith, lt, length-cells e 0 64)))
+    ∙ sym (set-append_left (cells_from e 0 64) (laid bs) r y (omega (arith, lt, length-cells e 0 64)))
     ∙ sym (ap (λ k. slice_set (laid (e ∷ bs)) k y) place)
 set-laid (e ∷ bs) (suc q) r b d y lt at here others =
     let place : 64 * suc q + r ≡ length (cells_from e 0 64) + (64 * q + r) = omega (arith, length-cells e 0 64) in
@@ -83,11 +79,7 @@ set-laid (e ∷ bs) (suc q) r b d y lt at here others =
 -- ---- some go into a block
 
 pub laid-push : (bs : List Block) (b : Block) → laid (bs ++ b ∷ []) ≡ laid bs ++ cells_from b 0 64
-laid-push [] b = nothing (cells_from b 0 64)
-  where
-    nothing : (xs : List Switch) → xs ++ [] ≡ xs
-    nothing [] = refl
-    nothing (x ∷ xs) = ap (λ ys. x ∷ ys) (nothing xs)
+laid-push [] b = append-nil (cells_from b 0 64)
 laid-push (e ∷ bs) b = ap (λ xs. cells_from e 0 64 ++ xs) (laid-push bs b) ∙ sym (append_assoc (cells_from e 0 64) (laid bs) (cells_from b 0 64))
 
 pub block-front : (b : Block) (i n : ℕ) (ts : List Switch) → ((p : ℕ) → p < n → slice_get ts p ≡ Some (cell_at b (i + p))) → cells_from b i n ++ drop n ts ≡ ts
@@ -104,11 +96,7 @@ block-front b i (suc n) (t ∷ ts) are =
 
 -- one after another is seen as a used one
 pub pass-cells : (g c i n : ℕ) (es : List ℕ) (us cs : List Switch) (b : Block) → ((j : ℕ) → j < n → seen es (g + length us + j + 1) (cell_at b (i + j)) ≡ seen es (g + length us + j + 1) (switch.Used c)) → shown g es ((us ++ replicate n (switch.Used c)) ++ cs) ≡ shown g es (us ++ (cells_from b i n ++ cs))
-pass-cells g c i zero es us cs b same = ap (λ xs. shown g es (xs ++ cs)) (nothing us)
-  where
-    nothing : (xs : List Switch) → xs ++ [] ≡ xs
-    nothing [] = refl
-    nothing (x ∷ xs) = ap (λ ys. x ∷ ys) (nothing xs)
+pass-cells g c i zero es us cs b same = ap (λ xs. shown g es (xs ++ cs)) (append-nil us)
 pass-cells g c i (suc n) es us cs b same =
     let one : List Switch = switch.Used c ∷ [] in
     let more : List Switch = us ++ one in
@@ -124,23 +112,3 @@ pass-cells g c i (suc n) es us cs b same =
     ap (λ xs. shown g es (xs ++ cs)) (sym (append_assoc us one (replicate n (switch.Used c))))
     ∙ pass-cells g c (suc i) n es more cs b behind
     ∙ passed-cell g (g + length us + 1) c es us rest (cell_at b i ∷ rest) (cell_at b i) refl refl first
-
--- ---- a run grows
-
-pub replicate-more : (k n : ℕ) (s : Switch) → replicate (k + n) s ≡ replicate k s ++ replicate n s
-replicate-more zero n s = let same : 0 + n ≡ n = omega arith in ap (λ m. replicate m s) same
-replicate-more (suc k) n s = let same : suc k + n ≡ suc (k + n) = omega arith in ap (λ m. replicate m s) same ∙ ap (λ xs. s ∷ xs) (replicate-more k n s)
-
-pub length-replicate : (n : ℕ) (s : Switch) → length (replicate n s) ≡ n
-length-replicate zero s = refl
-length-replicate (suc n) s = ap suc (length-replicate n s)
-
--- ---- in the code's words
-
-pub at-block : (bs : List Block) (q : ℕ) (b : Block) → q < length bs → b ≡ get_or bs q b → slice_get bs q ≡ Some b
-at-block [] q b lt is = absurd (omega (arith, lt))
-at-block (d ∷ bs) zero b lt is = ap Some (sym is)
-at-block (d ∷ bs) (suc q) b lt is = at-block bs q b (omega (arith, lt)) is
-
-pub some-same : (a b : Switch) → Some a ≡ Some b → a ≡ b
-some-same a b e = cc

@@ -1,7 +1,8 @@
-//! Ackers that were given long ago, 64 of one channel in a block: which of them may still be used is a bit each, and their tags follow one
-//! another.
+//! Ackers that were given long ago, 64 of one channel in a block: a bit each says which of them may still be used, and their tags follow
+//! one another.
 //!
-//! So are those of a consumer that acknowledges nothing, and those behind one that nobody settles. When ackers go into a block is `cells`'.
+//! Such are the ackers of a consumer that acknowledges nothing, and those behind one that nobody settles. When they go into a block is told
+//! by `cells`.
 
 ghost use Rattle.std.specs.Prelude.{◌≡◌, ◌≢◌, ℕ, ◌+◌, ◌*◌, ◌^◌, ◌<◌, ◌≤◌, ◌==◌, true, List, Some, None, IfSome, slice_get, slice_set, length};
 ghost use Rattle.std.specs.Int.{bit_at};

@@ -149,6 +149,7 @@ fn cell_in(tail: &VecDeque<Switch>, place: usize) -> Option<Switch>
     tail.get(place).copied()
 }
 
+// Puts the first 64 that have a cell into a block, where they can be one and there is memory.
 #[inline(never)]
 fn pack(blocks: &mut VecDeque<Block>, tail: &mut VecDeque<Switch>)
     requires { 64 ≤ deque_len tail.old }

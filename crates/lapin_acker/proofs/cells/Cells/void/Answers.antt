@@ -6,7 +6,9 @@ use Rattle.lapin_acker.specs.Blocks.{laid}
 use Rattle.lapin_acker.proofs.Front.{get-left, get-right, set-right}
 use Rattle.lapin_acker.proofs.Numbers.{at-get_or}
 use Rattle.lapin_acker.proofs.Store.{get-past}
-use Rattle.lapin_acker.proofs.InBlocks.{length-laid, set-left, some-same}
+use Rattle.std.proofs.lemmas.List.{set-append_left}
+use Rattle.std.proofs.lemmas.Option.{same_Some}
+use Rattle.lapin_acker.proofs.InBlocks.{length-laid}
 use Rattle.lapin_acker.proofs.cells.Cells.void.Goals as goal
 
 pub returns-then-place-within-clause-there : goal.returns-then-place-within-clause-there
@@ -14,7 +16,7 @@ returns-then-place-within-clause-there c =
     let us : List Switch = laid c.self.inside.blocks.items in
     let ts : List Switch = c.self.inside.tail.items in
     let within : c.args.place < length us = omega (arith, length-laid c.self.inside.blocks.items, c.len-within.ensures, c.if-place-within.true) in
-    rw (← c.self.view_is) (λ s at. ap (λ xs. xs ++ ts) (c.void_at.ensures.items s (sym (get-left us ts c.args.place within) ∙ at)) ∙ sym (set-left us ts c.args.place (used s) within))
+    rw (← c.self.view_is) (λ s at. ap (λ xs. xs ++ ts) (c.void_at.ensures.items s (sym (get-left us ts c.args.place within) ∙ at)) ∙ sym (set-append_left us ts c.args.place (used s) within))
 
 pub returns-then-place-within-clause-past : goal.returns-then-place-within-clause-past
 returns-then-place-within-clause-past c =
@@ -32,7 +34,7 @@ returns-then-place-len-clause-there c =
     let here : slice_get ts q ≡ Some c.index.result.now = at-get_or ts q c.index.result.now within c.index.ensures in
     rw (← c.self.view_is) (λ s at.
     let there : slice_get ts q ≡ Some s = sym (get-right us ts q) ∙ sym (ap (slice_get (us ++ ts)) place) ∙ at in
-    let same : c.index.result.now ≡ s = some-same c.index.result.now s (sym here ∙ there) in
+    let same : c.index.result.now ≡ s = same_Some c.index.result.now s (sym here ∙ there) in
     sym (ap (λ k. slice_set (us ++ ts) k (used s)) place ∙ set-right us ts q (used s) ∙ ap (λ y. us ++ slice_set ts q y) (sym (c.used.ensures ∙ ap used same))))
 
 pub returns-then-place-len-clause-past : goal.returns-then-place-len-clause-past

@@ -3,7 +3,7 @@ use Rattle.lapin_acker.specs.declared.switch.Switch.{Switch}
 use Rattle.lapin_acker.specs.declared.switch.Switch.TheVariants as switch
 use Rattle.lapin_acker.specs.Store.{spelled}
 use Rattle.lapin_acker.proofs.Front.{run-closed}
-use Rattle.lapin_acker.proofs.InBlocks.{replicate-more, length-replicate}
+use Rattle.std.proofs.lemmas.List.{length-replicate, replicate-append-replicate}
 use Rattle.lapin_acker.proofs.passed.Passed.add_many.Goals as goal
 
 pub returns-then-self-clause-used : goal.returns-then-self-clause-used
@@ -12,7 +12,7 @@ returns-then-self-clause-used c =
     let k : ℕ = c.self.inside.count in
     let s : Switch = switch.Used c.self.inside.channel in
     rw (← c.self.view_is)
-    (ap (λ vs. run ++ vs) (replicate-more k 64 s)
+    (ap (λ vs. run ++ vs) (sym (replicate-append-replicate k 64 s))
     ∙ sym (append_assoc run (replicate k s) (replicate 64 s))
     ∙ ap (λ d. (run ++ replicate k s) ++ replicate 64 (switch.Used d)) c.if-self-channel.true)
 
