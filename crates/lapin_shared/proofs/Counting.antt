@@ -10,6 +10,7 @@ use Rattle.lapin_locked.specs.declared.entry.Told.{Told}
 use Rattle.lapin_shared.specs.Grown.{Seen, Rise}
 use Rattle.lapin_shared.specs.Checked.{IsAt, AllAt}
 use Rattle.lapin_shared.specs.Own.{own, event_of, AreBack, logged, AreOwn}
+use Rattle.lapin_shared.proofs.Apart.{Numbered}
 
 -- the entry stands in the rest of a history, which begins behind place p
 record At (p : ℕ) (h : List Entry) (i : ℕ) (t : Told) : Type 0 where
@@ -92,10 +93,6 @@ best i p (x ∷ h) (t ∷ ts) r a =
 abbrev owns : List Entry → List Seen → ℕ
 owns h [] = 0
 owns h (c ∷ cs) = length (own c.number h) + owns h cs
-
-abbrev Numbered : ℕ → List Seen → Type 0
-Numbered n [] = Unit {0}
-Numbered n (c ∷ cs) = (c.number ≡ n) × Numbered (n + 1) cs
 
 numbered : (h : List Entry) (n : ℕ) (cs : List Seen) → AreBack h n cs → Numbered n cs
 numbered h n [] b = tt

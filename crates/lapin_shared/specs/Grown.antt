@@ -1,5 +1,6 @@
 -- What is seen of a caller, and how its log grows.
-use Rattle.std.specs.Prelude.{◌≡◌, ◌≢◌, ℕ, ◌+◌, ◌<◌, false, List, [], ◌∷◌, ◌++◌, length, None}
+use Rattle.std.specs.Prelude.{◌≡◌, ◌≢◌, ℕ, ◌+◌, ◌<◌, ◌==◌, false, List, [], ◌∷◌, ◌++◌, length, map, None}
+use Rattle.std.specs.List.{IsDistinct}
 use Rattle.lapin_types.specs.declared.event.Event.{Event}
 use Rattle.lapin_types.specs.declared.record.Record.{Record}
 use Rattle.lapin_machine.specs.Told.{is_pending_record}
@@ -44,6 +45,14 @@ IsOver r = is_pending_record r ≡ false
 abbrev pub AreFresh : ℕ → List Seen → Type 0
 AreFresh n [] = Unit {0}
 AreFresh n (c ∷ cs) = (c.number ≡ n) × (c.log ≡ []) × AreFresh (n + 1) cs
+
+-- the number of a caller
+abbrev pub number_of : Seen → ℕ
+number_of c = c.number
+
+-- no two callers have one number
+abbrev pub AreApart : List Seen → Type 0
+AreApart cs = IsDistinct (λ a b. a == b) (map number_of cs)
 
 -- A call that makes one step and answers the log's new entry, which has that event and holds an answer. Told through a reference,
 -- which `now` reads.

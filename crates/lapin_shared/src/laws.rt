@@ -2,7 +2,7 @@
 
 ghost use Rattle.std.specs.Prelude.{◌≡◌, ℕ, List, length};
 ghost use Rattle.lapin_locked.specs.declared.entry.Entry.{Entry as AnEntry};
-ghost use Rattle.lapin_shared.specs.Grown.{Seen};
+ghost use Rattle.lapin_shared.specs.Grown.{Seen, AreFresh, AreApart};
 ghost use Rattle.lapin_locked.specs.Lawful.{IsLawful};
 ghost use Rattle.lapin_shared.specs.Own.{AreBack, AreOwn, logged};
 ghost use Rattle.lapin_shared.specs.Ackers.{UsesOnce};
@@ -16,4 +16,10 @@ pub fn interleaves()
 /// In a lawful history at most one call of the acker of a number is answered otherwise than no, whoever made it.
 pub fn ackers_are_used_once()
     ensures { (frame_max : ℕ) (h : List AnEntry) → IsLawful frame_max h → UsesOnce h }
+{}
+
+/// The callers that a new client gives, numbered one behind the other, have each a number of its own. A step changes no number, so they keep
+/// them, and a pool may take them all.
+pub fn fresh_callers_are_apart()
+    ensures { (n : ℕ) (cs : List Seen) → AreFresh n cs → AreApart cs }
 {}

@@ -21,4 +21,4 @@ pub use client::{Client, FinishError};
 pub use gate::{Gate, OpenGate};
 pub use history::History;
 pub use lapin_locked::{Crew, Entry, Locked, Logged, Stored, Told};
-pub use laws::{ackers_are_used_once, interleaves};
+pub use laws::{ackers_are_used_once, fresh_callers_are_apart, interleaves};
