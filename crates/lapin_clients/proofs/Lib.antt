@@ -1,0 +1,12 @@
+pub mod Heads
+pub mod Requests
+pub mod Going
+pub mod Fewer
+pub mod Acting
+pub mod Stray
+pub mod Wires
+pub mod Runs
+pub mod Told
+pub mod Published
+pub mod Outcomes
+pub mod Messages

@@ -1,0 +1,5 @@
+pub mod Pieces
+pub mod Calls
+pub mod Nets
+pub mod Joined
+pub mod Truth
