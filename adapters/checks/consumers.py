@@ -1,11 +1,15 @@
 """Consumers: deliveries in pieces, fates that are told once, gets, and a consumer's end."""
+import gc
+import os
 import random
+import resource
 import struct
+import time
 
 import lapin
 import scripted
-from checks.common import fails, rabbit, test, waiting
-from scripted import Broker
+from checks.common import fails, rabbit, test, waiting, within
+from scripted import Broker, HungUp
 
 
 @test
@@ -216,3 +220,72 @@ def rabbitmq_gives_back_what_a_cancelled_consumer_had(url):
         channel.queue_declare("check.cancel", passive=True)
         assert [int(watcher.get("check.cancel", no_ack=True).body) for _ in range(19)] == list(range(1, 20))
         watcher.queue_delete("check.cancel")
+
+
+@test
+def a_run_ends_with_its_last_consumer_or_its_connection():
+    def script(peer):
+        peer.open()
+        peer.channel(1)
+        peer.consume(1, "t")
+        peer.send(scripted.method(1, 60, 30, scripted.short_text("t") + b"\x01"))  # its queue was deleted
+        peer.consume(1, "u")
+        peer.send(scripted.deliver(1, "u", 1, b"m"))
+        peer.expect(1, 60, 80)
+        peer.declare(1, "within")
+        peer.close()
+    with within(20), Broker(script) as url, lapin.connect(url) as connection:
+        channel = connection.channel()
+        gone = channel.consume("q", print)
+        connection.run()
+        assert not gone.is_active
+
+        def work(message):
+            assert message.ack() and channel.queue_declare("within").name == "within"
+            connection.close()
+        channel.consume("q", work)
+        connection.run()
+        assert not connection.is_open
+
+
+@test
+def a_connection_that_is_dropped_closes_its_socket():
+    def script(peer):
+        try:
+            peer.open()
+            peer.channel(1)
+            peer.frame()
+        except (HungUp, ConnectionError):
+            pass
+    before = len(os.listdir("/proc/self/fd"))
+    with within(30), Broker(script, many=True) as url:
+        for _ in range(20):
+            lapin.connect(url).channel()
+        gc.collect()
+        for _ in range(100):
+            if len(os.listdir("/proc/self/fd")) <= before + 2:
+                break
+            time.sleep(0.05)
+        assert len(os.listdir("/proc/self/fd")) <= before + 2
+
+
+@test
+def a_large_message_is_held_a_few_times_at_most():
+    body = bytes(range(256)) * (1 << 15)
+
+    def script(peer):
+        peer.open(frame_max=131072)
+        peer.channel(1)
+        peer.get(1, 1, body)
+        peer.expect(1, 60, 80)
+        peer.consume(1, "t")
+        peer.send(scripted.deliver(1, "t", 2, body))
+        peer.expect(1, 60, 80)
+        peer.close()
+    with within(60), Broker(script) as url, lapin.connect(url, heartbeat=0) as connection:
+        channel, before = connection.channel(), resource.getrusage(resource.RUSAGE_SELF).ru_maxrss
+        for take in (lambda: channel.get("q"), lambda: channel.consume("q").next(20)):
+            message = take()
+            assert message.body == body and message.ack()
+        peak = (resource.getrusage(resource.RUSAGE_SELF).ru_maxrss - before) * 1024
+        assert peak < 16 * len(body), f"{peak / len(body):.1f} times its length"
