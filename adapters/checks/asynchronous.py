@@ -57,14 +57,15 @@ def asyncio_tells_a_cut_connection():
 
 @test
 def who_is_cancelled_loses_no_message():
-    count = 400
+    count, pauses = 400, random.Random(7)
 
     def script(peer):
         peer.open()
         peer.channel(1)
         peer.consume(1, "t")
         for tag in range(1, count + 1):
-            peer.send(scripted.deliver(1, "t", tag, b"%d" % tag), pieces=tag % 3 * 20)
+            time.sleep(pauses.random() * 0.002)
+            peer.send(scripted.deliver(1, "t", tag, b"%d" % tag))
         assert [peer.expect(1, 60, 80) for _ in range(count)] == [struct.pack(">QB", tag, 0) for tag in range(1, count + 1)]
         peer.close()
 
@@ -74,12 +75,11 @@ def who_is_cancelled_loses_no_message():
             for tag in range(1, count + 1):
                 while True:
                     try:
-                        message = await asyncio.wait_for(consumer.next(), draw.random() * 0.0005)
+                        message = await asyncio.wait_for(consumer.next(), 0.0005 + draw.random() * 0.0005)
                         break
                     except asyncio.TimeoutError:
                         pass
                 assert message.body == b"%d" % tag and message.ack(), message
-            await connection.flush()
     with within(60), Broker(script) as url:
         asyncio.run(main(url))
 

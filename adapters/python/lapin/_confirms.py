@@ -10,7 +10,7 @@ from __future__ import annotations
 import struct
 from hashlib import blake2b
 from itertools import takewhile
-from typing import Any, Dict, Iterable, List, NamedTuple, Optional, Set, Tuple, Union
+from typing import Any, Dict, Iterable, List, Optional, Set, Tuple, Union
 
 from ._library import Session, _here, _outcome
 from ._text import read_properties
@@ -36,15 +36,14 @@ UNTOLD = CallFailed("Untold: an exception fell as outcomes were read")
 UNSORTED = CallFailed("Unsorted: a message came back, and it isn't known whose")
 
 
-class Identity(NamedTuple):
-    """What a message says: exchange, routing key and body; and its properties."""
-    rest: Tuple[str, str, int, bytes]
-    properties: bytes
+#: What a message says: exchange, routing key, and its body by its length and octets or digest; and the text of its properties.
+Identity = Tuple[Tuple[bytes, bytes, int, bytes], bytes]
 
 
-def identity_of(exchange: str, routing_key: str, properties: bytes, body: bytes) -> Identity:
+def identity_of(exchange: bytes, routing_key: bytes, properties: bytes, body: bytes) -> Identity:
     """A body above 64 octets stands as its length and its BLAKE2b digest of 32: nobody can make two that are equal there and not in their octets."""
-    return Identity((exchange, routing_key, len(body), body if len(body) <= 64 else blake2b(body, digest_size=32).digest()), properties)
+    size = len(body)
+    return (exchange, routing_key, size, body if size <= 64 else blake2b(body, digest_size=32).digest()), properties
 
 
 def is_within(sent: Dict[str, Any], came: Dict[str, Any]) -> bool:
@@ -112,7 +111,12 @@ class Confirms:
     def expect(self, confirm: ConfirmCore, identity: Identity) -> None:
         """A mandatory publish that is about to be made."""
         self.is_used, self._says[confirm] = True, identity
-        self._alike.setdefault(identity.rest, {}).setdefault(identity.properties, {})[confirm] = None
+        rest, properties = identity
+        alike = self._alike.get(rest)
+        if alike is None:
+            self._alike[rest] = {properties: {confirm: None}}
+        else:
+            alike.setdefault(properties, {})[confirm] = None
 
     def prune(self) -> None:
         """Lets those go that have their outcome, so that none is held of which nobody asks it."""
@@ -134,7 +138,7 @@ class Confirms:
 
     def _ask(self, confirm: ConfirmCore) -> Found:
         """Takes the outcome of a publish from the session, which gives it once. Until it is stored that publish is told UNTOLD."""
-        if confirm._found is not None or confirm in self._held or confirm._number == 0:
+        if confirm._found is not None or confirm._number == 0 or self._held and confirm in self._held:
             return confirm._found
         confirm._found = UNTOLD
         self._now.add(confirm)
@@ -169,9 +173,9 @@ class Confirms:
     def _give(self, returned: Returned, properties: bytes) -> None:
         """Gives what came back to its own publish: the oldest that it equals, or, of a broker that adds properties, that it equals but for these."""
         self.unread -= self.unread > 0
-        identity = identity_of(returned.exchange, returned.routing_key, properties, returned.body)
-        alike = self._alike.get(identity.rest, {})
-        waiting: Iterable[ConfirmCore] = alike.get(identity.properties, ())
+        rest, _ = identity_of(returned.exchange.encode(), returned.routing_key.encode(), properties, returned.body)
+        alike = self._alike.get(rest, {})
+        waiting: Iterable[ConfirmCore] = alike.get(properties, ())
         if not waiting:
             waiting = next((it for sent, it in alike.items() if is_within(read_properties(sent), returned.properties)), ())
         for confirm in waiting:
@@ -185,13 +189,14 @@ class Confirms:
         """No message is given to this publish any more."""
         identity = self._says.pop(confirm, None)
         if identity is not None:
-            alike = self._alike.get(identity.rest, {})  # (an exception may have fallen as it was added)
-            waiting = alike.get(identity.properties, {})
+            rest, properties = identity
+            alike = self._alike.get(rest, {})  # (an exception may have fallen as it was added)
+            waiting = alike.get(properties, {})
             waiting.pop(confirm, None)
             if not waiting:
-                alike.pop(identity.properties, None)
-            if not alike:
-                self._alike.pop(identity.rest, None)
+                alike.pop(properties, None)
+                if not alike:
+                    self._alike.pop(rest, None)
 
     def take(self, tags: Iterable[int]) -> List[ConfirmCore]:
         """Takes the outcomes of these publishes that are there: these publishes."""
@@ -227,7 +232,7 @@ class Confirms:
     def _tell(self, confirm: ConfirmCore, found: Union[Outcome, Error]) -> None:
         if self._says:
             self._strike(confirm)
-        returned = self._came.pop(confirm, None)
+        returned = self._came.pop(confirm, None) if self._came else None
         if returned is not None and isinstance(found, Outcome):
             found = Outcome(found.kind, returned)
             if confirm in self.forgotten:

@@ -230,7 +230,7 @@ class ChannelCore:
             to, key = _text.octets_of("exchange", exchange), _text.octets_of("routing_key", routing_key)
         try:
             if mandatory and _text.flag("mandatory", mandatory) == "1" and confirms.is_on:
-                confirms.expect(confirm, identity_of(to.decode(), key.decode(), text, body))
+                confirms.expect(confirm, identity_of(to, key, text, body))
             tag = confirms.tag + 1
             if confirms.is_on:
                 if tag > confirms.next:
