@@ -6,9 +6,9 @@ import time
 
 import lapin
 import scripted
-from checks.common import confirms, test, within
+from checks.common import confirms, fails, test, within
 from lapin import _library
-from scripted import Broker
+from scripted import Broker, HungUp
 
 
 class Held(ctypes.Structure):
@@ -69,6 +69,43 @@ def what_is_opened_and_closed_is_let_go():
                 assert channel.get("q") is None and channel.queue_declare("q")
             marks.append(held())
         assert marks[-1] - marks[9] < 50_000 and not connection._consumers and not connection._left and not connection._ending, marks
+
+
+class Refusing:
+    """The shared object, of which calls of these names answer so."""
+
+    def __init__(self, **answers):
+        self.real, self.answers = _library._library, answers
+
+    def __getattr__(self, name):
+        return (lambda *_: self.answers[name]) if name in self.answers else getattr(self.real, name)
+
+    def __enter__(self):
+        _library._library = self
+
+    def __exit__(self, *_):
+        _library._library = self.real
+
+
+@test
+def want_of_memory_is_told():
+    def script(peer):
+        confirms(peer)
+        peer.expect_publish(1)
+        time.sleep(0.2)
+        try:
+            peer.send(scripted.ack(1, 1))
+            peer.frame()
+        except (HungUp, ConnectionError):
+            pass
+    for answers in ({"lapin_receive": _library.NO_MEMORY}, {"lapin_receive": _library.KEPT}, {"lapin_receive": _library.NO_MEMORY, "lapin_line": _library.ENDED}):
+        with within(20), Broker(script) as url, lapin.connect(url) as connection:
+            given = [connection.channel(confirms=True).publish("", "q", b"x")]
+            connection.flush()
+            with Refusing(**answers):
+                fails(lapin.Error, lambda: given[0].wait(5))
+                fails(lapin.ConnectionLost, connection.turn)
+            fails(lapin.CallFailed, given[0].poll)
 
 
 def opened():

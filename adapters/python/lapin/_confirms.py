@@ -110,7 +110,9 @@ class Confirms:
 
     def expect(self, confirm: ConfirmCore, identity: Identity) -> None:
         """A mandatory publish that is about to be made."""
-        self.is_used, self._says[confirm] = True, identity
+        if not self.is_used:
+            self.is_used, self._is_reading = True, False
+        self._says[confirm] = identity
         rest, properties = identity
         alike = self._alike.get(rest)
         if alike is None:
@@ -159,6 +161,8 @@ class Confirms:
             words = self._session.line(f"confirm {number}").split(" ")
         except Refused as error:  # it was given or forgotten
             words = ["error", error.words]
+        except (ValueError, MemoryError):  # the session has ended for want of memory
+            words = ["error", "NoMemory"]
         if len(words) > 2 and words[0] == "confirmed" and words[2] != "-":
             self._give(read_returned(words[2:]), words[6].encode())
         self._is_reading = False
@@ -245,6 +249,13 @@ class Confirms:
             confirm._found = UNTOLD
             self._strike(confirm)
         self._held, self._is_reading = {}, False
+
+    def give_up(self) -> None:
+        """The session tells no outcome any more: nothing is known of those that are open."""
+        for confirm in [*self.open.values(), *self._held]:
+            if confirm._found is None:
+                confirm._found = CallFailed("NoMemory")
+        self.open, self._held, self._says, self._alike = {}, {}, {}, {}
 
     def settle(self, tag: int, is_multiple: bool) -> List[ConfirmCore]:
         """A settlement came: the publishes that it covers and that have their outcome now."""

@@ -91,7 +91,12 @@ class Core:
     def _lost(self, why: str) -> None:
         """The connection is gone: each call and each publish that was open has its end."""
         self._is_lost, self._why = True, self._why or why
-        self._session.line("lost")
+        try:
+            self._session.line("lost")
+        except (Error, ValueError, MemoryError):  # the session has ended for want of memory, and tells nothing further
+            for channel in self._channels.values():
+                channel._confirms.give_up()
+            return
         for channel in self._channels.values():
             if self._is_blind and channel._confirms.is_used:
                 channel._confirms.unread = UNKNOWN
