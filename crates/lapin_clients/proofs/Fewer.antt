@@ -145,7 +145,7 @@ call_less (Send flow enough s) c d h = send_less flow enough s c d h
 call_less (Finish s) c d h = finish_less c d s h
 call_less (LastClose channel r octets) c d h = closes_less c d channel r h.0
 
-turns_less : (k : ℕ) (c d : Client) → ComeAll k c d → d.left ≤ c.left
+pub turns_less : (k : ℕ) (c d : Client) → ComeAll k c d → d.left ≤ c.left
 unfolding ComeAll
 turns_less zero c d h = unchanged c d h
 turns_less (suc k) c d h = at_most d.left h.0.left c.left (turn_less h.0 d h.2.0 h.2.1) (turns_less k c h.0 h.1)

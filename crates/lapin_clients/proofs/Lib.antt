@@ -10,3 +10,4 @@ pub mod Told
 pub mod Published
 pub mod Outcomes
 pub mod Messages
+pub mod Honest

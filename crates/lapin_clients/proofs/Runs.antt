@@ -25,7 +25,7 @@ use Rattle.lapin_clients.proofs.Stray.{unstray}
 use Rattle.lapin_clients.proofs.Wires.{notice_first, reads_goes, sends_goes}
 
 -- the same net with another client
-abbrev with_client : Client → Net → Net
+abbrev pub with_client : Client → Net → Net
 with_client c x = record { client = c; broker = x.broker; up = x.up; down = x.down }
 
 -- ---- one turn
@@ -100,7 +100,7 @@ module _ (n : ℕ) (x : Net) (j : Joint World) (sound : Sound j) (is : IsJoined 
 
 -- ---- all turns
 
-turns_go : (n k : ℕ) (x : Net) (j : Joint World) → Sound j → IsJoined n x j → (d : Client) → ComeAll k x.client d → GoesOn n [] (with_client d x) j
+pub turns_go : (n k : ℕ) (x : Net) (j : Joint World) → Sound j → IsJoined n x j → (d : Client) → ComeAll k x.client d → GoesOn n [] (with_client d x) j
 unfolding ComeAll
 turns_go n zero x j sound is d h = record { steps = []; dealt_is = refl; joined = subst (λ c. IsJoined n (with_client c x) j) (sym h) is }
 turns_go n (suc k) x j sound is d h =
@@ -132,20 +132,33 @@ module _ (n : ℕ) (x : Net) (j : Joint World) (sound : Sound j) (is : IsJoined 
 -- ---- one act
 
 module _ (n : ℕ) (x y : Net) (j : Joint World) (sound : Sound j) (is : IsJoined n x j) where
-  kept_goes : (octets : List ℕ) (s : Status) → (b : Client) × (IsLonger octets x.client b × Runs s b y.client) → y.broker ≡ x.broker → y.up ≡ x.up → x.down ≡ octets ++ y.down → 0 < y.client.left → GoesOn n [] y j
-  kept_goes octets s h broker up down alive =
-      let b : Client = h.0 in
-      let longer : IsLonger octets x.client b = h.1.0 in
-      let between : Net = record { client = b; broker = y.broker; up = y.up; down = y.down } in
-      let all : b.came ++ y.down ≡ x.client.came ++ x.down = ap (λ c. c ++ y.down) longer.1 ∙ (append_assoc x.client.came octets y.down ∙ ap (λ d. x.client.came ++ d) (sym down)) in
-      let here : IsJoined n between j = record {
+  -- once more came
+  pub longer_joined : (octets : List ℕ) (b : Client) (down : List ℕ) → IsLonger octets x.client b → x.down ≡ octets ++ down → IsJoined n (record { client = b; broker = x.broker; up = x.up; down = down }) j
+  longer_joined octets b down longer is_down =
+      let all : b.came ++ down ≡ x.client.came ++ x.down = ap (λ c. c ++ down) longer.1 ∙ (append_assoc x.client.came octets down ∙ ap (λ d. x.client.came ++ d) (sym is_down)) in
+      record {
         most = longer.4 ∙ is.most;
         session = longer.2 ∙ is.session;
-        broker = broker ∙ is.broker;
-        up = sent_so n (frames_left j.up) (ap (λ u. u ++ b.leaving.items) up ∙ ap (λ l. x.up ++ l) longer.3) longer.7 is.up;
+        broker = is.broker;
+        up = sent_so n (frames_left j.up) (ap (λ l. x.up ++ l) longer.3) longer.7 is.up;
         down = subst (λ os. ArePieces n os j.down) (sym all) is.down;
-      } in
-      runs_go n between j sound here y.client alive s h.1.1
+      }
+
+  kept_goes : (octets : List ℕ) (s : Status) → (b : Client) × (IsLonger octets x.client b × Runs s b y.client) → y.broker ≡ x.broker → y.up ≡ x.up → x.down ≡ octets ++ y.down → 0 < y.client.left → GoesOn n [] y j
+  kept_goes octets s h broker up down alive =
+      let between : Net = record { client = h.0; broker = x.broker; up = x.up; down = y.down } in
+      let g : GoesOn n [] (with_client y.client between) j = runs_go n between j sound (longer_joined octets h.0 y.down h.1.0 down) y.client alive s h.1.1 in
+      record {
+        steps = g.steps;
+        dealt_is = g.dealt_is;
+        joined = record {
+          most = g.joined.most;
+          session = g.joined.session;
+          broker = broker ∙ g.joined.broker;
+          up = sent_so n (frames_left (run by_machine g.steps j).up) (ap (λ u. u ++ y.client.leaving.items) up) refl g.joined.up;
+          down = g.joined.down;
+        };
+      }
 
   handed_goes : (octets : List ℕ) (s : Status) → Receives s octets x.client y.client → y.broker ≡ x.broker → y.up ≡ x.up → x.down ≡ kept_by s octets ++ y.down → 0 < y.client.left → GoesOn n [] y j
   handed_goes octets status.NoMemory h broker up down alive = no_step n x y j is (record { broker = broker; up = up; down = sym down }) h.3 h.0

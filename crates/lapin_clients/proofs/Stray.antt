@@ -27,7 +27,8 @@ use Rattle.lapin_rules.specs.Wire.{Wire, state_of, receives_on, requests_of}
 use Rattle.lapin_joint.specs.declared.step.Step.TheVariants as step
 use Rattle.lapin_joint.specs.Joint.{Joint, deliver_report}
 use Rattle.lapin_machine.specs.Way.{by_machine}
-use Rattle.lapin_machine.specs.World.{World, readings_of}
+use Rattle.lapin_machine.specs.World.{World, readings_of, told_by}
+use Rattle.lapin_types.specs.declared.event.Event.TheVariants as event
 use Rattle.lapin_client.specs.Receiving.{is_deaf, is_of_content, is_stray}
 use Rattle.lapin_concord.specs.Refusals.{is_refusal, reports_refusal}
 use Rattle.lapin_concord.proofs.Running.{Sound, no_refusals}
@@ -79,6 +80,9 @@ both false b h = absurd cc
 alone : (a : Bool) → (a || false) ≡ false → a ≡ false
 alone true h = absurd cc
 alone false h = refl
+
+pub delivered_fine : (j : Joint World) (f : Frame) (fs : List Frame) → j.down ≡ f ∷ fs → Sound j → is_refusal (told_by j.session (event.Receive f)) ≡ false
+delivered_fine j f fs down sound = alone (is_refusal (told_by j.session (event.Receive f))) (subst (λ ds. list_any reports_refusal (deliver_report by_machine ds j.session ∷ []) ≡ false) down (no_refusals (step.Deliver ∷ []) j sound))
 
 pub unstray : (j : Joint World) (f : Frame) (fs : List Frame) → j.down ≡ f ∷ fs → Sound j → is_stray f j.session ≡ false
 unstray j f fs down sound = by (is_stray f j.session) refl

@@ -1,5 +1,5 @@
 -- What a client tells is what an honest broker said: in the words of the octets between them.
-use Rattle.std.specs.Prelude.{◌≡◌, ℕ, suc, List, [], ◌∷◌, ◌++◌, length, Some, Ok, slice_get}
+use Rattle.std.specs.Prelude.{◌≡◌, ℕ, suc, Bool, true, false, List, [], ◌∷◌, ◌++◌, length, Some, Ok, slice_get}
 use Rattle.lapin_types.specs.declared.message.Delivery.{Delivery}
 use Rattle.lapin_consumer.specs.Readings.{Story, Entry, Waiting, waiting}
 use Rattle.lapin_rules.specs.declared.marks.SettleKind.{SettleKind}
@@ -14,13 +14,15 @@ use Rattle.lapin_verdicts.specs.Session.{past_of}
 use Rattle.lapin_verdicts.specs.Verdicts.{at_place, messages_in, IsVerdict}
 use Rattle.lapin_answers.specs.Truth.{IsTrue}
 use Rattle.lapin_client.specs.declared.calls.Message.{Message as Numbers}
+use Rattle.lapin_client.specs.declared.status.Status.{Status}
+use Rattle.lapin_client.specs.declared.status.Status.TheVariants as status
 use Rattle.lapin_client.specs.Calls.{message_of, message_bytes}
 use Rattle.lapin_messages.specs.Deliveries.{marks_of, consumers_of}
 use Rattle.lapin_messages.specs.Openings.{registered_in, registrations}
 use Rattle.lapin_verdicts.specs.Messages.{Whole, messages, sent_to, delivery_from}
 use Rattle.lapin_clients.specs.Calls.{Outcome, Delivery as Delivers}
 use Rattle.lapin_clients.specs.Joined.{IsRun}
-use Rattle.lapin_clients.specs.Nets.{Act, Calls, Does, Net, IsNewNet, Leads}
+use Rattle.lapin_clients.specs.Nets.{Act, Calls, Comes, Does, Net, IsNewNet, Leads}
 
 -- the joined run that a run of a client is, and all that is true of every joined run
 pub record IsTold (frame_max : ℕ) (acts : List Act) (z : Net) (steps : List Step) : Type 0 where
@@ -73,3 +75,15 @@ abbrev pub MessagesAreSent : ℕ → List Act → Type 0
 MessagesAreSent frame_max acts = (x y z : Net) (consumer : ℕ) (numbers : Numbers) (octets : List ℕ) → IsNewNet frame_max x → Leads acts x y →
     Does (Calls (Delivers consumer (Ok numbers) octets)) y z →
     (steps : List Step) × IsTold frame_max acts y steps × IsTheNext frame_max steps consumer numbers octets
+
+-- ---- frames
+
+-- the session refused a frame
+abbrev pub is_refused : Status → Bool
+is_refused status.Refused = true
+is_refused status.Untold = true
+is_refused _ = false
+
+-- Where octets of the broker are handed to the client: the session refuses none of the frames.
+abbrev pub FramesAreHeard : ℕ → List Act → Type 0
+FramesAreHeard frame_max acts = (x y z : Net) (octets : List ℕ) (s : Status) → IsNewNet frame_max x → Leads acts x y → Does (Comes octets s) y z → is_refused s ≡ false

@@ -9,7 +9,7 @@ ghost use Rattle.lapin_clients.specs.Calls.{Call as ACall};
 ghost use Rattle.lapin_clients.specs.Joined.{IsJoined, IsRun, LeadsOn};
 ghost use Rattle.lapin_clients.specs.Nets.{Act, Net, IsNewNet, Leads, Does, Calls, Reads, Sends};
 ghost use Rattle.lapin_clients.specs.Pieces.{Piece, AreReadAsWritten};
-ghost use Rattle.lapin_clients.specs.Truth.{IsTold, OutcomesAreVerdicts, MessagesAreSent};
+ghost use Rattle.lapin_clients.specs.Truth.{IsTold, OutcomesAreVerdicts, MessagesAreSent, FramesAreHeard};
 
 use lapin_answers::a_session_and_an_honest_broker;
 
@@ -63,3 +63,9 @@ pub fn a_message_told_is_the_next_that_was_sent()
 {
     a_session_and_an_honest_broker();
 }
+
+/// No frame of an honest broker is refused: where its octets are handed to the client, in whatever pieces, `receive` never answers `Refused`
+/// nor `Untold`.
+pub fn no_frame_of_an_honest_broker_is_refused()
+    ensures { (frame_max : ℕ) (acts : List Act) → FramesAreHeard frame_max acts }
+{}
