@@ -163,8 +163,8 @@ class Wire:
         self._clock, self._came = Clock(now(), heartbeat), greeter.data
         self._sent = self._heard = self._quiet = time.monotonic()
         self._queue: Deque[memoryview] = deque()
-        #: How many octets wait for the kernel.
-        self.size = 0
+        #: How many octets wait for the kernel, and whether a heartbeat is to be sent.
+        self.size, self.is_due = 0, False
         self._poll: Optional[Tuple[select.poll, int]] = None
 
     def send(self, data: bytes) -> None:
@@ -200,6 +200,11 @@ class Wire:
             self.size -= count
             self._sent = time.monotonic()
 
+    def beat(self) -> None:
+        """Sends the heartbeat that is due."""
+        self.is_due = False
+        self.send(HEARTBEAT)
+
     def pull(self) -> bytes:
         """What came; b'' where nothing did."""
         if self._came:
@@ -218,7 +223,7 @@ class Wire:
 
     def wait(self, until: Optional[float]) -> Optional[bool]:
         """Waits until there is something to push or to pull, once at least looks for it, and tells whether there is something to pull. None where
-        the time is up; heartbeats are given meanwhile."""
+        the time is up. It ends early where a heartbeat is due."""
         if self._came or isinstance(self.socket, ssl.SSLSocket) and self.socket.pending():
             return True
         moment = time.monotonic()
@@ -241,8 +246,7 @@ class Wire:
         due, rest = clock.due(int(moment * 1000))
         if due == "silent" and not self._polled(0):
             raise ConnectionLost(SILENT)
-        if due == "send" and not self._queue:
-            self.send(HEARTBEAT)
+        self.is_due = due == "send" and not self._queue
         if due != "wait":  # what waits is a sign of life too, once the kernel takes it
             rest = 3600.0 if due == "never" else 1.0 if self._queue else 0.0
         self._quiet = moment + (rest or 0.0)

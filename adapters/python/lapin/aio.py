@@ -406,6 +406,7 @@ class Channel(ChannelCore):
     tx_rollback = _awaited(_asks.tx_rollback)
 
     def _settled(self, consumer: Optional[ConsumerCore], call: str, acker: int, *marks: bool) -> bool:
+        self._session.check_thread()
         self.connection._soon()
         return super()._settled(consumer, call, acker, *marks)
 

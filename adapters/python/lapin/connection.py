@@ -86,6 +86,8 @@ class Connection(Core):
                 self._push()
             if wire.size:
                 wire.push()
+            if wire.is_due:
+                wire.beat()
             data = wire.pull() if is_ready else b""
             if data:
                 self._receive(data)
@@ -217,11 +219,14 @@ class Connection(Core):
         until = _end_of(timeout)
         self._check()
         self._is_stopping, had = False, self._has_callbacks()
-        while not self._is_stopping and not self._is_closed and (until is None or time.monotonic() < until):
-            if not self.hand_on():
-                if had and not self._has_callbacks():
-                    return
-                self._turn(until)
+        try:
+            while not self._is_stopping and not self._is_closed and (until is None or time.monotonic() < until):
+                if not self.hand_on():
+                    if had and not self._has_callbacks():
+                        return
+                    self._turn(until)
+        finally:
+            self._is_stopping = False
 
     def _has_callbacks(self) -> bool:
         return any(consumer.callback for consumer in self._consumers.values())
@@ -362,6 +367,7 @@ class Channel(ChannelCore):
     tx_rollback = _blocking(_asks.tx_rollback)
 
     def _settled(self, consumer: Optional[ConsumerCore], call: str, acker: int, *marks: bool) -> bool:
+        self._session.check_thread()
         self.connection._waiting += 1
         return super()._settled(consumer, call, acker, *marks)
 
