@@ -42,7 +42,7 @@ static inline bool lapin_dial(lapin_connection *c, const char *host, const char 
         if (one < 0 || (connect(one, each->ai_addr, each->ai_addrlen) && errno != EINPROGRESS && errno != EINTR)) error = errno;
         struct pollfd ready = {one, POLLOUT, 0};
         int is_there = error != 0;
-        while (!is_there && ((is_there = poll(&ready, 1, lapin_left(share))) < 0 ? errno == EINTR : !is_there && lapin_now() < share)) is_there = 0;
+        while (!is_there && ((is_there = poll(&ready, 1, lapin_left(lapin_now(), share))) < 0 ? errno == EINTR : !is_there && lapin_now() < share)) is_there = 0;
         if (!error && is_there <= 0) error = is_there ? errno : ETIMEDOUT;
         if (!error && getsockopt(one, SOL_SOCKET, SO_ERROR, &error, &size)) error = errno;
         if (!error) c->socket = one;
@@ -57,7 +57,7 @@ static inline bool lapin_dial(lapin_connection *c, const char *host, const char 
 static inline bool lapin_awaits(lapin_connection *c, short event, uint64_t until) {
     struct pollfd ready = {c->socket, event, 0};
     for (;;) {
-        int found = poll(&ready, 1, lapin_left(until));
+        int found = poll(&ready, 1, lapin_left(lapin_now(), until));
         if (found > 0) return true;
         if (found < 0 && errno != EINTR) return lapin_fails(c, "%s", strerror(errno));
         if (lapin_now() >= until) return lapin_fails(c, "TimedOut: the broker did not open the connection in time");
@@ -277,7 +277,7 @@ static inline void lapin_look_at_oldest(lapin_connection *c, size_t place, size_
         if (!of->is_told && !of->outcome) lapin_look(c, of, true);
         if (!of->is_told && !of->outcome) return;
         p->settled++;
-        if (!of->is_told && of->kept && !of->kept->message.code) lapin_let_go(p, of->kept), of->kept = NULL;
+        if (!of->is_told && of->kept && !of->kept->message.text.at) lapin_let_go(p, of->kept), of->kept = NULL;
         if (!of->is_told && of->is_aside) p->aside--, lapin_let_go(p, lapin_tell(p, of));
     }
 }
@@ -294,14 +294,15 @@ static inline void lapin_look_before(lapin_connection *c, size_t place) {
 static inline uint32_t lapin_tells(lapin_connection *c, uint64_t confirm) {
     lapin_publications *p = &c->publications;
     lapin_publication *of = lapin_find(p, confirm), stranger;
-    lapin_let_go(p, c->back);
-    memset(&stranger, 0, sizeof stranger), memset(&c->returned, 0, sizeof c->returned);
-    c->back = NULL, stranger.confirm = confirm;
     bool is_ours = of != NULL;
-    if (!is_ours) of = &stranger;
+    if (!is_ours) memset(&stranger, 0, sizeof stranger), stranger.confirm = confirm, of = &stranger;
+    if (c->returned.text.at) {
+        lapin_let_go(p, c->back), c->back = NULL;
+        memset(&c->returned, 0, sizeof c->returned);
+    }
     if (!of->outcome) lapin_look(c, of, is_ours);
     if (of->outcome == LAPIN_ACK || of->outcome == LAPIN_NACK)
-        if (p->due && of->kept && !of->kept->message.code) lapin_look_before(c, (size_t)(of - p->at));
+        if (p->due && of->kept && !of->kept->message.text.at) lapin_look_before(c, (size_t)(of - p->at));
     uint32_t outcome = of->outcome;
     if (!outcome) return outcome;
     if (outcome == LAPIN_ERROR) lapin_explain(c, of->channel, of->error ? of->error : "no memory for the line of its error");
@@ -309,7 +310,7 @@ static inline uint32_t lapin_tells(lapin_connection *c, uint64_t confirm) {
     if (is_ours) c->back = lapin_tell(p, of);
     else free(stranger.error);
     if (c->back) c->returned = c->back->message;
-    if (outcome == LAPIN_ACK && c->returned.code) outcome = LAPIN_RETURNED;
+    if (outcome == LAPIN_ACK && c->returned.text.at) outcome = LAPIN_RETURNED;
     return outcome;
 }
 
@@ -327,7 +328,7 @@ static inline bool lapin_publish_bytes(lapin_connection *c, uint16_t channel, co
     if (!lapin_enter(c)) return false;
     bool is_done = !c->is_lost || lapin_lose(c, c->lost);
     if (is_done && c->waiting >= LAPIN_ENOUGH) is_done = lapin_is_alive(c) && lapin_flush_until(c, lapin_until(c->timeout));
-    if (is_done && (p->aside || p->chained)) lapin_look_at_oldest(c, p->to, 2);
+    if (is_done && (p->aside || p->kept)) lapin_look_at_oldest(c, p->to, 1);
     if (is_done && (!lapin_more_publications(p) || (mandatory && !(kept = lapin_keep(p, channel, &message))))) is_done = lapin_fails(c, "no memory");
     if (is_done) {
         uint32_t status = lapin_publish(&c->session, channel, exchange, message.exchange.length, routing_key, message.routing_key.length, mandatory,
@@ -372,7 +373,7 @@ static inline uint32_t lapin_wait(lapin_connection *c, uint64_t confirm) {
 }
 
 /* The message that came back with the outcome that was told last, NULL where none did. It is good until the next outcome is asked for. */
-static inline const lapin_returned *lapin_came_back(const lapin_connection *c) { return c->returned.code ? &c->returned : NULL; }
+static inline const lapin_returned *lapin_came_back(const lapin_connection *c) { return c->returned.text.at ? &c->returned : NULL; }
 
 /* Nobody will ask for the outcome of this publish. */
 static inline void lapin_set_aside(lapin_connection *c, uint64_t confirm) {

@@ -24,7 +24,7 @@ typedef struct {
     lapin_octets text, exchange, routing_key, properties, body;
 } lapin_returned;
 
-/* A mandatory publish. Its code is 0 until it came back. It stands in a chain of those with its hash, the oldest first; the first one's previous
+/* A mandatory publish. It has the text of its return once it came back. It stands in a chain of those with its hash, the oldest first; the first one's previous
  * is the last. */
 typedef struct lapin_kept {
     struct lapin_kept *next, *previous;
@@ -45,12 +45,13 @@ typedef struct {
     bool is_told, is_aside; /* nobody will ask for it */
 } lapin_publication;
 
-/* Of one connection. Publications stand in the order of their numbers; those before `settled` have their outcomes. */
+/* Of one connection. Publications stand in the order of their numbers; those before `settled` have their outcomes, and those before `hashed` stand
+ * in the chains where they are kept: until something comes back nothing is hashed. */
 typedef struct {
     lapin_publication *at;
-    size_t from, to, room, settled, swept, told, aside;
+    size_t from, to, room, settled, swept, hashed, told, aside;
     lapin_kept **chains;
-    size_t chain_count, chained;
+    size_t chain_count, kept;
     uint64_t keys[2];
     uint64_t due; /* returned messages that came and that nobody was given yet */
     unsigned char head[11];
@@ -84,8 +85,8 @@ static inline uint64_t lapin_hash(uint64_t key, uint64_t other, lapin_octets byt
 }
 
 /* The hash of what a broker returns as it came; it may change the properties (RabbitMQ takes a header BCC out), so these have no part in it. */
-static inline uint64_t lapin_hash_of(const lapin_publications *p, uint16_t channel, const lapin_returned *message) {
-    uint64_t found = lapin_hash(p->keys[0], p->keys[1] ^ channel, message->exchange);
+static inline uint64_t lapin_hash_of(const lapin_publications *p, const lapin_returned *message) {
+    uint64_t found = lapin_hash(p->keys[0], p->keys[1], message->exchange);
     found = lapin_hash(p->keys[0], found, message->routing_key);
     return lapin_hash(p->keys[0], found, message->body);
 }
@@ -100,7 +101,6 @@ static inline void lapin_chain(lapin_publications *p, lapin_kept *kept) {
     kept->previous = *first ? (*first)->previous : kept;
     if (*first) (*first)->previous->next = kept, (*first)->previous = kept;
     else *first = kept;
-    p->chained++;
 }
 
 static inline void lapin_unchain(lapin_publications *p, lapin_kept *kept) {
@@ -110,16 +110,16 @@ static inline void lapin_unchain(lapin_publications *p, lapin_kept *kept) {
     else if (*first != kept) (*first)->previous = kept->previous;
     if (*first == kept) *first = kept->next;
     else kept->previous->next = kept->next;
-    kept->is_chained = false, p->chained--;
+    kept->is_chained = false;
 }
 
 /* Room for one more in the chains. They grow so that a chain has about one, and keep their order. */
 static inline bool lapin_more_chains(lapin_publications *p) {
-    if (p->chained < p->chain_count) return true;
+    if (p->kept < p->chain_count) return true;
     size_t old = p->chain_count, count = old ? 2 * old : 64;
     lapin_kept **all = p->chains, **more = (lapin_kept **)calloc(count, sizeof *more);
     if (!more) return false;
-    p->chains = more, p->chain_count = count, p->chained = 0;
+    p->chains = more, p->chain_count = count;
     for (size_t i = 0; i < old; i++)
         for (lapin_kept *each = all[i], *next; each; each = next) next = each->next, lapin_chain(p, each);
     free(all);
@@ -129,7 +129,7 @@ static inline bool lapin_more_chains(lapin_publications *p) {
 /* Room for one more publication; those that were told go first. */
 static inline bool lapin_more_publications(lapin_publications *p) {
     if (p->to < p->room) return true;
-    size_t kept = 0, settled = 0, live = p->to - p->from - p->told;
+    size_t to = 0, settled = 0, hashed = 0, live = p->to - p->from - p->told;
     if (2 * live >= p->room) {
         size_t room = p->room ? 2 * p->room : 64;
         lapin_publication *more = (lapin_publication *)realloc(p->at, room * sizeof *more);
@@ -137,17 +137,18 @@ static inline bool lapin_more_publications(lapin_publications *p) {
         p->at = more, p->room = room;
     }
     for (size_t i = p->from; i < p->to; i++) {
-        if (i == p->settled) settled = kept;
-        if (!p->at[i].is_told) p->at[kept++] = p->at[i];
+        if (p->at[i].is_told) continue;
+        settled += i < p->settled, hashed += i < p->hashed;
+        p->at[to++] = p->at[i];
     }
-    if (p->settled == p->to) settled = kept;
-    p->from = 0, p->to = kept, p->settled = p->swept = settled, p->told = 0;
+    p->from = 0, p->to = to, p->settled = p->swept = settled, p->hashed = hashed, p->told = 0;
     return true;
 }
 
 static inline void lapin_let_go(lapin_publications *p, lapin_kept *kept) {
     if (!kept) return;
     lapin_unchain(p, kept);
+    p->kept--;
     free(kept->text), free(kept);
 }
 
@@ -162,16 +163,15 @@ static inline lapin_octets lapin_copied(char **room, lapin_octets from) {
 static inline lapin_kept *lapin_keep(lapin_publications *p, uint16_t channel, const lapin_returned *message) {
     size_t length = message->exchange.length + message->routing_key.length + message->properties.length + 4;
     if (!lapin_more_chains(p) || message->body.length > SIZE_MAX - length - sizeof(lapin_kept)) return NULL;
-    lapin_kept *kept = (lapin_kept *)calloc(1, sizeof *kept + length + message->body.length);
+    lapin_kept *kept = (lapin_kept *)malloc(sizeof *kept + length + message->body.length);
     if (!kept) return NULL;
     char *room = (char *)(kept + 1);
-    kept->channel = channel;
+    memset(kept, 0, sizeof *kept);
+    kept->channel = channel, p->kept++;
     kept->message.exchange = lapin_copied(&room, message->exchange);
     kept->message.routing_key = lapin_copied(&room, message->routing_key);
     kept->message.properties = lapin_copied(&room, message->properties);
     kept->message.body = lapin_copied(&room, message->body);
-    kept->hash = lapin_hash_of(p, channel, &kept->message);
-    lapin_chain(p, kept);
     return kept;
 }
 
@@ -203,7 +203,7 @@ static inline lapin_publication *lapin_find(const lapin_publications *p, uint64_
 
 /* Its outcome was told, or nobody asks for it. What came back of it is the caller's, if there is something. */
 static inline lapin_kept *lapin_tell(lapin_publications *p, lapin_publication *publication) {
-    lapin_kept *back = publication->kept && publication->kept->message.code ? publication->kept : NULL;
+    lapin_kept *back = publication->kept && publication->kept->message.text.at ? publication->kept : NULL;
     if (!back) lapin_let_go(p, publication->kept);
     free(publication->error);
     publication->kept = NULL, publication->error = NULL, publication->is_told = true, p->told++;
@@ -214,13 +214,19 @@ static inline lapin_kept *lapin_tell(lapin_publications *p, lapin_publication *p
     return back;
 }
 
-/* Gives a returned message to its publish: whether there is one. Where none equals it whole, the broker changed its properties. */
+/* Gives a returned message to its publish, of its channel where that is known (not 0): whether there is one. Where none equals it whole, the broker
+ * changed its properties. */
 static inline bool lapin_give(lapin_publications *p, uint16_t channel, const lapin_returned *message) {
     lapin_kept *found = NULL;
-    if (!p->chained) return false;
-    for (lapin_kept *each = p->chains[lapin_hash_of(p, channel, message) & (p->chain_count - 1)]; each; each = each->next) {
+    if (p->hashed < p->from) p->hashed = p->from;
+    for (; p->hashed < p->to; p->hashed++) {
+        lapin_kept *kept = p->at[p->hashed].kept;
+        if (kept && !kept->message.text.at) kept->hash = lapin_hash_of(p, &kept->message), lapin_chain(p, kept);
+    }
+    if (!p->kept) return false;
+    for (lapin_kept *each = p->chains[lapin_hash_of(p, message) & (p->chain_count - 1)]; each; each = each->next) {
         const lapin_returned *its = &each->message;
-        if (each->channel != channel || !lapin_equal(its->exchange, message->exchange) || !lapin_equal(its->routing_key, message->routing_key) ||
+        if ((channel && each->channel != channel) || !lapin_equal(its->exchange, message->exchange) || !lapin_equal(its->routing_key, message->routing_key) ||
             !lapin_equal(its->body, message->body))
             continue;
         bool is_whole = lapin_equal(its->properties, message->properties);
@@ -247,6 +253,12 @@ static inline void lapin_count_returns(lapin_publications *p, const unsigned cha
             continue;
         }
         unsigned char *head = p->head;
+        if (!p->head_length && length >= 11) { /* whole, as most are; the octets of a short frame behind its end decide nothing */
+            uint64_t whole = lapin_frame_length(bytes);
+            if (whole >= 12 && bytes[0] == 1 && !memcmp(bytes + 7, "\0\x3c\0\x32", 4)) p->due++;
+            p->passed_over = whole;
+            continue;
+        }
         head[p->head_length++] = *bytes++, length--;
         if (p->head_length < 7) continue;
         uint64_t size = lapin_frame_length(head); /* eight octets more than the payload */

@@ -47,7 +47,7 @@ typedef struct {
     lapin_kept *back;
     lapin_returned returned;
     struct { uint64_t consumer; uint16_t channel; } consumers[LAPIN_REMEMBERED];
-    char lost[512], error[1024];
+    char lost[1000], error[1100];
 } lapin_connection;
 
 /* ---- what the calls below share. A thread is told by the address of its errno */
@@ -66,8 +66,8 @@ static inline uint64_t lapin_now(void) {
 static inline uint64_t lapin_until(int timeout) { return timeout < 0 ? UINT64_MAX : lapin_now() + (uint64_t)timeout; }
 
 /* For poll: up to then, in pieces of a minute. */
-static inline int lapin_left(uint64_t until) {
-    uint64_t now = lapin_now(), left = until > now ? until - now : 0;
+static inline int lapin_left(uint64_t now, uint64_t until) {
+    uint64_t left = until > now ? until - now : 0;
     return left < 60000 ? (int)left : 60000;
 }
 
@@ -130,8 +130,9 @@ static inline const char *lapin_words(lapin_connection *c, uint16_t channel, con
 /* The socket is gone: every call that waits fails by ConnectionLost, and so does each publish that is open. */
 static inline bool lapin_lose(lapin_connection *c, const char *why) {
     if (!c->is_lost) {
-        char words[400];
-        snprintf(c->lost, sizeof c->lost, "%s%s", why, lapin_words(c, 0, "ConnectionLost", words, sizeof words));
+        char words[400], text[sizeof c->lost];
+        snprintf(text, sizeof text, "%.500s%s", why, lapin_words(c, 0, "ConnectionLost", words, sizeof words));
+        strcpy(c->lost, text);
         c->is_lost = true;
         if (c->socket >= 0) close(c->socket);
         c->socket = -1;
@@ -164,20 +165,20 @@ static inline char *lapin_more_leaving(lapin_connection *c, size_t length) {
     return lapin_fails(c, "no memory"), (char *)NULL;
 }
 
-/* Takes what may leave out of the session, until some 64 KiB wait. */
+/* Takes what may leave out of the session, until some 64 KiB wait: where fewer do, that was all. */
 static inline bool lapin_collect(lapin_connection *c) {
     while (c->leaving_to - c->leaving_from < LAPIN_ENOUGH) {
         uint32_t status = lapin_send(&c->session, true, LAPIN_ENOUGH);
         if (status == LAPIN_NO_MEMORY) return lapin_fails(c, "no memory");
         if (status) return lapin_lose(c, status == LAPIN_TOO_LONG ? "a frame was too long" : "the session takes nothing further");
         size_t length = lapin_leaving_length(&c->session);
-        if (!length) {
+        char *room = length ? lapin_more_leaving(c, length) : c->leaving;
+        if (length && !room) return false;
+        if (length) c->leaving_to += lapin_leaving(&c->session, room, length);
+        if (length < LAPIN_ENOUGH) {
             c->waiting = 0;
             return true;
         }
-        char *room = lapin_more_leaving(c, length);
-        if (!room) return false;
-        c->leaving_to += lapin_leaving(&c->session, room, length);
     }
     return true;
 }
@@ -207,10 +208,13 @@ static inline bool lapin_hear(lapin_connection *c) {
 static inline bool lapin_push(lapin_connection *c) {
     for (;;) {
         if (!lapin_collect(c)) return false;
-        if (c->leaving_from == c->leaving_to) return true;
-        ssize_t done = send(c->socket, c->leaving + c->leaving_from, c->leaving_to - c->leaving_from, MSG_NOSIGNAL);
-        if (done >= 0) c->leaving_from += (size_t)done, c->clock.sent = lapin_now();
-        else if (errno == EAGAIN || errno == EWOULDBLOCK) return true;
+        size_t length = c->leaving_to - c->leaving_from;
+        if (!length) return true;
+        ssize_t done = send(c->socket, c->leaving + c->leaving_from, length, MSG_NOSIGNAL);
+        if (done >= 0) {
+            c->leaving_from += (size_t)done, c->clock.sent = lapin_now();
+            if ((size_t)done == length && length < LAPIN_ENOUGH) return true;
+        } else if (errno == EAGAIN || errno == EWOULDBLOCK) return true;
         else if (errno != EINTR) {
             const char *why = strerror(errno);
             for (int i = 0; i < 16 && !c->is_lost; i++) lapin_hear(c);
@@ -235,7 +239,7 @@ static inline int lapin_step(lapin_connection *c, uint64_t until) {
         return LAPIN_TAKES;
     }
     struct pollfd ready = {c->socket, (short)(is_full ? POLLIN | POLLOUT : POLLIN), 0};
-    int found = poll(&ready, 1, lapin_left(due == LAPIN_WAIT && until > now && beat < until - now ? now + beat : until));
+    int found = poll(&ready, 1, lapin_left(now, due == LAPIN_WAIT && until > now && beat < until - now ? now + beat : until));
     if (found < 0 && errno != EINTR) return lapin_lose(c, strerror(errno)), LAPIN_FAILED;
     if (found > 0 && ready.revents & ~POLLOUT) return lapin_hear(c) ? LAPIN_CAME : LAPIN_FAILED;
     return found > 0 || lapin_now() < until ? LAPIN_TAKES : LAPIN_LATE;

@@ -41,8 +41,9 @@ int main(int count, char **words) {
         }
         while (from < sent && !confirms[from]) from++;
     }
-    printf("%lu acks, %lu came back, %lu wrong, %zu octets' chains left\n", acks, back, wrong, c->publications.chained);
+    size_t kept = c->publications.kept - (lapin_came_back(c) ? 1 : 0); /* the last one is good until the next */
+    printf("%lu acks, %lu came back, %lu wrong, %zu kept\n", acks, back, wrong, kept);
     lapin_disconnect(c);
     free(confirms);
-    return wrong || c->publications.chained ? 1 : 0;
+    return wrong || kept;
 }

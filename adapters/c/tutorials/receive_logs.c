@@ -4,7 +4,7 @@
 int main(int count, char **words) {
     lapin_connection *c = begin(count, words);
     char name[512], exchange[512], kind[512], key[512], queue[512];
-    const char *told;
+    const char *told = "";
     snprintf(name, sizeof name, "%s_logs", words[4]);
     need(c, lapin_ask(c, "call 1 exchange.declare %s %s 0 0 0 0 0 {}", lapin_hex(exchange, name), lapin_hex(kind, words[4])) &&
                 (told = lapin_ask(c, "call 1 queue.declare x 0 0 1 0 0 {}")) && sscanf(told, "answer queue %511s", queue) == 1);

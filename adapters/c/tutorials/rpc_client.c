@@ -4,7 +4,7 @@
 int main(int count, char **words) {
     lapin_connection *c = begin(count, words);
     char queue[512], token[1200];
-    const char *told;
+    const char *told = "";
     uint64_t confirm;
     need(c, (told = lapin_ask(c, "call 1 queue.declare x 0 0 1 0 0 {}")) && sscanf(told, "answer queue %511s", queue) == 1 &&
                 (told = lapin_ask(c, "call 1 basic.consume %s x 0 1 0 0 {}", queue)));

@@ -18,7 +18,7 @@ static void property(char *room, const char *properties, const char *name) {
 int main(int count, char **words) {
     lapin_connection *c = begin(count, words);
     char queue[512], reply_to[256], correlation[256], token[1100], hex[600], body[32];
-    const char *told;
+    const char *told = "";
     uint64_t confirm;
     need(c, lapin_ask(c, "call 1 basic.qos 1 0") && lapin_ask(c, "call 1 queue.declare %s 0 0 0 0 0 {}", lapin_hex(queue, "rpc_queue")) &&
                 (told = lapin_ask(c, "call 1 basic.consume %s x 0 0 0 0 {}", queue)));

@@ -4,7 +4,7 @@
 int main(int count, char **words) {
     lapin_connection *c = begin(count, words);
     char queue[512];
-    const char *told;
+    const char *told = "";
     need(c, lapin_ask(c, "call 1 basic.qos 1 0") && lapin_ask(c, "call 1 queue.declare %s 0 1 0 0 0 {}", lapin_hex(queue, "task_queue")) &&
                 (told = lapin_ask(c, "call 1 basic.consume %s x 0 0 0 0 {}", queue)));
     uint64_t consumer = number(told);
