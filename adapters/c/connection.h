@@ -112,8 +112,10 @@ static inline bool lapin_connect_within(lapin_connection *c, const char *host, c
                                         const char *vhost, const lapin_opening *limits, int timeout) {
     int before = errno;
     uint64_t until = lapin_until(timeout);
+    static pthread_once_t once = PTHREAD_ONCE_INIT;
+    pthread_once(&once, lapin_count_forks);
     memset(c, 0, sizeof *c);
-    c->timeout = c->socket = -1, c->thread = &errno, c->process = getpid();
+    c->timeout = c->socket = -1, c->thread = &errno, c->forks = lapin_forks(), c->generation = *c->forks;
     c->limits = *limits, c->limits.stage = 0;
     struct timespec now;
     clock_gettime(CLOCK_REALTIME, &now);
@@ -278,7 +280,7 @@ static inline void lapin_look_at_oldest(lapin_connection *c, size_t place, size_
         if (!of->is_told && !of->outcome) return;
         p->settled++;
         if (!of->is_told && of->kept && !of->kept->message.text.at) lapin_let_go(p, of->kept), of->kept = NULL;
-        if (!of->is_told && of->is_aside) p->aside--, lapin_let_go(p, lapin_tell(p, of));
+        if (!of->is_told && of->is_aside) lapin_let_go(p, lapin_tell(p, of));
     }
 }
 
@@ -328,7 +330,7 @@ static inline bool lapin_publish_bytes(lapin_connection *c, uint16_t channel, co
     if (!lapin_enter(c)) return false;
     bool is_done = !c->is_lost || lapin_lose(c, c->lost);
     if (is_done && c->waiting >= LAPIN_ENOUGH) is_done = lapin_is_alive(c) && lapin_flush_until(c, lapin_until(c->timeout));
-    if (is_done && (p->aside || p->kept)) lapin_look_at_oldest(c, p->to, 1);
+    if (is_done && (p->aside || p->kept)) lapin_look_at_oldest(c, p->to, p->aside ? 2 : 1);
     if (is_done && (!lapin_more_publications(p) || (mandatory && !(kept = lapin_keep(p, channel, &message))))) is_done = lapin_fails(c, "no memory");
     if (is_done) {
         uint32_t status = lapin_publish(&c->session, channel, exchange, message.exchange.length, routing_key, message.routing_key.length, mandatory,
@@ -377,12 +379,13 @@ static inline const lapin_returned *lapin_came_back(const lapin_connection *c) {
 
 /* Nobody will ask for the outcome of this publish. */
 static inline void lapin_set_aside(lapin_connection *c, uint64_t confirm) {
+    int before = errno;
     if (!lapin_enter(c)) return;
     lapin_publication *of = lapin_find(&c->publications, confirm);
     if (!of) lapin_forget(&c->session, confirm);
     else if (of->outcome) lapin_let_go(&c->publications, lapin_tell(&c->publications, of));
     else if (!of->is_aside) of->is_aside = true, c->publications.aside++;
-    c->is_inside = false;
+    c->is_inside = false, errno = before;
 }
 
 /* Publishes a text that has to reach a queue, and waits for its outcome. */
@@ -434,7 +437,7 @@ static inline bool lapin_disconnect(lapin_connection *c) {
     int before = errno;
     if (c->thread && c->thread != &errno) return false;
     bool is_well = false;
-    if (c->thread && !c->is_lost && !c->is_inside && c->process == getpid()) {
+    if (c->thread && !c->is_lost && !c->is_inside && c->generation == *c->forks) {
         uint64_t until = lapin_until(c->timeout < 0 || c->timeout > LAPIN_CLOSING_TIME ? LAPIN_CLOSING_TIME : c->timeout);
         c->is_inside = true;
         is_well = lapin_answered(c, "call 0 connection.close 200 x627965", until) != NULL;

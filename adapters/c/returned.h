@@ -206,6 +206,7 @@ static inline lapin_kept *lapin_tell(lapin_publications *p, lapin_publication *p
     lapin_kept *back = publication->kept && publication->kept->message.text.at ? publication->kept : NULL;
     if (!back) lapin_let_go(p, publication->kept);
     free(publication->error);
+    p->aside -= publication->is_aside;
     publication->kept = NULL, publication->error = NULL, publication->is_told = true, p->told++;
     for (; p->from < p->to && p->at[p->from].is_told; p->from++) p->told--;
     if (p->settled < p->from) p->settled = p->from;

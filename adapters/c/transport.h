@@ -15,6 +15,7 @@
 #include <netinet/in.h>
 #include <netinet/tcp.h>
 #include <poll.h>
+#include <pthread.h>
 #include <stdarg.h>
 #include <stdio.h>
 #include <stdlib.h>
@@ -35,7 +36,8 @@ typedef struct {
     int socket; /* -1 where there is none */
     bool is_lost;
     volatile bool is_inside; /* a call goes on */
-    pid_t process;
+    const unsigned *forks; /* how often the process was forked, as its children count */
+    unsigned generation;
     const void *thread;
     lapin_opening limits;
     lapin_clock clock;
@@ -150,9 +152,17 @@ static inline char *lapin_say(lapin_connection *c, const char *line) {
     return NULL;
 }
 
+/* A child counts one more than its parent. */
+static inline unsigned *lapin_forks(void) {
+    static unsigned forks;
+    return &forks;
+}
+static inline void lapin_forked(void) { ++*lapin_forks(); }
+static inline void lapin_count_forks(void) { pthread_atfork(NULL, NULL, lapin_forked); }
+
 static inline bool lapin_is_alive(lapin_connection *c) {
     if (c->is_lost) return lapin_lose(c, c->lost);
-    return c->process == getpid() || lapin_lose(c, "this process was forked from the one that opened it");
+    return c->generation == *c->forks || lapin_lose(c, "this process was forked from the one that opened it");
 }
 
 /* ---- bytes out and in */
