@@ -5,7 +5,7 @@ import time
 
 import lapin
 import scripted
-from checks.common import confirms, fails, rabbit, test, waiting
+from checks.common import confirms, fails, rabbit, test
 from scripted import Broker, HungUp
 
 
@@ -246,7 +246,7 @@ def an_error_of_the_broker_is_told_in_its_words():
         assert "by the operator" in str(fails(lapin.Error, connection.channel))
 
 
-@waiting("the reading of reply texts")
+@test
 def a_reply_text_that_is_cut_within_a_letter_ends_its_channel_alone():
     def script(peer):
         peer.open()
