@@ -114,7 +114,7 @@ def an_outcome_is_matched_by_its_text():
 @rabbit
 def rabbitmq_returns_go_to_their_own(url):
     with lapin.connect(url) as connection:
-        for is_durable, count in ((False, 6000), (True, 1500)):
+        for is_durable, count in ((False, 2000), (True, 400)):
             channel = connection.channel(confirms=True)
             queue = channel.queue_declare("check.returns", durable=is_durable, arguments={"x-max-length": 1000}).name
             for share, mandatory in ((2, lambda at: True), (10, lambda at: True), (2, lambda at: at % 2 == 1)):
@@ -132,7 +132,7 @@ def rabbitmq_who_resends_by_outcome_loses_nothing(url):
         channel, have = connection.channel(confirms=True), {}
         channel.exchange_declare("check.resend", auto_delete=True)
         channel.queue_bind(channel.queue_declare("check.even").name, "check.resend", "even")
-        work = [(at, "odd" if at % 2 else "even") for at in range(5000)]
+        work = [(at, "odd" if at % 2 else "even") for at in range(3000)]
         made = [(*it, channel.publish("check.resend", it[1], b"%d" % it[0], mandatory=True, message_id=str(it[0]))) for it in work]
         again = [(at, key) for at, key, confirm in made if not confirm.wait(30)]
         channel.queue_bind(channel.queue_declare("check.odd").name, "check.resend", "odd")

@@ -3,7 +3,7 @@ stand here."""
 from __future__ import annotations
 
 import ctypes
-from typing import Any, Dict, List, Optional, Set, Tuple, TypeVar
+from typing import Any, Dict, List, Optional, Set, Tuple, Type, TypeVar, Union
 
 from . import _asks, _text
 from ._asks import Ask
@@ -13,12 +13,13 @@ from ._values import Message, Returned, read_returned
 from .errors import CallFailed, CloseReason, Error, Refused
 
 T = TypeVar("T")
-C = TypeVar("C", bound=ConfirmCore)
 
 
 class Core:
     """A session with its channels. `_confirms_at_once`: whether each settlement is looked for, and not only those of mandatory publishes."""
     _confirms_at_once = False
+    #: So many octets of publishes leave without a call that waits.
+    _enough = 1 << 16
 
     def __init__(self, frame_max: int, channel_max: int):
         self._session, self._channel_max = Session(frame_max), channel_max
@@ -26,6 +27,8 @@ class Core:
         self._consumers: Dict[int, ConsumerCore] = {}
         self._numbers: List[int] = []
         self._next, self._made, self._is_lost, self._is_closed = 0, 0, False, False
+        # How many octets wait in the session, about; and whether so much waits for the socket that a publish has to wait.
+        self._waiting, self._is_full = 0, False
         # Whether something is on its way between the session and its user or the socket: an exception that falls then loses the connection.
         self._is_torn = False
         # Channels whose opening nobody waits for any more, and calls and consumers that nobody has.
@@ -106,6 +109,14 @@ class Core:
         return f"the connection is {'closed' if self._is_closed else 'lost'}: {self._why}" if self._why else "the connection is closed"
 
     # ---- calls
+
+    def _hand_over(self) -> None:
+        """So much was published that it leaves."""
+        raise NotImplementedError
+
+    def _make_room(self) -> None:
+        """Waits until the broker has read enough of what was published."""
+        raise NotImplementedError
 
     def _ticket(self, asked: Ask[Any]) -> str:
         """Makes a call. What its answer is asked by."""
@@ -188,6 +199,7 @@ class Core:
 class ChannelCore:
     """A channel that is open, or was."""
     connection: Core
+    _confirm_of: Type[ConfirmCore]
 
     def __init__(self, connection: Core, number: int):
         self.connection, self.number, self._session = connection, number, connection._session
@@ -222,10 +234,20 @@ class ChannelCore:
         """Whether calls of it are taken."""
         return not self.connection._is_closed and not self._is_over and self.connection._state(self.number) == "open"
 
-    def _publish(self, confirm: C, exchange: str, routing_key: str, body: bytes, mandatory: bool, properties: Dict[str, Any]) -> C:
-        """Makes a publish of which this is the confirm. Where an exception falls, it is known which of the two happened."""
+    def publish(self, exchange: str, routing_key: str, body: Union[bytes, bytearray, memoryview], *, mandatory: bool = False,
+                **properties: Any) -> ConfirmCore:
+        """Publishes a message, with its properties by their names (`delivery_mode=2`, `headers={..}` ..). Nothing is waited for: its
+        confirm is. It leaves with the next call that waits, with `connection.flush()`, or once 64 KiB wait; of `lapin.aio` by itself. While the
+        broker reads nothing and more than 1 MiB waits for the socket, it waits 30 seconds at most, and then raises `Timeout`; nothing was
+        published then. That of `lapin.aio` never waits: what the broker doesn't take yet is held."""
+        # (one body without a second call, since this is what a publisher's time is spent in)
+        connection = self.connection
+        if connection._is_full:
+            connection._make_room()
         if self._is_over:
             self._check()
+        octets = body if type(body) is bytes else _text.body_of(body)
+        confirm = self._confirm_of(self)
         session, confirms, text = self._session, self._confirms, _text.properties(properties) if properties else b"[]"
         if _here() != session._thread:
             raise session.elsewhere()
@@ -235,13 +257,13 @@ class ChannelCore:
             to, key = _text.octets_of("exchange", exchange), _text.octets_of("routing_key", routing_key)
         try:
             if mandatory and _text.flag("mandatory", mandatory) == "1" and confirms.is_on:
-                confirms.expect(confirm, identity_of(to, key, text, body))
+                confirms.expect(confirm, identity_of(to, key, text, octets))
             tag = confirms.tag + 1
             if confirms.is_on:
                 if tag > confirms.next:
                     confirms.prune()
                 confirms.open[tag] = confirm
-            status = _publish(session._by, self.number, to, len(to), key, len(key), mandatory, body, len(body), text, len(text), session._confirm_at)
+            status = _publish(session._by, self.number, to, len(to), key, len(key), mandatory, octets, len(octets), text, len(text), session._confirm_at)
             if status:
                 session.check(status)
             confirm._number = session.last = session._confirm.value
@@ -251,6 +273,9 @@ class ChannelCore:
             _text.octets_of("exchange", to)
             _text.octets_of("routing_key", key)
             raise
+        connection._waiting += len(octets) + 64
+        if connection._waiting > connection._enough:
+            connection._hand_over()
         return confirm
 
     def _unmade(self, confirm: ConfirmCore, error: BaseException) -> None:

@@ -74,7 +74,7 @@ class Connection(Core):
     """A connection to a broker."""
     _channels: Dict[int, Channel]  # type: ignore[assignment]
     _consumers: Dict[int, Consumer]  # type: ignore[assignment]
-    _confirms_at_once = True
+    _confirms_at_once, _enough = True, 0
 
     def __init__(self, reader: asyncio.StreamReader, writer: asyncio.StreamWriter, greeter: Greeter):
         frame_max, channel_max, heartbeat = greeter.opening.limits
@@ -157,6 +157,10 @@ class Connection(Core):
         finally:
             self._is_filling = False
         self._flush()
+
+    def _hand_over(self) -> None:
+        self._waiting = 0
+        self._soon()
 
     def _soon(self) -> None:
         if not self._is_flushing:
@@ -380,6 +384,10 @@ def _awaited(make: Callable[Concatenate[int, P], Ask[T]]) -> Callable[Concatenat
 class Channel(ChannelCore):
     """A channel that is open. Its calls are those of the blocking channel; each is awaited, and ends within 30 seconds."""
     connection: Connection
+    _confirm_of = Confirm
+    if TYPE_CHECKING:
+        def publish(self, exchange: str, routing_key: str, body: Union[bytes, bytearray, memoryview], *, mandatory: bool = False,
+                    **properties: Any) -> Confirm: ...
 
     async def __aenter__(self) -> Channel:
         return self
@@ -412,14 +420,6 @@ class Channel(ChannelCore):
 
     def _consumer(self, number: int, tag: str, no_ack: bool) -> Consumer:
         return Consumer(self, number, tag, no_ack)
-
-    def publish(self, exchange: str, routing_key: str, body: Union[bytes, bytearray, memoryview], *, mandatory: bool = False,
-                **properties: Any) -> Confirm:
-        """Publishes a message. Its confirm is awaited, or not. It never waits: what the broker doesn't take yet is held."""
-        octets = body if type(body) is bytes else _text.body_of(body)
-        confirm = self._publish(Confirm(self), exchange, routing_key, octets, mandatory, properties)
-        self.connection._soon()
-        return confirm
 
     async def get(self, queue: str, *, no_ack: bool = False) -> Optional[Message]:
         """The oldest message of a queue; None where there is none."""

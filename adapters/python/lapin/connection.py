@@ -20,8 +20,6 @@ if TYPE_CHECKING:
     P = ParamSpec("P")
 T = TypeVar("T")
 
-#: So many bytes of publishes leave without a call that waits.
-ENOUGH = 1 << 16
 #: While more bytes than these wait for the socket, a publish waits.
 MOST = 1 << 20
 #: So many seconds a call waits that has no timeout of its own.
@@ -48,10 +46,7 @@ class Connection(Core):
 
     def __init__(self, wire: Wire):
         super().__init__(wire.frame_max, wire.channel_max)
-        self._wire, self._waiting = wire, 0
-        self._is_inside, self._is_stopping = False, False
-        # Whether so much waits for the socket that a publish has to wait.
-        self._is_full = False
+        self._wire, self._is_inside, self._is_stopping = wire, False, False
 
     def __enter__(self) -> Connection:
         return self
@@ -131,8 +126,14 @@ class Connection(Core):
                 return True
         return False
 
+    def _hand_over(self) -> None:
+        try:
+            self._move()
+            self._is_full = self._wire.size > MOST
+        except ConnectionLost:  # the publish was accepted: its confirm tells it
+            pass
+
     def _make_room(self) -> None:
-        """Waits until the broker has read enough of what was published."""
         until = time.monotonic() + PATIENCE
         self._move()
         while self._wire.size > MOST // 2:
@@ -341,6 +342,10 @@ def _blocking(make: Callable[Concatenate[int, P], Ask[T]]) -> Callable[Concatena
 class Channel(ChannelCore):
     """A channel that is open. Each call that waits ends within 30 seconds."""
     connection: Connection
+    _confirm_of = Confirm
+    if TYPE_CHECKING:
+        def publish(self, exchange: str, routing_key: str, body: Union[bytes, bytearray, memoryview], *, mandatory: bool = False,
+                    **properties: Any) -> Confirm: ...
 
     def __enter__(self) -> Channel:
         return self
@@ -373,25 +378,6 @@ class Channel(ChannelCore):
 
     def _consumer(self, number: int, tag: str, no_ack: bool) -> Consumer:
         return Consumer(self, number, tag, no_ack)
-
-    def publish(self, exchange: str, routing_key: str, body: Union[bytes, bytearray, memoryview], *, mandatory: bool = False,
-                **properties: Any) -> Confirm:
-        """Publishes a message, with its properties by their names (`delivery_mode=2`, `headers={..}` ..). Nothing is waited for: its
-        confirm is. It leaves with the next call that waits, with `connection.flush()`, or once 64 KiB wait. While the broker reads nothing and
-        more than 1 MiB waits for the socket, it waits 30 seconds at most, and then raises `Timeout`; nothing was published then."""
-        connection = self.connection
-        if connection._is_full:
-            connection._make_room()
-        octets = body if type(body) is bytes else _text.body_of(body)
-        confirm = self._publish(Confirm(self), exchange, routing_key, octets, mandatory, properties)
-        connection._waiting += len(octets) + 64
-        if connection._waiting > ENOUGH:
-            try:
-                connection._move()
-                connection._is_full = connection._wire.size > MOST
-            except ConnectionLost:  # the publish was accepted: its confirm tells it
-                pass
-        return confirm
 
     def get(self, queue: str, *, no_ack: bool = False) -> Optional[Message]:
         """The oldest message of a queue; None where there is none."""
