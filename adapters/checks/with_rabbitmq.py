@@ -18,9 +18,9 @@ def rabbitmq_tutorials_in_python(url):
     assert "acknowledged: True" in python("worker", url, 1)
     tutorials = f"{ADAPTERS}/python/tutorials"
     for kind, bound, key in (("fanout", [], ""), ("direct", ["warning", "error"], "error"), ("topic", ["kern.*", "*.critical"], "kern.critical")):
-        told = beside([sys.executable, f"{tutorials}/receive_logs.py", url, 3, kind, *bound], [sys.executable, f"{tutorials}/emit_log.py", url, kind, key, "a", "line"])
+        told = beside([sys.executable, f"{tutorials}/receive_logs.py", url, 8, kind, *bound], [sys.executable, f"{tutorials}/emit_log.py", url, kind, key, "a", "line"])
         assert f"[x] {key}:a line" in told, told
-    told = beside([sys.executable, f"{tutorials}/rpc_server.py", url, 4], [sys.executable, f"{tutorials}/rpc_client.py", url, "30", "10"])
+    told = beside([sys.executable, f"{tutorials}/rpc_server.py", url, 8], [sys.executable, f"{tutorials}/rpc_client.py", url, "30", "10"])
     assert "Got 832040" in told and "Got 55" in told, told
     assert python("publisher_confirms", url, 2000).count("2000 in the queue") == 3
     assert "acknowledged: True" in python("asyncio_hello", url)
