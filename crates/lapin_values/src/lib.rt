@@ -13,4 +13,5 @@ pub use memory::NoMemory;
 pub use payload::Payload;
 pub use properties::BasicProperties;
 pub use text::{LongString, ShortString, ShortStringError};
+pub use value::gathered::GatheredTable;
 pub use value::{AMQPValue, FieldArray, FieldTable};

@@ -1,9 +1,11 @@
 //! Short texts and long strings, the two kinds of string of the protocol (AMQP 0-9-1, section 4.2.5.3).
 //! Their limits are kept here, so that no crate above has to test a length again.
 
-ghost use Rattle.std.specs.Prelude.{◌≡◌, ◌<◌, ◌≤◌, ◌↔◌, [], length, IfOk, IsErrOf, nat_eq, box_value};
+ghost use Rattle.std.specs.Prelude.{◌≡◌, ◌<◌, ◌≤◌, ◌↔◌, [], length, Some, IfOk, IsErrOf, nat_eq, box_value};
 ghost use Rattle.lapin_values.specs.Stored.{kept};
-ghost use Rattle.std.specs.Cmp.Lexicographic.{pointwise, nat_list_eq_equiv};
+ghost use Rattle.std.proofs.Common.{rules};
+ghost use Rattle.std.specs.Cmp.Lexicographic.{pointwise, slice_cmp, nat_list_eq_equiv, nat_list_cmp_total, texts_po, texts_ties};
+ghost use Rattle.std.specs.Ordering.{nat_cmp};
 ghost use Rattle.std.specs.Cmp.{partial_equiv_from_equiv};
 ghost use Rattle.std.specs.Str.{IsUtf8};
 
@@ -11,6 +13,7 @@ use crate::kept::Stored;
 use crate::memory::NoMemory;
 use crate::properties::texts::{Link, Place};
 use std::alloc::{AllocError, AllocFailed, Global};
+use std::cmp::Ordering;
 use std::marker::Model;
 use thiserror::Error;
 
@@ -173,6 +176,31 @@ impl PartialEq for ShortString {
 
 impl Eq for ShortString {
     ghost laws = { nat_list_eq_equiv };
+}
+
+/// Texts are in the order of their bytes, as the names of a table are.
+impl PartialOrd for ShortString {
+    ghost partial_cmp = { λ x y. Some (slice_cmp nat_cmp x y) };
+
+    ghost laws = { texts_po };
+
+    fn partial_cmp(&self, other: &ShortString) -> Option<Ordering> {
+        Some(self.cmp(other))
+    }
+}
+
+impl Ord for ShortString {
+    ghost cmp = { slice_cmp nat_cmp };
+
+    ghost total = { nat_list_cmp_total };
+
+    ghost matches_partial_cmp = { Prim.search rules };
+
+    ghost matches_eq = { texts_ties };
+
+    fn cmp(&self, other: &ShortString) -> Ordering {
+        self.as_str().cmp(other.as_str())
+    }
 }
 
 /// A clone takes its memory from where the text has its own.

@@ -9,6 +9,7 @@ use std::marker::Model;
 mod array;
 mod copy;
 mod equality;
+pub mod gathered;
 mod table;
 
 /// One field value, of one of the types that the protocol's tables know.

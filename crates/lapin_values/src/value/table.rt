@@ -2,8 +2,8 @@
 //! by halving and a table that is built in that order grows at its back.
 
 ghost use Rattle.std.specs.Cmp.Lexicographic.{pointwise};
-ghost use Rattle.std.specs.Prelude.{IfOk, vec_items, box_value, ◌∷◌, IsTrue, IfSome, ◌<◌, ◌≤◌, ◌≡◌, [], nat_eq, slice_index_or, length, option_map, slice_get, is_ok, if◌then◌else◌};
-ghost use Rattle.lapin_values.specs.DataOf.{data_of};
+ghost use Rattle.std.specs.Prelude.{IfOk, vec_items, box_value, ◌∷◌, IsTrue, IfSome, ◌<◌, ◌≤◌, ◌≡◌, [], nat_eq, slice_index_or, length, option_map, slice_get, is_ok, map, if◌then◌else◌};
+ghost use Rattle.lapin_values.specs.DataOf.{data_of, to_pair};
 ghost use Rattle.lapin_values.specs.Data.{data_depth, table_depth};
 ghost use Rattle.lapin_values.specs.Table.{IsRising, put, lookup, keys_below, rows};
 
@@ -13,6 +13,26 @@ use crate::value::{AMQPValue, FieldTable};
 use std::alloc::Global;
 
 impl FieldTable {
+    /// The table of these entries.
+    ///
+    /// # Errors
+    ///
+    /// `NoMemory`.
+    pub(crate) fn from_rows(
+        alloc: Global,
+        rows: Vec<(ShortString, AMQPValue)>,
+    ) -> Result<FieldTable, NoMemory>
+        requires { IsRising rows.items }
+        ensures { IfOk result (λ table. table ≡ map to_pair rows.items) }
+    {
+        if rows.is_empty() {
+            return Ok(FieldTable { entries: None });
+        }
+        Ok(FieldTable {
+            entries: Some(Box::new(alloc, rows)?),
+        })
+    }
+
     /// A table of no entries. It takes no memory yet.
     pub fn new(_alloc: Global) -> FieldTable
         ensures { result ≡ [] }
@@ -114,6 +134,19 @@ fn put_entry(
     ensures { entries.new.items ≡ (if is_ok result then put key value entries.old.items else entries.old.items) }
 {
     let place = place_of(entries, key.as_str());
+    put_at(entries, place, key, value)
+}
+
+/// Gives a name its value, whose place is known.
+pub(crate) fn put_at(
+    entries: &mut Vec<(ShortString, AMQPValue)>,
+    place: usize,
+    key: ShortString,
+    value: AMQPValue,
+) -> Result<(), NoMemory>
+    requires { place ≡ keys_below key entries.old.items }
+    ensures { entries.new.items ≡ (if is_ok result then put key value entries.old.items else entries.old.items) }
+{
     if is_at(entries, place, key.as_str()) {
         let entry = &mut entries[place];
         entry.1 = value;
@@ -142,7 +175,8 @@ fn is_at(entries: &[(ShortString, AMQPValue)], place: usize, key: &str) -> bool
     place < entries.len() && entries[place].0.as_str() == key
 }
 
-fn place_of(entries: &[(ShortString, AMQPValue)], key: &str) -> usize
+/// How many names are below a name: the place where it is, or where it belongs.
+pub(crate) fn place_of(entries: &[(ShortString, AMQPValue)], key: &str) -> usize
     requires { IsRising entries.now }
     ensures below { result ≡ keys_below key.now entries.now }
     ensures within { result ≤ length entries.now }
