@@ -1,5 +1,5 @@
 -- Laws of tests that the library's own lemmas on them lack.
-use Rattle.std.proofs.Common.{Bool, ◌||◌, true, ◌≡◌, refl, false, ◌&&◌, ℕ, ◌==◌, inl, inr, []}
+use Rattle.std.proofs.Common.{Bool, ◌||◌, true, ◌≡◌, refl, false, ◌&&◌, ℕ, ◌==◌, inl, inr}
 use Rattle.std.proofs.lemmas.Bool.Decides.{eqb_tells}
 use Rattle.std.specs.Prelude.{Result, Ok, Err}
 use Rattle.std.specs.Result.{OnErr}

@@ -6,3 +6,7 @@ pub mod Slots
 pub mod Counts
 pub mod SlotLaws
 pub mod Bools
+pub mod Shown
+pub mod Halves
+pub mod Blocks
+pub mod Packing

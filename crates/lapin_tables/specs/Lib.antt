@@ -3,3 +3,4 @@ pub mod ByChannel
 pub mod Index
 pub mod Lends
 pub mod Numbered
+pub mod Packed

@@ -119,6 +119,7 @@ impl<T> ByChannel<T> {
         }
     }
 
+    #[inline(always)]
     fn value_at(&mut self, channel: u16, place: usize) -> &mut T
         requires { place_of channel self.old.entries ≡ Some place }
         ensures* writes_back { sem 𝓛 (LendsValue T.row self.entry channel result) }
